@@ -103,8 +103,8 @@ pub record HoldsOfChanges (rules : Rules) (st : ScriptState) (me : CallerNo)
       → P (call.Register s c ops att)
       (answered st (reply.Key k) (with_note (with_interest st.shared s.0 k.index ops) s.0 k.index note))
   pub closec : (c : ChanNo)
-      → P (call.Closec c) (marking (own_sink st me c) (answered st reply.«Ok» (channel_closed st.shared c.0)))
-  pub closec_again : (c : ChanNo) → P (call.Closec c) (marking (own_sink st me c) (unchanged st reply.Already))
+      → P (call.Closec c) (marking (own_sink st.pipes me c) (answered st reply.«Ok» (channel_closed st.shared c.0)))
+  pub closec_again : (c : ChanNo) → P (call.Closec c) (marking (own_sink st.pipes me c) (unchanged st reply.Already))
   pub cancel : (s : SelNo) (k : KeyId)
       → P (call.Cancel s k)
       (answered st reply.«Ok»
@@ -152,7 +152,7 @@ pub record HoldsOfChanges (rules : Rules) (st : ScriptState) (me : CallerNo)
       (record {
         reply = reply.Bytes (take n (b ∷ bytes));
         left =
-            with_pipe st i (record (pipe_at st i) { waiting = drop n (b ∷ bytes) });
+            with_pipe st i (record (pipe_at st.pipes i) { waiting = drop n (b ∷ bytes) });
       })
   pub pread_interrupted : (c : ChanNo) (n : ℕ)
       → P (call.Pread c n) (answered st reply.ClosedByInterrupt (channel_closed st.shared c.0))
@@ -161,7 +161,7 @@ pub record HoldsOfChanges (rules : Rules) (st : ScriptState) (me : CallerNo)
       (record {
         reply = reply.Number n;
         left =
-            with_pipe st i (record (pipe_at st i) { waiting = (pipe_at st i).waiting ++ take n bytes });
+            with_pipe st i (record (pipe_at st.pipes i) { waiting = (pipe_at st.pipes i).waiting ++ take n bytes });
       })
   pub pwrite_closed : (c : ChanNo) (bytes : List ℕ) (i : ℕ)
       → P (call.Pwrite c bytes) (marking (Some i) (unchanged st reply.ClosedChannel))
@@ -275,7 +275,7 @@ module _ (rules : Rules) (l : Limits) (st : ScriptState) (me : CallerNo) (P : Ca
 
   of_closec : (c : ChanNo) (closed : Bool)
       → P (call.Closec c)
-      (marking (own_sink st me c)
+      (marking (own_sink st.pipes me c)
       (cond closed (unchanged st reply.Already) (answered st reply.«Ok» (channel_closed st.shared c.0))))
   of_closec c true = h.closec_again c
   of_closec c false = h.closec c
@@ -306,7 +306,7 @@ module _ (rules : Rules) (l : Limits) (st : ScriptState) (me : CallerNo) (P : Ca
       either (st.shared.chan c.0).closed (says word reply.ClosedChannel refl)
       (either (finds_interrupt st me c) (h.pread_interrupted c n)
       (either (n == 0) (says word (reply.Number 0) refl)
-      (of_read c n i (st.shared.chan c.0).blocking (pipe_at st i).waiting (pipe_at st i).marked)))
+      (of_read c n i (st.shared.chan c.0).blocking (pipe_at st.pipes i).waiting (pipe_at st.pipes i).marked)))
 
   of_pwrite : (c : ChanNo) (bytes : List ℕ) (place : Option ℕ) → P (call.Pwrite c bytes) (write_to st me c bytes place)
   of_pwrite c bytes None = says (call.Pwrite c bytes) reply.NotOwner refl
@@ -314,10 +314,10 @@ module _ (rules : Rules) (l : Limits) (st : ScriptState) (me : CallerNo) (P : Ca
       let word = call.Pwrite c bytes in
       either (st.shared.chan c.0).closed (h.pwrite_closed c bytes i)
       (either (finds_interrupt st me c) (h.pwrite_interrupted c bytes i)
-      (either (st.shared.chan (pipe_at st i).source.0).closed (says word reply.BrokenPipe refl)
+      (either (st.shared.chan (pipe_at st.pipes i).source.0).closed (says word reply.BrokenPipe refl)
       (either (length bytes == 0) (says word (reply.Number 0) refl)
-      (either (room_for bytes (pipe_at st i) == 0) (of_not_now word (st.shared.chan c.0).blocking)
-      (h.pwrite c bytes i (room_for bytes (pipe_at st i)))))))
+      (either (room_for bytes (pipe_at st.pipes i) == 0) (of_not_now word (st.shared.chan c.0).blocking)
+      (h.pwrite c bytes i (room_for bytes (pipe_at st.pipes i)))))))
 
   -- calls on the group
 
@@ -431,8 +431,8 @@ module _ (rules : Rules) (l : Limits) (st : ScriptState) (me : CallerNo) (P : Ca
   each_call (call.Pipe target) =
       either (nat_lt target.0 l.callers) (of_pipe target (next_channel l st))
       (says (call.Pipe target) reply.NoCaller refl)
-  each_call (call.Pwrite c bytes) = channel_named c (of_pwrite c bytes (own_sink st me c))
-  each_call (call.Pread c n) = channel_named c (of_pread c n (own_source st me c))
+  each_call (call.Pwrite c bytes) = channel_named c (of_pwrite c bytes (own_sink st.pipes me c))
+  each_call (call.Pread c n) = channel_named c (of_pread c n (own_source st.pipes me c))
   each_call (call.Group g) = of_group g
 
   -- what holds of the change of each word holds of each call

@@ -64,7 +64,7 @@ pub read_first-some : (st : ScriptState) (blocking : Bool) (n i : ℕ) (waiting 
     ≡ record {
       reply = reply.Bytes (take n waiting);
       left = with_pipe st i
-          (record (pipe_at st i) { waiting = drop n waiting });
+          (record (pipe_at st.pipes i) { waiting = drop n waiting });
     }
 read_first-some st blocking n i [] marked some = absurd (some refl)
 read_first-some st blocking n i (b ∷ bytes) marked some = refl

@@ -156,7 +156,7 @@ module _ (rules : Rules) (l : Limits) (st : ScriptState) (sound : Sound rules l 
   keeps-closec_call : (me : CallerNo) (c : ChanNo) → Keeps rules l st (closec_call st me c)
   unfolding closec_call
   keeps-closec_call me c =
-      named_channel c _ (λ _. keeps_marked rules l st (own_sink st me c) _
+      named_channel c _ (λ _. keeps_marked rules l st (own_sink st.pipes me c) _
       (denied (st.shared.chan c.0).closed reply.Already _ (λ _. keeps_closed_channel rules l st c.0 reply.«Ok» sound)))
 
   keeps-is_blocking_call : (c : ChanNo) → Keeps rules l st (is_blocking_call st c)
@@ -345,12 +345,12 @@ module _ (rules : Rules) (l : Limits) (st : ScriptState) (sound : Sound rules l 
 
   keeps-pread_call : (me : CallerNo) (c : ChanNo) (n : ℕ) → Keeps rules l st (pread_call st me c n)
   unfolding pread_call
-  keeps-pread_call me c n = named_channel c _ (λ _. keeps_read rules l st sound me c n (own_source st me c))
+  keeps-pread_call me c n = named_channel c _ (λ _. keeps_read rules l st sound me c n (own_source st.pipes me c))
 
   keeps-pwrite_call : (me : CallerNo) (c : ChanNo) (bytes : List ℕ) → Keeps rules l st (pwrite_call st me c bytes)
   unfolding pwrite_call
   keeps-pwrite_call me c bytes =
-      named_channel c _ (λ _. keeps_write rules l st sound me c bytes (own_sink st me c))
+      named_channel c _ (λ _. keeps_write rules l st sound me c bytes (own_sink st.pipes me c))
 
   -- calls on the group
 

@@ -105,7 +105,7 @@ module _ (rules : Rules) (l : Limits) where
         both (st.shared.chan c.0).closed _ _ (refusal _)
         (both (finds_interrupt st me c) _ _ (interrupts c)
         (both (n == 0) _ _ (refusal _)
-        (keeps_first (st.shared.chan c.0).blocking n i (pipe_at st i).waiting (pipe_at st i).marked)))
+        (keeps_first (st.shared.chan c.0).blocking n i (pipe_at st.pipes i).waiting (pipe_at st.pipes i).marked)))
 
     keeps_written : (blocking : Bool) (bytes : List ℕ) (i n : ℕ) → Keeps rules l st (write_first st blocking bytes i n)
     keeps_written blocking bytes i n =
@@ -117,6 +117,6 @@ module _ (rules : Rules) (l : Limits) where
     keeps_write me c bytes (Some i) =
         both (st.shared.chan c.0).closed _ _ (keeps_marked st (Some i) _ (refusal reply.ClosedChannel))
         (both (finds_interrupt st me c) _ _ (keeps_marked st (Some i) _ (interrupts c))
-        (both (st.shared.chan (pipe_at st i).source.0).closed _ _ (refusal _)
+        (both (st.shared.chan (pipe_at st.pipes i).source.0).closed _ _ (refusal _)
         (both (length bytes == 0) _ _ (refusal _)
-        (keeps_written (st.shared.chan c.0).blocking bytes i (room_for bytes (pipe_at st i))))))
+        (keeps_written (st.shared.chan c.0).blocking bytes i (room_for bytes (pipe_at st.pipes i))))))

@@ -1,7 +1,6 @@
--- Laws of one call, and of the calls between two wakeups: by either of the rules, for all limits, from
--- every state, also from those that no script reaches. They follow from the documented system, and say what a reader
--- may rely
--- on without going through its calls.
+-- Laws of one call, and of the calls between two wakeups: by either of the rules, for all limits, from every state,
+-- also from those that no script reaches. They follow from the documented system, and say what a reader may rely on
+-- without going through its calls.
 use Rattle.std.specs.Prelude.{◌≡◌, ◌≢◌, ◌⊎◌, ℕ, ◌<◌, ◌==◌, Bool, true, false, not, ◌&&◌, ◌||◌, if◌then◌else◌, Option}
 use Rattle.std.specs.Prelude.{Some, None, is_some, List, [], ◌∷◌, ◌++◌, IsTrue, IsFalse}
 use Rattle.std.specs.Int.{bit_at}
@@ -150,13 +149,46 @@ is_without_effect (call.Group g) r = is_without_group_effect g r
 -- A refused call that changes a pipe or its channels all the same: an owner's call that finds its sink closed leaves
 -- the end mark; an interrupted caller's call closes its channel; a `pipe` that finds one number left closes the
 -- channel that it made.
+-- Each call stands in the list; with a reply that doesn't, it changes nothing.
 abbrev pub changes_pipe : ScriptState → CallerNo → Call → Reply → Bool
-changes_pipe st me (call.Closec c) reply.Already = is_some (own_sink st me c)
+changes_pipe st me (call.Closec c) reply.Already = is_some (own_sink st.pipes me c)
 changes_pipe st me (call.Pwrite c bytes) reply.ClosedChannel = true
 changes_pipe st me (call.Pwrite c bytes) reply.ClosedByInterrupt = true
 changes_pipe st me (call.Pread c n) reply.ClosedByInterrupt = true
 changes_pipe st me (call.Pipe target) reply.ChannelsSpent = true
-changes_pipe st me _ _ = false
+changes_pipe st me call.Selector r = false
+changes_pipe st me (call.Channel kind) r = false
+changes_pipe st me (call.Blocking c on) r = false
+changes_pipe st me (call.IsBlocking c) r = false
+changes_pipe st me (call.IsOpen c) r = false
+changes_pipe st me (call.IsRegistered c) r = false
+changes_pipe st me (call.KeyFor c s) r = false
+changes_pipe st me (call.Register s c ops att) r = false
+changes_pipe st me (call.Closec c) _ = false
+changes_pipe st me (call.Valid s k) r = false
+changes_pipe st me (call.Interest s k) r = false
+changes_pipe st me (call.Ready s k) r = false
+changes_pipe st me (call.Iset s k ops) r = false
+changes_pipe st me (call.Ior s k ops) r = false
+changes_pipe st me (call.Iand s k ops) r = false
+changes_pipe st me (call.Cancel s k) r = false
+changes_pipe st me (call.Unselect s k) r = false
+changes_pipe st me (call.Attach s k att) r = false
+changes_pipe st me (call.Attachment s k) r = false
+changes_pipe st me (call.Begin s waiting) r = false
+changes_pipe st me (call.Told s elapsed pairs) r = false
+changes_pipe st me (call.Failed s) r = false
+changes_pipe st me (call.Wakeup s) r = false
+changes_pipe st me (call.Close s) r = false
+changes_pipe st me (call.CloseEnd s) r = false
+changes_pipe st me (call.Keys s) r = false
+changes_pipe st me (call.Selected s) r = false
+changes_pipe st me (call.Interrupt target) r = false
+changes_pipe st me call.Interrupted r = false
+changes_pipe st me (call.Pipe target) _ = false
+changes_pipe st me (call.Pwrite c bytes) _ = false
+changes_pipe st me (call.Pread c n) _ = false
+changes_pipe st me (call.Group g) r = false
 
 -- any other refused call changes nothing, nor does one that only asks
 abbrev pub RefusalsChangeNothing : Type 0

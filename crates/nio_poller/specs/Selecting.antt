@@ -73,8 +73,8 @@ MarksAllReady ready looked acts = (s : SelNo) (i told : ℕ) (from : KeyMark)
 -- A whole selection of a caller on a pass, before and after, with a poller that tells these polls before and after,
 -- and after it that the channels are ready so.
 pub record SelectClause (me : CallerNo) (s : SelNo) (mode : Mode) (old new : PassView)
-    (polls_old polls_new : Option (List Polled)) (ready : ChanNo → ℕ) (result : Result Selected SelectError) : Type
-    0 where
+    (polls_old polls_new : Option (List Polled)) (ready : ChanNo → ℕ)
+    (result : Result Selected SelectError) : Type 0 where
   -- the answers of its polls
   pub polls : List Poll
   -- what the steps reply

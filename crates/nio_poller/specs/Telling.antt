@@ -50,8 +50,8 @@ PollsOnce me selection is_first old new polls_old polls_new ready (Err error) =
 
 -- the selection was told of these answers of its polls, and is over or was left
 pub record PollsClause (me : CallerNo) (selection : Selection) (old new : PassView)
-    (polls_old polls_new : Option (List Polled)) (ready : ChanNo → ℕ) (result : Result Selected SelectError) : Type
-    0 where
+    (polls_old polls_new : Option (List Polled)) (ready : ChanNo → ℕ)
+    (result : Result Selected SelectError) : Type 0 where
   pub polls : List Poll
   pub reply : SelectReply
   pub call : CallClause me (SelectsRest (told_from polls) (Ok selection)) old new reply

@@ -20,8 +20,7 @@ Members N = record {
 }
 
 -- From a net x to a net y only the links a and b have carried more, have failed, stand in another way or may be ready
--- for
--- less. No channel was asked to be anything. No poll was made.
+-- for less. No channel was asked to be anything. No poll was made.
 pub record Works {N : Type 0} (n : Members N) (a b : ChanNo) (x y : N) : Type 0 where
   pub links : (c : ChanNo) → c ≢ a → c ≢ b → n.link y c ≡ n.link x c
   pub places : (c : ChanNo) → c ≢ a → c ≢ b → n.place y c ≡ n.place x c
@@ -41,8 +40,7 @@ pub record Accepts {N : Type 0} (n : Members N) (client : ChanNo) (x y : N) : Ty
   pub polls : n.poll_faults y ≡ n.poll_faults x
 
 -- A connection was begun: no link has carried more, only the target may have failed, and only the two links may stand
--- in
--- another way. No channel is ready for less.
+-- in another way. No channel is ready for less.
 pub record Begins {N : Type 0} (n : Members N) (client target : ChanNo) (x y : N) : Type 0 where
   pub links : (c : ChanNo) → n.link y c ≡ n.link x c
   pub places : (c : ChanNo) → c ≢ client → c ≢ target → n.place y c ≡ n.place x c
@@ -52,8 +50,7 @@ pub record Begins {N : Type 0} (n : Members N) (client target : ChanNo) (x y : N
   pub polls : n.poll_faults y ≡ n.poll_faults x
 
 -- A link couldn't be accepted: no link has carried more, only the listener may have failed, and be ready for less, and
--- only
--- this channel stands in another way.
+-- only this channel stands in another way.
 pub record FailsToAccept {N : Type 0} (n : Members N) (client : ChanNo) (x y : N) : Type 0 where
   pub links : (c : ChanNo) → n.link y c ≡ n.link x c
   pub places : (c : ChanNo) → c ≢ client → n.place y c ≡ n.place x c

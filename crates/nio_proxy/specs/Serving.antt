@@ -61,8 +61,7 @@ abbrev pub IsAtMost : Role → Role → Type 0
 IsAtMost wanted r = (r ≡ role.Nothing) ⊎ (r ≡ wanted)
 
 -- At every end: nothing stands under any channel. Channels were asked to be nothing but a listener at the plan's
--- address
--- and, for each connection of the plan, a link from it and one to the plan's target. Others carried nothing.
+-- address and, for each connection of the plan, a link from it and one to the plan's target. Others carried nothing.
 pub record LeavesNothing (plan : ProxyPlan) (link : ChanNo → Link) (place : ChanNo → Place) : Type 0 where
   pub vacant : (c : ChanNo) → IsVacant (place c).standing
   pub listens : IsAtMost (role.Listener plan.listen) (place listener).role

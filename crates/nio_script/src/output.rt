@@ -44,7 +44,7 @@ pub fn write_out<K: Sink>(sink: &mut K, bytes: &[u8]) -> Result<(), Status>
     Ok(())
 }
 
-/// Writes all the bytes, and then flushes once. That the sink fails meanwhile is told to nobody.
+/// Writes all the bytes, and then flushes once. A failure of the sink is ignored.
 pub fn offer<K: Sink>(output: &mut K, bytes: &[u8])
     ensures said { Notes K.Sink output.old output.new bytes.now }
     ensures later { K.faults output.old ≤ K.faults output.new }
@@ -52,10 +52,10 @@ pub fn offer<K: Sink>(output: &mut K, bytes: &[u8])
     let _ = write_out(output, bytes);
 }
 
-/// How many bytes are kept back before they are written.
+/// From so many bytes on, the lines that are kept back are written.
 const GATHERED: usize = 65_536;
 
-/// Puts a line behind those that are kept back, and writes them all where they are many. At
+/// Appends a line to those that are kept back, and writes them all once they are 65,536 bytes or more. At
 /// `WriteFault` and `Memory`, the only errors, the sink may have taken some from their front.
 pub fn put_line<K: Sink>(sink: &mut K, kept: &mut Vec<u8>, line: &[u8]) -> Result<(), Status>
     ensures ok { OnOk result (Gathers K.Sink sink.old sink.new

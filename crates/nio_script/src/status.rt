@@ -9,21 +9,21 @@ use std::alloc::AllocError;
 pub enum Status {
     /// All was done, and all output was written.
     Done,
-    /// The command's words say nothing that is known.
+    /// The command's words are not in the grammar of the command line.
     Usage,
-    /// The line with this number, from 1, is the first that says nothing that is known.
+    /// The line with this number, counted from 1, is the first that is not in the grammar of the input.
     BadScript { line: u64 },
-    /// The source failed.
+    /// A read of the input failed.
     ReadFault,
-    /// The sink failed.
+    /// A write of the output failed.
     WriteFault,
-    /// There was no memory.
+    /// An allocation failed.
     Memory,
     /// The poller or the listener failed.
     NetFault,
-    /// The call with this number, from 1, is the first of a history whose reply isn't the right one.
+    /// The call with this number, counted from 1, is the first of a history whose reply is wrong.
     Illegal { line: u64 },
-    /// The input is longer than a command reads.
+    /// The input is longer than the command reads.
     TooLong,
 }
 

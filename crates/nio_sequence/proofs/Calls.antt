@@ -1,4 +1,5 @@
 -- Each call that doesn't wait, made between two calls: what it leaves.
+use Rattle.nio_plain.specs.Seq.Pipes.{own_sink}
 use Rattle.std.proofs.Common.{◌≡◌, ℕ, zero, suc, ◌==◌, nat_lt, Bool, true, false, not, ◌&&◌, cond, if◌then◌else◌}
 use Rattle.std.proofs.Common.{Option, Some, None, option_map, Result, Ok, Err, List, [], ◌∷◌, ◌++◌, map, refl, ap, sym}
 use Rattle.std.proofs.Common.{◌∙◌, subst, arith}
@@ -47,7 +48,7 @@ use Rattle.nio_serial.specs.Documented.{Progress, Selecting, documented, shown}
 use Rattle.nio_serial.specs.Laws.{IsMadeSelector, IsNamed, Amounts, by_key}
 use Rattle.nio_serial.specs.Lines.{Said, makes, asks, refused, begin_line, failed_line, close_end_line, call_plan}
 use Rattle.nio_serial.specs.Lines.{own_selection, after_begin, after_told, after_shut, after_finish, with_selection}
-use Rattle.nio_serial.specs.PipeLines.{own_sink, with_mark}
+use Rattle.nio_serial.specs.PipeLines.{with_mark}
 use Rattle.nio_serial.specs.Replies.{key_id, find_reply, set_reply, put_reply, channel_reply, mode_reply}
 use Rattle.nio_serial.specs.Replies.{register_reply, closed_reply, selector_reply, begin_reply, told_reply, shut_reply}
 use Rattle.nio_serial.specs.Replies.{finish_reply, list_reply}
@@ -565,7 +566,8 @@ module _ (l : Limits) (past : List Event) (now : Progress) (me : CallerNo) (fit 
       (subst (λ (x : Progress). Completes (call_plan l now me (call.Closec c)) acts
       (record { reply = closed_reply answer; left = x }))
       (unmarked now me c no_pipes)
-      (made-run (close_channel_plan l c) closed_reply (λ _. with_mark now (own_sink now me c)) acts answer run)) at
+      (made-run (close_channel_plan l c) closed_reply (λ _. with_mark now (own_sink now.pipes me c))
+      acts answer run)) at
   ends o (open_selector answer) acts plain run legal names at may =
       quiet-line o call.Selector (selector_reply answer) acts names legal
       (made-run (open_selector_plan l) selector_reply (λ _. now) acts answer run) at

@@ -18,14 +18,14 @@ use Rattle.nio_plain.specs.ScriptState.{Pipe, ScriptState}
 use Rattle.nio_plain.specs.Seq.{call_of}
 use Rattle.nio_plain.specs.Seq.Answers.{Answered}
 use Rattle.nio_plain.specs.Seq.Opening.{channel_made, channel_call}
-use Rattle.nio_plain.specs.Seq.Pipes.{owns_sink, marked_pipes}
+use Rattle.nio_plain.specs.Seq.Pipes.{owns_sink, marked_pipes, own_sink}
 use Rattle.nio_serial.proofs.Calls.{made-is}
 use Rattle.nio_serial.proofs.Histories.{calls-stay, calls-amount}
 use Rattle.nio_serial.specs.Between.{IsBetween}
 use Rattle.nio_serial.specs.Documented.{Progress, documented, amounts}
 use Rattle.nio_serial.specs.Laws.{IsMadeChannel}
 use Rattle.nio_serial.specs.Lines.{Said, makes, asks, call_plan}
-use Rattle.nio_serial.specs.PipeLines.{own_sink, with_mark}
+use Rattle.nio_serial.specs.PipeLines.{with_mark}
 use Rattle.nio_serial.specs.Replies.{channel_reply, closed_reply}
 use Rattle.nio_steps.proofs.PerformLaws.{perform-bind}
 use Rattle.nio_steps.specs.ChannelCalls.{open_channel_plan, close_channel_plan}
@@ -38,7 +38,8 @@ use Rattle.nio_steps.specs.declared.refusal.PipeError.{PipeError}
 use Rattle.nio_steps.specs.declared.refusal.PipeMakeError.{PipeMakeError}
 
 -- where there are no pipes of a script, a closed channel leaves what is in progress
-pub unmarked : (now : Progress) (me : CallerNo) (c : ChanNo) → now.pipes ≡ [] → with_mark now (own_sink now me c) ≡ now
+pub unmarked : (now : Progress) (me : CallerNo) (c : ChanNo) → now.pipes ≡ []
+    → with_mark now (own_sink now.pipes me c) ≡ now
 unmarked now me c no_pipes =
     ap (λ (pipes : List Pipe). record now { pipes = marked_pipes (position (owns_sink me c) pipes) pipes }) no_pipes
     ∙ ap (λ (pipes : List Pipe). record now { pipes = pipes }) (sym no_pipes)

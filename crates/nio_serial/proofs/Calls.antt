@@ -1,4 +1,5 @@
 -- Each call, made on the table with its names found, amounts to the documented one.
+use Rattle.nio_plain.specs.Seq.Pipes.{own_source, own_sink, pipe_at}
 use Rattle.std.proofs.Common.{◌≡◌, ℕ, ◌<◌, ◌==◌, nat_lt, Bool, true, false, cond, not, ◌||◌, if◌then◌else◌, Option}
 use Rattle.std.proofs.Common.{Some, None, option_map, List, map, refl, ap, sym, ◌∙◌, subst, arith}
 use Rattle.std.proofs.lemmas.Bool.{lt-ltb, le-ltb, or_left, or_right, cond-true}
@@ -60,7 +61,7 @@ use Rattle.nio_serial.proofs.Telling.{told-amounts, failed-amounts}
 use Rattle.nio_serial.specs.Between.{IsOn, IsBetween}
 use Rattle.nio_serial.specs.Documented.{Progress, Selecting, looked_pair, shown, documented, amounts}
 use Rattle.nio_serial.specs.Laws.{IsNamed, by_key}
-use Rattle.nio_serial.specs.PipeLines.{own_source, own_sink, pipe_at, with_mark, after_pipe}
+use Rattle.nio_serial.specs.PipeLines.{with_mark, after_pipe}
 use Rattle.nio_serial.specs.Lines.{Said, comes_to, makes, asks, refused, with_selection, if_own, own_selection}
 use Rattle.nio_serial.specs.Lines.{after_begin, after_told, after_shut, after_finish, begin_line, by_index, told_line}
 use Rattle.nio_serial.specs.Lines.{failed_line, close_end_line, read_line, write_line, call_plan}
@@ -243,17 +244,17 @@ module _ (l : Limits) (st : State) (now : Progress) (me : CallerNo) (between : I
   write-line c bytes (Some i) =
       write-amounts l st now me c (λ s k. unpinned l st now between s k me.0) (whole l st now between)
       (within l st now between) i bytes
-      ∙ made-is me (try_write_plan l (pipe_at now i).source c) _ _ st
+      ∙ made-is me (try_write_plan l (pipe_at now.pipes i).source c) _ _ st
 
   pread-is : (c : ChanNo) (n : ℕ) → (st.chan c.0).made ≡ true
-      → pread_call ds me c n ≡ comes_to (perform me (read_line l now c n (own_source now me c)) st)
+      → pread_call ds me c n ≡ comes_to (perform me (read_line l now c n (own_source now.pipes me c)) st)
   unfolding pread_call
-  pread-is c n made = channel-through ds c made _ ∙ read-line c n (own_source now me c)
+  pread-is c n made = channel-through ds c made _ ∙ read-line c n (own_source now.pipes me c)
 
   pwrite-is : (c : ChanNo) (bytes : List ℕ) → (st.chan c.0).made ≡ true
-      → pwrite_call ds me c bytes ≡ comes_to (perform me (write_line l now c bytes (own_sink now me c)) st)
+      → pwrite_call ds me c bytes ≡ comes_to (perform me (write_line l now c bytes (own_sink now.pipes me c)) st)
   unfolding pwrite_call
-  pwrite-is c bytes made = channel-through ds c made _ ∙ write-line c bytes (own_sink now me c)
+  pwrite-is c bytes made = channel-through ds c made _ ∙ write-line c bytes (own_sink now.pipes me c)
 
   pipe-is : (target : CallerNo) → target.0 < l.callers
       → pipe_call l ds me target
@@ -290,7 +291,7 @@ module _ (l : Limits) (st : State) (now : Progress) (me : CallerNo) (between : I
   call-amounts (call.Closec c) named =
       closec-amounts l st now me c (λ s i. unpinned l st now between s i me.0) (whole l st now between)
       (within l st now between) named
-      ∙ made-is me (close_channel_plan l c) closed_reply (λ _. with_mark now (own_sink now me c)) st
+      ∙ made-is me (close_channel_plan l c) closed_reply (λ _. with_mark now (own_sink now.pipes me c)) st
   call-amounts (call.Valid s k) named =
       valid-amounts st now me s k (pin_free s k.index) named.0 named.1 ∙ asked-is (is_valid_plan (key s k)) yes_or_no
   call-amounts (call.Interest s k) named =

@@ -21,7 +21,7 @@ use Rattle.nio_plain.specs.ScriptState.{ScriptState}
 use Rattle.nio_plain.specs.Seq.Answers.{answered}
 use Rattle.nio_plain.specs.Seq.Cancelling.{cancelled_key, channel_closed, has_index, closec_call}
 use Rattle.nio_plain.specs.Seq.Modes.{if_in_key_set, key_of}
-use Rattle.nio_plain.specs.Seq.Pipes.{marking}
+use Rattle.nio_plain.specs.Seq.Pipes.{marking, own_sink}
 use Rattle.nio_steps.proofs.PerformLaws.{perform_then_on, perform_sweep}
 use Rattle.nio_steps.specs.ChannelCalls.{cancel_at, cancel_noted, cancel_keys, close_channel_plan}
 use Rattle.nio_steps.specs.KeyCalls.{cancel_plan, cancel_present}
@@ -32,7 +32,7 @@ use Rattle.nio_steps.specs.Steps.{cancel_key}
 use Rattle.nio_steps.specs.Sweeps.{sweep_to}
 use Rattle.nio_serial.proofs.Base.{put-here, put_at-here, pin-back, in_set-is, branch, unpinned, perform_pinned}
 use Rattle.nio_serial.specs.Documented.{Progress, settled, settled_mark, settled_state, documented, amounts}
-use Rattle.nio_serial.specs.PipeLines.{own_sink, with_mark}
+use Rattle.nio_serial.specs.PipeLines.{with_mark}
 use Rattle.nio_serial.specs.Replies.{closed_reply}
 
 -- ---- one key
@@ -288,11 +288,11 @@ module _ (l : Limits) (st : State) (now : Progress) (me : CallerNo) (c : ChanNo)
   -- a sink that its owner closes leaves its end mark
   pub closec-amounts : (st.chan c.0).made ≡ true
       → closec_call ds me c
-      ≡ amounts closed_reply (λ _. with_mark now (own_sink now me c)) (perform me (close_channel_plan l c) st)
+      ≡ amounts closed_reply (λ _. with_mark now (own_sink now.pipes me c)) (perform me (close_channel_plan l c) st)
   unfolding closec_call close_channel_plan
   closec-amounts made =
       channel-through ds c made _
-      ∙ ap (marking (own_sink now me c))
+      ∙ ap (marking (own_sink now.pipes me c))
       (branch (amounts closed_reply (λ _. now)) me (Plan.reply false) (cancel_keys l c) closed_st _ _
       (st.chan c.0).closed (st.chan c.0).closed refl
       (λ is. ap (λ f. record { reply = reply.Already; left = documented (record st { chan = f }) now })

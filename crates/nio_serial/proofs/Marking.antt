@@ -1,6 +1,5 @@
 -- The marks of a `told`, one after the other: the state after so many of them is the documented one for that part of
--- the
--- looked list, and as many were updated.
+-- the looked list, and as many were updated.
 use Rattle.std.proofs.Common.{◌≡◌, ℕ, ◌+◌, ◌<◌, ◌==◌, Bool, true, false, cond, not, ◌&&◌, ◌||◌, List, [], ◌∷◌, ◌++◌}
 use Rattle.std.proofs.Common.{map, count_by, bit_and, refl, ap, sym, ◌∙◌, subst, arith, eqb-true, eq-eqb, bit_or}
 use Rattle.std.proofs.lemmas.Bool.{both_ways, and_parts, or_left, or_right, not-true, cond-true, cond-false}

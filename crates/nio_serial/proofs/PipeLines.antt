@@ -12,7 +12,7 @@ use Rattle.nio_event.specs.declared.reply.Reply.TheVariants as reply
 use Rattle.nio_plain.specs.ScriptState.{Pipe, ScriptState}
 use Rattle.nio_plain.specs.Seq.Answers.{Answered, unchanged, answered}
 use Rattle.nio_plain.specs.Seq.Cancelling.{channel_closed}
-use Rattle.nio_plain.specs.Seq.Pipes.{no_pipe, marking}
+use Rattle.nio_plain.specs.Seq.Pipes.{no_pipe, marking, pipe_at}
 use Rattle.nio_plain.specs.Seq.Piping.{not_now, read_first, read_from, room_for, write_first, write_to}
 use Rattle.nio_steps.proofs.PerformLaws.{perform-bind, perform_then_on}
 use Rattle.nio_steps.specs.ChannelCalls.{close_channel_plan}
@@ -23,7 +23,7 @@ use Rattle.nio_steps.specs.Steps.{look_interrupt}
 use Rattle.nio_steps.specs.declared.refusal.PipeError.{PipeError}
 use Rattle.nio_serial.proofs.ClosingChannels.{closed_left, closed-documented, close-open}
 use Rattle.nio_serial.specs.Documented.{Progress, documented, amounts}
-use Rattle.nio_serial.specs.PipeLines.{pipe_at, with_pipe, Piped, only_says, takes, read_gives, puts, write_gives}
+use Rattle.nio_serial.specs.PipeLines.{with_pipe, Piped, only_says, takes, read_gives, puts, write_gives}
 
 module _ (l : Limits) (st : State) (now : Progress) (me : CallerNo) (c : ChanNo)
     (free : (s i : ℕ) → st.pinned s i me.0 ≡ false) (whole : (s i : ℕ) → (st.key s i).claimed ≡ (st.key s i).published)
@@ -71,7 +71,7 @@ module _ (l : Limits) (st : State) (now : Progress) (me : CallerNo) (c : ChanNo)
 
   module _ (i : ℕ) where
     abbrev p : Pipe
-    p = pipe_at now i
+    p = pipe_at now.pipes i
 
     -- what stands at a place is put there
     same-pipes : with_pipe now i p ≡ now

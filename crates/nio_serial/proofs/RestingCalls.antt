@@ -606,24 +606,24 @@ module _ (l : Limits) (st : ScriptState) (sound : Sound Now l st) (rest : Rests 
       both (st.shared.chan c.0).closed _ _ rest
       (both (finds_interrupt st me c) _ _ (rests-closed l st.shared rest c.0)
       (both (n == 0) _ _ rest
-      (rests_first (st.shared.chan c.0).blocking n i (pipe_at st i).waiting (pipe_at st i).marked)))
+      (rests_first (st.shared.chan c.0).blocking n i (pipe_at st.pipes i).waiting (pipe_at st.pipes i).marked)))
 
   rests-pread_call : (me : CallerNo) (c : ChanNo) (n : ℕ) → Keeps (pread_call st me c n)
   unfolding pread_call
-  rests-pread_call me c n = named_channel c _ (rests_read me c n (own_source st me c))
+  rests-pread_call me c n = named_channel c _ (rests_read me c n (own_source st.pipes me c))
 
   rests_write : (me : CallerNo) (c : ChanNo) (bytes : List ℕ) (place : Option ℕ) → Keeps (write_to st me c bytes place)
   rests_write me c bytes None = rest
   rests_write me c bytes (Some i) =
       both (st.shared.chan c.0).closed _ _ rest
       (both (finds_interrupt st me c) _ _ (rests-closed l st.shared rest c.0)
-      (both (st.shared.chan (pipe_at st i).source.0).closed _ _ rest
+      (both (st.shared.chan (pipe_at st.pipes i).source.0).closed _ _ rest
       (both (length bytes == 0) _ _ rest
-      (both (room_for bytes (pipe_at st i) == 0) _ _ rest rest))))
+      (both (room_for bytes (pipe_at st.pipes i) == 0) _ _ rest rest))))
 
   rests-pwrite_call : (me : CallerNo) (c : ChanNo) (bytes : List ℕ) → Keeps (pwrite_call st me c bytes)
   unfolding pwrite_call
-  rests-pwrite_call me c bytes = named_channel c _ (rests_write me c bytes (own_sink st me c))
+  rests-pwrite_call me c bytes = named_channel c _ (rests_write me c bytes (own_sink st.pipes me c))
 
   rests-call_of : (me : CallerNo) (word : Call) → Keeps (call_of Now l st me word)
   unfolding call_of

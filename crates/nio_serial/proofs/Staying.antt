@@ -1,4 +1,5 @@
 -- What holds between two calls holds at the beginning and after each line.
+use Rattle.nio_plain.specs.Seq.Pipes.{own_source, own_sink, pipe_at}
 use Rattle.std.proofs.Common.{◌≡◌, ℕ, nat_lt, Bool, true, false, if◌then◌else◌, Option, Some, None, is_some, Result, Ok}
 use Rattle.std.proofs.Common.{Err, List, [], ◌∷◌, ◌++◌, refl, ap, sym, ◌∙◌, subst, arith}
 use Rattle.std.specs.Prelude.{⊤}
@@ -51,7 +52,7 @@ use Rattle.nio_serial.specs.Documented.{Progress, documented}
 use Rattle.nio_serial.specs.Laws.{BeginsBetween, LinesStayBetween}
 use Rattle.nio_serial.specs.Lines.{Said, comes_to, makes, asks, refused, if_caller, if_found, if_selector, if_channel}
 use Rattle.nio_serial.specs.Lines.{if_key, if_named, read_line, write_line, call_plan, line_plan}
-use Rattle.nio_serial.specs.PipeLines.{own_source, own_sink, pipe_at, after_pipe}
+use Rattle.nio_serial.specs.PipeLines.{after_pipe}
 
 -- ---- a line that begins and ends nothing leaves the selections and closings in progress
 
@@ -98,7 +99,8 @@ write-leaves : (l : Limits) (now : Progress) (c : ChanNo) (bytes : List ℕ) (pl
     → Leaves now (write_line l now c bytes place)
 write-leaves l now c bytes None = record { selection = refl; closing = refl }
 write-leaves l now c bytes (Some i) =
-    makes-leaves now (try_write_plan l (pipe_at now i).source c) _ _ (λ _. record { selection = refl; closing = refl })
+    makes-leaves now (try_write_plan l (pipe_at now.pipes i).source c) _ _
+    (λ _. record { selection = refl; closing = refl })
 
 pipe-leaves : (now : Progress) (me target : CallerNo) (answer : Result PipeEnds PipeMakeError)
     → ShowsAsBefore now (after_pipe now me target answer)
@@ -242,10 +244,10 @@ module _ (l : Limits) (st : State) (now : Progress) (me : CallerNo) (fit : IsFit
       (steady-pipe l ds me target)
   named-shows (call.Pwrite c bytes) =
       steady-shows (call.Pwrite c bytes)
-      (channel-leaves l now c _ (write-leaves l now c bytes (own_sink now me c))) (steady-pwrite l ds me c bytes)
+      (channel-leaves l now c _ (write-leaves l now c bytes (own_sink now.pipes me c))) (steady-pwrite l ds me c bytes)
   named-shows (call.Pread c n) =
       steady-shows (call.Pread c n)
-      (channel-leaves l now c _ (read-leaves l now c n (own_source now me c))) (steady-pread l ds me c n)
+      (channel-leaves l now c _ (read-leaves l now c n (own_source now.pipes me c))) (steady-pread l ds me c n)
   named-shows (call.Group g) =
       steady-shows (call.Group g) (record { selection = refl; closing = refl }) (steady-group l ds g)
 

@@ -144,7 +144,7 @@ module _ (l : Limits) (st : ScriptState) where
   pub steady-closec : (me : CallerNo) (c : ChanNo) → IsSteady st (closec_call st me c)
   unfolding closec_call
   steady-closec me c =
-      named_channel c _ (marks (own_sink st me c) _
+      named_channel c _ (marks (own_sink st.pipes me c) _
       (denied (st.shared.chan c.0).closed reply.Already _ (closes c.0 reply.«Ok»)))
 
   pub steady-valid : (s : SelNo) (k : KeyId) → IsSteady st (valid_call st s k)
@@ -246,11 +246,11 @@ module _ (l : Limits) (st : ScriptState) where
       both (st.shared.chan c.0).closed _ _ (same _)
       (both (finds_interrupt st me c) _ _ (closes c.0 _)
       (both (n == 0) _ _ (same _)
-      (steady_first (st.shared.chan c.0).blocking n i (pipe_at st i).waiting (pipe_at st i).marked)))
+      (steady_first (st.shared.chan c.0).blocking n i (pipe_at st.pipes i).waiting (pipe_at st.pipes i).marked)))
 
   pub steady-pread : (me : CallerNo) (c : ChanNo) (n : ℕ) → IsSteady st (pread_call st me c n)
   unfolding pread_call
-  steady-pread me c n = named_channel c _ (steady_read me c n (own_source st me c))
+  steady-pread me c n = named_channel c _ (steady_read me c n (own_source st.pipes me c))
 
   steady_room : (blocking : Bool) (bytes : List ℕ) (i n : ℕ) → IsSteady st (write_first st blocking bytes i n)
   steady_room blocking bytes i n = both (n == 0) _ _ (same _) (piped (unchanged st reply.End) _ _ (same reply.End))
@@ -261,13 +261,13 @@ module _ (l : Limits) (st : ScriptState) where
   steady_write me c bytes (Some i) =
       both (st.shared.chan c.0).closed _ _ (marks (Some i) _ (same reply.ClosedChannel))
       (both (finds_interrupt st me c) _ _ (marks (Some i) _ (closes c.0 reply.ClosedByInterrupt))
-      (both (st.shared.chan (pipe_at st i).source.0).closed _ _ (same _)
+      (both (st.shared.chan (pipe_at st.pipes i).source.0).closed _ _ (same _)
       (both (length bytes == 0) _ _ (same _)
-      (steady_room (st.shared.chan c.0).blocking bytes i (room_for bytes (pipe_at st i))))))
+      (steady_room (st.shared.chan c.0).blocking bytes i (room_for bytes (pipe_at st.pipes i))))))
 
   pub steady-pwrite : (me : CallerNo) (c : ChanNo) (bytes : List ℕ) → IsSteady st (pwrite_call st me c bytes)
   unfolding pwrite_call
-  steady-pwrite me c bytes = named_channel c _ (steady_write me c bytes (own_sink st me c))
+  steady-pwrite me c bytes = named_channel c _ (steady_write me c bytes (own_sink st.pipes me c))
 
   pub steady-group : (g : GroupCall) → IsSteady st (group_call st g)
   steady-group g = record { turn = refl; begun = refl; closer = refl; entered = refl }

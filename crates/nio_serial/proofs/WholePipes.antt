@@ -201,12 +201,12 @@ module _ (l : Limits) (st : ScriptState) (whole : Whole st) where
   unfolding closec_call
   keeps-closec me c = named c _ (by_closed (st.shared.chan c.0).closed)
     where
-      by_closed : (b : Bool) → Keeps (marking (own_sink st me c)
+      by_closed : (b : Bool) → Keeps (marking (own_sink st.pipes me c)
           (cond b (unchanged st reply.Already) (answered st reply.«Ok» (channel_closed st.shared c.0))))
-      by_closed true = marked-whole st.shared.chan (own_sink st me c) st.pipes whole
+      by_closed true = marked-whole st.shared.chan (own_sink st.pipes me c) st.pipes whole
       by_closed false =
           marked-whole (put st.shared.chan c.0 (record (st.shared.chan c.0) { closed = true }))
-          (own_sink st me c) st.pipes
+          (own_sink st.pipes me c) st.pipes
           (closed-whole st whole c.0 reply.«Ok»)
 
   keeps-pipe : (me target : CallerNo) → Keeps (pipe_call l st me target)
@@ -222,7 +222,7 @@ module _ (l : Limits) (st : ScriptState) (whole : Whole st) where
           (ap (λ (x : Chan). x.made) there, ap (λ (x : Chan). x.kind) there) (next_channel l made) refl
 
   -- so many bytes wait in the pipe at a place
-  waits : (i : ℕ) → length (pipe_at st i).waiting ≤ 65536
+  waits : (i : ℕ) → length (pipe_at st.pipes i).waiting ≤ 65536
   waits i =
       ⊎_elim
       (λ (below : i < length st.pipes).
@@ -246,16 +246,17 @@ module _ (l : Limits) (st : ScriptState) (whole : Whole st) where
       both (st.shared.chan c.0).closed _ _ whole
       (both (finds_interrupt st me c) _ _ (closed-whole st whole c.0 reply.ClosedByInterrupt)
       (both (n == 0) _ _ whole
-      (keeps-first (st.shared.chan c.0).blocking n i (pipe_at st i).waiting (pipe_at st i).marked (waits i))))
+      (keeps-first (st.shared.chan c.0).blocking n i (pipe_at st.pipes i).waiting (pipe_at st.pipes i).marked
+      (waits i))))
 
   keeps-pread : (me : CallerNo) (c : ChanNo) (n : ℕ) → Keeps (pread_call st me c n)
   unfolding pread_call
-  keeps-pread me c n = named c _ (keeps-read me c n (own_source st me c))
+  keeps-pread me c n = named c _ (keeps-read me c n (own_source st.pipes me c))
 
-  keeps-room : (blocking : Bool) (bytes : List ℕ) (i n : ℕ) → length (pipe_at st i).waiting + n ≤ 65536
+  keeps-room : (blocking : Bool) (bytes : List ℕ) (i n : ℕ) → length (pipe_at st.pipes i).waiting + n ≤ 65536
       → Keeps (write_first st blocking bytes i n)
   keeps-room blocking bytes i n few =
-      let total = length-append (pipe_at st i).waiting (take n bytes) in
+      let total = length-append (pipe_at st.pipes i).waiting (take n bytes) in
       let added = length-take n bytes in
       let least = min-le_left n (length bytes) in
       both (n == 0) _ _ whole
@@ -266,18 +267,18 @@ module _ (l : Limits) (st : ScriptState) (whole : Whole st) where
   keeps-write me c bytes None = whole
   keeps-write me c bytes (Some i) =
       let few = waits i in
-      let room = min-le_right (length bytes) (65536 - length (pipe_at st i).waiting) in
+      let room = min-le_right (length bytes) (65536 - length (pipe_at st.pipes i).waiting) in
       both (st.shared.chan c.0).closed _ _ (marked-whole st.shared.chan (Some i) st.pipes whole)
       (both (finds_interrupt st me c) _ _
       (marked-whole (put st.shared.chan c.0 (record (st.shared.chan c.0) { closed = true })) (Some i) st.pipes
       (closed-whole st whole c.0 reply.ClosedByInterrupt))
-      (both (st.shared.chan (pipe_at st i).source.0).closed _ _ whole
+      (both (st.shared.chan (pipe_at st.pipes i).source.0).closed _ _ whole
       (both (length bytes == 0) _ _ whole
-      (keeps-room (st.shared.chan c.0).blocking bytes i (room_for bytes (pipe_at st i)) (omega arith)))))
+      (keeps-room (st.shared.chan c.0).blocking bytes i (room_for bytes (pipe_at st.pipes i)) (omega arith)))))
 
   keeps-pwrite : (me : CallerNo) (c : ChanNo) (bytes : List ℕ) → Keeps (pwrite_call st me c bytes)
   unfolding pwrite_call
-  keeps-pwrite me c bytes = named c _ (keeps-write me c bytes (own_sink st me c))
+  keeps-pwrite me c bytes = named c _ (keeps-write me c bytes (own_sink st.pipes me c))
 
   keeps-told_apart : (me : CallerNo) (word : Call) → is_apart word ≡ false → Keeps (call_of Now l st me word)
   unfolding call_of

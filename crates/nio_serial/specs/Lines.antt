@@ -1,4 +1,5 @@
 -- How the line of a script is made on the table: its look-ups, the plan of its call, and its reply.
+use Rattle.nio_plain.specs.Seq.Pipes.{own_source, own_sink, pipe_at}
 use Rattle.std.specs.Prelude.{ℕ, ◌==◌, nat_lt, Bool, false, if◌then◌else◌, Option, Some, None, is_some, Result, Ok, Err}
 use Rattle.std.specs.Prelude.{List, map, filter}
 use Rattle.nio_base.specs.declared.limits.Limits.{Limits}
@@ -34,8 +35,7 @@ use Rattle.nio_steps.specs.SelectCalls.{wakeup_plan, interrupt_plan, interrupted
 use Rattle.nio_steps.specs.declared.refusal.BeginError.{BeginError}
 use Rattle.nio_steps.specs.declared.refusal.PipeError.{PipeError}
 use Rattle.nio_serial.specs.Documented.{Progress, Selecting, shown, amounts}
-use Rattle.nio_serial.specs.PipeLines.{own_source, own_sink, pipe_at, with_pipe, with_mark, after_pipe, Piped}
-use Rattle.nio_serial.specs.PipeLines.{read_gives, write_gives}
+use Rattle.nio_serial.specs.PipeLines.{with_pipe, with_mark, after_pipe, Piped, read_gives, write_gives}
 use Rattle.nio_serial.specs.Replies.{find_reply, set_reply, put_reply, channel_reply, mode_reply, register_reply}
 use Rattle.nio_serial.specs.Replies.{closed_reply, ends_reply, selector_reply, begin_reply, told_reply, shut_reply}
 use Rattle.nio_serial.specs.Replies.{finish_reply, list_reply}
@@ -125,8 +125,8 @@ group_line now g = Plan.reply (record {
 -- a read or a write on the pipe at a place
 abbrev pub on_pipe : Progress → ℕ → Plan (Result Bool PipeError) → (Pipe → Result Bool PipeError → Piped) → Plan Said
 on_pipe now i plan gives =
-    makes plan (λ answer. (gives (pipe_at now i) answer).reply)
-    (λ answer. with_pipe now i (gives (pipe_at now i) answer).left)
+    makes plan (λ answer. (gives (pipe_at now.pipes i) answer).reply)
+    (λ answer. with_pipe now i (gives (pipe_at now.pipes i) answer).left)
 
 -- of the caller's own pipe
 abbrev pub read_line : Limits → Progress → ChanNo → ℕ → Option ℕ → Plan Said
@@ -135,7 +135,7 @@ read_line l now c n (Some i) = on_pipe now i (try_read_plan l c) (read_gives n)
 
 abbrev pub write_line : Limits → Progress → ChanNo → List ℕ → Option ℕ → Plan Said
 write_line l now c bytes None = refused now reply.NotOwner
-write_line l now c bytes (Some i) = on_pipe now i (try_write_plan l (pipe_at now i).source c) (write_gives bytes)
+write_line l now c bytes (Some i) = on_pipe now i (try_write_plan l (pipe_at now.pipes i).source c) (write_gives bytes)
 
 -- each call, once the line's names are found
 unfoldable pub call_plan : Limits → Progress → CallerNo → Call → Plan Said
@@ -149,7 +149,7 @@ call_plan l now me (call.KeyFor c s) = asks now (key_for_plan c s) find_reply
 call_plan l now me (call.Register s c ops att) =
     asks now (try_register_plan l s c ops (given_or_none att)) register_reply
 call_plan l now me (call.Closec c) =
-    makes (close_channel_plan l c) closed_reply (λ _. with_mark now (own_sink now me c))
+    makes (close_channel_plan l c) closed_reply (λ _. with_mark now (own_sink now.pipes me c))
 call_plan l now me (call.Valid s k) = asks now (is_valid_plan (key s k)) yes_or_no
 call_plan l now me (call.Interest s k) = asks now (interest_plan (key s k)) set_reply
 call_plan l now me (call.Ready s k) = asks now (ready_plan (key s k)) set_reply
@@ -171,8 +171,8 @@ call_plan l now me (call.Selected s) = asks now (selected_keys_plan s false) lis
 call_plan l now me (call.Interrupt target) = asks now (interrupt_plan target) (λ _. reply.«Ok»)
 call_plan l now me call.Interrupted = asks now interrupted_plan yes_or_no
 call_plan l now me (call.Pipe target) = makes (pipe_plan l false) ends_reply (after_pipe now me target)
-call_plan l now me (call.Pwrite c bytes) = write_line l now c bytes (own_sink now me c)
-call_plan l now me (call.Pread c n) = read_line l now c n (own_source now me c)
+call_plan l now me (call.Pwrite c bytes) = write_line l now c bytes (own_sink now.pipes me c)
+call_plan l now me (call.Pread c n) = read_line l now c n (own_source now.pipes me c)
 call_plan l now me (call.Group g) = group_line now g
 
 -- ---- the names of a line

@@ -1,13 +1,12 @@
 -- Lines on pipes. The table has a pipe's channels; its bytes, its end mark and its owners stand beside the table.
 -- What a line says and leaves in the pipe follows from the pipe and from what the call's plan answers.
 use Rattle.std.specs.Prelude.{ℕ, ◌==◌, Bool, true, false, if◌then◌else◌, Option, Result, Ok, Err, List, [], ◌∷◌, ◌++◌}
-use Rattle.std.specs.Prelude.{length, take, drop, position, slice_index_or, slice_set}
+use Rattle.std.specs.Prelude.{length, take, drop, slice_set}
 use Rattle.nio_base.specs.declared.numbers.CallerNo.{CallerNo}
-use Rattle.nio_base.specs.declared.numbers.ChanNo.{ChanNo}
 use Rattle.nio_event.specs.declared.reply.Reply.{Reply}
 use Rattle.nio_event.specs.declared.reply.Reply.TheVariants as reply
 use Rattle.nio_plain.specs.ScriptState.{Pipe}
-use Rattle.nio_plain.specs.Seq.Pipes.{owns_source, owns_sink, no_pipe, marked_pipes}
+use Rattle.nio_plain.specs.Seq.Pipes.{marked_pipes}
 use Rattle.nio_plain.specs.Seq.Piping.{new_pipe, not_now, room_for}
 use Rattle.nio_steps.specs.PipeCalls.{PipeEnds}
 use Rattle.nio_steps.specs.declared.refusal.PipeError.{PipeError}
@@ -16,16 +15,6 @@ use Rattle.nio_serial.specs.Documented.{Progress}
 use Rattle.nio_serial.specs.Replies.{pipe_refusal}
 
 -- ---- the pipes
-
--- the place of the caller's own pipe with this source, or with this sink
-abbrev pub own_source : Progress → CallerNo → ChanNo → Option ℕ
-own_source now me c = position (owns_source me c) now.pipes
-
-abbrev pub own_sink : Progress → CallerNo → ChanNo → Option ℕ
-own_sink now me c = position (owns_sink me c) now.pipes
-
-abbrev pub pipe_at : Progress → ℕ → Pipe
-pipe_at now i = slice_index_or now.pipes i no_pipe
 
 -- with another pipe at a place
 abbrev pub with_pipe : Progress → ℕ → Pipe → Progress

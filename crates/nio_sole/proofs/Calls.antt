@@ -1,4 +1,5 @@
 -- A line of a script is whole calls of its caller, and leaves what other callers have in progress.
+use Rattle.nio_plain.specs.Seq.Pipes.{own_source, own_sink, pipe_at}
 use Rattle.std.proofs.Common.{◌≡◌, ℕ, ◌==◌, nat_lt, Bool, true, false, ◌||◌, if◌then◌else◌, Option, Some, None, Result}
 use Rattle.std.proofs.Common.{Ok, Err, List, [], ◌∷◌, ◌++◌, refl, ap, sym, ◌∙◌, subst, append_assoc, eqb-true, eq-eqb}
 use Rattle.std.proofs.Common.{◌⊎◌, inl, inr}
@@ -40,7 +41,7 @@ use Rattle.nio_serial.specs.Lines.{Said, makes, asks, refused, with_selection, w
 use Rattle.nio_serial.specs.Lines.{after_begin, after_told, after_shut, after_finish, begin_line, by_index, told_line}
 use Rattle.nio_serial.specs.Lines.{failed_line, close_end_line, read_line, write_line, call_plan, if_caller, if_found}
 use Rattle.nio_serial.specs.Lines.{if_selector, if_channel, if_key, if_named, line_plan}
-use Rattle.nio_serial.specs.PipeLines.{own_source, own_sink, pipe_at, with_mark, with_pipe, after_pipe, read_gives}
+use Rattle.nio_serial.specs.PipeLines.{with_mark, with_pipe, after_pipe, read_gives}
 use Rattle.nio_serial.specs.PipeLines.{write_gives}
 use Rattle.nio_serial.specs.Replies.{ends_reply, find_reply, set_reply, put_reply, channel_reply, mode_reply}
 use Rattle.nio_serial.specs.Replies.{register_reply, closed_reply, selector_reply, begin_reply, told_reply, shut_reply}
@@ -818,17 +819,18 @@ module _ (l : Limits) (me : CallerNo) (now : Progress) where
   leads_read : (c : ChanNo) (n : ℕ) (place : Option ℕ) → Leads l me now (read_line l now c n place)
   leads_read c n None = leads_refused l me now _
   leads_read c n (Some i) =
-      leads_leaving (try_read_plan l c) (λ a. try_read c a) (λ a. (read_gives n (pipe_at now i) a).reply)
-      (λ a. with_pipe now i (read_gives n (pipe_at now i) a).left) (λ _. record { selection = refl; closing = refl })
+      leads_leaving (try_read_plan l c) (λ a. try_read c a) (λ a. (read_gives n (pipe_at now.pipes i) a).reply)
+      (λ a. with_pipe now i (read_gives n (pipe_at now.pipes i) a).left)
+      (λ _. record { selection = refl; closing = refl })
       (λ o acts a run at. quiet l me now o (try_read c a) acts run tt at)
 
   leads_write : (c : ChanNo) (bytes : List ℕ) (place : Option ℕ) → Leads l me now (write_line l now c bytes place)
   leads_write c bytes None = leads_refused l me now _
   leads_write c bytes (Some i) =
-      let source = (pipe_at now i).source in
+      let source = (pipe_at now.pipes i).source in
       leads_leaving (try_write_plan l source c) (λ a. try_write source c a)
-      (λ a. (write_gives bytes (pipe_at now i) a).reply)
-      (λ a. with_pipe now i (write_gives bytes (pipe_at now i) a).left)
+      (λ a. (write_gives bytes (pipe_at now.pipes i) a).reply)
+      (λ a. with_pipe now i (write_gives bytes (pipe_at now.pipes i) a).left)
       (λ _. record { selection = refl; closing = refl })
       (λ o acts a run at. quiet l me now o (try_write source c a) acts run tt at)
 
@@ -862,7 +864,7 @@ module _ (l : Limits) (me : CallerNo) (now : Progress) where
       (λ o acts a run at. quiet l me now o (try_register s c ops (given_or_none att) a) acts run tt at)
   leads_plan (call.Closec c) on =
       leads_leaving (close_channel_plan l c) (λ a. close_channel c a) closed_reply
-      (λ _. with_mark now (own_sink now me c)) (λ _. record { selection = refl; closing = refl })
+      (λ _. with_mark now (own_sink now.pipes me c)) (λ _. record { selection = refl; closing = refl })
       (λ o acts a run at. quiet l me now o (close_channel c a) acts run tt at)
   leads_plan (call.Valid s k) on =
       leads_ask (is_valid_plan (key s k)) (λ a. is_valid (key s k) a) yes_or_no
@@ -911,8 +913,8 @@ module _ (l : Limits) (me : CallerNo) (now : Progress) where
       leads_ask interrupted_plan (λ a. interrupted a) yes_or_no
       (λ o acts a run at. quiet l me now o (interrupted a) acts run tt at)
   leads_plan (call.Pipe target) on = leads_pipe target
-  leads_plan (call.Pwrite c bytes) on = leads_write c bytes (own_sink now me c)
-  leads_plan (call.Pread c n) on = leads_read c n (own_source now me c)
+  leads_plan (call.Pwrite c bytes) on = leads_write c bytes (own_sink now.pipes me c)
+  leads_plan (call.Pread c n) on = leads_read c n (own_source now.pipes me c)
   leads_plan (call.Group g) on =
       leads_beside (group_reply now.group g) (record now { group = group_left now.group g })
       (record { selection = refl; closing = refl })

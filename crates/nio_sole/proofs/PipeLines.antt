@@ -28,10 +28,10 @@ use Rattle.nio_pipe.specs.declared.answers.PipeWrite.{PipeWrite}
 use Rattle.nio_plain.proofs.Piping.{position-map}
 use Rattle.nio_plain.specs.ScriptState.{Pipe}
 use Rattle.nio_plain.specs.Seq.Grouping.{group_left, group_reply}
-use Rattle.nio_plain.specs.Seq.Pipes.{marked_pipes, no_pipe, owns_sink, owns_source}
+use Rattle.nio_plain.specs.Seq.Pipes.{marked_pipes, no_pipe, owns_sink, owns_source, own_sink, own_source, pipe_at}
 use Rattle.nio_serial.specs.Documented.{Progress}
 use Rattle.nio_serial.specs.Lines.{Said, call_plan, makes, read_line, refused, write_line}
-use Rattle.nio_serial.specs.PipeLines.{Piped, after_pipe, own_sink, own_source, pipe_at, read_gives, with_mark}
+use Rattle.nio_serial.specs.PipeLines.{Piped, after_pipe, read_gives, with_mark}
 use Rattle.nio_serial.specs.PipeLines.{with_pipe, write_gives}
 use Rattle.nio_serial.specs.Replies.{closed_reply, ends_reply}
 use Rattle.nio_sole.proofs.Asking.{makes_ran, refused_at, replied_as}
@@ -141,11 +141,11 @@ abbrev pub IsSinkAt : Desk → CallerNo → ChanNo → Option ℕ → Type 0
 IsSinkAt d me c place = place ≡ position (λ x. (x.pipe.sink.0 == c.0) && (x.writer.0 == me.0)) d.pipes.items
 
 own_source_is : (d : Desk) (me : CallerNo) (c : ChanNo) (place : Option ℕ) → IsSourceAt d me c place
-    → own_source (progress_of d) me c ≡ place
+    → own_source (progress_of d).pipes me c ≡ place
 own_source_is d me c place is = position-map (owns_source me c) pipe_of d.pipes.items ∙ sym is
 
 own_sink_is : (d : Desk) (me : CallerNo) (c : ChanNo) (place : Option ℕ) → IsSinkAt d me c place
-    → own_sink (progress_of d) me c ≡ place
+    → own_sink (progress_of d).pipes me c ≡ place
 own_sink_is d me c place is = position-map (owns_sink me c) pipe_of d.pipes.items ∙ sym is
 
 channel_is : (a b : ChanNo) → (a.0 == b.0) ≡ true → a ≡ b
@@ -190,14 +190,15 @@ write_by {me = me} l now c bytes {said = said} {v0 = v0} {v1 = v1} is call =
 module _ (d : Desk) (i : ℕ) (x x' : OwnedPipe) (gives : Pipe → Piped) (r : Reply)
     (within : i < length d.pipes.items) (is : x ≡ get_or d.pipes.items i x)
     (comes : gives (pipe_of x) ≡ record { reply = r; left = pipe_of x' }) where
-  gives_at : gives (pipe_at (progress_of d) i) ≡ record { reply = r; left = pipe_of x' }
+  gives_at : gives (pipe_at (progress_of d).pipes i) ≡ record { reply = r; left = pipe_of x' }
   gives_at = ap gives (shown_at d.pipes.items i x within is) ∙ comes
 
-  gives_says : r ≡ (gives (pipe_at (progress_of d) i)).reply
+  gives_says : r ≡ (gives (pipe_at (progress_of d).pipes i)).reply
   gives_says = sym (ap (λ (g : Piped). g.reply) gives_at)
 
   gives_leaves : (q : Pass) (pipes : Vec OwnedPipe Global) → pipes.items ≡ set d.pipes.items i x'
-      → with_pipe (progress_of d) i (gives (pipe_at (progress_of d) i)).left ≡ progress_of (with_pipes_in d q pipes)
+      → with_pipe (progress_of d) i (gives (pipe_at (progress_of d).pipes i)).left
+      ≡ progress_of (with_pipes_in d q pipes)
   gives_leaves q pipes items =
       let now = progress_of d in
       ap {B = Progress} (λ (ps : List Pipe). record now { pipes = ps })
@@ -234,8 +235,8 @@ read_made w d q me c n i x x' pipes found r may at is ran ready items source sin
     record {
       call = read_by l now c n (own_source_is d me c (Some i) at)
           (replied_as
-          (left_as (makes_ran (λ a. (read_gives n (pipe_at now i) a).reply)
-          (λ a. with_pipe now i (read_gives n (pipe_at now i) a).left) call)
+          (left_as (makes_ran (λ a. (read_gives n (pipe_at now.pipes i) a).reply)
+          (λ a. with_pipe now i (read_gives n (pipe_at now.pipes i) a).left) call)
           (gives_leaves d i x x' gives r here.0 is comes q pipes items)) (gives_says d i x x' gives r here.0 is comes));
       ready = ready;
       places = places_pipes may.places (subst (AreMade (view w q)) (sym items)
@@ -266,9 +267,10 @@ write_made w d q me c bytes i x x' pipes found r may at is ran ready items sourc
     let l = limits_of w in
     let now = progress_of d in
     let here = sink_at d me c i x at is in
-    let source_shown : x.pipe.source ≡ (pipe_at now i).source = sym
+    let source = (pipe_at now.pipes i).source in
+    let source_shown : x.pipe.source ≡ source = sym
     (ap (λ (p : Pipe). p.source) (shown_at d.pipes.items i x here.0 is)) in
-    let call : CallClause me (Completes (try_write_plan l (pipe_at now i).source c)) (view w d.pass) (view w q) found =
+    let call : CallClause me (Completes (try_write_plan l source c)) (view w d.pass) (view w q) found =
     subst (λ (s : ChanNo). CallClause me (Completes (try_write_plan l s c)) (view w d.pass) (view w q) found)
     source_shown
     (subst (λ (s : ChanNo). CallClause me (Completes (try_write_plan l x.pipe.source s)) (view w d.pass)
@@ -277,8 +279,8 @@ write_made w d q me c bytes i x x' pipes found r may at is ran ready items sourc
     record {
       call = write_by l now c bytes (own_sink_is d me c (Some i) at)
           (replied_as
-          (left_as (makes_ran (λ a. (write_gives bytes (pipe_at now i) a).reply)
-          (λ a. with_pipe now i (write_gives bytes (pipe_at now i) a).left) call)
+          (left_as (makes_ran (λ a. (write_gives bytes (pipe_at now.pipes i) a).reply)
+          (λ a. with_pipe now i (write_gives bytes (pipe_at now.pipes i) a).left) call)
           (gives_leaves d i x x' gives r here.0 is comes q pipes items)) (gives_says d i x x' gives r here.0 is comes));
       ready = ready;
       places = places_pipes may.places (subst (AreMade (view w q)) (sym items)
@@ -377,7 +379,7 @@ unfolding call_plan
 close_none w d q me c closes may none ran ready =
     let now = progress_of d in
     record {
-      call = left_as (makes_ran closed_reply (λ _. with_mark now (own_sink now me c)) ran)
+      call = left_as (makes_ran closed_reply (λ _. with_mark now (own_sink now.pipes me c)) ran)
           (ap (with_mark now) (own_sink_is d me c None none));
       ready = ready;
       places = places_same q ran may.places;
@@ -401,7 +403,7 @@ close_made w d q me c i x pipes closes may at is ran ready items =
     subst (λ (s : ChanNo). CallClause me (Completes (close_channel_plan l s)) (view w d.pass) (view w q) closes) here.1
     ran in
     record {
-      call = left_as (makes_ran closed_reply (λ _. with_mark now (own_sink now me c)) call)
+      call = left_as (makes_ran closed_reply (λ _. with_mark now (own_sink now.pipes me c)) call)
           (ap (with_mark now) (own_sink_is d me c (Some i) at)
           ∙ ap {B = Progress} (λ (ps : List Pipe). record now { pipes = ps })
           (ap {B = List Pipe} (λ (p : Pipe). set (pipes_of d.pipes.items) i (record p { marked = true }))

@@ -23,8 +23,7 @@ draws zero = []
 draws (suc k) = draws k ++ draw (record { 0 = k }) ∷ []
 
 -- Draws alone were made: it stands between two calls, in the opening state of scripts; each caller made whole calls;
--- each
--- number below k is drawn, and no other.
+-- each number below k is drawn, and no other.
 pub record AreDrawn (l : Limits) (events : List Event) (k : ℕ) : Type 0 where
   pub are : events ≡ history_of (draws k)
   pub opening : documented (state_after events) nothing_yet ≡ script_opening

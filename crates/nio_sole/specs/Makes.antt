@@ -43,8 +43,7 @@ pub record Makes (w : Words) (old new : Desk) (me : CallerNo) (plan : Plan Said)
 -- ---- want of memory
 
 -- A line that lacks memory: its look-ups alone were made; or the beginning or the listing was refused for want of
--- memory;
--- or the listing was made, and its reply lacks memory.
+-- memory; or the listing was made, and its reply lacks memory.
 pub data Want : Type 0 where
   begin_unmade : SelNo → Waiting → Want
   begin_refused : SelNo → Waiting → Mode → Want

@@ -30,8 +30,8 @@ pub record MadeLine (w : Words) (old new : Desk) (me : CallerNo) (word : Call) (
       (record { reply = r; left = progress_of new })
 
 -- the line's reply and state are those of the documented system; a line that lacks memory leaves the state
-pub record SaysLine (w : Words) (old new : Desk) (me : CallerNo) (word : Call) (result : Result Reply AllocError) : Type
-    0 where
+pub record SaysLine (w : Words) (old new : Desk) (me : CallerNo) (word : Call)
+    (result : Result Reply AllocError) : Type 0 where
   pub stands : Stands w new
   pub reply : IfOk result (λ r. r ≡ (seq Now (limits_of w) (state_at old) me word).reply)
   pub left : IfOk result (λ _. state_at new ≡ (seq Now (limits_of w) (state_at old) me word).left)

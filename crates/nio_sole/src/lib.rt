@@ -5,6 +5,7 @@ pub use desk::{Begun, Desk, OwnedPipe, Shut, drop_selection, forget_closings, fo
 pub use laws::sole_law;
 pub use line::{make_line, say_line};
 pub use making::{no_progress, open_desk};
+pub use replies::{closed_reply, read_reply, write_reply};
 pub use sole::Sole;
 
 mod channels;

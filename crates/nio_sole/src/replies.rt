@@ -100,8 +100,8 @@ pub(crate) fn register_reply(answer: Result<KeyNo, ChannelError>) -> Reply
     }
 }
 
-// Whether the call closed the channel.
-pub(crate) fn closed_reply(answer: bool) -> Reply
+/// Whether the call closed the channel.
+pub fn closed_reply(answer: bool) -> Reply
     ensures { result ≡ closed_reply answer }
 {
     if answer { Reply::Ok } else { Reply::Already }
@@ -116,8 +116,8 @@ pub(crate) fn selector_reply(answer: Result<SelNo, SelectorsSpent>) -> Reply
     }
 }
 
-// What a read answers, which left these bytes in its slice.
-pub(crate) fn read_reply(answer: Result<(PipeRead, bool), PipeError>, bytes: Vec<u8>) -> Reply
+/// What a read answers, which left these bytes in its slice.
+pub fn read_reply(answer: Result<(PipeRead, bool), PipeError>, bytes: Vec<u8>) -> Reply
     ensures { result ≡ read_reply answer bytes.items }
 {
     match answer {
@@ -147,7 +147,8 @@ fn bytes_reply(count: usize, mut bytes: Vec<u8>) -> Reply
     Reply::Bytes(Bytes::from_vec(bytes))
 }
 
-pub(crate) fn write_reply(answer: Result<(PipeWrite, bool), PipeError>) -> Reply
+/// What a write answers.
+pub fn write_reply(answer: Result<(PipeWrite, bool), PipeError>) -> Reply
     ensures { result ≡ write_reply answer }
 {
     match answer {

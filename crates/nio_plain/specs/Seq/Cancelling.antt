@@ -36,7 +36,7 @@ channel_closed st c = with_keys_cancelled (with_chan st c (record (st.chan c) { 
 unfoldable pub closec_call : ScriptState → CallerNo → ChanNo → Answered
 closec_call st me c =
     with_named_channel st c
-    (marking (own_sink st me c)
+    (marking (own_sink st.pipes me c)
     (if (st.shared.chan c.0).closed then unchanged st reply.Already
     else answered st reply.«Ok» (channel_closed st.shared c.0)))
 

@@ -13,11 +13,11 @@ abbrev pub owns_sink : CallerNo → ChanNo → Pipe → Bool
 owns_sink me c p = (p.sink.0 == c.0) && (p.writer.0 == me.0)
 
 -- the place of the pipe whose source, or whose sink, is this channel and the caller's own
-abbrev pub own_source : ScriptState → CallerNo → ChanNo → Option ℕ
-own_source st me c = position (owns_source me c) st.pipes
+abbrev pub own_source : List Pipe → CallerNo → ChanNo → Option ℕ
+own_source pipes me c = position (owns_source me c) pipes
 
-abbrev pub own_sink : ScriptState → CallerNo → ChanNo → Option ℕ
-own_sink st me c = position (owns_sink me c) st.pipes
+abbrev pub own_sink : List Pipe → CallerNo → ChanNo → Option ℕ
+own_sink pipes me c = position (owns_sink me c) pipes
 
 -- what `pipe_at` gives past the end
 abbrev pub no_pipe : Pipe
@@ -30,8 +30,8 @@ no_pipe = record {
   marked = false;
 }
 
-abbrev pub pipe_at : ScriptState → ℕ → Pipe
-pipe_at st i = slice_index_or st.pipes i no_pipe
+abbrev pub pipe_at : List Pipe → ℕ → Pipe
+pipe_at pipes i = slice_index_or pipes i no_pipe
 
 -- the state with another pipe at a place
 abbrev pub with_pipe : ScriptState → ℕ → Pipe → ScriptState
@@ -40,7 +40,7 @@ with_pipe st i p = with_pipes st (slice_set st.pipes i p)
 -- the sink of the pipe at a place leaves its end mark, where there is such a pipe
 abbrev pub marked_pipes : Option ℕ → List Pipe → List Pipe
 marked_pipes None pipes = pipes
-marked_pipes (Some i) pipes = slice_set pipes i (record (slice_index_or pipes i no_pipe) { marked = true })
+marked_pipes (Some i) pipes = slice_set pipes i (record (pipe_at pipes i) { marked = true })
 
 abbrev pub with_mark : Option ℕ → ScriptState → ScriptState
 with_mark place st = with_pipes st (marked_pipes place st.pipes)

@@ -71,7 +71,7 @@ read_first st blocking n i [] false = unchanged st (not_now blocking)
 read_first st blocking n i [] true = unchanged st reply.End
 read_first st blocking n i (b ∷ bytes) marked = record {
   reply = reply.Bytes (take n (b ∷ bytes));
-  left = with_pipe st i (record (pipe_at st i) { waiting = drop n (b ∷ bytes) });
+  left = with_pipe st i (record (pipe_at st.pipes i) { waiting = drop n (b ∷ bytes) });
 }
 
 -- of the pipe at a place
@@ -81,10 +81,10 @@ read_from st me c n (Some i) =
     if (st.shared.chan c.0).closed then unchanged st reply.ClosedChannel
     else if finds_interrupt st me c then answered st reply.ClosedByInterrupt (channel_closed st.shared c.0)
     else if n == 0 then unchanged st (reply.Number 0)
-    else read_first st (st.shared.chan c.0).blocking n i (pipe_at st i).waiting (pipe_at st i).marked
+    else read_first st (st.shared.chan c.0).blocking n i (pipe_at st.pipes i).waiting (pipe_at st.pipes i).marked
 
 unfoldable pub pread_call : ScriptState → CallerNo → ChanNo → ℕ → Answered
-pread_call st me c n = with_named_channel st c (read_from st me c n (own_source st me c))
+pread_call st me c n = with_named_channel st c (read_from st me c n (own_source st.pipes me c))
 
 -- ---- writing
 
@@ -98,7 +98,7 @@ write_first st blocking bytes i n =
     if n == 0 then unchanged st (not_now blocking)
     else record {
       reply = reply.Number n;
-      left = with_pipe st i (record (pipe_at st i) { waiting = (pipe_at st i).waiting ++ take n bytes });
+      left = with_pipe st i (record (pipe_at st.pipes i) { waiting = (pipe_at st.pipes i).waiting ++ take n bytes });
     }
 
 -- into the pipe at a place
@@ -108,9 +108,9 @@ write_to st me c bytes (Some i) =
     if (st.shared.chan c.0).closed then marking (Some i) (unchanged st reply.ClosedChannel)
     else if finds_interrupt st me c
     then marking (Some i) (answered st reply.ClosedByInterrupt (channel_closed st.shared c.0))
-    else if (st.shared.chan (pipe_at st i).source.0).closed then unchanged st reply.BrokenPipe
+    else if (st.shared.chan (pipe_at st.pipes i).source.0).closed then unchanged st reply.BrokenPipe
     else if length bytes == 0 then unchanged st (reply.Number 0)
-    else write_first st (st.shared.chan c.0).blocking bytes i (room_for bytes (pipe_at st i))
+    else write_first st (st.shared.chan c.0).blocking bytes i (room_for bytes (pipe_at st.pipes i))
 
 unfoldable pub pwrite_call : ScriptState → CallerNo → ChanNo → List ℕ → Answered
-pwrite_call st me c bytes = with_named_channel st c (write_to st me c bytes (own_sink st me c))
+pwrite_call st me c bytes = with_named_channel st c (write_to st me c bytes (own_sink st.pipes me c))

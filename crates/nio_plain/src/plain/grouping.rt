@@ -9,7 +9,8 @@ use nio_base::{GChan, OpKind};
 use nio_event::{GroupCall, Reply};
 use nio_group::GroupCore;
 
-/// Makes one call on a group. It needs no memory, and none but the group's own state.
+/// Makes one of the group's calls, and answers with its reply. It allocates nothing: the group took its memory when
+/// it was made.
 pub fn answer_group(group: &mut GroupCore, call: GroupCall) -> Reply
     ensures reply { result ≡ group_reply group.old call }
     ensures left { group.new ≡ group_left group.old call }

@@ -3,7 +3,8 @@ ghost use Rattle.std.specs.Prelude.{◌≡◌, ◌<◌, ◌==◌, ◌&&◌, if�
 ghost use Rattle.nio_plain.specs.Plain.{Answers, AnswersAs, Kept};
 ghost use Rattle.nio_plain.specs.PlainState.{limits_of, state_of};
 ghost use Rattle.nio_plain.specs.Seq.Pipes.{own_sink, own_source, pipe_at, with_mark};
-ghost use Rattle.nio_plain.specs.Seq.Piping.{not_now, pipe_call, pread_call, pwrite_call, read_first, room_for, write_first};
+ghost use Rattle.nio_plain.specs.Seq.Piping.{not_now, pipe_call, pread_call, pwrite_call, read_first, room_for};
+ghost use Rattle.nio_plain.specs.Seq.Piping.{write_first};
 
 use super::Plain;
 use super::channel::Channel;
@@ -55,21 +56,21 @@ impl Plain {
 
     /// The place of the pipe whose source is this channel and the caller's own.
     fn own_source(&self, me: CallerNo, chan: ChanNo) -> Option<usize>
-        ensures { result ≡ own_source (state_of self.now) me chan }
+        ensures { result ≡ own_source (state_of self.now).pipes me chan }
     {
         source_place(&self.pipes, me, chan)
     }
 
     /// The place of the pipe whose sink is this channel and the caller's own.
     fn own_sink(&self, me: CallerNo, chan: ChanNo) -> Option<usize>
-        ensures { result ≡ own_sink (state_of self.now) me chan }
+        ensures { result ≡ own_sink (state_of self.now).pipes me chan }
     {
         sink_place(&self.pipes, me, chan)
     }
 
     /// Leaves the end mark in the caller's own sink, where the channel is one.
     pub(super) fn leave_mark(&mut self, me: CallerNo, chan: ChanNo)
-        ensures left { state_of self.new ≡ with_mark (own_sink (state_of self.old) me chan) (state_of self.old) }
+        ensures left { state_of self.new ≡ with_mark (own_sink (state_of self.old).pipes me chan) (state_of self.old) }
         ensures kept { Kept self.old self.new }
     {
         if let Some(place) = self.own_sink(me, chan) {
@@ -117,7 +118,9 @@ impl Plain {
         most: u32,
     ) -> Result<Reply, AllocError>
         requires { place < vec_len self.old.pipes }
-        ensures { AnswersAs self.old self.new result (read_first (state_of self.old) channel.blocking most place (pipe_at (state_of self.old) place).waiting (pipe_at (state_of self.old) place).marked) }
+        ensures { let pipe = pipe_at (state_of self.old).pipes place in
+            AnswersAs self.old self.new result
+            (read_first (state_of self.old) channel.blocking most place pipe.waiting pipe.marked) }
     {
         let pipe = &self.pipes[place];
         if pipe.waiting.is_empty() {
@@ -171,7 +174,9 @@ impl Plain {
         bytes: &[u8],
     ) -> Result<Reply, AllocError>
         requires { place < vec_len self.old.pipes }
-        ensures { AnswersAs self.old self.new result (write_first (state_of self.old) channel.blocking bytes.now place (room_for bytes.now (pipe_at (state_of self.old) place))) }
+        ensures { let room = room_for bytes.now (pipe_at (state_of self.old).pipes place) in
+            AnswersAs self.old self.new result
+            (write_first (state_of self.old) channel.blocking bytes.now place room) }
     {
         let waiting = self.pipes[place].waiting.len();
         let room = bytes.len().min(PIPE_ROOM.saturating_sub(waiting));

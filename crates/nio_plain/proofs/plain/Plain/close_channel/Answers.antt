@@ -23,7 +23,7 @@ returns-then-channel c =
     let closed = ap (λ (x : Chan). x.closed) c.in-Ok.ensures.row ∙ c.if-channel.true in
     answered_without_memory p _ _ _ _
     (c.in-Ok.ensures.through _
-    ∙ ap (marking (own_sink st c.args.me c.args.chan))
+    ∙ ap (marking (own_sink st.pipes c.args.me c.args.chan))
     (cond-true (st.shared.chan c.args.chan.0).closed (unchanged st reply.Already) _ closed))
     refl
     c.leave_mark.ensures.left
@@ -37,11 +37,11 @@ returns c =
     let opened = ap (λ (x : Chan). x.closed) c.in-Ok.ensures.row ∙ c.if-channel.false in
     answered_without_memory p _ _ _ _
     (c.in-Ok.ensures.through _
-    ∙ ap (marking (own_sink st c.args.me c.args.chan))
+    ∙ ap (marking (own_sink st.pipes c.args.me c.args.chan))
     (cond-false (st.shared.chan c.args.chan.0).closed (unchanged st reply.Already) _ opened))
     refl
     (c.leave_mark-2.ensures.left
-    ∙ ap (λ (m : ScriptState). with_mark (own_sink m c.args.me c.args.chan) m) c.shut_channel.ensures.left)
+    ∙ ap (λ (m : ScriptState). with_mark (own_sink m.pipes c.args.me c.args.chan) m) c.shut_channel.ensures.left)
     (record {
       limits = c.leave_mark-2.ensures.kept.limits ∙ c.shut_channel.ensures.kept.limits;
       rules = c.leave_mark-2.ensures.kept.rules ∙ c.shut_channel.ensures.kept.rules;

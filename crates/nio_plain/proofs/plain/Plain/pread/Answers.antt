@@ -89,6 +89,6 @@ returns c =
     ∙ (cond-false (finds_interrupt st c.args.me c.args.chan)
     (answered st reply.ClosedByInterrupt (channel_closed st.shared c.args.chan.0)) _ none
     ∙ (cond-false (c.args.most == 0) (unchanged st (reply.Number 0)) _ (ne_eqb c.args.most 0 c.if-most-eq0.false)
-    ∙ ap (λ (x : Chan). read_first st x.blocking c.args.most c.in-Some.place (pipe_at st c.in-Some.place).waiting
-    (pipe_at st c.in-Some.place).marked) c.in-Ok.ensures.row)))))
+    ∙ ap (λ (x : Chan). read_first st x.blocking c.args.most c.in-Some.place (pipe_at st.pipes c.in-Some.place).waiting
+    (pipe_at st.pipes c.in-Some.place).marked) c.in-Ok.ensures.row)))))
     c.read_from.ensures

@@ -97,7 +97,7 @@ returns-then-is_closed c =
     (marking (Some place) (unchanged st reply.ClosedChannel)) _ opened
     ∙ (cond-false (finds_interrupt st c.args.me c.args.chan)
     (marking (Some place) (answered st reply.ClosedByInterrupt (channel_closed st.shared c.args.chan.0))) _ none
-    ∙ cond-true (st.shared.chan (pipe_at st place).source.0).closed (unchanged st reply.BrokenPipe) _ broken))))
+    ∙ cond-true (st.shared.chan (pipe_at st.pipes place).source.0).closed (unchanged st reply.BrokenPipe) _ broken))))
 
 pub returns-then-is_empty : goal.returns-then-is_empty
 unfolding pwrite_call
@@ -121,7 +121,7 @@ returns-then-is_empty c =
     (marking (Some place) (unchanged st reply.ClosedChannel)) _ opened
     ∙ (cond-false (finds_interrupt st c.args.me c.args.chan)
     (marking (Some place) (answered st reply.ClosedByInterrupt (channel_closed st.shared c.args.chan.0))) _ none
-    ∙ (cond-false (st.shared.chan (pipe_at st place).source.0).closed (unchanged st reply.BrokenPipe) _ whole
+    ∙ (cond-false (st.shared.chan (pipe_at st.pipes place).source.0).closed (unchanged st reply.BrokenPipe) _ whole
     ∙ cond-true (length c.args.bytes.now == 0) (unchanged st (reply.Number 0)) _ (sym c.if-is_empty.ensures))))))
 
 pub write_to-requires : goal.write_to-requires
@@ -153,8 +153,8 @@ returns c =
     (marking (Some place) (unchanged st reply.ClosedChannel)) _ opened
     ∙ (cond-false (finds_interrupt st c.args.me c.args.chan)
     (marking (Some place) (answered st reply.ClosedByInterrupt (channel_closed st.shared c.args.chan.0))) _ none
-    ∙ (cond-false (st.shared.chan (pipe_at st place).source.0).closed (unchanged st reply.BrokenPipe) _ whole
+    ∙ (cond-false (st.shared.chan (pipe_at st.pipes place).source.0).closed (unchanged st reply.BrokenPipe) _ whole
     ∙ (cond-false (length c.args.bytes.now == 0) (unchanged st (reply.Number 0)) _ (sym c.if-is_empty.ensures)
     ∙ ap (λ (x : Chan). write_first st x.blocking c.args.bytes.now place
-    (room_for c.args.bytes.now (pipe_at st place))) c.in-Ok.ensures.row))))))
+    (room_for c.args.bytes.now (pipe_at st.pipes place))) c.in-Ok.ensures.row))))))
     c.write_to.ensures

@@ -24,7 +24,7 @@ returns-then-is_empty c =
     omega (arith, x.waiting.ok.0, eqb-true x.waiting.len 0 (sym c.if-is_empty.ensures)) in
     let none = ap (λ (q : Pipe). q.waiting) at ∙ nil_from_length x.waiting.items size in
     unchanged_as p _ _
-    (read_first-none st blocking c.args.most c.args.place _ (pipe_at st c.args.place).marked none
+    (read_first-none st blocking c.args.most c.args.place _ (pipe_at st.pipes c.args.place).marked none
     ∙ ap (unchanged st)
     (ap (λ (q : Pipe). cond q.marked reply.End (not_now blocking)) at ∙ sym c.end_or_not_now.ensures))
 
@@ -47,13 +47,13 @@ returns c =
     let within : c.args.place < length p.pipes.items = omega (arith, p.pipes.ok.0, c.requires) in
     let read = pipe_at-is p.pipes.items c.args.place x within c.index-pipe.ensures in
     let at = pipe_at-is p.pipes.items c.args.place y within c.index_mut.ensures.value in
-    let some : (pipe_at st c.args.place).waiting ≢ [] =
+    let some : (pipe_at st.pipes c.args.place).waiting ≢ [] =
     λ e.
     let none = sym (ap (λ (q : Pipe). q.waiting) read) ∙ e in
     let size : x.waiting.len ≡ 0 = omega (arith, x.waiting.ok.0, ap length none) in
     absurd (false≢true (c.if-is_empty.ensures ∙ eq-eqb x.waiting.len 0 size)) in
     answered_as p _ _ _ _
-    (read_first-some st c.args.channel.blocking n c.args.place _ (pipe_at st c.args.place).marked some)
+    (read_first-some st c.args.channel.blocking n c.args.place _ (pipe_at st.pipes c.args.place).marked some)
     (ap (λ (bytes : List ℕ). reply.Bytes bytes)
     (c.from_vec.ensures ∙ (c.in_ok-bytes.ensures.bytes ∙ sym (ap (λ (q : Pipe). take n q.waiting) at))))
     (ap (with_pipes st)

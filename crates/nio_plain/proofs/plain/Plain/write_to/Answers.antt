@@ -22,7 +22,7 @@ returns-then-room-eq0 c =
     let room : c.min-room.result ≡ min (length bytes) (65536 - length x.waiting.items) =
     omega (arith, x.waiting.ok.0) in
     let none = ap (room_for bytes) at ∙ (sym room ∙ c.if-room-eq0.true) in
-    let size = room_for bytes (pipe_at st c.args.place) in
+    let size = room_for bytes (pipe_at st.pipes c.args.place) in
     unchanged_as p _ _
     (cond-true (size == 0) (unchanged st (not_now c.args.channel.blocking)) _ (eq-eqb size 0 none)
     ∙ ap (unchanged st) (sym c.not_now.ensures))
@@ -45,7 +45,7 @@ returns c =
     let bytes = c.args.bytes.now in
     let within : c.args.place < length p.pipes.items = omega (arith, p.pipes.ok.0, c.requires) in
     let at = pipe_at-is p.pipes.items c.args.place x within c.index.ensures in
-    let size = room_for bytes (pipe_at st c.args.place) in
+    let size = room_for bytes (pipe_at st.pipes c.args.place) in
     let room : c.min-room.result ≡ min (length bytes) (65536 - length x.waiting.items) =
     omega (arith, x.waiting.ok.0) in
     let all : c.min-room.result ≡ size = room ∙ sym (ap (room_for bytes) at) in
