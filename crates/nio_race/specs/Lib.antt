@@ -1,6 +1,9 @@
 pub mod Does
+pub mod Ends
 pub mod Gathering
 pub mod Output
+pub mod PipeBytes
+pub mod Piping
 pub mod Quiet
 pub mod Race
 pub mod Racers

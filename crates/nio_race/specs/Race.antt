@@ -1,6 +1,5 @@
 -- A race: a setup of lines one after the other, and then callers that run beside each other.
-use Rattle.std.specs.Prelude.{◌≡◌, ℕ, zero, suc, ◌+◌, ◌<◌, ◌≤◌, ◌==◌, ◌++◌, IsTrue, if◌then◌else◌, Option, Some, None}
-use Rattle.std.specs.Prelude.{List, [], ◌∷◌, map, filter}
+use Rattle.std.specs.Prelude.{◌≡◌, ℕ, zero, suc, ◌+◌, ◌<◌, ◌≤◌, ◌==◌, ◌++◌, IsTrue, if◌then◌else◌, Option, Some, None, List, [], ◌∷◌, map, filter, zip, All}
 use mathlib.Core.List.{IsPrefix}
 use Rattle.nio_base.specs.declared.limits.Limits.{Limits}
 use Rattle.nio_base.specs.declared.numbers.CallerNo.{CallerNo}
@@ -13,6 +12,7 @@ use Rattle.nio_event.specs.declared.reply.Reply.TheVariants as reply
 use Rattle.nio_orderly.specs.Orderly.{IsWhole}
 use Rattle.nio_orderly.specs.Owed.{Owed}
 use Rattle.nio_plain.specs.Answer.{answer_to}
+use Rattle.nio_plain.specs.ScriptState.{Pipe}
 use Rattle.nio_plain.specs.Seq.Selections.{is_caller}
 use Rattle.nio_plain.specs.declared.rules.Rules.TheVariants.{Now}
 use Rattle.nio_race_text.specs.declared.call.RaceCall.{RaceCall}
@@ -20,6 +20,8 @@ use Rattle.nio_race_text.specs.declared.call.RaceLine.{RaceLine}
 use Rattle.nio_race_text.specs.RaceOutput.{race_line_text}
 use Rattle.nio_serial.specs.Documented.{Progress, Selecting, nothing_yet}
 use Rattle.nio_serial.specs.Serial.{Entry, AreLines, history_of, left_in_progress, script_of}
+use Rattle.nio_race.specs.PipeBytes.{KeepsBytes, setup_lines}
+use Rattle.nio_race.specs.Piping.{own_ends}
 use Rattle.nio_race.specs.Runs.{AreRaceLines}
 
 -- ---- the setup
@@ -44,7 +46,7 @@ abbrev pub own_selection_of : CallerNo → Option Selecting → Option Selecting
 own_selection_of n None = None
 own_selection_of n (Some x) = if x.caller.0 == n.0 then Some x else None
 
--- What of this the caller has in progress. It makes no call on the group or on a pipe, and keeps none of them.
+-- What of this the caller has in progress. It makes no call on the group. Its ends of pipes stand beside (`own_ends`).
 abbrev pub own_progress : CallerNo → Progress → Progress
 own_progress n now = record nothing_yet {
   selection = λ s. own_selection_of n (now.selection s);
@@ -52,17 +54,27 @@ own_progress n now = record nothing_yet {
 }
 
 -- The caller went on after `go`: it made its lines, with these replies, and nothing else, beginning with what it had in
--- progress there.
-pub record HasRun (l : Limits) (n : CallerNo) (go : List Event) (now : Progress) (calls : List RaceCall)
-    (history : List Event) (replies : List Reply) : Type 0 where
+-- progress there, and with the ends of pipes that it owned there.
+pub record HasRun (l : Limits) (n : CallerNo) (go : List Event) (now : Progress) (calls : List RaceCall) (history : List Event) (replies : List Reply) : Type 0 where
   pub acts : List Act
   pub grew : mine n history ≡ mine n go ++ acts
   pub last : Progress
-  pub lines : AreRaceLines l n (own_progress n now) calls acts replies last
+  pub lines : AreRaceLines l (own_ends n now.pipes) n (own_progress n now) calls acts replies last
 
 -- what a line says of a caller whose number isn't below the limit
 abbrev pub strange_replies : List RaceCall → List Reply
 strange_replies calls = map (λ _. reply.NoCaller) calls
+
+-- the caller's lines behind `go`, with their replies
+abbrev pub lines_by : CallerNo → List RaceLine → (CallerNo → List Reply) → List (RaceCall × Reply)
+lines_by n race replies = zip (calls_by n race) (replies n)
+
+-- the lines of a pipe's two owners keep its bytes
+abbrev pub KeepsPipe : Limits → List ScriptCall → List RaceLine → (CallerNo → List Reply) → Pipe → Type 0
+KeepsPipe l setup race replies p =
+    KeepsBytes p.source p.sink
+    (setup_lines p.reader l setup ++ lines_by p.reader race replies)
+    (setup_lines p.writer l setup ++ lines_by p.writer race replies)
 
 -- A race of this setup and these lines, with these replies of each caller's lines.
 pub record IsRace (l : Limits) (setup : List ScriptCall) (race : List RaceLine) (history : List Event)
@@ -75,6 +87,8 @@ pub record IsRace (l : Limits) (setup : List ScriptCall) (race : List RaceLine) 
   -- each caller's lines
   pub run : (n : CallerNo) → n.0 < l.callers → HasRun l n go now (calls_by n race) history (replies n)
   pub strangers : (n : CallerNo) → l.callers ≤ n.0 → replies n ≡ strange_replies (calls_by n race)
+  -- the bytes of each pipe that the setup made
+  pub bytes : All (KeepsPipe l setup race replies) now.pipes
   -- the history of all of them: each caller made whole calls, and at each moment what is owed is owed by a caller that
   -- has still to do it
   pub legal : IsLegal l history

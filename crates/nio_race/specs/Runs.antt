@@ -1,5 +1,5 @@
 -- What a caller does in a line after `go`, and what the line says.
-use Rattle.std.specs.Prelude.{◌≡◌, ℕ, ◌++◌, Bool, true, false, Option, Some, None, Ok, List, [], ◌∷◌, All}
+use Rattle.std.specs.Prelude.{◌≡◌, ⊤, ℕ, ◌++◌, Bool, true, false, Option, Some, None, Ok, List, [], ◌∷◌, All}
 use Rattle.std.specs.List.{Contains}
 use Rattle.nio_base.specs.declared.limits.Limits.{Limits}
 use Rattle.nio_base.specs.declared.numbers.CallerNo.{CallerNo}
@@ -12,8 +12,10 @@ use Rattle.nio_event.specs.declared.found.Mark.{Mark as KeyMark}
 use Rattle.nio_event.specs.declared.found.Mode.TheVariants.{Wait}
 use Rattle.nio_event.specs.declared.reply.Reply.{Reply}
 use Rattle.nio_event.specs.declared.reply.Reply.TheVariants as reply
+use Rattle.nio_race_text.specs.RaceLines.{MayRace}
 use Rattle.nio_race_text.specs.declared.call.RaceCall.{RaceCall}
 use Rattle.nio_race_text.specs.declared.call.RaceCall.TheVariants.{Script, Block}
+use Rattle.nio_race_text.specs.declared.call.RaceLine.{RaceLine}
 use Rattle.nio_serial.specs.Documented.{Progress}
 use Rattle.nio_serial.specs.Lines.{Said, line_plan, with_selection}
 use Rattle.nio_steps.specs.KeyCalls.{find_selector_plan}
@@ -21,6 +23,7 @@ use Rattle.nio_steps.specs.Runs.{Completes}
 use Rattle.nio_steps.specs.SelectCalls.{Poll, SelectReply, selected, not_begun, left, Selects}
 use Rattle.nio_steps.specs.Waiting.{Retries, Then}
 use Rattle.nio_steps.specs.declared.refusal.BeginError.TheVariants.{ClosedSelector, Busy, Memory}
+use Rattle.nio_race.specs.Piping.{LooksAndReads, LooksAndWrites, OwnedEnds, PipeUse, closes, neither, reads, use_of, writes}
 
 -- ---- a call that scripts have too
 
@@ -186,9 +189,24 @@ LooksAndBlocks l now s = Then (Completes (find_selector_plan l s.0)) (BlocksOnFo
 
 -- ---- the lines of a caller
 
-abbrev pub MakesRaceLine : Limits → Progress → CallerNo → RaceCall → List Act → Said → Type 0
-MakesRaceLine l now me (Script word) acts said = MakesScriptLine l now me word acts said
-MakesRaceLine l now me (Block s) acts said = LooksAndBlocks l now s acts said
+-- the call may stand behind `go`
+abbrev pub MayRaceLine : RaceCall → Type 0
+MayRaceLine (Script word) = MayRace word
+MayRaceLine (Block s) = ⊤
+
+abbrev pub MayRaceLines : List RaceLine → Type 0
+MayRaceLines race = All (λ line. MayRaceLine line.call) race
+
+-- a line whose call scripts have too: on the bytes of a pipe, it waits; else it is made as in a script
+abbrev pub MakesCalledLine : Limits → OwnedEnds → Progress → CallerNo → Call → PipeUse → List Act → Said → Type 0
+MakesCalledLine l ends now me word (reads c n) acts said = LooksAndReads l ends now c n acts said
+MakesCalledLine l ends now me word (writes c bytes) acts said = LooksAndWrites l ends now c bytes acts said
+MakesCalledLine l ends now me word (closes c) acts said = MakesScriptLine l now me word acts said
+MakesCalledLine l ends now me word neither acts said = MakesScriptLine l now me word acts said
+
+abbrev pub MakesRaceLine : Limits → OwnedEnds → Progress → CallerNo → RaceCall → List Act → Said → Type 0
+MakesRaceLine l ends now me (Script word) acts said = MakesCalledLine l ends now me word (use_of word) acts said
+MakesRaceLine l ends now me (Block s) acts said = LooksAndBlocks l now s acts said
 
 -- the acts and the replies are those of a line and then of others, which begin with what the line leaves in progress
 pub record LineAnd (Line : List Act → Said → Type 0) (Others : Progress → List Act → List Reply → Type 0)
@@ -202,9 +220,12 @@ pub record LineAnd (Line : List Act → Said → Type 0) (Others : Progress → 
   pub parts : acts ≡ first ++ later
   pub reply_parts : replies ≡ said.reply ∷ later_replies
 
--- The caller made these lines, one after the other: what it did, the reply of each, and what is in progress at last.
-abbrev pub AreRaceLines : Limits → CallerNo → Progress → List RaceCall → List Act → List Reply → Progress → Type 0
-AreRaceLines l me now [] acts replies last = (acts ≡ []) × (replies ≡ []) × (last ≡ now)
-AreRaceLines l me now (line ∷ later) acts replies last =
-    LineAnd (MakesRaceLine l now me line) (λ then acts' replies'. AreRaceLines l me then later acts' replies' last) acts
-    replies
+-- The caller, which owns these ends of pipes, made these lines, one after the other: what it did, the reply of each, and
+-- what is in progress at last.
+abbrev pub AreRaceLines : Limits → OwnedEnds → CallerNo → Progress → List RaceCall → List Act → List Reply → Progress
+    → Type 0
+AreRaceLines l ends me now [] acts replies last = (acts ≡ []) × (replies ≡ []) × (last ≡ now)
+AreRaceLines l ends me now (line ∷ later) acts replies last =
+    LineAnd (MakesRaceLine l ends now me line)
+    (λ then acts' replies'. AreRaceLines l ends me then later acts' replies' last)
+    acts replies

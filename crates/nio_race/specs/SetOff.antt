@@ -16,8 +16,10 @@ use Rattle.nio_sole.specs.declared.desk.Shut.{Shut}
 use Rattle.nio_words.specs.Passes.{Holds, IsPassOf, limits_of, seen}
 use Rattle.nio_words.specs.Sharing.{HandsOver}
 use Rattle.nio_words.specs.declared.words.Words.{Words}
+use Rattle.nio_race.specs.Ends.{HasNoEnds, ends_of}
+use Rattle.nio_race.specs.Piping.{own_ends}
 use Rattle.nio_race.specs.Race.{own_progress}
-use Rattle.nio_race.specs.Racers.{IsSetOff}
+use Rattle.nio_race.specs.Racers.{IsSetOff, StandsFor}
 use Rattle.nio_race.specs.declared.racer.Racer.{Racer}
 
 -- ---- what stands at a place
@@ -48,7 +50,8 @@ pub record MovedBelow {A : Type 0} (own other : Option A → Option A) (count : 
 
 -- ---- racers
 
--- The caller's number and what it has in progress went from the desk to the racer; the others' stays.
+-- The caller's number and what it has in progress went from the desk to the racer; the others' stays. It has no end of a
+-- pipe yet, and the desk's pipes are as they were.
 pub record TakesOver (w : Words) (d d' : Desk) (number : CallerNo) (r : Racer) : Type 0 where
   pub number_is : r.number ≡ number
   pub pass : HandsOver w number d.pass d'.pass r.desk.pass
@@ -58,6 +61,8 @@ pub record TakesOver (w : Words) (d d' : Desk) (number : CallerNo) (r : Racer) :
   pub others : (n : CallerNo) → n ≢ number → own_progress n (progress_of d') ≡ own_progress n (progress_of d)
   pub unanswered : r.replies.items ≡ []
   pub in_memory : IsFalse r.lacks_memory
+  pub endless : HasNoEnds r
+  pub pipes : d'.pipes ≡ d.pipes
 
 pub record AddsRacer (w : Words) (d d' : Desk) (number : CallerNo) (racers racers' : List Racer) : Type 0 where
   pub racer : Racer
@@ -78,17 +83,35 @@ pub record StoodAtGo (w : Words) (go : List Event) (now : Progress) : Type 0 whe
   pub unpinned : (n : CallerNo) (s : SelNo) (i : ℕ) → IsFalse (has_pin (state_after go) n s i)
   pub made : ∥ ((n : CallerNo) → HasMade (limits_of w) (mine n go) n now) ∥₁
 
+-- the racer of caller k, at `go`, before it was given its ends of pipes
+pub record IsSetOffWithout (w : Words) (go : List Event) (now : Progress) (k : ℕ) (r : Racer) : Type 0 where
+  pub number : r.number ≡ record { 0 = k }
+  pub stands : StandsFor w r.desk r.number
+  pub unanswered : r.replies.items ≡ []
+  pub in_memory : IsFalse r.lacks_memory
+  pub endless : HasNoEnds r
+  pub sight : seen r.desk.pass ≡ go
+  pub progress : progress_of r.desk ≡ own_progress (record { 0 = k }) now
+
 -- the racer of caller k, at `go`
 pub record IsSetOffAt (w : Words) (go : List Event) (now : Progress) (k : ℕ) (r : Racer) : Type 0 where
   pub number : r.number ≡ record { 0 = k }
   pub set_off : IsSetOff w r
   pub sight : seen r.desk.pass ≡ go
   pub progress : progress_of r.desk ≡ own_progress (record { 0 = k }) now
+  pub ends : ends_of r.ends ≡ own_ends (record { 0 = k }) now.pipes
+
+-- so many racers, of which each is the one of the caller with its place as number
+pub record AreInOrder (Is : ℕ → Racer → Type 0) (count : ℕ) (racers : List Racer) : Type 0 where
+  pub count_is : length racers ≡ count
+  pub each : (k : ℕ) (r : Racer) → k < count → slice_index_or racers k r ≡ r → Is k r
 
 -- these are the racers of the first callers, in rising order
-pub record AreSetOff (w : Words) (go : List Event) (now : Progress) (count : ℕ) (racers : List Racer) : Type 0 where
-  pub count_is : length racers ≡ count
-  pub each : (k : ℕ) (r : Racer) → k < count → slice_index_or racers k r ≡ r → IsSetOffAt w go now k r
+abbrev pub AreSetOff : Words → List Event → Progress → ℕ → List Racer → Type 0
+AreSetOff w go now count racers = AreInOrder (IsSetOffAt w go now) count racers
+
+abbrev pub AreSetOffWithout : Words → List Event → Progress → ℕ → List Racer → Type 0
+AreSetOffWithout w go now count racers = AreInOrder (IsSetOffWithout w go now) count racers
 
 -- their passes are ones of the table
 abbrev pub AreRacers : Words → List Racer → Type 0

@@ -1,19 +1,35 @@
 -- What the setup of a race leaves.
-use Rattle.std.specs.Prelude.{◌≡◌, ℕ, ◌++◌, List, Ok}
+use Rattle.std.specs.Prelude.{◌≡◌, ℕ, ◌++◌, IsTrue, List, [], All, Ok}
+use Rattle.nio_base.specs.declared.limits.Limits.{Limits}
 use Rattle.nio_event.specs.Replies.{history_line}
 use Rattle.nio_event.specs.declared.call.ScriptCall.{ScriptCall}
 use Rattle.nio_event.specs.declared.reply.Reply.{Reply}
+use Rattle.nio_plain.specs.ScriptState.{Pipe}
 use Rattle.nio_sole.specs.Said.{SaysLine}
 use Rattle.nio_sole.specs.Stands.{Stands, progress_of}
 use Rattle.nio_sole.specs.declared.desk.Desk.{Desk}
 use Rattle.nio_words.specs.Passes.{limits_of, seen}
 use Rattle.nio_words.specs.declared.words.Words.{Words}
+use Rattle.nio_race.specs.Ends.{ArePipes}
+use Rattle.nio_race.specs.PipeBytes.{TellsEnd, all_read, all_written, leave_end, setup_lines}
 use Rattle.nio_race.specs.Race.{IsSetUp}
 
 -- What the desk's pass has seen is the setup, and the desk has in progress what that leaves.
 pub record HasSetUp (w : Words) (d : Desk) (setup : List ScriptCall) : Type 0 where
   pub stands : Stands w d
   pub set_up : IsSetUp (limits_of w) setup (seen d.pass) (progress_of d)
+
+-- At `go` the pipe has what the setup's lines of its owners say: what they wrote and didn't read waits in it, and it has
+-- an end mark where one of them left it. Where a read told the end, the mark was left and nothing waits.
+pub record KeepsPipeOfSetup (l : Limits) (setup : List ScriptCall) (p : Pipe) : Type 0 where
+  pub bytes : all_read p.source (setup_lines p.reader l setup) ++ p.waiting
+      ≡ all_written p.sink (setup_lines p.writer l setup)
+  pub mark : p.marked ≡ leave_end p.sink (setup_lines p.writer l setup)
+  pub told : TellsEnd p.source (setup_lines p.reader l setup) → IsTrue p.marked × (p.waiting ≡ [])
+
+pub record KeepsSetup (l : Limits) (setup : List ScriptCall) (pipes : List Pipe) : Type 0 where
+  pub are_pipes : ArePipes l pipes
+  pub each : All (KeepsPipeOfSetup l setup) pipes
 
 -- the line was made, and its history was added to the text
 pub record SaysAndWrites (w : Words) (old new : Desk) (number : ℕ) (line : ScriptCall)

@@ -2,10 +2,9 @@
 ghost use Rattle.std.specs.Prelude.{◌≡◌, IfOk};
 ghost use mathlib.Core.List.{IsPrefix};
 ghost use Rattle.nio_event.specs.PassViews.{HasSelector};
-ghost use Rattle.nio_race_text.specs.declared.call.RaceCall.TheVariants.{Block};
 ghost use Rattle.nio_words.specs.Passes.{IsPassOf, seen};
 ghost use Rattle.nio_words.specs.Views.{view};
-ghost use Rattle.nio_race.specs.Racers.{BlocksOn, LineOn, StandsFor};
+ghost use Rattle.nio_race.specs.Racers.{BlocksOn, LooksAndBlocksOn, StandsFor};
 
 use crate::quiet::Quiet;
 use nio_base::{CallerNo, SelNo};
@@ -28,7 +27,7 @@ pub(crate) fn block_line<R: Wait>(
     sel: SelNo,
 ) -> Result<Reply, AllocError>
     requires { StandsFor w.now d.old me }
-    ensures line { IfOk result (λ r. LineOn w.now d.old d.new me (Block sel) r) }
+    ensures line { IfOk result (LooksAndBlocksOn w.now d.old d.new me sel) }
     ensures stands { IfOk result (λ _. StandsFor w.now d.new me) }
     ensures pass { IsPassOf w.now d.new.pass }
     ensures later { IsPrefix (seen d.old.pass) (seen d.new.pass) }

@@ -31,6 +31,7 @@ fn gather_one(w: &Words, p: &mut Pass, racer: Racer)
     let Racer {
         number: _number,
         desk,
+        ends: _ends,
         sleeper: _sleeper,
         replies: _replies,
         lacks_memory: _lacks_memory,

@@ -6,9 +6,11 @@ pub use run::run_race;
 
 mod bells;
 mod block;
+mod ends;
 mod gather;
 mod line;
 mod output;
+mod piping;
 mod quiet;
 mod racer;
 mod run;

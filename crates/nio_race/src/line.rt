@@ -1,9 +1,8 @@
 //! A line after `go` whose call scripts have too.
 ghost use Rattle.std.specs.Prelude.{◌≡◌, IfOk};
 ghost use mathlib.Core.List.{IsPrefix};
-ghost use Rattle.nio_race_text.specs.declared.call.RaceCall.TheVariants.{Script};
 ghost use Rattle.nio_words.specs.Passes.{seen};
-ghost use Rattle.nio_race.specs.Racers.{LineOn, MakesOnce, StandsFor};
+ghost use Rattle.nio_race.specs.Racers.{MakesAsScript, MakesOnce, StandsFor};
 ghost use Rattle.nio_race.specs.Runs.{is_busy as says_busy, waits_for_hold as is_to_wait};
 
 use nio_base::CallerNo;
@@ -24,7 +23,7 @@ pub(crate) fn script_line<R: Wait>(
     call: &Call,
 ) -> Result<Reply, AllocError>
     requires { StandsFor w.now d.old me }
-    ensures line { IfOk result (λ r. LineOn w.now d.old d.new me (Script call.now) r) }
+    ensures line { IfOk result (MakesAsScript w.now d.old d.new me call.now) }
     ensures stands { StandsFor w.now d.new me }
     ensures later { IsPrefix (seen d.old.pass) (seen d.new.pass) }
 {

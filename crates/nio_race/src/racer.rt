@@ -2,13 +2,17 @@
 ghost use Rattle.std.specs.Prelude.{◌≡◌, ◌==◌, true, false, [], IfOk};
 ghost use mathlib.Core.List.{IsPrefix};
 ghost use Rattle.nio_words.specs.Passes.{IsPassOf, seen};
-ghost use Rattle.nio_race.specs.Racers.{HasRaced, IsSetOff, LineOn, MadeLines, RepliesLine, StandsFor};
+ghost use Rattle.nio_race_text.specs.RaceLines.{MayRace};
+ghost use Rattle.nio_race.specs.Runs.{MayRaceLine, MayRaceLines};
+ghost use Rattle.nio_race.specs.Racers.{CalledOn, HasRaced, IsSetOff, LineOn, MadeLines, RepliesLine, StandsWith};
 
 use crate::bells::{ring_all, wakes};
 use crate::block::block_line;
+use crate::ends::OwnEnds;
 use crate::line::script_line;
+use crate::piping::{close_line, read_line, write_line};
 use nio_base::{CallerNo, Gate};
-use nio_event::Reply;
+use nio_event::{Call, Reply};
 use nio_poller::{Sleeper, SleeperBell};
 use nio_race_text::{RaceCall, RaceLine};
 use nio_sole::Desk;
@@ -16,11 +20,12 @@ use nio_words::Words;
 use std::alloc::{AllocError, Global};
 use std::sync::Wait;
 
-// A caller of a race: its number, a desk whose pass acts for it alone, the poller of its `block` lines, the replies of
-// its lines so far, and whether it stopped for want of memory.
+// A caller of a race: its number, a desk whose pass acts for it alone, the ends of pipes that it owns, the poller of its
+// `block` lines, the replies of its lines so far, and whether it stopped for want of memory.
 pub(crate) struct Racer {
     pub(crate) number: CallerNo,
     pub(crate) desk: Desk,
+    pub(crate) ends: OwnEnds,
     pub(crate) sleeper: Sleeper,
     pub(crate) replies: Vec<Reply>,
     pub(crate) lacks_memory: bool,
@@ -37,7 +42,8 @@ pub(crate) fn run_lines<R: Wait, G: Gate>(
     gate: &G,
     racer: &mut Racer,
 )
-    requires { IsSetOff w.now racer.old }
+    requires set_off { IsSetOff w.now racer.old }
+    requires lines { MayRaceLines race.now }
     ensures { HasRaced w.now race.now racer.old racer.new }
 {
     let made = run_all(
@@ -49,6 +55,7 @@ pub(crate) fn run_lines<R: Wait, G: Gate>(
         gate,
         racer.number,
         &mut racer.desk,
+        &mut racer.ends,
         &mut racer.sleeper,
         &mut racer.replies,
     );
@@ -64,18 +71,22 @@ fn run_all<R: Wait, G: Gate>(
     gate: &G,
     me: CallerNo,
     d: &mut Desk,
+    ends: &mut OwnEnds,
     sleeper: &mut Sleeper,
     replies: &mut Vec<Reply>,
 ) -> Result<(), AllocError>
-    requires stands { StandsFor w.now d.old me }
+    requires stands { StandsWith w.now d.old ends.old me }
     requires unanswered { replies.old.items ≡ [] }
-    ensures run { IfOk result (λ _. MadeLines w.now race.now me d.old d.new replies.new.items) }
-    ensures stands { IfOk result (λ _. StandsFor w.now d.new me) }
+    requires lines { MayRaceLines race.now }
+    ensures run { IfOk result (λ _. MadeLines w.now race.now me d.old d.new ends.old ends.new replies.new.items) }
+    ensures stands { IfOk result (λ _. StandsWith w.now d.new ends.new me) }
     ensures pass { IsPassOf w.now d.new.pass }
     ensures later { IsPrefix (seen d.old.pass) (seen d.new.pass) }
 {
     for line in race {
-        run_if_own(rt, alloc, w, bells, gate, me, d, sleeper, line, replies)?;
+        run_if_own(
+            rt, alloc, w, bells, gate, me, d, ends, sleeper, line, replies,
+        )?;
     }
     Ok(())
 }
@@ -89,14 +100,18 @@ fn run_if_own<R: Wait, G: Gate>(
     gate: &G,
     me: CallerNo,
     d: &mut Desk,
+    ends: &mut OwnEnds,
     sleeper: &mut Sleeper,
     line: &RaceLine,
     replies: &mut Vec<Reply>,
 ) -> Result<(), AllocError>
-    requires { StandsFor w.now d.old me }
-    ensures own { IfOk result (λ _. (line.now.caller.0 == me.0) ≡ true → RepliesLine w.now d.old d.new me line.now.call replies.old.items replies.new.items) }
-    ensures other { IfOk result (λ _. (line.now.caller.0 == me.0) ≡ false → (d.new ≡ d.old) × (replies.new.items ≡ replies.old.items)) }
-    ensures stands { IfOk result (λ _. StandsFor w.now d.new me) }
+    requires stands { StandsWith w.now d.old ends.old me }
+    requires line { MayRaceLine line.now.call }
+    ensures own { IfOk result (λ _. (line.now.caller.0 == me.0) ≡ true
+        → RepliesLine w.now d.old d.new ends.old ends.new me line.now.call replies.old.items replies.new.items) }
+    ensures other { IfOk result (λ _. (line.now.caller.0 == me.0) ≡ false
+        → (d.new ≡ d.old) × (ends.new ≡ ends.old) × (replies.new.items ≡ replies.old.items)) }
+    ensures stands { IfOk result (λ _. StandsWith w.now d.new ends.new me) }
     ensures pass { IsPassOf w.now d.new.pass }
     ensures later { IsPrefix (seen d.old.pass) (seen d.new.pass) }
 {
@@ -104,7 +119,9 @@ fn run_if_own<R: Wait, G: Gate>(
         return Ok(());
     }
     gate.pass(rt, me.0, replies.len() as u64 + 1);
-    run_one(rt, alloc, w, bells, me, d, sleeper, &line.call, replies)
+    run_one(
+        rt, alloc, w, bells, me, d, ends, sleeper, &line.call, replies,
+    )
 }
 
 // Makes a line, and keeps its reply.
@@ -115,17 +132,20 @@ fn run_one<R: Wait>(
     bells: &[SleeperBell],
     me: CallerNo,
     d: &mut Desk,
+    ends: &mut OwnEnds,
     sleeper: &mut Sleeper,
     call: &RaceCall,
     replies: &mut Vec<Reply>,
 ) -> Result<(), AllocError>
-    requires { StandsFor w.now d.old me }
-    ensures line { IfOk result (λ _. RepliesLine w.now d.old d.new me call.now replies.old.items replies.new.items) }
-    ensures stands { IfOk result (λ _. StandsFor w.now d.new me) }
+    requires stands { StandsWith w.now d.old ends.old me }
+    requires line { MayRaceLine call.now }
+    ensures line { IfOk result (λ _.
+        RepliesLine w.now d.old d.new ends.old ends.new me call.now replies.old.items replies.new.items) }
+    ensures stands { IfOk result (λ _. StandsWith w.now d.new ends.new me) }
     ensures pass { IsPassOf w.now d.new.pass }
     ensures later { IsPrefix (seen d.old.pass) (seen d.new.pass) }
 {
-    let reply = make_race_line(rt, alloc, w, bells, me, d, sleeper, call)?;
+    let reply = make_race_line(rt, alloc, w, bells, me, d, ends, sleeper, call)?;
     replies.push(reply)?;
     Ok(())
 }
@@ -137,23 +157,78 @@ fn make_race_line<R: Wait>(
     bells: &[SleeperBell],
     me: CallerNo,
     d: &mut Desk,
+    ends: &mut OwnEnds,
     sleeper: &mut Sleeper,
     call: &RaceCall,
 ) -> Result<Reply, AllocError>
-    requires { StandsFor w.now d.old me }
-    ensures line { IfOk result (LineOn w.now d.old d.new me call.now) }
-    ensures stands { IfOk result (λ _. StandsFor w.now d.new me) }
+    requires stands { StandsWith w.now d.old ends.old me }
+    requires line { MayRaceLine call.now }
+    ensures line { IfOk result (LineOn w.now d.old d.new ends.old ends.new me call.now) }
+    ensures stands { IfOk result (λ _. StandsWith w.now d.new ends.new me) }
     ensures pass { IsPassOf w.now d.new.pass }
     ensures later { IsPrefix (seen d.old.pass) (seen d.new.pass) }
 {
     match call {
         RaceCall::Script(call) => {
-            let reply = script_line(rt, alloc, w, d, me, call)?;
+            let reply = make_called_line(rt, alloc, w, me, d, ends, call)?;
             if wakes(call) {
                 ring_all(bells);
             }
             Ok(reply)
         }
         RaceCall::Block(sel) => block_line(rt, alloc, w, d, sleeper, me, *sel),
+    }
+}
+
+// Makes a line whose call scripts have too. A line that reads, writes or closes goes to the caller's ends of pipes.
+fn make_called_line<R: Wait>(
+    rt: &R,
+    alloc: Global,
+    w: &Words,
+    me: CallerNo,
+    d: &mut Desk,
+    ends: &mut OwnEnds,
+    call: &Call,
+) -> Result<Reply, AllocError>
+    requires stands { StandsWith w.now d.old ends.old me }
+    requires line { MayRace call.now }
+    ensures line { IfOk result (CalledOn w.now d.old d.new ends.old ends.new me call.now) }
+    ensures stands { StandsWith w.now d.new ends.new me }
+    ensures later { IsPrefix (seen d.old.pass) (seen d.new.pass) }
+{
+    match call {
+        Call::Pread(chan, most) => read_line(rt, alloc, w, d, ends, me, *chan, *most),
+        Call::Pwrite(chan, bytes) => Ok(write_line(rt, w, d, ends, me, *chan, bytes)),
+        Call::Closec(chan) => close_line(rt, alloc, w, d, ends, me, *chan),
+        Call::Selector
+        | Call::Channel(..)
+        | Call::Blocking(..)
+        | Call::IsBlocking(..)
+        | Call::IsOpen(..)
+        | Call::IsRegistered(..)
+        | Call::KeyFor(..)
+        | Call::Register(..)
+        | Call::Valid(..)
+        | Call::Interest(..)
+        | Call::Ready(..)
+        | Call::Iset(..)
+        | Call::Ior(..)
+        | Call::Iand(..)
+        | Call::Cancel(..)
+        | Call::Unselect(..)
+        | Call::Attach(..)
+        | Call::Attachment(..)
+        | Call::Begin(..)
+        | Call::Told(..)
+        | Call::Failed(..)
+        | Call::Wakeup(..)
+        | Call::Close(..)
+        | Call::CloseEnd(..)
+        | Call::Keys(..)
+        | Call::Selected(..)
+        | Call::Interrupt(..)
+        | Call::Interrupted
+        | Call::Pipe(..)
+        | Call::Group(..) => script_line(rt, alloc, w, d, me, call),
     }
 }

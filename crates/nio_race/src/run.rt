@@ -7,14 +7,17 @@ ghost use Rattle.nio_race_text.specs.declared.call.RaceLine.{RaceLine};
 ghost use Rattle.nio_script.specs.Input.{CausesFault, StopsPastLongest};
 ghost use Rattle.nio_script.specs.Output.{IsWritten, WritesPrefix};
 ghost use Rattle.nio_script.specs.Run.{EndsScript, EndsText, ReadsText};
-ghost use Rattle.nio_sole.specs.Stands.{Stands};
-ghost use Rattle.nio_words.specs.Passes.{IsFirstPass, IsPassOf};
+ghost use Rattle.nio_sole.specs.Stands.{Stands, progress_of};
+ghost use Rattle.nio_words.specs.Passes.{IsFirstPass, IsPassOf, limits_of};
 ghost use Rattle.nio_race.specs.Does.{DoesRace, IsRaceCutShort, IsRaceRefused, IsRaceUntouched, IsRaced};
+ghost use Rattle.nio_race.specs.Ends.{ArePipes};
 ghost use Rattle.nio_race.specs.Race.{callers_text};
 ghost use Rattle.nio_race.specs.Racers.{HaveRaced, IsSetOff, replies_by};
 ghost use Rattle.nio_race.specs.Running.{HaveRun, RunsTo};
+ghost use Rattle.nio_race.specs.Runs.{MayRaceLines};
 ghost use Rattle.nio_race.specs.SetOff.{AreRacers};
 
+use crate::ends::join_ends;
 use crate::gather::gather;
 use crate::output::add_callers;
 use crate::racer::{Racer, run_lines};
@@ -37,7 +40,8 @@ use std::thread::Threads;
 /// first call. Every number is drawn with the pass, and the lines before `go` are made one after the other. Then each
 /// caller below the table's limit makes its lines after `go` in a thread of its own, with a pass of its own. It passes
 /// the gate before each, with its number and the line's number among its lines, from 1. It goes on with the selections
-/// and closings that it began before `go`; what it leaves in progress is forgotten. Another caller's lines have the
+/// and closings that it began before `go`, and with the ends of pipes that it owns; what it leaves in progress is
+/// forgotten. Another caller's lines have the
 /// reply `no-caller`.
 ///
 /// No byte is written before every thread has returned and all passes are joined. Where memory lacks nothing is written.
@@ -167,7 +171,8 @@ fn race<R: Threads + Wait + Sync, G: Gate + Sync>(
     lines: &[RaceLine],
     gate: &G,
 ) -> Result<Vec<u8>, AllocError>
-    requires { IsFirstPass w.now p.old }
+    requires first { IsFirstPass w.now p.old }
+    requires lines { MayRaceLines lines.now }
     ensures run { IfOk result (λ text. RunsTo w.now p.new setup.now lines.now text.items) }
     ensures kept { IsPassOf w.now p.new }
 {
@@ -194,17 +199,20 @@ fn run_callers<R: Threads + Wait + Sync, G: Gate + Sync>(
 ) -> Result<(), AllocError>
     requires stands { Stands w.now d.old }
     requires none { racers.old.items ≡ [] }
+    requires pipes { ArePipes (limits_of w.now) (progress_of d.old).pipes }
+    requires lines { MayRaceLines lines.now }
     ensures run { IfOk result (λ _. HaveRun w.now d.old lines.now racers.new.items) }
     ensures text { IfOk result (λ _. text.new.items ≡ text.old.items ++ callers_text 0 64 lines.now (replies_by lines.now racers.new.items)) }
     ensures racers { AreRacers w.now racers.new.items }
     ensures pass { IsPassOf w.now d.new.pass }
 {
     let mut bells = Vec::new(alloc);
-    set_off(alloc, w, d, lines, racers, &mut bells)?;
+    let owners = set_off(alloc, w, d, lines, racers, &mut bells)?;
     run_threads(rt, alloc, w, lines, &bells, gate, racers);
     if !had_memory(racers) {
         return Err(AllocError);
     }
+    join_ends(racers, owners);
     add_callers(alloc, lines, racers, text)
 }
 
@@ -218,7 +226,8 @@ fn run_threads<R: Threads + Wait + Sync, G: Gate + Sync>(
     gate: &G,
     racers: &mut Vec<Racer>,
 )
-    requires { All (IsSetOff w.now) racers.old.items }
+    requires set_off { All (IsSetOff w.now) racers.old.items }
+    requires lines { MayRaceLines lines.now }
     ensures { HaveRaced w.now lines.now racers.old.items racers.new.items }
 {
     let threads = racers.len().max(1);

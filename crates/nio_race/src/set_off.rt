@@ -3,8 +3,10 @@ ghost use Rattle.std.specs.Prelude.{◌≡◌, [], None, IfOk, OnErr, vec_len};
 ghost use Rattle.nio_sole.specs.Drawn.{AreEmpty};
 ghost use Rattle.nio_sole.specs.Stands.{HasPlaces, Stands, progress_of};
 ghost use Rattle.nio_words.specs.Passes.{Holds, IsPassOf, limits_of, seen};
-ghost use Rattle.nio_race.specs.SetOff.{AddsRacer, AreRacers, AreSetOff, MovedBelow, own_begun, other_begun, own_shut, other_shut};
+ghost use Rattle.nio_race.specs.Ends.{ArePipes, HaveParted};
+ghost use Rattle.nio_race.specs.SetOff.{AddsRacer, AreRacers, AreSetOff, AreSetOffWithout, MovedBelow, own_begun, other_begun, own_shut, other_shut};
 
+use crate::ends::{OwnEnds, Owners, part_pipes};
 use crate::racer::Racer;
 use nio_base::CallerNo;
 use nio_poller::{Sleeper, SleeperBell};
@@ -14,9 +16,33 @@ use nio_words::Words;
 use std::alloc::{AllocError, Global};
 use std::mem;
 
-/// Makes a racer for each caller, in rising order, with its number and what it has in progress. Where memory lacks,
-/// some racers are made.
+/// Makes a racer for each caller, in rising order, with its number and what it has in progress, and gives it the ends of
+/// pipes that it owns. Answers the owners of the pipes, in their order. Where memory lacks, some racers are made, and
+/// pipes are gone.
 pub(crate) fn set_off(
+    alloc: Global,
+    w: &Words,
+    d: &mut Desk,
+    race: &[RaceLine],
+    racers: &mut Vec<Racer>,
+    bells: &mut Vec<SleeperBell>,
+) -> Result<Vec<Owners>, AllocError>
+    requires stands { Stands w.now d.old }
+    requires none { racers.old.items ≡ [] }
+    requires pipes { ArePipes (limits_of w.now) (progress_of d.old).pipes }
+    ensures set_off { IfOk result (λ _.
+        AreSetOff w.now (seen d.old.pass) (progress_of d.old) (limits_of w.now).callers racers.new.items) }
+    ensures parted { IfOk result (λ owners. HaveParted racers.new.items owners.items (progress_of d.old).pipes) }
+    ensures racers { AreRacers w.now racers.new.items }
+    ensures pass { IsPassOf w.now d.new.pass }
+{
+    set_off_all(alloc, w, d, race, racers, bells)?;
+    let pipes = mem::replace(&mut d.pipes, Vec::new(alloc));
+    part_pipes(alloc, pipes, racers)
+}
+
+// Makes a racer for each caller, without its ends of pipes.
+fn set_off_all(
     alloc: Global,
     w: &Words,
     d: &mut Desk,
@@ -26,7 +52,9 @@ pub(crate) fn set_off(
 ) -> Result<(), AllocError>
     requires stands { Stands w.now d.old }
     requires none { racers.old.items ≡ [] }
-    ensures set_off { IfOk result (λ _. AreSetOff w.now (seen d.old.pass) (progress_of d.old) (limits_of w.now).callers racers.new.items) }
+    ensures set_off { IfOk result (λ _.
+        AreSetOffWithout w.now (seen d.old.pass) (progress_of d.old) (limits_of w.now).callers racers.new.items) }
+    ensures pipes { d.new.pipes ≡ d.old.pipes }
     ensures racers { AreRacers w.now racers.new.items }
     ensures pass { IsPassOf w.now d.new.pass }
 {
@@ -70,6 +98,7 @@ fn set_off_one(
                     group: None,
                     pipes: Vec::new(alloc),
                 },
+                ends: OwnEnds::none(alloc),
                 sleeper,
                 replies,
                 lacks_memory: false,

@@ -4,9 +4,9 @@ ghost use Rattle.nio_plain.specs.Answer.{answer_to};
 ghost use Rattle.nio_plain.specs.declared.rules.Rules.TheVariants.{Now};
 ghost use Rattle.nio_plain.specs.ScriptState.{script_opening};
 ghost use Rattle.nio_sole.specs.Said.{state_at};
-ghost use Rattle.nio_sole.specs.Stands.{Stands};
+ghost use Rattle.nio_sole.specs.Stands.{Stands, progress_of};
 ghost use Rattle.nio_words.specs.Passes.{IsFirstPass, IsPassOf, limits_of};
-ghost use Rattle.nio_race.specs.Setup.{HasSetUp, SaysAndWrites};
+ghost use Rattle.nio_race.specs.Setup.{HasSetUp, KeepsSetup, SaysAndWrites};
 
 use nio_event::{ScriptCall, print_line};
 use nio_sole::{Desk, open_desk, say_line};
@@ -24,6 +24,7 @@ pub(crate) fn set_up(
 ) -> Result<Desk, AllocError>
     requires { IsFirstPass w.now p.old }
     ensures set_up { IfOk result (λ d. HasSetUp w.now d setup.now) }
+    ensures pipes { IfOk result (λ d. KeepsSetup (limits_of w.now) setup.now (progress_of d).pipes) }
     ensures text { IfOk result (λ _. text.new.items ≡ text.old.items ++ answer_to Now (limits_of w.now) setup.now) }
     ensures pass { IsPassOf w.now p.new }
 {

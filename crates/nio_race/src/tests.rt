@@ -234,6 +234,122 @@ fn races(rt: HostRuntime) -> Result<(), Fail> {
     Ok(())
 }
 
+#[test]
+fn pipes_in_races(rt: HostRuntime) -> Result<(), Fail> {
+    let rows: [(&str, Race); 7] = [
+        (
+            "pipe_parted_with_bytes",
+            (
+                (
+                    "t1 pipe t2\nt2 pwrite c1 68\ngo\nt1 pread c0 1\nt1 pread c0 1\nt2 pwrite c1 69\n",
+                    &[(1, 1), (1, 2), (2, 1)],
+                ),
+                (
+                    0,
+                    &[
+                        "1 t1 pipe t2 -> c0 c1\n2 t2 pwrite c1 68 -> 1\nt1 1 pread c0 1 -> 68\nt1 2 pread c0 1 -> 69\nt2 1 pwrite c1 69 -> 1\n",
+                    ],
+                ),
+            ),
+        ),
+        (
+            "a read that waits for the end",
+            (
+                (
+                    "t1 pipe t2\ngo\nt1 pread c0 9\nt1 pread c0 9\nt2 pwrite c1 6869\nt2 closec c1\n",
+                    &[(2, 1), (1, 1), (1, 2), (2, 2)],
+                ),
+                (
+                    0,
+                    &[
+                        "1 t1 pipe t2 -> c0 c1\nt1 1 pread c0 9 -> 6869\nt1 2 pread c0 9 -> end\nt2 1 pwrite c1 6869 -> 2\nt2 2 closec c1 -> ok\n",
+                    ],
+                ),
+            ),
+        ),
+        (
+            "an end from before go",
+            (
+                (
+                    "t1 pipe t2\nt2 pwrite c1 68\nt2 closec c1\ngo\nt1 pread c0 1\nt1 pread c0 1\nt2 pwrite c1 69\n",
+                    &[(1, 1), (1, 2), (2, 1)],
+                ),
+                (
+                    0,
+                    &[
+                        "1 t1 pipe t2 -> c0 c1\n2 t2 pwrite c1 68 -> 1\n3 t2 closec c1 -> ok\nt1 1 pread c0 1 -> 68\nt1 2 pread c0 1 -> end\nt2 1 pwrite c1 69 -> closed-channel\n",
+                    ],
+                ),
+            ),
+        ),
+        (
+            "ends of others",
+            (
+                (
+                    "t1 pipe t2\ngo\nt1 pwrite c1 00\nt2 pread c0 1\nt3 pread c1 1\nt3 pread c2 1\n",
+                    &[(1, 1), (2, 1), (3, 1), (3, 2)],
+                ),
+                (
+                    0,
+                    &[
+                        "1 t1 pipe t2 -> c0 c1\nt1 1 pwrite c1 00 -> not-owner\nt2 1 pread c0 1 -> not-owner\nt3 1 pread c1 1 -> not-owner\nt3 2 pread c2 1 -> no-channel\n",
+                    ],
+                ),
+            ),
+        ),
+        (
+            "a source closed while its owner reads",
+            (
+                (
+                    "t1 pipe t2\ngo\nt1 pread c0 1\nt2 closec c0\nt2 pwrite c1 00\n",
+                    &[(1, 1), (2, 1), (2, 2)],
+                ),
+                (
+                    0,
+                    &[
+                        "1 t1 pipe t2 -> c0 c1\nt1 1 pread c0 1 -> async-close\nt2 1 closec c0 -> ok\nt2 2 pwrite c1 00 -> broken-pipe\n",
+                        "1 t1 pipe t2 -> c0 c1\nt1 1 pread c0 1 -> closed-channel\nt2 1 closec c0 -> ok\nt2 2 pwrite c1 00 -> broken-pipe\n",
+                    ],
+                ),
+            ),
+        ),
+        (
+            "an interrupted read",
+            (
+                (
+                    "t1 pipe t2\ngo\nt1 pread c0 1\nt1 is-open c0\nt2 interrupt t1\n",
+                    &[(1, 1), (2, 1), (1, 2)],
+                ),
+                (
+                    0,
+                    &[
+                        "1 t1 pipe t2 -> c0 c1\nt1 1 pread c0 1 -> closed-by-interrupt\nt1 2 is-open c0 -> no\nt2 1 interrupt t1 -> ok\n",
+                    ],
+                ),
+            ),
+        ),
+        (
+            "both ends of one caller, not blocking",
+            (
+                (
+                    "t1 pipe t1\nt1 blocking c0 off\ngo\nt1 pread c0 1\nt1 pwrite c1 6869\nt1 pread c0 0\nt1 pread c0 9\n",
+                    &[(1, 1), (1, 2), (1, 3), (1, 4)],
+                ),
+                (
+                    0,
+                    &[
+                        "1 t1 pipe t1 -> c0 c1\n2 t1 blocking c0 off -> ok\nt1 1 pread c0 1 -> 0\nt1 2 pwrite c1 6869 -> 2\nt1 3 pread c0 0 -> 0\nt1 4 pread c0 9 -> 6869\n",
+                    ],
+                ),
+            ),
+        ),
+    ];
+    for (label, (read, expected)) in rows {
+        ends(&rt, rt.alloc(), label, read, expected)?;
+    }
+    Ok(())
+}
+
 /// Neither caller's lines all come before the other's, so callers that ran one after the other would wait for ever.
 #[test]
 fn callers_run_beside_each_other(rt: HostRuntime) -> Result<(), Fail> {

@@ -11,8 +11,8 @@ use Rattle.nio_race_text.specs.declared.call.RaceCall.{RaceCall}
 use Rattle.nio_race_text.specs.declared.call.RaceCall.TheVariants.{Script, Block}
 use Rattle.nio_race_text.specs.declared.call.RaceLine.{RaceLine}
 
--- A script's call may stand behind `go`. Those that open a selector, a channel or a pipe may not, nor those
--- that read or write a pipe, nor those on the group.
+-- A script's call may stand behind `go`. Those that open a selector, a channel or a pipe may not, nor those on the
+-- group.
 abbrev pub MayRace : Call → Type 0
 MayRace call.Selector = ⊥
 MayRace (call.Channel kind) = ⊥
@@ -44,8 +44,8 @@ MayRace (call.Selected s) = ⊤
 MayRace (call.Interrupt t) = ⊤
 MayRace call.Interrupted = ⊤
 MayRace (call.Pipe t) = ⊥
-MayRace (call.Pwrite c bytes) = ⊥
-MayRace (call.Pread c n) = ⊥
+MayRace (call.Pwrite c bytes) = ⊤
+MayRace (call.Pread c n) = ⊤
 MayRace (call.Group g) = ⊥
 
 -- a call's word and its arguments

@@ -21,18 +21,13 @@ pub struct RaceLine {
     pub call: RaceCall,
 }
 
-/// Whether a script's call may stand behind `go`: whether it neither opens a selector, a channel or a pipe, nor
-/// reads or writes a pipe, nor is a call on the group.
+/// Whether a script's call may stand behind `go`: whether it neither opens a selector, a channel or a pipe, nor is a
+/// call on the group.
 pub fn may_race(call: &Call) -> bool
     ensures { IsTrue result ↔ MayRace call.now }
 {
     match call {
-        Call::Selector
-        | Call::Channel(..)
-        | Call::Pipe(..)
-        | Call::Pwrite(..)
-        | Call::Pread(..)
-        | Call::Group(..) => false,
+        Call::Selector | Call::Channel(..) | Call::Pipe(..) | Call::Group(..) => false,
         Call::Blocking(..)
         | Call::IsBlocking(..)
         | Call::IsOpen(..)
@@ -59,6 +54,8 @@ pub fn may_race(call: &Call) -> bool
         | Call::Keys(..)
         | Call::Selected(..)
         | Call::Interrupt(..)
-        | Call::Interrupted => true,
+        | Call::Interrupted
+        | Call::Pwrite(..)
+        | Call::Pread(..) => true,
     }
 }

@@ -12,9 +12,10 @@ use std::thread::Threads;
 use std::{fs, io};
 
 /// The examples, each with how many outputs are listed beside it.
-const EXAMPLES: [(&str, u32); 3] = [
+const EXAMPLES: [(&str, u32); 4] = [
     ("block_and_wakeup", 1),
     ("closing_while_blocked", 4),
+    ("pipe_between_threads", 1),
     ("registering_and_cancelling", 3),
 ];
 
@@ -24,7 +25,7 @@ const RUNS: u32 = 20;
 const LIMITS: Limits = Limits {
     callers: 4,
     selectors: 1,
-    channels: 1,
+    channels: 2,
     keys: 8,
 };
 

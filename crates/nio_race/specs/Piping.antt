@@ -1,0 +1,152 @@
+-- Lines behind `go` on the bytes of pipes: which lines these are, what each says, and by which steps.
+use Rattle.std.specs.Prelude.{◌≡◌, ◌≢◌, ℕ, ◌<◌, ◌≤◌, ◌==◌, Bool, true, false, Option, Some, None, Result, Ok, Err, List, [], length, map, filter, find}
+use Rattle.nio_base.specs.declared.limits.Limits.{Limits}
+use Rattle.nio_base.specs.declared.numbers.CallerNo.{CallerNo}
+use Rattle.nio_base.specs.declared.numbers.ChanNo.{ChanNo}
+use Rattle.nio_event.specs.declared.act.Act.{Act}
+use Rattle.nio_event.specs.declared.call.Call.{Call}
+use Rattle.nio_event.specs.declared.call.Call.TheVariants as call
+use Rattle.nio_event.specs.declared.reply.Reply.{Reply}
+use Rattle.nio_event.specs.declared.reply.Reply.TheVariants as reply
+use Rattle.nio_plain.specs.ScriptState.{Pipe}
+use Rattle.nio_serial.specs.Documented.{Progress}
+use Rattle.nio_serial.specs.Lines.{Said}
+use Rattle.nio_serial.specs.Replies.{pipe_refusal}
+use Rattle.nio_steps.specs.KeyCalls.{find_channel_plan}
+use Rattle.nio_steps.specs.PipeCalls.{PipeEnds, Reads, Writes}
+use Rattle.nio_steps.specs.Runs.{Completes}
+use Rattle.nio_steps.specs.Waiting.{Then}
+use Rattle.nio_steps.specs.declared.refusal.PipeError.{PipeError}
+
+-- ---- which lines these are
+
+-- a read of up to so many bytes from this channel, a write of these bytes into it, its closing, or none of these
+pub data PipeUse : Type 0 where
+  reads : ChanNo → ℕ → PipeUse
+  writes : ChanNo → List ℕ → PipeUse
+  closes : ChanNo → PipeUse
+  neither : PipeUse
+
+abbrev pub use_of : Call → PipeUse
+use_of call.Selector = neither
+use_of (call.Channel kind) = neither
+use_of (call.Blocking c on) = neither
+use_of (call.IsBlocking c) = neither
+use_of (call.IsOpen c) = neither
+use_of (call.IsRegistered c) = neither
+use_of (call.KeyFor c s) = neither
+use_of (call.Register s c ops att) = neither
+use_of (call.Closec c) = closes c
+use_of (call.Valid s k) = neither
+use_of (call.Interest s k) = neither
+use_of (call.Ready s k) = neither
+use_of (call.Iset s k ops) = neither
+use_of (call.Ior s k ops) = neither
+use_of (call.Iand s k ops) = neither
+use_of (call.Cancel s k) = neither
+use_of (call.Unselect s k) = neither
+use_of (call.Attach s k att) = neither
+use_of (call.Attachment s k) = neither
+use_of (call.Begin s waiting) = neither
+use_of (call.Told s elapsed pairs) = neither
+use_of (call.Failed s) = neither
+use_of (call.Wakeup s) = neither
+use_of (call.Close s) = neither
+use_of (call.CloseEnd s) = neither
+use_of (call.Keys s) = neither
+use_of (call.Selected s) = neither
+use_of (call.Interrupt target) = neither
+use_of call.Interrupted = neither
+use_of (call.Pipe target) = neither
+use_of (call.Pwrite c bytes) = writes c bytes
+use_of (call.Pread c n) = reads c n
+use_of (call.Group g) = neither
+
+-- ---- the ends that a caller owns
+
+-- The sources that it may read, and the sinks that it may write into, each with the source of its pipe. Each in the
+-- order in which the pipes were made.
+pub record OwnedEnds : Type 0 where
+  pub sources : List ChanNo
+  pub sinks : List PipeEnds
+
+abbrev pub ends_of_pipe : Pipe → PipeEnds
+ends_of_pipe p = record { source = p.source; sink = p.sink }
+
+-- of these pipes the caller's ends
+abbrev pub own_ends : CallerNo → List Pipe → OwnedEnds
+own_ends n pipes = record {
+  sources = map (λ p. p.source) (filter (λ p. p.reader.0 == n.0) pipes);
+  sinks = map ends_of_pipe (filter (λ p. p.writer.0 == n.0) pipes);
+}
+
+-- the caller's own source or sink with this channel
+abbrev pub own_source : OwnedEnds → ChanNo → Option ChanNo
+own_source ends c = find (λ x. x.0 == c.0) ends.sources
+
+abbrev pub own_sink : OwnedEnds → ChanNo → Option PipeEnds
+own_sink ends c = find (λ x. x.sink.0 == c.0) ends.sinks
+
+-- ---- what they say
+
+-- What a read of up to n bytes says, by what its last look answered, a refusal or the mode that it found, and by
+-- whether it found neither a byte nor the end mark. In blocking mode a read that finds neither waits.
+pub data ReadSays (n : ℕ) : Bool → Result Bool PipeError → Reply → Type 0 where
+  is_refused : {none : Bool} (refusal : PipeError) → ReadSays n none (Err refusal) (pipe_refusal refusal)
+  asks_for_nothing : {blocking : Bool} → n ≡ 0 → ReadSays n false (Ok blocking) (reply.Number 0)
+  gives : {blocking : Bool} (bytes : List ℕ)
+      → 0 < length bytes → length bytes ≤ n → ReadSays n false (Ok blocking) (reply.Bytes bytes)
+  tells_end : {blocking : Bool} → 0 < n → ReadSays n false (Ok blocking) reply.End
+  finds_nothing : 0 < n → ReadSays n true (Ok false) (reply.Number 0)
+
+-- The same of a write of these bytes, by whether it found no free place: in blocking mode it then waits.
+pub data WriteSays (bytes : List ℕ) : Bool → Result Bool PipeError → Reply → Type 0 where
+  is_refused : {none : Bool} (refusal : PipeError) → WriteSays bytes none (Err refusal) (pipe_refusal refusal)
+  offers_nothing : {blocking : Bool} → bytes ≡ [] → WriteSays bytes false (Ok blocking) (reply.Number 0)
+  takes : {blocking : Bool} (taken : ℕ)
+      → 0 < taken → taken ≤ length bytes → WriteSays bytes false (Ok blocking) (reply.Number taken)
+  finds_no_place : 0 < length bytes → WriteSays bytes true (Ok false) (reply.Number 0)
+
+-- ---- by which steps
+
+-- A read is a call that waits, and says what this answers.
+pub record ReadsTo (l : Limits) (c : ChanNo) (n : ℕ) (acts : List Act) (r : Reply) : Type 0 where
+  pub none : Bool
+  pub answer : Result Bool PipeError
+  pub waits : Reads l c none acts answer
+  pub says : ReadSays n none answer r
+
+pub record WritesTo (l : Limits) (ends : PipeEnds) (bytes : List ℕ) (acts : List Act) (r : Reply) : Type 0 where
+  pub none : Bool
+  pub answer : Result Bool PipeError
+  pub waits : Writes l ends.source ends.sink none acts answer
+  pub says : WriteSays bytes none answer r
+
+-- the line ends without a step more
+abbrev pub Refuses : Progress → Reply → List Act → Said → Type 0
+Refuses now r acts said = (acts ≡ []) × (said ≡ record { reply = r; left = now })
+
+-- a read, by whether the caller owns the source
+abbrev pub ReadsOwn : Limits → Progress → ChanNo → ℕ → Option ChanNo → List Act → Said → Type 0
+ReadsOwn l now c n None acts said = Refuses now reply.NotOwner acts said
+ReadsOwn l now c n (Some own) acts said = ReadsTo l c n acts said.reply × (said.left ≡ now)
+
+-- and by whether the channel was found
+abbrev pub ReadsFound : Limits → OwnedEnds → Progress → ChanNo → ℕ → Option ChanNo → List Act → Said → Type 0
+ReadsFound l ends now c n None acts said = Refuses now reply.NoChannel acts said
+ReadsFound l ends now c n (Some found) acts said = ReadsOwn l now c n (own_source ends c) acts said
+
+-- the channel is looked up, and then the caller reads
+abbrev pub LooksAndReads : Limits → OwnedEnds → Progress → ChanNo → ℕ → List Act → Said → Type 0
+LooksAndReads l ends now c n = Then (Completes (find_channel_plan l c.0)) (ReadsFound l ends now c n)
+
+abbrev pub WritesOwn : Limits → Progress → List ℕ → Option PipeEnds → List Act → Said → Type 0
+WritesOwn l now bytes None acts said = Refuses now reply.NotOwner acts said
+WritesOwn l now bytes (Some own) acts said = WritesTo l own bytes acts said.reply × (said.left ≡ now)
+
+abbrev pub WritesFound : Limits → OwnedEnds → Progress → ChanNo → List ℕ → Option ChanNo → List Act → Said → Type 0
+WritesFound l ends now c bytes None acts said = Refuses now reply.NoChannel acts said
+WritesFound l ends now c bytes (Some found) acts said = WritesOwn l now bytes (own_sink ends c) acts said
+
+abbrev pub LooksAndWrites : Limits → OwnedEnds → Progress → ChanNo → List ℕ → List Act → Said → Type 0
+LooksAndWrites l ends now c bytes = Then (Completes (find_channel_plan l c.0)) (WritesFound l ends now c bytes)
