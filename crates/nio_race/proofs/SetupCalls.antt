@@ -195,8 +195,9 @@ module _ (l : Limits) (log : List (ScriptCall × Reply)) (st : ScriptState) (kep
       → Goes me (call.Pipe target) (with_sink made me target source o)
   goes-sink me target source reads writes unmade None e =
       let made = put st.shared.chan source (new_channel Source) in
-      on-none me (call.Pipe target) _ _ refl
-      (both-stay st.shared.chan made _
+      let spent = with_sink (channel_made st Source (Some source)).left me target source None in
+      on-none me (call.Pipe target) spent.reply spent.left refl
+      (both-stay st.shared.chan made (put made source (record (made source) { closed = true }))
       (put-stays st.shared.chan source (new_channel Source)
       (unmade-stays (st.shared.chan source) (new_channel Source) unmade))
       (put-stays made source (record (made source) { closed = true }) (λ is. (is, λ _. refl))))

@@ -56,14 +56,18 @@ apart-of pipes f differ i j d before within same =
     (ap (λ (p : Pipe). (f p).0) (get_or_default pipes i no_pipe d low)
     ∙ (same ∙ ap (λ (p : Pipe). (f p).0) (get_or_default pipes j d no_pipe within)))
 
-keeps-setup : (l : Limits) (setup : List ScriptCall) → KeepsSetup l setup (left_by_script Now l setup).pipes
+-- the owners are callers
+abbrev HasOwners : Limits → Pipe → Type 0
+HasOwners l p = (p.reader.0 < l.callers) × (p.writer.0 < l.callers)
+
+pub keeps-setup : (l : Limits) (setup : List ScriptCall) → KeepsSetup l setup (left_by_script Now l setup).pipes
 keeps-setup l setup =
     let left = left_by_script Now l setup in
     let kept : AreKept l (zip setup (replies_from l script_opening setup)) left =
     kept-calls l setup [] script_opening (kept-opening l) in
     record {
       are_pipes = record {
-        owners = All-from_get_or _ left.pipes no_pipe
+        owners = All-from_get_or (HasOwners l) left.pipes no_pipe
             (λ k h. let p = kept.each k h in (p.reader, p.writer));
         sources_differ = apart-of left.pipes (λ p. p.source) kept.sources_differ;
         sinks_differ = apart-of left.pipes (λ p. p.sink) kept.sinks_differ;
