@@ -1,7 +1,8 @@
 -- Each call of a setup does to the pipes what its line says.
-use Rattle.std.proofs.Common.{◌≡◌, ◌≢◌, ℕ, ◌<◌, ◌==◌, nat_lt, Bool, true, false, cond, not, ◌&&◌, ◌||◌, Option}
-use Rattle.std.proofs.Common.{Some, None, List, [], ◌∷◌, ◌++◌, length, take, drop, set, refl, ap, sym, ◌∙◌, subst, eq-eqb, eqb-true}
+use Rattle.std.proofs.Common.{◌≡◌, ◌≢◌, ℕ, ◌<◌, ◌==◌, nat_lt, Bool, true, false, not, ◌&&◌, ◌||◌, Option, Some}
+use Rattle.std.proofs.Common.{None, List, [], ◌∷◌, ◌++◌, length, take, drop, set, refl, ap, sym, ◌∙◌, subst, eqb-true}
 use Rattle.std.proofs.Common.{take-append-drop}
+use Rattle.std.proofs.Math.Bool.{or-false}
 use Rattle.std.proofs.lemmas.Bool.{and_parts, both_ways, false_from_ne_true, ltb-true, not-true, or_right}
 use Rattle.std.proofs.lemmas.List.{append-nil, set-get_or}
 use Rattle.std.proofs.lemmas.List.Quantifiers.{position-Some}
@@ -30,12 +31,12 @@ use Rattle.nio_plain.specs.Seq.Modes.{is_registered, blocking_call}
 use Rattle.nio_plain.specs.Seq.Names.{with_named_channel}
 use Rattle.nio_plain.specs.Seq.Opening.{channel_call, channel_made, next_channel}
 use Rattle.nio_plain.specs.Seq.Pipes.{marking, no_pipe, own_sink, own_source, owns_sink, owns_source, pipe_at}
-use Rattle.nio_plain.specs.Seq.Piping.{finds_interrupt, not_now, pipe_call, pread_call, pwrite_call, read_first}
+use Rattle.nio_plain.specs.Seq.Piping.{finds_interrupt, pipe_call, pread_call, pwrite_call, read_first}
 use Rattle.nio_plain.specs.Seq.Piping.{read_from, room_for, with_sink, with_source, write_first, write_to}
 use Rattle.nio_plain.specs.declared.rules.Rules.TheVariants.{Now}
-use Rattle.nio_race.proofs.SetupKept.{AllStay, AreKept, GoesOn, IsKeptPipe, IsSilent, Stays, beside-more}
+use Rattle.nio_race.proofs.SetupKept.{AllStay, AreKept, Stays, beside-more}
 use Rattle.nio_race.proofs.SetupKept.{pipe-behind, place-more, silent-more}
-use Rattle.nio_race.proofs.SetupLines.{end_of, read_of, written_of}
+use Rattle.nio_race.proofs.SetupLines.{end_of}
 use Rattle.nio_race.proofs.SetupSilent.{IsQuiet, broken-pipe, close-beside, close-elsewhere, close-ends}
 use Rattle.nio_race.proofs.SetupSilent.{line, neither-silent, no-caller, no-channel, not-now, not-owner, number-none}
 use Rattle.nio_race.proofs.SetupSilent.{of-same, own-sink-is, position-none, quiet-silent, read-beside, read-elsewhere}
@@ -271,17 +272,13 @@ module _ (l : Limits) (log : List (ScriptCall × Reply)) (st : ScriptState) (kep
             ∙ (sym (append-nil p.waiting)
             ∙ ap (λ (xs : List ℕ). p.waiting ++ xs) (sym (of-same {A = List ℕ} (me.0 == p.writer.0) []))));
         mark =
-            sym (ap (λ (b : Bool). p.marked || b) (of-same {A = Bool} (me.0 == p.writer.0) false) ∙ or-none p.marked);
+            sym (ap (λ (b : Bool). p.marked || b) (of-same {A = Bool} (me.0 == p.writer.0) false) ∙ or-false p.marked);
         told = λ last. end last.reads.reply;
         stays = λ marked h. none h;
       })
       (λ ends. absurd (both_ways _ (of-same {A = Bool} (me.0 == p.writer.0) false) ends))
       (λ k h ne. read-beside me c n r (pipe_at st.pipes k) (other-source me c i within own k h ne))
       (λ k unmade. read-elsewhere me c n r k (elsewhere c after.shared.chan made stay k unmade))
-    where
-      or-none : (a : Bool) → (a || false) ≡ a
-      or-none true = refl
-      or-none false = refl
 
   goes-first : (me : CallerNo) (c : ChanNo) (n i : ℕ) (blocking : Bool) → (st.shared.chan c.0).made ≡ true
       → i < length st.pipes → owns_source me c (pipe_at st.pipes i) ≡ true
@@ -383,7 +380,7 @@ module _ (l : Limits) (log : List (ScriptCall × Reply)) (st : ScriptState) (kep
         bytes =
             ap (λ (xs : List ℕ). xs ++ (p.waiting ++ take n bytes)) (of-same {A = List ℕ} (me.0 == p.reader.0) [])
             ∙ ap (λ (xs : List ℕ). p.waiting ++ xs) (sym (write-own me c bytes r p own));
-        mark = sym (ap (λ (b : Bool). p.marked || b) ends ∙ or-none p.marked);
+        mark = sym (ap (λ (b : Bool). p.marked || b) ends ∙ or-false p.marked);
         told = λ last. let it = last.reads.call in absurd (cc it);
         stays = λ marked h.
             absurd (both_ways (st.shared.chan c.0).closed is_open
@@ -393,10 +390,6 @@ module _ (l : Limits) (log : List (ScriptCall × Reply)) (st : ScriptState) (kep
       (λ e. absurd (both_ways (end_of p.writer p.sink x) ends e))
       (λ k h ne. write-beside me c bytes r (pipe_at st.pipes k) (other-sink me c i within own k h ne))
       (λ k unmade. write-elsewhere me c bytes r k (elsewhere c after.shared.chan made stay k unmade))
-    where
-      or-none : (a : Bool) → (a || false) ≡ a
-      or-none true = refl
-      or-none false = refl
 
   goes-written : (me : CallerNo) (c : ChanNo) (bytes : List ℕ) (n i : ℕ) (blocking : Bool)
       → (st.shared.chan c.0).made ≡ true → (st.shared.chan c.0).closed ≡ false → i < length st.pipes

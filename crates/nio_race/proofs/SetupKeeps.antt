@@ -1,5 +1,5 @@
 -- What a setup leaves in the pipes is what its lines say.
-use Rattle.std.proofs.Common.{◌≡◌, ◌≢◌, ℕ, ◌<◌, List, [], ◌∷◌, ◌++◌, length, get_or, zip, refl, sym, ap, ◌∙◌, subst}
+use Rattle.std.proofs.Common.{◌≢◌, ℕ, ◌<◌, List, [], ◌∷◌, ◌++◌, length, zip, refl, sym, ap, ◌∙◌, subst}
 use Rattle.std.proofs.Common.{append_assoc, arith}
 use Rattle.std.proofs.lemmas.List.{append-nil, get_or_default}
 use Rattle.std.proofs.lemmas.List.Elements.{All-from_get_or}
@@ -22,8 +22,7 @@ use Rattle.nio_sole.specs.declared.desk.Desk.{Desk}
 use Rattle.nio_words.specs.Passes.{limits_of}
 use Rattle.nio_words.specs.declared.words.Words.{Words}
 use Rattle.nio_race.proofs.SetupCalls.{goes-seq}
-use Rattle.nio_race.proofs.SetupKept.{AreKept, IsKeptPipe}
-use Rattle.nio_race.specs.Ends.{ArePipes}
+use Rattle.nio_race.proofs.SetupKept.{AreKept}
 use Rattle.nio_race.specs.Setup.{HasSetUp, KeepsPipeOfSetup, KeepsSetup}
 
 -- ---- a whole setup

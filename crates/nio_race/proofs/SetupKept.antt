@@ -1,11 +1,11 @@
 -- What holds of the pipes after some lines of a setup, and what a line more has to do so that it holds again.
 use Rattle.std.proofs.Common.{◌≡◌, ◌≢◌, ℕ, ◌+◌, ◌<◌, ◌≤◌, Bool, true, false, cond, ◌||◌, ⊎_elim, List, [], ◌∷◌, ◌++◌}
-use Rattle.std.proofs.Common.{length, get_or, set, refl, sym, ap, ◌∙◌, subst, append_assoc, arith}
+use Rattle.std.proofs.Common.{length, set, refl, sym, ap, ◌∙◌, subst, append_assoc, arith}
 use Rattle.std.proofs.lemmas.Bool.{both_ways, cases_eq, cases_lt, false_from_ne_true, or_left}
 use Rattle.std.proofs.lemmas.List.{append-nil, get_or-set_other, get_or-set_same, length-append, length-set}
 use Rattle.std.proofs.lemmas.List.{get_or_append_left}
+use Rattle.std.proofs.Math.Bool.{or-false}
 use Rattle.std.proofs.Math.Seq.{get_or-append_seam}
-use Rattle.std.specs.List.{All}
 use Rattle.nio_base.specs.declared.limits.Limits.{Limits}
 use Rattle.nio_base.specs.declared.numbers.CallerNo.{CallerNo}
 use Rattle.nio_base.specs.declared.numbers.ChanNo.{ChanNo}
@@ -16,7 +16,7 @@ use Rattle.nio_plain.specs.ScriptState.{Pipe, ScriptState}
 use Rattle.nio_plain.specs.Seq.Pipes.{pipe_at}
 use Rattle.nio_plain.specs.Seq.Piping.{new_pipe}
 use Rattle.nio_race.proofs.SetupLines.{EndsRead, ReadsEnd, end_of, is_by, lines_of, read_of, written_of}
-use Rattle.nio_race.proofs.SetupLines.{end-more, read-more, tells-more, written-more}
+use Rattle.nio_race.proofs.SetupLines.{end-more, of-none, read-more, tells-more, written-more}
 use Rattle.nio_race.specs.PipeBytes.{TellsEnd, all_read, all_written, ends_by, leave_end, read_by, written_by}
 use Rattle.nio_race.specs.Piping.{use_of}
 
@@ -101,25 +101,21 @@ pub record Steps (x : ScriptCall × Reply) (st after : ScriptState) : Type 0 whe
 
 -- ---- a line more
 
-of-silent : {A : Type 0} (b : Bool) (x none : A) → x ≡ none → cond b x none ≡ none
-of-silent true x none e = e
-of-silent false x none e = refl
-
 untouched-more : (log : List (ScriptCall × Reply)) (x : ScriptCall × Reply) (c : ChanNo) (n : CallerNo)
     → IsUntouched log c n → IsSilent c x → IsUntouched (log ++ x ∷ []) c n
 untouched-more log x c n before silent = record {
   read =
       read-more n c log x
       ∙ (ap (λ (xs : List ℕ). xs ++ read_of n c x) before.read
-      ∙ of-silent (is_by n x) (read_by c (use_of x.0.call) x.1) [] silent.read);
+      ∙ of-none (is_by n x) (read_by c (use_of x.0.call) x.1) [] silent.read);
   written =
       written-more n c log x
       ∙ (ap (λ (xs : List ℕ). xs ++ written_of n c x) before.written
-      ∙ of-silent (is_by n x) (written_by c (use_of x.0.call) x.1) [] silent.written);
+      ∙ of-none (is_by n x) (written_by c (use_of x.0.call) x.1) [] silent.written);
   end =
       end-more n c log x
       ∙ (ap (λ (b : Bool). b || end_of n c x) before.end
-      ∙ of-silent (is_by n x) (ends_by c (use_of x.0.call) x.1) false silent.end);
+      ∙ of-none (is_by n x) (ends_by c (use_of x.0.call) x.1) false silent.end);
   untold = λ tells.
       ⊎_elim (λ earlier. before.untold earlier) (λ (last : EndsRead n c x). silent.untold last.reads)
       (tells-more n c log x tells);
@@ -216,15 +212,10 @@ beside-goes x p beside = record {
   bytes =
       ap (λ (xs : List ℕ). xs ++ p.waiting) beside.read
       ∙ (sym (append-nil p.waiting) ∙ ap (λ (xs : List ℕ). p.waiting ++ xs) (sym beside.written));
-  mark = sym (ap (λ (b : Bool). p.marked || b) beside.end ∙ or-none p.marked);
+  mark = sym (ap (λ (b : Bool). p.marked || b) beside.end ∙ or-false p.marked);
   told = λ last. absurd (beside.untold last);
   stays = λ marked none. none;
 }
-  where
-    or-none : (a : Bool) → (a || false) ≡ a
-    or-none true = refl
-    or-none false = refl
-
 beside-steps : (x : ScriptCall × Reply) (chan : ℕ → Chan) (p new : Pipe) → IsBeside p x → new ≡ p
     → PipeSteps x chan p new
 beside-steps x chan p new beside is = record {
@@ -254,9 +245,9 @@ beside-more l log x st after kept stay same beside silent =
 
 silent-beside : (p : Pipe) (x : ScriptCall × Reply) → ((c : ChanNo) → IsSilent c x) → IsBeside p x
 silent-beside p x silent = record {
-  read = of-silent (is_by p.reader x) (read_by p.source (use_of x.0.call) x.1) [] (silent p.source).read;
-  written = of-silent (is_by p.writer x) (written_by p.sink (use_of x.0.call) x.1) [] (silent p.sink).written;
-  end = of-silent (is_by p.writer x) (ends_by p.sink (use_of x.0.call) x.1) false (silent p.sink).end;
+  read = of-none (is_by p.reader x) (read_by p.source (use_of x.0.call) x.1) [] (silent p.source).read;
+  written = of-none (is_by p.writer x) (written_by p.sink (use_of x.0.call) x.1) [] (silent p.sink).written;
+  end = of-none (is_by p.writer x) (ends_by p.sink (use_of x.0.call) x.1) false (silent p.sink).end;
   untold = λ (last : EndsRead p.reader p.source x). (silent p.source).untold last.reads;
 }
 

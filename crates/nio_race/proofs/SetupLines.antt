@@ -1,7 +1,7 @@
 -- What a caller's lines of the setup say of a channel, and what one line more adds to that.
 use Rattle.std.proofs.Common.{◌≡◌, ℕ, ◌==◌, Bool, true, false, cond, ◌||◌, ◌⊎◌, ⊎_elim, inl, inr, List, [], ◌∷◌, ◌++◌}
 use Rattle.std.proofs.Common.{map, filter, flat_map, Contains, refl, sym, ap, ◌∙◌, subst, arith}
-use Rattle.std.proofs.lemmas.Bool.{or_from}
+use Rattle.std.proofs.Math.Bool.{or-false, or_assoc}
 use Rattle.std.proofs.lemmas.Grind.{flat_map-append}
 use Rattle.std.proofs.lemmas.List.{append-nil, map-append}
 use Rattle.std.proofs.lemmas.List.Elements.{filter-append, Contains-append_cases, Contains-push_cases}
@@ -16,6 +16,10 @@ use Rattle.nio_race_text.specs.declared.call.RaceCall.TheVariants.{Script}
 use Rattle.nio_race.specs.PipeBytes.{TellsEnd, all_read, all_written, ends_by, ends_in, leave_end, read_by, read_in}
 use Rattle.nio_race.specs.PipeBytes.{written_by, written_in}
 use Rattle.nio_race.specs.Piping.{use_of}
+
+pub of-none : {A : Type 0} (b : Bool) (x none : A) → x ≡ none → cond b x none ≡ none
+of-none true x none e = e
+of-none false x none e = refl
 
 -- ---- one line
 
@@ -89,24 +93,16 @@ pub written-more : (n : CallerNo) (c : ChanNo) (log : List (ScriptCall × Reply)
     → all_written c (lines_of n (log ++ x ∷ [])) ≡ all_written c (lines_of n log) ++ written_of n c x
 written-more n c log x = gathered-more (λ y. written_in c y.0 y.1) n log x
 
-or-moves : (a b d : Bool) → (a || (b || d)) ≡ ((a || b) || d)
-or-moves true b d = refl
-or-moves false b d = refl
-
 leave-append : (c : ChanNo) (xs ys : List (RaceCall × Reply))
     → leave_end c (xs ++ ys) ≡ (leave_end c xs || leave_end c ys)
 leave-append c [] ys = refl
 leave-append c (x ∷ xs) ys =
     ap (λ (b : Bool). ends_in c x.0 x.1 || b) (leave-append c xs ys)
-    ∙ or-moves (ends_in c x.0 x.1) (leave_end c xs) (leave_end c ys)
-
-or-none : (a : Bool) → (a || false) ≡ a
-or-none true = refl
-or-none false = refl
+    ∙ sym (or_assoc (ends_in c x.0 x.1) (leave_end c xs) (leave_end c ys))
 
 end-of-one : (c : ChanNo) (b : Bool) (x : RaceCall × Reply)
     → leave_end c (cond b (x ∷ []) []) ≡ cond b (ends_in c x.0 x.1) false
-end-of-one c true x = or-none (ends_in c x.0 x.1)
+end-of-one c true x = or-false (ends_in c x.0 x.1)
 end-of-one c false x = refl
 
 pub end-more : (n : CallerNo) (c : ChanNo) (log : List (ScriptCall × Reply)) (x : ScriptCall × Reply)

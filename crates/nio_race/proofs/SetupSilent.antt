@@ -1,6 +1,6 @@
 -- What lines say of channels and of pipes: which say nothing, and what those of an owner say.
-use Rattle.std.proofs.Common.{◌≡◌, ◌≢◌, ℕ, ◌<◌, ◌≤◌, ◌==◌, nat_lt, Bool, true, false, cond, not, ◌&&◌, ⊎_elim}
-use Rattle.std.proofs.Common.{Option, Some, None, List, [], ◌∷◌, length, get_or, take, position, refl, ap, sym, ◌∙◌}
+use Rattle.std.proofs.Common.{◌≡◌, ℕ, ◌<◌, ◌≤◌, ◌==◌, nat_lt, Bool, true, false, cond, ◌&&◌, ⊎_elim, Some}
+use Rattle.std.proofs.Common.{None, List, [], length, get_or, take, position, refl, ap, sym, ◌∙◌}
 use Rattle.std.proofs.Common.{arith, eq-eqb, eqb-true}
 use Rattle.std.specs.List.{position_or_len}
 use Rattle.std.proofs.lemmas.Bool.{and_from, and_left, and_parts, and_right, both_ways, cases_lt, cond-true}
@@ -17,7 +17,7 @@ use Rattle.nio_plain.specs.ScriptState.{Pipe}
 use Rattle.nio_plain.specs.Seq.Pipes.{owns_sink, owns_source}
 use Rattle.nio_plain.specs.Seq.Piping.{not_now}
 use Rattle.nio_race.proofs.SetupKept.{IsBeside, IsSilent}
-use Rattle.nio_race.proofs.SetupLines.{ReadsEnd, end_of, is_by, read_of, written_of}
+use Rattle.nio_race.proofs.SetupLines.{ReadsEnd, end_of, of-none, read_of, written_of}
 use Rattle.nio_race.specs.PipeBytes.{bytes_of, ends_by, number_of, read_by, says_closed, written_by}
 use Rattle.nio_race.specs.Piping.{PipeUse, closes, neither, reads, use_of, writes}
 
@@ -27,10 +27,6 @@ line me word r = (record { caller = me; call = word }, r)
 pub of-same : {A : Type 0} (b : Bool) (x : A) → cond b x x ≡ x
 of-same true x = refl
 of-same false x = refl
-
-of-none : {A : Type 0} (b : Bool) (x none : A) → x ≡ none → cond b x none ≡ none
-of-none true x none e = e
-of-none false x none e = refl
 
 of-true : {A : Type 0} (b : Bool) (x none : A) → b ≡ true → cond b x none ≡ x
 of-true b x none e = ap (λ (t : Bool). cond t x none) e
