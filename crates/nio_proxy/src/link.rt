@@ -303,7 +303,7 @@ fn write_told<N: Net>(
 }
 
 // Reads where the link was told ready for it, and passes on what comes where the other can be written. Says whether
-// more may be passed on at once.
+// more may be passed on at once: so it is where the direction is full only now, since more may have come than it took.
 fn read_told<N: Net>(
     net: &mut N,
     source: ChanNo,
@@ -330,8 +330,9 @@ fn read_told<N: Net>(
     if can_write {
         return pass_all(net, source, sink, direction, scratch);
     }
+    let had_room = direction.room() > 0;
     read_all(net, source, direction, scratch)?;
-    Ok(false)
+    Ok(had_room && direction.room() == 0)
 }
 
 // Carries bytes from the link `source` to the link `sink`, as they were told ready. Says whether more may be passed on
