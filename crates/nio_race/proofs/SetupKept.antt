@@ -1,5 +1,5 @@
 -- What holds of the pipes after some lines of a setup, and what a line more has to do so that it holds again.
-use Rattle.std.proofs.Common.{◌≡◌, ◌≢◌, ℕ, ◌+◌, ◌<◌, ◌≤◌, Bool, true, false, cond, ◌||◌, ⊎_elim, List, [], ◌∷◌, ◌++◌}
+use Rattle.std.proofs.Common.{◌≡◌, ◌≢◌, ℕ, ◌+◌, ◌<◌, ◌≤◌, Bool, true, false, ◌||◌, ⊎_elim, List, [], ◌∷◌, ◌++◌}
 use Rattle.std.proofs.Common.{length, set, refl, sym, ap, ◌∙◌, subst, append_assoc, arith}
 use Rattle.std.proofs.lemmas.Bool.{both_ways, cases_eq, cases_lt, false_from_ne_true, or_left}
 use Rattle.std.proofs.lemmas.List.{append-nil, get_or-set_other, get_or-set_same, length-append, length-set}
@@ -216,6 +216,7 @@ beside-goes x p beside = record {
   told = λ last. absurd (beside.untold last);
   stays = λ marked none. none;
 }
+
 beside-steps : (x : ScriptCall × Reply) (chan : ℕ → Chan) (p new : Pipe) → IsBeside p x → new ≡ p
     → PipeSteps x chan p new
 beside-steps x chan p new beside is = record {

@@ -176,9 +176,10 @@ sink-owned me c p by at =
 pub own-sink-is : (me : CallerNo) (c : ChanNo) (p : Pipe) → owns_sink me c p ≡ true
     → ((me.0 == p.writer.0) ≡ true) × ((c.0 == p.sink.0) ≡ true)
 own-sink-is me c p own =
-    let both = and_parts (p.sink.0 == c.0) (p.writer.0 == me.0) own in
-    (eq-eqb me.0 p.writer.0 (sym (eqb-true p.writer.0 me.0 both.1)),
-    eq-eqb c.0 p.sink.0 (sym (eqb-true p.sink.0 c.0 both.0)))
+    let both = and_parts (p.sink.0 == c.0) (p.writer.0 == me.0) own in (
+      eq-eqb me.0 p.writer.0 (sym (eqb-true p.writer.0 me.0 both.1)),
+      eq-eqb c.0 p.sink.0 (sym (eqb-true p.sink.0 c.0 both.0)),
+    )
 
 pub write-elsewhere : (me : CallerNo) (c : ChanNo) (bytes : List ℕ) (r : Reply) (k : ChanNo) → (c.0 == k.0) ≡ false
     → IsSilent k (line me (call.Pwrite c bytes) r)
