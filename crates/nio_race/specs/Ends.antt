@@ -79,7 +79,7 @@ pub record HasNoEnds (r : Racer) : Type 0 where
 
 -- the racers are the same but for the ends that they hold
 abbrev pub AreSameButEnds : List Racer → List Racer → Type 0
-AreSameButEnds before after = AreEach (λ r r'. r' ≡ record r { ends = r'.ends }) before after
+AreSameButEnds before after = AreEach {A = Racer} {B = Racer} (λ r r'. r' ≡ record r { ends = r'.ends }) before after
 
 -- what the caller's racer holds
 abbrev pub sources_at : List Racer → CallerNo → List PipeSource
@@ -87,6 +87,18 @@ sources_at racers n = slice_index_or (map (λ r. r.ends.sources.items) racers) n
 
 abbrev pub sinks_at : List Racer → CallerNo → List PipeSink
 sinks_at racers n = slice_index_or (map (λ r. r.ends.sinks.items) racers) n.0 []
+
+-- The caller's racer holds these sources too, behind those that it held. No other racer's ends change, and no sink.
+pub record HoldSources (before after : List Racer) (caller : CallerNo) (more : List PipeSource) : Type 0 where
+  pub sources : (n : CallerNo) → sources_at after n
+      ≡ sources_at before n ++ (if caller.0 == n.0 then more else [])
+  pub sinks : (n : CallerNo) → sinks_at after n ≡ sinks_at before n
+
+-- the same of sinks
+pub record HoldSinks (before after : List Racer) (caller : CallerNo) (more : List PipeSink) : Type 0 where
+  pub sources : (n : CallerNo) → sources_at after n ≡ sources_at before n
+  pub sinks : (n : CallerNo) → sinks_at after n
+      ≡ sinks_at before n ++ (if caller.0 == n.0 then more else [])
 
 -- Each racer holds the ends that its caller owns of these pipes, in the order of the pipes, and no others.
 pub record HoldEnds (racers : List Racer) (parted : List PartedPipe) : Type 0 where

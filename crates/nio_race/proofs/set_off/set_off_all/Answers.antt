@@ -1,7 +1,7 @@
 use Rattle.std.proofs.Common.{◌<◌, subst, arith}
 use Rattle.nio_base.specs.declared.limits.Limits.{Limits}
 use Rattle.nio_race.proofs.SettingOff.{begins, goes_on}
-use Rattle.nio_race.proofs.set_off.set_off.Goals as goal
+use Rattle.nio_race.proofs.set_off.set_off_all.Goals as goal
 
 pub loop-number-init : goal.loop-number-init
 loop-number-init c = begins c.args.w.now c.args.d.now c.args.racers.now.items c.requires.stands c.requires.none
