@@ -174,12 +174,13 @@ pub meets_last : (racers mid after : List Racer) (owners : Owners) (source sourc
     → SourceLooks source source' → SinkLooks sink sink'
     → IsLawful (pipe_of source' sink') → (IsAtEnd source → IsPipeAtEnd (pipe_of source' sink'))
     → MeetsLast racers after owners
-meets_last racers mid after owners source source' sink sink' first second source_looks sink_looks lawful told earlier last
-    is hold =
+meets_last racers mid after owners source source' sink sink' first second source_looks sink_looks lawful told earlier
+    last is hold =
     let first' = subst (λ (o : Owners). HoldSources mid racers o.reader (source ∷ [])) is first in
     let second' = subst (λ (o : Owners). HoldSinks after mid o.writer (sink ∷ [])) is second in
     (hold_earlier racers mid after source sink earlier last hold first' second',
-    has_met racers mid after source sink earlier last hold first' second' source' sink' source_looks sink_looks lawful told)
+    has_met racers mid after source sink earlier last hold first' second' source' sink' source_looks sink_looks lawful
+    told)
 
 -- no pipe is the last where an end is missing
 pub none_to_meet : (racers after : List Racer) (owners : Owners)

@@ -51,24 +51,34 @@ pairs_first R x xs all k d below = all 0 (suc k) d (omega arith) (omega (arith, 
 pairs_later : {X : Type 0} (R : X → X → Type 0) (x : X) (xs : List X) → AllPairs R (x ∷ xs) → AllPairs R xs
 pairs_later R x xs all i j d before below = all (suc i) (suc j) d (omega (arith, before)) (omega (arith, below))
 
+filter_one : {X : Type 0} (R : X → X → Type 0) (x : X) (kept : List X) (b : Bool) → All (R x) kept
+    → AllPairs R kept → AllPairs R (if b then x ∷ kept else kept)
+filter_one R x kept true first later = pairs_cons R x kept first later
+filter_one R x kept false first later = later
+
 pub pairs_filter : {X : Type 0} (R : X → X → Type 0) (test : X → Bool) (xs : List X) → AllPairs R xs
     → AllPairs R (filter test xs)
 pairs_filter R test [] all = all
-pairs_filter {X = X} R test (x ∷ xs) all = by_test (test x)
-  where
-    by_test : (b : Bool) → AllPairs R (if b then x ∷ filter test xs else filter test xs)
-    by_test true = pairs_cons R x (filter test xs) (All-filter test (R x) xs (pairs_first R x xs all))
-        (pairs_filter R test xs (pairs_later R x xs all))
-    by_test false = pairs_filter R test xs (pairs_later R x xs all)
+pairs_filter R test (x ∷ xs) all =
+    filter_one R x (filter test xs) (test x) (All-filter test (R x) xs (pairs_first R x xs all))
+    (pairs_filter R test xs (pairs_later R x xs all))
+
+pairs_none : {X : Type 0} (R : X → X → Type 0) → AllPairs R []
+pairs_none R i j d before below = absurd (omega (arith, below))
 
 pub pairs_map : {X Y : Type 0} (R : Y → Y → Type 0) (f : X → Y) (xs : List X) → AllPairs (λ a b. R (f a) (f b)) xs
     → AllPairs R (map f xs)
-pairs_map R f [] all i j d before below = absurd (omega (arith, below))
+pairs_map R f [] all = pairs_none R
 pairs_map {X = X} R f (x ∷ xs) all =
     pairs_cons R (f x) (map f xs) (All-map (R (f x)) f xs (pairs_first (λ (a b : X). R (f a) (f b)) x xs all))
     (pairs_map R f xs (pairs_later (λ (a b : X). R (f a) (f b)) x xs all))
 
 -- ---- which ends are kept
+
+alike_one : {X Y Z : Type 0} (f : X → Z) (g : Y → Z) (x : X) (xs : List X) (y : Y) (ys : List Y) (b : Bool)
+    → g y ≡ f x → map g ys ≡ map f xs → map g (if b then y ∷ ys else ys) ≡ map f (if b then x ∷ xs else xs)
+alike_one f g x xs y ys true same later = cc
+alike_one f g x xs y ys false same later = later
 
 -- what is read of the kept elements of one list is what is read of those of the other
 kept_alike : {X Y Z : Type 0} (R : X → Y → Type 0) (test : X → Bool) (test' : Y → Bool) (f : X → Z) (g : Y → Z)
@@ -77,15 +87,10 @@ kept_alike : {X Y Z : Type 0} (R : X → Y → Type 0) (test : X → Bool) (test
 kept_alike R test test' f g alike [] [] zip = refl
 kept_alike R test test' f g alike [] (y ∷ ys) zip = absurd zip
 kept_alike R test test' f g alike (x ∷ xs) [] zip = absurd zip
-kept_alike {X = X} {Y = Y} {Z = Z} R test test' f g alike (x ∷ xs) (y ∷ ys) zip =
-    ap (λ (b : Bool). map g (if b then y ∷ filter test' ys else filter test' ys)) (alike x y zip.0).0 ∙ by_test (test x)
-  where
-    later : map g (filter test' ys) ≡ map f (filter test xs)
-    later = kept_alike R test test' f g alike xs ys zip.1
-    by_test : (b : Bool) → map g (if b then y ∷ filter test' ys else filter test' ys)
-        ≡ map f (if b then x ∷ filter test xs else filter test xs)
-    by_test true = let same = (alike x y zip.0).1 in cc (same, later)
-    by_test false = later
+kept_alike R test test' f g alike (x ∷ xs) (y ∷ ys) zip =
+    ap (λ (b : Bool). map g (if b then y ∷ filter test' ys else filter test' ys)) (alike x y zip.0).0
+    ∙ alike_one f g x (filter test xs) y (filter test' ys) (test x) (alike x y zip.0).1
+    (kept_alike R test test' f g alike xs ys zip.1)
 
 pub sources_kept : (n : CallerNo) (pipes : List Pipe) (parted : List PartedPipe) → AllZip IsPartedAs pipes parted
     → map (λ x. source_chan x.source) (filter (λ x. x.owners.reader.0 == n.0) parted)
