@@ -1,14 +1,10 @@
 -- Lists of racers that differ in the ends of pipes that they hold.
-use Rattle.std.proofs.Common.{◌≡◌, ℕ, ◌<◌, ◌==◌, Bool, true, false, if◌then◌else◌, List, [], ◌∷◌, ◌++◌, length, map}
-use Rattle.std.proofs.Common.{set}
-use Rattle.std.proofs.Common.{get_or, refl, sym, ap, ◌∙◌, subst, ⊎_elim, eqb-true, eq-eqb, option_to_list, Option}
-use Rattle.std.proofs.Common.{arith}
+use Rattle.std.proofs.Common.{◌≡◌, ℕ, ◌<◌, ◌==◌, Bool, true, false, if◌then◌else◌, List, [], ◌++◌, length, map, set}
+use Rattle.std.proofs.Common.{get_or, refl, sym, ap, ◌∙◌, subst, ⊎_elim, eqb-true, eq-eqb}
 use Rattle.std.proofs.lemmas.Bool.{cases_eq}
 use Rattle.std.proofs.lemmas.List.{append-nil, get_or-map, get_or-set_other, get_or-set_same, get_or_default}
-use Rattle.std.proofs.lemmas.List.{length-set}
-use Rattle.std.proofs.lemmas.List.{map-set}
-use Rattle.nio_base.specs.declared.numbers.CallerNo.{CallerNo}
-use Rattle.nio_race.specs.Ends.{AreSameButEnds, HoldSinks, HoldSources}
+use Rattle.std.proofs.lemmas.List.{length-set, map-set}
+use Rattle.nio_race.specs.Ends.{AreSameButEnds}
 use Rattle.nio_race.specs.declared.racer.Racer.{Racer}
 
 -- ---- racers that are the same but for their ends
@@ -63,16 +59,17 @@ at_changed {Y = Y} f P racers i r r' n within read changed same = by_test (i == 
   where
     Goal : Bool → Type 0
     Goal b = P b (get_or (map f racers) n []) (get_or (map f (set racers i r')) n [])
+
     by_test : (b : Bool) → (i == n) ≡ b → Goal b
     by_test true is =
         let at : i ≡ n = eqb-true i n is in
         let inside : i < length (set racers i r') = subst (λ (m : ℕ). i < m) (sym (length-set racers i r')) within in
         let old : f r ≡ get_or (map f racers) n [] =
-            ap f read ∙ (sym (get_or-map f racers i r [] within) ∙ ap (λ m. get_or (map f racers) m []) at) in
+        ap f read ∙ (sym (get_or-map f racers i r [] within) ∙ ap (λ m. get_or (map f racers) m []) at) in
         let new : f r' ≡ get_or (map f (set racers i r')) n [] =
-            ap f (sym (get_or-set_same racers i r' r' within))
-            ∙ (sym (get_or-map f (set racers i r') i r' [] inside)
-            ∙ ap (λ m. get_or (map f (set racers i r')) m []) at) in
+        ap f (sym (get_or-set_same racers i r' r' within))
+        ∙ (sym (get_or-map f (set racers i r') i r' [] inside)
+        ∙ ap (λ m. get_or (map f (set racers i r')) m []) at) in
         subst (λ (ys : List Y). P true ys (get_or (map f (set racers i r')) n [])) old
         (subst (λ (ys : List Y). P true (f r) ys) new changed)
     by_test false is =
@@ -106,6 +103,7 @@ pub at_same : {Y : Type 0} (f : Racer → List Y) (racers : List Racer) (i : ℕ
 at_same {Y = Y} f racers i r r' n within read is =
     at_changed f (λ (b : Bool) (old new : List Y). new ≡ old) racers i r r' n within read is (λ ys. refl)
 
-pub at_itself : {Y : Type 0} (f : Racer → List Y) (racers : List Racer) (i : ℕ) (r : Racer)
+-- what the racer at this place holds
+pub held_by : {Y : Type 0} (f : Racer → List Y) (racers : List Racer) (i : ℕ) (r : Racer)
     → i < length racers → r ≡ get_or racers i r → get_or (map f racers) i [] ≡ f r
-at_itself f racers i r within read = get_or-map f racers i r [] within ∙ ap f (sym read)
+held_by f racers i r within read = get_or-map f racers i r [] within ∙ ap f (sym read)

@@ -3,20 +3,18 @@ use Rattle.std.proofs.Common.{◌≡◌, ℕ, ◌<◌, ◌≤◌, ◌==◌, Bool
 use Rattle.std.proofs.Common.{map}
 use Rattle.std.specs.Prelude.{filter}
 use Rattle.std.specs.List.{slice_index_or}
-use Rattle.std.proofs.Common.{All, IsTrue, Some, refl, sym, ap, ◌∙◌, subst, ⊎_elim, append_assoc, eq-eqb, arith}
+use Rattle.std.proofs.Common.{All, IsTrue, Some, refl, sym, ap, ◌∙◌, subst, ⊎_elim, append_assoc, eq-eqb}
 use Rattle.std.proofs.lemmas.Bool.{cases_lt}
 use Rattle.std.proofs.lemmas.List.{append-nil, get_or_past, length-map, map-append, same_from_push}
 use Rattle.std.proofs.lemmas.List.Elements.{All-cons, All-nil, All-pop, filter-append}
 use mathlib.Core.List.{IsPrefix}
-use Rattle.nio_base.specs.declared.numbers.CallerNo.{CallerNo}
 use Rattle.nio_pipe.specs.Ends.{AreEnds, IsAtEnd, SinkLooks, SourceLooks, is_marked, pipe_of, received, sent}
 use Rattle.nio_pipe.specs.Pipe.{IsAtEnd as IsPipeAtEnd, IsLawful}
 use Rattle.nio_pipe.specs.declared.sink.PipeSink.{PipeSink}
 use Rattle.nio_pipe.specs.declared.source.PipeSource.{PipeSource}
 use Rattle.nio_race.proofs.HoldEach.{same_later, same_self}
 use Rattle.nio_race.specs.Ends.{ArePartedAmong, AreSameButEnds, HasMet, HaveMet, HoldEnds, HoldLast, HoldSinks}
-use Rattle.nio_race.specs.Ends.{HoldSources}
-use Rattle.nio_race.specs.Ends.{MeetsLast, PartedPipe, owners_of, sinks_at, sources_at}
+use Rattle.nio_race.specs.Ends.{HoldSources, MeetsLast, PartedPipe, owners_of, sinks_at, sources_at}
 use Rattle.nio_race.specs.declared.ends.Owners.{Owners}
 use Rattle.nio_race.specs.declared.racer.Racer.{Racer}
 
@@ -149,10 +147,10 @@ module _ (racers mid after : List Racer) (source : PipeSource) (sink : PipeSink)
       → IsLawful (pipe_of source' sink') → (IsAtEnd source → IsPipeAtEnd (pipe_of source' sink')) → HasMet last
   has_met source' sink' source_looks sink_looks lawful told =
       let got : received source' ≡ received last.source =
-          source_looks.received ∙ ap (λ (s : PipeSource). received s) (sym source_is) in
+      source_looks.received ∙ ap (λ (s : PipeSource). received s) (sym source_is) in
       let put : sent sink' ≡ sent last.sink = sink_looks.sent ∙ ap (λ (k : PipeSink). sent k) (sym sink_is) in
       let mark : is_marked sink' ≡ is_marked last.sink =
-          sink_looks.mark ∙ ap (λ (k : PipeSink). is_marked k) (sym sink_is) in
+      sink_looks.mark ∙ ap (λ (k : PipeSink). is_marked k) (sym sink_is) in
       record {
         in_order = subst (λ (xs : List ℕ). IsPrefix xs (sent last.sink)) got
             (subst (λ (xs : List ℕ). IsPrefix (received source') xs) put lawful.in_order);
@@ -177,10 +175,11 @@ pub meets_last : (racers mid after : List Racer) (owners : Owners) (source sourc
 meets_last racers mid after owners source source' sink sink' first second source_looks sink_looks lawful told earlier
     last is hold =
     let first' = subst (λ (o : Owners). HoldSources mid racers o.reader (source ∷ [])) is first in
-    let second' = subst (λ (o : Owners). HoldSinks after mid o.writer (sink ∷ [])) is second in
-    (hold_earlier racers mid after source sink earlier last hold first' second',
-    has_met racers mid after source sink earlier last hold first' second' source' sink' source_looks sink_looks lawful
-    told)
+    let second' = subst (λ (o : Owners). HoldSinks after mid o.writer (sink ∷ [])) is second in (
+      hold_earlier racers mid after source sink earlier last hold first' second',
+      has_met racers mid after source sink earlier last hold first' second' source' sink' source_looks sink_looks lawful
+          told,
+    )
 
 -- no pipe is the last where an end is missing
 pub none_to_meet : (racers after : List Racer) (owners : Owners)

@@ -1,14 +1,13 @@
 -- The channels of the ends that a racer holds are those of its caller's pipes.
-use Rattle.std.proofs.Common.{◌≡◌, ◌≢◌, ℕ, zero, suc, ◌<◌, ◌==◌, Bool, true, false, if◌then◌else◌, List, [], ◌∷◌}
-use Rattle.std.proofs.Common.{length}
-use Rattle.std.proofs.Common.{All, get_or, map, refl, sym, ap, ◌∙◌, subst, arith}
+use Rattle.std.proofs.Common.{◌≡◌, ℕ, zero, suc, ◌<◌, ◌==◌, Bool, true, false, if◌then◌else◌, List, [], ◌∷◌, All}
+use Rattle.std.proofs.Common.{get_or, map, refl, sym, ap, ◌∙◌, subst, arith}
 use Rattle.std.specs.Prelude.{AllPairs, filter}
 use Rattle.std.specs.List.{AllZip}
 use Rattle.std.proofs.lemmas.List.{get_or-map, length-map}
 use Rattle.std.proofs.lemmas.List.Elements.{All-filter, All-head, All-map, All-tail}
 use Rattle.nio_base.specs.declared.numbers.CallerNo.{CallerNo}
 use Rattle.nio_base.specs.declared.numbers.ChanNo.{ChanNo}
-use Rattle.nio_pipe.specs.Ends.{AreEnds, other_chan, sink_chan, source_chan}
+use Rattle.nio_pipe.specs.Ends.{AreEnds, sink_chan, source_chan}
 use Rattle.nio_plain.specs.ScriptState.{Pipe}
 use Rattle.nio_steps.specs.PipeCalls.{PipeEnds}
 use Rattle.nio_race.specs.Ends.{AreEach, IsPartedAs, PartedPipe, ends_of_sink}
@@ -20,12 +19,13 @@ pub each_to_zip : {A B : Type 0} (R : A → B → Type 0) (xs : List A) (ys : Li
 each_to_zip R [] [] each = tt
 each_to_zip R [] (y ∷ ys) each = absurd (omega (arith, each.count))
 each_to_zip R (x ∷ xs) [] each = absurd (omega (arith, each.count))
-each_to_zip R (x ∷ xs) (y ∷ ys) each =
-    (each.each 0 x y (omega arith) refl refl,
-    each_to_zip R xs ys (record {
-      count = omega (arith, each.count);
-      each = λ k a b below a_is b_is. each.each (suc k) a b (omega (arith, below)) a_is b_is;
-    }))
+each_to_zip R (x ∷ xs) (y ∷ ys) each = (
+  each.each 0 x y (omega arith) refl refl,
+  each_to_zip R xs ys (record {
+    count = omega (arith, each.count);
+    each = λ k a b below a_is b_is. each.each (suc k) a b (omega (arith, below)) a_is b_is;
+  }),
+)
 
 pub all_of_map : {X Y : Type 0} (P : Y → Type 0) (f : X → Y) (xs : List X) → All P (map f xs) → All (λ x. P (f x)) xs
 all_of_map P f xs all k d below =
@@ -110,9 +110,10 @@ pub zip_whole : (pipes : List Pipe) (parted : List PartedPipe) → AllZip IsPart
 zip_whole [] [] zip ends = tt
 zip_whole [] (x ∷ xs) zip ends = absurd zip
 zip_whole (p ∷ ps) [] zip ends = absurd zip
-zip_whole (p ∷ ps) (x ∷ xs) zip ends =
-    (record { parted = zip.0; ends = All-head (λ (y : PartedPipe). AreEnds y.source y.sink) x xs ends },
-    zip_whole ps xs zip.1 (All-tail (λ (y : PartedPipe). AreEnds y.source y.sink) x xs ends))
+zip_whole (p ∷ ps) (x ∷ xs) zip ends = (
+  record { parted = zip.0; ends = All-head (λ (y : PartedPipe). AreEnds y.source y.sink) x xs ends },
+  zip_whole ps xs zip.1 (All-tail (λ (y : PartedPipe). AreEnds y.source y.sink) x xs ends),
+)
 
 sink_alike : (p : Pipe) (x : PartedPipe) → IsPartedWhole p x → ends_of_sink x.sink ≡ ends_of_pipe p
 sink_alike p x is =

@@ -1,6 +1,6 @@
 -- What `go` leaves, once the racers hold their ends of pipes.
-use Rattle.std.proofs.Common.{◌≡◌, ◌≢◌, ℕ, ◌<◌, ◌==◌, List, [], ◌∷◌, length, All, get_or, map, refl, sym, ap, ◌∙◌}
-use Rattle.std.proofs.Common.{subst}
+use Rattle.std.proofs.Common.{◌≡◌, ◌≢◌, ℕ, ◌<◌, ◌==◌, List, [], ◌∷◌, length, All, get_or, map, refl}
+use Rattle.std.proofs.Common.{sym, ap, ◌∙◌, subst}
 use Rattle.std.specs.Prelude.{AllPairs, filter}
 use Rattle.std.specs.List.{AllZip}
 use Rattle.std.proofs.lemmas.List.{get_or_default}
@@ -8,12 +8,10 @@ use Rattle.std.proofs.lemmas.List.Elements.{All-filter, All-map, All-weaker}
 use Rattle.std.proofs.lemmas.Simd.{map-map}
 use Rattle.nio_base.specs.declared.numbers.CallerNo.{CallerNo}
 use Rattle.nio_base.specs.declared.numbers.ChanNo.{ChanNo}
-use Rattle.nio_event.specs.PassViews.{HasChannel, PassView}
+use Rattle.nio_event.specs.PassViews.{HasChannel}
 use Rattle.nio_event.specs.declared.event.Event.{Event}
 use Rattle.nio_pipe.specs.Calls.{HasEnds}
-use Rattle.nio_pipe.specs.Ends.{other_chan, sink_chan, source_chan}
-use Rattle.nio_pipe.specs.declared.sink.PipeSink.{PipeSink}
-use Rattle.nio_pipe.specs.declared.source.PipeSource.{PipeSource}
+use Rattle.nio_pipe.specs.Ends.{source_chan}
 use Rattle.nio_plain.specs.ScriptState.{Pipe}
 use Rattle.nio_serial.specs.Documented.{Progress}
 use Rattle.nio_sole.proofs.Desks.{made_for}
@@ -24,12 +22,11 @@ use Rattle.nio_steps.specs.PipeCalls.{PipeEnds}
 use Rattle.nio_words.specs.Passes.{IsPassOf, limits_of, seen}
 use Rattle.nio_words.specs.Views.{view}
 use Rattle.nio_words.specs.declared.words.Words.{Words}
-use Rattle.nio_race.proofs.HoldEach.{at_itself}
+use Rattle.nio_race.proofs.HoldEach.{held_by}
 use Rattle.nio_race.proofs.PartKept.{all_of_map, each_to_zip, pairs_filter, pairs_map, pairs_of_map, sinks_kept}
 use Rattle.nio_race.proofs.PartKept.{sources_kept, zip_whole}
 use Rattle.nio_race.specs.Ends.{ArePipes, AreSameButEnds, HasMadeEnds, HasNoEnds, HasRacers, HaveParted, HoldEnds}
-use Rattle.nio_race.specs.Ends.{IsPartedAs, PartedPipe}
-use Rattle.nio_race.specs.Ends.{ends_of, ends_of_sink}
+use Rattle.nio_race.specs.Ends.{IsPartedAs, PartedPipe, ends_of, ends_of_sink}
 use Rattle.nio_race.specs.Piping.{OwnedEnds, ends_of_pipe, own_ends}
 use Rattle.nio_race.specs.SetOff.{AreRacers, AreSetOff, AreSetOffWithout, IsSetOffAt, IsSetOffWithout}
 use Rattle.nio_race.specs.declared.ends.OwnEnds.{OwnEnds}
@@ -157,12 +154,12 @@ all_set_off_with w d racers racers' owners stands are set_off same parted = reco
       let pipes = (progress_of d).pipes in
       let hold = parted.among.hold in
       let zip : AllZip IsPartedAs pipes parted.among.parted =
-          each_to_zip IsPartedAs pipes parted.among.parted parted.each in
-      let sources = sym (at_itself (λ (x : Racer). x.ends.sources.items) racers' k r' there (sym is))
+      each_to_zip IsPartedAs pipes parted.among.parted parted.each in
+      let sources = sym (held_by (λ (x : Racer). x.ends.sources.items) racers' k r' there (sym is))
       ∙ hold.sources n in
-      let sinks = sym (at_itself (λ (x : Racer). x.ends.sinks.items) racers' k r' there (sym is)) ∙ hold.sinks n in
+      let sinks = sym (held_by (λ (x : Racer). x.ends.sinks.items) racers' k r' there (sym is)) ∙ hold.sinks n in
       let made : AreMade (view w r.desk.pass) d.pipes.items =
-          made_for w d.pass r.desk.pass d.pipes.items at.sight stands.places.pipes in
+      made_for w d.pass r.desk.pass d.pipes.items at.sight stands.places.pipes in
       subst (λ (x : Racer). IsSetOffAt w (seen d.pass) (progress_of d) k x)
       (sym (same.each k r r' first r_is is))
       (set_off_with w (seen d.pass) (progress_of d) k r r'.ends at
@@ -172,9 +169,9 @@ all_set_off_with w d racers racers' owners stands are set_off same parted = reco
 }
 
 -- their passes are as they were
-pub still_racers : (w : Words) (racers racers' : List Racer) → AreSameButEnds racers racers' → AreRacers w racers
+pub parted_racers : (w : Words) (racers racers' : List Racer) → AreSameButEnds racers racers' → AreRacers w racers
     → AreRacers w racers'
-still_racers w racers racers' same are k d below =
+parted_racers w racers racers' same are k d below =
     let first : k < length racers = subst (λ (m : ℕ). k < m) same.count below in
     let r : Racer = get_or racers k d in
     let r' : Racer = get_or racers' k d in

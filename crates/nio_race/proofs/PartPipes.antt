@@ -13,8 +13,7 @@ use Rattle.nio_sole.specs.declared.desk.OwnedPipe.{OwnedPipe}
 use Rattle.nio_race.proofs.HoldEach.{same_later, same_self}
 use Rattle.nio_race.proofs.JoinEnds.{kept_push}
 use Rattle.nio_race.specs.Ends.{AddsParted, AreEach, AreSameButEnds, HasNoEnds, HasRacers, HaveParted, HoldEnds}
-use Rattle.nio_race.specs.Ends.{IsPartedAs}
-use Rattle.nio_race.specs.Ends.{PartedPipe, sinks_at, sources_at}
+use Rattle.nio_race.specs.Ends.{IsPartedAs, PartedPipe}
 use Rattle.nio_race.specs.declared.ends.Owners.{Owners}
 use Rattle.nio_race.specs.declared.racer.Racer.{Racer}
 
@@ -37,10 +36,6 @@ each_push {A = A} R xs ys x y each is = record {
 }
 
 -- ---- a pipe more
-
-pub parted_pipe : (pipe : OwnedPipe) (before after : List Racer) (owners : Owners)
-    → AddsParted pipe before after owners → PartedPipe
-parted_pipe pipe before after owners adds = record { owners = owners; source = adds.source; sink = adds.sink }
 
 pub parted_as : (pipe : OwnedPipe) (before after : List Racer) (owners : Owners)
     (adds : AddsParted pipe before after owners)
@@ -139,11 +134,11 @@ pub next_has_racers : (first racers : List Racer) (owners : List Owners) (pipes 
 next_has_racers first racers owners pipes rest later pipe at is all =
     let parts : pipes ≡ at.done ++ pipe ∷ later = at.parts ∙ ap (λ (ps : List OwnedPipe). at.done ++ ps) is in
     let within : length at.done < length (at.done ++ pipe ∷ later) =
-        omega (arith, length-append at.done (pipe ∷ later)) in
+    omega (arith, length-append at.done (pipe ∷ later)) in
     let here : HasRacers first (get_or (at.done ++ pipe ∷ later) (length at.done) pipe) =
-        subst (λ (ps : List OwnedPipe). All (HasRacers first) ps) parts all (length at.done) pipe within in
+    subst (λ (ps : List OwnedPipe). All (HasRacers first) ps) parts all (length at.done) pipe within in
     let it : HasRacers first pipe =
-        subst (HasRacers first) (get_or_at at.done pipe later pipe (length at.done) refl) here in
+    subst (HasRacers first) (get_or_at at.done pipe later pipe (length at.done) refl) here in
     record {
       reader = subst (λ (m : ℕ). pipe.reader.0 < m) (sym at.same.count) it.reader;
       writer = subst (λ (m : ℕ). pipe.writer.0 < m) (sym at.same.count) it.writer;

@@ -1,7 +1,6 @@
-use Rattle.std.proofs.Common.{◌≡◌, ◌<◌, ℕ, [], sym, ◌∙◌, subst}
+use Rattle.std.proofs.Common.{◌<◌, ℕ, sym, ◌∙◌, subst}
 use Rattle.nio_race.proofs.HoldEach.{same_later}
-use Rattle.nio_race.proofs.JoinEnds.{ends_meet, meets_last, none_to_meet, reader_races, sink_there, source_there}
-use Rattle.nio_race.proofs.JoinEnds.{writer_races}
+use Rattle.nio_race.proofs.JoinEnds.{ends_meet, meets_last, none_to_meet, reader_races, sink_there, writer_races}
 use Rattle.nio_race.proofs.ends.join_last.Goals as goal
 
 pub take_source-requires : goal.take_source-requires
