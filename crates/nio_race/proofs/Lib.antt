@@ -1,6 +1,11 @@
 pub mod Adding
 pub mod Blocking
 pub mod Gathering
+pub mod HoldEach
+pub mod JoinEnds
+pub mod PartKept
+pub mod PartOff
+pub mod PartPipes
 pub mod Promise
 pub mod Racing
 pub mod Retried
