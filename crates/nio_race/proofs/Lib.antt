@@ -1,7 +1,10 @@
 pub mod Adding
 pub mod Blocking
 pub mod Gathering
+pub mod LineEnds
+pub mod LinePipes
 pub mod Promise
+pub mod RacerLines
 pub mod Racing
 pub mod Retried
 pub mod Running
