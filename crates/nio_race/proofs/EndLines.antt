@@ -193,9 +193,9 @@ source_read c n old new before after answer its same gives at_end =
       received =
           gives.received
           ∙ (ap (λ (bytes : List ℕ). received old ++ bytes) (sym (bytes_said answer after))
-          ∙ (ap (λ (bytes : List ℕ). received old ++ bytes)
-          (sym (append-nil (bytes_of r) ∙ sym (read_here c n r (source_chan old) (sym its))))
-          ∙ refl));
+          ∙ ap (λ (bytes : List ℕ). received old ++ bytes)
+          (sym (ap (λ (bytes : List ℕ). bytes ++ []) (read_here c n r (source_chan old) (sym its))
+          ∙ append-nil (bytes_of r))));
       tells_end = λ told. at_end (end_answered answer after (end_said (call.Pread c n) r (source_chan old) told));
       stays = λ was. record {
         marked = gives.end_stays was.marked;

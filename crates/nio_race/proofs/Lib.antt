@@ -1,5 +1,10 @@
 pub mod Adding
 pub mod Blocking
+pub mod EndCloses
+pub mod EndLines
+pub mod EndLists
+pub mod EndLooks
+pub mod EndSays
 pub mod Gathering
 pub mod LineEnds
 pub mod LinePipes
