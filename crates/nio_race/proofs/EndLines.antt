@@ -245,10 +245,10 @@ module _ (c : ChanNo) (bytes : List ℕ) (r : Reply) where
       source_stays Write r x refl (no_end Write r (source_chan x) (λ n same. absurd (cc same)))
 
   pub write_stays : (ends : OwnEnds) → number_of r ≡ 0 → says_closed r ≡ false → EndsGoOn (the_line Write r) ends ends
-  write_stays ends none open = record {
+  write_stays ends none unclosed = record {
     sources = each_itself (SourceGoesOn (the_line Write r)) ends.sources.items (sources_stay ends.sources.items);
     sinks = each_itself (SinkGoesOn (the_line Write r)) ends.sinks.items
-        (λ k x within at. sink_stays Write r x (write_nothing (sink_chan x) none) (mark_nothing (sink_chan x) open));
+        (λ k x within at. sink_stays Write r x (write_nothing (sink_chan x) none) (mark_nothing (sink_chan x) unclosed));
   }
 
   -- the sink at one place went on
@@ -341,10 +341,10 @@ module _ (c : ChanNo) (r : Reply) where
 
   -- it closed nothing
   pub close_stays : (ends : OwnEnds) → says_closed r ≡ false → EndsGoOn (the_line Closing r) ends ends
-  close_stays ends open = record {
+  close_stays ends unclosed = record {
     sources = each_itself (SourceGoesOn (the_line Closing r)) ends.sources.items (close_sources_stay ends.sources.items);
     sinks = each_itself (SinkGoesOn (the_line Closing r)) ends.sinks.items
-        (λ k x within at. sink_stays Closing r x refl (ends_nothing (sink_chan x) open));
+        (λ k x within at. sink_stays Closing r x refl (ends_nothing (sink_chan x) unclosed));
   }
 
   -- none of the sinks has the channel
