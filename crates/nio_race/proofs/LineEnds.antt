@@ -218,7 +218,7 @@ ends-none c (Block s) r is = refl
 
 -- where one line tells the end, it is a read of this channel
 pub told_alone : (c : ChanNo) (line : RaceCall) (r : Reply) (told : TellsEnd c ((line, r) ∷ []))
-    → (line, r) ≡ (Script (call.Pread c told.0), reply.End)
+    → ◌≡◌ {A = RaceCall × Reply} (line, r) (Script (call.Pread c told.0), reply.End)
 told_alone c line r told =
     ⊎_elim (λ inside. absurd (omega (arith, inside.1))) (λ same. same)
     (Contains-push_cases [] (line, r) (Script (call.Pread c told.0), reply.End) told.1)
@@ -229,8 +229,8 @@ neither_stays line r ends is =
     ends_stay ((line, r) ∷ []) ends (λ c. ap (λ xs. xs ++ []) (reads-none c line r is))
     (λ c. ap (λ xs. xs ++ []) (writes-none c line r is)) (λ c. ap (λ b. b || false) (ends-none c line r is))
     (λ c told.
-    let use : use_in line ≡ reads c told.0 = ap (λ (x : RaceCall × Reply). use_in x.0) (told_alone c line r told) in
-    let clash : neither ≡ reads c told.0 = sym is ∙ use in absurd cc)
+    let does : use_in line ≡ reads c told.0 = ap (λ (x : RaceCall × Reply). use_in x.0) (told_alone c line r told) in
+    let clash : neither ≡ reads c told.0 = sym is ∙ does in absurd cc)
 
 -- ---- lines and one more
 
