@@ -134,10 +134,14 @@ module _ (c : ChanNo) (n : ℕ) (r : Reply) where
 
 -- ---- what its reply tells
 
+-- Where a call that waits found nothing its channel is in non-blocking mode.
+abbrev pub unwaited : {A : Type 0} → Result A PipeError → Result (A × Bool) PipeError
+unwaited (Ok found) = Ok (found, false)
+unwaited (Err refusal) = Err refusal
+
 -- what a read that waited says, with this in its slice
 abbrev pub read_said : Result PipeRead PipeError → List ℕ → Reply
-read_said (Ok read) bytes = read_reply (Ok (read, false)) bytes
-read_said (Err refusal) bytes = read_reply (Err refusal) bytes
+read_said answer bytes = read_reply (unwaited answer) bytes
 
 no_bytes : (refusal : PipeError) → bytes_of (pipe_refusal refusal) ≡ []
 no_bytes PipeError.ClosedChannel = refl
@@ -170,7 +174,7 @@ end_answered : (answer : Result PipeRead PipeError) (bytes : List ℕ) → read_
 end_answered (Ok (PipeRead.Bytes k)) bytes same = by_test (k == 0) same
   where
     by_test : (b : Bool) → (if b then reply.Number 0 else reply.Bytes (take k bytes)) ≡ reply.End
-        → Ok (PipeRead.Bytes k) ≡ Ok PipeRead.End
+        → ◌≡◌ {A = Result PipeRead PipeError} (Ok (PipeRead.Bytes k)) (Ok PipeRead.End)
     by_test true is = absurd (cc is)
     by_test false is = absurd (cc is)
 end_answered (Ok PipeRead.End) bytes same = refl
@@ -276,8 +280,7 @@ module _ (c : ChanNo) (bytes : List ℕ) (r : Reply) where
 
 -- what a write that waited says
 abbrev pub write_said : Result PipeWrite PipeError → Reply
-write_said (Ok written) = write_reply (Ok (written, false))
-write_said (Err refusal) = write_reply (Err refusal)
+write_said answer = write_reply (unwaited answer)
 
 number_said : (answer : Result PipeWrite PipeError) → number_of (write_said answer) ≡ bytes_written answer
 number_said (Ok (PipeWrite.Bytes k)) = refl
