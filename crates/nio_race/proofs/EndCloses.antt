@@ -36,8 +36,8 @@ use Rattle.nio_words.specs.Views.{view}
 use Rattle.nio_words.specs.declared.words.Pass.{Pass}
 use Rattle.nio_words.specs.declared.words.Words.{Words}
 use Rattle.nio_race.proofs.EndLines.{close_elsewhere, close_goes_on, close_stays, sink_closed}
-use Rattle.nio_race.proofs.EndLooks.{IsSinkPlace, LooksUp, made_sinks, sink_inside, sink_its, stands_called, stands_looked}
-use Rattle.nio_race.proofs.EndLooks.{with_pass}
+use Rattle.nio_race.proofs.EndLooks.{IsSinkPlace, LooksUp, made_sinks, sink_inside, sink_its, stands_called}
+use Rattle.nio_race.proofs.EndLooks.{stands_looked, with_pass}
 use Rattle.nio_race.proofs.LineEnds.{ends_still_made, stands_with}
 use Rattle.nio_race.proofs.LinePipes.{script_line_pipeless}
 use Rattle.nio_race.specs.Racers.{CalledOn, MakesAsScript, MakesOnce, StandsFor, StandsWith}
@@ -113,7 +113,8 @@ module _ (w : Words) (d : Desk) (ends : OwnEnds) (me : CallerNo) (c : ChanNo) (s
   module _ (q q' : Pass) (found : ChanNo) (place : ℕ) (old new : PipeSink) (sinks : Vec PipeSink Global) (closes : Bool)
       (looks : LooksUp w me c d.pass q (Some found)) (ready : IsReady w q me) (at : IsSinkPlace ends c (Some place))
       (here : old ≡ get_or ends.sinks.items place old)
-      (call : CallClause me (Completes (close_channel_plan (limits_of w) (sink_chan old))) (view w q) (view w q') closes)
+      (call : CallClause me (Completes (close_channel_plan (limits_of w) (sink_chan old))) (view w q) (view w q')
+      closes)
       (same : IsSameSink old new) (items : sinks.items ≡ set ends.sinks.items place new) where
     inside : place < length ends.sinks.items
     inside = sink_inside ends c place at old
@@ -124,8 +125,8 @@ module _ (w : Words) (d : Desk) (ends : OwnEnds) (me : CallerNo) (c : ChanNo) (s
     its_call : CallClause me (Completes (close_channel_plan (limits_of w) c)) (view w q) (view w q') closes
     its_call =
         subst
-        (λ (x : ChanNo). CallClause me (Completes (close_channel_plan (limits_of w) x)) (view w q) (view w q') closes) its
-        call
+        (λ (x : ChanNo). CallClause me (Completes (close_channel_plan (limits_of w) x)) (view w q) (view w q') closes)
+        its call
 
     pub closes_own : sent new ≡ sent old → is_marked new ≡ true
         → CalledOn w d (with_pass d q') ends (record ends { sinks = sinks }) me Closing (closed_reply closes)
@@ -141,8 +142,8 @@ module _ (w : Words) (d : Desk) (ends : OwnEnds) (me : CallerNo) (c : ChanNo) (s
         let d1 = with_pass d q in
         let looked : StandsWith w d1 ends me = stands_looked w d q ends me c (Some found) stands ready looks in
         record {
-          stands = stands_called w d1 q' me (close_channel c closes) looked.stands ready' its_call its_call.shape (λ o. tt)
-              (λ o. refl);
+          stands = stands_called w d1 q' me (close_channel c closes) looked.stands ready' its_call its_call.shape
+              (λ o. tt) (λ o. refl);
           made_ends = made_sinks w (with_pass d q') ends place old new sinks inside here same items
               (ends_still_made w d1 (with_pass d q') ends its_call looked.made_ends);
           pipeless = stands.pipeless;

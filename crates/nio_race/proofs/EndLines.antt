@@ -1,7 +1,7 @@
 -- What a line on the bytes of a pipe does to the ends that its caller owns.
-use Rattle.std.proofs.Common.{◌≡◌, ◌≢◌, ℕ, suc, ◌<◌, ◌≤◌, ◌==◌, Bool, true, false, ◌||◌, ◌&&◌, if◌then◌else◌, IsTrue}
-use Rattle.std.proofs.Common.{Result, Ok, Err, IfOk, List, [], ◌∷◌, ◌++◌, length, get_or, min, set, take, map, position}
-use Rattle.std.proofs.Common.{Some, None, arith, refl, sym, ap, ◌∙◌, subst, eqb-true, eq-eqb}
+use Rattle.std.proofs.Common.{◌≡◌, ◌≢◌, ℕ, ◌<◌, ◌==◌, Bool, true, false, ◌||◌, ◌&&◌, if◌then◌else◌}
+use Rattle.std.proofs.Common.{Result, Ok, Err, List, [], ◌∷◌, ◌++◌, length, get_or, set, take, position}
+use Rattle.std.proofs.Common.{None, refl, sym, ap, ◌∙◌, subst, eqb-true, eq-eqb}
 use Rattle.std.proofs.lemmas.Bool.{cond-false, cond-true, ne_eqb}
 use Rattle.std.proofs.lemmas.List.{append-nil}
 use Rattle.std.specs.List.{AllPairs}
@@ -126,8 +126,8 @@ module _ (c : ChanNo) (n : ℕ) (r : Reply) where
           → get_or ends.sources.items k x ≡ x → SourceGoesOn (the_line Read r) x x
       others k x other within at =
           let apart : (source_chan x).0 ≡ c.0 → ⊥ =
-          λ same. other_number (λ (s : PipeSource). (source_chan s).0) ends.sources.items place k old x differ inside here
-          other within at (same ∙ ap (λ (y : ChanNo). y.0) (sym its)) in
+          λ same. other_number (λ (s : PipeSource). (source_chan s).0) ends.sources.items place k old x differ inside
+          here other within at (same ∙ ap (λ (y : ChanNo). y.0) (sym its)) in
           source_stays Read r x (read_elsewhere (source_chan x) apart)
           (no_end Read r (source_chan x) (λ m same. let chan : c ≡ source_chan x = cc same in
           apart (ap (λ (y : ChanNo). y.0) (sym chan))))
@@ -252,7 +252,8 @@ module _ (c : ChanNo) (bytes : List ℕ) (r : Reply) where
   write_stays ends none unclosed = record {
     sources = each_itself (SourceGoesOn (the_line Write r)) ends.sources.items (sources_stay ends.sources.items);
     sinks = each_itself (SinkGoesOn (the_line Write r)) ends.sinks.items
-        (λ k x within at. sink_stays Write r x (write_nothing (sink_chan x) none) (mark_nothing (sink_chan x) unclosed));
+        (λ k x within at.
+        sink_stays Write r x (write_nothing (sink_chan x) none) (mark_nothing (sink_chan x) unclosed));
   }
 
   -- the sink at one place went on
@@ -345,7 +346,8 @@ module _ (c : ChanNo) (r : Reply) where
   -- it closed nothing
   pub close_stays : (ends : OwnEnds) → says_closed r ≡ false → EndsGoOn (the_line Closing r) ends ends
   close_stays ends unclosed = record {
-    sources = each_itself (SourceGoesOn (the_line Closing r)) ends.sources.items (close_sources_stay ends.sources.items);
+    sources = each_itself (SourceGoesOn (the_line Closing r)) ends.sources.items
+        (close_sources_stay ends.sources.items);
     sinks = each_itself (SinkGoesOn (the_line Closing r)) ends.sinks.items
         (λ k x within at. sink_stays Closing r x refl (ends_nothing (sink_chan x) unclosed));
   }
@@ -354,7 +356,8 @@ module _ (c : ChanNo) (r : Reply) where
   pub close_elsewhere : (ends : OwnEnds) → None ≡ position (λ x. (sink_chan x).0 == c.0) ends.sinks.items
       → EndsGoOn (the_line Closing r) ends ends
   close_elsewhere ends none = record {
-    sources = each_itself (SourceGoesOn (the_line Closing r)) ends.sources.items (close_sources_stay ends.sources.items);
+    sources = each_itself (SourceGoesOn (the_line Closing r)) ends.sources.items
+        (close_sources_stay ends.sources.items);
     sinks = each_itself (SinkGoesOn (the_line Closing r)) ends.sinks.items
         (λ k x within at. sink_stays Closing r x refl (ends_elsewhere (sink_chan x) (apart k x within at)));
   }
@@ -376,7 +379,8 @@ module _ (c : ChanNo) (r : Reply) where
       → sinks.items ≡ set ends.sinks.items place new → SinkGoesOn (the_line Closing r) old new
       → EndsGoOn (the_line Closing r) ends (record ends { sinks = sinks })
   close_goes_on ends place old new sinks inside here its differ items goes = record {
-    sources = each_itself (SourceGoesOn (the_line Closing r)) ends.sources.items (close_sources_stay ends.sources.items);
+    sources = each_itself (SourceGoesOn (the_line Closing r)) ends.sources.items
+        (close_sources_stay ends.sources.items);
     sinks =
         subst (λ xs. AreEach (SinkGoesOn (the_line Closing r)) ends.sinks.items xs) (sym items)
         (each_set (SinkGoesOn (the_line Closing r)) ends.sinks.items place old new inside here goes others);

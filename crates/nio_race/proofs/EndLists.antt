@@ -1,8 +1,9 @@
 -- Lists of ends, of which one goes on and the others stay.
-use Rattle.std.proofs.Common.{◌≡◌, ◌≢◌, ℕ, ◌<◌, ◌≤◌, nat_lt, Bool, true, false, Some, None, List, length, map, set, refl}
-use Rattle.std.proofs.Common.{sym, ap, ◌∙◌, subst, ⊎_elim, arith, if◌then◌else◌, get_or, position}
+use Rattle.std.proofs.Common.{◌≡◌, ◌≢◌, ℕ, ◌<◌, ◌≤◌, nat_lt, Bool, true, false, Some, None, List, length, map, set}
+use Rattle.std.proofs.Common.{refl, sym, ap, ◌∙◌, subst, ⊎_elim, arith, if◌then◌else◌, get_or, position}
 use Rattle.std.proofs.lemmas.Bool.{cases_eq, cases_lt, ltb-false}
-use Rattle.std.proofs.lemmas.List.{get_or_default, get_or-map, get_or-set_other, get_or-set_same, length-set, length-map}
+use Rattle.std.proofs.lemmas.List.{get_or_default, get_or-map, get_or-set_other, get_or-set_same, length-map}
+use Rattle.std.proofs.lemmas.List.{length-set}
 use Rattle.std.proofs.lemmas.List.Folds.{find_at}
 use Rattle.std.proofs.lemmas.List.Quantifiers.{position-Some}
 use Rattle.std.proofs.lemmas.List.Sums.{fails_before_first}
@@ -30,7 +31,8 @@ each_set {A} R xs place old new inside here goes others = record {
       ⊎_elim
       (λ (same : k ≡ place).
       let at_place : get_or xs place x ≡ x = subst (λ (i : ℕ). get_or xs i x ≡ x) same at in
-      let new_at : get_or (set xs place new) place y ≡ y = subst (λ (i : ℕ). get_or (set xs place new) i y ≡ y) same at' in
+      let new_at : get_or (set xs place new) place y ≡ y =
+      subst (λ (i : ℕ). get_or (set xs place new) i y ≡ y) same at' in
       let old_is : old ≡ x = here ∙ (get_or_default xs place old x inside ∙ at_place) in
       let new_is : new ≡ y = sym (get_or-set_same xs place new y inside) ∙ new_at in
       subst (λ (a : A). R a y) old_is (subst (λ (b : A). R old b) new_is goes))

@@ -1,7 +1,7 @@
 -- A line on the bytes of a pipe: its look-up, its call, and what stands after it.
 use Rattle.std.proofs.Common.{◌≡◌, ◌≢◌, ℕ, ◌<◌, ◌≤◌, ◌==◌, Bool, true, false, ◌||◌, Option, Some, None, Result, Ok, Err}
-use Rattle.std.proofs.Common.{IfOk, List, [], ◌∷◌, ◌++◌, length, get_or, min, set, position, All, refl, sym, ap, ◌∙◌, subst}
-use Rattle.std.proofs.Common.{eqb-true}
+use Rattle.std.proofs.Common.{IfOk, List, [], ◌∷◌, ◌++◌, length, get_or, min, set, position, All, refl, sym, ap, ◌∙◌}
+use Rattle.std.proofs.Common.{eqb-true, subst}
 use Rattle.std.proofs.Math.Logic.{∥∥₁_map}
 use Rattle.std.proofs.lemmas.Bool.{lt-ltb}
 use Rattle.std.proofs.lemmas.List.{append-nil}
@@ -264,8 +264,8 @@ module _ (w : Words) (d : Desk) (ends : OwnEnds) (me : CallerNo) (c : ChanNo) (n
               (record { reply = r; left = progress_of d })
               (λ xs waits. subst (λ (o : Option ChanNo). ReadsOwn (limits_of w) (progress_of d) c n o xs
               (record { reply = r; left = progress_of d })) (sym own)
-              (reads_to (limits_of w) c n (length before) xs marked after room size answer gives.fit answers waits, refl))
-              reads_its);
+              (reads_to (limits_of w) c n (length before) xs marked after room size answer gives.fit answers waits,
+              refl)) reads_its);
           went_on =
               read_goes_on c n r ends place old new sources inside here its stands.made_ends.sources_differ items
               (source_read c n old new before after answer its same gives at_end);

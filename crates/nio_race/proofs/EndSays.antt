@@ -1,7 +1,7 @@
 -- What a read or a write that waits says, by what it answers.
-use Rattle.std.proofs.Common.{◌≡◌, ℕ, zero, suc, ◌<◌, ◌≤◌, ◌==◌, nat_lt, Bool, true, false, ◌&&◌, if◌then◌else◌, IsFalse}
-use Rattle.std.proofs.Common.{Result, Ok, Err, IfOk, List, [], ◌∷◌, length, min, take, arith, refl, sym, ap, ◌∙◌, subst}
-use Rattle.std.proofs.Common.{eqb-true, eq-eqb}
+use Rattle.std.proofs.Common.{◌≡◌, ℕ, zero, suc, ◌<◌, ◌≤◌, ◌==◌, Bool, true, false, if◌then◌else◌}
+use Rattle.std.proofs.Common.{IsFalse, Result, Ok, Err, IfOk, List, [], ◌∷◌, length, min, take, arith, refl, sym, ◌∙◌}
+use Rattle.std.proofs.Common.{eqb-true, eq-eqb, subst}
 use Rattle.std.proofs.lemmas.Bool.{cond-false, cond-true, ne_eqb}
 use Rattle.std.proofs.lemmas.List.{length-take-le}
 use Rattle.nio_base.specs.declared.limits.Limits.{Limits}
@@ -17,8 +17,8 @@ use Rattle.nio_steps.specs.PipeCalls.{PipeEnds, Reads, Waits, Writes, as_waited,
 use Rattle.nio_steps.specs.Plan.{Plan}
 use Rattle.nio_steps.specs.declared.refusal.PipeError.{PipeError}
 use Rattle.nio_race.proofs.EndLines.{read_said, write_said}
-use Rattle.nio_race.specs.Piping.{ReadSays, ReadsTo, WriteSays, WritesTo, asks_for_nothing, finds_no_place, finds_nothing}
-use Rattle.nio_race.specs.Piping.{gives, offers_nothing, takes, tells_end}
+use Rattle.nio_race.specs.Piping.{ReadSays, ReadsTo, WriteSays, WritesTo, asks_for_nothing, finds_no_place}
+use Rattle.nio_race.specs.Piping.{finds_nothing, gives, offers_nothing, takes, tells_end}
 
 -- ---- the mode of a call that found nothing
 
@@ -66,7 +66,8 @@ read_zero room marked is = by_test (room == 0) refl
     by_test : (b : Bool) → (room == 0) ≡ b → room ≡ 0
     by_test true none = eqb-true room 0 none
     by_test false some =
-        by_mark marked (is ∙ cond-false (room == 0) (PipeRead.Bytes 0) (if marked then PipeRead.End else PipeRead.NotYet) some)
+        by_mark marked
+        (is ∙ cond-false (room == 0) (PipeRead.Bytes 0) (if marked then PipeRead.End else PipeRead.NotYet) some)
 
 -- what tells the end, or that there is nothing yet, had places
 read_some : (room : ℕ) (marked : Bool) (answer : PipeRead) → (answer ≡ PipeRead.Bytes 0 → ⊥)
@@ -76,7 +77,8 @@ read_some room marked answer other is = by_test (room == 0) refl
     by_test : (b : Bool) → (room == 0) ≡ b → 0 < room
     by_test true none = absurd (other (is ∙ no_room room 0 marked (eqb-true room 0 none)))
     by_test false some =
-        let apart : room ≡ 0 → ⊥ = λ same. let clash : true ≡ false = sym (eq-eqb room 0 same) ∙ some in absurd (cc clash) in
+        let apart : room ≡ 0 → ⊥ =
+        λ same. let clash : true ≡ false = sym (eq-eqb room 0 same) ∙ some in absurd (cc clash) in
         omega (arith, apart)
 
 module _ (l : Limits) (c : ChanNo) (n room : ℕ) (acts : List Act) (marked : Bool) (after : List ℕ)
@@ -142,7 +144,8 @@ write_some size is = by_test (size == 0) refl
         ∙ cond-true (size == 0) (PipeWrite.Bytes 0) PipeWrite.NotYet none in
         absurd (cc clash)
     by_test false some =
-        let apart : size ≡ 0 → ⊥ = λ same. let clash : true ≡ false = sym (eq-eqb size 0 same) ∙ some in absurd (cc clash) in
+        let apart : size ≡ 0 → ⊥ =
+        λ same. let clash : true ≡ false = sym (eq-eqb size 0 same) ∙ some in absurd (cc clash) in
         omega (arith, apart)
 
 no_items : {A : Type 0} (xs : List A) → length xs ≡ 0 → xs ≡ []
