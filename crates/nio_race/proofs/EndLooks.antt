@@ -1,7 +1,8 @@
 -- A line on the bytes of a pipe: its look-up, its call, and what stands after it.
 use Rattle.std.proofs.Common.{◌≡◌, ◌≢◌, ℕ, ◌<◌, ◌≤◌, ◌==◌, Bool, true, false, ◌||◌, Option, Some, None, Result, Ok, Err}
 use Rattle.std.proofs.Common.{IfOk, List, [], ◌∷◌, ◌++◌, length, get_or, min, set, position, All, refl, sym, ap, ◌∙◌}
-use Rattle.std.proofs.Common.{eqb-true, subst}
+use Rattle.std.proofs.Common.{eqb-true, not, subst}
+use Rattle.std.specs.Option.{is_some}
 use Rattle.std.proofs.Math.Logic.{∥∥₁_map}
 use Rattle.std.proofs.lemmas.Bool.{lt-ltb}
 use Rattle.std.proofs.lemmas.List.{append-nil}
@@ -98,6 +99,35 @@ sink_its ends c place old at here =
     ap sink_chan here
     ∙ channel_is (sink_chan (get_or ends.sinks.items place old)) c
     (position-Some (λ (s : PipeSink). (sink_chan s).0 == c.0) ends.sinks.items place old (sym at)).1
+
+-- a place that was found among the same ends
+pub source_found : (ends : OwnEnds) (c : ChanNo) (place : Option ℕ) (xs : List PipeSource)
+    → place ≡ position (λ s. (source_chan s).0 == c.0) xs → xs ≡ ends.sources.items → IsSourcePlace ends c place
+source_found ends c place xs is same = is ∙ ap (position (λ (s : PipeSource). (source_chan s).0 == c.0)) same
+
+pub sink_found : (ends : OwnEnds) (c : ChanNo) (place : Option ℕ) (xs : List PipeSink)
+    → place ≡ position (λ s. (sink_chan s).0 == c.0) xs → xs ≡ ends.sinks.items → IsSinkPlace ends c place
+sink_found ends c place xs is same = is ∙ ap (position (λ (s : PipeSink). (sink_chan s).0 == c.0)) same
+
+-- ---- whether the look-up found the channel
+
+pub looks_nowhere : (w : Words) (me : CallerNo) (c : ChanNo) (p q : Pass) (found : Option ChanNo) (b : Bool)
+    → is_some found ≡ not b → b ≡ true → LooksUp w me c p q found → LooksUp w me c p q None
+looks_nowhere w me c p q None b some none looks = looks
+looks_nowhere w me c p q (Some x) b some none looks =
+    let clash : true ≡ false = some ∙ ap not none in absurd (cc clash)
+
+pub found_of : (found : Option ChanNo) (b : Bool) → is_some found ≡ not b → b ≡ false → ChanNo
+found_of (Some x) b some none = x
+found_of None b some none = let clash : false ≡ true = some ∙ ap not none in absurd (cc clash)
+
+pub looks_found : (w : Words) (me : CallerNo) (c : ChanNo) (p q : Pass) (found : Option ChanNo) (b : Bool)
+    (some : is_some found ≡ not b) (there : b ≡ false) → LooksUp w me c p q found
+    → LooksUp w me c p q (Some (found_of found b some there))
+unfolding found_of
+looks_found w me c p q (Some x) b some there looks = looks
+looks_found w me c p q None b some there looks =
+    let clash : false ≡ true = some ∙ ap not there in absurd (cc clash)
 
 -- ---- what stands after a call that begins and ends nothing
 
@@ -247,13 +277,13 @@ module _ (w : Words) (d : Desk) (ends : OwnEnds) (me : CallerNo) (c : ChanNo) (n
     reads_its =
         subst (λ (x : ChanNo). CallClause me (WaitsToRead (limits_of w) x) (view w q) (view w q') answer) its reads
 
-    pub reads_own : length before ≡ min 65536 n → length after ≡ length before
+    says_read : length before ≡ min 65536 n → length after ≡ length before
         → GivesBytes old new before after (bytes_read answer)
         → IfOk answer (λ a. a ≡ read_answer (length before) (bytes_read answer) marked)
         → (answer ≡ Ok PipeRead.End → IsAtEnd new)
         → CalledOn w d (with_pass d q') ends (record ends { sources = sources }) me (call.Pread c n)
         (read_said answer after)
-    reads_own room size gives answers at_end =
+    says_read room size gives answers at_end =
         let r = read_said answer after in
         let own : own_source (ends_of ends) c ≡ Some (source_chan old) =
         find_some (λ (x : ChanNo). x.0 == c.0) source_chan ends.sources.items place old (sym at) here in
@@ -270,6 +300,16 @@ module _ (w : Words) (d : Desk) (ends : OwnEnds) (me : CallerNo) (c : ChanNo) (n
               read_goes_on c n r ends place old new sources inside here its stands.made_ends.sources_differ items
               (source_read c n old new before after answer its same gives at_end);
         }
+
+    pub reads_own : (r : Reply) → r ≡ read_said answer after → length before ≡ min 65536 n
+        → length after ≡ length before → GivesBytes old new before after (bytes_read answer)
+        → IfOk answer (λ a. a ≡ read_answer (length before) (bytes_read answer) marked)
+        → (answer ≡ Ok PipeRead.End → IsAtEnd new)
+        → CalledOn w d (with_pass d q') ends (record ends { sources = sources }) me (call.Pread c n) r
+    reads_own r said room size gives answers at_end =
+        subst
+        (λ (x : Reply). CalledOn w d (with_pass d q') ends (record ends { sources = sources }) me (call.Pread c n) x)
+        (sym said) (says_read room size gives answers at_end)
 
     pub stands_read : IsReady w q' me → StandsWith w (with_pass d q') (record ends { sources = sources }) me
     stands_read ready' =
@@ -354,12 +394,12 @@ module _ (w : Words) (d : Desk) (ends : OwnEnds) (me : CallerNo) (c : ChanNo) (b
     sink_in : place < length ends.sinks.items
     sink_in = sink_inside ends c place at old
 
-    pub writes_own : TakesBytes old new bytes (bytes_written answer)
+    says_written : TakesBytes old new bytes (bytes_written answer)
         → is_marked new ≡ (is_marked old || leaves_mark answer)
         → IfOk answer (λ a. a ≡ write_answer (length bytes) (bytes_written answer))
         → CalledOn w d (with_pass d q') ends (record ends { sinks = sinks }) me (call.Pwrite c bytes)
         (write_said answer)
-    writes_own takes marks answers =
+    says_written takes marks answers =
         let r = write_said answer in
         let own : own_sink (ends_of ends) c ≡ Some (ends_of_sink old) =
         find_some (λ (x : PipeEnds). x.sink.0 == c.0) ends_of_sink ends.sinks.items place old (sym at) here in
@@ -376,6 +416,15 @@ module _ (w : Words) (d : Desk) (ends : OwnEnds) (me : CallerNo) (c : ChanNo) (b
               write_goes_on c bytes r ends place old new sinks sink_in here its stands.made_ends.sinks_differ items
               (sink_written c bytes old new answer its same takes marks);
         }
+
+    pub writes_own : (r : Reply) → r ≡ write_said answer → TakesBytes old new bytes (bytes_written answer)
+        → is_marked new ≡ (is_marked old || leaves_mark answer)
+        → IfOk answer (λ a. a ≡ write_answer (length bytes) (bytes_written answer))
+        → CalledOn w d (with_pass d q') ends (record ends { sinks = sinks }) me (call.Pwrite c bytes) r
+    writes_own r said takes marks answers =
+        subst
+        (λ (x : Reply). CalledOn w d (with_pass d q') ends (record ends { sinks = sinks }) me (call.Pwrite c bytes) x)
+        (sym said) (says_written takes marks answers)
 
     pub stands_written : IsReady w q' me → StandsWith w (with_pass d q') (record ends { sinks = sinks }) me
     stands_written ready' =
