@@ -128,14 +128,16 @@ module _ (w : Words) (d : Desk) (ends : OwnEnds) (me : CallerNo) (c : ChanNo) (s
         (λ (x : ChanNo). CallClause me (Completes (close_channel_plan (limits_of w) x)) (view w q) (view w q') closes)
         its call
 
-    pub closes_own : sent new ≡ sent old → is_marked new ≡ true
-        → CalledOn w d (with_pass d q') ends (record ends { sinks = sinks }) me Closing (closed_reply closes)
-    closes_own keeps marks = record {
-      made = once q' (closed_reply closes) (closed q q' found closes looks its_call);
-      went_on =
-          close_goes_on c (closed_reply closes) ends place old new sinks inside here its stands.made_ends.sinks_differ
-          items (sink_closed c old new closes its same keeps marks);
-    }
+    pub closes_own : (r : Reply) → r ≡ closed_reply closes → sent new ≡ sent old → is_marked new ≡ true
+        → CalledOn w d (with_pass d q') ends (record ends { sinks = sinks }) me Closing r
+    closes_own r said keeps marks =
+        subst (λ (x : Reply). CalledOn w d (with_pass d q') ends (record ends { sinks = sinks }) me Closing x) (sym said)
+        (record {
+          made = once q' (closed_reply closes) (closed q q' found closes looks its_call);
+          went_on =
+              close_goes_on c (closed_reply closes) ends place old new sinks inside here its
+              stands.made_ends.sinks_differ items (sink_closed c old new closes its same keeps marks);
+        })
 
     pub stands_shut : IsReady w q' me → StandsWith w (with_pass d q') (record ends { sinks = sinks }) me
     stands_shut ready' =

@@ -417,14 +417,17 @@ module _ (w : Words) (d : Desk) (ends : OwnEnds) (me : CallerNo) (c : ChanNo) (b
               (sink_written c bytes old new answer its same takes marks);
         }
 
-    pub writes_own : (r : Reply) → r ≡ write_said answer → TakesBytes old new bytes (bytes_written answer)
-        → is_marked new ≡ (is_marked old || leaves_mark answer)
-        → IfOk answer (λ a. a ≡ write_answer (length bytes) (bytes_written answer))
+    pub writes_own : (r : Reply) (from : List ℕ) → r ≡ write_said answer → from ≡ bytes
+        → TakesBytes old new from (bytes_written answer) → is_marked new ≡ (is_marked old || leaves_mark answer)
+        → IfOk answer (λ a. a ≡ write_answer (length from) (bytes_written answer))
         → CalledOn w d (with_pass d q') ends (record ends { sinks = sinks }) me (call.Pwrite c bytes) r
-    writes_own r said takes marks answers =
+    writes_own r from said same_bytes takes marks answers =
         subst
         (λ (x : Reply). CalledOn w d (with_pass d q') ends (record ends { sinks = sinks }) me (call.Pwrite c bytes) x)
-        (sym said) (says_written takes marks answers)
+        (sym said)
+        (says_written (subst (λ (xs : List ℕ). TakesBytes old new xs (bytes_written answer)) same_bytes takes) marks
+        (subst (λ (xs : List ℕ). IfOk answer (λ a. a ≡ write_answer (length xs) (bytes_written answer))) same_bytes
+        answers))
 
     pub stands_written : IsReady w q' me → StandsWith w (with_pass d q') (record ends { sinks = sinks }) me
     stands_written ready' =
