@@ -37,11 +37,11 @@ module _ (l : Limits) (now : Progress) (none : now.pipes ≡ []) where
   abbrev Pipeless : List Act → Said → Type 0
   Pipeless acts said = said.left.pipes ≡ []
 
-  makes-pipeless : {R : Type 0} (plan : Plan R) (said : R → Reply) (left : R → Progress)
-      → ((answer : R) → (left answer).pipes ≡ []) → Always Pipeless (makes plan said left)
-  makes-pipeless plan said left each =
+  makes-pipeless : {R : Type 0} (plan : Plan R) (said : R → Reply) (after : R → Progress)
+      → ((answer : R) → (after answer).pipes ≡ []) → Always Pipeless (makes plan said after)
+  makes-pipeless plan said after each =
       always_bind (λ _ _. Unit {0}) Pipeless plan
-      (λ answer. Plan.reply (record { reply = said answer; left = left answer })) (always_any plan)
+      (λ answer. Plan.reply (record { reply = said answer; left = after answer })) (always_any plan)
       (λ xs answer _. each answer)
 
   asks-pipeless : {R : Type 0} (plan : Plan R) (said : R → Reply) → Always Pipeless (asks now plan said)
