@@ -1,8 +1,8 @@
 -- What lines do to the ends of pipes that their caller owns: nothing, or the one after the other.
-use Rattle.std.proofs.Common.{◌≡◌, ℕ, suc, ◌<◌, ◌++◌, Bool, true, false, ◌||◌, IsTrue, List, [], ◌∷◌, length, map}
+use Rattle.std.proofs.Common.{◌≡◌, ℕ, suc, ◌<◌, ◌++◌, Bool, true, false, ◌||◌, List, [], ◌∷◌, length, map}
 use Rattle.std.proofs.Common.{inl, inr, ⊎_elim, arith, refl, sym, ap, ◌∙◌, subst, append_assoc}
-use Rattle.std.specs.Prelude.{◌⊎◌, flat_map, zip}
-use Rattle.std.specs.List.{Contains, slice_index_or}
+use Rattle.std.specs.Prelude.{◌⊎◌, zip}
+use Rattle.std.specs.List.{slice_index_or}
 use Rattle.std.proofs.lemmas.Grind.{flat_map-append}
 use Rattle.std.proofs.lemmas.List.{append-nil, get_or_default}
 use Rattle.std.proofs.lemmas.List.Elements.{All-weaker, Contains-append_cases, Contains-push_cases}
@@ -12,12 +12,11 @@ use Rattle.nio_base.specs.declared.numbers.ChanNo.{ChanNo}
 use Rattle.nio_event.proofs.PassViews.{channel_after}
 use Rattle.nio_event.specs.PassViews.{HasChannel}
 use Rattle.nio_event.specs.declared.act.Act.{Act}
-use Rattle.nio_event.specs.declared.call.Call.{Call}
 use Rattle.nio_event.specs.declared.call.Call.TheVariants as call
 use Rattle.nio_event.specs.declared.reply.Reply.{Reply}
 use Rattle.nio_event.specs.declared.reply.Reply.TheVariants as reply
 use Rattle.nio_pipe.specs.Calls.{HasEnds}
-use Rattle.nio_pipe.specs.Ends.{IsAtEnd, IsSameSink, IsSameSource, is_marked, other_chan, received, sent, sink_chan}
+use Rattle.nio_pipe.specs.Ends.{IsSameSink, IsSameSource, is_marked, other_chan, received, sent, sink_chan}
 use Rattle.nio_pipe.specs.Ends.{source_chan}
 use Rattle.nio_pipe.specs.declared.sink.PipeSink.{PipeSink}
 use Rattle.nio_pipe.specs.declared.source.PipeSource.{PipeSource}
@@ -26,7 +25,6 @@ use Rattle.nio_race_text.specs.declared.call.RaceCall.TheVariants.{Script, Block
 use Rattle.nio_serial.specs.Documented.{Progress}
 use Rattle.nio_sole.specs.Stands.{pipe_of, progress_of}
 use Rattle.nio_sole.specs.declared.desk.Desk.{Desk}
-use Rattle.nio_sole.specs.declared.desk.OwnedPipe.{OwnedPipe}
 use Rattle.nio_steps.specs.Calls.{CallClause}
 use Rattle.nio_steps.specs.PipeCalls.{PipeEnds}
 use Rattle.nio_words.specs.Views.{view}

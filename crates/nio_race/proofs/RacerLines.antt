@@ -1,6 +1,6 @@
 -- A line that leaves the ends of its caller's pipes as they are: a `block`, and a call of scripts that neither reads,
 -- writes nor closes.
-use Rattle.std.proofs.Common.{◌≡◌, List, [], ◌∷◌, Result, Ok, Err, IfOk, refl, sym, subst}
+use Rattle.std.proofs.Common.{◌≡◌, Result, Ok, Err, IfOk, refl, sym, subst}
 use Rattle.std.specs.declared.alloc.AllocError.{AllocError}
 use Rattle.nio_base.specs.declared.numbers.CallerNo.{CallerNo}
 use Rattle.nio_base.specs.declared.numbers.SelNo.{SelNo}
@@ -10,7 +10,6 @@ use Rattle.nio_event.specs.declared.reply.Reply.{Reply}
 use Rattle.nio_race_text.specs.RaceLines.{MayRace}
 use Rattle.nio_race_text.specs.declared.call.RaceCall.{RaceCall}
 use Rattle.nio_race_text.specs.declared.call.RaceCall.TheVariants.{Script, Block}
-use Rattle.nio_serial.specs.Lines.{Said}
 use Rattle.nio_sole.specs.Stands.{progress_of}
 use Rattle.nio_sole.specs.declared.desk.Desk.{Desk}
 use Rattle.nio_steps.specs.Calls.{CallClause}
