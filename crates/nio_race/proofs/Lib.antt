@@ -1,5 +1,10 @@
 pub mod Adding
 pub mod Blocking
+pub mod EndCloses
+pub mod EndLines
+pub mod EndLists
+pub mod EndLooks
+pub mod EndSays
 pub mod Gathering
 pub mod LineEnds
 pub mod LinePipes
@@ -10,6 +15,11 @@ pub mod Retried
 pub mod Running
 pub mod SettingOff
 pub mod SettingUp
+pub mod SetupCalls
+pub mod SetupKeeps
+pub mod SetupKept
+pub mod SetupLines
+pub mod SetupSilent
 pub mod Standing
 pub mod Unpinned
 pub mod Waiting
