@@ -150,12 +150,12 @@ pub same_names : (lines : List (RaceCall × Reply)) (old new : OwnEnds) → Ends
     → ends_of new ≡ ends_of old
 same_names lines old new on =
     let sources : map source_chan new.sources.items ≡ map source_chan old.sources.items =
-        each_map (SourceGoesOn lines) source_chan old.sources.items new.sources.items (λ x y goes. goes.same.channel)
-        on.sources in
+    each_map (SourceGoesOn lines) source_chan old.sources.items new.sources.items (λ x y goes. goes.same.channel)
+    on.sources in
     let sinks : map ends_of_sink new.sinks.items ≡ map ends_of_sink old.sinks.items =
-        each_map (SinkGoesOn lines) ends_of_sink old.sinks.items new.sinks.items
-        (λ x y goes. ap (λ (c : ChanNo). this_sink c (sink_chan y)) goes.same.other
-        ∙ ap (λ (c : ChanNo). this_sink (other_chan x) c) goes.same.channel) on.sinks in
+    each_map (SinkGoesOn lines) ends_of_sink old.sinks.items new.sinks.items
+    (λ x y goes. ap (λ (c : ChanNo). this_sink c (sink_chan y)) goes.same.other
+    ∙ ap (λ (c : ChanNo). this_sink (other_chan x) c) goes.same.channel) on.sinks in
     ap (λ (xs : List ChanNo). these xs (map ends_of_sink new.sinks.items)) sources
     ∙ ap (λ (xs : List PipeEnds). these (map source_chan old.sources.items) xs) sinks
 
