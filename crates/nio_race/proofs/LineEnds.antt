@@ -1,8 +1,8 @@
 -- What lines do to the ends of pipes that their caller owns: nothing, or the one after the other.
-use Rattle.std.proofs.Common.{◌≡◌, ℕ, suc, ◌<◌, ◌++◌, Bool, true, false, ◌||◌, IsTrue, List, [], ◌∷◌, length, map}
+use Rattle.std.proofs.Common.{◌≡◌, ℕ, suc, ◌<◌, ◌++◌, Bool, true, false, ◌||◌, List, [], ◌∷◌, length, map}
 use Rattle.std.proofs.Common.{inl, inr, ⊎_elim, arith, refl, sym, ap, ◌∙◌, subst, append_assoc}
-use Rattle.std.specs.Prelude.{◌⊎◌, flat_map, zip}
-use Rattle.std.specs.List.{Contains, slice_index_or}
+use Rattle.std.specs.Prelude.{◌⊎◌, zip}
+use Rattle.std.specs.List.{slice_index_or}
 use Rattle.std.proofs.lemmas.Grind.{flat_map-append}
 use Rattle.std.proofs.lemmas.List.{append-nil, get_or_default}
 use Rattle.std.proofs.lemmas.List.Elements.{All-weaker, Contains-append_cases, Contains-push_cases}
@@ -12,12 +12,11 @@ use Rattle.nio_base.specs.declared.numbers.ChanNo.{ChanNo}
 use Rattle.nio_event.proofs.PassViews.{channel_after}
 use Rattle.nio_event.specs.PassViews.{HasChannel}
 use Rattle.nio_event.specs.declared.act.Act.{Act}
-use Rattle.nio_event.specs.declared.call.Call.{Call}
 use Rattle.nio_event.specs.declared.call.Call.TheVariants as call
 use Rattle.nio_event.specs.declared.reply.Reply.{Reply}
 use Rattle.nio_event.specs.declared.reply.Reply.TheVariants as reply
 use Rattle.nio_pipe.specs.Calls.{HasEnds}
-use Rattle.nio_pipe.specs.Ends.{IsAtEnd, IsSameSink, IsSameSource, is_marked, other_chan, received, sent, sink_chan}
+use Rattle.nio_pipe.specs.Ends.{IsSameSink, IsSameSource, is_marked, other_chan, received, sent, sink_chan}
 use Rattle.nio_pipe.specs.Ends.{source_chan}
 use Rattle.nio_pipe.specs.declared.sink.PipeSink.{PipeSink}
 use Rattle.nio_pipe.specs.declared.source.PipeSource.{PipeSource}
@@ -26,7 +25,6 @@ use Rattle.nio_race_text.specs.declared.call.RaceCall.TheVariants.{Script, Block
 use Rattle.nio_serial.specs.Documented.{Progress}
 use Rattle.nio_sole.specs.Stands.{pipe_of, progress_of}
 use Rattle.nio_sole.specs.declared.desk.Desk.{Desk}
-use Rattle.nio_sole.specs.declared.desk.OwnedPipe.{OwnedPipe}
 use Rattle.nio_steps.specs.Calls.{CallClause}
 use Rattle.nio_steps.specs.PipeCalls.{PipeEnds}
 use Rattle.nio_words.specs.Views.{view}
@@ -152,12 +150,12 @@ pub same_names : (lines : List (RaceCall × Reply)) (old new : OwnEnds) → Ends
     → ends_of new ≡ ends_of old
 same_names lines old new on =
     let sources : map source_chan new.sources.items ≡ map source_chan old.sources.items =
-        each_map (SourceGoesOn lines) source_chan old.sources.items new.sources.items (λ x y goes. goes.same.channel)
-        on.sources in
+    each_map (SourceGoesOn lines) source_chan old.sources.items new.sources.items (λ x y goes. goes.same.channel)
+    on.sources in
     let sinks : map ends_of_sink new.sinks.items ≡ map ends_of_sink old.sinks.items =
-        each_map (SinkGoesOn lines) ends_of_sink old.sinks.items new.sinks.items
-        (λ x y goes. ap (λ (c : ChanNo). this_sink c (sink_chan y)) goes.same.other
-        ∙ ap (λ (c : ChanNo). this_sink (other_chan x) c) goes.same.channel) on.sinks in
+    each_map (SinkGoesOn lines) ends_of_sink old.sinks.items new.sinks.items
+    (λ x y goes. ap (λ (c : ChanNo). this_sink c (sink_chan y)) goes.same.other
+    ∙ ap (λ (c : ChanNo). this_sink (other_chan x) c) goes.same.channel) on.sinks in
     ap (λ (xs : List ChanNo). these xs (map ends_of_sink new.sinks.items)) sources
     ∙ ap (λ (xs : List PipeEnds). these (map source_chan old.sources.items) xs) sinks
 

@@ -1,6 +1,6 @@
 -- A line that leaves the ends of its caller's pipes as they are: a `block`, and a call of scripts that neither reads,
 -- writes nor closes.
-use Rattle.std.proofs.Common.{◌≡◌, List, [], ◌∷◌, Result, Ok, Err, IfOk, refl, sym, subst}
+use Rattle.std.proofs.Common.{◌≡◌, Result, Ok, Err, IfOk, refl, sym, subst}
 use Rattle.std.specs.declared.alloc.AllocError.{AllocError}
 use Rattle.nio_base.specs.declared.numbers.CallerNo.{CallerNo}
 use Rattle.nio_base.specs.declared.numbers.SelNo.{SelNo}
@@ -8,8 +8,8 @@ use Rattle.nio_event.specs.PassViews.{done_between}
 use Rattle.nio_event.specs.declared.call.Call.{Call}
 use Rattle.nio_event.specs.declared.reply.Reply.{Reply}
 use Rattle.nio_race_text.specs.RaceLines.{MayRace}
+use Rattle.nio_race_text.specs.declared.call.RaceCall.{RaceCall}
 use Rattle.nio_race_text.specs.declared.call.RaceCall.TheVariants.{Script, Block}
-use Rattle.nio_serial.specs.Lines.{Said}
 use Rattle.nio_sole.specs.Stands.{progress_of}
 use Rattle.nio_sole.specs.declared.desk.Desk.{Desk}
 use Rattle.nio_steps.specs.Calls.{CallClause}
@@ -27,10 +27,12 @@ use Rattle.nio_race.specs.declared.ends.OwnEnds.{OwnEnds}
 module _ (w : Words) (d d' : Desk) (ends : OwnEnds) (me : CallerNo) where
   -- ---- `block`
 
-  pub line_of_block : (s : SelNo) (result : Result Reply AllocError) → IfOk result (LooksAndBlocksOn w d d' me s)
-      → IfOk result (LineOn w d d' ends ends me (Block s))
-  line_of_block s (Ok r) made = record { made = made; went_on = neither_stays (Block s) r ends refl }
-  line_of_block s (Err e) made = tt
+  pub line_of_block : (line : RaceCall) (s : SelNo) (result : Result Reply AllocError) → line ≡ Block s
+      → IfOk result (LooksAndBlocksOn w d d' me s) → IfOk result (LineOn w d d' ends ends me line)
+  line_of_block line s (Ok r) is made =
+      subst (λ (x : RaceCall). LineOn w d d' ends ends me x r) (sym is)
+      (record { made = made; went_on = neither_stays (Block s) r ends refl })
+  line_of_block line s (Err e) is made = tt
 
   pub stands_blocked : (s : SelNo) (result : Result Reply AllocError) → StandsWith w d ends me
       → IfOk result (LooksAndBlocksOn w d d' me s) → IfOk result (λ _. StandsFor w d' me)

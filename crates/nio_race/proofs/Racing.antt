@@ -129,22 +129,22 @@ goes_on w race line me first d d' ends mid ends' replies replies' own at more st
     let calls : calls_by me (race ++ line ∷ []) ≡ calls_by me race ++ line.call ∷ [] = calls-own me race line own in
     -- the lines
     let shape : MakesRaceLine l (ends_of ends) (progress_of d) me line.call acts said =
-        subst (λ (x : OwnedEnds). MakesRaceLine l x (progress_of d) me line.call acts said)
-        (same_names (zip (calls_by me race) replies) ends mid at.made.went_on) more.made.made.shape in
+    subst (λ (x : OwnedEnds). MakesRaceLine l x (progress_of d) me line.call acts said)
+    (same_names (zip (calls_by me race) replies) ends mid at.made.went_on) more.made.made.shape in
     let lines : AreRaceLines l (ends_of ends) me (progress_of first) (calls_by me race ++ line.call ∷ [])
-        (at.made.acts ++ acts) (replies ++ more.reply ∷ []) (progress_of d') =
-        lines_more l (ends_of ends) me (progress_of first) (progress_of d) (calls_by me race) at.made.acts replies
-        line.call acts said at.made.lines shape in
+    (at.made.acts ++ acts) (replies ++ more.reply ∷ []) (progress_of d') =
+    lines_more l (ends_of ends) me (progress_of first) (progress_of d) (calls_by me race) at.made.acts replies
+    line.call acts said at.made.lines shape in
     -- the ends
     let long : length replies ≡ length (calls_by me race) =
-        as_many_replies l (ends_of ends) me (progress_of first) (progress_of d) (calls_by me race) at.made.acts replies
-        at.made.lines in
+    as_many_replies l (ends_of ends) me (progress_of first) (progress_of d) (calls_by me race) at.made.acts replies
+    at.made.lines in
     let pairs : zip (calls_by me race ++ line.call ∷ []) (replies ++ more.reply ∷ [])
-        ≡ zip (calls_by me race) replies ++ (line.call, more.reply) ∷ [] =
-        zip_more (calls_by me race) replies line.call more.reply long in
+    ≡ zip (calls_by me race) replies ++ (line.call, more.reply) ∷ [] =
+    zip_more (calls_by me race) replies line.call more.reply long in
     let went_on : EndsGoOn (zip (calls_by me race) replies ++ (line.call, more.reply) ∷ []) ends ends' =
-        ends_more (zip (calls_by me race) replies) ((line.call, more.reply) ∷ []) ends mid ends' at.made.went_on
-        more.made.went_on in
+    ends_more (zip (calls_by me race) replies) ((line.call, more.reply) ∷ []) ends mid ends' at.made.went_on
+    more.made.went_on in
     record {
       made = record {
         acts = at.made.acts ++ acts;
