@@ -1,5 +1,6 @@
 -- The ends of pipes that callers own behind `go`: from the parting of the pipes to the bringing together of their ends.
-use Rattle.std.specs.Prelude.{◌≡◌, ◌≢◌, ℕ, ◌<◌, ◌==◌, ◌++◌, ◌||◌, IsTrue, if◌then◌else◌, List, [], ◌∷◌, length, map, filter, All, AllPairs}
+use Rattle.std.specs.Prelude.{◌≡◌, ◌≢◌, ℕ, ◌<◌, ◌==◌, ◌++◌, ◌||◌, IsTrue, if◌then◌else◌, List, [], ◌∷◌, length, map}
+use Rattle.std.specs.Prelude.{filter, All, AllPairs}
 use Rattle.std.specs.List.{slice_index_or}
 use mathlib.Core.List.{IsPrefix}
 use Rattle.nio_base.specs.declared.limits.Limits.{Limits}
@@ -181,4 +182,5 @@ MeetsLast before after owners =
 
 -- so it is with each pipe whose ends these racers hold
 abbrev pub HaveMet : List Racer → List Owners → Type 0
-HaveMet racers owners = (parted : List PartedPipe) → owners ≡ owners_of parted → HoldEnds racers parted → All HasMet parted
+HaveMet racers owners =
+    (parted : List PartedPipe) → owners ≡ owners_of parted → HoldEnds racers parted → All HasMet parted

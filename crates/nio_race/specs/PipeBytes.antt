@@ -1,5 +1,6 @@
 -- The bytes of a pipe in a race, by the lines that are written: what was read from it, and what was written into it.
-use Rattle.std.specs.Prelude.{◌≡◌, ℕ, ◌==◌, Bool, true, false, ◌&&◌, ◌||◌, IsTrue, if◌then◌else◌, List, [], ◌∷◌, map, filter, take, zip, flat_map, Contains}
+use Rattle.std.specs.Prelude.{◌≡◌, ℕ, ◌==◌, Bool, true, false, ◌&&◌, ◌||◌, IsTrue, if◌then◌else◌, List, [], ◌∷◌, map}
+use Rattle.std.specs.Prelude.{filter, take, zip, flat_map, Contains}
 use mathlib.Core.List.{IsPrefix}
 use Rattle.nio_base.specs.declared.limits.Limits.{Limits}
 use Rattle.nio_base.specs.declared.numbers.CallerNo.{CallerNo}
@@ -201,7 +202,8 @@ TellsEnd c lines = (n : ℕ) × Contains lines (Script (call.Pread c n), reply.E
 -- written.
 abbrev pub setup_lines : CallerNo → Limits → List ScriptCall → List (RaceCall × Reply)
 setup_lines n l setup =
-    map (λ x. (Script x.0.call, x.1)) (filter (λ x. x.0.caller.0 == n.0) (zip setup (replies_from l script_opening setup)))
+    map (λ x. (Script x.0.call, x.1))
+    (filter (λ x. x.0.caller.0 == n.0) (zip setup (replies_from l script_opening setup)))
 
 -- Of a pipe, by the lines of its reader and by those of its writer, the setup's first: what was read begins what was
 -- written. Where a read told the end it is all of that, and the sink had left its end mark.

@@ -1,5 +1,6 @@
 -- A race: a setup of lines one after the other, and then callers that run beside each other.
-use Rattle.std.specs.Prelude.{◌≡◌, ℕ, zero, suc, ◌+◌, ◌<◌, ◌≤◌, ◌==◌, ◌++◌, IsTrue, if◌then◌else◌, Option, Some, None, List, [], ◌∷◌, map, filter, zip, All}
+use Rattle.std.specs.Prelude.{◌≡◌, ℕ, zero, suc, ◌+◌, ◌<◌, ◌≤◌, ◌==◌, ◌++◌, IsTrue, if◌then◌else◌, Option, Some, None}
+use Rattle.std.specs.Prelude.{List, [], ◌∷◌, map, filter, zip, All}
 use mathlib.Core.List.{IsPrefix}
 use Rattle.nio_base.specs.declared.limits.Limits.{Limits}
 use Rattle.nio_base.specs.declared.numbers.CallerNo.{CallerNo}
@@ -55,7 +56,8 @@ own_progress n now = record nothing_yet {
 
 -- The caller went on after `go`: it made its lines, with these replies, and nothing else, beginning with what it had in
 -- progress there, and with the ends of pipes that it owned there.
-pub record HasRun (l : Limits) (n : CallerNo) (go : List Event) (now : Progress) (calls : List RaceCall) (history : List Event) (replies : List Reply) : Type 0 where
+pub record HasRun (l : Limits) (n : CallerNo) (go : List Event) (now : Progress) (calls : List RaceCall)
+    (history : List Event) (replies : List Reply) : Type 0 where
   pub acts : List Act
   pub grew : mine n history ≡ mine n go ++ acts
   pub last : Progress

@@ -98,7 +98,8 @@ pub record MadeLines (w : Words) (race : List RaceLine) (me : CallerNo) (d d' : 
     (replies : List Reply) : Type 0 where
   pub acts : List Act
   pub grew : acts_seen d'.pass me ≡ acts_seen d.pass me ++ acts
-  pub lines : AreRaceLines (limits_of w) (ends_of ends) me (progress_of d) (calls_by me race) acts replies (progress_of d')
+  pub lines : AreRaceLines (limits_of w) (ends_of ends) me (progress_of d) (calls_by me race) acts replies
+      (progress_of d')
   pub went_on : EndsGoOn (zip (calls_by me race) replies) ends ends'
 
 abbrev pub RanLines : Words → List RaceLine → Racer → Racer → Type 0

@@ -23,7 +23,8 @@ use Rattle.nio_steps.specs.Runs.{Completes}
 use Rattle.nio_steps.specs.SelectCalls.{Poll, SelectReply, selected, not_begun, left, Selects}
 use Rattle.nio_steps.specs.Waiting.{Retries, Then}
 use Rattle.nio_steps.specs.declared.refusal.BeginError.TheVariants.{ClosedSelector, Busy, Memory}
-use Rattle.nio_race.specs.Piping.{LooksAndReads, LooksAndWrites, OwnedEnds, PipeUse, closes, neither, reads, use_of, writes}
+use Rattle.nio_race.specs.Piping.{LooksAndReads, LooksAndWrites, OwnedEnds, PipeUse, closes, neither, reads, use_of}
+use Rattle.nio_race.specs.Piping.{writes}
 
 -- ---- a call that scripts have too
 
@@ -220,8 +221,8 @@ pub record LineAnd (Line : List Act → Said → Type 0) (Others : Progress → 
   pub parts : acts ≡ first ++ later
   pub reply_parts : replies ≡ said.reply ∷ later_replies
 
--- The caller, which owns these ends of pipes, made these lines, one after the other: what it did, the reply of each, and
--- what is in progress at last.
+-- The caller, which owns these ends of pipes, made these lines, one after the other: what it did, the reply of each,
+-- and what is in progress at last.
 abbrev pub AreRaceLines : Limits → OwnedEnds → CallerNo → Progress → List RaceCall → List Act → List Reply → Progress
     → Type 0
 AreRaceLines l ends me now [] acts replies last = (acts ≡ []) × (replies ≡ []) × (last ≡ now)

@@ -50,8 +50,8 @@ pub record MovedBelow {A : Type 0} (own other : Option A → Option A) (count : 
 
 -- ---- racers
 
--- The caller's number and what it has in progress went from the desk to the racer; the others' stays. It has no end of a
--- pipe yet, and the desk's pipes are as they were.
+-- The caller's number and what it has in progress went from the desk to the racer; the others' stays. It has no end of
+-- a pipe yet, and the desk's pipes are as they were.
 pub record TakesOver (w : Words) (d d' : Desk) (number : CallerNo) (r : Racer) : Type 0 where
   pub number_is : r.number ≡ number
   pub pass : HandsOver w number d.pass d'.pass r.desk.pass

@@ -19,8 +19,8 @@ pub record HasSetUp (w : Words) (d : Desk) (setup : List ScriptCall) : Type 0 wh
   pub stands : Stands w d
   pub set_up : IsSetUp (limits_of w) setup (seen d.pass) (progress_of d)
 
--- At `go` the pipe has what the setup's lines of its owners say: what they wrote and didn't read waits in it, and it has
--- an end mark where one of them left it. Where a read told the end, the mark was left and nothing waits.
+-- At `go` the pipe has what the setup's lines of its owners say: what they wrote and didn't read waits in it, and it
+-- has an end mark where one of them left it. Where a read told the end, the mark was left and nothing waits.
 pub record KeepsPipeOfSetup (l : Limits) (setup : List ScriptCall) (p : Pipe) : Type 0 where
   pub bytes : all_read p.source (setup_lines p.reader l setup) ++ p.waiting
       ≡ all_written p.sink (setup_lines p.writer l setup)

@@ -41,8 +41,7 @@ use std::thread::Threads;
 /// caller below the table's limit makes its lines after `go` in a thread of its own, with a pass of its own. It passes
 /// the gate before each, with its number and the line's number among its lines, from 1. It goes on with the selections
 /// and closings that it began before `go`, and with the ends of pipes that it owns; what it leaves in progress is
-/// forgotten. Another caller's lines have the
-/// reply `no-caller`.
+/// forgotten. Another caller's lines have the reply `no-caller`.
 ///
 /// No byte is written before every thread has returned and all passes are joined. Where memory lacks nothing is written.
 /// A race whose caller waits for something that no line does never returns.
