@@ -1,6 +1,10 @@
 pub mod Adding
 pub mod Blocking
+pub mod BytesKept
 pub mod Gathering
+pub mod PairsKnown
+pub mod PairsLists
+pub mod PairsRaced
 pub mod Promise
 pub mod Racing
 pub mod Retried
