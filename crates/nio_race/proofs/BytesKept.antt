@@ -67,13 +67,15 @@ keeps_bytes source sink reads reads' writes writes' waiting marked bytes mark to
 }
   where
     cases : TellsEnd source (reads ++ reads') → TellsEnd source reads ⊎ TellsEnd source reads'
-    cases tells = ⊎_elim (λ (there : Contains reads (Script (call.Pread source tells.0), reply.End)). inl (tells.0, there))
+    cases tells = ⊎_elim
+        (λ (there : Contains reads (Script (call.Pread source tells.0), reply.End)). inl (tells.0, there))
         (λ (later : Contains reads' (Script (call.Pread source tells.0), reply.End)). inr (tells.0, later))
         (Contains-append_cases reads reads' (Script (call.Pread source tells.0), reply.End) tells.1)
     joined : (later : List ℕ) → all_read source reads' ++ later ≡ waiting ++ all_written sink writes'
         → all_read source (reads ++ reads') ++ later ≡ all_written sink (writes ++ writes')
     joined later is =
-        ap (λ (xs : List ℕ). xs ++ later) (flat_map-append (λ (x : RaceCall × Reply). read_in source x.0 x.1) reads reads')
+        ap (λ (xs : List ℕ). xs ++ later)
+        (flat_map-append (λ (x : RaceCall × Reply). read_in source x.0 x.1) reads reads')
         ∙ (append_assoc (all_read source reads) (all_read source reads') later
         ∙ (ap (λ (xs : List ℕ). all_read source reads ++ xs) is
         ∙ (sym (append_assoc (all_read source reads) waiting (all_written sink writes'))

@@ -1,8 +1,7 @@
 -- Lists whose elements are related place by place, and the lists of owners.
-use Rattle.std.proofs.Common.{◌≡◌, ℕ, zero, suc, ◌<◌, ◌==◌, Bool, true, false, if◌then◌else◌, List, [], ◌∷◌, length, map}
-use Rattle.std.proofs.Common.{All, refl, sym, ap, ◌∙◌, subst, eqb-true, eq-eqb, arith}
+use Rattle.std.proofs.Common.{◌≡◌, ℕ, zero, suc, ◌<◌, ◌==◌, Bool, true, false, if◌then◌else◌, List, [], ◌∷◌, length}
+use Rattle.std.proofs.Common.{map, All, refl, sym, ap, ◌∙◌, subst, eqb-true, eq-eqb, arith}
 use Rattle.std.specs.List.{slice_index_or}
-use Rattle.std.specs.Prelude.{filter}
 use Rattle.nio_race.specs.Ends.{AreEach}
 
 -- ---- places of a list
@@ -25,8 +24,8 @@ pub all-at : {A : Type 0} (P : A → Type 0) (xs : List A) (k : ℕ) (x : A) →
     → All P xs → P x
 all-at P xs k x below is all = subst P is (all k x below)
 
-pub map-at : {A B : Type 0} (f : A → B) (xs : List A) (k : ℕ) (x : A) (d : B) → k < length xs → slice_index_or xs k x ≡ x
-    → slice_index_or (map f xs) k d ≡ f x
+pub map-at : {A B : Type 0} (f : A → B) (xs : List A) (k : ℕ) (x : A) (d : B) → k < length xs
+    → slice_index_or xs k x ≡ x → slice_index_or (map f xs) k d ≡ f x
 map-at f [] k x d below is = absurd (omega (arith, below))
 map-at f (y ∷ ys) zero x d below is = ap f is
 map-at f (y ∷ ys) (suc k) x d below is = map-at f ys k x d (omega (arith, below)) is

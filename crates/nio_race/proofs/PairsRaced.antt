@@ -1,6 +1,6 @@
 -- The pipes of a race after its threads: the ends of each went on by the lines of its owners, and they are still parted
 -- among the racers.
-use Rattle.std.proofs.Common.{◌≡◌, ℕ, ◌==◌, Bool, List, [], ◌∷◌, length, map, All, refl, ap, ◌∙◌, subst, arith}
+use Rattle.std.proofs.Common.{◌≡◌, ℕ, ◌==◌, List, [], ◌∷◌, map, All, refl, ap, ◌∙◌, subst, arith}
 use Rattle.std.specs.Prelude.{filter}
 use Rattle.nio_base.specs.declared.numbers.CallerNo.{CallerNo}
 use Rattle.nio_event.specs.declared.reply.Reply.{Reply}
@@ -48,7 +48,8 @@ SourceStep lines x parted sources =
     IsStep (λ k. SourceGoesOn (lines (at k))) x.owners.reader.0 x.source (λ k. sources_of (at k) parted)
     (λ k. sources (at k))
 
-abbrev SinkStep : (CallerNo → List (RaceCall × Reply)) → PartedPipe → List PartedPipe → (CallerNo → List PipeSink) → Type 0
+abbrev SinkStep : (CallerNo → List (RaceCall × Reply)) → PartedPipe → List PartedPipe → (CallerNo → List PipeSink)
+    → Type 0
 SinkStep lines x parted sinks =
     IsStep (λ k. SinkGoesOn (lines (at k))) x.owners.writer.0 x.sink (λ k. sinks_of (at k) parted) (λ k. sinks (at k))
 

@@ -158,13 +158,14 @@ module _ (w : Words) (setup : List ScriptCall) (race : List RaceLine) (d : Desk)
 
   bytes : All (KeepsPipe (limits_of w) setup race (replies_by race racers')) (progress_of d).pipes
   bytes =
+      let go = seen d.pass in
+      let now = progress_of d in
       let among = parted.among in
-      let on = pairs_after w race (seen d.pass) (progress_of d) (limits_of w).callers racers racers' set_off raced memory
-      among.parted among.hold in
-      keep_pipes (limits_of w) setup race (replies_by race racers') (progress_of d).pipes among.parted on.after kept.each
-      parted.each on.each
-      (all_met w race (seen d.pass) (progress_of d) (limits_of w).callers racers racers' set_off raced memory owners among
-      met on)
+      let on = pairs_after w race go now (limits_of w).callers racers racers' set_off raced memory among.parted
+      among.hold in
+      keep_pipes (limits_of w) setup race (replies_by race racers') now.pipes among.parted on.after kept.each parted.each
+      on.each
+      (all_met w race go now (limits_of w).callers racers racers' set_off raced memory owners among met on)
 
   pub is_race : IsRace (limits_of w) setup race (seen p) (replies_by race racers')
   is_race =

@@ -124,8 +124,8 @@ pub runs_to : (w : Words) (d : Desk) (setup : List ScriptCall) (race : List Race
     → All (λ r. StandsIn r.desk.pass joined) racers → StandsIn joined p → IsPassOf w p → RunsTo w p setup race text'
 runs_to w d setup race racers joined p none text text' set_up kept empty wrote run writes gathered later pass =
     let all = All-weaker (λ (r : Racer). StandsIn r.desk.pass joined) (λ (r : Racer). StandsIn r.desk.pass p)
-    (λ r here. stands_on r.desk.pass joined p here later) run.raced (same_standing joined run.raced racers run.rest gathered)
-    in
+    (λ r here. stands_on r.desk.pass joined p here later) run.raced
+    (same_standing joined run.raced racers run.rest gathered) in
     record {
       replies = replies_by race run.raced;
       run = record {
@@ -139,6 +139,6 @@ runs_to w d setup race racers joined p none text text' set_up kept empty wrote r
           ∙ (ap (λ (xs : List ℕ). xs ++ callers_text 0 64 race (replies_by race racers)) wrote
           ∙ (ap (λ (xs : List ℕ). (xs ++ answer_to Now (limits_of w) setup) ++ callers_text 0 64 race
           (replies_by race racers)) empty
-          ∙ ap (λ (replies : CallerNo → List Reply). answer_to Now (limits_of w) setup ++ callers_text 0 64 race replies)
-          (same_replies race run.raced racers run.rest)));
+          ∙ ap (λ (replies : CallerNo → List Reply). answer_to Now (limits_of w) setup
+          ++ callers_text 0 64 race replies) (same_replies race run.raced racers run.rest)));
     }
