@@ -68,11 +68,14 @@ still_racers w race before after raced k d below =
     let r = standing before k first in
     (raced.each k r.0 (slice_index_or after k d) first r.1 (at_itself after k d below)).pass
 
+abbrev IsSameButEnds : Racer → Racer → Type 0
+IsSameButEnds r r' = r' ≡ record r { ends = r'.ends }
+
 -- and once the ends of the pipes met
 pub still_racers_met : (w : Words) (raced racers : List Racer) → AreSameButEnds raced racers → AreRacers w raced
     → AreRacers w racers
 still_racers_met w raced racers same passes =
-    each-all (λ (r r' : Racer). r' ≡ record r { ends = r'.ends }) (λ (r : Racer). IsPassOf w r.desk.pass)
+    each-all IsSameButEnds (λ (r : Racer). IsPassOf w r.desk.pass)
     (λ (r : Racer). IsPassOf w r.desk.pass) raced racers
     (λ r r' pass is. subst (λ (x : Racer). IsPassOf w x.desk.pass) (sym is) pass) same passes
 
@@ -81,7 +84,7 @@ same_replies : (race : List RaceLine) (raced racers : List Racer) → AreSameBut
     → replies_by race racers ≡ replies_by race raced
 same_replies race raced racers same =
     ap (λ (rs : List (List Reply)). λ (n : CallerNo). slice_index_or rs n.0 (strange_replies (calls_by n race)))
-    (each-same (λ (r r' : Racer). r' ≡ record r { ends = r'.ends }) (λ (r : Racer). r.replies.items)
+    (each-same IsSameButEnds (λ (r : Racer). r.replies.items)
     (λ (r : Racer). r.replies.items) raced racers
     (λ r r' is. ap (λ (x : Racer). x.replies.items) is) same)
 
@@ -89,7 +92,7 @@ same_replies race raced racers same =
 same_standing : (p : Pass) (raced racers : List Racer) → AreSameButEnds raced racers
     → All (λ r. StandsIn r.desk.pass p) racers → All (λ r. StandsIn r.desk.pass p) raced
 same_standing p raced racers same stand =
-    each-back (λ (r r' : Racer). r' ≡ record r { ends = r'.ends }) (λ (r : Racer). StandsIn r.desk.pass p)
+    each-back IsSameButEnds (λ (r : Racer). StandsIn r.desk.pass p)
     (λ (r : Racer). StandsIn r.desk.pass p) raced racers
     (λ r r' there is. subst (λ (x : Racer). StandsIn x.desk.pass p) is there) same stand
 

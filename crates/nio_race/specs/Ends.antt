@@ -79,7 +79,7 @@ pub record HasNoEnds (r : Racer) : Type 0 where
 
 -- the racers are the same but for the ends that they hold
 abbrev pub AreSameButEnds : List Racer → List Racer → Type 0
-AreSameButEnds before after = AreEach (λ r r'. r' ≡ record r { ends = r'.ends }) before after
+AreSameButEnds before after = AreEach {A = Racer} {B = Racer} (λ r r'. r' ≡ record r { ends = r'.ends }) before after
 
 -- what the caller's racer holds
 abbrev pub sources_at : List Racer → CallerNo → List PipeSource
