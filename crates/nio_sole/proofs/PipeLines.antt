@@ -267,10 +267,10 @@ write_made w d q me c bytes i x x' pipes found r may at is ran ready items sourc
     let l = limits_of w in
     let now = progress_of d in
     let here = sink_at d me c i x at is in
-    let source = (pipe_at now.pipes i).source in
-    let source_shown : x.pipe.source ≡ source = sym
+    let own : ChanNo = (pipe_at now.pipes i).source in
+    let source_shown : x.pipe.source ≡ own = sym
     (ap (λ (p : Pipe). p.source) (shown_at d.pipes.items i x here.0 is)) in
-    let call : CallClause me (Completes (try_write_plan l source c)) (view w d.pass) (view w q) found =
+    let call : CallClause me (Completes (try_write_plan l own c)) (view w d.pass) (view w q) found =
     subst (λ (s : ChanNo). CallClause me (Completes (try_write_plan l s c)) (view w d.pass) (view w q) found)
     source_shown
     (subst (λ (s : ChanNo). CallClause me (Completes (try_write_plan l x.pipe.source s)) (view w d.pass)
