@@ -302,8 +302,13 @@ fn write_told<N: Net>(
     }
 }
 
+// Whether a direction became full that had so much room before, and has so much now.
+fn is_filled(before: usize, now: usize) -> bool {
+    before > 0 && now == 0
+}
+
 // Reads where the link was told ready for it, and passes on what comes where the other can be written. Says whether
-// more may be passed on at once.
+// more may be passed on at once: so it is where the direction is full only now, since more may have come than it took.
 fn read_told<N: Net>(
     net: &mut N,
     source: ChanNo,
@@ -330,8 +335,9 @@ fn read_told<N: Net>(
     if can_write {
         return pass_all(net, source, sink, direction, scratch);
     }
+    let room = direction.room();
     read_all(net, source, direction, scratch)?;
-    Ok(false)
+    Ok(is_filled(room, direction.room()))
 }
 
 // Carries bytes from the link `source` to the link `sink`, as they were told ready. Says whether more may be passed on

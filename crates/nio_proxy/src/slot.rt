@@ -231,15 +231,16 @@ fn awaits_bytes(direction: &Direction) -> bool {
     direction.want().read && direction.room() >= QUARTER
 }
 
-// What a link is watched for: the one direction takes from it, and the other writes to it. It is also watched for
-// writing where more may come for it at once, so that the next selection tells whether that can be passed on.
-fn wanted(outgoing: &Direction, incoming: &Direction, flows: bool) -> Ops {
-    let read = if awaits_bytes(outgoing) {
+// What a link is watched for: the one direction takes from it, and the other writes to it. Where more may be passed on
+// at once in a direction, its one link is also watched for reading, though the direction may be full, and its other one
+// for writing, though nothing may be held: then the next selection tells whether both are ready.
+fn wanted(outgoing: &Direction, incoming: &Direction, flows_out: bool, flows_in: bool) -> Ops {
+    let read = if flows_out || awaits_bytes(outgoing) {
         Ops::READ
     } else {
         Ops::NONE
     };
-    let write = if flows || incoming.want().write {
+    let write = if flows_in || incoming.want().write {
         Ops::WRITE
     } else {
         Ops::NONE
@@ -266,10 +267,11 @@ impl Relay {
         ensures connected { self.new.is_connected ≡ self.old.is_connected }
     {
         if self.is_connected {
+            let Flows { there, back } = self.flows;
             self.client
-                .watch(board, wanted(&self.there, &self.back, self.flows.back))?;
+                .watch(board, wanted(&self.there, &self.back, there, back))?;
             self.target
-                .watch(board, wanted(&self.back, &self.there, self.flows.there))
+                .watch(board, wanted(&self.back, &self.there, back, there))
         } else {
             Ok(())
         }

@@ -11,6 +11,11 @@ pub mod Retried
 pub mod Running
 pub mod SettingOff
 pub mod SettingUp
+pub mod SetupCalls
+pub mod SetupKeeps
+pub mod SetupKept
+pub mod SetupLines
+pub mod SetupSilent
 pub mod Standing
 pub mod Unpinned
 pub mod Waiting
