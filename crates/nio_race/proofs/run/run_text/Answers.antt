@@ -10,8 +10,8 @@ use Rattle.nio_race.proofs.Running.{may_race_text}
 use Rattle.nio_race.specs.Runs.{MayRaceLines}
 use Rattle.nio_race.proofs.run.run_text.Goals as goal
 
-pub race-requires-clause-lines : goal.race-requires-clause-lines
-race-requires-clause-lines g c = subst MayRaceLines (sym c.race.ensures) (may_race_text c.in-Ok.ensures.ok)
+pub race-requires-in-Ok-clause-lines : goal.race-requires-in-Ok-clause-lines
+race-requires-in-Ok-clause-lines g c = subst MayRaceLines (sym c.race.ensures) (may_race_text c.in-Ok.ensures.ok)
 
 pub returns-in-Ok-race-clause-done : goal.returns-in-Ok-race-clause-done
 returns-in-Ok-race-clause-done g c = λ is.
