@@ -14,7 +14,7 @@ use Rattle.nio_race_text.specs.declared.call.RaceLine.{RaceLine}
 use Rattle.nio_serial.specs.Documented.{Progress}
 use Rattle.nio_words.specs.declared.words.Words.{Words}
 use Rattle.nio_race.proofs.PairsLists.{all-at, each-nil, length-map, map-at, standing}
-use Rattle.nio_race.proofs.PairsRaced.{HaveGoneOn, have_gone_on, same_owners, sinks_of, sources_of, still_pairs}
+use Rattle.nio_race.proofs.PairsRaced.{HaveGoneOn, have_gone_on, same_owners, still_pairs}
 use Rattle.nio_race.specs.Ends.{AreEach, ArePartedAmong, EndsGoOn, HasMet, HaveMet, HoldEnds, PartedPipe, SinkGoesOn}
 use Rattle.nio_race.specs.Ends.{SourceGoesOn, sinks_at, sources_at}
 use Rattle.nio_race.specs.Race.{calls_by, lines_by, strange_replies}

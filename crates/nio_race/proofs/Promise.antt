@@ -1,7 +1,6 @@
 -- A race, put together from what each caller did.
 use Rattle.std.proofs.Common.{◌≡◌, ℕ, zero, suc, ◌<◌, ◌≤◌, ◌==◌, Bool, true, false, if◌then◌else◌, IsFalse, List, []}
-use Rattle.std.proofs.Common.{◌∷◌, ◌++◌, length, map, All, refl, sym, ap, ◌∙◌, subst, ⊎_elim, eqb-true, append_assoc}
-use Rattle.std.proofs.Common.{arith}
+use Rattle.std.proofs.Common.{◌∷◌, ◌++◌, map, All, refl, sym, ap, ◌∙◌, subst, ⊎_elim, eqb-true, append_assoc, arith}
 use Rattle.std.proofs.Math.Logic.{∥∥₁_map, ∥∥₁_map₂}
 use Rattle.std.proofs.lemmas.Bool.{cases_lt}
 use Rattle.std.proofs.lemmas.Grind.{merely}
