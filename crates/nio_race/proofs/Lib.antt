@@ -2,9 +2,14 @@ pub mod Adding
 pub mod Blocking
 pub mod BytesKept
 pub mod Gathering
+pub mod HoldEach
+pub mod JoinEnds
 pub mod PairsKnown
 pub mod PairsLists
 pub mod PairsRaced
+pub mod PartKept
+pub mod PartOff
+pub mod PartPipes
 pub mod Promise
 pub mod Racing
 pub mod Retried

@@ -26,8 +26,8 @@ use Rattle.nio_words.specs.Passes.{IsPassOf, limits_of, seen}
 use Rattle.nio_words.specs.Views.{view}
 use Rattle.nio_words.specs.declared.words.Words.{Words}
 use Rattle.nio_race.specs.Race.{own_progress, own_selection_of}
-use Rattle.nio_race.specs.SetOff.{own_begun, other_begun, own_shut, other_shut, AddsRacer, AreRacers, AreSetOff}
-use Rattle.nio_race.specs.SetOff.{HasLeft, IsSetOffAt, MovedBelow, StoodAtGo, TakesOver}
+use Rattle.nio_race.specs.SetOff.{own_begun, other_begun, own_shut, other_shut, AddsRacer, AreRacers, AreSetOffWithout}
+use Rattle.nio_race.specs.SetOff.{HasLeft, IsSetOffWithout, MovedBelow, StoodAtGo, TakesOver}
 use Rattle.nio_race.specs.declared.racer.Racer.{Racer}
 
 -- ---- one place
@@ -259,44 +259,43 @@ next_left w go now d d' k r left takes = record {
 
 pub racer_set_off : (w : Words) (go : List Event) (now : Progress) (d d' : Desk) (k : ℕ) (r : Racer)
     → k < (limits_of w).callers → StoodAtGo w go now → HasLeft w go now d k
-    → TakesOver w d d' (record { 0 = k }) r → IsSetOffAt w go now k r
+    → TakesOver w d d' (record { 0 = k }) r → IsSetOffWithout w go now k r
 racer_set_off w go now d d' k r below stood left takes =
     let n : CallerNo = record { 0 = k } in
     let sight : seen r.desk.pass ≡ go = takes.pass.sees.given_sight ∙ left.sight in
     let progress : progress_of r.desk ≡ own_progress n now = takes.own ∙ left.progress n (omega arith) in
     record {
       number = takes.number_is;
-      set_off = record {
-        stands = record {
-          caller = subst (λ (m : CallerNo). IsCaller (limits_of w) m) (sym takes.number_is) below;
-          ready = record {
-            pass = takes.pass.sees.given_pass;
-            number = (takes.pass.given_number r.number).1 takes.number_is;
-          };
-          unpinned = λ s i. subst (λ (es : List Event). IsFalse (has_pin (state_after es) r.number s i)) (sym sight)
-              (stood.unpinned r.number s i);
-          places = takes.own_places;
-          made = ∥∥₁_map stood.made
-              (λ made. subst
-              (λ (m : CallerNo). HasMade (limits_of w) (mine m (seen r.desk.pass)) m (progress_of r.desk))
-              (sym takes.number_is)
-              (subst (λ (es : List Event). HasMade (limits_of w) (mine n es) n (progress_of r.desk)) (sym sight)
-              (subst (λ (p : Progress). HasMade (limits_of w) (mine n go) n p) (sym progress)
-              (own_made (limits_of w) (mine n go) n now (made n)))));
+      stands = record {
+        caller = subst (λ (m : CallerNo). IsCaller (limits_of w) m) (sym takes.number_is) below;
+        ready = record {
+          pass = takes.pass.sees.given_pass;
+          number = (takes.pass.given_number r.number).1 takes.number_is;
         };
-        unanswered = takes.unanswered;
-        in_memory = takes.in_memory;
+        unpinned = λ s i. subst (λ (es : List Event). IsFalse (has_pin (state_after es) r.number s i)) (sym sight)
+            (stood.unpinned r.number s i);
+        places = takes.own_places;
+        made = ∥∥₁_map stood.made
+            (λ made. subst
+            (λ (m : CallerNo). HasMade (limits_of w) (mine m (seen r.desk.pass)) m (progress_of r.desk))
+            (sym takes.number_is)
+            (subst (λ (es : List Event). HasMade (limits_of w) (mine n es) n (progress_of r.desk)) (sym sight)
+            (subst (λ (p : Progress). HasMade (limits_of w) (mine n go) n p) (sym progress)
+            (own_made (limits_of w) (mine n go) n now (made n)))));
       };
+      unanswered = takes.unanswered;
+      in_memory = takes.in_memory;
+      endless = takes.endless;
       sight = sight;
       progress = progress;
     }
 
-pub none_set_off : (w : Words) (go : List Event) (now : Progress) → AreSetOff w go now 0 []
+pub none_set_off : (w : Words) (go : List Event) (now : Progress) → AreSetOffWithout w go now 0 []
 none_set_off w go now = record { count_is = refl; each = λ k r below is. absurd (omega (arith, below)) }
 
 pub one_set_off : (w : Words) (go : List Event) (now : Progress) (k : ℕ) (racers : List Racer) (r : Racer)
-    → AreSetOff w go now k racers → IsSetOffAt w go now k r
-    → AreSetOff w go now (k + 1) (racers ++ r ∷ [])
+    → AreSetOffWithout w go now k racers → IsSetOffWithout w go now k r
+    → AreSetOffWithout w go now (k + 1) (racers ++ r ∷ [])
 one_set_off w go now k racers r before at = record {
   count_is = length-append racers (r ∷ []) ∙ ap (λ m. m + 1) before.count_is;
   each = λ j x below is. ⊎_elim
@@ -305,22 +304,24 @@ one_set_off w go now k racers r before at = record {
       (λ (last : k ≤ j).
       let same : j ≡ k = omega (arith, below, last) in
       let it : r ≡ x = sym (get_or_push racers r x j (before.count_is ∙ sym same)) ∙ is in
-      subst (λ (m : ℕ). IsSetOffAt w go now m x) (sym same) (subst (IsSetOffAt w go now k) it at))
+      subst (λ (m : ℕ). IsSetOffWithout w go now m x) (sym same) (subst (IsSetOffWithout w go now k) it at))
       (cases_lt j k);
 }
 
 -- what is kept while racers are made
 pub record IsSettingOff (w : Words) (first d : Desk) (k : ℕ) (racers : List Racer) : Type 0 where
   pub left : HasLeft w (seen first.pass) (progress_of first) d k
-  pub set_off : AreSetOff w (seen first.pass) (progress_of first) k racers
+  pub set_off : AreSetOffWithout w (seen first.pass) (progress_of first) k racers
   pub racers_are : AreRacers w racers
+  pub pipes : d.pipes ≡ first.pipes
 
 pub begins : (w : Words) (d : Desk) (racers : List Racer) → Stands w d → racers ≡ [] → IsSettingOff w d d 0 racers
 begins w d racers stands none = record {
   left = first_left w d stands;
-  set_off = subst (AreSetOff w (seen d.pass) (progress_of d) 0) (sym none)
+  set_off = subst (AreSetOffWithout w (seen d.pass) (progress_of d) 0) (sym none)
       (none_set_off w (seen d.pass) (progress_of d));
   racers_are = subst (AreRacers w) (sym none) (λ k r below. absurd (omega (arith, below)));
+  pipes = refl;
 }
 
 pub goes_on : (w : Words) (first d d' : Desk) (k : ℕ) (racers racers' : List Racer) → Stands w first
@@ -331,10 +332,11 @@ goes_on w first d d' k racers racers' stands below at adds =
     let now = progress_of first in
     record {
       left = next_left w go now d d' k adds.racer at.left adds.takes_over;
-      set_off = subst (AreSetOff w go now (k + 1)) (sym adds.added)
+      set_off = subst (AreSetOffWithout w go now (k + 1)) (sym adds.added)
           (one_set_off w go now k racers adds.racer at.set_off
           (racer_set_off w go now d d' k adds.racer below (stood_at_go w first stands) at.left adds.takes_over));
       racers_are = subst (AreRacers w) (sym adds.added)
           (All-push (λ (r : Racer). IsPassOf w r.desk.pass) racers adds.racer at.racers_are
           adds.takes_over.pass.sees.given_pass);
+      pipes = adds.takes_over.pipes ∙ at.pipes;
     }

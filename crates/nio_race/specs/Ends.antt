@@ -88,6 +88,18 @@ sources_at racers n = slice_index_or (map (λ r. r.ends.sources.items) racers) n
 abbrev pub sinks_at : List Racer → CallerNo → List PipeSink
 sinks_at racers n = slice_index_or (map (λ r. r.ends.sinks.items) racers) n.0 []
 
+-- The caller's racer holds these sources too, behind those that it held. No other racer's ends change, and no sink.
+pub record HoldSources (before after : List Racer) (caller : CallerNo) (more : List PipeSource) : Type 0 where
+  pub sources : (n : CallerNo) → sources_at after n
+      ≡ sources_at before n ++ (if caller.0 == n.0 then more else [])
+  pub sinks : (n : CallerNo) → sinks_at after n ≡ sinks_at before n
+
+-- the same of sinks
+pub record HoldSinks (before after : List Racer) (caller : CallerNo) (more : List PipeSink) : Type 0 where
+  pub sources : (n : CallerNo) → sources_at after n ≡ sources_at before n
+  pub sinks : (n : CallerNo) → sinks_at after n
+      ≡ sinks_at before n ++ (if caller.0 == n.0 then more else [])
+
 -- Each racer holds the ends that its caller owns of these pipes, in the order of the pipes, and no others.
 pub record HoldEnds (racers : List Racer) (parted : List PartedPipe) : Type 0 where
   pub sources : (n : CallerNo)

@@ -1,8 +1,8 @@
 //! The ends of a race's pipes: parted at `go`, each in its owner's racer, and brought together once the threads have
 //! returned.
-ghost use Rattle.std.specs.Prelude.{All, IfOk};
+ghost use Rattle.std.specs.Prelude.{◌≡◌, ◌<◌, [], ◌∷◌, length, option_to_list, None, All, IfOk};
 ghost use Rattle.nio_sole.specs.Stands.{pipes_of};
-ghost use Rattle.nio_race.specs.Ends.{AddsParted, AreSameButEnds, ArePartedAmong, HasNoEnds, HasRacers, HaveMet, HaveParted, HoldLast, MeetsLast};
+ghost use Rattle.nio_race.specs.Ends.{AddsParted, AreSameButEnds, ArePartedAmong, HasNoEnds, HasRacers, HaveMet, HaveParted, HoldLast, HoldSinks, HoldSources, MeetsLast, sinks_at, sources_at};
 
 use crate::racer::Racer;
 use nio_base::CallerNo;
@@ -69,9 +69,33 @@ fn part_one(alloc: Global, owned: OwnedPipe, racers: &mut Vec<Racer>) -> Result<
         pipe,
     } = owned;
     let (source, sink) = pipe.part(alloc)?;
-    racers[reader.0 as usize].ends.sources.push(source)?;
-    racers[writer.0 as usize].ends.sinks.push(sink)?;
+    give_source(racers, reader, source)?;
+    give_sink(racers, writer, sink)?;
     Ok(Owners { reader, writer })
+}
+
+// Gives the caller's racer a source.
+fn give_source(
+    racers: &mut Vec<Racer>,
+    caller: CallerNo,
+    source: PipeSource,
+) -> Result<(), AllocError>
+    requires { caller.0 < length racers.old.items }
+    ensures given { IfOk result (λ _. HoldSources racers.old.items racers.new.items caller (source ∷ [])) }
+    ensures rest { AreSameButEnds racers.old.items racers.new.items }
+{
+    racers[caller.0 as usize].ends.sources.push(source)?;
+    Ok(())
+}
+
+// Gives the caller's racer a sink.
+fn give_sink(racers: &mut Vec<Racer>, caller: CallerNo, sink: PipeSink) -> Result<(), AllocError>
+    requires { caller.0 < length racers.old.items }
+    ensures given { IfOk result (λ _. HoldSinks racers.old.items racers.new.items caller (sink ∷ [])) }
+    ensures rest { AreSameButEnds racers.old.items racers.new.items }
+{
+    racers[caller.0 as usize].ends.sinks.push(sink)?;
+    Ok(())
 }
 
 /// Brings the two ends of each pipe together, from the last pipe down, and lets them go.
@@ -91,11 +115,31 @@ fn join_last(racers: &mut Vec<Racer>, owners: Owners)
     ensures met { MeetsLast racers.old.items racers.new.items owners }
     ensures rest { AreSameButEnds racers.old.items racers.new.items }
 {
-    let Some(mut source) = racers[owners.reader.0 as usize].ends.sources.pop() else {
+    let Some(mut source) = take_source(racers, owners.reader) else {
         return;
     };
-    let Some(mut sink) = racers[owners.writer.0 as usize].ends.sinks.pop() else {
+    let Some(mut sink) = take_sink(racers, owners.writer) else {
         return;
     };
     source.beside(&mut sink);
+}
+
+// Takes the last source that the caller's racer holds.
+fn take_source(racers: &mut Vec<Racer>, caller: CallerNo) -> Option<PipeSource>
+    requires { caller.0 < length racers.old.items }
+    ensures taken { HoldSources racers.new.items racers.old.items caller (option_to_list result) }
+    ensures none { result ≡ None → sources_at racers.old.items caller ≡ [] }
+    ensures rest { AreSameButEnds racers.old.items racers.new.items }
+{
+    racers[caller.0 as usize].ends.sources.pop()
+}
+
+// Takes the last sink that the caller's racer holds.
+fn take_sink(racers: &mut Vec<Racer>, caller: CallerNo) -> Option<PipeSink>
+    requires { caller.0 < length racers.old.items }
+    ensures taken { HoldSinks racers.new.items racers.old.items caller (option_to_list result) }
+    ensures none { result ≡ None → sinks_at racers.old.items caller ≡ [] }
+    ensures rest { AreSameButEnds racers.old.items racers.new.items }
+{
+    racers[caller.0 as usize].ends.sinks.pop()
 }

@@ -29,6 +29,7 @@ returns-in-Ok-clause-ok c =
     let racer : Racer = record {
       number = n;
       desk = own;
+      ends = c.none.result;
       sleeper = c.in_ok-sleeper.sleeper;
       replies = c.in_ok-replies.replies;
       lacks_memory = false;
@@ -49,6 +50,8 @@ returns-in-Ok-clause-ok c =
             (begun.from, begun.to, shut.from, shut.to);
         unanswered = c.in_ok-replies.ensures.items;
         in_memory = refl;
+        endless = record { sources = c.none.ensures.sources; sinks = c.none.ensures.sinks };
+        pipes = refl;
       };
       added = c.push_reserved.ensures.items ∙ ap (λ (rs : List Racer). rs ++ racer ∷ []) c.reserve.ensures.items;
     }
