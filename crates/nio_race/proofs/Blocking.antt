@@ -22,7 +22,6 @@ use Rattle.nio_poller.specs.Polled.{Polled}
 use Rattle.nio_poller.specs.Selecting.{Answers, SelectClause, looked_by, polls_of, told_from}
 use Rattle.nio_poller.specs.declared.selecting.SelectError.{SelectError}
 use Rattle.nio_poller.specs.declared.selecting.SelectError.TheVariants as select_error
-use Rattle.nio_race_text.specs.declared.call.RaceCall.TheVariants.{Block}
 use Rattle.nio_serial.specs.Documented.{Progress}
 use Rattle.nio_serial.specs.Lines.{if_own, with_selection}
 use Rattle.nio_sole.proofs.Calls.{made_more}
@@ -42,7 +41,7 @@ use Rattle.nio_words.specs.Passes.{IsReady, acts_seen, limits_of}
 use Rattle.nio_words.specs.Views.{view}
 use Rattle.nio_words.specs.declared.words.Words.{Words}
 use Rattle.nio_race.proofs.Standing.{stands_made}
-use Rattle.nio_race.specs.Racers.{BlocksOn, LineOn, StandsFor}
+use Rattle.nio_race.specs.Racers.{BlocksOn, LooksAndBlocksOn, StandsFor}
 use Rattle.nio_race.specs.Quiet.{AreStillUntold, AreUntold}
 use Rattle.nio_race.specs.Runs.{Blocks, LooksAndBlocks, TellsNothing}
 
@@ -174,7 +173,7 @@ module _ (w : Words) (d d' : Desk) (me : CallerNo) (s : SelNo) where
 
   pub blocks_found : (d1 : Desk) (found : SelNo) (r : Reply) → progress_of d1 ≡ progress_of d
       → CallClause me (Completes (find_selector_plan (limits_of w) s.0)) (view w d.pass) (view w d1.pass) (Some found)
-      → BlocksOn w d1 d' me s r → LineOn w d d' me (Block s) r
+      → BlocksOn w d1 d' me s r → LooksAndBlocksOn w d d' me s r
   blocks_found d1 found r same looks blocks =
       then_call looks
       (subst (λ (p : Progress). CallClause me (Blocks p s) (view w d1.pass) (view w d'.pass)
@@ -183,13 +182,13 @@ module _ (w : Words) (d d' : Desk) (me : CallerNo) (s : SelNo) where
   -- the same of what may lack memory
   pub line_of_found : (d1 : Desk) (found : SelNo) (result : Result Reply AllocError) → progress_of d1 ≡ progress_of d
       → CallClause me (Completes (find_selector_plan (limits_of w) s.0)) (view w d.pass) (view w d1.pass) (Some found)
-      → IfOk result (λ r. BlocksOn w d1 d' me s r) → IfOk result (LineOn w d d' me (Block s))
+      → IfOk result (λ r. BlocksOn w d1 d' me s r) → IfOk result (LooksAndBlocksOn w d d' me s)
   line_of_found d1 found (Ok r) same looks blocks = blocks_found d1 found r same looks blocks
   line_of_found d1 found (Err e) same looks blocks = tt
 
   pub blocks_nowhere : progress_of d' ≡ progress_of d
       → CallClause me (Completes (find_selector_plan (limits_of w) s.0)) (view w d.pass) (view w d'.pass) None
-      → LineOn w d d' me (Block s) reply.NoSelector
+      → LooksAndBlocksOn w d d' me s reply.NoSelector
   blocks_nowhere same looks =
       call_as (LooksAndBlocks (limits_of w) (progress_of d) s)
       (record { reply = reply.NoSelector; left = progress_of d' })

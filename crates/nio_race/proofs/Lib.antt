@@ -1,9 +1,16 @@
 pub mod Adding
 pub mod Blocking
 pub mod BytesKept
+pub mod EndCloses
+pub mod EndLines
+pub mod EndLists
+pub mod EndLooks
+pub mod EndSays
 pub mod Gathering
 pub mod HoldEach
 pub mod JoinEnds
+pub mod LineEnds
+pub mod LinePipes
 pub mod PairsKnown
 pub mod PairsLists
 pub mod PairsRaced
@@ -11,6 +18,7 @@ pub mod PartKept
 pub mod PartOff
 pub mod PartPipes
 pub mod Promise
+pub mod RacerLines
 pub mod Racing
 pub mod Retried
 pub mod Running

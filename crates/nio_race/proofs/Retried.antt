@@ -3,7 +3,6 @@ use Rattle.std.proofs.Common.{◌≡◌, true, false, [], refl, subst}
 use Rattle.nio_base.specs.declared.numbers.CallerNo.{CallerNo}
 use Rattle.nio_event.specs.declared.call.Call.{Call}
 use Rattle.nio_event.specs.declared.reply.Reply.{Reply}
-use Rattle.nio_race_text.specs.declared.call.RaceCall.TheVariants.{Script}
 use Rattle.nio_serial.specs.Documented.{Progress}
 use Rattle.nio_serial.specs.Lines.{line_plan}
 use Rattle.nio_sole.specs.Stands.{progress_of}
@@ -20,7 +19,7 @@ use Rattle.nio_words.specs.declared.words.Words.{Words}
 use mathlib.Core.List.{IsPrefix}
 use Rattle.nio_words.proofs.Beginnings.{prefix_self, prefix_trans}
 use Rattle.nio_race.proofs.Waiting.{line_stays}
-use Rattle.nio_race.specs.Racers.{LineOn, MakesOnce, StandsFor}
+use Rattle.nio_race.specs.Racers.{MakesAsScript, MakesOnce, StandsFor}
 use Rattle.nio_race.specs.Runs.{is_made_again, waits_for_hold}
 
 -- The line was made some times, each time in vain. What is in progress stays.
@@ -60,5 +59,5 @@ module _ (w : Words) (first d d' : Desk) (me : CallerNo) (word : Call) (r : Repl
     tries = try_more tt (record { reply = r; left = progress_of d' }) at.tries its again;
   }
 
-  pub tried : waits_for_hold word r ≡ false → LineOn w first d' me (Script word) r
+  pub tried : waits_for_hold word r ≡ false → MakesAsScript w first d' me word r
   tried over = try_last tt (record { reply = r; left = progress_of d' }) at.tries its over

@@ -3,7 +3,7 @@ ghost use Rattle.std.specs.Prelude.{◌≡◌, ◌==◌, IfOk, position};
 ghost use mathlib.Core.List.{IsPrefix};
 ghost use Rattle.nio_event.specs.declared.call.Call.TheVariants.{Closec, Pread, Pwrite};
 ghost use Rattle.nio_pipe.specs.Ends.{sink_chan, source_chan};
-ghost use Rattle.nio_words.specs.Passes.{seen};
+ghost use Rattle.nio_words.specs.Passes.{IsPassOf, seen};
 ghost use Rattle.nio_race.specs.Racers.{CalledOn, StandsWith};
 
 use crate::ends::OwnEnds;
@@ -84,7 +84,8 @@ pub(crate) fn close_line<R: Wait>(
 ) -> Result<Reply, AllocError>
     requires { StandsWith w.now d.old ends.old me }
     ensures line { IfOk result (CalledOn w.now d.old d.new ends.old ends.new me (Closec chan)) }
-    ensures stands { StandsWith w.now d.new ends.new me }
+    ensures stands { IfOk result (λ _. StandsWith w.now d.new ends.new me) }
+    ensures pass { IsPassOf w.now d.new.pass }
     ensures later { IsPrefix (seen d.old.pass) (seen d.new.pass) }
 {
     let Some(place) = sink_place(&ends.sinks, chan) else {

@@ -193,7 +193,8 @@ fn make_called_line<R: Wait>(
     requires stands { StandsWith w.now d.old ends.old me }
     requires line { MayRace call.now }
     ensures line { IfOk result (CalledOn w.now d.old d.new ends.old ends.new me call.now) }
-    ensures stands { StandsWith w.now d.new ends.new me }
+    ensures stands { IfOk result (λ _. StandsWith w.now d.new ends.new me) }
+    ensures pass { IsPassOf w.now d.new.pass }
     ensures later { IsPrefix (seen d.old.pass) (seen d.new.pass) }
 {
     match call {

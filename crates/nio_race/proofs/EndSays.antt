@@ -1,0 +1,179 @@
+-- What a read or a write that waits says, by what it answers.
+use Rattle.std.proofs.Common.{◌≡◌, ℕ, zero, suc, ◌<◌, ◌≤◌, ◌==◌, Bool, true, false, if◌then◌else◌}
+use Rattle.std.proofs.Common.{IsFalse, Result, Ok, Err, IfOk, List, [], ◌∷◌, length, min, take, arith, refl, sym, ◌∙◌}
+use Rattle.std.proofs.Common.{eqb-true, eq-eqb, subst}
+use Rattle.std.proofs.lemmas.Bool.{cond-false, cond-true, ne_eqb}
+use Rattle.std.proofs.lemmas.List.{length-take-le}
+use Rattle.nio_base.specs.declared.limits.Limits.{Limits}
+use Rattle.nio_base.specs.declared.numbers.ChanNo.{ChanNo}
+use Rattle.nio_event.specs.declared.act.Act.{Act}
+use Rattle.nio_event.specs.declared.reply.Reply.{Reply}
+use Rattle.nio_event.specs.declared.reply.Reply.TheVariants as reply
+use Rattle.nio_pipe.specs.Answers.{bytes_read, bytes_written, read_answer, write_answer}
+use Rattle.nio_pipe.specs.Calls.{WaitsToRead, WaitsToWrite}
+use Rattle.nio_pipe.specs.declared.answers.PipeRead.{PipeRead}
+use Rattle.nio_pipe.specs.declared.answers.PipeWrite.{PipeWrite}
+use Rattle.nio_steps.specs.PipeCalls.{PipeEnds, Reads, Waits, Writes, as_waited, waits_for_bytes}
+use Rattle.nio_steps.specs.Plan.{Plan}
+use Rattle.nio_steps.specs.declared.refusal.PipeError.{PipeError}
+use Rattle.nio_race.proofs.EndLines.{read_said, write_said}
+use Rattle.nio_race.specs.Piping.{ReadSays, ReadsTo, WriteSays, WritesTo, asks_for_nothing, finds_no_place}
+use Rattle.nio_race.specs.Piping.{finds_nothing, gives, offers_nothing, takes, tells_end}
+
+-- ---- the mode of a call that found nothing
+
+mode_waited : {X : Type 0} (runs : List X) (found : Result Bool PipeError) (blocking : Bool)
+    → Ok blocking ≡ as_waited runs found → found ≡ Ok blocking
+mode_waited [] found blocking is = sym is
+mode_waited (run ∷ runs) (Ok mode) blocking is = sym is
+mode_waited (run ∷ runs) (Err PipeError.ClosedChannel) blocking is = absurd (cc is)
+mode_waited (run ∷ runs) (Err PipeError.ClosedByInterrupt) blocking is = absurd (cc is)
+mode_waited (run ∷ runs) (Err PipeError.AsynchronousClose) blocking is = absurd (cc is)
+mode_waited (run ∷ runs) (Err PipeError.BrokenPipe) blocking is = absurd (cc is)
+
+-- a call that found nothing and didn't wait found its channel in non-blocking mode
+mode_is : (plan : Plan (Result Bool PipeError)) (acts : List Act) (blocking : Bool) → Waits plan true acts (Ok blocking)
+    → blocking ≡ false
+mode_is plan acts blocking waits =
+    let found : waits.runs.last.answer ≡ Ok blocking = waits.runs.answers
+    ∙ mode_waited waits.runs.tries.runs waits.found blocking waits.answer_is in
+    let over : IsFalse (waits_for_bytes waits.runs.last.given waits.runs.last.answer) = waits.runs.over in
+    subst (λ (o : Result Bool PipeError). waits_for_bytes true o ≡ false) found
+    (subst (λ (b : Bool). waits_for_bytes b waits.runs.last.answer ≡ false) waits.found_none over)
+
+-- ---- a read
+
+abbrev IsReadAnswer : ℕ → Bool → ℕ → PipeRead → Type 0
+IsReadAnswer room marked given answer = answer ≡ read_answer room given marked
+
+-- no place for a byte
+no_room : (room given : ℕ) (marked : Bool) → room ≡ 0 → read_answer room given marked ≡ PipeRead.Bytes 0
+no_room room given marked none =
+    cond-true (room == 0) (PipeRead.Bytes 0) _ (eq-eqb room 0 none)
+
+-- with places and no byte
+none_given : (room : ℕ) (marked : Bool) → (room ≡ 0 → ⊥)
+    → read_answer room 0 marked ≡ (if marked then PipeRead.End else PipeRead.NotYet)
+none_given room marked some = cond-false (room == 0) (PipeRead.Bytes 0) _ (ne_eqb room 0 some)
+
+read_zero : (room : ℕ) (marked : Bool) → IsReadAnswer room marked 0 (PipeRead.Bytes 0) → room ≡ 0
+read_zero room marked is = by_test (room == 0) refl
+  where
+    by_mark : (m : Bool) → PipeRead.Bytes 0 ≡ (if m then PipeRead.End else PipeRead.NotYet) → room ≡ 0
+    by_mark true same = absurd (cc same)
+    by_mark false same = absurd (cc same)
+
+    by_test : (b : Bool) → (room == 0) ≡ b → room ≡ 0
+    by_test true none = eqb-true room 0 none
+    by_test false some =
+        by_mark marked
+        (is ∙ cond-false (room == 0) (PipeRead.Bytes 0) (if marked then PipeRead.End else PipeRead.NotYet) some)
+
+-- what tells the end, or that there is nothing yet, had places
+read_some : (room : ℕ) (marked : Bool) (answer : PipeRead) → (answer ≡ PipeRead.Bytes 0 → ⊥)
+    → IsReadAnswer room marked 0 answer → 0 < room
+read_some room marked answer other is = by_test (room == 0) refl
+  where
+    by_test : (b : Bool) → (room == 0) ≡ b → 0 < room
+    by_test true none = absurd (other (is ∙ no_room room 0 marked (eqb-true room 0 none)))
+    by_test false some =
+        let apart : room ≡ 0 → ⊥ =
+        λ same. let clash : true ≡ false = sym (eq-eqb room 0 same) ∙ some in absurd (cc clash) in
+        omega (arith, apart)
+
+module _ (l : Limits) (c : ChanNo) (n room : ℕ) (acts : List Act) (marked : Bool) (after : List ℕ)
+    (room_is : room ≡ min 65536 n) (size : length after ≡ room) where
+  reads_count : (k : ℕ) → k ≤ room → IsReadAnswer room marked k (PipeRead.Bytes k)
+      → WaitsToRead l c acts (Ok (PipeRead.Bytes k)) → ReadsTo l c n acts (read_said (Ok (PipeRead.Bytes k)) after)
+  reads_count zero few is waits =
+      let none : room ≡ 0 = read_zero room marked is in
+      record { none = false; answer = Ok waits.0; waits = waits.1; says = asks_for_nothing (omega arith) }
+  reads_count (suc k) few is waits =
+      let long : length (take (suc k) after) ≡ suc k = length-take-le (suc k) after (omega arith) in
+      let some : (suc k == 0) ≡ false = ne_eqb (suc k) 0 (λ same. omega (arith, same)) in
+      let says : reply.Bytes (take (suc k) after) ≡ read_said (Ok (PipeRead.Bytes (suc k))) after =
+      sym (cond-false (suc k == 0) (reply.Number 0) (reply.Bytes (take (suc k) after)) some) in
+      record {
+        none = false;
+        answer = Ok waits.0;
+        waits = waits.1;
+        says = subst (λ (r : Reply). ReadSays n false (Ok waits.0) r) says
+            (gives (take (suc k) after) (omega arith) (omega arith));
+      }
+
+  pub reads_to : (answer : Result PipeRead PipeError) → bytes_read answer ≤ room
+      → IfOk answer (λ a. IsReadAnswer room marked (bytes_read answer) a)
+      → WaitsToRead l c acts answer → ReadsTo l c n acts (read_said answer after)
+  reads_to (Ok (PipeRead.Bytes k)) few is waits = reads_count k few is waits
+  reads_to (Ok PipeRead.End) few is waits =
+      let some : 0 < room = read_some room marked PipeRead.End (λ same. absurd (cc same)) is in
+      record { none = false; answer = Ok waits.0; waits = waits.1; says = tells_end (omega arith) }
+  reads_to (Ok PipeRead.NotYet) few is waits =
+      let some : 0 < room = read_some room marked PipeRead.NotYet (λ same. absurd (cc same)) is in
+      let mode : waits.0 ≡ false = mode_is _ acts waits.0 waits.1 in
+      record {
+        none = true;
+        answer = Ok false;
+        waits = subst (λ (b : Bool). Reads l c true acts (Ok b)) mode waits.1;
+        says = finds_nothing (omega arith);
+      }
+  reads_to (Err refusal) few is waits =
+      record { none = false; answer = Err refusal; waits = waits; says = ReadSays.is_refused refusal }
+
+-- ---- a write
+
+abbrev IsWriteAnswer : ℕ → ℕ → PipeWrite → Type 0
+IsWriteAnswer size taken answer = answer ≡ write_answer size taken
+
+write_zero : (size : ℕ) → IsWriteAnswer size 0 (PipeWrite.Bytes 0) → size ≡ 0
+write_zero size is = by_test (size == 0) refl
+  where
+    by_test : (b : Bool) → (size == 0) ≡ b → size ≡ 0
+    by_test true none = eqb-true size 0 none
+    by_test false some =
+        let clash : PipeWrite.Bytes 0 ≡ PipeWrite.NotYet = is
+        ∙ cond-false (size == 0) (PipeWrite.Bytes 0) PipeWrite.NotYet some in
+        absurd (cc clash)
+
+write_some : (size : ℕ) → IsWriteAnswer size 0 PipeWrite.NotYet → 0 < size
+write_some size is = by_test (size == 0) refl
+  where
+    by_test : (b : Bool) → (size == 0) ≡ b → 0 < size
+    by_test true none =
+        let clash : PipeWrite.NotYet ≡ PipeWrite.Bytes 0 = is
+        ∙ cond-true (size == 0) (PipeWrite.Bytes 0) PipeWrite.NotYet none in
+        absurd (cc clash)
+    by_test false some =
+        let apart : size ≡ 0 → ⊥ =
+        λ same. let clash : true ≡ false = sym (eq-eqb size 0 same) ∙ some in absurd (cc clash) in
+        omega (arith, apart)
+
+no_items : {A : Type 0} (xs : List A) → length xs ≡ 0 → xs ≡ []
+no_items [] none = refl
+no_items (x ∷ xs) none = absurd (omega (arith, none))
+
+module _ (l : Limits) (ends : PipeEnds) (bytes : List ℕ) (acts : List Act) where
+  writes_count : (k : ℕ) → k ≤ length bytes → IsWriteAnswer (length bytes) k (PipeWrite.Bytes k)
+      → WaitsToWrite l ends.source ends.sink acts (Ok (PipeWrite.Bytes k))
+      → WritesTo l ends bytes acts (write_said (Ok (PipeWrite.Bytes k)))
+  writes_count zero few is waits =
+      let none : bytes ≡ [] = no_items bytes (write_zero (length bytes) is) in
+      record { none = false; answer = Ok waits.0; waits = waits.1; says = offers_nothing none }
+  writes_count (suc k) few is waits =
+      record { none = false; answer = Ok waits.0; waits = waits.1; says = takes (suc k) (omega arith) few }
+
+  pub writes_to : (answer : Result PipeWrite PipeError) → bytes_written answer ≤ length bytes
+      → IfOk answer (λ a. IsWriteAnswer (length bytes) (bytes_written answer) a)
+      → WaitsToWrite l ends.source ends.sink acts answer → WritesTo l ends bytes acts (write_said answer)
+  writes_to (Ok (PipeWrite.Bytes k)) few is waits = writes_count k few is waits
+  writes_to (Ok PipeWrite.NotYet) few is waits =
+      let some : 0 < length bytes = write_some (length bytes) is in
+      let mode : waits.0 ≡ false = mode_is _ acts waits.0 waits.1 in
+      record {
+        none = true;
+        answer = Ok false;
+        waits = subst (λ (b : Bool). Writes l ends.source ends.sink true acts (Ok b)) mode waits.1;
+        says = finds_no_place some;
+      }
+  writes_to (Err refusal) few is waits =
+      record { none = false; answer = Err refusal; waits = waits; says = WriteSays.is_refused refusal }

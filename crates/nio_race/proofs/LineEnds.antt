@@ -1,0 +1,364 @@
+-- What lines do to the ends of pipes that their caller owns: nothing, or the one after the other.
+use Rattle.std.proofs.Common.{◌≡◌, ℕ, suc, ◌<◌, ◌++◌, Bool, true, false, ◌||◌, List, [], ◌∷◌, length, map}
+use Rattle.std.proofs.Common.{inl, inr, ⊎_elim, arith, refl, sym, ap, ◌∙◌, subst, append_assoc}
+use Rattle.std.specs.Prelude.{◌⊎◌, zip}
+use Rattle.std.specs.List.{slice_index_or}
+use Rattle.std.proofs.lemmas.Grind.{flat_map-append}
+use Rattle.std.proofs.lemmas.List.{append-nil, get_or_default}
+use Rattle.std.proofs.lemmas.List.Elements.{All-weaker, Contains-append_cases, Contains-push_cases}
+use Rattle.nio_base.specs.declared.limits.Limits.{Limits}
+use Rattle.nio_base.specs.declared.numbers.CallerNo.{CallerNo}
+use Rattle.nio_base.specs.declared.numbers.ChanNo.{ChanNo}
+use Rattle.nio_event.proofs.PassViews.{channel_after}
+use Rattle.nio_event.specs.PassViews.{HasChannel}
+use Rattle.nio_event.specs.declared.act.Act.{Act}
+use Rattle.nio_event.specs.declared.call.Call.TheVariants as call
+use Rattle.nio_event.specs.declared.reply.Reply.{Reply}
+use Rattle.nio_event.specs.declared.reply.Reply.TheVariants as reply
+use Rattle.nio_pipe.specs.Calls.{HasEnds}
+use Rattle.nio_pipe.specs.Ends.{IsSameSink, IsSameSource, is_marked, other_chan, received, sent, sink_chan}
+use Rattle.nio_pipe.specs.Ends.{source_chan}
+use Rattle.nio_pipe.specs.declared.sink.PipeSink.{PipeSink}
+use Rattle.nio_pipe.specs.declared.source.PipeSource.{PipeSource}
+use Rattle.nio_race_text.specs.declared.call.RaceCall.{RaceCall}
+use Rattle.nio_race_text.specs.declared.call.RaceCall.TheVariants.{Script, Block}
+use Rattle.nio_serial.specs.Documented.{Progress}
+use Rattle.nio_sole.specs.Stands.{pipe_of, progress_of}
+use Rattle.nio_sole.specs.declared.desk.Desk.{Desk}
+use Rattle.nio_steps.specs.Calls.{CallClause}
+use Rattle.nio_steps.specs.PipeCalls.{PipeEnds}
+use Rattle.nio_words.specs.Views.{view}
+use Rattle.nio_words.specs.declared.words.Words.{Words}
+use Rattle.nio_race.specs.Ends.{AreEach, EndsGoOn, HasMadeEnds, SinkGoesOn, SourceGoesOn, ends_of, ends_of_sink}
+use Rattle.nio_race.specs.PipeBytes.{TellsEnd, all_read, all_written, ends_by, ends_in, leave_end, read_by, read_in}
+use Rattle.nio_race.specs.PipeBytes.{written_by, written_in}
+use Rattle.nio_race.specs.Piping.{OwnedEnds, PipeUse, neither, reads, use_of}
+use Rattle.nio_race.specs.Racers.{StandsFor, StandsWith}
+use Rattle.nio_race.specs.Runs.{AreRaceLines}
+use Rattle.nio_race.specs.declared.ends.OwnEnds.{OwnEnds}
+
+-- ---- the same end
+
+pub same_source_self : (s : PipeSource) → IsSameSource s s
+same_source_self s = record {
+  bytes = ((refl, refl, refl, refl), refl);
+  marks = ((refl, refl, refl, refl), refl);
+  channel = refl;
+}
+
+pub same_sink_self : (s : PipeSink) → IsSameSink s s
+same_sink_self s = record {
+  bytes = ((refl, refl, refl, refl), refl);
+  marks = ((refl, refl, refl, refl), refl);
+  channel = refl;
+  other = refl;
+}
+
+pub same_source_then : {a b c : PipeSource} → IsSameSource a b → IsSameSource b c → IsSameSource a c
+same_source_then p q = record {
+  bytes = (
+    (
+      q.bytes.0.0 ∙ p.bytes.0.0,
+      q.bytes.0.1 ∙ p.bytes.0.1,
+      q.bytes.0.2 ∙ p.bytes.0.2,
+      q.bytes.0.3 ∙ p.bytes.0.3,
+    ),
+    q.bytes.1 ∙ p.bytes.1,
+  );
+  marks = (
+    (
+      q.marks.0.0 ∙ p.marks.0.0,
+      q.marks.0.1 ∙ p.marks.0.1,
+      q.marks.0.2 ∙ p.marks.0.2,
+      q.marks.0.3 ∙ p.marks.0.3,
+    ),
+    q.marks.1 ∙ p.marks.1,
+  );
+  channel = q.channel ∙ p.channel;
+}
+
+pub same_sink_then : {a b c : PipeSink} → IsSameSink a b → IsSameSink b c → IsSameSink a c
+same_sink_then p q = record {
+  bytes = (
+    (
+      q.bytes.0.0 ∙ p.bytes.0.0,
+      q.bytes.0.1 ∙ p.bytes.0.1,
+      q.bytes.0.2 ∙ p.bytes.0.2,
+      q.bytes.0.3 ∙ p.bytes.0.3,
+    ),
+    q.bytes.1 ∙ p.bytes.1,
+  );
+  marks = (
+    (
+      q.marks.0.0 ∙ p.marks.0.0,
+      q.marks.0.1 ∙ p.marks.0.1,
+      q.marks.0.2 ∙ p.marks.0.2,
+      q.marks.0.3 ∙ p.marks.0.3,
+    ),
+    q.marks.1 ∙ p.marks.1,
+  );
+  channel = q.channel ∙ p.channel;
+  other = q.other ∙ p.other;
+}
+
+-- ---- elements at one place
+
+-- each element stands in the relation to itself
+pub each_self : {A : Type 0} (R : A → A → Type 0) (xs : List A) → ((x : A) → R x x) → AreEach R xs xs
+each_self R xs self = record {
+  count = refl;
+  each = λ k x y below is_x is_y.
+      let same : x ≡ y = sym is_x ∙ (get_or_default xs k x y below ∙ is_y) in subst (R x) same (self x);
+}
+
+pub each_then : {A : Type 0} (R S T : A → A → Type 0) (xs ys zs : List A)
+    → ((x y z : A) → R x y → S y z → T x z) → AreEach R xs ys → AreEach S ys zs → AreEach T xs zs
+each_then {A} R S T xs ys zs chain first second = record {
+  count = second.count ∙ first.count;
+  each = λ k x z below is_x is_z.
+      let y : A = slice_index_or ys k x in
+      let inside : k < length ys = subst (λ (n : ℕ). k < n) (sym first.count) below in
+      let is_y : slice_index_or ys k y ≡ y = get_or_default ys k y x inside in
+      chain x y z (first.each k x y below is_x is_y) (second.each k y z inside is_y is_z);
+}
+
+-- what the relation keeps is the same list
+pub each_map : {A B : Type 0} (R : A → A → Type 0) (f : A → B) (xs ys : List A)
+    → ((x y : A) → R x y → f y ≡ f x) → AreEach R xs ys → map f ys ≡ map f xs
+each_map R f [] [] keeps both = refl
+each_map R f [] (y ∷ ys) keeps both = let clash : suc (length ys) ≡ 0 = both.count in absurd (omega arith)
+each_map R f (x ∷ xs) [] keeps both = let clash : 0 ≡ suc (length xs) = both.count in absurd (omega arith)
+each_map R f (x ∷ xs) (y ∷ ys) keeps both =
+    let long : suc (length ys) ≡ suc (length xs) = both.count in
+    let rest : AreEach R xs ys = record {
+      count = omega arith;
+      each = λ k a b below is_a is_b. both.each (suc k) a b (omega arith) is_a is_b;
+    } in
+    let head : f y ≡ f x = keeps x y (both.each 0 x y (omega arith) refl refl) in
+    ap (λ b. b ∷ map f ys) head ∙ ap (λ bs. f x ∷ bs) (each_map R f xs ys keeps rest)
+
+-- ---- which ends these are
+
+abbrev these : List ChanNo → List PipeEnds → OwnedEnds
+these sources sinks = record { sources = sources; sinks = sinks }
+
+abbrev this_sink : ChanNo → ChanNo → PipeEnds
+this_sink source sink = record { source = source; sink = sink }
+
+-- lines keep the ends that their caller owns
+pub same_names : (lines : List (RaceCall × Reply)) (old new : OwnEnds) → EndsGoOn lines old new
+    → ends_of new ≡ ends_of old
+same_names lines old new on =
+    let sources : map source_chan new.sources.items ≡ map source_chan old.sources.items =
+        each_map (SourceGoesOn lines) source_chan old.sources.items new.sources.items (λ x y goes. goes.same.channel)
+        on.sources in
+    let sinks : map ends_of_sink new.sinks.items ≡ map ends_of_sink old.sinks.items =
+        each_map (SinkGoesOn lines) ends_of_sink old.sinks.items new.sinks.items
+        (λ x y goes. ap (λ (c : ChanNo). this_sink c (sink_chan y)) goes.same.other
+        ∙ ap (λ (c : ChanNo). this_sink (other_chan x) c) goes.same.channel) on.sinks in
+    ap (λ (xs : List ChanNo). these xs (map ends_of_sink new.sinks.items)) sources
+    ∙ ap (λ (xs : List PipeEnds). these (map source_chan old.sources.items) xs) sinks
+
+-- ---- lines that leave them as they are
+
+or-false : (b : Bool) → b ≡ (b || false)
+or-false true = refl
+or-false false = refl
+
+or-assoc : (a b c : Bool) → ((a || b) || c) ≡ (a || (b || c))
+or-assoc true b c = refl
+or-assoc false b c = refl
+
+-- the lines read and write nothing, and leave no mark
+pub ends_stay : (lines : List (RaceCall × Reply)) (ends : OwnEnds)
+    → ((c : ChanNo) → all_read c lines ≡ []) → ((c : ChanNo) → all_written c lines ≡ [])
+    → ((c : ChanNo) → leave_end c lines ≡ false) → ((c : ChanNo) → TellsEnd c lines → ⊥) → EndsGoOn lines ends ends
+ends_stay lines ends unread unwritten unmarked untold = record {
+  sources = each_self (SourceGoesOn lines) ends.sources.items source_stays;
+  sinks = each_self (SinkGoesOn lines) ends.sinks.items sink_stays;
+}
+  where
+    source_stays : (s : PipeSource) → SourceGoesOn lines s s
+    source_stays s = record {
+      same = same_source_self s;
+      received = sym (ap (λ xs. received s ++ xs) (unread (source_chan s)) ∙ append-nil (received s));
+      tells_end = λ told. absurd (untold (source_chan s) told);
+      stays = λ at_end. at_end;
+    }
+
+    sink_stays : (s : PipeSink) → SinkGoesOn lines s s
+    sink_stays s = record {
+      same = same_sink_self s;
+      sent = sym (ap (λ xs. sent s ++ xs) (unwritten (sink_chan s)) ∙ append-nil (sent s));
+      mark = or-false (is_marked s) ∙ ap (λ b. is_marked s || b) (sym (unmarked (sink_chan s)));
+      ended = λ _. unwritten (sink_chan s);
+    }
+
+pub no_lines : (ends : OwnEnds) → EndsGoOn [] ends ends
+no_lines ends = ends_stay [] ends (λ c. refl) (λ c. refl) (λ c. refl) (λ c told. absurd (omega (arith, told.1.1)))
+
+-- what a line does on the bytes of pipes
+abbrev use_in : RaceCall → PipeUse
+use_in (Script word) = use_of word
+use_in (Block s) = neither
+
+reads-none : (c : ChanNo) (line : RaceCall) (r : Reply) → use_in line ≡ neither → read_in c line r ≡ []
+reads-none c (Script word) r is = ap (λ (u : PipeUse). read_by c u r) is
+reads-none c (Block s) r is = refl
+
+writes-none : (c : ChanNo) (line : RaceCall) (r : Reply) → use_in line ≡ neither → written_in c line r ≡ []
+writes-none c (Script word) r is = ap (λ (u : PipeUse). written_by c u r) is
+writes-none c (Block s) r is = refl
+
+ends-none : (c : ChanNo) (line : RaceCall) (r : Reply) → use_in line ≡ neither → ends_in c line r ≡ false
+ends-none c (Script word) r is = ap (λ (u : PipeUse). ends_by c u r) is
+ends-none c (Block s) r is = refl
+
+-- where one line tells the end, it is a read of this channel
+pub told_alone : (c : ChanNo) (line : RaceCall) (r : Reply) (told : TellsEnd c ((line, r) ∷ []))
+    → ◌≡◌ {A = RaceCall × Reply} (line, r) (Script (call.Pread c told.0), reply.End)
+told_alone c line r told =
+    ⊎_elim (λ inside. absurd (omega (arith, inside.1))) (λ same. same)
+    (Contains-push_cases [] (line, r) (Script (call.Pread c told.0), reply.End) told.1)
+
+pub neither_stays : (line : RaceCall) (r : Reply) (ends : OwnEnds) → use_in line ≡ neither
+    → EndsGoOn ((line, r) ∷ []) ends ends
+neither_stays line r ends is =
+    ends_stay ((line, r) ∷ []) ends (λ c. ap (λ xs. xs ++ []) (reads-none c line r is))
+    (λ c. ap (λ xs. xs ++ []) (writes-none c line r is)) (λ c. ap (λ b. b || false) (ends-none c line r is))
+    (λ c told.
+    let does : use_in line ≡ reads c told.0 = ap (λ (x : RaceCall × Reply). use_in x.0) (told_alone c line r told) in
+    let clash : neither ≡ reads c told.0 = sym is ∙ does in absurd cc)
+
+-- ---- lines and one more
+
+leave_end-append : (c : ChanNo) (xs ys : List (RaceCall × Reply))
+    → leave_end c (xs ++ ys) ≡ (leave_end c xs || leave_end c ys)
+leave_end-append c [] ys = refl
+leave_end-append c (x ∷ xs) ys =
+    ap (λ b. ends_in c x.0 x.1 || b) (leave_end-append c xs ys)
+    ∙ sym (or-assoc (ends_in c x.0 x.1) (leave_end c xs) (leave_end c ys))
+
+all_read-append : (c : ChanNo) (xs ys : List (RaceCall × Reply))
+    → all_read c (xs ++ ys) ≡ all_read c xs ++ all_read c ys
+all_read-append c xs ys = flat_map-append (λ (x : RaceCall × Reply). read_in c x.0 x.1) xs ys
+
+all_written-append : (c : ChanNo) (xs ys : List (RaceCall × Reply))
+    → all_written c (xs ++ ys) ≡ all_written c xs ++ all_written c ys
+all_written-append c xs ys = flat_map-append (λ (x : RaceCall × Reply). written_in c x.0 x.1) xs ys
+
+tells-append : (c : ChanNo) (xs ys : List (RaceCall × Reply)) → TellsEnd c (xs ++ ys) → TellsEnd c xs ⊎ TellsEnd c ys
+tells-append c xs ys told =
+    ⊎_elim (λ before. inl (told.0, before)) (λ after. inr (told.0, after))
+    (Contains-append_cases xs ys (Script (call.Pread c told.0), reply.End) told.1)
+
+source_more : (xs ys : List (RaceCall × Reply)) (a b c : PipeSource) → SourceGoesOn xs a b → SourceGoesOn ys b c
+    → SourceGoesOn (xs ++ ys) a c
+source_more xs ys a b c p q =
+    let chan : source_chan b ≡ source_chan a = p.same.channel in
+    record {
+      same = same_source_then p.same q.same;
+      received =
+          q.received
+          ∙ (ap (λ (k : ChanNo). received b ++ all_read k ys) chan
+          ∙ (ap (λ bytes. bytes ++ all_read (source_chan a) ys) p.received
+          ∙ (append_assoc (received a) (all_read (source_chan a) xs) (all_read (source_chan a) ys)
+          ∙ ap (λ bytes. received a ++ bytes) (sym (all_read-append (source_chan a) xs ys)))));
+      tells_end = λ told.
+          ⊎_elim (λ before. q.stays (p.tells_end before))
+          (λ after. q.tells_end (subst (λ (k : ChanNo). TellsEnd k ys) (sym chan) after))
+          (tells-append (source_chan a) xs ys told);
+      stays = λ at_end. q.stays (p.stays at_end);
+    }
+
+sink_more : (xs ys : List (RaceCall × Reply)) (a b c : PipeSink) → SinkGoesOn xs a b → SinkGoesOn ys b c
+    → SinkGoesOn (xs ++ ys) a c
+sink_more xs ys a b c p q =
+    let chan : sink_chan b ≡ sink_chan a = p.same.channel in
+    record {
+      same = same_sink_then p.same q.same;
+      sent =
+          q.sent
+          ∙ (ap (λ (k : ChanNo). sent b ++ all_written k ys) chan
+          ∙ (ap (λ bytes. bytes ++ all_written (sink_chan a) ys) p.sent
+          ∙ (append_assoc (sent a) (all_written (sink_chan a) xs) (all_written (sink_chan a) ys)
+          ∙ ap (λ bytes. sent a ++ bytes) (sym (all_written-append (sink_chan a) xs ys)))));
+      mark =
+          q.mark
+          ∙ (ap (λ (k : ChanNo). is_marked b || leave_end k ys) chan
+          ∙ (ap (λ m. m || leave_end (sink_chan a) ys) p.mark
+          ∙ (or-assoc (is_marked a) (leave_end (sink_chan a) xs) (leave_end (sink_chan a) ys)
+          ∙ ap (λ m. is_marked a || m) (sym (leave_end-append (sink_chan a) xs ys)))));
+      ended = λ marked.
+          let later : is_marked b ≡ true = p.mark ∙ ap (λ m. m || leave_end (sink_chan a) xs) marked in
+          all_written-append (sink_chan a) xs ys
+          ∙ (ap (λ bytes. bytes ++ all_written (sink_chan a) ys) (p.ended marked)
+          ∙ (ap (λ (k : ChanNo). all_written k ys) (sym chan) ∙ q.ended later));
+    }
+
+pub ends_more : (xs ys : List (RaceCall × Reply)) (a b c : OwnEnds) → EndsGoOn xs a b → EndsGoOn ys b c
+    → EndsGoOn (xs ++ ys) a c
+ends_more xs ys a b c p q = record {
+  sources = each_then (SourceGoesOn xs) (SourceGoesOn ys) (SourceGoesOn (xs ++ ys)) a.sources.items b.sources.items
+      c.sources.items (source_more xs ys) p.sources q.sources;
+  sinks = each_then (SinkGoesOn xs) (SinkGoesOn ys) (SinkGoesOn (xs ++ ys)) a.sinks.items b.sinks.items c.sinks.items
+      (sink_more xs ys) p.sinks q.sinks;
+}
+
+-- ---- lines beside their replies
+
+pub zip_more : {A B : Type 0} (xs : List A) (ys : List B) (x : A) (y : B) → length ys ≡ length xs
+    → zip (xs ++ x ∷ []) (ys ++ y ∷ []) ≡ zip xs ys ++ (x, y) ∷ []
+zip_more [] [] x y long = refl
+zip_more [] (b ∷ ys) x y long = absurd (omega arith)
+zip_more (a ∷ xs) [] x y long = absurd (omega arith)
+zip_more (a ∷ xs) (b ∷ ys) x y long = ap (λ later. (a, b) ∷ later) (zip_more xs ys x y (omega arith))
+
+pub as_many_replies : (l : Limits) (ends : OwnedEnds) (me : CallerNo) (now last : Progress) (calls : List RaceCall)
+    (acts : List Act) (replies : List Reply) → AreRaceLines l ends me now calls acts replies last
+    → length replies ≡ length calls
+as_many_replies l ends me now last [] acts replies are = ap length are.1
+as_many_replies l ends me now last (first ∷ calls) acts replies are =
+    ap length are.reply_parts
+    ∙ ap suc (as_many_replies l ends me are.said.left last calls are.later are.later_replies are.others)
+
+-- ---- what stands after a line
+
+map-none : {A B : Type 0} (f : A → B) (xs : List A) → map f xs ≡ [] → xs ≡ []
+map-none f [] none = refl
+map-none f (x ∷ xs) none = absurd (cc none)
+
+-- a desk without a pipe has none in progress
+pub pipes_none : (d : Desk) → d.pipes.items ≡ [] → (progress_of d).pipes ≡ []
+pipes_none d none = ap (map pipe_of) none
+
+-- the channels of the ends are made still after a call
+pub ends_still_made : {R : Type 0} {Shape : List Act → R → Type 0} {me : CallerNo} {answer : R} (w : Words)
+    (d d' : Desk) (ends : OwnEnds) → CallClause me Shape (view w d.pass) (view w d'.pass) answer
+    → HasMadeEnds w d ends → HasMadeEnds w d' ends
+ends_still_made w d d' ends call made = record {
+  sources =
+      All-weaker (λ source. HasChannel (view w d.pass) (source_chan source))
+      (λ source. HasChannel (view w d'.pass) (source_chan source)) (λ source has. channel_after call.acts has)
+      ends.sources.items made.sources;
+  sinks =
+      All-weaker (λ sink. HasEnds (view w d.pass) (other_chan sink) (sink_chan sink))
+      (λ sink. HasEnds (view w d'.pass) (other_chan sink) (sink_chan sink))
+      (λ sink has. record {
+        source = channel_after call.acts has.source;
+        sink = channel_after call.acts has.sink;
+      }) ends.sinks.items made.sinks;
+  sources_differ = made.sources_differ;
+  sinks_differ = made.sinks_differ;
+}
+
+-- after a call that leaves no pipe in progress
+pub stands_with : {R : Type 0} {Shape : List Act → R → Type 0} {answer : R} (w : Words) (d d' : Desk) (ends : OwnEnds)
+    (me : CallerNo) → StandsWith w d ends me → StandsFor w d' me
+    → CallClause me Shape (view w d.pass) (view w d'.pass) answer → (progress_of d').pipes ≡ []
+    → StandsWith w d' ends me
+stands_with w d d' ends me with_ends stands call pipeless = record {
+  stands = stands;
+  made_ends = ends_still_made w d d' ends call with_ends.made_ends;
+  pipeless = map-none pipe_of d'.pipes.items pipeless;
+}
