@@ -162,8 +162,8 @@ module _ (w : Words) (setup : List ScriptCall) (race : List RaceLine) (d : Desk)
       let among = parted.among in
       let on = pairs_after w race go now (limits_of w).callers racers racers' set_off raced memory among.parted
       among.hold in
-      keep_pipes (limits_of w) setup race (replies_by race racers') now.pipes among.parted on.after kept.each parted.each
-      on.each
+      keep_pipes (limits_of w) setup race (replies_by race racers') now.pipes among.parted on.after kept.each
+      parted.each on.each
       (all_met w race go now (limits_of w).callers racers racers' set_off raced memory owners among met on)
 
   pub is_race : IsRace (limits_of w) setup race (seen p) (replies_by race racers')
