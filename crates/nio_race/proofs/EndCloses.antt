@@ -1,6 +1,6 @@
 -- A line that closes a channel.
-use Rattle.std.proofs.Common.{◌≡◌, ℕ, ◌<◌, ◌||◌, true, false, Bool, Option, Some, None, Result, Ok, Err, IfOk, List, []}
-use Rattle.std.proofs.Common.{get_or, set, length, refl, sym, ap, ◌∙◌, subst}
+use Rattle.std.proofs.Common.{◌≡◌, ℕ, ◌<◌, true, Bool, Some, None, Result, Ok, Err, IfOk, List}
+use Rattle.std.proofs.Common.{get_or, set, length, refl, sym, ap, subst}
 use Rattle.std.proofs.lemmas.Bool.{lt-ltb}
 use Rattle.std.specs.Prelude.{Vec}
 use Rattle.std.specs.declared.alloc.AllocError.{AllocError}
@@ -15,7 +15,6 @@ use Rattle.nio_orderly.specs.Made.{close_channel}
 use Rattle.nio_pipe.specs.Ends.{IsSameSink, is_marked, sent, sink_chan}
 use Rattle.nio_pipe.specs.declared.sink.PipeSink.{PipeSink}
 use Rattle.nio_plain.specs.Seq.Pipes.{own_sink}
-use Rattle.nio_serial.specs.Documented.{Progress}
 use Rattle.nio_serial.specs.Lines.{Said, call_plan, if_found, if_named, line_plan, makes, refused}
 use Rattle.nio_serial.specs.PipeLines.{with_mark}
 use Rattle.nio_serial.specs.Replies.{closed_reply}
@@ -131,7 +130,8 @@ module _ (w : Words) (d : Desk) (ends : OwnEnds) (me : CallerNo) (c : ChanNo) (s
     pub closes_own : (r : Reply) → r ≡ closed_reply closes → sent new ≡ sent old → is_marked new ≡ true
         → CalledOn w d (with_pass d q') ends (record ends { sinks = sinks }) me Closing r
     closes_own r said keeps marks =
-        subst (λ (x : Reply). CalledOn w d (with_pass d q') ends (record ends { sinks = sinks }) me Closing x) (sym said)
+        subst
+        (λ (x : Reply). CalledOn w d (with_pass d q') ends (record ends { sinks = sinks }) me Closing x) (sym said)
         (record {
           made = once q' (closed_reply closes) (closed q q' found closes looks its_call);
           went_on =

@@ -1,37 +1,33 @@
 -- A line on the bytes of a pipe: its look-up, its call, and what stands after it.
-use Rattle.std.proofs.Common.{◌≡◌, ◌≢◌, ℕ, ◌<◌, ◌≤◌, ◌==◌, Bool, true, false, ◌||◌, Option, Some, None, Result, Ok, Err}
-use Rattle.std.proofs.Common.{IfOk, List, [], ◌∷◌, ◌++◌, length, get_or, min, set, position, All, refl, sym, ap, ◌∙◌}
+use Rattle.std.proofs.Common.{◌≡◌, ◌≢◌, ℕ, ◌<◌, ◌==◌, Bool, true, false, ◌||◌, Option, Some, None, Result, Ok, Err}
+use Rattle.std.proofs.Common.{IfOk, List, [], length, get_or, min, set, position, All, refl, sym, ap, ◌∙◌}
 use Rattle.std.proofs.Common.{eqb-true, not, subst}
 use Rattle.std.specs.Option.{is_some}
 use Rattle.std.proofs.Math.Logic.{∥∥₁_map}
-use Rattle.std.proofs.lemmas.Bool.{lt-ltb}
 use Rattle.std.proofs.lemmas.List.{append-nil}
 use Rattle.std.proofs.lemmas.List.Elements.{All-set}
 use Rattle.std.proofs.lemmas.List.Quantifiers.{position-Some}
 use Rattle.std.specs.List.{AllPairs}
 use Rattle.std.specs.Prelude.{Vec}
-use Rattle.std.specs.declared.alloc.AllocError.{AllocError}
 use Rattle.std.specs.declared.alloc.Global.{Global}
 use Rattle.nio_base.specs.declared.numbers.CallerNo.{CallerNo}
 use Rattle.nio_base.specs.declared.numbers.ChanNo.{ChanNo}
-use Rattle.nio_event.specs.PassViews.{HasChannel, PassView, done_between}
+use Rattle.nio_event.specs.PassViews.{HasChannel, done_between}
 use Rattle.nio_event.specs.declared.act.Act.{Act}
-use Rattle.nio_event.specs.declared.call.Call.{Call}
 use Rattle.nio_event.specs.declared.call.Call.TheVariants as call
 use Rattle.nio_event.specs.declared.reply.Reply.{Reply}
 use Rattle.nio_event.specs.declared.reply.Reply.TheVariants as reply
 use Rattle.nio_orderly.specs.Made.{IsRun, Made, MayCome, Ongoing, after_call, after_calls, nothing_ongoing}
-use Rattle.nio_orderly.specs.Made.{close_channel, find_channel, read, write}
+use Rattle.nio_orderly.specs.Made.{find_channel, read, write}
 use Rattle.nio_pipe.specs.Answers.{bytes_read, bytes_written, leaves_mark, read_answer, read_waits, write_answer}
 use Rattle.nio_pipe.specs.Answers.{write_waits}
 use Rattle.nio_pipe.specs.Calls.{HasEnds, WaitsToRead, WaitsToWrite}
-use Rattle.nio_pipe.specs.Ends.{GivesBytes, IsAtEnd, IsSameSink, IsSameSource, TakesBytes, is_marked, other_chan, sent}
+use Rattle.nio_pipe.specs.Ends.{GivesBytes, IsAtEnd, IsSameSink, IsSameSource, TakesBytes, is_marked, other_chan}
 use Rattle.nio_pipe.specs.Ends.{sink_chan, source_chan}
 use Rattle.nio_pipe.specs.declared.answers.PipeRead.{PipeRead}
 use Rattle.nio_pipe.specs.declared.answers.PipeWrite.{PipeWrite}
 use Rattle.nio_pipe.specs.declared.sink.PipeSink.{PipeSink}
 use Rattle.nio_pipe.specs.declared.source.PipeSource.{PipeSource}
-use Rattle.nio_race_text.specs.declared.call.RaceCall.TheVariants.{Script}
 use Rattle.nio_sole.proofs.Calls.{made_more}
 use Rattle.nio_sole.proofs.Desks.{places_same}
 use Rattle.nio_sole.specs.Made.{HasMade, IsOngoing}
@@ -44,7 +40,7 @@ use Rattle.nio_steps.specs.KeyCalls.{find_channel_plan}
 use Rattle.nio_steps.specs.PipeCalls.{PipeEnds, Reads, Writes}
 use Rattle.nio_steps.specs.Runs.{Completes}
 use Rattle.nio_steps.specs.declared.refusal.PipeError.{PipeError}
-use Rattle.nio_words.specs.Passes.{IsReady, acts_seen, limits_of, seen}
+use Rattle.nio_words.specs.Passes.{IsReady, acts_seen, limits_of}
 use Rattle.nio_words.specs.Views.{view}
 use Rattle.nio_words.specs.declared.words.Pass.{Pass}
 use Rattle.nio_words.specs.declared.words.Words.{Words}
@@ -54,7 +50,7 @@ use Rattle.nio_race.proofs.EndLists.{differ_set, find_none, find_some}
 use Rattle.nio_race.proofs.EndSays.{reads_to, writes_to}
 use Rattle.nio_race.proofs.LineEnds.{ends_still_made}
 use Rattle.nio_race.proofs.Standing.{stands_made}
-use Rattle.nio_race.specs.Ends.{EndsGoOn, HasMadeEnds, SinkGoesOn, SourceGoesOn, ends_of, ends_of_sink}
+use Rattle.nio_race.specs.Ends.{HasMadeEnds, ends_of, ends_of_sink}
 use Rattle.nio_race.specs.Piping.{LooksAndReads, LooksAndWrites, ReadsFound, ReadsOwn, WritesFound, WritesOwn, own_sink}
 use Rattle.nio_race.specs.Piping.{own_source}
 use Rattle.nio_race.specs.Racers.{CalledOn, StandsFor, StandsWith}
@@ -293,9 +289,10 @@ module _ (w : Words) (d : Desk) (ends : OwnEnds) (me : CallerNo) (c : ChanNo) (n
               (call_as (ReadsFound (limits_of w) (ends_of ends) (progress_of d) c n (Some found))
               (record { reply = r; left = progress_of d })
               (λ xs waits. subst (λ (o : Option ChanNo). ReadsOwn (limits_of w) (progress_of d) c n o xs
-              (record { reply = r; left = progress_of d })) (sym own)
-              (reads_to (limits_of w) c n (length before) xs marked after room size answer gives.fit answers waits,
-              refl)) reads_its);
+              (record { reply = r; left = progress_of d })) (sym own) (
+                reads_to (limits_of w) c n (length before) xs marked after room size answer gives.fit answers waits,
+                refl,
+              )) reads_its);
           went_on =
               read_goes_on c n r ends place old new sources inside here its stands.made_ends.sources_differ items
               (source_read c n old new before after answer its same gives at_end);

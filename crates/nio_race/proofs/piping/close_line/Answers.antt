@@ -1,4 +1,4 @@
-use Rattle.std.proofs.Common.{◌≡◌, Some, None, refl}
+use Rattle.std.proofs.Common.{Some, None, refl}
 use Rattle.std.specs.Vec.{with_item}
 use Rattle.nio_race.proofs.EndCloses.{closes_nowhere, closes_own, closes_unowned, stands_shut, stands_unowned}
 use Rattle.nio_race.proofs.EndLooks.{found_of, looks_found, looks_nowhere, may_write, sink_found, sink_inside}

@@ -2,7 +2,8 @@ use Rattle.std.proofs.Common.{◌≡◌, Some, None, refl, ◌∙◌, rules}
 use Rattle.std.specs.Vec.{with_item}
 use Rattle.nio_race.proofs.EndLines.{unwaited, write_said}
 use Rattle.nio_race.proofs.EndLooks.{found_of, looks_found, looks_nowhere, may_write, sink_found, sink_inside}
-use Rattle.nio_race.proofs.EndLooks.{stands_looked, stands_written, with_pass, writes_nowhere, writes_own, writes_unowned}
+use Rattle.nio_race.proofs.EndLooks.{stands_looked, stands_written, with_pass, writes_nowhere, writes_own}
+use Rattle.nio_race.proofs.EndLooks.{writes_unowned}
 use Rattle.nio_sole.specs.PipeReplies.{write_reply}
 use Rattle.nio_sole.specs.declared.desk.Desk.{Desk}
 use Rattle.nio_race.proofs.piping.write_line.Goals as goal
