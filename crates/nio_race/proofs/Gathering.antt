@@ -1,6 +1,7 @@
 -- The passes of a race are joined one after the other.
 use Rattle.std.proofs.Common.{◌≡◌, ℕ, ◌<◌, length, List, [], ◌∷◌, ◌++◌, All, inl, inr, refl, sym, ap, ◌∙◌, subst}
 use Rattle.std.proofs.Common.{append_assoc, arith}
+use Rattle.std.proofs.Math.Seq.{get_or-append_seam}
 use Rattle.std.proofs.lemmas.List.{append-nil, get_or_append_left, length-append}
 use Rattle.std.proofs.lemmas.List.Elements.{All-cons, All-weaker}
 use Rattle.nio_words.proofs.Beginnings.{prefix_self, prefix_trans}
@@ -72,6 +73,15 @@ goes_on w before now now' racers left left' r at is pass own other = record {
       subst (λ (y : Racer). IsPassOf w y.desk.pass) (get_or_append_left left' (r ∷ []) x k below)
       (subst (AreRacers w) is at.passes k x more);
 }
+
+-- the last racer's pass is one of the table
+pub last_passes : (w : Words) (left left' : List Racer) (r : Racer) → AreRacers w left → left ≡ left' ++ r ∷ []
+    → IsPassOf w r.desk.pass
+last_passes w left left' r passes is =
+    let below : length left' < length (left' ++ r ∷ []) =
+        subst (λ (m : ℕ). length left' < m) (sym (length-append left' (r ∷ []))) (omega arith) in
+    subst (λ (y : Racer). IsPassOf w y.desk.pass) (get_or-append_seam left' r [] r)
+    (subst (AreRacers w) is passes (length left') r below)
 
 nothing_in : {A : Type 0} (xs : List A) → length xs ≡ 0 → xs ≡ []
 nothing_in [] none = refl

@@ -1,5 +1,6 @@
 pub mod Adding
 pub mod Blocking
+pub mod BytesKept
 pub mod EndCloses
 pub mod EndLines
 pub mod EndLists
@@ -10,6 +11,9 @@ pub mod HoldEach
 pub mod JoinEnds
 pub mod LineEnds
 pub mod LinePipes
+pub mod PairsKnown
+pub mod PairsLists
+pub mod PairsRaced
 pub mod PartKept
 pub mod PartOff
 pub mod PartPipes

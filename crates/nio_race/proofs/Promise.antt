@@ -1,12 +1,10 @@
 -- A race, put together from what each caller did.
 use Rattle.std.proofs.Common.{◌≡◌, ℕ, zero, suc, ◌<◌, ◌≤◌, ◌==◌, Bool, true, false, if◌then◌else◌, IsFalse, List, []}
-use Rattle.std.proofs.Common.{◌∷◌, ◌++◌, length, map, All, refl, sym, ap, ◌∙◌, subst, ⊎_elim, eqb-true, append_assoc}
-use Rattle.std.proofs.Common.{arith}
+use Rattle.std.proofs.Common.{◌∷◌, ◌++◌, map, All, refl, sym, ap, ◌∙◌, subst, ⊎_elim, eqb-true, append_assoc, arith}
 use Rattle.std.proofs.Math.Logic.{∥∥₁_map, ∥∥₁_map₂}
 use Rattle.std.proofs.lemmas.Bool.{cases_lt}
 use Rattle.std.proofs.lemmas.Grind.{merely}
 use Rattle.std.proofs.lemmas.List.{get_or_past}
-use Rattle.std.specs.List.{slice_index_or}
 use Rattle.std.specs.Prelude.{filter}
 use mathlib.Core.List.{IsPrefix}
 use Rattle.nio_base.specs.Limits.{IsFit}
@@ -30,36 +28,21 @@ use Rattle.nio_words.proofs.Beginnings.{prefix_trans}
 use Rattle.nio_words.specs.Passes.{Holds, IsPassOf, IsReady, limits_of, seen}
 use Rattle.nio_words.specs.declared.words.Pass.{Pass}
 use Rattle.nio_words.specs.declared.words.Words.{Words}
+use Rattle.nio_race.proofs.BytesKept.{keep_pipes}
+use Rattle.nio_race.proofs.PairsKnown.{Known, all_met, known, pairs_after}
+use Rattle.nio_race.proofs.PairsLists.{all-at, length-map}
+use Rattle.nio_race.specs.Ends.{HaveMet, HaveParted, ends_of}
 use Rattle.nio_race.specs.Gathering.{StandsIn}
-use Rattle.nio_race.specs.Race.{HasRun, IsRace, calls_by, own_progress, strange_replies}
-use Rattle.nio_race.specs.Racers.{HaveRaced, HasRaced, replies_by}
+use Rattle.nio_race.specs.Piping.{OwnedEnds, own_ends}
+use Rattle.nio_race.specs.Race.{HasRun, IsRace, KeepsPipe, calls_by, own_progress, strange_replies}
+use Rattle.nio_race.specs.Racers.{HaveRaced, replies_by}
 use Rattle.nio_race.specs.Runs.{AreRaceLines}
-use Rattle.nio_race.specs.SetOff.{AreSetOff, IsSetOffAt}
-use Rattle.nio_race.specs.Setup.{HasSetUp}
+use Rattle.nio_race.specs.SetOff.{AreSetOff}
+use Rattle.nio_race.specs.Setup.{HasSetUp, KeepsSetup}
+use Rattle.nio_race.specs.declared.ends.Owners.{Owners}
 use Rattle.nio_race.specs.declared.racer.Racer.{Racer}
 
 -- ---- lists
-
--- what stands at a place of a list
-pub standing : {A : Type 0} (xs : List A) (k : ℕ) → k < length xs → (x : A) × (slice_index_or xs k x ≡ x)
-standing [] k below = absurd (omega (arith, below))
-standing (x ∷ xs) zero below = (x, refl)
-standing (x ∷ xs) (suc k) below = standing xs k (omega (arith, below))
-
--- it is met by what all items meet
-pub all-at : {A : Type 0} (P : A → Type 0) (xs : List A) (k : ℕ) (x : A) → k < length xs → slice_index_or xs k x ≡ x
-    → All P xs → P x
-all-at P xs k x below is all = subst P is (all k x below)
-
-map-at : {A B : Type 0} (f : A → B) (xs : List A) (k : ℕ) (x : A) (d : B) → k < length xs → slice_index_or xs k x ≡ x
-    → slice_index_or (map f xs) k d ≡ f x
-map-at f [] k x d below is = absurd (omega (arith, below))
-map-at f (y ∷ ys) zero x d below is = ap f is
-map-at f (y ∷ ys) (suc k) x d below is = map-at f ys k x d (omega (arith, below)) is
-
-length-map : {A B : Type 0} (f : A → B) (xs : List A) → length (map f xs) ≡ length xs
-length-map f [] = refl
-length-map f (x ∷ xs) = ap suc (length-map f xs)
 
 -- what holds of each number below a limit, unseen, holds of all of them, unseen
 all_below : (P : ℕ → Type 0) (k : ℕ) → ((n : ℕ) → n < k → ∥ P n ∥₁) → ∥ ((n : ℕ) → n < k → P n) ∥₁
@@ -112,101 +95,93 @@ owed_before l events before fit legal begins whole =
 -- ---- the promise
 
 module _ (w : Words) (setup : List ScriptCall) (race : List RaceLine) (d : Desk) (racers racers' : List Racer)
-    (p : Pass)
-    (set_up : HasSetUp w d setup) (set_off : AreSetOff w (seen d.pass) (progress_of d) (limits_of w).callers racers)
+    (owners : List Owners) (p : Pass)
+    (set_up : HasSetUp w d setup) (kept : KeepsSetup (limits_of w) setup (progress_of d).pipes)
+    (set_off : AreSetOff w (seen d.pass) (progress_of d) (limits_of w).callers racers)
+    (parted : HaveParted racers owners (progress_of d).pipes)
     (raced : HaveRaced w race racers racers') (memory : All (λ r. IsFalse r.lacks_memory) racers')
+    (met : HaveMet racers' owners)
     (pass : IsPassOf w p) (gathered : All (λ r. StandsIn r.desk.pass p) racers') where
-  -- what is known of caller k, by its racer before and after
-  record Known (n : CallerNo) : Type 0 where
-    pub before : Racer
-    pub after : Racer
-    pub at_go : IsSetOffAt w (seen d.pass) (progress_of d) n.0 before
-    pub raced_so : HasRaced w race before after
-    pub in_memory : IsFalse after.lacks_memory
-    pub stands_in : StandsIn after.desk.pass p
-    pub number : after.number ≡ n
-    pub own_number : before.number ≡ n
-    pub replied : replies_by race racers' n ≡ after.replies.items
+  -- what is known of caller n, by its racer before and after
+  abbrev KnownOf : CallerNo → Type 0
+  KnownOf = Known w race (seen d.pass) (progress_of d) (limits_of w).callers racers racers' set_off raced memory
 
-  known : (n : CallerNo) → n.0 < (limits_of w).callers → Known n
-  known n below =
-      let below_first : n.0 < length racers = subst (λ (k : ℕ). n.0 < k) (sym set_off.count_is) below in
-      let below_last : n.0 < length racers' = subst (λ (k : ℕ). n.0 < k) (sym raced.count) below_first in
-      let first = standing racers n.0 below_first in
-      let last = standing racers' n.0 below_last in
-      let at = set_off.each n.0 first.0 below first.1 in
-      let so = raced.each n.0 first.0 last.0 below_first first.1 last.1 in
-      record {
-        before = first.0;
-        after = last.0;
-        at_go = at;
-        raced_so = so;
-        in_memory = all-at (λ r. IsFalse r.lacks_memory) racers' n.0 last.0 below_last last.1 memory;
-        stands_in = all-at (λ r. StandsIn r.desk.pass p) racers' n.0 last.0 below_last last.1 gathered;
-        number = so.number ∙ at.number;
-        own_number = at.number;
-        replied = map-at (λ (r : Racer). r.replies.items) racers' n.0 last.0
-            (strange_replies (calls_by n race)) below_last last.1;
-      }
+  known_of : (n : CallerNo) → n.0 < (limits_of w).callers → KnownOf n
+  known_of = known w race (seen d.pass) (progress_of d) (limits_of w).callers racers racers' set_off raced memory
+
+  stands_in : (n : CallerNo) (k : KnownOf n) → StandsIn k.after.desk.pass p
+  stands_in n k = all-at (λ r. StandsIn r.desk.pass p) racers' n.0 k.after k.within k.after_is gathered
+
+  held : (n : CallerNo) (k : KnownOf n) → Holds k.after.desk.pass n
+  held n k =
+      subst (λ (m : CallerNo). Holds k.after.desk.pass m) k.number
+      (k.raced_so.stands k.in_memory).stands.ready.number
 
   pub holds_each : (n : CallerNo) → n.0 < (limits_of w).callers → IsReady w p n
   holds_each n below =
-      let k = known n below in
-      record {
-        pass = pass;
-        number = subst (λ (m : CallerNo). Holds p m) k.number
-            (k.stands_in.holds k.after.number (k.raced_so.stands k.in_memory).ready.number);
-      }
+      let k = known_of n below in
+      record { pass = pass; number = (stands_in n k).holds n (held n k) }
 
   has_run : (n : CallerNo) → n.0 < (limits_of w).callers
       → HasRun (limits_of w) n (seen d.pass) (progress_of d) (calls_by n race) (seen p) (replies_by race racers' n)
   has_run n below =
-      let k = known n below in
+      let k = known_of n below in
       let ran = k.raced_so.run k.in_memory in
-      let held = subst (λ (m : CallerNo). Holds k.after.desk.pass m) k.number
-      (k.raced_so.stands k.in_memory).ready.number in
+      let ends = own_ends n (progress_of d).pipes in
       record {
         acts = ran.acts;
         grew =
-            k.stands_in.own n held
+            (stands_in n k).own n (held n k)
             ∙ (subst (λ (m : CallerNo). mine m (seen k.after.desk.pass) ≡ mine m (seen k.before.desk.pass) ++ ran.acts)
             k.own_number ran.grew
             ∙ ap (λ (es : List Event). mine n es ++ ran.acts) k.at_go.sight);
         last = progress_of k.after.desk;
         lines =
-            subst (λ (rs : List Reply). AreRaceLines (limits_of w) n (own_progress n (progress_of d))
+            subst (λ (rs : List Reply). AreRaceLines (limits_of w) ends n (own_progress n (progress_of d))
             (calls_by n race) ran.acts rs (progress_of k.after.desk)) (sym k.replied)
-            (subst (λ (x : Progress). AreRaceLines (limits_of w) n x (calls_by n race) ran.acts k.after.replies.items
-            (progress_of k.after.desk)) k.at_go.progress
-            (subst (λ (m : CallerNo). AreRaceLines (limits_of w) m (progress_of k.before.desk)
-            (calls_by m race) ran.acts k.after.replies.items (progress_of k.after.desk)) k.own_number ran.lines));
+            (subst (λ (x : Progress). AreRaceLines (limits_of w) ends n x (calls_by n race) ran.acts
+            k.after.replies.items (progress_of k.after.desk)) k.at_go.progress
+            (subst (λ (es : OwnedEnds). AreRaceLines (limits_of w) es n (progress_of k.before.desk)
+            (calls_by n race) ran.acts k.after.replies.items (progress_of k.after.desk)) k.at_go.ends
+            (subst (λ (m : CallerNo). AreRaceLines (limits_of w) (ends_of k.before.ends) m (progress_of k.before.desk)
+            (calls_by m race) ran.acts k.after.replies.items (progress_of k.after.desk)) k.own_number ran.lines)));
       }
 
   whole : ∥ IsWhole (limits_of w) (seen p) ∥₁
   whole = whole_by_callers (limits_of w) (seen p) pass.legal (λ n below.
-      let k = known n below in
-      let held = subst (λ (m : CallerNo). Holds k.after.desk.pass m) k.number
-      (k.raced_so.stands k.in_memory).ready.number in
-      ∥∥₁_map (k.raced_so.stands k.in_memory).made
-      (λ made. subst (HasMadeCalls (limits_of w)) (sym (k.stands_in.own n held))
+      let k = known_of n below in
+      ∥∥₁_map (k.raced_so.stands k.in_memory).stands.made
+      (λ made. subst (HasMadeCalls (limits_of w)) (sym ((stands_in n k).own n (held n k)))
       (subst (λ (m : CallerNo). HasMadeCalls (limits_of w) (mine m (seen k.after.desk.pass))) k.number
       (made_whole (limits_of w) _ k.after.number _ made))))
 
+  bytes : All (KeepsPipe (limits_of w) setup race (replies_by race racers')) (progress_of d).pipes
+  bytes =
+      let go = seen d.pass in
+      let now = progress_of d in
+      let among = parted.among in
+      let on = pairs_after w race go now (limits_of w).callers racers racers' set_off raced memory among.parted
+      among.hold in
+      keep_pipes (limits_of w) setup race (replies_by race racers') now.pipes among.parted on.after kept.each
+      parted.each on.each
+      (all_met w race go now (limits_of w).callers racers racers' set_off raced memory owners among met on)
+
   pub is_race : IsRace (limits_of w) setup race (seen p) (replies_by race racers')
   is_race =
-      let first = known (record { 0 = 0 }) (omega (arith, set_up.stands.fit.some_callers)) in
+      let first = known_of (record { 0 = 0 }) (omega (arith, set_up.stands.fit.some_callers)) in
       record {
         go = seen d.pass;
         now = progress_of d;
         set_up = set_up.set_up;
         begins = prefix_trans _ _ _
             (subst (λ (es : List Event). IsPrefix es (seen first.after.desk.pass)) first.at_go.sight
-            first.raced_so.later) first.stands_in.begins;
+            first.raced_so.later) (stands_in (record { 0 = 0 }) first).begins;
         run = has_run;
         strangers =
             λ n past. get_or_past (map (λ (r : Racer). r.replies.items) racers') n.0 (strange_replies (calls_by n race))
             (subst (λ (k : ℕ). k ≤ n.0)
             (sym (length-map (λ (r : Racer). r.replies.items) racers' ∙ raced.count ∙ set_off.count_is)) past);
+        bytes = bytes;
         legal = pass.legal;
         whole = whole;
         owed = λ before begins. ∥∥₁_map whole

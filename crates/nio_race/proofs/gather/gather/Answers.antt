@@ -1,6 +1,11 @@
 use Rattle.std.proofs.Common.{arith}
-use Rattle.nio_race.proofs.Gathering.{goes_on, all_joined}
+use Rattle.nio_race.proofs.Gathering.{all_joined, goes_on, last_passes}
 use Rattle.nio_race.proofs.gather.gather.Goals as goal
+
+pub gather_one-requires-clause-racer : goal.gather_one-requires-clause-racer
+gather_one-requires-clause-racer c =
+    last_passes c.args.w.now c.loop-racer.racers.items c.pop.new.self.items c.in-Some.racer
+    c.loop-racer.invariant.passes c.in-Some.ensures.items
 
 pub loop-racer-preserved : goal.loop-racer-preserved
 loop-racer-preserved c =

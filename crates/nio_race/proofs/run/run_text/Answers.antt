@@ -6,7 +6,12 @@ use Rattle.nio_race_text.specs.RaceText.{IsRaceText}
 use Rattle.nio_race_text.specs.declared.call.RaceLine.{RaceLine}
 use Rattle.nio_script.specs.Output.{IsWritten}
 use Rattle.nio_script.specs.declared.status.Status.TheVariants.{BadScript, Memory}
+use Rattle.nio_race.proofs.Running.{may_race_text}
+use Rattle.nio_race.specs.Runs.{MayRaceLines}
 use Rattle.nio_race.proofs.run.run_text.Goals as goal
+
+pub race-requires-in-Ok-clause-lines : goal.race-requires-in-Ok-clause-lines
+race-requires-in-Ok-clause-lines g c = λ _ _. subst MayRaceLines (sym c.race.ensures) (may_race_text c.in-Ok.ensures.ok)
 
 pub returns-in-Ok-race-clause-done : goal.returns-in-Ok-race-clause-done
 returns-in-Ok-race-clause-done g c = λ is.
