@@ -71,6 +71,7 @@ keeps_bytes source sink reads reads' writes writes' waiting marked bytes mark to
         (λ (there : Contains reads (Script (call.Pread source tells.0), reply.End)). inl (tells.0, there))
         (λ (later : Contains reads' (Script (call.Pread source tells.0), reply.End)). inr (tells.0, later))
         (Contains-append_cases reads reads' (Script (call.Pread source tells.0), reply.End) tells.1)
+
     joined : (later : List ℕ) → all_read source reads' ++ later ≡ waiting ++ all_written sink writes'
         → all_read source (reads ++ reads') ++ later ≡ all_written sink (writes ++ writes')
     joined later is =
@@ -81,14 +82,16 @@ keeps_bytes source sink reads reads' writes writes' waiting marked bytes mark to
         ∙ (sym (append_assoc (all_read source reads) waiting (all_written sink writes'))
         ∙ (ap (λ (xs : List ℕ). xs ++ all_written sink writes') bytes
         ∙ sym (flat_map-append (λ (x : RaceCall × Reply). written_in sink x.0 x.1) writes writes')))))
+
     all_of : all_read source reads' ≡ waiting ++ all_written sink writes'
         → all_read source (reads ++ reads') ≡ all_written sink (writes ++ writes')
     all_of is =
         sym (append-nil (all_read source (reads ++ reads'))) ∙ joined [] (append-nil (all_read source reads') ∙ is)
+
     nothing_more : IsTrue marked × (waiting ≡ []) → all_read source reads' ≡ waiting ++ all_written sink writes'
     nothing_more at_end =
         let none : waiting ++ all_written sink writes' ≡ [] =
-            ap (λ (xs : List ℕ). xs ++ all_written sink writes') at_end.1 ∙ stopped at_end.0 in
+        ap (λ (xs : List ℕ). xs ++ all_written sink writes') at_end.1 ∙ stopped at_end.0 in
         no_front (all_read source reads') begins.0 (begins.1 ∙ none) ∙ sym none
 
 -- ---- of a pipe
@@ -109,24 +112,28 @@ keeps_pipe l setup race replies p x y kept parted on met =
   where
     lines : CallerNo → List (RaceCall × Reply)
     lines n = lines_by n race replies
+
     was_read : received y.source ≡ all_read p.source (lines p.reader)
     was_read =
         on.source.received
         ∙ (ap (λ (xs : List ℕ). xs ++ all_read (source_chan x.source) (lines x.owners.reader)) parted.none_received
         ∙ (ap (λ (c : ChanNo). all_read c (lines x.owners.reader)) parted.source
         ∙ ap (λ (n : CallerNo). all_read p.source (lines n)) parted.reader))
+
     was_sent : sent y.sink ≡ p.waiting ++ all_written p.sink (lines p.writer)
     was_sent =
         on.sink.sent
         ∙ (ap (λ (xs : List ℕ). xs ++ all_written (sink_chan x.sink) (lines x.owners.writer)) parted.waiting
         ∙ (ap (λ (c : ChanNo). p.waiting ++ all_written c (lines x.owners.writer)) parted.sink
         ∙ ap (λ (n : CallerNo). p.waiting ++ all_written p.sink (lines n)) parted.writer))
+
     was_marked : is_marked y.sink ≡ (p.marked || leave_end p.sink (lines p.writer))
     was_marked =
         on.sink.mark
         ∙ (ap (λ (b : Bool). b || leave_end (sink_chan x.sink) (lines x.owners.writer)) parted.mark
         ∙ (ap (λ (c : ChanNo). p.marked || leave_end c (lines x.owners.writer)) parted.sink
         ∙ ap (λ (n : CallerNo). p.marked || leave_end p.sink (lines n)) parted.writer))
+
     at_end : TellsEnd p.source (lines p.reader) → IsAtEnd y.source
     at_end tells =
         on.source.tells_end (subst (λ (c : ChanNo). TellsEnd c (lines x.owners.reader)) (sym parted.source)

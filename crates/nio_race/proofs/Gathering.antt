@@ -79,7 +79,7 @@ pub last_passes : (w : Words) (left left' : List Racer) (r : Racer) → AreRacer
     → IsPassOf w r.desk.pass
 last_passes w left left' r passes is =
     let below : length left' < length (left' ++ r ∷ []) =
-        subst (λ (m : ℕ). length left' < m) (sym (length-append left' (r ∷ []))) (omega arith) in
+    subst (λ (m : ℕ). length left' < m) (sym (length-append left' (r ∷ []))) (omega arith) in
     subst (λ (y : Racer). IsPassOf w y.desk.pass) (get_or-append_seam left' r [] r)
     (subst (AreRacers w) is passes (length left') r below)
 

@@ -148,8 +148,10 @@ step {A = A} R owner x olds news each =
     own = front (R owner) x (olds owner) (news owner)
         (subst (λ (b : Bool). AreEach (R owner) (front_if b x (olds owner)) (news owner)) (eq-eqb owner owner refl)
         (each owner))
+
     Part : ℕ → Bool → Type 0
     Part n b = (news n ≡ front_if b own.head (behind_if b (news n))) × AreEach (R n) (olds n) (behind_if b (news n))
+
     part : (n : ℕ) (b : Bool) → (owner == n) ≡ b → Part n b
     part n true is = subst (λ (m : ℕ). Part m true) (eqb-true owner n is) (own.is, own.each)
     part n false is =
