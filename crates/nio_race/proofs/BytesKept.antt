@@ -1,6 +1,6 @@
 -- The bytes of a pipe, from the setup's lines, what waited at `go`, and the lines behind it.
-use Rattle.std.proofs.Common.{◌≡◌, ℕ, ◌+◌, ◌<◌, ◌≤◌, ◌⊎◌, Bool, true, false, ◌||◌, IsTrue, List, [], ◌∷◌, ◌++◌, length, All, inl}
-use Rattle.std.proofs.Common.{inr, ⊎_elim, refl, sym, ap, ◌∙◌, subst, append_assoc, append-nil, arith}
+use Rattle.std.proofs.Common.{◌≡◌, ℕ, ◌+◌, ◌<◌, ◌≤◌, ◌⊎◌, Bool, true, false, ◌||◌, IsTrue, List, [], ◌∷◌, ◌++◌, length}
+use Rattle.std.proofs.Common.{All, inl, inr, ⊎_elim, refl, sym, ap, ◌∙◌, subst, append_assoc, append-nil, arith}
 use Rattle.std.proofs.lemmas.Grind.{flat_map-append}
 use Rattle.std.proofs.lemmas.List.{length-append}
 use Rattle.std.proofs.lemmas.List.Elements.{Contains-append_cases}
@@ -56,15 +56,19 @@ pub keeps_bytes : (source sink : ChanNo) (reads reads' writes writes' : List (Ra
     → (TellsEnd source reads' → IsTrue (marked || leave_end sink writes'))
     → (IsTrue marked → all_written sink writes' ≡ [])
     → KeepsBytes source sink (reads ++ reads') (writes ++ writes')
-keeps_bytes source sink reads reads' writes writes' waiting marked bytes mark told begins few whole ended stopped = record {
+keeps_bytes source sink reads reads' writes writes' waiting marked bytes mark told begins few all ended stop = record {
   in_order = (begins.0, joined begins.0 begins.1);
-  few = omega (arith, few, ap (λ (xs : List ℕ). length xs) begins.1,
-      length-append (all_read source reads') begins.0,
-      ap (λ (xs : List ℕ). length xs) (joined begins.0 begins.1),
-      length-append (all_read source (reads ++ reads')) begins.0);
+  few = omega (
+    arith,
+    few,
+    ap (λ (xs : List ℕ). length xs) begins.1,
+    length-append (all_read source reads') begins.0,
+    ap (λ (xs : List ℕ). length xs) (joined begins.0 begins.1),
+    length-append (all_read source (reads ++ reads')) begins.0,
+  );
   whole = λ tells. ⊎_elim
       (λ (there : TellsEnd source reads). all_of (nothing_more (told there)))
-      (λ (later : TellsEnd source reads'). all_of (whole later)) (cases tells);
+      (λ (later : TellsEnd source reads'). all_of (all later)) (cases tells);
   ended = λ tells. ⊎_elim
       (λ (there : TellsEnd source reads).
       leave_end-append sink writes writes' ∙ ap (λ (b : Bool). b || leave_end sink writes') (sym mark ∙ (told there).0))
@@ -98,7 +102,7 @@ keeps_bytes source sink reads reads' writes writes' waiting marked bytes mark to
     nothing_more : IsTrue marked × (waiting ≡ []) → all_read source reads' ≡ waiting ++ all_written sink writes'
     nothing_more at_end =
         let none : waiting ++ all_written sink writes' ≡ [] =
-        ap (λ (xs : List ℕ). xs ++ all_written sink writes') at_end.1 ∙ stopped at_end.0 in
+        ap (λ (xs : List ℕ). xs ++ all_written sink writes') at_end.1 ∙ stop at_end.0 in
         no_front (all_read source reads') begins.0 (begins.1 ∙ none) ∙ sym none
 
 -- ---- of a pipe

@@ -154,8 +154,13 @@ module _ (racers mid after : List Racer) (source : PipeSource) (sink : PipeSink)
       record {
         in_order = subst (λ (xs : List ℕ). IsPrefix xs (sent last.sink)) got
             (subst (λ (xs : List ℕ). IsPrefix (received source') xs) put lawful.in_order);
-        few = omega (arith, lawful.few_waiting, length-drop (length (received source')) (sent sink'),
-            ap (λ (xs : List ℕ). length xs) got, ap (λ (xs : List ℕ). length xs) put);
+        few = omega (
+          arith,
+          lawful.few_waiting,
+          length-drop (length (received source')) (sent sink'),
+          ap (λ (xs : List ℕ). length xs) got,
+          ap (λ (xs : List ℕ). length xs) put,
+        );
         whole = λ at. sym got ∙ ((told (subst IsAtEnd source_is at)).whole ∙ put);
         ended = λ at. subst (λ (b : Bool). IsTrue b) mark (told (subst IsAtEnd source_is at)).marked;
       }

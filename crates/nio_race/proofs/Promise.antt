@@ -168,9 +168,12 @@ module _ (w : Words) (setup : List ScriptCall) (race : List RaceLine) (d : Desk)
 
   finds : All (FindsInPipe race (replies_by race racers')) (progress_of d).pipes
   finds =
-      let on = pairs_after w race (seen d.pass) (progress_of d) (limits_of w).callers racers racers' set_off raced memory
-      parted.among.parted parted.among.hold in
-      find_in_pipes race (replies_by race racers') (progress_of d).pipes parted.among.parted on.after parted.each on.each
+      let go = seen d.pass in
+      let now = progress_of d in
+      let among = parted.among in
+      let on = pairs_after w race go now (limits_of w).callers racers racers' set_off raced memory among.parted
+      among.hold in
+      find_in_pipes race (replies_by race racers') now.pipes among.parted on.after parted.each on.each
 
   pub is_race : IsRace (limits_of w) setup race (seen p) (replies_by race racers')
   is_race =

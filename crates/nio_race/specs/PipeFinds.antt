@@ -1,8 +1,8 @@
 -- What lines behind `go` find in a pipe, at least: what stood there at `go`, and what its two owners found since. A
 -- read gives all bytes that its reader knows to wait, as far as it asks for them; a write takes all bytes for which
 -- its writer knows of room.
-use Rattle.std.specs.Prelude.{◌≡◌, ◌≢◌, ℕ, ◌+◌, ◌-◌, ◌<◌, ◌≤◌, min, Bool, true, false, IsTrue, IsFalse, if◌then◌else◌}
-use Rattle.std.specs.Prelude.{List, [], ◌∷◌, length, drop}
+use Rattle.std.specs.Prelude.{◌≡◌, ◌≢◌, ℕ, ◌-◌, ◌<◌, ◌≤◌, min, Bool, true, false, IsFalse, if◌then◌else◌, List, []}
+use Rattle.std.specs.Prelude.{◌∷◌, length, drop}
 use Rattle.nio_base.specs.declared.numbers.ChanNo.{ChanNo}
 use Rattle.nio_event.specs.declared.reply.Reply.{Reply}
 use Rattle.nio_event.specs.declared.reply.Reply.TheVariants as reply
