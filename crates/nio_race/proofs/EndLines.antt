@@ -16,8 +16,8 @@ use Rattle.nio_event.specs.declared.call.Call.TheVariants as call
 use Rattle.nio_event.specs.declared.reply.Reply.{Reply}
 use Rattle.nio_event.specs.declared.reply.Reply.TheVariants as reply
 use Rattle.nio_pipe.specs.Answers.{bytes_read, bytes_written, leaves_mark}
-use Rattle.nio_pipe.specs.Ends.{GivesBytes, IsAtEnd, IsSameSink, IsSameSource, KnowsNothing, TakesBytes, free, is_marked}
-use Rattle.nio_pipe.specs.Ends.{known, received, sent, sink_chan, source_chan}
+use Rattle.nio_pipe.specs.Ends.{GivesBytes, IsAtEnd, IsSameSink, IsSameSource, KnowsNothing, TakesBytes, free}
+use Rattle.nio_pipe.specs.Ends.{is_marked, known, received, sent, sink_chan, source_chan}
 use Rattle.nio_pipe.specs.declared.answers.PipeRead.{PipeRead}
 use Rattle.nio_pipe.specs.declared.answers.PipeWrite.{PipeWrite}
 use Rattle.nio_pipe.specs.declared.sink.PipeSink.{PipeSink}
@@ -206,8 +206,8 @@ no_front : (xs ys : List ℕ) → xs ++ ys ≡ [] → xs ≡ []
 no_front [] ys none = refl
 no_front (x ∷ xs) ys none = absurd (cc none)
 
--- What a read answers of what waits, beside the bytes that it gives: whether it gave all it knew of, and what it knew
--- where it gave none.
+-- What a read says beside the bytes that it gives: how long its slice is, that it gave all that was known where the
+-- slice isn't full, and what its answers tell.
 pub record FindsBytes (n : ℕ) (old new : PipeSource) (before after : List ℕ) (answer : Result PipeRead PipeError)
     : Type 0 where
   pub room : length before ≡ min 65536 n
@@ -218,19 +218,19 @@ pub record FindsBytes (n : ℕ) (old new : PipeSource) (before after : List ℕ)
   pub asked : answer ≡ Ok (PipeRead.Bytes 0) → n ≡ 0
 
 module _ (old new : PipeSource) (before after : List ℕ) (given : ℕ) (gives : GivesBytes old new before after given)
-    where
-  stays_at_end : IsAtEnd old → IsAtEnd new
-  stays_at_end was = record {
-    marked = gives.end_stays was.marked;
-    no_byte = no_rest (take given after) (known new) (sym (gives.no_more was.marked) ∙ was.no_byte);
-  }
+  where
+    stays_at_end : IsAtEnd old → IsAtEnd new
+    stays_at_end was = record {
+      marked = gives.end_stays was.marked;
+      no_byte = no_rest (take given after) (known new) (sym (gives.no_more was.marked) ∙ was.no_byte);
+    }
 
-  -- at the end it gives nothing
-  none_at_end : IsAtEnd old → take given after ≡ []
-  none_at_end was = no_front (take given after) (known new) (sym (gives.no_more was.marked) ∙ was.no_byte)
+    -- at the end it gives nothing
+    none_at_end : IsAtEnd old → take given after ≡ []
+    none_at_end was = no_front (take given after) (known new) (sym (gives.no_more was.marked) ∙ was.no_byte)
 
-  knows_ahead : (x : Awaited) → KnowsAwaited old x → IsPrefix x.bytes (take given after ++ known new)
-  knows_ahead x knows = prefix_trans x.bytes (known old) (take given after ++ known new) knows.bytes gives.known
+    knows_ahead : (x : Awaited) → KnowsAwaited old x → IsPrefix x.bytes (take given after ++ known new)
+    knows_ahead x knows = prefix_trans x.bytes (known old) (take given after ++ known new) knows.bytes gives.known
 
 -- where it gave nothing
 knows_still : (old new : PipeSource) (before after : List ℕ) → GivesBytes old new before after 0 → (x : Awaited)
@@ -270,8 +270,7 @@ module _ (n : ℕ) (old new : PipeSource) (before after : List ℕ) (x : Awaited
       let nothing : length (known new) ≡ 0 = ap length (finds.most less) in omega (arith, nothing, fits, whole))
       (λ (all : length before ≤ suc k). omega (arith, all, long, finds.room))
       (cases_lt (suc k) (length before)) in
-      let y : Awaited = record x { bytes = drop (length given) x.bytes } in
-      (
+      let y : Awaited = record x { bytes = drop (length given) x.bytes } in (
         y,
         (
           subst (λ (r : Reply). ReadFinds n x r y) says (ReadFinds.gives given (is_false x.ended goes) enough),
@@ -290,8 +289,7 @@ module _ (n : ℕ) (old new : PipeSource) (before after : List ℕ) (x : Awaited
       let at_end : IsAtEnd new = finds.at_end refl in
       let ahead : IsPrefix x.bytes [] =
       subst (λ (xs : List ℕ). IsPrefix x.bytes xs) at_end.no_byte
-      (knows_ahead old new before after 0 gives x knows) in
-      (
+      (knows_ahead old new before after 0 gives x knows) in (
         record { bytes = []; marked = true; ended = true },
         (
           ReadFinds.tells_end (prefix_none x.bytes ahead),
@@ -307,8 +305,7 @@ module _ (n : ℕ) (old new : PipeSource) (before after : List ℕ) (x : Awaited
       let none : x.bytes ≡ [] =
       prefix_none x.bytes (subst (λ (xs : List ℕ). IsPrefix x.bytes xs) nothing.no_byte knows.bytes) in
       let unmarked : IsTrue x.marked → ⊥ =
-      λ marked. let clash : true ≡ false = sym (knows.marked marked) ∙ nothing.no_mark in absurd (cc clash) in
-      (
+      λ marked. let clash : true ≡ false = sym (knows.marked marked) ∙ nothing.no_mark in absurd (cc clash) in (
         x,
         (
           ReadFinds.finds_nothing none (is_false x.marked unmarked),
@@ -337,8 +334,7 @@ source_read c n old new before after answer its same gives finds =
           finds.at_end (end_answered answer after (end_said (call.Pread c n) r (source_chan old) told));
       stays = stays_at_end old new before after (bytes_read answer) gives;
       finds = λ x knows.
-          let found = read_finds n old new before after x knows answer gives finds in
-          (
+          let found = read_finds n old new before after x knows answer gives finds in (
             found.0,
             (
               one_finds (source_chan old) (Script (call.Pread c n)) r x found.0
@@ -443,7 +439,8 @@ mark_said (Err PipeError.ClosedByInterrupt) = refl
 mark_said (Err PipeError.AsynchronousClose) = refl
 mark_said (Err PipeError.BrokenPipe) = refl
 
--- What a write answers of the room that it found: it took fewer bytes than it was given only where no room is left.
+-- What a write says beside the bytes that it takes: it takes fewer than it was given only where no room is left then,
+-- and loses no free place.
 pub record FindsRoom (bytes : List ℕ) (old new : PipeSink) (answer : Result PipeWrite PipeError) : Type 0 where
   pub most : OnOk answer (bytes_written answer < length bytes → free new ≡ 0)
   pub places : OnOk answer (free old ≤ free new + bytes_written answer)
@@ -483,8 +480,7 @@ sink_written c bytes old new answer its same takes marks finds =
       ended = λ was.
           ap (λ (xs : List ℕ). xs ++ []) here ∙ ap (λ (k : ℕ). take k bytes ++ []) (takes.ended was);
       takes = λ room few.
-          let found = write_finds bytes old new room few answer finds in
-          (
+          let found = write_finds bytes old new room few answer finds in (
             found.0,
             (
               one_takes (sink_chan old) (Script (call.Pwrite c bytes)) r room found.0
@@ -588,13 +584,12 @@ sink_closed c old new closes its same keeps marks =
       mark = marks
           ∙ (or_true (is_marked old) ∙ ap (λ (b : Bool). is_marked old || (b || false)) (sym here));
       ended = λ _. refl;
-      takes = λ room few.
-          (
-            0,
-            (
-              one_takes (sink_chan old) (Script (call.Closec c)) r room 0
-                  (close_takes_here c r (sink_chan old) room (sym its)),
-              omega arith,
-            ),
-          );
+      takes = λ room few. (
+        0,
+        (
+          one_takes (sink_chan old) (Script (call.Closec c)) r room 0
+              (close_takes_here c r (sink_chan old) room (sym its)),
+          omega arith,
+        ),
+      );
     }

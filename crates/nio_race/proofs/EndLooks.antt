@@ -22,8 +22,8 @@ use Rattle.nio_orderly.specs.Made.{find_channel, read, write}
 use Rattle.nio_pipe.specs.Answers.{bytes_read, bytes_written, leaves_mark, read_answer, read_waits, write_answer}
 use Rattle.nio_pipe.specs.Answers.{write_waits}
 use Rattle.nio_pipe.specs.Calls.{HasEnds, WaitsToRead, WaitsToWrite}
-use Rattle.nio_pipe.specs.Ends.{GivesBytes, IsAtEnd, IsSameSink, IsSameSource, KnowsNothing, TakesBytes, free, is_marked}
-use Rattle.nio_pipe.specs.Ends.{known, other_chan, sink_chan, source_chan}
+use Rattle.nio_pipe.specs.Ends.{GivesBytes, IsAtEnd, IsSameSink, IsSameSource, KnowsNothing, TakesBytes, free}
+use Rattle.nio_pipe.specs.Ends.{is_marked, known, other_chan, sink_chan, source_chan}
 use Rattle.nio_pipe.specs.declared.answers.PipeRead.{PipeRead}
 use Rattle.nio_pipe.specs.declared.answers.PipeWrite.{PipeWrite}
 use Rattle.nio_pipe.specs.declared.sink.PipeSink.{PipeSink}
@@ -44,8 +44,8 @@ use Rattle.nio_words.specs.Passes.{IsReady, acts_seen, limits_of}
 use Rattle.nio_words.specs.Views.{view}
 use Rattle.nio_words.specs.declared.words.Pass.{Pass}
 use Rattle.nio_words.specs.declared.words.Words.{Words}
-use Rattle.nio_race.proofs.EndLines.{FindsRoom, read_goes_on, read_said, read_stays, sink_written, source_read, write_goes_on}
-use Rattle.nio_race.proofs.EndLines.{write_said, write_stays}
+use Rattle.nio_race.proofs.EndLines.{FindsRoom, read_goes_on, read_said, read_stays, sink_written, source_read}
+use Rattle.nio_race.proofs.EndLines.{write_goes_on, write_said, write_stays}
 use Rattle.nio_race.proofs.EndLists.{differ_set, find_none, find_some}
 use Rattle.nio_race.proofs.EndSays.{read_zero, reads_to, writes_to}
 use Rattle.nio_race.proofs.LineEnds.{ends_still_made}
@@ -216,7 +216,7 @@ has_read w c acts (Ok answer) waits =
     record { none = read_waits (Ok answer); found = Ok waits.0; reads = waits.1 }
 has_read w c acts (Err refusal) waits = record { none = false; found = Err refusal; reads = waits }
 
--- it gave no byte, and nothing was to be looked for: it had no place for one
+-- a read that answers `Bytes 0` had no place for a byte
 asked_nothing : {n : ℕ} (before : List ℕ) (answer : Result PipeRead PipeError) (marked : Bool)
     → length before ≡ min 65536 n → IfOk answer (λ a. a ≡ read_answer (length before) (bytes_read answer) marked)
     → answer ≡ Ok (PipeRead.Bytes 0) → n ≡ 0

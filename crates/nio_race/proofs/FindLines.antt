@@ -1,4 +1,4 @@
--- What lines find in a pipe: one line after the other, and lines that leave what is known.
+-- What lines find in a pipe: lemmas of lines one after the other, and of lines that leave what is known.
 use Rattle.std.proofs.Common.{◌≡◌, ℕ, ◌≤◌, Bool, true, false, IsTrue, IsFalse, List, [], ◌∷◌, ◌++◌, length, drop}
 use Rattle.std.proofs.Common.{refl, sym, ap, subst, arith, ⊎_elim}
 use Rattle.std.proofs.lemmas.Bool.{cases_eq}

@@ -34,7 +34,7 @@ use Rattle.nio_race.specs.Ends.{AreEach, EndsGoOn, HasMadeEnds, SinkGoesOn, Sour
 use Rattle.nio_race.specs.PipeBytes.{TellsEnd, all_read, all_written, ends_by, ends_in, leave_end, read_by, read_in}
 use Rattle.nio_race.specs.PipeBytes.{written_by, written_in}
 use Rattle.nio_race.specs.PipeFinds.{Awaited, LinesFind, LinesTake}
-use Rattle.nio_race.specs.Piping.{OwnedEnds, PipeUse, neither, reads, use_of}
+use Rattle.nio_race.specs.Piping.{OwnedEnds, PipeUse, neither, reads}
 use Rattle.nio_race.specs.Racers.{StandsFor, StandsWith}
 use Rattle.nio_race.specs.Runs.{AreRaceLines}
 use Rattle.nio_race.specs.declared.ends.OwnEnds.{OwnEnds}
@@ -171,7 +171,7 @@ or-assoc : (a b c : Bool) → ((a || b) || c) ≡ (a || (b || c))
 or-assoc true b c = refl
 or-assoc false b c = refl
 
--- the lines read and write nothing, leave no mark, and find nothing
+-- the lines read and write nothing, leave no mark, and leave what is known of the pipes
 pub ends_stay : (lines : List (RaceCall × Reply)) (ends : OwnEnds)
     → ((c : ChanNo) → all_read c lines ≡ []) → ((c : ChanNo) → all_written c lines ≡ [])
     → ((c : ChanNo) → leave_end c lines ≡ false) → ((c : ChanNo) → TellsEnd c lines → ⊥)
@@ -278,8 +278,7 @@ source_more xs ys a b c p q =
           let first = p.finds x knows in
           let second = q.finds first.0 first.1.1 in
           let later : LinesFind (source_chan a) ys first.0 second.0 =
-          subst (λ (k : ChanNo). LinesFind k ys first.0 second.0) chan second.1.0 in
-          (
+          subst (λ (k : ChanNo). LinesFind k ys first.0 second.0) chan second.1.0 in (
             second.0,
             (find_append (source_chan a) xs ys x first.0 second.0 first.1.0 later, second.1.1),
           );
@@ -312,8 +311,7 @@ sink_more xs ys a b c p q =
           let first = p.takes room few in
           let second = q.takes first.0 first.1.1 in
           let later : LinesTake (sink_chan a) ys first.0 second.0 =
-          subst (λ (k : ChanNo). LinesTake k ys first.0 second.0) chan second.1.0 in
-          (
+          subst (λ (k : ChanNo). LinesTake k ys first.0 second.0) chan second.1.0 in (
             second.0,
             (take_append (sink_chan a) xs ys room first.0 second.0 first.1.0 later, second.1.1),
           );
