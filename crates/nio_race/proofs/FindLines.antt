@@ -87,8 +87,8 @@ KeepsRoom c word r = (room : ℕ) → (left : ℕ) × (LineTakes c (Script word)
 module _ (c : ChanNo) (bytes : List ℕ) (r : Reply) where
   pub write_takes_here : (x : ChanNo) (before after : ℕ) → c ≡ x → WriteFinds bytes before r after
       → LineTakes x (Script (call.Pwrite c bytes)) r before after
-  write_takes_here x before after same takes =
-      (λ _. takes, λ other. absurd (other (ap (λ (y : ChanNo). y.0) same)))
+  write_takes_here x before after same finds =
+      (λ _. finds, λ other. absurd (other (ap (λ (y : ChanNo). y.0) same)))
 
   pub write_takes_elsewhere : (x : ChanNo) → (x.0 ≡ c.0 → ⊥) → KeepsRoom x (call.Pwrite c bytes) r
   write_takes_elsewhere x other = λ room. (room, ((λ same. absurd (other (sym same)), λ _. refl), omega arith))
