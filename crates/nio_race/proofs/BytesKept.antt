@@ -1,7 +1,8 @@
 -- The bytes of a pipe, from the setup's lines, what waited at `go`, and the lines behind it.
-use Rattle.std.proofs.Common.{◌≡◌, ℕ, ◌<◌, ◌⊎◌, Bool, true, false, ◌||◌, IsTrue, List, [], ◌∷◌, ◌++◌, length, All, inl}
-use Rattle.std.proofs.Common.{inr, ⊎_elim, refl, sym, ap, ◌∙◌, subst, append_assoc, append-nil}
+use Rattle.std.proofs.Common.{◌≡◌, ℕ, ◌+◌, ◌<◌, ◌≤◌, ◌⊎◌, Bool, true, false, ◌||◌, IsTrue, List, [], ◌∷◌, ◌++◌, length}
+use Rattle.std.proofs.Common.{All, inl, inr, ⊎_elim, refl, sym, ap, ◌∙◌, subst, append_assoc, append-nil, arith}
 use Rattle.std.proofs.lemmas.Grind.{flat_map-append}
+use Rattle.std.proofs.lemmas.List.{length-append}
 use Rattle.std.proofs.lemmas.List.Elements.{Contains-append_cases}
 use Rattle.std.specs.List.{Contains, slice_index_or}
 use mathlib.Core.List.{IsPrefix}
@@ -22,7 +23,8 @@ use Rattle.nio_race.proofs.PairsRaced.{PipeGoesOn}
 use Rattle.nio_race.specs.Ends.{AreEach, HasMet, IsPartedAs, PartedPipe}
 use Rattle.nio_race.specs.PipeBytes.{KeepsBytes, TellsEnd, all_read, all_written, ends_in, leave_end, read_in}
 use Rattle.nio_race.specs.PipeBytes.{setup_lines, written_in}
-use Rattle.nio_race.specs.Race.{KeepsPipe, lines_by}
+use Rattle.nio_race.specs.PipeFinds.{Awaited, LinesFind, LinesTake, awaited_at_go, room_at_go}
+use Rattle.nio_race.specs.Race.{FindsInPipe, KeepsPipe, lines_by}
 use Rattle.nio_race.specs.Setup.{KeepsPipeOfSetup}
 
 -- ---- of lines and further lines
@@ -49,15 +51,24 @@ pub keeps_bytes : (source sink : ChanNo) (reads reads' writes writes' : List (Ra
     → marked ≡ leave_end sink writes
     → (TellsEnd source reads → IsTrue marked × (waiting ≡ []))
     → IsPrefix (all_read source reads') (waiting ++ all_written sink writes')
+    → length (waiting ++ all_written sink writes') ≤ length (all_read source reads') + 65536
     → (TellsEnd source reads' → all_read source reads' ≡ waiting ++ all_written sink writes')
     → (TellsEnd source reads' → IsTrue (marked || leave_end sink writes'))
     → (IsTrue marked → all_written sink writes' ≡ [])
     → KeepsBytes source sink (reads ++ reads') (writes ++ writes')
-keeps_bytes source sink reads reads' writes writes' waiting marked bytes mark told begins whole ended stopped = record {
+keeps_bytes source sink reads reads' writes writes' waiting marked bytes mark told begins few all ended stop = record {
   in_order = (begins.0, joined begins.0 begins.1);
+  few = omega (
+    arith,
+    few,
+    ap (λ (xs : List ℕ). length xs) begins.1,
+    length-append (all_read source reads') begins.0,
+    ap (λ (xs : List ℕ). length xs) (joined begins.0 begins.1),
+    length-append (all_read source (reads ++ reads')) begins.0,
+  );
   whole = λ tells. ⊎_elim
       (λ (there : TellsEnd source reads). all_of (nothing_more (told there)))
-      (λ (later : TellsEnd source reads'). all_of (whole later)) (cases tells);
+      (λ (later : TellsEnd source reads'). all_of (all later)) (cases tells);
   ended = λ tells. ⊎_elim
       (λ (there : TellsEnd source reads).
       leave_end-append sink writes writes' ∙ ap (λ (b : Bool). b || leave_end sink writes') (sym mark ∙ (told there).0))
@@ -91,7 +102,7 @@ keeps_bytes source sink reads reads' writes writes' waiting marked bytes mark to
     nothing_more : IsTrue marked × (waiting ≡ []) → all_read source reads' ≡ waiting ++ all_written sink writes'
     nothing_more at_end =
         let none : waiting ++ all_written sink writes' ≡ [] =
-        ap (λ (xs : List ℕ). xs ++ all_written sink writes') at_end.1 ∙ stopped at_end.0 in
+        ap (λ (xs : List ℕ). xs ++ all_written sink writes') at_end.1 ∙ stop at_end.0 in
         no_front (all_read source reads') begins.0 (begins.1 ∙ none) ∙ sym none
 
 -- ---- of a pipe
@@ -104,6 +115,7 @@ keeps_pipe l setup race replies p x y kept parted on met =
     (lines p.writer) p.waiting p.marked kept.bytes kept.mark kept.told
     (subst (λ (xs : List ℕ). IsPrefix xs (p.waiting ++ all_written p.sink (lines p.writer))) was_read
     (subst (λ (xs : List ℕ). IsPrefix (received y.source) xs) was_sent met.in_order))
+    (omega (arith, met.few, ap (λ (xs : List ℕ). length xs) was_read, ap (λ (xs : List ℕ). length xs) was_sent))
     (λ tells. sym was_read ∙ (met.whole (at_end tells) ∙ was_sent))
     (λ tells. sym was_marked ∙ met.ended (at_end tells))
     (λ marked. ap (λ (c : ChanNo). all_written c (lines p.writer)) (sym parted.sink)
@@ -153,3 +165,41 @@ keep_pipes l setup race replies pipes parted after kept each on met k d below =
     keeps_pipe l setup race replies p x.0 y.0 (kept k d below)
     (each.each k p x.0 below (at_itself pipes k d below) x.1)
     (on.each k x.0 y.0 second x.1 y.1) (all-at HasMet after k y.0 third y.1 met)
+
+-- ---- what the lines find
+
+pub finds_in_pipe : (race : List RaceLine) (replies : CallerNo → List Reply) (p : Pipe) (x y : PartedPipe)
+    → IsPartedAs p x → PipeGoesOn (λ n. lines_by n race replies) x y → FindsInPipe race replies p
+finds_in_pipe race replies p x y parted on = record {
+  reads =
+      let found = on.source.finds (awaited_at_go p) parted.known in
+      let last : Awaited = found.0 in (
+        last,
+        subst (λ (n : CallerNo). LinesFind p.source (lines n) (awaited_at_go p) last) parted.reader
+            (subst (λ (c : ChanNo). LinesFind c (lines x.owners.reader) (awaited_at_go p) last) parted.source
+            found.1.0),
+      );
+  takes =
+      let left = on.sink.takes (room_at_go p) parted.room in
+      let last : ℕ = left.0 in (
+        last,
+        subst (λ (n : CallerNo). LinesTake p.sink (lines n) (room_at_go p) last) parted.writer
+            (subst (λ (c : ChanNo). LinesTake c (lines x.owners.writer) (room_at_go p) last) parted.sink left.1.0),
+      );
+}
+  where
+    lines : CallerNo → List (RaceCall × Reply)
+    lines n = lines_by n race replies
+
+-- So it is with each pipe, place by place.
+pub find_in_pipes : (race : List RaceLine) (replies : CallerNo → List Reply) (pipes : List Pipe)
+    (parted after : List PartedPipe) → AreEach IsPartedAs pipes parted
+    → AreEach (PipeGoesOn (λ n. lines_by n race replies)) parted after → All (FindsInPipe race replies) pipes
+find_in_pipes race replies pipes parted after each on k d below =
+    let second : k < length parted = subst (λ (m : ℕ). k < m) (sym each.count) below in
+    let third : k < length after = subst (λ (m : ℕ). k < m) (sym on.count) second in
+    let p = slice_index_or pipes k d in
+    let x = standing parted k second in
+    let y = standing after k third in
+    finds_in_pipe race replies p x.0 y.0 (each.each k p x.0 below (at_itself pipes k d below) x.1)
+    (on.each k x.0 y.0 second x.1 y.1)

@@ -1,20 +1,23 @@
 -- What a line on the bytes of a pipe does to the ends that its caller owns.
-use Rattle.std.proofs.Common.{◌≡◌, ◌≢◌, ℕ, ◌<◌, ◌==◌, Bool, true, false, ◌||◌, ◌&&◌, if◌then◌else◌}
-use Rattle.std.proofs.Common.{Result, Ok, Err, List, [], ◌∷◌, ◌++◌, length, get_or, set, take, position}
-use Rattle.std.proofs.Common.{None, refl, sym, ap, ◌∙◌, subst, eqb-true, eq-eqb}
-use Rattle.std.proofs.lemmas.Bool.{cond-false, cond-true, ne_eqb}
-use Rattle.std.proofs.lemmas.List.{append-nil}
+use Rattle.std.proofs.Common.{◌≡◌, ◌≢◌, ℕ, zero, suc, ◌+◌, ◌-◌, ◌<◌, ◌≤◌, ◌==◌, min, Bool, true, false, ◌||◌, ◌&&◌}
+use Rattle.std.proofs.Common.{if◌then◌else◌, IsTrue, Result, Ok, Err, List, [], ◌∷◌, ◌++◌, length, get_or, set, take}
+use Rattle.std.proofs.Common.{drop, position, None, refl, sym, ap, ◌∙◌, subst, eqb-true, eq-eqb, arith, ⊎_elim}
+use Rattle.std.proofs.Common.{length-append}
+use Rattle.std.proofs.Math.Nat.{le_refl, le_trans}
+use Rattle.std.proofs.lemmas.Bool.{cases_lt, cond-false, cond-true, ne_eqb}
+use Rattle.std.proofs.lemmas.List.{append-nil, length-take-le}
 use Rattle.std.specs.List.{AllPairs}
-use Rattle.std.specs.Prelude.{Vec}
+use Rattle.std.specs.Prelude.{OnOk, Vec}
 use Rattle.std.specs.declared.alloc.Global.{Global}
+use mathlib.Core.List.{IsPrefix}
 use Rattle.nio_base.specs.declared.numbers.ChanNo.{ChanNo}
 use Rattle.nio_event.specs.declared.call.Call.{Call}
 use Rattle.nio_event.specs.declared.call.Call.TheVariants as call
 use Rattle.nio_event.specs.declared.reply.Reply.{Reply}
 use Rattle.nio_event.specs.declared.reply.Reply.TheVariants as reply
 use Rattle.nio_pipe.specs.Answers.{bytes_read, bytes_written, leaves_mark}
-use Rattle.nio_pipe.specs.Ends.{GivesBytes, IsAtEnd, IsSameSink, IsSameSource, TakesBytes, is_marked, known, received}
-use Rattle.nio_pipe.specs.Ends.{sent, sink_chan, source_chan}
+use Rattle.nio_pipe.specs.Ends.{GivesBytes, IsAtEnd, IsSameSink, IsSameSource, KnowsNothing, TakesBytes, free}
+use Rattle.nio_pipe.specs.Ends.{is_marked, known, received, sent, sink_chan, source_chan}
 use Rattle.nio_pipe.specs.declared.answers.PipeRead.{PipeRead}
 use Rattle.nio_pipe.specs.declared.answers.PipeWrite.{PipeWrite}
 use Rattle.nio_pipe.specs.declared.sink.PipeSink.{PipeSink}
@@ -24,10 +27,15 @@ use Rattle.nio_race_text.specs.declared.call.RaceCall.TheVariants.{Script}
 use Rattle.nio_serial.specs.Replies.{closed_reply, pipe_refusal}
 use Rattle.nio_sole.specs.PipeReplies.{read_reply, write_reply}
 use Rattle.nio_steps.specs.declared.refusal.PipeError.{PipeError}
+use Rattle.nio_words.proofs.Beginnings.{prefix_length, prefix_trans}
 use Rattle.nio_race.proofs.EndLists.{each_itself, each_set, none_passes, other_number}
+use Rattle.nio_race.proofs.FindLines.{KeepsRoom, close_keeps_room, close_takes_here, is_false, one_finds, one_takes}
+use Rattle.nio_race.proofs.FindLines.{prefix_drop, prefix_none, read_finds_elsewhere, read_finds_here}
+use Rattle.nio_race.proofs.FindLines.{write_keeps_room, write_takes_elsewhere, write_takes_here}
 use Rattle.nio_race.proofs.LineEnds.{same_sink_self, same_source_self, told_alone}
-use Rattle.nio_race.specs.Ends.{AreEach, EndsGoOn, SinkGoesOn, SourceGoesOn}
+use Rattle.nio_race.specs.Ends.{AreEach, EndsGoOn, KnowsAwaited, SinkGoesOn, SourceGoesOn}
 use Rattle.nio_race.specs.PipeBytes.{TellsEnd, bytes_of, ends_in, number_of, read_in, says_closed, written_in}
+use Rattle.nio_race.specs.PipeFinds.{Awaited, LineFinds, ReadFinds, WriteFinds}
 use Rattle.nio_race.specs.declared.ends.OwnEnds.{OwnEnds}
 
 abbrev pub the_line : Call → Reply → List (RaceCall × Reply)
@@ -48,21 +56,27 @@ same_channel a b other same =
 -- ---- ends that a line leaves as they are
 
 pub source_stays : (word : Call) (r : Reply) (x : PipeSource) → read_in (source_chan x) (Script word) r ≡ []
-    → (TellsEnd (source_chan x) (the_line word r) → ⊥) → SourceGoesOn (the_line word r) x x
-source_stays word r x unread untold = record {
+    → (TellsEnd (source_chan x) (the_line word r) → ⊥)
+    → ((a : Awaited) → LineFinds (source_chan x) (Script word) r a a) → SourceGoesOn (the_line word r) x x
+source_stays word r x unread untold unfound = record {
   same = same_source_self x;
   received = sym (ap (λ (bytes : List ℕ). received x ++ (bytes ++ [])) unread ∙ append-nil (received x));
   tells_end = λ told. absurd (untold told);
   stays = λ at_end. at_end;
+  finds = λ a knows. (a, (one_finds (source_chan x) (Script word) r a a (unfound a), knows));
 }
 
 pub sink_stays : (word : Call) (r : Reply) (x : PipeSink) → written_in (sink_chan x) (Script word) r ≡ []
-    → ends_in (sink_chan x) (Script word) r ≡ false → SinkGoesOn (the_line word r) x x
-sink_stays word r x unwritten unmarked = record {
+    → ends_in (sink_chan x) (Script word) r ≡ false → KeepsRoom (sink_chan x) word r
+    → SinkGoesOn (the_line word r) x x
+sink_stays word r x unwritten unmarked keeps = record {
   same = same_sink_self x;
   sent = sym (ap (λ (bytes : List ℕ). sent x ++ (bytes ++ [])) unwritten ∙ append-nil (sent x));
   mark = or_false (is_marked x) ∙ ap (λ (b : Bool). is_marked x || (b || false)) (sym unmarked);
   ended = λ _. ap (λ (bytes : List ℕ). bytes ++ []) unwritten;
+  takes = λ room few.
+      let kept = keeps room in
+      (kept.0, (one_takes (sink_chan x) (Script word) r room kept.0 kept.1.0, le_trans kept.1.1 few));
 }
 
 -- a line that is no read tells no end
@@ -98,14 +112,16 @@ module _ (c : ChanNo) (n : ℕ) (r : Reply) where
 
   sinks_stay : (sinks : List PipeSink) (k : ℕ) (x : PipeSink) → k < length sinks → get_or sinks k x ≡ x
       → SinkGoesOn (the_line Read r) x x
-  sinks_stay sinks k x within at = sink_stays Read r x refl refl
+  sinks_stay sinks k x within at = sink_stays Read r x refl refl (λ room. (room, (refl, le_refl room)))
 
   -- it read nothing, and told no end
-  pub read_stays : (ends : OwnEnds) → bytes_of r ≡ [] → (r ≡ reply.End → ⊥) → EndsGoOn (the_line Read r) ends ends
-  read_stays ends none untold = record {
+  pub read_stays : (ends : OwnEnds) → bytes_of r ≡ [] → (r ≡ reply.End → ⊥) → ((a : Awaited) → ReadFinds n a r a)
+      → EndsGoOn (the_line Read r) ends ends
+  read_stays ends none untold unfound = record {
     sources = each_itself (SourceGoesOn (the_line Read r)) ends.sources.items
         (λ k x within at. source_stays Read r x (read_nothing (source_chan x) none)
-        (λ told. untold (end_said Read r (source_chan x) told)));
+        (λ told. untold (end_said Read r (source_chan x) told))
+        (λ a. (λ _. unfound a, λ _. refl)));
     sinks = each_itself (SinkGoesOn (the_line Read r)) ends.sinks.items (sinks_stay ends.sinks.items);
   }
 
@@ -131,6 +147,7 @@ module _ (c : ChanNo) (n : ℕ) (r : Reply) where
           source_stays Read r x (read_elsewhere (source_chan x) apart)
           (no_end Read r (source_chan x) (λ m same. let chan : c ≡ source_chan x = cc same in
           apart (ap (λ (y : ChanNo). y.0) (sym chan))))
+          (λ a. read_finds_elsewhere c n r (source_chan x) a apart)
 
 -- ---- what its reply tells
 
@@ -185,12 +202,125 @@ no_rest : (xs ys : List ℕ) → xs ++ ys ≡ [] → ys ≡ []
 no_rest [] ys none = none
 no_rest (x ∷ xs) ys none = absurd (cc none)
 
+no_front : (xs ys : List ℕ) → xs ++ ys ≡ [] → xs ≡ []
+no_front [] ys none = refl
+no_front (x ∷ xs) ys none = absurd (cc none)
+
+-- What a read says beside the bytes that it gives: how long its slice is, that it gave all that was known where the
+-- slice isn't full, and what its answers tell.
+pub record FindsBytes (n : ℕ) (old new : PipeSource) (before after : List ℕ) (answer : Result PipeRead PipeError)
+    : Type 0 where
+  pub room : length before ≡ min 65536 n
+  pub size : length after ≡ length before
+  pub most : OnOk answer (bytes_read answer < length before → known new ≡ [])
+  pub not_yet : answer ≡ Ok PipeRead.NotYet → KnowsNothing old × KnowsNothing new
+  pub at_end : answer ≡ Ok PipeRead.End → IsAtEnd new
+  pub asked : answer ≡ Ok (PipeRead.Bytes 0) → n ≡ 0
+
+module _ (old new : PipeSource) (before after : List ℕ) (given : ℕ) (gives : GivesBytes old new before after given)
+  where
+    stays_at_end : IsAtEnd old → IsAtEnd new
+    stays_at_end was = record {
+      marked = gives.end_stays was.marked;
+      no_byte = no_rest (take given after) (known new) (sym (gives.no_more was.marked) ∙ was.no_byte);
+    }
+
+    -- at the end it gives nothing
+    none_at_end : IsAtEnd old → take given after ≡ []
+    none_at_end was = no_front (take given after) (known new) (sym (gives.no_more was.marked) ∙ was.no_byte)
+
+    knows_ahead : (x : Awaited) → KnowsAwaited old x → IsPrefix x.bytes (take given after ++ known new)
+    knows_ahead x knows = prefix_trans x.bytes (known old) (take given after ++ known new) knows.bytes gives.known
+
+-- where it gave nothing
+knows_still : (old new : PipeSource) (before after : List ℕ) → GivesBytes old new before after 0 → (x : Awaited)
+    → KnowsAwaited old x → KnowsAwaited new x
+knows_still old new before after gives x knows = record {
+  bytes = knows_ahead old new before after 0 gives x knows;
+  marked = λ marked. gives.end_stays (knows.marked marked);
+  ended = λ ended. stays_at_end old new before after 0 gives (knows.ended ended);
+}
+
+-- what the read finds
+abbrev ReadGoesOn : ℕ → PipeSource → Reply → Awaited → Type 0
+ReadGoesOn n new r x = (y : Awaited) × (ReadFinds n x r y × KnowsAwaited new y)
+
+module _ (n : ℕ) (old new : PipeSource) (before after : List ℕ) (x : Awaited) (knows : KnowsAwaited old x) where
+  count_finds : (k : ℕ) → GivesBytes old new before after k
+      → FindsBytes n old new before after (Ok (PipeRead.Bytes k))
+      → ReadGoesOn n new (read_said (Ok (PipeRead.Bytes k)) after) x
+  count_finds zero gives finds =
+      (x, (ReadFinds.asks_for_nothing (finds.asked refl), knows_still old new before after gives x knows))
+  count_finds (suc k) gives finds =
+      let given : List ℕ = take (suc k) after in
+      let long : length given ≡ suc k = length-take-le (suc k) after (omega (arith, gives.fit, finds.size)) in
+      let some : (suc k == 0) ≡ false = ne_eqb (suc k) 0 (λ same. omega (arith, same)) in
+      let says : reply.Bytes given ≡ read_said (Ok (PipeRead.Bytes (suc k))) after =
+      sym (cond-false (suc k == 0) (reply.Number 0) (reply.Bytes given) some) in
+      let ahead : IsPrefix x.bytes (given ++ known new) = knows_ahead old new before after (suc k) gives x knows in
+      let fits : length x.bytes ≤ length (given ++ known new) = prefix_length x.bytes (given ++ known new) ahead in
+      let whole : length (given ++ known new) ≡ length given + length (known new) = length-append given (known new) in
+      let goes : IsTrue x.ended → ⊥ =
+      λ ended.
+      let none : take (suc k) after ≡ [] = none_at_end old new before after (suc k) gives (knows.ended ended) in
+      let clash : length given ≡ 0 = ap length none in omega (arith, clash, long) in
+      let enough : min (min 65536 n) (length x.bytes) ≤ length given =
+      ⊎_elim
+      (λ (less : suc k < length before).
+      let nothing : length (known new) ≡ 0 = ap length (finds.most less) in omega (arith, nothing, fits, whole))
+      (λ (all : length before ≤ suc k). omega (arith, all, long, finds.room))
+      (cases_lt (suc k) (length before)) in
+      let y : Awaited = record x { bytes = drop (length given) x.bytes } in (
+        y,
+        (
+          subst (λ (r : Reply). ReadFinds n x r y) says (ReadFinds.gives given (is_false x.ended goes) enough),
+          record {
+            bytes = prefix_drop x.bytes given (known new) ahead;
+            marked = λ marked. gives.end_stays (knows.marked marked);
+            ended = λ ended. absurd (goes ended);
+          },
+        ),
+      )
+
+  read_finds : (answer : Result PipeRead PipeError) → GivesBytes old new before after (bytes_read answer)
+      → FindsBytes n old new before after answer → ReadGoesOn n new (read_said answer after) x
+  read_finds (Ok (PipeRead.Bytes k)) gives finds = count_finds k gives finds
+  read_finds (Ok PipeRead.End) gives finds =
+      let at_end : IsAtEnd new = finds.at_end refl in
+      let ahead : IsPrefix x.bytes [] =
+      subst (λ (xs : List ℕ). IsPrefix x.bytes xs) at_end.no_byte
+      (knows_ahead old new before after 0 gives x knows) in (
+        record { bytes = []; marked = true; ended = true },
+        (
+          ReadFinds.tells_end (prefix_none x.bytes ahead),
+          record {
+            bytes = (known new, refl);
+            marked = λ _. at_end.marked;
+            ended = λ _. at_end;
+          },
+        ),
+      )
+  read_finds (Ok PipeRead.NotYet) gives finds =
+      let nothing : KnowsNothing old = (finds.not_yet refl).0 in
+      let none : x.bytes ≡ [] =
+      prefix_none x.bytes (subst (λ (xs : List ℕ). IsPrefix x.bytes xs) nothing.no_byte knows.bytes) in
+      let unmarked : IsTrue x.marked → ⊥ =
+      λ marked. let clash : true ≡ false = sym (knows.marked marked) ∙ nothing.no_mark in absurd (cc clash) in (
+        x,
+        (
+          ReadFinds.finds_nothing none (is_false x.marked unmarked),
+          knows_still old new before after gives x knows,
+        ),
+      )
+  read_finds (Err refusal) gives finds =
+      (x, (ReadFinds.is_refused refusal, knows_still old new before after gives x knows))
+
 -- the read source
 pub source_read : (c : ChanNo) (n : ℕ) (old new : PipeSource) (before after : List ℕ)
     (answer : Result PipeRead PipeError) → source_chan old ≡ c → IsSameSource old new
-    → GivesBytes old new before after (bytes_read answer) → (answer ≡ Ok PipeRead.End → IsAtEnd new)
+    → GivesBytes old new before after (bytes_read answer) → FindsBytes n old new before after answer
     → SourceGoesOn (the_line (call.Pread c n) (read_said answer after)) old new
-source_read c n old new before after answer its same gives at_end =
+source_read c n old new before after answer its same gives finds =
     let r = read_said answer after in
     record {
       same = same;
@@ -200,11 +330,18 @@ source_read c n old new before after answer its same gives at_end =
           ∙ ap (λ (bytes : List ℕ). received old ++ bytes)
           (sym (ap (λ (bytes : List ℕ). bytes ++ []) (read_here c n r (source_chan old) (sym its))
           ∙ append-nil (bytes_of r))));
-      tells_end = λ told. at_end (end_answered answer after (end_said (call.Pread c n) r (source_chan old) told));
-      stays = λ was. record {
-        marked = gives.end_stays was.marked;
-        no_byte = no_rest (take (bytes_read answer) after) (known new) (sym (gives.no_more was.marked) ∙ was.no_byte);
-      };
+      tells_end = λ told.
+          finds.at_end (end_answered answer after (end_said (call.Pread c n) r (source_chan old) told));
+      stays = stays_at_end old new before after (bytes_read answer) gives;
+      finds = λ x knows.
+          let found = read_finds n old new before after x knows answer gives finds in (
+            found.0,
+            (
+              one_finds (source_chan old) (Script (call.Pread c n)) r x found.0
+                  (read_finds_here c n r (source_chan old) x found.0 (sym its) found.1.0),
+              found.1.1,
+            ),
+          );
     }
 
 -- ---- a write
@@ -246,14 +383,16 @@ module _ (c : ChanNo) (bytes : List ℕ) (r : Reply) where
   sources_stay : (sources : List PipeSource) (k : ℕ) (x : PipeSource) → k < length sources → get_or sources k x ≡ x
       → SourceGoesOn (the_line Write r) x x
   sources_stay sources k x within at =
-      source_stays Write r x refl (no_end Write r (source_chan x) (λ n same. absurd (cc same)))
+      source_stays Write r x refl (no_end Write r (source_chan x) (λ n same. absurd (cc same))) (λ a. refl)
 
-  pub write_stays : (ends : OwnEnds) → number_of r ≡ 0 → says_closed r ≡ false → EndsGoOn (the_line Write r) ends ends
-  write_stays ends none unclosed = record {
+  pub write_stays : (ends : OwnEnds) → number_of r ≡ 0 → says_closed r ≡ false
+      → ((room : ℕ) → WriteFinds bytes room r room) → EndsGoOn (the_line Write r) ends ends
+  write_stays ends none unclosed leaves = record {
     sources = each_itself (SourceGoesOn (the_line Write r)) ends.sources.items (sources_stay ends.sources.items);
     sinks = each_itself (SinkGoesOn (the_line Write r)) ends.sinks.items
         (λ k x within at.
-        sink_stays Write r x (write_nothing (sink_chan x) none) (mark_nothing (sink_chan x) unclosed));
+        sink_stays Write r x (write_nothing (sink_chan x) none) (mark_nothing (sink_chan x) unclosed)
+        (write_keeps_room c bytes r (sink_chan x) leaves));
   }
 
   -- the sink at one place went on
@@ -276,6 +415,7 @@ module _ (c : ChanNo) (bytes : List ℕ) (r : Reply) where
           λ same. other_number (λ (s : PipeSink). (sink_chan s).0) ends.sinks.items place k old x differ inside here
           other within at (same ∙ ap (λ (y : ChanNo). y.0) (sym its)) in
           sink_stays Write r x (write_elsewhere (sink_chan x) apart) (mark_elsewhere (sink_chan x) apart)
+          (write_takes_elsewhere c bytes r (sink_chan x) apart)
 
 -- ---- what its reply tells
 
@@ -299,12 +439,32 @@ mark_said (Err PipeError.ClosedByInterrupt) = refl
 mark_said (Err PipeError.AsynchronousClose) = refl
 mark_said (Err PipeError.BrokenPipe) = refl
 
+-- What a write says beside the bytes that it takes: it takes fewer than it was given only where no room is left then,
+-- and loses no free place.
+pub record FindsRoom (bytes : List ℕ) (old new : PipeSink) (answer : Result PipeWrite PipeError) : Type 0 where
+  pub most : OnOk answer (bytes_written answer < length bytes → free new ≡ 0)
+  pub places : OnOk answer (free old ≤ free new + bytes_written answer)
+
+module _ (bytes : List ℕ) (old new : PipeSink) (room : ℕ) (few : room ≤ free old) where
+  count_takes : (k : ℕ) → (k < length bytes → free new ≡ 0) → free old ≤ free new + k
+      → (left : ℕ) × (WriteFinds bytes room (reply.Number k) left × (left ≤ free new))
+  count_takes k most places =
+      let all : k < length bytes → room ≤ k =
+      λ less. let none : free new ≡ 0 = most less in omega (arith, none, places, few) in
+      (room - k, (WriteFinds.takes k all, omega (arith, places, few)))
+
+  write_finds : (answer : Result PipeWrite PipeError) → FindsRoom bytes old new answer
+      → (left : ℕ) × (WriteFinds bytes room (write_said answer) left × (left ≤ free new))
+  write_finds (Ok (PipeWrite.Bytes k)) finds = count_takes k finds.most finds.places
+  write_finds (Ok PipeWrite.NotYet) finds = count_takes 0 finds.most finds.places
+  write_finds (Err refusal) finds = (0, (WriteFinds.is_refused refusal, omega arith))
+
 -- the written sink
 pub sink_written : (c : ChanNo) (bytes : List ℕ) (old new : PipeSink) (answer : Result PipeWrite PipeError)
     → sink_chan old ≡ c → IsSameSink old new → TakesBytes old new bytes (bytes_written answer)
-    → is_marked new ≡ (is_marked old || leaves_mark answer)
+    → is_marked new ≡ (is_marked old || leaves_mark answer) → FindsRoom bytes old new answer
     → SinkGoesOn (the_line (call.Pwrite c bytes) (write_said answer)) old new
-sink_written c bytes old new answer its same takes marks =
+sink_written c bytes old new answer its same takes marks finds =
     let r = write_said answer in
     let here : written_in (sink_chan old) (Script (call.Pwrite c bytes)) r ≡ take (bytes_written answer) bytes =
     write_here c bytes r (sink_chan old) (sym its) ∙ ap (λ (k : ℕ). take k bytes) (number_said answer) in
@@ -319,6 +479,15 @@ sink_written c bytes old new answer its same takes marks =
           ∙ or_false (ends_in (sink_chan old) (Script (call.Pwrite c bytes)) r)));
       ended = λ was.
           ap (λ (xs : List ℕ). xs ++ []) here ∙ ap (λ (k : ℕ). take k bytes ++ []) (takes.ended was);
+      takes = λ room few.
+          let found = write_finds bytes old new room few answer finds in (
+            found.0,
+            (
+              one_takes (sink_chan old) (Script (call.Pwrite c bytes)) r room found.0
+                  (write_takes_here c bytes r (sink_chan old) room found.0 (sym its) found.1.0),
+              found.1.1,
+            ),
+          );
     }
 
 -- ---- a closing
@@ -341,7 +510,7 @@ module _ (c : ChanNo) (r : Reply) where
   close_sources_stay : (sources : List PipeSource) (k : ℕ) (x : PipeSource) → k < length sources
       → get_or sources k x ≡ x → SourceGoesOn (the_line Closing r) x x
   close_sources_stay sources k x within at =
-      source_stays Closing r x refl (no_end Closing r (source_chan x) (λ n same. absurd (cc same)))
+      source_stays Closing r x refl (no_end Closing r (source_chan x) (λ n same. absurd (cc same))) (λ a. refl)
 
   -- it closed nothing
   pub close_stays : (ends : OwnEnds) → says_closed r ≡ false → EndsGoOn (the_line Closing r) ends ends
@@ -349,7 +518,8 @@ module _ (c : ChanNo) (r : Reply) where
     sources = each_itself (SourceGoesOn (the_line Closing r)) ends.sources.items
         (close_sources_stay ends.sources.items);
     sinks = each_itself (SinkGoesOn (the_line Closing r)) ends.sinks.items
-        (λ k x within at. sink_stays Closing r x refl (ends_nothing (sink_chan x) unclosed));
+        (λ k x within at.
+        sink_stays Closing r x refl (ends_nothing (sink_chan x) unclosed) (close_keeps_room c r (sink_chan x)));
   }
 
   -- none of the sinks has the channel
@@ -359,7 +529,9 @@ module _ (c : ChanNo) (r : Reply) where
     sources = each_itself (SourceGoesOn (the_line Closing r)) ends.sources.items
         (close_sources_stay ends.sources.items);
     sinks = each_itself (SinkGoesOn (the_line Closing r)) ends.sinks.items
-        (λ k x within at. sink_stays Closing r x refl (ends_elsewhere (sink_chan x) (apart k x within at)));
+        (λ k x within at.
+        sink_stays Closing r x refl (ends_elsewhere (sink_chan x) (apart k x within at))
+        (close_keeps_room c r (sink_chan x)));
   }
     where
       apart : (k : ℕ) (x : PipeSink) → k < length ends.sinks.items → get_or ends.sinks.items k x ≡ x
@@ -392,7 +564,7 @@ module _ (c : ChanNo) (r : Reply) where
           let apart : (sink_chan x).0 ≡ c.0 → ⊥ =
           λ same. other_number (λ (s : PipeSink). (sink_chan s).0) ends.sinks.items place k old x differ inside here
           other within at (same ∙ ap (λ (y : ChanNo). y.0) (sym its)) in
-          sink_stays Closing r x refl (ends_elsewhere (sink_chan x) apart)
+          sink_stays Closing r x refl (ends_elsewhere (sink_chan x) apart) (close_keeps_room c r (sink_chan x))
 
 closed_said : (closes : Bool) → says_closed (closed_reply closes) ≡ true
 closed_said true = refl
@@ -412,4 +584,12 @@ sink_closed c old new closes its same keeps marks =
       mark = marks
           ∙ (or_true (is_marked old) ∙ ap (λ (b : Bool). is_marked old || (b || false)) (sym here));
       ended = λ _. refl;
+      takes = λ room few. (
+        0,
+        (
+          one_takes (sink_chan old) (Script (call.Closec c)) r room 0
+              (close_takes_here c r (sink_chan old) room (sym its)),
+          omega arith,
+        ),
+      );
     }

@@ -1,14 +1,14 @@
 -- A line on the bytes of a pipe: its look-up, its call, and what stands after it.
 use Rattle.std.proofs.Common.{◌≡◌, ◌≢◌, ℕ, ◌<◌, ◌==◌, Bool, true, false, ◌||◌, Option, Some, None, Result, Ok, Err}
 use Rattle.std.proofs.Common.{IfOk, List, [], length, get_or, min, set, position, All, refl, sym, ap, ◌∙◌}
-use Rattle.std.proofs.Common.{eqb-true, not, subst}
+use Rattle.std.proofs.Common.{eqb-true, not, subst, arith, ◌+◌, ◌≤◌}
 use Rattle.std.specs.Option.{is_some}
 use Rattle.std.proofs.Math.Logic.{∥∥₁_map}
 use Rattle.std.proofs.lemmas.List.{append-nil}
 use Rattle.std.proofs.lemmas.List.Elements.{All-set}
 use Rattle.std.proofs.lemmas.List.Quantifiers.{position-Some}
 use Rattle.std.specs.List.{AllPairs}
-use Rattle.std.specs.Prelude.{Vec}
+use Rattle.std.specs.Prelude.{OnOk, Vec}
 use Rattle.std.specs.declared.alloc.Global.{Global}
 use Rattle.nio_base.specs.declared.numbers.CallerNo.{CallerNo}
 use Rattle.nio_base.specs.declared.numbers.ChanNo.{ChanNo}
@@ -22,8 +22,8 @@ use Rattle.nio_orderly.specs.Made.{find_channel, read, write}
 use Rattle.nio_pipe.specs.Answers.{bytes_read, bytes_written, leaves_mark, read_answer, read_waits, write_answer}
 use Rattle.nio_pipe.specs.Answers.{write_waits}
 use Rattle.nio_pipe.specs.Calls.{HasEnds, WaitsToRead, WaitsToWrite}
-use Rattle.nio_pipe.specs.Ends.{GivesBytes, IsAtEnd, IsSameSink, IsSameSource, TakesBytes, is_marked, other_chan}
-use Rattle.nio_pipe.specs.Ends.{sink_chan, source_chan}
+use Rattle.nio_pipe.specs.Ends.{GivesBytes, IsAtEnd, IsSameSink, IsSameSource, KnowsNothing, TakesBytes, free}
+use Rattle.nio_pipe.specs.Ends.{is_marked, known, other_chan, sink_chan, source_chan}
 use Rattle.nio_pipe.specs.declared.answers.PipeRead.{PipeRead}
 use Rattle.nio_pipe.specs.declared.answers.PipeWrite.{PipeWrite}
 use Rattle.nio_pipe.specs.declared.sink.PipeSink.{PipeSink}
@@ -44,13 +44,14 @@ use Rattle.nio_words.specs.Passes.{IsReady, acts_seen, limits_of}
 use Rattle.nio_words.specs.Views.{view}
 use Rattle.nio_words.specs.declared.words.Pass.{Pass}
 use Rattle.nio_words.specs.declared.words.Words.{Words}
-use Rattle.nio_race.proofs.EndLines.{read_goes_on, read_said, read_stays, sink_written, source_read, write_goes_on}
-use Rattle.nio_race.proofs.EndLines.{write_said, write_stays}
+use Rattle.nio_race.proofs.EndLines.{FindsRoom, read_goes_on, read_said, read_stays, sink_written, source_read}
+use Rattle.nio_race.proofs.EndLines.{write_goes_on, write_said, write_stays}
 use Rattle.nio_race.proofs.EndLists.{differ_set, find_none, find_some}
-use Rattle.nio_race.proofs.EndSays.{reads_to, writes_to}
+use Rattle.nio_race.proofs.EndSays.{read_zero, reads_to, writes_to}
 use Rattle.nio_race.proofs.LineEnds.{ends_still_made}
 use Rattle.nio_race.proofs.Standing.{stands_made}
 use Rattle.nio_race.specs.Ends.{HasMadeEnds, ends_of, ends_of_sink}
+use Rattle.nio_race.specs.PipeFinds.{ReadFinds, WriteFinds}
 use Rattle.nio_race.specs.Piping.{LooksAndReads, LooksAndWrites, ReadsFound, ReadsOwn, WritesFound, WritesOwn, own_sink}
 use Rattle.nio_race.specs.Piping.{own_source}
 use Rattle.nio_race.specs.Racers.{CalledOn, StandsFor, StandsWith}
@@ -215,6 +216,18 @@ has_read w c acts (Ok answer) waits =
     record { none = read_waits (Ok answer); found = Ok waits.0; reads = waits.1 }
 has_read w c acts (Err refusal) waits = record { none = false; found = Err refusal; reads = waits }
 
+-- a read that answers `Bytes 0` had no place for a byte
+asked_nothing : {n : ℕ} (before : List ℕ) (answer : Result PipeRead PipeError) (marked : Bool)
+    → length before ≡ min 65536 n → IfOk answer (λ a. a ≡ read_answer (length before) (bytes_read answer) marked)
+    → answer ≡ Ok (PipeRead.Bytes 0) → n ≡ 0
+asked_nothing {n = n} before (Ok found) marked room answers is =
+    let none : found ≡ PipeRead.Bytes 0 = cc is in
+    let says : PipeRead.Bytes 0 ≡ read_answer (length before) 0 marked =
+    subst (λ (a : PipeRead). a ≡ read_answer (length before) (bytes_read (Ok a)) marked) none answers in
+    let empty : length before ≡ 0 = read_zero (length before) marked says in
+    omega (arith, empty, room)
+asked_nothing before (Err refusal) marked room answers is = absurd (cc is)
+
 module _ (w : Words) (d : Desk) (ends : OwnEnds) (me : CallerNo) (c : ChanNo) (n : ℕ) where
   -- the channel wasn't found
   pub reads_nowhere : (q : Pass) → LooksUp w me c d.pass q None
@@ -231,7 +244,8 @@ module _ (w : Words) (d : Desk) (ends : OwnEnds) (me : CallerNo) (c : ChanNo) (n
           runs_first = run;
           runs_second = (refl, refl);
         }) looks;
-    went_on = read_stays c n reply.NoChannel ends refl (λ same. absurd (cc same));
+    went_on = read_stays c n reply.NoChannel ends refl (λ same. absurd (cc same))
+        (λ a. ReadFinds.has_no_channel);
   }
 
   -- none of the sources has it
@@ -254,7 +268,8 @@ module _ (w : Words) (d : Desk) (ends : OwnEnds) (me : CallerNo) (c : ChanNo) (n
                   subst (λ (o : Option ChanNo). ReadsOwn (limits_of w) (progress_of d) c n o []
                   (record { reply = reply.NotOwner; left = progress_of d })) (sym own) (refl, refl);
             }) looks;
-        went_on = read_stays c n reply.NotOwner ends refl (λ same. absurd (cc same));
+        went_on = read_stays c n reply.NotOwner ends refl (λ same. absurd (cc same))
+            (λ a. ReadFinds.is_not_owner);
       }
 
   module _ (q q' : Pass) (found : ChanNo) (place : ℕ) (old new : PipeSource) (sources : Vec PipeSource Global)
@@ -276,10 +291,12 @@ module _ (w : Words) (d : Desk) (ends : OwnEnds) (me : CallerNo) (c : ChanNo) (n
     says_read : length before ≡ min 65536 n → length after ≡ length before
         → GivesBytes old new before after (bytes_read answer)
         → IfOk answer (λ a. a ≡ read_answer (length before) (bytes_read answer) marked)
+        → OnOk answer (bytes_read answer < length before → known new ≡ [])
+        → (answer ≡ Ok PipeRead.NotYet → KnowsNothing old × KnowsNothing new)
         → (answer ≡ Ok PipeRead.End → IsAtEnd new)
         → CalledOn w d (with_pass d q') ends (record ends { sources = sources }) me (call.Pread c n)
         (read_said answer after)
-    says_read room size gives answers at_end =
+    says_read room size gives answers most not_yet at_end =
         let r = read_said answer after in
         let own : own_source (ends_of ends) c ≡ Some (source_chan old) =
         find_some (λ (x : ChanNo). x.0 == c.0) source_chan ends.sources.items place old (sym at) here in
@@ -295,18 +312,27 @@ module _ (w : Words) (d : Desk) (ends : OwnEnds) (me : CallerNo) (c : ChanNo) (n
               )) reads_its);
           went_on =
               read_goes_on c n r ends place old new sources inside here its stands.made_ends.sources_differ items
-              (source_read c n old new before after answer its same gives at_end);
+              (source_read c n old new before after answer its same gives (record {
+                room = room;
+                size = size;
+                most = most;
+                not_yet = not_yet;
+                at_end = at_end;
+                asked = asked_nothing before answer marked room answers;
+              }));
         }
 
     pub reads_own : (r : Reply) → r ≡ read_said answer after → length before ≡ min 65536 n
         → length after ≡ length before → GivesBytes old new before after (bytes_read answer)
         → IfOk answer (λ a. a ≡ read_answer (length before) (bytes_read answer) marked)
+        → OnOk answer (bytes_read answer < length before → known new ≡ [])
+        → (answer ≡ Ok PipeRead.NotYet → KnowsNothing old × KnowsNothing new)
         → (answer ≡ Ok PipeRead.End → IsAtEnd new)
         → CalledOn w d (with_pass d q') ends (record ends { sources = sources }) me (call.Pread c n) r
-    reads_own r said room size gives answers at_end =
+    reads_own r said room size gives answers most not_yet at_end =
         subst
         (λ (x : Reply). CalledOn w d (with_pass d q') ends (record ends { sources = sources }) me (call.Pread c n) x)
-        (sym said) (says_read room size gives answers at_end)
+        (sym said) (says_read room size gives answers most not_yet at_end)
 
     pub stands_read : IsReady w q' me → StandsWith w (with_pass d q') (record ends { sources = sources }) me
     stands_read ready' =
@@ -356,7 +382,7 @@ module _ (w : Words) (d : Desk) (ends : OwnEnds) (me : CallerNo) (c : ChanNo) (b
           runs_first = run;
           runs_second = (refl, refl);
         }) looks;
-    went_on = write_stays c bytes reply.NoChannel ends refl refl;
+    went_on = write_stays c bytes reply.NoChannel ends refl refl (λ room. WriteFinds.has_no_channel);
   }
 
   pub writes_unowned : (q : Pass) (found : ChanNo) → LooksUp w me c d.pass q (Some found) → IsSinkPlace ends c None
@@ -378,7 +404,7 @@ module _ (w : Words) (d : Desk) (ends : OwnEnds) (me : CallerNo) (c : ChanNo) (b
                   subst (λ (o : Option PipeEnds). WritesOwn (limits_of w) (progress_of d) bytes o []
                   (record { reply = reply.NotOwner; left = progress_of d })) (sym own) (refl, refl);
             }) looks;
-        went_on = write_stays c bytes reply.NotOwner ends refl refl;
+        went_on = write_stays c bytes reply.NotOwner ends refl refl (λ room. WriteFinds.is_not_owner);
       }
 
   module _ (q q' : Pass) (found : ChanNo) (place : ℕ) (old new : PipeSink) (sinks : Vec PipeSink Global)
@@ -393,10 +419,10 @@ module _ (w : Words) (d : Desk) (ends : OwnEnds) (me : CallerNo) (c : ChanNo) (b
 
     says_written : TakesBytes old new bytes (bytes_written answer)
         → is_marked new ≡ (is_marked old || leaves_mark answer)
-        → IfOk answer (λ a. a ≡ write_answer (length bytes) (bytes_written answer))
+        → IfOk answer (λ a. a ≡ write_answer (length bytes) (bytes_written answer)) → FindsRoom bytes old new answer
         → CalledOn w d (with_pass d q') ends (record ends { sinks = sinks }) me (call.Pwrite c bytes)
         (write_said answer)
-    says_written takes marks answers =
+    says_written takes marks answers finds =
         let r = write_said answer in
         let own : own_sink (ends_of ends) c ≡ Some (ends_of_sink old) =
         find_some (λ (x : PipeEnds). x.sink.0 == c.0) ends_of_sink ends.sinks.items place old (sym at) here in
@@ -411,20 +437,26 @@ module _ (w : Words) (d : Desk) (ends : OwnEnds) (me : CallerNo) (c : ChanNo) (b
               (writes_to (limits_of w) (ends_of_sink old) bytes xs answer takes.fit answers waits, refl)) writes);
           went_on =
               write_goes_on c bytes r ends place old new sinks sink_in here its stands.made_ends.sinks_differ items
-              (sink_written c bytes old new answer its same takes marks);
+              (sink_written c bytes old new answer its same takes marks finds);
         }
 
     pub writes_own : (r : Reply) (from : List ℕ) → r ≡ write_said answer → from ≡ bytes
         → TakesBytes old new from (bytes_written answer) → is_marked new ≡ (is_marked old || leaves_mark answer)
         → IfOk answer (λ a. a ≡ write_answer (length from) (bytes_written answer))
+        → OnOk answer (bytes_written answer < length from → free new ≡ 0)
+        → OnOk answer (free old ≤ free new + bytes_written answer)
         → CalledOn w d (with_pass d q') ends (record ends { sinks = sinks }) me (call.Pwrite c bytes) r
-    writes_own r from said same_bytes takes marks answers =
+    writes_own r from said same_bytes takes marks answers most places =
         subst
         (λ (x : Reply). CalledOn w d (with_pass d q') ends (record ends { sinks = sinks }) me (call.Pwrite c bytes) x)
         (sym said)
         (says_written (subst (λ (xs : List ℕ). TakesBytes old new xs (bytes_written answer)) same_bytes takes) marks
         (subst (λ (xs : List ℕ). IfOk answer (λ a. a ≡ write_answer (length xs) (bytes_written answer))) same_bytes
-        answers))
+        answers)
+        (record {
+          most = subst (λ (xs : List ℕ). OnOk answer (bytes_written answer < length xs → free new ≡ 0)) same_bytes most;
+          places = places;
+        }))
 
     pub stands_written : IsReady w q' me → StandsWith w (with_pass d q') (record ends { sinks = sinks }) me
     stands_written ready' =

@@ -56,7 +56,7 @@ none_given : (room : ℕ) (marked : Bool) → (room ≡ 0 → ⊥)
     → read_answer room 0 marked ≡ (if marked then PipeRead.End else PipeRead.NotYet)
 none_given room marked some = cond-false (room == 0) (PipeRead.Bytes 0) _ (ne_eqb room 0 some)
 
-read_zero : (room : ℕ) (marked : Bool) → IsReadAnswer room marked 0 (PipeRead.Bytes 0) → room ≡ 0
+pub read_zero : (room : ℕ) (marked : Bool) → IsReadAnswer room marked 0 (PipeRead.Bytes 0) → room ≡ 0
 read_zero room marked is = by_test (room == 0) refl
   where
     by_mark : (m : Bool) → PipeRead.Bytes 0 ≡ (if m then PipeRead.End else PipeRead.NotYet) → room ≡ 0

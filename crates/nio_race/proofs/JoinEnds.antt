@@ -3,9 +3,9 @@ use Rattle.std.proofs.Common.{◌≡◌, ℕ, ◌<◌, ◌≤◌, ◌==◌, Bool
 use Rattle.std.proofs.Common.{map}
 use Rattle.std.specs.Prelude.{filter}
 use Rattle.std.specs.List.{slice_index_or}
-use Rattle.std.proofs.Common.{All, IsTrue, Some, refl, sym, ap, ◌∙◌, subst, ⊎_elim, append_assoc, eq-eqb}
+use Rattle.std.proofs.Common.{All, IsTrue, Some, refl, sym, ap, ◌∙◌, subst, ⊎_elim, append_assoc, eq-eqb, arith}
 use Rattle.std.proofs.lemmas.Bool.{cases_lt}
-use Rattle.std.proofs.lemmas.List.{append-nil, get_or_past, length-map, map-append, same_from_push}
+use Rattle.std.proofs.lemmas.List.{append-nil, get_or_past, length-drop, length-map, map-append, same_from_push}
 use Rattle.std.proofs.lemmas.List.Elements.{All-cons, All-nil, All-pop, filter-append}
 use mathlib.Core.List.{IsPrefix}
 use Rattle.nio_pipe.specs.Ends.{AreEnds, IsAtEnd, SinkLooks, SourceLooks, is_marked, pipe_of, received, sent}
@@ -154,6 +154,13 @@ module _ (racers mid after : List Racer) (source : PipeSource) (sink : PipeSink)
       record {
         in_order = subst (λ (xs : List ℕ). IsPrefix xs (sent last.sink)) got
             (subst (λ (xs : List ℕ). IsPrefix (received source') xs) put lawful.in_order);
+        few = omega (
+          arith,
+          lawful.few_waiting,
+          length-drop (length (received source')) (sent sink'),
+          ap (λ (xs : List ℕ). length xs) got,
+          ap (λ (xs : List ℕ). length xs) put,
+        );
         whole = λ at. sym got ∙ ((told (subst IsAtEnd source_is at)).whole ∙ put);
         ended = λ at. subst (λ (b : Bool). IsTrue b) mark (told (subst IsAtEnd source_is at)).marked;
       }

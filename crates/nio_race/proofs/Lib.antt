@@ -6,6 +6,7 @@ pub mod EndLines
 pub mod EndLists
 pub mod EndLooks
 pub mod EndSays
+pub mod FindLines
 pub mod Gathering
 pub mod HoldEach
 pub mod JoinEnds

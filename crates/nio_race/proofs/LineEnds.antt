@@ -29,10 +29,12 @@ use Rattle.nio_steps.specs.Calls.{CallClause}
 use Rattle.nio_steps.specs.PipeCalls.{PipeEnds}
 use Rattle.nio_words.specs.Views.{view}
 use Rattle.nio_words.specs.declared.words.Words.{Words}
+use Rattle.nio_race.proofs.FindLines.{find_append, finds_none, one_finds, one_takes, take_append, takes_none, use_in}
 use Rattle.nio_race.specs.Ends.{AreEach, EndsGoOn, HasMadeEnds, SinkGoesOn, SourceGoesOn, ends_of, ends_of_sink}
 use Rattle.nio_race.specs.PipeBytes.{TellsEnd, all_read, all_written, ends_by, ends_in, leave_end, read_by, read_in}
 use Rattle.nio_race.specs.PipeBytes.{written_by, written_in}
-use Rattle.nio_race.specs.Piping.{OwnedEnds, PipeUse, neither, reads, use_of}
+use Rattle.nio_race.specs.PipeFinds.{Awaited, LinesFind, LinesTake}
+use Rattle.nio_race.specs.Piping.{OwnedEnds, PipeUse, neither, reads}
 use Rattle.nio_race.specs.Racers.{StandsFor, StandsWith}
 use Rattle.nio_race.specs.Runs.{AreRaceLines}
 use Rattle.nio_race.specs.declared.ends.OwnEnds.{OwnEnds}
@@ -169,11 +171,13 @@ or-assoc : (a b c : Bool) → ((a || b) || c) ≡ (a || (b || c))
 or-assoc true b c = refl
 or-assoc false b c = refl
 
--- the lines read and write nothing, and leave no mark
+-- the lines read and write nothing, leave no mark, and leave what is known of the pipes
 pub ends_stay : (lines : List (RaceCall × Reply)) (ends : OwnEnds)
     → ((c : ChanNo) → all_read c lines ≡ []) → ((c : ChanNo) → all_written c lines ≡ [])
-    → ((c : ChanNo) → leave_end c lines ≡ false) → ((c : ChanNo) → TellsEnd c lines → ⊥) → EndsGoOn lines ends ends
-ends_stay lines ends unread unwritten unmarked untold = record {
+    → ((c : ChanNo) → leave_end c lines ≡ false) → ((c : ChanNo) → TellsEnd c lines → ⊥)
+    → ((c : ChanNo) (x : Awaited) → LinesFind c lines x x) → ((c : ChanNo) (room : ℕ) → LinesTake c lines room room)
+    → EndsGoOn lines ends ends
+ends_stay lines ends unread unwritten unmarked untold unfound untaken = record {
   sources = each_self (SourceGoesOn lines) ends.sources.items source_stays;
   sinks = each_self (SinkGoesOn lines) ends.sinks.items sink_stays;
 }
@@ -184,6 +188,7 @@ ends_stay lines ends unread unwritten unmarked untold = record {
       received = sym (ap (λ xs. received s ++ xs) (unread (source_chan s)) ∙ append-nil (received s));
       tells_end = λ told. absurd (untold (source_chan s) told);
       stays = λ at_end. at_end;
+      finds = λ x knows. (x, (unfound (source_chan s) x, knows));
     }
 
     sink_stays : (s : PipeSink) → SinkGoesOn lines s s
@@ -192,15 +197,13 @@ ends_stay lines ends unread unwritten unmarked untold = record {
       sent = sym (ap (λ xs. sent s ++ xs) (unwritten (sink_chan s)) ∙ append-nil (sent s));
       mark = or-false (is_marked s) ∙ ap (λ b. is_marked s || b) (sym (unmarked (sink_chan s)));
       ended = λ _. unwritten (sink_chan s);
+      takes = λ room few. (room, (untaken (sink_chan s) room, few));
     }
 
 pub no_lines : (ends : OwnEnds) → EndsGoOn [] ends ends
-no_lines ends = ends_stay [] ends (λ c. refl) (λ c. refl) (λ c. refl) (λ c told. absurd (omega (arith, told.1.1)))
-
--- what a line does on the bytes of pipes
-abbrev use_in : RaceCall → PipeUse
-use_in (Script word) = use_of word
-use_in (Block s) = neither
+no_lines ends =
+    ends_stay [] ends (λ c. refl) (λ c. refl) (λ c. refl) (λ c told. absurd (omega (arith, told.1.1))) (λ c x. refl)
+    (λ c room. refl)
 
 reads-none : (c : ChanNo) (line : RaceCall) (r : Reply) → use_in line ≡ neither → read_in c line r ≡ []
 reads-none c (Script word) r is = ap (λ (u : PipeUse). read_by c u r) is
@@ -229,6 +232,8 @@ neither_stays line r ends is =
     (λ c told.
     let does : use_in line ≡ reads c told.0 = ap (λ (x : RaceCall × Reply). use_in x.0) (told_alone c line r told) in
     let clash : neither ≡ reads c told.0 = sym is ∙ does in absurd cc)
+    (λ c x. one_finds c line r x x (finds_none c line r x is))
+    (λ c room. one_takes c line r room room (takes_none c line r room is))
 
 -- ---- lines and one more
 
@@ -269,6 +274,14 @@ source_more xs ys a b c p q =
           (λ after. q.tells_end (subst (λ (k : ChanNo). TellsEnd k ys) (sym chan) after))
           (tells-append (source_chan a) xs ys told);
       stays = λ at_end. q.stays (p.stays at_end);
+      finds = λ x knows.
+          let first = p.finds x knows in
+          let second = q.finds first.0 first.1.1 in
+          let later : LinesFind (source_chan a) ys first.0 second.0 =
+          subst (λ (k : ChanNo). LinesFind k ys first.0 second.0) chan second.1.0 in (
+            second.0,
+            (find_append (source_chan a) xs ys x first.0 second.0 first.1.0 later, second.1.1),
+          );
     }
 
 sink_more : (xs ys : List (RaceCall × Reply)) (a b c : PipeSink) → SinkGoesOn xs a b → SinkGoesOn ys b c
@@ -294,6 +307,14 @@ sink_more xs ys a b c p q =
           all_written-append (sink_chan a) xs ys
           ∙ (ap (λ bytes. bytes ++ all_written (sink_chan a) ys) (p.ended marked)
           ∙ (ap (λ (k : ChanNo). all_written k ys) (sym chan) ∙ q.ended later));
+      takes = λ room few.
+          let first = p.takes room few in
+          let second = q.takes first.0 first.1.1 in
+          let later : LinesTake (sink_chan a) ys first.0 second.0 =
+          subst (λ (k : ChanNo). LinesTake k ys first.0 second.0) chan second.1.0 in (
+            second.0,
+            (take_append (sink_chan a) xs ys room first.0 second.0 first.1.0 later, second.1.1),
+          );
     }
 
 pub ends_more : (xs ys : List (RaceCall × Reply)) (a b c : OwnEnds) → EndsGoOn xs a b → EndsGoOn ys b c

@@ -1,12 +1,14 @@
 -- Pipes are parted, one after the other, and their ends given to the racers.
-use Rattle.std.proofs.Common.{◌≡◌, ℕ, zero, suc, ◌+◌, ◌<◌, ◌≤◌, ◌==◌, if◌then◌else◌, List, [], ◌∷◌, ◌++◌, length, map}
-use Rattle.std.proofs.Common.{All, get_or, refl, sym, ap, ◌∙◌, subst, ⊎_elim, append_assoc, arith}
+use Rattle.std.proofs.Common.{◌≡◌, ℕ, zero, suc, ◌+◌, ◌<◌, ◌≤◌, ◌==◌, Bool, true, false, IsFalse, if◌then◌else◌, List}
+use Rattle.std.proofs.Common.{[], ◌∷◌, ◌++◌, length, map, All, get_or, refl, sym, ap, ◌∙◌, subst, ⊎_elim, append_assoc}
+use Rattle.std.proofs.Common.{arith}
 use Rattle.std.specs.Prelude.{filter}
 use Rattle.std.proofs.lemmas.Bool.{cases_lt}
 use Rattle.std.proofs.lemmas.List.{append-nil, get_or_at, get_or_append_left, get_or_push, length-append, map_push}
 use Rattle.std.proofs.lemmas.List.Elements.{All-nil, All-push, All-tail}
 use Rattle.nio_base.specs.declared.numbers.CallerNo.{CallerNo}
-use Rattle.nio_pipe.specs.Ends.{AreEnds}
+use Rattle.nio_pipe.specs.Ends.{AreEnds, free}
+use Rattle.nio_pipe.specs.Pipe.{room_of}
 use Rattle.nio_plain.specs.ScriptState.{Pipe}
 use Rattle.nio_sole.specs.Stands.{pipe_of, pipes_of}
 use Rattle.nio_sole.specs.declared.desk.OwnedPipe.{OwnedPipe}
@@ -37,6 +39,11 @@ each_push {A = A} R xs ys x y each is = record {
 
 -- ---- a pipe more
 
+-- no room is known behind the mark; before it, all that there is
+room_known : (marked : Bool) (room free : ℕ) → (IsFalse marked → free ≡ room) → (if marked then 0 else room) ≤ free
+room_known true room free is = omega arith
+room_known false room free is = omega (arith, is refl)
+
 pub parted_as : (pipe : OwnedPipe) (before after : List Racer) (owners : Owners)
     (adds : AddsParted pipe before after owners)
     → IsPartedAs (pipe_of pipe) (record { owners = owners; source = adds.source; sink = adds.sink })
@@ -48,6 +55,12 @@ parted_as pipe before after owners adds = record {
   none_received = adds.parts.none_received;
   waiting = adds.parts.all_sent;
   mark = adds.parts.mark_left;
+  known = record {
+    bytes = adds.parts.all_known;
+    marked = λ is. adds.parts.mark_known ∙ is;
+    ended = λ is. absurd (cc is);
+  };
+  room = room_known pipe.pipe.marked (room_of pipe.pipe) (free adds.sink) adds.parts.room;
 }
 
 hold_more : (pipe : OwnedPipe) (before after : List Racer) (owners : Owners) (parted : List PartedPipe)

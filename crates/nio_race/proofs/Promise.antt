@@ -28,13 +28,13 @@ use Rattle.nio_words.proofs.Beginnings.{prefix_trans}
 use Rattle.nio_words.specs.Passes.{Holds, IsPassOf, IsReady, limits_of, seen}
 use Rattle.nio_words.specs.declared.words.Pass.{Pass}
 use Rattle.nio_words.specs.declared.words.Words.{Words}
-use Rattle.nio_race.proofs.BytesKept.{keep_pipes}
+use Rattle.nio_race.proofs.BytesKept.{find_in_pipes, keep_pipes}
 use Rattle.nio_race.proofs.PairsKnown.{Known, all_met, known, pairs_after}
 use Rattle.nio_race.proofs.PairsLists.{all-at, length-map}
 use Rattle.nio_race.specs.Ends.{HaveMet, HaveParted, ends_of}
 use Rattle.nio_race.specs.Gathering.{StandsIn}
 use Rattle.nio_race.specs.Piping.{OwnedEnds, own_ends}
-use Rattle.nio_race.specs.Race.{HasRun, IsRace, KeepsPipe, calls_by, own_progress, strange_replies}
+use Rattle.nio_race.specs.Race.{FindsInPipe, HasRun, IsRace, KeepsPipe, calls_by, own_progress, strange_replies}
 use Rattle.nio_race.specs.Racers.{HaveRaced, replies_by}
 use Rattle.nio_race.specs.Runs.{AreRaceLines}
 use Rattle.nio_race.specs.SetOff.{AreSetOff}
@@ -166,6 +166,15 @@ module _ (w : Words) (setup : List ScriptCall) (race : List RaceLine) (d : Desk)
       parted.each on.each
       (all_met w race go now (limits_of w).callers racers racers' set_off raced memory owners among met on)
 
+  finds : All (FindsInPipe race (replies_by race racers')) (progress_of d).pipes
+  finds =
+      let go = seen d.pass in
+      let now = progress_of d in
+      let among = parted.among in
+      let on = pairs_after w race go now (limits_of w).callers racers racers' set_off raced memory among.parted
+      among.hold in
+      find_in_pipes race (replies_by race racers') now.pipes among.parted on.after parted.each on.each
+
   pub is_race : IsRace (limits_of w) setup race (seen p) (replies_by race racers')
   is_race =
       let first = known_of (record { 0 = 0 }) (omega (arith, set_up.stands.fit.some_callers)) in
@@ -182,6 +191,7 @@ module _ (w : Words) (setup : List ScriptCall) (race : List RaceLine) (d : Desk)
             (subst (λ (k : ℕ). k ≤ n.0)
             (sym (length-map (λ (r : Racer). r.replies.items) racers' ∙ raced.count ∙ set_off.count_is)) past);
         bytes = bytes;
+        finds = finds;
         legal = pass.legal;
         whole = whole;
         owed = λ before begins. ∥∥₁_map whole

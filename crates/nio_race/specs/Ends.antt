@@ -1,6 +1,6 @@
 -- The ends of pipes that callers own behind `go`: from the parting of the pipes to the bringing together of their ends.
-use Rattle.std.specs.Prelude.{◌≡◌, ◌≢◌, ℕ, ◌<◌, ◌==◌, ◌++◌, ◌||◌, IsTrue, if◌then◌else◌, List, [], ◌∷◌, length, map}
-use Rattle.std.specs.Prelude.{filter, All, AllPairs}
+use Rattle.std.specs.Prelude.{◌≡◌, ◌≢◌, ℕ, ◌<◌, ◌≤◌, ◌+◌, ◌==◌, ◌++◌, ◌||◌, IsTrue, if◌then◌else◌, List, [], ◌∷◌}
+use Rattle.std.specs.Prelude.{length, map, filter, All, AllPairs}
 use Rattle.std.specs.List.{slice_index_or}
 use mathlib.Core.List.{IsPrefix}
 use Rattle.nio_base.specs.declared.limits.Limits.{Limits}
@@ -9,7 +9,7 @@ use Rattle.nio_event.specs.PassViews.{HasChannel}
 use Rattle.nio_event.specs.declared.reply.Reply.{Reply}
 use Rattle.nio_pipe.specs.Calls.{HasEnds}
 use Rattle.nio_pipe.specs.Ends.{AreEnds, IsAtEnd, IsSameSink, IsSameSource, is_marked, other_chan, received, sent}
-use Rattle.nio_pipe.specs.Ends.{sink_chan, source_chan}
+use Rattle.nio_pipe.specs.Ends.{sink_chan, source_chan, free, known, knows_end}
 use Rattle.nio_pipe.specs.Making.{AreParts}
 use Rattle.nio_pipe.specs.declared.sink.PipeSink.{PipeSink}
 use Rattle.nio_pipe.specs.declared.source.PipeSource.{PipeSource}
@@ -21,6 +21,7 @@ use Rattle.nio_steps.specs.PipeCalls.{PipeEnds}
 use Rattle.nio_words.specs.Views.{view}
 use Rattle.nio_words.specs.declared.words.Words.{Words}
 use Rattle.nio_race.specs.PipeBytes.{TellsEnd, all_read, all_written, leave_end}
+use Rattle.nio_race.specs.PipeFinds.{Awaited, LinesFind, LinesTake, awaited_at_go, room_at_go}
 use Rattle.nio_race.specs.Piping.{OwnedEnds}
 use Rattle.nio_race.specs.declared.ends.OwnEnds.{OwnEnds}
 use Rattle.nio_race.specs.declared.ends.Owners.{Owners}
@@ -42,12 +43,20 @@ pub record HasMadeEnds (w : Words) (d : Desk) (ends : OwnEnds) : Type 0 where
   pub sources_differ : AllPairs (λ a b. (source_chan a).0 ≢ (source_chan b).0) ends.sources.items
   pub sinks_differ : AllPairs (λ a b. (sink_chan a).0 ≢ (sink_chan b).0) ends.sinks.items
 
--- What lines with these replies do to a source that their caller owns. Nothing is read behind the end.
+-- the source knows at least so much
+pub record KnowsAwaited (source : PipeSource) (x : Awaited) : Type 0 where
+  pub bytes : IsPrefix x.bytes (known source)
+  pub marked : IsTrue x.marked → IsTrue (knows_end source)
+  pub ended : IsTrue x.ended → IsAtEnd source
+
+-- What lines with these replies do to a source that their caller owns. Once it is at its end it stays there.
 pub record SourceGoesOn (lines : List (RaceCall × Reply)) (old new : PipeSource) : Type 0 where
   pub same : IsSameSource old new
   pub received : received new ≡ received old ++ all_read (source_chan old) lines
   pub tells_end : TellsEnd (source_chan old) lines → IsAtEnd new
   pub stays : IsAtEnd old → IsAtEnd new
+  pub finds : (x : Awaited) → KnowsAwaited old x
+      → (y : Awaited) × (LinesFind (source_chan old) lines x y × KnowsAwaited new y)
 
 -- The same of a sink, which leaves its end mark where the lines say so. Nothing is written behind the mark.
 pub record SinkGoesOn (lines : List (RaceCall × Reply)) (old new : PipeSink) : Type 0 where
@@ -55,6 +64,8 @@ pub record SinkGoesOn (lines : List (RaceCall × Reply)) (old new : PipeSink) : 
   pub sent : sent new ≡ sent old ++ all_written (sink_chan old) lines
   pub mark : is_marked new ≡ (is_marked old || leave_end (sink_chan old) lines)
   pub ended : IsTrue (is_marked old) → all_written (sink_chan old) lines ≡ []
+  pub takes : (room : ℕ) → room ≤ free old
+      → (left : ℕ) × (LinesTake (sink_chan old) lines room left × (left ≤ free new))
 
 -- the relation holds of each two elements at one place, and the lists are as long
 pub record AreEach {A B : Type 0} (R : A → B → Type 0) (xs : List A) (ys : List B) : Type 0 where
@@ -135,6 +146,8 @@ pub record IsPartedAs (p : Pipe) (x : PartedPipe) : Type 0 where
   pub none_received : received x.source ≡ []
   pub waiting : sent x.sink ≡ p.waiting
   pub mark : is_marked x.sink ≡ p.marked
+  pub known : KnowsAwaited x.source (awaited_at_go p)
+  pub room : room_at_go p ≤ free x.sink
 
 -- A pipe was parted, and its ends came behind those that its owners' racers held.
 pub record AddsParted (pipe : OwnedPipe) (before after : List Racer) (owners : Owners) : Type 0 where
@@ -160,10 +173,11 @@ pub record HaveParted (racers : List Racer) (owners : List Owners) (pipes : List
 
 -- ---- at the end
 
--- The ends of a pipe met again. What was read begins what was written. At the end it is all of that, and the sink had
--- left its end mark.
+-- The ends of a pipe met again. What was read begins what was written, and at most 65,536 bytes wait. Where the source
+-- is at its end, all was read, and the sink has left its end mark.
 pub record HasMet (x : PartedPipe) : Type 0 where
   pub in_order : IsPrefix (received x.source) (sent x.sink)
+  pub few : length (sent x.sink) ≤ length (received x.source) + 65536
   pub whole : IsAtEnd x.source → received x.source ≡ sent x.sink
   pub ended : IsAtEnd x.source → IsTrue (is_marked x.sink)
 

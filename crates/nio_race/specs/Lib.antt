@@ -3,6 +3,7 @@ pub mod Ends
 pub mod Gathering
 pub mod Output
 pub mod PipeBytes
+pub mod PipeFinds
 pub mod Piping
 pub mod Quiet
 pub mod Race

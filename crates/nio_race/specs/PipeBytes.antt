@@ -1,6 +1,7 @@
 -- The bytes of a pipe in a race, by the lines that are written: what was read from it, and what was written into it.
-use Rattle.std.specs.Prelude.{◌≡◌, ℕ, ◌==◌, Bool, true, false, ◌&&◌, ◌||◌, IsTrue, if◌then◌else◌, List, [], ◌∷◌, map}
-use Rattle.std.specs.Prelude.{filter, take, zip, flat_map, Contains}
+use Rattle.std.specs.Prelude.{◌≡◌, ℕ, ◌+◌, ◌≤◌, ◌==◌, Bool, true, false, ◌&&◌, ◌||◌, IsTrue, if◌then◌else◌, List, []}
+use Rattle.std.specs.Prelude.{◌∷◌, map}
+use Rattle.std.specs.Prelude.{filter, take, zip, flat_map, length, Contains}
 use mathlib.Core.List.{IsPrefix}
 use Rattle.nio_base.specs.declared.limits.Limits.{Limits}
 use Rattle.nio_base.specs.declared.numbers.CallerNo.{CallerNo}
@@ -60,7 +61,7 @@ bytes_of reply.AsyncClose = []
 bytes_of reply.BrokenPipe = []
 bytes_of (reply.Group answer) = []
 
--- the number that a reply prints
+-- the number of a reply that is a number, as that of a `pwrite`; of any other 0
 abbrev pub number_of : Reply → ℕ
 number_of (reply.Selector s) = 0
 number_of (reply.Channel c) = 0
@@ -103,7 +104,7 @@ number_of reply.AsyncClose = 0
 number_of reply.BrokenPipe = 0
 number_of (reply.Group answer) = 0
 
--- the reply says of the channel that it is closed now
+-- Of a `closec` or a `pwrite`: once its line has this reply, the channel is closed. (`Closed` is of a selector.)
 abbrev pub says_closed : Reply → Bool
 says_closed (reply.Selector s) = false
 says_closed (reply.Channel c) = false
@@ -198,16 +199,18 @@ TellsEnd c lines = (n : ℕ) × Contains lines (Script (call.Pread c n), reply.E
 
 -- ---- of a pipe
 
--- The caller's lines of the setup, with the replies of the documented system to the setup, which are those that are
--- written.
+-- The caller's lines of the setup, with the replies of the documented system to the setup. Those are the replies that
+-- are written, and those of the setup's steps (`serial_law` of `nio_serial`).
 abbrev pub setup_lines : CallerNo → Limits → List ScriptCall → List (RaceCall × Reply)
 setup_lines n l setup =
     map (λ x. (Script x.0.call, x.1))
     (filter (λ x. x.0.caller.0 == n.0) (zip setup (replies_from l script_opening setup)))
 
 -- Of a pipe, by the lines of its reader and by those of its writer, the setup's first: what was read begins what was
--- written. Where a read told the end it is all of that, and the sink had left its end mark.
+-- written, and at most 65,536 bytes wait. Where a read told the end, all was read, and a line of the writer leaves the
+-- end mark. Nothing is said of the order between the lines of two callers.
 pub record KeepsBytes (source sink : ChanNo) (readers writers : List (RaceCall × Reply)) : Type 0 where
   pub in_order : IsPrefix (all_read source readers) (all_written sink writers)
+  pub few : length (all_written sink writers) ≤ length (all_read source readers) + 65536
   pub whole : TellsEnd source readers → all_read source readers ≡ all_written sink writers
   pub ended : TellsEnd source readers → IsTrue (leave_end sink writers)

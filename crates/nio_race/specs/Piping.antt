@@ -65,8 +65,8 @@ use_of (call.Group g) = neither
 
 -- ---- the ends that a caller owns
 
--- The sources that it may read, and the sinks that it may write into, each with the source of its pipe. Each in the
--- order in which the pipes were made.
+-- A caller's ends: the sources that it may read, and the sinks that it may write into, each with the source of its
+-- pipe, in the order in which the pipes were made.
 pub record OwnedEnds : Type 0 where
   pub sources : List ChanNo
   pub sinks : List PipeEnds
@@ -90,8 +90,9 @@ own_sink ends c = find (λ x. x.sink.0 == c.0) ends.sinks
 
 -- ---- what they say
 
--- What a read of up to n bytes says, by what its last look answered, a refusal or the mode that it found, and by
--- whether it found neither a byte nor the end mark. In blocking mode a read that finds neither waits.
+-- The reply of a read of up to n bytes. The first argument says whether its last run of steps found neither a byte nor
+-- the end mark; the second is the answer of its steps: a refusal, or the mode that they found, true for blocking. In
+-- blocking mode a read that finds neither goes on, so no line here has that.
 pub data ReadSays (n : ℕ) : Bool → Result Bool PipeError → Reply → Type 0 where
   is_refused : {none : Bool} (refusal : PipeError) → ReadSays n none (Err refusal) (pipe_refusal refusal)
   asks_for_nothing : {blocking : Bool} → n ≡ 0 → ReadSays n false (Ok blocking) (reply.Number 0)
@@ -100,7 +101,7 @@ pub data ReadSays (n : ℕ) : Bool → Result Bool PipeError → Reply → Type 
   tells_end : {blocking : Bool} → 0 < n → ReadSays n false (Ok blocking) reply.End
   finds_nothing : 0 < n → ReadSays n true (Ok false) (reply.Number 0)
 
--- The same of a write of these bytes, by whether it found no free place: in blocking mode it then waits.
+-- The same of a write of these bytes, which goes on in blocking mode where it finds no free place.
 pub data WriteSays (bytes : List ℕ) : Bool → Result Bool PipeError → Reply → Type 0 where
   is_refused : {none : Bool} (refusal : PipeError) → WriteSays bytes none (Err refusal) (pipe_refusal refusal)
   offers_nothing : {blocking : Bool} → bytes ≡ [] → WriteSays bytes false (Ok blocking) (reply.Number 0)
@@ -110,7 +111,7 @@ pub data WriteSays (bytes : List ℕ) : Bool → Result Bool PipeError → Reply
 
 -- ---- by which steps
 
--- A read is a call that waits, and says what this answers.
+-- The acts are those of a read that waits, and the reply is one that its answer allows.
 pub record ReadsTo (l : Limits) (c : ChanNo) (n : ℕ) (acts : List Act) (r : Reply) : Type 0 where
   pub none : Bool
   pub answer : Result Bool PipeError
@@ -123,7 +124,7 @@ pub record WritesTo (l : Limits) (ends : PipeEnds) (bytes : List ℕ) (acts : Li
   pub waits : Writes l ends.source ends.sink none acts answer
   pub says : WriteSays bytes none answer r
 
--- the line ends without a step more
+-- no further step is made: the line has this reply, and changes nothing in progress
 abbrev pub Refuses : Progress → Reply → List Act → Said → Type 0
 Refuses now r acts said = (acts ≡ []) × (said ≡ record { reply = r; left = now })
 

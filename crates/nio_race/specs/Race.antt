@@ -22,6 +22,7 @@ use Rattle.nio_race_text.specs.RaceOutput.{race_line_text}
 use Rattle.nio_serial.specs.Documented.{Progress, Selecting, nothing_yet}
 use Rattle.nio_serial.specs.Serial.{Entry, AreLines, history_of, left_in_progress, script_of}
 use Rattle.nio_race.specs.PipeBytes.{KeepsBytes, setup_lines}
+use Rattle.nio_race.specs.PipeFinds.{FindsAll}
 use Rattle.nio_race.specs.Piping.{own_ends}
 use Rattle.nio_race.specs.Runs.{AreRaceLines}
 
@@ -78,6 +79,10 @@ KeepsPipe l setup race replies p =
     (setup_lines p.reader l setup ++ lines_by p.reader race replies)
     (setup_lines p.writer l setup ++ lines_by p.writer race replies)
 
+-- the lines of its two owners behind `go` find what is there
+abbrev pub FindsInPipe : List RaceLine → (CallerNo → List Reply) → Pipe → Type 0
+FindsInPipe race replies p = FindsAll p (lines_by p.reader race replies) (lines_by p.writer race replies)
+
 -- A race of this setup and these lines, with these replies of each caller's lines.
 pub record IsRace (l : Limits) (setup : List ScriptCall) (race : List RaceLine) (history : List Event)
     (replies : CallerNo → List Reply) : Type 0 where
@@ -89,8 +94,9 @@ pub record IsRace (l : Limits) (setup : List ScriptCall) (race : List RaceLine) 
   -- each caller's lines
   pub run : (n : CallerNo) → n.0 < l.callers → HasRun l n go now (calls_by n race) history (replies n)
   pub strangers : (n : CallerNo) → l.callers ≤ n.0 → replies n ≡ strange_replies (calls_by n race)
-  -- the bytes of each pipe that the setup made
+  -- of each pipe that the setup made: its bytes, and what its lines find
   pub bytes : All (KeepsPipe l setup race replies) now.pipes
+  pub finds : All (FindsInPipe race replies) now.pipes
   -- the history of all of them: each caller made whole calls, and at each moment what is owed is owed by a caller that
   -- has still to do it
   pub legal : IsLegal l history

@@ -42,7 +42,8 @@ pub record StandsWith (w : Words) (d : Desk) (ends : OwnEnds) (me : CallerNo) : 
   pub made_ends : HasMadeEnds w d ends
   pub pipeless : d.pipes.items ≡ []
 
--- What a line of the caller did, and what it said. Its ends of pipes have given and taken what the reply prints.
+-- What a line of the caller did, and what it said. Its ends of pipes have given and taken what the line and its reply
+-- say.
 pub record LineOn (w : Words) (d d' : Desk) (ends ends' : OwnEnds) (me : CallerNo) (line : RaceCall) (r : Reply)
     : Type 0 where
   pub made : CallClause me (MakesRaceLine (limits_of w) (ends_of ends) (progress_of d) me line) (view w d.pass)

@@ -117,7 +117,8 @@ MakesScriptLine l now me word acts said = Retries (Completes (line_plan l now me
 
 -- ---- calls that ring
 
--- The call may end the wait of a caller that blocks. Once its line is made, each caller's bell rings.
+-- The call may end the wait of a caller that blocks. Once its line is made, the code rings each caller's bell; no
+-- clause says so.
 abbrev pub wakes : Call → Bool
 wakes call.Selector = false
 wakes (call.Channel kind) = false
@@ -198,7 +199,8 @@ MayRaceLine (Block s) = ⊤
 abbrev pub MayRaceLines : List RaceLine → Type 0
 MayRaceLines race = All (λ line. MayRaceLine line.call) race
 
--- a line whose call scripts have too: on the bytes of a pipe, it waits; else it is made as in a script
+-- A line whose call scripts have too. A read or a write is a call that waits in blocking mode; every other line is
+-- made as `MakesScriptLine` says.
 abbrev pub MakesCalledLine : Limits → OwnedEnds → Progress → CallerNo → Call → PipeUse → List Act → Said → Type 0
 MakesCalledLine l ends now me word (reads c n) acts said = LooksAndReads l ends now c n acts said
 MakesCalledLine l ends now me word (writes c bytes) acts said = LooksAndWrites l ends now c bytes acts said

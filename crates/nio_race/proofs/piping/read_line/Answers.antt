@@ -74,7 +74,8 @@ returns-clause-line g c =
     (source_found c.args.ends.now c.args.chan (Some c.in-Some.place) c.deref.result.now c.in-Some.ensures
     c.deref.ensures.value)
     c.index_mut.ensures.value read.call read.same refl c.read_reply.result said
-    (omega (arith, c.in_ok-bytes.ensures.len)) (omega arith) read.bytes read.answer read.end
+    (omega (arith, c.in_ok-bytes.ensures.len)) (omega arith) read.bytes read.answer read.most read.not_yet
+    read.end
 
 pub returns-clause-stands : goal.returns-clause-stands
 returns-clause-stands g c =
