@@ -1,6 +1,6 @@
 -- The bytes of a pipe, from the setup's lines, what waited at `go`, and the lines behind it.
-use Rattle.std.proofs.Common.{◌≡◌, ℕ, ◌+◌, ◌<◌, ◌≤◌, ◌⊎◌, Bool, true, false, ◌||◌, IsTrue, List, [], ◌∷◌, ◌++◌, length}
-use Rattle.std.proofs.Common.{All, inl, inr, ⊎_elim, refl, sym, ap, ◌∙◌, subst, append_assoc, append-nil, arith}
+use Rattle.std.proofs.Common.{◌≡◌, ℕ, ◌+◌, ◌<◌, ◌≤◌, ◌⊎◌, Bool, ◌||◌, IsTrue, List, [], ◌++◌, length}
+use Rattle.std.proofs.Common.{All, inl, inr, ⊎_elim, sym, ap, ◌∙◌, subst, append_assoc, append-nil, arith}
 use Rattle.std.proofs.lemmas.Grind.{flat_map-append}
 use Rattle.std.proofs.lemmas.List.{length-append}
 use Rattle.std.proofs.lemmas.List.Elements.{Contains-append_cases}
@@ -18,30 +18,18 @@ use Rattle.nio_plain.specs.ScriptState.{Pipe}
 use Rattle.nio_race_text.specs.declared.call.RaceCall.{RaceCall}
 use Rattle.nio_race_text.specs.declared.call.RaceCall.TheVariants.{Script}
 use Rattle.nio_race_text.specs.declared.call.RaceLine.{RaceLine}
+use Rattle.nio_race.proofs.EndLines.{no_front}
+use Rattle.nio_race.proofs.LineEnds.{leave_end-append}
 use Rattle.nio_race.proofs.PairsLists.{all-at, at_itself, standing}
 use Rattle.nio_race.proofs.PairsRaced.{PipeGoesOn}
 use Rattle.nio_race.specs.Ends.{AreEach, HasMet, IsPartedAs, PartedPipe}
-use Rattle.nio_race.specs.PipeBytes.{KeepsBytes, TellsEnd, all_read, all_written, ends_in, leave_end, read_in}
+use Rattle.nio_race.specs.PipeBytes.{KeepsBytes, TellsEnd, all_read, all_written, leave_end, read_in}
 use Rattle.nio_race.specs.PipeBytes.{setup_lines, written_in}
 use Rattle.nio_race.specs.PipeFinds.{Awaited, LinesFind, LinesTake, awaited_at_go, room_at_go}
 use Rattle.nio_race.specs.Race.{FindsInPipe, KeepsPipe, lines_by}
 use Rattle.nio_race.specs.Setup.{KeepsPipeOfSetup}
 
 -- ---- of lines and further lines
-
-or_more : (b c d e : Bool) → d ≡ (c || e) → (b || d) ≡ ((b || c) || e)
-or_more true c d e is = refl
-or_more false c d e is = is
-
-leave_end-append : (c : ChanNo) (xs ys : List (RaceCall × Reply))
-    → leave_end c (xs ++ ys) ≡ (leave_end c xs || leave_end c ys)
-leave_end-append c [] ys = refl
-leave_end-append c (x ∷ xs) ys =
-    or_more (ends_in c x.0 x.1) (leave_end c xs) (leave_end c (xs ++ ys)) (leave_end c ys) (leave_end-append c xs ys)
-
-no_front : (xs ys : List ℕ) → xs ++ ys ≡ [] → xs ≡ []
-no_front [] ys is = refl
-no_front (x ∷ xs) ys is = absurd (cc is)
 
 -- What was read in the setup, and what waited then, is what was written there. Behind `go` what was read begins what
 -- waited and what was written then.

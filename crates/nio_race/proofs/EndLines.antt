@@ -32,7 +32,7 @@ use Rattle.nio_race.proofs.EndLists.{each_itself, each_set, none_passes, other_n
 use Rattle.nio_race.proofs.FindLines.{KeepsRoom, close_keeps_room, close_takes_here, is_false, one_finds, one_takes}
 use Rattle.nio_race.proofs.FindLines.{prefix_drop, prefix_none, read_finds_elsewhere, read_finds_here}
 use Rattle.nio_race.proofs.FindLines.{write_keeps_room, write_takes_elsewhere, write_takes_here}
-use Rattle.nio_race.proofs.LineEnds.{same_sink_self, same_source_self, told_alone}
+use Rattle.nio_race.proofs.LineEnds.{or-false, same_sink_self, same_source_self, told_alone}
 use Rattle.nio_race.specs.Ends.{AreEach, EndsGoOn, KnowsAwaited, SinkGoesOn, SourceGoesOn}
 use Rattle.nio_race.specs.PipeBytes.{TellsEnd, bytes_of, ends_in, number_of, read_in, says_closed, written_in}
 use Rattle.nio_race.specs.PipeFinds.{Awaited, LineFinds, ReadFinds, WriteFinds}
@@ -40,10 +40,6 @@ use Rattle.nio_race.specs.declared.ends.OwnEnds.{OwnEnds}
 
 abbrev pub the_line : Call → Reply → List (RaceCall × Reply)
 the_line word r = (Script word, r) ∷ []
-
-or_false : (b : Bool) → b ≡ (b || false)
-or_false true = refl
-or_false false = refl
 
 or_true : (b : Bool) → true ≡ (b || true)
 or_true true = refl
@@ -72,7 +68,7 @@ pub sink_stays : (word : Call) (r : Reply) (x : PipeSink) → written_in (sink_c
 sink_stays word r x unwritten unmarked keeps = record {
   same = same_sink_self x;
   sent = sym (ap (λ (bytes : List ℕ). sent x ++ (bytes ++ [])) unwritten ∙ append-nil (sent x));
-  mark = or_false (is_marked x) ∙ ap (λ (b : Bool). is_marked x || (b || false)) (sym unmarked);
+  mark = or-false (is_marked x) ∙ ap (λ (b : Bool). is_marked x || (b || false)) (sym unmarked);
   ended = λ _. ap (λ (bytes : List ℕ). bytes ++ []) unwritten;
   takes = λ room few.
       let kept = keeps room in
@@ -202,7 +198,7 @@ no_rest : (xs ys : List ℕ) → xs ++ ys ≡ [] → ys ≡ []
 no_rest [] ys none = none
 no_rest (x ∷ xs) ys none = absurd (cc none)
 
-no_front : (xs ys : List ℕ) → xs ++ ys ≡ [] → xs ≡ []
+pub no_front : (xs ys : List ℕ) → xs ++ ys ≡ [] → xs ≡ []
 no_front [] ys none = refl
 no_front (x ∷ xs) ys none = absurd (cc none)
 
@@ -476,7 +472,7 @@ sink_written c bytes old new answer its same takes marks finds =
       mark = marks
           ∙ ap (λ (b : Bool). is_marked old || b)
           (mark_said answer ∙ (sym (mark_here c bytes r (sink_chan old) (sym its))
-          ∙ or_false (ends_in (sink_chan old) (Script (call.Pwrite c bytes)) r)));
+          ∙ or-false (ends_in (sink_chan old) (Script (call.Pwrite c bytes)) r)));
       ended = λ was.
           ap (λ (xs : List ℕ). xs ++ []) here ∙ ap (λ (k : ℕ). take k bytes ++ []) (takes.ended was);
       takes = λ room few.

@@ -163,7 +163,7 @@ same_names lines old new on =
 
 -- ---- lines that leave them as they are
 
-or-false : (b : Bool) → b ≡ (b || false)
+pub or-false : (b : Bool) → b ≡ (b || false)
 or-false true = refl
 or-false false = refl
 
@@ -237,7 +237,7 @@ neither_stays line r ends is =
 
 -- ---- lines and one more
 
-leave_end-append : (c : ChanNo) (xs ys : List (RaceCall × Reply))
+pub leave_end-append : (c : ChanNo) (xs ys : List (RaceCall × Reply))
     → leave_end c (xs ++ ys) ≡ (leave_end c xs || leave_end c ys)
 leave_end-append c [] ys = refl
 leave_end-append c (x ∷ xs) ys =
