@@ -67,32 +67,16 @@ still_live result made there back client target p q done relaying there_lawful b
   back_lawful = back_lawful;
 }
 
--- both links are connected still, whatever the call answered
-module _ {T E : Type 0} (result : Result T E) {there back : Flow} {client target : Link} {p q : Place} where
-  pub ends_relaying : IsEnd client p (carried there back) → IsEnd target q (carried back there)
-      → OnOk result (IsRelaying true there back client target p q)
-  ends_relaying at_client at_target = by_result result
-    where
-      by_result : (r : Result T E) → OnOk r (IsRelaying true there back client target p q)
-      by_result (Ok value) = record { by_client = at_client; by_target = at_target }
-      by_result (Err error) = tt
-
-  pub ends_broken : IsEnd client p (carried there back) → IsEnd target q (carried back there)
-      → OnErr result (IsBroken there back client target p)
-  ends_broken at_client at_target = by_result result
-    where
-      by_result : (r : Result T E) → OnErr r (IsBroken there back client target p)
-      by_result (Ok value) = tt
-      by_result (Err error) = record { by_client = at_client; by_target = at_target.carried }
-
 pub target_carried : (made : Bool) (l : Link) (p : Place) (c : Carried) → IsTarget made l p c → HasCarried l c
 target_carried true l p c is = is.carried
 target_carried false l p c is = is.carried
 
 -- a connection that was relayed, and of which only the target's place has changed
-pub relaying_broken : {made : Bool} {there back : Flow} {c0 c1 t0 t1 : Link} {p0 p1 q0 : Place}
-    → IsRelaying made there back c0 t0 p0 q0 → c1 ≡ c0 → t1 ≡ t0 → p1 ≡ p0 → IsBroken there back c1 t1 p1
-relaying_broken {made} {there} {back} {c0} {c1} {t0} {t1} {p0} {p1} {q0} is clients targets places = record {
+pub relaying_broken : {T E : Type 0} (result : Result T E) {made : Bool} {there back : Flow} {c0 c1 t0 t1 : Link}
+    {p0 p1 q0 : Place} → IsRelaying made there back c0 t0 p0 q0 → c1 ≡ c0 → t1 ≡ t0 → p1 ≡ p0
+    → OnErr result (IsBroken there back c1 t1 p1)
+relaying_broken (Ok value) is clients targets places = tt
+relaying_broken (Err error) {made} {there} {back} {c0} {c1} {t0} {t1} {p0} {p1} {q0} is clients targets places = record {
   by_client = end_moved clients places is.by_client;
   by_target = subst (λ t. HasCarried t (carried back there)) (sym targets)
       (target_carried made t0 q0 (carried back there) is.by_target);

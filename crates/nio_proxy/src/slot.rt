@@ -74,7 +74,7 @@ fn connect<N: Net>(net: &mut N, target: ChanNo, ops: Ops) -> Result<bool, Failed
     }
 }
 
-#[tactic(auto, using(crate::proofs::Ends::ends_broken, crate::proofs::Ends::ends_relaying, crate::proofs::Ends::relaying_broken))]
+#[tactic(auto)]
 impl Relay {
     // Does what the two links were told ready for.
     fn advance<N: Net>(
