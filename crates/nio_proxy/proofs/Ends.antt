@@ -76,7 +76,7 @@ pub relaying_broken : {T E : Type 0} (result : Result T E) {made : Bool} {there 
     {p0 p1 q0 : Place} → IsRelaying made there back c0 t0 p0 q0 → c1 ≡ c0 → t1 ≡ t0 → p1 ≡ p0
     → OnErr result (IsBroken there back c1 t1 p1)
 relaying_broken (Ok value) is clients targets places = tt
-relaying_broken (Err error) {made} {there} {back} {c0} {c1} {t0} {t1} {p0} {p1} {q0} is clients targets places = record {
+relaying_broken (Err error) {made} {there} {back} {t0 = t0} {q0 = q0} is clients targets places = record {
   by_client = end_moved clients places is.by_client;
   by_target = subst (λ t. HasCarried t (carried back there)) (sym targets)
       (target_carried made t0 q0 (carried back there) is.by_target);

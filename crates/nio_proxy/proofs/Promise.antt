@@ -29,7 +29,7 @@ use Rattle.nio_proxy.proofs.Working.{chan_as, gone_stays, is_or_not, later_all, 
 use Rattle.nio_proxy.proofs.Working.{vacant_stays}
 use Rattle.nio_proxy.specs.Nets.{Members, IsQuiet, OnlyCloses}
 use Rattle.nio_proxy.specs.Relaying.{carried}
-use Rattle.nio_proxy.specs.Serving.{HasCarried, HaveCarried, AreRelayed, RelaysBytes, IsAtMost, LeavesNothing, WasBegun}
+use Rattle.nio_proxy.specs.Serving.{HaveCarried, AreRelayed, RelaysBytes, IsAtMost, LeavesNothing, WasBegun}
 use Rattle.nio_proxy.specs.Serving.{HasFaulted, HasServed, Serves, NoneRose, ServesAllOr, client_of, target_of}
 use Rattle.nio_proxy.specs.Serving.{listener, count_below}
 use Rattle.nio_proxy.specs.Slots.{HasEnded, IsBroken, IsLive, IsSlot, IsSlotOf, IsUnbegun, HasRoles, AreServed}
