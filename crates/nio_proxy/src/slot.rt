@@ -168,7 +168,6 @@ impl Slot {
 }
 
 // Closes a connection where it has ended: where a call failed, or where both directions are shut.
-#[tactic(auto, using(crate::proofs::Ends::still_live))]
 fn settle<N: Net>(
     net: &mut N,
     board: &mut Board,
