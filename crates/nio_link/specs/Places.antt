@@ -32,7 +32,7 @@ IsLinked standing.Linked = Unit {0}
 IsLinked standing.Shut = Unit {0}
 IsLinked standing.Gone = ⊥
 
--- ---- after each call: one that fails makes nothing, and leaves what stands
+-- ---- after each call: one that fails makes nothing, and leaves what stands; but a link that fails to connect is gone
 
 abbrev pub place_after_listen : Result (Unit {0}) Failed → Addr → Place
 place_after_listen (Ok _) at = record { role = role.Listener at; standing = standing.Listening }
@@ -52,7 +52,7 @@ place_after_connect (Err _) to = record { role = role.Connected to; standing = s
 abbrev pub place_after_finish : Result Bool Failed → Place → Place
 place_after_finish (Ok true) before = record before { standing = standing.Linked }
 place_after_finish (Ok false) before = before
-place_after_finish (Err _) before = before
+place_after_finish (Err _) before = record before { standing = standing.Gone }
 
 abbrev pub place_after_shut : Result (Unit {0}) Failed → Place → Place
 place_after_shut (Ok _) before = record before { standing = standing.Shut }

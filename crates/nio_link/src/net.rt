@@ -91,7 +91,8 @@ pub trait Net: Poller {
         ensures places { IsSameBut chan (place self.old) (place self.new) }
         ensures polls { Self.poll_faults self.new ≡ Self.poll_faults self.old };
 
-    /// Goes on connecting a link. True where it is connected; false where that isn't done yet.
+    /// Goes on connecting a link. True where it is connected; false where that isn't done yet. As in Java, a link that
+    /// couldn't be connected is closed.
     fn finish_connect(&mut self, chan: ChanNo) -> Result<bool, Failed>
         requires ready { IsTrue (is_within 8 (Self.ready self.old chan)) }
         requires connecting { (place self.old chan).standing ≡ standing.Connecting }

@@ -160,7 +160,11 @@ impl<S: System + Clock + Copy> Net for MioNet<S> {
                 self.readiness.take(chan, Ops::CONNECT);
                 Ok(false)
             }
-            Err(Failed) => Err(self.counts.fail(chan)),
+            Err(Failed) => {
+                self.changes
+                    .push(&(chan, Change::FinishConnect(Err(Failed))));
+                Err(self.counts.fail(chan))
+            }
         }
     }
 

@@ -277,6 +277,7 @@ impl Sockets {
         }
     }
 
+    /// A link that couldn't be connected is closed.
     pub(crate) fn finish_connect(&mut self, chan: ChanNo) -> Result<bool, Failed> {
         match socket::is_connected(&self.sockets, chan) {
             Ok(true) => Ok(true),
@@ -284,7 +285,10 @@ impl Sockets {
                 clear(&mut self.kept, chan, Ops::CONNECT);
                 Ok(false)
             }
-            Err(_error) => Err(Failed),
+            Err(_error) => {
+                self.close(chan);
+                Err(Failed)
+            }
         }
     }
 

@@ -54,7 +54,7 @@ fn begin<R: Wait>(rt: &R, alloc: Global, w: &Words, p: &mut Pass) -> Result<Sele
 }
 
 /// An address that nobody listens at.
-fn free_address(rt: &HostRuntime) -> Result<Addr, Fail> {
+pub(crate) fn free_address(rt: &HostRuntime) -> Result<Addr, Fail> {
     let listener = TcpListener::bind(rt, "127.0.0.1:0")?;
     Ok(Addr {
         ip: [127, 0, 0, 1],

@@ -1,12 +1,14 @@
 -- The ends of a connection, from piece of work to piece of work.
-use Rattle.std.proofs.Common.{◌≡◌, Bool, true, false, refl, sym, ap, subst, ◌∙◌}
+use Rattle.std.proofs.Common.{◌≡◌, Bool, true, false, Result, Ok, Err, OnOk, OnErr, is_err, refl, sym, ap, subst, ◌∙◌}
 use Rattle.nio_link.specs.Links.{Link}
 use Rattle.nio_link.specs.Places.{IsLinked, closed, place_after_close}
 use Rattle.nio_link.specs.declared.place.Place.{Place}
 use Rattle.nio_link.specs.declared.place.Standing.TheVariants.{Gone}
 use Rattle.nio_relay.specs.Connection.{Carried}
-use Rattle.nio_relay.specs.Flow.{Flow}
-use Rattle.nio_proxy.specs.Relaying.{IsEnd, SameSink, SameSource, carried, open_or_shut}
+use Rattle.nio_relay.specs.Flow.{Flow, IsLawful}
+use Rattle.nio_proxy.specs.Relaying.{IsEnd, IsTarget, SameSink, SameSource, carried, open_or_shut}
+use Rattle.nio_proxy.specs.Serving.{HasCarried}
+use Rattle.nio_proxy.specs.Slots.{IsBroken, IsLive, IsRelaying}
 
 open_linked : (b : Bool) → IsLinked (open_or_shut b)
 open_linked true = tt
@@ -45,3 +47,37 @@ end_sink {l} {p} {f} {g} outgoing same is =
     (sym same.written)
     (subst (λ shut. IsEnd l p (record { got = outgoing.taken; ended = outgoing.ended; put = f.written; shut = shut }))
     (sym same.shut) is)
+
+-- what holds where a call failed, or where it didn't
+pub where_failed : {T E P : Type 0} (result : Result T E) → is_err result ≡ true → OnErr result P → P
+where_failed (Ok value) failed holds = absurd (cc)
+where_failed (Err error) failed holds = holds
+
+where_done : {T E P : Type 0} (result : Result T E) → is_err result ≡ false → OnOk result P → P
+where_done (Ok value) done holds = holds
+where_done (Err error) done holds = absurd (cc)
+
+-- a connection of which no call has failed is relayed still
+pub still_live : {T E : Type 0} (result : Result T E) (made : Bool) (there back : Flow) (client target : Link)
+    (p q : Place) → is_err result ≡ false → OnOk result (IsRelaying made there back client target p q)
+    → IsLawful there → IsLawful back → IsLive made there back client target p q
+still_live result made there back client target p q done relaying there_lawful back_lawful = record {
+  relaying = where_done result done relaying;
+  there_lawful = there_lawful;
+  back_lawful = back_lawful;
+}
+
+pub target_carried : (made : Bool) (l : Link) (p : Place) (c : Carried) → IsTarget made l p c → HasCarried l c
+target_carried true l p c is = is.carried
+target_carried false l p c is = is.carried
+
+-- a connection that was relayed, and of which only the target's place has changed
+pub relaying_broken : {T E : Type 0} (result : Result T E) {made : Bool} {there back : Flow} {c0 c1 t0 t1 : Link}
+    {p0 p1 q0 : Place} → IsRelaying made there back c0 t0 p0 q0 → c1 ≡ c0 → t1 ≡ t0 → p1 ≡ p0
+    → OnErr result (IsBroken there back c1 t1 p1)
+relaying_broken (Ok value) is clients targets places = tt
+relaying_broken (Err error) {made} {there} {back} {t0 = t0} {q0 = q0} is clients targets places = record {
+  by_client = end_moved clients places is.by_client;
+  by_target = subst (λ t. HasCarried t (carried back there)) (sym targets)
+      (target_carried made t0 q0 (carried back there) is.by_target);
+}

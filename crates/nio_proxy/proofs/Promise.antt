@@ -23,17 +23,17 @@ use Rattle.nio_relay.specs.declared.plan.ProxyPlan.{ProxyPlan}
 use Rattle.nio_relay.specs.declared.plan.Served.{Served}
 use Rattle.nio_proxy.proofs.Begun.{unused_relayed}
 use Rattle.nio_proxy.proofs.Counts.{count_all, count_none}
-use Rattle.nio_proxy.proofs.Ends.{end_gone}
+use Rattle.nio_proxy.proofs.Ends.{end_gone, target_carried}
 use Rattle.nio_proxy.proofs.Slotting.{faulted_from, client_listener, target_listener}
 use Rattle.nio_proxy.proofs.Working.{chan_as, gone_stays, is_or_not, later_all, quiet_then, role_stays, rose_from}
 use Rattle.nio_proxy.proofs.Working.{vacant_stays}
 use Rattle.nio_proxy.specs.Nets.{Members, IsQuiet, OnlyCloses}
-use Rattle.nio_proxy.specs.Relaying.{carried, IsTarget}
-use Rattle.nio_proxy.specs.Serving.{HasCarried, HaveCarried, AreRelayed, RelaysBytes, IsAtMost, LeavesNothing, WasBegun}
+use Rattle.nio_proxy.specs.Relaying.{carried}
+use Rattle.nio_proxy.specs.Serving.{HaveCarried, AreRelayed, RelaysBytes, IsAtMost, LeavesNothing, WasBegun}
 use Rattle.nio_proxy.specs.Serving.{HasFaulted, HasServed, Serves, NoneRose, ServesAllOr, client_of, target_of}
 use Rattle.nio_proxy.specs.Serving.{listener, count_below}
-use Rattle.nio_proxy.specs.Slots.{HasEnded, IsLive, IsSlot, IsSlotOf, IsUnbegun, HasRoles, AreServed, ListensAt}
-use Rattle.nio_proxy.specs.Slots.{Serving, has_ended, has_faulted}
+use Rattle.nio_proxy.specs.Slots.{HasEnded, IsBroken, IsLive, IsSlot, IsSlotOf, IsUnbegun, HasRoles, AreServed}
+use Rattle.nio_proxy.specs.Slots.{ListensAt, Serving, has_ended, has_faulted}
 use Rattle.nio_proxy.specs.declared.board.Port.{Port}
 use Rattle.nio_proxy.specs.declared.connections.Connections.{Connections}
 use Rattle.nio_proxy.specs.declared.serve.ServeError.{ServeError}
@@ -62,10 +62,6 @@ lawful_relayed f g lawful = record {
     shut = is_shut;
   };
 }
-
-target_carried : (b : Bool) (l : Link) (p : Place) (c : Carried) → IsTarget b l p c → HasCarried l c
-target_carried true l p c is = is.carried
-target_carried false l p c is = is.carried
 
 live_relayed : (made : Bool) (there back : Flow) (client target : Link) (p q : Place)
     → IsLive made there back client target p q → HaveCarried AreRelayed client target
@@ -96,18 +92,31 @@ have_moved : {P : Carried → Carried → Type 0} (c0 c1 t0 t1 : Link) → c1 �
 have_moved {P} c0 c1 t0 t1 clients targets have =
     subst (λ c. HaveCarried P c t1) (sym clients) (subst (λ t. HaveCarried P c0 t) (sym targets) have)
 
--- a connection that is closed after a fault, or where both directions are shut
+broken_relayed : (there back : Flow) (client target : Link) (p : Place) → IsLawful there → IsLawful back
+    → IsBroken there back client target p → HaveCarried AreRelayed client target
+broken_relayed there back client target p there_lawful back_lawful is = record {
+  of_client = carried there back;
+  of_target = carried back there;
+  by_client = is.by_client.carried;
+  by_target = is.by_target;
+  related = (lawful_relayed there back there_lawful, lawful_relayed back there back_lawful);
+}
+
+-- a connection that is closed after a fault
+pub ended_faulty : (there back : Flow) (c0 c1 t0 t1 : Link) (p0 p1 q1 : Place) → IsLawful there → IsLawful back
+    → IsBroken there back c0 t0 p0 → c1 ≡ c0 → t1 ≡ t0 → p1 ≡ place_after_close p0 → IsVacant q1.standing
+    → HasEnded AreRelayed c1 t1 p1 q1
+ended_faulty there back c0 c1 t0 t1 p0 p1 q1 there_lawful back_lawful broken clients targets client target = record {
+  carried = have_moved c0 c1 t0 t1 clients targets
+      (broken_relayed there back c0 t0 p0 there_lawful back_lawful broken);
+  client_closed = end_gone p1 client broken.by_client;
+  target_closed = target;
+}
+
+-- a connection that is closed where both directions are shut
 module _ (made : Bool) (there back : Flow) (c0 c1 t0 t1 : Link) (p0 p1 q0 q1 : Place)
     (live : IsLive made there back c0 t0 p0 q0) (clients : c1 ≡ c0) (targets : t1 ≡ t0)
     (client : p1 ≡ place_after_close p0) (target : IsVacant q1.standing) where
-  pub ended_faulty : HasEnded AreRelayed c1 t1 p1 q1
-  ended_faulty =
-      record {
-        carried = have_moved c0 c1 t0 t1 clients targets (live_relayed made there back c0 t0 p0 q0 live);
-        client_closed = end_gone p1 client live.relaying.by_client;
-        target_closed = target;
-      }
-
   pub ended_clean : IsTrue there.shut → IsTrue back.shut → HasEnded IsClean c1 t1 p1 q1
   ended_clean there_shut back_shut =
       record {

@@ -4,7 +4,7 @@ use Rattle.nio_link.specs.Links.{Link}
 use Rattle.nio_link.specs.declared.net.Failed.{Failed}
 use Rattle.nio_link.specs.declared.place.Place.{Place}
 use Rattle.nio_link.specs.declared.place.Standing.{Standing}
-use Rattle.nio_link.specs.declared.place.Standing.TheVariants.{Linked, Shut, Connecting}
+use Rattle.nio_link.specs.declared.place.Standing.TheVariants.{Linked, Shut, Connecting, Gone}
 use Rattle.nio_relay.specs.Connection.{Carried}
 use Rattle.nio_relay.specs.Flow.{Flow}
 use Rattle.nio_proxy.specs.Serving.{HasCarried}
@@ -34,7 +34,7 @@ pub record IsPending (l : Link) (p : Place) (c : Carried) : Type 0 where
 abbrev pub standing_after_finish : Result Bool Failed → Standing
 standing_after_finish (Ok true) = Linked
 standing_after_finish (Ok false) = Connecting
-standing_after_finish (Err failed) = Connecting
+standing_after_finish (Err failed) = Gone
 
 -- a target's link, connected or not
 abbrev pub IsTarget : Bool → Link → Place → Carried → Type 0

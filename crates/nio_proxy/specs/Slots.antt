@@ -14,8 +14,8 @@ use Rattle.nio_relay.specs.Connection.{Carried, IsClean}
 use Rattle.nio_relay.specs.Flow.{Flow, IsLawful}
 use Rattle.nio_proxy.specs.Nets.{Members}
 use Rattle.nio_proxy.specs.Relaying.{carried, IsEnd, IsTarget}
-use Rattle.nio_proxy.specs.Serving.{HaveCarried, AreRelayed, HasFaulted, IsUnfaulted, client_of, target_of, count_below}
-use Rattle.nio_proxy.specs.Serving.{listener}
+use Rattle.nio_proxy.specs.Serving.{HasCarried, HaveCarried, AreRelayed, HasFaulted, IsUnfaulted, client_of, target_of}
+use Rattle.nio_proxy.specs.Serving.{count_below, listener}
 use Rattle.nio_proxy.specs.declared.board.Port.{Port}
 use Rattle.nio_proxy.specs.declared.connections.Connections.{Connections}
 use Rattle.nio_proxy.specs.declared.slot.Slot.{Slot}
@@ -26,6 +26,11 @@ pub record IsRelaying (is_connected : Bool) (there back : Flow) (client target :
     (at_client at_target : Place) : Type 0 where
   pub by_client : IsEnd client at_client (carried there back)
   pub by_target : IsTarget is_connected target at_target (carried back there)
+
+-- a connection of which a call has failed: no link may stand to the target, where that couldn't be connected
+pub record IsBroken (there back : Flow) (client target : Link) (at_client : Place) : Type 0 where
+  pub by_client : IsEnd client at_client (carried there back)
+  pub by_target : HasCarried target (carried back there)
 
 -- while a connection is relayed
 pub record IsLive (is_connected : Bool) (there back : Flow) (client target : Link)

@@ -9,14 +9,14 @@ ghost use Rattle.nio_link.specs.declared.place.Place.{Place};
 ghost use Rattle.nio_link.specs.declared.place.Role.{Role};
 ghost use Rattle.nio_link.specs.declared.place.Role.TheVariants as role;
 ghost use Rattle.nio_link.specs.declared.place.Standing.TheVariants.{Connecting, Linked};
-ghost use Rattle.nio_relay.specs.Flow.{fresh};
+ghost use Rattle.nio_relay.specs.Flow.{fresh, IsLawful};
 ghost use Rattle.nio_steps.specs.KeyCalls.{is_within};
 ghost use Rattle.nio_proxy.specs.Nets.{Begins, IsQuiet, Works};
 ghost use Rattle.nio_proxy.specs.Passing.{BothSame, OneRose};
 ghost use Rattle.nio_proxy.specs.Relaying.{standing_after_finish};
 ghost use Rattle.nio_proxy.specs.Serving.{listener};
 ghost use Rattle.nio_proxy.specs.declared.slot.Slot.TheVariants.{Live};
-ghost use Rattle.nio_proxy.specs.Slots.{IsRelaying, IsLive, IsSlot, IsSlotOf, HasRoles, has_ended, has_faulted};
+ghost use Rattle.nio_proxy.specs.Slots.{IsBroken, IsRelaying, IsSlot, IsSlotOf, HasRoles, has_ended, has_faulted};
 
 use crate::board::{Board, Port, Refused};
 use crate::link::{Flows, serve_links};
@@ -91,7 +91,10 @@ impl Relay {
         requires ready_client { IsTrue (is_within at_client (N.ready net.old client)) }
         requires ready_target { IsTrue (is_within at_target (N.ready net.old target)) }
         requires relaying { IsRelaying self.old.is_connected self.old.there self.old.back (N.link net.old client) (N.link net.old target) (N.place net.old client) (N.place net.old target) }
-        ensures relaying { IsRelaying self.new.is_connected self.new.there self.new.back (N.link net.new client) (N.link net.new target) (N.place net.new client) (N.place net.new target) }
+        ensures relaying { OnOk result (IsRelaying self.new.is_connected self.new.there self.new.back
+            (N.link net.new client) (N.link net.new target) (N.place net.new client) (N.place net.new target)) }
+        ensures broken { OnErr result (IsBroken self.new.there self.new.back
+            (N.link net.new client) (N.link net.new target) (N.place net.new client)) }
         ensures work { Works N.Net client target net.old net.new }
         ensures cause { OnErr result (OneRose (N.faults net.old) (N.faults net.new) client target) }
         ensures calm { OnOk result (BothSame (N.faults net.old) (N.faults net.new) client target) }
@@ -175,7 +178,12 @@ fn settle<N: Net>(
     served: Result<(), Failed>,
 ) -> Slot
     requires apart { client ≢ target }
-    requires live { IsLive relay.is_connected relay.there relay.back (N.link net.old client) (N.link net.old target) (N.place net.old client) (N.place net.old target) }
+    requires there { IsLawful relay.there }
+    requires back { IsLawful relay.back }
+    requires relaying { OnOk served (IsRelaying relay.is_connected relay.there relay.back
+        (N.link net.old client) (N.link net.old target) (N.place net.old client) (N.place net.old target)) }
+    requires broken { OnErr served (IsBroken relay.there relay.back
+        (N.link net.old client) (N.link net.old target) (N.place net.old client)) }
     ensures slot { IsSlot (Some result) (N.link net.new client) (N.link net.new target) (N.place net.new client) (N.place net.new target) }
     ensures roles { (to : Addr) (r s : Role) → HasRoles to (Some (Live relay)) r s → HasRoles to (Some result) r s }
     ensures faulty { IsTrue (has_faulted (Some result)) ↔ IsErr served }

@@ -1,6 +1,8 @@
-//! What errors of the system mean to the calls.
+//! What errors of the system mean to the calls, and a connection that is refused.
 use super::*;
+use crate::tests::free_address;
 use std::test::Fail;
+use std::thread::sleep;
 
 const LISTENER: ChanNo = ChanNo(0);
 
@@ -75,5 +77,29 @@ fn calls_take_errors_by_their_kind(rt: HostRuntime) -> Result<(), Fail> {
     clear(&mut sockets.kept, LISTENER, Ops::ACCEPT);
     sockets.retry_waiting();
     assert_eq!(rt; kept_of(&sockets.kept, LISTENER), Ops::ACCEPT);
+    Ok(())
+}
+
+/// Goes on connecting until that is done.
+fn finish(rt: &HostRuntime, sockets: &mut Sockets) -> Result<bool, Failed> {
+    for _ in 0..1_000 {
+        if sockets.finish_connect(LINK)? {
+            return Ok(true);
+        }
+        sleep(rt, Duration::from_millis(10));
+    }
+    Ok(false)
+}
+
+#[test]
+fn a_refused_link_is_closed(rt: HostRuntime) -> Result<(), Fail> {
+    let (mut sockets, _bell) = Sockets::make(&rt, rt.alloc())?;
+    let at = free_address(&rt)?;
+    let finished = match sockets.connect(&rt, LINK, at) {
+        Ok(_connected) => finish(&rt, &mut sockets),
+        Err(Failed) => Err(Failed),
+    };
+    assert_eq!(rt; finished, Err(Failed));
+    assert_eq!(rt; sockets.links, 0);
     Ok(())
 }
