@@ -31,13 +31,16 @@ const BELL: Token = Token(PLACES);
 /// How many events one poll takes from the system.
 const EVENTS: usize = 1_024;
 
-/// The sockets. A bit is kept for an operation of a channel from an event until a call finds it not ready.
+/// The sockets. A bit is kept for an operation of a channel from an event until a call finds it not ready, or a read has
+/// taken all that had come.
 #[derive(Drop)]
 pub(crate) struct Sockets {
     poll: Option<Poll>,
     events: Events,
     sockets: Vec<Option<Socket>>,
     kept: Vec<Ops>,
+    // Of which sockets the system has told an end or an error.
+    ended: Vec<bool>,
     // How many links stand.
     links: usize,
     // The listeners that wait until a descriptor is free.
@@ -53,6 +56,7 @@ impl Sockets {
         let mut sockets = Vec::new(alloc);
         sockets.resize_with(PLACES, no_socket)?;
         let kept = vec![in alloc; Ops::NONE; PLACES]?;
+        let ended = vec![in alloc; false; PLACES]?;
         let events = Events::with_capacity(alloc, EVENTS)?;
         let waiting = Vec::with_capacity(alloc, PLACES)?;
         let (poll, bell) = poll_and_bell(rt);
@@ -61,6 +65,7 @@ impl Sockets {
             events,
             sockets,
             kept,
+            ended,
             links: 0,
             waiting,
             spare: None,
@@ -141,6 +146,7 @@ impl Sockets {
         match poll.poll(&mut self.events, timeout) {
             Ok(()) => {
                 note_all(&mut self.kept, &self.events);
+                note_ends(&mut self.ended, &self.events);
                 Ok(())
             }
             Err(_error) => Err(Failed),
@@ -292,16 +298,32 @@ impl Sockets {
         }
     }
 
+    /// Where an earlier read has taken all that had come, the system isn't asked before it tells of more.
     pub(crate) fn read(&mut self, chan: ChanNo, into: &mut [u8]) -> Result<Got, Failed>
         ensures { IfOk result (IsGot into.old) }
     {
+        if kept_of(&self.kept, chan).meet(Ops::READ) == Ops::NONE {
+            return Ok(Got::NotYet);
+        }
+        let room = into.len();
         match socket::read(&mut self.sockets, chan, into) {
             Ok(0) => Ok(Got::End),
-            Ok(count) => Ok(Got::Bytes(count)),
+            Ok(count) => {
+                self.note_read(chan, count < room);
+                Ok(Got::Bytes(count))
+            }
             Err(error) => match self.not_moved(chan, Ops::READ, cause_of(&error)) {
                 Ok(()) => Ok(Got::NotYet),
                 Err(Failed) => Err(Failed),
             },
+        }
+    }
+
+    // A read that gave fewer bytes than had room has taken all that had come, and the system tells of more. It doesn't
+    // tell again of an end or an error that it told before that read.
+    fn note_read(&mut self, chan: ChanNo, took_all: bool) {
+        if took_all && !has_ended(&self.ended, chan) {
+            clear(&mut self.kept, chan, Ops::READ);
         }
     }
 
@@ -347,6 +369,9 @@ impl Sockets {
             self.retry_waiting();
         }
         keep_only(&mut self.kept, chan, Ops::NONE);
+        if let Some(ended) = self.ended.get_mut(chan.0 as usize) {
+            *ended = false;
+        }
     }
 
     fn retry_waiting(&mut self) {
@@ -406,6 +431,24 @@ fn note_all(kept: &mut [Ops], events: &Events) {
         if let Some(bits) = kept.get_mut(place) {
             *bits = bits.union(told_by(event));
         }
+    }
+}
+
+fn note_ends(ended: &mut [bool], events: &Events) {
+    for event in events {
+        if event.is_read_closed() || event.is_write_closed() || event.is_error() {
+            let Token(place) = event.token();
+            if let Some(ended) = ended.get_mut(place) {
+                *ended = true;
+            }
+        }
+    }
+}
+
+fn has_ended(ended: &[bool], chan: ChanNo) -> bool {
+    match ended.get(chan.0 as usize) {
+        Some(ended) => *ended,
+        None => false,
     }
 }
 

@@ -1,6 +1,8 @@
-//! What errors of the system mean to the calls, and a connection that is refused.
+//! What errors of the system mean to the calls, a connection that is refused, and what is read of one that ends.
 use super::*;
 use crate::tests::free_address;
+use std::io::Write;
+use std::net::{TcpListener, TcpStream};
 use std::test::Fail;
 use std::thread::sleep;
 
@@ -77,6 +79,46 @@ fn calls_take_errors_by_their_kind(rt: HostRuntime) -> Result<(), Fail> {
     clear(&mut sockets.kept, LISTENER, Ops::ACCEPT);
     sockets.retry_waiting();
     assert_eq!(rt; kept_of(&sockets.kept, LISTENER), Ops::ACCEPT);
+    Ok(())
+}
+
+/// A link to a peer whose end is given too.
+fn linked(rt: &HostRuntime, sockets: &mut Sockets) -> Result<TcpStream, Fail> {
+    let listener = TcpListener::bind(rt, "127.0.0.1:0")?;
+    let at = Addr {
+        ip: [127, 0, 0, 1],
+        port: listener.local_addr()?.port(),
+    };
+    sockets.connect(rt, LINK, at)?;
+    let (peer, _from) = listener.accept()?;
+    Ok(peer)
+}
+
+/// What a read gives once the system has told what came.
+fn next(rt: &HostRuntime, sockets: &mut Sockets) -> Result<Got, Fail> {
+    sleep(rt, Duration::from_millis(50));
+    sockets.poll_for(Some(Duration::ZERO))?;
+    Ok(sockets.read(LINK, &mut [0_u8; 64])?)
+}
+
+#[test]
+fn an_end_behind_a_short_read_is_found(rt: HostRuntime) -> Result<(), Fail> {
+    let (mut sockets, _bell) = Sockets::make(&rt, rt.alloc())?;
+    // The end comes with the bytes.
+    let mut peer = linked(&rt, &mut sockets)?;
+    peer.write_all(b"bytes")?;
+    drop(peer);
+    assert_eq!(rt; next(&rt, &mut sockets)?, Got::Bytes(5));
+    assert_eq!(rt; next(&rt, &mut sockets)?, Got::End);
+    // Bytes come, and later more, and later the end.
+    let mut peer = linked(&rt, &mut sockets)?;
+    peer.write_all(b"bytes")?;
+    assert_eq!(rt; next(&rt, &mut sockets)?, Got::Bytes(5));
+    assert_eq!(rt; next(&rt, &mut sockets)?, Got::NotYet);
+    peer.write_all(b"more")?;
+    assert_eq!(rt; next(&rt, &mut sockets)?, Got::Bytes(4));
+    drop(peer);
+    assert_eq!(rt; next(&rt, &mut sockets)?, Got::End);
     Ok(())
 }
 
