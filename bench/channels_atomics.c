@@ -10,11 +10,11 @@ enum { ROUNDS = 20000, CHANNELS = 64, READ = 1 };
 enum {
   CHANNEL = 5,
   HOLD = CHANNEL + CHANNELS,
-  NOTED = HOLD + CHANNELS,
-  GATE = NOTED + CHANNELS,
+  ENROLLED = HOLD + CHANNELS,
+  GATE = ENROLLED + CHANNELS,
   TURN = GATE + 1,
-  MARK_OF_KEYS = TURN + 1,
-  KEY = MARK_OF_KEYS + 1,
+  KEYS_HIGH = TURN + 1,
+  KEY = KEYS_HIGH + 1,
   INTEREST = KEY + CHANNELS,
   MARK = INTEREST + CHANNELS,
   NOTE = MARK + CHANNELS,
@@ -27,12 +27,12 @@ enum { CLOSED = 16, BLOCKING = 32, SHUT = 2, PUBLISHED = 2, CANCELLED = 4, REMOV
 
 static _Atomic word *words;
 
-/* The index of the noted key, whose word isn't 0. */
-static word index_of(word noted) { return (noted & 0xffffffff) - 1; }
+/* The index of the enrolled key, whose word isn't 0. */
+static word index_of(word enrolled) { return (enrolled & 0xffffffff) - 1; }
 
-/* Whether the key that is noted is in the key set. */
-static int in_key_set(word key, word noted) {
-  return key >> 32 == noted >> 32 && (key & (PUBLISHED | REMOVED)) == PUBLISHED;
+/* Whether the key that is enrolled is in the key set. */
+static int in_key_set(word key, word enrolled) {
+  return key >> 32 == enrolled >> 32 && (key & (PUBLISHED | REMOVED)) == PUBLISHED;
 }
 
 static void claim_again(word c, word i, word *serial) {
@@ -44,7 +44,7 @@ static void claim_again(word c, word i, word *serial) {
 
 static void make_key(word c) {
   word serial;
-  word mark = atomic_load(&words[MARK_OF_KEYS]);
+  word mark = atomic_load(&words[KEYS_HIGH]);
   word i = (word)__builtin_ctzll(atomic_load(&words[FREE]));
   if (i >= mark) stop("no index is free");
   if (!(atomic_fetch_and(&words[FREE], ~(1ULL << i)) >> i & 1)) stop("an index isn't free");
@@ -53,7 +53,7 @@ static void make_key(word c) {
   if (atomic_load(&words[GATE]) & SHUT) stop("the selector is shut");
   atomic_exchange(&words[INTEREST + i], READ);
   atomic_exchange(&words[NOTE + i], 0);
-  atomic_exchange(&words[NOTED + c], i + 1 + (serial << 32));
+  atomic_exchange(&words[ENROLLED + c], i + 1 + (serial << 32));
   if (atomic_fetch_or(&words[KEY + i], PUBLISHED) & REMOVED) stop("a key is removed");
   if (atomic_load(&words[CHANNEL + c]) & CLOSED) stop("a channel is closed");
   atomic_fetch_sub(&words[KEY + i], PIN);
@@ -64,11 +64,11 @@ static void register_channel(word c) {
   if (atomic_load(&words[CHANNEL + c]) & CLOSED) stop("a channel is closed");
   if (!atomic_compare_exchange_strong(&words[HOLD + c], &none, 1)) stop("a channel is held");
   if (atomic_load(&words[CHANNEL + c]) & (CLOSED | BLOCKING)) stop("a channel is closed or blocking");
-  word noted = atomic_load(&words[NOTED + c]);
-  word i = index_of(noted);
+  word enrolled = atomic_load(&words[ENROLLED + c]);
+  word i = index_of(enrolled);
   word key = atomic_fetch_add(&words[KEY + i], PIN);
   if (atomic_load(&words[GATE]) & SHUT) stop("the selector is shut");
-  int has_key = in_key_set(key, noted);
+  int has_key = in_key_set(key, enrolled);
   if (has_key) atomic_exchange(&words[INTEREST + i], READ);
   atomic_fetch_sub(&words[KEY + i], PIN);
   if (!has_key) make_key(c);
@@ -76,15 +76,15 @@ static void register_channel(word c) {
 }
 
 static word key_for(word c) {
-  word noted = atomic_load(&words[NOTED + c]);
-  if (!in_key_set(atomic_load(&words[KEY + index_of(noted)]), noted)) stop("a channel has no key");
-  return noted;
+  word enrolled = atomic_load(&words[ENROLLED + c]);
+  if (!in_key_set(atomic_load(&words[KEY + index_of(enrolled)]), enrolled)) stop("a channel has no key");
+  return enrolled;
 }
 
 static void cancel(word c) {
-  word noted = key_for(c);
-  word i = index_of(noted);
-  if (!in_key_set(atomic_fetch_add(&words[KEY + i], PIN), noted)) stop("a channel has no key");
+  word enrolled = key_for(c);
+  word i = index_of(enrolled);
+  if (!in_key_set(atomic_fetch_add(&words[KEY + i], PIN), enrolled)) stop("a channel has no key");
   atomic_fetch_or(&words[KEY + i], CANCELLED);
   atomic_fetch_sub(&words[KEY + i], PIN);
 }
@@ -102,10 +102,10 @@ int main(void) {
   /* Every channel has a removed key, and every index is free. */
   for (word c = 0; c < CHANNELS; c++) {
     words[CHANNEL + c] = 1 + 2 * 2;
-    words[NOTED + c] = c + 1;
+    words[ENROLLED + c] = c + 1;
     words[KEY + c] = 1 + PUBLISHED + CANCELLED + REMOVED + (c << 12);
   }
-  words[MARK_OF_KEYS] = CHANNELS;
+  words[KEYS_HIGH] = CHANNELS;
   words[FREE] = ~0ULL;
   for (unsigned round = 0; round < ROUNDS; round++) {
     long long start = now();

@@ -26,7 +26,7 @@ static const struct load loads[] = {
 static _Atomic word *words;
 
 /* Where the words of each row begin. */
-static word gate, turn, mark_of_keys, key, interest, mark, free_indexes;
+static word gate, turn, keys_high, key, interest, mark, free_indexes;
 
 /* The indexes that a selection found not free, and the keys that it looked at. */
 static word listed[MOST_KEYS];
@@ -38,14 +38,14 @@ static void make(const struct load *load) {
   word n = load->indexes;
   gate = 5 + 3 * n;
   turn = gate + 1;
-  mark_of_keys = turn + 1;
-  key = mark_of_keys + 1;
+  keys_high = turn + 1;
+  key = keys_high + 1;
   interest = key + n;
   mark = interest + n;
   free_indexes = mark + 2 * n;
   words = calloc(free_indexes + (n + 63) / 64, sizeof *words);
   if (!words) stop("no memory");
-  words[mark_of_keys] = n;
+  words[keys_high] = n;
   for (word i = 0; i < n; i++) {
     words[key + i] = CLAIMED + PUBLISHED + (i << 12);
     words[interest + i] = READ;
@@ -57,7 +57,7 @@ static void make(const struct load *load) {
 }
 
 static word list(void) {
-  word count = 0, bound = atomic_load(&words[mark_of_keys]);
+  word count = 0, bound = atomic_load(&words[keys_high]);
   for (word j = 0; j < (bound + 63) / 64; j++) {
     word rest = ~atomic_load(&words[free_indexes + j]);
     while (rest) {

@@ -9,18 +9,19 @@ use Rattle.nio_audit.proofs.Latest.{latest-own, latest-other}
 use Rattle.nio_audit.proofs.Truth.{or_false}
 use Rattle.nio_audit.specs.Latest.{latest}
 use Rattle.nio_audit.specs.Remembering.{outside_at}
-use Rattle.nio_audit.specs.Remembers.{own_of, RemembersHold, RemembersNote, RemembersIndex, RemembersClosing}
+use Rattle.nio_audit.specs.Remembers.{own_of, RemembersHold, RemembersEnrolled, RemembersIndex, RemembersClosing}
 use Rattle.nio_audit.specs.declared.memory.Claim.{Claim}
 use Rattle.nio_audit.specs.declared.memory.ClosingMemory.{ClosingMemory}
 use Rattle.nio_audit.specs.declared.memory.HoldMemory.{HoldMemory}
 use Rattle.nio_audit.specs.declared.memory.IndexMemory.{IndexMemory}
-use Rattle.nio_audit.specs.declared.memory.NoteMemory.{NoteMemory}
+use Rattle.nio_audit.specs.declared.memory.EnrolledMemory.{EnrolledMemory}
 use Rattle.nio_base.specs.declared.numbers.CallerNo.{CallerNo}
 use Rattle.nio_base.specs.declared.numbers.KeyId.{KeyId}
 use Rattle.nio_event.proofs.OneMore.{mine-own, mine-other, has-more, last-more}
 use Rattle.nio_event.specs.Histories.{is_by, mine}
 use Rattle.nio_event.specs.OwnEvents.{OwnClaim, has, last, since_first, since_entered, takes_hold, finds_unblocked}
-use Rattle.nio_event.specs.OwnEvents.{noted_found, notes_key, publishes, stage_found, is_outside, takes_free, own_claim}
+use Rattle.nio_event.specs.OwnEvents.{enrolled_found, enrols_key, publishes, stage_found, is_outside, takes_free}
+use Rattle.nio_event.specs.OwnEvents.{own_claim}
 use Rattle.nio_event.specs.OwnEvents.{claim_changed, or_none, is_unpublished, leaves_unpublished, is_yes, enters}
 use Rattle.nio_event.specs.OwnEvents.{finds_below}
 use Rattle.nio_event.specs.Sets.{is_in_key_set}
@@ -61,26 +62,26 @@ hold-own m n c past e by h = record {
   unblocked = moment n (finds_unblocked c) past e m.unblocked by h.unblocked;
 }
 
--- ---- noted keys
+-- ---- enrolled keys
 
--- the same with what an act tells: which key it found or noted, and whether it noted it
-abbrev pub note_parts : ℕ → Option (Option KeyId) → Bool → NoteMemory → NoteMemory
-note_parts now key notes m = record {
+-- the same with what an act tells: which key it found or enrolled, and whether it enrolled it
+abbrev pub enrolled_parts : ℕ → Option (Option KeyId) → Bool → EnrolledMemory → EnrolledMemory
+enrolled_parts now key enrols m = record {
   found_at = if is_some key then now else m.found_at;
   key = unwrap_or key m.key;
-  noted = if notes then now else m.noted;
+  enrolled = if enrols then now else m.enrolled;
 }
 
-abbrev pub heard_note : ℕ → Act → ℕ → ℕ → NoteMemory → NoteMemory
-heard_note now act c s m = note_parts now (noted_found c s act) (notes_key c s act) m
+abbrev pub heard_enrolled : ℕ → Act → ℕ → ℕ → EnrolledMemory → EnrolledMemory
+heard_enrolled now act c s m = enrolled_parts now (enrolled_found c s act) (enrols_key c s act) m
 
-pub note-other : (m : NoteMemory) (n : CallerNo) (c s : ℕ) (past : List Event) (e : Event) → is_by n e ≡ false
-    → RemembersNote m n c s past
-    → RemembersNote m n c s (past ++ e ∷ [])
-note-other m n c s past e by h = record {
-  found_at = h.found_at ∙ sym (latest-other n (λ act. is_some (noted_found c s act)) past e by);
-  key = λ some. ap (last (noted_found c s)) (mine-other n past e by) ∙ h.key some;
-  noted = h.noted ∙ sym (latest-other n (notes_key c s) past e by);
+pub enrolment-other : (m : EnrolledMemory) (n : CallerNo) (c s : ℕ) (past : List Event) (e : Event) → is_by n e ≡ false
+    → RemembersEnrolled m n c s past
+    → RemembersEnrolled m n c s (past ++ e ∷ [])
+enrolment-other m n c s past e by h = record {
+  found_at = h.found_at ∙ sym (latest-other n (λ act. is_some (enrolled_found c s act)) past e by);
+  key = λ some. ap (last (enrolled_found c s)) (mine-other n past e by) ∙ h.key some;
+  enrolled = h.enrolled ∙ sym (latest-other n (enrols_key c s) past e by);
 }
 
 -- a value that is kept: the last act that tells of it, or the last before
@@ -90,15 +91,16 @@ value : {A : Type 0} (t : Option A) (was : Option A) (x : A) (now found_at : ℕ
 value (Some y) was x now found_at h some = refl
 value None was x now found_at h some = h some
 
-pub note-own : (m : NoteMemory) (n : CallerNo) (c s : ℕ) (past : List Event) (e : Event) → is_by n e ≡ true
-    → RemembersNote m n c s past
-    → RemembersNote (heard_note (length past + 1) e.act c s m) n c s (past ++ e ∷ [])
-note-own m n c s past e by h = record {
-  found_at = moment n (λ act. is_some (noted_found c s act)) past e m.found_at by h.found_at;
-  key = λ some. (ap (last (noted_found c s)) (mine-own n past e by) ∙ last-more (noted_found c s) (mine n past) e.act)
-      ∙ value (noted_found c s e.act) (last (noted_found c s) (mine n past)) m.key
+pub enrolment-own : (m : EnrolledMemory) (n : CallerNo) (c s : ℕ) (past : List Event) (e : Event) → is_by n e ≡ true
+    → RemembersEnrolled m n c s past
+    → RemembersEnrolled (heard_enrolled (length past + 1) e.act c s m) n c s (past ++ e ∷ [])
+enrolment-own m n c s past e by h = record {
+  found_at = moment n (λ act. is_some (enrolled_found c s act)) past e m.found_at by h.found_at;
+  key = λ some. (ap (last (enrolled_found c s)) (mine-own n past e by) ∙ last-more (enrolled_found c s)
+      (mine n past) e.act)
+      ∙ value (enrolled_found c s e.act) (last (enrolled_found c s) (mine n past)) m.key
       (length past + 1) m.found_at h.key some;
-  noted = moment n (notes_key c s) past e m.noted by h.noted;
+  enrolled = moment n (enrols_key c s) past e m.enrolled by h.enrolled;
 }
 
 -- ---- indexes

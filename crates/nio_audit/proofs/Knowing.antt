@@ -2,20 +2,23 @@
 use Rattle.std.proofs.Common.{◌≡◌, ℕ, suc, ◌+◌, ◌==◌, max, Bool, true, false, not, ◌||◌, ◌&&◌, if◌then◌else◌, Option}
 use Rattle.std.proofs.Common.{Some, None, List, [], ◌∷◌, ◌++◌, length, refl, ap, sym, ◌∙◌, subst, eqb-true, eq-eqb}
 use Rattle.std.proofs.Common.{arith}
-use Rattle.nio_audit.proofs.Hearing.{heard_hold, note_parts, heard_note, heard_parts, heard_index, heard_closing}
-use Rattle.nio_audit.proofs.Hearing.{raised, hold-own, hold-other, note-own, note-other, index-own, index-other}
+use Rattle.nio_audit.proofs.Hearing.{heard_hold, enrolled_parts, heard_enrolled, heard_parts, heard_index}
+use Rattle.nio_audit.proofs.Hearing.{heard_closing}
+use Rattle.nio_audit.proofs.Hearing.{raised, hold-own, hold-other, enrolment-own, enrolment-other, index-own}
+use Rattle.nio_audit.proofs.Hearing.{index-other}
 use Rattle.nio_audit.proofs.Hearing.{closing-own, closing-other}
 use Rattle.nio_audit.proofs.Latest.{latest-none}
 use Rattle.nio_audit.proofs.Truth.{or_false}
 use Rattle.std.proofs.lemmas.Bool.{le-ltb}
 use Rattle.nio_base.specs.declared.numbers.KeyId.{KeyId}
-use Rattle.nio_audit.specs.Remembering.{Knowledge, learned, nothing_known, learned_note, learned_index, learned_closing}
-use Rattle.nio_audit.specs.Remembers.{RemembersHold, RemembersNote, RemembersIndex, RemembersClosing, Remembers}
+use Rattle.nio_audit.specs.Remembering.{Knowledge, learned, nothing_known, learned_enrolled, learned_index}
+use Rattle.nio_audit.specs.Remembering.{learned_closing}
+use Rattle.nio_audit.specs.Remembers.{RemembersHold, RemembersEnrolled, RemembersIndex, RemembersClosing, Remembers}
 use Rattle.nio_audit.specs.TableWords.{put_at_three}
 use Rattle.nio_audit.specs.declared.memory.ClosingMemory.{ClosingMemory}
 use Rattle.nio_audit.specs.declared.memory.HoldMemory.{HoldMemory}
 use Rattle.nio_audit.specs.declared.memory.IndexMemory.{IndexMemory}
-use Rattle.nio_audit.specs.declared.memory.NoteMemory.{NoteMemory}
+use Rattle.nio_audit.specs.declared.memory.EnrolledMemory.{EnrolledMemory}
 use Rattle.nio_base.specs.declared.numbers.CallerNo.{CallerNo}
 use Rattle.nio_event.specs.Histories.{is_by}
 use Rattle.nio_event.specs.State.{put, put_at}
@@ -24,11 +27,11 @@ use Rattle.nio_event.specs.declared.act.Act.TheVariants.{LookKey, LookChannel, C
 use Rattle.nio_event.specs.declared.act.Act.TheVariants.{TryHoldBit, Enter, Publish, Pin, Unpin, ClaimAgain, TakeFree}
 use Rattle.nio_event.specs.declared.event.Event.{Event}
 
-pub same_knowledge : {h h' : ℕ → ℕ → HoldMemory} {n n' : ℕ → ℕ → ℕ → NoteMemory} {i i' : ℕ → ℕ → ℕ → IndexMemory}
+pub same_knowledge : {h h' : ℕ → ℕ → HoldMemory} {n n' : ℕ → ℕ → ℕ → EnrolledMemory} {i i' : ℕ → ℕ → ℕ → IndexMemory}
     {c c' : ℕ → ℕ → ClosingMemory}
     → h ≡ h' → n ≡ n' → i ≡ i' → c ≡ c'
-    → ◌≡◌ {A = Knowledge} (record { holds = h; notes = n; indexes = i; closings = c })
-    (record { holds = h'; notes = n'; indexes = i'; closings = c' })
+    → ◌≡◌ {A = Knowledge} (record { holds = h; enrolments = n; indexes = i; closings = c })
+    (record { holds = h'; enrolments = n'; indexes = i'; closings = c' })
 same_knowledge p q r s = cc
 
 -- ---- a change at a caller's key, told by the test that a key is that one
@@ -103,16 +106,17 @@ holds-heard now me (LookChannel c' found) k n c =
     (unblocked_at now found.blocking) (λ m. refl) n c
 holds-heard now me _ k n c = cond_same (me.0 == n) (k.holds n c)
 
-notes-heard : (now : ℕ) (me : CallerNo) (act : Act) (k : Knowledge) (n c s : ℕ)
-    → (learned now me act k).notes n c s ≡ (if me.0 == n then heard_note now act c s (k.notes n c s) else k.notes n c s)
-notes-heard now me (LookReg c' s' found) k n c s =
-    heard_three k.notes me.0 c'.0 s'.0 (learned_note now (LookReg c' s' found))
-    (λ b m. note_parts now (if b then Some found else None) false m) (λ m. refl) (λ m. refl) n c s
-notes-heard now me (Enrol c' s' i serial found) k n c s =
+enrolments-heard : (now : ℕ) (me : CallerNo) (act : Act) (k : Knowledge) (n c s : ℕ)
+    → (learned now me act k).enrolments n c s ≡ (if me.0 == n then heard_enrolled now act c s (k.enrolments n c s)
+    else k.enrolments n c s)
+enrolments-heard now me (LookReg c' s' found) k n c s =
+    heard_three k.enrolments me.0 c'.0 s'.0 (learned_enrolled now (LookReg c' s' found))
+    (λ b m. enrolled_parts now (if b then Some found else None) false m) (λ m. refl) (λ m. refl) n c s
+enrolments-heard now me (Enrol c' s' i serial found) k n c s =
     let key : Option KeyId = Some (record { index = i; serial = serial }) in
-    heard_three k.notes me.0 c'.0 s'.0 (learned_note now (Enrol c' s' i serial found))
-    (λ b m. note_parts now (if b then Some key else None) b m) (λ m. refl) (λ m. refl) n c s
-notes-heard now me _ k n c s = cond_same (me.0 == n) (k.notes n c s)
+    heard_three k.enrolments me.0 c'.0 s'.0 (learned_enrolled now (Enrol c' s' i serial found))
+    (λ b m. enrolled_parts now (if b then Some key else None) b m) (λ m. refl) (λ m. refl) n c s
+enrolments-heard now me _ k n c s = cond_same (me.0 == n) (k.enrolments n c s)
 
 indexes-heard : (now : ℕ) (me : CallerNo) (act : Act) (k : Knowledge) (n s i : ℕ)
     → (learned now me act k).indexes n s i
@@ -187,10 +191,10 @@ closings-heard now me _ k n s =
 pub remembers-none : Remembers nothing_known []
 remembers-none = record {
   holds = λ n c. record { taken = sym (latest-none n _); unblocked = sym (latest-none n _) };
-  notes = λ n c s. record {
+  enrolments = λ n c s. record {
     found_at = sym (latest-none n _);
     key = λ some. absurd (omega arith);
-    noted = sym (latest-none n _);
+    enrolled = sym (latest-none n _);
   };
   indexes = λ n s i. record {
     looked = sym (latest-none n _);
@@ -213,11 +217,11 @@ remembers-more k past e h = record {
       (by_caller (λ m. RemembersHold m n c (past ++ e ∷ [])) n _ _
       (λ by. hold-own (k.holds n.0 c) n c past e by (h.holds n c))
       (λ by. hold-other (k.holds n.0 c) n c past e by (h.holds n c)));
-  notes = λ n c s. subst (λ m. RemembersNote m n c s (past ++ e ∷ []))
-      (sym (notes-heard (length past + 1) e.caller e.act k n.0 c s))
-      (by_caller (λ m. RemembersNote m n c s (past ++ e ∷ [])) n _ _
-      (λ by. note-own (k.notes n.0 c s) n c s past e by (h.notes n c s))
-      (λ by. note-other (k.notes n.0 c s) n c s past e by (h.notes n c s)));
+  enrolments = λ n c s. subst (λ m. RemembersEnrolled m n c s (past ++ e ∷ []))
+      (sym (enrolments-heard (length past + 1) e.caller e.act k n.0 c s))
+      (by_caller (λ m. RemembersEnrolled m n c s (past ++ e ∷ [])) n _ _
+      (λ by. enrolment-own (k.enrolments n.0 c s) n c s past e by (h.enrolments n c s))
+      (λ by. enrolment-other (k.enrolments n.0 c s) n c s past e by (h.enrolments n c s)));
   indexes =
       λ n s i. subst (λ m. RemembersIndex m n s i (past ++ e ∷ []))
       (sym (indexes-heard (length past + 1) e.caller e.act k n.0 s i))

@@ -21,7 +21,7 @@ pub same_state : (t : StateTables)
     → row t.selector ≡ opening.selector
     → row t.chan ≡ opening.chan
     → row t.hold ≡ opening.hold
-    → grid t.noted ≡ opening.noted
+    → grid t.enrolled ≡ opening.enrolled
     → row t.gate ≡ opening.gate
     → row t.turn ≡ opening.turn
     → row t.keys_high ≡ opening.keys_high
@@ -36,14 +36,14 @@ pub same_state : (t : StateTables)
     → row t.entered ≡ opening.entered
     → grid t.taker ≡ opening.taker
     → t.channels_high ≡ opening.channels_high → state_with t (λ _ _. false) ≡ opening
-same_state t drawn interrupted selector chan hold noted gate turn keys_high key interest mark note pinned free begun
+same_state t drawn interrupted selector chan hold enrolled gate turn keys_high key interest mark note pinned free begun
     closer entered taker channels_high = λ i. record {
       drawn = drawn i;
       interrupted = interrupted i;
       selector = selector i;
       chan = chan i;
       hold = hold i;
-      noted = noted i;
+      enrolled = enrolled i;
       gate = gate i;
       turn = turn i;
       keys_high = keys_high i;

@@ -21,7 +21,7 @@ use Rattle.nio_base.specs.declared.numbers.SelNo.{SelNo}
 use Rattle.nio_event.specs.Conditions.{Condition, may_publish, may_clear_out, may_remove_cancelled, holds, has_entered}
 use Rattle.nio_event.specs.Histories.{mine}
 use Rattle.nio_event.specs.OwnEvents.{OwnClaim, has, last, under, since_taken, takes_hold, takes_free, finds_unblocked}
-use Rattle.nio_event.specs.OwnEvents.{finds_outside, noted_found, notes_key, publishes, stage_found, is_clear}
+use Rattle.nio_event.specs.OwnEvents.{finds_outside, enrolled_found, enrols_key, publishes, stage_found, is_clear}
 use Rattle.nio_event.specs.OwnEvents.{is_clear_by, own_claim}
 use Rattle.nio_event.specs.State.{State}
 use Rattle.nio_event.specs.declared.act.Act.{Act}
@@ -55,7 +55,7 @@ module _ {k : Knowledge} {past : List Event} (h : Remembers k past) where
       by_order false e = refl
 
   key-clear : (n : CallerNo) (c s : ℕ) (key : Option KeyId)
-      → is_clear_by c s (under c (mine n past)) (Some key) ≡ clear_key (k.holds n.0 c) (k.notes n.0 c s)
+      → is_clear_by c s (under c (mine n past)) (Some key) ≡ clear_key (k.holds n.0 c) (k.enrolments n.0 c s)
       (k.indexes n.0 s) key
   key-clear n c s None = refl
   key-clear n c s (Some q) =
@@ -65,40 +65,41 @@ module _ {k : Knowledge} {past : List Event} (h : Remembers k past) where
       ∙ ap (nat_lt since) (sym ((h.indexes n s q.index).outside q.serial))))
     where
       either : Act → Bool
-      either = λ act. notes_key c s act || publishes s q.index act
+      either = λ act. enrols_key c s act || publishes s q.index act
 
       since : ℕ
-      since = max (k.holds n.0 c).taken (max (k.notes n.0 c s).noted (k.indexes n.0 s q.index).published)
+      since = max (k.holds n.0 c).taken (max (k.enrolments n.0 c s).enrolled (k.indexes n.0 s q.index).published)
 
       opened : latest n (λ act. takes_hold c act || either act) past ≡ since
       opened = omega (
         arith,
         latest-either n (takes_hold c) either past,
-        latest-either n (notes_key c s) (publishes s q.index) past,
+        latest-either n (enrols_key c s) (publishes s q.index) past,
         (h.holds n c).taken,
-        (h.notes n c s).noted,
+        (h.enrolments n c s).enrolled,
         (h.indexes n s q.index).published,
       )
 
   clear-found : (n : CallerNo) (c s : ℕ) → is_clear c s (mine n past) ≡ is_clear_for k n c s
   clear-found n c s =
-      ap (is_clear_by c s (under c (mine n past))) (last-since n (takes_hold c) (noted_found c s) past)
+      ap (is_clear_by c s (under c (mine n past))) (last-since n (takes_hold c) (enrolled_found c s) past)
       ∙ (ap (λ x. is_clear_by c s (under c (mine n past))
-      (if nat_lt x (latest n (λ act. is_some (noted_found c s act)) past) then last (noted_found c s) (mine n past)
+      (if nat_lt x (latest n (λ act. is_some (enrolled_found c s act)) past)
+      then last (enrolled_found c s) (mine n past)
       else None))
       (sym (h.holds n c).taken)
       ∙ (ap (λ x. is_clear_by c s (under c (mine n past))
-      (if nat_lt (k.holds n.0 c).taken x then last (noted_found c s) (mine n past) else None))
-      (sym (h.notes n c s).found_at)
-      ∙ by_order (nat_lt (k.holds n.0 c).taken (k.notes n.0 c s).found_at) refl))
+      (if nat_lt (k.holds n.0 c).taken x then last (enrolled_found c s) (mine n past) else None))
+      (sym (h.enrolments n c s).found_at)
+      ∙ by_order (nat_lt (k.holds n.0 c).taken (k.enrolments n.0 c s).found_at) refl))
     where
-      by_order : (b : Bool) → nat_lt (k.holds n.0 c).taken (k.notes n.0 c s).found_at ≡ b
-          → is_clear_by c s (under c (mine n past)) (if b then last (noted_found c s) (mine n past) else None)
-          ≡ (b && clear_key (k.holds n.0 c) (k.notes n.0 c s) (k.indexes n.0 s) (k.notes n.0 c s).key)
+      by_order : (b : Bool) → nat_lt (k.holds n.0 c).taken (k.enrolments n.0 c s).found_at ≡ b
+          → is_clear_by c s (under c (mine n past)) (if b then last (enrolled_found c s) (mine n past) else None)
+          ≡ (b && clear_key (k.holds n.0 c) (k.enrolments n.0 c s) (k.indexes n.0 s) (k.enrolments n.0 c s).key)
       by_order true e =
           ap (is_clear_by c s (under c (mine n past)))
-          ((h.notes n c s).key (omega (arith, ltb-true (k.holds n.0 c).taken (k.notes n.0 c s).found_at e)))
-          ∙ key-clear n c s (k.notes n.0 c s).key
+          ((h.enrolments n c s).key (omega (arith, ltb-true (k.holds n.0 c).taken (k.enrolments n.0 c s).found_at e)))
+          ∙ key-clear n c s (k.enrolments n.0 c s).key
       by_order false e = refl
 
   publish-may : (st : State) (me : CallerNo) (s : SelNo) (i : ℕ)

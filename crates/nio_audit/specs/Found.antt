@@ -3,7 +3,7 @@ use Rattle.std.specs.Prelude.{ℕ, max, nat_lt, Bool, true, ◌&&◌, Option, So
 use Rattle.nio_audit.specs.Remembering.{Knowledge, outside_at}
 use Rattle.nio_audit.specs.declared.memory.HoldMemory.{HoldMemory}
 use Rattle.nio_audit.specs.declared.memory.IndexMemory.{IndexMemory}
-use Rattle.nio_audit.specs.declared.memory.NoteMemory.{NoteMemory}
+use Rattle.nio_audit.specs.declared.memory.EnrolledMemory.{EnrolledMemory}
 use Rattle.nio_base.specs.declared.numbers.CallerNo.{CallerNo}
 use Rattle.nio_base.specs.declared.numbers.KeyId.{KeyId}
 use Rattle.nio_event.specs.declared.found.Stage.{Stage}
@@ -16,14 +16,14 @@ unblocked_by m = nat_lt m.taken m.unblocked
 abbrev pub found_by : IndexMemory → Option Stage
 found_by m = if nat_lt m.taken m.looked then Some m.found else None
 
--- under its present hold it found the noted key outside the key set, or none noted
-abbrev pub clear_key : HoldMemory → NoteMemory → (ℕ → IndexMemory) → Option KeyId → Bool
-clear_key hold note indexes None = true
-clear_key hold note indexes (Some k) =
-    nat_lt (max hold.taken (max note.noted (indexes k.index).published)) (outside_at (indexes k.index) k.serial)
+-- under its present hold it found the enrolled key outside the key set, or none enrolled
+abbrev pub clear_key : HoldMemory → EnrolledMemory → (ℕ → IndexMemory) → Option KeyId → Bool
+clear_key hold enrolment indexes None = true
+clear_key hold enrolment indexes (Some k) =
+    nat_lt (max hold.taken (max enrolment.enrolled (indexes k.index).published)) (outside_at (indexes k.index) k.serial)
 
-abbrev pub clear_by : HoldMemory → NoteMemory → (ℕ → IndexMemory) → Bool
-clear_by hold note indexes = nat_lt hold.taken note.found_at && clear_key hold note indexes note.key
+abbrev pub clear_by : HoldMemory → EnrolledMemory → (ℕ → IndexMemory) → Bool
+clear_by hold enrolment indexes = nat_lt hold.taken enrolment.found_at && clear_key hold enrolment indexes enrolment.key
 
 abbrev pub is_clear_for : Knowledge → CallerNo → ℕ → ℕ → Bool
-is_clear_for k me c s = clear_by (k.holds me.0 c) (k.notes me.0 c s) (k.indexes me.0 s)
+is_clear_for k me c s = clear_by (k.holds me.0 c) (k.enrolments me.0 c s) (k.indexes me.0 s)

@@ -6,7 +6,7 @@ use Rattle.nio_audit.specs.declared.memory.ClosingMemory.{ClosingMemory}
 use Rattle.nio_audit.specs.declared.memory.HoldMemory.{HoldMemory}
 use Rattle.nio_audit.specs.declared.memory.IndexMemory.{IndexMemory}
 use Rattle.nio_audit.specs.declared.memory.Memory.{Memory}
-use Rattle.nio_audit.specs.declared.memory.NoteMemory.{NoteMemory}
+use Rattle.nio_audit.specs.declared.memory.EnrolledMemory.{EnrolledMemory}
 use Rattle.nio_base.specs.declared.numbers.CallerNo.{CallerNo}
 use Rattle.nio_event.specs.Sets.{is_in_key_set}
 use Rattle.nio_event.specs.State.{put_at, unclaimed}
@@ -19,18 +19,23 @@ use Rattle.nio_event.specs.declared.found.Stage.{Stage}
 -- by the caller, and then by the channel; the channel and the selector; the selector and the index; the selector
 pub record Knowledge : Type 0 where
   pub holds : ℕ → ℕ → HoldMemory
-  pub notes : ℕ → ℕ → ℕ → NoteMemory
+  pub enrolments : ℕ → ℕ → ℕ → EnrolledMemory
   pub indexes : ℕ → ℕ → ℕ → IndexMemory
   pub closings : ℕ → ℕ → ClosingMemory
 
 abbrev pub knowledge_of : Memory → Knowledge
 knowledge_of m =
-    record { holds = grid m.holds; notes = cube m.notes; indexes = cube m.indexes; closings = grid m.closings }
+    record {
+      holds = grid m.holds;
+      enrolments = cube m.enrolments;
+      indexes = cube m.indexes;
+      closings = grid m.closings;
+    }
 
 abbrev pub nothing_known : Knowledge
 nothing_known = record {
   holds = λ _ _. record { taken = 0; unblocked = 0 };
-  notes = λ _ _ _. record { found_at = 0; key = None; noted = 0 };
+  enrolments = λ _ _ _. record { found_at = 0; key = None; enrolled = 0 };
   indexes = λ _ _ _. record {
     looked = 0;
     found = unclaimed;
@@ -59,8 +64,8 @@ with_claim claim false m = record m { claim = Some claim; unpublished = true }
 abbrev pub with_hold : ℕ → ℕ → HoldMemory → Knowledge → Knowledge
 with_hold n c m k = record k { holds = put_at k.holds n c m }
 
-abbrev pub with_note : ℕ → ℕ → ℕ → NoteMemory → Knowledge → Knowledge
-with_note n c s m k = record k { notes = put_at_three k.notes n c s m }
+abbrev pub with_enrolled : ℕ → ℕ → ℕ → EnrolledMemory → Knowledge → Knowledge
+with_enrolled n c s m k = record k { enrolments = put_at_three k.enrolments n c s m }
 
 abbrev pub with_index : ℕ → ℕ → ℕ → IndexMemory → Knowledge → Knowledge
 with_index n s i m k = record k { indexes = put_at_three k.indexes n s i m }
@@ -78,11 +83,11 @@ learned_hold now (TryHoldBit c found) m = record m { taken = if is_none found th
 learned_hold now (LookChannel c found) m = record m { unblocked = if found.blocking then m.unblocked else now }
 learned_hold now _ m = m
 
-abbrev pub learned_note : ℕ → Act → NoteMemory → NoteMemory
-learned_note now (LookReg c s found) m = record m { found_at = now; key = found }
-learned_note now (Enrol c s i serial found) m =
-    record { found_at = now; key = Some (record { index = i; serial = serial }); noted = now }
-learned_note now _ m = m
+abbrev pub learned_enrolled : ℕ → Act → EnrolledMemory → EnrolledMemory
+learned_enrolled now (LookReg c s found) m = record m { found_at = now; key = found }
+learned_enrolled now (Enrol c s i serial found) m =
+    record { found_at = now; key = Some (record { index = i; serial = serial }); enrolled = now }
+learned_enrolled now _ m = m
 
 abbrev pub learned_index : ℕ → Act → IndexMemory → IndexMemory
 learned_index now (LookKey s i found) m = looked_again now found m
@@ -106,9 +111,9 @@ learned now me (TryHoldBit c found) k = with_hold me.0 c.0 (learned_hold now (Tr
 learned now me (LookChannel c found) k =
     with_hold me.0 c.0 (learned_hold now (LookChannel c found) (k.holds me.0 c.0)) k
 learned now me (LookReg c s found) k =
-    with_note me.0 c.0 s.0 (learned_note now (LookReg c s found) (k.notes me.0 c.0 s.0)) k
+    with_enrolled me.0 c.0 s.0 (learned_enrolled now (LookReg c s found) (k.enrolments me.0 c.0 s.0)) k
 learned now me (Enrol c s i serial found) k =
-    with_note me.0 c.0 s.0 (learned_note now (Enrol c s i serial found) (k.notes me.0 c.0 s.0)) k
+    with_enrolled me.0 c.0 s.0 (learned_enrolled now (Enrol c s i serial found) (k.enrolments me.0 c.0 s.0)) k
 learned now me (LookKey s i found) k =
     with_index me.0 s.0 i (learned_index now (LookKey s i found) (k.indexes me.0 s.0 i)) k
 learned now me (Pin s i found) k = with_index me.0 s.0 i (learned_index now (Pin s i found) (k.indexes me.0 s.0 i)) k

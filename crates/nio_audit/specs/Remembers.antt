@@ -6,11 +6,11 @@ use Rattle.nio_audit.specs.declared.memory.Claim.{Claim}
 use Rattle.nio_audit.specs.declared.memory.ClosingMemory.{ClosingMemory}
 use Rattle.nio_audit.specs.declared.memory.HoldMemory.{HoldMemory}
 use Rattle.nio_audit.specs.declared.memory.IndexMemory.{IndexMemory}
-use Rattle.nio_audit.specs.declared.memory.NoteMemory.{NoteMemory}
+use Rattle.nio_audit.specs.declared.memory.EnrolledMemory.{EnrolledMemory}
 use Rattle.nio_base.specs.declared.numbers.CallerNo.{CallerNo}
 use Rattle.nio_event.specs.Histories.{mine}
-use Rattle.nio_event.specs.OwnEvents.{OwnClaim, has, last, since_entered, takes_hold, finds_unblocked, noted_found}
-use Rattle.nio_event.specs.OwnEvents.{notes_key, publishes, stage_found, is_outside, takes_free, own_claim}
+use Rattle.nio_event.specs.OwnEvents.{OwnClaim, has, last, since_entered, takes_hold, finds_unblocked, enrolled_found}
+use Rattle.nio_event.specs.OwnEvents.{enrols_key, publishes, stage_found, is_outside, takes_free, own_claim}
 use Rattle.nio_event.specs.OwnEvents.{is_unpublished, enters, finds_below}
 use Rattle.nio_event.specs.declared.event.Event.{Event}
 
@@ -18,10 +18,10 @@ pub record RemembersHold (m : HoldMemory) (n : CallerNo) (c : ℕ) (past : List 
   pub taken : m.taken ≡ latest n (takes_hold c) past
   pub unblocked : m.unblocked ≡ latest n (finds_unblocked c) past
 
-pub record RemembersNote (m : NoteMemory) (n : CallerNo) (c s : ℕ) (past : List Event) : Type 0 where
-  pub found_at : m.found_at ≡ latest n (λ act. is_some (noted_found c s act)) past
-  pub key : 0 < m.found_at → last (noted_found c s) (mine n past) ≡ Some m.key
-  pub noted : m.noted ≡ latest n (notes_key c s) past
+pub record RemembersEnrolled (m : EnrolledMemory) (n : CallerNo) (c s : ℕ) (past : List Event) : Type 0 where
+  pub found_at : m.found_at ≡ latest n (λ act. is_some (enrolled_found c s act)) past
+  pub key : 0 < m.found_at → last (enrolled_found c s) (mine n past) ≡ Some m.key
+  pub enrolled : m.enrolled ≡ latest n (enrols_key c s) past
 
 abbrev pub own_of : Claim → OwnClaim
 own_of claim = record { channel = claim.channel; serial = claim.serial }
@@ -42,6 +42,6 @@ pub record RemembersClosing (m : ClosingMemory) (n : CallerNo) (s : ℕ) (past :
 -- all that callers know
 pub record Remembers (k : Knowledge) (past : List Event) : Type 0 where
   pub holds : (n : CallerNo) (c : ℕ) → RemembersHold (k.holds n.0 c) n c past
-  pub notes : (n : CallerNo) (c s : ℕ) → RemembersNote (k.notes n.0 c s) n c s past
+  pub enrolments : (n : CallerNo) (c s : ℕ) → RemembersEnrolled (k.enrolments n.0 c s) n c s past
   pub indexes : (n : CallerNo) (s i : ℕ) → RemembersIndex (k.indexes n.0 s i) n s i past
   pub closings : (n : CallerNo) (s : ℕ) → RemembersClosing (k.closings n.0 s) n s past

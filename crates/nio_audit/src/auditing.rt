@@ -36,7 +36,8 @@ impl From<AllocError> for AuditError {
 pub fn audit(alloc: Global, limits: Limits, events: &[Event]) -> Result<(), AuditError>
     requires { IsFit limits }
     ensures ok { result ≢ Err Memory → IsOk result ↔ IsLegal limits events.now }
-    ensures not_a_step { (at : ℕ) → result ≢ Err Memory → (result ≡ Err (NotAStep at)) ↔ IsFirstNoStep limits events.now at }
+    ensures not_a_step { (at : ℕ) → result ≢ Err Memory → (result ≡ Err (NotAStep at))
+        ↔ IsFirstNoStep limits events.now at }
 {
     judged(alloc, limits, events)?;
     Ok(())
@@ -53,7 +54,8 @@ pub fn may_step(
 ) -> Result<bool, AuditError>
     requires { IsFit limits }
     ensures ok { result ≢ Err Memory → IsOk result ↔ IsLegal limits events.now }
-    ensures not_a_step { (at : ℕ) → result ≢ Err Memory → (result ≡ Err (NotAStep at)) ↔ IsFirstNoStep limits events.now at }
+    ensures not_a_step { (at : ℕ) → result ≢ Err Memory → (result ≡ Err (NotAStep at))
+        ↔ IsFirstNoStep limits events.now at }
     ensures may { IfOk result (λ may. IsTrue may ↔ MayStep limits events.now caller act.now) }
 {
     let judge = judged(alloc, limits, events)?;
@@ -64,7 +66,8 @@ pub fn may_step(
 fn judged(alloc: Global, limits: Limits, events: &[Event]) -> Result<Judge, AuditError>
     requires { IsFit limits }
     ensures ok { result ≢ Err Memory → IsOk result ↔ IsLegal limits events.now }
-    ensures not_a_step { (at : ℕ) → result ≢ Err Memory → (result ≡ Err (NotAStep at)) ↔ IsFirstNoStep limits events.now at }
+    ensures not_a_step { (at : ℕ) → result ≢ Err Memory → (result ≡ Err (NotAStep at))
+        ↔ IsFirstNoStep limits events.now at }
     ensures judge { IfOk result (λ judge. HasJudged judge limits events.now) }
 {
     let mut judge = Judge::new(alloc, limits);

@@ -61,7 +61,8 @@ impl Dues {
 
     fn remove(&mut self, now: u64, sel: SelNo, index: u32, frees: bool) -> Result<(), AllocError>
         requires { IsBefore self.old now }
-        ensures due { OnOk result (due_of self.new ≡ put_at (due_of self.old) sel.0 index (due_of self.old sel.0 index || frees)) }
+        ensures due { OnOk result (due_of self.new ≡ put_at (due_of self.old) sel.0 index
+            (due_of self.old sel.0 index || frees)) }
         ensures before { OnOk result (IsBefore self.new (now + 1)) }
     {
         let removed = self.removed.get(sel.0, index);

@@ -70,7 +70,8 @@ impl Judge {
     /// Whether the caller may make the step, and found what the state answers.
     fn is_step(&self, me: CallerNo, act: &Act) -> bool
         requires { IsFit self.now.limits }
-        ensures { IsTrue result ↔ (IsCaller self.now.limits me × IsAllowed self.now me act.now × Answers (state_of self.now) me act.now) }
+        ensures { IsTrue result ↔ (IsCaller self.now.limits me × IsAllowed self.now me act.now
+            × Answers (state_of self.now) me act.now) }
     {
         self.may_step(me, act) && self.state.answers(me, act)
     }
@@ -93,7 +94,8 @@ impl Judge {
         ensures channels { OnOk result (self.new.counts.channels ≡ channels_after self.old.counts.channels act.now) }
         ensures keys { OnOk result (row self.new.counts.keys ≡ keys_after (row self.old.counts.keys) act.now) }
         ensures before { OnOk result (IsBefore self.new.dues (now + 1)) }
-        ensures knowledge { OnOk result (knowledge_of self.new.memory ≡ learned now me act.now (knowledge_of self.old.memory)) }
+        ensures knowledge { OnOk result (knowledge_of self.new.memory
+            ≡ learned now me act.now (knowledge_of self.old.memory)) }
     {
         self.memory.learn(now, me, act)?;
         self.counts.learn(act)?;

@@ -17,13 +17,13 @@ pub(crate) struct HoldMemory {
     pub(crate) unblocked: u64,
 }
 
-/// What a caller knows of the key that is noted for a channel in a selector: when it found or noted it last, which one
-/// it was, and when it noted one last.
+/// What a caller knows of the key that is enrolled for a channel in a selector: when it found or enrolled it last,
+/// which one it was, and when it enrolled one last.
 #[derive(Clone, Copy, Debug)]
-pub(crate) struct NoteMemory {
+pub(crate) struct EnrolledMemory {
     pub(crate) found_at: u64,
     pub(crate) key: Option<KeyId>,
-    pub(crate) noted: u64,
+    pub(crate) enrolled: u64,
 }
 
 /// A caller's claim of an index: for which channel, and with which serial.
@@ -51,7 +51,7 @@ pub(crate) struct IndexMemory {
     pub(crate) unpublished: bool,
 }
 
-/// What a closer knows of a selector: whether it has entered, and the highest keys' mark that it found since.
+/// What a closer knows of a selector: whether it has entered, and the greatest keys' high-water mark found since.
 #[derive(Clone, Copy, Debug)]
 pub(crate) struct ClosingMemory {
     pub(crate) entered: bool,
@@ -62,7 +62,7 @@ pub(crate) struct ClosingMemory {
 #[derive(Drop)]
 pub(crate) struct Memory {
     holds: Grid<HoldMemory>,
-    notes: Cube<NoteMemory>,
+    enrolments: Cube<EnrolledMemory>,
     indexes: Cube<IndexMemory>,
     closings: Grid<ClosingMemory>,
 }
@@ -105,7 +105,7 @@ impl Memory {
     {
         Memory {
             holds: Grid::new(alloc, NO_HOLD),
-            notes: Cube::new(alloc, NO_NOTE),
+            enrolments: Cube::new(alloc, NONE_ENROLLED),
             indexes: Cube::new(alloc, NO_INDEX),
             closings: Grid::new(alloc, NO_CLOSING),
         }
@@ -119,21 +119,21 @@ impl Memory {
         hold.taken < hold.unblocked
     }
 
-    /// Whether the caller found the noted key of the channel outside the key set, or none noted, under its present
-    /// hold. A look that is older than its own noting or publishing doesn't count.
+    /// Whether the caller found the enrolled key of the channel outside the key set, or none enrolled, under its
+    /// present hold. A look that is older than its own enrolling or publishing doesn't count.
     pub(crate) fn is_clear(&self, me: CallerNo, chan: ChanNo, sel: u32) -> bool
         ensures { result ≡ is_clear_for (knowledge_of self.now) me chan.0 sel }
     {
         let hold = self.holds.get(me.0, chan.0);
-        let note = self.notes.get(me.0, chan.0, sel);
-        if note.found_at <= hold.taken {
+        let enrolment = self.enrolments.get(me.0, chan.0, sel);
+        if enrolment.found_at <= hold.taken {
             return false;
         }
-        match note.key {
+        match enrolment.key {
             None => true,
             Some(key) => {
                 let index = self.indexes.get(me.0, sel, key.index);
-                let since = hold.taken.max(note.noted.max(index.published));
+                let since = hold.taken.max(enrolment.enrolled.max(index.published));
                 since < index.outside_at(key.serial)
             }
         }
@@ -165,7 +165,7 @@ impl Memory {
         }
     }
 
-    /// Whether the caller found the index below the keys' mark since it entered.
+    /// Whether the caller found the index below the keys' high-water mark since it entered.
     pub(crate) fn found_below(&self, me: CallerNo, sel: SelNo, index: u32) -> bool
         ensures { result ≡ nat_lt index ((knowledge_of self.now).closings me.0 sel.0).below }
     {
@@ -200,13 +200,13 @@ impl Memory {
                 )
             }
             Act::LookReg(chan, sel, key) => {
-                let memory = self.notes.get(me.0, chan.0, sel.0);
+                let memory = self.enrolments.get(me.0, chan.0, sel.0);
                 let found_at = now;
-                self.notes.set(
+                self.enrolments.set(
                     me.0,
                     chan.0,
                     sel.0,
-                    NoteMemory {
+                    EnrolledMemory {
                         found_at,
                         key,
                         ..memory
@@ -214,12 +214,12 @@ impl Memory {
                 )
             }
             Act::Enrol(chan, sel, index, serial, _) => {
-                let note = NoteMemory {
+                let enrolment = EnrolledMemory {
                     found_at: now,
                     key: Some(KeyId { index, serial }),
-                    noted: now,
+                    enrolled: now,
                 };
-                self.notes.set(me.0, chan.0, sel.0, note)
+                self.enrolments.set(me.0, chan.0, sel.0, enrolment)
             }
             Act::LookKey(sel, index, found) | Act::Pin(sel, index, found) => {
                 let memory = self.indexes.get(me.0, sel.0, index);
@@ -305,10 +305,10 @@ const NO_HOLD: HoldMemory = HoldMemory {
     unblocked: 0,
 };
 
-const NO_NOTE: NoteMemory = NoteMemory {
+const NONE_ENROLLED: EnrolledMemory = EnrolledMemory {
     found_at: 0,
     key: None,
-    noted: 0,
+    enrolled: 0,
 };
 
 const NO_INDEX: IndexMemory = IndexMemory {

@@ -52,7 +52,7 @@ pub(crate) struct StateTables {
     channels_high: u32,
     chan: Row<Chan>,
     hold: Row<Option<CallerNo>>,
-    noted: Grid<Option<KeyId>>,
+    enrolled: Grid<Option<KeyId>>,
     gate: Row<GateWord>,
     turn: Row<Option<CallerNo>>,
     keys_high: Row<u32>,
@@ -84,7 +84,7 @@ impl StateTables {
             channels_high: 0,
             chan: Row::new(alloc, UNMADE),
             hold: Row::new(alloc, None),
-            noted: Grid::new(alloc, None),
+            enrolled: Grid::new(alloc, None),
             gate: Row::new(alloc, OPEN_GATE),
             turn: Row::new(alloc, None),
             keys_high: Row::new(alloc, 0),
@@ -104,7 +104,8 @@ impl StateTables {
     /// Changes the state as this step does.
     pub(crate) fn apply(&mut self, me: CallerNo, act: &Act) -> Result<(), AllocError>
         requires { (due : ℕ → ℕ → Bool) → IsBounded (state_with self.old due) act.now }
-        ensures { OnOk result ((due : ℕ → ℕ → Bool) → state_with self.new (due_after (row self.old.begun) due act.now) ≡ effect (state_with self.old due) me act.now) }
+        ensures { OnOk result ((due : ℕ → ℕ → Bool) → state_with self.new (due_after (row self.old.begun) due act.now)
+            ≡ effect (state_with self.old due) me act.now) }
     {
         match *act {
             Act::DrawBit(number, _) => self.drawn.set(number.0, true),
@@ -160,7 +161,8 @@ impl StateTables {
                 )
             }
             Act::Enrol(chan, sel, index, serial, _) => {
-                self.noted.set(chan.0, sel.0, Some(KeyId { index, serial }))
+                self.enrolled
+                    .set(chan.0, sel.0, Some(KeyId { index, serial }))
             }
             Act::TakeTurn(sel, found) => self.take_turn(me, sel, found),
             Act::BeginLook(sel, found) => {
@@ -258,7 +260,9 @@ impl StateTables {
     }
 
     fn make_channel(&mut self, chan: ChanNo, kind: Kind, found: bool) -> Result<(), AllocError>
-        ensures { (me : CallerNo) → OnOk result ((due : ℕ → ℕ → Bool) → state_with self.new (due_after (row self.old.begun) due (Act.MakeChannel chan kind found)) ≡ effect (state_with self.old due) me (Act.MakeChannel chan kind found)) }
+        ensures { (me : CallerNo) → OnOk result ((due : ℕ → ℕ → Bool)
+            → state_with self.new (due_after (row self.old.begun) due (Act.MakeChannel chan kind found))
+            ≡ effect (state_with self.old due) me (Act.MakeChannel chan kind found)) }
     {
         let new = Chan {
             made: true,
@@ -278,7 +282,9 @@ impl StateTables {
         chan: ChanNo,
         found: bool,
     ) -> Result<(), AllocError>
-        ensures { OnOk result ((due : ℕ → ℕ → Bool) → state_with self.new (due_after (row self.old.begun) due (Act.Claim sel index chan found)) ≡ effect (state_with self.old due) me (Act.Claim sel index chan found)) }
+        ensures { OnOk result ((due : ℕ → ℕ → Bool) → state_with self.new
+            (due_after (row self.old.begun) due (Act.Claim sel index chan found))
+            ≡ effect (state_with self.old due) me (Act.Claim sel index chan found)) }
     {
         let key = self.key.get(sel.0, index);
         let pinned = self.pinned.get(sel.0, index, me.0);
@@ -296,7 +302,9 @@ impl StateTables {
         found: bool,
     ) -> Result<(), AllocError>
         requires { (grid self.old.key sel.0 index).serial < last_serial }
-        ensures { (from : Stage) → OnOk result ((due : ℕ → ℕ → Bool) → state_with self.new (due_after (row self.old.begun) due (Act.ClaimAgain sel index chan from found)) ≡ effect (state_with self.old due) me (Act.ClaimAgain sel index chan from found)) }
+        ensures { (from : Stage) → OnOk result ((due : ℕ → ℕ → Bool)
+            → state_with self.new (due_after (row self.old.begun) due (Act.ClaimAgain sel index chan from found))
+            ≡ effect (state_with self.old due) me (Act.ClaimAgain sel index chan from found)) }
     {
         let key = self.key.get(sel.0, index);
         let pinned = self.pinned.get(sel.0, index, me.0);
@@ -321,7 +329,9 @@ impl StateTables {
         sel: SelNo,
         found: Option<CallerNo>,
     ) -> Result<(), AllocError>
-        ensures { OnOk result ((due : ℕ → ℕ → Bool) → state_with self.new (due_after (row self.old.begun) due (Act.TakeTurn sel found)) ≡ effect (state_with self.old due) me (Act.TakeTurn sel found)) }
+        ensures { OnOk result ((due : ℕ → ℕ → Bool) → state_with self.new
+            (due_after (row self.old.begun) due (Act.TakeTurn sel found))
+            ≡ effect (state_with self.old due) me (Act.TakeTurn sel found)) }
     {
         let begun = self.begun.get(sel.0);
         self.turn.set(sel.0, taken_by(me, found))?;
@@ -329,7 +339,9 @@ impl StateTables {
     }
 
     fn give_turn(&mut self, sel: SelNo) -> Result<(), AllocError>
-        ensures { (me : CallerNo) → OnOk result ((due : ℕ → ℕ → Bool) → state_with self.new (due_after (row self.old.begun) due (Act.GiveTurn sel)) ≡ effect (state_with self.old due) me (Act.GiveTurn sel)) }
+        ensures { (me : CallerNo) → OnOk result ((due : ℕ → ℕ → Bool)
+            → state_with self.new (due_after (row self.old.begun) due (Act.GiveTurn sel))
+            ≡ effect (state_with self.old due) me (Act.GiveTurn sel)) }
     {
         self.turn.set(sel.0, None)?;
         self.begun.set(sel.0, false)
@@ -343,7 +355,9 @@ impl StateTables {
         told: Ops,
         found: Result<(), Mark>,
     ) -> Result<(), AllocError>
-        ensures { (me : CallerNo) → OnOk result ((due : ℕ → ℕ → Bool) → state_with self.new (due_after (row self.old.begun) due (Act.Mark sel index from told found)) ≡ effect (state_with self.old due) me (Act.Mark sel index from told found)) }
+        ensures { (me : CallerNo) → OnOk result ((due : ℕ → ℕ → Bool)
+            → state_with self.new (due_after (row self.old.begun) due (Act.Mark sel index from told found))
+            ≡ effect (state_with self.old due) me (Act.Mark sel index from told found)) }
     {
         let was = self.mark.get(sel.0, index);
         let ready = if from.selected {
@@ -360,7 +374,9 @@ impl StateTables {
     }
 
     fn shut(&mut self, me: CallerNo, sel: SelNo, found: bool) -> Result<(), AllocError>
-        ensures { OnOk result ((due : ℕ → ℕ → Bool) → state_with self.new (due_after (row self.old.begun) due (Act.ShutBit sel found)) ≡ effect (state_with self.old due) me (Act.ShutBit sel found)) }
+        ensures { OnOk result ((due : ℕ → ℕ → Bool) → state_with self.new
+            (due_after (row self.old.begun) due (Act.ShutBit sel found))
+            ≡ effect (state_with self.old due) me (Act.ShutBit sel found)) }
     {
         let gate = self.gate.get(sel.0);
         let closer = self.closer.get(sel.0);
@@ -370,7 +386,9 @@ impl StateTables {
     }
 
     fn put_free(&mut self, sel: SelNo, index: u32) -> Result<(), AllocError>
-        ensures { (me : CallerNo) → OnOk result ((due : ℕ → ℕ → Bool) → state_with self.new (due_after (row self.old.begun) due (Act.PutFree sel index)) ≡ effect (state_with self.old due) me (Act.PutFree sel index)) }
+        ensures { (me : CallerNo) → OnOk result ((due : ℕ → ℕ → Bool)
+            → state_with self.new (due_after (row self.old.begun) due (Act.PutFree sel index))
+            ≡ effect (state_with self.old due) me (Act.PutFree sel index)) }
     {
         self.free.set(sel.0, index, true)?;
         self.taker.set(sel.0, index, None)
@@ -383,7 +401,9 @@ impl StateTables {
         index: u32,
         found: bool,
     ) -> Result<(), AllocError>
-        ensures { OnOk result ((due : ℕ → ℕ → Bool) → state_with self.new (due_after (row self.old.begun) due (Act.TakeFree sel index found)) ≡ effect (state_with self.old due) me (Act.TakeFree sel index found)) }
+        ensures { OnOk result ((due : ℕ → ℕ → Bool) → state_with self.new
+            (due_after (row self.old.begun) due (Act.TakeFree sel index found))
+            ≡ effect (state_with self.old due) me (Act.TakeFree sel index found)) }
     {
         let taker = self.taker.get(sel.0, index);
         self.free.set(sel.0, index, false)?;

@@ -31,7 +31,8 @@ impl<K: Eq + Hash + Copy, V: Copy> Table<K, V> {
     }
 
     fn set(&mut self, key: K, value: V) -> Result<(), AllocError>
-        ensures { OnOk result ((q : K) → value_at K.eq self.new q ≡ (if K.eq q key then value else value_at K.eq self.old q)) }
+        ensures { OnOk result ((q : K) → value_at K.eq self.new q
+            ≡ (if K.eq q key then value else value_at K.eq self.old q)) }
     {
         self.set.insert(key, value)?;
         Ok(())

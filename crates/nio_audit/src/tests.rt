@@ -52,7 +52,7 @@ fn stage(serial: u32, published: bool, cancelled: bool, removed: bool) -> Stage 
     }
 }
 
-fn noted(index: u32, serial: u32) -> KeyId {
+fn enrolled(index: u32, serial: u32) -> KeyId {
     KeyId { index, serial }
 }
 
@@ -153,7 +153,7 @@ fn cancelled() -> [Event; 14] {
         u(Act::LookChannel(C, chan(false, false))),
         u(Act::TryHoldBit(C, None)),
         u(Act::LookChannel(C, chan(false, false))),
-        u(Act::LookReg(C, S, Some(noted(0, 0)))),
+        u(Act::LookReg(C, S, Some(enrolled(0, 0)))),
         u(Act::Pin(S, 0, stage(0, true, true, true))),
         u(Act::Unpin(S, 0)),
         u(Act::LookGate(S, gate(false, false))),
@@ -180,7 +180,7 @@ fn again() -> [Event; 15] {
         u(Act::LookGate(S, gate(false, false))),
         u(Act::SwapInterest(S, 0, Ops::of(1), Ops::of(1))),
         u(Act::SwapNote(S, 0, 0, 7)),
-        u(Act::Enrol(C, S, 0, 1, Some(noted(0, 0)))),
+        u(Act::Enrol(C, S, 0, 1, Some(enrolled(0, 0)))),
         u(Act::Publish(S, 0, stage(1, false, false, false))),
         u(Act::LookChannel(C, chan(false, false))),
         u(Act::Unpin(S, 0)),
@@ -209,9 +209,9 @@ fn given_again() -> [Event; 13] {
 
 fn removed_again() -> [Event; 16] {
     [
-        // caller 1 sets blocking mode again: the noted key is removed
+        // caller 1 sets blocking mode again: the enrolled key is removed
         v(Act::TryHoldBit(C, None)),
-        v(Act::LookReg(C, S, Some(noted(0, 1)))),
+        v(Act::LookReg(C, S, Some(enrolled(0, 1)))),
         v(Act::LookKey(S, 0, stage(1, true, true, true))),
         v(Act::SetMode(C, true, chan(false, false))),
         v(Act::Release(C)),
@@ -262,7 +262,7 @@ fn altered() -> [(usize, Event); 12] {
     [
         (3, u(Act::LookSelectors(0))),
         (10, v(Act::TryHoldBit(C, None))),
-        (16, u(Act::LookReg(C, S, Some(noted(0, 0))))),
+        (16, u(Act::LookReg(C, S, Some(enrolled(0, 0))))),
         (22, u(Act::SwapInterest(S, 0, Ops::of(1), Ops::of(1)))),
         (32, u(Act::LookNote(S, 0, 0))),
         (35, v(Act::TakeTurn(S, None))),
@@ -275,7 +275,7 @@ fn altered() -> [(usize, Event); 12] {
             68,
             u(Act::ClaimAgain(S, 0, C, stage(0, true, true, true), false)),
         ),
-        (80, u(Act::Enrol(C, S, 0, 1, Some(noted(0, 1))))),
+        (80, u(Act::Enrol(C, S, 0, 1, Some(enrolled(0, 1))))),
         (106, v(Act::LookGate(S, gate(false, false)))),
         (113, u(Act::LookInterrupt(true))),
     ]
@@ -343,13 +343,13 @@ fn refused_at_last() -> [(usize, Event); 12] {
         // a mark is cleared by who claimed the index, before the key is published
         (76, v(Act::ClearMark(S, 0, mark(false, 5)))),
         (82, u(Act::ClearMark(S, 0, mark(false, 0)))),
-        // a key is noted with the serial of the claim
-        (80, u(Act::Enrol(C, S, 0, 0, Some(noted(0, 0))))),
-        // a channel goes back to blocking mode only after a look at its noted keys, since it noted one itself
+        // a key is enrolled with the serial of the claim
+        (80, u(Act::Enrol(C, S, 0, 0, Some(enrolled(0, 0))))),
+        // a channel goes back to blocking mode only after a look at its enrolled keys, since it enrolled one itself
         (99, v(Act::SetMode(C, true, chan(false, false)))),
         (100, v(Act::SetMode(C, true, chan(false, false)))),
         (82, u(Act::SetMode(C, true, chan(false, false)))),
-        // a closer removes after it has entered, and what it has found below the mark since
+        // a closer removes after it has entered, and what it has found below the high-water mark since
         (108, v(Act::Remove(S, 0, stage(1, true, true, true)))),
         (109, v(Act::Remove(S, 0, stage(1, true, true, true)))),
         // only the closer enters

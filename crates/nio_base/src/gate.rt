@@ -1,4 +1,4 @@
-//! A gate that workers pass, so that a test can hold one of them at a known place.
+//! A test gate, which workers pass, so that a test can hold one of them at a known place.
 use std::sync::Wait;
 
 /// Where a worker may be held. A program passes `NoGate`.
@@ -7,7 +7,7 @@ pub trait Gate {
     fn pass<R: Wait>(&self, rt: &R, who: u32, what: u64);
 }
 
-/// A gate that is always open.
+/// A test gate that is always open.
 #[derive(Clone, Copy, Debug, PartialEq, Eq, Hash)]
 pub struct NoGate;
 

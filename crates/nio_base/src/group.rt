@@ -13,9 +13,13 @@ pub enum GKind {
 /// What an operation does.
 #[derive(Clone, Copy, Debug, PartialEq, Eq, Hash)]
 pub enum OpKind {
+    /// Java's `accept`.
     Accept,
+    /// Java's `connect`.
     Connect,
+    /// Java's `read`.
     Read,
+    /// Java's `write`.
     Write,
 }
 
@@ -26,8 +30,11 @@ pub enum Outcome {
     Count(u64),
     /// The stream that was read has ended.
     End,
+    /// A connect is done.
     Connected,
+    /// An accept has a connection.
     Accepted,
+    /// The system's call failed.
     Fault,
 }
 
@@ -53,8 +60,10 @@ pub enum Finished {
     Count(u64),
     /// The stream that was read has ended.
     End,
+    /// The stream is connected.
     Connected,
     /// The stream that was accepted.
     Accepted(GChan),
+    /// It failed, and why.
     Failed(Why),
 }

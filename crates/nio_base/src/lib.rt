@@ -1,6 +1,6 @@
 //! What every crate of nio speaks of: operation sets and kinds of channel, the numbers that name
 //! callers, selectors, channels and keys, the limits of a system, the channels and operations of
-//! groups, and the gate at which a test holds a worker.
+//! groups, and the test gate, where a test holds a worker.
 #![tactic(auto)]
 
 pub use gate::{Gate, NoGate};

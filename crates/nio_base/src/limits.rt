@@ -5,9 +5,13 @@ ghost use Rattle.std.specs.Prelude.{◌↔◌, IsTrue};
 /// of its selectors: 1 to 64 callers, 1 to 16 selectors, 1 to 262,144 channels and as many indexes.
 #[derive(Clone, Copy, Debug, PartialEq, Eq, Hash)]
 pub struct Limits {
+    /// 1 to 64.
     pub callers: u32,
+    /// 1 to 16.
     pub selectors: u32,
+    /// 1 to 262,144.
     pub channels: u32,
+    /// Indexes of keys in each selector, 1 to 262,144.
     pub keys: u32,
 }
 

@@ -17,15 +17,20 @@ pub struct ChanNo(pub u32);
 /// given to a new key, whose serial is then one higher; an index's first key has serial 0.
 #[derive(Clone, Copy, Debug, PartialEq, Eq, Hash, PartialOrd, Ord)]
 pub struct KeyId {
+    /// Its place in the selector.
     pub index: u32,
+    /// How many keys had this index before.
     pub serial: u32,
 }
 
 /// A key: its selector, its index there, and its serial.
 #[derive(Clone, Copy, Debug, PartialEq, Eq, Hash, PartialOrd, Ord)]
 pub struct KeyNo {
+    /// The selector.
     pub sel: SelNo,
+    /// Its place in the selector.
     pub index: u32,
+    /// How many keys had this index before.
     pub serial: u32,
 }
 
@@ -40,6 +45,8 @@ pub struct GChan(pub u32);
 /// The address of a socket: the four parts of an IPv4 address as they are written, and a port.
 #[derive(Clone, Copy, Debug, PartialEq, Eq, Hash)]
 pub struct Addr {
+    /// The four numbers of the IPv4 address, in the order in which they are written.
     pub ip: [u8; 4],
+    /// The port.
     pub port: u16,
 }

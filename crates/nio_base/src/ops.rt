@@ -43,6 +43,7 @@ impl Ops {
         Ops { bits }
     }
 
+    /// The bits of the set.
     pub fn bits(self) -> u8
         ensures bits { result ≡ self }
         ensures below { self < 256 }

@@ -1,4 +1,4 @@
-//! What no clause says: Java's numbers, and that a gate is open.
+//! What no clause says: Java's numbers, and that a test gate is open.
 use crate::*;
 
 #[test]

@@ -29,7 +29,7 @@ pub fn run(rt: &impl Alloc<A = Global>, turns: u32) -> anyhow::Result<()> {
     Ok(())
 }
 
-/// Reads what there is room for, and writes all that is held, which lies in two pieces at most.
+/// Reads what there is room for, and writes all that is buffered, which lies in two pieces at most.
 fn pass(direction: &mut Direction, source: &[u8], sink: &mut [u8]) {
     if direction.want().read {
         let count = source.len().min(direction.room());

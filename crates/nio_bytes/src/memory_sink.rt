@@ -1,8 +1,9 @@
 //! A sink into memory, some of whose writes and flushes fail.
-ghost use Rattle.std.specs.Prelude.{◌≡◌, ℕ, ◌-◌, ◌<◌, ◌≤◌, ◌↔◌, ◌⊎◌, ◌++◌, true, false, [], min, length, take, Some, IfOk, IsErr, OnOk, OnErr};
+ghost use Rattle.std.specs.Prelude.{◌≡◌, ℕ, ◌-◌, ◌<◌, ◌≤◌, ◌↔◌, ◌⊎◌, ◌++◌, true, false, [], min, length, take, Some};
+ghost use Rattle.std.specs.Prelude.{IfOk, IsErr, OnOk, OnErr};
 ghost use Rattle.std.specs.Io.KnownBytes.{append_known};
 ghost use Rattle.nio_bytes.specs.Cause.{HasCause};
-ghost use Rattle.nio_bytes.specs.Sink.{told};
+ghost use Rattle.nio_bytes.specs.Sink.{shown};
 
 use crate::calls::Calls;
 use crate::failed::Failed;
@@ -92,7 +93,7 @@ impl Sink for MemorySink {
         ensures taken { IfOk result (λ count.
             Some self.new.taken ≡ append_known (Some self.old.taken) (take count from.now)) }
         ensures kept { OnErr result (Some self.new.taken ≡ Some self.old.taken) }
-        ensures unflushed { Some self.new.flushed ≡ told (Some self.old.flushed) false }
+        ensures unflushed { Some self.new.flushed ≡ shown (Some self.old.flushed) false }
         ensures cause { HasCause self.old.calls.faults self.new.calls.faults result }
 
         // By its piece, its room and the failures that it was made with.
@@ -121,7 +122,7 @@ impl Sink for MemorySink {
     fn flush(&mut self) -> Result<(), Failed>
         // As every sink.
         ensures kept { Some self.new.taken ≡ Some self.old.taken }
-        ensures flushed { OnOk result (Some self.new.flushed ≡ told (Some self.old.flushed) true) }
+        ensures flushed { OnOk result (Some self.new.flushed ≡ shown (Some self.old.flushed) true) }
         ensures failed { OnErr result (Some self.new.flushed ≡ Some self.old.flushed) }
         ensures cause { HasCause self.old.calls.faults self.new.calls.faults result }
 

@@ -2,7 +2,7 @@
 ghost use Rattle.std.specs.Prelude.{◌≡◌, ℕ, ◌<◌, ◌≤◌, Bool, true, false, List, Option, length, take, IfOk, OnOk, OnErr};
 ghost use Rattle.std.specs.Io.KnownBytes.{append_known};
 ghost use Rattle.nio_bytes.specs.Cause.{HasCause};
-ghost use Rattle.nio_bytes.specs.Sink.{told};
+ghost use Rattle.nio_bytes.specs.Sink.{shown};
 
 use crate::failed::Failed;
 
@@ -25,13 +25,13 @@ pub trait Sink {
         ensures taken { IfOk result (λ count.
             taken self.new ≡ append_known (taken self.old) (take count from.now)) }
         ensures kept { OnErr result (taken self.new ≡ taken self.old) }
-        ensures unflushed { flushed self.new ≡ told (flushed self.old) false }
+        ensures unflushed { flushed self.new ≡ shown (flushed self.old) false }
         ensures cause { HasCause (faults self.old) (faults self.new) result };
 
     /// Passes on the bytes that the sink has buffered.
     fn flush(&mut self) -> Result<(), Failed>
         ensures kept { taken self.new ≡ taken self.old }
-        ensures flushed { OnOk result (flushed self.new ≡ told (flushed self.old) true) }
+        ensures flushed { OnOk result (flushed self.new ≡ shown (flushed self.old) true) }
         ensures failed { OnErr result (flushed self.new ≡ flushed self.old) }
         ensures cause { HasCause (faults self.old) (faults self.new) result };
 }

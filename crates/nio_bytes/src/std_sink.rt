@@ -8,7 +8,7 @@ use crate::fault_count::FaultCount;
 use crate::sink::Sink;
 use std::io::{ErrorKind, Write};
 
-/// Writes to a writer, as a file or standard output. Its clauses as a `Sink` tell neither the bytes
+/// Writes to a writer, as a file or standard output. Its clauses as a `Sink` show neither the bytes
 /// that it took nor whether it was flushed. A call that is interrupted is tried again; every other
 /// error is a fault, and so is a write that takes nothing of what it was given.
 #[derive(Drop)]
@@ -46,7 +46,7 @@ impl<T: Write> Sink for StdSink<T> {
         ensures some { IfOk result (λ count. 0 < length from.now → 0 < count) }
         ensures cause { HasCause (faults_of self.old) (faults_of self.new) result }
 
-        // As the writer, where that tells its bytes.
+        // As the writer, where that shows its bytes.
         ensures bytes { WriteAppends (T.contents (writer self.old)) (T.contents (writer self.new))
             result from.now }
     {

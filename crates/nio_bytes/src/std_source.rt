@@ -8,7 +8,7 @@ use crate::fault_count::FaultCount;
 use crate::source::Source;
 use std::io::{ErrorKind, Read};
 
-/// Reads from a reader, as a file or standard input. Its clauses as a `Source` don't tell the bytes
+/// Reads from a reader, as a file or standard input. Its clauses as a `Source` don't show the bytes
 /// that are still to come. A read that is interrupted is tried again; every other error is a fault.
 #[derive(Drop)]
 pub struct StdSource<R> {
@@ -42,7 +42,7 @@ impl<R: Read> Source for StdSource<R> {
         ensures within { IfOk result (λ count. count ≤ length into.new) }
         ensures cause { HasCause (faults_of self.old) (faults_of self.new) result }
 
-        // As the reader, where that tells its bytes.
+        // As the reader, where that shows its bytes.
         ensures bytes { ReadConsumes (R.remaining (reader self.old)) (R.remaining (reader self.new))
             result into.new }
     {

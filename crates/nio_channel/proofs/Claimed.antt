@@ -70,14 +70,14 @@ pub all_claimed_more : {me : CallerNo} {s : SelNo} {i : ℕ} {c : ChanNo} {found
     → AllClaimed (known v0) s i → AllClaimed (known v1) s (i + 1)
 all_claimed_more {s = s} {i = i} clause here = below_more _ _ (all_claimed_after s i clause here) (claimed_now clause)
 
--- every index below the mark that was found is claimed
+-- every index below the high-water mark that was found is claimed
 pub all_claimed_below : {me : CallerNo} {s : SelNo} {mark : ℕ} {v0 v1 : PassView}
     → ActsClause me (LookKeys s mark ∷ []) v0 v1 → AllClaimed (known v1) s mark
 all_claimed_below {s = s} {mark = mark} {v0 = v0} {v1 = v1} clause i below =
     let told : mark ≡ (known v1).keys_high s.0 = cc (look_tells clause refl) in
     (legal-sound v0.limits v1.seen clause.history.legal).keys_below s.0 i (subst (λ n. i < n) told below)
 
--- the mark is within the limits
+-- the high-water mark is within the limits
 pub mark_inside : {me : CallerNo} {s : SelNo} {mark : ℕ} {v0 v1 : PassView} → ActsClause me (LookKeys s mark ∷ []) v0 v1
     → mark ≤ v0.limits.keys
 mark_inside {s = s} {mark = mark} {v0 = v0} {v1 = v1} clause =

@@ -10,14 +10,14 @@ use Rattle.nio_base.specs.declared.numbers.SelNo.{SelNo}
 use Rattle.nio_event.proofs.Finds.{step_leaves}
 use Rattle.nio_event.proofs.LastsAlone.{same_two}
 use Rattle.nio_event.proofs.OneMore.{since_from-more}
-use Rattle.nio_event.proofs.PinLaws.{noted_keys_are_claimed}
+use Rattle.nio_event.proofs.PinLaws.{enrolled_keys_are_claimed}
 use Rattle.nio_event.proofs.Put.{put-same}
 use Rattle.nio_event.proofs.Within.{legal-within}
 use Rattle.nio_event.specs.Conditions.{IsChannel, IsSelector, IsKey, is_held_by, holds, is_claimed}
 use Rattle.nio_event.specs.Found.{finds}
 use Rattle.nio_event.specs.Histories.{state_after}
 use Rattle.nio_event.specs.Permanent.{OwnFact, the_hold, is_had_by, gives_back, channel_closed, key_published}
-use Rattle.nio_event.specs.OwnEvents.{has, last, under, takes_hold, releases, finds_unblocked, noted_found, is_clear}
+use Rattle.nio_event.specs.OwnEvents.{has, last, under, takes_hold, releases, finds_unblocked, enrolled_found, is_clear}
 use Rattle.nio_event.specs.PassViews.{PassView, Holds as HoldsNumber, known, ActsClause, HasKey}
 use Rattle.nio_event.specs.Sets.{fits, in_key_set, is_valid, was_published, is_in_key_set, is_valid_key}
 use Rattle.nio_event.specs.Sound.{IsWithin}
@@ -37,7 +37,7 @@ use Rattle.nio_words.specs.declared.words.Pass.{Pass}
 use Rattle.nio_words.specs.declared.words.Words.{Words}
 use Rattle.nio_channel.proofs.Own.{is_quiet, quiet_holds, quiet_keeps, quiet_unclosed, under_longer, under_found}
 use Rattle.nio_channel.proofs.Own.{under_never, told_look, clear_quiet, clear_look_else, clear_none, clear_looked}
-use Rattle.nio_channel.specs.Held.{HoldsChannel, HoldsUnblocked, MayNote, IsClearBelow}
+use Rattle.nio_channel.specs.Held.{HoldsChannel, HoldsUnblocked, MayEnrol, IsClearBelow}
 use Rattle.nio_channel.specs.Registered.{found_closed}
 
 -- the caller's acts grow by the step
@@ -111,15 +111,15 @@ pub unblocked_stays : {w : Words} {p q : Pass} {me : CallerNo} {act : Act} {c : 
 unblocked_stays {act = act} {c = c} steps new quiet here =
     unblocked_over steps new (quiet_holds c.0 act quiet) (quiet_keeps c.0 act quiet) (quiet_unclosed c.0 act quiet) here
 
-pub may_note_stays : {w : Words} {p q : Pass} {me : CallerNo} {act : Act} {c : ChanNo} {s : SelNo} → Steps w p q me act
+pub may_enrol_stays : {w : Words} {p q : Pass} {me : CallerNo} {act : Act} {c : ChanNo} {s : SelNo} → Steps w p q me act
     → finds_drawn act ≡ false → is_quiet act ≡ true
-    → MayNote w p me c s → MayNote w q me c s
-may_note_stays {p = p} {me = me} {act = act} {c = c} {s = s} steps new quiet here = record {
+    → MayEnrol w p me c s → MayEnrol w q me c s
+may_enrol_stays {p = p} {me = me} {act = act} {c = c} {s = s} steps new quiet here = record {
   unblocked = unblocked_stays steps new quiet here.unblocked;
   clear = ap (is_clear c.0 s.0) (own_more steps new) ∙ clear_quiet c.0 s.0 (acts_seen p me) act quiet here.clear;
 }
 
--- ---- no key in the key set is noted in the first selectors
+-- ---- no key in the key set is enrolled in the first selectors
 
 -- a step that is of no consequence leaves it so
 pub clear_below_stays : {w : Words} {p q : Pass} {me : CallerNo} {act : Act} (c : ChanNo) (n : ℕ) → Steps w p q me act
@@ -129,14 +129,14 @@ clear_below_stays {p = p} {me = me} {act = act} c n steps new quiet clear s belo
     ap (is_clear c.0 s) (own_more steps new) ∙ clear_quiet c.0 s (acts_seen p me) act quiet (clear s below)
 
 -- so does a look in the next selector
-pub clear_below_look : {w : Words} {p q : Pass} {me : CallerNo} {c : ChanNo} {s : SelNo} {noted : Option KeyId}
-    → Steps w p q me (LookReg c s noted)
+pub clear_below_look : {w : Words} {p q : Pass} {me : CallerNo} {c : ChanNo} {s : SelNo} {enrolled : Option KeyId}
+    → Steps w p q me (LookReg c s enrolled)
     → IsClearBelow p me c s.0 → IsClearBelow q me c s.0
-clear_below_look {p = p} {me = me} {c = c} {s = s} {noted = noted} steps clear s' below =
+clear_below_look {p = p} {me = me} {c = c} {s = s} {enrolled = enrolled} steps clear s' below =
     let other : (s.0 == s') ≡ false = ne_eqb s.0 s' (λ is. omega arith) in
-    ap (is_clear c.0 s') (own_more steps refl) ∙ clear_look_else c s' s noted (acts_seen p me) other (clear s' below)
+    ap (is_clear c.0 s') (own_more steps refl) ∙ clear_look_else c s' s enrolled (acts_seen p me) other (clear s' below)
 
--- none was found noted in the next
+-- none was found enrolled in the next
 pub clear_below_none : {w : Words} {p q : Pass} {me : CallerNo} {c : ChanNo} {s : SelNo}
     → Steps w p q me (LookReg c s None)
     → IsClearBelow p me c s.0 → IsClearBelow q me c (s.0 + 1)
@@ -144,7 +144,7 @@ clear_below_none {p = p} {me = me} {c = c} {s = s} steps clear =
     below_more _ _ (clear_below_look steps clear)
     (ap (is_clear c.0 s.0) (own_more steps refl) ∙ clear_none c s (acts_seen p me))
 
--- the one that was found noted in the next was found outside the key set
+-- the one that was found enrolled in the next was found outside the key set
 pub clear_below_outside : {w : Words} {p q r : Pass} {me : CallerNo} {c : ChanNo} {s : SelNo} {k : KeyId}
     {stage : Stage} → Steps w p q me (LookReg c s (Some k))
     → Steps w q r me (LookKey s k.index stage) → is_in_key_set stage k.serial ≡ false → IsClearBelow p me c s.0
@@ -153,33 +153,34 @@ clear_below_outside {p = p} {q = q} {me = me} {c = c} {s = s} {k = k} {stage = s
     below_more _ _ (clear_below_stays c s.0 there refl refl (clear_below_look look clear))
     (ap (is_clear c.0 s.0) (own_more there refl)
     ∙ clear_looked c.0 s k stage (acts_seen q me) out
-    (ap (λ own. last (noted_found c.0 s.0) (under c.0 own)) (own_more look refl)
+    (ap (λ own. last (enrolled_found c.0 s.0) (under c.0 own)) (own_more look refl)
     ∙ told_look c s (Some k) (acts_seen p me)))
 
--- ---- the noted key
+-- ---- the enrolled key
 
--- a key that was found noted has an index of the selector
-pub noted_inside : {w : Words} {p q : Pass} {me : CallerNo} {c : ChanNo} {s : SelNo} (noted : Option KeyId)
-    → Steps w p q me (LookReg c s noted) → IsSelector (limits_of w) s
-    → IfSome noted (λ k. IsKey (limits_of w) s k.index)
-noted_inside None steps inside = tt
-noted_inside {w = w} {q = q} {c = c} {s = s} (Some k) steps inside = (inside, (within.noted c.0 s.0 k (sym told)).0)
+-- a key that was found enrolled has an index of the selector
+pub enrolled_inside : {w : Words} {p q : Pass} {me : CallerNo} {c : ChanNo} {s : SelNo} (enrolled : Option KeyId)
+    → Steps w p q me (LookReg c s enrolled) → IsSelector (limits_of w) s
+    → IfSome enrolled (λ k. IsKey (limits_of w) s k.index)
+enrolled_inside None steps inside = tt
+enrolled_inside {w = w} {q = q} {c = c} {s = s} (Some k) steps inside =
+    (inside, (within.enrolled c.0 s.0 k (sym told)).0)
   where
-    told : Some k ≡ (state_seen q).noted c.0 s.0
+    told : Some k ≡ (state_seen q).enrolled c.0 s.0
     told = cc (look_tells (step_acts steps refl) refl)
 
     within : IsWithin (limits_of w) (state_seen q)
     within = legal-within (limits_of w) (seen q) steps.pass.legal
 
 -- and it is claimed
-pub noted_claimed : {w : Words} {p q : Pass} {me : CallerNo} {c : ChanNo} {s : SelNo} (noted : Option KeyId)
-    → Steps w p q me (LookReg c s noted)
-    → IfSome noted (λ k. IsTrue (is_claimed (state_seen q) s k.index))
-noted_claimed None steps = tt
-noted_claimed {w = w} {q = q} {c = c} {s = s} (Some k) steps =
-    (and_parts _ _ (noted_keys_are_claimed (limits_of w) c s k (seen q) w.fit steps.pass.legal (sym told)).0).0
+pub enrolled_claimed : {w : Words} {p q : Pass} {me : CallerNo} {c : ChanNo} {s : SelNo} (enrolled : Option KeyId)
+    → Steps w p q me (LookReg c s enrolled)
+    → IfSome enrolled (λ k. IsTrue (is_claimed (state_seen q) s k.index))
+enrolled_claimed None steps = tt
+enrolled_claimed {w = w} {q = q} {c = c} {s = s} (Some k) steps =
+    (and_parts _ _ (enrolled_keys_are_claimed (limits_of w) c s k (seen q) w.fit steps.pass.legal (sym told)).0).0
   where
-    told : Some k ≡ (state_seen q).noted c.0 s.0
+    told : Some k ≡ (state_seen q).enrolled c.0 s.0
     told = cc (look_tells (step_acts steps refl) refl)
 
 -- ---- keys

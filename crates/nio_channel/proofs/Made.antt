@@ -50,7 +50,7 @@ pub all_made_more : {me : CallerNo} {c : ChanNo} {kind : Kind} {found : Bool} {v
     → AllMade (known v0) c.0 → AllMade (known v1) (c.0 + 1)
 all_made_more clause here = below_more _ _ (all_made_after clause here) (made_now clause)
 
--- every channel below the mark that was found is made
+-- every channel below the high-water mark that was found is made
 pub all_made_below : {me : CallerNo} {mark : ℕ} {v0 v1 : PassView} → ActsClause me (LookChannels mark ∷ []) v0 v1
     → AllMade (known v1) mark
 all_made_below {mark = mark} {v0 = v0} {v1 = v1} clause c below =

@@ -12,7 +12,8 @@ use Rattle.nio_event.proofs.OneMore.{has-more, last-more, since_from-more}
 use Rattle.nio_event.specs.Found.{finds}
 use Rattle.nio_event.specs.Permanent.{channel_closed}
 use Rattle.nio_event.specs.OwnEvents.{OwnClaim, is_yes, has, last, under, takes_hold, releases, finds_outside}
-use Rattle.nio_event.specs.OwnEvents.{is_outside, noted_found, notes_key, publishes, since_key_noted, claim_changed}
+use Rattle.nio_event.specs.OwnEvents.{is_outside, enrolled_found, enrols_key, publishes, since_key_enrolled}
+use Rattle.nio_event.specs.OwnEvents.{claim_changed}
 use Rattle.nio_event.specs.OwnEvents.{own_claim, leaves_unpublished, is_unpublished, is_clear, is_clear_by}
 use Rattle.nio_event.specs.Sets.{is_in_key_set}
 use Rattle.nio_event.specs.declared.act.Act.{Act}
@@ -20,7 +21,7 @@ use Rattle.nio_event.specs.declared.act.Act.TheVariants.{LookChannel, Claim, Pub
 use Rattle.nio_event.specs.declared.act.Act.TheVariants.{Release, SetMode, Pin, Unpin, ClaimAgain, LookKey}
 use Rattle.nio_event.specs.declared.found.Stage.{Stage}
 
--- ---- acts of no consequence to a hold and its channel, to noted keys and to publishing
+-- ---- acts of no consequence to a hold and its channel, to enrolled keys and to publishing
 
 abbrev pub is_quiet : Act → Bool
 is_quiet (LookChannel c found) = false
@@ -45,12 +46,12 @@ quiet_unclosed c (LookChannel c' found) quiet = absurd cc
 quiet_unclosed c (SetMode c' blocking found) quiet = absurd cc
 quiet_unclosed c act quiet = refl
 
-quiet_tells : (c s : ℕ) (act : Act) → is_quiet act ≡ true → noted_found c s act ≡ None
+quiet_tells : (c s : ℕ) (act : Act) → is_quiet act ≡ true → enrolled_found c s act ≡ None
 quiet_tells c s (LookReg c' s' found) quiet = absurd cc
 quiet_tells c s (Enrol c' s' i serial found) quiet = absurd cc
 quiet_tells c s act quiet = refl
 
-quiet_opens : (c s i : ℕ) (act : Act) → is_quiet act ≡ true → (notes_key c s act || publishes s i act) ≡ false
+quiet_opens : (c s i : ℕ) (act : Act) → is_quiet act ≡ true → (enrols_key c s act || publishes s i act) ≡ false
 quiet_opens c s i (Publish s' i' found) quiet = absurd cc
 quiet_opens c s i (Enrol c' s' i' serial found) quiet = absurd cc
 quiet_opens c s i act quiet = refl
@@ -84,95 +85,95 @@ under_found p c own act keeps found =
     ap (has p) (under-more c own act keeps)
     ∙ (has-more p (under c own) act ∙ or_right (has p (under c own)) (p act) found)
 
--- ---- the noted key
+-- ---- the enrolled key
 
 told-more : (c s : ℕ) (own : List Act) (act : Act) → takes_hold c act ≡ false
-    → last (noted_found c s) (under c (own ++ act ∷ [])) ≡ option_or (noted_found c s act)
-    (last (noted_found c s) (under c own))
+    → last (enrolled_found c s) (under c (own ++ act ∷ [])) ≡ option_or (enrolled_found c s act)
+    (last (enrolled_found c s) (under c own))
 told-more c s own act keeps =
-    ap (last (noted_found c s)) (under-more c own act keeps) ∙ last-more (noted_found c s) (under c own) act
+    ap (last (enrolled_found c s)) (under-more c own act keeps) ∙ last-more (enrolled_found c s) (under c own) act
 
-pub told_over : (c s : ℕ) (own : List Act) (act : Act) → takes_hold c act ≡ false → noted_found c s act ≡ None
-    → last (noted_found c s) (under c (own ++ act ∷ [])) ≡ last (noted_found c s) (under c own)
+pub told_over : (c s : ℕ) (own : List Act) (act : Act) → takes_hold c act ≡ false → enrolled_found c s act ≡ None
+    → last (enrolled_found c s) (under c (own ++ act ∷ [])) ≡ last (enrolled_found c s) (under c own)
 told_over c s own act takes silent =
-    told-more c s own act takes ∙ ap (λ told. option_or told (last (noted_found c s) (under c own))) silent
+    told-more c s own act takes ∙ ap (λ told. option_or told (last (enrolled_found c s) (under c own))) silent
 
 pub told_quiet : (c s : ℕ) (own : List Act) (act : Act) → is_quiet act ≡ true
-    → last (noted_found c s) (under c (own ++ act ∷ [])) ≡ last (noted_found c s) (under c own)
+    → last (enrolled_found c s) (under c (own ++ act ∷ [])) ≡ last (enrolled_found c s) (under c own)
 told_quiet c s own act quiet = told_over c s own act (quiet_holds c act quiet) (quiet_tells c s act quiet)
 
-pub told_look : (c : ChanNo) (s : SelNo) (noted : Option KeyId) (own : List Act)
-    → last (noted_found c.0 s.0) (under c.0 (own ++ LookReg c s noted ∷ [])) ≡ Some noted
-told_look c s noted own =
-    told-more c.0 s.0 own (LookReg c s noted) refl
-    ∙ ap (λ b. option_or (if b then Some noted else None) (last (noted_found c.0 s.0) (under c.0 own)))
+pub told_look : (c : ChanNo) (s : SelNo) (enrolled : Option KeyId) (own : List Act)
+    → last (enrolled_found c.0 s.0) (under c.0 (own ++ LookReg c s enrolled ∷ [])) ≡ Some enrolled
+told_look c s enrolled own =
+    told-more c.0 s.0 own (LookReg c s enrolled) refl
+    ∙ ap (λ b. option_or (if b then Some enrolled else None) (last (enrolled_found c.0 s.0) (under c.0 own)))
     (same_two c.0 s.0)
 
 pub told_enrol : (c : ChanNo) (s : SelNo) (k : KeyId) (before : Option KeyId) (own : List Act)
-    → last (noted_found c.0 s.0) (under c.0 (own ++ Enrol c s k.index k.serial before ∷ [])) ≡ Some (Some k)
+    → last (enrolled_found c.0 s.0) (under c.0 (own ++ Enrol c s k.index k.serial before ∷ [])) ≡ Some (Some k)
 told_enrol c s k before own =
     told-more c.0 s.0 own (Enrol c s k.index k.serial before) refl
-    ∙ ap (λ b. option_or (if b then Some (Some k) else None) (last (noted_found c.0 s.0) (under c.0 own)))
+    ∙ ap (λ b. option_or (if b then Some (Some k) else None) (last (enrolled_found c.0 s.0) (under c.0 own)))
     (same_two c.0 s.0)
 
--- ---- no key in the key set is noted
+-- ---- no key in the key set is enrolled
 
--- an act that takes no hold, tells nothing of the key that is noted there, and neither notes nor publishes
-clear_longer : (c s : ℕ) (own : List Act) (act : Act) → takes_hold c act ≡ false → noted_found c s act ≡ None
-    → ((i : ℕ) → (notes_key c s act || publishes s i act) ≡ false) → is_clear c s own ≡ true
+-- an act that takes no hold, tells nothing of the key that is enrolled there, and neither enrols nor publishes
+clear_longer : (c s : ℕ) (own : List Act) (act : Act) → takes_hold c act ≡ false → enrolled_found c s act ≡ None
+    → ((i : ℕ) → (enrols_key c s act || publishes s i act) ≡ false) → is_clear c s own ≡ true
     → is_clear c s (own ++ act ∷ []) ≡ true
 clear_longer c s own act keeps silent spares clear =
-    ap (λ held. is_clear_by c s held (last (noted_found c s) held)) (under-more c own act keeps)
-    ∙ (ap (is_clear_by c s (under c own ++ act ∷ [])) (last-more (noted_found c s) (under c own) act
-    ∙ ap (λ told. option_or told (last (noted_found c s) (under c own))) silent)
-    ∙ by_told (last (noted_found c s) (under c own)) clear)
+    ap (λ held. is_clear_by c s held (last (enrolled_found c s) held)) (under-more c own act keeps)
+    ∙ (ap (is_clear_by c s (under c own ++ act ∷ [])) (last-more (enrolled_found c s) (under c own) act
+    ∙ ap (λ told. option_or told (last (enrolled_found c s) (under c own))) silent)
+    ∙ by_told (last (enrolled_found c s) (under c own)) clear)
   where
     by_told : (told : Option (Option KeyId)) → is_clear_by c s (under c own) told ≡ true
         → is_clear_by c s (under c own ++ act ∷ []) told ≡ true
     by_told None clear' = absurd cc
     by_told (Some None) clear' = refl
     by_told (Some (Some k)) clear' =
-        ap (has (finds_outside s k)) (since_from-more (λ a. notes_key c s a || publishes s k.index a) (under c own) act
-        ∙ ap (λ b. if b then [] else since_key_noted c s k.index (under c own) ++ act ∷ []) (spares k.index))
-        ∙ has_longer (finds_outside s k) (since_key_noted c s k.index (under c own)) act clear'
+        ap (has (finds_outside s k)) (since_from-more (λ a. enrols_key c s a || publishes s k.index a) (under c own) act
+        ∙ ap (λ b. if b then [] else since_key_enrolled c s k.index (under c own) ++ act ∷ []) (spares k.index))
+        ∙ has_longer (finds_outside s k) (since_key_enrolled c s k.index (under c own)) act clear'
 
 pub clear_quiet : (c s : ℕ) (own : List Act) (act : Act) → is_quiet act ≡ true → is_clear c s own ≡ true
     → is_clear c s (own ++ act ∷ []) ≡ true
 clear_quiet c s own act quiet =
     clear_longer c s own act (quiet_holds c act quiet) (quiet_tells c s act quiet) (λ i. quiet_opens c s i act quiet)
 
--- a look at which key is noted in another selector
-pub clear_look_else : (c : ChanNo) (s : ℕ) (s' : SelNo) (noted : Option KeyId) (own : List Act) → (s'.0 == s) ≡ false
-    → is_clear c.0 s own ≡ true → is_clear c.0 s (own ++ LookReg c s' noted ∷ []) ≡ true
-clear_look_else c s s' noted own other =
-    clear_longer c.0 s own (LookReg c s' noted) refl
-    (ap (λ b. if b then Some noted else None) (ap (λ b. (c.0 == c.0) && b) other ∙ and_false (c.0 == c.0)))
+-- a look at which key is enrolled in another selector
+pub clear_look_else : (c : ChanNo) (s : ℕ) (s' : SelNo) (enrolled : Option KeyId) (own : List Act) → (s'.0 == s) ≡ false
+    → is_clear c.0 s own ≡ true → is_clear c.0 s (own ++ LookReg c s' enrolled ∷ []) ≡ true
+clear_look_else c s s' enrolled own other =
+    clear_longer c.0 s own (LookReg c s' enrolled) refl
+    (ap (λ b. if b then Some enrolled else None) (ap (λ b. (c.0 == c.0) && b) other ∙ and_false (c.0 == c.0)))
     (λ i. refl)
   where
     and_false : (b : Bool) → (b && false) ≡ false
     and_false true = refl
     and_false false = refl
 
--- none was found noted
+-- none was found enrolled
 pub clear_none : (c : ChanNo) (s : SelNo) (own : List Act) → is_clear c.0 s.0 (own ++ LookReg c s None ∷ []) ≡ true
 clear_none c s own = ap (is_clear_by c.0 s.0 (under c.0 (own ++ LookReg c s None ∷ []))) (told_look c s None own)
 
--- the one that is noted was just found outside the key set
+-- the one that is enrolled was just found outside the key set
 clear_found : (c s : ℕ) (k : KeyId) (act : Act) (own : List Act) → is_quiet act ≡ true → finds_outside s k act ≡ true
-    → last (noted_found c s) (under c own) ≡ Some (Some k) → is_clear c s (own ++ act ∷ []) ≡ true
+    → last (enrolled_found c s) (under c own) ≡ Some (Some k) → is_clear c s (own ++ act ∷ []) ≡ true
 clear_found c s k act own quiet found told =
     ap (is_clear_by c s (under c (own ++ act ∷ []))) (told_quiet c s own act quiet ∙ told)
-    ∙ (ap (λ held. has (finds_outside s k) (since_key_noted c s k.index held))
+    ∙ (ap (λ held. has (finds_outside s k) (since_key_enrolled c s k.index held))
     (under-more c own act (quiet_holds c act quiet))
-    ∙ (ap (has (finds_outside s k)) (since_from-more (λ a. notes_key c s a || publishes s k.index a) (under c own) act
-    ∙ ap (λ b. if b then [] else since_key_noted c s k.index (under c own) ++ act ∷ [])
+    ∙ (ap (has (finds_outside s k)) (since_from-more (λ a. enrols_key c s a || publishes s k.index a) (under c own) act
+    ∙ ap (λ b. if b then [] else since_key_enrolled c s k.index (under c own) ++ act ∷ [])
     (quiet_opens c s k.index act quiet))
-    ∙ (has-more (finds_outside s k) (since_key_noted c s k.index (under c own)) act
-    ∙ or_right (has (finds_outside s k) (since_key_noted c s k.index (under c own))) (finds_outside s k act) found)))
+    ∙ (has-more (finds_outside s k) (since_key_enrolled c s k.index (under c own)) act
+    ∙ or_right (has (finds_outside s k) (since_key_enrolled c s k.index (under c own))) (finds_outside s k act) found)))
 
 pub clear_looked : (c : ℕ) (s : SelNo) (k : KeyId) (stage : Stage) (own : List Act)
     → is_in_key_set stage k.serial ≡ false
-    → last (noted_found c s.0) (under c own) ≡ Some (Some k)
+    → last (enrolled_found c s.0) (under c own) ≡ Some (Some k)
     → is_clear c s.0 (own ++ LookKey s k.index stage ∷ []) ≡ true
 clear_looked c s k stage own out told =
     clear_found c s.0 k (LookKey s k.index stage) own refl
@@ -180,7 +181,8 @@ clear_looked c s k stage own out told =
 
 pub clear_pinned : (c : ℕ) (s : SelNo) (k : KeyId) (stage : Stage) (own : List Act)
     → is_in_key_set stage k.serial ≡ false
-    → last (noted_found c s.0) (under c own) ≡ Some (Some k) → is_clear c s.0 (own ++ Pin s k.index stage ∷ []) ≡ true
+    → last (enrolled_found c s.0) (under c own) ≡ Some (Some k)
+    → is_clear c s.0 (own ++ Pin s k.index stage ∷ []) ≡ true
 clear_pinned c s k stage own out told =
     clear_found c s.0 k (Pin s k.index stage) own refl
     (ap (λ b. is_outside k.serial (if b then Some stage else None)) (same_two s.0 k.index) ∙ ap not out) told

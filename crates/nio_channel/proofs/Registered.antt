@@ -11,18 +11,19 @@ use Rattle.nio_base.specs.declared.numbers.KeyNo.{KeyNo}
 use Rattle.nio_base.specs.declared.numbers.SelNo.{SelNo}
 use Rattle.nio_event.proofs.Finds.{step_leaves}
 use Rattle.nio_event.proofs.Holder.{held_since}
-use Rattle.nio_event.proofs.Holds.{found_noted_stays}
+use Rattle.nio_event.proofs.Holds.{found_enrolled_stays}
 use Rattle.nio_event.proofs.LastsAlone.{same_two}
 use Rattle.nio_event.proofs.OneMore.{has-more}
 use Rattle.nio_event.proofs.PassViews.{key_after}
-use Rattle.nio_event.proofs.PinLaws.{own_claims_stand, noted_keys_are_claimed}
+use Rattle.nio_event.proofs.PinLaws.{own_claims_stand, enrolled_keys_are_claimed}
 use Rattle.nio_event.proofs.Put.{put_at-same}
 use Rattle.nio_event.proofs.Stays.{beginnings_are_legal}
 use Rattle.nio_event.specs.Conditions.{IsKey, holds, may_publish}
 use Rattle.nio_event.specs.Found.{finds, Leaves}
 use Rattle.nio_event.specs.Histories.{state_after, event_of, mine, IsLegal}
 use Rattle.nio_event.specs.Permanent.{channel_closed, key_published, key_cancelled}
-use Rattle.nio_event.specs.OwnEvents.{has, last, under, takes_hold, finds_unblocked, noted_found, own_claim, is_clear}
+use Rattle.nio_event.specs.OwnEvents.{has, last, under, takes_hold, finds_unblocked, enrolled_found, own_claim}
+use Rattle.nio_event.specs.OwnEvents.{is_clear}
 use Rattle.nio_event.specs.PassViews.{Holds as HoldsNumber, HasKey}
 use Rattle.nio_event.specs.Pins.{IsOfClaim}
 use Rattle.nio_event.specs.Sets.{fits, is_in_key_set, was_published}
@@ -45,18 +46,18 @@ use Rattle.nio_channel.proofs.Held.{own_more, unblocked_over, unblocked_stays, i
 use Rattle.nio_channel.proofs.Made.{lasts_over}
 use Rattle.nio_channel.proofs.Own.{is_quiet, under-more, told_quiet, told_enrol, told_over, clear_pinned}
 use Rattle.nio_channel.proofs.Own.{claim_published, claim_stays}
-use Rattle.nio_channel.specs.Held.{HoldsUnblocked, MayNote, KnowsNoted, KnowsKey, HasClaimed, HasPublished}
+use Rattle.nio_channel.specs.Held.{HoldsUnblocked, MayEnrol, KnowsEnrolled, KnowsKey, HasClaimed, HasPublished}
 use Rattle.nio_channel.specs.Held.{HasRegistered}
 use Rattle.nio_channel.specs.Registered.{found_closed, IsKeyOf, IsCancelledWhereClosed}
 
--- ---- the noted key
+-- ---- the enrolled key
 
-pub noted_stays : {w : Words} {p q : Pass} {me : CallerNo} {act : Act} (c : ChanNo) (s : SelNo) (k : KeyId)
+pub enrolled_stays : {w : Words} {p q : Pass} {me : CallerNo} {act : Act} (c : ChanNo) (s : SelNo) (k : KeyId)
     → Steps w p q me act → finds_drawn act ≡ false → takes_hold c.0 act ≡ false
-    → noted_found c.0 s.0 act ≡ None → KnowsNoted p me c s k → KnowsNoted q me c s k
-noted_stays {p = p} {me = me} {act = act} c s k steps new takes silent noted =
-    ap (λ own. last (noted_found c.0 s.0) (under c.0 own)) (own_more steps new)
-    ∙ (told_over c.0 s.0 (acts_seen p me) act takes silent ∙ noted)
+    → enrolled_found c.0 s.0 act ≡ None → KnowsEnrolled p me c s k → KnowsEnrolled q me c s k
+enrolled_stays {p = p} {me = me} {act = act} c s k steps new takes silent enrolled =
+    ap (λ own. last (enrolled_found c.0 s.0) (under c.0 own)) (own_more steps new)
+    ∙ (told_over c.0 s.0 (acts_seen p me) act takes silent ∙ enrolled)
 
 -- ---- the channel was found closed
 
@@ -82,8 +83,8 @@ pub knows_key_stays : {w : Words} {p q : Pass} {me : CallerNo} {act : Act} {c : 
 knows_key_stays {p = p} {me = me} {act = act} {c = c} {s = s} {k = k} steps new quiet pins here = record {
   unblocked = unblocked_stays steps new quiet here.unblocked;
   pinned = stays_pinned steps new pins here.pinned;
-  noted = ap (λ own. last (noted_found c.0 s.0) (under c.0 own)) (own_more steps new)
-      ∙ (told_quiet c.0 s.0 (acts_seen p me) act quiet ∙ here.noted);
+  enrolled = ap (λ own. last (enrolled_found c.0 s.0) (under c.0 own)) (own_more steps new)
+      ∙ (told_quiet c.0 s.0 (acts_seen p me) act quiet ∙ here.enrolled);
   has = key_after (step_acts steps new) here.has;
 }
 
@@ -93,11 +94,11 @@ pub knows_registered : {w : Words} {p : Pass} {me : CallerNo} {c : ChanNo} {s : 
 knows_registered {w = w} {p = p} {me = me} {c = c} here = record {
   in_selector = refl;
   has = here.has;
-  noted = here.noted;
+  enrolled = here.enrolled;
   cancelled = λ closed. let clash : true ≡ false = sym closed ∙ here.unblocked.unclosed in absurd cc;
 }
 
--- the index of the noted key is pinned, and its stage shows the key in the key set
+-- the index of the enrolled key is pinned, and its stage shows the key in the key set
 pub pinned_key : {w : Words} {p q : Pass} {me : CallerNo} {s : SelNo} {k : KeyId} {stage : Stage}
     → Steps w p q me (Pin s k.index stage) → IsKey (limits_of w) s k.index
     → is_in_key_set stage k.serial ≡ true → HasKey (view w q) (key s k)
@@ -110,10 +111,10 @@ pinned_key {s = s} {k = k} {stage = stage} steps inside found = record {
 -- or it doesn't
 pub pinned_outside : {w : Words} {p q : Pass} {me : CallerNo} {c : ChanNo} {s : SelNo} {k : KeyId} {stage : Stage}
     → Steps w p q me (Pin s k.index stage) → HoldsUnblocked w p me c
-    → KnowsNoted p me c s k → is_in_key_set stage k.serial ≡ false → MayNote w q me c s
-pinned_outside {p = p} {me = me} {c = c} {s = s} {k = k} {stage = stage} steps here noted out = record {
+    → KnowsEnrolled p me c s k → is_in_key_set stage k.serial ≡ false → MayEnrol w q me c s
+pinned_outside {p = p} {me = me} {c = c} {s = s} {k = k} {stage = stage} steps here enrolled out = record {
   unblocked = unblocked_stays steps refl refl here;
-  clear = ap (is_clear c.0 s.0) (own_more steps refl) ∙ clear_pinned c.0 s k stage (acts_seen p me) out noted;
+  clear = ap (is_clear c.0 s.0) (own_more steps refl) ∙ clear_pinned c.0 s k stage (acts_seen p me) out enrolled;
 }
 
 -- ---- a key that is made
@@ -123,11 +124,11 @@ pub enrolled_unblocked : {w : Words} {p q : Pass} {me : CallerNo} {c : ChanNo} {
     → HoldsUnblocked w p me c → HoldsUnblocked w q me c
 enrolled_unblocked steps here = unblocked_over steps refl refl refl refl here
 
-pub enrolled_noted : {w : Words} {p q : Pass} {me : CallerNo} {c : ChanNo} {s : SelNo} {k : KeyId}
+pub enrolled_known : {w : Words} {p q : Pass} {me : CallerNo} {c : ChanNo} {s : SelNo} {k : KeyId}
     {before : Option KeyId} → Steps w p q me (Enrol c s k.index k.serial before)
-    → KnowsNoted q me c s k
-enrolled_noted {p = p} {me = me} {c = c} {s = s} {k = k} {before = before} steps =
-    ap (λ own. last (noted_found c.0 s.0) (under c.0 own)) (own_more steps refl)
+    → KnowsEnrolled q me c s k
+enrolled_known {p = p} {me = me} {c = c} {s = s} {k = k} {before = before} steps =
+    ap (λ own. last (enrolled_found c.0 s.0) (under c.0 own)) (own_more steps refl)
     ∙ told_enrol c s k before (acts_seen p me)
 
 -- a caller that claimed the index for the channel may publish its key
@@ -155,13 +156,13 @@ fits_claim stage c serial its =
 -- its key was just published
 pub has_published : {w : Words} {p q : Pass} {me : CallerNo} {c : ChanNo} {s : SelNo} {k : KeyId} {stage : Stage}
     → Steps w p q me (Publish s k.index stage) → HoldsUnblocked w p me c
-    → KnowsNoted p me c s k → HasClaimed w p me c s k → HasPublished w q me c s k
-has_published {w = w} {p = p} {q = q} {me = me} {c = c} {s = s} {k = k} {stage = stage} steps here noted claimed =
+    → KnowsEnrolled p me c s k → HasClaimed w p me c s k → HasPublished w q me c s k
+has_published {w = w} {p = p} {q = q} {me = me} {c = c} {s = s} {k = k} {stage = stage} steps here enrolled claimed =
     record {
       known = record {
         unblocked = unblocked_over steps refl refl refl refl here;
         pinned = stays_pinned steps refl refl claimed.pinned;
-        noted = noted_stays c s k steps refl refl refl noted;
+        enrolled = enrolled_stays c s k steps refl refl refl enrolled;
         has = record {
           inside = claimed.pinned.inside;
           published = or_right (nat_lt k.serial now.serial) (fits now k.serial && now.published)
@@ -195,7 +196,7 @@ pub settled_open : {w : Words} {p q : Pass} {me : CallerNo} {c : ChanNo} {s : Se
 settled_open {w = w} {p = p} {q = q} {me = me} {c = c} {s = s} {k = k} {found = found} steps unclosed here = record {
   in_selector = refl;
   has = key_after (step_acts steps refl) here.known.has;
-  noted = noted_stays c s k steps refl refl refl here.known.noted;
+  enrolled = enrolled_stays c s k steps refl refl refl here.known.enrolled;
   cancelled = λ closed.
       let clash : true ≡ false = sym closed
       ∙ (found_closed-same {w = w} c steps refl refl (ap (λ b. (c.0 == c.0) && b) unclosed ∙ and_false (c.0 == c.0))
@@ -215,7 +216,8 @@ settled_cancelled {w = w} {p = p} {q = q} {r = r} {me = me} {c = c} {s = s} {k =
     cancel here = record {
       in_selector = refl;
       has = key_after (step_acts cancel refl) (key_after (step_acts look refl) here.known.has);
-      noted = noted_stays c s k cancel refl refl refl (noted_stays c s k look refl refl refl here.known.noted);
+      enrolled = enrolled_stays c s k cancel refl refl refl
+          (enrolled_stays c s k look refl refl refl here.known.enrolled);
       cancelled = λ closed. or_right (nat_lt k.serial now.serial) (fits now k.serial && now.cancelled)
           (and_from (fits now k.serial) now.cancelled
           (fits_claim now c k.serial (of_claim w r me c s k cancel.pass.legal claim)) cancelled);
@@ -251,25 +253,28 @@ cancelled_after {w = w} c k steps new takes unclosed here closed =
     lasts_over (key_cancelled k.sel.0 k.index k.serial) (step_acts steps new)
     (here (sym (found_closed-same {w = w} c steps new takes unclosed) ∙ closed))
 
--- a step that doesn't take a hold, note a key or look at the channel
+-- a step that doesn't take a hold, enrol a key or look at the channel
 pub registered_stays : {w : Words} {p q : Pass} {me : CallerNo} {act : Act} {c : ChanNo} {s : SelNo} {k : KeyNo}
     → Steps w p q me act → finds_drawn act ≡ false → takes_hold c.0 act ≡ false
-    → noted_found c.0 s.0 act ≡ None → finds act (channel_closed c.0) ≡ false → HasRegistered w p me c s k
+    → enrolled_found c.0 s.0 act ≡ None → finds act (channel_closed c.0) ≡ false → HasRegistered w p me c s k
     → HasRegistered w q me c s k
 registered_stays {w = w} {p = p} {q = q} {me = me} {act = act} {c = c} {s = s} {k = k} steps new takes silent unclosed
     here = record {
       in_selector = here.in_selector;
       has = key_after (step_acts steps new) here.has;
-      noted = noted_stays c s (record { index = k.index; serial = k.serial }) steps new takes silent here.noted;
+      enrolled = enrolled_stays c s (record {
+        index = k.index;
+        serial = k.serial;
+      }) steps new takes silent here.enrolled;
       cancelled = cancelled_after {w = w} c k steps new takes unclosed here.cancelled;
     }
 
--- when the hold is given back the noted key is the channel's
+-- when the hold is given back the enrolled key is the channel's
 pub its_key : {w : Words} {p q : Pass} {me : CallerNo} (c : ChanNo) (s : SelNo) (k : KeyId) → Steps w p q me (Release c)
-    → KnowsNoted p me c s k → IsKeyOf (view w q) c (key s k)
-its_key {w = w} {p = p} {q = q} {me = me} c s k steps noted =
+    → KnowsEnrolled p me c s k → IsKeyOf (view w q) c (key s k)
+its_key {w = w} {p = p} {q = q} {me = me} c s k steps enrolled =
     subst (λ (st : State). (st.key s.0 k.index).serial ≡ k.serial → (st.key s.0 k.index).chan ≡ c) (sym leaves.state)
-    (noted_keys_are_claimed (limits_of w) c s k mid w.fit legal there).1
+    (enrolled_keys_are_claimed (limits_of w) c s k mid w.fit legal there).1
   where
     leaves : Leaves (limits_of w) (HoldsNumber (view w p)) me (Release c) (seen p) (seen q)
     leaves = step_leaves (limits_of w) (HoldsNumber (view w p)) me (Release c) (seen p) (seen q)
@@ -289,13 +294,13 @@ its_key {w = w} {p = p} {q = q} {me = me} c s k steps noted =
     same = mine-append me (seen p) leaves.between
         ∙ (ap (λ acts. mine me (seen p) ++ acts) leaves.own ∙ append-nil (mine me (seen p)))
 
-    there : (state_after mid).noted c.0 s.0 ≡ Some k
+    there : (state_after mid).enrolled c.0 s.0 ≡ Some k
     there =
         let since = held_since (limits_of w) me c mid legal leaves.step.condition.1 in
-        ap (λ evs. (state_after evs).noted c.0 s.0) since.whole
-        ∙ found_noted_stays (limits_of w) me c since.before since.later since.keeps s (Some k)
-        (ap (last (noted_found c.0 s.0)) (sym since.own)
-        ∙ (ap (λ own. last (noted_found c.0 s.0) (under c.0 own)) same ∙ noted))
+        ap (λ evs. (state_after evs).enrolled c.0 s.0) since.whole
+        ∙ found_enrolled_stays (limits_of w) me c since.before since.later since.keeps s (Some k)
+        (ap (last (enrolled_found c.0 s.0)) (sym since.own)
+        ∙ (ap (λ own. last (enrolled_found c.0 s.0) (under c.0 own)) same ∙ enrolled))
 
 -- so is the answer of a registration
 pub its_answer : {w : Words} {p q : Pass} {me : CallerNo} {c : ChanNo} {s : SelNo} {k : KeyNo}
@@ -303,4 +308,4 @@ pub its_answer : {w : Words} {p q : Pass} {me : CallerNo} {c : ChanNo} {s : SelN
 its_answer {w = w} {p = p} {q = q} {me = me} {c = c} {s = s} {k = k} steps here =
     subst (λ (x : SelNo). ((state_seen q).key x.0 k.index).serial ≡ k.serial
     → ((state_seen q).key x.0 k.index).chan ≡ c) (sym here.in_selector)
-    (its_key {w = w} c s (record { index = k.index; serial = k.serial }) steps here.noted)
+    (its_key {w = w} c s (record { index = k.index; serial = k.serial }) steps here.enrolled)

@@ -6,7 +6,7 @@ use Rattle.nio_base.specs.declared.numbers.KeyId.{KeyId}
 use Rattle.nio_base.specs.declared.numbers.KeyNo.{KeyNo}
 use Rattle.nio_base.specs.declared.numbers.SelNo.{SelNo}
 use Rattle.nio_event.specs.Conditions.{IsChannel, holds}
-use Rattle.nio_event.specs.OwnEvents.{has, last, under, finds_unblocked, noted_found, own_claim, is_unpublished}
+use Rattle.nio_event.specs.OwnEvents.{has, last, under, finds_unblocked, enrolled_found, own_claim, is_unpublished}
 use Rattle.nio_event.specs.OwnEvents.{is_clear}
 use Rattle.nio_event.specs.PassViews.{HasKey}
 use Rattle.nio_steps.specs.Names.{key}
@@ -28,20 +28,20 @@ pub record HoldsUnblocked (w : Words) (p : Pass) (me : CallerNo) (c : ChanNo) : 
   pub unblocked : IsTrue (has (finds_unblocked c.0) (under c.0 (acts_seen p me)))
   pub unclosed : IsFalse (found_closed (view w p) me c)
 
--- the key that it found noted for the channel in the selector, if any, it found outside the key set
-pub record MayNote (w : Words) (p : Pass) (me : CallerNo) (c : ChanNo) (s : SelNo) : Type 0 where
+-- the key that it found enrolled for the channel in the selector, if any, it found outside the key set
+pub record MayEnrol (w : Words) (p : Pass) (me : CallerNo) (c : ChanNo) (s : SelNo) : Type 0 where
   pub unblocked : HoldsUnblocked w p me c
   pub clear : IsTrue (is_clear c.0 s.0 (acts_seen p me))
 
--- this key is the last that it found noted there, or noted itself
-abbrev pub KnowsNoted : Pass → CallerNo → ChanNo → SelNo → KeyId → Type 0
-KnowsNoted p me c s k = last (noted_found c.0 s.0) (under c.0 (acts_seen p me)) ≡ Some (Some k)
+-- this key is the last that it found enrolled there, or enrolled itself
+abbrev pub KnowsEnrolled : Pass → CallerNo → ChanNo → SelNo → KeyId → Type 0
+KnowsEnrolled p me c s k = last (enrolled_found c.0 s.0) (under c.0 (acts_seen p me)) ≡ Some (Some k)
 
--- that key is one, and it has a pin on the key's index, and no other
+-- that key was published, and the caller has a pin on the key's index, and no other
 pub record KnowsKey (w : Words) (p : Pass) (me : CallerNo) (c : ChanNo) (s : SelNo) (k : KeyId) : Type 0 where
   pub unblocked : HoldsUnblocked w p me c
   pub pinned : IsPinned w p me s k.index
-  pub noted : KnowsNoted p me c s k
+  pub enrolled : KnowsEnrolled p me c s k
   pub has : HasKey (view w p) (key s k)
 
 -- it claimed the index of this key for the channel, has the pin of the claim, and no other, and hasn't
@@ -51,18 +51,18 @@ pub record HasClaimed (w : Words) (p : Pass) (me : CallerNo) (c : ChanNo) (s : S
   pub claim : own_claim s.0 k.index (acts_seen p me) ≡ Some (record { channel = c; serial = k.serial })
   pub unpublished : IsTrue (is_unpublished s.0 k.index (acts_seen p me))
 
--- it published that key after it noted it for the channel
+-- it published that key after it enrolled it for the channel
 pub record HasPublished (w : Words) (p : Pass) (me : CallerNo) (c : ChanNo) (s : SelNo) (k : KeyId) : Type 0 where
   pub known : KnowsKey w p me c s k
   pub claim : own_claim s.0 k.index (acts_seen p me) ≡ Some (record { channel = c; serial = k.serial })
 
--- the key is one, it is noted for the channel, and where the channel was found closed it is cancelled
+-- the key was published, it is enrolled for the channel, and where the channel was found closed it is cancelled
 pub record HasRegistered (w : Words) (p : Pass) (me : CallerNo) (c : ChanNo) (s : SelNo) (k : KeyNo) : Type 0 where
   pub in_selector : k.sel ≡ s
   pub has : HasKey (view w p) k
-  pub noted : KnowsNoted p me c s (record { index = k.index; serial = k.serial })
+  pub enrolled : KnowsEnrolled p me c s (record { index = k.index; serial = k.serial })
   pub cancelled : IsCancelledWhereClosed (view w p) me c k
 
--- in each of the first n selectors it found no key in the key set that is noted for the channel
+-- in each of the first n selectors it found no key in the key set that is enrolled for the channel
 abbrev pub IsClearBelow : Pass → CallerNo → ChanNo → ℕ → Type 0
 IsClearBelow p me c n = (s : ℕ) → s < n → IsTrue (is_clear c.0 s (acts_seen p me))

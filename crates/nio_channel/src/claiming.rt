@@ -3,12 +3,14 @@ ghost use Rattle.std.specs.Prelude.{◌≡◌, ◌+◌, ◌*◌, ◌<◌, ◌≤
 ghost use Rattle.nio_event.specs.Conditions.{AllClaimed, IsKey, IsSelector, has_taken};
 ghost use Rattle.nio_event.specs.PassViews.{HasNoPin};
 ghost use Rattle.nio_steps.specs.Calls.{CallClause};
-ghost use Rattle.nio_steps.specs.ChannelCalls.{claim_taken as claims_taken, claim_free as claims_free, claim_at_bit, claim_in_word, search_free as searches_free, words_below as count_words_below, claim_new as claims_new};
+ghost use Rattle.nio_steps.specs.ChannelCalls.{claim_taken as claims_taken, claim_free as claims_free, claim_at_bit};
+ghost use Rattle.nio_steps.specs.ChannelCalls.{claim_in_word, search_free as searches_free};
+ghost use Rattle.nio_steps.specs.ChannelCalls.{words_below as count_words_below, claim_new as claims_new};
 ghost use Rattle.nio_steps.specs.Runs.{Completes};
 ghost use Rattle.nio_steps.specs.Sweeps.{seek_to};
 ghost use Rattle.nio_words.specs.Passes.{limits_of, state_seen};
 ghost use Rattle.nio_words.specs.Views.{view};
-ghost use Rattle.nio_channel.specs.Held.{MayNote, HasClaimed};
+ghost use Rattle.nio_channel.specs.Held.{MayEnrol, HasClaimed};
 
 use nio_base::{CallerNo, ChanNo, KeyId, SelNo};
 use nio_steps::has_bit;
@@ -23,12 +25,13 @@ pub(crate) fn search_free(
     chan: ChanNo,
     mark: u32,
 ) -> Option<KeyId>
-    requires may { MayNote w.now p.old me chan sel }
+    requires may { MayEnrol w.now p.old me chan sel }
     requires selector { IsSelector (limits_of w.now) sel }
     requires mark { mark ≤ (limits_of w.now).keys }
     requires unpinned { HasNoPin (view w.now p.old) me }
-    ensures call { CallClause me (Completes (searches_free sel chan mark)) (view w.now p.old) (view w.now p.new) result }
-    ensures may { MayNote w.now p.new me chan sel }
+    ensures call { CallClause me (Completes (searches_free sel chan mark))
+        (view w.now p.old) (view w.now p.new) result }
+    ensures may { MayEnrol w.now p.new me chan sel }
     ensures unpinned { result ≡ None → HasNoPin (view w.now p.new) me }
     ensures claimed { IfSome result (HasClaimed w.now p.new me chan sel) }
 {
@@ -58,13 +61,14 @@ fn search_word(
     mark: u32,
     j: u32,
 ) -> Option<KeyId>
-    requires may { MayNote w.now p.old me chan sel }
+    requires may { MayEnrol w.now p.old me chan sel }
     requires selector { IsSelector (limits_of w.now) sel }
     requires mark { mark ≤ (limits_of w.now).keys }
     requires below { 64 * j < mark }
     requires unpinned { HasNoPin (view w.now p.old) me }
-    ensures call { CallClause me (Completes (claim_in_word sel chan mark j)) (view w.now p.old) (view w.now p.new) result }
-    ensures may { MayNote w.now p.new me chan sel }
+    ensures call { CallClause me (Completes (claim_in_word sel chan mark j))
+        (view w.now p.old) (view w.now p.new) result }
+    ensures may { MayEnrol w.now p.new me chan sel }
     ensures unpinned { result ≡ None → HasNoPin (view w.now p.new) me }
     ensures claimed { IfSome result (HasClaimed w.now p.new me chan sel) }
 {
@@ -86,13 +90,14 @@ fn search_bits(
     j: u32,
     word: u64,
 ) -> Option<KeyId>
-    requires may { MayNote w.now p.old me chan sel }
+    requires may { MayEnrol w.now p.old me chan sel }
     requires selector { IsSelector (limits_of w.now) sel }
     requires mark { mark ≤ (limits_of w.now).keys }
     requires below { 64 * j < mark }
     requires unpinned { HasNoPin (view w.now p.old) me }
-    ensures call { CallClause me (Completes (seek_to 64 0 (claim_at_bit sel chan mark j word))) (view w.now p.old) (view w.now p.new) result }
-    ensures may { MayNote w.now p.new me chan sel }
+    ensures call { CallClause me (Completes (seek_to 64 0 (claim_at_bit sel chan mark j word)))
+        (view w.now p.old) (view w.now p.new) result }
+    ensures may { MayEnrol w.now p.new me chan sel }
     ensures unpinned { result ≡ None → HasNoPin (view w.now p.new) me }
     ensures claimed { IfSome result (HasClaimed w.now p.new me chan sel) }
 {
@@ -115,14 +120,15 @@ fn claim_bit(
     word: u64,
     b: u32,
 ) -> Option<KeyId>
-    requires may { MayNote w.now p.old me chan sel }
+    requires may { MayEnrol w.now p.old me chan sel }
     requires selector { IsSelector (limits_of w.now) sel }
     requires mark { mark ≤ (limits_of w.now).keys }
     requires below { 64 * j < mark }
     requires bit { b < 64 }
     requires unpinned { HasNoPin (view w.now p.old) me }
-    ensures call { CallClause me (Completes (claim_at_bit sel chan mark j word b)) (view w.now p.old) (view w.now p.new) result }
-    ensures may { MayNote w.now p.new me chan sel }
+    ensures call { CallClause me (Completes (claim_at_bit sel chan mark j word b))
+        (view w.now p.old) (view w.now p.new) result }
+    ensures may { MayEnrol w.now p.new me chan sel }
     ensures unpinned { result ≡ None → HasNoPin (view w.now p.new) me }
     ensures claimed { IfSome result (HasClaimed w.now p.new me chan sel) }
 {
@@ -143,11 +149,11 @@ fn claim_free(
     chan: ChanNo,
     i: u32,
 ) -> Option<KeyId>
-    requires may { MayNote w.now p.old me chan sel }
+    requires may { MayEnrol w.now p.old me chan sel }
     requires key { IsKey (limits_of w.now) sel i }
     requires unpinned { HasNoPin (view w.now p.old) me }
     ensures call { CallClause me (Completes (claims_free sel chan i)) (view w.now p.old) (view w.now p.new) result }
-    ensures may { MayNote w.now p.new me chan sel }
+    ensures may { MayEnrol w.now p.new me chan sel }
     ensures unpinned { result ≡ None → HasNoPin (view w.now p.new) me }
     ensures claimed { IfSome result (HasClaimed w.now p.new me chan sel) }
 {
@@ -167,12 +173,12 @@ fn claim_taken(
     chan: ChanNo,
     i: u32,
 ) -> Option<KeyId>
-    requires may { MayNote w.now p.old me chan sel }
+    requires may { MayEnrol w.now p.old me chan sel }
     requires key { IsKey (limits_of w.now) sel i }
     requires taken { IsTrue (has_taken (state_seen p.old) me sel i) }
     requires unpinned { HasNoPin (view w.now p.old) me }
     ensures call { CallClause me (Completes (claims_taken sel chan i)) (view w.now p.old) (view w.now p.new) result }
-    ensures may { MayNote w.now p.new me chan sel }
+    ensures may { MayEnrol w.now p.new me chan sel }
     ensures unpinned { result ≡ None → HasNoPin (view w.now p.new) me }
     ensures claimed { IfSome result (HasClaimed w.now p.new me chan sel) }
 {
@@ -197,12 +203,13 @@ pub(crate) fn claim_first(
     chan: ChanNo,
     mark: u32,
 ) -> Option<KeyId>
-    requires may { MayNote w.now p.old me chan sel }
+    requires may { MayEnrol w.now p.old me chan sel }
     requires selector { IsSelector (limits_of w.now) sel }
     requires lower { AllClaimed (state_seen p.old) sel mark }
     requires unpinned { HasNoPin (view w.now p.old) me }
-    ensures call { CallClause me (Completes (seek_to (limits_of w.now).keys mark (claims_new sel chan))) (view w.now p.old) (view w.now p.new) result }
-    ensures may { MayNote w.now p.new me chan sel }
+    ensures call { CallClause me (Completes (seek_to (limits_of w.now).keys mark (claims_new sel chan)))
+        (view w.now p.old) (view w.now p.new) result }
+    ensures may { MayEnrol w.now p.new me chan sel }
     ensures unpinned { result ≡ None → HasNoPin (view w.now p.new) me }
     ensures claimed { IfSome result (HasClaimed w.now p.new me chan sel) }
     ensures lower { IfSome result (λ k. AllClaimed (state_seen p.new) sel (k.index + 1)) }
@@ -224,12 +231,12 @@ fn claim_new(
     chan: ChanNo,
     i: u32,
 ) -> Option<KeyId>
-    requires may { MayNote w.now p.old me chan sel }
+    requires may { MayEnrol w.now p.old me chan sel }
     requires key { IsKey (limits_of w.now) sel i }
     requires lower { AllClaimed (state_seen p.old) sel i }
     requires unpinned { HasNoPin (view w.now p.old) me }
     ensures call { CallClause me (Completes (claims_new sel chan i)) (view w.now p.old) (view w.now p.new) result }
-    ensures may { MayNote w.now p.new me chan sel }
+    ensures may { MayEnrol w.now p.new me chan sel }
     ensures unpinned { result ≡ None → HasNoPin (view w.now p.new) me }
     ensures claimed { IfSome result (HasClaimed w.now p.new me chan sel) }
     ensures lower { AllClaimed (state_seen p.new) sel (i + 1) }

@@ -3,14 +3,14 @@ ghost use Rattle.std.specs.Prelude.{IfSome, IsTrue, [], ◌∷◌};
 ghost use Rattle.nio_event.specs.Conditions.{IsChannel, IsSelector, IsKey, is_claimed};
 ghost use Rattle.nio_event.specs.PassViews.{HasChannel, HasNoPin, known};
 ghost use Rattle.nio_steps.specs.Calls.{CallClause};
-ghost use Rattle.nio_steps.specs.ChannelCalls.{cancel_at, cancel_noted, cancel_keys, close_channel_plan};
+ghost use Rattle.nio_steps.specs.ChannelCalls.{cancel_at, cancel_enrolled, cancel_keys, close_channel_plan};
 ghost use Rattle.nio_steps.specs.KeyCalls.{cancel_present};
 ghost use Rattle.nio_steps.specs.Names.{key};
 ghost use Rattle.nio_steps.specs.Runs.{Completes};
 ghost use Rattle.nio_words.specs.Passes.{IsReady, limits_of, state_seen};
 ghost use Rattle.nio_words.specs.Views.{view, IsPinned};
 
-use crate::keys::look_noted;
+use crate::keys::look_enrolled;
 use nio_base::{CallerNo, ChanNo, KeyId, SelNo};
 use nio_event::Stage;
 use nio_words::{Pass, Words};
@@ -22,7 +22,8 @@ pub fn close_channel(w: &Words, p: &mut Pass, me: CallerNo, chan: ChanNo) -> boo
     requires ready { IsReady w.now p.old me }
     requires channel { HasChannel (view w.now p.old) chan }
     requires unpinned { HasNoPin (view w.now p.old) me }
-    ensures call { CallClause me (Completes (close_channel_plan (limits_of w.now) chan)) (view w.now p.old) (view w.now p.new) result }
+    ensures call { CallClause me (Completes (close_channel_plan (limits_of w.now) chan))
+        (view w.now p.old) (view w.now p.new) result }
     ensures ready { IsReady w.now p.new me }
     ensures closed { IsTrue ((known (view w.now p.new)).chan chan.0).closed }
     ensures unpinned { HasNoPin (view w.now p.new) me }
@@ -38,7 +39,8 @@ fn cancel_all(w: &Words, p: &mut Pass, me: CallerNo, chan: ChanNo) -> bool
     requires ready { IsReady w.now p.old me }
     requires channel { IsChannel (limits_of w.now) chan }
     requires unpinned { HasNoPin (view w.now p.old) me }
-    ensures call { CallClause me (Completes (cancel_keys (limits_of w.now) chan)) (view w.now p.old) (view w.now p.new) result }
+    ensures call { CallClause me (Completes (cancel_keys (limits_of w.now) chan))
+        (view w.now p.old) (view w.now p.new) result }
     ensures ready { IsReady w.now p.new me }
     ensures unpinned { HasNoPin (view w.now p.new) me }
 {
@@ -48,17 +50,17 @@ fn cancel_all(w: &Words, p: &mut Pass, me: CallerNo, chan: ChanNo) -> bool
     true
 }
 
-// Cancels the channel's key in the selector, where one is noted.
+// Cancels the channel's key in the selector, where one is enrolled.
 fn cancel_in(w: &Words, p: &mut Pass, me: CallerNo, chan: ChanNo, sel: SelNo)
     requires ready { IsReady w.now p.old me }
     requires channel { IsChannel (limits_of w.now) chan }
     requires selector { IsSelector (limits_of w.now) sel }
     requires unpinned { HasNoPin (view w.now p.old) me }
-    ensures call { CallClause me (Completes (cancel_noted chan sel.0)) (view w.now p.old) (view w.now p.new) result }
+    ensures call { CallClause me (Completes (cancel_enrolled chan sel.0)) (view w.now p.old) (view w.now p.new) result }
     ensures ready { IsReady w.now p.new me }
     ensures unpinned { HasNoPin (view w.now p.new) me }
 {
-    if let Some(k) = look_noted(w, p, me, chan, sel) {
+    if let Some(k) = look_enrolled(w, p, me, chan, sel) {
         cancel(w, p, me, sel, k);
     }
 }
@@ -79,7 +81,8 @@ pub(crate) fn cancel(w: &Words, p: &mut Pass, me: CallerNo, sel: SelNo, k: KeyId
 
 fn cancel_pinned(w: &Words, p: &mut Pass, me: CallerNo, sel: SelNo, k: KeyId, stage: Stage)
     requires { IsPinned w.now p.old me sel k.index }
-    ensures call { CallClause me (Completes (cancel_present (key sel k) stage)) (view w.now p.old) (view w.now p.new) result }
+    ensures call { CallClause me (Completes (cancel_present (key sel k) stage))
+        (view w.now p.old) (view w.now p.new) result }
     ensures pinned { IsPinned w.now p.new me sel k.index }
 {
     if stage.fits(k.serial) && !stage.removed {

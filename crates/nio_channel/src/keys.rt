@@ -31,7 +31,8 @@ pub fn key_for(w: &Words, p: &mut Pass, me: CallerNo, chan: ChanNo, sel: SelNo) 
 pub fn is_registered(w: &Words, p: &mut Pass, me: CallerNo, chan: ChanNo) -> bool
     requires ready { IsReady w.now p.old me }
     requires channel { HasChannel (view w.now p.old) chan }
-    ensures call { CallClause me (Completes (is_registered_plan (limits_of w.now) chan)) (view w.now p.old) (view w.now p.new) result }
+    ensures call { CallClause me (Completes (is_registered_plan (limits_of w.now) chan))
+        (view w.now p.old) (view w.now p.new) result }
     ensures ready { IsReady w.now p.new me }
 {
     let mut registered = false;
@@ -53,7 +54,8 @@ fn is_registered_in(
     requires ready { IsReady w.now p.old me }
     requires channel { IsChannel (limits_of w.now) chan }
     requires selector { IsSelector (limits_of w.now) sel }
-    ensures call { CallClause me (Completes (registered_or chan sel.0 before)) (view w.now p.old) (view w.now p.new) result }
+    ensures call { CallClause me (Completes (registered_or chan sel.0 before))
+        (view w.now p.old) (view w.now p.new) result }
     ensures ready { IsReady w.now p.new me }
 {
     let here = key_in(w, p, me, chan, sel);
@@ -79,7 +81,7 @@ pub(crate) fn key_in(
     ensures held { HoldsChannel w.now p.old me chan → HoldsChannel w.now p.new me chan }
     ensures clear { result ≡ None → IsClearBelow p.old me chan sel.0 → IsClearBelow p.new me chan (sel.0 + 1) }
 {
-    let Some(k) = look_noted(w, p, me, chan, sel) else {
+    let Some(k) = look_enrolled(w, p, me, chan, sel) else {
         return None;
     };
     let stage = w.look_key(p, me, sel, k.index);
@@ -94,8 +96,8 @@ pub(crate) fn key_in(
     }
 }
 
-// Looks at which key is noted for the channel in the selector. Its index is claimed.
-pub(crate) fn look_noted(
+// Looks at which key is enrolled for the channel in the selector. Its index is claimed.
+pub(crate) fn look_enrolled(
     w: &Words,
     p: &mut Pass,
     me: CallerNo,

@@ -2,7 +2,9 @@
 ghost use Rattle.std.specs.Prelude.{◌≡◌, if◌then◌else◌, None, IsTrue};
 ghost use Rattle.nio_event.specs.PassViews.{HasChannel};
 ghost use Rattle.nio_steps.specs.Calls.{CallClause};
-ghost use Rattle.nio_steps.specs.ChannelCalls.{first_key as finds_first_key, key_where_blocking, set_mode_clear as sets_mode_clear, set_mode_open as sets_mode_open, set_mode_held as sets_mode_held, try_set_blocking_plan};
+ghost use Rattle.nio_steps.specs.ChannelCalls.{first_key as finds_first_key, key_where_blocking};
+ghost use Rattle.nio_steps.specs.ChannelCalls.{set_mode_clear as sets_mode_clear, set_mode_open as sets_mode_open};
+ghost use Rattle.nio_steps.specs.ChannelCalls.{set_mode_held as sets_mode_held, try_set_blocking_plan};
 ghost use Rattle.nio_steps.specs.Runs.{Completes};
 ghost use Rattle.nio_words.specs.Passes.{IsReady, limits_of};
 ghost use Rattle.nio_words.specs.Views.{view};
@@ -25,7 +27,8 @@ pub fn try_set_blocking(
 ) -> Result<(), ChannelError>
     requires ready { IsReady w.now p.old me }
     requires channel { HasChannel (view w.now p.old) chan }
-    ensures call { CallClause me (Completes (try_set_blocking_plan (limits_of w.now) chan on)) (view w.now p.old) (view w.now p.new) result }
+    ensures call { CallClause me (Completes (try_set_blocking_plan (limits_of w.now) chan on))
+        (view w.now p.old) (view w.now p.new) result }
     ensures ready { IsReady w.now p.new me }
 {
     if w.look_channel(p, me, chan).closed {
@@ -47,7 +50,8 @@ fn set_mode_held(
     on: bool,
 ) -> Result<(), ChannelError>
     requires { HoldsChannel w.now p.old me chan }
-    ensures call { CallClause me (Completes (sets_mode_held (limits_of w.now) chan on)) (view w.now p.old) (view w.now p.new) result }
+    ensures call { CallClause me (Completes (sets_mode_held (limits_of w.now) chan on))
+        (view w.now p.old) (view w.now p.new) result }
     ensures held { HoldsChannel w.now p.new me chan }
 {
     if w.look_channel(p, me, chan).closed {
@@ -64,7 +68,8 @@ fn set_mode_open(
     on: bool,
 ) -> Result<(), ChannelError>
     requires { HoldsChannel w.now p.old me chan }
-    ensures call { CallClause me (Completes (sets_mode_open (limits_of w.now) chan on)) (view w.now p.old) (view w.now p.new) result }
+    ensures call { CallClause me (Completes (sets_mode_open (limits_of w.now) chan on))
+        (view w.now p.old) (view w.now p.new) result }
     ensures held { HoldsChannel w.now p.new me chan }
 {
     let registered = key_if_blocking(w, p, me, chan, on);
@@ -74,7 +79,8 @@ fn set_mode_open(
 // A key of the channel, where `on` asks for blocking mode, which a registered channel can't have.
 fn key_if_blocking(w: &Words, p: &mut Pass, me: CallerNo, chan: ChanNo, on: bool) -> Option<KeyNo>
     requires { HoldsChannel w.now p.old me chan }
-    ensures call { CallClause me (Completes (key_where_blocking (limits_of w.now) chan on)) (view w.now p.old) (view w.now p.new) result }
+    ensures call { CallClause me (Completes (key_where_blocking (limits_of w.now) chan on))
+        (view w.now p.old) (view w.now p.new) result }
     ensures held { HoldsChannel w.now p.new me chan }
     ensures clear { result ≡ None → IsTrue on → IsClearBelow p.new me chan (limits_of w.now).selectors }
 {
@@ -84,7 +90,8 @@ fn key_if_blocking(w: &Words, p: &mut Pass, me: CallerNo, chan: ChanNo, on: bool
 // A key of the channel, in the first selector in which it has one.
 fn first_key(w: &Words, p: &mut Pass, me: CallerNo, chan: ChanNo) -> Option<KeyNo>
     requires { HoldsChannel w.now p.old me chan }
-    ensures call { CallClause me (Completes (finds_first_key (limits_of w.now) chan)) (view w.now p.old) (view w.now p.new) result }
+    ensures call { CallClause me (Completes (finds_first_key (limits_of w.now) chan))
+        (view w.now p.old) (view w.now p.new) result }
     ensures held { HoldsChannel w.now p.new me chan }
     ensures clear { result ≡ None → IsClearBelow p.new me chan (limits_of w.now).selectors }
 {
@@ -106,7 +113,8 @@ fn set_mode_clear(
 ) -> Result<(), ChannelError>
     requires held { HoldsChannel w.now p.old me chan }
     requires clear { registered ≡ None → IsTrue on → IsClearBelow p.old me chan (limits_of w.now).selectors }
-    ensures call { CallClause me (Completes (sets_mode_clear chan on registered)) (view w.now p.old) (view w.now p.new) result }
+    ensures call { CallClause me (Completes (sets_mode_clear chan on registered))
+        (view w.now p.old) (view w.now p.new) result }
     ensures held { HoldsChannel w.now p.new me chan }
 {
     if registered.is_some() {

@@ -23,20 +23,22 @@ pub fn open_channel(
     kind: Kind,
 ) -> Result<ChanNo, ChannelError>
     requires ready { IsReady w.now p.old me }
-    ensures call { CallClause me (Completes (open_channel_plan (limits_of w.now) kind)) (view w.now p.old) (view w.now p.new) result }
+    ensures call { CallClause me (Completes (open_channel_plan (limits_of w.now) kind))
+        (view w.now p.old) (view w.now p.new) result }
     ensures ready { IsReady w.now p.new me }
     ensures made { IfOk result (HasChannel (view w.now p.new)) }
 {
     let mark = w.look_channels(p, me);
     let made = make_from(w, p, me, kind, mark);
-    raise_mark(w, p, me, made)
+    raise_high(w, p, me, made)
 }
 
 // Makes the first channel from `mark` on that isn't made.
 fn make_from(w: &Words, p: &mut Pass, me: CallerNo, kind: Kind, mark: u32) -> Option<ChanNo>
     requires ready { IsReady w.now p.old me }
     requires lower { AllMade (state_seen p.old) mark }
-    ensures call { CallClause me (Completes (seek_to (limits_of w.now).channels mark (λ n. makes_channel kind (channel n)))) (view w.now p.old) (view w.now p.new) result }
+    ensures call { CallClause me (Completes (seek_to (limits_of w.now).channels mark
+        (λ n. makes_channel kind (channel n)))) (view w.now p.old) (view w.now p.new) result }
     ensures ready { IsReady w.now p.new me }
     ensures inside { IfSome result (IsChannel (limits_of w.now)) }
     ensures lower { IfSome result (λ chan. AllMade (state_seen p.new) (chan.0 + 1)) }
@@ -65,7 +67,7 @@ fn make(w: &Words, p: &mut Pass, me: CallerNo, kind: Kind, chan: ChanNo) -> Opti
     }
 }
 
-fn raise_mark(
+fn raise_high(
     w: &Words,
     p: &mut Pass,
     me: CallerNo,

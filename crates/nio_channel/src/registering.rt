@@ -1,20 +1,29 @@
 //! Registering a channel with a selector.
 ghost use Rattle.std.specs.Prelude.{◌≡◌, ◌+◌, ◌≤◌, Some, None, IfSome, IfOk, IsTrue, IsFalse};
 ghost use Rattle.nio_event.specs.Conditions.{AllClaimed, IsKey, IsSelector, is_claimed};
-ghost use Rattle.nio_event.specs.OwnEvents.{last, noted_found, under};
+ghost use Rattle.nio_event.specs.OwnEvents.{last, enrolled_found, under};
 ghost use Rattle.nio_event.specs.PassViews.{HasChannel, HasKey, HasNoPin, HasSelector};
 ghost use Rattle.nio_event.specs.Sets.{is_in_key_set as is_in_set};
 ghost use Rattle.nio_steps.specs.Calls.{CallClause};
-ghost use Rattle.nio_steps.specs.ChannelCalls.{update_key as updates_key, register_noted as registers_noted, register_unnoted as registers_unnoted, register_over as registers_over, settle_key as settles_key, publish_key as publishes_key, make_key as makes_key, make_claimed as makes_claimed, register_first as registers_first, register_again as registers_again, register_next as registers_next, register_new as registers_new, register_rest as registers_rest, register_unblocked as registers_unblocked, register_held as registers_held, try_register_plan};
+ghost use Rattle.nio_steps.specs.ChannelCalls.{update_key as updates_key, register_enrolled as registers_enrolled};
+ghost use Rattle.nio_steps.specs.ChannelCalls.{register_unenrolled as registers_unenrolled};
+ghost use Rattle.nio_steps.specs.ChannelCalls.{register_over as registers_over, settle_key as settles_key};
+ghost use Rattle.nio_steps.specs.ChannelCalls.{publish_key as publishes_key, make_key as makes_key};
+ghost use Rattle.nio_steps.specs.ChannelCalls.{make_claimed as makes_claimed, register_first as registers_first};
+ghost use Rattle.nio_steps.specs.ChannelCalls.{register_again as registers_again, register_next as registers_next};
+ghost use Rattle.nio_steps.specs.ChannelCalls.{register_new as registers_new, register_rest as registers_rest};
+ghost use Rattle.nio_steps.specs.ChannelCalls.{register_unblocked as registers_unblocked};
+ghost use Rattle.nio_steps.specs.ChannelCalls.{register_held as registers_held, try_register_plan};
 ghost use Rattle.nio_steps.specs.Names.{key};
 ghost use Rattle.nio_steps.specs.Runs.{Completes};
 ghost use Rattle.nio_words.specs.Passes.{IsReady, acts_seen, limits_of, state_seen};
 ghost use Rattle.nio_words.specs.Views.{view, IsPinned};
-ghost use Rattle.nio_channel.specs.Held.{HoldsChannel, HoldsUnblocked, MayNote, KnowsNoted, KnowsKey, HasClaimed, HasPublished, HasRegistered};
+ghost use Rattle.nio_channel.specs.Held.{HoldsChannel, HoldsUnblocked, MayEnrol, KnowsEnrolled, KnowsKey, HasClaimed};
+ghost use Rattle.nio_channel.specs.Held.{HasPublished, HasRegistered};
 ghost use Rattle.nio_channel.specs.Registered.{found_closed, IsKeyOf, IsCancelledWhereClosed};
 
 use crate::claiming::{claim_first, search_free};
-use crate::keys::look_noted;
+use crate::keys::look_enrolled;
 use nio_base::{CallerNo, ChanNo, KeyId, KeyNo, Ops, SelNo};
 use nio_event::Stage;
 use nio_steps::{ChannelError, supports};
@@ -49,7 +58,8 @@ pub fn try_register(
     requires selector { HasSelector (view w.now p.old) sel }
     requires channel { HasChannel (view w.now p.old) chan }
     requires unpinned { HasNoPin (view w.now p.old) me }
-    ensures call { CallClause me (Completes (try_register_plan (limits_of w.now) sel chan ops att)) (view w.now p.old) (view w.now p.new) result }
+    ensures call { CallClause me (Completes (try_register_plan (limits_of w.now) sel chan ops att))
+        (view w.now p.old) (view w.now p.new) result }
     ensures ready { IsReady w.now p.new me }
     ensures in_selector { IfOk result (λ k. k.sel ≡ sel) }
     ensures key { IfOk result (HasKey (view w.now p.new)) }
@@ -88,7 +98,8 @@ fn register_held(
     requires unclosed { IsFalse (found_closed (view w.now p.old) me wanted.now.chan) }
     requires selector { IsSelector (limits_of w.now) wanted.now.sel }
     requires unpinned { HasNoPin (view w.now p.old) me }
-    ensures call { CallClause me (Completes (registers_held (limits_of w.now) wanted.now.sel wanted.now.chan wanted.now.ops wanted.now.att)) (view w.now p.old) (view w.now p.new) result }
+    ensures call { CallClause me (Completes (registers_held (limits_of w.now) wanted.now.sel wanted.now.chan
+        wanted.now.ops wanted.now.att)) (view w.now p.old) (view w.now p.new) result }
     ensures held { HoldsChannel w.now p.new me wanted.now.chan }
     ensures registered { IfOk result (HasRegistered w.now p.new me wanted.now.chan wanted.now.sel) }
     ensures unpinned { HasNoPin (view w.now p.new) me }
@@ -112,13 +123,14 @@ fn register_unblocked(
     requires unblocked { HoldsUnblocked w.now p.old me wanted.now.chan }
     requires selector { IsSelector (limits_of w.now) wanted.now.sel }
     requires unpinned { HasNoPin (view w.now p.old) me }
-    ensures call { CallClause me (Completes (registers_unblocked (limits_of w.now) wanted.now.sel wanted.now.chan wanted.now.ops wanted.now.att)) (view w.now p.old) (view w.now p.new) result }
+    ensures call { CallClause me (Completes (registers_unblocked (limits_of w.now) wanted.now.sel wanted.now.chan
+        wanted.now.ops wanted.now.att)) (view w.now p.old) (view w.now p.new) result }
     ensures held { HoldsChannel w.now p.new me wanted.now.chan }
     ensures registered { IfOk result (HasRegistered w.now p.new me wanted.now.chan wanted.now.sel) }
     ensures unpinned { HasNoPin (view w.now p.new) me }
 {
-    let noted = look_noted(w, p, me, wanted.chan, wanted.sel);
-    let over = register_over(w, p, me, wanted, noted);
+    let enrolled = look_enrolled(w, p, me, wanted.chan, wanted.sel);
+    let over = register_over(w, p, me, wanted, enrolled);
     register_rest(w, p, me, wanted, over)
 }
 
@@ -129,38 +141,43 @@ fn register_over(
     p: &mut Pass,
     me: CallerNo,
     wanted: &Wanted,
-    noted: Option<KeyId>,
+    enrolled: Option<KeyId>,
 ) -> Option<Result<KeyNo, ChannelError>>
     requires unblocked { HoldsUnblocked w.now p.old me wanted.now.chan }
-    requires told { last (noted_found wanted.now.chan.0 wanted.now.sel.0) (under wanted.now.chan.0 (acts_seen p.old me)) ≡ Some noted }
+    requires told { last (enrolled_found wanted.now.chan.0 wanted.now.sel.0)
+        (under wanted.now.chan.0 (acts_seen p.old me)) ≡ Some enrolled }
     requires selector { IsSelector (limits_of w.now) wanted.now.sel }
-    requires inside { IfSome noted (λ k. IsKey (limits_of w.now) wanted.now.sel k.index) }
-    requires claimed { IfSome noted (λ k. IsTrue (is_claimed (state_seen p.old) wanted.now.sel k.index)) }
+    requires inside { IfSome enrolled (λ k. IsKey (limits_of w.now) wanted.now.sel k.index) }
+    requires claimed { IfSome enrolled (λ k. IsTrue (is_claimed (state_seen p.old) wanted.now.sel k.index)) }
     requires unpinned { HasNoPin (view w.now p.old) me }
-    ensures call { CallClause me (Completes (registers_over wanted.now.sel wanted.now.ops wanted.now.att noted)) (view w.now p.old) (view w.now p.new) result }
+    ensures call { CallClause me (Completes (registers_over wanted.now.sel wanted.now.ops wanted.now.att enrolled))
+        (view w.now p.old) (view w.now p.new) result }
     ensures unblocked { HoldsUnblocked w.now p.new me wanted.now.chan }
-    ensures may { result ≡ None → MayNote w.now p.new me wanted.now.chan wanted.now.sel }
-    ensures registered { IfSome result (λ answer. IfOk answer (HasRegistered w.now p.new me wanted.now.chan wanted.now.sel)) }
+    ensures may { result ≡ None → MayEnrol w.now p.new me wanted.now.chan wanted.now.sel }
+    ensures registered { IfSome result (λ answer. IfOk answer
+        (HasRegistered w.now p.new me wanted.now.chan wanted.now.sel)) }
     ensures unpinned { HasNoPin (view w.now p.new) me }
 {
-    match noted {
+    match enrolled {
         Some(k) => register_known(w, p, me, wanted, k),
-        None => register_unnoted(w, p, me, wanted),
+        None => register_unenrolled(w, p, me, wanted),
     }
 }
 
-fn register_unnoted(
+fn register_unenrolled(
     w: &Words,
     p: &mut Pass,
     me: CallerNo,
     wanted: &Wanted,
 ) -> Option<Result<KeyNo, ChannelError>>
-    requires may { MayNote w.now p.old me wanted.now.chan wanted.now.sel }
+    requires may { MayEnrol w.now p.old me wanted.now.chan wanted.now.sel }
     requires selector { IsSelector (limits_of w.now) wanted.now.sel }
     requires unpinned { HasNoPin (view w.now p.old) me }
-    ensures call { CallClause me (Completes (registers_unnoted wanted.now.sel)) (view w.now p.old) (view w.now p.new) result }
-    ensures may { MayNote w.now p.new me wanted.now.chan wanted.now.sel }
-    ensures registered { IfSome result (λ answer. IfOk answer (HasRegistered w.now p.new me wanted.now.chan wanted.now.sel)) }
+    ensures call { CallClause me (Completes (registers_unenrolled wanted.now.sel))
+        (view w.now p.old) (view w.now p.new) result }
+    ensures may { MayEnrol w.now p.new me wanted.now.chan wanted.now.sel }
+    ensures registered { IfSome result (λ answer. IfOk answer
+        (HasRegistered w.now p.new me wanted.now.chan wanted.now.sel)) }
     ensures unpinned { HasNoPin (view w.now p.new) me }
 {
     if w.look_gate(p, me, wanted.sel).shut {
@@ -178,23 +195,25 @@ fn register_known(
     k: KeyId,
 ) -> Option<Result<KeyNo, ChannelError>>
     requires unblocked { HoldsUnblocked w.now p.old me wanted.now.chan }
-    requires noted { KnowsNoted p.old me wanted.now.chan wanted.now.sel k }
+    requires enrolled { KnowsEnrolled p.old me wanted.now.chan wanted.now.sel k }
     requires inside { IsKey (limits_of w.now) wanted.now.sel k.index }
     requires claimed { IsTrue (is_claimed (state_seen p.old) wanted.now.sel k.index) }
     requires unpinned { HasNoPin (view w.now p.old) me }
-    ensures call { CallClause me (Completes (registers_over wanted.now.sel wanted.now.ops wanted.now.att (Some k))) (view w.now p.old) (view w.now p.new) result }
+    ensures call { CallClause me (Completes (registers_over wanted.now.sel wanted.now.ops wanted.now.att (Some k)))
+        (view w.now p.old) (view w.now p.new) result }
     ensures unblocked { HoldsUnblocked w.now p.new me wanted.now.chan }
-    ensures may { result ≡ None → MayNote w.now p.new me wanted.now.chan wanted.now.sel }
-    ensures registered { IfSome result (λ answer. IfOk answer (HasRegistered w.now p.new me wanted.now.chan wanted.now.sel)) }
+    ensures may { result ≡ None → MayEnrol w.now p.new me wanted.now.chan wanted.now.sel }
+    ensures registered { IfSome result (λ answer. IfOk answer
+        (HasRegistered w.now p.new me wanted.now.chan wanted.now.sel)) }
     ensures unpinned { HasNoPin (view w.now p.new) me }
 {
     let stage = w.pin(p, me, wanted.sel, k.index);
-    let over = register_noted(w, p, me, wanted, k, stage);
+    let over = register_enrolled(w, p, me, wanted, k, stage);
     w.unpin(p, me, wanted.sel, k.index);
     over
 }
 
-fn register_noted(
+fn register_enrolled(
     w: &Words,
     p: &mut Pass,
     me: CallerNo,
@@ -204,13 +223,15 @@ fn register_noted(
 ) -> Option<Result<KeyNo, ChannelError>>
     requires unblocked { HoldsUnblocked w.now p.old me wanted.now.chan }
     requires pinned { IsPinned w.now p.old me wanted.now.sel k.index }
-    requires noted { KnowsNoted p.old me wanted.now.chan wanted.now.sel k }
+    requires enrolled { KnowsEnrolled p.old me wanted.now.chan wanted.now.sel k }
     requires has { IsTrue (is_in_set stage k.serial) → HasKey (view w.now p.old) (key wanted.now.sel k) }
-    requires may { IsFalse (is_in_set stage k.serial) → MayNote w.now p.old me wanted.now.chan wanted.now.sel }
-    ensures call { CallClause me (Completes (registers_noted wanted.now.sel wanted.now.ops wanted.now.att k stage)) (view w.now p.old) (view w.now p.new) result }
+    requires may { IsFalse (is_in_set stage k.serial) → MayEnrol w.now p.old me wanted.now.chan wanted.now.sel }
+    ensures call { CallClause me (Completes (registers_enrolled wanted.now.sel wanted.now.ops wanted.now.att k stage))
+        (view w.now p.old) (view w.now p.new) result }
     ensures unblocked { HoldsUnblocked w.now p.new me wanted.now.chan }
-    ensures may { result ≡ None → MayNote w.now p.new me wanted.now.chan wanted.now.sel }
-    ensures registered { IfSome result (λ answer. IfOk answer (HasRegistered w.now p.new me wanted.now.chan wanted.now.sel)) }
+    ensures may { result ≡ None → MayEnrol w.now p.new me wanted.now.chan wanted.now.sel }
+    ensures registered { IfSome result (λ answer. IfOk answer
+        (HasRegistered w.now p.new me wanted.now.chan wanted.now.sel)) }
     ensures pinned { IsPinned w.now p.new me wanted.now.sel k.index }
 {
     if stage.is_in_key_set(k.serial) && stage.cancelled {
@@ -234,7 +255,8 @@ fn update_key(
     k: KeyId,
 ) -> Result<KeyNo, ChannelError>
     requires { KnowsKey w.now p.old me wanted.now.chan wanted.now.sel k }
-    ensures call { CallClause me (Completes (updates_key wanted.now.sel k wanted.now.ops wanted.now.att)) (view w.now p.old) (view w.now p.new) result }
+    ensures call { CallClause me (Completes (updates_key wanted.now.sel k wanted.now.ops wanted.now.att))
+        (view w.now p.old) (view w.now p.new) result }
     ensures known { KnowsKey w.now p.new me wanted.now.chan wanted.now.sel k }
     ensures its { IfOk result (λ answer. answer ≡ key wanted.now.sel k) }
 {
@@ -259,11 +281,13 @@ fn register_rest(
     over: Option<Result<KeyNo, ChannelError>>,
 ) -> Result<KeyNo, ChannelError>
     requires unblocked { HoldsUnblocked w.now p.old me wanted.now.chan }
-    requires may { over ≡ None → MayNote w.now p.old me wanted.now.chan wanted.now.sel }
-    requires registered { IfSome over (λ answer. IfOk answer (HasRegistered w.now p.old me wanted.now.chan wanted.now.sel)) }
+    requires may { over ≡ None → MayEnrol w.now p.old me wanted.now.chan wanted.now.sel }
+    requires registered { IfSome over (λ answer. IfOk answer
+        (HasRegistered w.now p.old me wanted.now.chan wanted.now.sel)) }
     requires selector { IsSelector (limits_of w.now) wanted.now.sel }
     requires unpinned { HasNoPin (view w.now p.old) me }
-    ensures call { CallClause me (Completes (registers_rest (limits_of w.now) wanted.now.sel wanted.now.chan wanted.now.ops wanted.now.att over)) (view w.now p.old) (view w.now p.new) result }
+    ensures call { CallClause me (Completes (registers_rest (limits_of w.now) wanted.now.sel wanted.now.chan
+        wanted.now.ops wanted.now.att over)) (view w.now p.old) (view w.now p.new) result }
     ensures held { HoldsChannel w.now p.new me wanted.now.chan }
     ensures registered { IfOk result (HasRegistered w.now p.new me wanted.now.chan wanted.now.sel) }
     ensures unpinned { HasNoPin (view w.now p.new) me }
@@ -280,10 +304,11 @@ fn register_new(
     me: CallerNo,
     wanted: &Wanted,
 ) -> Result<KeyNo, ChannelError>
-    requires may { MayNote w.now p.old me wanted.now.chan wanted.now.sel }
+    requires may { MayEnrol w.now p.old me wanted.now.chan wanted.now.sel }
     requires selector { IsSelector (limits_of w.now) wanted.now.sel }
     requires unpinned { HasNoPin (view w.now p.old) me }
-    ensures call { CallClause me (Completes (registers_new (limits_of w.now) wanted.now.sel wanted.now.chan wanted.now.ops wanted.now.att)) (view w.now p.old) (view w.now p.new) result }
+    ensures call { CallClause me (Completes (registers_new (limits_of w.now) wanted.now.sel wanted.now.chan
+        wanted.now.ops wanted.now.att)) (view w.now p.old) (view w.now p.new) result }
     ensures held { HoldsChannel w.now p.new me wanted.now.chan }
     ensures registered { IfOk result (HasRegistered w.now p.new me wanted.now.chan wanted.now.sel) }
     ensures unpinned { HasNoPin (view w.now p.new) me }
@@ -302,12 +327,13 @@ fn register_next(
     mark: u32,
     claimed: Option<KeyId>,
 ) -> Result<KeyNo, ChannelError>
-    requires may { MayNote w.now p.old me wanted.now.chan wanted.now.sel }
+    requires may { MayEnrol w.now p.old me wanted.now.chan wanted.now.sel }
     requires selector { IsSelector (limits_of w.now) wanted.now.sel }
     requires lower { AllClaimed (state_seen p.old) wanted.now.sel mark }
     requires claimed { IfSome claimed (HasClaimed w.now p.old me wanted.now.chan wanted.now.sel) }
     requires unpinned { claimed ≡ None → HasNoPin (view w.now p.old) me }
-    ensures call { CallClause me (Completes (registers_next (limits_of w.now) wanted.now.sel wanted.now.chan wanted.now.ops wanted.now.att mark claimed)) (view w.now p.old) (view w.now p.new) result }
+    ensures call { CallClause me (Completes (registers_next (limits_of w.now) wanted.now.sel wanted.now.chan
+        wanted.now.ops wanted.now.att mark claimed)) (view w.now p.old) (view w.now p.new) result }
     ensures held { HoldsChannel w.now p.new me wanted.now.chan }
     ensures registered { IfOk result (HasRegistered w.now p.new me wanted.now.chan wanted.now.sel) }
     ensures unpinned { HasNoPin (view w.now p.new) me }
@@ -329,9 +355,10 @@ fn register_again(
     wanted: &Wanted,
     k: KeyId,
 ) -> Result<KeyNo, ChannelError>
-    requires may { MayNote w.now p.old me wanted.now.chan wanted.now.sel }
+    requires may { MayEnrol w.now p.old me wanted.now.chan wanted.now.sel }
     requires claimed { HasClaimed w.now p.old me wanted.now.chan wanted.now.sel k }
-    ensures call { CallClause me (Completes (registers_again wanted.now.sel wanted.now.chan wanted.now.ops wanted.now.att k)) (view w.now p.old) (view w.now p.new) result }
+    ensures call { CallClause me (Completes (registers_again wanted.now.sel wanted.now.chan wanted.now.ops
+        wanted.now.att k)) (view w.now p.old) (view w.now p.new) result }
     ensures held { HoldsChannel w.now p.new me wanted.now.chan }
     ensures registered { IfOk result (HasRegistered w.now p.new me wanted.now.chan wanted.now.sel) }
     ensures unpinned { HasNoPin (view w.now p.new) me }
@@ -348,11 +375,12 @@ fn register_first(
     wanted: &Wanted,
     claimed: Option<KeyId>,
 ) -> Result<KeyNo, ChannelError>
-    requires may { MayNote w.now p.old me wanted.now.chan wanted.now.sel }
+    requires may { MayEnrol w.now p.old me wanted.now.chan wanted.now.sel }
     requires claimed { IfSome claimed (HasClaimed w.now p.old me wanted.now.chan wanted.now.sel) }
     requires lower { IfSome claimed (λ k. AllClaimed (state_seen p.old) wanted.now.sel (k.index + 1)) }
     requires unpinned { claimed ≡ None → HasNoPin (view w.now p.old) me }
-    ensures call { CallClause me (Completes (registers_first wanted.now.sel wanted.now.chan wanted.now.ops wanted.now.att claimed)) (view w.now p.old) (view w.now p.new) result }
+    ensures call { CallClause me (Completes (registers_first wanted.now.sel wanted.now.chan wanted.now.ops
+        wanted.now.att claimed)) (view w.now p.old) (view w.now p.new) result }
     ensures held { HoldsChannel w.now p.new me wanted.now.chan }
     ensures registered { IfOk result (HasRegistered w.now p.new me wanted.now.chan wanted.now.sel) }
     ensures unpinned { HasNoPin (view w.now p.new) me }
@@ -372,9 +400,10 @@ fn make_claimed(
     wanted: &Wanted,
     k: KeyId,
 ) -> Result<KeyNo, ChannelError>
-    requires may { MayNote w.now p.old me wanted.now.chan wanted.now.sel }
+    requires may { MayEnrol w.now p.old me wanted.now.chan wanted.now.sel }
     requires claimed { HasClaimed w.now p.old me wanted.now.chan wanted.now.sel k }
-    ensures call { CallClause me (Completes (makes_claimed wanted.now.sel wanted.now.chan wanted.now.ops wanted.now.att k)) (view w.now p.old) (view w.now p.new) result }
+    ensures call { CallClause me (Completes (makes_claimed wanted.now.sel wanted.now.chan wanted.now.ops wanted.now.att
+        k)) (view w.now p.old) (view w.now p.new) result }
     ensures held { HoldsChannel w.now p.new me wanted.now.chan }
     ensures registered { IfOk result (HasRegistered w.now p.new me wanted.now.chan wanted.now.sel) }
     ensures unpinned { HasNoPin (view w.now p.new) me }
@@ -391,9 +420,10 @@ fn make_key(
     wanted: &Wanted,
     k: KeyId,
 ) -> Result<KeyNo, ChannelError>
-    requires may { MayNote w.now p.old me wanted.now.chan wanted.now.sel }
+    requires may { MayEnrol w.now p.old me wanted.now.chan wanted.now.sel }
     requires claimed { HasClaimed w.now p.old me wanted.now.chan wanted.now.sel k }
-    ensures call { CallClause me (Completes (makes_key wanted.now.sel wanted.now.chan wanted.now.ops wanted.now.att k)) (view w.now p.old) (view w.now p.new) result }
+    ensures call { CallClause me (Completes (makes_key wanted.now.sel wanted.now.chan wanted.now.ops wanted.now.att k))
+        (view w.now p.old) (view w.now p.new) result }
     ensures held { HoldsChannel w.now p.new me wanted.now.chan }
     ensures registered { IfOk result (HasRegistered w.now p.new me wanted.now.chan wanted.now.sel) }
     ensures pinned { IsPinned w.now p.new me wanted.now.sel k.index }
@@ -404,7 +434,7 @@ fn make_key(
     publish_key(w, p, me, wanted, k)
 }
 
-// The key's parts are set before it is noted, and it is noted before it is published.
+// The key's parts are set before it is enrolled, and it is enrolled before it is published.
 fn publish_key(
     w: &Words,
     p: &mut Pass,
@@ -412,9 +442,10 @@ fn publish_key(
     wanted: &Wanted,
     k: KeyId,
 ) -> Result<KeyNo, ChannelError>
-    requires may { MayNote w.now p.old me wanted.now.chan wanted.now.sel }
+    requires may { MayEnrol w.now p.old me wanted.now.chan wanted.now.sel }
     requires claimed { HasClaimed w.now p.old me wanted.now.chan wanted.now.sel k }
-    ensures call { CallClause me (Completes (publishes_key wanted.now.sel wanted.now.chan wanted.now.ops wanted.now.att k)) (view w.now p.old) (view w.now p.new) result }
+    ensures call { CallClause me (Completes (publishes_key wanted.now.sel wanted.now.chan wanted.now.ops wanted.now.att
+        k)) (view w.now p.old) (view w.now p.new) result }
     ensures held { HoldsChannel w.now p.new me wanted.now.chan }
     ensures registered { IfOk result (HasRegistered w.now p.new me wanted.now.chan wanted.now.sel) }
     ensures pinned { IsPinned w.now p.new me wanted.now.sel k.index }
@@ -429,8 +460,8 @@ fn publish_key(
     settle_key(w, p, me, wanted, k)
 }
 
-// Whoever closes the channel cancels the key that it finds noted. Where the channel was closed before the key
-// was noted, this look finds it closed.
+// Whoever closes the channel cancels the key that it finds enrolled. Where the channel was closed before the key
+// was enrolled, this look finds it closed.
 fn settle_key(
     w: &Words,
     p: &mut Pass,
@@ -439,7 +470,8 @@ fn settle_key(
     k: KeyId,
 ) -> Result<KeyNo, ChannelError>
     requires { HasPublished w.now p.old me wanted.now.chan wanted.now.sel k }
-    ensures call { CallClause me (Completes (settles_key wanted.now.sel wanted.now.chan k)) (view w.now p.old) (view w.now p.new) result }
+    ensures call { CallClause me (Completes (settles_key wanted.now.sel wanted.now.chan k))
+        (view w.now p.old) (view w.now p.new) result }
     ensures held { HoldsChannel w.now p.new me wanted.now.chan }
     ensures registered { IfOk result (HasRegistered w.now p.new me wanted.now.chan wanted.now.sel) }
     ensures pinned { IsPinned w.now p.new me wanted.now.sel k.index }

@@ -371,7 +371,8 @@ fn calls_wait_for_the_hold(rt: HostRuntime) -> Result<(), Fail> {
     let ((_p, mode, registered), _q) = join(
         &rt,
         || -> (Pass, Result<(), ChannelError>, Result<KeyNo, ChannelError>)
-            requires { IsReady words p ZERO × HasNoPin (view words p) ZERO × HasSelector (view words p) S × HasChannel (view words p) chan }
+            requires { IsReady words p ZERO × HasNoPin (view words p) ZERO × HasSelector (view words p) S
+                × HasChannel (view words p) chan }
             ensures { IsReady words result.0 ZERO }
         { waits_and_registers(&rt, &words, p, chan) },
         || -> Pass
@@ -428,11 +429,13 @@ fn two_threads_register_and_close(rt: HostRuntime) -> Result<(), Fail> {
     let ((mut p, first), (q, second)) = join(
         &rt,
         || -> (Pass, bool)
-            requires { IsReady words p ZERO × HasNoPin (view words p) ZERO × HasSelector (view words p) S × HasChannel (view words p) chan }
+            requires { IsReady words p ZERO × HasNoPin (view words p) ZERO × HasSelector (view words p) S
+                × HasChannel (view words p) chan }
             ensures { IsReady words result.0 ZERO }
         { registers_and_closes(&words, p, ZERO, chan) },
         || -> (Pass, bool)
-            requires { IsReady words q ONE × HasNoPin (view words q) ONE × HasSelector (view words q) S × HasChannel (view words q) chan }
+            requires { IsReady words q ONE × HasNoPin (view words q) ONE × HasSelector (view words q) S
+                × HasChannel (view words q) chan }
             ensures { IsReady words result.0 ONE }
         { registers_and_closes(&words, q, ONE, chan) },
     );

@@ -56,7 +56,8 @@ pub fn register<R: Wait>(
     requires selector { HasSelector (view w.now p.old) sel }
     requires channel { HasChannel (view w.now p.old) chan }
     requires unpinned { HasNoPin (view w.now p.old) me }
-    ensures call { CallClause me (Registers (limits_of w.now) sel chan ops att) (view w.now p.old) (view w.now p.new) result }
+    ensures call { CallClause me (Registers (limits_of w.now) sel chan ops att)
+        (view w.now p.old) (view w.now p.new) result }
     ensures ready { IsReady w.now p.new me }
     ensures waits { result ≢ Err Busy }
     ensures in_selector { IfOk result (λ k. k.sel ≡ sel) }

@@ -20,7 +20,7 @@ use Rattle.nio_plain.specs.declared.rules.Rules.TheVariants.{Now}
 use Rattle.nio_script.specs.Check.{HasLegalHistory, IsLegalHistory, IsFirstIllegal, IsVerdict, IsFoundLegal}
 use Rattle.nio_script.specs.Check.{IsFoundIllegal, IsHalfSaid, IsNoHistory, EndsCheck}
 use Rattle.nio_script.specs.History.{Entry, IsHistory, IsFirstBadEntry}
-use Rattle.nio_script.specs.Output.{IsWritten, Notes, WritesPrefix}
+use Rattle.nio_script.specs.Output.{IsWritten, WritesOrFails, WritesPrefix}
 use Rattle.nio_script.specs.Run.{ReadsText, bad_line, EndsScript}
 use Rattle.nio_script.specs.declared.input.TheConstants.{LONGEST_INPUT}
 use Rattle.nio_script.specs.declared.status.Status.{Status}
@@ -76,7 +76,7 @@ pub record IsCutShortOn {K : Type 0} (k : sink.Ghosts K) (w : Words) (output out
 pub record IsRefusedOn {K : Type 0} (k : sink.Ghosts K) (w : Words) (output output' : K) (pass : Pass) (line : ℕ)
     (text : List ℕ) : Type 0 where
   pub first : IsFirstBad text line
-  pub said : Notes k output output' (bad_line line)
+  pub said : WritesOrFails k output output' (bad_line line)
   pub uncalled : Leaves w pass script_opening
 
 -- Nothing was written, and no call was made.
@@ -95,7 +95,7 @@ pub record DoesScript {S K : Type 0} (s : source.Ghosts S) (k : sink.Ghosts K) (
   pub memory : status ≡ Memory → (output' ≡ output) ⊎ ReadsText s input input' (IsCutShortOn k w output output')
   pub unread : (status ≡ ReadFault) ⊎ (status ≡ TooLong) → IsUntouchedOn w output output' pass
   pub ends : EndsScript status
-  -- what comes of each text, where the source tells it
+  -- what comes of each text, where the source shows it
   pub of_script : IfSome (s.left input) (λ text. (calls : List ScriptCall)
       → length text ≤ LONGEST_INPUT → IsScript text calls
       → (status ≡ Done) ⊎ (status ≡ ReadFault) ⊎ (status ≡ WriteFault) ⊎ (status ≡ Memory))
@@ -127,7 +127,7 @@ pub record DoesCheck {S K : Type 0} (s : source.Ghosts S) (k : sink.Ghosts K) (r
   pub unread : (status ≡ ReadFault) ⊎ (status ≡ TooLong) → output' ≡ output
   pub ends : EndsCheck status
   pub uncalled : pass' ≡ pass
-  -- what comes of each text, where the source tells it
+  -- what comes of each text, where the source shows it
   pub of_legal : IfSome (s.left input) (λ text. (entries : List Entry)
       → length text ≤ LONGEST_INPUT → IsHistory rules text entries → IsLegalHistory rules limits entries
       → (status ≡ Done) ⊎ (status ≡ ReadFault) ⊎ (status ≡ WriteFault) ⊎ (status ≡ Memory))

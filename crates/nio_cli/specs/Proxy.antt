@@ -62,8 +62,8 @@ EndsProxy NetFault = Unit {0}
 EndsProxy (Illegal line) = ⊥
 EndsProxy TooLong = ⊥
 
--- What `proxy` does by this plan where it ends with this status. Links and places are told as after it; counts of
--- faults, of links and of polls, as before it and after it.
+-- What `proxy` does by this plan where it ends with this status. Links and places are those after it; counts of
+-- faults, of links and of polls, are those before it and after it.
 pub record DoesProxy {K : Type 0} (k : sink.Ghosts K) (plan : ProxyPlan) (link : ChanNo → Link) (place : ChanNo → Place)
     (before now : ChanNo → ℕ) (polls_before polls_now : ℕ) (output output' : K) (status : Status) : Type 0 where
   pub done : status ≡ Done → IsServed k plan link place before now output output'

@@ -1,7 +1,7 @@
 -- The words of the command line.
 use Rattle.std.specs.Prelude.{◌≡◌, List, ◌∷◌, [], ◌++◌, ℕ, codes}
 use Rattle.nio_bytes.specs.declared.sink.Sink as sink
-use Rattle.nio_script.specs.Output.{Notes}
+use Rattle.nio_script.specs.Output.{WritesOrFails}
 use Rattle.nio_words.specs.declared.words.Pass.{Pass}
 
 -- the first word is `proxy`
@@ -9,7 +9,7 @@ pub record BeginsProxy (words : List (List ℕ)) : Type 0 where
   pub rest : List (List ℕ)
   pub begins : words ≡ codes "proxy" ∷ rest
 
--- what is said of words that say nothing that is known
+-- the usage line, which is written where the words are no command
 abbrev pub usage_line : List ℕ
 usage_line =
     codes "usage: nio script | check | check-1 | race | proxy --way select|group --listen ADDR --target ADDR --conns N [--workers W] | load N"
@@ -18,6 +18,6 @@ usage_line =
 -- The usage was said, nothing was read, and no step was made.
 pub record IsUsage {S K : Type 0} (k : sink.Ghosts K) (input input' : S) (output output' : K)
     (pass pass' : Pass) : Type 0 where
-  pub said : Notes k output output' usage_line
+  pub said : WritesOrFails k output output' usage_line
   pub unread : input' ≡ input
   pub uncalled : pass' ≡ pass

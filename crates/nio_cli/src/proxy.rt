@@ -26,7 +26,8 @@ pub fn serve<R: Wait, K: Sink, N: Net>(
     requires plan { IsServable plan }
     requires fresh { (c : ChanNo) → IsUnused (N.link net.old c) }
     requires unasked { (c : ChanNo) → N.place net.old c ≡ unused }
-    ensures proxy { DoesProxy K.Sink plan (N.link net.new) (N.place net.new) (N.faults net.old) (N.faults net.new) (N.poll_faults net.old) (N.poll_faults net.new) output.old output.new result }
+    ensures proxy { DoesProxy K.Sink plan (N.link net.new) (N.place net.new) (N.faults net.old) (N.faults net.new)
+        (N.poll_faults net.old) (N.poll_faults net.new) output.old output.new result }
     ensures later { K.faults output.old ≤ K.faults output.new }
 {
     match serve_select(rt, alloc, net, plan) {

@@ -10,7 +10,8 @@ ghost use Rattle.nio_cli.specs.Load.{DoesLoad};
 ghost use Rattle.nio_cli.specs.Proxy.{DoesProxy};
 ghost use Rattle.nio_cli.specs.Words.{BeginsProxy, IsUsage};
 ghost use Rattle.nio_base.specs.declared.numbers.ChanNo.{ChanNo};
-ghost use Rattle.nio_command.specs.Words.{IsScriptCommand, IsCheckCommand, IsCheckFirstCommand, IsRaceCommand, IsLoadCommand, IsProxyCommand, SaysNothing};
+ghost use Rattle.nio_command.specs.Words.{IsScriptCommand, IsCheckCommand, IsCheckFirstCommand, IsRaceCommand};
+ghost use Rattle.nio_command.specs.Words.{IsLoadCommand, IsProxyCommand, SaysNothing};
 ghost use Rattle.nio_link.specs.Links.{IsUnused};
 ghost use Rattle.nio_link.specs.Places.{unused};
 ghost use Rattle.nio_race.specs.Does.{DoesRace};
@@ -40,20 +41,22 @@ pub const PROGRAM_LIMITS: Limits = Limits {
     keys: 1_024,
 };
 
-/// What is said of words that say nothing that is known.
+/// The usage line, which is written where the words are no command.
 const USAGE: &str =
     "usage: nio script | check | check-1 | race | proxy --way select|group --listen ADDR --target ADDR --conns N [--workers W] | load N\n";
 
 /// How the program ends, and the net that it was given.
 #[derive(Drop)]
 pub struct Ended<N> {
+    /// How it ended.
     pub status: Status,
+    /// The net that it was given.
     pub net: N,
 }
 
-/// Does what the words say: all that the program does. `script`, `race` and `load` make their calls on this table, by the
-/// rules of now; `check` and `check-1` make theirs on a system of their own with the same limits; `proxy` relays over the
-/// net, with a table of its own.
+/// Does what the words say: all that the program does. `script`, `race` and `load` make their calls on this table, by
+/// the rules of now; `check` and `check-1` make theirs on a system of their own with the same limits; `proxy` relays
+/// over the net, with a table of its own.
 pub fn run<R: Threads + Wait + Sync, S: Source, K: Sink, N: Net, G: Gate + Sync>(
     rt: &R,
     alloc: Global,
@@ -97,7 +100,8 @@ pub fn run<R: Threads + Wait + Sync, S: Source, K: Sink, N: Net, G: Gate + Sync>
         input.new ≡ input.old }
     ensures proxy { (plan : ProxyPlan) → IsProxyCommand (map string_bytes words.now) plan →
         DoesProxy K.Sink plan (N.link result.net) (N.place result.net)
-        (N.faults net) (N.faults result.net) (N.poll_faults net) (N.poll_faults result.net) output.old output.new result.status }
+        (N.faults net) (N.faults result.net) (N.poll_faults net) (N.poll_faults result.net) output.old output.new
+        result.status }
     ensures proxy_alone { BeginsProxy (map string_bytes words.now) →
         (input.new ≡ input.old) × (pass.new ≡ pass.old) }
     ensures no_net { (BeginsProxy (map string_bytes words.now) → ⊥) → result.net ≡ net }
@@ -163,7 +167,8 @@ fn run_over<R: Threads + Wait + Sync, S: Source, K: Sink, N: Net, G: Gate + Sync
         input.new ≡ input.old }
     ensures proxy { (plan : ProxyPlan) → IsProxyCommand (map string_bytes words.now) plan →
         DoesProxy K.Sink plan (N.link net.new) (N.place net.new)
-        (N.faults net.old) (N.faults net.new) (N.poll_faults net.old) (N.poll_faults net.new) output.old output.new result }
+        (N.faults net.old) (N.faults net.new) (N.poll_faults net.old) (N.poll_faults net.new) output.old
+        output.new result }
     ensures proxy_alone { BeginsProxy (map string_bytes words.now) →
         (input.new ≡ input.old) × (pass.new ≡ pass.old) }
     ensures no_net { (BeginsProxy (map string_bytes words.now) → ⊥) → net.new ≡ net.old }

@@ -29,7 +29,7 @@ const ANOTHER_HISTORY: &str =
 const FIRST_RULES: &str =
     "1 t1 selector -> s0\n2 t1 channel source -> c0\n3 t1 blocking c0 off -> ok\n4 t1 register s0 c0 1 -> k0\n5 t1 cancel s0 k0 -> ok\n6 t1 key-for c0 s0 -> k0\n7 t1 register s0 c0 1 -> cancelled-key\n8 t1 begin s0 now -> looked none\n9 t1 told s0 -> selected 0 now\n10 t1 key-for c0 s0 -> none\n11 t1 register s0 c0 1 -> k1\n";
 
-/// Two bits of this set, as a signed number: no set of operations.
+/// A script whose last line gives a negative number where a set of operations stands: it isn't in the grammar.
 const SIGNED_SET: &str =
     "t1 selector\nt1 channel source\nt1 blocking c0 off\nt1 register s0 c0 1\nt1 iand s0 k0 -5\n";
 

@@ -6,8 +6,8 @@ use crate::number::read_number;
 use nio_base::Addr;
 use std::net::Ipv4Addr;
 
-/// Reads an IPv4 address and a port, such as `127.0.0.1:8080`: four numbers from 0 to 255 joined by dots, a colon, and a
-/// port from 1 to 65,535. None where the text isn't written so.
+/// Reads an IPv4 address and a port, such as `127.0.0.1:8080`: four numbers from 0 to 255 joined by dots, a colon, and
+/// a port from 1 to 65,535. None where the text isn't written so.
 pub fn read_address(text: &str) -> Option<Addr>
     ensures found { IfSome result (λ a. IsAddress a × (text.now ≡ address_text a)) }
     ensures only { (a : Addr) → IsAddress a → text.now ≡ address_text a → result ≡ Some a }

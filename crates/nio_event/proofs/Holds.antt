@@ -13,7 +13,7 @@ use Rattle.nio_event.proofs.Holder.{mode_kept, held_since}
 use Rattle.nio_event.proofs.Keeping.{and_not, knows_while, stands_while}
 use Rattle.nio_event.proofs.LastsAlone.{one_holder, spares_not, same_two}
 use Rattle.nio_event.proofs.OneMore.{has-more, last-more, since_from-more}
-use Rattle.nio_event.proofs.PinLaws.{own_claims_stand, noted_keys_are_claimed}
+use Rattle.nio_event.proofs.PinLaws.{own_claims_stand, enrolled_keys_are_claimed}
 use Rattle.nio_event.proofs.Put.{put_at_keeps, put_at-there}
 use Rattle.nio_event.proofs.Soundness.{legal-sound}
 use Rattle.nio_event.proofs.Told.{either}
@@ -21,11 +21,12 @@ use Rattle.nio_event.specs.Acts.{effect, new_key}
 use Rattle.nio_event.specs.Answers.{Answers}
 use Rattle.nio_event.specs.Conditions.{Condition, is_held_by, holds, may_publish}
 use Rattle.nio_event.specs.Histories.{state_after, mine, IsStep, IsLegal}
-use Rattle.nio_event.specs.Holders.{ModeStays, NotedStays, FoundNotedStays, OutsideStays, FoundClearStays, ClearIsTrue}
+use Rattle.nio_event.specs.Holders.{ModeStays, EnrolledStays, FoundEnrolledStays, OutsideStays, FoundClearStays}
+use Rattle.nio_event.specs.Holders.{ClearIsTrue}
 use Rattle.nio_event.specs.Permanent.{the_hold}
-use Rattle.nio_event.specs.OwnEvents.{OwnClaim, has, last, under, own_claim, sets_mode, notes_key, publishes}
-use Rattle.nio_event.specs.OwnEvents.{stage_found, is_outside, finds_outside, finds_unblocked, noted_found}
-use Rattle.nio_event.specs.OwnEvents.{since_key_noted, is_clear_by}
+use Rattle.nio_event.specs.OwnEvents.{OwnClaim, has, last, under, own_claim, sets_mode, enrols_key, publishes}
+use Rattle.nio_event.specs.OwnEvents.{stage_found, is_outside, finds_outside, finds_unblocked, enrolled_found}
+use Rattle.nio_event.specs.OwnEvents.{since_key_enrolled, is_clear_by}
 use Rattle.nio_event.specs.Sets.{is_in_key_set}
 use Rattle.nio_event.specs.State.{State}
 use Rattle.nio_event.specs.declared.act.Act.{Act}
@@ -44,25 +45,26 @@ mode_stays l n c before later keeps spared =
     (legal-sound l past legal) step.condition step.answers had spared')
     before later keeps spared refl
 
--- ---- which key is noted
+-- ---- which key is enrolled
 
-noted_kept : (l : Limits) (own : List Act) (st : State) (me n : CallerNo) (act : Act) (c s : ℕ) (o : Option KeyId)
+enrolled_kept : (l : Limits) (own : List Act) (st : State) (me n : CallerNo) (act : Act) (c s : ℕ) (o : Option KeyId)
     → Condition l own st me act
-    → is_held_by n (st.hold c) ≡ true → ((me.0 == n.0) && notes_key c s act) ≡ false → st.noted c s ≡ o
-    → (effect st me act).noted c s ≡ o
-noted_kept l own st me n (Enrol k s' i serial found) c s o may held spared = λ now.
+    → is_held_by n (st.hold c) ≡ true → ((me.0 == n.0) && enrols_key c s act) ≡ false → st.enrolled c s ≡ o
+    → (effect st me act).enrolled c s ≡ o
+enrolled_kept l own st me n (Enrol k s' i serial found) c s o may held spared = λ now.
     put_at_keeps (λ m t x. is_held_by n (st.hold m) ≡ true → ((me.0 == n.0) && ((k.0 == m) && (s'.0 == t))) ≡ false
-    → x ≡ o) st.noted k.0 s'.0 _
+    → x ≡ o) st.enrolled k.0 s'.0 _
     (λ _ held' spared'. absurd
     (spares_not me n ((k.0 == k.0) && (s'.0 == s'.0)) (one_holder me n (st.hold k.0) may.3 held')
     (same_two k.0 s'.0) spared'))
     c s (λ _ _. now) held spared
-noted_kept l own st me n act c s o may held spared = λ now. now
+enrolled_kept l own st me n act c s o may held spared = λ now. now
 
-pub noted_stays : NotedStays
-noted_stays l n c before later keeps s spared =
-    stands_while l n (the_hold c) (notes_key c.0 s.0) (λ st. st.noted c.0 s.0 ≡ (state_after before).noted c.0 s.0)
-    (λ past e legal step had spared'. noted_kept l (mine e.caller past) (state_after past) e.caller n e.act c.0 s.0 _
+pub enrolled_stays : EnrolledStays
+enrolled_stays l n c before later keeps s spared =
+    stands_while l n (the_hold c) (enrols_key c.0 s.0) (λ st. st.enrolled c.0 s.0
+    ≡ (state_after before).enrolled c.0 s.0)
+    (λ past e legal step had spared'. enrolled_kept l (mine e.caller past) (state_after past) e.caller n e.act c.0 s.0 _
     step.condition had spared')
     before later keeps spared refl
 
@@ -70,55 +72,56 @@ none_if : {A : Type 0} (b : Bool) (x : A) → (if b then Some x else None) ≡ N
 none_if true x e = absurd cc
 none_if false x e = refl
 
--- what tells nothing of the noted key notes none
-not_noted : (c s : ℕ) (act : Act) → noted_found c s act ≡ None → notes_key c s act ≡ false
-not_noted c s (Enrol c' s' i serial found) untold =
+-- what tells nothing of the enrolled key enrols none
+not_enrolled : (c s : ℕ) (act : Act) → enrolled_found c s act ≡ None → enrols_key c s act ≡ false
+not_enrolled c s (Enrol c' s' i serial found) untold =
     none_if ((c'.0 == c) && (s'.0 == s)) (Some (record { index = i; serial = serial })) untold
-not_noted c s act untold = refl
+not_enrolled c s act untold = refl
 
-noted_told : (st : State) (me : CallerNo) (act : Act) (c s : ℕ) (o : Option KeyId) → Answers st me act
-    → noted_found c s act ≡ Some o → (effect st me act).noted c s ≡ o
-noted_told st me (LookReg c' s' found) c s o answers told =
+enrolled_told : (st : State) (me : CallerNo) (act : Act) (c s : ℕ) (o : Option KeyId) → Answers st me act
+    → enrolled_found c s act ≡ Some o → (effect st me act).enrolled c s ≡ o
+enrolled_told st me (LookReg c' s' found) c s o answers told =
     let parts = if_some ((c'.0 == c) && (s'.0 == s)) found o told in
     let both = and_parts (c'.0 == c) (s'.0 == s) parts.0 in
     let first : c'.0 ≡ c = eqb-true c'.0 c both.0 in
     let second : s'.0 ≡ s = eqb-true s'.0 s both.1 in
-    let found_is : found ≡ st.noted c'.0 s'.0 = cc in
-    subst (λ (k : ℕ). st.noted k s ≡ o) first (subst (λ (k : ℕ). st.noted c'.0 k ≡ o) second (sym found_is ∙ parts.1))
-noted_told st me (Enrol c' s' i serial found) c s o answers told =
+    let found_is : found ≡ st.enrolled c'.0 s'.0 = cc in
+    subst (λ (k : ℕ). st.enrolled k s ≡ o) first (subst (λ (k : ℕ). st.enrolled c'.0 k ≡ o) second
+    (sym found_is ∙ parts.1))
+enrolled_told st me (Enrol c' s' i serial found) c s o answers told =
     let parts = if_some ((c'.0 == c) && (s'.0 == s)) (Some (key i serial)) o told in
-    put_at-there st.noted c'.0 s'.0 (Some (key i serial)) c s parts.0 ∙ parts.1
+    put_at-there st.enrolled c'.0 s'.0 (Some (key i serial)) c s parts.0 ∙ parts.1
   where
     key : ℕ → ℕ → KeyId
     key i' serial' = record { index = i'; serial = serial' }
-noted_told st me act c s o answers told = absurd (cc told)
+enrolled_told st me act c s o answers told = absurd (cc told)
 
 none_such : (own : List Act) → has (λ _. false) own ≡ false
 none_such [] = refl
 none_such (act ∷ own) = none_such own
 
-pub found_noted_stays : FoundNotedStays
-found_noted_stays l n c before later keeps s =
-    knows_while l n (the_hold c) (λ _. false) (λ did st. (o : Option KeyId) → last (noted_found c.0 s.0) did ≡ Some o
-    → st.noted c.0 s.0 ≡ o)
+pub found_enrolled_stays : FoundEnrolledStays
+found_enrolled_stays l n c before later keeps s =
+    knows_while l n (the_hold c) (λ _. false) (λ did st. (o : Option KeyId) → last (enrolled_found c.0 s.0) did ≡ Some o
+    → st.enrolled c.0 s.0 ≡ o)
     (λ past e legal step had by _ did knew o told.
     own_step l (mine e.caller past) (state_after past) e.caller e.act step.condition step.answers had did knew o
-    (noted_found c.0 s.0 e.act) refl (sym (last-more (noted_found c.0 s.0) did e.act) ∙ told))
-    (λ past e legal step had by did knew o told. noted_kept l (mine e.caller past)
-    (state_after past) e.caller n e.act c.0 s.0 o step.condition had (ap (λ b. b && notes_key c.0 s.0 e.act) by)
+    (enrolled_found c.0 s.0 e.act) refl (sym (last-more (enrolled_found c.0 s.0) did e.act) ∙ told))
+    (λ past e legal step had by did knew o told. enrolled_kept l (mine e.caller past)
+    (state_after past) e.caller n e.act c.0 s.0 o step.condition had (ap (λ b. b && enrols_key c.0 s.0 e.act) by)
     (knew o told))
     before later keeps (none_such (mine n later)) (λ o told. absurd cc)
   where
     own_step : (l : Limits) (own : List Act) (st : State) (me : CallerNo) (act : Act) → Condition l own st me act
         → Answers st me act → is_held_by n (st.hold c.0) ≡ true
-        → (did : List Act) → ((o : Option KeyId) → last (noted_found c.0 s.0) did ≡ Some o → st.noted c.0 s.0 ≡ o)
-        → (o : Option KeyId) (tells : Option (Option KeyId)) → noted_found c.0 s.0 act ≡ tells
-        → option_or tells (last (noted_found c.0 s.0) did) ≡ Some o → (effect st me act).noted c.0 s.0 ≡ o
+        → (did : List Act) → ((o : Option KeyId) → last (enrolled_found c.0 s.0) did ≡ Some o → st.enrolled c.0 s.0 ≡ o)
+        → (o : Option KeyId) (tells : Option (Option KeyId)) → enrolled_found c.0 s.0 act ≡ tells
+        → option_or tells (last (enrolled_found c.0 s.0) did) ≡ Some o → (effect st me act).enrolled c.0 s.0 ≡ o
     own_step l own st me act may answers held did knew o None tells told =
-        noted_kept l own st me n act c.0 s.0 o may held
-        (ap (λ b. (me.0 == n.0) && b) (not_noted c.0 s.0 act tells) ∙ and_not (me.0 == n.0)) (knew o told)
+        enrolled_kept l own st me n act c.0 s.0 o may held
+        (ap (λ b. (me.0 == n.0) && b) (not_enrolled c.0 s.0 act tells) ∙ and_not (me.0 == n.0)) (knew o told)
     own_step l own st me act may answers held did knew o (Some x) tells told =
-        noted_told st me act c.0 s.0 o answers (tells ∙ told)
+        enrolled_told st me act c.0 s.0 o answers (tells ∙ told)
 
 -- ---- keys outside the key set
 
@@ -228,17 +231,18 @@ outside_told st me act s k answers told = by_found (stage_found s k.index act) r
         ∙ is_not (is_in_key_set stage k.serial) outside
 
 pub found_clear_stays : FoundClearStays
-found_clear_stays l n c before later fit keeps s clear = by_noted (last (noted_found c.0 s.0) (mine n later)) refl clear
+found_clear_stays l n c before later fit keeps s clear =
+    by_enrolled (last (enrolled_found c.0 s.0) (mine n later)) refl clear
   where
     after : State
     after = state_after (before ++ later)
 
-    -- what it did since it last noted a key there or published that of the index
+    -- what it did since it last enrolled a key there or published that of the index
     span : KeyId → List Act → List Act
-    span k did = since_key_noted c.0 s.0 k.index did
+    span k did = since_key_enrolled c.0 s.0 k.index did
 
     opens : KeyId → Act → Bool
-    opens k act = notes_key c.0 s.0 act || publishes s.0 k.index act
+    opens k act = enrols_key c.0 s.0 act || publishes s.0 k.index act
 
     outside : (k : KeyId) → has (finds_outside s.0 k) (span k (mine n later)) ≡ true
         → IsOutsideFor c k.serial (after.key s.0 k.index)
@@ -262,7 +266,7 @@ found_clear_stays l n c before later fit keeps s clear = by_noted (last (noted_f
             → IsOutsideFor c k.serial ((effect (state_after past) e.caller e.act).key s.0 k.index)
         own_step past e legal step had did knew true opened found = absurd cc
         own_step past e legal step had did knew false opened found =
-            let unpublished = (or_parts (notes_key c.0 s.0 e.act) (publishes s.0 k.index e.act) opened).1 in
+            let unpublished = (or_parts (enrols_key c.0 s.0 e.act) (publishes s.0 k.index e.act) opened).1 in
             elim (either (has (finds_outside s.0 k) (span k did)) (finds_outside s.0 k e.act)
             (sym (has-more (finds_outside s.0 k) (span k did) e.act) ∙ found)) [
               | inl earlier ↦ outside_kept l past e n c s.0 k fit legal step had
@@ -270,30 +274,30 @@ found_clear_stays l n c before later fit keeps s clear = by_noted (last (noted_f
               | inr now ↦ λ _. outside_told (state_after past) e.caller e.act s.0 k step.answers now
             ]
 
-    -- a noted key that the index doesn't have any more is outside the key set too
-    by_serial : (k : KeyId) → after.noted c.0 s.0 ≡ Some k → IsOutsideFor c k.serial (after.key s.0 k.index)
+    -- an enrolled key that the index doesn't have any more is outside the key set too
+    by_serial : (k : KeyId) → after.enrolled c.0 s.0 ≡ Some k → IsOutsideFor c k.serial (after.key s.0 k.index)
         → (b : Bool) → ((after.key s.0 k.index).serial == k.serial) ≡ b
         → is_in_key_set (after.key s.0 k.index) k.serial ≡ false
-    by_serial k noted its true same =
-        its ((noted_keys_are_claimed l c s k (before ++ later) fit keeps.legal noted).1
+    by_serial k enrolled its true same =
+        its ((enrolled_keys_are_claimed l c s k (before ++ later) fit keeps.legal enrolled).1
         (eqb-true (after.key s.0 k.index).serial k.serial same))
-    by_serial k noted its false same =
+    by_serial k enrolled its false same =
         ap (λ b. ((after.key s.0 k.index).claimed && b)
         && ((after.key s.0 k.index).published && not (after.key s.0 k.index).removed)) same
         ∙ ap (λ b. b && ((after.key s.0 k.index).published && not (after.key s.0 k.index).removed))
         (and_not (after.key s.0 k.index).claimed)
 
-    by_noted : (told : Option (Option KeyId)) → last (noted_found c.0 s.0) (mine n later) ≡ told
+    by_enrolled : (told : Option (Option KeyId)) → last (enrolled_found c.0 s.0) (mine n later) ≡ told
         → is_clear_by c.0 s.0 (mine n later) told ≡ true
-        → (k : KeyId) → after.noted c.0 s.0 ≡ Some k → is_in_key_set (after.key s.0 k.index) k.serial ≡ false
-    by_noted None told clear' k noted = absurd cc
-    by_noted (Some None) told clear' k noted =
-        let none : after.noted c.0 s.0 ≡ None = found_noted_stays l n c before later keeps s None told in
+        → (k : KeyId) → after.enrolled c.0 s.0 ≡ Some k → is_in_key_set (after.key s.0 k.index) k.serial ≡ false
+    by_enrolled None told clear' k enrolled = absurd cc
+    by_enrolled (Some None) told clear' k enrolled =
+        let none : after.enrolled c.0 s.0 ≡ None = found_enrolled_stays l n c before later keeps s None told in
         absurd cc
-    by_noted (Some (Some j)) told clear' k noted =
-        let its : after.noted c.0 s.0 ≡ Some j = found_noted_stays l n c before later keeps s (Some j) told in
+    by_enrolled (Some (Some j)) told clear' k enrolled =
+        let its : after.enrolled c.0 s.0 ≡ Some j = found_enrolled_stays l n c before later keeps s (Some j) told in
         let same : j ≡ k = cc in
-        by_serial k noted
+        by_serial k enrolled
         (outside k (subst (λ (x : KeyId). has (finds_outside s.0 x) (span x (mine n later)) ≡ true) same clear'))
         ((after.key s.0 k.index).serial == k.serial) refl
 
@@ -301,6 +305,6 @@ pub clear_is_true : ClearIsTrue
 clear_is_true l n c events fit legal held s clear =
     let since = held_since l n c events legal held in
     let there = found_clear_stays l n c since.before since.later fit since.keeps s
-    (subst (λ acts. is_clear_by c.0 s.0 acts (last (noted_found c.0 s.0) acts) ≡ true) since.own clear) in
-    subst (λ evs. ForSome ((state_after evs).noted c.0 s.0)
+    (subst (λ acts. is_clear_by c.0 s.0 acts (last (enrolled_found c.0 s.0) acts) ≡ true) since.own clear) in
+    subst (λ evs. ForSome ((state_after evs).enrolled c.0 s.0)
     (λ k. is_in_key_set ((state_after evs).key s.0 k.index) k.serial ≡ false)) (sym since.whole) there

@@ -26,7 +26,7 @@ use Rattle.nio_event.specs.Conditions.{Condition, is_held_by}
 use Rattle.nio_event.specs.Histories.{state_after, event_of, is_by, mine, IsStep, IsLegal}
 use Rattle.nio_event.specs.OwnEvents.{OwnClaim, last, since_taken, takes_free, stage_found, claim_changed, unpins}
 use Rattle.nio_event.specs.Pins.{IsSameKey, PinnedKeysStay, ClaimsAgainWhereUnpinned, ClaimsAgainTheRemoved, IsOfClaim}
-use Rattle.nio_event.specs.Pins.{OwnClaimsStand, NotedKeysAreClaimed}
+use Rattle.nio_event.specs.Pins.{OwnClaimsStand, EnrolledKeysAreClaimed}
 use Rattle.nio_event.specs.Sets.{was_claimed, can_come_back}
 use Rattle.nio_event.specs.Sound.{IsSound}
 use Rattle.nio_event.specs.State.{State, put_at}
@@ -320,7 +320,7 @@ own_claims_stand l n s i claim events fit legal =
     ))
     events legal claim
 
--- ---- noted keys
+-- ---- enrolled keys
 
 -- the index was claimed for this key, and while it has the key it is of the channel of this number
 abbrev IsKeyOf : ℕ → ℕ → Stage → Type 0
@@ -359,16 +359,16 @@ key_of_keeps May st c serial = record {
     not_next : (a : ℕ) → not (nat_lt a serial) ≡ true → suc a ≡ serial → ⊥
     not_next a above same = is_no (nat_lt a serial) (lt-ltb a serial (omega arith)) above
 
--- the noted key of a channel is a key of it
-noted_step : (l : Limits) (past : List Event) (me : CallerNo) (act : Act) → IsFit l → IsLegal l past
+-- the enrolled key of a channel is a key of it
+enrolled_step : (l : Limits) (past : List Event) (me : CallerNo) (act : Act) → IsFit l → IsLegal l past
     → Condition l (mine me past) (state_after past) me act → Answers (state_after past) me act
-    → ((c s : ℕ) (k : KeyId) → (state_after past).noted c s ≡ Some k
+    → ((c s : ℕ) (k : KeyId) → (state_after past).enrolled c s ≡ Some k
     → IsKeyOf c k.serial ((state_after past).key s k.index))
-    → (c s : ℕ) (k : KeyId) → (effect (state_after past) me act).noted c s ≡ Some k
+    → (c s : ℕ) (k : KeyId) → (effect (state_after past) me act).enrolled c s ≡ Some k
     → IsKeyOf c k.serial ((effect (state_after past) me act).key s k.index)
-noted_step l past me (Enrol c' s' i serial found) fit legal may answers before c s =
+enrolled_step l past me (Enrol c' s' i serial found) fit legal may answers before c s =
     put_at_keeps (λ a b o. (k : KeyId) → o ≡ Some k → IsKeyOf a k.serial ((state_after past).key b k.index))
-    (state_after past).noted c'.0 s'.0 (Some (record { index = i; serial = serial }))
+    (state_after past).enrolled c'.0 s'.0 (Some (record { index = i; serial = serial }))
     (λ _ k e. subst (λ x. IsKeyOf c'.0 x.serial ((state_after past).key s'.0 x.index))
     (key_is (record { index = i; serial = serial }) k e) of_claim) c s (before c s)
   where
@@ -382,24 +382,24 @@ noted_step l past me (Enrol c' s' i serial found) fit legal may answers before c
           and_from key.claimed (not (nat_lt key.serial serial)) its.claimed (not_below key.serial serial its.serial),
           λ _. ap (λ x. x.0) its.channel,
         )
-noted_step l past me act fit legal may answers before c s = λ k noted.
+enrolled_step l past me act fit legal may answers before c s = λ k enrolled.
     stages_keep (λ _. Unit) (state_after past) me (λ _ _ stage. IsKeyOf c k.serial stage)
-    (key_of_keeps (λ _. Unit) (state_after past) c k.serial) act tt answers s k.index (before c s k noted)
+    (key_of_keeps (λ _. Unit) (state_after past) c k.serial) act tt answers s k.index (before c s k enrolled)
 
-noted_key_of : (l : Limits) → IsFit l → (events : List Event) → IsLegal l events
-    → (c s : ℕ) (k : KeyId) → (state_after events).noted c s ≡ Some k
+enrolled_key_of : (l : Limits) → IsFit l → (events : List Event) → IsLegal l events
+    → (c s : ℕ) (k : KeyId) → (state_after events).enrolled c s ≡ Some k
     → IsKeyOf c k.serial ((state_after events).key s k.index)
-noted_key_of l fit =
-    legal_induction l (λ evs. (c s : ℕ) (k : KeyId) → (state_after evs).noted c s ≡ Some k
+enrolled_key_of l fit =
+    legal_induction l (λ evs. (c s : ℕ) (k : KeyId) → (state_after evs).enrolled c s ≡ Some k
     → IsKeyOf c k.serial ((state_after evs).key s k.index))
-    (λ c s k noted. absurd cc)
-    (λ past e legal step before. subst (λ st. (c s : ℕ) (k : KeyId) → st.noted c s ≡ Some k
+    (λ c s k enrolled. absurd cc)
+    (λ past e legal step before. subst (λ st. (c s : ℕ) (k : KeyId) → st.enrolled c s ≡ Some k
     → IsKeyOf c k.serial (st.key s k.index)) (sym (state_after-more past e))
-    (noted_step l past e.caller e.act fit legal step.condition step.answers before))
+    (enrolled_step l past e.caller e.act fit legal step.condition step.answers before))
 
-pub noted_keys_are_claimed : NotedKeysAreClaimed
-noted_keys_are_claimed l c s k events fit legal noted =
-    let its = noted_key_of l fit events legal c.0 s.0 k noted in
+pub enrolled_keys_are_claimed : EnrolledKeysAreClaimed
+enrolled_keys_are_claimed l c s k events fit legal enrolled =
+    let its = enrolled_key_of l fit events legal c.0 s.0 k enrolled in
     (its.0, λ same. ap (λ (number : ℕ). channel number) (its.1 same))
   where
     channel : ℕ → ChanNo

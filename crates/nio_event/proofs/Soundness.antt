@@ -218,7 +218,7 @@ cancelled_parts k in_set =
     unless false e f = cc
 
 -- who may remove a key: a selecting caller a key of the cancelled set, and a closer that has entered an index that
--- it found below the mark
+-- it found below the high-water mark
 pub may_remove : (st : State) (own : List Act) (me : CallerNo) (s : SelNo) (i : ℕ)
     → (may_remove_cancelled st me s i || may_clear_out st own me s i) ≡ true
     → ((has_begun st me s ≡ true) × IsCancelled (st.key s.0 i))

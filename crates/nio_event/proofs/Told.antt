@@ -54,7 +54,7 @@ has_told l p fact lasts tells n events legal =
             ]
         by_test false by = lasts past e step (before (sym (ap (has p) (mine-other n past e by)) ∙ now))
 
--- ---- below the keys' mark
+-- ---- below the keys' high-water mark
 
 below_tells : (st : State) (me : CallerNo) (act : Act) (s i : ℕ) → Answers st me act → finds_below s i act ≡ true
     → nat_lt i ((effect st me act).keys_high s) ≡ true
@@ -65,7 +65,7 @@ below_tells st me (LookKeys s' found) s i found_is h =
     subst (λ (k : ℕ). nat_lt i (st.keys_high k) ≡ true) same (subst (λ (k : ℕ). nat_lt i k ≡ true) stands both.1)
 below_tells st me act s i found_is h = absurd (cc h)
 
--- an index that a caller found below the mark is below it
+-- an index that a caller found below the high-water mark is below it
 pub below_told : (l : Limits) (n : CallerNo) (events : List Event) (s i : ℕ) → IsLegal l events
     → has (finds_below s i) (mine n events) ≡ true → i < (state_after events).keys_high s
 below_told l n events s i legal h =

@@ -192,13 +192,13 @@ claims_within l n events s i claim legal = claim_told l n s i (λ claim' _. clai
     (λ past e claim' legal' step spared here. here)
     events legal claim
 
-noted_within : (l : Limits) (past : List Event) (me : CallerNo) (act : Act) → IsLegal l past
+enrolled_within : (l : Limits) (past : List Event) (me : CallerNo) (act : Act) → IsLegal l past
     → Condition l (mine me past) (state_after past) me act → IsWithin l (state_after past)
     → (c s : ℕ)
-    → ForSome ((effect (state_after past) me act).noted c s) (λ k. (k.index < l.keys) × (k.serial ≤ last_serial))
-noted_within l past me (Enrol c' s' i serial found) legal may here c s =
+    → ForSome ((effect (state_after past) me act).enrolled c s) (λ k. (k.index < l.keys) × (k.serial ≤ last_serial))
+enrolled_within l past me (Enrol c' s' i serial found) legal may here c s =
     put_at_keeps (λ _ _ o. ForSome o (λ k. (k.index < l.keys) × (k.serial ≤ last_serial)))
-    (state_after past).noted c'.0 s'.0 _
+    (state_after past).enrolled c'.0 s'.0 _
     (λ _ x e.
     let index_is : i ≡ x.index = cc in
     let serial_is : serial ≡ x.serial = cc in (
@@ -206,8 +206,8 @@ noted_within l past me (Enrol c' s' i serial found) legal may here c s =
       subst (λ (k : ℕ). k ≤ last_serial) serial_is
           (claims_within l me past s'.0 i _ legal may.2),
     ))
-    c s (here.noted c s)
-noted_within l past me act legal may here c s = here.noted c s
+    c s (here.enrolled c s)
+enrolled_within l past me act legal may here c s = here.enrolled c s
 
 pins_within : (l : Limits) (st : State) (me : CallerNo) (act : Act) → IsCaller l me → IsWithin l st
     → (s i n : ℕ) → (effect st me act).pinned s i n ≡ true → n < l.callers
@@ -254,7 +254,7 @@ within_opening l = record {
   holds = λ c. none_within l;
   turns = λ s. none_within l;
   closers = λ s. none_within l;
-  noted = λ c s x e. absurd cc;
+  enrolled = λ c s x e. absurd cc;
   serials = λ s i. omega arith;
   pins = λ s i n e. absurd cc;
   takers = λ s i. none_within l;
@@ -273,7 +273,7 @@ within_step l past e legal step here = record {
   holds = holds_within l (state_after past) e.caller e.act step.by_caller step.answers here;
   turns = turns_within l (state_after past) e.caller e.act step.by_caller step.answers here;
   closers = closers_within l (state_after past) e.caller e.act step.by_caller here;
-  noted = noted_within l past e.caller e.act legal step.condition here;
+  enrolled = enrolled_within l past e.caller e.act legal step.condition here;
   serials = serials_within l (mine e.caller past) (state_after past) e.caller e.act step.condition step.answers
       (legal-sound l past legal) here;
   pins = pins_within l (state_after past) e.caller e.act step.by_caller here;

@@ -191,7 +191,7 @@ removing_again =
 closing : NextSteps 98 16
 unfolding bits_below count_below
 closing =
-    -- caller 1 sets blocking mode again: the noted key is removed
+    -- caller 1 sets blocking mode again: the enrolled key is removed
     record { by_caller = lit< tt; condition = (lit< tt, refl); answers = refl } ▸
     record { by_caller = lit< tt; condition = (lit< tt, lit< tt); answers = refl } ▸
     record { by_caller = lit< tt; condition = (lit< tt, lit< tt); answers = refl } ▸
@@ -291,13 +291,13 @@ refused_events_are_no_steps =
     -- a mark is cleared by who claimed the index, before the key is published
     (λ step. not_so step.condition.1) ▸
     (λ step. not_so step.condition.1) ▸
-    -- a key is noted with the serial of the claim
+    -- a key is enrolled with the serial of the claim
     (λ step. other_serial (ap claimed_serial step.condition.2)) ▸
-    -- a channel goes back to blocking mode only after a look at its noted keys, since it noted one itself
+    -- a channel goes back to blocking mode only after a look at its enrolled keys, since it enrolled one itself
     (λ step. not_so (step.condition.2 refl 0 (lit< tt))) ▸
     (λ step. not_so (step.condition.2 refl 0 (lit< tt))) ▸
     (λ step. not_so (step.condition.2 refl 0 (lit< tt))) ▸
-    -- a closer removes after it has entered, and what it has found below the mark since
+    -- a closer removes after it has entered, and what it has found below the high-water mark since
     (λ step. not_so step.condition.1) ▸
     (λ step. not_so step.condition.1) ▸
     -- only the closer enters

@@ -9,7 +9,8 @@ use Rattle.nio_base.specs.declared.kind.Kind.{Kind}
 use Rattle.nio_base.specs.declared.numbers.CallerNo.{CallerNo}
 use Rattle.nio_base.specs.declared.numbers.ChanNo.{ChanNo}
 use Rattle.nio_event.specs.State.{State, with_drawn, with_interrupted, with_selector, with_channels_high, with_chan}
-use Rattle.nio_event.specs.State.{with_hold, with_noted, with_gate, with_turn, with_keys_high, with_key, with_interest}
+use Rattle.nio_event.specs.State.{with_hold, with_enrolled, with_gate, with_turn, with_keys_high, with_key}
+use Rattle.nio_event.specs.State.{with_interest}
 use Rattle.nio_event.specs.State.{with_mark, with_note, with_pin, with_free, with_begun, with_closer, with_entered}
 use Rattle.nio_event.specs.State.{with_taker, with_put_due, with_no_put_due, unmarked, last_serial}
 use Rattle.nio_event.specs.declared.act.Act.{Act}
@@ -95,7 +96,7 @@ effect st me (Claim s i c found) =
     with_pin
     (with_key st s.0 i (if found then st.key s.0 i else new_key c 0))
     s.0 i me.0 (st.pinned s.0 i me.0 || not found)
--- the keys' mark is at least n
+-- the keys' high-water mark is at least n
 effect st me (RaiseKeys s n found) = with_keys_high st s.0 (max (st.keys_high s.0) n)
 -- looks
 effect st me (LookKeys s found) = st
@@ -103,8 +104,8 @@ effect st me (LookKeys s found) = st
 effect st me (Publish s i found) = with_key st s.0 i (record (st.key s.0 i) { published = true })
 -- looks
 effect st me (LookReg c s found) = st
--- the key is noted for the channel in the selector
-effect st me (Enrol c s i serial found) = with_noted st c.0 s.0 (Some (record { index = i; serial = serial }))
+-- the key is enrolled for the channel in the selector
+effect st me (Enrol c s i serial found) = with_enrolled st c.0 s.0 (Some (record { index = i; serial = serial }))
 -- where the turn was free, the caller has it, and hasn't begun
 effect st me (TakeTurn s found) = with_begun (with_turn st s.0 (taken_by me found)) s.0 (is_some found && st.begun s.0)
 -- where the gate isn't shut, the caller has begun
@@ -126,7 +127,7 @@ effect st me (UnselectBit s i found) = with_mark st s.0 i (record (st.mark s.0 i
 effect st me (EndWake s found) = with_gate st s.0 (record (st.gate s.0) { woken = false })
 -- looks
 effect st me (LookChannels found) = st
--- the channels' mark is at least n
+-- the channels' high-water mark is at least n
 effect st me (RaiseChannels n found) = with_channels_high st (max st.channels_high n)
 -- where nobody had the hold, the caller has it
 effect st me (TryHoldBit c found) = with_hold st c.0 (taken_by me found)

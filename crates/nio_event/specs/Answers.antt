@@ -1,5 +1,4 @@
--- What each kind of step finds in the state. The lines stand in the order in which `Act` lists the
--- kinds.
+-- What each kind of step finds in the state. The lines stand in the order in which `Act` lists the kinds.
 use Rattle.std.specs.Prelude.{◌≡◌, ℕ, zero, suc, ◌+◌, ◌*◌, ◌^◌, not, bit_or, ◌==◌, Bool, ◌&&◌, if◌then◌else◌, Result}
 use Rattle.std.specs.Prelude.{Ok, Err}
 use Rattle.std.specs.Bool.{beq}
@@ -99,16 +98,16 @@ act_from st me (make_channel c kind) = MakeChannel c kind (st.chan c.0).made
 act_from st me (look_channel c) = LookChannel c (st.chan c.0)
 -- whether it was claimed
 act_from st me (claim s i c) = Claim s i c (st.key s.0 i).claimed
--- the mark before
+-- the keys' high-water mark before
 act_from st me (raise_keys s n) = RaiseKeys s n (st.keys_high s.0)
--- the mark
+-- the keys' high-water mark
 act_from st me (look_keys s) = LookKeys s (st.keys_high s.0)
 -- the stage before
 act_from st me (publish s i) = Publish s i (st.key s.0 i)
--- the noted key, if any
-act_from st me (look_reg c s) = LookReg c s (st.noted c.0 s.0)
--- the key that was noted before, if any
-act_from st me (enrol c s i serial) = Enrol c s i serial (st.noted c.0 s.0)
+-- the enrolled key, if any
+act_from st me (look_reg c s) = LookReg c s (st.enrolled c.0 s.0)
+-- the key that was enrolled before, if any
+act_from st me (enrol c s i serial) = Enrol c s i serial (st.enrolled c.0 s.0)
 -- who had the turn
 act_from st me (take_turn s) = TakeTurn s (st.turn s.0)
 -- the gate
@@ -125,9 +124,9 @@ act_from st me (mark s i from told) = Mark s i from told (exchange_from from (st
 act_from st me (unselect_bit s i) = UnselectBit s i (st.mark s.0 i).selected
 -- the gate before
 act_from st me (end_wake s) = EndWake s (st.gate s.0)
--- the mark
+-- the channels' high-water mark
 act_from st me look_channels = LookChannels st.channels_high
--- the mark before
+-- the channels' high-water mark before
 act_from st me (raise_channels n) = RaiseChannels n st.channels_high
 -- who had the hold
 act_from st me (try_hold_bit c) = TryHoldBit c (st.hold c.0)

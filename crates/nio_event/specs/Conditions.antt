@@ -1,5 +1,4 @@
--- When a caller may make each kind of step. The lines stand in the order in which `Act` lists the
--- kinds.
+-- When a caller may make each kind of step. The lines stand in the order in which `Act` lists the kinds.
 --
 -- The numbers of a step are below the table's limits; operations and attachments are of their types
 -- in `Act`, below 256 and below 2 ^ 64, of which no condition speaks.
@@ -8,7 +7,7 @@
 -- has begun, closes or has entered; that a key is in the cancelled set, where the caller selects, since then
 -- nobody else removes it; which indexes the selection in progress has still to put.
 -- Read in the caller's own acts: its claim of an index, while it has the pin of that claim, and whether it
--- published the key since; what it found under its present hold, among it that a noted key is outside the
+-- published the key since; what it found under its present hold, among it that an enrolled key is outside the
 -- key set; what it found of an index since it took it; what a closer found since it entered.
 use Rattle.std.specs.Prelude.{◌≡◌, ℕ, ◌==◌, ◌<◌, ◌≤◌, ◌*◌, Bool, false, not, ◌&&◌, ◌||◌, Option, Some, None, List}
 use Rattle.std.specs.Prelude.{IsTrue, ⊤}
@@ -108,7 +107,7 @@ may_publish st own me None = false
 may_publish st own me (Some claim) =
     holds st me claim.channel && has (finds_unblocked claim.channel.0) (under claim.channel.0 own)
 
--- a closer that has entered removes an index that it found below the mark since
+-- a closer that has entered removes an index that it found below the high-water mark since
 abbrev pub may_clear_out : State → List Act → CallerNo → SelNo → ℕ → Bool
 may_clear_out st own me s i = has_entered st me s && has (finds_below s.0 i) (since_entered s.0 own)
 
@@ -154,7 +153,7 @@ Condition l own st me (LookKeys s found) = IsSelector l s
 Condition l own st me (Publish s i found) = IsKey l s i × IsTrue (may_publish st own me (own_claim s.0 i own))
 Condition l own st me (LookReg c s found) = IsChannel l c × IsSelector l s
 -- the caller claimed i for c with this serial, still has the pin of that claim, and holds c; the key that was
--- noted till now, if any, it found outside the key set
+-- enrolled till now, if any, it found outside the key set
 Condition l own st me (Enrol c s i serial found) =
     IsChannel l c × IsKey l s i × (own_claim s.0 i own ≡ Some (record { channel = c; serial = serial }))
     × IsTrue (holds st me c)
@@ -164,8 +163,8 @@ Condition l own st me (TakeTurn s found) = IsSelector l s
 Condition l own st me (BeginLook s found) = IsSelector l s × IsTrue (has_turn st me s)
 -- the caller has the turn
 Condition l own st me (GiveTurn s) = IsSelector l s × IsTrue (has_turn st me s)
--- either the caller has begun on s and the key is in the cancelled set, or it has entered s and found i below
--- its mark
+-- either the caller has begun on s and the key is in the cancelled set, or it has entered s and found i
+-- below the keys' high-water mark since
 Condition l own st me (Remove s i found) =
     IsKey l s i × IsTrue (may_remove_cancelled st me s i || may_clear_out st own me s i)
 -- the caller has a pin on i, or has begun on s
@@ -183,8 +182,8 @@ Condition l own st me (RaiseChannels n found) = (n ≤ l.channels) × AllMade st
 Condition l own st me (TryHoldBit c found) = IsChannel l c × IsTrue (is_made st c)
 -- the caller holds c
 Condition l own st me (Release c) = IsChannel l c × IsTrue (holds st me c)
--- the caller holds c; for blocking mode, each noted key of c it found outside the key set, or not
--- noted, under this hold
+-- the caller holds c; for blocking mode, each enrolled key of c it found outside the key set, or not
+-- enrolled, under this hold
 Condition l own st me (SetMode c blocking found) =
     IsChannel l c × IsTrue (holds st me c) × (IsTrue blocking → (s : ℕ) → s < l.selectors → IsTrue (is_clear c.0 s own))
 -- c is made
@@ -198,8 +197,7 @@ Condition l own st me (Pin s i found) = IsKey l s i × IsTrue (is_claimed st s i
 Condition l own st me (Unpin s i) = IsKey l s i × IsTrue (has_pin st me s i)
 -- the caller claimed i, and hasn't published the key since: so the key that it claimed is the one that i has
 Condition l own st me (ClearMark s i found) = IsKey l s i × IsTrue (is_unpublished s.0 i own)
--- the caller holds c and has taken i; `from` is what it found of i since it took it, with a serial below the
--- last
+-- the caller holds c and has taken i; `from` is what it found of i since it took it, with a serial below the last
 Condition l own st me (ClaimAgain s i c from found) =
     IsKey l s i × IsChannel l c × IsTrue (holds st me c) × IsTrue (has_taken st me s i)
     × (last (stage_found s.0 i) (since_taken s.0 i own) ≡ Some from)

@@ -107,7 +107,7 @@ LooksTell = (l : Limits) (me : CallerNo) (act : Act) (past later : List Event)
 
 -- ---- what is permanent, by what a step finds
 
--- of which permanent facts a gate, a channel and a stage tell that are found
+-- which permanent facts follow from a gate, a channel and a stage that are found
 
 abbrev pub gate_tells : ℕ → GateWord → PermanentFact → Bool
 gate_tells s found (selector_shut s') = (s == s') && found.shut

@@ -11,7 +11,8 @@ use Rattle.nio_base.specs.declared.numbers.SelNo.{SelNo}
 use Rattle.nio_event.specs.Conditions.{holds}
 use Rattle.nio_event.specs.Histories.{state_after, mine, IsLegal}
 use Rattle.nio_event.specs.Permanent.{OwnFact, a_selection, the_hold, is_had_by, gives_back}
-use Rattle.nio_event.specs.OwnEvents.{has, last, sets_mode, notes_key, publishes, noted_found, is_clear_by, is_clear}
+use Rattle.nio_event.specs.OwnEvents.{has, last, sets_mode, enrols_key, publishes, enrolled_found, is_clear_by}
+use Rattle.nio_event.specs.OwnEvents.{is_clear}
 use Rattle.nio_event.specs.Pins.{removes}
 use Rattle.nio_event.specs.Sets.{is_in_key_set}
 use Rattle.nio_event.specs.Turns.{selects_on}
@@ -34,18 +35,19 @@ ModeStays = (l : Limits) (n : CallerNo) (c : ChanNo) (before later : List Event)
     → IsFalse (has (sets_mode c.0) (mine n later))
     → ((state_after (before ++ later)).chan c.0).blocking ≡ ((state_after before).chan c.0).blocking
 
--- the same key stays noted for the channel in a selector where the caller notes none there
-abbrev pub NotedStays : Type 0
-NotedStays = (l : Limits) (n : CallerNo) (c : ChanNo) (before later : List Event) → Keeps l n (the_hold c) before later
-    → (s : SelNo) → IsFalse (has (notes_key c.0 s.0) (mine n later))
-    → (state_after (before ++ later)).noted c.0 s.0 ≡ (state_after before).noted c.0 s.0
-
--- the key that the caller last found noted for the channel, or noted itself, is noted there
-abbrev pub FoundNotedStays : Type 0
-FoundNotedStays = (l : Limits) (n : CallerNo) (c : ChanNo) (before later : List Event)
+-- the same key stays enrolled for the channel in a selector where the caller enrols none there
+abbrev pub EnrolledStays : Type 0
+EnrolledStays = (l : Limits) (n : CallerNo) (c : ChanNo) (before later : List Event)
     → Keeps l n (the_hold c) before later
-    → (s : SelNo) (noted : Option KeyId) → last (noted_found c.0 s.0) (mine n later) ≡ Some noted
-    → (state_after (before ++ later)).noted c.0 s.0 ≡ noted
+    → (s : SelNo) → IsFalse (has (enrols_key c.0 s.0) (mine n later))
+    → (state_after (before ++ later)).enrolled c.0 s.0 ≡ (state_after before).enrolled c.0 s.0
+
+-- the key that the caller last found enrolled for the channel, or enrolled itself, is enrolled there
+abbrev pub FoundEnrolledStays : Type 0
+FoundEnrolledStays = (l : Limits) (n : CallerNo) (c : ChanNo) (before later : List Event)
+    → Keeps l n (the_hold c) before later
+    → (s : SelNo) (enrolled : Option KeyId) → last (enrolled_found c.0 s.0) (mine n later) ≡ Some enrolled
+    → (state_after (before ++ later)).enrolled c.0 s.0 ≡ enrolled
 
 -- A key that is outside the key set stays outside where the caller doesn't publish the key of its index,
 -- unless it is by then a key of another channel: an index is claimed for a channel, and its key published,
@@ -58,22 +60,22 @@ OutsideStays = (l : Limits) (n : CallerNo) (c : ChanNo) (before later : List Eve
     → ((state_after (before ++ later)).key s.0 k.index).chan ≡ c
     → IsFalse (is_in_key_set ((state_after (before ++ later)).key s.0 k.index) k.serial)
 
--- where the caller knows from its own acts meanwhile that no key of the key set is noted for the channel in a
+-- where the caller knows from its own acts meanwhile that no key of the key set is enrolled for the channel in a
 -- selector, none is
 abbrev pub FoundClearStays : Type 0
 FoundClearStays = (l : Limits) (n : CallerNo) (c : ChanNo) (before later : List Event) → IsFit l
     → Keeps l n (the_hold c) before later
-    → (s : SelNo) → IsTrue (is_clear_by c.0 s.0 (mine n later) (last (noted_found c.0 s.0) (mine n later)))
-    → ForSome ((state_after (before ++ later)).noted c.0 s.0)
+    → (s : SelNo) → IsTrue (is_clear_by c.0 s.0 (mine n later) (last (enrolled_found c.0 s.0) (mine n later)))
+    → ForSome ((state_after (before ++ later)).enrolled c.0 s.0)
     (λ k. IsFalse (is_in_key_set ((state_after (before ++ later)).key s.0 k.index) k.serial))
 
--- Where `is_clear` is true of the caller's acts under its present hold, no key of the key set is noted.
--- `is_clear` is the condition of noting a key, and of blocking mode
+-- Where `is_clear` is true of the caller's acts under its present hold, no key of the key set is enrolled.
+-- `is_clear` is the condition of enrolling a key, and of blocking mode
 abbrev pub ClearIsTrue : Type 0
 ClearIsTrue = (l : Limits) (n : CallerNo) (c : ChanNo) (events : List Event) → IsFit l → IsLegal l events
     → IsTrue (holds (state_after events) n c)
     → (s : SelNo) → IsTrue (is_clear c.0 s.0 (mine n events))
-    → ForSome ((state_after events).noted c.0 s.0)
+    → ForSome ((state_after events).enrolled c.0 s.0)
     (λ k. IsFalse (is_in_key_set ((state_after events).key s.0 k.index) k.serial))
 
 -- ---- while a caller selects

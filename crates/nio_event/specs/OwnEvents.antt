@@ -1,6 +1,6 @@
 -- What a caller knows from its own acts: general words over the list of its acts, oldest first, and
 -- small tests of one act. What is "found" is what a look found, of a key also what pinning its index found;
--- of the key that is noted for a channel a caller knows too what it noted itself.
+-- of the key that is enrolled for a channel a caller knows too what it enrolled itself.
 use Rattle.std.specs.Prelude.{ℕ, suc, ◌==◌, nat_lt, Bool, true, false, not, ◌&&◌, ◌||◌, if◌then◌else◌, Option, Some}
 use Rattle.std.specs.Prelude.{None, List, [], ◌∷◌, ◌++◌, fold, count_by}
 use Rattle.std.specs.List.{list_any}
@@ -97,17 +97,17 @@ is_outside serial (Some found) = not (is_in_key_set found serial)
 abbrev pub finds_outside : ℕ → KeyId → Act → Bool
 finds_outside s k act = is_outside k.serial (stage_found s k.index act)
 
--- it found the keys' mark of selector s above index i
+-- it found the keys' high-water mark of selector s above index i
 abbrev pub finds_below : ℕ → ℕ → Act → Bool
 finds_below s i (LookKeys s' found) = (s'.0 == s) && nat_lt i found
 finds_below s i _ = false
 
--- which key it found noted for channel c in selector s, or noted there
-abbrev pub noted_found : ℕ → ℕ → Act → Option (Option KeyId)
-noted_found c s (LookReg c' s' found) = if (c'.0 == c) && (s'.0 == s) then Some found else None
-noted_found c s (Enrol c' s' i serial _) =
+-- which key it found enrolled for channel c in selector s, or enrolled there
+abbrev pub enrolled_found : ℕ → ℕ → Act → Option (Option KeyId)
+enrolled_found c s (LookReg c' s' found) = if (c'.0 == c) && (s'.0 == s) then Some found else None
+enrolled_found c s (Enrol c' s' i serial _) =
     if (c'.0 == c) && (s'.0 == s) then Some (Some (record { index = i; serial = serial })) else None
-noted_found c s _ = None
+enrolled_found c s _ = None
 
 -- it gave back the turn of selector s
 abbrev pub gives_turn : ℕ → Act → Bool
@@ -193,29 +193,29 @@ leaves_unpublished s i _ = None
 abbrev pub is_unpublished : ℕ → ℕ → List Act → Bool
 is_unpublished s i own = is_yes (last (leaves_unpublished s i) own)
 
--- it noted a key for channel c in selector s
-abbrev pub notes_key : ℕ → ℕ → Act → Bool
-notes_key c s (Enrol c' s' i serial found) = (c'.0 == c) && (s'.0 == s)
-notes_key c s _ = false
+-- it enrolled a key for channel c in selector s
+abbrev pub enrols_key : ℕ → ℕ → Act → Bool
+enrols_key c s (Enrol c' s' i serial found) = (c'.0 == c) && (s'.0 == s)
+enrols_key c s _ = false
 
 -- it published the key of index i of selector s
 abbrev pub publishes : ℕ → ℕ → Act → Bool
 publishes s i (Publish s' i' found) = (s'.0 == s) && (i' == i)
 publishes s i _ = false
 
--- ---- a channel's noted key
+-- ---- a channel's enrolled key
 
--- what it did under its hold since it last noted a key for the channel or published the key of index i
-abbrev pub since_key_noted : ℕ → ℕ → ℕ → List Act → List Act
-since_key_noted c s i held = since_from (λ act. notes_key c s act || publishes s i act) held
+-- what it did under its hold since it last enrolled a key for the channel or published the key of index i
+abbrev pub since_key_enrolled : ℕ → ℕ → ℕ → List Act → List Act
+since_key_enrolled c s i held = since_from (λ act. enrols_key c s act || publishes s i act) held
 
--- by what it did under its hold, none was noted, or the key that was it found outside the key set; a look
--- that is older than its own noting or publishing there doesn't count
+-- by what it did under its hold, none was enrolled, or the key that was it found outside the key set; a look
+-- that is older than its own enrolling or publishing there doesn't count
 abbrev pub is_clear_by : ℕ → ℕ → List Act → Option (Option KeyId) → Bool
 is_clear_by c s held None = false
 is_clear_by c s held (Some None) = true
-is_clear_by c s held (Some (Some k)) = has (finds_outside s k) (since_key_noted c s k.index held)
+is_clear_by c s held (Some (Some k)) = has (finds_outside s k) (since_key_enrolled c s k.index held)
 
 -- the same of channel c in selector s, under its present hold of c
 abbrev pub is_clear : ℕ → ℕ → List Act → Bool
-is_clear c s own = is_clear_by c s (under c own) (last (noted_found c s) (under c own))
+is_clear c s own = is_clear_by c s (under c own) (last (enrolled_found c s) (under c own))

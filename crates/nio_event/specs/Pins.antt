@@ -75,11 +75,11 @@ abbrev pub UnpublishedKeysStay : Type 0
 UnpublishedKeysStay = (l : Limits) (n : CallerNo) (s : SelNo) (i : ℕ) (events : List Event) → IsFit l → IsLegal l events
     → IsTrue (is_unpublished s.0 i (mine n events)) → IsFalse ((state_after events).key s.0 i).published
 
--- a key that is noted for a channel was claimed for it; while the index has this key, it is of this channel
-abbrev pub NotedKeysAreClaimed : Type 0
-NotedKeysAreClaimed = (l : Limits) (c : ChanNo) (s : SelNo) (k : KeyId) (events : List Event) → IsFit l
+-- a key that is enrolled for a channel was claimed for it; while the index has this key, it is of this channel
+abbrev pub EnrolledKeysAreClaimed : Type 0
+EnrolledKeysAreClaimed = (l : Limits) (c : ChanNo) (s : SelNo) (k : KeyId) (events : List Event) → IsFit l
     → IsLegal l events
-    → (state_after events).noted c.0 s.0 ≡ Some k
+    → (state_after events).enrolled c.0 s.0 ≡ Some k
     → IsTrue (was_claimed ((state_after events).key s.0 k.index) k.serial)
     × (((state_after events).key s.0 k.index).serial ≡ k.serial → ((state_after events).key s.0 k.index).chan ≡ c)
 

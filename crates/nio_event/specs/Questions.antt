@@ -80,7 +80,7 @@ pub data Answer : Type 0 where
   operations : ℕ → Answer
   channel : Chan → Answer
   number : ℕ → Answer
-  noted_key : Option KeyId → Answer
+  enrolled_key : Option KeyId → Answer
   holder : Option CallerNo → Answer
   key_mark : KeyMark → Answer
   exchange : Result (Unit {0}) KeyMark → Answer
@@ -160,8 +160,8 @@ answer_of (Claim s i c found) = flag found
 answer_of (RaiseKeys s n found) = number found
 answer_of (LookKeys s found) = number found
 answer_of (Publish s i found) = stage found
-answer_of (LookReg c s found) = noted_key found
-answer_of (Enrol c s i serial found) = noted_key found
+answer_of (LookReg c s found) = enrolled_key found
+answer_of (Enrol c s i serial found) = enrolled_key found
 answer_of (TakeTurn s found) = holder found
 answer_of (BeginLook s found) = gate_word found
 answer_of (GiveTurn s) = nothing

@@ -7,9 +7,9 @@ use Rattle.nio_event.specs.Sets.{can_come_back}
 use Rattle.nio_event.specs.State.{State, unmade_channel, unclaimed, last_serial}
 
 pub record IsSound (st : State) : Type 0 where
-  -- every channel below the channels' mark is made
+  -- every channel below the channels' high-water mark is made
   pub channels_below : (c : ℕ) → c < st.channels_high → IsTrue (st.chan c).made
-  -- every index below a selector's keys' mark is claimed
+  -- every index below a selector's keys' high-water mark is claimed
   pub keys_below : (s i : ℕ) → i < st.keys_high s → IsTrue (st.key s i).claimed
   -- a channel that isn't made and an index that isn't claimed are as in the opening state
   pub unmade_bare : (c : ℕ) → IsFalse (st.chan c).made → st.chan c ≡ unmade_channel
@@ -46,11 +46,11 @@ pub record IsWithin (l : Limits) (st : State) : Type 0 where
   pub keys_high : (s : ℕ) → st.keys_high s ≤ l.keys
   -- a claimed index, its selector and the channel that it was claimed for
   pub keys : (s i : ℕ) → IsTrue (st.key s i).claimed → (s < l.selectors) × (i < l.keys) × IsChannel l (st.key s i).chan
-  -- who holds a channel, has a turn, or closes a selector, and the index that is noted
+  -- who holds a channel, has a turn, or closes a selector, and the index that is enrolled
   pub holds : (c : ℕ) → ForSome (st.hold c) (IsCaller l)
   pub turns : (s : ℕ) → ForSome (st.turn s) (IsCaller l)
   pub closers : (s : ℕ) → ForSome (st.closer s) (IsCaller l)
-  pub noted : (c s : ℕ) → ForSome (st.noted c s) (λ k. (k.index < l.keys) × (k.serial ≤ last_serial))
+  pub enrolled : (c s : ℕ) → ForSome (st.enrolled c s) (λ k. (k.index < l.keys) × (k.serial ≤ last_serial))
   -- serials
   pub serials : (s i : ℕ) → (st.key s i).serial ≤ last_serial
   -- who has a pin, or has taken an index

@@ -2,8 +2,7 @@
 --
 -- Each part is a function of the numbers that name it, so that there are no lengths to speak of: what
 -- nothing was done to holds the opening value. A part has one setter, below, which changes it at one
--- number and nowhere else. `docs/READING.md` says how to read the
--- definitions of this folder, and in which order.
+-- number and nowhere else. `docs/READING.md` says how to read the definitions of this folder, and in which order.
 use Rattle.std.specs.Prelude.{ℕ, ◌==◌, Bool, false, ◌&&◌, if◌then◌else◌, Option, None}
 use Rattle.nio_base.specs.declared.kind.Kind.TheVariants.{Stream}
 use Rattle.nio_base.specs.declared.numbers.CallerNo.{CallerNo}
@@ -19,15 +18,14 @@ pub record State : Type 0 where
   pub interrupted : ℕ → Bool
   -- selectors that are made
   pub selector : ℕ → Bool
-  -- every channel below the mark is made
+  -- the channels' high-water mark, below which every channel is made
   pub channels_high : ℕ
   -- a channel, and the caller that holds it while it registers it or sets its mode
   pub chan : ℕ → Chan
   pub hold : ℕ → Option CallerNo
-  -- the key that is noted for a channel in a selector, by the channel and the selector
-  pub noted : ℕ → ℕ → Option KeyId
-  -- a selector: its gate, the caller that selects on it, and the mark below which every index was
-  -- claimed
+  -- the key that is enrolled for a channel in a selector, by the channel and the selector
+  pub enrolled : ℕ → ℕ → Option KeyId
+  -- a selector: its gate, the caller that has its turn, and its keys' high-water mark
   pub gate : ℕ → GateWord
   pub turn : ℕ → Option CallerNo
   pub keys_high : ℕ → ℕ
@@ -90,7 +88,7 @@ opening = record {
   channels_high = 0;
   chan = λ _. unmade_channel;
   hold = λ _. None;
-  noted = λ _ _. None;
+  enrolled = λ _ _. None;
   gate = λ _. open_gate;
   turn = λ _. None;
   keys_high = λ _. 0;
@@ -135,8 +133,8 @@ with_chan st c x = record st { chan = put st.chan c x }
 abbrev pub with_hold : State → ℕ → Option CallerNo → State
 with_hold st c x = record st { hold = put st.hold c x }
 
-abbrev pub with_noted : State → ℕ → ℕ → Option KeyId → State
-with_noted st c s x = record st { noted = put_at st.noted c s x }
+abbrev pub with_enrolled : State → ℕ → ℕ → Option KeyId → State
+with_enrolled st c s x = record st { enrolled = put_at st.enrolled c s x }
 
 abbrev pub with_gate : State → ℕ → GateWord → State
 with_gate st s x = record st { gate = put st.gate s x }

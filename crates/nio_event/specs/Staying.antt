@@ -46,7 +46,7 @@ ConditionsStay = (l : Limits) (n : CallerNo) (before after : List Event) → IsP
     → Condition l (mine n after) (state_after after) n act
 
 -- the state after a legal history is sound; among other things, every index below a selector's keys'
--- mark is claimed
+-- high-water mark is claimed
 abbrev pub StatesAreSound : Type 0
 StatesAreSound = (l : Limits) (events : List Event) → IsLegal l events → IsSound (state_after events)
 

@@ -55,8 +55,8 @@ stage serial published cancelled removed = record {
   serial = serial;
 }
 
-abbrev pub noted : ℕ → ℕ → KeyId
-noted index serial = record { index = index; serial = serial }
+abbrev pub enrolled : ℕ → ℕ → KeyId
+enrolled index serial = record { index = index; serial = serial }
 
 abbrev pub mark : Bool → ℕ → KeyMark
 mark selected ready = record { selected = selected; ready = ready }
@@ -131,7 +131,7 @@ worked_history =
     event_of u (LookChannel c (chan false false)) ∷
     event_of u (TryHoldBit c None) ∷
     event_of u (LookChannel c (chan false false)) ∷
-    event_of u (LookReg c s (Some (noted 0 0))) ∷
+    event_of u (LookReg c s (Some (enrolled 0 0))) ∷
     event_of u (Pin s 0 (stage 0 true true true)) ∷
     event_of u (Unpin s 0) ∷
     event_of u (LookGate s (gate false false)) ∷
@@ -153,7 +153,7 @@ worked_history =
     event_of u (LookGate s (gate false false)) ∷
     event_of u (SwapInterest s 0 1 1) ∷
     event_of u (SwapNote s 0 0 7) ∷
-    event_of u (Enrol c s 0 1 (Some (noted 0 0))) ∷
+    event_of u (Enrol c s 0 1 (Some (enrolled 0 0))) ∷
     event_of u (Publish s 0 (stage 1 false false false)) ∷
     event_of u (LookChannel c (chan false false)) ∷
     event_of u (Unpin s 0) ∷
@@ -172,9 +172,9 @@ worked_history =
     event_of u (PutFree s 0) ∷
     event_of u (EndWake s (gate false false)) ∷
     event_of u (GiveTurn s) ∷
-    -- caller 1 sets blocking mode again: the noted key is removed
+    -- caller 1 sets blocking mode again: the enrolled key is removed
     event_of v (TryHoldBit c None) ∷
-    event_of v (LookReg c s (Some (noted 0 1))) ∷
+    event_of v (LookReg c s (Some (enrolled 0 1))) ∷
     event_of v (LookKey s 0 (stage 1 true true true)) ∷
     event_of v (SetMode c true (chan false false)) ∷
     event_of v (Release c) ∷
@@ -238,13 +238,13 @@ refused_events =
     -- a mark is cleared by who claimed the index, before the key is published
     (76, event_of v (ClearMark s 0 (mark false 5))) ∷
     (82, event_of u (ClearMark s 0 (mark false 0))) ∷
-    -- a key is noted with the serial of the claim
-    (80, event_of u (Enrol c s 0 0 (Some (noted 0 0)))) ∷
-    -- a channel goes back to blocking mode only after a look at its noted keys, since it noted one itself
+    -- a key is enrolled with the serial of the claim
+    (80, event_of u (Enrol c s 0 0 (Some (enrolled 0 0)))) ∷
+    -- a channel goes back to blocking mode only after a look at its enrolled keys, since it enrolled one itself
     (99, event_of v (SetMode c true (chan false false))) ∷
     (100, event_of v (SetMode c true (chan false false))) ∷
     (82, event_of u (SetMode c true (chan false false))) ∷
-    -- a closer removes after it has entered, and what it has found below the mark since
+    -- a closer removes after it has entered, and what it has found below the high-water mark since
     (108, event_of v (Remove s 0 (stage 1 true true true))) ∷
     (109, event_of v (Remove s 0 (stage 1 true true true))) ∷
     -- only the closer enters

@@ -43,23 +43,21 @@ pub enum Act {
     MakeChannel(ChanNo, Kind, bool),
     /// Looks at a channel.
     LookChannel(ChanNo, Chan),
-    /// Claims an index of a selector for its first key, a key of this channel, and pins it: whether it
-    /// was claimed.
+    /// Claims an index of a selector for its first key, a key of this channel, and pins it: whether it was claimed.
     Claim(SelNo, u32, ChanNo, bool),
-    /// Raises a selector's keys' mark to this number, unless it is as high or higher.
+    /// Raises a selector's keys' high-water mark to this number, unless it is as high or higher.
     RaiseKeys(SelNo, u32, u32),
-    /// Looks at a selector's keys' mark.
+    /// Looks at a selector's keys' high-water mark.
     LookKeys(SelNo, u32),
     /// Publishes a key: its registration is complete.
     Publish(SelNo, u32, Stage),
-    /// Looks at which key is noted for a channel in a selector.
+    /// Looks at which key is enrolled for a channel in a selector.
     LookReg(ChanNo, SelNo, Option<KeyId>),
-    /// Notes a key, by its index and its serial, for a channel in a selector.
+    /// Enrols a key, by its index and its serial, for a channel in a selector.
     Enrol(ChanNo, SelNo, u32, u32, Option<KeyId>),
     /// Takes the turn to select on a selector, where nobody has it: who had it.
     TakeTurn(SelNo, Option<CallerNo>),
-    /// Looks at a selector's gate as the holder of its turn, and begins a selection where it isn't
-    /// shut.
+    /// Looks at a selector's gate as the holder of its turn, and begins a selection where it isn't shut.
     BeginLook(SelNo, GateWord),
     /// Gives the turn back, and ends the selection.
     GiveTurn(SelNo),
@@ -74,9 +72,9 @@ pub enum Act {
     UnselectBit(SelNo, u32, bool),
     /// Clears a selector's wakeup.
     EndWake(SelNo, GateWord),
-    /// Looks at the channels' mark.
+    /// Looks at the channels' high-water mark.
     LookChannels(u32),
-    /// Raises the channels' mark to this number, unless it is as high or higher.
+    /// Raises the channels' high-water mark to this number, unless it is as high or higher.
     RaiseChannels(u32, u32),
     /// Takes the hold of a channel, where nobody has it: who had it.
     TryHoldBit(ChanNo, Option<CallerNo>),

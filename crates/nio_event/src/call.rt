@@ -60,17 +60,17 @@ pub enum Call {
     Close(SelNo),
     /// `close-end S`: ends the closing that the caller began.
     CloseEnd(SelNo),
-    /// `keys S`: answers the selector's key set.
+    /// `keys S`: the selector's key set.
     Keys(SelNo),
-    /// `selected S`: answers the selector's selected-key set.
+    /// `selected S`: the selector's selected-key set.
     Selected(SelNo),
     /// `interrupt T`: sets the interrupt status of caller T.
     Interrupt(CallerNo),
-    /// `interrupted`: answers whether the caller's interrupt status was set, and clears it, as `Thread.interrupted` does.
+    /// `interrupted`: whether the caller's interrupt status was set; clears it, as `Thread.interrupted` does.
     Interrupted,
     /// `pipe T`: opens a pipe; this caller owns its source, and caller T its sink.
     Pipe(CallerNo),
-    /// `pwrite C HEX`: writes bytes into the pipe whose sink is C, and answers how many were written: as many as fit.
+    /// `pwrite C HEX`: writes bytes into the pipe whose sink is C, and gives how many were written: as many as fit.
     Pwrite(ChanNo, Bytes),
     /// `pread C N`: reads at most N bytes from the pipe whose source is C.
     Pread(ChanNo, u32),
@@ -138,6 +138,8 @@ pub enum Waiting {
 /// A call and who makes it: what a line of a script says that isn't blank.
 #[derive(Debug, Drop)]
 pub struct ScriptCall {
+    /// Who makes the call.
     pub caller: CallerNo,
+    /// What is called.
     pub call: Call,
 }

@@ -172,6 +172,7 @@ impl CallWord {
         }
     }
 
+    /// The word, as it stands in a line.
     pub fn text(self) -> &'static [u8]
         ensures { result.now ≡ call_word_text self }
     {
@@ -212,6 +213,7 @@ impl CallWord {
         }
     }
 
+    /// The call word of this text; none where it isn't one.
     pub fn read(text: &[u8]) -> Option<CallWord>
         ensures { Reads (λ _. ⊤) call_word_text text.now result }
     {
@@ -220,6 +222,7 @@ impl CallWord {
 }
 
 impl LoneWord {
+    /// The call.
     pub fn call(self) -> Call
         ensures word { call_word result ≡ CallWord.Alone self }
         ensures arguments { arguments result ≡ nothing }
@@ -232,6 +235,7 @@ impl LoneWord {
 }
 
 impl CallerWord {
+    /// The call on this caller.
     pub fn call(self, caller: CallerNo) -> Call
         ensures word { call_word result ≡ CallWord.OnCaller self }
         ensures arguments { arguments result ≡ one_caller caller }
@@ -244,6 +248,7 @@ impl CallerWord {
 }
 
 impl SelectorWord {
+    /// The call on this selector.
     pub fn call(self, selector: SelNo) -> Call
         ensures word { call_word result ≡ CallWord.OnSelector self }
         ensures arguments { arguments result ≡ one_selector selector }
@@ -260,6 +265,7 @@ impl SelectorWord {
 }
 
 impl ChannelWord {
+    /// The call on this channel.
     pub fn call(self, channel: ChanNo) -> Call
         ensures word { call_word result ≡ CallWord.OnChannel self }
         ensures arguments { arguments result ≡ one_channel channel }
@@ -274,6 +280,7 @@ impl ChannelWord {
 }
 
 impl KeyWord {
+    /// The call on this key.
     pub fn call(self, selector: SelNo, key: KeyId) -> Call
         ensures word { call_word result ≡ CallWord.OnKey self }
         ensures arguments { arguments result ≡ selector_key selector key }
@@ -290,6 +297,7 @@ impl KeyWord {
 }
 
 impl KeyOpsWord {
+    /// The call on this key with these operations.
     pub fn call(self, selector: SelNo, key: KeyId, ops: Ops) -> Call
         ensures word { call_word result ≡ CallWord.OnKeyOps self }
         ensures arguments { arguments result ≡ key_ops selector key ops }

@@ -7,7 +7,9 @@ use nio_base::{ChanNo, Kind, Ops};
 /// The gate of a selector: whether a wakeup is pending, and whether closing it has begun.
 #[derive(Clone, Copy, Debug, PartialEq, Eq)]
 pub struct GateWord {
+    /// A wakeup is pending.
     pub woken: bool,
+    /// Closing the selector has begun: Java's `isOpen` is false.
     pub shut: bool,
 }
 
@@ -16,11 +18,17 @@ pub struct GateWord {
 /// claimed again, for a new key with the next serial.
 #[derive(Clone, Copy, Debug, PartialEq, Eq)]
 pub struct Stage {
+    /// The index was given to a channel.
     pub claimed: bool,
+    /// The registration is complete.
     pub published: bool,
+    /// The key was cancelled.
     pub cancelled: bool,
+    /// The key left the key set.
     pub removed: bool,
+    /// The channel of the key.
     pub chan: ChanNo,
+    /// How many keys had this index before.
     pub serial: u32,
 }
 
@@ -58,16 +66,22 @@ impl Stage {
 /// mode.
 #[derive(Clone, Copy, Debug, PartialEq, Eq)]
 pub struct Chan {
+    /// The channel was opened.
     pub made: bool,
+    /// Its kind.
     pub kind: Kind,
+    /// It was closed.
     pub closed: bool,
+    /// It is in blocking mode.
     pub blocking: bool,
 }
 
 /// Whether a key is in its selector's selected set, and its ready set.
 #[derive(Clone, Copy, Debug, PartialEq, Eq)]
 pub struct Mark {
+    /// The key is in the selected set.
     pub selected: bool,
+    /// Its ready set.
     pub ready: Ops,
 }
 
@@ -75,7 +89,10 @@ pub struct Mark {
 /// least 1.
 #[derive(Clone, Copy, Debug, PartialEq, Eq)]
 pub enum Mode {
+    /// It doesn't wait: Java's `selectNow`.
     Now,
+    /// It waits without a limit of time: Java's `select()`.
     Wait,
+    /// It waits for so many milliseconds: Java's `select(timeout)`.
     For(u64),
 }

@@ -40,6 +40,7 @@ impl GroupWord {
         }
     }
 
+    /// The word, as it stands in a line.
     pub fn text(self) -> &'static [u8]
         ensures { result.now ≡ group_word_text self }
     {

@@ -1,9 +1,14 @@
 //! Laws of legal histories. Each is the contract of a function that does nothing.
-ghost use Rattle.nio_event.specs.Staying.{BeginningsAreLegal, FactsArePermanent, InvalidKeysStayInvalid, OnlyItselfGivesBack, ConditionsStay, StatesAreSound, StatesAreWithin};
+ghost use Rattle.nio_event.specs.Staying.{BeginningsAreLegal, FactsArePermanent, InvalidKeysStayInvalid};
+ghost use Rattle.nio_event.specs.Staying.{OnlyItselfGivesBack, ConditionsStay, StatesAreSound, StatesAreWithin};
 ghost use Rattle.nio_event.specs.Found.{StepsLeave, LooksTell, FoundStands};
-ghost use Rattle.nio_event.specs.Holders.{ModeStays, NotedStays, FoundNotedStays, OutsideStays, FoundClearStays, ClearIsTrue, SelectsAlone, KeySetStays, MarksStay, WakeupStays};
-ghost use Rattle.nio_event.specs.Pins.{PinsAreOwn, TakenIsOwn, PinnedKeysStay, ClaimsAgainWhereUnpinned, ClaimsAgainTheRemoved, OwnClaimsStand, UnpublishedKeysStay, NotedKeysAreClaimed, SelectionsKeepKeys};
-ghost use Rattle.nio_event.specs.Turns.{TurnHasOneHolder, HoldHasOneHolder, HolderKnowsMode, OneSelectionAtATime, OnlyWhoMaySelects};
+ghost use Rattle.nio_event.specs.Holders.{ModeStays, EnrolledStays, FoundEnrolledStays, OutsideStays, FoundClearStays};
+ghost use Rattle.nio_event.specs.Holders.{ClearIsTrue, SelectsAlone, KeySetStays, MarksStay, WakeupStays};
+ghost use Rattle.nio_event.specs.Pins.{PinsAreOwn, TakenIsOwn, PinnedKeysStay, ClaimsAgainWhereUnpinned};
+ghost use Rattle.nio_event.specs.Pins.{ClaimsAgainTheRemoved, OwnClaimsStand, UnpublishedKeysStay};
+ghost use Rattle.nio_event.specs.Pins.{EnrolledKeysAreClaimed, SelectionsKeepKeys};
+ghost use Rattle.nio_event.specs.Turns.{TurnHasOneHolder, HoldHasOneHolder, HolderKnowsMode, OneSelectionAtATime};
+ghost use Rattle.nio_event.specs.Turns.{OnlyWhoMaySelects};
 ghost use Rattle.nio_event.specs.Worked.{WorkedHistoryIsLegal, RefusedEventsAreNoSteps};
 
 /// Each beginning of a legal history is legal.
@@ -30,7 +35,7 @@ pub fn condition_law()
     ensures { ConditionsStay }
 {}
 
-/// The state after a legal history is sound: an index below a selector's mark is claimed, what is
+/// The state after a legal history is sound: an index below a selector's high-water mark is claimed, what is
 /// held is made, a channel that isn't made and the stage of an index that isn't claimed are as they were
 /// at the opening, and more. And every number that it speaks of is within the limits.
 pub fn soundness_law()
@@ -64,7 +69,7 @@ pub fn own_pins_law()
 
 /// A `claim_again` succeeds exactly where nobody has a pin on the index, and only from a key that was removed.
 /// So an index keeps its key until a pin on it is taken off, and while a caller has the pin of its claim, the
-/// key is the one that it claimed; nobody else publishes that key. A key that is noted for a channel was
+/// key is the one that it claimed; nobody else publishes that key. A key that is enrolled for a channel was
 /// claimed for it.
 pub fn pins_law()
     ensures stays { PinnedKeysStay }
@@ -72,7 +77,7 @@ pub fn pins_law()
     ensures removed_before { ClaimsAgainTheRemoved }
     ensures own_claim { OwnClaimsStand }
     ensures unpublished { UnpublishedKeysStay }
-    ensures noted { NotedKeysAreClaimed }
+    ensures enrolled { EnrolledKeysAreClaimed }
 {}
 
 /// While a caller selects, a key that isn't removed yet, and that the caller doesn't remove, keeps its index
@@ -94,12 +99,12 @@ pub fn found_law()
     ensures stands { FoundStands }
 {}
 
-/// While a caller holds a channel, nobody else sets its mode, notes a key for it or publishes a key of it.
-/// So what the caller last found noted is noted, and a key that it found outside the key set is outside.
+/// While a caller holds a channel, nobody else sets its mode, enrols a key for it or publishes a key of it.
+/// So what the caller last found enrolled is enrolled, and a key that it found outside the key set is outside.
 pub fn hold_law()
     ensures mode { ModeStays }
-    ensures noted { NotedStays }
-    ensures found_noted { FoundNotedStays }
+    ensures enrolled { EnrolledStays }
+    ensures found_enrolled { FoundEnrolledStays }
     ensures outside { OutsideStays }
     ensures found_clear { FoundClearStays }
     ensures clear { ClearIsTrue }

@@ -32,6 +32,7 @@ impl Names {
         self.keys
     }
 
+    /// The keys, in their order.
     pub fn as_slice(&self) -> &[KeyId]
         ensures { result.now ≡ self.now }
     {

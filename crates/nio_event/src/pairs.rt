@@ -33,6 +33,7 @@ impl Pairs {
         self.pairs
     }
 
+    /// The pairs, in their order.
     pub fn as_slice(&self) -> &[(KeyId, Ops)]
         ensures { result.now ≡ self.now }
     {

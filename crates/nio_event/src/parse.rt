@@ -34,11 +34,13 @@ pub enum Parsed {
     Line { caller: CallerNo, call: Call },
 }
 
+/// Why a line isn't read.
 #[derive(Debug, Drop, Error)]
 pub enum ParseError {
     /// The line isn't in the grammar of scripts.
     #[error("malformed line")]
     Malformed,
+    /// There is no memory for what the line says.
     #[error("out of memory")]
     Memory,
 }

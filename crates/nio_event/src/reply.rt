@@ -6,7 +6,7 @@ use crate::names::Names;
 use crate::pairs::Pairs;
 use nio_base::{ChanNo, KeyId, SelNo};
 
-/// What a call of a script answers.
+/// The reply to a call of a script.
 #[derive(Debug, Drop)]
 pub enum Reply {
     /// `sN`: the selector that was opened.
@@ -19,8 +19,11 @@ pub enum Reply {
     Number(u64),
     /// Keys by their names, at least one, in rising order of their indexes.
     Names(Names),
+    /// The call is done.
     Ok,
+    /// It is so.
     Yes,
+    /// It isn't so.
     No,
     /// There is no such key.
     None,
@@ -38,21 +41,37 @@ pub enum Reply {
     Closing,
     /// The closing has ended.
     Closed,
+    /// No number is left for a selector.
     SelectorsSpent,
+    /// No number is left for a channel.
     ChannelsSpent,
+    /// The channel is closed.
     ClosedChannel,
+    /// The channel is in blocking mode, or is registered and may not return to it.
     IllegalBlockingMode,
+    /// The channel's kind hasn't all of these operations.
     IllegalOps,
+    /// The key isn't valid any more.
     CancelledKey,
+    /// The selector is closed.
     ClosedSelector,
+    /// The selector has no index left for a key.
     Full,
+    /// Somebody selects there, or another caller holds the channel.
     Busy,
+    /// The time is below 0.
     NegativeTimeout,
+    /// The caller has no selection in progress there.
     NotSelecting,
+    /// The caller has no closing in progress there.
     NotClosing,
+    /// There is no such caller.
     NoCaller,
+    /// There is no such selector.
     NoSelector,
+    /// There is no such channel.
     NoChannel,
+    /// There is no such key.
     NoKey,
     /// `cN cM`: the source and the sink of the pipe that was made.
     Ends(ChanNo, ChanNo),

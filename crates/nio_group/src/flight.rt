@@ -1,9 +1,12 @@
 //! The operations of a group from their start to their end, and the queue of their completions.
-ghost use Rattle.std.specs.Prelude.{◌≡◌, ℕ, ◌+◌, ◌<◌, ◌≤◌, ◌^◌, IfOk, IsTrue, is_some, count_by, length, Some, None, true};
+ghost use Rattle.std.specs.Prelude.{◌≡◌, ℕ, ◌+◌, ◌<◌, ◌≤◌, ◌^◌, IfOk, IsTrue, is_some, count_by, length, Some, None};
+ghost use Rattle.std.specs.Prelude.{true};
 ghost use Rattle.nio_group.specs.Stages.{is_running, is_pending};
 ghost use Rattle.nio_base.specs.declared.group.OpKind.{OpKind};
 ghost use Rattle.nio_group.specs.Pending.{slot_of};
-ghost use Rattle.nio_group.specs.Flight.{IsPendingAs, op_at, accepted, in_flight, no_flight, with_accepted, with_completed, flight_after_take, next_taken, with_ended, with_channel_closed};
+ghost use Rattle.nio_group.specs.Flight.{IsPendingAs, op_at, accepted, in_flight, no_flight, with_accepted};
+ghost use Rattle.nio_group.specs.Flight.{with_completed, flight_after_take, next_taken, with_ended};
+ghost use Rattle.nio_group.specs.Flight.{with_channel_closed};
 
 use crate::operation::{Operation, Stage};
 use crate::operations::Operations;
@@ -27,7 +30,11 @@ impl Model for Flight {
 
     ghost Value = { spec.Flight };
 
-    ghost view = { λ f. record { operations = f.operations.operations; queue = f.queue.items; limit = f.operations.limit } };
+    ghost view = { λ f. record {
+      operations = f.operations.operations;
+      queue = f.queue.items;
+      limit = f.operations.limit;
+    } };
 
     ghost invariant = { λ f. IsFlightKept f.operations f.queue.items (deque_len f.queue) (deque_capacity f.queue) };
 }

@@ -1,11 +1,16 @@
 //! An asynchronous channel group as calls of one thread.
-ghost use Rattle.std.specs.Prelude.{◌≡◌, ℕ, ◌+◌, ◌<◌, ◌≤◌, ◌↔◌, IfOk, IfSome, IfNone, IsTrue, length, Some, None, IsNone};
+ghost use Rattle.std.specs.Prelude.{◌≡◌, ℕ, ◌+◌, ◌<◌, ◌≤◌, ◌↔◌, IfOk, IfSome, IfNone, IsTrue, length, Some, None};
+ghost use Rattle.std.specs.Prelude.{IsNone};
 ghost use Rattle.nio_group.specs.Limits.{IsFit};
 ghost use Rattle.nio_group.specs.Stages.{is_running as handler_runs};
 ghost use Rattle.nio_group.specs.Flight.{IsPendingAs, op_at};
 ghost use Rattle.nio_group.specs.Group.{empty_group, channel_at, is_terminated, IsLawful};
 ghost use Rattle.nio_group.specs.Refusals.{report_refusal, start_refusal as refusal_of_start};
-ghost use Rattle.nio_group.specs.Steps.{answer_to_open, after_open, answer_to_bind, after_bind, answer_to_start, after_start, answer_to_report, after_report, reported, answer_to_take, after_take, answer_to_finish, after_finish, after_close, after_shutdown, after_shutdown_now, IsJobOf, result_of as finished_as, first_stage as stage_at_start};
+ghost use Rattle.nio_group.specs.Steps.{answer_to_open, after_open, answer_to_bind, after_bind, answer_to_start};
+ghost use Rattle.nio_group.specs.Steps.{after_start, answer_to_report, after_report, reported, answer_to_take};
+ghost use Rattle.nio_group.specs.Steps.{after_take, answer_to_finish, after_finish, after_close, after_shutdown};
+ghost use Rattle.nio_group.specs.Steps.{after_shutdown_now, IsJobOf, result_of as finished_as};
+ghost use Rattle.nio_group.specs.Steps.{first_stage as stage_at_start};
 
 use crate::channel::{Channel, Endpoint, Link};
 use crate::completion::{Completion, Job};
@@ -42,7 +47,8 @@ impl Model for GroupCore {
 
     ghost use Rattle.std.specs.Vec.{vec_capacity};
 
-    ghost invariant = { λ g. IsGroupKept g.flight g.channels.items g.pending.items g.open_channels g.shut g.limits (vec_capacity g.channels) (vec_capacity g.pending) };
+    ghost invariant = { λ g. IsGroupKept g.flight g.channels.items g.pending.items g.open_channels g.shut g.limits
+        (vec_capacity g.channels) (vec_capacity g.pending) };
 }
 
 impl GroupCore {

@@ -1,6 +1,7 @@
 //! Where in the slab each operation in flight is: an open table from operation numbers to keys that
 //! takes all its memory when it is made.
-ghost use Rattle.std.specs.Prelude.{◌≡◌, ℕ, ◌+◌, ◌<◌, ◌≤◌, ◌*◌, IfOk, IfNone, IfSome, Some, None, false, true, is_some, count_by, slice_index_or, length};
+ghost use Rattle.std.specs.Prelude.{◌≡◌, ℕ, ◌+◌, ◌<◌, ◌≤◌, ◌*◌, IfOk, IfNone, IfSome, Some, None, false, true, is_some};
+ghost use Rattle.std.specs.Prelude.{count_by, slice_index_or, length};
 ghost use Rattle.nio_group.specs.Index.{key_of, entries, ChangesKey, has_number, home_of};
 
 use std::alloc::{AllocError, Global};
@@ -47,8 +48,10 @@ fn home(number: u64, limit: usize) -> usize
 /// The slot, at most `reach` past the home, that has this number.
 fn find(slots: &[Option<Entry>], home: usize, reach: usize, number: u64) -> Option<usize>
     requires { home + reach < length slots.now }
-    ensures found { IfSome result (λ i. (home ≤ i) × (i ≤ home + reach) × (has_number number (slice_index_or slots.now i None) ≡ true)) }
-    ensures absent { IfNone result ((i : ℕ) → home ≤ i → i ≤ home + reach → has_number number (slice_index_or slots.now i None) ≡ false) }
+    ensures found { IfSome result (λ i. (home ≤ i) × (i ≤ home + reach)
+        × (has_number number (slice_index_or slots.now i None) ≡ true)) }
+    ensures absent { IfNone result ((i : ℕ) → home ≤ i → i ≤ home + reach
+        → has_number number (slice_index_or slots.now i None) ≡ false) }
 {
     for at in home..home + reach + 1 {
         if let Some(entry) = slots[at] {

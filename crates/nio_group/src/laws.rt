@@ -1,5 +1,6 @@
 //! The laws of a group, each the contract of a function with an empty body.
-ghost use Rattle.nio_group.specs.Run.{StepsAreLawful, TerminatedStays, StagesGoForward, CompletesOnce, TakesOnce, TerminatedIsAtRest};
+ghost use Rattle.nio_group.specs.Run.{StepsAreLawful, TerminatedStays, StagesGoForward, CompletesOnce, TakesOnce};
+ghost use Rattle.nio_group.specs.Run.{TerminatedIsAtRest};
 
 /// For each lawful state of a group and each call there are one reply and one next state, and that
 /// state is lawful.

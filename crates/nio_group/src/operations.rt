@@ -1,6 +1,7 @@
 //! The operations that a group has accepted: those in flight are kept, those that have ended are
 //! known by their numbers alone.
-ghost use Rattle.std.specs.Prelude.{◌≡◌, ℕ, ◌+◌, ◌<◌, ◌≤◌, ◌^◌, ◌++◌, ◌∷◌, [], IfOk, Some, None, IsSome, is_some, count_by, length};
+ghost use Rattle.std.specs.Prelude.{◌≡◌, ℕ, ◌+◌, ◌<◌, ◌≤◌, ◌^◌, ◌++◌, ◌∷◌, [], IfOk, Some, None, IsSome, is_some};
+ghost use Rattle.std.specs.Prelude.{count_by, length};
 ghost use Rattle.nio_group.specs.Operations.{operation_at, with_operation};
 
 use crate::index::Index;

@@ -15,7 +15,8 @@ use nio_words::{Pass, Words};
 #[tactic(auto, unfolding(nio_steps::specs::KeyCalls::find_selector_plan))]
 pub fn find_selector(w: &Words, p: &mut Pass, me: CallerNo, number: u32) -> Option<SelNo>
     requires { IsReady w.now p.old me }
-    ensures call { CallClause me (Completes (find_selector_plan (limits_of w.now) number)) (view w.now p.old) (view w.now p.new) result }
+    ensures call { CallClause me (Completes (find_selector_plan (limits_of w.now) number))
+        (view w.now p.old) (view w.now p.new) result }
     ensures ready { IsReady w.now p.new me }
     ensures found { IfSome result (HasSelector (view w.now p.new)) }
 {
@@ -34,7 +35,8 @@ pub fn find_selector(w: &Words, p: &mut Pass, me: CallerNo, number: u32) -> Opti
 #[tactic(auto, unfolding(nio_steps::specs::KeyCalls::find_channel_plan))]
 pub fn find_channel(w: &Words, p: &mut Pass, me: CallerNo, number: u32) -> Option<ChanNo>
     requires { IsReady w.now p.old me }
-    ensures call { CallClause me (Completes (find_channel_plan (limits_of w.now) number)) (view w.now p.old) (view w.now p.new) result }
+    ensures call { CallClause me (Completes (find_channel_plan (limits_of w.now) number))
+        (view w.now p.old) (view w.now p.new) result }
     ensures ready { IsReady w.now p.new me }
     ensures found { IfSome result (HasChannel (view w.now p.new)) }
 {
@@ -61,7 +63,8 @@ pub fn find(
 ) -> Option<KeyNo>
     requires ready { IsReady w.now p.old me }
     requires selector { HasSelector (view w.now p.old) sel }
-    ensures call { CallClause me (Completes (find_plan (limits_of w.now) sel index serial)) (view w.now p.old) (view w.now p.new) result }
+    ensures call { CallClause me (Completes (find_plan (limits_of w.now) sel index serial))
+        (view w.now p.old) (view w.now p.new) result }
     ensures ready { IsReady w.now p.new me }
     ensures found { IfSome result (HasKey (view w.now p.new)) }
 {

@@ -3,7 +3,8 @@ ghost use Rattle.std.specs.Prelude.{Ok};
 ghost use Rattle.nio_event.specs.Conditions.{IsChannel};
 ghost use Rattle.nio_event.specs.PassViews.{HasKey, HasNoPin};
 ghost use Rattle.nio_steps.specs.Calls.{CallClause};
-ghost use Rattle.nio_steps.specs.KeyCalls.{if_valid, on_supported, look_set, put_set, add_set, keep_set, interest_plan, set_interest_plan, interest_or_plan, interest_and_plan};
+ghost use Rattle.nio_steps.specs.KeyCalls.{if_valid, on_supported, look_set, put_set, add_set, keep_set, interest_plan};
+ghost use Rattle.nio_steps.specs.KeyCalls.{set_interest_plan, interest_or_plan, interest_and_plan};
 ghost use Rattle.nio_steps.specs.Plan.{reply};
 ghost use Rattle.nio_steps.specs.Runs.{Completes};
 ghost use Rattle.nio_words.specs.Passes.{IsReady, limits_of};
@@ -39,7 +40,8 @@ fn interest_present(
     stage: Stage,
 ) -> Result<Ops, KeyError>
     requires { IsPinned w.now p.old me key.sel key.index }
-    ensures call { CallClause me (Completes (if_valid key (λ _. look_set key) stage)) (view w.now p.old) (view w.now p.new) result }
+    ensures call { CallClause me (Completes (if_valid key (λ _. look_set key) stage))
+        (view w.now p.old) (view w.now p.new) result }
     ensures pinned { IsPinned w.now p.new me key.sel key.index }
 {
     if !stage.is_valid_key(key.serial) {
@@ -60,7 +62,8 @@ fn check_operations(
 ) -> Result<(), KeyError>
     requires pinned { IsPinned w.now p.old me key.sel key.index }
     requires channel { IsChannel (limits_of w.now) stage.chan }
-    ensures call { CallClause me (Completes (if_valid key (on_supported ops (reply (Ok tt))) stage)) (view w.now p.old) (view w.now p.new) result }
+    ensures call { CallClause me (Completes (if_valid key (on_supported ops (reply (Ok tt))) stage))
+        (view w.now p.old) (view w.now p.new) result }
     ensures pinned { IsPinned w.now p.new me key.sel key.index }
 {
     if !stage.is_valid_key(key.serial) {
@@ -105,7 +108,8 @@ fn set_interest_present(
 ) -> Result<(), KeyError>
     requires pinned { IsPinned w.now p.old me key.sel key.index }
     requires channel { IsChannel (limits_of w.now) stage.chan }
-    ensures call { CallClause me (Completes (if_valid key (on_supported ops (put_set key ops)) stage)) (view w.now p.old) (view w.now p.new) result }
+    ensures call { CallClause me (Completes (if_valid key (on_supported ops (put_set key ops)) stage))
+        (view w.now p.old) (view w.now p.new) result }
     ensures pinned { IsPinned w.now p.new me key.sel key.index }
 {
     check_operations(w, p, me, key, ops, stage)?;
@@ -145,7 +149,8 @@ fn interest_or_present(
 ) -> Result<Ops, KeyError>
     requires pinned { IsPinned w.now p.old me key.sel key.index }
     requires channel { IsChannel (limits_of w.now) stage.chan }
-    ensures call { CallClause me (Completes (if_valid key (on_supported ops (add_set key ops)) stage)) (view w.now p.old) (view w.now p.new) result }
+    ensures call { CallClause me (Completes (if_valid key (on_supported ops (add_set key ops)) stage))
+        (view w.now p.old) (view w.now p.new) result }
     ensures pinned { IsPinned w.now p.new me key.sel key.index }
 {
     check_operations(w, p, me, key, ops, stage)?;
@@ -184,7 +189,8 @@ fn interest_and_present(
     stage: Stage,
 ) -> Result<Ops, KeyError>
     requires { IsPinned w.now p.old me key.sel key.index }
-    ensures call { CallClause me (Completes (if_valid key (λ _. keep_set key ops) stage)) (view w.now p.old) (view w.now p.new) result }
+    ensures call { CallClause me (Completes (if_valid key (λ _. keep_set key ops) stage))
+        (view w.now p.old) (view w.now p.new) result }
     ensures pinned { IsPinned w.now p.new me key.sel key.index }
 {
     if !stage.is_valid_key(key.serial) {

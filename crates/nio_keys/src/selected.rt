@@ -36,7 +36,8 @@ fn ready_present(
     stage: Stage,
 ) -> Result<Ops, KeyError>
     requires { IsPinned w.now p.old me key.sel key.index }
-    ensures call { CallClause me (Completes (if_valid key (λ _. look_ready key) stage)) (view w.now p.old) (view w.now p.new) result }
+    ensures call { CallClause me (Completes (if_valid key (λ _. look_ready key) stage))
+        (view w.now p.old) (view w.now p.new) result }
     ensures pinned { IsPinned w.now p.new me key.sel key.index }
 {
     if !stage.is_valid_key(key.serial) {

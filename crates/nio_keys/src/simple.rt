@@ -1,7 +1,8 @@
 //! Calls that are never refused.
 ghost use Rattle.nio_event.specs.PassViews.{HasKey, HasNoPin};
 ghost use Rattle.nio_steps.specs.Calls.{CallClause};
-ghost use Rattle.nio_steps.specs.KeyCalls.{is_valid_plan, cancel_present, cancel_plan, attach_present, attach_plan, attachment_present, attachment_plan};
+ghost use Rattle.nio_steps.specs.KeyCalls.{is_valid_plan, cancel_present, cancel_plan, attach_present, attach_plan};
+ghost use Rattle.nio_steps.specs.KeyCalls.{attachment_present, attachment_plan};
 ghost use Rattle.nio_steps.specs.Runs.{Completes};
 ghost use Rattle.nio_words.specs.Passes.{IsReady};
 ghost use Rattle.nio_words.specs.Views.{view, IsPinned};
@@ -67,7 +68,8 @@ pub fn attach(w: &Words, p: &mut Pass, me: CallerNo, key: KeyNo, att: u64) -> u6
 /// What `attach` does under its pin.
 fn attach_present(w: &Words, p: &mut Pass, me: CallerNo, key: KeyNo, att: u64, stage: Stage) -> u64
     requires { IsPinned w.now p.old me key.sel key.index }
-    ensures call { CallClause me (Completes (attach_present key att stage)) (view w.now p.old) (view w.now p.new) result }
+    ensures call { CallClause me (Completes (attach_present key att stage))
+        (view w.now p.old) (view w.now p.new) result }
     ensures pinned { IsPinned w.now p.new me key.sel key.index }
 {
     if stage.fits(key.serial) {
@@ -96,7 +98,8 @@ pub fn attachment(w: &Words, p: &mut Pass, me: CallerNo, key: KeyNo) -> u64
 /// What `attachment` does under its pin.
 fn attachment_present(w: &Words, p: &mut Pass, me: CallerNo, key: KeyNo, stage: Stage) -> u64
     requires { IsPinned w.now p.old me key.sel key.index }
-    ensures call { CallClause me (Completes (attachment_present key stage)) (view w.now p.old) (view w.now p.new) result }
+    ensures call { CallClause me (Completes (attachment_present key stage))
+        (view w.now p.old) (view w.now p.new) result }
     ensures pinned { IsPinned w.now p.new me key.sel key.index }
 {
     if stage.fits(key.serial) {

@@ -8,7 +8,7 @@ use Rattle.nio_link.specs.declared.net.Got.TheVariants as got
 use Rattle.nio_link.specs.declared.net.Put.{Put}
 use Rattle.nio_link.specs.declared.net.Put.TheVariants as put
 
--- What a link has carried, each part where the net tells it: the bytes that reads gave, in order, and whether a read
+-- What a link has carried, each part where the net shows it: the bytes that reads gave, in order, and whether a read
 -- has told their end; the bytes that writes took, in order, and whether that side was shut.
 pub record Link : Type 0 where
   pub got : Option (List ℕ)
@@ -16,7 +16,7 @@ pub record Link : Type 0 where
   pub put : Option (List ℕ)
   pub shut : Option Bool
 
--- nothing was carried, as far as the net tells it
+-- nothing was carried, as far as the net shows it
 pub record IsUnused (l : Link) : Type 0 where
   pub got : IfSome l.got (λ bytes. bytes ≡ [])
   pub ended : IfSome l.ended (λ x. x ≡ false)

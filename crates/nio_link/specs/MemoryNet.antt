@@ -96,8 +96,8 @@ is_early (Err failed) = false
 -- ---- the calls
 
 -- a call on a channel that can change its place was answered
-abbrev pub noted : ChanNo → Change → NetState → NetState
-noted c change s = record s { changes = s.changes ++ (c, change) ∷ [] }
+abbrev pub logged : ChanNo → Change → NetState → NetState
+logged c change s = record s { changes = s.changes ++ (c, change) ∷ [] }
 
 abbrev pub after_read : NetState → ChanNo → List ℕ → NetState
 after_read s c buffer = record s {

@@ -1,5 +1,5 @@
 -- What the calls of a net leave, by its meanings before and after.
-use Rattle.std.specs.Prelude.{◌≡◌, ℕ, Bool, Result, Ok, Err, IfOk, List}
+use Rattle.std.specs.Prelude.{◌≡◌, ℕ, Bool, Result, IfOk, List}
 use Rattle.nio_base.specs.declared.numbers.Addr.{Addr}
 use Rattle.nio_base.specs.declared.numbers.ChanNo.{ChanNo}
 use Rattle.nio_bytes.specs.Cause.{HasCause}
@@ -19,35 +19,30 @@ pub record NetView : Type 0 where
   pub ready : ChanNo → ℕ
   pub poll_faults : ℕ
 
--- those of a net, of the functions that tell them
+-- the meanings of a net, by the functions that show them
 abbrev pub view_by : {N : Type 0} → (N → ChanNo → Link) → (N → ChanNo → ℕ) → (N → ChanNo → Place) → (N → ChanNo → ℕ)
     → (N → ℕ) → N → NetView
 view_by link faults place ready poll_faults net =
     record { link = link net; faults = faults net; place = place net; ready = ready net; poll_faults = poll_faults net }
 
--- the place of a link whose connecting was answered so: a link that failed is closed
-abbrev pub closed_at_fault : Result Bool Failed → Place → Place
-closed_at_fault (Ok made) place = place
-closed_at_fault (Err failed) place = place_after_close place
-
--- a connection to this address was begun, and closed where that failed
+-- a connection to this address was begun
 pub record Connects (c : ChanNo) (to : Addr) (old new : NetView) (result : Result Bool Failed) : Type 0 where
   pub cause : HasCause (old.faults c) (new.faults c) result
   pub others : IsSameBut c old.faults new.faults
   pub links : (k : ChanNo) → new.link k ≡ old.link k
   pub ready : (k : ChanNo) → new.ready k ≡ old.ready k
-  pub place : new.place c ≡ closed_at_fault result (place_after_connect result to)
+  pub place : new.place c ≡ place_after_connect result to
   pub places : IsSameBut c old.place new.place
   pub polls : new.poll_faults ≡ old.poll_faults
 
--- a connection was finished, or found not to be ready, or closed where that failed
+-- a connection was finished, or found not to be ready; a link that couldn't be connected is gone
 pub record Finishes (c : ChanNo) (old new : NetView) (result : Result Bool Failed) : Type 0 where
   pub cause : HasCause (old.faults c) (new.faults c) result
   pub others : IsSameBut c old.faults new.faults
   pub links : (k : ChanNo) → new.link k ≡ old.link k
   pub ready : new.ready c ≡ ready_after_connect result (old.ready c)
   pub ready_else : IsSameBut c old.ready new.ready
-  pub place : new.place c ≡ closed_at_fault result (place_after_finish result (old.place c))
+  pub place : new.place c ≡ place_after_finish result (old.place c)
   pub places : IsSameBut c old.place new.place
   pub polls : new.poll_faults ≡ old.poll_faults
 
@@ -81,14 +76,5 @@ pub record Closes (c : ChanNo) (old new : NetView) : Type 0 where
   pub links : (k : ChanNo) → new.link k ≡ old.link k
   pub ready : (k : ChanNo) → new.ready k ≡ old.ready k
   pub place : new.place c ≡ place_after_close (old.place c)
-  pub places : IsSameBut c old.place new.place
-  pub polls : new.poll_faults ≡ old.poll_faults
-
--- connecting was answered so, and the link was closed where that failed
-pub record Settles (made : Result Bool Failed) (c : ChanNo) (old new : NetView) : Type 0 where
-  pub faults : (k : ChanNo) → new.faults k ≡ old.faults k
-  pub links : (k : ChanNo) → new.link k ≡ old.link k
-  pub ready : (k : ChanNo) → new.ready k ≡ old.ready k
-  pub place : new.place c ≡ closed_at_fault made (old.place c)
   pub places : IsSameBut c old.place new.place
   pub polls : new.poll_faults ≡ old.poll_faults

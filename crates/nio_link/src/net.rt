@@ -3,8 +3,10 @@ ghost use Rattle.std.specs.Prelude.{◌≡◌, ◌≢◌, [], IfOk, IsTrue};
 ghost use Rattle.nio_bytes.specs.Cause.{HasCause};
 ghost use Rattle.nio_steps.specs.KeyCalls.{is_within};
 ghost use Rattle.nio_link.specs.Links.{Link, IsSameBut, IsGot, IsPut, after_read, after_write, after_shut};
-ghost use Rattle.nio_link.specs.Places.{unused, IsLinked, place_after_listen, place_after_accept, place_after_connect, place_after_finish, place_after_shut, place_after_close};
-ghost use Rattle.nio_link.specs.Readiness.{ready_after_read, ready_after_write, ready_after_accept, ready_after_connect};
+ghost use Rattle.nio_link.specs.Places.{unused, IsLinked, place_after_listen, place_after_accept, place_after_connect};
+ghost use Rattle.nio_link.specs.Places.{place_after_finish, place_after_shut, place_after_close};
+ghost use Rattle.nio_link.specs.Readiness.{ready_after_read, ready_after_write, ready_after_accept};
+ghost use Rattle.nio_link.specs.Readiness.{ready_after_connect};
 
 use nio_base::{Addr, ChanNo};
 use nio_poller::Poller;
@@ -45,7 +47,7 @@ pub trait Net: Poller {
     ghost use Rattle.nio_link.specs.declared.place.Place.{Place};
     ghost use Rattle.nio_link.specs.declared.place.Standing.TheVariants as standing;
 
-    // What a link has carried, as far as the net tells it.
+    // What a link has carried, as far as the net shows it.
     ghost link: { Self → ChanNo → Link };
 
     // How often a call on a link or a listener has failed.
@@ -147,7 +149,7 @@ pub trait Net: Poller {
         ensures places { IsSameBut chan (place self.old) (place self.new) }
         ensures polls { Self.poll_faults self.new ≡ Self.poll_faults self.old };
 
-    /// Closes a link or a listener, where one stands there. What it has carried stays told.
+    /// Closes a link or a listener, where one stands there. What it has carried is shown as before.
     fn close(&mut self, chan: ChanNo)
         ensures faults { (c : ChanNo) → faults self.new c ≡ faults self.old c }
         ensures links { (c : ChanNo) → link self.new c ≡ link self.old c }

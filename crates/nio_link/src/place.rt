@@ -35,12 +35,14 @@ pub enum Standing {
 /// What a channel was asked to be, and what stands there.
 #[derive(Clone, Copy, Debug, PartialEq, Eq)]
 pub struct Place {
+    /// What the channel was asked to be.
     pub role: Role,
+    /// What stands there.
     pub standing: Standing,
 }
 
-/// A call on a channel that can change its place, with its answer. The list of a net's changes tells its places
-/// (`places_after`).
+/// A call on a channel that can change its place: the call of `Net` that the variant names, with what it was given and
+/// its answer. The places of a net follow from the list of its changes (`places_after`).
 #[derive(Clone, Copy, Debug, PartialEq, Eq)]
 pub enum Change {
     Listen(Addr, Result<(), Failed>),

@@ -1,8 +1,9 @@
 //! A link that keeps how far it is connected, and refuses the calls that its state doesn't allow.
 ghost use Rattle.std.specs.Prelude.{◌≡◌, ◌≢◌, [], IsTrue};
 ghost use Rattle.nio_steps.specs.KeyCalls.{is_within};
-ghost use Rattle.nio_link.specs.Nets.{Settles, view_by};
-ghost use Rattle.nio_link.specs.Streams.{StandsAs, as_fault, connect_refusal, transfer_refusal, state_after, ConnectClause, FinishClause, ReadClause, WriteClause, CloseClause};
+ghost use Rattle.nio_link.specs.Nets.{view_by};
+ghost use Rattle.nio_link.specs.Streams.{StandsAs, as_fault, connect_refusal, transfer_refusal, state_after};
+ghost use Rattle.nio_link.specs.Streams.{ConnectClause, FinishClause, ReadClause, WriteClause, CloseClause};
 ghost use Rattle.nio_link.specs.declared.place.Standing.TheVariants as standing;
 ghost use Rattle.nio_link.specs.declared.stream.StreamState.TheVariants as state;
 
@@ -37,9 +38,13 @@ pub enum LinkError {
 /// How far a link is connected.
 #[derive(Clone, Copy, Debug, PartialEq, Eq)]
 pub enum StreamState {
+    /// No connection was begun.
     Unconnected,
+    /// One was begun, and isn't finished.
     Connecting,
+    /// It can be read and written.
     Connected,
+    /// It was closed, or couldn't be connected.
     Closed,
 }
 
@@ -91,7 +96,7 @@ impl StreamLink {
         match self.state {
             StreamState::Unconnected => {
                 let made = net.connect(self.chan, to);
-                self.settle(net, made)
+                self.settle(made)
             }
             StreamState::Connecting => Err(LinkError::ConnectionPending),
             StreamState::Connected => Err(LinkError::AlreadyConnected),
@@ -111,7 +116,7 @@ impl StreamLink {
             StreamState::Unconnected => Err(LinkError::NoConnectionPending),
             StreamState::Connecting => {
                 let made = net.finish_connect(self.chan);
-                self.settle(net, made)
+                self.settle(made)
             }
             StreamState::Connected => Ok(true),
             StreamState::Closed => Err(LinkError::ClosedChannel),
@@ -167,17 +172,11 @@ impl StreamLink {
         true
     }
 
-    // Keeps what connecting came to, and closes the net's link where it failed.
-    fn settle<N: Net>(&mut self, net: &mut N, made: Result<bool, Failed>) -> Result<bool, LinkError>
+    // Keeps what connecting came to. Where it failed, the net has no link there any more.
+    fn settle(&mut self, made: Result<bool, Failed>) -> Result<bool, LinkError>
         ensures told { result ≡ as_fault made }
         ensures link { self.new ≡ record self.old { state = state_after result } }
-        ensures net { Settles made self.old.channel
-            (view_by N.link N.faults N.place N.ready N.poll_faults net.old)
-            (view_by N.link N.faults N.place N.ready N.poll_faults net.new) }
     {
-        if made.is_err() {
-            net.close(self.chan);
-        }
         self.state = state_of(&made);
         told(made)
     }

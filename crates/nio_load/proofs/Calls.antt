@@ -142,7 +142,8 @@ source_line =
       short = omega arith;
     }
 
-blocking_line : (c : ℕ) → IsShort c → IsLine first_caller (call.Blocking (channel c) false) (codes "t1 blocking c" ++ decimal c ++ codes " off")
+blocking_line : (c : ℕ) → IsShort c → IsLine first_caller (call.Blocking (channel c) false)
+    (codes "t1 blocking c" ++ decimal c ++ codes " off")
 blocking_line c is = record {
   caller_fits = omega arith;
   call_fits = omega (arith, is.below);
@@ -150,7 +151,8 @@ blocking_line c is = record {
   short = line_length c is (codes "t1 blocking c") (codes " off") (omega arith) (omega arith);
 }
 
-register_line : (c : ℕ) → IsShort c → IsLine first_caller (call.Register selector (channel c) 1 None) (codes "t1 register s0 c" ++ decimal c ++ codes " 1")
+register_line : (c : ℕ) → IsShort c → IsLine first_caller (call.Register selector (channel c) 1 None)
+    (codes "t1 register s0 c" ++ decimal c ++ codes " 1")
 register_line c is = record {
   caller_fits = omega arith;
   call_fits = (omega arith, omega (arith, is.below), omega arith, tt);
@@ -185,7 +187,8 @@ begin_line =
       short = omega arith;
     }
 
-told_line : (k : ℕ) → IsShort k → IsLine first_caller (call.Told selector false ((key k, 1) ∷ [])) (codes "t1 told s0 k" ++ decimal k ++ codes ":1")
+told_line : (k : ℕ) → IsShort k → IsLine first_caller (call.Told selector false ((key k, 1) ∷ []))
+    (codes "t1 told s0 k" ++ decimal k ++ codes ":1")
 told_line k is = record {
   caller_fits = omega arith;
   call_fits = (
@@ -199,16 +202,21 @@ told_line k is = record {
       λ i j d less within. absurd (omega (arith, less, within)),
     ),
   );
-  text = rw (decimal_digit 1 (omega arith), decimal_digit 0 (omega arith)) (sym (ap (λ t. codes "t1 told s0 k" ++ t) (append_assoc (decimal k ++ []) (codes ":") (codes "1") ∙ ap (λ d. d ++ codes ":1") (append-nil (decimal k)))));
+  text = rw (decimal_digit 1 (omega arith), decimal_digit 0 (omega arith))
+      (sym (ap (λ t. codes "t1 told s0 k" ++ t) (append_assoc (decimal k ++ []) (codes ":") (codes "1") ∙ ap
+      (λ d. d ++ codes ":1") (append-nil (decimal k)))));
   short = line_length k is (codes "t1 told s0 k") (codes ":1") (omega arith) (omega arith);
 }
 
-unselect_line : (k : ℕ) → IsShort k → IsLine first_caller (call.Unselect selector (key k)) (codes "t1 unselect s0 k" ++ decimal k)
+unselect_line : (k : ℕ) → IsShort k → IsLine first_caller (call.Unselect selector (key k))
+    (codes "t1 unselect s0 k" ++ decimal k)
 unselect_line k is = record {
   caller_fits = omega arith;
   call_fits = (omega arith, record { index_fits = omega (arith, is.below); serial_fits = omega arith });
-  text = rw (decimal_digit 1 (omega arith), decimal_digit 0 (omega arith)) (ap (λ t. codes "t1 unselect s0 k" ++ t) (sym (append-nil (decimal k))));
-  short = subst (λ (t : List ℕ). length (codes "t1 unselect s0 k" ++ t) ≤ 4096) (append-nil (decimal k)) (line_length k is (codes "t1 unselect s0 k") [] (omega arith) (omega arith));
+  text = rw (decimal_digit 1 (omega arith), decimal_digit 0 (omega arith))
+      (ap (λ t. codes "t1 unselect s0 k" ++ t) (sym (append-nil (decimal k))));
+  short = subst (λ (t : List ℕ). length (codes "t1 unselect s0 k" ++ t) ≤ 4096) (append-nil (decimal k))
+      (line_length k is (codes "t1 unselect s0 k") [] (omega arith) (omega arith));
 }
 
 channel_are : (c : ℕ) → c < 64 → AreLines (channel_lines c) (channel_calls c)
@@ -217,7 +225,8 @@ channel_are c below = (source_line, (blocking_line c (short c below), (register_
 wakeup_are : (r : ℕ) → AreLines (wakeup_lines r) (wakeup_calls r)
 wakeup_are r = either (r % 8 == 0)
   where
-    either : (b : Bool) → AreLines (if b then codes "t2 wakeup s0" ∷ [] else []) (if b then record { caller = second_caller; call = call.Wakeup selector } ∷ [] else [])
+    either : (b : Bool) → AreLines (if b then codes "t2 wakeup s0" ∷ [] else [])
+        (if b then record { caller = second_caller; call = call.Wakeup selector } ∷ [] else [])
     either true = (wakeup_line, tt)
     either false = tt
 

@@ -4,7 +4,8 @@ use Rattle.std.specs.Prelude.{Result, Ok, Err, IfOk}
 
 -- its pieces, put together from the last one
 pub summary_pieces : (lines selections updates : List ℕ)
-    → codes "lines " ++ (lines ++ (codes "\nselections " ++ (selections ++ (codes "\nupdates " ++ (updates ++ 10 ∷ [])))))
+    → codes "lines " ++ (lines ++ (codes "\nselections "
+    ++ (selections ++ (codes "\nupdates " ++ (updates ++ 10 ∷ [])))))
     ≡ codes "lines " ++ lines ++ codes "\nselections " ++ selections ++ codes "\nupdates " ++ updates ++ 10 ∷ []
 summary_pieces lines selections updates =
     let first = codes "lines " in

@@ -19,7 +19,7 @@ channel_lines c =
     ∷ (codes "t1 register s0 c" ++ decimal c ++ codes " 1")
     ∷ []
 
--- the number that rounds are drawn by, after so many of them
+-- the pseudo-random number after so many rounds, of a linear congruential generator
 unfoldable pub number_after : ℕ → ℕ
 number_after zero = 1
 number_after (suc r) = (number_after r * 1103515245 + 12345) % 2147483648

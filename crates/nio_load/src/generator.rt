@@ -1,6 +1,7 @@
 //! The script that a load runs: selections over 64 channels, each of them told one key.
 ghost use Rattle.std.specs.Prelude.{◌≡◌, ◌++◌, ◌∷◌, [], IfOk, OnOk};
-ghost use Rattle.nio_load.specs.Generator.{channel_lines, generated, lines_below, round_lines, selection_lines, text_of, wakeup_lines};
+ghost use Rattle.nio_load.specs.Generator.{channel_lines, generated, lines_below, round_lines, selection_lines};
+ghost use Rattle.nio_load.specs.Generator.{text_of, wakeup_lines};
 
 use std::alloc::{AllocError, Global};
 

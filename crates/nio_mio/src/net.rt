@@ -16,8 +16,8 @@ use std::net::Net as System;
 use std::sync::Wait;
 use std::time::Clock;
 
-/// A net of TCP sockets over IPv4, for channels numbered below 32,001. A call on another number fails. It doesn't tell
-/// which bytes a link has carried.
+/// A net of TCP sockets over IPv4, for channels numbered below 32,001. A call on another number fails. It doesn't
+/// show contracts which bytes a link has carried.
 #[derive(Drop)]
 pub struct MioNet<S> {
     system: S,

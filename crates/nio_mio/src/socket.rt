@@ -84,7 +84,7 @@ pub(crate) fn take(sockets: &mut [Option<Socket>], chan: ChanNo) -> Option<Socke
     }
 }
 
-/// A descriptor that nothing is done with.
+/// A spare descriptor, which is let go where none is left for a link that connects.
 pub(crate) fn spare(poll: &Option<Poll>) -> io::Result<Registry> {
     match poll {
         Some(poll) => poll.registry().try_clone(),

@@ -31,8 +31,8 @@ const BELL: Token = Token(PLACES);
 /// How many events one poll takes from the system.
 const EVENTS: usize = 1_024;
 
-/// The sockets. A bit is kept for an operation of a channel from an event until a call finds it not ready, or a read has
-/// taken all that had come.
+/// The sockets. A bit is kept for an operation of a channel from an event until a call finds it not ready, or a read
+/// has taken all that had come.
 #[derive(Drop)]
 pub(crate) struct Sockets {
     poll: Option<Poll>,
@@ -145,8 +145,8 @@ impl Sockets {
         };
         match poll.poll(&mut self.events, timeout) {
             Ok(()) => {
-                note_all(&mut self.kept, &self.events);
-                note_ends(&mut self.ended, &self.events);
+                keep_all(&mut self.kept, &self.events);
+                keep_ends(&mut self.ended, &self.events);
                 Ok(())
             }
             Err(_error) => Err(Failed),
@@ -309,7 +309,7 @@ impl Sockets {
         match socket::read(&mut self.sockets, chan, into) {
             Ok(0) => Ok(Got::End),
             Ok(count) => {
-                self.note_read(chan, count < room);
+                self.keep_read(chan, count < room);
                 Ok(Got::Bytes(count))
             }
             Err(error) => match self.not_moved(chan, Ops::READ, cause_of(&error)) {
@@ -321,7 +321,7 @@ impl Sockets {
 
     // A read that gave fewer bytes than had room has taken all that had come, and the system tells of more. It doesn't
     // tell again of an end or an error that it told before that read.
-    fn note_read(&mut self, chan: ChanNo, took_all: bool) {
+    fn keep_read(&mut self, chan: ChanNo, took_all: bool) {
         if took_all && !has_ended(&self.ended, chan) {
             clear(&mut self.kept, chan, Ops::READ);
         }
@@ -425,7 +425,7 @@ fn kept_of(kept: &[Ops], chan: ChanNo) -> Ops {
     }
 }
 
-fn note_all(kept: &mut [Ops], events: &Events) {
+fn keep_all(kept: &mut [Ops], events: &Events) {
     for event in events {
         let Token(place) = event.token();
         if let Some(bits) = kept.get_mut(place) {
@@ -434,7 +434,7 @@ fn note_all(kept: &mut [Ops], events: &Events) {
     }
 }
 
-fn note_ends(ended: &mut [bool], events: &Events) {
+fn keep_ends(ended: &mut [bool], events: &Events) {
     for event in events {
         if event.is_read_closed() || event.is_write_closed() || event.is_error() {
             let Token(place) = event.token();
@@ -452,7 +452,7 @@ fn has_ended(ended: &[bool], chan: ChanNo) -> bool {
     }
 }
 
-// An error or an end makes a socket ready for all that finds it.
+// An error or an end makes a socket ready for each operation that would find it.
 fn told_by(event: &Event) -> Ops {
     let reads = event.is_readable() || event.is_read_closed() || event.is_error();
     let writes = event.is_writable() || event.is_write_closed() || event.is_error();

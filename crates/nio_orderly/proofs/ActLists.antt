@@ -137,7 +137,7 @@ prepared_in : (s i : ℕ) (own since : List Act) → since_first (leaves_below s
 prepared_in s i own since is prepared =
     sym (ap (λ acts. has (finds_open s) (since_from (claims s i) acts)) is) ∙ prepared
 
--- who prepared a key found the mark above it, or raised it above
+-- who prepared a key found the keys' high-water mark above it, or raised it above
 pub prepared_left : (s i : ℕ) (own : List Act) → is_prepared s i own ≡ true → has (leaves_below s i) own ≡ true
 prepared_left s i own prepared = by_left (has (leaves_below s i) own) refl
   where

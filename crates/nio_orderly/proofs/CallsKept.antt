@@ -16,8 +16,8 @@ use Rattle.nio_orderly.proofs.ClosingsKept.{close_channel-keeps}
 use Rattle.nio_orderly.proofs.Kept.{Keeps, keeps_reply, keeps_ask, keeps_bind, keeps_if, keeps_sweep, keeps_over}
 use Rattle.nio_orderly.proofs.Kept.{keeps_seek}
 use Rattle.nio_steps.specs.ChannelCalls.{open_channel_plan, opened_channel, is_open_plan, is_blocking_plan}
-use Rattle.nio_steps.specs.ChannelCalls.{is_registered_plan, noted_in_set, key_for_plan, under_hold, set_mode_held}
-use Rattle.nio_steps.specs.ChannelCalls.{try_set_blocking_plan, register_noted, register_over, close_channel_plan}
+use Rattle.nio_steps.specs.ChannelCalls.{is_registered_plan, enrolled_in_set, key_for_plan, under_hold, set_mode_held}
+use Rattle.nio_steps.specs.ChannelCalls.{try_set_blocking_plan, register_enrolled, register_over, close_channel_plan}
 use Rattle.nio_steps.specs.KeyCalls.{under_pin, find_selector_plan, find_channel_plan, find_plan, is_valid_plan}
 use Rattle.nio_steps.specs.KeyCalls.{on_valid, if_valid, on_supported, look_set, put_set, add_set, keep_set, look_ready}
 use Rattle.nio_steps.specs.KeyCalls.{interest_plan, set_interest_plan, interest_or_plan, interest_and_plan, ready_plan}
@@ -122,13 +122,13 @@ pub is_blocking-keeps : {l : Limits} (c : ChanNo) → Keeps l (is_blocking_plan 
 unfolding is_blocking_plan
 is_blocking-keeps c = search still depth 12
 
-pub noted-keeps : {l : Limits} (s : SelNo) (noted : Option KeyId) → Keeps l (noted_in_set s noted)
-noted-keeps s None = search still
-noted-keeps s (Some k) = search still
+pub enrolled-keeps : {l : Limits} (s : SelNo) (enrolled : Option KeyId) → Keeps l (enrolled_in_set s enrolled)
+enrolled-keeps s None = search still
+enrolled-keeps s (Some k) = search still
 
 pub key_for-keeps : {l : Limits} (c : ChanNo) (s : SelNo) → Keeps l (key_for_plan c s)
 unfolding key_for_plan
-key_for-keeps c s = search (still, noted-keeps) depth 12
+key_for-keeps c s = search (still, enrolled-keeps) depth 12
 
 pub is_registered-keeps : (l : Limits) (c : ChanNo) → Keeps l (is_registered_plan l c)
 unfolding is_registered_plan
@@ -150,9 +150,11 @@ set_blocking-keeps l c on =
     keeps_ask _ _ refl
     (λ answer. keeps_if _ _ _ (keeps_reply _) (under_hold-keeps c (set_mode_held l c on) (mode_held-keeps l c on)))
 
-pub over-keeps : {l : Limits} (s : SelNo) (ops att : ℕ) (noted : Option KeyId) → Keeps l (register_over s ops att noted)
+pub over-keeps : {l : Limits} (s : SelNo) (ops att : ℕ) (enrolled : Option KeyId)
+    → Keeps l (register_over s ops att enrolled)
 over-keeps s ops att None = search still depth 12
-over-keeps s ops att (Some k) = keeps_under_pin s k.index (register_noted s ops att k) (λ stage. search still depth 16)
+over-keeps s ops att (Some k) =
+    keeps_under_pin s k.index (register_enrolled s ops att k) (λ stage. search still depth 16)
 
 -- ---- selections
 

@@ -90,20 +90,21 @@ looks_closed st me (LookChannel k found) c answers closed looks =
     (ap (λ x. x.closed) found_is ∙ subst (λ (m : ℕ). (st.chan m).closed ≡ true) (sym same) closed)
 looks_closed st me act c answers closed looks = absurd (cc looks)
 
-looks_noted : (st : State) (me : CallerNo) (act : Act) (c s : ℕ) (k : KeyId) → Answers st me act → st.noted c s ≡ Some k
+looks_enrolled : (st : State) (me : CallerNo) (act : Act) (c s : ℕ) (k : KeyId) → Answers st me act
+    → st.enrolled c s ≡ Some k
     → looks_for_key c s act ≡ true → finds_key c s k act ≡ true
-looks_noted st me (LookReg c' s' found) c s k answers noted looks =
+looks_enrolled st me (LookReg c' s' found) c s k answers enrolled looks =
     let both = and_parts (c'.0 == c) (s'.0 == s) looks in
     let first : c'.0 ≡ c = eqb-true c'.0 c both.0 in
     let second : s'.0 ≡ s = eqb-true s'.0 s both.1 in
-    let found_is : found ≡ st.noted c'.0 s'.0 = cc in
-    let its : st.noted c'.0 s'.0 ≡ Some k = subst (λ (m : ℕ). st.noted m s'.0 ≡ Some k) (sym first)
-    (subst (λ (t : ℕ). st.noted c t ≡ Some k) (sym second) noted) in
+    let found_is : found ≡ st.enrolled c'.0 s'.0 = cc in
+    let its : st.enrolled c'.0 s'.0 ≡ Some k = subst (λ (m : ℕ). st.enrolled m s'.0 ≡ Some k) (sym first)
+    (subst (λ (t : ℕ). st.enrolled c t ≡ Some k) (sym second) enrolled) in
     subst (λ (o : Option KeyId). finds_key c s k (LookReg c' s' o) ≡ true) (sym (found_is ∙ its))
     (and_from ((c'.0 == c) && (s'.0 == s)) ((k.index == k.index) && (k.serial == k.serial)) looks
     (and_from (k.index == k.index) (k.serial == k.serial) (eq-eqb k.index k.index refl)
     (eq-eqb k.serial k.serial refl)))
-looks_noted st me act c s k answers noted looks = absurd (cc looks)
+looks_enrolled st me act c s k answers enrolled looks = absurd (cc looks)
 
 -- ---- nothing settles it while the key is valid
 
@@ -302,9 +303,9 @@ owed_step l past e fit legal step careful s i earlier valid n before c since did
         its_channel : was_key.chan ≡ c
         its_channel = sym was.channel ∙ of_channel
 
-        noted : st.noted c.0 s ≡ Some k
-        noted = subst (λ (x : ChanNo). st.noted x.0 s ≡ Some k) its_channel
-            ((keys_stand l fit past legal careful).noted s i was.in_set
+        enrolled : st.enrolled c.0 s ≡ Some k
+        enrolled = subst (λ (x : ChanNo). st.enrolled x.0 s ≡ Some k) its_channel
+            ((keys_stand l fit past legal careful).enrolled s i was.in_set
             ∙ ap (λ (q : ℕ). Some (key i q)) (sym was.serial))
 
         -- it was owed before, by what the closing caller did till then
@@ -330,7 +331,8 @@ owed_step l past e fit legal step careful s i earlier valid n before c since did
           | inl debt ↦ inl (publisher_on more.rest more.before debt)
           | inr owing ↦
               inr (ap (owes (closing_duty c.0 s k)) more.later
-              ∙ owes-more (closing_duty c.0 s k) more.rest e.act (looks_noted st me e.act c.0 s k step.answers noted)
+              ∙ owes-more (closing_duty c.0 s k) more.rest e.act (looks_enrolled st me e.act c.0 s k
+              step.answers enrolled)
               still owing)
         ]
 

@@ -13,16 +13,16 @@ use Rattle.nio_event.specs.declared.event.Event.{Event}
 use Rattle.nio_event.specs.declared.found.Stage.{Stage}
 use Rattle.nio_orderly.proofs.ActLists.{has_no_first, count-append, has_counts, until_released-append}
 use Rattle.nio_orderly.proofs.LookingBack.{MayPublish}
-use Rattle.nio_orderly.specs.Careful.{notes_for, notes_this_key, until_released, its_hold, KeepsRules, IsCareful}
+use Rattle.nio_orderly.specs.Careful.{enrols_for, enrols_this_key, until_released, its_hold, KeepsRules, IsCareful}
 use Rattle.nio_orderly.specs.Careful.{BeginningsAreCareful}
 
--- who notes a key for a channel notes one for it
-pub key_noted_for : (c s i q : ℕ) (act : Act) → notes_this_key c s i q act ≡ true → notes_for c act ≡ true
-key_noted_for c s i q (Enrol c' s' i' serial found) noted =
-    let three = (and_parts ((c'.0 == c) && (s'.0 == s) && (i' == i)) (serial == q) noted).0 in
+-- who enrols a key for a channel enrols one for it
+pub key_enrolled_for : (c s i q : ℕ) (act : Act) → enrols_this_key c s i q act ≡ true → enrols_for c act ≡ true
+key_enrolled_for c s i q (Enrol c' s' i' serial found) enrolled =
+    let three = (and_parts ((c'.0 == c) && (s'.0 == s) && (i' == i)) (serial == q) enrolled).0 in
     let two = (and_parts ((c'.0 == c) && (s'.0 == s)) (i' == i) three).0 in
     (and_parts (c'.0 == c) (s'.0 == s) two).0
-key_noted_for c s i q act noted = absurd (cc noted)
+key_enrolled_for c s i q act enrolled = absurd (cc enrolled)
 
 -- where one at least is among the first, and one is among all, one is among the first
 one_among : (a b : ℕ) → 1 ≤ a → a + b ≡ 1 → a ≡ 1
@@ -32,10 +32,10 @@ one_among a b some one = omega arith
 pub rules_before : (s i : ℕ) (claim : OwnClaim) (before later more : List Act)
     → KeepsRules s i claim before (later ++ more) → KeepsRules s i claim before later
 rules_before s i claim before later more rules = record {
-  noted = rules.noted;
-  noted_alone = one_among (count (notes_for c) (its_hold c before later)) (count (notes_for c) rest.0) some
-      (sym (count-append (notes_for c) (its_hold c before later) rest.0)
-      ∙ (ap (count (notes_for c)) (sym whole) ∙ rules.noted_alone));
+  enrolled = rules.enrolled;
+  enrolled_alone = one_among (count (enrols_for c) (its_hold c before later)) (count (enrols_for c) rest.0) some
+      (sym (count-append (enrols_for c) (its_hold c before later) rest.0)
+      ∙ (ap (count (enrols_for c)) (sym whole) ∙ rules.enrolled_alone));
   mode = (has_no_first (sets_mode c) (its_hold c before later) rest.0
       (ap (has (sets_mode c)) (sym whole) ∙ rules.mode)).0;
   prepared = rules.prepared;
@@ -51,11 +51,11 @@ rules_before s i claim before later more rules = record {
     whole = ap (λ acts. under c before ++ acts) rest.1
         ∙ sym (append_assoc (under c before) (until_released c later) rest.0)
 
-    some : 1 ≤ count (notes_for c) (its_hold c before later)
+    some : 1 ≤ count (enrols_for c) (its_hold c before later)
     some =
-        let first = has_counts (notes_for c) (notes_this_key c s i claim.serial) (key_noted_for c s i claim.serial)
-        (under c before) rules.noted in
-        omega (arith, count-append (notes_for c) (under c before) (until_released c later))
+        let first = has_counts (enrols_for c) (enrols_this_key c s i claim.serial) (key_enrolled_for c s i claim.serial)
+        (under c before) rules.enrolled in
+        omega (arith, count-append (enrols_for c) (under c before) (until_released c later))
 
 pub beginnings_are_careful : BeginningsAreCareful
 beginnings_are_careful before after goes_on careful n b s i found later parts claim its =
@@ -71,11 +71,11 @@ beginnings_are_careful before after goes_on careful n b s i found later parts cl
 pub rules_back : (s i : ℕ) (claim : OwnClaim) (before later : List Act) → KeepsRules s i claim before later
     → MayPublish s i claim before
 rules_back s i claim before later rules = record {
-  noted = rules.noted;
-  noted_alone = one_among (count (notes_for c) (under c before)) (count (notes_for c) (until_released c later))
-      (has_counts (notes_for c) (notes_this_key c s i claim.serial) (key_noted_for c s i claim.serial)
-      (under c before) rules.noted)
-      (sym (count-append (notes_for c) (under c before) (until_released c later)) ∙ rules.noted_alone);
+  enrolled = rules.enrolled;
+  enrolled_alone = one_among (count (enrols_for c) (under c before)) (count (enrols_for c) (until_released c later))
+      (has_counts (enrols_for c) (enrols_this_key c s i claim.serial) (key_enrolled_for c s i claim.serial)
+      (under c before) rules.enrolled)
+      (sym (count-append (enrols_for c) (under c before) (until_released c later)) ∙ rules.enrolled_alone);
   mode = (has_no_first (sets_mode c) (under c before) (until_released c later) rules.mode).0;
   prepared = rules.prepared;
 }

@@ -33,7 +33,7 @@ use Rattle.nio_orderly.proofs.KeySet.{is_false, is_not, WasThere, came}
 use Rattle.nio_orderly.proofs.KeysStand.{keys_stand, published, prepared_below}
 use Rattle.nio_orderly.proofs.Standing.{entered_told}
 use Rattle.nio_orderly.specs.Careful.{claims, finds_open, is_prepared, IsCareful}
-use Rattle.nio_orderly.specs.Owed.{publishes_key, looks_at_mark, owes, clearing_duty, key_of}
+use Rattle.nio_orderly.specs.Owed.{publishes_key, looks_at_high, owes, clearing_duty, key_of}
 
 -- ---- what a closer may have to remove
 
@@ -112,7 +112,7 @@ removed_now st me (Remove s' i' found) s i told =
 removed_now st me act s i told = absurd (cc told)
 
 looks_below : (st : State) (me : CallerNo) (act : Act) (s i : ℕ) → Answers st me act → nat_lt i (st.keys_high s) ≡ true
-    → looks_at_mark s act ≡ true → finds_below s i act ≡ true
+    → looks_at_high s act ≡ true → finds_below s i act ≡ true
 looks_below st me (LookKeys k found) s i answers below looks =
     let same : k.0 ≡ s = eqb-true k.0 s looks in
     let found_is : found ≡ st.keys_high k.0 = cc in
@@ -217,7 +217,7 @@ coming_before l past e fit legal step careful s i shut coming = by_how coming.ho
         (came st me e.act step.answers s i (in_set (subst (λ x. (x.key s i).published ≡ true) after_is published')))
     by_how (inr m) = by_caller m (is_by m.caller e) refl
 
--- a key that is coming is below the mark
+-- a key that is coming is below the high-water mark
 coming_below : (l : Limits) (events : List Event) → IsFit l → IsLegal l events → IsCareful events → (s i : ℕ)
     → IsComing events s i → nat_lt i ((state_after events).keys_high s) ≡ true
 coming_below l events fit legal careful s i coming = elim coming.how [

@@ -21,12 +21,12 @@ use Rattle.nio_orderly.proofs.Kept.{calm, Keeps}
 use Rattle.nio_orderly.proofs.ListWords.{has-first, has-second, has-neither, owes-later}
 use Rattle.nio_orderly.specs.Owed.{owes, closing_duty, clearing_duty, settles_key, looks_for_key}
 use Rattle.nio_steps.proofs.Walks.{Always, always_weaker, always_bind, always_sweep}
-use Rattle.nio_steps.specs.ChannelCalls.{cancel_at, cancel_noted, cancel_keys, close_channel_plan}
+use Rattle.nio_steps.specs.ChannelCalls.{cancel_at, cancel_enrolled, cancel_keys, close_channel_plan}
 use Rattle.nio_steps.specs.KeyCalls.{cancel_plan}
 use Rattle.nio_steps.specs.Names.{selector, key}
 use Rattle.nio_steps.specs.Plan.{Plan, reply, ask, ◌>>=◌, ◌>>◌}
 use Rattle.nio_steps.specs.SelectCalls.{closed, busy, remove_key, remove_keys, try_finish_plan}
-use Rattle.nio_steps.specs.Steps.{flag_in, stage_in, number_in, noted_in, holder_in, unpin}
+use Rattle.nio_steps.specs.Steps.{flag_in, stage_in, number_in, enrolled_in, holder_in, unpin}
 use Rattle.nio_steps.specs.Sweeps.{sweep_to}
 
 same_number : (n : ℕ) → (n == n) ≡ true
@@ -37,7 +37,7 @@ both_same m n = ap (λ b. b && (n == n)) (same_number m) ∙ same_number n
 
 -- ---- what an act is by its question
 
--- it isn't a look for the key that is noted for a channel
+-- it isn't a look for the key that is enrolled for a channel
 abbrev looks_elsewhere : Question → Bool
 looks_elsewhere (Question.look_reg c s) = false
 looks_elsewhere _ = true
@@ -130,10 +130,10 @@ cancels_key l s k =
           (elsewhere-one c t pinned (ap looks_elsewhere asks)) (elsewhere-one c t unpinned (ap looks_elsewhere asks'));
     }
 
--- ---- cancelling the key that is noted for a channel in a selector
+-- ---- cancelling the key that is enrolled for a channel in a selector
 
--- what a caller did when it looked which key is noted there, and cancelled it
-record CancelsNoted (l : Limits) (c : ChanNo) (s : ℕ) (acts : List Act) : Type 0 where
+-- what a caller did when it looked which key is enrolled there, and cancelled it
+record CancelsEnrolled (l : Limits) (c : ChanNo) (s : ℕ) (acts : List Act) : Type 0 where
   kept : Kept l acts
   settled : (k : KeyId) → owes (closing_duty c.0 s k) acts ≡ false
   looks : (t : ℕ) → (s == t) ≡ false → has (looks_for_key c.0 t) acts ≡ false
@@ -148,11 +148,13 @@ looks_here c s c' s' first second t =
 look_settled : (b : Bool) (other : Bool) → b ≡ false → (b && other) ≡ false
 look_settled b other is = ap (λ x. x && other) is
 
-cancels_noted : (l : Limits) (c : ChanNo) (s : ℕ) → Always (λ acts _. CancelsNoted l c s acts) (cancel_noted c s)
-cancels_noted l c s = λ looked asks. by_act looked asks
+cancels_enrolled : (l : Limits) (c : ChanNo) (s : ℕ)
+    → Always (λ acts _. CancelsEnrolled l c s acts) (cancel_enrolled c s)
+cancels_enrolled l c s = λ looked asks. by_act looked asks
   where
     by_act : (looked : Act) → question_of looked ≡ Question.look_reg c (selector s)
-        → Always (λ acts _. CancelsNoted l c s (looked ∷ acts)) (cancel_at (selector s) (noted_in (answer_of looked)))
+        → Always (λ acts _. CancelsEnrolled l c s (looked ∷ acts))
+        (cancel_at (selector s) (enrolled_in (answer_of looked)))
     by_act (LookReg c' s' None) asks =
         let here = looks_here c s c' s' (cc asks) (cc asks) in
         record {
@@ -162,7 +164,7 @@ cancels_noted l c s = λ looked asks. by_act looked asks
         }
     by_act (LookReg c' s' (Some k')) asks =
         always_weaker (λ acts _. CancelsKey l (selector s) k' acts)
-        (λ acts _. CancelsNoted l c s (LookReg c' s' (Some k') ∷ acts)) (cancel_plan (key (selector s) k'))
+        (λ acts _. CancelsEnrolled l c s (LookReg c' s' (Some k') ∷ acts)) (cancel_plan (key (selector s) k'))
         (λ acts _ cancelled. record {
           kept = kept-append l (LookReg c' s' (Some k') ∷ []) acts (kept-one l (LookReg c' s' (Some k')) refl)
               cancelled.kept;
@@ -216,7 +218,7 @@ other_number m n below = by_test (m == n) refl
     by_test true is = let same = eqb-true m n is in absurd (omega arith)
     by_test false is = refl
 
-one_more : (l : Limits) (c : ChanNo) (s : ℕ) (xs ys : List Act) → Cancelled l c s xs → CancelsNoted l c s ys
+one_more : (l : Limits) (c : ChanNo) (s : ℕ) (xs ys : List Act) → Cancelled l c s xs → CancelsEnrolled l c s ys
     → Cancelled l c (s + 1) (xs ++ ys)
 one_more l c s xs ys before turn = record {
   kept = kept-append l xs ys before.kept turn.kept;
@@ -244,12 +246,12 @@ one_more l c s xs ys before turn = record {
 keys_cancelled : (l : Limits) (c : ChanNo) → Always (λ acts _. Kept l (CloseBit c false ∷ acts)) (cancel_keys l c)
 keys_cancelled l c =
     always_bind (λ acts _. Cancelled l c l.selectors acts) (λ acts _. Kept l (CloseBit c false ∷ acts))
-    (sweep_to l.selectors 0 (λ s _. cancel_noted c s) tt) (λ _. reply true)
-    (always_sweep (λ s acts _. Cancelled l c s acts) l.selectors 0 (λ s _. cancel_noted c s) tt (omega arith)
+    (sweep_to l.selectors 0 (λ s _. cancel_enrolled c s) tt) (λ _. reply true)
+    (always_sweep (λ s acts _. Cancelled l c s acts) l.selectors 0 (λ s _. cancel_enrolled c s) tt (omega arith)
     (record { kept = kept-none l; settled = λ s k below. absurd (omega arith); looks = λ t above. refl })
-    (λ s ys _ low high before. always_weaker (λ acts _. CancelsNoted l c s acts)
-    (λ acts _. Cancelled l c (s + 1) (ys ++ acts)) (cancel_noted c s)
-    (λ acts _ turn. one_more l c s ys acts before turn) (cancels_noted l c s)))
+    (λ s ys _ low high before. always_weaker (λ acts _. CancelsEnrolled l c s acts)
+    (λ acts _. Cancelled l c (s + 1) (ys ++ acts)) (cancel_enrolled c s)
+    (λ acts _ turn. one_more l c s ys acts before turn) (cancels_enrolled l c s)))
     (λ acts _ cancelled. subst (λ xs. Kept l (CloseBit c false ∷ xs)) (sym (append-nil acts))
     (kept-closing l c acts cancelled.kept cancelled.settled))
 

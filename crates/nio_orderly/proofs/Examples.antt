@@ -15,7 +15,7 @@ use Rattle.nio_event.proofs.Told.{or_right}
 use Rattle.nio_event.proofs.WorkedSteps.{worked_history_is_legal}
 use Rattle.nio_event.specs.Histories.{event_of, mine, IsLegal}
 use Rattle.nio_event.specs.OwnEvents.{OwnClaim, own_claim}
-use Rattle.nio_event.specs.Worked.{u, v, s, c, chan, stage, noted, small_limits, worked_history}
+use Rattle.nio_event.specs.Worked.{u, v, s, c, chan, stage, enrolled, small_limits, worked_history}
 use Rattle.nio_event.specs.declared.act.Act.{Act}
 use Rattle.nio_event.specs.declared.act.Act.TheVariants.{LookChannel, Publish, LookReg, CloseBit}
 use Rattle.nio_event.specs.declared.event.Event.{Event}
@@ -23,7 +23,7 @@ use Rattle.nio_orderly.proofs.ActLists.{split_last}
 use Rattle.nio_orderly.proofs.LookingBack.{MayPublish, CarefulAct, AreCarefulActs}
 use Rattle.nio_orderly.proofs.LookingBackLaw.{careful_from_acts}
 use Rattle.nio_orderly.proofs.Owed.{nothing_is_lost}
-use Rattle.nio_orderly.specs.Examples.{closed_meanwhile, DebtStands, unnoted_key, CancellationIsLost}
+use Rattle.nio_orderly.specs.Examples.{closed_meanwhile, DebtStands, unenrolled_key, CancellationIsLost}
 use Rattle.nio_orderly.specs.Careful.{IsCareful}
 use Rattle.nio_orderly.specs.Owed.{publishes_key, closes, Duty, owes, publisher_duty, closing_duty, OwesSince, Owed}
 use Rattle.nio_steps.proofs.OwnActs.{mine-append}
@@ -103,7 +103,7 @@ publishes_carefully : (claim : OwnClaim) → own_claim 0 0 (take 23 (mine u clos
 publishes_carefully claim its =
     subst (λ cl. MayPublish 0 0 cl (take 23 (mine u closed_meanwhile)))
     (claim_is (record { channel = c; serial = 0 }) claim its)
-    (record { noted = refl; noted_alone = refl; mode = refl; prepared = refl })
+    (record { enrolled = refl; enrolled_alone = refl; mode = refl; prepared = refl })
   where
     claim_is : (x y : OwnClaim) → Some x ≡ Some y → x ≡ y
     claim_is x y e = cc
@@ -171,8 +171,8 @@ nobody_owes events makes duty none debt =
     (owed_in makes duty (mine debt.caller events) debt.before debt.act debt.since debt.did debt.made debt.owing)
     (none debt.caller)
 
-unnoted_legal : IsLegal small_limits unnoted_key
-unnoted_legal = looked_for
+unenrolled_legal : IsLegal small_limits unenrolled_key
+unenrolled_legal = looked_for
   where
     published : IsLegal small_limits
         (take 24 worked_history ++ event_of u (Publish s 0 (stage 0 false false false)) ∷ [])
@@ -198,23 +198,25 @@ unnoted_legal = looked_for
         (event_of v (CloseBit c false)) looked
         (record { by_caller = lit< tt; condition = (lit< tt, refl); answers = refl })
 
-    looked_for : IsLegal small_limits unnoted_key
+    looked_for : IsLegal small_limits unenrolled_key
     looked_for = legal_more small_limits
         (take 24 worked_history ++ event_of u (Publish s 0 (stage 0 false false false))
         ∷ event_of u (LookChannel c (chan false false)) ∷ event_of v (CloseBit c false) ∷ [])
         (event_of v (LookReg c s None)) closed
         (record { by_caller = lit< tt; condition = (lit< tt, lit< tt); answers = refl })
 
-unnoted_lost : Owed unnoted_key → ⊥
-unnoted_lost owed = elim (owed.channels 0 0 refl refl) [
+unenrolled_lost : Owed unenrolled_key → ⊥
+unenrolled_lost owed = elim (owed.channels 0 0 refl refl) [
   | inl debt ↦
-      nobody_owes unnoted_key (publishes_key 0 0 (noted 0 0)) (publisher_duty 0 0 (noted 0 0))
-      (for_each_caller unnoted_key refl
-      (λ own. any_owed (publishes_key 0 0 (noted 0 0)) (publisher_duty 0 0 (noted 0 0)) own ≡ false) refl refl refl)
+      nobody_owes unenrolled_key (publishes_key 0 0 (enrolled 0 0)) (publisher_duty 0 0 (enrolled 0 0))
+      (for_each_caller unenrolled_key refl
+      (λ own. any_owed (publishes_key 0 0 (enrolled 0 0)) (publisher_duty 0 0 (enrolled 0 0)) own ≡ false)
+      refl refl refl)
       debt
   | inr debt ↦
-      nobody_owes unnoted_key (closes 0) (closing_duty 0 0 (noted 0 0))
-      (for_each_caller unnoted_key refl (λ own. any_owed (closes 0) (closing_duty 0 0 (noted 0 0)) own ≡ false) refl
+      nobody_owes unenrolled_key (closes 0) (closing_duty 0 0 (enrolled 0 0))
+      (for_each_caller unenrolled_key refl (λ own. any_owed (closes 0) (closing_duty 0 0 (enrolled 0 0))
+      own ≡ false) refl
       refl refl) debt
 ]
 
@@ -232,9 +234,10 @@ small_limits_fit = record {
 
 pub cancellation_is_lost : CancellationIsLost
 cancellation_is_lost = record {
-  legal = unnoted_legal;
-  careless = λ careful. unnoted_lost (nothing_is_lost small_limits unnoted_key small_limits_fit unnoted_legal careful);
+  legal = unenrolled_legal;
+  careless = λ careful. unenrolled_lost (nothing_is_lost small_limits unenrolled_key small_limits_fit
+      unenrolled_legal careful);
   valid = refl;
   closed = refl;
-  lost = unnoted_lost;
+  lost = unenrolled_lost;
 }

@@ -15,7 +15,7 @@ use Rattle.nio_event.specs.declared.found.Stage.{Stage}
 use Rattle.nio_orderly.proofs.ActLists.{owes-settled}
 use Rattle.nio_orderly.proofs.ListWords.{InFirst, InSecond, split_at, has-first, has-second, no_such_act}
 use Rattle.nio_orderly.proofs.ListWords.{since_from-opened, until_released-append, is_prepared-grows, own_claim-later}
-use Rattle.nio_orderly.specs.Careful.{until_released, its_hold, notes_for, notes_this_key, is_prepared}
+use Rattle.nio_orderly.specs.Careful.{until_released, its_hold, enrols_for, enrols_this_key, is_prepared}
 use Rattle.nio_orderly.specs.Owed.{owes, publisher_duty, closing_duty, clearing_duty}
 use Rattle.nio_steps.proofs.Walks.{Always, always_weaker, always_bind, always_if, always_run}
 use Rattle.nio_steps.specs.Plan.{Plan, reply, ask, ◌>>=◌}
@@ -31,8 +31,8 @@ pub record PublishKept (before : List Act) (s : SelNo) (i : ℕ) (found : Stage)
   pub claimed : own_claim s.0 i before ≡ Some claim
   pub held : has (takes_hold claim.channel.0) before ≡ true
   pub given_back : has (releases claim.channel.0) later ≡ true
-  pub noted : has (notes_this_key claim.channel.0 s.0 i claim.serial) (under claim.channel.0 before) ≡ true
-  pub noted_alone : count (notes_for claim.channel.0) (its_hold claim.channel.0 before later) ≡ 1
+  pub enrolled : has (enrols_this_key claim.channel.0 s.0 i claim.serial) (under claim.channel.0 before) ≡ true
+  pub enrolled_alone : count (enrols_for claim.channel.0) (its_hold claim.channel.0 before later) ≡ 1
   pub mode : has (sets_mode claim.channel.0) (its_hold claim.channel.0 before later) ≡ false
   pub prepared : is_prepared s.0 i before ≡ true
   pub settled : found.removed ≡ false → (serial : ℕ)
@@ -75,9 +75,9 @@ publish_amid past before s i found later future kept =
       claimed = own_claim-later s.0 i past before kept.claim kept.claimed;
       held = has-second (takes_hold c) past before kept.held;
       given_back = has-first (releases c) later future kept.given_back;
-      noted = ap (has (notes_this_key c s.0 i kept.claim.serial))
-          (since_from-opened (takes_hold c) past before kept.held) ∙ kept.noted;
-      noted_alone = ap (count (notes_for c)) same ∙ kept.noted_alone;
+      enrolled = ap (has (enrols_this_key c s.0 i kept.claim.serial))
+          (since_from-opened (takes_hold c) past before kept.held) ∙ kept.enrolled;
+      enrolled_alone = ap (count (enrols_for c)) same ∙ kept.enrolled_alone;
       mode = ap (has (sets_mode c)) same ∙ kept.mode;
       prepared = is_prepared-grows s.0 i past before kept.prepared;
       settled = λ in_set serial. owes-settled (publisher_duty c s.0 (record { index = i; serial = serial })) later

@@ -1,5 +1,5 @@
--- What stands of the keys of the key set in a legal and careful history: each is the one that is noted for its
--- channel, its channel is non-blocking, and its index is below the keys' mark.
+-- What stands of the keys of the key set in a legal and careful history: each is the one that is enrolled for its
+-- channel, its channel is non-blocking, and its index is below the keys' high-water mark.
 use Rattle.std.proofs.Common.{◌≡◌, ℕ, ◌==◌, Bool, true, false, not, ◌&&◌, ◌||◌, inl, inr, Some, List, [], ◌∷◌, ◌++◌}
 use Rattle.std.proofs.Common.{refl, ap, sym, ◌∙◌, subst, eqb-true, eq-eqb}
 use Rattle.std.specs.Prelude.{nat_lt}
@@ -20,7 +20,7 @@ use Rattle.nio_event.specs.Acts.{effect}
 use Rattle.nio_event.specs.Answers.{Answers}
 use Rattle.nio_event.specs.Conditions.{Condition, holds}
 use Rattle.nio_event.specs.Histories.{state_after, mine, IsStep, IsLegal}
-use Rattle.nio_event.specs.OwnEvents.{OwnClaim, notes_key, is_clear, own_claim}
+use Rattle.nio_event.specs.OwnEvents.{OwnClaim, enrols_key, is_clear, own_claim}
 use Rattle.nio_event.specs.Sets.{in_key_set, is_in_key_set}
 use Rattle.nio_event.specs.Sound.{IsSound}
 use Rattle.nio_event.specs.State.{State}
@@ -31,13 +31,13 @@ use Rattle.nio_event.specs.declared.found.Stage.{Stage}
 use Rattle.nio_orderly.proofs.ActLists.{prepared_left}
 use Rattle.nio_orderly.proofs.Careful.{beginnings_are_careful}
 use Rattle.nio_orderly.proofs.KeySet.{came}
-use Rattle.nio_orderly.proofs.Published.{IsPublish, is_publish, noted_other, AtPublish, at_publish}
+use Rattle.nio_orderly.proofs.Published.{IsPublish, is_publish, enrolled_other, AtPublish, at_publish}
 use Rattle.nio_orderly.proofs.Standing.{claimed_made, below_left}
 use Rattle.nio_orderly.specs.Careful.{is_prepared, IsCareful}
 use Rattle.nio_orderly.specs.Owed.{publishes_key, key_of}
 
 pub record KeysStand (st : State) : Type 0 where
-  pub noted : (s i : ℕ) → in_key_set (st.key s i) ≡ true → st.noted (st.key s i).chan.0 s ≡ Some (key_of st s i)
+  pub enrolled : (s i : ℕ) → in_key_set (st.key s i) ≡ true → st.enrolled (st.key s i).chan.0 s ≡ Some (key_of st s i)
   pub unblocked : (s i : ℕ) → in_key_set (st.key s i) ≡ true → (st.chan (st.key s i).chan.0).blocking ≡ false
   pub below : (s i : ℕ) → in_key_set (st.key s i) ≡ true → nat_lt i (st.keys_high s) ≡ true
 
@@ -64,7 +64,7 @@ not_clear : (l : Limits) (past : List Event) (me : CallerNo) (c : ChanNo) (s i :
 not_clear l past me c s i fit legal stand held clear in_set of_channel =
     both_ways (is_in_key_set (st.key s i) (st.key s i).serial) (set_fits st (legal-sound l past legal) s i in_set)
     (clear_is_true l me c past fit legal held (record { 0 = s }) clear (key_of st s i)
-    (subst (λ (m : ℕ). st.noted m s ≡ Some (key_of st s i)) of_channel (stand.noted s i in_set)))
+    (subst (λ (m : ℕ). st.enrolled m s ≡ Some (key_of st s i)) of_channel (stand.enrolled s i in_set)))
   where
     st : State
     st = state_after past
@@ -73,7 +73,7 @@ not_clear l past me c s i fit legal stand held clear in_set of_channel =
 
 -- a publish of key k, a key of channel c: what stands before it
 pub record Published (past : List Event) (me : CallerNo) (c s : ℕ) (k : KeyId) : Type 0 where
-  pub noted : (state_after past).noted c s ≡ Some k
+  pub enrolled : (state_after past).enrolled c s ≡ Some k
   pub unblocked : ((state_after past).chan c).blocking ≡ false
   pub below : nat_lt k.index ((state_after past).keys_high s) ≡ true
   pub claim : OwnClaim
@@ -81,7 +81,7 @@ pub record Published (past : List Event) (me : CallerNo) (c s : ℕ) (k : KeyId)
   pub prepared : is_prepared s k.index (mine me past) ≡ true
   pub unremoved : ((state_after past).key s k.index).removed ≡ false
 
--- what is prepared is below the mark
+-- what is prepared is below the high-water mark
 pub prepared_below : (l : Limits) (n : CallerNo) (events : List Event) (s i : ℕ) → IsLegal l events
     → is_prepared s i (mine n events) ≡ true
     → nat_lt i ((state_after events).keys_high s) ≡ true
@@ -92,8 +92,8 @@ pub published : (l : Limits) (past : List Event) (e : Event) → IsFit l → IsL
     → IsCareful (past ++ e ∷ [])
     → (c s : ℕ) (k : KeyId) → publishes_key c s k e.act ≡ true → Published past e.caller c s k
 published l past e fit legal step careful c s k told = record {
-  noted = subst (λ (m : ℕ). st.noted m s ≡ Some k) (sym channel)
-      (at.noted ∙ ap (λ (q : ℕ). Some (key k.index q)) (sym serial));
+  enrolled = subst (λ (m : ℕ). st.enrolled m s ≡ Some k) (sym channel)
+      (at.enrolled ∙ ap (λ (q : ℕ). Some (key k.index q)) (sym serial));
   unblocked = subst (λ (m : ℕ). (st.chan m).blocking ≡ false) (sym channel) at.unblocked;
   below = prepared_below l e.caller past s k.index legal at.prepared;
   claim = at.claim;
@@ -126,7 +126,7 @@ published l past e fit legal step careful c s k told = record {
     serial : k.serial ≡ at.claim.serial
     serial = sym publish.serial ∙ (ap (λ x. x.serial) found_is ∙ at.of_claim.serial)
 
--- a publish changes neither the noted keys, nor the channels, nor the marks
+-- a publish changes neither the enrolled keys, nor the channels, nor the high-water marks
 publish_spares : (st : State) (me : CallerNo) (c s : ℕ) (k : KeyId) (act : Act) → IsPublish c s k act
     → (P : State → Type 0) → ((found : Stage) → P (effect st me (Publish (record { 0 = s }) k.index found)))
     → P (effect st me act)
@@ -134,18 +134,18 @@ publish_spares st me c s k act publish P here = subst (λ a. P (effect st me a))
 
 -- ---- one step
 
--- the noted key of a channel with a key of the key set isn't changed
-noted_step : (l : Limits) (past : List Event) (e : Event) → IsFit l → IsLegal l past → IsStep l past e
+-- the enrolled key of a channel with a key of the key set isn't changed
+enrolled_step : (l : Limits) (past : List Event) (e : Event) → IsFit l → IsLegal l past → IsStep l past e
     → KeysStand (state_after past)
     → (s i : ℕ) → in_key_set ((state_after past).key s i) ≡ true
-    → notes_key ((state_after past).key s i).chan.0 s e.act ≡ false
-noted_step l past e fit legal step stand s i in_set = by_act e.act step.condition
+    → enrols_key ((state_after past).key s i).chan.0 s e.act ≡ false
+enrolled_step l past e fit legal step stand s i in_set = by_act e.act step.condition
   where
     st : State
     st = state_after past
 
     by_act : (act : Act) → Condition l (mine e.caller past) st e.caller act
-        → notes_key (st.key s i).chan.0 s act ≡ false
+        → enrols_key (st.key s i).chan.0 s act ≡ false
     by_act (Enrol c' s' j q found) may = by_same ((c'.0 == (st.key s i).chan.0) && (s'.0 == s)) refl
       where
         by_same : (b : Bool) → ((c'.0 == (st.key s i).chan.0) && (s'.0 == s)) ≡ b → b ≡ false
@@ -199,17 +199,17 @@ keys_stand_step : (l : Limits) (past : List Event) (e : Event) → IsFit l → I
     → IsCareful (past ++ e ∷ []) → KeysStand (state_after past)
     → KeysStand (effect (state_after past) e.caller e.act)
 keys_stand_step l past e fit legal step careful stand = record {
-  noted = λ s i in_set. elim (came st me e.act step.answers s i in_set) [
+  enrolled = λ s i in_set. elim (came st me e.act step.answers s i in_set) [
     | inl was ↦
-        noted_other st me e.act (st'.key s i).chan.0 s (Some (key_of st' s i))
-        (subst (λ (c : ChanNo). notes_key c.0 s e.act ≡ false) (sym was.channel)
-        (noted_step l past e fit legal step stand s i was.in_set))
-        (subst (λ (c : ChanNo). st.noted c.0 s ≡ Some (key_of st' s i)) (sym was.channel)
-        (stand.noted s i was.in_set ∙ ap (λ (q : ℕ). Some (key i q)) (sym was.serial)))
+        enrolled_other st me e.act (st'.key s i).chan.0 s (Some (key_of st' s i))
+        (subst (λ (c : ChanNo). enrols_key c.0 s e.act ≡ false) (sym was.channel)
+        (enrolled_step l past e fit legal step stand s i was.in_set))
+        (subst (λ (c : ChanNo). st.enrolled c.0 s ≡ Some (key_of st' s i)) (sym was.channel)
+        (stand.enrolled s i was.in_set ∙ ap (λ (q : ℕ). Some (key i q)) (sym was.serial)))
     | inr new ↦
         publish_spares st me (st'.key s i).chan.0 s (key_of st' s i) e.act
         (is_publish (st'.key s i).chan.0 s (key_of st' s i) e.act new)
-        (λ x. x.noted (st'.key s i).chan.0 s ≡ Some (key_of st' s i)) (λ found. (made s i new).noted)
+        (λ x. x.enrolled (st'.key s i).chan.0 s ≡ Some (key_of st' s i)) (λ found. (made s i new).enrolled)
   ];
   unblocked = λ s i in_set. elim (came st me e.act step.answers s i in_set) [
     | inl was ↦ subst (λ (c : ChanNo). (st'.chan c.0).blocking ≡ false) (sym was.channel)
@@ -249,7 +249,7 @@ pub keys_stand : (l : Limits) → IsFit l → (events : List Event) → IsLegal 
     → KeysStand (state_after events)
 keys_stand l fit = legal_induction l (λ evs. IsCareful evs → KeysStand (state_after evs))
     (λ careful. record {
-      noted = λ s i in_set. absurd cc;
+      enrolled = λ s i in_set. absurd cc;
       unblocked = λ s i in_set. absurd cc;
       below = λ s i in_set. absurd cc;
     })

@@ -4,7 +4,7 @@ use Rattle.std.proofs.Common.{◌≡◌, ℕ, Bool, true, false, Some, List, ◌
 use Rattle.nio_event.specs.OwnEvents.{OwnClaim, has, count, under, sets_mode, own_claim}
 use Rattle.nio_event.specs.declared.act.Act.{Act}
 use Rattle.nio_event.specs.declared.act.Act.TheVariants.{Publish, Enrol, SetMode}
-use Rattle.nio_orderly.specs.Careful.{notes_for, notes_this_key, is_prepared}
+use Rattle.nio_orderly.specs.Careful.{enrols_for, enrols_this_key, is_prepared}
 
 -- it published a key
 abbrev pub publishes_any : Act → Bool
@@ -13,8 +13,8 @@ publishes_any _ = false
 
 -- before it publishes the key of its claim
 pub record MayPublish (s i : ℕ) (claim : OwnClaim) (own : List Act) : Type 0 where
-  pub noted : has (notes_this_key claim.channel.0 s i claim.serial) (under claim.channel.0 own) ≡ true
-  pub noted_alone : count (notes_for claim.channel.0) (under claim.channel.0 own) ≡ 1
+  pub enrolled : has (enrols_this_key claim.channel.0 s i claim.serial) (under claim.channel.0 own) ≡ true
+  pub enrolled_alone : count (enrols_for claim.channel.0) (under claim.channel.0 own) ≡ 1
   pub mode : has (sets_mode claim.channel.0) (under claim.channel.0 own) ≡ false
   pub prepared : is_prepared s i own ≡ true
 

@@ -25,7 +25,7 @@ use Rattle.nio_event.specs.declared.found.Stage.{Stage}
 use Rattle.nio_orderly.proofs.ActLists.{has-append, count-append}
 use Rattle.nio_orderly.proofs.LookingBack.{publishes_any, MayPublish, CarefulAct, AreCarefulActs}
 use Rattle.nio_orderly.proofs.Published.{MayClaim, may_claim}
-use Rattle.nio_orderly.specs.Careful.{notes_for, until_released, IsCareful}
+use Rattle.nio_orderly.specs.Careful.{enrols_for, until_released, IsCareful}
 use Rattle.nio_steps.proofs.OwnActs.{Cut, cut_at, mine-own_first}
 
 -- ---- a caller that has a hold doesn't take it
@@ -119,9 +119,9 @@ count-none p (x ∷ own) none =
     let first : ◌≡◌ {A = ℕ} (cond (p x) 1 0) 0 = ap (λ b. cond b 1 0) both.0 in
     omega (arith, sum_by-cons (λ y. cond (p y) 1 0) x own, first, count-none p own both.1)
 
--- an act by which a key is noted for the channel, or its mode set
+-- an act by which a key is enrolled for the channel, or its mode set
 abbrev spoils : ℕ → Act → Bool
-spoils c act = notes_for c act || sets_mode c act
+spoils c act = enrols_for c act || sets_mode c act
 
 -- such an act is done with care only where nothing was published under the hold
 spoils_careful : (c : ℕ) (own : List Act) (act : Act) → CarefulAct own act → spoils c act ≡ true
@@ -196,10 +196,10 @@ none_of_either p q (x ∷ own) none =
 pub careful_from_acts : (l : Limits) (events : List Event) → IsLegal l events
     → ((n : CallerNo) → AreCarefulActs (mine n events)) → IsCareful events
 careful_from_acts l events legal careful n before s i found later own claim its = record {
-  noted = rules.noted;
-  noted_alone = count-append (notes_for c) (under c before) (until_released c later)
-      ∙ (ap (λ (m : ℕ). m + count (notes_for c) (until_released c later)) rules.noted_alone
-      ∙ ap (λ (m : ℕ). 1 + m) (count-none (notes_for c) (until_released c later) later_none.0));
+  enrolled = rules.enrolled;
+  enrolled_alone = count-append (enrols_for c) (under c before) (until_released c later)
+      ∙ (ap (λ (m : ℕ). m + count (enrols_for c) (until_released c later)) rules.enrolled_alone
+      ∙ ap (λ (m : ℕ). 1 + m) (count-none (enrols_for c) (until_released c later) later_none.0));
   mode = has-append (sets_mode c) (under c before) (until_released c later)
       ∙ (ap (λ t. t || has (sets_mode c) (until_released c later)) rules.mode ∙ later_none.1);
   prepared = rules.prepared;
@@ -211,8 +211,8 @@ careful_from_acts l events legal careful n before s i found later own claim its 
     rules : MayPublish s.0 i claim before
     rules = careful n before (Publish s i found) later own claim its
 
-    later_none : (has (notes_for c) (until_released c later) ≡ false)
+    later_none : (has (enrols_for c) (until_released c later) ≡ false)
         × (has (sets_mode c) (until_released c later) ≡ false)
     later_none =
-        none_of_either (notes_for c) (sets_mode c) (until_released c later)
+        none_of_either (enrols_for c) (sets_mode c) (until_released c later)
         (none_spoils l n events before s i found legal (careful n) claim its [] later own refl refl)

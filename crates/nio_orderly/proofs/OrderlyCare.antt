@@ -163,7 +163,12 @@ orderly_is_careful l events orderly n before s i found later parts claim its =
     rules : (x : OwnClaim) → x ≡ claim → KeepsRules s.0 i claim before (later ++ more)
     rules x same =
         subst (λ (y : OwnClaim). KeepsRules s.0 i y before (later ++ more)) (claim_is (sym kept.claimed ∙ its))
-        (record { noted = kept.noted; noted_alone = kept.noted_alone; mode = kept.mode; prepared = kept.prepared })
+        (record {
+          enrolled = kept.enrolled;
+          enrolled_alone = kept.enrolled_alone;
+          mode = kept.mode;
+          prepared = kept.prepared;
+        })
 
 -- ---- whole calls are settled
 

@@ -13,7 +13,7 @@ use Rattle.nio_event.specs.declared.event.Event.{Event}
 use Rattle.nio_orderly.proofs.CallLists.{run_one}
 use Rattle.nio_orderly.proofs.Examples.{for_each_caller, cancellation_is_lost}
 use Rattle.nio_orderly.proofs.OrderlyCare.{orderly_is_careful}
-use Rattle.nio_orderly.specs.Examples.{unnoted_key}
+use Rattle.nio_orderly.specs.Examples.{unenrolled_key}
 use Rattle.nio_orderly.specs.Made.{Made, IsRun, draw, open_selector, open_channel, try_set_blocking, try_register}
 use Rattle.nio_orderly.specs.Made.{close_channel}
 use Rattle.nio_orderly.specs.OrderlyExamples.{closed_in_registration, its_key, calls_of_u, calls_of_v}
@@ -185,5 +185,5 @@ closed_in_registration_is_whole = record {
 pub steps_of_no_calls : StepsOfNoCalls
 steps_of_no_calls = record {
   legal = cancellation_is_lost.legal;
-  disorderly = λ l orderly. cancellation_is_lost.careless (orderly_is_careful l unnoted_key orderly);
+  disorderly = λ l orderly. cancellation_is_lost.careless (orderly_is_careful l unenrolled_key orderly);
 }

@@ -1,4 +1,4 @@
--- A publish in a legal and careful history: its key is the one that is noted for its channel, its channel is
+-- A publish in a legal and careful history: its key is the one that is enrolled for its channel, its channel is
 -- non-blocking, and it is prepared.
 use Rattle.std.proofs.Common.{◌≡◌, ℕ, ◌==◌, ◌+◌, Bool, true, false, cond, not, ◌&&◌, ◌⊎◌, inl, inr, Option, Some, None}
 use Rattle.std.proofs.Common.{List, [], ◌∷◌, ◌++◌, refl, ap, sym, ◌∙◌, subst, eqb-true, arith}
@@ -21,7 +21,7 @@ use Rattle.nio_event.specs.Acts.{effect}
 use Rattle.nio_event.specs.Conditions.{Condition, is_held_by, holds, may_publish}
 use Rattle.nio_event.specs.Histories.{state_after, mine, IsStep, IsLegal}
 use Rattle.nio_event.specs.Permanent.{the_hold}
-use Rattle.nio_event.specs.OwnEvents.{OwnClaim, has, count, under, own_claim, notes_key, finds_unblocked}
+use Rattle.nio_event.specs.OwnEvents.{OwnClaim, has, count, under, own_claim, enrols_key, finds_unblocked}
 use Rattle.nio_event.specs.Pins.{IsOfClaim}
 use Rattle.nio_event.specs.State.{State}
 use Rattle.nio_event.specs.declared.act.Act.{Act}
@@ -29,10 +29,10 @@ use Rattle.nio_event.specs.declared.act.Act.TheVariants.{Publish, Enrol}
 use Rattle.nio_event.specs.declared.event.Event.{Event}
 use Rattle.nio_event.specs.declared.found.Stage.{Stage}
 use Rattle.nio_orderly.proofs.ActLists.{count-more, has_counts}
-use Rattle.nio_orderly.proofs.Careful.{key_noted_for, careful_last}
+use Rattle.nio_orderly.proofs.Careful.{key_enrolled_for, careful_last}
 use Rattle.nio_orderly.proofs.KeySet.{is_false}
 use Rattle.nio_orderly.proofs.LookingBack.{MayPublish}
-use Rattle.nio_orderly.specs.Careful.{notes_for, notes_this_key, is_prepared, IsCareful}
+use Rattle.nio_orderly.specs.Careful.{enrols_for, enrols_this_key, is_prepared, IsCareful}
 use Rattle.nio_orderly.specs.Owed.{publishes_key}
 
 -- ---- which act it is
@@ -65,101 +65,105 @@ is_publish c s k (Publish s' i' found) told =
     }
 is_publish c s k act told = absurd (cc told)
 
--- ---- the noted key
+-- ---- the enrolled key
 
-pub noted_other : (st : State) (me : CallerNo) (act : Act) (c s : ℕ) (o : Option KeyId) → notes_key c s act ≡ false
-    → st.noted c s ≡ o → (effect st me act).noted c s ≡ o
-noted_other st me (Enrol c' s' i serial found) c s o spared = λ now.
-    put_at_keeps (λ m t x. ((c'.0 == m) && (s'.0 == t)) ≡ false → x ≡ o) st.noted c'.0 s'.0 _
+pub enrolled_other : (st : State) (me : CallerNo) (act : Act) (c s : ℕ) (o : Option KeyId) → enrols_key c s act ≡ false
+    → st.enrolled c s ≡ o → (effect st me act).enrolled c s ≡ o
+enrolled_other st me (Enrol c' s' i serial found) c s o spared = λ now.
+    put_at_keeps (λ m t x. ((c'.0 == m) && (s'.0 == t)) ≡ false → x ≡ o) st.enrolled c'.0 s'.0 _
     (λ _ spared'. absurd (both_ways ((c'.0 == c'.0) && (s'.0 == s'.0)) (same_two c'.0 s'.0) spared')) c s
     (λ _. now) spared
-noted_other st me act c s o spared = λ now. now
+enrolled_other st me act c s o spared = λ now. now
 
-noted_by_holder : (l : Limits) (own : List Act) (st : State) (me n : CallerNo) (act : Act) (c s : ℕ) (o : Option KeyId)
+enrolled_by_holder : (l : Limits) (own : List Act) (st : State) (me n : CallerNo) (act : Act) (c s : ℕ)
+    (o : Option KeyId)
     → Condition l own st me act
-    → is_held_by n (st.hold c) ≡ true → (me.0 == n.0) ≡ false → st.noted c s ≡ o → (effect st me act).noted c s ≡ o
-noted_by_holder l own st me n (Enrol k s' i serial found) c s o may held other = λ now.
-    put_at_keeps (λ m t x. is_held_by n (st.hold m) ≡ true → x ≡ o) st.noted k.0 s'.0 _
+    → is_held_by n (st.hold c) ≡ true → (me.0 == n.0) ≡ false → st.enrolled c s ≡ o
+    → (effect st me act).enrolled c s ≡ o
+enrolled_by_holder l own st me n (Enrol k s' i serial found) c s o may held other = λ now.
+    put_at_keeps (λ m t x. is_held_by n (st.hold m) ≡ true → x ≡ o) st.enrolled k.0 s'.0 _
     (λ _ held'. absurd
     (spares_not me n true (one_holder me n (st.hold k.0) may.3 held') refl (ap (λ b. b && true) other))) c s
     (λ _. now) held
-noted_by_holder l own st me n act c s o may held other = λ now. now
+enrolled_by_holder l own st me n act c s o may held other = λ now. now
 
-not_for_not_there : (c s : ℕ) (act : Act) → notes_for c act ≡ false → notes_key c s act ≡ false
+not_for_not_there : (c s : ℕ) (act : Act) → enrols_for c act ≡ false → enrols_key c s act ≡ false
 not_for_not_there c s (Enrol c' s' i serial found) none = ap (λ b. b && (s'.0 == s)) none
 not_for_not_there c s act none = refl
 
-key_noted : (st : State) (me : CallerNo) (act : Act) (c s i q : ℕ) → notes_this_key c s i q act ≡ true
-    → (effect st me act).noted c s ≡ Some (record { index = i; serial = q })
-key_noted st me (Enrol c' s' i' serial found) c s i q told =
+key_enrolled : (st : State) (me : CallerNo) (act : Act) (c s i q : ℕ) → enrols_this_key c s i q act ≡ true
+    → (effect st me act).enrolled c s ≡ Some (record { index = i; serial = q })
+key_enrolled st me (Enrol c' s' i' serial found) c s i q told =
     let four = and_parts ((c'.0 == c) && (s'.0 == s) && (i' == i)) (serial == q) told in
     let three = and_parts ((c'.0 == c) && (s'.0 == s)) (i' == i) four.0 in
-    put_at-there st.noted c'.0 s'.0 (Some (key i' serial)) c s three.0
+    put_at-there st.enrolled c'.0 s'.0 (Some (key i' serial)) c s three.0
     ∙ (ap (λ (j : ℕ). Some (key j serial)) (eqb-true i' i three.1)
     ∙ ap (λ (r : ℕ). Some (key i r)) (eqb-true serial q four.1))
   where
     key : ℕ → ℕ → KeyId
     key j r = record { index = j; serial = r }
-key_noted st me act c s i q told = absurd (cc told)
+key_enrolled st me act c s i q told = absurd (cc told)
 
 no_such : (own : List Act) → has (λ _. false) own ≡ false
 no_such [] = refl
 no_such (act ∷ own) = no_such own
 
--- under its hold a caller noted this key and no other for the channel: so it is noted
-pub noted_under : (l : Limits) (n : CallerNo) (c : ChanNo) (s i q : ℕ) (events : List Event) → IsLegal l events
+-- under its hold a caller enrolled this key and no other for the channel: so it is enrolled
+pub enrolled_under : (l : Limits) (n : CallerNo) (c : ChanNo) (s i q : ℕ) (events : List Event) → IsLegal l events
     → is_held_by n ((state_after events).hold c.0) ≡ true
-    → count (notes_for c.0) (under c.0 (mine n events)) ≡ 1
-    → has (notes_this_key c.0 s i q) (under c.0 (mine n events)) ≡ true
-    → (state_after events).noted c.0 s ≡ Some (record { index = i; serial = q })
-noted_under l n c s i q events legal held once had =
+    → count (enrols_for c.0) (under c.0 (mine n events)) ≡ 1
+    → has (enrols_this_key c.0 s i q) (under c.0 (mine n events)) ≡ true
+    → (state_after events).enrolled c.0 s ≡ Some (record { index = i; serial = q })
+enrolled_under l n c s i q events legal held once had =
     let since = held_since l n c events legal held in
     let known =
     knows_while l n (the_hold c) (λ _. false) Knows own_step other_step since.before since.later since.keeps
     (no_such (mine n since.later)) (λ one. absurd cc)
-    (sym (ap (count (notes_for c.0)) since.own) ∙ once) (sym (ap (has (notes_this_key c.0 s i q)) since.own) ∙ had) in
-    subst (λ evs. (state_after evs).noted c.0 s ≡ key) (sym since.whole) known
+    (sym (ap (count (enrols_for c.0)) since.own) ∙ once) (sym (ap (has (enrols_this_key c.0 s i q)) since.own) ∙ had) in
+    subst (λ evs. (state_after evs).enrolled c.0 s ≡ key) (sym since.whole) known
   where
     key : Option KeyId
     key = Some (record { index = i; serial = q })
 
     Knows : List Act → State → Type 0
-    Knows did st = count (notes_for c.0) did ≡ 1 → has (notes_this_key c.0 s i q) did ≡ true → st.noted c.0 s ≡ key
+    Knows did st = count (enrols_for c.0) did ≡ 1 → has (enrols_this_key c.0 s i q) did ≡ true → st.enrolled c.0 s ≡ key
 
     other_step : (past : List Event) (e : Event) → IsLegal l past → IsStep l past e
         → is_held_by n ((state_after past).hold c.0) ≡ true → (e.caller.0 == n.0) ≡ false
         → (did : List Act) → Knows did (state_after past) → Knows did (effect (state_after past) e.caller e.act)
     other_step past e legal' step had' by did knew one some =
-        noted_by_holder l (mine e.caller past) (state_after past) e.caller n e.act c.0 s key step.condition had' by
+        enrolled_by_holder l (mine e.caller past) (state_after past) e.caller n e.act c.0 s key step.condition had' by
         (knew one some)
 
     own_step : (past : List Event) (e : Event) → IsLegal l past → IsStep l past e
         → is_held_by n ((state_after past).hold c.0) ≡ true → (e.caller.0 == n.0) ≡ true → false ≡ false
         → (did : List Act) → Knows did (state_after past)
         → Knows (did ++ e.act ∷ []) (effect (state_after past) e.caller e.act)
-    own_step past e legal' step had' by spared did knew one some = by_note (notes_for c.0 e.act) refl
+    own_step past e legal' step had' by spared did knew one some = by_enrolling (enrols_for c.0 e.act) refl
       where
-        more : count (notes_for c.0) did + cond (notes_for c.0 e.act) 1 0 ≡ 1
-        more = sym (count-more (notes_for c.0) did e.act) ∙ one
+        more : count (enrols_for c.0) did + cond (enrols_for c.0 e.act) 1 0 ≡ 1
+        more = sym (count-more (enrols_for c.0) did e.act) ∙ one
 
-        had_or : (has (notes_this_key c.0 s i q) did ≡ true) ⊎ (notes_this_key c.0 s i q e.act ≡ true)
-        had_or = either (has (notes_this_key c.0 s i q) did) (notes_this_key c.0 s i q e.act)
-            (sym (has-more (notes_this_key c.0 s i q) did e.act) ∙ some)
+        had_or : (has (enrols_this_key c.0 s i q) did ≡ true) ⊎ (enrols_this_key c.0 s i q e.act ≡ true)
+        had_or = either (has (enrols_this_key c.0 s i q) did) (enrols_this_key c.0 s i q e.act)
+            (sym (has-more (enrols_this_key c.0 s i q) did e.act) ∙ some)
 
-        by_note : (b : Bool) → notes_for c.0 e.act ≡ b → (effect (state_after past) e.caller e.act).noted c.0 s ≡ key
-        by_note true noted = elim had_or [
+        by_enrolling : (b : Bool) → enrols_for c.0 e.act ≡ b
+            → (effect (state_after past) e.caller e.act).enrolled c.0 s ≡ key
+        by_enrolling true enrolled = elim had_or [
           | inl before ↦
-              let few = has_counts (notes_for c.0) (notes_this_key c.0 s i q) (key_noted_for c.0 s i q) did before in
-              let now : ◌≡◌ {A = ℕ} (cond (notes_for c.0 e.act) 1 0) 1 = ap (λ b. cond b 1 0) noted in
+              let few = has_counts (enrols_for c.0) (enrols_this_key c.0 s i q)
+              (key_enrolled_for c.0 s i q) did before in
+              let now : ◌≡◌ {A = ℕ} (cond (enrols_for c.0 e.act) 1 0) 1 = ap (λ b. cond b 1 0) enrolled in
               absurd (omega (arith, more, few, now))
-          | inr told ↦ key_noted (state_after past) e.caller e.act c.0 s i q told
+          | inr told ↦ key_enrolled (state_after past) e.caller e.act c.0 s i q told
         ]
-        by_note false noted = elim had_or [
+        by_enrolling false enrolled = elim had_or [
           | inl before ↦
-              let now : ◌≡◌ {A = ℕ} (cond (notes_for c.0 e.act) 1 0) 0 = ap (λ b. cond b 1 0) noted in
-              noted_other (state_after past) e.caller e.act c.0 s key (not_for_not_there c.0 s e.act noted)
+              let now : ◌≡◌ {A = ℕ} (cond (enrols_for c.0 e.act) 1 0) 0 = ap (λ b. cond b 1 0) enrolled in
+              enrolled_other (state_after past) e.caller e.act c.0 s key (not_for_not_there c.0 s e.act enrolled)
               (knew (omega (arith, more, now)) before)
-          | inr told ↦ absurd (both_ways (notes_for c.0 e.act) (key_noted_for c.0 s i q e.act told) noted)
+          | inr told ↦ absurd (both_ways (enrols_for c.0 e.act) (key_enrolled_for c.0 s i q e.act told) enrolled)
         ]
 
 -- ---- what stands at a publish
@@ -168,7 +172,7 @@ pub record AtPublish (past : List Event) (me : CallerNo) (s i : ℕ) : Type 0 wh
   pub claim : OwnClaim
   pub its : own_claim s i (mine me past) ≡ Some claim
   pub of_claim : IsOfClaim claim ((state_after past).key s i)
-  pub noted : (state_after past).noted claim.channel.0 s ≡ Some (record { index = i; serial = claim.serial })
+  pub enrolled : (state_after past).enrolled claim.channel.0 s ≡ Some (record { index = i; serial = claim.serial })
   pub unblocked : ((state_after past).chan claim.channel.0).blocking ≡ false
   pub prepared : is_prepared s i (mine me past) ≡ true
 
@@ -194,8 +198,9 @@ at_publish l past e fit legal step careful s i found publishes = record {
   claim = may.its_claim;
   its = may.is;
   of_claim = (own_claims_stand l e.caller sel i may.its_claim past fit legal may.is).1;
-  noted = noted_under l e.caller may.its_claim.channel s i may.its_claim.serial past legal may.held rules.noted_alone
-      rules.noted;
+  enrolled = enrolled_under l e.caller may.its_claim.channel s i may.its_claim.serial past legal may.held
+      rules.enrolled_alone
+      rules.enrolled;
   unblocked = holder_knows_mode l e.caller may.its_claim.channel past legal may.held may.found rules.mode;
   prepared = rules.prepared;
 }

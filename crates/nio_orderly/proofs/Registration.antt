@@ -25,10 +25,10 @@ use Rattle.nio_orderly.proofs.Kept.{PublishKept, Kept, kept-calm, is_loud, first
 use Rattle.nio_orderly.proofs.ListWords.{InFirst, InSecond, split_at, has-first, has-second, has-neither, no_such_act}
 use Rattle.nio_orderly.proofs.ListWords.{count-none, count-one, since_from-none, since_first-append}
 use Rattle.nio_orderly.proofs.ListWords.{until_released-done}
-use Rattle.nio_orderly.specs.Careful.{notes_for, notes_this_key, claims, leaves_below, finds_open, until_released}
+use Rattle.nio_orderly.specs.Careful.{enrols_for, enrols_this_key, claims, leaves_below, finds_open, until_released}
 use Rattle.nio_orderly.specs.Careful.{is_prepared}
 use Rattle.nio_orderly.specs.Owed.{owes, publisher_duty, settles_key}
-use Rattle.nio_steps.specs.ChannelCalls.{under_hold, register_noted, register_over, claim_taken, claim_free}
+use Rattle.nio_steps.specs.ChannelCalls.{under_hold, register_enrolled, register_over, claim_taken, claim_free}
 use Rattle.nio_steps.specs.ChannelCalls.{claim_at_bit, claim_in_word, search_free, words_below, claim_new, settle_key}
 use Rattle.nio_steps.specs.ChannelCalls.{publish_key, make_key, make_claimed, register_first, register_next}
 use Rattle.nio_steps.specs.ChannelCalls.{register_rest, register_unblocked, register_held, try_register_plan}
@@ -36,7 +36,7 @@ use Rattle.nio_steps.specs.KeyCalls.{has_bit, is_within}
 use Rattle.nio_steps.specs.Names.{key}
 use Rattle.nio_steps.specs.Plan.{Plan, reply, ask, ◌>>=◌, ◌>>◌, when}
 use Rattle.nio_steps.specs.Runs.{Completes}
-use Rattle.nio_steps.specs.Steps.{flag_in, word_in, gate_in, stage_in, channel_in, number_in, noted_in, holder_in}
+use Rattle.nio_steps.specs.Steps.{flag_in, word_in, gate_in, stage_in, channel_in, number_in, enrolled_in, holder_in}
 use Rattle.nio_steps.specs.Steps.{put_free, cancel_key, unpin, release}
 use Rattle.nio_steps.specs.Sweeps.{found_or, seek, seek_to}
 use Rattle.nio_steps.specs.declared.refusal.ChannelError.{ChannelError}
@@ -98,11 +98,11 @@ pub leads_seek : {A : Type 0} (Before : List Act → Type 0) (Found : List Act �
     → Leads (Here Before Found) own (seek_to b i f)
 leads_seek Before Found b i own f each here = leads_tries Before Found (b - i) i own f each here
 
--- ---- before a key is noted
+-- ---- before a key is enrolled
 
--- the caller has noted and published no key, set no mode, closed nothing
+-- the caller has enrolled and published no key, set no mode, closed nothing
 record Quiet (c : ChanNo) (own : List Act) : Type 0 where
-  unnoted : has (notes_for c.0) own ≡ false
+  unenrolled : has (enrols_for c.0) own ≡ false
   unset : has (sets_mode c.0) own ≡ false
   calm : has is_loud own ≡ false
 
@@ -121,7 +121,7 @@ still (Question.enter s) = false
 still _ = true
 
 quiet-none : (c : ChanNo) → Quiet c []
-quiet-none c = record { unnoted = refl; unset = refl; calm = refl }
+quiet-none c = record { unenrolled = refl; unset = refl; calm = refl }
 
 quiet-one : (c : ChanNo) (act : Act) → still (question_of act) ≡ true → Quiet c (act ∷ [])
 quiet-one c (Enrol c' s i serial found) is = absurd (cc is)
@@ -129,11 +129,11 @@ quiet-one c (SetMode c' blocking found) is = absurd (cc is)
 quiet-one c (Publish s i found) is = absurd (cc is)
 quiet-one c (CloseBit c' found) is = absurd (cc is)
 quiet-one c (Enter s found) is = absurd (cc is)
-quiet-one c _ is = record { unnoted = refl; unset = refl; calm = refl }
+quiet-one c _ is = record { unenrolled = refl; unset = refl; calm = refl }
 
 quiet-append : (c : ChanNo) (xs ys : List Act) → Quiet c xs → Quiet c ys → Quiet c (xs ++ ys)
 quiet-append c xs ys first second = record {
-  unnoted = has-neither (notes_for c.0) xs ys first.unnoted second.unnoted;
+  unenrolled = has-neither (enrols_for c.0) xs ys first.unenrolled second.unenrolled;
   unset = has-neither (sets_mode c.0) xs ys first.unset second.unset;
   calm = has-neither is_loud xs ys first.calm second.calm;
 }
@@ -180,11 +180,12 @@ stays_if {c = c} b x y this that = record {
 
 ruleset staying = (stays_reply, stays_ask, stays_bind, stays_if)
 
-over-stays : {c : ChanNo} (s : SelNo) (ops att : ℕ) (noted : Option KeyId) → Stays c (register_over s ops att noted)
+over-stays : {c : ChanNo} (s : SelNo) (ops att : ℕ) (enrolled : Option KeyId)
+    → Stays c (register_over s ops att enrolled)
 over-stays s ops att None = search staying depth 12
 over-stays s ops att (Some k) =
     stays_ask _ _ refl
-    (λ answer. stays_bind (register_noted s ops att k (stage_in answer)) _ (search staying depth 16)
+    (λ answer. stays_bind (register_enrolled s ops att k (stage_in answer)) _ (search staying depth 16)
     (λ over. stays_ask _ _ refl (λ _. stays_reply over)))
 
 -- ---- an index for the key
@@ -194,12 +195,12 @@ record Claimed (s : SelNo) (c : ChanNo) (k : KeyId) (own : List Act) : Type 0 wh
   holding : Holding c own
   claim : own_claim s.0 k.index own ≡ Some (record { channel = c; serial = k.serial })
 
--- and it found the keys' mark above the index, or raised it above
+-- and it found the keys' high-water mark above the index, or raised it above
 record Below (s : SelNo) (c : ChanNo) (k : KeyId) (own : List Act) : Type 0 where
   claimed : Claimed s c k own
   below : has (leaves_below s.0 k.index) own ≡ true
 
--- the caller found the keys' mark so
+-- the caller found the keys' high-water mark so
 record Marked (s : SelNo) (c : ChanNo) (mark : ℕ) (own : List Act) : Type 0 where
   holding : Holding c own
   below : (i : ℕ) → nat_lt i mark ≡ true → has (leaves_below s.0 i) own ≡ true
@@ -395,37 +396,38 @@ prepared-still s c k own act is leaves before = record {
   prepared = prepared-more s.0 k.index own act (not_claims s.0 k.index act leaves) before.prepared;
 }
 
--- ---- the key is noted
+-- ---- the key is enrolled
 
-record Noted (s : SelNo) (c : ChanNo) (k : KeyId) (own : List Act) : Type 0 where
+record Enrolled (s : SelNo) (c : ChanNo) (k : KeyId) (own : List Act) : Type 0 where
   held : has (takes_hold c.0) own ≡ true
   unset : has (sets_mode c.0) own ≡ false
   calm : has is_loud own ≡ false
   claim : own_claim s.0 k.index own ≡ Some (record { channel = c; serial = k.serial })
   prepared : is_prepared s.0 k.index own ≡ true
-  noted : has (notes_this_key c.0 s.0 k.index k.serial) (under c.0 own) ≡ true
-  alone : count (notes_for c.0) (under c.0 own) ≡ 1
+  enrolled : has (enrols_this_key c.0 s.0 k.index k.serial) (under c.0 own) ≡ true
+  alone : count (enrols_for c.0) (under c.0 own) ≡ 1
 
-noted-now : (s : SelNo) (c : ChanNo) (k : KeyId) (own : List Act) (act : Act)
-    → question_of act ≡ Question.enrol c s k.index k.serial → Prepared s c k own → Noted s c k (own ++ act ∷ [])
-noted-now s c k own (Enrol c' s' i serial found) asks before = record {
-  held = has-first (takes_hold c.0) own (enrolled ∷ []) before.claimed.holding.held;
-  unset = has-neither (sets_mode c.0) own (enrolled ∷ []) quiet.unset refl;
-  calm = has-neither is_loud own (enrolled ∷ []) quiet.calm refl;
-  claim = claim-stays s.0 k.index own enrolled (Some (record { channel = c; serial = k.serial })) refl
+enrolled-now : (s : SelNo) (c : ChanNo) (k : KeyId) (own : List Act) (act : Act)
+    → question_of act ≡ Question.enrol c s k.index k.serial → Prepared s c k own → Enrolled s c k (own ++ act ∷ [])
+enrolled-now s c k own (Enrol c' s' i serial found) asks before = record {
+  held = has-first (takes_hold c.0) own (enrolling ∷ []) before.claimed.holding.held;
+  unset = has-neither (sets_mode c.0) own (enrolling ∷ []) quiet.unset refl;
+  calm = has-neither is_loud own (enrolling ∷ []) quiet.calm refl;
+  claim = claim-stays s.0 k.index own enrolling (Some (record { channel = c; serial = k.serial })) refl
       before.claimed.claim;
-  prepared = prepared-more s.0 k.index own enrolled refl before.prepared;
-  noted = ap (has (notes_this_key c.0 s.0 k.index k.serial)) (since_from-more (takes_hold c.0) own enrolled)
-      ∙ has-second (notes_this_key c.0 s.0 k.index k.serial) (under c.0 own) (enrolled ∷ [])
+  prepared = prepared-more s.0 k.index own enrolling refl before.prepared;
+  enrolled = ap (has (enrols_this_key c.0 s.0 k.index k.serial)) (since_from-more (takes_hold c.0) own enrolling)
+      ∙ has-second (enrols_this_key c.0 s.0 k.index k.serial) (under c.0 own) (enrolling ∷ [])
       (ap (λ b. b || false) its_key);
-  alone = ap (count (notes_for c.0)) (since_from-more (takes_hold c.0) own enrolled)
-      ∙ one_in_all (count-append (notes_for c.0) (under c.0 own) (enrolled ∷ []))
-      (count-none (notes_for c.0) (under c.0 own) (since_from-none (notes_for c.0) (takes_hold c.0) own quiet.unnoted))
-      (count-one (notes_for c.0) enrolled its_channel);
+  alone = ap (count (enrols_for c.0)) (since_from-more (takes_hold c.0) own enrolling)
+      ∙ one_in_all (count-append (enrols_for c.0) (under c.0 own) (enrolling ∷ []))
+      (count-none (enrols_for c.0) (under c.0 own) (since_from-none (enrols_for c.0) (takes_hold c.0) own
+      quiet.unenrolled))
+      (count-one (enrols_for c.0) enrolling its_channel);
 }
   where
-    enrolled : Act
-    enrolled = Enrol c' s' i serial found
+    enrolling : Act
+    enrolling = Enrol c' s' i serial found
 
     quiet : Quiet c own
     quiet = before.claimed.holding.quiet
@@ -449,7 +451,7 @@ noted-now s c k own (Enrol c' s' i serial found) asks before = record {
         all_four false q r t a b d e = absurd (cc a)
         all_four true false r t a b d e = absurd (cc b)
         all_four true true false t a b d e = absurd (cc d)
-noted-now s c k own _ asks before = absurd (cc asks)
+enrolled-now s c k own _ asks before = absurd (cc asks)
 
 -- ---- the key is published
 
@@ -458,7 +460,7 @@ record Published (s : SelNo) (c : ChanNo) (k : KeyId) (own : List Act) : Type 0 
   found : Stage
   later : List Act
   parts : own ≡ before ++ Publish s k.index found ∷ later
-  noted : Noted s c k before
+  enrolled : Enrolled s c k before
   quiet : Quiet c later
   settled : found.removed ≡ false → (serial : ℕ)
       → owes (publisher_duty c.0 s.0 (record { index = k.index; serial = serial })) later ≡ false
@@ -471,7 +473,7 @@ published-more s c k own act is there = record {
   later = there.later ++ act ∷ [];
   parts = ap (λ xs. xs ++ act ∷ []) there.parts
       ∙ append_assoc there.before (Publish s k.index there.found ∷ there.later) (act ∷ []);
-  noted = there.noted;
+  enrolled = there.enrolled;
   quiet = quiet-more c there.later act is there.quiet;
   settled = λ in_set serial. owes-settled (publisher_duty c.0 s.0 (record { index = k.index; serial = serial }))
       there.later (act ∷ []) (there.settled in_set serial);
@@ -516,9 +518,9 @@ looked-closed c s i serial (LookChannel c' found) later asks asks' =
     by_either false = refl
 looked-closed c s i serial _ later asks asks' = absurd (cc asks)
 
-settle-leads : (s : SelNo) (c : ChanNo) (k : KeyId) (before : List Act) (found : Stage) → Noted s c k before
+settle-leads : (s : SelNo) (c : ChanNo) (k : KeyId) (before : List Act) (found : Stage) → Enrolled s c k before
     → Leads (λ own _. Registers s c own) (before ++ Publish s k.index found ∷ []) (settle_key s c k)
-settle-leads s c k before found noted = λ look asks.
+settle-leads s c k before found enrolled = λ look asks.
     let published = before ++ Publish s k.index found ∷ [] in
     leads_bind (λ own _. Registers s c own) (λ own _. Registers s c own) (published ++ look ∷ [])
     (when (channel_in (answer_of look)).closed (cancel_key s k.index)) (λ _. reply (Ok (key s k)))
@@ -532,7 +534,7 @@ settle-leads s c k before found noted = λ look asks.
         later = look ∷ cancelled ∷ [];
         parts = append_assoc published (look ∷ []) (cancelled ∷ [])
             ∙ append_assoc before (Publish s k.index found ∷ []) (look ∷ cancelled ∷ []);
-        noted = noted;
+        enrolled = enrolled;
         quiet = quiet-append c (look ∷ []) (cancelled ∷ []) (quiet-one c look (ap still asks))
             (quiet-one c cancelled (ap still asks'));
         settled = λ in_set serial. looked-closed c s k.index serial look cancelled asks asks';
@@ -545,7 +547,7 @@ settle-leads s c k before found noted = λ look asks.
         found = found;
         later = look ∷ [];
         parts = append_assoc before (Publish s k.index found ∷ []) (look ∷ []);
-        noted = noted;
+        enrolled = enrolled;
         quiet = quiet-one c look (ap still asks);
         settled = λ in_set serial. looked-open c s.0 k.index serial look asks open';
       },
@@ -553,10 +555,10 @@ settle-leads s c k before found noted = λ look asks.
     (λ own _ here. here)
 
 published-leads : (s : SelNo) (c : ChanNo) (k : KeyId) (own : List Act) (published : Act)
-    → question_of published ≡ Question.publish s k.index → Noted s c k own
+    → question_of published ≡ Question.publish s k.index → Enrolled s c k own
     → Leads (λ xs _. Registers s c xs) (own ++ published ∷ [])
     (if (stage_in (answer_of published)).removed then reply (Err ChannelError.ClosedSelector) else settle_key s c k)
-published-leads s c k own (Publish s' i found) asks noted =
+published-leads s c k own (Publish s' i found) asks enrolled =
     let first : s' ≡ s = cc asks in
     let second : i ≡ k.index = cc asks in
     let now : own ++ Publish s' i found ∷ [] ≡ own ++ Publish s k.index found ∷ [] =
@@ -572,21 +574,21 @@ published-leads s c k own (Publish s' i found) asks noted =
         found = found;
         later = [];
         parts = refl;
-        noted = noted;
+        enrolled = enrolled;
         quiet = quiet-none c;
         settled = λ in_set serial. let clash : true ≡ false = sym removed ∙ in_set in absurd (cc clash);
       },
     ))
-    (λ _. settle-leads s c k own found noted))
-published-leads s c k own _ asks noted = absurd (cc asks)
+    (λ _. settle-leads s c k own found enrolled))
+published-leads s c k own _ asks enrolled = absurd (cc asks)
 
 publish-leads : (s : SelNo) (c : ChanNo) (ops att : ℕ) (k : KeyId) (own : List Act) → Prepared s c k own
     → Leads (λ own' _. Registers s c own') own (publish_key s c ops att k)
-publish-leads s c ops att k own prepared = λ swapped its_ops attached its_note enrolled its_key published asks.
+publish-leads s c ops att k own prepared = λ swapped its_ops attached its_note enrolling its_key published asks.
     let own1 = own ++ swapped ∷ [] in
     let own2 = own1 ++ attached ∷ [] in
-    published-leads s c k (own2 ++ enrolled ∷ []) published asks
-    (noted-now s c k own2 enrolled its_key
+    published-leads s c k (own2 ++ enrolling ∷ []) published asks
+    (enrolled-now s c k own2 enrolling its_key
     (prepared-still s c k own1 attached (ap still its_note) (ap leaves_claims its_note)
     (prepared-still s c k own swapped (ap still its_ops) (ap leaves_claims its_ops) prepared)))
 
@@ -675,11 +677,11 @@ held-leads l s c ops att own holding = λ look asks.
     (reply (Err ChannelError.ClosedChannel)) _ (λ _. inl looked.quiet.calm)
     (λ _. leads_if (λ own' _. Registers s c own') (own ++ look ∷ []) (channel_in (answer_of look)).blocking
     (reply (Err ChannelError.IllegalBlockingMode)) (register_unblocked l s c ops att) (λ _. inl looked.quiet.calm)
-    (λ _ noted asks'.
-    leads_bind (λ own' _. Holding c own') (λ own' _. Registers s c own') ((own ++ look ∷ []) ++ noted ∷ [])
-    (register_over s ops att (noted_in (answer_of noted))) (register_rest l s c ops att)
-    ((over-stays s ops att (noted_in (answer_of noted))).leads ((own ++ look ∷ []) ++ noted ∷ [])
-    (holding-more c (own ++ look ∷ []) noted (ap still asks') looked))
+    (λ _ enrolled asks'.
+    leads_bind (λ own' _. Holding c own') (λ own' _. Registers s c own') ((own ++ look ∷ []) ++ enrolled ∷ [])
+    (register_over s ops att (enrolled_in (answer_of enrolled))) (register_rest l s c ops att)
+    ((over-stays s ops att (enrolled_in (answer_of enrolled))).leads ((own ++ look ∷ []) ++ enrolled ∷ [])
+    (holding-more c (own ++ look ∷ []) enrolled (ap still asks') looked))
     (λ own' over here. rest-leads l s c ops att over own' here)))
 
 -- ---- the whole registration
@@ -716,23 +718,23 @@ publish-kept : (s : SelNo) (c : ChanNo) (k : KeyId) (own : List Act) (there : Pu
     → has (releases c.0) there.later ≡ true → PublishKept there.before s k.index there.found there.later
 publish-kept s c k own there given_back = record {
   claim = record { channel = c; serial = k.serial };
-  claimed = noted.claim;
-  held = noted.held;
+  claimed = enrolled.claim;
+  held = enrolled.held;
   given_back = given_back;
-  noted = noted.noted;
-  noted_alone =
-      all_one (count-append (notes_for c.0) (under c.0 there.before) (until_released c.0 there.later)) noted.alone
-      (count-none (notes_for c.0) (until_released c.0 there.later)
-      (until_released-done (notes_for c.0) c.0 there.later there.quiet.unnoted));
+  enrolled = enrolled.enrolled;
+  enrolled_alone =
+      all_one (count-append (enrols_for c.0) (under c.0 there.before) (until_released c.0 there.later)) enrolled.alone
+      (count-none (enrols_for c.0) (until_released c.0 there.later)
+      (until_released-done (enrols_for c.0) c.0 there.later there.quiet.unenrolled));
   mode = has-neither (sets_mode c.0) (under c.0 there.before) (until_released c.0 there.later)
-      (since_from-none (sets_mode c.0) (takes_hold c.0) there.before noted.unset)
+      (since_from-none (sets_mode c.0) (takes_hold c.0) there.before enrolled.unset)
       (until_released-done (sets_mode c.0) c.0 there.later there.quiet.unset);
-  prepared = noted.prepared;
+  prepared = enrolled.prepared;
   settled = there.settled;
 }
   where
-    noted : Noted s c k there.before
-    noted = there.noted
+    enrolled : Enrolled s c k there.before
+    enrolled = there.enrolled
 
     all_one : {all first second : ℕ} → all ≡ first + second → first ≡ 1 → second ≡ 0 → all ≡ 1
     all_one sum one none = omega arith
@@ -745,13 +747,13 @@ registers-kept l s c own act asks (inl calm) =
 registers-kept l s c own act asks (inr registered) = record {
   publishes = λ xs s' i found ys parts. its_publish xs s' i found ys
       (one_loud there.before there.later xs ys (Publish s k.index there.found)
-      (Publish s' i found) there.noted.calm there.quiet.calm refl (sym there.parts ∙ parts));
+      (Publish s' i found) there.enrolled.calm there.quiet.calm refl (sym there.parts ∙ parts));
   closes = λ xs c' ys parts t k' below. absurd
       (cc (one_loud there.before there.later xs ys (Publish s k.index there.found)
-      (CloseBit c' false) there.noted.calm there.quiet.calm refl (sym there.parts ∙ parts)).1);
+      (CloseBit c' false) there.enrolled.calm there.quiet.calm refl (sym there.parts ∙ parts)).1);
   enters = λ xs s' ys parts. absurd
       (cc (one_loud there.before there.later xs ys (Publish s k.index there.found)
-      (Enter s' None) there.noted.calm there.quiet.calm refl (sym there.parts ∙ parts)).1);
+      (Enter s' None) there.enrolled.calm there.quiet.calm refl (sym there.parts ∙ parts)).1);
 }
   where
     k : KeyId

@@ -1,5 +1,5 @@
 -- What stands after every legal history beside soundness: a claimed key's channel is made, a shut selector has a
--- closer, and what a caller's acts tell of the keys' mark and of entering.
+-- closer, and what a caller's acts tell of the keys' high-water mark and of entering.
 use Rattle.std.proofs.Common.{◌≡◌, ℕ, ◌==◌, ◌<◌, max, suc, true, false, Some, None, is_some, List, refl, sym, ◌∙◌}
 use Rattle.std.proofs.Common.{subst, eqb-true, arith}
 use Rattle.std.specs.Prelude.{nat_lt}
@@ -107,7 +107,7 @@ entered_told l n events s legal had = has_told l (enters s) (λ st. st.entered s
     (λ past e step. enters_told (state_after past) e.caller e.act s)
     n events legal had
 
--- an index that a caller found or raised the keys' mark above is below the mark
+-- an index that a caller found or raised the keys' high-water mark above is below the high-water mark
 left_below : (st : State) (me : CallerNo) (act : Act) (s i : ℕ) → Answers st me act → leaves_below s i act ≡ true
     → nat_lt i ((effect st me act).keys_high s) ≡ true
 left_below st me (LookKeys k found) s i answers told =

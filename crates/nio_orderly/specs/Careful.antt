@@ -1,8 +1,8 @@
 -- Careful histories: how a caller publishes a key so that no cancellation is lost.
 --
--- Each publish keeps three rules. Under its hold of the key's channel the caller notes this key, and no other
+-- Each publish keeps three rules. Under its hold of the key's channel the caller enrols this key, and no other
 -- for the channel. Under this hold it doesn't set the channel's mode. And after its claim of the index it looks
--- at the gate, and finds it not shut, once it has found the keys' mark above the index or raised it above.
+-- at the gate, and finds it not shut, once it has found the keys' high-water mark above the index or raised it above.
 use Rattle.std.specs.Prelude.{◌≡◌, ℕ, ◌==◌, nat_lt, Bool, false, not, ◌&&◌, if◌then◌else◌, Some, IsTrue, IsFalse, List}
 use Rattle.std.specs.Prelude.{[], ◌∷◌, ◌++◌}
 use mathlib.Core.List.{IsPrefix}
@@ -19,15 +19,15 @@ use Rattle.nio_event.specs.declared.found.Stage.{Stage}
 
 -- ---- tests of one act
 
--- it noted a key for channel c, in whichever selector
-abbrev pub notes_for : ℕ → Act → Bool
-notes_for c (Enrol c' s i serial found) = c'.0 == c
-notes_for c _ = false
+-- it enrolled a key for channel c, in whichever selector
+abbrev pub enrols_for : ℕ → Act → Bool
+enrols_for c (Enrol c' s i serial found) = c'.0 == c
+enrols_for c _ = false
 
--- it noted the key of index i with this serial for channel c in selector s
-abbrev pub notes_this_key : ℕ → ℕ → ℕ → ℕ → Act → Bool
-notes_this_key c s i q (Enrol c' s' i' serial found) = (c'.0 == c) && (s'.0 == s) && (i' == i) && (serial == q)
-notes_this_key c s i q _ = false
+-- it enrolled the key of index i with this serial for channel c in selector s
+abbrev pub enrols_this_key : ℕ → ℕ → ℕ → ℕ → Act → Bool
+enrols_this_key c s i q (Enrol c' s' i' serial found) = (c'.0 == c) && (s'.0 == s) && (i' == i) && (serial == q)
+enrols_this_key c s i q _ = false
 
 -- it claimed index i of selector s, for its first key or again
 abbrev pub claims : ℕ → ℕ → Act → Bool
@@ -35,7 +35,7 @@ claims s i (Claim s' i' c false) = (s'.0 == s) && (i' == i)
 claims s i (ClaimAgain s' i' c from false) = (s'.0 == s) && (i' == i)
 claims s i _ = false
 
--- it found the keys' mark of selector s above index i, or raised it above i
+-- it found the keys' high-water mark of selector s above index i, or raised it above i
 abbrev pub leaves_below : ℕ → ℕ → Act → Bool
 leaves_below s i (LookKeys s' found) = (s'.0 == s) && nat_lt i found
 leaves_below s i (RaiseKeys s' n found) = (s'.0 == s) && nat_lt i n
@@ -58,17 +58,17 @@ until_released c (act ∷ later) = if releases c act then [] else act ∷ until_
 abbrev pub its_hold : ℕ → List Act → List Act → List Act
 its_hold c before later = under c before ++ until_released c later
 
--- it found the gate of selector s not shut, after it claimed index i last, and after it had found the keys' mark
--- above i or raised it above i
+-- it found the gate of selector s not shut, after it claimed index i last, and after it had found the keys' high-water
+-- mark above i or raised it above i
 abbrev pub is_prepared : ℕ → ℕ → List Act → Bool
 is_prepared s i own = has (finds_open s) (since_from (claims s i) (since_first (leaves_below s i) own))
 
 -- the rules of a publish of index i of selector s, by what its caller did before and later; the key is that of the
 -- caller's claim of the index
 pub record KeepsRules (s i : ℕ) (claim : OwnClaim) (before later : List Act) : Type 0 where
-  -- under the hold it noted the key before, and no other key for the channel before or later
-  pub noted : IsTrue (has (notes_this_key claim.channel.0 s i claim.serial) (under claim.channel.0 before))
-  pub noted_alone : count (notes_for claim.channel.0) (its_hold claim.channel.0 before later) ≡ 1
+  -- under the hold it enrolled the key before, and no other key for the channel before or later
+  pub enrolled : IsTrue (has (enrols_this_key claim.channel.0 s i claim.serial) (under claim.channel.0 before))
+  pub enrolled_alone : count (enrols_for claim.channel.0) (its_hold claim.channel.0 before later) ≡ 1
   -- under the hold it didn't set the mode
   pub mode : IsFalse (has (sets_mode claim.channel.0) (its_hold claim.channel.0 before later))
   pub prepared : IsTrue (is_prepared s i before)

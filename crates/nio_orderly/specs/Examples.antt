@@ -3,7 +3,7 @@
 use Rattle.std.specs.Prelude.{false, None, IsTrue, List, [], ◌∷◌, ◌++◌, take}
 use Rattle.nio_event.specs.Histories.{state_after, event_of, IsLegal}
 use Rattle.nio_event.specs.Sets.{is_valid}
-use Rattle.nio_event.specs.Worked.{u, v, s, c, chan, stage, noted, small_limits, worked_history}
+use Rattle.nio_event.specs.Worked.{u, v, s, c, chan, stage, enrolled, small_limits, worked_history}
 use Rattle.nio_event.specs.declared.act.Act.TheVariants.{LookChannel, Publish, LookReg, CloseBit}
 use Rattle.nio_event.specs.declared.event.Event.{Event}
 use Rattle.nio_orderly.specs.Careful.{IsCareful}
@@ -19,12 +19,12 @@ pub record DebtStands : Type 0 where
   pub careful : IsCareful closed_meanwhile
   pub valid : IsTrue (is_valid ((state_after closed_meanwhile).key 0 0))
   pub closed : IsTrue ((state_after closed_meanwhile).chan 0).closed
-  pub owing : OwesSince closed_meanwhile (publishes_key 0 0 (noted 0 0)) (publisher_duty 0 0 (noted 0 0))
+  pub owing : OwesSince closed_meanwhile (publishes_key 0 0 (enrolled 0 0)) (publisher_duty 0 0 (enrolled 0 0))
 
--- u publishes the key but hasn't noted it for the channel, and looks at the channel; then v closes the channel,
--- and finds no key noted for it
-abbrev pub unnoted_key : List Event
-unnoted_key =
+-- u publishes the key but hasn't enrolled it for the channel, and looks at the channel; then v closes the channel,
+-- and finds no key enrolled for it
+abbrev pub unenrolled_key : List Event
+unenrolled_key =
     take 24 worked_history
     ++ event_of u (Publish s 0 (stage 0 false false false))
     ∷ event_of u (LookChannel c (chan false false))
@@ -34,8 +34,8 @@ unnoted_key =
 -- each step is allowed, but the history isn't careful, and the cancellation is lost: the key is valid, its channel
 -- is closed, and nobody owes anything
 pub record CancellationIsLost : Type 0 where
-  pub legal : IsLegal small_limits unnoted_key
-  pub careless : ¬ IsCareful unnoted_key
-  pub valid : IsTrue (is_valid ((state_after unnoted_key).key 0 0))
-  pub closed : IsTrue ((state_after unnoted_key).chan 0).closed
-  pub lost : ¬ Owed unnoted_key
+  pub legal : IsLegal small_limits unenrolled_key
+  pub careless : ¬ IsCareful unenrolled_key
+  pub valid : IsTrue (is_valid ((state_after unenrolled_key).key 0 0))
+  pub closed : IsTrue ((state_after unenrolled_key).chan 0).closed
+  pub lost : ¬ Owed unenrolled_key

@@ -4,13 +4,13 @@ use Rattle.nio_base.specs.declared.kind.Kind.TheVariants.{Source}
 use Rattle.nio_base.specs.declared.limits.Limits.{Limits}
 use Rattle.nio_base.specs.declared.numbers.KeyNo.{KeyNo}
 use Rattle.nio_event.specs.Histories.{state_after, mine, event_of, IsLegal}
-use Rattle.nio_event.specs.Worked.{u, v, s, c, chan, gate, stage, noted, small_limits}
+use Rattle.nio_event.specs.Worked.{u, v, s, c, chan, gate, stage, enrolled, small_limits}
 use Rattle.nio_event.specs.declared.act.Act.TheVariants.{DrawBit, MakeSelector, LookGate, CancelKey, SwapInterest}
 use Rattle.nio_event.specs.declared.act.Act.TheVariants.{SwapNote, MakeChannel, LookChannel, Claim, RaiseKeys, LookKeys}
 use Rattle.nio_event.specs.declared.act.Act.TheVariants.{Publish, LookReg, Enrol, LookChannels, RaiseChannels}
 use Rattle.nio_event.specs.declared.act.Act.TheVariants.{TryHoldBit, Release, SetMode, CloseBit, Pin, Unpin}
 use Rattle.nio_event.specs.declared.event.Event.{Event}
-use Rattle.nio_orderly.specs.Examples.{unnoted_key}
+use Rattle.nio_orderly.specs.Examples.{unenrolled_key}
 use Rattle.nio_orderly.specs.Made.{Made, draw, open_selector, open_channel, try_set_blocking, try_register}
 use Rattle.nio_orderly.specs.Made.{close_channel}
 use Rattle.nio_orderly.specs.Orderly.{AreCallsOf, IsWhole, IsOrderly}
@@ -48,7 +48,7 @@ closed_in_registration =
     event_of u (Publish s 0 (stage 0 false false false)) ∷
     -- v closes the channel, and cancels its key
     event_of v (CloseBit c false) ∷
-    event_of v (LookReg c s (Some (noted 0 0))) ∷
+    event_of v (LookReg c s (Some (enrolled 0 0))) ∷
     event_of v (Pin s 0 (stage 0 true false false)) ∷
     event_of v (CancelKey s 0 (stage 0 true false false)) ∷
     event_of v (Unpin s 0) ∷
@@ -77,8 +77,8 @@ pub record ClosedInRegistration : Type 0 where
   pub of_v : AreCallsOf small_limits (mine v closed_in_registration) calls_of_v
   pub cancelled : (state_after closed_in_registration).key 0 0 ≡ stage 0 true true false
 
--- A registration notes its key before it publishes it: who publishes one without noting it makes no whole calls. The
--- history is legal, so its steps alone don't tell.
+-- A registration enrols its key before it publishes it: who publishes one without enrolling it makes no whole calls.
+-- The history is legal, so its steps alone don't tell.
 pub record StepsOfNoCalls : Type 0 where
-  pub legal : IsLegal small_limits unnoted_key
-  pub disorderly : (l : Limits) → ¬ IsOrderly l unnoted_key
+  pub legal : IsLegal small_limits unenrolled_key
+  pub disorderly : (l : Limits) → ¬ IsOrderly l unenrolled_key

@@ -1,7 +1,7 @@
 -- What is owed in a history. Whoever publishes a key then looks at its channel, and cancels the key where it finds
 -- the channel closed. Whoever closes a channel then looks for its key in each selector, and cancels it. Whoever
--- closes a selector looks at the keys' mark once it has entered, and removes each key below. So where a key is valid
--- though its channel is closed or its selector is shut, one of them has still to do that.
+-- closes a selector looks at the keys' high-water mark once it has entered, and removes each key below. So where a key
+-- is valid though its channel is closed or its selector is shut, one of them has still to do that.
 use Rattle.std.specs.Prelude.{◌≡◌, ℕ, ◌==◌, Bool, true, false, not, ◌&&◌, ◌||◌, if◌then◌else◌, Option, Some, None}
 use Rattle.std.specs.Prelude.{is_some, IsTrue, IsFalse, List, [], ◌∷◌, ◌++◌, ◌⊎◌}
 use Rattle.nio_base.specs.Limits.{IsFit}
@@ -41,7 +41,7 @@ abbrev pub finds_closed : ℕ → Act → Bool
 finds_closed c (LookChannel c' found) = (c'.0 == c) && found.closed
 finds_closed c _ = false
 
--- it looked at which key is noted for channel c in selector s; and found this key
+-- it looked at which key is enrolled for channel c in selector s; and found this key
 abbrev pub looks_for_key : ℕ → ℕ → Act → Bool
 looks_for_key c s (LookReg c' s' found) = (c'.0 == c) && (s'.0 == s)
 looks_for_key c s _ = false
@@ -59,10 +59,10 @@ abbrev pub cancels : ℕ → ℕ → Act → Bool
 cancels s i (CancelKey s' i' found) = (s'.0 == s) && (i' == i)
 cancels s i _ = false
 
--- it looked at the keys' mark of selector s
-abbrev pub looks_at_mark : ℕ → Act → Bool
-looks_at_mark s (LookKeys s' found) = s'.0 == s
-looks_at_mark s _ = false
+-- it looked at the keys' high-water mark of selector s
+abbrev pub looks_at_high : ℕ → Act → Bool
+looks_at_high s (LookKeys s' found) = s'.0 == s
+looks_at_high s _ = false
 
 -- ---- debts
 
@@ -90,9 +90,9 @@ publisher_duty c s k = record { looks = looks_at_channel c; finds = finds_closed
 abbrev pub closing_duty : ℕ → ℕ → KeyId → Duty
 closing_duty c s k = record { looks = looks_for_key c s; finds = finds_key c s k; settles = settles_key s k }
 
--- who closed a selector has to look, once it has entered, at the keys' mark, and to remove each index below
+-- who closed a selector has to look, once it has entered, at the keys' high-water mark, and to remove each index below
 abbrev pub clearing_duty : ℕ → ℕ → Duty
-clearing_duty s i = record { looks = looks_at_mark s; finds = finds_below s i; settles = removes s i }
+clearing_duty s i = record { looks = looks_at_high s; finds = finds_below s i; settles = removes s i }
 
 -- a caller made such an act, and owes since
 pub record OwesSince (events : List Event) (makes : Act → Bool) (duty : Duty) : Type 0 where

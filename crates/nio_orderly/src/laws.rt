@@ -1,9 +1,12 @@
 //! Laws of orderly and of careful histories. Each is the contract of a function that does nothing.
 ghost use Rattle.nio_orderly.specs.AfterClosing.{OnlyPublishersOwe, ClosedSelectorsHaveNoKey};
 ghost use Rattle.nio_orderly.specs.Careful.{BeginningsAreCareful};
-ghost use Rattle.nio_orderly.specs.OrderlyLaws.{BeginningsAreOrderly, WholeIsOrderly, OneCallMore, OrderlyEndsInCall, SerialIsWhole, SerialCallMore};
+ghost use Rattle.nio_orderly.specs.OrderlyLaws.{BeginningsAreOrderly, WholeIsOrderly, OneCallMore, OrderlyEndsInCall};
+ghost use Rattle.nio_orderly.specs.OrderlyLaws.{SerialIsWhole, SerialCallMore};
 ghost use Rattle.nio_orderly.specs.Examples.{DebtStands, CancellationIsLost};
-ghost use Rattle.nio_orderly.specs.OrderlyCare.{OrderlyIsCareful, WholeIsSettled, OrderlyOwes, WholeLosesNoKey, CloseChannelCloses, FinishCloses, AfterCloseChannel, NoKeyAfterCloseChannel, NoKeyAfterFinish, NoKeyAfterClose};
+ghost use Rattle.nio_orderly.specs.OrderlyCare.{OrderlyIsCareful, WholeIsSettled, OrderlyOwes, WholeLosesNoKey};
+ghost use Rattle.nio_orderly.specs.OrderlyCare.{CloseChannelCloses, FinishCloses, AfterCloseChannel};
+ghost use Rattle.nio_orderly.specs.OrderlyCare.{NoKeyAfterCloseChannel, NoKeyAfterFinish, NoKeyAfterClose};
 ghost use Rattle.nio_orderly.specs.OrderlyExamples.{ClosedInRegistration, StepsOfNoCalls};
 ghost use Rattle.nio_orderly.specs.Owed.{NothingIsLost};
 ghost use Rattle.nio_orderly.specs.Settled.{SettledLosesNoKey};

@@ -8,10 +8,10 @@ use Rattle.std.proofs.lemmas.Slice.{drop-append-drop}
 use Rattle.std.proofs.Math.Seq.{take-append-add, take-length}
 use mathlib.Core.List.{IsPrefix}
 use Rattle.nio_words.proofs.Beginnings.{prefix_self, prefix_length, prefix_trans, prefix_whole}
-use Rattle.nio_pipe.specs.Counts.{count_of, marks_left, marks_taken, left_to, known_of, IsReached}
+use Rattle.nio_pipe.specs.Counts.{count_of, seals_left, seals_taken, left_to, known_of, IsReached}
 use Rattle.nio_pipe.specs.Answers.{read_answer}
 use Rattle.nio_pipe.specs.Ends.{GivesBytes, IsAtEnd, IsSameSource, KnowsNothing, SourceLooks, known, knows_end}
-use Rattle.nio_pipe.specs.Ends.{received, IsSameSink, SinkLooks, TakesBytes, sent, free, is_marked}
+use Rattle.nio_pipe.specs.Ends.{received, IsSameSink, SinkLooks, TakesBytes, sent, free, is_sealed}
 use Rattle.nio_pipe.specs.declared.sink.PipeSink.{PipeSink}
 use Rattle.nio_pipe.specs.declared.source.PipeSource.{PipeSource}
 
@@ -40,7 +40,7 @@ knew_end old none knows = let clash : false ≡ true = sym (ap is_some none) ∙
 
 pub looks_none : (s : PipeSource) → SourceLooks s s
 looks_none s = record {
-  same = record { bytes = ((refl, refl, refl, refl), refl); marks = ((refl, refl, refl, refl), refl); channel = refl };
+  same = record { bytes = ((refl, refl, refl, refl), refl); seals = ((refl, refl, refl, refl), refl); channel = refl };
   received = refl;
   known = prefix_self (known s);
   end_stays = λ knows. knows;
@@ -70,15 +70,15 @@ same_source first second = record {
     ),
     second.bytes.1 ∙ first.bytes.1,
   );
-  marks = (
+  seals = (
     (
-      second.marks.0.0 ∙ first.marks.0.0,
-      second.marks.0.1 ∙ first.marks.0.1,
-      second.marks.0.2
-          ∙ first.marks.0.2,
-      second.marks.0.3 ∙ first.marks.0.3,
+      second.seals.0.0 ∙ first.seals.0.0,
+      second.seals.0.1 ∙ first.seals.0.1,
+      second.seals.0.2
+          ∙ first.seals.0.2,
+      second.seals.0.3 ∙ first.seals.0.3,
     ),
-    second.marks.1 ∙ first.marks.1,
+    second.seals.1 ∙ first.seals.1,
   );
   channel = second.channel ∙ first.channel;
 }
@@ -102,11 +102,11 @@ no_front (x ∷ xs) ys is = absurd (cc is)
 pub knew_nothing : {a b : PipeSource} → SourceLooks a b → KnowsNothing b → KnowsNothing a
 knew_nothing {a = a} {b = b} looks none = record {
   no_byte = no_front (known a) looks.known.0 (looks.known.1 ∙ none.no_byte);
-  no_mark = by_test (knows_end a) refl;
+  no_seal = by_test (knows_end a) refl;
 }
   where
     by_test : (knows : Bool) → knows_end a ≡ knows → knows_end a ≡ false
-    by_test true is = let clash : true ≡ false = sym (looks.end_stays is) ∙ none.no_mark in absurd (cc clash)
+    by_test true is = let clash : true ≡ false = sym (looks.end_stays is) ∙ none.no_seal in absurd (cc clash)
     by_test false is = is
 
 -- ---- at the end
@@ -114,7 +114,7 @@ knew_nothing {a = a} {b = b} looks none = record {
 -- looking changes nothing there
 pub end_looked : {a b : PipeSource} → SourceLooks a b → IsAtEnd a → IsAtEnd b
 end_looked looks at_end =
-    record { marked = looks.end_stays at_end.marked; no_byte = looks.no_more at_end.marked ∙ at_end.no_byte }
+    record { sealed = looks.end_stays at_end.sealed; no_byte = looks.no_more at_end.sealed ∙ at_end.no_byte }
 
 -- reading gives nothing there, and tells the end
 pub end_told : {a b : PipeSource} (before after : List ℕ) (n : ℕ) → GivesBytes a b before after n
@@ -122,10 +122,10 @@ pub end_told : {a b : PipeSource} (before after : List ℕ) (n : ℕ) → GivesB
     → read_answer (length before) n (knows_end b) ≡ read_answer (length before) 0 true
 end_told {a = a} {b = b} before after n gives same at_end =
     let none : take n after ≡ [] = no_front (take n after) (known b)
-    (sym (gives.no_more at_end.marked) ∙ at_end.no_byte) in
+    (sym (gives.no_more at_end.sealed) ∙ at_end.no_byte) in
     let no_byte : n ≡ 0 = sym (length-take-le n after (omega (arith, gives.fit, same))) ∙ ap length none in
     ap (λ (k : ℕ). read_answer (length before) k (knows_end b)) no_byte
-    ∙ ap (read_answer (length before) 0) (gives.end_stays at_end.marked)
+    ∙ ap (read_answer (length before) 0) (gives.end_stays at_end.sealed)
 
 -- ---- reading up to the end
 
@@ -169,9 +169,9 @@ module _ (items items' popped popped' into there : List ℕ) (left room given : 
       let none : given < room → length items' ≡ 0 = λ less. ap length (pops.most (omega (arith, less, lent))) in
       grind (arith, fits_in, pops.seen, pops.room_is)
 
-  pub reached_after : (mark : Option ℕ) → mark ≡ Some ((length popped + left) % 2 ^ 64)
-      → IsReached popped' items' mark (Some (left - given))
-  reached_after mark told = record {
+  pub reached_after : (seal : Option ℕ) → seal ≡ Some ((length popped + left) % 2 ^ 64)
+      → IsReached popped' items' seal (Some (left - given))
+  reached_after seal told = record {
     seen = λ n is. let same : left - given ≡ n = cc is in omega (arith, next_length);
     told = λ n is.
         let same : left - given ≡ n = cc is in
@@ -220,34 +220,34 @@ module _ (items items' popped popped' into there : List ℕ) (left room given : 
 -- ---- both ends in one hand
 
 -- the bytes R that were received, those that wait (K) and those that were sent (S); what each end has counted, the
--- mark that the source took, and how far the end was known to be before and after the source worked it out
-pub record Beside (R K S : List ℕ) (marked : Bool) (read written : ℕ) (mark to_end to_end' : Option ℕ) : Type 0 where
+-- seal that the source took, and how far the end was known to be before and after the source worked it out
+pub record Beside (R K S : List ℕ) (sealed : Bool) (read written : ℕ) (seal to_end to_end' : Option ℕ) : Type 0 where
   pub whole : R ++ K ≡ S
   pub few : length K ≤ 65536
   pub read_is : read ≡ count_of R
   pub written_is : written ≡ count_of S
-  pub marks : marks_taken mark ≡ marks_left marked written
-  pub reached : IfSome mark (λ m. left_to m read ≤ length K → to_end' ≡ Some (left_to m read))
-  pub kept : IfNone mark (to_end' ≡ to_end)
-  pub told : (n : ℕ) → to_end ≡ Some n → mark ≡ Some ((length R + n) % 2 ^ 64)
+  pub seals : seals_taken seal ≡ seals_left sealed written
+  pub reached : IfSome seal (λ m. left_to m read ≤ length K → to_end' ≡ Some (left_to m read))
+  pub kept : IfNone seal (to_end' ≡ to_end)
+  pub told : (n : ℕ) → to_end ≡ Some n → seal ≡ Some ((length R + n) % 2 ^ 64)
 
 left_is : (r k : ℕ) → k ≤ 65536 → left_to ((r + k) % 2 ^ 64) (r % 2 ^ 64) ≡ k
 left_is r k few = omega arith
 
-mark_left : (mark : Option ℕ) (written : ℕ) → marks_taken mark ≡ marks_left true written → mark ≡ Some written
-mark_left None written is = absurd (cc is)
-mark_left (Some m) written is = let same : m ≡ written = cc is in ap Some same
+seal_left : (seal : Option ℕ) (written : ℕ) → seals_taken seal ≡ seals_left true written → seal ≡ Some written
+seal_left None written is = absurd (cc is)
+seal_left (Some m) written is = let same : m ≡ written = cc is in ap Some same
 
-no_mark_left : (mark : Option ℕ) (written : ℕ) → marks_taken mark ≡ marks_left false written → mark ≡ None
-no_mark_left None written is = refl
-no_mark_left (Some m) written is = absurd (cc is)
+no_seal_left : (seal : Option ℕ) (written : ℕ) → seals_taken seal ≡ seals_left false written → seal ≡ None
+no_seal_left None written is = refl
+no_seal_left (Some m) written is = absurd (cc is)
 
--- the end is known exactly where the mark was left, and is as far as all that wait
-to_end_is : (R K S : List ℕ) (marked : Bool) (read written : ℕ) (mark to_end to_end' : Option ℕ)
-    → Beside R K S marked read written mark to_end to_end'
-    → to_end' ≡ (if marked then Some (length K) else None)
-to_end_is R K S true read written mark to_end to_end' beside =
-    let is : mark ≡ Some written = mark_left mark written beside.marks in
+-- the end is known exactly where the seal was left, and is as far as all that wait
+to_end_is : (R K S : List ℕ) (sealed : Bool) (read written : ℕ) (seal to_end to_end' : Option ℕ)
+    → Beside R K S sealed read written seal to_end to_end'
+    → to_end' ≡ (if sealed then Some (length K) else None)
+to_end_is R K S true read written seal to_end to_end' beside =
+    let is : seal ≡ Some written = seal_left seal written beside.seals in
     let count : left_to written read ≡ length K =
     ap (λ n. left_to n read) beside.written_is ∙ (ap (left_to (count_of S)) beside.read_is
     ∙ (ap (λ (n : ℕ). left_to (n % 2 ^ 64) (count_of R)) (sym (ap length beside.whole) ∙ length-append R K)
@@ -256,10 +256,10 @@ to_end_is R K S true read written mark to_end to_end' beside =
     → to_end' ≡ Some (left_to written read) = subst
     (λ m. IfSome m (λ m. left_to m read ≤ length K → to_end' ≡ Some (left_to m read))) is beside.reached in
     reached (omega arith) ∙ ap Some count
-to_end_is R K S false read written mark to_end to_end' beside = by_end to_end refl
+to_end_is R K S false read written seal to_end to_end' beside = by_end to_end refl
   where
-    none : mark ≡ None
-    none = no_mark_left mark written beside.marks
+    none : seal ≡ None
+    none = no_seal_left seal written beside.seals
 
     kept : to_end' ≡ to_end
     kept = subst (λ m. IfNone m (to_end' ≡ to_end)) none beside.kept
@@ -273,21 +273,21 @@ no_items : (xs : List ℕ) → length xs ≡ 0 → xs ≡ []
 no_items [] is = refl
 no_items (x ∷ xs) is = absurd (omega (arith, is))
 
-module _ (R K S : List ℕ) (marked : Bool) (read written : ℕ) (mark to_end to_end' : Option ℕ)
-    (beside : Beside R K S marked read written mark to_end to_end') where
-  pub end_known : is_some to_end' ≡ marked
-  end_known = ap is_some (to_end_is R K S marked read written mark to_end to_end' beside) ∙ by_mark marked
+module _ (R K S : List ℕ) (sealed : Bool) (read written : ℕ) (seal to_end to_end' : Option ℕ)
+    (beside : Beside R K S sealed read written seal to_end to_end') where
+  pub end_known : is_some to_end' ≡ sealed
+  end_known = ap is_some (to_end_is R K S sealed read written seal to_end to_end' beside) ∙ by_seal sealed
     where
-      by_mark : (b : Bool) → is_some (if b then Some (length K) else None) ≡ b
-      by_mark true = refl
-      by_mark false = refl
+      by_seal : (b : Bool) → is_some (if b then Some (length K) else None) ≡ b
+      by_seal true = refl
+      by_seal false = refl
 
   pub all_known : known_of to_end' K ≡ K
-  all_known = ap (λ t. known_of t K) (to_end_is R K S marked read written mark to_end to_end' beside) ∙ by_mark marked
+  all_known = ap (λ t. known_of t K) (to_end_is R K S sealed read written seal to_end to_end' beside) ∙ by_seal sealed
     where
-      by_mark : (b : Bool) → known_of (if b then Some (length K) else None) K ≡ K
-      by_mark true = take-length K
-      by_mark false = refl
+      by_seal : (b : Bool) → known_of (if b then Some (length K) else None) K ≡ K
+      by_seal true = take-length K
+      by_seal false = refl
 
   -- what was known is what is known now, and more
   pub known_grows : (items : List ℕ) → ((n : ℕ) → to_end ≡ Some n → n ≤ length items) → IsPrefix items K
@@ -298,22 +298,22 @@ module _ (R K S : List ℕ) (marked : Bool) (read written : ℕ) (mark to_end to
       by_end None = grows
       by_end (Some n) = prefix_trans (take n items) items K (drop n items, take-append-drop n items) grows
 
-  marked_then : (n : ℕ) → to_end ≡ Some n → marked ≡ true
-  marked_then n is = by_mark marked refl
+  sealed_then : (n : ℕ) → to_end ≡ Some n → sealed ≡ true
+  sealed_then n is = by_seal sealed refl
     where
-      by_mark : (b : Bool) → marked ≡ b → marked ≡ true
-      by_mark true was = was
-      by_mark false was =
-          let left : marks_taken mark ≡ marks_left false written = beside.marks ∙ ap (λ b. marks_left b written) was in
-          let clash : None ≡ Some ((length R + n) % 2 ^ 64) = sym (no_mark_left mark written left) ∙ beside.told n is in
+      by_seal : (b : Bool) → sealed ≡ b → sealed ≡ true
+      by_seal true was = was
+      by_seal false was =
+          let left : seals_taken seal ≡ seals_left false written = beside.seals ∙ ap (λ b. seals_left b written) was in
+          let clash : None ≡ Some ((length R + n) % 2 ^ 64) = sym (no_seal_left seal written left) ∙ beside.told n is in
           absurd (cc clash)
 
   -- an end that was known is as far as all that wait
   counted : (n : ℕ) → to_end ≡ Some n → n ≤ length K → n ≡ length K
   counted n is few =
-      let marks : mark ≡ Some written = mark_left mark written
-      (beside.marks ∙ ap (λ b. marks_left b written) (marked_then n is)) in
-      let same : written ≡ (length R + n) % 2 ^ 64 = cc (sym marks ∙ beside.told n is) in
+      let seals : seal ≡ Some written = seal_left seal written
+      (beside.seals ∙ ap (λ b. seals_left b written) (sealed_then n is)) in
+      let same : written ≡ (length R + n) % 2 ^ 64 = cc (sym seals ∙ beside.told n is) in
       let total : length S ≡ length R + length K = sym (ap length beside.whole) ∙ length-append R K in
       omega (arith, few, beside.few, beside.written_is)
 
@@ -334,19 +334,19 @@ module _ (R K S : List ℕ) (marked : Bool) (read written : ℕ) (mark to_end to
   pub end_lasts : is_some to_end ≡ true → is_some to_end' ≡ true
   end_lasts knew = end_known ∙ by_end to_end refl knew
     where
-      by_end : (t : Option ℕ) → to_end ≡ t → is_some t ≡ true → marked ≡ true
+      by_end : (t : Option ℕ) → to_end ≡ t → is_some t ≡ true → sealed ≡ true
       by_end None is knows = absurd (cc knows)
-      by_end (Some n) is knows = marked_then n is
+      by_end (Some n) is knows = sealed_then n is
 
   -- a source that had told the end has received every byte
   pub was_whole : (items : List ℕ) → ((n : ℕ) → to_end ≡ Some n → n ≤ length items) → is_some to_end ≡ true
-      → known_of to_end items ≡ [] → (marked ≡ true) × (R ≡ S)
+      → known_of to_end items ≡ [] → (sealed ≡ true) × (R ≡ S)
   was_whole items seen knew nothing = by_end to_end refl knew nothing
     where
-      by_end : (t : Option ℕ) → to_end ≡ t → is_some t ≡ true → known_of t items ≡ [] → (marked ≡ true) × (R ≡ S)
+      by_end : (t : Option ℕ) → to_end ≡ t → is_some t ≡ true → known_of t items ≡ [] → (sealed ≡ true) × (R ≡ S)
       by_end None is knows none = absurd (cc knows)
       by_end (Some n) is knows none =
-          let left : marked ≡ true = marked_then n is in
+          let left : sealed ≡ true = sealed_then n is in
           let n_is : n ≡ 0 = omega (arith, seen n is, length-take-le n items (seen n is), ap length none) in
           let none_waits : length K ≡ 0 = sym (counted n is (omega (arith, n_is))) ∙ n_is in
           (left, sym (append-nil R) ∙ (ap (λ xs. R ++ xs) (sym (no_items K none_waits)) ∙ beside.whole))
@@ -357,19 +357,19 @@ pub sink_looks_none : (s : PipeSink) → SinkLooks s s
 sink_looks_none s = record {
   same = record {
     bytes = ((refl, refl, refl, refl), refl);
-    marks = ((refl, refl, refl, refl), refl);
+    seals = ((refl, refl, refl, refl), refl);
     channel = refl;
     other = refl;
   };
   sent = refl;
   free = omega arith;
-  mark = refl;
+  seal = refl;
 }
 
 -- a write that took nothing is a look
 pub sink_looks_more : {a b c : PipeSink} {slice : List ℕ} → SinkLooks a b → IsSameSink b c → TakesBytes b c slice 0
-    → is_marked c ≡ is_marked b → free b ≤ free c + 0 → SinkLooks a c
-sink_looks_more {a = a} {b = b} {c = c} looks same takes mark places = record {
+    → is_sealed c ≡ is_sealed b → free b ≤ free c + 0 → SinkLooks a c
+sink_looks_more {a = a} {b = b} {c = c} looks same takes seal places = record {
   same = record {
     bytes = (
       (
@@ -381,20 +381,20 @@ sink_looks_more {a = a} {b = b} {c = c} looks same takes mark places = record {
       ),
       same.bytes.1 ∙ looks.same.bytes.1,
     );
-    marks = (
+    seals = (
       (
-        same.marks.0.0 ∙ looks.same.marks.0.0,
-        same.marks.0.1 ∙ looks.same.marks.0.1,
-        same.marks.0.2
-            ∙ looks.same.marks.0.2,
-        same.marks.0.3 ∙ looks.same.marks.0.3,
+        same.seals.0.0 ∙ looks.same.seals.0.0,
+        same.seals.0.1 ∙ looks.same.seals.0.1,
+        same.seals.0.2
+            ∙ looks.same.seals.0.2,
+        same.seals.0.3 ∙ looks.same.seals.0.3,
       ),
-      same.marks.1 ∙ looks.same.marks.1,
+      same.seals.1 ∙ looks.same.seals.1,
     );
     channel = same.channel ∙ looks.same.channel;
     other = same.other ∙ looks.same.other;
   };
   sent = takes.sent ∙ (append-nil (sent b) ∙ looks.sent);
   free = omega (arith, looks.free, places);
-  mark = mark ∙ looks.mark;
+  seal = seal ∙ looks.seal;
 }

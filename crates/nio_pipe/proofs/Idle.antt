@@ -70,12 +70,12 @@ pair_read same pair = record {
     same.bytes.0.3
         ∙ pair.bytes.3,
   );
-  marks = (
-    same.marks.0.0 ∙ pair.marks.0,
-    same.marks.0.1 ∙ pair.marks.1,
-    same.marks.0.2 ∙ pair.marks.2,
-    same.marks.0.3
-        ∙ pair.marks.3,
+  seals = (
+    same.seals.0.0 ∙ pair.seals.0,
+    same.seals.0.1 ∙ pair.seals.1,
+    same.seals.0.2 ∙ pair.seals.2,
+    same.seals.0.3
+        ∙ pair.seals.3,
   );
   channel = pair.channel ∙ sym same.channel;
 }
@@ -89,12 +89,12 @@ pair_written same pair = record {
         ∙ sym same.bytes.0.2,
     pair.bytes.3 ∙ sym same.bytes.0.3,
   );
-  marks = (
-    pair.marks.0 ∙ sym same.marks.0.0,
-    pair.marks.1 ∙ sym same.marks.0.1,
-    pair.marks.2
-        ∙ sym same.marks.0.2,
-    pair.marks.3 ∙ sym same.marks.0.3,
+  seals = (
+    pair.seals.0 ∙ sym same.seals.0.0,
+    pair.seals.1 ∙ sym same.seals.0.1,
+    pair.seals.2
+        ∙ sym same.seals.0.2,
+    pair.seals.3 ∙ sym same.seals.0.3,
   );
   channel = same.other ∙ pair.channel;
 }

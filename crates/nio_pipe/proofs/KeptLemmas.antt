@@ -12,10 +12,10 @@ pub waiting-items : (sent received : List ℕ) (buffer : Buffer ℕ) → IsKept 
 waiting-items sent received buffer kept =
     ap (drop (length received)) kept.whole ∙ drop-append_seam received buffer.items
 
-pub kept-IsLawful : (source sink : ChanNo) (sent received : List ℕ) (buffer : Buffer ℕ) (marked : Bool)
+pub kept-IsLawful : (source sink : ChanNo) (sent received : List ℕ) (buffer : Buffer ℕ) (sealed : Bool)
     → IsKept sent received buffer
-    → IsLawful (record { source = source; sink = sink; sent = sent; received = received; marked = marked })
-kept-IsLawful source sink sent received buffer marked kept = record {
+    → IsLawful (record { source = source; sink = sink; sent = sent; received = received; sealed = sealed })
+kept-IsLawful source sink sent received buffer sealed kept = record {
   in_order = (buffer.items, sym kept.whole);
   few_waiting = subst (λ xs. length xs ≤ 65536) (sym (waiting-items sent received buffer kept)) kept.few_waiting;
 }

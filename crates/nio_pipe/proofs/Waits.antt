@@ -19,7 +19,7 @@ use Rattle.nio_steps.specs.Waiting.{Run, acts_of, Tries}
 use Rattle.nio_steps.specs.declared.refusal.PipeError.{PipeError}
 use Rattle.nio_steps.specs.declared.refusal.PipeError.TheVariants.{ClosedChannel, ClosedByInterrupt, AsynchronousClose}
 use Rattle.nio_steps.specs.declared.refusal.PipeError.TheVariants.{BrokenPipe}
-use Rattle.nio_pipe.specs.Answers.{leaves_mark, refusal_after, read_waits, write_waits}
+use Rattle.nio_pipe.specs.Answers.{leaves_seal, refusal_after, read_waits, write_waits}
 use Rattle.nio_pipe.specs.Calls.{WaitsToRead, WaitsToWrite}
 use Rattle.nio_pipe.specs.declared.answers.PipeRead.{PipeRead}
 use Rattle.nio_pipe.specs.declared.answers.PipeWrite.{PipeWrite}
@@ -153,10 +153,10 @@ pub write_refused : {me : CallerNo} {v0 v1 : PassView} (l : Limits) (source sink
 write_refused l source sink waited refusal call =
     call_as (WaitsToWrite l source sink) (Err (refusal_after waited refusal)) (λ acts waits. waits) call
 
-pub same_mark : (waited : Bool) (refusal : PipeError)
-    → leaves_mark (Err (refusal_after waited refusal)) ≡ leaves_mark (Err refusal)
-same_mark false refusal = refl
-same_mark true ClosedChannel = refl
-same_mark true ClosedByInterrupt = refl
-same_mark true AsynchronousClose = refl
-same_mark true BrokenPipe = refl
+pub same_seal : (waited : Bool) (refusal : PipeError)
+    → leaves_seal (Err (refusal_after waited refusal)) ≡ leaves_seal (Err refusal)
+same_seal false refusal = refl
+same_seal true ClosedChannel = refl
+same_seal true ClosedByInterrupt = refl
+same_seal true AsynchronousClose = refl
+same_seal true BrokenPipe = refl

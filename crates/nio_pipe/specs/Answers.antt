@@ -6,13 +6,13 @@ use Rattle.nio_steps.specs.declared.refusal.PipeError.TheVariants.{BrokenPipe}
 use Rattle.nio_pipe.specs.declared.answers.PipeRead.{PipeRead}
 use Rattle.nio_pipe.specs.declared.answers.PipeWrite.{PipeWrite}
 
--- a read into a slice of this length that gave so many bytes; with none to give it tells the end where the end
--- mark is known
+-- a read into a slice of this length that gave so many bytes; with none to give it answers End where the pipe is
+-- sealed
 abbrev pub read_answer : ℕ → ℕ → Bool → PipeRead
-read_answer length given marked =
+read_answer length given sealed =
     if length == 0 then PipeRead.Bytes 0 else
     (if nat_lt 0 given then PipeRead.Bytes given else
-    (if marked then PipeRead.End else PipeRead.NotYet))
+    (if sealed then PipeRead.End else PipeRead.NotYet))
 
 -- a write of a slice of this length that took so many bytes
 abbrev pub write_answer : ℕ → ℕ → PipeWrite
@@ -33,14 +33,14 @@ bytes_written (Ok (PipeWrite.Bytes n)) = n
 bytes_written (Ok PipeWrite.NotYet) = 0
 bytes_written (Err refusal) = 0
 
--- the sink's channel was found closed, or was closed by this call: the sink then leaves its end mark
-abbrev pub leaves_mark : Result PipeWrite PipeError → Bool
-leaves_mark (Ok (PipeWrite.Bytes n)) = false
-leaves_mark (Ok PipeWrite.NotYet) = false
-leaves_mark (Err ClosedChannel) = true
-leaves_mark (Err ClosedByInterrupt) = true
-leaves_mark (Err AsynchronousClose) = true
-leaves_mark (Err BrokenPipe) = false
+-- the sink's channel was found closed, or was closed by this call: the sink then leaves its seal
+abbrev pub leaves_seal : Result PipeWrite PipeError → Bool
+leaves_seal (Ok (PipeWrite.Bytes n)) = false
+leaves_seal (Ok PipeWrite.NotYet) = false
+leaves_seal (Err ClosedChannel) = true
+leaves_seal (Err ClosedByInterrupt) = true
+leaves_seal (Err AsynchronousClose) = true
+leaves_seal (Err BrokenPipe) = false
 
 -- no byte was read, and more may come
 abbrev pub read_waits : Result PipeRead PipeError → Bool

@@ -24,27 +24,27 @@ received source = popped source.bytes
 abbrev pub known : PipeSource → List ℕ
 known source = known_of source.to_end (known_items source.bytes)
 
--- it knows of the end mark: no byte comes after the known ones
+-- it knows of the seal: no byte comes after the known ones
 abbrev pub knows_end : PipeSource → Bool
 knows_end source = is_some source.to_end
 
--- it knows of no waiting byte and of no mark
+-- it knows of no waiting byte and of no seal
 pub record KnowsNothing (source : PipeSource) : Type 0 where
   pub no_byte : known source ≡ []
-  pub no_mark : IsFalse (knows_end source)
+  pub no_seal : IsFalse (knows_end source)
 
--- it knows of the mark, and has received every byte
+-- it knows of the seal, and has received every byte
 pub record IsAtEnd (source : PipeSource) : Type 0 where
-  pub marked : IsTrue (knows_end source)
+  pub sealed : IsTrue (knows_end source)
   pub no_byte : known source ≡ []
 
 -- the same end of the same pipe
 pub record IsSameSource (old new : PipeSource) : Type 0 where
   pub bytes : SameConsumer old.bytes new.bytes
-  pub marks : SameConsumer old.marks new.marks
+  pub seals : SameConsumer old.seals new.seals
   pub channel : new.chan ≡ old.chan
 
--- the source has looked: it may know of more, unless it knew of the end mark
+-- the source has looked: it may know of more, unless it knew of the seal
 pub record SourceLooks (old new : PipeSource) : Type 0 where
   pub same : IsSameSource old new
   pub received : received new ≡ received old
@@ -53,7 +53,7 @@ pub record SourceLooks (old new : PipeSource) : Type 0 where
   pub known : IsPrefix (known old) (known new)
 
 -- a read that gave so many bytes: the next ones that wait, which now stand at the front of the slice. Where the
--- source knew of the end mark they are of those that it knew, and the others stay known
+-- source knew of the seal they are of those that it knew, and the others stay known
 pub record GivesBytes (old new : PipeSource) (before after : List ℕ) (given : ℕ) : Type 0 where
   pub fit : given ≤ length before
   pub received : received new ≡ received old ++ take given after
@@ -75,18 +75,18 @@ other_chan sink = sink.source
 abbrev pub sent : PipeSink → List ℕ
 sent sink = pushed sink.bytes
 
--- it has left its end mark
-abbrev pub is_marked : PipeSink → Bool
-is_marked sink = sink.marked
+-- it has left its seal
+abbrev pub is_sealed : PipeSink → Bool
+is_sealed sink = sink.sealed
 
--- the places that it knows to be free; none once it has left its mark, since it takes no more bytes then
+-- the places that it knows to be free; none once it has left its seal, since it takes no more bytes then
 abbrev pub free : PipeSink → ℕ
-free sink = if is_marked sink then 0 else known_free sink.bytes
+free sink = if is_sealed sink then 0 else known_free sink.bytes
 
 -- the same end of the same pipe
 pub record IsSameSink (old new : PipeSink) : Type 0 where
   pub bytes : SameProducer old.bytes new.bytes
-  pub marks : SameProducer old.marks new.marks
+  pub seals : SameProducer old.seals new.seals
   pub channel : new.chan ≡ old.chan
   pub other : new.source ≡ old.source
 
@@ -95,20 +95,20 @@ pub record SinkLooks (old new : PipeSink) : Type 0 where
   pub same : IsSameSink old new
   pub sent : sent new ≡ sent old
   pub free : free old ≤ free new
-  pub mark : is_marked new ≡ is_marked old
+  pub seal : is_sealed new ≡ is_sealed old
 
--- a write that took so many bytes from the front of the slice; none once the end mark was left
+-- a write that took so many bytes from the front of the slice; none once the seal was left
 pub record TakesBytes (old new : PipeSink) (slice : List ℕ) (taken : ℕ) : Type 0 where
   pub fit : taken ≤ length slice
   pub sent : sent new ≡ sent old ++ take taken slice
-  pub ended : IsTrue (is_marked old) → taken ≡ 0
+  pub ended : IsTrue (is_sealed old) → taken ≡ 0
 
 -- ---- both
 
 -- the two ends of one pipe
 pub record AreEnds (source : PipeSource) (sink : PipeSink) : Type 0 where
   pub bytes : IsPair sink.bytes source.bytes
-  pub marks : IsPair sink.marks source.marks
+  pub seals : IsPair sink.seals source.seals
   pub channel : sink.source ≡ source.chan
 
 -- the pipe, for a hand that has both ends
@@ -119,5 +119,5 @@ pipe_of source sink =
       sink = sink.chan;
       sent = sent sink;
       received = received source;
-      marked = is_marked sink;
+      sealed = is_sealed sink;
     }

@@ -5,7 +5,7 @@ use Rattle.rtrb.specs.Ring.{known_free, known_items, producer_capacity, consumer
 use Rattle.rtrb.specs.Ring.{sent as pushed, received as popped}
 use Rattle.nio_steps.specs.PipeCalls.{PipeEnds}
 use Rattle.nio_steps.specs.declared.refusal.PipeMakeError.{PipeMakeError}
-use Rattle.nio_pipe.specs.Ends.{received, known, knows_end, sent, free, is_marked, AreEnds}
+use Rattle.nio_pipe.specs.Ends.{received, known, knows_end, sent, free, is_sealed, AreEnds}
 use Rattle.nio_pipe.specs.Pipe.{Pipe, waiting, room_of}
 use Rattle.nio_pipe.specs.declared.making.Rings.{Rings}
 use Rattle.nio_pipe.specs.declared.sink.PipeSink.{PipeSink}
@@ -16,17 +16,17 @@ abbrev pub ends_made : Result (PipeSource × PipeSink) PipeMakeError → Result 
 ends_made (Ok ends) = Ok (record { source = ends.0.chan; sink = ends.1.chan })
 ends_made (Err refusal) = Err refusal
 
--- both rings are empty, and have room for 65,536 bytes and for a mark
+-- both rings are empty, and have room for 65,536 bytes and for a seal
 pub record AreEmpty (rings : Rings) : Type 0 where
   pub bytes : IsPair rings.bytes_in rings.bytes_out
-  pub marks : IsPair rings.marks_in rings.marks_out
+  pub seals : IsPair rings.seals_in rings.seals_out
   pub none_pushed : pushed rings.bytes_in ≡ []
   pub none_popped : popped rings.bytes_out ≡ []
   pub none_known : known_items rings.bytes_out ≡ []
-  pub no_mark_pushed : pushed rings.marks_in ≡ []
-  pub no_mark_popped : popped rings.marks_out ≡ []
+  pub no_seal_pushed : pushed rings.seals_in ≡ []
+  pub no_seal_popped : popped rings.seals_out ≡ []
   pub free : known_free rings.bytes_in ≡ 65536
-  pub place : known_free rings.marks_in ≡ 1
+  pub place : known_free rings.seals_in ≡ 1
   pub size_in : producer_capacity rings.bytes_in ≡ 65536
   pub size_out : consumer_capacity rings.bytes_out ≡ 65536
 
@@ -37,7 +37,7 @@ pub record AreNew (source : PipeSource) (sink : PipeSink) : Type 0 where
   pub none_received : received source ≡ []
   pub none_known : known source ≡ []
   pub all_free : free sink ≡ 65536
-  pub unmarked : IsFalse (is_marked sink)
+  pub unsealed : IsFalse (is_sealed sink)
   pub end_unknown : IsFalse (knows_end source)
 
 -- the two ends of a pipe that was in one hand: the sink counts the waiting bytes as sent, and the source has
@@ -49,6 +49,6 @@ pub record AreParts (pipe : Pipe) (source : PipeSource) (sink : PipeSink) : Type
   pub all_sent : sent sink ≡ waiting pipe
   pub none_received : received source ≡ []
   pub all_known : IsPrefix (waiting pipe) (known source)
-  pub mark_left : is_marked sink ≡ pipe.marked
-  pub mark_known : knows_end source ≡ pipe.marked
-  pub room : IsFalse pipe.marked → free sink ≡ room_of pipe
+  pub seal_left : is_sealed sink ≡ pipe.sealed
+  pub seal_known : knows_end source ≡ pipe.sealed
+  pub room : IsFalse pipe.sealed → free sink ≡ room_of pipe

@@ -1,6 +1,8 @@
 //! What reading and writing answer.
 ghost use Rattle.std.specs.Prelude.{◌≡◌, ◌&&◌, Ok, Err};
-ghost use Rattle.nio_pipe.specs.Answers.{leaves_mark as answer_leaves_mark, read_answer as answer_of_read, read_waits, refusal_after as refusal_of_wait, write_answer as answer_of_write, write_waits};
+ghost use Rattle.nio_pipe.specs.Answers.{leaves_seal as answer_leaves_seal, read_answer as answer_of_read, read_waits};
+ghost use Rattle.nio_pipe.specs.Answers.{refusal_after as refusal_of_wait, write_answer as answer_of_write};
+ghost use Rattle.nio_pipe.specs.Answers.{write_waits};
 
 use nio_steps::PipeError;
 
@@ -25,14 +27,14 @@ pub enum PipeWrite {
 }
 
 // What a read answers that gave so many bytes into a slice of this length.
-pub(crate) fn read_answer(length: usize, given: usize, marked: bool) -> PipeRead
-    ensures { result ≡ answer_of_read length given marked }
+pub(crate) fn read_answer(length: usize, given: usize, sealed: bool) -> PipeRead
+    ensures { result ≡ answer_of_read length given sealed }
 {
     if length == 0 {
         PipeRead::Bytes(0)
     } else if 0 < given {
         PipeRead::Bytes(given)
-    } else if marked {
+    } else if sealed {
         PipeRead::End
     } else {
         PipeRead::NotYet
@@ -52,9 +54,9 @@ pub(crate) fn write_answer(length: usize, taken: usize) -> PipeWrite
     }
 }
 
-// Whether a write that is refused so leaves the end mark.
-pub(crate) fn leaves_mark(refusal: PipeError) -> bool
-    ensures { result ≡ answer_leaves_mark (Err refusal) }
+// Whether a write that is refused so leaves the seal.
+pub(crate) fn leaves_seal(refusal: PipeError) -> bool
+    ensures { result ≡ answer_leaves_seal (Err refusal) }
 {
     match refusal {
         PipeError::ClosedChannel | PipeError::ClosedByInterrupt | PipeError::AsynchronousClose =>

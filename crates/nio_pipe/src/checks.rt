@@ -28,7 +28,8 @@ pub(crate) fn check_open(
     requires ready { IsReady w.now p.old me }
     requires channel { HasChannel (view w.now p.old) chan }
     requires unpinned { HasNoPin (view w.now p.old) me }
-    ensures call { CallClause me (Completes (try_read_plan (limits_of w.now) chan)) (view w.now p.old) (view w.now p.new) result }
+    ensures call { CallClause me (Completes (try_read_plan (limits_of w.now) chan))
+        (view w.now p.old) (view w.now p.new) result }
     ensures ready { IsReady w.now p.new me }
     ensures closed { result ≡ Err ClosedByInterrupt → IsClosed (view w.now p.new) chan }
     ensures unpinned { HasNoPin (view w.now p.new) me }
@@ -48,7 +49,8 @@ fn check_interrupt(w: &Words, p: &mut Pass, me: CallerNo, chan: ChanNo) -> Resul
     requires ready { IsReady w.now p.old me }
     requires channel { HasChannel (view w.now p.old) chan }
     requires unpinned { HasNoPin (view w.now p.old) me }
-    ensures call { CallClause me (Completes (looks_interrupt (limits_of w.now) chan)) (view w.now p.old) (view w.now p.new) result }
+    ensures call { CallClause me (Completes (looks_interrupt (limits_of w.now) chan))
+        (view w.now p.old) (view w.now p.new) result }
     ensures ready { IsReady w.now p.new me }
     ensures closed { result ≡ Err ClosedByInterrupt → IsClosed (view w.now p.new) chan }
     ensures unpinned { HasNoPin (view w.now p.new) me }
@@ -72,7 +74,8 @@ pub(crate) fn check_write(
     requires ready { IsReady w.now p.old me }
     requires ends { HasEnds (view w.now p.old) source sink }
     requires unpinned { HasNoPin (view w.now p.old) me }
-    ensures call { CallClause me (Completes (try_write_plan (limits_of w.now) source sink)) (view w.now p.old) (view w.now p.new) result }
+    ensures call { CallClause me (Completes (try_write_plan (limits_of w.now) source sink))
+        (view w.now p.old) (view w.now p.new) result }
     ensures ready { IsReady w.now p.new me }
     ensures closed { result ≡ Err ClosedByInterrupt → IsClosed (view w.now p.new) sink }
     ensures unpinned { HasNoPin (view w.now p.new) me }
@@ -96,7 +99,8 @@ pub(crate) struct Ends {
 pub(crate) fn open_ends(w: &Words, p: &mut Pass, me: CallerNo) -> Result<Ends, PipeMakeError>
     requires ready { IsReady w.now p.old me }
     requires unpinned { HasNoPin (view w.now p.old) me }
-    ensures call { CallClause me (Completes (pipe_plan (limits_of w.now) false)) (view w.now p.old) (view w.now p.new) (ends_opened result) }
+    ensures call { CallClause me (Completes (pipe_plan (limits_of w.now) false))
+        (view w.now p.old) (view w.now p.new) (ends_opened result) }
     ensures memory { result ≢ Err Memory }
     ensures ready { IsReady w.now p.new me }
     ensures ends { IfOk result (λ ends. HasEnds (view w.now p.new) ends.source ends.sink) }
@@ -112,7 +116,8 @@ fn open_sink(w: &Words, p: &mut Pass, me: CallerNo, source: ChanNo) -> Result<En
     requires ready { IsReady w.now p.old me }
     requires source { HasChannel (view w.now p.old) source }
     requires unpinned { HasNoPin (view w.now p.old) me }
-    ensures call { CallClause me (Completes (opens_sink (limits_of w.now) source)) (view w.now p.old) (view w.now p.new) (ends_opened result) }
+    ensures call { CallClause me (Completes (opens_sink (limits_of w.now) source))
+        (view w.now p.old) (view w.now p.new) (ends_opened result) }
     ensures memory { result ≢ Err Memory }
     ensures ready { IsReady w.now p.new me }
     ensures ends { IfOk result (λ ends. HasEnds (view w.now p.new) ends.source ends.sink) }

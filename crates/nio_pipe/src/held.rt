@@ -8,14 +8,16 @@ ghost use Rattle.nio_steps.specs.Runs.{Completes};
 ghost use Rattle.nio_steps.specs.declared.refusal.PipeError.TheVariants.{ClosedByInterrupt};
 ghost use Rattle.nio_words.specs.Passes.{IsReady, limits_of};
 ghost use Rattle.nio_words.specs.Views.{view};
-ghost use Rattle.nio_pipe.specs.Answers.{bytes_read, mode_found, read_answer as answer_of_read, without_mode, write_answer as answer_of_write};
+ghost use Rattle.nio_pipe.specs.Answers.{bytes_read, mode_found, read_answer as answer_of_read, without_mode};
+ghost use Rattle.nio_pipe.specs.Answers.{write_answer as answer_of_write};
 ghost use Rattle.nio_pipe.specs.Calls.{HasEnds, IsClosed, TriesRead, TriesWrite};
 ghost use Rattle.nio_pipe.specs.Held.{pipe_made};
 ghost use Rattle.nio_pipe.specs.Making.{AreParts};
-ghost use Rattle.nio_pipe.specs.Pipe.{after_end, after_read, after_write, IsAtEnd, IsLawful, new_pipe, room_of, waiting};
+ghost use Rattle.nio_pipe.specs.Pipe.{after_end, after_read, after_write, IsAtEnd, IsLawful, new_pipe, room_of};
+ghost use Rattle.nio_pipe.specs.Pipe.{waiting};
 ghost use Rattle.nio_pipe.specs.declared.answers.PipeRead.TheVariants.{End};
 
-use crate::answers::{PipeRead, PipeWrite, leaves_mark, read_answer, write_answer};
+use crate::answers::{PipeRead, PipeWrite, leaves_seal, read_answer, write_answer};
 use crate::checks::{check_open, check_write, open_ends};
 use crate::making::Rings;
 use crate::sink::PipeSink;
@@ -41,7 +43,7 @@ pub struct HeldPipe {
     buffer: HeapCircularBuffer<u8>,
     sent: Trace<u8>,
     received: Trace<u8>,
-    marked: bool,
+    sealed: bool,
 }
 
 impl Model for HeldPipe {
@@ -50,7 +52,13 @@ impl Model for HeldPipe {
 
     ghost Value = { Pipe };
 
-    ghost view = { λ h. record { source = h.source; sink = h.sink; sent = h.sent; received = h.received; marked = h.marked } };
+    ghost view = { λ h. record {
+      source = h.source;
+      sink = h.sink;
+      sent = h.sent;
+      received = h.received;
+      sealed = h.sealed;
+    } };
 
     ghost invariant = { λ h. IsKept h.sent h.received h.buffer };
 }
@@ -64,7 +72,8 @@ pub fn held_pipe(
 ) -> Result<HeldPipe, PipeMakeError>
     requires ready { IsReady w.now p.old me }
     requires unpinned { HasNoPin (view w.now p.old) me }
-    ensures call { CallClause me (MakesPipe (limits_of w.now)) (view w.now p.old) (view w.now p.new) (pipe_made result) }
+    ensures call { CallClause me (MakesPipe (limits_of w.now))
+        (view w.now p.old) (view w.now p.new) (pipe_made result) }
     ensures ready { IsReady w.now p.new me }
     ensures unpinned { HasNoPin (view w.now p.new) me }
     ensures ends { IfOk result (λ pipe. HasEnds (view w.now p.new) pipe.source pipe.sink) }
@@ -78,7 +87,7 @@ pub fn held_pipe(
         buffer,
         sent: Trace::new(),
         received: Trace::new(),
-        marked: false,
+        sealed: false,
     })
 }
 
@@ -108,11 +117,13 @@ impl HeldPipe {
         requires ready { IsReady w.now p.old me }
         requires channel { HasChannel (view w.now p.old) self.old.source }
         requires unpinned { HasNoPin (view w.now p.old) me }
-        ensures call { CallClause me (TriesRead (limits_of w.now) self.old.source) (view w.now p.old) (view w.now p.new) result }
+        ensures call { CallClause me (TriesRead (limits_of w.now) self.old.source)
+            (view w.now p.old) (view w.now p.new) result }
         ensures ready { IsReady w.now p.new me }
         ensures unpinned { HasNoPin (view w.now p.new) me }
         ensures closed { result ≡ Err ClosedByInterrupt → IsClosed (view w.now p.new) self.old.source }
-        ensures answer { IfOk result (λ answer. answer ≡ answer_of_read (length into.old) (min (length into.old) (length (waiting self.old))) self.old.marked) }
+        ensures answer { IfOk result (λ answer. answer ≡ answer_of_read (length into.old)
+            (min (length into.old) (length (waiting self.old))) self.old.sealed) }
         ensures bytes { into.new ≡ take (bytes_read result) (waiting self.old) ++ drop (bytes_read result) into.old }
         ensures pipe { self.new ≡ after_read self.old result }
         ensures end { result ≡ Ok End → IsAtEnd self.new }
@@ -132,12 +143,15 @@ impl HeldPipe {
         requires ready { IsReady w.now p.old me }
         requires channel { HasChannel (view w.now p.old) self.old.source }
         requires unpinned { HasNoPin (view w.now p.old) me }
-        ensures call { CallClause me (Completes (try_read_plan (limits_of w.now) self.old.source)) (view w.now p.old) (view w.now p.new) (mode_found result) }
+        ensures call { CallClause me (Completes (try_read_plan (limits_of w.now) self.old.source))
+            (view w.now p.old) (view w.now p.new) (mode_found result) }
         ensures ready { IsReady w.now p.new me }
         ensures unpinned { HasNoPin (view w.now p.new) me }
         ensures closed { result ≡ Err ClosedByInterrupt → IsClosed (view w.now p.new) self.old.source }
-        ensures answer { IfOk result (λ found. found.0 ≡ answer_of_read (length into.old) (min (length into.old) (length (waiting self.old))) self.old.marked) }
-        ensures bytes { into.new ≡ take (bytes_read (without_mode result)) (waiting self.old) ++ drop (bytes_read (without_mode result)) into.old }
+        ensures answer { IfOk result (λ found. found.0 ≡ answer_of_read (length into.old)
+            (min (length into.old) (length (waiting self.old))) self.old.sealed) }
+        ensures bytes { into.new ≡ take (bytes_read (without_mode result)) (waiting self.old)
+            ++ drop (bytes_read (without_mode result)) into.old }
         ensures pipe { self.new ≡ after_read self.old (without_mode result) }
         ensures end { IfOk result (λ found. found.0 ≡ End → IsAtEnd self.new) }
     {
@@ -147,18 +161,20 @@ impl HeldPipe {
 
     // Gives as many bytes as wait and fit into the slice.
     fn give(&mut self, into: &mut [u8]) -> PipeRead
-        ensures answer { result ≡ answer_of_read (length into.old) (min (length into.old) (length (waiting self.old))) self.old.marked }
-        ensures bytes { into.new ≡ take (bytes_read (Ok result)) (waiting self.old) ++ drop (bytes_read (Ok result)) into.old }
+        ensures answer { result ≡ answer_of_read (length into.old) (min (length into.old) (length (waiting self.old)))
+            self.old.sealed }
+        ensures bytes { into.new ≡ take (bytes_read (Ok result)) (waiting self.old)
+            ++ drop (bytes_read (Ok result)) into.old }
         ensures pipe { self.new ≡ after_read self.old (Ok result) }
         ensures end { result ≡ End → IsAtEnd self.new }
     {
         let given = self.buffer.read_into(into);
         self.received.extend(&into[..given]);
-        read_answer(into.len(), given, self.marked)
+        read_answer(into.len(), given, self.sealed)
     }
 
     /// Writes as many bytes of the slice as there is room for. Where it finds the sink's channel
-    /// closed, or closes it, it leaves the end mark.
+    /// closed, or closes it, it leaves the seal.
     pub fn try_write(
         &mut self,
         w: &Words,
@@ -169,17 +185,19 @@ impl HeldPipe {
         requires ready { IsReady w.now p.old me }
         requires ends { HasEnds (view w.now p.old) self.old.source self.old.sink }
         requires unpinned { HasNoPin (view w.now p.old) me }
-        ensures call { CallClause me (TriesWrite (limits_of w.now) self.old.source self.old.sink) (view w.now p.old) (view w.now p.new) result }
+        ensures call { CallClause me (TriesWrite (limits_of w.now) self.old.source self.old.sink)
+            (view w.now p.old) (view w.now p.new) result }
         ensures ready { IsReady w.now p.new me }
         ensures unpinned { HasNoPin (view w.now p.new) me }
         ensures closed { result ≡ Err ClosedByInterrupt → IsClosed (view w.now p.new) self.old.sink }
-        ensures answer { IfOk result (λ answer. answer ≡ answer_of_write (length from.now) (min (length from.now) (room_of self.old))) }
+        ensures answer { IfOk result (λ answer. answer ≡ answer_of_write (length from.now)
+            (min (length from.now) (room_of self.old))) }
         ensures pipe { self.new ≡ after_write self.old from.now result }
     {
         match check_write(w, p, me, self.source, self.sink) {
             Ok(_) => Ok(self.take(from)),
             Err(refusal) => {
-                self.marked = self.marked || leaves_mark(refusal);
+                self.sealed = self.sealed || leaves_seal(refusal);
                 Err(refusal)
             }
         }
@@ -196,17 +214,19 @@ impl HeldPipe {
         requires ready { IsReady w.now p.old me }
         requires ends { HasEnds (view w.now p.old) self.old.source self.old.sink }
         requires unpinned { HasNoPin (view w.now p.old) me }
-        ensures call { CallClause me (Completes (try_write_plan (limits_of w.now) self.old.source self.old.sink)) (view w.now p.old) (view w.now p.new) (mode_found result) }
+        ensures call { CallClause me (Completes (try_write_plan (limits_of w.now) self.old.source self.old.sink))
+            (view w.now p.old) (view w.now p.new) (mode_found result) }
         ensures ready { IsReady w.now p.new me }
         ensures unpinned { HasNoPin (view w.now p.new) me }
         ensures closed { result ≡ Err ClosedByInterrupt → IsClosed (view w.now p.new) self.old.sink }
-        ensures answer { IfOk result (λ found. found.0 ≡ answer_of_write (length from.now) (min (length from.now) (room_of self.old))) }
+        ensures answer { IfOk result (λ found. found.0 ≡ answer_of_write (length from.now)
+            (min (length from.now) (room_of self.old))) }
         ensures pipe { self.new ≡ after_write self.old from.now (without_mode result) }
     {
         match check_write(w, p, me, self.source, self.sink) {
             Ok(blocking) => Ok((self.take(from), blocking)),
             Err(refusal) => {
-                self.marked = self.marked || leaves_mark(refusal);
+                self.sealed = self.sealed || leaves_seal(refusal);
                 Err(refusal)
             }
         }
@@ -227,7 +247,8 @@ impl HeldPipe {
         requires ready { IsReady w.now p.old me }
         requires channel { HasChannel (view w.now p.old) self.old.source }
         requires unpinned { HasNoPin (view w.now p.old) me }
-        ensures call { CallClause me (Completes (close_channel_plan (limits_of w.now) self.old.source)) (view w.now p.old) (view w.now p.new) result }
+        ensures call { CallClause me (Completes (close_channel_plan (limits_of w.now) self.old.source))
+            (view w.now p.old) (view w.now p.new) result }
         ensures ready { IsReady w.now p.new me }
         ensures unpinned { HasNoPin (view w.now p.new) me }
         ensures closed { IsClosed (view w.now p.new) self.old.source }
@@ -236,23 +257,24 @@ impl HeldPipe {
         close_channel(w, p, me, self.source)
     }
 
-    /// Closes the sink's channel and leaves the end mark. Says whether this call closed it.
+    /// Closes the sink's channel and leaves the seal. Says whether this call closed it.
     pub fn close_sink(&mut self, w: &Words, p: &mut Pass, me: CallerNo) -> bool
         requires ready { IsReady w.now p.old me }
         requires channel { HasChannel (view w.now p.old) self.old.sink }
         requires unpinned { HasNoPin (view w.now p.old) me }
-        ensures call { CallClause me (Completes (close_channel_plan (limits_of w.now) self.old.sink)) (view w.now p.old) (view w.now p.new) result }
+        ensures call { CallClause me (Completes (close_channel_plan (limits_of w.now) self.old.sink))
+            (view w.now p.old) (view w.now p.new) result }
         ensures ready { IsReady w.now p.new me }
         ensures unpinned { HasNoPin (view w.now p.new) me }
         ensures closed { IsClosed (view w.now p.new) self.old.sink }
         ensures pipe { self.new ≡ after_end self.old }
     {
         let closes = close_channel(w, p, me, self.sink);
-        self.marked = true;
+        self.sealed = true;
         closes
     }
 
-    /// Parts the pipe into its two ends, with the same waiting bytes and the same mark. After want of
+    /// Parts the pipe into its two ends, with the same waiting bytes and the same seal. After want of
     /// memory the pipe is gone, and its channels stay as they are.
     pub fn part(self, alloc: Global) -> Result<(PipeSource, PipeSink), AllocError>
         ensures { IfOk result (λ ends. AreParts self ends.0 ends.1) }
@@ -263,12 +285,12 @@ impl HeldPipe {
             buffer,
             sent: _,
             received: _,
-            marked,
+            sealed,
         } = self;
         let rings = Rings::make(alloc)?;
         let (mut source, mut sink) = rings.ends(source, sink);
         let (first, second) = buffer.as_slices();
-        sink.take_over(first, second, marked);
+        sink.take_over(first, second, sealed);
         source.beside(&mut sink);
         sink.look_beside(&mut source);
         Ok((source, sink))

@@ -28,7 +28,8 @@ pub fn pipe(
 ) -> Result<(PipeSource, PipeSink), PipeMakeError>
     requires ready { IsReady w.now p.old me }
     requires unpinned { HasNoPin (view w.now p.old) me }
-    ensures call { CallClause me (MakesPipe (limits_of w.now)) (view w.now p.old) (view w.now p.new) (ends_made result) }
+    ensures call { CallClause me (MakesPipe (limits_of w.now))
+        (view w.now p.old) (view w.now p.new) (ends_made result) }
     ensures ready { IsReady w.now p.new me }
     ensures unpinned { HasNoPin (view w.now p.new) me }
     ensures channels { IfOk result (λ ends. HasEnds (view w.now p.new) (source_chan ends.0) (sink_chan ends.1)) }
@@ -39,15 +40,14 @@ pub fn pipe(
     Ok(rings.ends(ends.source, ends.sink))
 }
 
-/// The rings of a pipe, each with its two ends: one for the bytes, one of a single place for the end
-/// mark. So the mark has a place beside the bytes, and comes to the source with the number of bytes
-/// that were sent before it.
+/// The rings of a pipe, each with its two ends: one for the bytes, one of a single place for the seal. So the seal
+/// has a place beside the bytes, and comes to the source with the number of bytes that were sent before it.
 #[derive(Drop)]
 pub(crate) struct Rings {
     bytes_in: Producer<u8>,
     bytes_out: Consumer<u8>,
-    marks_in: Producer<u64>,
-    marks_out: Consumer<u64>,
+    seals_in: Producer<u64>,
+    seals_out: Consumer<u64>,
 }
 
 impl Rings {
@@ -55,12 +55,12 @@ impl Rings {
         ensures { IfOk result AreEmpty }
     {
         let (bytes_in, bytes_out) = RingBuffer::new(alloc, CAPACITY)?;
-        let (marks_in, marks_out) = RingBuffer::new(alloc, 1)?;
+        let (seals_in, seals_out) = RingBuffer::new(alloc, 1)?;
         Ok(Rings {
             bytes_in,
             bytes_out,
-            marks_in,
-            marks_out,
+            seals_in,
+            seals_out,
         })
     }
 
@@ -71,8 +71,8 @@ impl Rings {
         ensures sink { result.1.chan ≡ sink }
     {
         (
-            PipeSource::make(source, self.bytes_out, self.marks_out),
-            PipeSink::make(sink, source, self.bytes_in, self.marks_in),
+            PipeSource::make(source, self.bytes_out, self.seals_out),
+            PipeSink::make(sink, source, self.bytes_in, self.seals_in),
         )
     }
 }

@@ -1,9 +1,9 @@
 //! The end of a pipe that is written into.
 ghost use Rattle.std.specs.Prelude.{◌≡◌, ◌<◌, false};
 ghost use Rattle.rtrb.specs.Ring.{known_free, producer_capacity, sent as pushed};
-ghost use Rattle.nio_pipe.specs.Counts.{count_of, marks_left};
+ghost use Rattle.nio_pipe.specs.Counts.{count_of, seals_left};
 
-use crate::answers::{PipeWrite, leaves_mark, refusal_after, write_answer, write_goes_on};
+use crate::answers::{PipeWrite, leaves_seal, refusal_after, write_answer, write_goes_on};
 use crate::checks::check_write;
 use crate::source::PipeSource;
 use nio_base::{CallerNo, ChanNo};
@@ -20,14 +20,14 @@ pub struct PipeSink {
     pub(crate) chan: ChanNo,
     pub(crate) source: ChanNo,
     pub(crate) bytes: Producer<u8>,
-    pub(crate) marks: Producer<u64>,
+    pub(crate) seals: Producer<u64>,
     // how many bytes were written, modulo 2^64
     count: u64,
-    pub(crate) marked: bool,
+    pub(crate) sealed: bool,
     ghost sized: { producer_capacity bytes ≡ 65536 },
     ghost counted: { count ≡ count_of (pushed bytes) },
-    ghost left: { pushed marks ≡ marks_left marked count },
-    ghost place: { marked ≡ false → 0 < known_free marks },
+    ghost left: { pushed seals ≡ seals_left sealed count },
+    ghost place: { sealed ≡ false → 0 < known_free seals },
 }
 
 impl PipeSink {
@@ -39,9 +39,11 @@ impl PipeSink {
     ghost use Rattle.nio_steps.specs.declared.refusal.PipeError.TheVariants.{ClosedByInterrupt};
     ghost use Rattle.nio_words.specs.Passes.{IsReady, limits_of};
     ghost use Rattle.nio_words.specs.Views.{view};
-    ghost use Rattle.nio_pipe.specs.Answers.{bytes_written, leaves_mark as answer_leaves_mark, write_answer as answer_of_write};
+    ghost use Rattle.nio_pipe.specs.Answers.{bytes_written, leaves_seal as answer_leaves_seal};
+    ghost use Rattle.nio_pipe.specs.Answers.{write_answer as answer_of_write};
     ghost use Rattle.nio_pipe.specs.Calls.{HasEnds, IsClosed, TriesWrite, WaitsToWrite};
-    ghost use Rattle.nio_pipe.specs.Ends.{other_chan, sink_chan, received, knows_end, sent, free, is_marked, AreEnds, IsSameSink, SourceLooks, SinkLooks, TakesBytes};
+    ghost use Rattle.nio_pipe.specs.Ends.{other_chan, sink_chan, received, knows_end, sent, free, is_sealed, AreEnds};
+    ghost use Rattle.nio_pipe.specs.Ends.{IsSameSink, SourceLooks, SinkLooks, TakesBytes};
     ghost use Rattle.nio_pipe.specs.declared.answers.PipeWrite.TheVariants.{NotYet};
 
     // The sink of a pipe into which nothing was written.
@@ -49,25 +51,25 @@ impl PipeSink {
         chan: ChanNo,
         source: ChanNo,
         bytes: Producer<u8>,
-        marks: Producer<u64>,
+        seals: Producer<u64>,
     ) -> PipeSink
         requires sized { producer_capacity bytes ≡ 65536 }
         requires fresh { pushed bytes ≡ [] }
-        requires unmarked { pushed marks ≡ [] }
-        requires place { 0 < known_free marks }
+        requires unsealed { pushed seals ≡ [] }
+        requires place { 0 < known_free seals }
         ensures bytes { result.bytes ≡ bytes }
-        ensures marks { result.marks ≡ marks }
+        ensures seals { result.seals ≡ seals }
         ensures channel { result.chan ≡ chan }
         ensures other { result.source ≡ source }
-        ensures mark { result.marked ≡ false }
+        ensures seal { result.sealed ≡ false }
     {
         PipeSink {
             chan,
             source,
             bytes,
-            marks,
+            seals,
             count: 0,
-            marked: false,
+            sealed: false,
         }
     }
 
@@ -79,7 +81,7 @@ impl PipeSink {
     }
 
     /// Writes as many bytes of the slice as are found to have room. Where it finds the sink's channel
-    /// closed, or closes it, it leaves the end mark.
+    /// closed, or closes it, it leaves the seal.
     pub fn try_write(
         &mut self,
         w: &Words,
@@ -90,13 +92,14 @@ impl PipeSink {
         requires ready { IsReady w.now p.old me }
         requires ends { HasEnds (view w.now p.old) (other_chan self.old) (sink_chan self.old) }
         requires unpinned { HasNoPin (view w.now p.old) me }
-        ensures call { CallClause me (TriesWrite (limits_of w.now) (other_chan self.old) (sink_chan self.old)) (view w.now p.old) (view w.now p.new) result }
+        ensures call { CallClause me (TriesWrite (limits_of w.now) (other_chan self.old) (sink_chan self.old))
+            (view w.now p.old) (view w.now p.new) result }
         ensures ready { IsReady w.now p.new me }
         ensures unpinned { HasNoPin (view w.now p.new) me }
         ensures closed { result ≡ Err ClosedByInterrupt → IsClosed (view w.now p.new) (sink_chan self.old) }
         ensures same { IsSameSink self.old self.new }
         ensures bytes { TakesBytes self.old self.new from.now (bytes_written result) }
-        ensures mark { is_marked self.new ≡ (is_marked self.old || answer_leaves_mark result) }
+        ensures seal { is_sealed self.new ≡ (is_sealed self.old || answer_leaves_seal result) }
         ensures answer { IfOk result (λ answer. answer ≡ answer_of_write (length from.now) (bytes_written result)) }
         ensures least { OnOk result (min (length from.now) (free self.old) ≤ bytes_written result) }
         ensures most { OnOk result (bytes_written result < length from.now → free self.new ≡ 0) }
@@ -106,8 +109,8 @@ impl PipeSink {
         match check_write(w, p, me, self.source, self.chan) {
             Ok(_) => Ok(self.push(from)),
             Err(refusal) => {
-                if leaves_mark(refusal) {
-                    self.leave_mark();
+                if leaves_seal(refusal) {
+                    self.leave_seal();
                 }
                 Err(refusal)
             }
@@ -126,13 +129,14 @@ impl PipeSink {
         requires ready { IsReady w.now p.old me }
         requires ends { HasEnds (view w.now p.old) (other_chan self.old) (sink_chan self.old) }
         requires unpinned { HasNoPin (view w.now p.old) me }
-        ensures call { CallClause me (WaitsToWrite (limits_of w.now) (other_chan self.old) (sink_chan self.old)) (view w.now p.old) (view w.now p.new) result }
+        ensures call { CallClause me (WaitsToWrite (limits_of w.now) (other_chan self.old) (sink_chan self.old))
+            (view w.now p.old) (view w.now p.new) result }
         ensures ready { IsReady w.now p.new me }
         ensures unpinned { HasNoPin (view w.now p.new) me }
         ensures closed { result ≡ Err ClosedByInterrupt → IsClosed (view w.now p.new) (sink_chan self.old) }
         ensures same { IsSameSink self.old self.new }
         ensures bytes { TakesBytes self.old self.new from.now (bytes_written result) }
-        ensures mark { is_marked self.new ≡ (is_marked self.old || answer_leaves_mark result) }
+        ensures seal { is_sealed self.new ≡ (is_sealed self.old || answer_leaves_seal result) }
         ensures answer { IfOk result (λ answer. answer ≡ answer_of_write (length from.now) (bytes_written result)) }
         ensures least { OnOk result (min (length from.now) (free self.old) ≤ bytes_written result) }
         ensures most { OnOk result (bytes_written result < length from.now → free self.new ≡ 0) }
@@ -151,8 +155,8 @@ impl PipeSink {
                     }
                 }
                 Err(refusal) => {
-                    if leaves_mark(refusal) {
-                        self.leave_mark();
+                    if leaves_seal(refusal) {
+                        self.leave_seal();
                     }
                     return Err(refusal_after(waited, refusal));
                 }
@@ -167,14 +171,14 @@ impl PipeSink {
     pub(crate) fn push(&mut self, from: &[u8]) -> PipeWrite
         ensures same { IsSameSink self.old self.new }
         ensures bytes { TakesBytes self.old self.new from.now (bytes_written (Ok result)) }
-        ensures mark { is_marked self.new ≡ is_marked self.old }
+        ensures seal { is_sealed self.new ≡ is_sealed self.old }
         ensures answer { result ≡ answer_of_write (length from.now) (bytes_written (Ok result)) }
         ensures least { min (length from.now) (free self.old) ≤ bytes_written (Ok result) }
         ensures most { bytes_written (Ok result) < length from.now → free self.new ≡ 0 }
         ensures places { free self.old ≤ free self.new + bytes_written (Ok result) }
         ensures not_yet { result ≡ NotYet → (free self.old ≡ 0) × (free self.new ≡ 0) }
     {
-        if self.marked {
+        if self.sealed {
             return write_answer(from.len(), 0);
         }
         let (pushed, _) = self.bytes.push_partial_slice(from);
@@ -182,32 +186,32 @@ impl PipeSink {
         write_answer(from.len(), pushed.len())
     }
 
-    // Leaves the end mark, once.
-    pub(crate) fn leave_mark(&mut self)
+    // Leaves the seal, once.
+    pub(crate) fn leave_seal(&mut self)
         ensures same { IsSameSink self.old self.new }
         ensures sent { sent self.new ≡ sent self.old }
-        ensures mark { is_marked self.new ≡ true }
+        ensures seal { is_sealed self.new ≡ true }
     {
-        if !self.marked {
-            self.marks.push_reserved(self.count);
-            self.marked = true;
+        if !self.sealed {
+            self.seals.push_reserved(self.count);
+            self.sealed = true;
         }
     }
 
-    // Takes over the bytes that wait in another pipe, which stand in two slices, and its mark.
-    pub(crate) fn take_over(&mut self, first: &[u8], second: &[u8], marked: bool)
+    // Takes over the bytes that wait in another pipe, which stand in two slices, and its seal.
+    pub(crate) fn take_over(&mut self, first: &[u8], second: &[u8], sealed: bool)
         requires empty { sent self.old ≡ [] }
         requires free { free self.old ≡ 65536 }
-        requires unmarked { IsFalse (is_marked self.old) }
+        requires unsealed { IsFalse (is_sealed self.old) }
         requires few { length first.now + length second.now ≤ 65536 }
         ensures same { IsSameSink self.old self.new }
         ensures sent { sent self.new ≡ first.now ++ second.now }
-        ensures mark { is_marked self.new ≡ marked }
+        ensures seal { is_sealed self.new ≡ sealed }
     {
         self.push(first);
         self.push(second);
-        if marked {
-            self.leave_mark();
+        if sealed {
+            self.leave_seal();
         }
     }
 
@@ -218,26 +222,28 @@ impl PipeSink {
         ensures source { SourceLooks source.old source.new }
         ensures ends { AreEnds source.new self.new }
         ensures end { knows_end source.new ≡ knows_end source.old }
-        ensures free { IsFalse (is_marked self.new) → free self.new + length (sent self.new) ≡ 65536 + length (received source.new) }
+        ensures free { IsFalse (is_sealed self.new) → free self.new + length (sent self.new)
+            ≡ 65536 + length (received source.new) }
     {
         self.bytes.slots_beside(&mut source.bytes);
     }
 
-    /// Closes the sink's channel and leaves the end mark. Says whether this call closed it.
+    /// Closes the sink's channel and leaves the seal. Says whether this call closed it.
     pub fn close(&mut self, w: &Words, p: &mut Pass, me: CallerNo) -> bool
         requires ready { IsReady w.now p.old me }
         requires channel { HasChannel (view w.now p.old) (sink_chan self.old) }
         requires unpinned { HasNoPin (view w.now p.old) me }
-        ensures call { CallClause me (Completes (close_channel_plan (limits_of w.now) (sink_chan self.old))) (view w.now p.old) (view w.now p.new) result }
+        ensures call { CallClause me (Completes (close_channel_plan (limits_of w.now) (sink_chan self.old)))
+            (view w.now p.old) (view w.now p.new) result }
         ensures ready { IsReady w.now p.new me }
         ensures unpinned { HasNoPin (view w.now p.new) me }
         ensures closed { IsClosed (view w.now p.new) (sink_chan self.old) }
         ensures same { IsSameSink self.old self.new }
         ensures sent { sent self.new ≡ sent self.old }
-        ensures mark { is_marked self.new ≡ true }
+        ensures seal { is_sealed self.new ≡ true }
     {
         let closes = close_channel(w, p, me, self.chan);
-        self.leave_mark();
+        self.leave_seal();
         closes
     }
 }

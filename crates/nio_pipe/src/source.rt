@@ -2,7 +2,7 @@
 ghost use Rattle.std.specs.Prelude.{◌≡◌, ◌<◌, ◌≤◌, ◌++◌, [], length, take, drop};
 ghost use mathlib.Core.List.{IsPrefix};
 ghost use Rattle.rtrb.specs.Ring.{consumer_capacity, known_items, received as popped, sent as pushed, SameConsumer};
-ghost use Rattle.nio_pipe.specs.Counts.{count_of, left_to, marks_taken, IsReached};
+ghost use Rattle.nio_pipe.specs.Counts.{count_of, left_to, seals_taken, IsReached};
 
 use crate::answers::{PipeRead, read_answer, read_goes_on, refusal_after};
 use crate::checks::check_open;
@@ -21,21 +21,22 @@ use std::thread;
 pub struct PipeSource {
     pub(crate) chan: ChanNo,
     pub(crate) bytes: Consumer<u8>,
-    pub(crate) marks: Consumer<u64>,
+    pub(crate) seals: Consumer<u64>,
     // how many bytes were read, modulo 2^64
     count: u64,
-    // the end mark, once it was taken from the ring: the sink's count
-    mark: Option<u64>,
-    // how many bytes wait up to the end mark, once all of them were seen
+    // the seal, once it was taken from the ring: the sink's count
+    seal: Option<u64>,
+    // how many bytes wait up to the seal, once all of them were seen
     pub(crate) to_end: Option<usize>,
     ghost sized: { consumer_capacity bytes ≡ 65536 },
     ghost counted: { count ≡ count_of (popped bytes) },
-    ghost took: { popped marks ≡ marks_taken mark },
-    ghost reached: { IsReached (popped bytes) (known_items bytes) mark to_end },
+    ghost took: { popped seals ≡ seals_taken seal },
+    ghost reached: { IsReached (popped bytes) (known_items bytes) seal to_end },
 }
 
 impl PipeSource {
-    ghost use Rattle.std.specs.Prelude.{◌<◌, ◌≤◌, ◌++◌, [], length, true, None, Some, IfNone, IfSome, IsSome, OnOk, IfOk, Ok, Err};
+    ghost use Rattle.std.specs.Prelude.{◌<◌, ◌≤◌, ◌++◌, [], length, true, None, Some, IfNone, IfSome, IsSome, OnOk};
+    ghost use Rattle.std.specs.Prelude.{IfOk, Ok, Err};
     ghost use Rattle.nio_event.specs.PassViews.{HasChannel, HasNoPin};
     ghost use Rattle.nio_steps.specs.Calls.{CallClause};
     ghost use Rattle.nio_steps.specs.ChannelCalls.{close_channel_plan};
@@ -45,27 +46,29 @@ impl PipeSource {
     ghost use Rattle.nio_words.specs.Views.{view};
     ghost use Rattle.nio_pipe.specs.Answers.{bytes_read, read_answer as answer_of_read};
     ghost use Rattle.nio_pipe.specs.Calls.{IsClosed, TriesRead, WaitsToRead};
-    ghost use Rattle.nio_pipe.specs.Ends.{source_chan, received, known, knows_end, sent, is_marked, pipe_of, AreEnds, GivesBytes, IsAtEnd, IsSameSource, IsSameSink, KnowsNothing, SourceLooks, SinkLooks};
+    ghost use Rattle.nio_pipe.specs.Ends.{source_chan, received, known, knows_end, sent, is_sealed, pipe_of, AreEnds};
+    ghost use Rattle.nio_pipe.specs.Ends.{GivesBytes, IsAtEnd, IsSameSource, IsSameSink, KnowsNothing, SourceLooks};
+    ghost use Rattle.nio_pipe.specs.Ends.{SinkLooks};
     ghost use Rattle.nio_pipe.specs.Pipe.{IsLawful};
     ghost use Rattle.nio_pipe.specs.Pipe.{IsAtEnd as IsPipeAtEnd};
     ghost use Rattle.nio_pipe.specs.declared.answers.PipeRead.TheVariants.{End, NotYet};
 
     // The source of a pipe into which nothing was written.
-    pub(crate) fn make(chan: ChanNo, bytes: Consumer<u8>, marks: Consumer<u64>) -> PipeSource
+    pub(crate) fn make(chan: ChanNo, bytes: Consumer<u8>, seals: Consumer<u64>) -> PipeSource
         requires sized { consumer_capacity bytes ≡ 65536 }
         requires fresh { popped bytes ≡ [] }
-        requires unmarked { popped marks ≡ [] }
+        requires unsealed { popped seals ≡ [] }
         ensures bytes { result.bytes ≡ bytes }
-        ensures marks { result.marks ≡ marks }
+        ensures seals { result.seals ≡ seals }
         ensures channel { result.chan ≡ chan }
         ensures end { result.to_end ≡ None }
     {
         PipeSource {
             chan,
             bytes,
-            marks,
+            seals,
             count: 0,
-            mark: None,
+            seal: None,
             to_end: None,
         }
     }
@@ -77,7 +80,7 @@ impl PipeSource {
         self.chan
     }
 
-    /// Reads as many bytes as are found to wait and fit into the slice. At the end mark, with every byte
+    /// Reads as many bytes as are found to wait and fit into the slice. At the seal, with every byte
     /// read, it answers `End`.
     pub fn try_read(
         &mut self,
@@ -89,13 +92,15 @@ impl PipeSource {
         requires ready { IsReady w.now p.old me }
         requires channel { HasChannel (view w.now p.old) (source_chan self.old) }
         requires unpinned { HasNoPin (view w.now p.old) me }
-        ensures call { CallClause me (TriesRead (limits_of w.now) (source_chan self.old)) (view w.now p.old) (view w.now p.new) result }
+        ensures call { CallClause me (TriesRead (limits_of w.now) (source_chan self.old))
+            (view w.now p.old) (view w.now p.new) result }
         ensures ready { IsReady w.now p.new me }
         ensures unpinned { HasNoPin (view w.now p.new) me }
         ensures closed { result ≡ Err ClosedByInterrupt → IsClosed (view w.now p.new) (source_chan self.old) }
         ensures same { IsSameSource self.old self.new }
         ensures bytes { GivesBytes self.old self.new into.old into.new (bytes_read result) }
-        ensures answer { IfOk result (λ answer. answer ≡ answer_of_read (length into.old) (bytes_read result) (knows_end self.new)) }
+        ensures answer { IfOk result (λ answer. answer ≡ answer_of_read (length into.old) (bytes_read result)
+            (knows_end self.new)) }
         ensures most { OnOk result (bytes_read result < length into.old → known self.new ≡ []) }
         ensures not_yet { result ≡ Ok NotYet → KnowsNothing self.old × KnowsNothing self.new }
         ensures end { result ≡ Ok End → IsAtEnd self.new }
@@ -117,13 +122,15 @@ impl PipeSource {
         requires ready { IsReady w.now p.old me }
         requires channel { HasChannel (view w.now p.old) (source_chan self.old) }
         requires unpinned { HasNoPin (view w.now p.old) me }
-        ensures call { CallClause me (WaitsToRead (limits_of w.now) (source_chan self.old)) (view w.now p.old) (view w.now p.new) result }
+        ensures call { CallClause me (WaitsToRead (limits_of w.now) (source_chan self.old))
+            (view w.now p.old) (view w.now p.new) result }
         ensures ready { IsReady w.now p.new me }
         ensures unpinned { HasNoPin (view w.now p.new) me }
         ensures closed { result ≡ Err ClosedByInterrupt → IsClosed (view w.now p.new) (source_chan self.old) }
         ensures same { IsSameSource self.old self.new }
         ensures bytes { GivesBytes self.old self.new into.old into.new (bytes_read result) }
-        ensures answer { IfOk result (λ answer. answer ≡ answer_of_read (length into.old) (bytes_read result) (knows_end self.new)) }
+        ensures answer { IfOk result (λ answer. answer ≡ answer_of_read (length into.old) (bytes_read result)
+            (knows_end self.new)) }
         ensures most { OnOk result (bytes_read result < length into.old → known self.new ≡ []) }
         ensures not_yet { result ≡ Ok NotYet → KnowsNothing self.old × KnowsNothing self.new }
         ensures end { result ≡ Ok End → IsAtEnd self.new }
@@ -148,38 +155,38 @@ impl PipeSource {
     }
 
     /// How many bytes wait, for a hand that has both ends. The source then knows of all of them, and of the
-    /// end mark.
+    /// seal.
     pub fn beside(&mut self, sink: &mut PipeSink) -> usize
         requires { AreEnds self.old sink.old }
         ensures waiting { result ≡ length (known self.new) }
         ensures whole { received self.new ++ known self.new ≡ sent sink.new }
-        ensures end { knows_end self.new ≡ is_marked sink.new }
+        ensures end { knows_end self.new ≡ is_sealed sink.new }
         ensures source { SourceLooks self.old self.new }
         ensures sink { SinkLooks sink.old sink.new }
         ensures ends { AreEnds self.new sink.new }
         ensures lawful { IsLawful (pipe_of self.new sink.new) }
         ensures told { IsAtEnd self.old → IsPipeAtEnd (pipe_of self.new sink.new) }
     {
-        self.take_mark_beside(sink);
+        self.take_seal_beside(sink);
         let waiting = self.bytes.slots_beside(&mut sink.bytes);
         self.reach_end();
         waiting
     }
 
-    // Takes the end mark, where it was left.
-    fn take_mark_beside(&mut self, sink: &mut PipeSink)
+    // Takes the seal, where it was left.
+    fn take_seal_beside(&mut self, sink: &mut PipeSink)
         requires { AreEnds self.old sink.old }
         ensures bytes { self.new.bytes ≡ self.old.bytes }
-        ensures marks { SameConsumer self.old.marks self.new.marks }
+        ensures seals { SameConsumer self.old.seals self.new.seals }
         ensures channel { self.new.chan ≡ self.old.chan }
         ensures to_end { self.new.to_end ≡ self.old.to_end }
-        ensures mark { marks_taken self.new.mark ≡ pushed sink.new.marks }
+        ensures seal { seals_taken self.new.seal ≡ pushed sink.new.seals }
         ensures sink_bytes { sink.new.bytes ≡ sink.old.bytes }
         ensures sink { SinkLooks sink.old sink.new }
     {
-        let left = self.marks.slots_beside(&mut sink.marks);
-        if self.mark.is_none() && left > 0 {
-            self.mark = Some(self.marks.pop_known());
+        let left = self.seals.slots_beside(&mut sink.seals);
+        if self.seal.is_none() && left > 0 {
+            self.seal = Some(self.seals.pop_known());
         }
     }
 
@@ -188,7 +195,8 @@ impl PipeSource {
         requires ready { IsReady w.now p.old me }
         requires channel { HasChannel (view w.now p.old) (source_chan self.old) }
         requires unpinned { HasNoPin (view w.now p.old) me }
-        ensures call { CallClause me (Completes (close_channel_plan (limits_of w.now) (source_chan self.old))) (view w.now p.old) (view w.now p.new) result }
+        ensures call { CallClause me (Completes (close_channel_plan (limits_of w.now) (source_chan self.old)))
+            (view w.now p.old) (view w.now p.new) result }
         ensures ready { IsReady w.now p.new me }
         ensures unpinned { HasNoPin (view w.now p.new) me }
         ensures closed { IsClosed (view w.now p.new) (source_chan self.old) }
@@ -197,7 +205,7 @@ impl PipeSource {
         close_channel(w, p, me, self.chan)
     }
 
-    // Reads what is found to wait, and looks for the end mark where no byte waits.
+    // Reads what is found to wait, and looks for the seal where no byte waits.
     fn give(&mut self, into: &mut [u8]) -> PipeRead
         ensures same { IsSameSource self.old self.new }
         ensures bytes { GivesBytes self.old self.new into.old into.new (bytes_read (Ok result)) }
@@ -212,7 +220,7 @@ impl PipeSource {
         read_answer(into.len(), given, self.to_end.is_some())
     }
 
-    // Looks for the end mark where no byte waits.
+    // Looks for the seal where no byte waits.
     fn look(&mut self)
         ensures { SourceLooks self.old self.new }
     {
@@ -221,45 +229,46 @@ impl PipeSource {
         }
     }
 
-    // Takes the end mark, if it is there. What was written before it can be seen then.
+    // Takes the seal, if it is there. What was written before it can be seen then.
     fn look_for_end(&mut self)
         requires end { self.old.to_end ≡ None }
         requires empty { known_items self.old.bytes ≡ [] }
         ensures { SourceLooks self.old self.new }
     {
-        self.take_mark();
+        self.take_seal();
         self.bytes.slots();
         self.reach_end();
     }
 
-    fn take_mark(&mut self)
+    fn take_seal(&mut self)
         ensures bytes { self.new.bytes ≡ self.old.bytes }
-        ensures marks { SameConsumer self.old.marks self.new.marks }
+        ensures seals { SameConsumer self.old.seals self.new.seals }
         ensures channel { self.new.chan ≡ self.old.chan }
         ensures end { self.new.to_end ≡ self.old.to_end }
     {
-        if self.mark.is_none() {
-            self.mark = self.marks.pop().ok();
+        if self.seal.is_none() {
+            self.seal = self.seals.pop().ok();
         }
     }
 
-    // Works out how many bytes wait up to the mark, and notes it where all of them were seen.
+    // Works out how many bytes wait up to the seal, and keeps that where all of them were seen.
     fn reach_end(&mut self)
         ensures bytes { self.new.bytes ≡ self.old.bytes }
-        ensures marks { self.new.marks ≡ self.old.marks }
+        ensures seals { self.new.seals ≡ self.old.seals }
         ensures channel { self.new.chan ≡ self.old.chan }
-        ensures reached { IfSome self.old.mark (λ mark. left_to mark self.old.count ≤ length (known_items self.old.bytes) → self.new.to_end ≡ Some (left_to mark self.old.count)) }
-        ensures kept { IfNone self.old.mark (self.new.to_end ≡ self.old.to_end) }
+        ensures reached { IfSome self.old.seal (λ seal. left_to seal self.old.count ≤ length
+            (known_items self.old.bytes) → self.new.to_end ≡ Some (left_to seal self.old.count)) }
+        ensures kept { IfNone self.old.seal (self.new.to_end ≡ self.old.to_end) }
     {
-        if let Some(mark) = self.mark {
-            let left = mark.wrapping_sub(self.count);
+        if let Some(seal) = self.seal {
+            let left = seal.wrapping_sub(self.count);
             if left <= self.bytes.cached_slots() as u64 {
                 self.to_end = Some(left as usize);
             }
         }
     }
 
-    // Reads as many bytes as are found to wait, up to the end mark where it is known.
+    // Reads as many bytes as are found to wait, up to the seal where it is known.
     fn pop(&mut self, into: &mut [u8]) -> usize
         ensures same { IsSameSource self.old self.new }
         ensures bytes { GivesBytes self.old self.new into.old into.new result }
@@ -284,7 +293,7 @@ impl PipeSource {
         given
     }
 
-    // Reads bytes that were all seen, of which so many are left up to the end mark.
+    // Reads bytes that were all seen, of which so many are left up to the seal.
     fn pop_to_end(&mut self, into: &mut [u8], left: usize) -> usize
         requires { self.old.to_end ≡ Some left }
         ensures same { IsSameSource self.old self.new }

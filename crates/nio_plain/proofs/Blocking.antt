@@ -6,7 +6,7 @@ use Rattle.nio_event.specs.State.{with_chan}
 use Rattle.nio_event.specs.declared.found.Chan.{Chan}
 use Rattle.nio_event.specs.declared.reply.Reply.TheVariants as reply
 use Rattle.nio_plain.specs.ScriptState.{ScriptState}
-use Rattle.nio_plain.specs.Seq.Answers.{unchanged, answered}
+use Rattle.nio_plain.specs.Seq.Replies.{unchanged, replied}
 use Rattle.nio_plain.specs.Seq.Modes.{blocking_call, is_registered}
 
 -- x is the channel
@@ -25,6 +25,6 @@ module _ (l : Limits) (st : ScriptState) (c : ChanNo) (on : Bool) (x : Chan) (e 
   blocking-registered h k r = rw (e, h, k, r)
 
   pub blocking-set : x.made ≡ true → x.closed ≡ false → (on && is_registered l st.shared c.0) ≡ false
-      → blocking_call l st c on ≡ answered st reply.«Ok» (with_chan st.shared c.0 (record x { blocking = on }))
+      → blocking_call l st c on ≡ replied st reply.«Ok» (with_chan st.shared c.0 (record x { blocking = on }))
   unfolding blocking_call
   blocking-set h k r = rw (e, h, k, r)

@@ -29,10 +29,10 @@ use Rattle.nio_group.specs.Run as step
 use Rattle.nio_group.specs.Run.{IsCallOf}
 use Rattle.nio_plain.specs.ScriptState.{ScriptState, Selection, with_shared, with_selection}
 use Rattle.nio_plain.specs.Seq.{call_of, seq}
-use Rattle.nio_plain.specs.Seq.Answers.{Answered, unchanged, answered, yes_or_no}
+use Rattle.nio_plain.specs.Seq.Replies.{Replied, unchanged, replied, yes_or_no}
 use Rattle.nio_plain.specs.Seq.Cancelling.{channel_closed, cancelled_in_set, closec_call, cancel_call}
 use Rattle.nio_plain.specs.Seq.Closing.{without_keys, close_call, close_end_call}
-use Rattle.nio_plain.specs.Seq.Grouping.{GroupAnswered, answered_by_group, group_answer, group_call, stepped}
+use Rattle.nio_plain.specs.Seq.Grouping.{GroupReplied, replied_by_group, group_replied, group_call, stepped}
 use Rattle.nio_plain.specs.Seq.Grouping.{with_named_group_channel}
 use Rattle.nio_plain.specs.Seq.Keys.{are_legal_at, is_in_selected_set, valid_call, interest_call, ready_call, iset_call}
 use Rattle.nio_plain.specs.Seq.Keys.{ior_call, iand_call, unselect_call, attach_call, attachment_call}
@@ -41,7 +41,7 @@ use Rattle.nio_plain.specs.Seq.Modes.{name_or_none, key_of, is_registered, block
 use Rattle.nio_plain.specs.Seq.Modes.{is_open_call, is_registered_call, key_for_call}
 use Rattle.nio_plain.specs.Seq.Names.{below, key_at}
 use Rattle.nio_plain.specs.Seq.Opening.{channel_made, next_channel, selector_made, selector_call, channel_call}
-use Rattle.nio_plain.specs.Seq.Pipes.{own_source, own_sink, pipe_at, with_pipe, marking}
+use Rattle.nio_plain.specs.Seq.Pipes.{own_source, own_sink, pipe_at, with_pipe, sealing}
 use Rattle.nio_plain.specs.Seq.Piping.{with_sink, with_source, finds_interrupt, not_now, read_first, read_from}
 use Rattle.nio_plain.specs.Seq.Piping.{room_for, write_to, pipe_call, pread_call, pwrite_call}
 use Rattle.nio_plain.specs.Seq.Registering.{given_or_none, given_or_kept, next_key, with_new_key, are_legal, registered}
@@ -54,7 +54,7 @@ use Rattle.nio_plain.specs.Seq.Wakeups.{wakeup_call, interrupt_call, interrupted
 use Rattle.nio_plain.specs.declared.rules.Rules.{Rules}
 
 -- a selection that ended in a `told`
-abbrev pub told_ended : Rules → ScriptState → ℕ → List (KeyId × ℕ) → Selection → ℕ → Why → Answered
+abbrev pub told_ended : Rules → ScriptState → ℕ → List (KeyId × ℕ) → Selection → ℕ → Why → Replied
 told_ended rules st s pairs selection count why = record {
   reply = reply.Selected count why;
   left = with_selection (with_shared st (selection_ended rules st.shared s selection pairs)) s None;
@@ -90,41 +90,41 @@ may_keep _ = true
 
 -- what is to be shown of each change
 pub record HoldsOfChanges (rules : Rules) (st : ScriptState) (me : CallerNo)
-    (P : Call → Answered → Type 0) : Type 0 where
+    (P : Call → Replied → Type 0) : Type 0 where
   pub nothing : (c : Call) (r : Reply) → may_keep r ≡ true → P c (unchanged st r)
   pub selector : (s : ℕ) → P call.Selector (selector_made st (Some s))
   pub channel : (kind : Kind) (c : ℕ) → P (call.Channel kind) (channel_made st kind (Some c))
   pub blocking : (c : ChanNo) (on : Bool)
       → P (call.Blocking c on)
-      (answered st reply.«Ok» (with_chan st.shared c.0 (record (st.shared.chan c.0) { blocking = on })))
+      (replied st reply.«Ok» (with_chan st.shared c.0 (record (st.shared.chan c.0) { blocking = on })))
   pub register : (s : SelNo) (c : ChanNo) (ops : ℕ) (att : Option ℕ) (k : KeyId) (note : ℕ)
-      → P (call.Register s c ops att) (answered st (reply.Key k) (with_new_key st.shared s.0 c.0 k ops note))
+      → P (call.Register s c ops att) (replied st (reply.Key k) (with_new_key st.shared s.0 c.0 k ops note))
   pub register_again : (s : SelNo) (c : ChanNo) (ops : ℕ) (att : Option ℕ) (k : KeyId) (note : ℕ)
       → P (call.Register s c ops att)
-      (answered st (reply.Key k) (with_note (with_interest st.shared s.0 k.index ops) s.0 k.index note))
+      (replied st (reply.Key k) (with_note (with_interest st.shared s.0 k.index ops) s.0 k.index note))
   pub closec : (c : ChanNo)
-      → P (call.Closec c) (marking (own_sink st.pipes me c) (answered st reply.«Ok» (channel_closed st.shared c.0)))
-  pub closec_again : (c : ChanNo) → P (call.Closec c) (marking (own_sink st.pipes me c) (unchanged st reply.Already))
+      → P (call.Closec c) (sealing (own_sink st.pipes me c) (replied st reply.«Ok» (channel_closed st.shared c.0)))
+  pub closec_again : (c : ChanNo) → P (call.Closec c) (sealing (own_sink st.pipes me c) (unchanged st reply.Already))
   pub cancel : (s : SelNo) (k : KeyId)
       → P (call.Cancel s k)
-      (answered st reply.«Ok»
+      (replied st reply.«Ok»
       (with_key st.shared s.0 k.index (cancelled_in_set (st.shared.key s.0 k.index) k.serial)))
   pub iset : (s : SelNo) (k : KeyId) (ops : ℕ)
-      → P (call.Iset s k ops) (answered st reply.«Ok» (with_interest st.shared s.0 k.index ops))
+      → P (call.Iset s k ops) (replied st reply.«Ok» (with_interest st.shared s.0 k.index ops))
   pub ior : (s : SelNo) (k : KeyId) (ops : ℕ)
       → P (call.Ior s k ops)
-      (answered st (reply.Number (st.shared.interest s.0 k.index))
+      (replied st (reply.Number (st.shared.interest s.0 k.index))
       (with_interest st.shared s.0 k.index (bit_or (st.shared.interest s.0 k.index) ops)))
   pub iand : (s : SelNo) (k : KeyId) (ops : ℕ)
       → P (call.Iand s k ops)
-      (answered st (reply.Number (st.shared.interest s.0 k.index))
+      (replied st (reply.Number (st.shared.interest s.0 k.index))
       (with_interest st.shared s.0 k.index (bit_and (st.shared.interest s.0 k.index) ops)))
   pub unselect : (s : SelNo) (k : KeyId)
       → P (call.Unselect s k)
-      (answered st reply.Yes (with_mark st.shared s.0 k.index (unselected (st.shared.mark s.0 k.index))))
+      (replied st reply.Yes (with_mark st.shared s.0 k.index (unselected (st.shared.mark s.0 k.index))))
   pub attach : (s : SelNo) (k : KeyId) (att : ℕ)
       → P (call.Attach s k att)
-      (answered st (reply.Number (st.shared.note s.0 k.index)) (with_note st.shared s.0 k.index att))
+      (replied st (reply.Number (st.shared.note s.0 k.index)) (with_note st.shared s.0 k.index att))
   pub begin : (s : SelNo) (waiting : Waiting) (how : Mode) → is_some (st.shared.turn s.0) ≡ false
       → P (call.Begin s waiting) (selection_begun rules st me s.0 how)
   pub told : (s : SelNo) (elapsed : Bool) (pairs : List (KeyId × ℕ)) (selection : Selection) (count : ℕ) (why : Why)
@@ -134,15 +134,15 @@ pub record HoldsOfChanges (rules : Rules) (st : ScriptState) (me : CallerNo)
       → P (call.Failed s) (left_selection st s.0 (Some selection))
   pub wakeup : (s : SelNo)
       → P (call.Wakeup s)
-      (answered st reply.«Ok» (with_gate st.shared s.0 (record (st.shared.gate s.0) { woken = true })))
+      (replied st reply.«Ok» (with_gate st.shared s.0 (record (st.shared.gate s.0) { woken = true })))
   pub close : (s : SelNo)
       → P (call.Close s)
-      (answered st reply.Closing
+      (replied st reply.Closing
       (with_closer (with_gate st.shared s.0 (record (st.shared.gate s.0) { shut = true })) s.0 (Some me)))
   pub close_end : (s : SelNo)
-      → P (call.CloseEnd s) (answered st reply.Closed (with_entered (without_keys st.shared s.0) s.0 true))
+      → P (call.CloseEnd s) (replied st reply.Closed (with_entered (without_keys st.shared s.0) s.0 true))
   pub interrupt : (target : CallerNo)
-      → P (call.Interrupt target) (answered st reply.«Ok» (with_interrupted st.shared target.0 true))
+      → P (call.Interrupt target) (replied st reply.«Ok» (with_interrupted st.shared target.0 true))
   pub pipe : (target : CallerNo) (source sink : ℕ)
       → P (call.Pipe target) (with_sink (channel_made st Source (Some source)).left me target source (Some sink))
   pub pipe_spent : (target : CallerNo) (source : ℕ)
@@ -155,7 +155,7 @@ pub record HoldsOfChanges (rules : Rules) (st : ScriptState) (me : CallerNo)
             with_pipe st i (record (pipe_at st.pipes i) { waiting = drop n (b ∷ bytes) });
       })
   pub pread_interrupted : (c : ChanNo) (n : ℕ)
-      → P (call.Pread c n) (answered st reply.ClosedByInterrupt (channel_closed st.shared c.0))
+      → P (call.Pread c n) (replied st reply.ClosedByInterrupt (channel_closed st.shared c.0))
   pub pwrite : (c : ChanNo) (bytes : List ℕ) (i n : ℕ)
       → P (call.Pwrite c bytes)
       (record {
@@ -164,22 +164,22 @@ pub record HoldsOfChanges (rules : Rules) (st : ScriptState) (me : CallerNo)
             with_pipe st i (record (pipe_at st.pipes i) { waiting = (pipe_at st.pipes i).waiting ++ take n bytes });
       })
   pub pwrite_closed : (c : ChanNo) (bytes : List ℕ) (i : ℕ)
-      → P (call.Pwrite c bytes) (marking (Some i) (unchanged st reply.ClosedChannel))
+      → P (call.Pwrite c bytes) (sealing (Some i) (unchanged st reply.ClosedChannel))
   pub pwrite_interrupted : (c : ChanNo) (bytes : List ℕ) (i : ℕ)
-      → P (call.Pwrite c bytes) (marking (Some i) (answered st reply.ClosedByInterrupt (channel_closed st.shared c.0)))
+      → P (call.Pwrite c bytes) (sealing (Some i) (replied st reply.ClosedByInterrupt (channel_closed st.shared c.0)))
   pub group : (g : GroupCall) (s : step.Call) → step_of g ≡ Some s → IsCallOf st.group s
-      → P (call.Group g) (answered_by_group st (stepped st.group s))
+      → P (call.Group g) (replied_by_group st (stepped st.group s))
   pub interrupted : P call.Interrupted
-      (answered st (yes_or_no (st.shared.interrupted me.0)) (with_interrupted st.shared me.0 false))
+      (replied st (yes_or_no (st.shared.interrupted me.0)) (with_interrupted st.shared me.0 false))
 
-module _ (rules : Rules) (l : Limits) (st : ScriptState) (me : CallerNo) (P : Call → Answered → Type 0)
+module _ (rules : Rules) (l : Limits) (st : ScriptState) (me : CallerNo) (P : Call → Replied → Type 0)
     (h : HoldsOfChanges rules st me P) where
   -- both ways of a test
-  either : {c : Call} {x y : Answered} (b : Bool) → P c x → P c y → P c (cond b x y)
+  either : {c : Call} {x y : Replied} (b : Bool) → P c x → P c y → P c (cond b x y)
   either true p q = p
   either false p q = q
 
-  either_where : {c : Call} {x y : Answered} (b : Bool) → (b ≡ true → P c x) → (b ≡ false → P c y) → P c (cond b x y)
+  either_where : {c : Call} {x y : Replied} (b : Bool) → (b ≡ true → P c x) → (b ≡ false → P c y) → P c (cond b x y)
   either_where true p q = p refl
   either_where false p q = q refl
 
@@ -248,22 +248,22 @@ module _ (rules : Rules) (l : Limits) (st : ScriptState) (me : CallerNo) (P : Ca
   of_failed s (Some selection) e = h.failed s selection e
 
   -- the tests of the names of a line
-  channel_named : {c : Call} {x : Answered} (k : ChanNo) → P c x
+  channel_named : {c : Call} {x : Replied} (k : ChanNo) → P c x
       → P c (cond (st.shared.chan k.0).made x (unchanged st reply.NoChannel))
   channel_named {c = c} k done = either (st.shared.chan k.0).made done (says c reply.NoChannel refl)
 
-  selector_named : {c : Call} {x : Answered} (s : SelNo) → P c x
+  selector_named : {c : Call} {x : Replied} (s : SelNo) → P c x
       → P c (cond (st.shared.selector s.0) x (unchanged st reply.NoSelector))
   selector_named {c = c} s done = either (st.shared.selector s.0) done (says c reply.NoSelector refl)
 
-  key_named : {c : Call} {x : Answered} (s : SelNo) (k : KeyId) → P c x
+  key_named : {c : Call} {x : Replied} (s : SelNo) (k : KeyId) → P c x
       → P c (cond (st.shared.selector s.0)
       (cond (was_published (st.shared.key s.0 k.index) k.serial) x (unchanged st reply.NoKey))
       (unchanged st reply.NoSelector))
   key_named {c = c} s k done =
       selector_named s (either (was_published (st.shared.key s.0 k.index) k.serial) done (says c reply.NoKey refl))
 
-  valid_named : {c : Call} {x : Answered} (s : SelNo) (k : KeyId) → P c x
+  valid_named : {c : Call} {x : Replied} (s : SelNo) (k : KeyId) → P c x
       → P c (cond (st.shared.selector s.0)
       (cond (was_published (st.shared.key s.0 k.index) k.serial)
       (cond (is_valid_key (st.shared.key s.0 k.index) k.serial) x (unchanged st reply.CancelledKey))
@@ -275,8 +275,8 @@ module _ (rules : Rules) (l : Limits) (st : ScriptState) (me : CallerNo) (P : Ca
 
   of_closec : (c : ChanNo) (closed : Bool)
       → P (call.Closec c)
-      (marking (own_sink st.pipes me c)
-      (cond closed (unchanged st reply.Already) (answered st reply.«Ok» (channel_closed st.shared c.0))))
+      (sealing (own_sink st.pipes me c)
+      (cond closed (unchanged st reply.Already) (replied st reply.«Ok» (channel_closed st.shared c.0))))
   of_closec c true = h.closec_again c
   of_closec c false = h.closec c
 
@@ -293,11 +293,11 @@ module _ (rules : Rules) (l : Limits) (st : ScriptState) (me : CallerNo) (P : Ca
   of_not_now c true = says c reply.Again refl
   of_not_now c false = says c (reply.Number 0) refl
 
-  of_read : (c : ChanNo) (n i : ℕ) (blocking : Bool) (waiting : List ℕ) (marked : Bool)
-      → P (call.Pread c n) (read_first st blocking n i waiting marked)
+  of_read : (c : ChanNo) (n i : ℕ) (blocking : Bool) (waiting : List ℕ) (sealed : Bool)
+      → P (call.Pread c n) (read_first st blocking n i waiting sealed)
   of_read c n i blocking [] false = of_not_now (call.Pread c n) blocking
   of_read c n i blocking [] true = says (call.Pread c n) reply.End refl
-  of_read c n i blocking (b ∷ bytes) marked = h.pread c n i b bytes
+  of_read c n i blocking (b ∷ bytes) sealed = h.pread c n i b bytes
 
   of_pread : (c : ChanNo) (n : ℕ) (place : Option ℕ) → P (call.Pread c n) (read_from st me c n place)
   of_pread c n None = says (call.Pread c n) reply.NotOwner refl
@@ -306,7 +306,7 @@ module _ (rules : Rules) (l : Limits) (st : ScriptState) (me : CallerNo) (P : Ca
       either (st.shared.chan c.0).closed (says word reply.ClosedChannel refl)
       (either (finds_interrupt st me c) (h.pread_interrupted c n)
       (either (n == 0) (says word (reply.Number 0) refl)
-      (of_read c n i (st.shared.chan c.0).blocking (pipe_at st.pipes i).waiting (pipe_at st.pipes i).marked)))
+      (of_read c n i (st.shared.chan c.0).blocking (pipe_at st.pipes i).waiting (pipe_at st.pipes i).sealed)))
 
   of_pwrite : (c : ChanNo) (bytes : List ℕ) (place : Option ℕ) → P (call.Pwrite c bytes) (write_to st me c bytes place)
   of_pwrite c bytes None = says (call.Pwrite c bytes) reply.NotOwner refl
@@ -321,20 +321,20 @@ module _ (rules : Rules) (l : Limits) (st : ScriptState) (me : CallerNo) (P : Ca
 
   -- calls on the group
 
-  either_group : {c : Call} (b : Bool) (x y : GroupAnswered) → (b ≡ true → P c (answered_by_group st x))
-      → P c (answered_by_group st y) → P c (answered_by_group st (cond b x y))
+  either_group : {c : Call} (b : Bool) (x y : GroupReplied) → (b ≡ true → P c (replied_by_group st x))
+      → P c (replied_by_group st y) → P c (replied_by_group st (cond b x y))
   either_group true x y p q = p refl
   either_group false x y p q = q
 
-  group_channel_named : {c : Call} (g : GChan) (x : GroupAnswered)
-      → (g.0 < length st.group.channels → P c (answered_by_group st x))
-      → P c (answered_by_group st (with_named_group_channel st.group g x))
+  group_channel_named : {c : Call} (g : GChan) (x : GroupReplied)
+      → (g.0 < length st.group.channels → P c (replied_by_group st x))
+      → P c (replied_by_group st (with_named_group_channel st.group g x))
   group_channel_named {c = c} g x done =
       either_group (nat_lt g.0 (length st.group.channels)) x _
       (λ e. done (ltb-true g.0 (length st.group.channels) e)) (says c reply.NoChannel refl)
 
   of_group : (g : GroupCall) → P (call.Group g) (group_call st g)
-  unfolding group_answer
+  unfolding group_replied
   of_group (group.Gopen kind) = h.group (group.Gopen kind) (step.open_channel kind) refl tt
   of_group (group.Gbind g) = group_channel_named g _ (h.group (group.Gbind g) (step.bind g) refl)
   of_group (group.Start g kind len) =

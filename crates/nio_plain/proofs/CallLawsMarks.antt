@@ -17,7 +17,7 @@ use Rattle.nio_plain.proofs.CallLawsCases.{HoldsOfChanges, holds_of_calls}
 use Rattle.nio_plain.specs.CallLaws.{told_of, newly_told, HasBit, GainsOnly, OnlyToldBitsAreSelected, IsGiven}
 use Rattle.nio_plain.specs.CallLaws.{IsToldAndLookedFor, BitsAreToldAndLookedFor}
 use Rattle.nio_plain.specs.ScriptState.{ScriptState, Selection}
-use Rattle.nio_plain.specs.Seq.Answers.{Answered}
+use Rattle.nio_plain.specs.Seq.Replies.{Replied}
 use Rattle.nio_plain.specs.Seq.Selections.{own_selection, all_told, looked_interest, told_bits, marked}
 use Rattle.nio_plain.specs.Seq.Names.{key_at, is_same_key}
 use Rattle.nio_plain.specs.Seq.Removing.{unselected}
@@ -96,7 +96,7 @@ after_told m s t own selection pairs k h =
     (cases_eq s t)
 
 module _ (rules : Rules) (st : ScriptState) (me : CallerNo) (s i : ℕ) where
-  abbrev Gains : Call → Answered → Type 0
+  abbrev Gains : Call → Replied → Type 0
   Gains c done = GainsOnly (st.shared.mark s i) (done.left.shared.mark s i) (newly_told st me c s i)
 
   abbrev m : Mark

@@ -7,12 +7,12 @@ use Rattle.nio_group.specs.Run.{reply_to}
 use Rattle.nio_plain.proofs.GroupSteps.{refused_step, same_effect}
 use Rattle.nio_plain.specs.CallLaws.{changes_pipe, refuses, is_without_effect, RefusalsChangeNothing}
 use Rattle.nio_plain.specs.ScriptState.{ScriptState, with_group}
-use Rattle.nio_plain.specs.Seq.Answers.{Answered, yes_or_no}
-use Rattle.nio_plain.specs.Seq.Grouping.{answer_of}
-use Rattle.nio_plain.specs.Seq.Pipes.{own_sink, with_mark}
+use Rattle.nio_plain.specs.Seq.Replies.{Replied, yes_or_no}
+use Rattle.nio_plain.specs.Seq.Grouping.{line_reply}
+use Rattle.nio_plain.specs.Seq.Pipes.{own_sink, with_seal}
 use Rattle.nio_plain.specs.declared.rules.Rules.{Rules}
 
-abbrev Keeps : ScriptState → CallerNo → Call → Answered → Type 0
+abbrev Keeps : ScriptState → CallerNo → Call → Replied → Type 0
 Keeps st me c done = is_without_effect c done.reply ≡ true → changes_pipe st me c done.reply ≡ false → done.left ≡ st
 
 no_refusal : {P : Type 0} → false ≡ true → P
@@ -22,9 +22,9 @@ no_refusal e = absurd cc
 changed : {P : Type 0} → true ≡ false → P
 changed e = absurd cc
 
-unmarked : (place : Option ℕ) (st : ScriptState) → is_some place ≡ false → with_mark place st ≡ st
-unmarked None st e = refl
-unmarked (Some i) st e = changed e
+unsealed : (place : Option ℕ) (st : ScriptState) → is_some place ≡ false → with_seal place st ≡ st
+unsealed None st e = refl
+unsealed (Some i) st e = changed e
 
 said : {P : Type 0} (b : Bool) → refuses (yes_or_no b) ≡ true → P
 said true e = no_refusal e
@@ -39,7 +39,7 @@ changes rules st me = record {
   register = λ s c ops att k note. no_refusal;
   register_again = λ s c ops att k note. no_refusal;
   closec = λ c. no_refusal;
-  closec_again = λ c e. unmarked (own_sink st.pipes me c) st;
+  closec_again = λ c e. unsealed (own_sink st.pipes me c) st;
   cancel = λ s i. no_refusal;
   iset = λ s i ops. no_refusal;
   ior = λ s i ops. no_refusal;
@@ -61,7 +61,7 @@ changes rules st me = record {
   pwrite_closed = λ c bytes i e. changed;
   pwrite_interrupted = λ c bytes i e. changed;
   group = λ g s is made e keeps. ap (with_group st)
-      (refused_step st.group s (sym (same_effect g s is (answer_of (reply_to st.group s))) ∙ e));
+      (refused_step st.group s (sym (same_effect g s is (line_reply (reply_to st.group s))) ∙ e));
   interrupted = said (st.shared.interrupted me.0);
 }
 

@@ -1,4 +1,4 @@
--- A selection in progress was begun by a `begin`, looks at what was answered, and stays so until its
+-- A selection in progress was begun by a `begin`, looks at what was replied, and stays so until its
 -- own caller ends it.
 use Rattle.std.proofs.Common.{◌≡◌, ◌⊎◌, ℕ, zero, suc, ◌<◌, ◌==◌, Bool, true, false, cond, not, ◌&&◌, Option, Some, None}
 use Rattle.std.proofs.Common.{is_some, List, [], ◌∷◌, map, length, get_or, refl, sym, ap, subst, ◌∙◌, inl, inr, ⊎_elim}
@@ -21,9 +21,9 @@ use Rattle.nio_event.specs.declared.found.Stage.{Stage}
 use Rattle.nio_plain.proofs.Found.{below_contains}
 use Rattle.nio_plain.proofs.CallLawsCases.{HoldsOfChanges, holds_of_calls}
 use Rattle.nio_plain.proofs.Places.{put-elsewhere}
-use Rattle.nio_plain.specs.CallLaws.{IsBegunBy, LookedIsAnswered, is_over, OnlyItselfEndsASelection}
+use Rattle.nio_plain.specs.CallLaws.{IsBegunBy, LookedIsReplied, is_over, OnlyItselfEndsASelection}
 use Rattle.nio_plain.specs.ScriptState.{ScriptState, Selection}
-use Rattle.nio_plain.specs.Seq.Answers.{Answered}
+use Rattle.nio_plain.specs.Seq.Replies.{Replied}
 use Rattle.nio_plain.specs.Seq.Names.{below, key_at}
 use Rattle.nio_plain.specs.Seq.Removing.{removed_key}
 use Rattle.nio_plain.specs.declared.rules.Rules.{Rules}
@@ -127,7 +127,7 @@ module _ (rules : Rules) (st : ScriptState) (me : CallerNo) (t : SelNo) (how : M
     called = refl;
     there = refl;
     own = own_begun;
-    answered = refl;
+    replied = refl;
     present = looked_present;
     valid = looked_valid;
     all = looked_all;
@@ -137,11 +137,11 @@ some_is : {A : Type 0} {x y : A} → Some x ≡ Some y → x ≡ y
 some_is e = cc
 
 module _ (rules : Rules) (st : ScriptState) (me : CallerNo) (s : ℕ) (selection : Selection) where
-  abbrev Begun : Call → Answered → Type 0
+  abbrev Begun : Call → Replied → Type 0
   Begun c done =
       done.left.selection s ≡ Some selection → (st.selection s ≡ Some selection) ⊎ IsBegunBy me c done s selection
 
-  before : {c : Call} {done : Answered} → st.selection s ≡ Some selection
+  before : {c : Call} {done : Replied} → st.selection s ≡ Some selection
       → (st.selection s ≡ Some selection) ⊎ IsBegunBy me c done s selection
   before e = inl e
 
@@ -198,8 +198,8 @@ module _ (rules : Rules) (st : ScriptState) (me : CallerNo) (s : ℕ) (selection
     interrupted = before;
   }
 
-pub looked_is_answered : LookedIsAnswered
-looked_is_answered rules l st me c s selection =
+pub looked_is_replied : LookedIsReplied
+looked_is_replied rules l st me c s selection =
     holds_of_calls rules l st me (Begun rules st me s selection) (changes rules st me s selection) c
 
 -- whoever has the turn
@@ -219,7 +219,7 @@ has_turn false o e = absurd cc
 
 module _ (rules : Rules) (st : ScriptState) (me other : CallerNo) (s : ℕ) (selection : Selection)
     (own : own_selection st me s ≡ Some selection) where
-  abbrev Stays : Call → Answered → Type 0
+  abbrev Stays : Call → Replied → Type 0
   Stays c done = (own_selection done.left me s ≡ Some selection) ⊎ ((other.0 ≡ me.0) × (is_over s c done.reply ≡ true))
 
   turn : is_caller me (st.shared.turn s) ≡ true

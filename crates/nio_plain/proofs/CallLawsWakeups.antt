@@ -17,10 +17,10 @@ use Rattle.nio_plain.proofs.CallLawsCases.{may_keep, HoldsOfChanges, holds_of_ca
 use Rattle.nio_plain.proofs.Places.{put-elsewhere, put_same, put_kept}
 use Rattle.nio_plain.specs.Answer.{left_from}
 use Rattle.nio_plain.specs.CallLaws.{is_woken, is_wakeup, is_end, WakeupsArePending, FurtherWakeupsChangeNothing}
-use Rattle.nio_plain.specs.CallLaws.{WakeupsAreAnswered, NoneEnds, WakeupsActAsOne}
+use Rattle.nio_plain.specs.CallLaws.{WakeupsHaveReplies, NoneEnds, WakeupsActAsOne}
 use Rattle.nio_plain.specs.ScriptState.{ScriptState}
 use Rattle.nio_plain.specs.Seq.{call_of, seq}
-use Rattle.nio_plain.specs.Seq.Answers.{Answered, answered, unchanged}
+use Rattle.nio_plain.specs.Seq.Replies.{Replied, replied, unchanged}
 use Rattle.nio_plain.specs.declared.rules.Rules.{Rules}
 use Rattle.nio_plain.specs.Seq.Wakeups.{wakeup_call}
 
@@ -43,7 +43,7 @@ no_end s (call.Told t elapsed pairs) (reply.Selected count why) keeps = absurd c
 no_end s _ _ keeps = refl
 
 module _ (rules : Rules) (st : ScriptState) (me : CallerNo) (s : ℕ) where
-  abbrev Pending : Call → Answered → Type 0
+  abbrev Pending : Call → Replied → Type 0
   Pending c done = is_woken done.left s ≡ (is_wakeup s c done.reply || (is_woken st s && not (is_end s c done.reply)))
 
   abbrev w : Bool
@@ -128,10 +128,10 @@ wakeups_are_pending rules l st me c s = holds_of_calls rules l st me (Pending ru
 
 -- a wakeup, by whether there are its caller and its selector
 module _ (st : ScriptState) (s : SelNo) where
-  abbrev done : Answered
-  done = answered st reply.«Ok» (with_gate st.shared s.0 (record (st.shared.gate s.0) { woken = true }))
+  abbrev done : Replied
+  done = replied st reply.«Ok» (with_gate st.shared s.0 (record (st.shared.gate s.0) { woken = true }))
 
-  abbrev by_names : Bool → Bool → Answered
+  abbrev by_names : Bool → Bool → Replied
   by_names caller selector =
       cond caller (cond selector done (unchanged st reply.NoSelector)) (unchanged st reply.NoCaller)
 
@@ -148,19 +148,19 @@ module _ (st : ScriptState) (s : SelNo) where
   woken_as_before h true false = refl
   woken_as_before h false b = refl
 
-  answered_where : (a b : Bool) → a ≡ true → b ≡ true → (by_names a b).reply ≡ reply.«Ok»
-  answered_where true true e f = refl
-  answered_where true false e f = absurd cc
-  answered_where false b e f = absurd cc
+  replied_where : (a b : Bool) → a ≡ true → b ≡ true → (by_names a b).reply ≡ reply.«Ok»
+  replied_where true true e f = refl
+  replied_where true false e f = absurd cc
+  replied_where false b e f = absurd cc
 
-pub wakeups_are_answered : WakeupsAreAnswered
-wakeups_are_answered rules l st me s below made =
-    ap (λ (a : Answered). a.reply) (wakeup-is st s rules l me)
-    ∙ answered_where st s (nat_lt me.0 l.callers) (st.shared.selector s.0) (lt-ltb me.0 l.callers below) made
+pub wakeups_have_replies : WakeupsHaveReplies
+wakeups_have_replies rules l st me s below made =
+    ap (λ (a : Replied). a.reply) (wakeup-is st s rules l me)
+    ∙ replied_where st s (nat_lt me.0 l.callers) (st.shared.selector s.0) (lt-ltb me.0 l.callers below) made
 
 pub further_wakeups_change_nothing : FurtherWakeupsChangeNothing
 further_wakeups_change_nothing rules l st me s h =
-    ap (λ (a : Answered). a.left) (wakeup-is st s rules l me)
+    ap (λ (a : Replied). a.left) (wakeup-is st s rules l me)
     ∙ woken_as_before st s h (nat_lt me.0 l.callers) (st.shared.selector s.0)
 
 -- over lists of calls

@@ -7,7 +7,7 @@ use Rattle.nio_event.specs.State.{put, unmade_channel}
 use Rattle.nio_event.specs.declared.found.Chan.{Chan}
 use Rattle.nio_event.specs.declared.found.Stage.{Stage}
 use Rattle.nio_group.specs.Group.{Group}
-use Rattle.nio_plain.proofs.Answering.{rows_of, with_rows, state-set_selector}
+use Rattle.nio_plain.proofs.Replying.{rows_of, with_rows, state-set_selector}
 use Rattle.nio_plain.proofs.Changing.{changed-below, changed-past}
 use Rattle.nio_plain.proofs.Parts.{Makes, state-removed, part_cond, cond_stays}
 use Rattle.nio_plain.proofs.Places.{same_function, put_is, places_at, places_all, places_past}

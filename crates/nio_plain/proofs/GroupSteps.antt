@@ -14,27 +14,27 @@ use Rattle.nio_group.specs.Flight.{op_at}
 use Rattle.nio_group.specs.Steps.{answer_to_take, finish_refusal, kept_if_refused, unless_refused}
 use Rattle.nio_plain.proofs.CallLawsCases.{step_of}
 use Rattle.nio_plain.specs.CallLaws.{is_without_group_effect, refuses}
-use Rattle.nio_plain.specs.Seq.Grouping.{answer_of}
+use Rattle.nio_plain.specs.Seq.Grouping.{line_reply}
 
 -- no refusal
 not_refused : {P : Type 0} {b : Bool} → b ≡ false → b ≡ true → P
 not_refused fine refuses = absurd (false≢true (sym fine ∙ refuses))
 
 kept : {E T : Type 0} (o : Option E) (answer : T) (g new : Group) (wrap : Result T E → step.Reply)
-    → refuses (answer_of (wrap (Ok answer))) ≡ false → refuses (answer_of (wrap (unless_refused o answer))) ≡ true
+    → refuses (line_reply (wrap (Ok answer))) ≡ false → refuses (line_reply (wrap (unless_refused o answer))) ≡ true
     → kept_if_refused o g new ≡ g
 kept None answer g new wrap fine e = not_refused fine e
 kept (Some refusal) answer g new wrap fine e = refl
 
-taken_fine : (o : Option CompletionFields) → refuses (answer_of (step.taken o)) ≡ false
+taken_fine : (o : Option CompletionFields) → refuses (line_reply (step.taken o)) ≡ false
 taken_fine None = refl
 taken_fine (Some done) = refl
 
-closed_before : (b : Bool) (g new : Group) → refuses (answer_of (step.closed b)) ≡ true → cond b new g ≡ g
+closed_before : (b : Bool) (g new : Group) → refuses (line_reply (step.closed b)) ≡ true → cond b new g ≡ g
 closed_before true g new e = not_refused refl e
 closed_before false g new e = refl
 
-pub refused_step : (g : Group) (s : step.Call) → refuses (answer_of (reply_to g s)) ≡ true → after g s ≡ g
+pub refused_step : (g : Group) (s : step.Call) → refuses (line_reply (reply_to g s)) ≡ true → after g s ≡ g
 refused_step g (step.open_channel kind) e = kept (open_refusal g) _ g _ step.opened refl e
 refused_step g (step.bind chan) e =
     kept (bind_refusal (channel_at g chan.0).is_open (channel_at g chan.0).endpoint) _ g _ step.bound refl e

@@ -6,7 +6,7 @@ use Rattle.nio_event.specs.declared.found.Chan.{Chan}
 use Rattle.nio_event.specs.declared.found.Mark.{Mark}
 use Rattle.nio_event.specs.declared.found.Stage.{Stage}
 use Rattle.nio_group.specs.Group.{Group}
-use Rattle.nio_plain.proofs.Answering.{rows_of}
+use Rattle.nio_plain.proofs.Replying.{rows_of}
 use Rattle.nio_plain.proofs.Parts.{keys_changed}
 use Rattle.nio_plain.proofs.Places.{put_part, put_by, put_at_same, places_past}
 use Rattle.nio_plain.specs.PlainState.{SelectorRow, KeyRow, state_from, state_of, selector_row, no_selector}

@@ -1,6 +1,6 @@
 pub mod Places
 pub mod Found
-pub mod Answering
+pub mod Replying
 pub mod Parts
 pub mod Changing
 pub mod Opening

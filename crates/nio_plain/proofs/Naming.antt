@@ -9,7 +9,7 @@ use Rattle.nio_event.specs.declared.reply.Reply.{Reply}
 use Rattle.nio_event.specs.declared.reply.Reply.TheVariants as reply
 use Rattle.nio_plain.specs.Naming.{LetsThrough, Refuses}
 use Rattle.nio_plain.specs.ScriptState.{ScriptState}
-use Rattle.nio_plain.specs.Seq.Answers.{unchanged}
+use Rattle.nio_plain.specs.Seq.Replies.{unchanged}
 use Rattle.nio_plain.specs.Seq.Keys.{with_valid_key}
 use Rattle.nio_plain.specs.Seq.Names.{with_named_channel, with_named_selector, with_named_key}
 

@@ -9,7 +9,7 @@ use Rattle.nio_plain.proofs.Found.{find_unmade, find_spent}
 use Rattle.nio_plain.proofs.Parts.{makes-made}
 use Rattle.nio_plain.specs.PlainState.{SelectorRow, no_selector, new_selector, state_from}
 use Rattle.nio_plain.specs.ScriptState.{ScriptState, with_shared, Pipe}
-use Rattle.nio_plain.specs.Seq.Answers.{unchanged, answered}
+use Rattle.nio_plain.specs.Seq.Replies.{unchanged, replied}
 use Rattle.nio_plain.specs.Seq.Opening.{selector_call, selector_made}
 
 module _ (l : Limits) (group : Group) (pipes : List Pipe) (interrupted : ℕ → Bool) (mark : ℕ) (chan : ℕ → Chan)
@@ -25,7 +25,7 @@ module _ (l : Limits) (group : Group) (pipes : List Pipe) (interrupted : ℕ →
         ap (selector_made st) (find_spent (λ s. (row s).made) l.selectors n is_made is_unmade h)
 
     pub selector_call-found : n < l.selectors
-        → selector_call l st ≡ answered st (reply.Selector (record { 0 = n })) (with_selector st.shared n true)
+        → selector_call l st ≡ replied st (reply.Selector (record { 0 = n })) (with_selector st.shared n true)
     unfolding selector_call
     selector_call-found h =
         ap (selector_made st) (find_unmade (λ s. (row s).made) l.selectors n is_made is_unmade h)

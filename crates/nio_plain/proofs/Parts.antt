@@ -19,7 +19,7 @@ abbrev pub with_row : ScriptState → ℕ → SelectorRow → ScriptState
 with_row st s r = record st {
   shared = record st.shared {
     selector = put st.shared.selector s r.made;
-    noted = λ c. put (st.shared.noted c) s (r.noted c);
+    enrolled = λ c. put (st.shared.enrolled c) s (r.enrolled c);
     gate = put st.shared.gate s r.gate;
     turn = put st.shared.turn s r.turn;
     keys_high = put st.shared.keys_high s r.keys_high;
@@ -71,7 +71,7 @@ module _ (group : Group) (pipes : List Pipe) (interrupted : ℕ → Bool) (mark 
     state-row row r = λ j. record (state row) {
       shared = record (state row).shared {
         selector = put_part (λ (q : SelectorRow). q.made) row s r j;
-        noted = λ c. put_part (λ (q : SelectorRow). q.noted c) row s r j;
+        enrolled = λ c. put_part (λ (q : SelectorRow). q.enrolled c) row s r j;
         gate = put_part (λ (q : SelectorRow). q.gate) row s r j;
         turn = put_part (λ (q : SelectorRow). q.turn) row s r j;
         keys_high = put_part (λ (q : SelectorRow). q.keys_high) row s r j;

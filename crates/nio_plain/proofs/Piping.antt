@@ -15,11 +15,11 @@ use Rattle.nio_base.specs.declared.numbers.CallerNo.{CallerNo}
 use Rattle.nio_event.specs.State.{put, unmade_channel}
 use Rattle.nio_event.specs.declared.found.Chan.{Chan}
 use Rattle.nio_event.specs.declared.reply.Reply.TheVariants as reply
-use Rattle.nio_plain.proofs.Answering.{channel_made-below, channel_made-past, rows_of, state-push_channel}
+use Rattle.nio_plain.proofs.Replying.{channel_made-below, channel_made-past, rows_of, state-push_channel}
 use Rattle.nio_plain.proofs.Found.{find_spent, find_unmade}
 use Rattle.nio_plain.specs.PlainState.{channel_row, pipe_of, places, state_from, state_of}
 use Rattle.nio_plain.specs.ScriptState.{Pipe, ScriptState, with_pipes}
-use Rattle.nio_plain.specs.Seq.Answers.{unchanged}
+use Rattle.nio_plain.specs.Seq.Replies.{unchanged}
 use Rattle.nio_plain.specs.Seq.Opening.{channel_made, next_channel}
 use Rattle.nio_plain.specs.Seq.Pipes.{no_pipe, pipe_at, with_pipe}
 use Rattle.nio_plain.specs.Seq.Piping.{not_now, pipe_call, read_first, with_sink, with_source}
@@ -58,23 +58,23 @@ changed_pipe items place x new change within is changes =
 
 -- reading where bytes wait, and where none does
 
-pub read_first-some : (st : ScriptState) (blocking : Bool) (n i : ℕ) (waiting : List ℕ) (marked : Bool)
+pub read_first-some : (st : ScriptState) (blocking : Bool) (n i : ℕ) (waiting : List ℕ) (sealed : Bool)
     → waiting ≢ []
-    → read_first st blocking n i waiting marked
+    → read_first st blocking n i waiting sealed
     ≡ record {
       reply = reply.Bytes (take n waiting);
       left = with_pipe st i
           (record (pipe_at st.pipes i) { waiting = drop n waiting });
     }
-read_first-some st blocking n i [] marked some = absurd (some refl)
-read_first-some st blocking n i (b ∷ bytes) marked some = refl
+read_first-some st blocking n i [] sealed some = absurd (some refl)
+read_first-some st blocking n i (b ∷ bytes) sealed some = refl
 
-pub read_first-none : (st : ScriptState) (blocking : Bool) (n i : ℕ) (waiting : List ℕ) (marked : Bool)
+pub read_first-none : (st : ScriptState) (blocking : Bool) (n i : ℕ) (waiting : List ℕ) (sealed : Bool)
     → waiting ≡ []
-    → read_first st blocking n i waiting marked ≡ unchanged st (cond marked reply.End (not_now blocking))
+    → read_first st blocking n i waiting sealed ≡ unchanged st (cond sealed reply.End (not_now blocking))
 read_first-none st blocking n i [] true none = refl
 read_first-none st blocking n i [] false none = refl
-read_first-none st blocking n i (b ∷ bytes) marked none = absurd (cc none)
+read_first-none st blocking n i (b ∷ bytes) sealed none = absurd (cc none)
 
 -- a place that was found is one of the list
 pub place_within : (q : Pipe → Bool) (items : List PlainPipe) (place : ℕ)

@@ -27,17 +27,17 @@ use Rattle.nio_group.specs.Run.{after, reply_to}
 use Rattle.nio_plain.proofs.ReachedChanges.{keeps_beside, keeps_grouped, keeps_woken, keeps_unselected, keeps_shut}
 use Rattle.nio_plain.proofs.ReachedChanges.{keeps_left, keeps_cancelled_key}
 use Rattle.nio_plain.proofs.ReachedChannels.{keeps_selector, keeps_channel, keeps_mode, keeps_closed_channel}
-use Rattle.nio_plain.proofs.ReachedPipes.{keeps_marked, keeps_pipe, keeps_read, keeps_write}
+use Rattle.nio_plain.proofs.ReachedPipes.{keeps_sealed, keeps_pipe, keeps_read, keeps_write}
 use Rattle.nio_plain.proofs.ReachedRegistering.{next-is, keeps_new_key}
 use Rattle.nio_plain.proofs.ReachedRemoving.{keeps_begun, keeps_ended, keeps_closed}
 use Rattle.nio_plain.proofs.ReachedSound.{Sound, Keeps, Stays, keeps_unchanged, same_stays, by_test}
 use Rattle.nio_plain.specs.Answer.{left_from}
 use Rattle.nio_plain.specs.ScriptState.{ScriptState, Selection}
 use Rattle.nio_plain.specs.Seq.{call_of, seq}
-use Rattle.nio_plain.specs.Seq.Answers.{Answered, unchanged, answered}
+use Rattle.nio_plain.specs.Seq.Replies.{Replied, unchanged, replied}
 use Rattle.nio_plain.specs.Seq.Cancelling.{closec_call, cancel_call}
 use Rattle.nio_plain.specs.Seq.Closing.{close_call, close_end_call}
-use Rattle.nio_plain.specs.Seq.Grouping.{answer_of, answered_by_group, group_answer, group_call, group_kept, stepped}
+use Rattle.nio_plain.specs.Seq.Grouping.{line_reply, replied_by_group, group_replied, group_call, group_kept, stepped}
 use Rattle.nio_plain.specs.Seq.Keys.{with_valid_key, are_legal_at, is_in_selected_set, valid_call, interest_call}
 use Rattle.nio_plain.specs.Seq.Keys.{ready_call, iset_call, ior_call, iand_call, unselect_call, attach_call}
 use Rattle.nio_plain.specs.Seq.Keys.{attachment_call}
@@ -60,28 +60,28 @@ module _ (rules : Rules) (l : Limits) (st : ScriptState) (sound : Sound rules l 
   refusal r = keeps_unchanged rules l st r sound
 
   -- a test that lets a call through or refuses it
-  allowed : (test : Bool) (r : Reply) (a : Answered) → (test ≡ true → Keeps rules l st a)
+  allowed : (test : Bool) (r : Reply) (a : Replied) → (test ≡ true → Keeps rules l st a)
       → Keeps rules l st (cond test a (unchanged st r))
   allowed test r a h = by_test (Keeps rules l st) test a (unchanged st r) h (λ _. refusal r)
 
-  denied : (test : Bool) (r : Reply) (a : Answered) → (test ≡ false → Keeps rules l st a)
+  denied : (test : Bool) (r : Reply) (a : Replied) → (test ≡ false → Keeps rules l st a)
       → Keeps rules l st (cond test (unchanged st r) a)
   denied test r a h = by_test (Keeps rules l st) test (unchanged st r) a (λ _. refusal r) h
 
-  named_channel : (c : ChanNo) (a : Answered) → ((st.shared.chan c.0).made ≡ true → Keeps rules l st a)
+  named_channel : (c : ChanNo) (a : Replied) → ((st.shared.chan c.0).made ≡ true → Keeps rules l st a)
       → Keeps rules l st (with_named_channel st c a)
   named_channel c a h = allowed (st.shared.chan c.0).made reply.NoChannel a h
 
-  named_selector : (s : SelNo) (a : Answered) → (st.shared.selector s.0 ≡ true → Keeps rules l st a)
+  named_selector : (s : SelNo) (a : Replied) → (st.shared.selector s.0 ≡ true → Keeps rules l st a)
       → Keeps rules l st (with_named_selector st s a)
   named_selector s a h = allowed (st.shared.selector s.0) reply.NoSelector a h
 
-  named_key : (s : SelNo) (k : KeyId) (a : Answered) → Keeps rules l st a → Keeps rules l st (with_named_key st s k a)
+  named_key : (s : SelNo) (k : KeyId) (a : Replied) → Keeps rules l st a → Keeps rules l st (with_named_key st s k a)
   named_key s k a h =
       let was = was_published (st.shared.key s.0 k.index) k.serial in
       named_selector s (cond was a (unchanged st reply.NoKey)) (λ _. allowed was reply.NoKey a (λ _. h))
 
-  valid_key : (s : SelNo) (k : KeyId) (a : Answered) → Keeps rules l st a → Keeps rules l st (with_valid_key st s k a)
+  valid_key : (s : SelNo) (k : KeyId) (a : Replied) → Keeps rules l st a → Keeps rules l st (with_valid_key st s k a)
   valid_key s k a h =
       let valid = is_valid_key (st.shared.key s.0 k.index) k.serial in
       named_key s k (cond valid a (unchanged st reply.CancelledKey)) (allowed valid reply.CancelledKey a (λ _. h))
@@ -156,7 +156,7 @@ module _ (rules : Rules) (l : Limits) (st : ScriptState) (sound : Sound rules l 
   keeps-closec_call : (me : CallerNo) (c : ChanNo) → Keeps rules l st (closec_call st me c)
   unfolding closec_call
   keeps-closec_call me c =
-      named_channel c _ (λ _. keeps_marked rules l st (own_sink st.pipes me c) _
+      named_channel c _ (λ _. keeps_sealed rules l st (own_sink st.pipes me c) _
       (denied (st.shared.chan c.0).closed reply.Already _ (λ _. keeps_closed_channel rules l st c.0 reply.«Ok» sound)))
 
   keeps-is_blocking_call : (c : ChanNo) → Keeps rules l st (is_blocking_call st c)
@@ -194,11 +194,11 @@ module _ (rules : Rules) (l : Limits) (st : ScriptState) (sound : Sound rules l 
   keeps-ready_call s k = valid_key s k _ (refusal _)
 
   -- another interest, or another attachment
-  interest_set : (s i ops : ℕ) (r : Reply) → Keeps rules l st (answered st r (with_interest st.shared s i ops))
+  interest_set : (s i ops : ℕ) (r : Reply) → Keeps rules l st (replied st r (with_interest st.shared s i ops))
   interest_set s i ops r =
       keeps_beside rules l st r st.shared.interrupted (put_at st.shared.interest s i ops) st.shared.note sound
 
-  note_set : (s i att : ℕ) (r : Reply) → Keeps rules l st (answered st r (with_note st.shared s i att))
+  note_set : (s i att : ℕ) (r : Reply) → Keeps rules l st (replied st r (with_note st.shared s i att))
   note_set s i att r =
       keeps_beside rules l st r st.shared.interrupted st.shared.interest (put_at st.shared.note s i att) sound
 
@@ -354,22 +354,22 @@ module _ (rules : Rules) (l : Limits) (st : ScriptState) (sound : Sound rules l 
 
   -- calls on the group
 
-  keeps-stepped : (s : step.Call) → Keeps rules l st (answered_by_group st (stepped st.group s))
-  keeps-stepped s = keeps_grouped rules l st (answer_of (reply_to st.group s)) (after st.group s) sound
+  keeps-stepped : (s : step.Call) → Keeps rules l st (replied_by_group st (stepped st.group s))
+  keeps-stepped s = keeps_grouped rules l st (line_reply (reply_to st.group s)) (after st.group s) sound
 
   if_named : (b : Bool) (s : step.Call)
-      → Keeps rules l st (answered_by_group st (cond b (stepped st.group s) (group_kept st.group reply.NoChannel)))
+      → Keeps rules l st (replied_by_group st (cond b (stepped st.group s) (group_kept st.group reply.NoChannel)))
   if_named true s = keeps-stepped s
   if_named false s = refusal _
 
   named_group_channel : (g : GChan) (s : step.Call)
       → Keeps rules l st
-      (answered_by_group st
+      (replied_by_group st
       (cond (nat_lt g.0 (length st.group.channels)) (stepped st.group s) (group_kept st.group reply.NoChannel)))
   named_group_channel g s = if_named (nat_lt g.0 (length st.group.channels)) s
 
   keeps-group_call : (g : GroupCall) → Keeps rules l st (group_call st g)
-  unfolding group_answer
+  unfolding group_replied
   keeps-group_call (group.Gopen kind) = keeps-stepped (step.open_channel kind)
   keeps-group_call (group.Gbind g) = named_group_channel g (step.bind g)
   keeps-group_call (group.Start g kind len) = named_group_channel g (step.start g kind len)

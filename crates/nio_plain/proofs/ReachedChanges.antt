@@ -17,7 +17,7 @@ use Rattle.nio_plain.proofs.ReachedRemoving.{look-none, bound-none}
 use Rattle.nio_plain.proofs.ReachedSound.{ClosingSound, LookSound, BoundSound, Sound, Keeps, Aged, here_or_there}
 use Rattle.nio_plain.proofs.ReachedSound.{aged-same, aged-cancelled, in_set-cancelled, same_stays, keeps_cancelled}
 use Rattle.nio_plain.specs.ScriptState.{ScriptState, with_shared, with_selection, with_group}
-use Rattle.nio_plain.specs.Seq.Answers.{answered}
+use Rattle.nio_plain.specs.Seq.Replies.{replied}
 use Rattle.nio_plain.specs.Seq.Cancelling.{cancelled_key, cancelled_in_set}
 use Rattle.nio_plain.specs.declared.rules.Rules.{Rules}
 
@@ -25,7 +25,7 @@ use Rattle.nio_plain.specs.declared.rules.Rules.{Rules}
 pub keeps_beside : (rules : Rules) (l : Limits) (st : ScriptState) (r : Reply) (interrupted : ℕ → Bool)
     (interest note : ℕ → ℕ → ℕ) → Sound rules l st
     → Keeps rules l st
-    (answered st r (record st.shared { interrupted = interrupted; interest = interest; note = note }))
+    (replied st r (record st.shared { interrupted = interrupted; interest = interest; note = note }))
 keeps_beside rules l st r interrupted interest note sound = record {
   sound = record {
     keys = sound.keys;
@@ -55,7 +55,7 @@ keeps_grouped rules l st r group sound = record {
 
 -- a wakeup is left
 pub keeps_woken : (rules : Rules) (l : Limits) (st : ScriptState) (r : Reply) (s : ℕ) → Sound rules l st
-    → Keeps rules l st (answered st r (with_gate st.shared s (record (st.shared.gate s) { woken = true })))
+    → Keeps rules l st (replied st r (with_gate st.shared s (record (st.shared.gate s) { woken = true })))
 keeps_woken rules l st r s sound = record {
   sound = record {
     keys = sound.keys;
@@ -72,7 +72,7 @@ keeps_woken rules l st r s sound = record {
 
 -- a key is taken out of the selected set
 pub keeps_unselected : (rules : Rules) (l : Limits) (st : ScriptState) (r : Reply) (s i : ℕ) → Sound rules l st
-    → Keeps rules l st (answered st r (with_mark st.shared s i (record (st.shared.mark s i) { selected = false })))
+    → Keeps rules l st (replied st r (with_mark st.shared s i (record (st.shared.mark s i) { selected = false })))
 keeps_unselected rules l st r s i sound = record {
   sound = record {
     keys = sound.keys;
@@ -90,7 +90,7 @@ keeps_unselected rules l st r s i sound = record {
 -- a selector is shut
 pub keeps_shut : (rules : Rules) (l : Limits) (st : ScriptState) (r : Reply) (s : ℕ) (me : CallerNo) → Sound rules l st
     → Keeps rules l st
-    (answered st r (with_closer (with_gate st.shared s (record (st.shared.gate s) { shut = true })) s (Some me)))
+    (replied st r (with_closer (with_gate st.shared s (record (st.shared.gate s) { shut = true })) s (Some me)))
 keeps_shut rules l st r s me sound =
     let gate : GateWord = record (st.shared.gate s) { shut = true } in
     record {
@@ -147,7 +147,7 @@ cancelled-where k q false e = aged-same k
 pub keeps_cancelled_key : (rules : Rules) (l : Limits) (st : ScriptState) (r : Reply) (s : ℕ) (id : KeyId)
     → Sound rules l st
     → Keeps rules l st
-    (answered st r (with_key st.shared s id.index (cancelled_in_set (st.shared.key s id.index) id.serial)))
+    (replied st r (with_key st.shared s id.index (cancelled_in_set (st.shared.key s id.index) id.serial)))
 keeps_cancelled_key rules l st r s id sound =
     let k = st.shared.key s id.index in
     let after = cancelled_in_set k id.serial in

@@ -15,7 +15,7 @@ use Rattle.nio_plain.proofs.ReachedSound.{ChannelsSound, Sound, Keeps, Aged, age
 use Rattle.nio_plain.proofs.ReachedSound.{not_valid_cancelled, in_set-cancelled, same_stays, keeps_cancelled}
 use Rattle.nio_plain.proofs.Registered.{any-some, key_of-some, key_of-is}
 use Rattle.nio_plain.specs.ScriptState.{ScriptState, with_shared}
-use Rattle.nio_plain.specs.Seq.Answers.{answered}
+use Rattle.nio_plain.specs.Seq.Replies.{replied}
 use Rattle.nio_plain.specs.Seq.Cancelling.{has_index, cancelled_key, with_keys_cancelled, channel_closed}
 use Rattle.nio_plain.specs.Seq.Modes.{key_of, is_registered}
 use Rattle.nio_plain.specs.declared.rules.Rules.{Rules}
@@ -27,7 +27,7 @@ present-in_set k claimed in_set =
     (and_from k.claimed (k.serial == k.serial) claimed (eq-eqb k.serial k.serial refl)) in_set
 
 pub keeps_selector : (rules : Rules) (l : Limits) (st : ScriptState) (r : Reply) (s : ℕ) → s < l.selectors
-    → Sound rules l st → Keeps rules l st (answered st r (with_selector st.shared s true))
+    → Sound rules l st → Keeps rules l st (replied st r (with_selector st.shared s true))
 keeps_selector rules l st r s within sound = record {
   sound = record {
     keys = record {
@@ -40,7 +40,7 @@ keeps_selector rules l st r s within sound = record {
             (sound.keys.indexes.made n i h);
         fresh = sound.keys.indexes.fresh;
       };
-      notes = sound.keys.notes;
+      enrolments = sound.keys.enrolments;
       channels = sound.keys.channels;
       cancelled = sound.keys.cancelled;
     };
@@ -56,13 +56,13 @@ keeps_selector rules l st r s within sound = record {
 -- channels that are other than before, as the keys want them
 keeps_channels : (rules : Rules) (l : Limits) (st : ScriptState) (r : Reply) (chan : ℕ → Chan) (channels_high : ℕ)
     → ChannelsSound chan st.shared.key → Sound rules l st
-    → Keeps rules l st (answered st r (record st.shared { chan = chan; channels_high = channels_high }))
+    → Keeps rules l st (replied st r (record st.shared { chan = chan; channels_high = channels_high }))
 keeps_channels rules l st r chan channels_high channels sound = record {
   sound = record {
     keys = record {
       selectors = sound.keys.selectors;
       indexes = sound.keys.indexes;
-      notes = sound.keys.notes;
+      enrolments = sound.keys.enrolments;
       channels = channels;
       cancelled = sound.keys.cancelled;
     };
@@ -78,7 +78,7 @@ keeps_channels rules l st r chan channels_high channels sound = record {
 -- a channel that wasn't made has no key
 pub keeps_channel : (rules : Rules) (l : Limits) (st : ScriptState) (r : Reply) (c : ℕ) (new : Chan) (mark : ℕ)
     → new.made ≡ true → new.closed ≡ false → (st.shared.chan c).made ≡ false → Sound rules l st
-    → Keeps rules l st (answered st r (with_channels_high (with_chan st.shared c new) mark))
+    → Keeps rules l st (replied st r (with_channels_high (with_chan st.shared c new) mark))
 keeps_channel rules l st r c new mark made is_open unmade sound =
     let key = st.shared.key in
     let channels = sound.keys.channels in
@@ -100,18 +100,19 @@ pub in_set-registered : (rules : Rules) (l : Limits) (st : ScriptState) (c s i :
     → in_key_set (st.shared.key s i) ≡ true → (st.shared.key s i).chan.0 ≡ c → is_registered l st.shared c ≡ true
 in_set-registered rules l st c s i sound in_set of_channel =
     let key = st.shared.key s i in
-    let noted : st.shared.noted c s ≡ Some (record { index = i; serial = key.serial }) = ap (λ k. st.shared.noted k s)
-    (sym of_channel) ∙ sound.keys.notes.in_set s i in_set in
+    let enrolled : st.shared.enrolled c s ≡ Some (record { index = i; serial = key.serial }) =
+    ap (λ k. st.shared.enrolled k s)
+    (sym of_channel) ∙ sound.keys.enrolments.in_set s i in_set in
     let published = (and_parts key.published _ in_set).0 in
     any-some (λ t. is_some (key_of st.shared c t)) l.selectors s
     (sound.keys.selectors s (sound.keys.indexes.made s i published))
     (ap is_some
-    (key_of-some st.shared c s (record { index = i; serial = key.serial }) noted
+    (key_of-some st.shared c s (record { index = i; serial = key.serial }) enrolled
     (present-in_set key (sound.keys.indexes.claimed s i published) in_set)))
 
 pub keeps_mode : (rules : Rules) (l : Limits) (st : ScriptState) (r : Reply) (c : ℕ) (on : Bool)
     → (on && is_registered l st.shared c) ≡ false → Sound rules l st
-    → Keeps rules l st (answered st r (with_chan st.shared c (record (st.shared.chan c) { blocking = on })))
+    → Keeps rules l st (replied st r (with_chan st.shared c (record (st.shared.chan c) { blocking = on })))
 keeps_mode rules l st r c on allowed sound =
     let key = st.shared.key in
     let channels = sound.keys.channels in
@@ -162,15 +163,15 @@ module _ (rules : Rules) (l : Limits) (st : ScriptState) (c : ℕ) where
       let was_valid = (cancelled_at s i (key_of closed c s) refl).valid valid in
       let in_set = (and_parts (in_key_set key) _ was_valid).0 in
       let name : KeyId = record { index = i; serial = key.serial } in
-      let noted : st.shared.noted c s ≡ Some name = ap (λ n. st.shared.noted n s) of_channel
-      ∙ sound.keys.notes.in_set s i in_set in
+      let enrolled : st.shared.enrolled c s ≡ Some name = ap (λ n. st.shared.enrolled n s) of_channel
+      ∙ sound.keys.enrolments.in_set s i in_set in
       let claimed = sound.keys.indexes.claimed s i (and_parts key.published _ in_set).0 in
       let is_named : has_index (key_of closed c s) i ≡ true = ap (λ o. has_index o i)
-      (key_of-some closed c s name noted (present-in_set key claimed in_set)) ∙ eq-eqb i i refl in
+      (key_of-some closed c s name enrolled (present-in_set key claimed in_set)) ∙ eq-eqb i i refl in
       not_valid_cancelled key (ap (λ b. is_valid (cond b (cancelled_key key) key)) (sym is_named) ∙ valid)
 
   pub keeps_closed_channel : (r : Reply) → Sound rules l st
-      → Keeps rules l st (answered st r (channel_closed st.shared c))
+      → Keeps rules l st (replied st r (channel_closed st.shared c))
   keeps_closed_channel r sound =
       let new : Chan = record (st.shared.chan c) { closed = true } in
       let without : ScriptState = with_shared st (record st.shared { key = cancelled }) in

@@ -14,11 +14,11 @@ use Rattle.nio_plain.specs.Answer.{left_from}
 use Rattle.nio_plain.specs.ReachedLaws.{GroupIsLawful, GroupIsLeftByARun}
 use Rattle.nio_plain.specs.ScriptState.{ScriptState, group_limits, script_opening}
 use Rattle.nio_plain.specs.Seq.{seq}
-use Rattle.nio_plain.specs.Seq.Answers.{Answered}
+use Rattle.nio_plain.specs.Seq.Replies.{Replied}
 use Rattle.nio_plain.specs.declared.rules.Rules.{Rules}
 
 -- a call leaves the group as it was, or it makes a step of it
-abbrev Steps : ScriptState → Call → Answered → Type 0
+abbrev Steps : ScriptState → Call → Replied → Type 0
 Steps st c done =
     (done.left.group ≡ st.group) ⊎ ((s : step.Call) × IsCallOf st.group s × (done.left.group ≡ after st.group s))
 

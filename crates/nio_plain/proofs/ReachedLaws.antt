@@ -22,7 +22,7 @@ use Rattle.nio_plain.proofs.ReachedRegistering.{IsNext, next-is}
 use Rattle.nio_plain.proofs.ReachedSound.{Sound, sound-opening, some_same, by_test}
 use Rattle.nio_plain.proofs.Registered.{key_of-some, key_of-is, registered-key}
 use Rattle.nio_plain.specs.Answer.{left_from, left_by_script}
-use Rattle.nio_plain.specs.ReachedLaws.{SetsAreWithinKeySet, KeysAreBelowTheMark, LookedAreInKeySet, PublishedStays}
+use Rattle.nio_plain.specs.ReachedLaws.{SetsAreWithinKeySet, KeysAreBelowHigh, LookedAreInKeySet, PublishedStays}
 use Rattle.nio_plain.specs.ReachedLaws.{InvalidKeysStayInvalid, FreeIndexHasNoKey, FirstRulesFreeNone}
 use Rattle.nio_plain.specs.ReachedLaws.{FirstRulesRemoveBelowTheBound, IsNewKey, NewKeyIsNew, NewKeysDiffer}
 use Rattle.nio_plain.specs.ReachedLaws.{KeyOfAChannelIsFound, OneKeyOfAChannel, RegisteredIsInAKeySet}
@@ -30,7 +30,7 @@ use Rattle.nio_plain.specs.ReachedLaws.{RegisteredIsNonBlocking, ClosedChannelHa
 use Rattle.nio_plain.specs.ReachedLaws.{ClosedSelectorIsEmpty}
 use Rattle.nio_plain.specs.ScriptState.{ScriptState, script_opening}
 use Rattle.nio_plain.specs.Seq.{call_of, seq}
-use Rattle.nio_plain.specs.Seq.Answers.{Answered, unchanged}
+use Rattle.nio_plain.specs.Seq.Replies.{Replied, unchanged}
 use Rattle.nio_plain.specs.Seq.Closing.{close_end_call}
 use Rattle.nio_plain.specs.Seq.Modes.{if_in_key_set, key_of}
 use Rattle.nio_plain.specs.Seq.Names.{key_at}
@@ -55,8 +55,8 @@ sets_are_within_key_set rules l calls = record {
   selected = (reached rules l calls).selected;
 }
 
-pub keys_are_below_the_mark : KeysAreBelowTheMark
-keys_are_below_the_mark rules l calls s i in_set =
+pub keys_are_below_high : KeysAreBelowHigh
+keys_are_below_high rules l calls s i in_set =
     (reached rules l calls).keys.indexes.below s i
     (and_parts ((left_by_script rules l calls).shared.key s i).published _ in_set).0
 
@@ -107,7 +107,7 @@ first_rules_remove_below_the_bound l calls s selection i e cancelled =
 
 -- a call that answers with a key of a channel that had none made it: the key is the one that comes next
 module _ (rules : Rules) (l : Limits) (st : ScriptState) (sound : Sound rules l st) where
-  abbrev Made : ℕ → KeyId → Answered → Type 0
+  abbrev Made : ℕ → KeyId → Replied → Type 0
   Made s k a =
       a.reply ≡ reply.Key k → IsNext rules st s k × (is_valid_key (a.left.shared.key s k.index) k.serial ≡ true)
 
@@ -156,7 +156,7 @@ module _ (rules : Rules) (l : Limits) (st : ScriptState) (sound : Sound rules l 
       let none : key_of st.shared new.chan.0 new.name.0 ≡ None = ap (key_of st.shared new.chan.0) new.there
       ∙ new.none in
       let made = made_by c.caller new.name new.chan new.ops new.att k none
-      (ap (λ w. (seq rules l st c.caller w).reply) (sym new.called) ∙ new.answered) in
+      (ap (λ w. (seq rules l st c.caller w).reply) (sym new.called) ∙ new.replied) in
       let there = subst
       (λ (n : ℕ). IsNext rules st n k
       × (is_valid_key
@@ -205,26 +205,26 @@ new_keys_differ rules l calls more first second s k m new later same =
 pub key_of_a_channel_is_found : KeyOfAChannelIsFound
 key_of_a_channel_is_found rules l calls c s k =
     let st = (left_by_script rules l calls).shared in
-    let notes = (reached rules l calls).keys.notes in (
+    let enrolments = (reached rules l calls).keys.enrolments in (
       λ e.
           let is = key_of-is st c s k e in
-          (is.1, notes.channel c s k is.0 is.1),
+          (is.1, enrolments.channel c s k is.0 is.1),
       λ h.
           let both = and_parts (fits (st.key s k.index) k.serial) _ h.0 in
           let serial : (st.key s k.index).serial ≡ k.serial = eqb-true (st.key s k.index).serial k.serial
           (and_parts (st.key s k.index).claimed _ both.0).1 in
           key_of-some st c s k
-          ((ap (λ n. st.noted n s) (sym h.1) ∙ notes.in_set s k.index both.1)
+          ((ap (λ n. st.enrolled n s) (sym h.1) ∙ enrolments.in_set s k.index both.1)
           ∙ (λ j. Some (record { index = k.index; serial = serial j }))) h.0,
     )
 
 pub one_key_of_a_channel : OneKeyOfAChannel
 one_key_of_a_channel rules l calls s i j first second same =
     let st = (left_by_script rules l calls).shared in
-    let notes = (reached rules l calls).keys.notes in
+    let enrolments = (reached rules l calls).keys.enrolments in
     ap (λ (k : KeyId). k.index)
     (some_same (key_at st s i) (key_at st s j)
-    (sym (notes.in_set s i first) ∙ (ap (λ c. st.noted c.0 s) same ∙ notes.in_set s j second)))
+    (sym (enrolments.in_set s i first) ∙ (ap (λ c. st.enrolled c.0 s) same ∙ enrolments.in_set s j second)))
 
 pub registered_is_in_a_key_set : RegisteredIsInAKeySet
 registered_is_in_a_key_set rules l calls c =
@@ -262,7 +262,7 @@ closed-ended : (rules : Rules) (l : Limits) (st : ScriptState) (me : CallerNo) (
     → (seq rules l st me (call.CloseEnd s)).left.shared.entered s.0 ≡ true
 unfolding seq call_of close_end_call
 closed-ended rules l st me s =
-    let P : Answered → Type 0 = λ a. a.reply ≡ reply.Closed → a.left.shared.entered s.0 ≡ true in
+    let P : Replied → Type 0 = λ a. a.reply ≡ reply.Closed → a.left.shared.entered s.0 ≡ true in
     by_test P (nat_lt me.0 l.callers) _ (unchanged st reply.NoCaller)
     (λ _. by_test P (st.shared.selector s.0) _ (unchanged st reply.NoSelector)
     (λ _. by_test P (not (is_caller me (st.shared.closer s.0)) || st.shared.entered s.0)
@@ -276,7 +276,7 @@ emptied : (st : State) (s : ℕ) → ((i : ℕ) → in_key_set (st.key s i) ≡ 
 emptied st s no_key = record {
   no_key = no_key;
   no_valid_key = λ i. and_left (in_key_set (st.key s i)) _ (no_key i);
-  no_channel = λ c. none (st.noted c s);
+  no_channel = λ c. none (st.enrolled c s);
 }
   where
     none : (o : Option KeyId) → if_in_key_set st s o ≡ None

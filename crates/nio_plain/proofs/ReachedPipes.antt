@@ -12,17 +12,17 @@ use Rattle.nio_plain.proofs.Found.{found_below}
 use Rattle.nio_plain.proofs.ReachedChannels.{keeps_channel, keeps_closed_channel}
 use Rattle.nio_plain.proofs.ReachedSound.{Keeps, Sound, by_test, keeps_unchanged}
 use Rattle.nio_plain.specs.ScriptState.{Pipe, ScriptState, with_pipes}
-use Rattle.nio_plain.specs.Seq.Answers.{Answered, unchanged, answered}
+use Rattle.nio_plain.specs.Seq.Replies.{Replied, unchanged, replied}
 use Rattle.nio_plain.specs.Seq.Cancelling.{channel_closed}
 use Rattle.nio_plain.specs.Seq.Opening.{channel_made, next_channel}
-use Rattle.nio_plain.specs.Seq.Pipes.{marking, pipe_at}
+use Rattle.nio_plain.specs.Seq.Pipes.{sealing, pipe_at}
 use Rattle.nio_plain.specs.Seq.Piping.{finds_interrupt, not_now, read_first, read_from, room_for, with_sink}
 use Rattle.nio_plain.specs.Seq.Piping.{with_source, write_first, write_to}
 use Rattle.nio_plain.specs.declared.rules.Rules.{Rules}
 
 module _ (rules : Rules) (l : Limits) where
   -- pipes may be what they like
-  pub keeps_piped : (st : ScriptState) (a : Answered) (r : Reply) (pipes : List Pipe) → Keeps rules l st a
+  pub keeps_piped : (st : ScriptState) (a : Replied) (r : Reply) (pipes : List Pipe) → Keeps rules l st a
       → Keeps rules l st (record { reply = r; left = with_pipes a.left pipes })
   keeps_piped st a r pipes kept = record {
     sound = record {
@@ -36,12 +36,12 @@ module _ (rules : Rules) (l : Limits) where
     stays = kept.stays;
   }
 
-  pub keeps_marked : (st : ScriptState) (place : Option ℕ) (a : Answered) → Keeps rules l st a
-      → Keeps rules l st (marking place a)
-  keeps_marked st place a kept = keeps_piped st a a.reply _ kept
+  pub keeps_sealed : (st : ScriptState) (place : Option ℕ) (a : Replied) → Keeps rules l st a
+      → Keeps rules l st (sealing place a)
+  keeps_sealed st place a kept = keeps_piped st a a.reply _ kept
 
   -- one change after another
-  keeps_then : (st : ScriptState) (a b : Answered) → Keeps rules l st a → Keeps rules l a.left b → Keeps rules l st b
+  keeps_then : (st : ScriptState) (a b : Replied) → Keeps rules l st a → Keeps rules l a.left b → Keeps rules l st b
   keeps_then st a b first second = record {
     sound = second.sound;
     stays = record {
@@ -86,17 +86,17 @@ module _ (rules : Rules) (l : Limits) where
     refusal r = keeps_unchanged rules l st r sound
 
     -- both ways of a test
-    both : (test : Bool) (a b : Answered) → Keeps rules l st a → Keeps rules l st b → Keeps rules l st (cond test a b)
+    both : (test : Bool) (a b : Replied) → Keeps rules l st a → Keeps rules l st b → Keeps rules l st (cond test a b)
     both test a b h k = by_test (Keeps rules l st) test a b (λ _. h) (λ _. k)
 
-    interrupts : (c : ChanNo) → Keeps rules l st (answered st reply.ClosedByInterrupt (channel_closed st.shared c.0))
+    interrupts : (c : ChanNo) → Keeps rules l st (replied st reply.ClosedByInterrupt (channel_closed st.shared c.0))
     interrupts c = keeps_closed_channel rules l st c.0 reply.ClosedByInterrupt sound
 
-    keeps_first : (blocking : Bool) (n i : ℕ) (waiting : List ℕ) (marked : Bool)
-        → Keeps rules l st (read_first st blocking n i waiting marked)
+    keeps_first : (blocking : Bool) (n i : ℕ) (waiting : List ℕ) (sealed : Bool)
+        → Keeps rules l st (read_first st blocking n i waiting sealed)
     keeps_first blocking n i [] false = refusal (not_now blocking)
     keeps_first blocking n i [] true = refusal reply.End
-    keeps_first blocking n i (b ∷ bytes) marked = keeps_piped st (unchanged st reply.End) _ _ (refusal reply.End)
+    keeps_first blocking n i (b ∷ bytes) sealed = keeps_piped st (unchanged st reply.End) _ _ (refusal reply.End)
 
     pub keeps_read : (me : CallerNo) (c : ChanNo) (n : ℕ) (place : Option ℕ)
         → Keeps rules l st (read_from st me c n place)
@@ -105,7 +105,7 @@ module _ (rules : Rules) (l : Limits) where
         both (st.shared.chan c.0).closed _ _ (refusal _)
         (both (finds_interrupt st me c) _ _ (interrupts c)
         (both (n == 0) _ _ (refusal _)
-        (keeps_first (st.shared.chan c.0).blocking n i (pipe_at st.pipes i).waiting (pipe_at st.pipes i).marked)))
+        (keeps_first (st.shared.chan c.0).blocking n i (pipe_at st.pipes i).waiting (pipe_at st.pipes i).sealed)))
 
     keeps_written : (blocking : Bool) (bytes : List ℕ) (i n : ℕ) → Keeps rules l st (write_first st blocking bytes i n)
     keeps_written blocking bytes i n =
@@ -115,8 +115,8 @@ module _ (rules : Rules) (l : Limits) where
         → Keeps rules l st (write_to st me c bytes place)
     keeps_write me c bytes None = refusal reply.NotOwner
     keeps_write me c bytes (Some i) =
-        both (st.shared.chan c.0).closed _ _ (keeps_marked st (Some i) _ (refusal reply.ClosedChannel))
-        (both (finds_interrupt st me c) _ _ (keeps_marked st (Some i) _ (interrupts c))
+        both (st.shared.chan c.0).closed _ _ (keeps_sealed st (Some i) _ (refusal reply.ClosedChannel))
+        (both (finds_interrupt st me c) _ _ (keeps_sealed st (Some i) _ (interrupts c))
         (both (st.shared.chan (pipe_at st.pipes i).source.0).closed _ _ (refusal _)
         (both (length bytes == 0) _ _ (refusal _)
         (keeps_written (st.shared.chan c.0).blocking bytes i (room_for bytes (pipe_at st.pipes i))))))

@@ -13,12 +13,12 @@ use Rattle.nio_event.specs.declared.found.Stage.{Stage}
 use Rattle.nio_event.specs.declared.reply.Reply.{Reply}
 use Rattle.nio_plain.proofs.Found.{found_below}
 use Rattle.nio_plain.proofs.ReachedChannels.{present-in_set}
-use Rattle.nio_plain.proofs.ReachedSound.{IndexesSound, NotesSound, ChannelsSound, SelectedSound, ClosingSound}
+use Rattle.nio_plain.proofs.ReachedSound.{IndexesSound, EnrolledSound, ChannelsSound, SelectedSound, ClosingSound}
 use Rattle.nio_plain.proofs.ReachedSound.{LookSound, BoundSound, FreeSound, Sound, Keeps, IsInvalid, some_same}
 use Rattle.nio_plain.proofs.ReachedSound.{look-kept}
 use Rattle.nio_plain.proofs.Registered.{key_of-some}
 use Rattle.nio_plain.specs.ScriptState.{ScriptState, Selection}
-use Rattle.nio_plain.specs.Seq.Answers.{answered}
+use Rattle.nio_plain.specs.Seq.Replies.{replied}
 use Rattle.nio_plain.specs.Seq.Modes.{key_of}
 use Rattle.nio_plain.specs.Seq.Registering.{free_index, next_by, next_key, new_stage, with_new_key}
 use Rattle.nio_plain.specs.Seq.Selections.{is_looked}
@@ -102,8 +102,8 @@ module _ (rules : Rules) (l : Limits) (st : ScriptState) (s c : ℕ) (sound : So
   abbrev keys : ℕ → ℕ → Stage
   keys = put_at st.shared.key s k.index stage
 
-  abbrev noted : ℕ → ℕ → Option KeyId
-  noted = put_at st.shared.noted c s (Some k)
+  abbrev enrolled : ℕ → ℕ → Option KeyId
+  enrolled = put_at st.shared.enrolled c s (Some k)
 
   abbrev mark : ℕ
   mark = max (st.shared.keys_high s) (suc k.index)
@@ -161,10 +161,10 @@ module _ (rules : Rules) (l : Limits) (st : ScriptState) (s c : ℕ) (sound : So
       subst (λ (n : KeyId). P n (keys s n.index)) (some_same k m e)
       (subst (P k) (sym (put_at-same st.shared.key s k.index stage)) new)
 
-  not_noted : key_of st.shared c s ≡ None → (j : ℕ)
-      → st.shared.noted c s ≡ Some (record { index = j; serial = (st.shared.key s j).serial })
+  not_enrolled : key_of st.shared c s ≡ None → (j : ℕ)
+      → st.shared.enrolled c s ≡ Some (record { index = j; serial = (st.shared.key s j).serial })
       → in_key_set (st.shared.key s j) ≡ true → ⊥
-  not_noted none j e in_set =
+  not_enrolled none j e in_set =
       let key = st.shared.key s j in
       let claimed = sound.keys.indexes.claimed s j (and_parts key.published _ in_set).0 in
       both_ways (is_some (key_of st.shared c s)) (ap is_some none)
@@ -172,31 +172,32 @@ module _ (rules : Rules) (l : Limits) (st : ScriptState) (s c : ℕ) (sound : So
       (key_of-some st.shared c s (record { index = j; serial = key.serial }) e
       (present-in_set key claimed in_set)))
 
-  new-notes : key_of st.shared c s ≡ None → NotesSound noted keys
-  new-notes none = record {
+  new-enrolments : key_of st.shared c s ≡ None → EnrolledSound enrolled keys
+  new-enrolments none = record {
     published =
-        λ n t m. put_at_keeps (λ _ u o. o ≡ Some m → was_published (keys u m.index) m.serial ≡ true) st.shared.noted c s
+        λ n t m. put_at_keeps (λ _ u o. o ≡ Some m → was_published (keys u m.index) m.serial ≡ true)
+        st.shared.enrolled c s
         (Some k)
         (λ _ e. new_is (λ (id : KeyId) (x : Stage). was_published x id.serial ≡ true) m e
         (or_right (nat_lt k.serial k.serial) _
         (and_from (k.serial == k.serial) true (eq-eqb k.serial k.serial refl) refl))) n t
-        (λ e. published-stays t m.index m.serial (sound.keys.notes.published n t m e));
+        (λ e. published-stays t m.index m.serial (sound.keys.enrolments.published n t m e));
     channel =
         λ n t m. put_at_keeps (λ c' u o. o ≡ Some m → is_in_key_set (keys u m.index) m.serial ≡ true
-        → (keys u m.index).chan.0 ≡ c') st.shared.noted c s (Some k)
+        → (keys u m.index).chan.0 ≡ c') st.shared.enrolled c s (Some k)
         (λ _ e _. new_is (λ (_ : KeyId) (x : Stage). x.chan.0 ≡ c) m e refl) n t
         (λ e. put_at_keeps (λ u j (x : Stage). was_published (st.shared.key u j) m.serial ≡ true
         → is_in_key_set x m.serial ≡ true → x.chan.0 ≡ n) st.shared.key s k.index stage
         (λ _ was in_set. absurd
         (both_ways (fits stage m.serial) (new_misfits m.serial (next.older m.serial was))
         (and_parts (fits stage m.serial) _ in_set).0))
-        t m.index (λ _. sound.keys.notes.channel n t m e) (sound.keys.notes.published n t m e));
-    in_set = each (λ t j x. in_key_set x ≡ true → noted x.chan.0 t ≡ Some (record { index = j; serial = x.serial }))
-        (λ _. put_at-same st.shared.noted c s (Some k))
+        t m.index (λ _. sound.keys.enrolments.channel n t m e) (sound.keys.enrolments.published n t m e));
+    in_set = each (λ t j x. in_key_set x ≡ true → enrolled x.chan.0 t ≡ Some (record { index = j; serial = x.serial }))
+        (λ _. put_at-same st.shared.enrolled c s (Some k))
         (λ t j h. put_at_keeps (λ _ u o. in_key_set (st.shared.key u j) ≡ true
-        → o ≡ Some (record { index = j; serial = (st.shared.key u j).serial })) st.shared.noted c s (Some k)
-        (λ old in_set. absurd (not_noted none j (old in_set) in_set)) (st.shared.key t j).chan.0 t
-        (λ _. sound.keys.notes.in_set t j h) h);
+        → o ≡ Some (record { index = j; serial = (st.shared.key u j).serial })) st.shared.enrolled c s (Some k)
+        (λ old in_set. absurd (not_enrolled none j (old in_set) in_set)) (st.shared.key t j).chan.0 t
+        (λ _. sound.keys.enrolments.in_set t j h) h);
   }
 
   new-channels : (st.shared.chan c).made ≡ true → (st.shared.chan c).blocking ≡ false
@@ -258,13 +259,13 @@ module _ (rules : Rules) (l : Limits) (st : ScriptState) (s c : ℕ) (sound : So
   pub keeps_new_key : (r : Reply) (ops att : ℕ) → st.shared.selector s ≡ true → (st.shared.gate s).shut ≡ false
       → key_of st.shared c s ≡ None
       → (st.shared.chan c).made ≡ true → (st.shared.chan c).blocking ≡ false → (st.shared.chan c).closed ≡ false
-      → Keeps rules l st (answered st r (with_new_key st.shared s c k ops att))
+      → Keeps rules l st (replied st r (with_new_key st.shared s c k ops att))
   keeps_new_key r ops att selector_made not_shut none made non_blocking is_open = record {
     sound = record {
       keys = record {
         selectors = sound.keys.selectors;
         indexes = new-indexes selector_made;
-        notes = new-notes none;
+        enrolments = new-enrolments none;
         channels = new-channels made non_blocking is_open;
         cancelled = each (λ _ _ x. x.cancelled ≡ true → in_key_set x ≡ true)
             (λ h. absurd (both_ways false refl h)) sound.keys.cancelled;

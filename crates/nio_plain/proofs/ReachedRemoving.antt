@@ -24,7 +24,7 @@ use Rattle.nio_plain.proofs.ReachedSound.{SelectedSound, ClosingSound, LookSound
 use Rattle.nio_plain.proofs.ReachedSound.{Aged, aged-same, aged-removed, not_in_set_removed, some_same, here_or_there}
 use Rattle.nio_plain.proofs.ReachedSound.{keys-aged, closing-aged, bound-aged, stays-aged, look-kept}
 use Rattle.nio_plain.specs.ScriptState.{ScriptState, Selection, with_shared, with_selection}
-use Rattle.nio_plain.specs.Seq.Answers.{answered}
+use Rattle.nio_plain.specs.Seq.Replies.{replied}
 use Rattle.nio_plain.specs.Seq.Closing.{without_keys}
 use Rattle.nio_plain.specs.Seq.Names.{below, key_at, is_same_key}
 use Rattle.nio_plain.specs.Seq.Removing.{removed_key, unselected, comes_back}
@@ -208,7 +208,7 @@ keeps_begun rules l st me s how sound =
     let after = removed_where goes key in
     let aged = removed-aged goes key in
     let begun : Selection = record { mode = how; bound = st.shared.keys_high s; looked = looked_keys left s } in
-    let keys = keys-aged key after aged l st.shared.selector st.shared.keys_high st.shared.noted st.shared.chan
+    let keys = keys-aged key after aged l st.shared.selector st.shared.keys_high st.shared.enrolled st.shared.chan
     sound.keys in
     record {
       sound = record {
@@ -293,7 +293,7 @@ keeps_ended rules l st s selection pairs own sound r =
     let aged = removed-aged goes key in
     record {
       sound = record {
-        keys = keys-aged key after aged l st.shared.selector st.shared.keys_high st.shared.noted st.shared.chan
+        keys = keys-aged key after aged l st.shared.selector st.shared.keys_high st.shared.enrolled st.shared.chan
             sound.keys;
         free = free-removed rules goes (comes_back rules) key st.shared.free (none_comes_back rules) sound.free;
         selected = selected-removed goes key marks.mark
@@ -332,7 +332,7 @@ emptied-at k false e claimed = absurd (both_ways false refl e)
 
 pub keeps_closed : (rules : Rules) (l : Limits) (st : ScriptState) (s : ℕ) (r : Reply)
     → is_some (st.shared.closer s) ≡ true → is_some (st.shared.turn s) ≡ false → Sound rules l st
-    → Keeps rules l st (answered st r (with_entered (without_keys st.shared s) s true))
+    → Keeps rules l st (replied st r (with_entered (without_keys st.shared s) s true))
 keeps_closed rules l st s r has_closer free sound =
     let key = st.shared.key in
     let goes : ℕ → ℕ → Bool = λ t i. (t == s) && (key s i).claimed in
@@ -340,7 +340,7 @@ keeps_closed rules l st s r has_closer free sound =
     let aged = removed-aged goes key in
     record {
       sound = record {
-        keys = keys-aged key after aged l st.shared.selector st.shared.keys_high st.shared.noted st.shared.chan
+        keys = keys-aged key after aged l st.shared.selector st.shared.keys_high st.shared.enrolled st.shared.chan
             sound.keys;
         free = free-removed rules goes (λ _. false) key st.shared.free (λ e k. refl) sound.free;
         selected = selected-removed goes key st.shared.mark sound.selected;

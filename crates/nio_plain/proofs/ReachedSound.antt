@@ -12,7 +12,7 @@ use Rattle.nio_event.specs.declared.found.Mark.{Mark}
 use Rattle.nio_event.specs.declared.found.Stage.{Stage}
 use Rattle.nio_event.specs.declared.reply.Reply.{Reply}
 use Rattle.nio_plain.specs.ScriptState.{ScriptState, Selection, script_opening, with_shared}
-use Rattle.nio_plain.specs.Seq.Answers.{Answered}
+use Rattle.nio_plain.specs.Seq.Replies.{Replied}
 use Rattle.nio_plain.specs.Seq.Cancelling.{cancelled_key}
 use Rattle.nio_plain.specs.Seq.Removing.{removed_key}
 use Rattle.nio_plain.specs.Seq.Selections.{is_looked}
@@ -21,7 +21,7 @@ use Rattle.nio_plain.specs.declared.rules.Rules.TheVariants.{First}
 
 -- ---- the parts
 
--- a published key is claimed, stands below its selector's mark, and its selector is made; an index with no
+-- a published key is claimed, stands below its selector's high-water mark, and its selector is made; an index with no
 -- published key has serial 0
 pub record IndexesSound (selector : ℕ → Bool) (keys_high : ℕ → ℕ) (key : ℕ → ℕ → Stage) : Type 0 where
   pub claimed : (s i : ℕ) → (key s i).published ≡ true → (key s i).claimed ≡ true
@@ -29,14 +29,14 @@ pub record IndexesSound (selector : ℕ → Bool) (keys_high : ℕ → ℕ) (key
   pub made : (s i : ℕ) → (key s i).published ≡ true → selector s ≡ true
   pub fresh : (s i : ℕ) → (key s i).published ≡ false → (key s i).serial ≡ 0
 
--- what is noted for a channel was published, and is a key of it while it is in the key set; and each key
--- of a key set is noted for its channel
-pub record NotesSound (noted : ℕ → ℕ → Option KeyId) (key : ℕ → ℕ → Stage) : Type 0 where
-  pub published : (c s : ℕ) (k : KeyId) → noted c s ≡ Some k → was_published (key s k.index) k.serial ≡ true
-  pub channel : (c s : ℕ) (k : KeyId) → noted c s ≡ Some k → is_in_key_set (key s k.index) k.serial ≡ true
+-- what is enrolled for a channel was published, and is a key of it while it is in the key set; and each key
+-- of a key set is enrolled for its channel
+pub record EnrolledSound (enrolled : ℕ → ℕ → Option KeyId) (key : ℕ → ℕ → Stage) : Type 0 where
+  pub published : (c s : ℕ) (k : KeyId) → enrolled c s ≡ Some k → was_published (key s k.index) k.serial ≡ true
+  pub channel : (c s : ℕ) (k : KeyId) → enrolled c s ≡ Some k → is_in_key_set (key s k.index) k.serial ≡ true
       → (key s k.index).chan.0 ≡ c
   pub in_set : (s i : ℕ) → in_key_set (key s i) ≡ true
-      → noted (key s i).chan.0 s ≡ Some (record { index = i; serial = (key s i).serial })
+      → enrolled (key s i).chan.0 s ≡ Some (record { index = i; serial = (key s i).serial })
 
 -- the channel of a published key is made, it is non-blocking while the key is in the key set, and open
 -- while the key is valid
@@ -78,16 +78,16 @@ pub record FreeSound (rules : Rules) (free : ℕ → ℕ → Bool) (key : ℕ �
   pub none : rules ≡ First → (s i : ℕ) → free s i ≡ false
 
 -- of all keys
-pub record KeysSound (l : Limits) (selector : ℕ → Bool) (keys_high : ℕ → ℕ) (noted : ℕ → ℕ → Option KeyId)
+pub record KeysSound (l : Limits) (selector : ℕ → Bool) (keys_high : ℕ → ℕ) (enrolled : ℕ → ℕ → Option KeyId)
     (chan : ℕ → Chan) (key : ℕ → ℕ → Stage) : Type 0 where
   pub selectors : (s : ℕ) → selector s ≡ true → s < l.selectors
   pub indexes : IndexesSound selector keys_high key
-  pub notes : NotesSound noted key
+  pub enrolments : EnrolledSound enrolled key
   pub channels : ChannelsSound chan key
   pub cancelled : CancelledSound key
 
 pub record Sound (rules : Rules) (l : Limits) (st : ScriptState) : Type 0 where
-  pub keys : KeysSound l st.shared.selector st.shared.keys_high st.shared.noted st.shared.chan st.shared.key
+  pub keys : KeysSound l st.shared.selector st.shared.keys_high st.shared.enrolled st.shared.chan st.shared.key
   pub free : FreeSound rules st.shared.free st.shared.key
   pub selected : SelectedSound st.shared.key st.shared.mark
   pub closings : (s : ℕ)
@@ -105,7 +105,7 @@ sound-opening rules l = record {
       made = λ s i h. absurd cc;
       fresh = λ s i h. refl;
     };
-    notes = record {
+    enrolments = record {
       published = λ c s k h. absurd cc;
       channel = λ c s k h. absurd cc;
       in_set = λ s i h. absurd cc;
@@ -149,7 +149,7 @@ pub record Stays (key after : ℕ → ℕ → Stage) (entered ended : ℕ → Bo
   pub closed : (s : ℕ) → entered s ≡ true → ended s ≡ true
 
 -- a call leaves a sound state, and ends nothing of what stays
-pub record Keeps (rules : Rules) (l : Limits) (st : ScriptState) (a : Answered) : Type 0 where
+pub record Keeps (rules : Rules) (l : Limits) (st : ScriptState) (a : Replied) : Type 0 where
   pub sound : Sound rules l a.left
   pub stays : Stays st.shared.key a.left.shared.key st.shared.entered a.left.shared.entered
 
@@ -165,7 +165,7 @@ pub some_same : {A : Type 0} (x y : A) → ◌≡◌ {A = Option A} (Some x) (So
 some_same x y e = cc
 
 -- what a test answers, by what stands on each side of it
-pub by_test : (P : Answered → Type 0) (test : Bool) (a b : Answered) → (test ≡ true → P a) → (test ≡ false → P b)
+pub by_test : (P : Replied → Type 0) (test : Bool) (a b : Replied) → (test ≡ true → P a) → (test ≡ false → P b)
     → P (cond test a b)
 by_test P true a b on_true on_false = on_true refl
 by_test P false a b on_true on_false = on_false refl
@@ -271,13 +271,13 @@ module _ (key after : ℕ → ℕ → Stage) (aged : (s i : ℕ) → Aged (key s
     fresh = λ s i h. (aged s i).serial ∙ sound.fresh s i (sym (aged s i).published ∙ h);
   }
 
-  notes-aged : (noted : ℕ → ℕ → Option KeyId) → NotesSound noted key → NotesSound noted after
-  notes-aged noted sound = record {
+  enrolments-aged : (enrolled : ℕ → ℕ → Option KeyId) → EnrolledSound enrolled key → EnrolledSound enrolled after
+  enrolments-aged enrolled sound = record {
     published = λ c s k h. aged-was_published (key s k.index) (after s k.index) (aged s k.index) k.serial
         ∙ sound.published c s k h;
     channel = λ c s k h in_set. ap (λ x. x.0) (aged s k.index).chan
         ∙ sound.channel c s k h (aged-in_set (key s k.index) (after s k.index) (aged s k.index) k.serial in_set);
-    in_set = λ s i h. (ap (λ x. noted x.0 s) (aged s i).chan ∙ sound.in_set s i ((aged s i).in_set h))
+    in_set = λ s i h. (ap (λ x. enrolled x.0 s) (aged s i).chan ∙ sound.in_set s i ((aged s i).in_set h))
         ∙ (λ j. Some (record { index = i; serial = sym (aged s i).serial j }));
   }
 
@@ -289,13 +289,13 @@ module _ (key after : ℕ → ℕ → Stage) (aged : (s i : ℕ) → Aged (key s
     is_open = λ s i h. ap (λ x. (chan x.0).closed) (aged s i).chan ∙ sound.is_open s i ((aged s i).valid h);
   }
 
-  pub keys-aged : (l : Limits) (selector : ℕ → Bool) (keys_high : ℕ → ℕ) (noted : ℕ → ℕ → Option KeyId)
-      (chan : ℕ → Chan) → KeysSound l selector keys_high noted chan key
-      → KeysSound l selector keys_high noted chan after
-  keys-aged l selector keys_high noted chan sound = record {
+  pub keys-aged : (l : Limits) (selector : ℕ → Bool) (keys_high : ℕ → ℕ) (enrolled : ℕ → ℕ → Option KeyId)
+      (chan : ℕ → Chan) → KeysSound l selector keys_high enrolled chan key
+      → KeysSound l selector keys_high enrolled chan after
+  keys-aged l selector keys_high enrolled chan sound = record {
     selectors = sound.selectors;
     indexes = indexes-aged selector keys_high sound.indexes;
-    notes = notes-aged noted sound.notes;
+    enrolments = enrolments-aged enrolled sound.enrolments;
     channels = channels-aged chan sound.channels;
     cancelled = λ s i h. (aged s i).cancelled (sound.cancelled s i) h;
   }
@@ -350,7 +350,7 @@ keeps_cancelled rules l st r after aged kept sound =
     let key = st.shared.key in
     record {
       sound = record {
-        keys = keys-aged key after aged l st.shared.selector st.shared.keys_high st.shared.noted st.shared.chan
+        keys = keys-aged key after aged l st.shared.selector st.shared.keys_high st.shared.enrolled st.shared.chan
             sound.keys;
         free = free-aged key after aged rules st.shared.free sound.free;
         selected = λ s i h. kept s i (sound.selected s i h);

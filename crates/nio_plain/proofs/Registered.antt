@@ -9,7 +9,7 @@ use Rattle.nio_event.specs.Sets.{is_in_key_set}
 use Rattle.nio_event.specs.State.{State, unmade_channel}
 use Rattle.nio_event.specs.declared.found.Chan.{Chan}
 use Rattle.nio_group.specs.Group.{Group}
-use Rattle.nio_plain.proofs.Answering.{rows_of}
+use Rattle.nio_plain.proofs.Replying.{rows_of}
 use Rattle.nio_plain.proofs.Places.{places_past, places_at}
 use Rattle.nio_plain.specs.PlainState.{SelectorRow, key_in, if_in_set, state_from, state_of, limits_of, places}
 use Rattle.nio_plain.specs.PlainState.{selector_row, no_selector, channel_row, pipe_of}
@@ -48,8 +48,8 @@ any-witness p (suc m) h =
 
 -- over a state
 
--- the key that is noted is the channel's, where it is in the key set
-pub key_of-some : (st : State) (c s : ℕ) (k : KeyId) → st.noted c s ≡ Some k
+-- the key that is enrolled is the channel's, where it is in the key set
+pub key_of-some : (st : State) (c s : ℕ) (k : KeyId) → st.enrolled c s ≡ Some k
     → is_in_key_set (st.key s k.index) k.serial ≡ true → key_of st c s ≡ Some k
 key_of-some st c s k e h =
     ap (if_in_key_set st s) e ∙ cond-true (is_in_key_set (st.key s k.index) k.serial) (Some k) None h
@@ -68,8 +68,8 @@ in_set-is st s k (Some m) e = by_set (is_in_key_set (st.key s m.index) m.serial)
     by_set false t now = absurd cc
 
 pub key_of-is : (st : State) (c s : ℕ) (k : KeyId) → key_of st c s ≡ Some k
-    → (st.noted c s ≡ Some k) × (is_in_key_set (st.key s k.index) k.serial ≡ true)
-key_of-is st c s k e = in_set-is st s k (st.noted c s) e
+    → (st.enrolled c s ≡ Some k) × (is_in_key_set (st.key s k.index) k.serial ≡ true)
+key_of-is st c s k e = in_set-is st s k (st.enrolled c s) e
 
 -- a channel that counts as registered has a key in a selector
 pub registered-key : (l : Limits) (st : State) (c : ℕ) → is_registered l st c ≡ true
@@ -93,7 +93,7 @@ module _ (group : Group) (pipes : List Pipe) (interrupted : ℕ → Bool) (mark 
   in_set-row s (Some k) = refl
 
   pub key_of-row : (c s : ℕ) → key_of st.shared c s ≡ key_in (row s) c
-  key_of-row c s = in_set-row s ((row s).noted c)
+  key_of-row c s = in_set-row s ((row s).enrolled c)
 
 -- over a plain system
 

@@ -16,7 +16,7 @@ use Rattle.nio_plain.proofs.Places.{put_same}
 use Rattle.nio_plain.specs.PlainState.{SelectorRow, KeyRow, state_from, free_in, next_by_row, next_in, with_key_added}
 use Rattle.nio_plain.specs.PlainState.{new_key_row}
 use Rattle.nio_plain.specs.ScriptState.{ScriptState, with_shared, Pipe}
-use Rattle.nio_plain.specs.Seq.Answers.{unchanged, answered}
+use Rattle.nio_plain.specs.Seq.Replies.{unchanged, replied}
 use Rattle.nio_plain.specs.Seq.Modes.{key_of}
 use Rattle.nio_plain.specs.Seq.Registering.{register_call, registered, registered_new, next_by, next_key, with_new_key}
 use Rattle.nio_plain.specs.Seq.Registering.{given_or_kept, given_or_none}
@@ -68,7 +68,7 @@ module _ (l : Limits) (st : ScriptState) (s c ops : ℕ) (att : Option ℕ) wher
     registered-shut h g = rw (h, g)
 
     pub registered-again : (st.shared.key s k.index).cancelled ≡ false → (st.shared.gate s).shut ≡ false
-        → registered l st s c ops att (Some k) ≡ answered st (reply.Key k)
+        → registered l st s c ops att (Some k) ≡ replied st (reply.Key k)
         (with_note (with_interest st.shared s k.index ops) s k.index (given_or_kept att (st.shared.note s k.index)))
     registered-again h g = rw (h, g)
 
@@ -84,10 +84,10 @@ module _ (l : Limits) (st : ScriptState) (s c ops : ℕ) (att : Option ℕ) wher
       opened ∙ ap (registered_new st s c ops (given_or_none att)) e
 
 -- a change at one number of a part of two
-noted_at : {A : Type 0} (f : ℕ → A) (s : ℕ) (b : Bool) (x : A)
+enrolled_at : {A : Type 0} (f : ℕ → A) (s : ℕ) (b : Bool) (x : A)
     → put f s (cond b x (f s)) ≡ (λ t. cond (b && eqb t s) x (f t))
-noted_at f s true x = refl
-noted_at f s false x = put_same f s (f s) refl
+enrolled_at f s true x = refl
+enrolled_at f s false x = put_same f s (f s) refl
 
 module _ (group : Group) (pipes : List Pipe) (interrupted : ℕ → Bool) (mark : ℕ) (chan : ℕ → Chan)
     (row : ℕ → SelectorRow) (s : ℕ) where
@@ -113,7 +113,7 @@ module _ (group : Group) (pipes : List Pipe) (interrupted : ℕ → Bool) (mark 
       let r = with_key_added (row s) c k x in
       state-row group pipes interrupted mark chan s row r
       ∙ (ap (λ (m : ScriptState). with_shared m (record m.shared {
-        noted = λ n. put (st.shared.noted n) s (r.noted n);
+        enrolled = λ n. put (st.shared.enrolled n) s (r.enrolled n);
         keys_high = put st.shared.keys_high s r.keys_high;
         key = put st.shared.key s (λ i. (r.keys i).stage);
         interest = put st.shared.interest s (λ i. (r.keys i).interest);
@@ -122,7 +122,7 @@ module _ (group : Group) (pipes : List Pipe) (interrupted : ℕ → Bool) (mark 
         free = put st.shared.free s (λ i. (r.keys i).free);
       })) (same_row group pipes interrupted mark chan s row)
       ∙ (λ j. with_shared st (record st.shared {
-        noted = λ n. noted_at (λ t. (row t).noted n) s (eqb n c) (Some k) j;
+        enrolled = λ n. enrolled_at (λ t. (row t).enrolled n) s (eqb n c) (Some k) j;
         keys_high = put st.shared.keys_high s r.keys_high;
         key = part_put group pipes interrupted mark chan row s k.index x (λ (q : KeyRow). q.stage) j;
         interest = part_put group pipes interrupted mark chan row s k.index x (λ (q : KeyRow). q.interest) j;

@@ -7,13 +7,13 @@ use Rattle.nio_base.specs.declared.numbers.KeyId.{KeyId}
 use Rattle.nio_base.specs.declared.numbers.SelNo.{SelNo}
 use Rattle.nio_event.specs.State.{put, unmade_channel, with_interest, with_note}
 use Rattle.nio_event.specs.declared.reply.Reply.TheVariants as reply
-use Rattle.nio_plain.proofs.Answering.{unchanged_as, answered_as, rows_of, with_rows, state-set_selector}
+use Rattle.nio_plain.proofs.Replying.{unchanged_as, replied_as, rows_of, with_rows, state-set_selector}
 use Rattle.nio_plain.proofs.KeyChange.{state-key, key-registered}
 use Rattle.nio_plain.proofs.Places.{places_at}
 use Rattle.nio_plain.proofs.Registered.{key_of-read}
 use Rattle.nio_plain.proofs.Registering.{registered-cancelled, registered-shut, registered-again, registered_new-shut}
 use Rattle.nio_plain.proofs.Registering.{registered-next, next-row, state-new_key}
-use Rattle.nio_plain.specs.Plain.{AnswersAs, Kept}
+use Rattle.nio_plain.specs.Plain.{RepliesAs, Kept}
 use Rattle.nio_plain.specs.PlainState.{SelectorRow, KeyRow, places, state_of, channel_row, selector_row, no_selector}
 use Rattle.nio_plain.specs.PlainState.{key_row, no_key, with_key_at, with_key_added, new_key_row, key_in, next_in}
 use Rattle.nio_plain.specs.PlainState.{pipe_of}
@@ -48,14 +48,14 @@ module _ (p : Plain) (sel : SelNo) (chan : ChanNo) (ops : ℕ) (att : Option ℕ
         ∙ ap (λ (q : KeyRow). q.stage.cancelled) (places_at key_row no_key x.keys.items id.index k in_keys d)) ∙ h
 
     pub answers-cancelled : k.cancelled ≡ true
-        → AnswersAs p p (Ok reply.CancelledKey) (register_call p.limits (state_of p) sel chan ops att)
+        → RepliesAs p p (Ok reply.CancelledKey) (register_call p.limits (state_of p) sel chan ops att)
     answers-cancelled h =
         unchanged_as p reply.CancelledKey _
         (call_is (Some id) key
         ∙ registered-cancelled p.limits (state_of p) sel.0 chan.0 ops att id (cancelled_is true h))
 
     pub answers-shut : k.cancelled ≡ false → is_some x.closing ≡ true
-        → AnswersAs p p (Ok reply.ClosedSelector) (register_call p.limits (state_of p) sel chan ops att)
+        → RepliesAs p p (Ok reply.ClosedSelector) (register_call p.limits (state_of p) sel chan ops att)
     answers-shut h s =
         unchanged_as p reply.ClosedSelector _
         (call_is (Some id) key
@@ -65,7 +65,7 @@ module _ (p : Plain) (sel : SelNo) (chan : ChanNo) (ops : ℕ) (att : Option ℕ
         → selector_row y ≡ with_key_at (selector_row x) id.index
         (record (key_row k) { interest = ops; note = given_or_kept att k.note })
         → state_of q ≡ with_rows p (places selector_row no_selector (set p.selectors.items sel.0 y)) → Kept p q
-        → AnswersAs p q (Ok (reply.Key id)) (register_call p.limits (state_of p) sel chan ops att)
+        → RepliesAs p q (Ok (reply.Key id)) (register_call p.limits (state_of p) sel chan ops att)
     answers-again q y h s done left kept =
         let new = record (key_row k) { interest = ops; note = given_or_kept att k.note } in
         let key_is = ap (λ (r : SelectorRow). r.keys id.index) row_is
@@ -74,7 +74,7 @@ module _ (p : Plain) (sel : SelNo) (chan : ChanNo) (ops : ℕ) (att : Option ℕ
         (λ n. with_shared (state_of p)
         (with_note (with_interest (state_of p).shared sel.0 id.index ops) sel.0 id.index (given_or_kept att n)))
         (ap (λ (q : KeyRow). q.note) (sym key_is)) in
-        answered_as p q _ _ _
+        replied_as p q _ _ _
         (call_is (Some id) key
         ∙ registered-again p.limits (state_of p) sel.0 chan.0 ops att id (cancelled_is false h) (shut_is false s))
         refl
@@ -96,13 +96,13 @@ module _ (p : Plain) (sel : SelNo) (chan : ChanNo) (ops : ℕ) (att : Option ℕ
         ∙ (ap (next_in p.limits.keys) row_is ∙ sym e)
 
     pub answers_new-shut : is_some x.closing ≡ true
-        → AnswersAs p p (Ok reply.ClosedSelector) (register_call p.limits (state_of p) sel chan ops att)
+        → RepliesAs p p (Ok reply.ClosedSelector) (register_call p.limits (state_of p) sel chan ops att)
     answers_new-shut h =
         unchanged_as p reply.ClosedSelector _
         (call_is None key ∙ registered_new-shut p.limits (state_of p) sel.0 chan.0 ops att (shut_is true h))
 
     pub answers-full : is_some x.closing ≡ false → None ≡ next_in p.limits.keys (selector_row x)
-        → AnswersAs p p (Ok reply.Full) (register_call p.limits (state_of p) sel chan ops att)
+        → RepliesAs p p (Ok reply.Full) (register_call p.limits (state_of p) sel chan ops att)
     answers-full h full =
         unchanged_as p reply.Full _
         (call_is None key
@@ -114,9 +114,9 @@ module _ (p : Plain) (sel : SelNo) (chan : ChanNo) (ops : ℕ) (att : Option ℕ
         (new_key_row chan.0 id.serial ops (given_or_none att))
         → state_of q ≡ with_rows p (places selector_row no_selector (set p.selectors.items sel.0 y))
         → Kept p q
-        → AnswersAs p q (Ok (reply.Key id)) (register_call p.limits (state_of p) sel chan ops att)
+        → RepliesAs p q (Ok (reply.Key id)) (register_call p.limits (state_of p) sel chan ops att)
     answers-new q y id h next done left kept =
-        answered_as p q _ _ _
+        replied_as p q _ _ _
         (call_is None key
         ∙ registered-next p.limits (state_of p) sel.0 chan.0 ops att (Some id) (shut_is false h)
         (next_is (Some id) next))

@@ -11,14 +11,14 @@ use Rattle.nio_event.specs.State.{put}
 use Rattle.nio_plain.proofs.Places.{put_is}
 use Rattle.nio_plain.specs.PlainState.{SelectorRow, key_in, if_in_set}
 
--- the channel's key in a selector, by what is noted
+-- the channel's key in a selector, by what is enrolled
 
-pub key_in-gone : (r : SelectorRow) (c : ℕ) (k : KeyId) → r.noted c ≡ Some k
+pub key_in-gone : (r : SelectorRow) (c : ℕ) (k : KeyId) → r.enrolled c ≡ Some k
     → is_in_key_set (r.keys k.index).stage k.serial ≡ false → key_in r c ≡ None
 key_in-gone r c k e h =
     ap (if_in_set r.keys) e ∙ cond-false (is_in_key_set (r.keys k.index).stage k.serial) (Some k) None h
 
-pub key_in-some : (r : SelectorRow) (c : ℕ) (k : KeyId) → r.noted c ≡ Some k
+pub key_in-some : (r : SelectorRow) (c : ℕ) (k : KeyId) → r.enrolled c ≡ Some k
     → is_in_key_set (r.keys k.index).stage k.serial ≡ true → key_in r c ≡ Some k
 key_in-some r c k e h =
     ap (if_in_set r.keys) e ∙ cond-true (is_in_key_set (r.keys k.index).stage k.serial) (Some k) None h

@@ -18,7 +18,7 @@ use Rattle.nio_plain.proofs.Parts.{Makes, then, makes-selecting, state-removed}
 use Rattle.nio_plain.proofs.Places.{same_function}
 use Rattle.nio_plain.specs.PlainState.{SelectorRow, state_from, swept, looked_below, with_selection_begun}
 use Rattle.nio_plain.specs.ScriptState.{ScriptState, Selection, with_shared, Pipe}
-use Rattle.nio_plain.specs.Seq.Answers.{unchanged}
+use Rattle.nio_plain.specs.Seq.Replies.{unchanged}
 use Rattle.nio_plain.specs.Seq.Names.{below}
 use Rattle.nio_plain.specs.Seq.Removing.{removed_key, comes_back}
 use Rattle.nio_plain.specs.Seq.Selections.{begin_call, selection_begun, mode_of, without_cancelled, looked_keys}

@@ -12,13 +12,13 @@ use Rattle.nio_event.specs.declared.found.GateWord.{GateWord}
 use Rattle.nio_event.specs.declared.found.Mark.{Mark}
 use Rattle.nio_event.specs.declared.reply.Reply.TheVariants as reply
 use Rattle.nio_group.specs.Group.{Group}
-use Rattle.nio_plain.proofs.Answering.{rows_of}
+use Rattle.nio_plain.proofs.Replying.{rows_of}
 use Rattle.nio_plain.proofs.Parts.{Makes, then, makes-gate, makes-selecting, keys_changed, part_stays, state-removed}
 use Rattle.nio_plain.proofs.Places.{same_function, put_by}
 use Rattle.nio_plain.specs.PlainState.{SelectorRow, KeyRow, state_from, state_of, selector_row, key_id, caller_of}
 use Rattle.nio_plain.specs.PlainState.{selection_of, removed_row, swept_looked}
 use Rattle.nio_plain.specs.ScriptState.{ScriptState, Selection, with_shared, with_selection, Pipe}
-use Rattle.nio_plain.specs.Seq.Answers.{unchanged}
+use Rattle.nio_plain.specs.Seq.Replies.{unchanged}
 use Rattle.nio_plain.specs.Seq.Removing.{comes_back}
 use Rattle.nio_plain.specs.Seq.Selections.{told_call, told_selection, own_selection, selection_ended, with_marks}
 use Rattle.nio_plain.specs.Seq.Selections.{without_looked_cancelled, is_looked, told_bits, marked, updated_count}

@@ -8,12 +8,12 @@ use Rattle.nio_event.specs.State.{put, unmade_channel}
 use Rattle.nio_event.specs.declared.found.GateWord.{GateWord}
 use Rattle.nio_event.specs.declared.reply.Reply.TheVariants as reply
 use Rattle.nio_event.specs.declared.reply.Why.{Why}
-use Rattle.nio_plain.proofs.Answering.{unchanged_as, answered_as, state-set_selector, rows_of, with_rows}
-use Rattle.nio_plain.proofs.Answering.{selector_made-below}
+use Rattle.nio_plain.proofs.Replying.{unchanged_as, replied_as, state-set_selector, rows_of, with_rows}
+use Rattle.nio_plain.proofs.Replying.{selector_made-below}
 use Rattle.nio_plain.proofs.Marking.{TellsLooked, marked_keys-told, counted-at}
 use Rattle.nio_plain.proofs.Places.{places_at}
 use Rattle.nio_plain.proofs.Telling.{told-own, told-again, told-done, own-some, after_selection, state-ended}
-use Rattle.nio_plain.specs.Plain.{AnswersAs, Kept}
+use Rattle.nio_plain.specs.Plain.{RepliesAs, Kept}
 use Rattle.nio_plain.specs.PlainState.{SelectorRow, KeyRow, places, state_of, channel_row, selector_row, no_selector}
 use Rattle.nio_plain.specs.PlainState.{key_row, no_key, swept_looked, with_selection_ended, pipe_of}
 use Rattle.nio_plain.specs.ScriptState.{Selection}
@@ -57,7 +57,7 @@ module _ (p : Plain) (me : CallerNo) (sel : SelNo) (elapsed : Bool) (pairs : Lis
     gate_is = ap (λ (r : SelectorRow). r.gate) row_is ∙ sym gated
 
     pub answers-again : is_again gate interrupted y.mode elapsed count ≡ true
-        → AnswersAs p p (Ok reply.Again) (told_call p.rules (state_of p) me sel elapsed pairs)
+        → RepliesAs p p (Ok reply.Again) (told_call p.rules (state_of p) me sel elapsed pairs)
     answers-again h =
         unchanged_as p reply.Again _
         (call_is ∙ told-again p.rules (state_of p) me sel.0 elapsed pairs own count count_is gate gate_is interrupted
@@ -67,7 +67,7 @@ module _ (p : Plain) (me : CallerNo) (sel : SelNo) (elapsed : Bool) (pairs : Lis
         → why ≡ why_ended gate interrupted y.mode count
         → selector_row z ≡ with_selection_ended p.rules (selector_row x) y.looked.items told
         → state_of q ≡ with_rows p (places selector_row no_selector (set p.selectors.items sel.0 z)) → Kept p q
-        → AnswersAs p q (Ok (reply.Selected count why))
+        → RepliesAs p q (Ok (reply.Selected count why))
         (told_call p.rules (state_of p) me sel elapsed pairs)
     answers-told q z why h because ended left kept =
         let marks = marked_keys-told (selector_row x).keys y.looked.items pairs told tells in
@@ -76,7 +76,7 @@ module _ (p : Plain) (me : CallerNo) (sel : SelNo) (elapsed : Bool) (pairs : Lis
         record (with_selection_ended p.rules
         (selector_row x) y.looked.items told) { keys = swept_looked p.rules keys y.looked.items } in
         let row = (ended ∙ ap ends marks) ∙ ap (after_selection p.rules y.looked.items pairs) (sym row_is) in
-        answered_as p q _ _ _
+        replied_as p q _ _ _
         (call_is ∙ told-done p.rules (state_of p) me sel.0 elapsed pairs own count count_is gate gate_is interrupted
         (sym asked) h)
         (ap (reply.Selected count) because)

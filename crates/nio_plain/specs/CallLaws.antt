@@ -24,7 +24,7 @@ use Rattle.nio_event.specs.declared.reply.Reply.TheVariants as reply
 use Rattle.nio_plain.specs.Answer.{left_from}
 use Rattle.nio_plain.specs.ScriptState.{ScriptState, Selection}
 use Rattle.nio_plain.specs.Seq.{seq}
-use Rattle.nio_plain.specs.Seq.Answers.{Answered}
+use Rattle.nio_plain.specs.Seq.Replies.{Replied}
 use Rattle.nio_plain.specs.Seq.Names.{key_at}
 use Rattle.nio_plain.specs.Seq.Pipes.{own_sink}
 use Rattle.nio_plain.specs.Seq.Selections.{own_selection, told_bits}
@@ -147,9 +147,9 @@ is_without_effect (call.Pread c n) r = refuses r
 is_without_effect (call.Group g) r = is_without_group_effect g r
 
 -- A refused call that changes a pipe or its channels all the same: an owner's call that finds its sink closed leaves
--- the end mark; an interrupted caller's call closes its channel; a `pipe` that finds one number left closes the
+-- the seal; an interrupted caller's call closes its channel; a `pipe` that finds one number left closes the
 -- channel that it made.
--- Each call stands in the list; with a reply that doesn't, it changes nothing.
+-- It is false for every other call and reply.
 abbrev pub changes_pipe : ScriptState → CallerNo → Call → Reply → Bool
 changes_pipe st me (call.Closec c) reply.Already = is_some (own_sink st.pipes me c)
 changes_pipe st me (call.Pwrite c bytes) reply.ClosedChannel = true
@@ -247,15 +247,15 @@ BitsAreToldAndLookedFor = (st : ScriptState) (me : CallerNo) (c : Call) (s i bit
     → HasBit (newly_told st me c s i) bit → IsToldAndLookedFor st me c s (key_at st.shared s i) bit
 
 -- SELECTIONS IN PROGRESS. A call began the selection: it is a `begin` there, the selection is the
--- caller's own, and what it looks at is what was answered: the keys of the key set that is left, each the
+-- caller's own, and what it looks at is what was replied: the keys of the key set that is left, each the
 -- present one of its index, which are all valid, with their interests.
-pub record IsBegunBy (me : CallerNo) (c : Call) (done : Answered) (s : ℕ) (selection : Selection) : Type 0 where
+pub record IsBegunBy (me : CallerNo) (c : Call) (done : Replied) (s : ℕ) (selection : Selection) : Type 0 where
   pub name : SelNo
   pub waiting : Waiting
   pub called : c ≡ call.Begin name waiting
   pub there : name.0 ≡ s
   pub own : own_selection done.left me s ≡ Some selection
-  pub answered : done.reply ≡ reply.Looked selection.looked
+  pub replied : done.reply ≡ reply.Looked selection.looked
   pub present : All (λ p. p.0 ≡ key_at done.left.shared s p.0.index) selection.looked
   pub valid : All (λ p. IsTrue (is_valid (done.left.shared.key s p.0.index))
       × (p.1 ≡ done.left.shared.interest s p.0.index)) selection.looked
@@ -263,8 +263,8 @@ pub record IsBegunBy (me : CallerNo) (c : Call) (done : Answered) (s : ℕ) (sel
       → Contains selection.looked (key_at done.left.shared s i, done.left.shared.interest s i)
 
 -- a selection that is in progress after a call was so before, or the call began it
-abbrev pub LookedIsAnswered : Type 0
-LookedIsAnswered =
+abbrev pub LookedIsReplied : Type 0
+LookedIsReplied =
     (rules : Rules) (l : Limits) (st : ScriptState) (me : CallerNo) (c : Call) (s : ℕ) (selection : Selection)
     → (seq rules l st me c).left.selection s ≡ Some selection
     → (st.selection s ≡ Some selection) ⊎ IsBegunBy me c (seq rules l st me c) s selection
@@ -291,7 +291,7 @@ OnlyItselfEndsASelection =
 abbrev pub is_woken : ScriptState → ℕ → Bool
 is_woken st s = (st.shared.gate s).woken
 
--- the call was a wakeup of the selector, answered `ok`
+-- the call was a wakeup of the selector, replied `ok`
 abbrev pub is_wakeup : ℕ → Call → Reply → Bool
 is_wakeup s (call.Wakeup t) reply.«Ok» = t.0 == s
 is_wakeup s _ _ = false
@@ -308,9 +308,9 @@ abbrev pub FurtherWakeupsChangeNothing : Type 0
 FurtherWakeupsChangeNothing = (rules : Rules) (l : Limits) (st : ScriptState) (me : CallerNo) (s : SelNo)
     → IsTrue (is_woken st s.0) → (seq rules l st me (call.Wakeup s)).left ≡ st
 
--- a wakeup is answered `ok` by every selector that is made, whatever its state
-abbrev pub WakeupsAreAnswered : Type 0
-WakeupsAreAnswered = (rules : Rules) (l : Limits) (st : ScriptState) (me : CallerNo) (s : SelNo)
+-- a wakeup is replied `ok` by every selector that is made, whatever its state
+abbrev pub WakeupsHaveReplies : Type 0
+WakeupsHaveReplies = (rules : Rules) (l : Limits) (st : ScriptState) (me : CallerNo) (s : SelNo)
     → me.0 < l.callers → IsTrue (st.shared.selector s.0) → (seq rules l st me (call.Wakeup s)).reply ≡ reply.«Ok»
 
 -- in none of the calls from a state on a selection of the selector ends

@@ -2,12 +2,12 @@
 use Rattle.std.specs.Prelude.{◌≡◌}
 use Rattle.nio_event.specs.declared.reply.Reply.{Reply}
 use Rattle.nio_plain.specs.ScriptState.{ScriptState}
-use Rattle.nio_plain.specs.Seq.Answers.{Answered, unchanged}
+use Rattle.nio_plain.specs.Seq.Replies.{Replied, unchanged}
 
 -- the test lets each call through
-abbrev pub LetsThrough : (Answered → Answered) → Type 0
-LetsThrough test = (call : Answered) → test call ≡ call
+abbrev pub LetsThrough : (Replied → Replied) → Type 0
+LetsThrough test = (call : Replied) → test call ≡ call
 
 -- the test refuses each call with this reply
-abbrev pub Refuses : ScriptState → (Answered → Answered) → Reply → Type 0
-Refuses st test r = (call : Answered) → test call ≡ unchanged st r
+abbrev pub Refuses : ScriptState → (Replied → Replied) → Reply → Type 0
+Refuses st test r = (call : Replied) → test call ≡ unchanged st r

@@ -79,7 +79,7 @@ pub record SelectorRow : Type 0 where
   pub entered : Bool
   pub keys_high : ℕ
   pub keys : ℕ → KeyRow
-  pub noted : ℕ → Option KeyId
+  pub enrolled : ℕ → Option KeyId
 
 abbrev pub no_selector : SelectorRow
 no_selector = record {
@@ -91,19 +91,19 @@ no_selector = record {
   entered = false;
   keys_high = 0;
   keys = λ _. no_key;
-  noted = λ _. None;
+  enrolled = λ _. None;
 }
 
 abbrev pub new_selector : SelectorRow
 new_selector = record no_selector { made = true }
 
--- the channel's key in a selector: the one that is noted for it, where it is in the key set
+-- the channel's key in a selector: the one that is enrolled for it, where it is in the key set
 abbrev pub if_in_set : (ℕ → KeyRow) → Option KeyId → Option KeyId
 if_in_set keys None = None
 if_in_set keys (Some k) = if is_in_key_set (keys k.index).stage k.serial then Some k else None
 
 abbrev pub key_in : SelectorRow → ℕ → Option KeyId
-key_in r c = if_in_set r.keys (r.noted c)
+key_in r c = if_in_set r.keys (r.enrolled c)
 
 -- the key that a selector with so many indexes gives next
 abbrev pub free_in : SelectorRow → Option ℕ
@@ -122,7 +122,7 @@ abbrev pub with_key_added : SelectorRow → ℕ → KeyId → KeyRow → Selecto
 with_key_added r c k key = record r {
   keys_high = max r.keys_high (suc k.index);
   keys = put r.keys k.index key;
-  noted = put r.noted c (Some k);
+  enrolled = put r.enrolled c (Some k);
 }
 
 abbrev pub with_key_at : SelectorRow → ℕ → KeyRow → SelectorRow
@@ -149,8 +149,8 @@ removed_row frees k = record k {
   free = frees k.stage || k.free;
 }
 
--- one that a selection removes where it is cancelled, the keys after that was done with all, and with
--- those that the selection looks at
+-- a key after a selection, which removes it where it is cancelled; the keys after that was done with all of
+-- them, and with those alone that the selection looks at
 abbrev pub swept_key : Rules → KeyRow → KeyRow
 swept_key rules k = if in_cancelled_set k.stage then removed_row (comes_back rules) k else k
 
@@ -248,7 +248,7 @@ selector_row s = record {
   entered = has_finished s.closing;
   keys_high = length s.keys.items;
   keys = places key_row no_key s.keys.items;
-  noted = λ c. get nat_cmp s.noted c;
+  enrolled = λ c. get nat_cmp s.enrolled c;
 }
 
 -- the state whose parts are these: the group, the pipes, and the rest by the caller, the channel and the selector
@@ -261,7 +261,7 @@ state_from group pipes interrupted channels_high chan selector = record {
     channels_high = channels_high;
     chan = chan;
     hold = λ _. None;
-    noted = λ c s. (selector s).noted c;
+    enrolled = λ c s. (selector s).enrolled c;
     gate = λ s. (selector s).gate;
     turn = λ s. (selector s).turn;
     keys_high = λ s. (selector s).keys_high;
@@ -290,7 +290,7 @@ pipe_of p = record {
   reader = p.reader;
   writer = p.writer;
   waiting = p.waiting.items;
-  marked = p.marked;
+  sealed = p.sealed;
 }
 
 -- the state that a plain system holds

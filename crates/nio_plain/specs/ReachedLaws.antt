@@ -37,10 +37,10 @@ abbrev pub SetsAreWithinKeySet : Type 0
 SetsAreWithinKeySet = (rules : Rules) (l : Limits) (calls : List ScriptCall)
     → AreWithinKeySet (left_by_script rules l calls).shared
 
--- each key of a key set is below its selector's mark, so that a selection that begins looks at all keys
+-- each key of a key set is below its selector's high-water mark, so that a selection that begins looks at all keys
 -- of the key set
-abbrev pub KeysAreBelowTheMark : Type 0
-KeysAreBelowTheMark = (rules : Rules) (l : Limits) (calls : List ScriptCall) (s i : ℕ)
+abbrev pub KeysAreBelowHigh : Type 0
+KeysAreBelowHigh = (rules : Rules) (l : Limits) (calls : List ScriptCall) (s i : ℕ)
     → let st = (left_by_script rules l calls).shared in
     IsTrue (in_key_set (st.key s i)) → i < st.keys_high s
 
@@ -91,7 +91,7 @@ FirstRulesRemoveBelowTheBound = (l : Limits) (calls : List ScriptCall) (s : ℕ)
     st.selection s ≡ Some selection → IsTrue (in_cancelled_set (st.shared.key s i))
     → IsTrue (is_looked selection.looked (key_at st.shared s i)) ↔ (i < selection.bound)
 
--- the call registers a channel that has no key in the selector, and is answered with the key
+-- the call registers a channel that has no key in the selector, and is replied with the key
 pub record IsNewKey (rules : Rules) (l : Limits) (st : ScriptState) (c : ScriptCall) (s : ℕ) (k : KeyId) : Type 0 where
   pub name : SelNo
   pub chan : ChanNo
@@ -100,7 +100,7 @@ pub record IsNewKey (rules : Rules) (l : Limits) (st : ScriptState) (c : ScriptC
   pub called : c.call ≡ call.Register name chan ops att
   pub there : name.0 ≡ s
   pub none : key_of st.shared chan.0 s ≡ None
-  pub answered : (seq rules l st c.caller c.call).reply ≡ reply.Key k
+  pub replied : (seq rules l st c.caller c.call).reply ≡ reply.Key k
 
 -- a new key wasn't published before, so its serial is one that no earlier key of its index had; and it is
 -- valid

@@ -20,14 +20,14 @@ pub record Selection : Type 0 where
   pub looked : List (KeyId × ℕ)
 
 -- a pipe: its channels, the callers that own them, the bytes that wait in it, the first to be read first, and
--- whether its sink has left the end mark
+-- whether its sink has left the seal
 pub record Pipe : Type 0 where
   pub source : ChanNo
   pub sink : ChanNo
   pub reader : CallerNo
   pub writer : CallerNo
   pub waiting : List ℕ
-  pub marked : Bool
+  pub sealed : Bool
 
 pub record ScriptState : Type 0 where
   pub shared : State

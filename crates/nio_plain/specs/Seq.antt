@@ -5,9 +5,9 @@
 -- A refusal changes nothing, but for some calls on pipes. Refusals are tested in the order in which they
 -- stand: first the caller, then the names of the line, then the call's own.
 --
--- It answers by one of two rules. They differ in one word, `comes_back`, which only the beginning and the
+-- It replies by one of two rules. They differ in one word, `comes_back`, which only the beginning and the
 -- end of a selection cite.
-pub mod Answers
+pub mod Replies
 pub mod Names
 pub mod Pipes
 pub mod Opening
@@ -29,7 +29,7 @@ use Rattle.nio_event.specs.declared.call.Call.{Call}
 use Rattle.nio_event.specs.declared.call.Call.TheVariants as call
 use Rattle.nio_event.specs.declared.reply.Reply.TheVariants as reply
 use Rattle.nio_plain.specs.ScriptState.{ScriptState}
-use Rattle.nio_plain.specs.Seq.Answers.{Answered, unchanged}
+use Rattle.nio_plain.specs.Seq.Replies.{Replied, unchanged}
 use Rattle.nio_plain.specs.Seq.Cancelling.{closec_call, cancel_call}
 use Rattle.nio_plain.specs.Seq.Closing.{close_call, close_end_call}
 use Rattle.nio_plain.specs.Seq.Grouping.{group_call}
@@ -45,7 +45,7 @@ use Rattle.nio_plain.specs.Seq.Wakeups.{wakeup_call, interrupt_call, interrupted
 use Rattle.nio_plain.specs.declared.rules.Rules.{Rules}
 
 -- every call, by its word
-unfoldable pub call_of : Rules → Limits → ScriptState → CallerNo → Call → Answered
+unfoldable pub call_of : Rules → Limits → ScriptState → CallerNo → Call → Replied
 call_of rules l st me call.Selector = selector_call l st
 call_of rules l st me (call.Channel kind) = channel_call l st kind
 call_of rules l st me (call.Blocking c on) = blocking_call l st c on
@@ -80,6 +80,6 @@ call_of rules l st me (call.Pwrite c bytes) = pwrite_call st me c bytes
 call_of rules l st me (call.Pread c n) = pread_call st me c n
 call_of rules l st me (call.Group g) = group_call st g
 
-unfoldable pub seq : Rules → Limits → ScriptState → CallerNo → Call → Answered
+unfoldable pub seq : Rules → Limits → ScriptState → CallerNo → Call → Replied
 seq rules l st me call =
     if nat_lt me.0 l.callers then call_of rules l st me call else unchanged st reply.NoCaller

@@ -36,7 +36,7 @@ mod sets;
 mod telling;
 mod waking;
 
-pub use self::grouping::answer_group;
+pub use self::grouping::call_group;
 
 /// How much a script's group can hold.
 pub const GROUP_LIMITS: GroupLimits = GroupLimits {

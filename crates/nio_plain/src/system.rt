@@ -5,7 +5,7 @@ use nio_base::CallerNo;
 use nio_event::{Call, Reply};
 use std::alloc::{AllocError, Global};
 
-/// A system of selectors, keys and channels, a group and pipes, which answers as the documented one.
+/// A system of selectors, keys and channels, a group and pipes, which replies as the documented one.
 pub trait System {
     ghost use Rattle.nio_base.specs.declared.limits.Limits.{Limits};
     ghost use Rattle.nio_plain.specs.declared.rules.Rules.{Rules};
@@ -15,7 +15,7 @@ pub trait System {
     // How much the system can hold.
     ghost limits: { Self → Limits };
 
-    // The rules by which it answers.
+    // The rules by which it replies.
     ghost rules: { Self → Rules };
 
     // What it holds.
@@ -26,8 +26,10 @@ pub trait System {
 
     /// Makes one call. Want of memory leaves all as it was.
     fn call(&mut self, alloc: Global, caller: CallerNo, call: &Call) -> Result<Reply, AllocError>
-        ensures reply { IfOk result (λ reply. reply ≡ (seq (rules self.old) (limits self.old) (state self.old) caller call.now).reply) }
-        ensures left { IfOk result (λ _. state self.new ≡ (seq (rules self.old) (limits self.old) (state self.old) caller call.now).left) }
+        ensures reply { IfOk result (λ reply. reply ≡ (seq (rules self.old) (limits self.old) (state self.old) caller
+            call.now).reply) }
+        ensures left { IfOk result (λ _. state self.new ≡ (seq (rules self.old) (limits self.old) (state self.old)
+            caller call.now).left) }
         ensures memory { OnErr result (state self.new ≡ state self.old) }
         ensures kept { kept self.old self.new };
 

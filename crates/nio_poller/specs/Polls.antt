@@ -23,7 +23,7 @@ pub record CountsFaults {T E : Type 0} (fault : E) (before now : ℕ) (result : 
   pub still : result ≢ Err fault → now ≡ before
   pub failed : result ≡ Err fault → Rose before now
 
--- Where the poller tells its polls, one that answers is added at their end, and one that doesn't adds nothing.
+-- Where the poller shows its polls, one that answers is added at their end, and one that doesn't adds nothing.
 abbrev pub AddsPoll : Option (List Polled) → Option (List Polled) → List LookedKey → Mode → Result Told PollError
     → Type 0
 AddsPoll None now asked mode (Ok told) = now ≡ None

@@ -38,7 +38,7 @@ abbrev pub looked_by : Result Selection BeginError → List LookedKey
 looked_by (Ok selection) = selection.looked
 looked_by (Err refusal) = []
 
--- where the poller tells its polls, the call added these, in order
+-- where the poller shows its polls, the call added these, in order
 abbrev pub AddsPolls : Option (List Polled) → Option (List Polled) → List Polled → Type 0
 AddsPolls None now polls = now ≡ None
 AddsPolls (Some before) now polls = now ≡ Some (before ++ polls)
@@ -51,8 +51,7 @@ polls_of looked mode (first ∷ later) =
     record { asked = looked; mode = WithoutWaiting; answer = first }
     ∷ map (λ (answer : Poll). record { asked = looked; mode = mode; answer = answer }) later
 
--- What the selection is told of these answers. The first poll used up none of the selection's time: that this is over
--- isn't told of it.
+-- What the selection is told of these answers. The first poll doesn't wait, so its `elapsed` isn't passed on.
 abbrev pub told_from : List Poll → List Poll
 told_from [] = []
 told_from (first ∷ later) = record first { elapsed = false } ∷ later
@@ -70,7 +69,7 @@ abbrev pub MarksAllReady : (ChanNo → ℕ) → List LookedKey → List Act → 
 MarksAllReady ready looked acts = (s : SelNo) (i told : ℕ) (from : KeyMark)
     → Contains acts (MarkKey s i from told (Ok tt)) → MarksReady ready looked i told
 
--- A whole selection of a caller on a pass, before and after, with a poller that tells these polls before and after,
+-- A whole selection of a caller on a pass, before and after, with a poller that shows these polls before and after,
 -- and after it that the channels are ready so.
 pub record SelectClause (me : CallerNo) (s : SelNo) (mode : Mode) (old new : PassView)
     (polls_old polls_new : Option (List Polled)) (ready : ChanNo → ℕ)

@@ -3,6 +3,7 @@
 /// Rings for a poller that waits, so that it returns and its selection looks again. A ring may be lost: no contract
 /// says that it arrives.
 pub trait Bell {
+    /// Makes the poller that waits return, where the ring arrives.
     fn ring(&self);
 }
 

@@ -33,7 +33,7 @@ pub trait Poller {
     // it isn't ready.
     ghost ready: { Self → ChanNo → ℕ };
 
-    // The polls that answered, oldest first, where the poller tells them.
+    // The polls that answered, oldest first, where the poller shows them.
     ghost polls: { Self → Option (List Polled) };
 
     // What stays the same from a state of the poller to one that polls made of it.
@@ -49,7 +49,8 @@ pub trait Poller {
         mode: Mode,
     ) -> Result<Told, PollError>
         ensures cause { CountsFaults Fault (poll_faults self.old) (poll_faults self.new) result }
-        ensures ready { IfOk result (λ told. (c : ChanNo) → ready self.new c ≡ told_of_channel asked.now told.pairs.items c) }
+        ensures ready { IfOk result (λ told. (c : ChanNo) → ready self.new c
+            ≡ told_of_channel asked.now told.pairs.items c) }
         ensures polls { AddsPoll (polls self.old) (polls self.new) asked.now mode result }
         ensures kept { kept self.old self.new };
 

@@ -32,7 +32,11 @@ impl Model for Scripted {
 
     ghost Value = { Script };
 
-    ghost view = { λ s. record { answers = map poll_of (into_iter_items s.answers); calls = s.calls; polls = s.polls } };
+    ghost view = { λ s. record {
+      answers = map poll_of (into_iter_items s.answers);
+      calls = s.calls;
+      polls = s.polls;
+    } };
 }
 
 impl Scripted {
@@ -89,7 +93,8 @@ impl Poller for Scripted {
     ) -> Result<Told, PollError>
         // As every poller.
         ensures cause { CountsFaults Fault self.old.calls.faults self.new.calls.faults result }
-        ensures ready { IfOk result (λ told. (c : ChanNo) → last_told self.new.polls c ≡ told_of_channel asked.now told.pairs.items c) }
+        ensures ready { IfOk result (λ told. (c : ChanNo) → last_told self.new.polls c
+            ≡ told_of_channel asked.now told.pairs.items c) }
         ensures polls { AddsPoll (Some self.old.polls) (Some self.new.polls) asked.now mode result }
 
         // By its answers and the failures that it was made with.
@@ -129,5 +134,9 @@ impl<'a> Reading<Answer<'a>, ToldPoll> for OnePoll {
     ghost use Rattle.std.specs.Prelude.{[], ◌∷◌};
     ghost use Rattle.nio_select.specs.InProgress.{poll_of};
 
-    ghost items = { λ answer. record { asked = answer.asked.now; mode = answer.mode; answer = poll_of answer.told.now } ∷ [] };
+    ghost items = { λ answer. record {
+      asked = answer.asked.now;
+      mode = answer.mode;
+      answer = poll_of answer.told.now;
+    } ∷ [] };
 }

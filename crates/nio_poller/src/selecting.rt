@@ -57,7 +57,8 @@ pub fn select<R: Wait, P: Poller>(
 ) -> Result<Selected, SelectError>
     requires ready { IsReady w.now p.old me }
     requires selector { HasSelector (view w.now p.old) sel }
-    ensures call { SelectClause me sel mode.Wait (view w.now p.old) (view w.now p.new) (P.polls poller.old) (P.polls poller.new) (P.ready poller.new) result }
+    ensures call { SelectClause me sel mode.Wait
+        (view w.now p.old) (view w.now p.new) (P.polls poller.old) (P.polls poller.new) (P.ready poller.new) result }
     ensures cause { CountsFaults PollFault (P.poll_faults poller.old) (P.poll_faults poller.new) result }
     ensures kept { P.kept poller.old poller.new }
     ensures ready { IsReady w.now p.new me }
@@ -78,7 +79,8 @@ pub fn select_now<R: Wait, P: Poller>(
 ) -> Result<Selected, SelectError>
     requires ready { IsReady w.now p.old me }
     requires selector { HasSelector (view w.now p.old) sel }
-    ensures call { SelectClause me sel mode.Now (view w.now p.old) (view w.now p.new) (P.polls poller.old) (P.polls poller.new) (P.ready poller.new) result }
+    ensures call { SelectClause me sel mode.Now
+        (view w.now p.old) (view w.now p.new) (P.polls poller.old) (P.polls poller.new) (P.ready poller.new) result }
     ensures cause { CountsFaults PollFault (P.poll_faults poller.old) (P.poll_faults poller.new) result }
     ensures kept { P.kept poller.old poller.new }
     ensures ready { IsReady w.now p.new me }
@@ -88,8 +90,8 @@ pub fn select_now<R: Wait, P: Poller>(
 
 /// The same as `select`, for at most `ms` milliseconds; 0 waits without limit: Java's `select(long)`. Each poll of the
 /// selection but the first, which doesn't wait, is asked to wait for the whole time, and the selection is over where
-/// such a poll says that it has passed. So a selection that goes on after a poll that returned early can wait for longer
-/// than `ms` in all.
+/// such a poll says that it has passed. So a selection that goes on after a poll that returned early can wait for
+/// longer than `ms` in all.
 pub fn select_for<R: Wait, P: Poller>(
     rt: &R,
     alloc: Global,
@@ -102,7 +104,8 @@ pub fn select_for<R: Wait, P: Poller>(
 ) -> Result<Selected, SelectError>
     requires ready { IsReady w.now p.old me }
     requires selector { HasSelector (view w.now p.old) sel }
-    ensures call { TimedClause me sel ms (view w.now p.old) (view w.now p.new) (P.polls poller.old) (P.polls poller.new) (P.ready poller.new) result }
+    ensures call { TimedClause me sel ms
+        (view w.now p.old) (view w.now p.new) (P.polls poller.old) (P.polls poller.new) (P.ready poller.new) result }
     ensures cause { CountsFaults PollFault (P.poll_faults poller.old) (P.poll_faults poller.new) result }
     ensures kept { P.kept poller.old poller.new }
     ensures ready { IsReady w.now p.new me }
@@ -125,7 +128,8 @@ fn select_in<R: Wait, P: Poller>(
 ) -> Result<Selected, SelectError>
     requires ready { IsReady w.now p.old me }
     requires selector { HasSelector (view w.now p.old) sel }
-    ensures call { SelectClause me sel mode (view w.now p.old) (view w.now p.new) (P.polls poller.old) (P.polls poller.new) (P.ready poller.new) result }
+    ensures call { SelectClause me sel mode
+        (view w.now p.old) (view w.now p.new) (P.polls poller.old) (P.polls poller.new) (P.ready poller.new) result }
     ensures cause { CountsFaults PollFault (P.poll_faults poller.old) (P.poll_faults poller.new) result }
     ensures kept { P.kept poller.old poller.new }
     ensures ready { IsReady w.now p.new me }
@@ -150,7 +154,8 @@ fn begin<R: Wait>(
 ) -> Result<Selecting, BeginError>
     requires ready { IsReady w.now p.old me }
     requires selector { HasSelector (view w.now p.old) sel }
-    ensures call { CallClause me (Retries (Begins sel mode) begin_finds_busy) (view w.now p.old) (view w.now p.new) result }
+    ensures call { CallClause me (Retries (Begins sel mode) begin_finds_busy)
+        (view w.now p.old) (view w.now p.new) result }
     ensures ready { IsReady w.now p.new me }
     ensures begun { IfOk result (Selects (view w.now p.new) me) }
     ensures waits { result ≢ Err Busy }
@@ -180,7 +185,8 @@ fn poll_until_over<R: Wait, P: Poller>(
 ) -> Result<Selected, SelectError>
     requires ready { IsReady w.now p.old me }
     requires begun { Selects (view w.now p.old) me selection }
-    ensures call { PollsClause me selection (view w.now p.old) (view w.now p.new) (P.polls poller.old) (P.polls poller.new) (P.ready poller.new) result }
+    ensures call { PollsClause me selection
+        (view w.now p.old) (view w.now p.new) (P.polls poller.old) (P.polls poller.new) (P.ready poller.new) result }
     ensures cause { CountsFaults PollFault (P.poll_faults poller.old) (P.poll_faults poller.new) result }
     ensures kept { P.kept poller.old poller.new }
     ensures ready { IsReady w.now p.new me }
@@ -213,7 +219,8 @@ fn poll_once<R: Wait, P: Poller>(
 ) -> Result<After, PollError>
     requires ready { IsReady w.now p.old me }
     requires begun { Selects (view w.now p.old) me selection }
-    ensures call { PollsOnce me selection is_first (view w.now p.old) (view w.now p.new) (P.polls poller.old) (P.polls poller.new) (P.ready poller.new) result }
+    ensures call { PollsOnce me selection is_first
+        (view w.now p.old) (view w.now p.new) (P.polls poller.old) (P.polls poller.new) (P.ready poller.new) result }
     ensures cause { CountsFaults Fault (P.poll_faults poller.old) (P.poll_faults poller.new) result }
     ensures kept { P.kept poller.old poller.new }
     ensures ready { IsReady w.now p.new me }

@@ -45,11 +45,11 @@ impl Bell for Counting {
 
 /// A poller that tells nothing and that the time is over. It keeps how long its last poll may wait.
 #[derive(Drop)]
-struct Noting {
+struct LastWait {
     last: Option<Mode>,
 }
 
-impl Poller for Noting {
+impl Poller for LastWait {
     ghost use Rattle.std.specs.Prelude.{⊤};
     ghost use Rattle.nio_base.specs.declared.numbers.ChanNo.{ChanNo};
 
@@ -202,7 +202,7 @@ fn how_long_polls_may_wait(rt: HostRuntime) -> Result<(), Fail> {
     let (words, mut p) = Words::make(rt.alloc(), SMALL)?;
     words.draw(&mut p, ZERO)?;
     let sel = open_selector(&words, &mut p, ZERO)?;
-    let mut poller = Noting { last: None };
+    let mut poller = LastWait { last: None };
     let bell = Counting {
         rings: AtomicU64::new(0),
     };

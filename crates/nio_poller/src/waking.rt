@@ -4,7 +4,8 @@ ghost use Rattle.nio_event.specs.PassViews.{HasSelector};
 ghost use Rattle.nio_steps.specs.Calls.{CallClause};
 ghost use Rattle.nio_steps.specs.Runs.{Completes};
 ghost use Rattle.nio_select.specs.InProgress.{Closes as IsClosingIt};
-ghost use Rattle.nio_steps.specs.SelectCalls.{wakeup_plan, interrupt_plan, interrupted_plan, Closes, try_finish_plan, finish_finds_busy, closed};
+ghost use Rattle.nio_steps.specs.SelectCalls.{wakeup_plan, interrupt_plan, interrupted_plan, Closes, try_finish_plan};
+ghost use Rattle.nio_steps.specs.SelectCalls.{finish_finds_busy, closed};
 ghost use Rattle.nio_steps.specs.Waiting.{Retries};
 ghost use Rattle.nio_words.specs.Passes.{IsReady, limits_of};
 ghost use Rattle.nio_words.specs.Views.{view};
@@ -60,7 +61,8 @@ pub fn close<R: Wait, B: Bell>(
 fn finish<R: Wait>(rt: &R, w: &Words, p: &mut Pass, me: CallerNo, closing: Closing)
     requires ready { IsReady w.now p.old me }
     requires closing { IsClosingIt (view w.now p.old) me closing }
-    ensures call { CallClause me (Retries (Completes (try_finish_plan closing)) finish_finds_busy) (view w.now p.old) (view w.now p.new) closed }
+    ensures call { CallClause me (Retries (Completes (try_finish_plan closing)) finish_finds_busy)
+        (view w.now p.old) (view w.now p.new) closed }
     ensures ready { IsReady w.now p.new me }
 {
     let mut closing = closing;

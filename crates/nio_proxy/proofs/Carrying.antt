@@ -5,7 +5,7 @@ use Rattle.std.proofs.Math.ListN.{drop_of_length-le}
 use Rattle.std.proofs.Math.Seq.{drop-append_seam}
 use Rattle.std.proofs.lemmas.List.{append-nil, length-take}
 use Rattle.nio_base.specs.declared.numbers.ChanNo.{ChanNo}
-use Rattle.nio_relay.specs.Flow.{Flow, IsLawful, held, takes, writes}
+use Rattle.nio_relay.specs.Flow.{Flow, IsLawful, buffered, takes, writes}
 use Rattle.nio_steps.specs.KeyCalls.{is_within}
 use Rattle.nio_proxy.specs.Nets.{Members, Works}
 use Rattle.nio_proxy.specs.Passing.{BothSame, OneRose, Passes}
@@ -13,10 +13,10 @@ use Rattle.nio_proxy.specs.Relaying.{KeepsSink, KeepsSource, SameSink, SameSourc
 use Rattle.nio_proxy.proofs.Ends.{end_moved, end_sink, end_source}
 use Rattle.nio_proxy.proofs.Working.{all_same, rose_from, works_first, works_none, works_second, works_then}
 
--- where nothing was held and all that was read was written, nothing is held
-pub held_passed : (f : Flow) (bytes : List ℕ) (n : ℕ) → held f ≡ [] → n ≡ length bytes
-    → held (writes (takes f bytes) n) ≡ []
-held_passed f bytes n none all =
+-- where nothing was buffered and all that was read was written, nothing is buffered
+pub buffered_passed : (f : Flow) (bytes : List ℕ) (n : ℕ) → buffered f ≡ [] → n ≡ length bytes
+    → buffered (writes (takes f bytes) n) ≡ []
+buffered_passed f bytes n none all =
     let w = f.written in
     let taken = f.taken ++ bytes in
     let few : length taken ≤ length (w ++ take n (drop (length w) taken))
@@ -32,13 +32,13 @@ held_passed f bytes n none all =
     ) in
     drop_of_length-le taken few
 
--- where nothing was held, what is taken next is what is held
-pub held_new : (f : Flow) (bytes : List ℕ) → IsLawful f → held f ≡ [] → held (takes f bytes) ≡ bytes
-held_new f bytes lawful none =
+-- where nothing was buffered, what is taken next is what is buffered
+pub buffered_new : (f : Flow) (bytes : List ℕ) → IsLawful f → buffered f ≡ [] → buffered (takes f bytes) ≡ bytes
+buffered_new f bytes lawful none =
     let w = f.written in
     let rest = lawful.in_order.0 in
     let begins : w ++ rest ≡ f.taken = lawful.in_order.1 in
-    let rest_is : held f ≡ rest = ap (drop (length w)) (sym begins) ∙ drop-append_seam w rest in
+    let rest_is : buffered f ≡ rest = ap (drop (length w)) (sym begins) ∙ drop-append_seam w rest in
     let all : f.taken ≡ w = sym begins ∙ ap (λ xs. w ++ xs) (sym rest_is ∙ none) ∙ append-nil w in
     ap (λ xs. drop (length w) (xs ++ bytes)) all ∙ drop-append_seam w bytes
 

@@ -12,7 +12,7 @@ use Rattle.nio_proxy.specs.Relaying.{KeepsSink, KeepsSource}
 
 -- A direction that takes from the link a and writes to the link b has gone from f to g, and the net from x to y. What
 -- the links have carried and what the direction has taken and written agree as before. The links stand as they did.
--- What a was ready to have written, and b to have read, it still is.
+-- If a was ready for writing, it still is, and so is b for reading.
 pub record Passes {N : Type 0} (n : Members N) (a b : ChanNo) (f g : Flow) (x y : N) : Type 0 where
   pub work : Works n a b x y
   pub source : KeepsSource f g (n.link x a) (n.place x a) (n.link y a) (n.place y a)

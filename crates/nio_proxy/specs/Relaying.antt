@@ -41,7 +41,7 @@ abbrev pub IsTarget : Bool → Link → Place → Carried → Type 0
 IsTarget true l p c = IsEnd l p c
 IsTarget false l p c = IsPending l p c
 
--- a link from which a direction takes bytes: what the link has carried and what the direction has taken agree on
+-- a link from which a direction takes bytes: what it has carried and what the direction has taken still agree
 abbrev pub KeepsSource : Flow → Flow → Link → Place → Link → Place → Type 0
 KeepsSource f g l0 p0 l1 p1 = (incoming : Flow) → IsEnd l0 p0 (carried f incoming) → IsEnd l1 p1 (carried g incoming)
 

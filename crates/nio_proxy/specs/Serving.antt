@@ -31,14 +31,14 @@ target_of k = record { 0 = 2 * k + 2 }
 
 -- ---- what was carried
 
--- the link has carried this, as far as the net tells it
+-- the link has carried this, as far as the net shows it
 pub record HasCarried (l : Link) (c : Carried) : Type 0 where
   pub got : IfSome l.got (λ bytes. bytes ≡ c.got)
   pub ended : IfSome l.ended (λ x. x ≡ c.ended)
   pub put : IfSome l.put (λ bytes. bytes ≡ c.put)
   pub shut : IfSome l.shut (λ x. x ≡ c.shut)
 
--- as far as the net tells it, the two links have carried what stands in this relation
+-- as far as the net shows it, the two links have carried what stands in this relation
 pub record HaveCarried (P : Carried → Carried → Type 0) (client target : Link) : Type 0 where
   pub of_client : Carried
   pub of_target : Carried

@@ -1,5 +1,6 @@
 //! All connections that were accepted.
-ghost use Rattle.std.specs.Prelude.{◌≡◌, ◌≢◌, ℕ, ◌+◌, ◌<◌, ◌≤◌, [], ◌∷◌, ◌++◌, Some, Err, if◌then◌else◌, length, slice_get, vec_capacity, IfOk, IsFalse, IsTrue, MatchOption, OnErr};
+ghost use Rattle.std.specs.Prelude.{◌≡◌, ◌≢◌, ℕ, ◌+◌, ◌<◌, ◌≤◌, [], ◌∷◌, ◌++◌, Some, Err, if◌then◌else◌, length};
+ghost use Rattle.std.specs.Prelude.{slice_get, vec_capacity, IfOk, IsFalse, IsTrue, MatchOption, OnErr};
 ghost use Rattle.nio_base.specs.declared.numbers.ChanNo.{ChanNo};
 ghost use Rattle.nio_bytes.specs.Cause.{Rose};
 ghost use Rattle.nio_link.specs.Links.{IsSameBut};
@@ -43,10 +44,14 @@ fn accept<N: Net>(net: &mut N, client: ChanNo) -> Result<bool, Failed>
     requires listens { (N.place net.old listener).standing ≡ Listening }
     requires unasked { N.place net.old client ≡ unused }
     ensures begun { IfOk result (λ more. IsTrue more → Accepts N.Net client net.old net.new) }
-    ensures accepted { IfOk result (λ more. IsTrue more → N.place net.new client ≡ record { role = role.Accepted listener; standing = Linked }) }
+    ensures accepted { IfOk result (λ more. IsTrue more → N.place net.new client
+        ≡ record { role = role.Accepted listener; standing = Linked }) }
     ensures early { IfOk result (λ more. IsFalse more → IsStill N.Net net.old net.new) }
     ensures failed { OnErr result (FailsToAccept N.Net client net.old net.new) }
-    ensures unmade { OnErr result (N.place net.new client ≡ record { role = role.Accepted listener; standing = Nothing }) }
+    ensures unmade { OnErr result (N.place net.new client ≡ record {
+      role = role.Accepted listener;
+      standing = Nothing;
+    }) }
     ensures cause { OnErr result (Rose (N.faults net.old listener) (N.faults net.new listener)) }
 {
     net.accept(LISTENER, client)
@@ -85,7 +90,8 @@ impl Connections {
 
     // Takes a connection out that hasn't ended.
     fn take(&mut self, number: usize) -> Option<Relay>
-        ensures taken { MatchOption result (self.new ≡ self.old) (λ relay. slice_get self.old.slots.items number ≡ Some (Live relay)) }
+        ensures taken { MatchOption result (self.new ≡ self.old)
+            (λ relay. slice_get self.old.slots.items number ≡ Some (Live relay)) }
         ensures others { IsSameButOne number self.old self.new }
         ensures ended { self.new.ended ≡ self.old.ended }
         ensures faulted { self.new.faulted ≡ self.old.faulted }
@@ -146,7 +152,8 @@ impl Connections {
         requires ready_target { IsTrue (is_within at_target (N.ready net.old (target_of number))) }
         requires served { AreServed (N.link net.old) (N.place net.old) self.old }
         ensures serving { Serving N.Net net.old net.new self.old self.new }
-        ensures ready { (c : ChanNo) → c ≢ client_of number → c ≢ target_of number → N.ready net.new c ≡ N.ready net.old c }
+        ensures ready { (c : ChanNo) → c ≢ client_of number → c ≢ target_of number → N.ready net.new c
+            ≡ N.ready net.old c }
         ensures listens { N.place net.new listener ≡ N.place net.old listener }
     {
         let Some(relay) = self.take(number) else {
@@ -218,7 +225,8 @@ impl Connections {
     pub(crate) fn close_all<N: Net>(&self, net: &mut N)
         requires served { AreServed (N.link net.old) (N.place net.old) self.now }
         ensures quiet { IsQuiet N.Net net.old net.new }
-        ensures closed { (k : ℕ) → k < length self.now.slots.items → IsVacant (N.place net.new (client_of k)).standing × IsVacant (N.place net.new (target_of k)).standing }
+        ensures closed { (k : ℕ) → k < length self.now.slots.items → IsVacant (N.place net.new (client_of k)).standing
+            × IsVacant (N.place net.new (target_of k)).standing }
         ensures listens { N.place net.new listener ≡ N.place net.old listener }
     {
         for number in 0..self.slots.len() {
@@ -233,7 +241,8 @@ fn close_unended<N: Net>(net: &mut N, slot: &Slot, client: ChanNo, target: ChanN
     requires apart { client ≢ target }
     ensures quiet { IsQuiet N.Net net.old net.new }
     ensures places { (c : ChanNo) → c ≢ client → c ≢ target → N.place net.new c ≡ N.place net.old c }
-    ensures closed { IsFalse (has_ended (Some slot.now)) → IsVacant (N.place net.new client).standing × IsVacant (N.place net.new target).standing }
+    ensures closed { IsFalse (has_ended (Some slot.now)) → IsVacant (N.place net.new client).standing
+        × IsVacant (N.place net.new target).standing }
 {
     if !slot.has_ended() {
         close_links(net, client, target);

@@ -5,7 +5,7 @@ ghost use Rattle.nio_bytes.specs.Cause.{Rose};
 ghost use Rattle.nio_link.specs.Links.{IsGot};
 ghost use Rattle.nio_link.specs.Places.{IsLinked};
 ghost use Rattle.nio_link.specs.Readiness.{ready_after_read};
-ghost use Rattle.nio_relay.specs.Flow.{Flow, MayTake, held, takes};
+ghost use Rattle.nio_relay.specs.Flow.{Flow, MayTake, buffered, takes};
 ghost use Rattle.nio_steps.specs.KeyCalls.{is_within};
 ghost use Rattle.nio_proxy.specs.Nets.{Works};
 ghost use Rattle.nio_proxy.specs.Passing.{BothSame, OneRose, Passes, flow_after_read};
@@ -46,7 +46,8 @@ fn read_once<N: Net>(
     requires scratch { length scratch.old ≡ CAPACITY }
     requires ready { IsTrue (is_within 1 (N.ready net.old own)) }
     requires linked { IsLinked (N.place net.old own).standing }
-    ensures source { KeepsSource outgoing.old outgoing.new (N.link net.old own) (N.place net.old own) (N.link net.new own) (N.place net.new own) }
+    ensures source { KeepsSource outgoing.old outgoing.new (N.link net.old own) (N.place net.old own)
+        (N.link net.new own) (N.place net.new own) }
     ensures sink { SameSink outgoing.old outgoing.new }
     ensures work { Works N.Net own own net.old net.new }
     ensures stands { N.place net.new own ≡ N.place net.old own }
@@ -82,7 +83,8 @@ fn read_all<N: Net>(
     requires scratch { length scratch.old ≡ CAPACITY }
     requires ready { IsTrue (is_within 1 (N.ready net.old own)) }
     requires linked { IsLinked (N.place net.old own).standing }
-    ensures source { KeepsSource outgoing.old outgoing.new (N.link net.old own) (N.place net.old own) (N.link net.new own) (N.place net.new own) }
+    ensures source { KeepsSource outgoing.old outgoing.new (N.link net.old own) (N.place net.old own)
+        (N.link net.new own) (N.place net.new own) }
     ensures sink { SameSink outgoing.old outgoing.new }
     ensures work { Works N.Net own own net.old net.new }
     ensures stands { N.place net.new own ≡ N.place net.old own }
@@ -98,12 +100,13 @@ fn read_all<N: Net>(
     Ok(())
 }
 
-// Writes once what a direction holds to the link on which it is put. Says whether more may be written at once.
+// Writes once what a direction buffers to the link on which it is put. Says whether more may be written at once.
 #[tactic(auto, using(crate::proofs::Bits::keeps_read))]
 fn write_once<N: Net>(net: &mut N, own: ChanNo, incoming: &mut Direction) -> Result<bool, Failed>
     requires ready { IsTrue (is_within 4 (N.ready net.old own)) }
     requires stands { (N.place net.old own).standing ≡ open_or_shut incoming.old.shut }
-    ensures sink { KeepsSink incoming.old incoming.new (N.link net.old own) (N.place net.old own) (N.link net.new own) (N.place net.new own) }
+    ensures sink { KeepsSink incoming.old incoming.new (N.link net.old own) (N.place net.old own) (N.link net.new own)
+        (N.place net.new own) }
     ensures source { SameSource incoming.old incoming.new }
     ensures work { Works N.Net own own net.old net.new }
     ensures stands { N.place net.new own ≡ N.place net.old own }
@@ -126,11 +129,12 @@ fn write_once<N: Net>(net: &mut N, own: ChanNo, incoming: &mut Direction) -> Res
     }
 }
 
-// Writes what a direction holds. Says whether that is all written, and more could be written at once.
+// Writes what a direction buffers. Says whether that is all written, and more could be written at once.
 fn write_all<N: Net>(net: &mut N, own: ChanNo, incoming: &mut Direction) -> Result<bool, Failed>
     requires ready { IsTrue (is_within 4 (N.ready net.old own)) }
     requires stands { (N.place net.old own).standing ≡ open_or_shut incoming.old.shut }
-    ensures sink { KeepsSink incoming.old incoming.new (N.link net.old own) (N.place net.old own) (N.link net.new own) (N.place net.new own) }
+    ensures sink { KeepsSink incoming.old incoming.new (N.link net.old own) (N.place net.old own) (N.link net.new own)
+        (N.place net.new own) }
     ensures source { SameSource incoming.old incoming.new }
     ensures work { Works N.Net own own net.old net.new }
     ensures stands { N.place net.new own ≡ N.place net.old own }
@@ -139,7 +143,7 @@ fn write_all<N: Net>(net: &mut N, own: ChanNo, incoming: &mut Direction) -> Resu
     ensures calm { OnOk result (N.faults net.new own ≡ N.faults net.old own) }
     ensures read { IsTrue (is_within 1 (N.ready net.old own)) → IsTrue (is_within 1 (N.ready net.new own)) }
     ensures writable { IfOk result (λ more. IsTrue more → IsTrue (is_within 4 (N.ready net.new own))) }
-    ensures none_held { IfOk result (λ more. IsTrue more → held incoming.new ≡ []) }
+    ensures none_buffered { IfOk result (λ more. IsTrue more → buffered incoming.new ≡ []) }
 {
     for _ in 0..ROUNDS {
         if incoming.front().is_empty() {
@@ -152,9 +156,9 @@ fn write_all<N: Net>(net: &mut N, own: ChanNo, incoming: &mut Direction) -> Resu
     Ok(false)
 }
 
-// Writes bytes to the link `own` that were just read, while none were held. What it doesn't take is held. Says whether
-// it took all.
-#[tactic(auto, using(crate::proofs::Bits::keeps_read, crate::proofs::Carrying::held_new, crate::proofs::Carrying::held_passed))]
+// Writes bytes to the link `own` that were just read, while none were buffered. What it doesn't take is buffered. Says
+// whether it took all.
+#[tactic(auto, using(crate::proofs::Bits::keeps_read, crate::proofs::Carrying::buffered_new, crate::proofs::Carrying::buffered_passed))]
 fn write_new<N: Net>(
     net: &mut N,
     own: ChanNo,
@@ -165,8 +169,9 @@ fn write_new<N: Net>(
     requires ready { IsTrue (is_within 4 (N.ready net.old own)) }
     requires stands { (N.place net.old own).standing ≡ open_or_shut direction.old.shut }
     requires bytes { MayTake direction.old bytes.now }
-    requires none_held { held direction.old ≡ [] }
-    ensures sink { KeepsSink direction.old direction.new (N.link net.old own) (N.place net.old own) (N.link net.new own) (N.place net.new own) }
+    requires none_buffered { buffered direction.old ≡ [] }
+    ensures sink { KeepsSink direction.old direction.new (N.link net.old own) (N.place net.old own) (N.link net.new own)
+        (N.place net.new own) }
     ensures source { SameSource (takes direction.old bytes.now) direction.new }
     ensures work { Works N.Net own own net.old net.new }
     ensures stands { N.place net.new own ≡ N.place net.old own }
@@ -175,7 +180,7 @@ fn write_new<N: Net>(
     ensures calm { OnOk result (N.faults net.new own ≡ N.faults net.old own) }
     ensures read { IsTrue (is_within 1 (N.ready net.old own)) → IsTrue (is_within 1 (N.ready net.new own)) }
     ensures writable { IfOk result (λ all. IsTrue all → IsTrue (is_within 4 (N.ready net.new own))) }
-    ensures none_held { IfOk result (λ all. IsTrue all → held direction.new ≡ []) }
+    ensures none_buffered { IfOk result (λ all. IsTrue all → buffered direction.new ≡ []) }
 {
     direction.law();
     if direction.is_shut() {
@@ -205,7 +210,8 @@ fn read_new<N: Net>(net: &mut N, own: ChanNo, scratch: &mut [u8]) -> Result<Got,
     requires ready { IsTrue (is_within 1 (N.ready net.old own)) }
     requires linked { IsLinked (N.place net.old own).standing }
     ensures got { IfOk result (IsGot scratch.old) }
-    ensures source { (f : Flow) → KeepsSource f (flow_after_read result scratch.new f) (N.link net.old own) (N.place net.old own) (N.link net.new own) (N.place net.new own) }
+    ensures source { (f : Flow) → KeepsSource f (flow_after_read result scratch.new f) (N.link net.old own)
+        (N.place net.old own) (N.link net.new own) (N.place net.new own) }
     ensures work { Works N.Net own own net.old net.new }
     ensures stands { N.place net.new own ≡ N.place net.old own }
     ensures cause { OnErr result (Rose (N.faults net.old own) (N.faults net.new own)) }
@@ -231,13 +237,13 @@ fn pass_once<N: Net>(
     requires write { IsTrue (is_within 4 (N.ready net.old sink)) }
     requires linked { IsLinked (N.place net.old source).standing }
     requires stands { (N.place net.old sink).standing ≡ open_or_shut direction.old.shut }
-    requires none_held { held direction.old ≡ [] }
+    requires none_buffered { buffered direction.old ≡ [] }
     ensures passes { Passes N.Net source sink direction.old direction.new net.old net.new }
     ensures cause { OnErr result (OneRose (N.faults net.old) (N.faults net.new) source sink) }
     ensures calm { OnOk result (BothSame (N.faults net.old) (N.faults net.new) source sink) }
     ensures readable { IfOk result (λ more. IsTrue more → IsTrue (is_within 1 (N.ready net.new source))) }
     ensures writable { IfOk result (λ more. IsTrue more → IsTrue (is_within 4 (N.ready net.new sink))) }
-    ensures none_held { IfOk result (λ more. IsTrue more → held direction.new ≡ []) }
+    ensures none_buffered { IfOk result (λ more. IsTrue more → buffered direction.new ≡ []) }
 {
     if direction.is_ended() {
         return Ok(false);
@@ -264,7 +270,7 @@ fn pass_all<N: Net>(
     requires write { IsTrue (is_within 4 (N.ready net.old sink)) }
     requires linked { IsLinked (N.place net.old source).standing }
     requires stands { (N.place net.old sink).standing ≡ open_or_shut direction.old.shut }
-    requires none_held { held direction.old ≡ [] }
+    requires none_buffered { buffered direction.old ≡ [] }
     ensures passes { Passes N.Net source sink direction.old direction.new net.old net.new }
     ensures cause { OnErr result (OneRose (N.faults net.old) (N.faults net.new) source sink) }
     ensures calm { OnOk result (BothSame (N.faults net.old) (N.faults net.new) source sink) }
@@ -277,7 +283,7 @@ fn pass_all<N: Net>(
     Ok(true)
 }
 
-// Writes what is held where the link was told ready for it. Says whether more could be written at once.
+// Writes what is buffered where the link was told ready for it. Says whether more could be written at once.
 fn write_told<N: Net>(
     net: &mut N,
     source: ChanNo,
@@ -293,7 +299,7 @@ fn write_told<N: Net>(
     ensures cause { OnErr result (OneRose (N.faults net.old) (N.faults net.new) source sink) }
     ensures calm { OnOk result (BothSame (N.faults net.old) (N.faults net.new) source sink) }
     ensures writable { IfOk result (λ more. IsTrue more → IsTrue (is_within 4 (N.ready net.new sink))) }
-    ensures none_held { IfOk result (λ more. IsTrue more → held direction.new ≡ []) }
+    ensures none_buffered { IfOk result (λ more. IsTrue more → buffered direction.new ≡ []) }
 {
     if can_write {
         write_all(net, sink, direction)
@@ -324,7 +330,7 @@ fn read_told<N: Net>(
     requires write { IsTrue can_write → IsTrue (is_within 4 (N.ready net.old sink)) }
     requires linked { IsLinked (N.place net.old source).standing }
     requires stands { (N.place net.old sink).standing ≡ open_or_shut direction.old.shut }
-    requires none_held { IsTrue can_write → held direction.old ≡ [] }
+    requires none_buffered { IsTrue can_write → buffered direction.old ≡ [] }
     ensures passes { Passes N.Net source sink direction.old direction.new net.old net.new }
     ensures cause { OnErr result (OneRose (N.faults net.old) (N.faults net.new) source sink) }
     ensures calm { OnOk result (BothSame (N.faults net.old) (N.faults net.new) source sink) }
@@ -369,7 +375,8 @@ fn carry<N: Net>(
 #[tactic(auto, using(crate::proofs::Working::works_none))]
 fn pass_end<N: Net>(net: &mut N, own: ChanNo, incoming: &mut Direction) -> Result<(), Failed>
     requires stands { (N.place net.old own).standing ≡ open_or_shut incoming.old.shut }
-    ensures sink { KeepsSink incoming.old incoming.new (N.link net.old own) (N.place net.old own) (N.link net.new own) (N.place net.new own) }
+    ensures sink { KeepsSink incoming.old incoming.new (N.link net.old own) (N.place net.old own) (N.link net.new own)
+        (N.place net.new own) }
     ensures source { SameSource incoming.old incoming.new }
     ensures work { Works N.Net own own net.old net.new }
     ensures cause { OnErr result (Rose (N.faults net.old own) (N.faults net.new own)) }

@@ -154,7 +154,8 @@ impl Proxy {
         ensures serving { Serving N.Net net.old net.new self.old.connections self.new.connections }
         ensures listens { N.place net.new listener ≡ N.place net.old listener }
         ensures port { self.new.port ≡ self.old.port }
-        ensures ready { (c : ChanNo) → c ≢ client_of number → c ≢ target_of number → N.ready net.new c ≡ N.ready net.old c }
+        ensures ready { (c : ChanNo) → c ≢ client_of number → c ≢ target_of number → N.ready net.new c
+            ≡ N.ready net.old c }
         ensures cause { result ≢ Err NetFault }
     {
         match self.connections.serve(net, &mut self.board, number, at_client, at_target, scratch) {
@@ -163,8 +164,8 @@ impl Proxy {
         }
     }
 
-    // Does what a channel was told ready for: where it is a client's link, also what its target's link was told, if that
-    // comes next.
+    // Does what a channel was told ready for: where it is a client's link, also what its target's link was told, if
+    // that comes next.
     fn serve_told<R: Wait, N: Net>(
         &mut self,
         rt: &R,
@@ -199,8 +200,8 @@ impl Proxy {
         }
     }
 
-    // Does what a selection told: serves each connection once, with what was told first of each of its links. It may not
-    // be ready any more for what was told of it again; the next selection tells that if it is.
+    // Does what a selection told: serves each connection once, with what was told first of each of its links. It may
+    // not be ready any more for what was told of it again; the next selection tells that if it is.
     fn serve_all<R: Wait, N: Net>(
         &mut self,
         rt: &R,
@@ -273,7 +274,8 @@ impl Proxy {
         ensures serving { Serving N.Net net.old net.new self.old.connections self.new.connections }
         ensures listens { N.place net.new listener ≡ N.place net.old listener }
         ensures port { self.new.port ≡ self.old.port }
-        ensures cause { result ≡ Err NetFault → Rose (N.poll_faults net.old) (N.poll_faults net.new) ⊎ Rose (N.faults net.old listener) (N.faults net.new listener) }
+        ensures cause { result ≡ Err NetFault → Rose (N.poll_faults net.old) (N.poll_faults net.new)
+            ⊎ Rose (N.faults net.old listener) (N.faults net.new listener) }
     {
         let selected = self.select(rt, alloc, net, told);
         if selected.is_err() {
@@ -313,7 +315,8 @@ impl Proxy {
         ensures serving { Serving N.Net net.old net.new self.old.connections self.new.connections }
         ensures listens { ListensAt self.new.port (N.place net.new listener).standing }
         ensures role { (N.place net.new listener).role ≡ (N.place net.old listener).role }
-        ensures cause { result ≡ Err NetFault → Rose (N.poll_faults net.old) (N.poll_faults net.new) ⊎ Rose (N.faults net.old listener) (N.faults net.new listener) }
+        ensures cause { result ≡ Err NetFault → Rose (N.poll_faults net.old) (N.poll_faults net.new)
+            ⊎ Rose (N.faults net.old listener) (N.faults net.new listener) }
         ensures ended { OnOk result (self.new.connections.ended ≡ self.new.connections.conns) }
     {
         let mut told = Vec::new(alloc);
@@ -342,7 +345,8 @@ impl Proxy {
         ensures serving { Serving N.Net net.old net.new self.old.connections self.new.connections }
         ensures listens { ListensAt self.new.port (N.place net.new listener).standing }
         ensures role { (N.place net.new listener).role ≡ (N.place net.old listener).role }
-        ensures cause { result ≡ Err NetFault → Rose (N.poll_faults net.old) (N.poll_faults net.new) ⊎ Rose (N.faults net.old listener) (N.faults net.new listener) }
+        ensures cause { result ≡ Err NetFault → Rose (N.poll_faults net.old) (N.poll_faults net.new)
+            ⊎ Rose (N.faults net.old listener) (N.faults net.new listener) }
         ensures ended { OnOk result (self.new.connections.ended ≡ self.new.connections.conns) }
     {
         match vec![in alloc; 0; CAPACITY] {

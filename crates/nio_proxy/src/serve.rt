@@ -19,6 +19,7 @@ pub enum ServeError {
     /// A poll failed, or the listener.
     #[error("the net failed")]
     NetFault,
+    /// There is no memory, or the proxy's own table refused a call.
     #[error("out of memory")]
     Memory,
 }
@@ -35,10 +36,12 @@ pub fn serve_select<R: Wait, N: Net>(
     requires plan { IsServable plan }
     requires fresh { (c : ChanNo) → IsUnused (N.link net.old c) }
     requires unasked { (c : ChanNo) → N.place net.old c ≡ unused }
-    ensures serves { Serves plan (N.link net.new) (N.place net.new) (N.faults net.old) (N.faults net.new) (N.poll_faults net.old) (N.poll_faults net.new) result }
+    ensures serves { Serves plan (N.link net.new) (N.place net.new) (N.faults net.old) (N.faults net.new)
+        (N.poll_faults net.old) (N.poll_faults net.new) result }
     ensures relays { RelaysBytes (N.link net.new) }
     ensures leaves { LeavesNothing plan (N.link net.new) (N.place net.new) }
-    ensures complete { NoneRose (N.faults net.old) (N.faults net.new) (N.poll_faults net.old) (N.poll_faults net.new) → ServesAllOr plan.conns (N.link net.new) result }
+    ensures complete { NoneRose (N.faults net.old) (N.faults net.new) (N.poll_faults net.old) (N.poll_faults net.new)
+        → ServesAllOr plan.conns (N.link net.new) result }
 {
     let Ok(mut proxy) = Proxy::open(rt, alloc, plan) else {
         return Err(ServeError::Memory);

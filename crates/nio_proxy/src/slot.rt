@@ -1,5 +1,6 @@
 //! One connection: its two directions, and what the table watches of its links.
-ghost use Rattle.std.specs.Prelude.{◌≡◌, ◌≢◌, ◌⊎◌, ◌↔◌, if◌then◌else◌, Some, IfOk, IsErr, IsTrue, IsFalse, OnErr, OnOk, length};
+ghost use Rattle.std.specs.Prelude.{◌≡◌, ◌≢◌, ◌⊎◌, ◌↔◌, if◌then◌else◌, Some, IfOk, IsErr, IsTrue, IsFalse, OnErr, OnOk};
+ghost use Rattle.std.specs.Prelude.{length};
 ghost use Rattle.nio_base.specs.declared.numbers.Addr.{Addr};
 ghost use Rattle.nio_base.specs.declared.numbers.ChanNo.{ChanNo};
 ghost use Rattle.nio_bytes.specs.Cause.{Rose};
@@ -90,7 +91,8 @@ impl Relay {
         requires apart { client ≢ target }
         requires ready_client { IsTrue (is_within at_client (N.ready net.old client)) }
         requires ready_target { IsTrue (is_within at_target (N.ready net.old target)) }
-        requires relaying { IsRelaying self.old.is_connected self.old.there self.old.back (N.link net.old client) (N.link net.old target) (N.place net.old client) (N.place net.old target) }
+        requires relaying { IsRelaying self.old.is_connected self.old.there self.old.back (N.link net.old client)
+            (N.link net.old target) (N.place net.old client) (N.place net.old target) }
         ensures relaying { OnOk result (IsRelaying self.new.is_connected self.new.there self.new.back
             (N.link net.new client) (N.link net.new target) (N.place net.new client) (N.place net.new target)) }
         ensures broken { OnErr result (IsBroken self.new.there self.new.back
@@ -184,7 +186,8 @@ fn settle<N: Net>(
         (N.link net.old client) (N.link net.old target) (N.place net.old client) (N.place net.old target)) }
     requires broken { OnErr served (IsBroken relay.there relay.back
         (N.link net.old client) (N.link net.old target) (N.place net.old client)) }
-    ensures slot { IsSlot (Some result) (N.link net.new client) (N.link net.new target) (N.place net.new client) (N.place net.new target) }
+    ensures slot { IsSlot (Some result) (N.link net.new client) (N.link net.new target) (N.place net.new client)
+        (N.place net.new target) }
     ensures roles { (to : Addr) (r s : Role) → HasRoles to (Some (Live relay)) r s → HasRoles to (Some result) r s }
     ensures faulty { IsTrue (has_faulted (Some result)) ↔ IsErr served }
     ensures quiet { IsQuiet N.Net net.old net.new }
@@ -217,8 +220,10 @@ pub(crate) fn serve_relay<N: Net>(
     requires apart { client ≢ target }
     requires ready_client { IsTrue (is_within at_client (N.ready net.old client)) }
     requires ready_target { IsTrue (is_within at_target (N.ready net.old target)) }
-    requires relaying { IsRelaying relay.is_connected relay.there relay.back (N.link net.old client) (N.link net.old target) (N.place net.old client) (N.place net.old target) }
-    ensures slot { IsSlot (Some result) (N.link net.new client) (N.link net.new target) (N.place net.new client) (N.place net.new target) }
+    requires relaying { IsRelaying relay.is_connected relay.there relay.back (N.link net.old client)
+        (N.link net.old target) (N.place net.old client) (N.place net.old target) }
+    ensures slot { IsSlot (Some result) (N.link net.new client) (N.link net.new target) (N.place net.new client)
+        (N.place net.new target) }
     ensures roles { (to : Addr) (r s : Role) → HasRoles to (Some (Live relay)) r s → HasRoles to (Some result) r s }
     ensures faulty { IsTrue (has_faulted (Some result)) → OneRose (N.faults net.old) (N.faults net.new) client target }
     ensures calm { IsFalse (has_faulted (Some result)) → BothSame (N.faults net.old) (N.faults net.new) client target }
@@ -234,14 +239,14 @@ pub(crate) fn serve_relay<N: Net>(
 // A quarter of a direction's room.
 const QUARTER: usize = CAPACITY / 4;
 
-// Whether bytes for a direction are waited for. Not for a few: a selection costs more than they bring.
+// Whether to wait for bytes for a direction: only where a quarter of its room is free, since a selection costs time.
 fn awaits_bytes(direction: &Direction) -> bool {
     direction.want().read && direction.room() >= QUARTER
 }
 
 // What a link is watched for: the one direction takes from it, and the other writes to it. Where more may be passed on
 // at once in a direction, its one link is also watched for reading, though the direction may be full, and its other one
-// for writing, though nothing may be held: then the next selection tells whether both are ready.
+// for writing, though nothing may be buffered: then the next selection tells whether both are ready.
 fn wanted(outgoing: &Direction, incoming: &Direction, flows_out: bool, flows_in: bool) -> Ops {
     let read = if flows_out || awaits_bytes(outgoing) {
         Ops::READ
@@ -289,7 +294,8 @@ impl Relay {
 impl Slot {
     /// Watches the links of a connection that hasn't ended for what is to be done next.
     pub(crate) fn follow(&mut self, board: &mut Board) -> Result<(), Refused>
-        ensures slot { (client target : Link) (p q : Place) → IsSlot (Some self.old) client target p q → IsSlot (Some self.new) client target p q }
+        ensures slot { (client target : Link) (p q : Place) → IsSlot (Some self.old) client target p q
+            → IsSlot (Some self.new) client target p q }
         ensures roles { (to : Addr) (r s : Role) → HasRoles to (Some self.old) r s → HasRoles to (Some self.new) r s }
         ensures ended { has_ended (Some self.new) ≡ has_ended (Some self.old) }
         ensures faulted { has_faulted (Some self.new) ≡ has_faulted (Some self.old) }
@@ -355,7 +361,8 @@ fn connect_relay<N: Net>(
     requires target_unused { IsUnused (N.link net.old target) }
     requires accepted { N.place net.old client ≡ record { role = role.Accepted listener; standing = Linked } }
     requires unasked { N.place net.old target ≡ unused }
-    ensures slot { IsSlotOf to (Some result) (N.link net.new client) (N.link net.new target) (N.place net.new client) (N.place net.new target) }
+    ensures slot { IsSlotOf to (Some result) (N.link net.new client) (N.link net.new target) (N.place net.new client)
+        (N.place net.new target) }
     ensures faulty { IsTrue (has_faulted (Some result)) → Rose (N.faults net.old target) (N.faults net.new target) }
     ensures calm { IsFalse (has_faulted (Some result)) → N.faults net.new target ≡ N.faults net.old target }
     ensures begins { Begins N.Net client target net.old net.new }
@@ -390,7 +397,8 @@ pub(crate) fn take_on<R: Wait, N: Net>(
     requires target_unused { IsUnused (N.link net.old target) }
     requires accepted { N.place net.old client ≡ record { role = role.Accepted listener; standing = Linked } }
     requires unasked { N.place net.old target ≡ unused }
-    ensures slot { IsSlotOf to (Some result.0) (N.link net.new client) (N.link net.new target) (N.place net.new client) (N.place net.new target) }
+    ensures slot { IsSlotOf to (Some result.0) (N.link net.new client) (N.link net.new target) (N.place net.new client)
+        (N.place net.new target) }
     ensures faulty { IsTrue (has_faulted (Some result.0)) → Rose (N.faults net.old target) (N.faults net.new target) }
     ensures calm { IsFalse (has_faulted (Some result.0)) → N.faults net.new target ≡ N.faults net.old target }
     ensures begins { Begins N.Net client target net.old net.new }

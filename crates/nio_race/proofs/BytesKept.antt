@@ -13,17 +13,17 @@ use Rattle.nio_event.specs.declared.call.Call.TheVariants as call
 use Rattle.nio_event.specs.declared.call.ScriptCall.{ScriptCall}
 use Rattle.nio_event.specs.declared.reply.Reply.{Reply}
 use Rattle.nio_event.specs.declared.reply.Reply.TheVariants as reply
-use Rattle.nio_pipe.specs.Ends.{IsAtEnd, is_marked, received, sent, sink_chan, source_chan}
+use Rattle.nio_pipe.specs.Ends.{IsAtEnd, is_sealed, received, sent, sink_chan, source_chan}
 use Rattle.nio_plain.specs.ScriptState.{Pipe}
 use Rattle.nio_race_text.specs.declared.call.RaceCall.{RaceCall}
 use Rattle.nio_race_text.specs.declared.call.RaceCall.TheVariants.{Script}
 use Rattle.nio_race_text.specs.declared.call.RaceLine.{RaceLine}
 use Rattle.nio_race.proofs.EndLines.{no_front}
-use Rattle.nio_race.proofs.LineEnds.{leave_end-append}
+use Rattle.nio_race.proofs.LineEnds.{leave_seal-append}
 use Rattle.nio_race.proofs.PairsLists.{all-at, at_itself, standing}
 use Rattle.nio_race.proofs.PairsRaced.{PipeGoesOn}
 use Rattle.nio_race.specs.Ends.{AreEach, HasMet, IsPartedAs, PartedPipe}
-use Rattle.nio_race.specs.PipeBytes.{KeepsBytes, TellsEnd, all_read, all_written, leave_end, read_in}
+use Rattle.nio_race.specs.PipeBytes.{KeepsBytes, TellsEnd, all_read, all_written, leave_seal, read_in}
 use Rattle.nio_race.specs.PipeBytes.{setup_lines, written_in}
 use Rattle.nio_race.specs.PipeFinds.{Awaited, LinesFind, LinesTake, awaited_at_go, room_at_go}
 use Rattle.nio_race.specs.Race.{FindsInPipe, KeepsPipe, lines_by}
@@ -34,17 +34,17 @@ use Rattle.nio_race.specs.Setup.{KeepsPipeOfSetup}
 -- What was read in the setup, and what waited then, is what was written there. Behind `go` what was read begins what
 -- waited and what was written then.
 pub keeps_bytes : (source sink : ChanNo) (reads reads' writes writes' : List (RaceCall × Reply)) (waiting : List ℕ)
-    (marked : Bool)
+    (sealed : Bool)
     → all_read source reads ++ waiting ≡ all_written sink writes
-    → marked ≡ leave_end sink writes
-    → (TellsEnd source reads → IsTrue marked × (waiting ≡ []))
+    → sealed ≡ leave_seal sink writes
+    → (TellsEnd source reads → IsTrue sealed × (waiting ≡ []))
     → IsPrefix (all_read source reads') (waiting ++ all_written sink writes')
     → length (waiting ++ all_written sink writes') ≤ length (all_read source reads') + 65536
     → (TellsEnd source reads' → all_read source reads' ≡ waiting ++ all_written sink writes')
-    → (TellsEnd source reads' → IsTrue (marked || leave_end sink writes'))
-    → (IsTrue marked → all_written sink writes' ≡ [])
+    → (TellsEnd source reads' → IsTrue (sealed || leave_seal sink writes'))
+    → (IsTrue sealed → all_written sink writes' ≡ [])
     → KeepsBytes source sink (reads ++ reads') (writes ++ writes')
-keeps_bytes source sink reads reads' writes writes' waiting marked bytes mark told begins few all ended stop = record {
+keeps_bytes source sink reads reads' writes writes' waiting sealed bytes seal told begins few all ended stop = record {
   in_order = (begins.0, joined begins.0 begins.1);
   few = omega (
     arith,
@@ -59,10 +59,11 @@ keeps_bytes source sink reads reads' writes writes' waiting marked bytes mark to
       (λ (later : TellsEnd source reads'). all_of (all later)) (cases tells);
   ended = λ tells. ⊎_elim
       (λ (there : TellsEnd source reads).
-      leave_end-append sink writes writes' ∙ ap (λ (b : Bool). b || leave_end sink writes') (sym mark ∙ (told there).0))
+      leave_seal-append sink writes writes' ∙ ap (λ (b : Bool). b || leave_seal sink writes')
+      (sym seal ∙ (told there).0))
       (λ (later : TellsEnd source reads').
-      leave_end-append sink writes writes'
-      ∙ (ap (λ (b : Bool). b || leave_end sink writes') (sym mark) ∙ ended later)) (cases tells);
+      leave_seal-append sink writes writes'
+      ∙ (ap (λ (b : Bool). b || leave_seal sink writes') (sym seal) ∙ ended later)) (cases tells);
 }
   where
     cases : TellsEnd source (reads ++ reads') → TellsEnd source reads ⊎ TellsEnd source reads'
@@ -87,7 +88,7 @@ keeps_bytes source sink reads reads' writes writes' waiting marked bytes mark to
     all_of is =
         sym (append-nil (all_read source (reads ++ reads'))) ∙ joined [] (append-nil (all_read source reads') ∙ is)
 
-    nothing_more : IsTrue marked × (waiting ≡ []) → all_read source reads' ≡ waiting ++ all_written sink writes'
+    nothing_more : IsTrue sealed × (waiting ≡ []) → all_read source reads' ≡ waiting ++ all_written sink writes'
     nothing_more at_end =
         let none : waiting ++ all_written sink writes' ≡ [] =
         ap (λ (xs : List ℕ). xs ++ all_written sink writes') at_end.1 ∙ stop at_end.0 in
@@ -100,15 +101,15 @@ pub keeps_pipe : (l : Limits) (setup : List ScriptCall) (race : List RaceLine) (
     → PipeGoesOn (λ n. lines_by n race replies) x y → HasMet y → KeepsPipe l setup race replies p
 keeps_pipe l setup race replies p x y kept parted on met =
     keeps_bytes p.source p.sink (setup_lines p.reader l setup) (lines p.reader) (setup_lines p.writer l setup)
-    (lines p.writer) p.waiting p.marked kept.bytes kept.mark kept.told
+    (lines p.writer) p.waiting p.sealed kept.bytes kept.seal kept.told
     (subst (λ (xs : List ℕ). IsPrefix xs (p.waiting ++ all_written p.sink (lines p.writer))) was_read
     (subst (λ (xs : List ℕ). IsPrefix (received y.source) xs) was_sent met.in_order))
     (omega (arith, met.few, ap (λ (xs : List ℕ). length xs) was_read, ap (λ (xs : List ℕ). length xs) was_sent))
     (λ tells. sym was_read ∙ (met.whole (at_end tells) ∙ was_sent))
-    (λ tells. sym was_marked ∙ met.ended (at_end tells))
-    (λ marked. ap (λ (c : ChanNo). all_written c (lines p.writer)) (sym parted.sink)
+    (λ tells. sym was_sealed ∙ met.ended (at_end tells))
+    (λ sealed. ap (λ (c : ChanNo). all_written c (lines p.writer)) (sym parted.sink)
     ∙ (ap (λ (n : CallerNo). all_written (sink_chan x.sink) (lines n)) (sym parted.writer)
-    ∙ on.sink.ended (parted.mark ∙ marked)))
+    ∙ on.sink.ended (parted.seal ∙ sealed)))
   where
     lines : CallerNo → List (RaceCall × Reply)
     lines n = lines_by n race replies
@@ -127,12 +128,12 @@ keeps_pipe l setup race replies p x y kept parted on met =
         ∙ (ap (λ (c : ChanNo). p.waiting ++ all_written c (lines x.owners.writer)) parted.sink
         ∙ ap (λ (n : CallerNo). p.waiting ++ all_written p.sink (lines n)) parted.writer))
 
-    was_marked : is_marked y.sink ≡ (p.marked || leave_end p.sink (lines p.writer))
-    was_marked =
-        on.sink.mark
-        ∙ (ap (λ (b : Bool). b || leave_end (sink_chan x.sink) (lines x.owners.writer)) parted.mark
-        ∙ (ap (λ (c : ChanNo). p.marked || leave_end c (lines x.owners.writer)) parted.sink
-        ∙ ap (λ (n : CallerNo). p.marked || leave_end p.sink (lines n)) parted.writer))
+    was_sealed : is_sealed y.sink ≡ (p.sealed || leave_seal p.sink (lines p.writer))
+    was_sealed =
+        on.sink.seal
+        ∙ (ap (λ (b : Bool). b || leave_seal (sink_chan x.sink) (lines x.owners.writer)) parted.seal
+        ∙ (ap (λ (c : ChanNo). p.sealed || leave_seal c (lines x.owners.writer)) parted.sink
+        ∙ ap (λ (n : CallerNo). p.sealed || leave_seal p.sink (lines n)) parted.writer))
 
     at_end : TellsEnd p.source (lines p.reader) → IsAtEnd y.source
     at_end tells =

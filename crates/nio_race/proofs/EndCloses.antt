@@ -12,11 +12,11 @@ use Rattle.nio_event.specs.declared.call.Call.TheVariants as call
 use Rattle.nio_event.specs.declared.reply.Reply.{Reply}
 use Rattle.nio_event.specs.declared.reply.Reply.TheVariants as reply
 use Rattle.nio_orderly.specs.Made.{close_channel}
-use Rattle.nio_pipe.specs.Ends.{IsSameSink, is_marked, sent, sink_chan}
+use Rattle.nio_pipe.specs.Ends.{IsSameSink, is_sealed, sent, sink_chan}
 use Rattle.nio_pipe.specs.declared.sink.PipeSink.{PipeSink}
 use Rattle.nio_plain.specs.Seq.Pipes.{own_sink}
 use Rattle.nio_serial.specs.Lines.{Said, call_plan, if_found, if_named, line_plan, makes, refused}
-use Rattle.nio_serial.specs.PipeLines.{with_mark}
+use Rattle.nio_serial.specs.PipeLines.{with_seal}
 use Rattle.nio_serial.specs.Replies.{closed_reply}
 use Rattle.nio_sole.proofs.Asking.{makes_ran}
 use Rattle.nio_sole.proofs.Desks.{left_as}
@@ -50,7 +50,7 @@ module _ (w : Words) (d : Desk) (ends : OwnEnds) (me : CallerNo) (c : ChanNo) (s
   abbrev closing_plan : Plan Said
   closing_plan =
       makes (close_channel_plan (limits_of w) c) closed_reply
-      (λ _. with_mark (progress_of d) (own_sink (progress_of d).pipes me c))
+      (λ _. with_seal (progress_of d) (own_sink (progress_of d).pipes me c))
 
   -- a line that was made once is not made again
   once : (q : Pass) (r : Reply) → MakesOnce w d (with_pass d q) me Closing r
@@ -71,9 +71,9 @@ module _ (w : Words) (d : Desk) (ends : OwnEnds) (me : CallerNo) (c : ChanNo) (s
       (left_after_call {plan = refused (progress_of d) reply.NoChannel} looks)))
 
   -- the caller has no pipe of its own on its desk
-  unmarked : with_mark (progress_of d) (own_sink (progress_of d).pipes me c) ≡ progress_of d
-  unmarked =
-      ap (with_mark (progress_of d)) (ap (λ (pipes : List OwnedPipe). own_sink (pipes_of pipes) me c) stands.pipeless)
+  unsealed : with_seal (progress_of d) (own_sink (progress_of d).pipes me c) ≡ progress_of d
+  unsealed =
+      ap (with_seal (progress_of d)) (ap (λ (pipes : List OwnedPipe). own_sink (pipes_of pipes) me c) stands.pipeless)
 
   closed : (q q' : Pass) (found : ChanNo) (closes : Bool) → LooksUp w me c d.pass q (Some found)
       → CallClause me (Completes (close_channel_plan (limits_of w) c)) (view w q) (view w q') closes
@@ -86,7 +86,7 @@ module _ (w : Words) (d : Desk) (ends : OwnEnds) (me : CallerNo) (c : ChanNo) (s
       (left_as
       (returned (ran_then (if_found (progress_of d) reply.NoChannel closing_plan) looks
       (left_of_call (makes_ran closed_reply
-      (λ _. with_mark (progress_of d) (own_sink (progress_of d).pipes me c)) call)))) unmarked)
+      (λ _. with_seal (progress_of d) (own_sink (progress_of d).pipes me c)) call)))) unsealed)
 
   -- the channel wasn't found
   pub closes_nowhere : (q : Pass) → LooksUp w me c d.pass q None
@@ -127,16 +127,16 @@ module _ (w : Words) (d : Desk) (ends : OwnEnds) (me : CallerNo) (c : ChanNo) (s
         (λ (x : ChanNo). CallClause me (Completes (close_channel_plan (limits_of w) x)) (view w q) (view w q') closes)
         its call
 
-    pub closes_own : (r : Reply) → r ≡ closed_reply closes → sent new ≡ sent old → is_marked new ≡ true
+    pub closes_own : (r : Reply) → r ≡ closed_reply closes → sent new ≡ sent old → is_sealed new ≡ true
         → CalledOn w d (with_pass d q') ends (record ends { sinks = sinks }) me Closing r
-    closes_own r said keeps marks =
+    closes_own r said keeps seals =
         subst
         (λ (x : Reply). CalledOn w d (with_pass d q') ends (record ends { sinks = sinks }) me Closing x) (sym said)
         (record {
           made = once q' (closed_reply closes) (closed q q' found closes looks its_call);
           went_on =
               close_goes_on c (closed_reply closes) ends place old new sinks inside here its
-              stands.made_ends.sinks_differ items (sink_closed c old new closes its same keeps marks);
+              stands.made_ends.sinks_differ items (sink_closed c old new closes its same keeps seals);
         })
 
     pub stands_shut : IsReady w q' me → StandsWith w (with_pass d q') (record ends { sinks = sinks }) me

@@ -15,9 +15,9 @@ use Rattle.nio_event.specs.declared.call.Call.{Call}
 use Rattle.nio_event.specs.declared.call.Call.TheVariants as call
 use Rattle.nio_event.specs.declared.reply.Reply.{Reply}
 use Rattle.nio_event.specs.declared.reply.Reply.TheVariants as reply
-use Rattle.nio_pipe.specs.Answers.{bytes_read, bytes_written, leaves_mark}
+use Rattle.nio_pipe.specs.Answers.{bytes_read, bytes_written, leaves_seal}
 use Rattle.nio_pipe.specs.Ends.{GivesBytes, IsAtEnd, IsSameSink, IsSameSource, KnowsNothing, TakesBytes, free}
-use Rattle.nio_pipe.specs.Ends.{is_marked, known, received, sent, sink_chan, source_chan}
+use Rattle.nio_pipe.specs.Ends.{is_sealed, known, received, sent, sink_chan, source_chan}
 use Rattle.nio_pipe.specs.declared.answers.PipeRead.{PipeRead}
 use Rattle.nio_pipe.specs.declared.answers.PipeWrite.{PipeWrite}
 use Rattle.nio_pipe.specs.declared.sink.PipeSink.{PipeSink}
@@ -34,7 +34,7 @@ use Rattle.nio_race.proofs.FindLines.{prefix_drop, prefix_none, read_finds_elsew
 use Rattle.nio_race.proofs.FindLines.{write_keeps_room, write_takes_elsewhere, write_takes_here}
 use Rattle.nio_race.proofs.LineEnds.{or-false, same_sink_self, same_source_self, told_alone}
 use Rattle.nio_race.specs.Ends.{AreEach, EndsGoOn, KnowsAwaited, SinkGoesOn, SourceGoesOn}
-use Rattle.nio_race.specs.PipeBytes.{TellsEnd, bytes_of, ends_in, number_of, read_in, says_closed, written_in}
+use Rattle.nio_race.specs.PipeBytes.{TellsEnd, bytes_of, seals_in, number_of, read_in, says_closed, written_in}
 use Rattle.nio_race.specs.PipeFinds.{Awaited, LineFinds, ReadFinds, WriteFinds}
 use Rattle.nio_race.specs.declared.ends.OwnEnds.{OwnEnds}
 
@@ -63,12 +63,12 @@ source_stays word r x unread untold unfound = record {
 }
 
 pub sink_stays : (word : Call) (r : Reply) (x : PipeSink) → written_in (sink_chan x) (Script word) r ≡ []
-    → ends_in (sink_chan x) (Script word) r ≡ false → KeepsRoom (sink_chan x) word r
+    → seals_in (sink_chan x) (Script word) r ≡ false → KeepsRoom (sink_chan x) word r
     → SinkGoesOn (the_line word r) x x
-sink_stays word r x unwritten unmarked keeps = record {
+sink_stays word r x unwritten unsealed keeps = record {
   same = same_sink_self x;
   sent = sym (ap (λ (bytes : List ℕ). sent x ++ (bytes ++ [])) unwritten ∙ append-nil (sent x));
-  mark = or-false (is_marked x) ∙ ap (λ (b : Bool). is_marked x || (b || false)) (sym unmarked);
+  seal = or-false (is_sealed x) ∙ ap (λ (b : Bool). is_sealed x || (b || false)) (sym unsealed);
   ended = λ _. ap (λ (bytes : List ℕ). bytes ++ []) unwritten;
   takes = λ room few.
       let kept = keeps room in
@@ -217,13 +217,13 @@ module _ (old new : PipeSource) (before after : List ℕ) (given : ℕ) (gives :
   where
     stays_at_end : IsAtEnd old → IsAtEnd new
     stays_at_end was = record {
-      marked = gives.end_stays was.marked;
-      no_byte = no_rest (take given after) (known new) (sym (gives.no_more was.marked) ∙ was.no_byte);
+      sealed = gives.end_stays was.sealed;
+      no_byte = no_rest (take given after) (known new) (sym (gives.no_more was.sealed) ∙ was.no_byte);
     }
 
     -- at the end it gives nothing
     none_at_end : IsAtEnd old → take given after ≡ []
-    none_at_end was = no_front (take given after) (known new) (sym (gives.no_more was.marked) ∙ was.no_byte)
+    none_at_end was = no_front (take given after) (known new) (sym (gives.no_more was.sealed) ∙ was.no_byte)
 
     knows_ahead : (x : Awaited) → KnowsAwaited old x → IsPrefix x.bytes (take given after ++ known new)
     knows_ahead x knows = prefix_trans x.bytes (known old) (take given after ++ known new) knows.bytes gives.known
@@ -233,7 +233,7 @@ knows_still : (old new : PipeSource) (before after : List ℕ) → GivesBytes ol
     → KnowsAwaited old x → KnowsAwaited new x
 knows_still old new before after gives x knows = record {
   bytes = knows_ahead old new before after 0 gives x knows;
-  marked = λ marked. gives.end_stays (knows.marked marked);
+  sealed = λ sealed. gives.end_stays (knows.sealed sealed);
   ended = λ ended. stays_at_end old new before after 0 gives (knows.ended ended);
 }
 
@@ -272,7 +272,7 @@ module _ (n : ℕ) (old new : PipeSource) (before after : List ℕ) (x : Awaited
           subst (λ (r : Reply). ReadFinds n x r y) says (ReadFinds.gives given (is_false x.ended goes) enough),
           record {
             bytes = prefix_drop x.bytes given (known new) ahead;
-            marked = λ marked. gives.end_stays (knows.marked marked);
+            sealed = λ sealed. gives.end_stays (knows.sealed sealed);
             ended = λ ended. absurd (goes ended);
           },
         ),
@@ -286,12 +286,12 @@ module _ (n : ℕ) (old new : PipeSource) (before after : List ℕ) (x : Awaited
       let ahead : IsPrefix x.bytes [] =
       subst (λ (xs : List ℕ). IsPrefix x.bytes xs) at_end.no_byte
       (knows_ahead old new before after 0 gives x knows) in (
-        record { bytes = []; marked = true; ended = true },
+        record { bytes = []; sealed = true; ended = true },
         (
           ReadFinds.tells_end (prefix_none x.bytes ahead),
           record {
             bytes = (known new, refl);
-            marked = λ _. at_end.marked;
+            sealed = λ _. at_end.sealed;
             ended = λ _. at_end;
           },
         ),
@@ -300,11 +300,11 @@ module _ (n : ℕ) (old new : PipeSource) (before after : List ℕ) (x : Awaited
       let nothing : KnowsNothing old = (finds.not_yet refl).0 in
       let none : x.bytes ≡ [] =
       prefix_none x.bytes (subst (λ (xs : List ℕ). IsPrefix x.bytes xs) nothing.no_byte knows.bytes) in
-      let unmarked : IsTrue x.marked → ⊥ =
-      λ marked. let clash : true ≡ false = sym (knows.marked marked) ∙ nothing.no_mark in absurd (cc clash) in (
+      let unsealed : IsTrue x.sealed → ⊥ =
+      λ sealed. let clash : true ≡ false = sym (knows.sealed sealed) ∙ nothing.no_seal in absurd (cc clash) in (
         x,
         (
-          ReadFinds.finds_nothing none (is_false x.marked unmarked),
+          ReadFinds.finds_nothing none (is_false x.sealed unsealed),
           knows_still old new before after gives x knows,
         ),
       )
@@ -350,15 +350,15 @@ module _ (c : ChanNo) (bytes : List ℕ) (r : Reply) where
   write_here x same =
       cond-true (c.0 == x.0) (take (number_of r) bytes) [] (eq-eqb c.0 x.0 (ap (λ (y : ChanNo). y.0) same))
 
-  mark_here : (x : ChanNo) → c ≡ x → ends_in x (Script Write) r ≡ says_closed r
-  mark_here x same = ap (λ (b : Bool). b && says_closed r) (eq-eqb c.0 x.0 (ap (λ (y : ChanNo). y.0) same))
+  seal_here : (x : ChanNo) → c ≡ x → seals_in x (Script Write) r ≡ says_closed r
+  seal_here x same = ap (λ (b : Bool). b && says_closed r) (eq-eqb c.0 x.0 (ap (λ (y : ChanNo). y.0) same))
 
   write_elsewhere : (x : ChanNo) → (x.0 ≡ c.0 → ⊥) → written_in x (Script Write) r ≡ []
   write_elsewhere x other =
       cond-false (c.0 == x.0) (take (number_of r) bytes) [] (ne_eqb c.0 x.0 (λ same. other (sym same)))
 
-  mark_elsewhere : (x : ChanNo) → (x.0 ≡ c.0 → ⊥) → ends_in x (Script Write) r ≡ false
-  mark_elsewhere x other =
+  seal_elsewhere : (x : ChanNo) → (x.0 ≡ c.0 → ⊥) → seals_in x (Script Write) r ≡ false
+  seal_elsewhere x other =
       ap (λ (b : Bool). b && says_closed r) (ne_eqb c.0 x.0 (λ same. other (sym same)))
 
   -- where it takes nothing
@@ -369,8 +369,8 @@ module _ (c : ChanNo) (bytes : List ℕ) (r : Reply) where
       by_test true = ap (λ (k : ℕ). take k bytes) none
       by_test false = refl
 
-  mark_nothing : (x : ChanNo) → says_closed r ≡ false → ends_in x (Script Write) r ≡ false
-  mark_nothing x none = by_test (c.0 == x.0)
+  seal_nothing : (x : ChanNo) → says_closed r ≡ false → seals_in x (Script Write) r ≡ false
+  seal_nothing x none = by_test (c.0 == x.0)
     where
       by_test : (b : Bool) → (b && says_closed r) ≡ false
       by_test true = none
@@ -387,7 +387,7 @@ module _ (c : ChanNo) (bytes : List ℕ) (r : Reply) where
     sources = each_itself (SourceGoesOn (the_line Write r)) ends.sources.items (sources_stay ends.sources.items);
     sinks = each_itself (SinkGoesOn (the_line Write r)) ends.sinks.items
         (λ k x within at.
-        sink_stays Write r x (write_nothing (sink_chan x) none) (mark_nothing (sink_chan x) unclosed)
+        sink_stays Write r x (write_nothing (sink_chan x) none) (seal_nothing (sink_chan x) unclosed)
         (write_keeps_room c bytes r (sink_chan x) leaves));
   }
 
@@ -410,7 +410,7 @@ module _ (c : ChanNo) (bytes : List ℕ) (r : Reply) where
           let apart : (sink_chan x).0 ≡ c.0 → ⊥ =
           λ same. other_number (λ (s : PipeSink). (sink_chan s).0) ends.sinks.items place k old x differ inside here
           other within at (same ∙ ap (λ (y : ChanNo). y.0) (sym its)) in
-          sink_stays Write r x (write_elsewhere (sink_chan x) apart) (mark_elsewhere (sink_chan x) apart)
+          sink_stays Write r x (write_elsewhere (sink_chan x) apart) (seal_elsewhere (sink_chan x) apart)
           (write_takes_elsewhere c bytes r (sink_chan x) apart)
 
 -- ---- what its reply tells
@@ -427,13 +427,13 @@ number_said (Err PipeError.ClosedByInterrupt) = refl
 number_said (Err PipeError.AsynchronousClose) = refl
 number_said (Err PipeError.BrokenPipe) = refl
 
-mark_said : (answer : Result PipeWrite PipeError) → leaves_mark answer ≡ says_closed (write_said answer)
-mark_said (Ok (PipeWrite.Bytes k)) = refl
-mark_said (Ok PipeWrite.NotYet) = refl
-mark_said (Err PipeError.ClosedChannel) = refl
-mark_said (Err PipeError.ClosedByInterrupt) = refl
-mark_said (Err PipeError.AsynchronousClose) = refl
-mark_said (Err PipeError.BrokenPipe) = refl
+seal_said : (answer : Result PipeWrite PipeError) → leaves_seal answer ≡ says_closed (write_said answer)
+seal_said (Ok (PipeWrite.Bytes k)) = refl
+seal_said (Ok PipeWrite.NotYet) = refl
+seal_said (Err PipeError.ClosedChannel) = refl
+seal_said (Err PipeError.ClosedByInterrupt) = refl
+seal_said (Err PipeError.AsynchronousClose) = refl
+seal_said (Err PipeError.BrokenPipe) = refl
 
 -- What a write says beside the bytes that it takes: it takes fewer than it was given only where no room is left then,
 -- and loses no free place.
@@ -458,9 +458,9 @@ module _ (bytes : List ℕ) (old new : PipeSink) (room : ℕ) (few : room ≤ fr
 -- the written sink
 pub sink_written : (c : ChanNo) (bytes : List ℕ) (old new : PipeSink) (answer : Result PipeWrite PipeError)
     → sink_chan old ≡ c → IsSameSink old new → TakesBytes old new bytes (bytes_written answer)
-    → is_marked new ≡ (is_marked old || leaves_mark answer) → FindsRoom bytes old new answer
+    → is_sealed new ≡ (is_sealed old || leaves_seal answer) → FindsRoom bytes old new answer
     → SinkGoesOn (the_line (call.Pwrite c bytes) (write_said answer)) old new
-sink_written c bytes old new answer its same takes marks finds =
+sink_written c bytes old new answer its same takes seals finds =
     let r = write_said answer in
     let here : written_in (sink_chan old) (Script (call.Pwrite c bytes)) r ≡ take (bytes_written answer) bytes =
     write_here c bytes r (sink_chan old) (sym its) ∙ ap (λ (k : ℕ). take k bytes) (number_said answer) in
@@ -469,10 +469,10 @@ sink_written c bytes old new answer its same takes marks finds =
       sent = takes.sent
           ∙ ap (λ (xs : List ℕ). sent old ++ xs)
           (sym (ap (λ (xs : List ℕ). xs ++ []) here ∙ append-nil (take (bytes_written answer) bytes)));
-      mark = marks
-          ∙ ap (λ (b : Bool). is_marked old || b)
-          (mark_said answer ∙ (sym (mark_here c bytes r (sink_chan old) (sym its))
-          ∙ or-false (ends_in (sink_chan old) (Script (call.Pwrite c bytes)) r)));
+      seal = seals
+          ∙ ap (λ (b : Bool). is_sealed old || b)
+          (seal_said answer ∙ (sym (seal_here c bytes r (sink_chan old) (sym its))
+          ∙ or-false (seals_in (sink_chan old) (Script (call.Pwrite c bytes)) r)));
       ended = λ was.
           ap (λ (xs : List ℕ). xs ++ []) here ∙ ap (λ (k : ℕ). take k bytes ++ []) (takes.ended was);
       takes = λ room few.
@@ -492,11 +492,11 @@ module _ (c : ChanNo) (r : Reply) where
   abbrev Closing : Call
   Closing = call.Closec c
 
-  ends_elsewhere : (x : ChanNo) → (x.0 ≡ c.0 → ⊥) → ends_in x (Script Closing) r ≡ false
+  ends_elsewhere : (x : ChanNo) → (x.0 ≡ c.0 → ⊥) → seals_in x (Script Closing) r ≡ false
   ends_elsewhere x other =
       ap (λ (b : Bool). b && says_closed r) (ne_eqb c.0 x.0 (λ same. other (sym same)))
 
-  ends_nothing : (x : ChanNo) → says_closed r ≡ false → ends_in x (Script Closing) r ≡ false
+  ends_nothing : (x : ChanNo) → says_closed r ≡ false → seals_in x (Script Closing) r ≡ false
   ends_nothing x none = by_test (c.0 == x.0)
     where
       by_test : (b : Bool) → (b && says_closed r) ≡ false
@@ -568,17 +568,17 @@ closed_said false = refl
 
 -- the closed sink
 pub sink_closed : (c : ChanNo) (old new : PipeSink) (closes : Bool) → sink_chan old ≡ c → IsSameSink old new
-    → sent new ≡ sent old → is_marked new ≡ true
+    → sent new ≡ sent old → is_sealed new ≡ true
     → SinkGoesOn (the_line (call.Closec c) (closed_reply closes)) old new
-sink_closed c old new closes its same keeps marks =
+sink_closed c old new closes its same keeps seals =
     let r = closed_reply closes in
-    let here : ends_in (sink_chan old) (Script (call.Closec c)) r ≡ true =
+    let here : seals_in (sink_chan old) (Script (call.Closec c)) r ≡ true =
     λ i. (eq-eqb c.0 (sink_chan old).0 (ap (λ (y : ChanNo). y.0) (sym its))) i && closed_said closes i in
     record {
       same = same;
       sent = keeps ∙ sym (append-nil (sent old));
-      mark = marks
-          ∙ (or_true (is_marked old) ∙ ap (λ (b : Bool). is_marked old || (b || false)) (sym here));
+      seal = seals
+          ∙ (or_true (is_sealed old) ∙ ap (λ (b : Bool). is_sealed old || (b || false)) (sym here));
       ended = λ _. refl;
       takes = λ room few. (
         0,

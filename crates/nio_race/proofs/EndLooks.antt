@@ -19,11 +19,11 @@ use Rattle.nio_event.specs.declared.reply.Reply.{Reply}
 use Rattle.nio_event.specs.declared.reply.Reply.TheVariants as reply
 use Rattle.nio_orderly.specs.Made.{IsRun, Made, MayCome, Ongoing, after_call, after_calls, nothing_ongoing}
 use Rattle.nio_orderly.specs.Made.{find_channel, read, write}
-use Rattle.nio_pipe.specs.Answers.{bytes_read, bytes_written, leaves_mark, read_answer, read_waits, write_answer}
+use Rattle.nio_pipe.specs.Answers.{bytes_read, bytes_written, leaves_seal, read_answer, read_waits, write_answer}
 use Rattle.nio_pipe.specs.Answers.{write_waits}
 use Rattle.nio_pipe.specs.Calls.{HasEnds, WaitsToRead, WaitsToWrite}
 use Rattle.nio_pipe.specs.Ends.{GivesBytes, IsAtEnd, IsSameSink, IsSameSource, KnowsNothing, TakesBytes, free}
-use Rattle.nio_pipe.specs.Ends.{is_marked, known, other_chan, sink_chan, source_chan}
+use Rattle.nio_pipe.specs.Ends.{is_sealed, known, other_chan, sink_chan, source_chan}
 use Rattle.nio_pipe.specs.declared.answers.PipeRead.{PipeRead}
 use Rattle.nio_pipe.specs.declared.answers.PipeWrite.{PipeWrite}
 use Rattle.nio_pipe.specs.declared.sink.PipeSink.{PipeSink}
@@ -217,16 +217,16 @@ has_read w c acts (Ok answer) waits =
 has_read w c acts (Err refusal) waits = record { none = false; found = Err refusal; reads = waits }
 
 -- a read that answers `Bytes 0` had no place for a byte
-asked_nothing : {n : ℕ} (before : List ℕ) (answer : Result PipeRead PipeError) (marked : Bool)
-    → length before ≡ min 65536 n → IfOk answer (λ a. a ≡ read_answer (length before) (bytes_read answer) marked)
+asked_nothing : {n : ℕ} (before : List ℕ) (answer : Result PipeRead PipeError) (sealed : Bool)
+    → length before ≡ min 65536 n → IfOk answer (λ a. a ≡ read_answer (length before) (bytes_read answer) sealed)
     → answer ≡ Ok (PipeRead.Bytes 0) → n ≡ 0
-asked_nothing {n = n} before (Ok found) marked room answers is =
+asked_nothing {n = n} before (Ok found) sealed room answers is =
     let none : found ≡ PipeRead.Bytes 0 = cc is in
-    let says : PipeRead.Bytes 0 ≡ read_answer (length before) 0 marked =
-    subst (λ (a : PipeRead). a ≡ read_answer (length before) (bytes_read (Ok a)) marked) none answers in
-    let empty : length before ≡ 0 = read_zero (length before) marked says in
+    let says : PipeRead.Bytes 0 ≡ read_answer (length before) 0 sealed =
+    subst (λ (a : PipeRead). a ≡ read_answer (length before) (bytes_read (Ok a)) sealed) none answers in
+    let empty : length before ≡ 0 = read_zero (length before) sealed says in
     omega (arith, empty, room)
-asked_nothing before (Err refusal) marked room answers is = absurd (cc is)
+asked_nothing before (Err refusal) sealed room answers is = absurd (cc is)
 
 module _ (w : Words) (d : Desk) (ends : OwnEnds) (me : CallerNo) (c : ChanNo) (n : ℕ) where
   -- the channel wasn't found
@@ -273,7 +273,7 @@ module _ (w : Words) (d : Desk) (ends : OwnEnds) (me : CallerNo) (c : ChanNo) (n
       }
 
   module _ (q q' : Pass) (found : ChanNo) (place : ℕ) (old new : PipeSource) (sources : Vec PipeSource Global)
-      (before after : List ℕ) (answer : Result PipeRead PipeError) (marked : Bool) (stands : StandsWith w d ends me)
+      (before after : List ℕ) (answer : Result PipeRead PipeError) (sealed : Bool) (stands : StandsWith w d ends me)
       (looks : LooksUp w me c d.pass q (Some found)) (ready : IsReady w q me) (at : IsSourcePlace ends c (Some place))
       (here : old ≡ get_or ends.sources.items place old)
       (reads : CallClause me (WaitsToRead (limits_of w) (source_chan old)) (view w q) (view w q') answer)
@@ -290,7 +290,7 @@ module _ (w : Words) (d : Desk) (ends : OwnEnds) (me : CallerNo) (c : ChanNo) (n
 
     says_read : length before ≡ min 65536 n → length after ≡ length before
         → GivesBytes old new before after (bytes_read answer)
-        → IfOk answer (λ a. a ≡ read_answer (length before) (bytes_read answer) marked)
+        → IfOk answer (λ a. a ≡ read_answer (length before) (bytes_read answer) sealed)
         → OnOk answer (bytes_read answer < length before → known new ≡ [])
         → (answer ≡ Ok PipeRead.NotYet → KnowsNothing old × KnowsNothing new)
         → (answer ≡ Ok PipeRead.End → IsAtEnd new)
@@ -307,7 +307,7 @@ module _ (w : Words) (d : Desk) (ends : OwnEnds) (me : CallerNo) (c : ChanNo) (n
               (record { reply = r; left = progress_of d })
               (λ xs waits. subst (λ (o : Option ChanNo). ReadsOwn (limits_of w) (progress_of d) c n o xs
               (record { reply = r; left = progress_of d })) (sym own) (
-                reads_to (limits_of w) c n (length before) xs marked after room size answer gives.fit answers waits,
+                reads_to (limits_of w) c n (length before) xs sealed after room size answer gives.fit answers waits,
                 refl,
               )) reads_its);
           went_on =
@@ -318,13 +318,13 @@ module _ (w : Words) (d : Desk) (ends : OwnEnds) (me : CallerNo) (c : ChanNo) (n
                 most = most;
                 not_yet = not_yet;
                 at_end = at_end;
-                asked = asked_nothing before answer marked room answers;
+                asked = asked_nothing before answer sealed room answers;
               }));
         }
 
     pub reads_own : (r : Reply) → r ≡ read_said answer after → length before ≡ min 65536 n
         → length after ≡ length before → GivesBytes old new before after (bytes_read answer)
-        → IfOk answer (λ a. a ≡ read_answer (length before) (bytes_read answer) marked)
+        → IfOk answer (λ a. a ≡ read_answer (length before) (bytes_read answer) sealed)
         → OnOk answer (bytes_read answer < length before → known new ≡ [])
         → (answer ≡ Ok PipeRead.NotYet → KnowsNothing old × KnowsNothing new)
         → (answer ≡ Ok PipeRead.End → IsAtEnd new)
@@ -418,11 +418,11 @@ module _ (w : Words) (d : Desk) (ends : OwnEnds) (me : CallerNo) (c : ChanNo) (b
     sink_in = sink_inside ends c place at old
 
     says_written : TakesBytes old new bytes (bytes_written answer)
-        → is_marked new ≡ (is_marked old || leaves_mark answer)
+        → is_sealed new ≡ (is_sealed old || leaves_seal answer)
         → IfOk answer (λ a. a ≡ write_answer (length bytes) (bytes_written answer)) → FindsRoom bytes old new answer
         → CalledOn w d (with_pass d q') ends (record ends { sinks = sinks }) me (call.Pwrite c bytes)
         (write_said answer)
-    says_written takes marks answers finds =
+    says_written takes seals answers finds =
         let r = write_said answer in
         let own : own_sink (ends_of ends) c ≡ Some (ends_of_sink old) =
         find_some (λ (x : PipeEnds). x.sink.0 == c.0) ends_of_sink ends.sinks.items place old (sym at) here in
@@ -437,20 +437,20 @@ module _ (w : Words) (d : Desk) (ends : OwnEnds) (me : CallerNo) (c : ChanNo) (b
               (writes_to (limits_of w) (ends_of_sink old) bytes xs answer takes.fit answers waits, refl)) writes);
           went_on =
               write_goes_on c bytes r ends place old new sinks sink_in here its stands.made_ends.sinks_differ items
-              (sink_written c bytes old new answer its same takes marks finds);
+              (sink_written c bytes old new answer its same takes seals finds);
         }
 
     pub writes_own : (r : Reply) (from : List ℕ) → r ≡ write_said answer → from ≡ bytes
-        → TakesBytes old new from (bytes_written answer) → is_marked new ≡ (is_marked old || leaves_mark answer)
+        → TakesBytes old new from (bytes_written answer) → is_sealed new ≡ (is_sealed old || leaves_seal answer)
         → IfOk answer (λ a. a ≡ write_answer (length from) (bytes_written answer))
         → OnOk answer (bytes_written answer < length from → free new ≡ 0)
         → OnOk answer (free old ≤ free new + bytes_written answer)
         → CalledOn w d (with_pass d q') ends (record ends { sinks = sinks }) me (call.Pwrite c bytes) r
-    writes_own r from said same_bytes takes marks answers most places =
+    writes_own r from said same_bytes takes seals answers most places =
         subst
         (λ (x : Reply). CalledOn w d (with_pass d q') ends (record ends { sinks = sinks }) me (call.Pwrite c bytes) x)
         (sym said)
-        (says_written (subst (λ (xs : List ℕ). TakesBytes old new xs (bytes_written answer)) same_bytes takes) marks
+        (says_written (subst (λ (xs : List ℕ). TakesBytes old new xs (bytes_written answer)) same_bytes takes) seals
         (subst (λ (xs : List ℕ). IfOk answer (λ a. a ≡ write_answer (length xs) (bytes_written answer))) same_bytes
         answers)
         (record {

@@ -44,49 +44,49 @@ mode_is plan acts blocking waits =
 -- ---- a read
 
 abbrev IsReadAnswer : ℕ → Bool → ℕ → PipeRead → Type 0
-IsReadAnswer room marked given answer = answer ≡ read_answer room given marked
+IsReadAnswer room sealed given answer = answer ≡ read_answer room given sealed
 
 -- no place for a byte
-no_room : (room given : ℕ) (marked : Bool) → room ≡ 0 → read_answer room given marked ≡ PipeRead.Bytes 0
-no_room room given marked none =
+no_room : (room given : ℕ) (sealed : Bool) → room ≡ 0 → read_answer room given sealed ≡ PipeRead.Bytes 0
+no_room room given sealed none =
     cond-true (room == 0) (PipeRead.Bytes 0) _ (eq-eqb room 0 none)
 
 -- with places and no byte
-none_given : (room : ℕ) (marked : Bool) → (room ≡ 0 → ⊥)
-    → read_answer room 0 marked ≡ (if marked then PipeRead.End else PipeRead.NotYet)
-none_given room marked some = cond-false (room == 0) (PipeRead.Bytes 0) _ (ne_eqb room 0 some)
+none_given : (room : ℕ) (sealed : Bool) → (room ≡ 0 → ⊥)
+    → read_answer room 0 sealed ≡ (if sealed then PipeRead.End else PipeRead.NotYet)
+none_given room sealed some = cond-false (room == 0) (PipeRead.Bytes 0) _ (ne_eqb room 0 some)
 
-pub read_zero : (room : ℕ) (marked : Bool) → IsReadAnswer room marked 0 (PipeRead.Bytes 0) → room ≡ 0
-read_zero room marked is = by_test (room == 0) refl
+pub read_zero : (room : ℕ) (sealed : Bool) → IsReadAnswer room sealed 0 (PipeRead.Bytes 0) → room ≡ 0
+read_zero room sealed is = by_test (room == 0) refl
   where
-    by_mark : (m : Bool) → PipeRead.Bytes 0 ≡ (if m then PipeRead.End else PipeRead.NotYet) → room ≡ 0
-    by_mark true same = absurd (cc same)
-    by_mark false same = absurd (cc same)
+    by_seal : (m : Bool) → PipeRead.Bytes 0 ≡ (if m then PipeRead.End else PipeRead.NotYet) → room ≡ 0
+    by_seal true same = absurd (cc same)
+    by_seal false same = absurd (cc same)
 
     by_test : (b : Bool) → (room == 0) ≡ b → room ≡ 0
     by_test true none = eqb-true room 0 none
     by_test false some =
-        by_mark marked
-        (is ∙ cond-false (room == 0) (PipeRead.Bytes 0) (if marked then PipeRead.End else PipeRead.NotYet) some)
+        by_seal sealed
+        (is ∙ cond-false (room == 0) (PipeRead.Bytes 0) (if sealed then PipeRead.End else PipeRead.NotYet) some)
 
 -- what tells the end, or that there is nothing yet, had places
-read_some : (room : ℕ) (marked : Bool) (answer : PipeRead) → (answer ≡ PipeRead.Bytes 0 → ⊥)
-    → IsReadAnswer room marked 0 answer → 0 < room
-read_some room marked answer other is = by_test (room == 0) refl
+read_some : (room : ℕ) (sealed : Bool) (answer : PipeRead) → (answer ≡ PipeRead.Bytes 0 → ⊥)
+    → IsReadAnswer room sealed 0 answer → 0 < room
+read_some room sealed answer other is = by_test (room == 0) refl
   where
     by_test : (b : Bool) → (room == 0) ≡ b → 0 < room
-    by_test true none = absurd (other (is ∙ no_room room 0 marked (eqb-true room 0 none)))
+    by_test true none = absurd (other (is ∙ no_room room 0 sealed (eqb-true room 0 none)))
     by_test false some =
         let apart : room ≡ 0 → ⊥ =
         λ same. let clash : true ≡ false = sym (eq-eqb room 0 same) ∙ some in absurd (cc clash) in
         omega (arith, apart)
 
-module _ (l : Limits) (c : ChanNo) (n room : ℕ) (acts : List Act) (marked : Bool) (after : List ℕ)
+module _ (l : Limits) (c : ChanNo) (n room : ℕ) (acts : List Act) (sealed : Bool) (after : List ℕ)
     (room_is : room ≡ min 65536 n) (size : length after ≡ room) where
-  reads_count : (k : ℕ) → k ≤ room → IsReadAnswer room marked k (PipeRead.Bytes k)
+  reads_count : (k : ℕ) → k ≤ room → IsReadAnswer room sealed k (PipeRead.Bytes k)
       → WaitsToRead l c acts (Ok (PipeRead.Bytes k)) → ReadsTo l c n acts (read_said (Ok (PipeRead.Bytes k)) after)
   reads_count zero few is waits =
-      let none : room ≡ 0 = read_zero room marked is in
+      let none : room ≡ 0 = read_zero room sealed is in
       record { none = false; answer = Ok waits.0; waits = waits.1; says = asks_for_nothing (omega arith) }
   reads_count (suc k) few is waits =
       let long : length (take (suc k) after) ≡ suc k = length-take-le (suc k) after (omega arith) in
@@ -102,14 +102,14 @@ module _ (l : Limits) (c : ChanNo) (n room : ℕ) (acts : List Act) (marked : Bo
       }
 
   pub reads_to : (answer : Result PipeRead PipeError) → bytes_read answer ≤ room
-      → IfOk answer (λ a. IsReadAnswer room marked (bytes_read answer) a)
+      → IfOk answer (λ a. IsReadAnswer room sealed (bytes_read answer) a)
       → WaitsToRead l c acts answer → ReadsTo l c n acts (read_said answer after)
   reads_to (Ok (PipeRead.Bytes k)) few is waits = reads_count k few is waits
   reads_to (Ok PipeRead.End) few is waits =
-      let some : 0 < room = read_some room marked PipeRead.End (λ same. absurd (cc same)) is in
+      let some : 0 < room = read_some room sealed PipeRead.End (λ same. absurd (cc same)) is in
       record { none = false; answer = Ok waits.0; waits = waits.1; says = tells_end (omega arith) }
   reads_to (Ok PipeRead.NotYet) few is waits =
-      let some : 0 < room = read_some room marked PipeRead.NotYet (λ same. absurd (cc same)) is in
+      let some : 0 < room = read_some room sealed PipeRead.NotYet (λ same. absurd (cc same)) is in
       let mode : waits.0 ≡ false = mode_is _ acts waits.0 waits.1 in
       record {
         none = true;

@@ -8,13 +8,13 @@ use Rattle.std.proofs.lemmas.Bool.{cases_lt}
 use Rattle.std.proofs.lemmas.List.{append-nil, get_or_past, length-drop, length-map, map-append, same_from_push}
 use Rattle.std.proofs.lemmas.List.Elements.{All-cons, All-nil, All-pop, filter-append}
 use mathlib.Core.List.{IsPrefix}
-use Rattle.nio_pipe.specs.Ends.{AreEnds, IsAtEnd, SinkLooks, SourceLooks, is_marked, pipe_of, received, sent}
+use Rattle.nio_pipe.specs.Ends.{AreEnds, IsAtEnd, SinkLooks, SourceLooks, is_sealed, pipe_of, received, sent}
 use Rattle.nio_pipe.specs.Pipe.{IsAtEnd as IsPipeAtEnd, IsLawful}
 use Rattle.nio_pipe.specs.declared.sink.PipeSink.{PipeSink}
 use Rattle.nio_pipe.specs.declared.source.PipeSource.{PipeSource}
-use Rattle.nio_race.proofs.HoldEach.{same_later, same_self}
-use Rattle.nio_race.specs.Ends.{ArePartedAmong, AreSameButEnds, HasMet, HaveMet, HoldEnds, HoldLast, HoldSinks}
-use Rattle.nio_race.specs.Ends.{HoldSources, MeetsLast, PartedPipe, owners_of, sinks_at, sources_at}
+use Rattle.nio_race.proofs.HaveEach.{same_later, same_self}
+use Rattle.nio_race.specs.Ends.{ArePartedAmong, AreSameButEnds, HasMet, HaveMet, HaveEnds, HaveLast, HaveSinks}
+use Rattle.nio_race.specs.Ends.{HaveSources, MeetsLast, PartedPipe, owners_of, sinks_at, sources_at}
 use Rattle.nio_race.specs.declared.ends.Owners.{Owners}
 use Rattle.nio_race.specs.declared.racer.Racer.{Racer}
 
@@ -42,102 +42,103 @@ not_empty (x ∷ xs) y is = cc
 
 -- the owner's last end is this pipe's
 last_source : (racers : List Racer) (earlier : List PartedPipe) (last : PartedPipe)
-    → HoldEnds racers (earlier ++ last ∷ []) → sources_at racers last.owners.reader
+    → HaveEnds racers (earlier ++ last ∷ []) → sources_at racers last.owners.reader
     ≡ map (λ x. x.source) (filter (λ x. x.owners.reader.0 == last.owners.reader.0) earlier) ++ last.source ∷ []
-last_source racers earlier last hold =
+last_source racers earlier last has_ends =
     let n = last.owners.reader in
     let before = map (λ (x : PartedPipe). x.source) (filter (λ (x : PartedPipe). x.owners.reader.0 == n.0) earlier) in
-    hold.sources n
+    has_ends.sources n
     ∙ (kept_push (λ (x : PartedPipe). x.owners.reader.0 == n.0) (λ (x : PartedPipe). x.source) earlier last
     ∙ ap (λ b. before ++ (if b then last.source ∷ [] else [])) (eq-eqb n.0 n.0 refl))
 
 last_sink : (racers : List Racer) (earlier : List PartedPipe) (last : PartedPipe)
-    → HoldEnds racers (earlier ++ last ∷ []) → sinks_at racers last.owners.writer
+    → HaveEnds racers (earlier ++ last ∷ []) → sinks_at racers last.owners.writer
     ≡ map (λ x. x.sink) (filter (λ x. x.owners.writer.0 == last.owners.writer.0) earlier) ++ last.sink ∷ []
-last_sink racers earlier last hold =
+last_sink racers earlier last has_ends =
     let n = last.owners.writer in
     let before = map (λ (x : PartedPipe). x.sink) (filter (λ (x : PartedPipe). x.owners.writer.0 == n.0) earlier) in
-    hold.sinks n
+    has_ends.sinks n
     ∙ (kept_push (λ (x : PartedPipe). x.owners.writer.0 == n.0) (λ (x : PartedPipe). x.sink) earlier last
     ∙ ap (λ b. before ++ (if b then last.sink ∷ [] else [])) (eq-eqb n.0 n.0 refl))
 
--- who holds something is a racer
-holder : {Y : Type 0} (f : Racer → List Y) (racers : List Racer) (n : ℕ) (xs : List Y) (y : Y)
+-- who has something is a racer
+owner_races : {Y : Type 0} (f : Racer → List Y) (racers : List Racer) (n : ℕ) (xs : List Y) (y : Y)
     → slice_index_or (map f racers) n [] ≡ xs ++ y ∷ [] → n < length racers
-holder f racers n xs y is = ⊎_elim
+owner_races f racers n xs y is = ⊎_elim
     (λ (below : n < length racers). below)
     (λ (past : length racers ≤ n). absurd (not_empty xs y
     (sym (get_or_past (map f racers) n [] (subst (λ (m : ℕ). m ≤ n) (sym (length-map racers f)) past)) ∙ is)))
     (cases_lt n (length racers))
 
-pub reader_races : (racers : List Racer) (owners : Owners) → HoldLast racers owners
+pub reader_races : (racers : List Racer) (owners : Owners) → HaveLast racers owners
     → owners.reader.0 < length racers
 reader_races racers owners at =
     subst (λ (o : Owners). o.reader.0 < length racers) (sym at.owners_are)
-    (holder (λ (r : Racer). r.ends.sources.items) racers at.last.owners.reader.0 _ at.last.source
-    (last_source racers at.earlier at.last at.hold))
+    (owner_races (λ (r : Racer). r.ends.sources.items) racers at.last.owners.reader.0 _ at.last.source
+    (last_source racers at.earlier at.last at.has_ends))
 
-pub writer_races : (racers : List Racer) (owners : Owners) → HoldLast racers owners
+pub writer_races : (racers : List Racer) (owners : Owners) → HaveLast racers owners
     → owners.writer.0 < length racers
 writer_races racers owners at =
     subst (λ (o : Owners). o.writer.0 < length racers) (sym at.owners_are)
-    (holder (λ (r : Racer). r.ends.sinks.items) racers at.last.owners.writer.0 _ at.last.sink
-    (last_sink racers at.earlier at.last at.hold))
+    (owner_races (λ (r : Racer). r.ends.sinks.items) racers at.last.owners.writer.0 _ at.last.sink
+    (last_sink racers at.earlier at.last at.has_ends))
 
-pub source_there : (racers : List Racer) (owners : Owners) → HoldLast racers owners
+pub source_there : (racers : List Racer) (owners : Owners) → HaveLast racers owners
     → sources_at racers owners.reader ≡ [] → ⊥
 source_there racers owners at none =
     not_empty _ at.last.source
     (sym (subst (λ (o : Owners). sources_at racers o.reader ≡ []) at.owners_are none)
-    ∙ last_source racers at.earlier at.last at.hold)
+    ∙ last_source racers at.earlier at.last at.has_ends)
 
-pub sink_there : (racers : List Racer) (owners : Owners) → HoldLast racers owners
+pub sink_there : (racers : List Racer) (owners : Owners) → HaveLast racers owners
     → sinks_at racers owners.writer ≡ [] → ⊥
 sink_there racers owners at none =
     not_empty _ at.last.sink
     (sym (subst (λ (o : Owners). sinks_at racers o.writer ≡ []) at.owners_are none)
-    ∙ last_sink racers at.earlier at.last at.hold)
+    ∙ last_sink racers at.earlier at.last at.has_ends)
 
 -- ---- both are taken
 
 module _ (racers mid after : List Racer) (source : PipeSource) (sink : PipeSink) (earlier : List PartedPipe)
-    (last : PartedPipe) (hold : HoldEnds racers (earlier ++ last ∷ []))
-    (first : HoldSources mid racers last.owners.reader (source ∷ []))
-    (second : HoldSinks after mid last.owners.writer (sink ∷ [])) where
+    (last : PartedPipe) (has_ends : HaveEnds racers (earlier ++ last ∷ []))
+    (first : HaveSources mid racers last.owners.reader (source ∷ []))
+    (second : HaveSinks after mid last.owners.writer (sink ∷ [])) where
   source_is : last.source ≡ source
   source_is =
       let n = last.owners.reader in
       (same_from_push _ (sources_at mid n) last.source source
-      (sym (last_source racers earlier last hold)
+      (sym (last_source racers earlier last has_ends)
       ∙ (first.sources n ∙ ap (λ b. sources_at mid n ++ (if b then source ∷ [] else [])) (eq-eqb n.0 n.0 refl)))).1
 
   sink_is : last.sink ≡ sink
   sink_is =
       let n = last.owners.writer in
       (same_from_push _ (sinks_at after n) last.sink sink
-      (sym (last_sink racers earlier last hold)
+      (sym (last_sink racers earlier last has_ends)
       ∙ (first.sinks n ∙ (second.sinks n
       ∙ ap (λ b. sinks_at after n ++ (if b then sink ∷ [] else [])) (eq-eqb n.0 n.0 refl))))).1
 
   pairs : All (λ x. AreEnds x.source x.sink) earlier × AreEnds last.source last.sink
   pairs =
-      All-pop (λ (x : PartedPipe). AreEnds x.source x.sink) (earlier ++ last ∷ []) earlier (Some last) refl hold.pairs
+      All-pop (λ (x : PartedPipe). AreEnds x.source x.sink) (earlier ++ last ∷ []) earlier (Some last) refl
+      has_ends.pairs
 
   pub ends_of_last : AreEnds source sink
   ends_of_last =
       subst (λ (s : PipeSource). AreEnds s sink) source_is
       (subst (λ (k : PipeSink). AreEnds last.source k) sink_is pairs.1)
 
-  pub hold_earlier : HoldEnds after earlier
-  hold_earlier = record {
+  pub have_earlier : HaveEnds after earlier
+  have_earlier = record {
     sources = λ n. sym (second.sources n)
         ∙ popped (last.owners.reader.0 == n.0) (sources_at racers n) (sources_at mid n) _ source last.source
         (first.sources n)
-        (hold.sources n
+        (has_ends.sources n
         ∙ kept_push (λ (x : PartedPipe). x.owners.reader.0 == n.0) (λ (x : PartedPipe). x.source) earlier last);
     sinks = λ n. popped (last.owners.writer.0 == n.0) (sinks_at mid n) (sinks_at after n) _ sink last.sink
         (second.sinks n)
-        (sym (first.sinks n) ∙ (hold.sinks n
+        (sym (first.sinks n) ∙ (has_ends.sinks n
         ∙ kept_push (λ (x : PartedPipe). x.owners.writer.0 == n.0) (λ (x : PartedPipe). x.sink) earlier last));
     pairs = pairs.0;
   }
@@ -149,8 +150,8 @@ module _ (racers mid after : List Racer) (source : PipeSource) (sink : PipeSink)
       let got : received source' ≡ received last.source =
       source_looks.received ∙ ap (λ (s : PipeSource). received s) (sym source_is) in
       let put : sent sink' ≡ sent last.sink = sink_looks.sent ∙ ap (λ (k : PipeSink). sent k) (sym sink_is) in
-      let mark : is_marked sink' ≡ is_marked last.sink =
-      sink_looks.mark ∙ ap (λ (k : PipeSink). is_marked k) (sym sink_is) in
+      let seal : is_sealed sink' ≡ is_sealed last.sink =
+      sink_looks.seal ∙ ap (λ (k : PipeSink). is_sealed k) (sym sink_is) in
       record {
         in_order = subst (λ (xs : List ℕ). IsPrefix xs (sent last.sink)) got
             (subst (λ (xs : List ℕ). IsPrefix (received source') xs) put lawful.in_order);
@@ -162,37 +163,38 @@ module _ (racers mid after : List Racer) (source : PipeSource) (sink : PipeSink)
           ap (λ (xs : List ℕ). length xs) put,
         );
         whole = λ at. sym got ∙ ((told (subst IsAtEnd source_is at)).whole ∙ put);
-        ended = λ at. subst (λ (b : Bool). IsTrue b) mark (told (subst IsAtEnd source_is at)).marked;
+        ended = λ at. subst (λ (b : Bool). IsTrue b) seal (told (subst IsAtEnd source_is at)).sealed;
       }
 
 pub ends_meet : (racers mid after : List Racer) (owners : Owners) (source : PipeSource) (sink : PipeSink)
-    → HoldLast racers owners → HoldSources mid racers owners.reader (source ∷ [])
-    → HoldSinks after mid owners.writer (sink ∷ []) → AreEnds source sink
+    → HaveLast racers owners → HaveSources mid racers owners.reader (source ∷ [])
+    → HaveSinks after mid owners.writer (sink ∷ []) → AreEnds source sink
 ends_meet racers mid after owners source sink at first second =
-    ends_of_last racers mid after source sink at.earlier at.last at.hold
-    (subst (λ (o : Owners). HoldSources mid racers o.reader (source ∷ [])) at.owners_are first)
-    (subst (λ (o : Owners). HoldSinks after mid o.writer (sink ∷ [])) at.owners_are second)
+    ends_of_last racers mid after source sink at.earlier at.last at.has_ends
+    (subst (λ (o : Owners). HaveSources mid racers o.reader (source ∷ [])) at.owners_are first)
+    (subst (λ (o : Owners). HaveSinks after mid o.writer (sink ∷ [])) at.owners_are second)
 
 pub meets_last : (racers mid after : List Racer) (owners : Owners) (source source' : PipeSource) (sink sink' : PipeSink)
-    → HoldSources mid racers owners.reader (source ∷ [])
-    → HoldSinks after mid owners.writer (sink ∷ [])
+    → HaveSources mid racers owners.reader (source ∷ [])
+    → HaveSinks after mid owners.writer (sink ∷ [])
     → SourceLooks source source' → SinkLooks sink sink'
     → IsLawful (pipe_of source' sink') → (IsAtEnd source → IsPipeAtEnd (pipe_of source' sink'))
     → MeetsLast racers after owners
 meets_last racers mid after owners source source' sink sink' first second source_looks sink_looks lawful told earlier
-    last is hold =
-    let first' = subst (λ (o : Owners). HoldSources mid racers o.reader (source ∷ [])) is first in
-    let second' = subst (λ (o : Owners). HoldSinks after mid o.writer (sink ∷ [])) is second in (
-      hold_earlier racers mid after source sink earlier last hold first' second',
-      has_met racers mid after source sink earlier last hold first' second' source' sink' source_looks sink_looks lawful
+    last is has_ends =
+    let first' = subst (λ (o : Owners). HaveSources mid racers o.reader (source ∷ [])) is first in
+    let second' = subst (λ (o : Owners). HaveSinks after mid o.writer (sink ∷ [])) is second in (
+      have_earlier racers mid after source sink earlier last has_ends first' second',
+      has_met racers mid after source sink earlier last has_ends first' second' source' sink' source_looks
+          sink_looks lawful
           told,
     )
 
 -- no pipe is the last where an end is missing
 pub none_to_meet : (racers after : List Racer) (owners : Owners)
-    → (HoldLast racers owners → ⊥) → MeetsLast racers after owners
-none_to_meet racers after owners none earlier last is hold =
-    absurd (none (record { earlier = earlier; last = last; owners_are = is; hold = hold }))
+    → (HaveLast racers owners → ⊥) → MeetsLast racers after owners
+none_to_meet racers after owners none earlier last is has_ends =
+    absurd (none (record { earlier = earlier; last = last; owners_are = is; has_ends = has_ends }))
 
 -- ---- one pipe after the other, from the last
 
@@ -225,13 +227,13 @@ pub record AreLeft (racers : List Racer) (owners : List Owners) (parted : List P
   pub met : List PartedPipe
   pub parts : parted ≡ left ++ met
   pub owners_are : owners ≡ owners_of left
-  pub hold : HoldEnds racers left
+  pub has_ends : HaveEnds racers left
   pub have_met : All HasMet met
 
 pub record IsJoining (first racers : List Racer) (all owners : List Owners) : Type 0 where
   pub among : ArePartedAmong racers owners
   pub rest : AreSameButEnds first racers
-  pub left : (parted : List PartedPipe) → all ≡ owners_of parted → HoldEnds first parted
+  pub left : (parted : List PartedPipe) → all ≡ owners_of parted → HaveEnds first parted
       → AreLeft racers owners parted
 
 pub begins : (racers : List Racer) (owners : List Owners) → ArePartedAmong racers owners
@@ -239,25 +241,25 @@ pub begins : (racers : List Racer) (owners : List Owners) → ArePartedAmong rac
 begins racers owners among = record {
   among = among;
   rest = same_self racers;
-  left = λ parted is hold. record {
+  left = λ parted is has_ends. record {
     left = parted;
     met = [];
     parts = sym (append-nil parted);
     owners_are = is;
-    hold = hold;
+    has_ends = has_ends;
     have_met = All-nil HasMet;
   };
 }
 
 pub one_to_join : (first racers : List Racer) (all owners front : List Owners) (o : Owners)
-    → IsJoining first racers all owners → owners ≡ front ++ o ∷ [] → HoldLast racers o
+    → IsJoining first racers all owners → owners ≡ front ++ o ∷ [] → HaveLast racers o
 one_to_join first racers all owners front o at is =
     let s = split_owners front o at.among.parted (sym is ∙ at.among.owners_are) in
     record {
       earlier = s.earlier;
       last = s.last;
       owners_are = s.owner;
-      hold = subst (λ (xs : List PartedPipe). HoldEnds racers xs) s.parts at.among.hold;
+      has_ends = subst (λ (xs : List PartedPipe). HaveEnds racers xs) s.parts at.among.has_ends;
     }
 
 pub one_joined : (first racers racers' : List Racer) (all owners front : List Owners) (o : Owners)
@@ -269,15 +271,15 @@ one_joined first racers racers' all owners front o at is meets same =
       among = record {
         parted = s.earlier;
         owners_are = s.owners_are;
-        hold = (meets s.earlier s.last s.owner
-            (subst (λ (xs : List PartedPipe). HoldEnds racers xs) s.parts at.among.hold)).0;
+        has_ends = (meets s.earlier s.last s.owner
+            (subst (λ (xs : List PartedPipe). HaveEnds racers xs) s.parts at.among.has_ends)).0;
       };
       rest = same_later first racers racers' at.rest same;
-      left = λ parted are hold.
-          let there = at.left parted are hold in
+      left = λ parted are has_ends.
+          let there = at.left parted are has_ends in
           let t = split_owners front o there.left (sym is ∙ there.owners_are) in
           let now = meets t.earlier t.last t.owner
-          (subst (λ (xs : List PartedPipe). HoldEnds racers xs) t.parts there.hold) in
+          (subst (λ (xs : List PartedPipe). HaveEnds racers xs) t.parts there.has_ends) in
           record {
             left = t.earlier;
             met = t.last ∷ there.met;
@@ -285,7 +287,7 @@ one_joined first racers racers' all owners front o at is meets same =
                 there.parts ∙ (ap (λ (xs : List PartedPipe). xs ++ there.met) t.parts
                 ∙ append_assoc t.earlier (t.last ∷ []) there.met);
             owners_are = t.owners_are;
-            hold = now.0;
+            has_ends = now.0;
             have_met = All-cons HasMet t.last there.met now.1 there.have_met;
           };
     }
@@ -296,8 +298,8 @@ none_left (x ∷ xs) is = absurd cc
 
 pub all_joined : (first racers : List Racer) (all owners : List Owners) → IsJoining first racers all owners
     → owners ≡ [] → HaveMet first all
-all_joined first racers all owners at none parted are hold =
-    let there = at.left parted are hold in
+all_joined first racers all owners at none parted are has_ends =
+    let there = at.left parted are has_ends in
     subst (λ (xs : List PartedPipe). All HasMet xs)
     (sym (there.parts ∙ ap (λ (xs : List PartedPipe). xs ++ there.met)
     (none_left there.left (sym none ∙ there.owners_are)))) there.have_met

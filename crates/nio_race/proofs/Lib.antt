@@ -8,7 +8,7 @@ pub mod EndLooks
 pub mod EndSays
 pub mod FindLines
 pub mod Gathering
-pub mod HoldEach
+pub mod HaveEach
 pub mod JoinEnds
 pub mod LineEnds
 pub mod LinePipes

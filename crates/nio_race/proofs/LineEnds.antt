@@ -16,7 +16,7 @@ use Rattle.nio_event.specs.declared.call.Call.TheVariants as call
 use Rattle.nio_event.specs.declared.reply.Reply.{Reply}
 use Rattle.nio_event.specs.declared.reply.Reply.TheVariants as reply
 use Rattle.nio_pipe.specs.Calls.{HasEnds}
-use Rattle.nio_pipe.specs.Ends.{IsSameSink, IsSameSource, is_marked, other_chan, received, sent, sink_chan}
+use Rattle.nio_pipe.specs.Ends.{IsSameSink, IsSameSource, is_sealed, other_chan, received, sent, sink_chan}
 use Rattle.nio_pipe.specs.Ends.{source_chan}
 use Rattle.nio_pipe.specs.declared.sink.PipeSink.{PipeSink}
 use Rattle.nio_pipe.specs.declared.source.PipeSource.{PipeSource}
@@ -31,7 +31,7 @@ use Rattle.nio_words.specs.Views.{view}
 use Rattle.nio_words.specs.declared.words.Words.{Words}
 use Rattle.nio_race.proofs.FindLines.{find_append, finds_none, one_finds, one_takes, take_append, takes_none, use_in}
 use Rattle.nio_race.specs.Ends.{AreEach, EndsGoOn, HasMadeEnds, SinkGoesOn, SourceGoesOn, ends_of, ends_of_sink}
-use Rattle.nio_race.specs.PipeBytes.{TellsEnd, all_read, all_written, ends_by, ends_in, leave_end, read_by, read_in}
+use Rattle.nio_race.specs.PipeBytes.{TellsEnd, all_read, all_written, seals_by, seals_in, leave_seal, read_by, read_in}
 use Rattle.nio_race.specs.PipeBytes.{written_by, written_in}
 use Rattle.nio_race.specs.PipeFinds.{Awaited, LinesFind, LinesTake}
 use Rattle.nio_race.specs.Piping.{OwnedEnds, PipeUse, neither, reads}
@@ -44,14 +44,14 @@ use Rattle.nio_race.specs.declared.ends.OwnEnds.{OwnEnds}
 pub same_source_self : (s : PipeSource) → IsSameSource s s
 same_source_self s = record {
   bytes = ((refl, refl, refl, refl), refl);
-  marks = ((refl, refl, refl, refl), refl);
+  seals = ((refl, refl, refl, refl), refl);
   channel = refl;
 }
 
 pub same_sink_self : (s : PipeSink) → IsSameSink s s
 same_sink_self s = record {
   bytes = ((refl, refl, refl, refl), refl);
-  marks = ((refl, refl, refl, refl), refl);
+  seals = ((refl, refl, refl, refl), refl);
   channel = refl;
   other = refl;
 }
@@ -67,14 +67,14 @@ same_source_then p q = record {
     ),
     q.bytes.1 ∙ p.bytes.1,
   );
-  marks = (
+  seals = (
     (
-      q.marks.0.0 ∙ p.marks.0.0,
-      q.marks.0.1 ∙ p.marks.0.1,
-      q.marks.0.2 ∙ p.marks.0.2,
-      q.marks.0.3 ∙ p.marks.0.3,
+      q.seals.0.0 ∙ p.seals.0.0,
+      q.seals.0.1 ∙ p.seals.0.1,
+      q.seals.0.2 ∙ p.seals.0.2,
+      q.seals.0.3 ∙ p.seals.0.3,
     ),
-    q.marks.1 ∙ p.marks.1,
+    q.seals.1 ∙ p.seals.1,
   );
   channel = q.channel ∙ p.channel;
 }
@@ -90,14 +90,14 @@ same_sink_then p q = record {
     ),
     q.bytes.1 ∙ p.bytes.1,
   );
-  marks = (
+  seals = (
     (
-      q.marks.0.0 ∙ p.marks.0.0,
-      q.marks.0.1 ∙ p.marks.0.1,
-      q.marks.0.2 ∙ p.marks.0.2,
-      q.marks.0.3 ∙ p.marks.0.3,
+      q.seals.0.0 ∙ p.seals.0.0,
+      q.seals.0.1 ∙ p.seals.0.1,
+      q.seals.0.2 ∙ p.seals.0.2,
+      q.seals.0.3 ∙ p.seals.0.3,
     ),
-    q.marks.1 ∙ p.marks.1,
+    q.seals.1 ∙ p.seals.1,
   );
   channel = q.channel ∙ p.channel;
   other = q.other ∙ p.other;
@@ -171,13 +171,13 @@ or-assoc : (a b c : Bool) → ((a || b) || c) ≡ (a || (b || c))
 or-assoc true b c = refl
 or-assoc false b c = refl
 
--- the lines read and write nothing, leave no mark, and leave what is known of the pipes
+-- the lines read and write nothing, leave no seal, and leave what is known of the pipes
 pub ends_stay : (lines : List (RaceCall × Reply)) (ends : OwnEnds)
     → ((c : ChanNo) → all_read c lines ≡ []) → ((c : ChanNo) → all_written c lines ≡ [])
-    → ((c : ChanNo) → leave_end c lines ≡ false) → ((c : ChanNo) → TellsEnd c lines → ⊥)
+    → ((c : ChanNo) → leave_seal c lines ≡ false) → ((c : ChanNo) → TellsEnd c lines → ⊥)
     → ((c : ChanNo) (x : Awaited) → LinesFind c lines x x) → ((c : ChanNo) (room : ℕ) → LinesTake c lines room room)
     → EndsGoOn lines ends ends
-ends_stay lines ends unread unwritten unmarked untold unfound untaken = record {
+ends_stay lines ends unread unwritten unsealed untold unfound untaken = record {
   sources = each_self (SourceGoesOn lines) ends.sources.items source_stays;
   sinks = each_self (SinkGoesOn lines) ends.sinks.items sink_stays;
 }
@@ -195,7 +195,7 @@ ends_stay lines ends unread unwritten unmarked untold unfound untaken = record {
     sink_stays s = record {
       same = same_sink_self s;
       sent = sym (ap (λ xs. sent s ++ xs) (unwritten (sink_chan s)) ∙ append-nil (sent s));
-      mark = or-false (is_marked s) ∙ ap (λ b. is_marked s || b) (sym (unmarked (sink_chan s)));
+      seal = or-false (is_sealed s) ∙ ap (λ b. is_sealed s || b) (sym (unsealed (sink_chan s)));
       ended = λ _. unwritten (sink_chan s);
       takes = λ room few. (room, (untaken (sink_chan s) room, few));
     }
@@ -213,8 +213,8 @@ writes-none : (c : ChanNo) (line : RaceCall) (r : Reply) → use_in line ≡ nei
 writes-none c (Script word) r is = ap (λ (u : PipeUse). written_by c u r) is
 writes-none c (Block s) r is = refl
 
-ends-none : (c : ChanNo) (line : RaceCall) (r : Reply) → use_in line ≡ neither → ends_in c line r ≡ false
-ends-none c (Script word) r is = ap (λ (u : PipeUse). ends_by c u r) is
+ends-none : (c : ChanNo) (line : RaceCall) (r : Reply) → use_in line ≡ neither → seals_in c line r ≡ false
+ends-none c (Script word) r is = ap (λ (u : PipeUse). seals_by c u r) is
 ends-none c (Block s) r is = refl
 
 -- where one line tells the end, it is a read of this channel
@@ -237,12 +237,12 @@ neither_stays line r ends is =
 
 -- ---- lines and one more
 
-pub leave_end-append : (c : ChanNo) (xs ys : List (RaceCall × Reply))
-    → leave_end c (xs ++ ys) ≡ (leave_end c xs || leave_end c ys)
-leave_end-append c [] ys = refl
-leave_end-append c (x ∷ xs) ys =
-    ap (λ b. ends_in c x.0 x.1 || b) (leave_end-append c xs ys)
-    ∙ sym (or-assoc (ends_in c x.0 x.1) (leave_end c xs) (leave_end c ys))
+pub leave_seal-append : (c : ChanNo) (xs ys : List (RaceCall × Reply))
+    → leave_seal c (xs ++ ys) ≡ (leave_seal c xs || leave_seal c ys)
+leave_seal-append c [] ys = refl
+leave_seal-append c (x ∷ xs) ys =
+    ap (λ b. seals_in c x.0 x.1 || b) (leave_seal-append c xs ys)
+    ∙ sym (or-assoc (seals_in c x.0 x.1) (leave_seal c xs) (leave_seal c ys))
 
 all_read-append : (c : ChanNo) (xs ys : List (RaceCall × Reply))
     → all_read c (xs ++ ys) ≡ all_read c xs ++ all_read c ys
@@ -296,16 +296,16 @@ sink_more xs ys a b c p q =
           ∙ (ap (λ bytes. bytes ++ all_written (sink_chan a) ys) p.sent
           ∙ (append_assoc (sent a) (all_written (sink_chan a) xs) (all_written (sink_chan a) ys)
           ∙ ap (λ bytes. sent a ++ bytes) (sym (all_written-append (sink_chan a) xs ys)))));
-      mark =
-          q.mark
-          ∙ (ap (λ (k : ChanNo). is_marked b || leave_end k ys) chan
-          ∙ (ap (λ m. m || leave_end (sink_chan a) ys) p.mark
-          ∙ (or-assoc (is_marked a) (leave_end (sink_chan a) xs) (leave_end (sink_chan a) ys)
-          ∙ ap (λ m. is_marked a || m) (sym (leave_end-append (sink_chan a) xs ys)))));
-      ended = λ marked.
-          let later : is_marked b ≡ true = p.mark ∙ ap (λ m. m || leave_end (sink_chan a) xs) marked in
+      seal =
+          q.seal
+          ∙ (ap (λ (k : ChanNo). is_sealed b || leave_seal k ys) chan
+          ∙ (ap (λ m. m || leave_seal (sink_chan a) ys) p.seal
+          ∙ (or-assoc (is_sealed a) (leave_seal (sink_chan a) xs) (leave_seal (sink_chan a) ys)
+          ∙ ap (λ m. is_sealed a || m) (sym (leave_seal-append (sink_chan a) xs ys)))));
+      ended = λ sealed.
+          let later : is_sealed b ≡ true = p.seal ∙ ap (λ m. m || leave_seal (sink_chan a) xs) sealed in
           all_written-append (sink_chan a) xs ys
-          ∙ (ap (λ bytes. bytes ++ all_written (sink_chan a) ys) (p.ended marked)
+          ∙ (ap (λ bytes. bytes ++ all_written (sink_chan a) ys) (p.ended sealed)
           ∙ (ap (λ (k : ChanNo). all_written k ys) (sym chan) ∙ q.ended later));
       takes = λ room few.
           let first = p.takes room few in

@@ -13,7 +13,7 @@ use Rattle.nio_event.specs.declared.found.Mode.{Mode}
 use Rattle.nio_event.specs.declared.reply.Reply.{Reply}
 use Rattle.nio_event.specs.declared.reply.Reply.TheVariants as reply
 use Rattle.nio_plain.specs.ScriptState.{Pipe}
-use Rattle.nio_plain.specs.Seq.Pipes.{marked_pipes, own_sink, own_source}
+use Rattle.nio_plain.specs.Seq.Pipes.{sealed_pipes, own_sink, own_source}
 use Rattle.nio_plain.specs.Seq.Selections.{is_caller, mode_of}
 use Rattle.nio_race_text.specs.RaceLines.{MayRace}
 use Rattle.nio_serial.specs.Documented.{Progress}
@@ -170,7 +170,7 @@ module _ (l : Limits) (now : Progress) (none : now.pipes ≡ []) where
   call-pipeless me (call.Register s c ops att) may = asks-pipeless _ _
   call-pipeless me (call.Closec c) may =
       makes-pipeless _ _ _
-      (λ _. subst (λ (pipes : List Pipe). marked_pipes (own_sink pipes me c) pipes ≡ []) (sym none) refl)
+      (λ _. subst (λ (pipes : List Pipe). sealed_pipes (own_sink pipes me c) pipes ≡ []) (sym none) refl)
   call-pipeless me (call.Valid s k) may = asks-pipeless _ _
   call-pipeless me (call.Interest s k) may = asks-pipeless _ _
   call-pipeless me (call.Ready s k) may = asks-pipeless _ _

@@ -1,4 +1,4 @@
--- What is known of each caller's racer before its thread and after it, and of the ends of pipes that it holds.
+-- What is known of each caller's racer before its thread and after it, and of the ends of pipes that it has.
 use Rattle.std.proofs.Common.{◌≡◌, ℕ, ◌<◌, ◌≤◌, IsFalse, List, [], length, map, All, sym, ◌∙◌, subst, ⊎_elim}
 use Rattle.std.proofs.lemmas.Bool.{cases_lt}
 use Rattle.std.proofs.lemmas.List.{get_or_past}
@@ -15,7 +15,7 @@ use Rattle.nio_serial.specs.Documented.{Progress}
 use Rattle.nio_words.specs.declared.words.Words.{Words}
 use Rattle.nio_race.proofs.PairsLists.{all-at, each-nil, length-map, map-at, standing}
 use Rattle.nio_race.proofs.PairsRaced.{HaveGoneOn, have_gone_on, same_owners, still_pairs}
-use Rattle.nio_race.specs.Ends.{AreEach, ArePartedAmong, EndsGoOn, HasMet, HaveMet, HoldEnds, PartedPipe, SinkGoesOn}
+use Rattle.nio_race.specs.Ends.{AreEach, ArePartedAmong, EndsGoOn, HasMet, HaveMet, HaveEnds, PartedPipe, SinkGoesOn}
 use Rattle.nio_race.specs.Ends.{SourceGoesOn, sinks_at, sources_at}
 use Rattle.nio_race.specs.Race.{calls_by, lines_by, strange_replies}
 use Rattle.nio_race.specs.Racers.{HasRaced, HaveRaced, replies_by}
@@ -92,8 +92,8 @@ module _ (w : Words) (race : List RaceLine) (go : List Event) (now : Progress) (
   past_after n past = subst (λ (k : ℕ). k ≤ n.0) (sym (raced.count ∙ set_off.count_is)) past
 
   -- Each caller's sources went on by its lines, and so did its sinks.
-  held_sources : (n : CallerNo) → AreEach (SourceGoesOn (raced_lines n)) (sources_at racers n) (sources_at racers' n)
-  held_sources n = ⊎_elim
+  had_sources : (n : CallerNo) → AreEach (SourceGoesOn (raced_lines n)) (sources_at racers n) (sources_at racers' n)
+  had_sources n = ⊎_elim
       (λ (below : n.0 < count).
       let k = known n below in
       subst (λ (xs : List PipeSource). AreEach (SourceGoesOn (raced_lines n)) xs (sources_at racers' n))
@@ -105,8 +105,8 @@ module _ (w : Words) (race : List RaceLine) (go : List Event) (now : Progress) (
       (λ (r : Racer). r.ends.sources.items) racers racers' n.0 (past_before n past) (past_after n past))
       (cases_lt n.0 count)
 
-  held_sinks : (n : CallerNo) → AreEach (SinkGoesOn (raced_lines n)) (sinks_at racers n) (sinks_at racers' n)
-  held_sinks n = ⊎_elim
+  had_sinks : (n : CallerNo) → AreEach (SinkGoesOn (raced_lines n)) (sinks_at racers n) (sinks_at racers' n)
+  had_sinks n = ⊎_elim
       (λ (below : n.0 < count).
       let k = known n below in
       subst (λ (xs : List PipeSink). AreEach (SinkGoesOn (raced_lines n)) xs (sinks_at racers' n))
@@ -118,34 +118,34 @@ module _ (w : Words) (race : List RaceLine) (go : List Event) (now : Progress) (
       (λ (r : Racer). r.ends.sinks.items) racers racers' n.0 (past_before n past) (past_after n past))
       (cases_lt n.0 count)
 
-  -- what became of the pipes whose ends the racers held
+  -- what became of the pipes whose ends the racers had
   abbrev pub PairsAfter : List PartedPipe → Type 0
   PairsAfter parted = HaveGoneOn raced_lines parted (sources_at racers') (sinks_at racers')
 
-  pub pairs_after : (parted : List PartedPipe) → HoldEnds racers parted → PairsAfter parted
-  pairs_after parted hold =
+  pub pairs_after : (parted : List PartedPipe) → HaveEnds racers parted → PairsAfter parted
+  pairs_after parted has_ends =
       have_gone_on raced_lines parted (sources_at racers') (sinks_at racers')
       (λ n. subst (λ (xs : List PipeSource). AreEach (SourceGoesOn (raced_lines n)) xs (sources_at racers' n))
-      (hold.sources n) (held_sources n))
+      (has_ends.sources n) (had_sources n))
       (λ n. subst (λ (xs : List PipeSink). AreEach (SinkGoesOn (raced_lines n)) xs (sinks_at racers' n))
-      (hold.sinks n) (held_sinks n))
+      (has_ends.sinks n) (had_sinks n))
 
-  pub hold_after : (parted : List PartedPipe) → HoldEnds racers parted → (on : PairsAfter parted)
-      → HoldEnds racers' on.after
-  hold_after parted hold on = record {
+  pub have_after : (parted : List PartedPipe) → HaveEnds racers parted → (on : PairsAfter parted)
+      → HaveEnds racers' on.after
+  have_after parted has_ends on = record {
     sources = on.sources_are;
     sinks = on.sinks_are;
-    pairs = still_pairs raced_lines parted on.after on.each hold.pairs;
+    pairs = still_pairs raced_lines parted on.after on.each has_ends.pairs;
   }
 
   -- so the pipes are still parted among the racers
   pub parted_after : (owners : List Owners) → ArePartedAmong racers owners → ArePartedAmong racers' owners
   parted_after owners among =
-      let on = pairs_after among.parted among.hold in
+      let on = pairs_after among.parted among.has_ends in
       record {
         parted = on.after;
         owners_are = among.owners_are ∙ sym (same_owners raced_lines among.parted on.after on.each);
-        hold = hold_after among.parted among.hold on;
+        has_ends = have_after among.parted among.has_ends on;
       }
 
   -- The ends of each met.
@@ -153,4 +153,4 @@ module _ (w : Words) (race : List RaceLine) (go : List Event) (now : Progress) (
       → (on : PairsAfter among.parted) → All HasMet on.after
   all_met owners among met on =
       met on.after (among.owners_are ∙ sym (same_owners raced_lines among.parted on.after on.each))
-      (hold_after among.parted among.hold on)
+      (have_after among.parted among.has_ends on)

@@ -26,7 +26,7 @@ pub record PipeGoesOn (lines : CallerNo → List (RaceCall × Reply)) (x y : Par
   pub source : SourceGoesOn (lines x.owners.reader) x.source y.source
   pub sink : SinkGoesOn (lines x.owners.writer) x.sink y.sink
 
--- Each pipe went on, and each caller holds the ends that it owns.
+-- Each pipe went on, and each caller has the ends that it owns.
 pub record HaveGoneOn (lines : CallerNo → List (RaceCall × Reply)) (parted : List PartedPipe)
     (sources : CallerNo → List PipeSource) (sinks : CallerNo → List PipeSink) : Type 0 where
   pub after : List PartedPipe
@@ -41,7 +41,7 @@ none_left R (y ∷ ys) are = absurd (omega (arith, are.count))
 abbrev at : ℕ → CallerNo
 at k = record { 0 = k }
 
--- of the pipe x and others: its source, and what each caller holds behind it
+-- of the pipe x and others: its source, and what each caller has behind it
 abbrev SourceStep : (CallerNo → List (RaceCall × Reply)) → PartedPipe → List PartedPipe → (CallerNo → List PipeSource)
     → Type 0
 SourceStep lines x parted sources =

@@ -1,4 +1,4 @@
--- The channels of the ends that a racer holds are those of its caller's pipes.
+-- The channels of the ends that a racer has are those of its caller's pipes.
 use Rattle.std.proofs.Common.{◌≡◌, ℕ, zero, suc, ◌<◌, ◌==◌, Bool, true, false, if◌then◌else◌, List, [], ◌∷◌, All}
 use Rattle.std.proofs.Common.{get_or, map, refl, sym, ap, ◌∙◌, subst, arith}
 use Rattle.std.specs.Prelude.{AllPairs, filter}

@@ -1,4 +1,4 @@
--- What `go` leaves, once the racers hold their ends of pipes.
+-- What `go` leaves, once the racers have their ends of pipes.
 use Rattle.std.proofs.Common.{◌≡◌, ◌≢◌, ℕ, ◌<◌, ◌==◌, List, [], ◌∷◌, length, All, get_or, map, refl}
 use Rattle.std.proofs.Common.{sym, ap, ◌∙◌, subst}
 use Rattle.std.specs.Prelude.{AllPairs, filter}
@@ -22,10 +22,10 @@ use Rattle.nio_steps.specs.PipeCalls.{PipeEnds}
 use Rattle.nio_words.specs.Passes.{IsPassOf, limits_of, seen}
 use Rattle.nio_words.specs.Views.{view}
 use Rattle.nio_words.specs.declared.words.Words.{Words}
-use Rattle.nio_race.proofs.HoldEach.{held_by}
+use Rattle.nio_race.proofs.HaveEach.{had_by}
 use Rattle.nio_race.proofs.PartKept.{all_of_map, each_to_zip, pairs_filter, pairs_map, pairs_of_map, sinks_kept}
 use Rattle.nio_race.proofs.PartKept.{sources_kept, zip_whole}
-use Rattle.nio_race.specs.Ends.{ArePipes, AreSameButEnds, HasMadeEnds, HasNoEnds, HasRacers, HaveParted, HoldEnds}
+use Rattle.nio_race.specs.Ends.{ArePipes, AreSameButEnds, HasMadeEnds, HasNoEnds, HasRacers, HaveParted, HaveEnds}
 use Rattle.nio_race.specs.Ends.{IsPartedAs, PartedPipe, ends_of, ends_of_sink}
 use Rattle.nio_race.specs.Piping.{OwnedEnds, ends_of_pipe, own_ends}
 use Rattle.nio_race.specs.SetOff.{AreRacers, AreSetOff, AreSetOffWithout, IsSetOffAt, IsSetOffWithout}
@@ -54,10 +54,10 @@ all_have_racers w go now racers pipes set_off are =
     (all_of_map (λ (p : Pipe). (p.reader.0 < (limits_of w).callers) × (p.writer.0 < (limits_of w).callers)) pipe_of
     pipes are.owners)
 
--- ---- what a racer holds
+-- ---- what a racer has
 
 module _ (n : CallerNo) (ends : OwnEnds) (pipes : List Pipe) (parted : List PartedPipe)
-    (zip : AllZip IsPartedAs pipes parted) (racers : List Racer) (hold : HoldEnds racers parted)
+    (zip : AllZip IsPartedAs pipes parted) (racers : List Racer) (has_ends : HaveEnds racers parted)
     (sources_are : ends.sources.items
     ≡ map (λ x. x.source) (filter (λ x. x.owners.reader.0 == n.0) parted))
     (sinks_are : ends.sinks.items ≡ map (λ x. x.sink) (filter (λ x. x.owners.writer.0 == n.0) parted)) where
@@ -73,7 +73,7 @@ module _ (n : CallerNo) (ends : OwnEnds) (pipes : List Pipe) (parted : List Part
       ap (map ends_of_sink) sinks_are
       ∙ (map-map ends_of_sink (λ (x : PartedPipe). x.sink)
       (filter (λ (x : PartedPipe). x.owners.writer.0 == n.0) parted)
-      ∙ sinks_kept n pipes parted (zip_whole pipes parted zip hold.pairs))
+      ∙ sinks_kept n pipes parted (zip_whole pipes parted zip has_ends.pairs))
 
   pub ends_are : ends_of ends ≡ own_ends n pipes
   ends_are =
@@ -152,20 +152,20 @@ all_set_off_with w d racers racers' owners stands are set_off same parted = reco
       let r_is : get_or racers k r ≡ r = get_or_default racers k r r' first in
       let at : IsSetOffWithout w (seen d.pass) (progress_of d) k r = set_off.each k r below r_is in
       let pipes = (progress_of d).pipes in
-      let hold = parted.among.hold in
+      let has_ends = parted.among.has_ends in
       let zip : AllZip IsPartedAs pipes parted.among.parted =
       each_to_zip IsPartedAs pipes parted.among.parted parted.each in
-      let sources = sym (held_by (λ (x : Racer). x.ends.sources.items) racers' k r' there (sym is))
-      ∙ hold.sources n in
-      let sinks = sym (held_by (λ (x : Racer). x.ends.sinks.items) racers' k r' there (sym is)) ∙ hold.sinks n in
+      let sources = sym (had_by (λ (x : Racer). x.ends.sources.items) racers' k r' there (sym is))
+      ∙ has_ends.sources n in
+      let sinks = sym (had_by (λ (x : Racer). x.ends.sinks.items) racers' k r' there (sym is)) ∙ has_ends.sinks n in
       let made : AreMade (view w r.desk.pass) d.pipes.items =
       made_for w d.pass r.desk.pass d.pipes.items at.sight stands.places.pipes in
       subst (λ (x : Racer). IsSetOffAt w (seen d.pass) (progress_of d) k x)
       (sym (same.each k r r' first r_is is))
       (set_off_with w (seen d.pass) (progress_of d) k r r'.ends at
-      (ends_made n r'.ends pipes parted.among.parted zip racers' hold sources sinks w r.desk
+      (ends_made n r'.ends pipes parted.among.parted zip racers' has_ends sources sinks w r.desk
       (All-map (λ (p : Pipe). HasEnds (view w r.desk.pass) p.source p.sink) pipe_of d.pipes.items made) are)
-      (ends_are n r'.ends pipes parted.among.parted zip racers' hold sources sinks));
+      (ends_are n r'.ends pipes parted.among.parted zip racers' has_ends sources sinks));
 }
 
 -- their passes are as they were

@@ -12,9 +12,9 @@ use Rattle.nio_pipe.specs.Pipe.{room_of}
 use Rattle.nio_plain.specs.ScriptState.{Pipe}
 use Rattle.nio_sole.specs.Stands.{pipe_of, pipes_of}
 use Rattle.nio_sole.specs.declared.desk.OwnedPipe.{OwnedPipe}
-use Rattle.nio_race.proofs.HoldEach.{same_later, same_self}
+use Rattle.nio_race.proofs.HaveEach.{same_later, same_self}
 use Rattle.nio_race.proofs.JoinEnds.{kept_push}
-use Rattle.nio_race.specs.Ends.{AddsParted, AreEach, AreSameButEnds, HasNoEnds, HasRacers, HaveParted, HoldEnds}
+use Rattle.nio_race.specs.Ends.{AddsParted, AreEach, AreSameButEnds, HasNoEnds, HasRacers, HaveParted, HaveEnds}
 use Rattle.nio_race.specs.Ends.{IsPartedAs, PartedPipe}
 use Rattle.nio_race.specs.declared.ends.Owners.{Owners}
 use Rattle.nio_race.specs.declared.racer.Racer.{Racer}
@@ -39,8 +39,8 @@ each_push {A = A} R xs ys x y each is = record {
 
 -- ---- a pipe more
 
--- no room is known behind the mark; before it, all that there is
-room_known : (marked : Bool) (room free : ℕ) → (IsFalse marked → free ≡ room) → (if marked then 0 else room) ≤ free
+-- no room is known behind the seal; before it, all that there is
+room_known : (sealed : Bool) (room free : ℕ) → (IsFalse sealed → free ≡ room) → (if sealed then 0 else room) ≤ free
 room_known true room free is = omega arith
 room_known false room free is = omega (arith, is refl)
 
@@ -54,36 +54,36 @@ parted_as pipe before after owners adds = record {
   sink = adds.parts.sink_channel;
   none_received = adds.parts.none_received;
   waiting = adds.parts.all_sent;
-  mark = adds.parts.mark_left;
+  seal = adds.parts.seal_left;
   known = record {
     bytes = adds.parts.all_known;
-    marked = λ is. adds.parts.mark_known ∙ is;
+    sealed = λ is. adds.parts.seal_known ∙ is;
     ended = λ is. absurd (cc is);
   };
-  room = room_known pipe.pipe.marked (room_of pipe.pipe) (free adds.sink) adds.parts.room;
+  room = room_known pipe.pipe.sealed (room_of pipe.pipe) (free adds.sink) adds.parts.room;
 }
 
-hold_more : (pipe : OwnedPipe) (before after : List Racer) (owners : Owners) (parted : List PartedPipe)
-    (adds : AddsParted pipe before after owners) → HoldEnds before parted
-    → HoldEnds after (parted ++ record { owners = owners; source = adds.source; sink = adds.sink } ∷ [])
-hold_more pipe before after owners parted adds hold =
+have_more : (pipe : OwnedPipe) (before after : List Racer) (owners : Owners) (parted : List PartedPipe)
+    (adds : AddsParted pipe before after owners) → HaveEnds before parted
+    → HaveEnds after (parted ++ record { owners = owners; source = adds.source; sink = adds.sink } ∷ [])
+have_more pipe before after owners parted adds has_ends =
     let x : PartedPipe = record { owners = owners; source = adds.source; sink = adds.sink } in
     let source = adds.source in
     let sink = adds.sink in
     record {
       sources = λ n. adds.sources n
-          ∙ (ap (λ ys. ys ++ (if pipe.reader.0 == n.0 then source ∷ [] else [])) (hold.sources n)
+          ∙ (ap (λ ys. ys ++ (if pipe.reader.0 == n.0 then source ∷ [] else [])) (has_ends.sources n)
           ∙ (ap (λ (m : CallerNo). map (λ (y : PartedPipe). y.source)
           (filter (λ (y : PartedPipe). y.owners.reader.0 == n.0) parted)
           ++ (if m.0 == n.0 then source ∷ [] else [])) (sym adds.reader)
           ∙ sym (kept_push (λ (y : PartedPipe). y.owners.reader.0 == n.0) (λ (y : PartedPipe). y.source) parted x)));
       sinks = λ n. adds.sinks n
-          ∙ (ap (λ ys. ys ++ (if pipe.writer.0 == n.0 then sink ∷ [] else [])) (hold.sinks n)
+          ∙ (ap (λ ys. ys ++ (if pipe.writer.0 == n.0 then sink ∷ [] else [])) (has_ends.sinks n)
           ∙ (ap (λ (m : CallerNo). map (λ (y : PartedPipe). y.sink)
           (filter (λ (y : PartedPipe). y.owners.writer.0 == n.0) parted)
           ++ (if m.0 == n.0 then sink ∷ [] else [])) (sym adds.writer)
           ∙ sym (kept_push (λ (y : PartedPipe). y.owners.writer.0 == n.0) (λ (y : PartedPipe). y.sink) parted x)));
-      pairs = All-push (λ (y : PartedPipe). AreEnds y.source y.sink) parted x hold.pairs adds.parts.ends;
+      pairs = All-push (λ (y : PartedPipe). AreEnds y.source y.sink) parted x has_ends.pairs adds.parts.ends;
     }
 
 have_parted_more : (pipe : OwnedPipe) (before after : List Racer) (all : List Owners) (owners : Owners)
@@ -98,7 +98,7 @@ have_parted_more pipe before after all owners done have adds =
         owners_are =
             ap (λ (os : List Owners). os ++ owners ∷ []) have.among.owners_are
             ∙ sym (map_push (λ (y : PartedPipe). y.owners) parted x);
-        hold = hold_more pipe before after owners parted adds have.among.hold;
+        has_ends = have_more pipe before after owners parted adds have.among.has_ends;
       };
       each = subst (λ (ps : List Pipe). AreEach IsPartedAs ps (parted ++ x ∷ [])) (sym (map_push pipe_of done pipe))
           (each_push IsPartedAs (pipes_of done) parted (pipe_of pipe) x have.each
@@ -107,12 +107,12 @@ have_parted_more pipe before after all owners done have adds =
 
 -- ---- one after the other
 
-none_held : {Y : Type 0} (f : Racer → List Y) (racers : List Racer) (n : ℕ)
+none_had : {Y : Type 0} (f : Racer → List Y) (racers : List Racer) (n : ℕ)
     → All (λ r. f r ≡ []) racers → get_or (map f racers) n [] ≡ []
-none_held f [] n none = refl
-none_held f (r ∷ racers) zero none = none 0 r (omega arith)
-none_held f (r ∷ racers) (suc n) none =
-    none_held f racers n (All-tail (λ (x : Racer). f x ≡ []) r racers none)
+none_had f [] n none = refl
+none_had f (r ∷ racers) zero none = none 0 r (omega arith)
+none_had f (r ∷ racers) (suc n) none =
+    none_had f racers n (All-tail (λ (x : Racer). f x ≡ []) r racers none)
 
 pub record IsParting (first racers : List Racer) (owners : List Owners) (pipes rest : List OwnedPipe) : Type 0 where
   pub same : AreSameButEnds first racers
@@ -130,10 +130,10 @@ begins racers owners pipes rest endless none is = record {
     among = record {
       parted = [];
       owners_are = none;
-      hold = record {
-        sources = λ n. none_held (λ (r : Racer). r.ends.sources.items) racers n.0
+      has_ends = record {
+        sources = λ n. none_had (λ (r : Racer). r.ends.sources.items) racers n.0
             (λ k d below. (endless k d below).sources);
-        sinks = λ n. none_held (λ (r : Racer). r.ends.sinks.items) racers n.0 (λ k d below. (endless k d below).sinks);
+        sinks = λ n. none_had (λ (r : Racer). r.ends.sinks.items) racers n.0 (λ k d below. (endless k d below).sinks);
         pairs = All-nil (λ (x : PartedPipe). AreEnds x.source x.sink);
       };
     };

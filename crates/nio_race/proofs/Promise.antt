@@ -117,8 +117,8 @@ module _ (w : Words) (setup : List ScriptCall) (race : List RaceLine) (d : Desk)
       subst (λ (m : CallerNo). Holds k.after.desk.pass m) k.number
       (k.raced_so.stands k.in_memory).stands.ready.number
 
-  pub holds_each : (n : CallerNo) → n.0 < (limits_of w).callers → IsReady w p n
-  holds_each n below =
+  pub ready_each : (n : CallerNo) → n.0 < (limits_of w).callers → IsReady w p n
+  ready_each n below =
       let k = known_of n below in
       record { pass = pass; number = (stands_in n k).holds n (held n k) }
 
@@ -161,7 +161,7 @@ module _ (w : Words) (setup : List ScriptCall) (race : List RaceLine) (d : Desk)
       let now = progress_of d in
       let among = parted.among in
       let on = pairs_after w race go now (limits_of w).callers racers racers' set_off raced memory among.parted
-      among.hold in
+      among.has_ends in
       keep_pipes (limits_of w) setup race (replies_by race racers') now.pipes among.parted on.after kept.each
       parted.each on.each
       (all_met w race go now (limits_of w).callers racers racers' set_off raced memory owners among met on)
@@ -172,7 +172,7 @@ module _ (w : Words) (setup : List ScriptCall) (race : List RaceLine) (d : Desk)
       let now = progress_of d in
       let among = parted.among in
       let on = pairs_after w race go now (limits_of w).callers racers racers' set_off raced memory among.parted
-      among.hold in
+      among.has_ends in
       find_in_pipes race (replies_by race racers') now.pipes among.parted on.after parted.each on.each
 
   pub is_race : IsRace (limits_of w) setup race (seen p) (replies_by race racers')

@@ -21,7 +21,7 @@ use Rattle.nio_words.specs.declared.words.Pass.{Pass}
 use Rattle.nio_words.specs.declared.words.Words.{Words}
 use Rattle.nio_race.proofs.Gathering.{stands_on}
 use Rattle.nio_race.proofs.PairsLists.{at_itself, each-all, each-back, each-same, standing}
-use Rattle.nio_race.proofs.Promise.{is_race, holds_each}
+use Rattle.nio_race.proofs.Promise.{is_race, ready_each}
 use Rattle.nio_race.specs.Ends.{AreSameButEnds, HaveMet, HaveParted}
 use Rattle.nio_race.specs.Gathering.{StandsIn}
 use Rattle.nio_race.specs.Race.{callers_text, calls_by, strange_replies}
@@ -134,7 +134,7 @@ runs_to w d setup race racers joined p none text text' set_up kept empty wrote r
       run = record {
         raced = is_race w setup race d run.before run.raced run.owners p set_up kept run.set_off run.parted run.made
             run.in_memory run.met pass all;
-        holds = holds_each w setup race d run.before run.raced run.owners p set_up kept run.set_off run.parted run.made
+        holds = ready_each w setup race d run.before run.raced run.owners p set_up kept run.set_off run.parted run.made
             run.in_memory run.met pass all;
       };
       text_is =

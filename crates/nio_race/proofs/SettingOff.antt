@@ -9,6 +9,7 @@ use Rattle.std.proofs.lemmas.List.Elements.{All-push}
 use Rattle.std.proofs.lemmas.List.{get_or_past, get_or_push, get_or_append_left, length-append}
 use Rattle.nio_base.specs.declared.limits.Limits.{Limits}
 use Rattle.nio_base.specs.declared.numbers.CallerNo.{CallerNo}
+use Rattle.nio_base.specs.declared.numbers.SelNo.{SelNo}
 use Rattle.nio_event.specs.Conditions.{IsCaller, has_pin}
 use Rattle.nio_event.specs.Histories.{mine, state_after}
 use Rattle.nio_event.specs.declared.act.Act.{Act}
@@ -22,12 +23,12 @@ use Rattle.nio_sole.specs.Stands.{slot, selecting_of, group_of, pipes_of, progre
 use Rattle.nio_sole.specs.declared.desk.Begun.{Begun}
 use Rattle.nio_sole.specs.declared.desk.Desk.{Desk}
 use Rattle.nio_sole.specs.declared.desk.Shut.{Shut}
-use Rattle.nio_words.specs.Passes.{IsPassOf, limits_of, seen}
+use Rattle.nio_words.specs.Passes.{Holds, IsPassOf, limits_of, seen}
 use Rattle.nio_words.specs.Views.{view}
 use Rattle.nio_words.specs.declared.words.Words.{Words}
 use Rattle.nio_race.specs.Race.{own_progress, own_selection_of}
 use Rattle.nio_race.specs.SetOff.{own_begun, other_begun, own_shut, other_shut, AddsRacer, AreRacers, AreSetOffWithout}
-use Rattle.nio_race.specs.SetOff.{HasLeft, IsSetOffWithout, MovedBelow, StoodAtGo, TakesOver}
+use Rattle.nio_race.specs.SetOff.{IsSetOffWithout, MovedBelow, TakesOver}
 use Rattle.nio_race.specs.declared.racer.Racer.{Racer}
 
 -- ---- one place
@@ -227,6 +228,20 @@ own_made l acts n now made = record {
 }
 
 -- ---- the racers, one after the other
+
+-- The desk has still what belongs to the callers from number k on: its pass acts for them, and it has in progress what
+-- they had in progress at `go`.
+pub record HasLeft (w : Words) (go : List Event) (now : Progress) (d : Desk) (k : ℕ) : Type 0 where
+  pub pass : IsPassOf w d.pass
+  pub sight : seen d.pass ≡ go
+  pub holds : (n : CallerNo) → k ≤ n.0 → n.0 < (limits_of w).callers → Holds d.pass n
+  pub places : HasPlaces w d
+  pub progress : (n : CallerNo) → k ≤ n.0 → own_progress n (progress_of d) ≡ own_progress n now
+
+-- what stood at `go`: no caller had a call at work, and each made whole calls
+pub record StoodAtGo (w : Words) (go : List Event) (now : Progress) : Type 0 where
+  pub unpinned : (n : CallerNo) (s : SelNo) (i : ℕ) → IsFalse (has_pin (state_after go) n s i)
+  pub made : ∥ ((n : CallerNo) → HasMade (limits_of w) (mine n go) n now) ∥₁
 
 pub stood_at_go : (w : Words) (d : Desk) → Stands w d → StoodAtGo w (seen d.pass) (progress_of d)
 stood_at_go w d stands = record {

@@ -25,12 +25,12 @@ use Rattle.nio_plain.proofs.Found.{found_below}
 use Rattle.nio_plain.proofs.ReachedSound.{by_test}
 use Rattle.nio_plain.specs.ScriptState.{Pipe, ScriptState}
 use Rattle.nio_plain.specs.Seq.{call_of, seq}
-use Rattle.nio_plain.specs.Seq.Answers.{Answered, unchanged, answered}
+use Rattle.nio_plain.specs.Seq.Replies.{Replied, unchanged, replied}
 use Rattle.nio_plain.specs.Seq.Cancelling.{channel_closed, closec_call}
 use Rattle.nio_plain.specs.Seq.Modes.{is_registered, blocking_call}
 use Rattle.nio_plain.specs.Seq.Names.{with_named_channel}
 use Rattle.nio_plain.specs.Seq.Opening.{channel_call, channel_made, next_channel}
-use Rattle.nio_plain.specs.Seq.Pipes.{marking, no_pipe, own_sink, own_source, owns_sink, owns_source, pipe_at}
+use Rattle.nio_plain.specs.Seq.Pipes.{sealing, no_pipe, own_sink, own_source, owns_sink, owns_source, pipe_at}
 use Rattle.nio_plain.specs.Seq.Piping.{finds_interrupt, pipe_call, pread_call, pwrite_call, read_first}
 use Rattle.nio_plain.specs.Seq.Piping.{read_from, room_for, with_sink, with_source, write_first, write_to}
 use Rattle.nio_plain.specs.declared.rules.Rules.TheVariants.{Now}
@@ -85,7 +85,7 @@ is_apart (call.Pwrite c bytes) = false
 is_apart (call.Pread c n) = false
 is_apart _ = true
 
-abbrev Leaves : ScriptState → Call → Answered → Type 0
+abbrev Leaves : ScriptState → Call → Replied → Type 0
 Leaves st word a = is_apart word ≡ true → (a.left.shared.chan ≡ st.shared.chan) × (a.left.pipes ≡ st.pipes)
 
 leaves : (st : ScriptState) (me : CallerNo) → HoldsOfChanges Now st me (Leaves st)
@@ -131,7 +131,7 @@ apart-neither _ h = refl
 -- ---- one call
 
 module _ (l : Limits) (log : List (ScriptCall × Reply)) (st : ScriptState) (kept : AreKept l log st) where
-  abbrev Goes : CallerNo → Call → Answered → Type 0
+  abbrev Goes : CallerNo → Call → Replied → Type 0
   Goes me word a = AreKept l (log ++ line me word a.reply ∷ []) a.left
 
   -- a reply that says nothing, from a state with the same pipes
@@ -145,7 +145,7 @@ module _ (l : Limits) (log : List (ScriptCall × Reply)) (st : ScriptState) (kep
   on-none me word r after none stay same =
       silent-more l log (line me word r) st after kept stay same (neither-silent (line me word r) none)
 
-  named : (me : CallerNo) (word : Call) (c : ChanNo) (a : Answered)
+  named : (me : CallerNo) (word : Call) (c : ChanNo) (a : Replied)
       → ((st.shared.chan c.0).made ≡ true → Goes me word a) → Goes me word (with_named_channel st c a)
   named me word c a h =
       by_test (Goes me word) (st.shared.chan c.0).made a (unchanged st reply.NoChannel) h
@@ -256,7 +256,7 @@ module _ (l : Limits) (log : List (ScriptCall × Reply)) (st : ScriptState) (kep
       → after.shared.chan ≡ st.shared.chan
       → after.pipes ≡ set st.pipes i (record (pipe_at st.pipes i) { waiting = waiting })
       → bytes_of r ++ waiting ≡ (pipe_at st.pipes i).waiting
-      → (r ≡ reply.End → ((pipe_at st.pipes i).marked ≡ true) × (waiting ≡ []))
+      → (r ≡ reply.End → ((pipe_at st.pipes i).sealed ≡ true) × (waiting ≡ []))
       → ((pipe_at st.pipes i).waiting ≡ [] → waiting ≡ [])
       → AreKept l (log ++ line me (call.Pread c n) r ∷ []) after
   reads-there me c n r i waiting after made within own chan pipes bytes end none =
@@ -264,17 +264,17 @@ module _ (l : Limits) (log : List (ScriptCall × Reply)) (st : ScriptState) (kep
       let x = line me (call.Pread c n) r in
       let stay : AllStay st.shared.chan after.shared.chan =
       subst (AllStay st.shared.chan) (sym chan) (all-stay st.shared.chan) in
-      place-more l log x st after i waiting p.marked kept stay within pipes
+      place-more l log x st after i waiting p.sealed kept stay within pipes
       (record {
         bytes =
             ap (λ (xs : List ℕ). xs ++ waiting) (read-own me c n r p own)
             ∙ (bytes
             ∙ (sym (append-nil p.waiting)
             ∙ ap (λ (xs : List ℕ). p.waiting ++ xs) (sym (of-same {A = List ℕ} (me.0 == p.writer.0) []))));
-        mark =
-            sym (ap (λ (b : Bool). p.marked || b) (of-same {A = Bool} (me.0 == p.writer.0) false) ∙ or-false p.marked);
+        seal =
+            sym (ap (λ (b : Bool). p.sealed || b) (of-same {A = Bool} (me.0 == p.writer.0) false) ∙ or-false p.sealed);
         told = λ last. end last.reads.reply;
-        stays = λ marked h. none h;
+        stays = λ sealed h. none h;
       })
       (λ ends. absurd (both_ways _ (of-same {A = Bool} (me.0 == p.writer.0) false) ends))
       (λ k h ne. read-beside me c n r (pipe_at st.pipes k) (other-source me c i within own k h ne))
@@ -282,14 +282,14 @@ module _ (l : Limits) (log : List (ScriptCall × Reply)) (st : ScriptState) (kep
 
   goes-first : (me : CallerNo) (c : ChanNo) (n i : ℕ) (blocking : Bool) → (st.shared.chan c.0).made ≡ true
       → i < length st.pipes → owns_source me c (pipe_at st.pipes i) ≡ true
-      → (waiting : List ℕ) (marked : Bool)
-      → (pipe_at st.pipes i).waiting ≡ waiting → (pipe_at st.pipes i).marked ≡ marked
-      → Goes me (call.Pread c n) (read_first st blocking n i waiting marked)
+      → (waiting : List ℕ) (sealed : Bool)
+      → (pipe_at st.pipes i).waiting ≡ waiting → (pipe_at st.pipes i).sealed ≡ sealed
+      → Goes me (call.Pread c n) (read_first st blocking n i waiting sealed)
   goes-first me c n i blocking made within own [] false e m = quiet me (call.Pread c n) _ (not-now blocking)
   goes-first me c n i blocking made within own [] true e m =
       reads-there me c n reply.End i (pipe_at st.pipes i).waiting st made within own refl
       (sym (set-get_or st.pipes i no_pipe)) refl (λ _. (m, e)) (λ h. h)
-  goes-first me c n i blocking made within own (b ∷ bytes) marked e m =
+  goes-first me c n i blocking made within own (b ∷ bytes) sealed e m =
       reads-there me c n (reply.Bytes (take n (b ∷ bytes))) i (drop n (b ∷ bytes)) _ made within own refl refl
       (take-append-drop n (b ∷ bytes) ∙ sym e) (λ end. absurd (cc end))
       (λ none. absurd (cc (sym e ∙ none)))
@@ -312,7 +312,7 @@ module _ (l : Limits) (log : List (ScriptCall × Reply)) (st : ScriptState) (kep
       (λ _. by_test (Goes me word) (n == 0) _ _ (λ _. quiet me word (reply.Number 0) number-none)
       (λ _.
       goes-first me c n i (st.shared.chan c.0).blocking made found.0 found.1 (pipe_at st.pipes i).waiting
-      (pipe_at st.pipes i).marked refl refl)))
+      (pipe_at st.pipes i).sealed refl refl)))
 
   goes-pread : (me : CallerNo) (c : ChanNo) (n : ℕ) → Goes me (call.Pread c n) (pread_call st me c n)
   unfolding pread_call
@@ -338,13 +338,13 @@ module _ (l : Limits) (log : List (ScriptCall × Reply)) (st : ScriptState) (kep
   sink-is me c p own = eqb-true c.0 p.sink.0 (own-sink-is me c p own).1
 
   -- the caller's own sink is found or made closed
-  marks-there : (me : CallerNo) (c : ChanNo) (bytes : List ℕ) (r : Reply) (i : ℕ) (after : ScriptState)
+  seals-there : (me : CallerNo) (c : ChanNo) (bytes : List ℕ) (r : Reply) (i : ℕ) (after : ScriptState)
       → (st.shared.chan c.0).made ≡ true → i < length st.pipes → owns_sink me c (pipe_at st.pipes i) ≡ true
       → AllStay st.shared.chan after.shared.chan → (after.shared.chan c.0).closed ≡ true
-      → after.pipes ≡ set st.pipes i (record (pipe_at st.pipes i) { marked = true })
+      → after.pipes ≡ set st.pipes i (record (pipe_at st.pipes i) { sealed = true })
       → take (number_of r) bytes ≡ [] → says_closed r ≡ true
       → AreKept l (log ++ line me (call.Pwrite c bytes) r ∷ []) after
-  marks-there me c bytes r i after made within own stay closed pipes none says =
+  seals-there me c bytes r i after made within own stay closed pipes none says =
       let p = pipe_at st.pipes i in
       let x = line me (call.Pwrite c bytes) r in
       place-more l log x st after i p.waiting true kept stay within pipes
@@ -353,9 +353,9 @@ module _ (l : Limits) (log : List (ScriptCall × Reply)) (st : ScriptState) (kep
             ap (λ (xs : List ℕ). xs ++ p.waiting) (of-same {A = List ℕ} (me.0 == p.reader.0) [])
             ∙ (sym (append-nil p.waiting)
             ∙ ap (λ (xs : List ℕ). p.waiting ++ xs) (sym (write-own me c bytes r p own ∙ none)));
-        mark = sym (or_right p.marked _ (write-ends me c bytes r p own ∙ says));
+        seal = sym (or_right p.sealed _ (write-ends me c bytes r p own ∙ says));
         told = λ last. let it = last.reads.call in absurd (cc it);
-        stays = λ marked h. h;
+        stays = λ sealed h. h;
       })
       (λ _. subst (λ (n : ℕ). (after.shared.chan n).closed ≡ true) (sink-is me c p own) closed)
       (λ k h ne. write-beside me c bytes r (pipe_at st.pipes k) (other-sink me c i within own k h ne))
@@ -375,17 +375,17 @@ module _ (l : Limits) (log : List (ScriptCall × Reply)) (st : ScriptState) (kep
       let stay : AllStay st.shared.chan after.shared.chan =
       subst (AllStay st.shared.chan) (sym chan) (all-stay st.shared.chan) in
       let ends : end_of p.writer p.sink x ≡ false = write-ends me c bytes r p own in
-      place-more l log x st after i (p.waiting ++ take n bytes) p.marked kept stay within pipes
+      place-more l log x st after i (p.waiting ++ take n bytes) p.sealed kept stay within pipes
       (record {
         bytes =
             ap (λ (xs : List ℕ). xs ++ (p.waiting ++ take n bytes)) (of-same {A = List ℕ} (me.0 == p.reader.0) [])
             ∙ ap (λ (xs : List ℕ). p.waiting ++ xs) (sym (write-own me c bytes r p own));
-        mark = sym (ap (λ (b : Bool). p.marked || b) ends ∙ or-false p.marked);
+        seal = sym (ap (λ (b : Bool). p.sealed || b) ends ∙ or-false p.sealed);
         told = λ last. let it = last.reads.call in absurd (cc it);
-        stays = λ marked h.
+        stays = λ sealed h.
             absurd (both_ways (st.shared.chan c.0).closed is_open
             (subst (λ (k : ℕ). (st.shared.chan k).closed ≡ true) (sym (sink-is me c p own))
-            ((kept.each i within).closed marked)));
+            ((kept.each i within).closed sealed)));
       })
       (λ e. absurd (both_ways (end_of p.writer p.sink x) ends e))
       (λ k h ne. write-beside me c bytes r (pipe_at st.pipes k) (other-sink me c i within own k h ne))
@@ -409,11 +409,11 @@ module _ (l : Limits) (log : List (ScriptCall × Reply)) (st : ScriptState) (kep
       let found = position-Some (owns_sink me c) st.pipes i no_pipe e in
       by_test (Goes me word) (st.shared.chan c.0).closed _ _
       (λ closed.
-      marks-there me c bytes reply.ClosedChannel i _ made found.0 found.1 (all-stay st.shared.chan) closed refl refl
+      seals-there me c bytes reply.ClosedChannel i _ made found.0 found.1 (all-stay st.shared.chan) closed refl refl
       refl)
       (λ is_open. by_test (Goes me word) (finds_interrupt st me c) _ _
       (λ _.
-      marks-there me c bytes reply.ClosedByInterrupt i _ made found.0 found.1 (closing-stays c.0)
+      seals-there me c bytes reply.ClosedByInterrupt i _ made found.0 found.1 (closing-stays c.0)
       (ap (λ (x : Chan). x.closed)
       (put-same st.shared.chan c.0 (record (st.shared.chan c.0) { closed = true }))) refl refl refl)
       (λ _. by_test (Goes me word) (st.shared.chan (pipe_at st.pipes i).source.0).closed _ _
@@ -431,11 +431,11 @@ module _ (l : Limits) (log : List (ScriptCall × Reply)) (st : ScriptState) (kep
 
   -- ---- closing
 
-  -- the channel is closed now, and the mark is left where it is the caller's own sink
-  closes-there : (me : CallerNo) (c : ChanNo) (a : Answered) → (st.shared.chan c.0).made ≡ true
+  -- the channel is closed now, and the seal is left where it is the caller's own sink
+  closes-there : (me : CallerNo) (c : ChanNo) (a : Replied) → (st.shared.chan c.0).made ≡ true
       → AllStay st.shared.chan a.left.shared.chan → (a.left.shared.chan c.0).closed ≡ true → a.left.pipes ≡ st.pipes
       → says_closed a.reply ≡ true → (place : Option ℕ) → own_sink st.pipes me c ≡ place
-      → Goes me (call.Closec c) (marking place a)
+      → Goes me (call.Closec c) (sealing place a)
   closes-there me c a made stay closed same says None e =
       beside-more l log (line me (call.Closec c) a.reply) st a.left kept stay same
       (λ k h. close-beside me c a.reply (pipe_at st.pipes k) (position-none (owns_sink me c) st.pipes k no_pipe e h))
@@ -445,15 +445,15 @@ module _ (l : Limits) (log : List (ScriptCall × Reply)) (st : ScriptState) (kep
       let p = pipe_at st.pipes i in
       let r = a.reply in
       place-more l log (line me (call.Closec c) r) st _ i p.waiting true kept stay found.0
-      (ap (λ (ps : List Pipe). set ps i (record (pipe_at ps i) { marked = true })) same)
+      (ap (λ (ps : List Pipe). set ps i (record (pipe_at ps i) { sealed = true })) same)
       (record {
         bytes =
             ap (λ (xs : List ℕ). xs ++ p.waiting) (of-same {A = List ℕ} (me.0 == p.reader.0) [])
             ∙ (sym (append-nil p.waiting)
             ∙ ap (λ (xs : List ℕ). p.waiting ++ xs) (sym (of-same {A = List ℕ} (me.0 == p.writer.0) [])));
-        mark = sym (or_right p.marked _ (close-ends me c r p found.1 ∙ says));
+        seal = sym (or_right p.sealed _ (close-ends me c r p found.1 ∙ says));
         told = λ last. let it = last.reads.call in absurd (cc it);
-        stays = λ marked h. h;
+        stays = λ sealed h. h;
       })
       (λ _. subst (λ (n : ℕ). (a.left.shared.chan n).closed ≡ true) (sink-is me c p found.1) closed)
       (λ k h ne. close-beside me c r (pipe_at st.pipes k) (other-sink me c i found.0 found.1 k h ne))
@@ -464,13 +464,13 @@ module _ (l : Limits) (log : List (ScriptCall × Reply)) (st : ScriptState) (kep
   goes-closec me c =
       named me (call.Closec c) c _
       (λ made.
-      by_test (λ (a : Answered). Goes me (call.Closec c) (marking (own_sink st.pipes me c) a))
+      by_test (λ (a : Replied). Goes me (call.Closec c) (sealing (own_sink st.pipes me c) a))
       (st.shared.chan c.0).closed _ _
       (λ closed.
       closes-there me c (unchanged st reply.Already) made (all-stay st.shared.chan) closed refl refl
       (own_sink st.pipes me c) refl)
       (λ _.
-      closes-there me c (answered st reply.«Ok» (channel_closed st.shared c.0)) made (closing-stays c.0)
+      closes-there me c (replied st reply.«Ok» (channel_closed st.shared c.0)) made (closing-stays c.0)
       (ap (λ (x : Chan). x.closed) (put-same st.shared.chan c.0 (record (st.shared.chan c.0) { closed = true })))
       refl refl (own_sink st.pipes me c) refl))
 

@@ -74,7 +74,7 @@ keeps-setup l setup =
       each = All-from_get_or (KeepsPipeOfSetup l setup) left.pipes no_pipe
           (λ k h.
           let said = (kept.each k h).said in
-          record { bytes = said.bytes; mark = said.mark; told = said.told });
+          record { bytes = said.bytes; seal = said.seal; told = said.told });
     }
 
 pub setup-kept : (w : Words) (d : Desk) (setup : List ScriptCall) → HasSetUp w d setup

@@ -17,7 +17,7 @@ use Rattle.nio_plain.specs.Seq.Pipes.{pipe_at}
 use Rattle.nio_plain.specs.Seq.Piping.{new_pipe}
 use Rattle.nio_race.proofs.SetupLines.{EndsRead, ReadsEnd, end_of, is_by, lines_of, read_of, written_of}
 use Rattle.nio_race.proofs.SetupLines.{end-more, of-none, read-more, tells-more, written-more}
-use Rattle.nio_race.specs.PipeBytes.{TellsEnd, all_read, all_written, ends_by, leave_end, read_by, written_by}
+use Rattle.nio_race.specs.PipeBytes.{TellsEnd, all_read, all_written, seals_by, leave_seal, read_by, written_by}
 use Rattle.nio_race.specs.Piping.{use_of}
 
 -- ---- what holds
@@ -25,23 +25,23 @@ use Rattle.nio_race.specs.Piping.{use_of}
 -- the pipe has what the lines so far say
 pub record HasSaid (log : List (ScriptCall × Reply)) (p : Pipe) : Type 0 where
   pub bytes : all_read p.source (lines_of p.reader log) ++ p.waiting ≡ all_written p.sink (lines_of p.writer log)
-  pub mark : p.marked ≡ leave_end p.sink (lines_of p.writer log)
-  pub told : TellsEnd p.source (lines_of p.reader log) → (p.marked ≡ true) × (p.waiting ≡ [])
+  pub seal : p.sealed ≡ leave_seal p.sink (lines_of p.writer log)
+  pub told : TellsEnd p.source (lines_of p.reader log) → (p.sealed ≡ true) × (p.waiting ≡ [])
 
--- Its owners are callers, its ends are made, and a sink that left its mark is closed.
+-- Its owners are callers, its ends are made, and a sink that left its seal is closed.
 pub record IsKeptPipe (l : Limits) (log : List (ScriptCall × Reply)) (chan : ℕ → Chan) (p : Pipe) : Type 0 where
   pub reader : p.reader.0 < l.callers
   pub writer : p.writer.0 < l.callers
   pub source : (chan p.source.0).made ≡ true
   pub sink : (chan p.sink.0).made ≡ true
-  pub closed : p.marked ≡ true → (chan p.sink.0).closed ≡ true
+  pub closed : p.sealed ≡ true → (chan p.sink.0).closed ≡ true
   pub said : HasSaid log p
 
--- no line read from the channel, wrote into it or left its end mark
+-- no line read from the channel, wrote into it or left its seal
 pub record IsUntouched (log : List (ScriptCall × Reply)) (c : ChanNo) (n : CallerNo) : Type 0 where
   pub read : all_read c (lines_of n log) ≡ []
   pub written : all_written c (lines_of n log) ≡ []
-  pub end : leave_end c (lines_of n log) ≡ false
+  pub end : leave_seal c (lines_of n log) ≡ false
   pub untold : TellsEnd c (lines_of n log) → ⊥
 
 pub record AreKept (l : Limits) (log : List (ScriptCall × Reply)) (st : ScriptState) : Type 0 where
@@ -58,7 +58,7 @@ pub record AreKept (l : Limits) (log : List (ScriptCall × Reply)) (st : ScriptS
 pub record IsSilent (c : ChanNo) (x : ScriptCall × Reply) : Type 0 where
   pub read : read_by c (use_of x.0.call) x.1 ≡ []
   pub written : written_by c (use_of x.0.call) x.1 ≡ []
-  pub end : ends_by c (use_of x.0.call) x.1 ≡ false
+  pub end : seals_by c (use_of x.0.call) x.1 ≡ false
   pub untold : ReadsEnd c x → ⊥
 
 -- it says nothing of the pipe
@@ -69,20 +69,20 @@ pub record IsBeside (p : Pipe) (x : ScriptCall × Reply) : Type 0 where
   pub untold : EndsRead p.reader p.source x → ⊥
 
 abbrev pub changed : Pipe → List ℕ → Bool → Pipe
-changed p waiting marked = record p { waiting = waiting; marked = marked }
+changed p waiting sealed = record p { waiting = waiting; sealed = sealed }
 
 -- it does to the pipe what it says
-pub record GoesOn (x : ScriptCall × Reply) (old : Pipe) (waiting : List ℕ) (marked : Bool) : Type 0 where
+pub record GoesOn (x : ScriptCall × Reply) (old : Pipe) (waiting : List ℕ) (sealed : Bool) : Type 0 where
   pub bytes : read_of old.reader old.source x ++ waiting ≡ old.waiting ++ written_of old.writer old.sink x
-  pub mark : marked ≡ (old.marked || end_of old.writer old.sink x)
-  pub told : EndsRead old.reader old.source x → (marked ≡ true) × (waiting ≡ [])
-  pub stays : old.marked ≡ true → old.waiting ≡ [] → waiting ≡ []
+  pub seal : sealed ≡ (old.sealed || end_of old.writer old.sink x)
+  pub told : EndsRead old.reader old.source x → (sealed ≡ true) × (waiting ≡ [])
+  pub stays : old.sealed ≡ true → old.waiting ≡ [] → waiting ≡ []
 
 pub record PipeSteps (x : ScriptCall × Reply) (chan : ℕ → Chan) (old new : Pipe) : Type 0 where
   pub waiting : List ℕ
-  pub marked : Bool
-  pub is : new ≡ changed old waiting marked
-  pub goes : GoesOn x old waiting marked
+  pub sealed : Bool
+  pub is : new ≡ changed old waiting sealed
+  pub goes : GoesOn x old waiting sealed
   pub closes : end_of old.writer old.sink x ≡ true → (chan old.sink.0).closed ≡ true
 
 -- a made channel stays made, and a closed one closed
@@ -115,15 +115,15 @@ untouched-more log x c n before silent = record {
   end =
       end-more n c log x
       ∙ (ap (λ (b : Bool). b || end_of n c x) before.end
-      ∙ of-none (is_by n x) (ends_by c (use_of x.0.call) x.1) false silent.end);
+      ∙ of-none (is_by n x) (seals_by c (use_of x.0.call) x.1) false silent.end);
   untold = λ tells.
       ⊎_elim (λ earlier. before.untold earlier) (λ (last : EndsRead n c x). silent.untold last.reads)
       (tells-more n c log x tells);
 }
 
-said-more : (log : List (ScriptCall × Reply)) (x : ScriptCall × Reply) (old : Pipe) (waiting : List ℕ) (marked : Bool)
-    → HasSaid log old → GoesOn x old waiting marked → HasSaid (log ++ x ∷ []) (changed old waiting marked)
-said-more log x old waiting marked said goes =
+said-more : (log : List (ScriptCall × Reply)) (x : ScriptCall × Reply) (old : Pipe) (waiting : List ℕ) (sealed : Bool)
+    → HasSaid log old → GoesOn x old waiting sealed → HasSaid (log ++ x ∷ []) (changed old waiting sealed)
+said-more log x old waiting sealed said goes =
     let read = all_read old.source (lines_of old.reader log) in
     let more = read_of old.reader old.source x in
     let wrote = written_of old.writer old.sink x in
@@ -135,30 +135,30 @@ said-more log x old waiting marked said goes =
           ∙ (sym (append_assoc read old.waiting wrote)
           ∙ (ap (λ (xs : List ℕ). xs ++ wrote) said.bytes
           ∙ sym (written-more old.writer old.sink log x)))));
-      mark =
-          goes.mark
-          ∙ (ap (λ (b : Bool). b || end_of old.writer old.sink x) said.mark
+      seal =
+          goes.seal
+          ∙ (ap (λ (b : Bool). b || end_of old.writer old.sink x) said.seal
           ∙ sym (end-more old.writer old.sink log x));
       told = λ tells.
           ⊎_elim
           (λ earlier.
           let was = said.told earlier in
-          (goes.mark ∙ or_left old.marked (end_of old.writer old.sink x) was.0, goes.stays was.0 was.1))
+          (goes.seal ∙ or_left old.sealed (end_of old.writer old.sink x) was.0, goes.stays was.0 was.1))
           (λ last. goes.told last)
           (tells-more old.reader old.source log x tells);
     }
 
-closed-more : (chan after : ℕ → Chan) (x : ScriptCall × Reply) (old : Pipe) (marked : Bool)
+closed-more : (chan after : ℕ → Chan) (x : ScriptCall × Reply) (old : Pipe) (sealed : Bool)
     → Stays (chan old.sink.0) (after old.sink.0) → (chan old.sink.0).made ≡ true
-    → (old.marked ≡ true → (chan old.sink.0).closed ≡ true)
+    → (old.sealed ≡ true → (chan old.sink.0).closed ≡ true)
     → (end_of old.writer old.sink x ≡ true → (after old.sink.0).closed ≡ true)
-    → marked ≡ (old.marked || end_of old.writer old.sink x) → marked ≡ true → (after old.sink.0).closed ≡ true
-closed-more chan after x old marked stay made was closes is now = by_mark old.marked refl (sym is ∙ now)
+    → sealed ≡ (old.sealed || end_of old.writer old.sink x) → sealed ≡ true → (after old.sink.0).closed ≡ true
+closed-more chan after x old sealed stay made was closes is now = by_seal old.sealed refl (sym is ∙ now)
   where
-    by_mark : (b : Bool) → old.marked ≡ b → (b || end_of old.writer old.sink x) ≡ true
+    by_seal : (b : Bool) → old.sealed ≡ b → (b || end_of old.writer old.sink x) ≡ true
         → (after old.sink.0).closed ≡ true
-    by_mark true e h = (stay made).1 (was e)
-    by_mark false e h = closes h
+    by_seal true e h = (stay made).1 (was e)
+    by_seal false e h = closes h
 
 pipe-more : (l : Limits) (log : List (ScriptCall × Reply)) (x : ScriptCall × Reply) (chan after : ℕ → Chan)
     (old new : Pipe)
@@ -171,9 +171,9 @@ pipe-more l log x chan after old new stay kept steps =
       writer = kept.writer;
       source = (stay old.source.0 kept.source).0;
       sink = (stay old.sink.0 kept.sink).0;
-      closed = closed-more chan after x old steps.marked (stay old.sink.0) kept.sink kept.closed steps.closes
-          steps.goes.mark;
-      said = said-more log x old steps.waiting steps.marked kept.said steps.goes;
+      closed = closed-more chan after x old steps.sealed (stay old.sink.0) kept.sink kept.closed steps.closes
+          steps.goes.seal;
+      said = said-more log x old steps.waiting steps.sealed kept.said steps.goes;
     })
 
 -- what isn't made afterwards wasn't made before
@@ -207,21 +207,21 @@ steps-more l log x st after kept steps =
 -- ---- which lines do what they say
 
 -- one that says nothing of a pipe leaves it
-beside-goes : (x : ScriptCall × Reply) (p : Pipe) → IsBeside p x → GoesOn x p p.waiting p.marked
+beside-goes : (x : ScriptCall × Reply) (p : Pipe) → IsBeside p x → GoesOn x p p.waiting p.sealed
 beside-goes x p beside = record {
   bytes =
       ap (λ (xs : List ℕ). xs ++ p.waiting) beside.read
       ∙ (sym (append-nil p.waiting) ∙ ap (λ (xs : List ℕ). p.waiting ++ xs) (sym beside.written));
-  mark = sym (ap (λ (b : Bool). p.marked || b) beside.end ∙ or-false p.marked);
+  seal = sym (ap (λ (b : Bool). p.sealed || b) beside.end ∙ or-false p.sealed);
   told = λ last. absurd (beside.untold last);
-  stays = λ marked none. none;
+  stays = λ sealed none. none;
 }
 
 beside-steps : (x : ScriptCall × Reply) (chan : ℕ → Chan) (p new : Pipe) → IsBeside p x → new ≡ p
     → PipeSteps x chan p new
 beside-steps x chan p new beside is = record {
   waiting = p.waiting;
-  marked = p.marked;
+  sealed = p.sealed;
   is = is;
   goes = beside-goes x p beside;
   closes = λ ends. absurd (both_ways (end_of p.writer p.sink x) beside.end ends);
@@ -248,7 +248,7 @@ silent-beside : (p : Pipe) (x : ScriptCall × Reply) → ((c : ChanNo) → IsSil
 silent-beside p x silent = record {
   read = of-none (is_by p.reader x) (read_by p.source (use_of x.0.call) x.1) [] (silent p.source).read;
   written = of-none (is_by p.writer x) (written_by p.sink (use_of x.0.call) x.1) [] (silent p.sink).written;
-  end = of-none (is_by p.writer x) (ends_by p.sink (use_of x.0.call) x.1) false (silent p.sink).end;
+  end = of-none (is_by p.writer x) (seals_by p.sink (use_of x.0.call) x.1) false (silent p.sink).end;
   untold = λ (last : EndsRead p.reader p.source x). (silent p.source).untold last.reads;
 }
 
@@ -261,22 +261,22 @@ silent-more l log x st after kept stay same silent =
 
 -- the pipe at a place is changed as the line says, which says nothing of the others
 pub place-more : (l : Limits) (log : List (ScriptCall × Reply)) (x : ScriptCall × Reply) (st after : ScriptState)
-    (i : ℕ) (waiting : List ℕ) (marked : Bool)
+    (i : ℕ) (waiting : List ℕ) (sealed : Bool)
     → AreKept l log st → AllStay st.shared.chan after.shared.chan → i < length st.pipes
-    → after.pipes ≡ set st.pipes i (changed (pipe_at st.pipes i) waiting marked)
-    → GoesOn x (pipe_at st.pipes i) waiting marked
+    → after.pipes ≡ set st.pipes i (changed (pipe_at st.pipes i) waiting sealed)
+    → GoesOn x (pipe_at st.pipes i) waiting sealed
     → (end_of (pipe_at st.pipes i).writer (pipe_at st.pipes i).sink x ≡ true
     → (after.shared.chan (pipe_at st.pipes i).sink.0).closed ≡ true)
     → ((k : ℕ) → k < length st.pipes → k ≢ i → IsBeside (pipe_at st.pipes k) x)
     → ((c : ChanNo) → (after.shared.chan c.0).made ≡ false → IsSilent c x)
     → AreKept l (log ++ x ∷ []) after
-place-more l log x st after i waiting marked kept stay within now goes closes beside silent =
-    let it = changed (pipe_at st.pipes i) waiting marked in
+place-more l log x st after i waiting sealed kept stay within now goes closes beside silent =
+    let it = changed (pipe_at st.pipes i) waiting sealed in
     let chan = after.shared.chan in
     let here : PipeSteps x chan (pipe_at st.pipes i) (pipe_at after.pipes i) =
     record {
       waiting = waiting;
-      marked = marked;
+      sealed = sealed;
       is = ap (λ (ps : List Pipe). pipe_at ps i) now ∙ get_or-set_same st.pipes i it _ within;
       goes = goes;
       closes = closes;
@@ -302,7 +302,7 @@ new-said : (log : List (ScriptCall × Reply)) (me target : CallerNo) (source sin
     → IsUntouched log source me → IsUntouched log sink target → HasSaid log (new_pipe me target source sink)
 new-said log me target source sink at_source at_sink = record {
   bytes = append-nil (all_read source (lines_of me log)) ∙ (at_source.read ∙ sym at_sink.written);
-  mark = sym at_sink.end;
+  seal = sym at_sink.end;
   told = λ tells. absurd (at_source.untold tells);
 }
 
@@ -338,7 +338,7 @@ pipe-behind l log x st after me target source sink kept stay now silent reads wr
       writer = writes;
       source = has_source;
       sink = has_sink;
-      closed = λ marked. absurd (both_ways false refl marked);
+      closed = λ sealed. absurd (both_ways false refl sealed);
       said = new-said log' me target source sink (same source me no_source) (same sink target no_sink);
     } in
     let last : (k : ℕ) → k < length after.pipes → length st.pipes ≤ k → pipe_at after.pipes k ≡ p =

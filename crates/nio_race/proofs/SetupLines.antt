@@ -13,7 +13,7 @@ use Rattle.nio_event.specs.declared.reply.Reply.{Reply}
 use Rattle.nio_event.specs.declared.reply.Reply.TheVariants as reply
 use Rattle.nio_race_text.specs.declared.call.RaceCall.{RaceCall}
 use Rattle.nio_race_text.specs.declared.call.RaceCall.TheVariants.{Script}
-use Rattle.nio_race.specs.PipeBytes.{TellsEnd, all_read, all_written, ends_by, ends_in, leave_end, read_by, read_in}
+use Rattle.nio_race.specs.PipeBytes.{TellsEnd, all_read, all_written, seals_by, seals_in, leave_seal, read_by, read_in}
 use Rattle.nio_race.specs.PipeBytes.{written_by, written_in}
 use Rattle.nio_race.specs.Piping.{use_of}
 
@@ -29,7 +29,7 @@ is_by n x = x.0.caller.0 == n.0
 abbrev pub line_of : ScriptCall × Reply → RaceCall × Reply
 line_of x = (Script x.0.call, x.1)
 
--- what it reads, what it writes, and whether it leaves the end mark, where it is the caller's
+-- what it reads, what it writes, and whether it leaves the seal, where it is the caller's
 abbrev pub read_of : CallerNo → ChanNo → ScriptCall × Reply → List ℕ
 read_of n c x = cond (is_by n x) (read_by c (use_of x.0.call) x.1) []
 
@@ -37,7 +37,7 @@ abbrev pub written_of : CallerNo → ChanNo → ScriptCall × Reply → List ℕ
 written_of n c x = cond (is_by n x) (written_by c (use_of x.0.call) x.1) []
 
 abbrev pub end_of : CallerNo → ChanNo → ScriptCall × Reply → Bool
-end_of n c x = cond (is_by n x) (ends_by c (use_of x.0.call) x.1) false
+end_of n c x = cond (is_by n x) (seals_by c (use_of x.0.call) x.1) false
 
 -- it reads the channel, and told the end
 pub record ReadsEnd (c : ChanNo) (x : ScriptCall × Reply) : Type 0 where
@@ -94,23 +94,23 @@ pub written-more : (n : CallerNo) (c : ChanNo) (log : List (ScriptCall × Reply)
 written-more n c log x = gathered-more (λ y. written_in c y.0 y.1) n log x
 
 leave-append : (c : ChanNo) (xs ys : List (RaceCall × Reply))
-    → leave_end c (xs ++ ys) ≡ (leave_end c xs || leave_end c ys)
+    → leave_seal c (xs ++ ys) ≡ (leave_seal c xs || leave_seal c ys)
 leave-append c [] ys = refl
 leave-append c (x ∷ xs) ys =
-    ap (λ (b : Bool). ends_in c x.0 x.1 || b) (leave-append c xs ys)
-    ∙ sym (or_assoc (ends_in c x.0 x.1) (leave_end c xs) (leave_end c ys))
+    ap (λ (b : Bool). seals_in c x.0 x.1 || b) (leave-append c xs ys)
+    ∙ sym (or_assoc (seals_in c x.0 x.1) (leave_seal c xs) (leave_seal c ys))
 
 end-of-one : (c : ChanNo) (b : Bool) (x : RaceCall × Reply)
-    → leave_end c (cond b (x ∷ []) []) ≡ cond b (ends_in c x.0 x.1) false
-end-of-one c true x = or-false (ends_in c x.0 x.1)
+    → leave_seal c (cond b (x ∷ []) []) ≡ cond b (seals_in c x.0 x.1) false
+end-of-one c true x = or-false (seals_in c x.0 x.1)
 end-of-one c false x = refl
 
 pub end-more : (n : CallerNo) (c : ChanNo) (log : List (ScriptCall × Reply)) (x : ScriptCall × Reply)
-    → leave_end c (lines_of n (log ++ x ∷ [])) ≡ (leave_end c (lines_of n log) || end_of n c x)
+    → leave_seal c (lines_of n (log ++ x ∷ [])) ≡ (leave_seal c (lines_of n log) || end_of n c x)
 end-more n c log x =
-    ap (leave_end c) (lines-more n log x)
+    ap (leave_seal c) (lines-more n log x)
     ∙ (leave-append c (lines_of n log) (one_of n x)
-    ∙ ap (λ (b : Bool). leave_end c (lines_of n log) || b) (end-of-one c (is_by n x) (line_of x)))
+    ∙ ap (λ (b : Bool). leave_seal c (lines_of n log) || b) (end-of-one c (is_by n x) (line_of x)))
 
 in-none : {X : Type 0} (x : X) → Contains [] x → ⊥
 in-none x h = omega arith

@@ -18,7 +18,7 @@ use Rattle.nio_plain.specs.Seq.Pipes.{owns_sink, owns_source}
 use Rattle.nio_plain.specs.Seq.Piping.{not_now}
 use Rattle.nio_race.proofs.SetupKept.{IsBeside, IsSilent}
 use Rattle.nio_race.proofs.SetupLines.{ReadsEnd, end_of, of-none, read_of, written_of}
-use Rattle.nio_race.specs.PipeBytes.{bytes_of, ends_by, number_of, read_by, says_closed, written_by}
+use Rattle.nio_race.specs.PipeBytes.{bytes_of, seals_by, number_of, read_by, says_closed, written_by}
 use Rattle.nio_race.specs.Piping.{PipeUse, closes, neither, reads, use_of, writes}
 
 abbrev pub line : CallerNo → Call → Reply → ScriptCall × Reply
@@ -40,7 +40,7 @@ pub neither-silent : (x : ScriptCall × Reply) → use_of x.0.call ≡ neither �
 neither-silent x e c = record {
   read = ap (λ (u : PipeUse). read_by c u x.1) e;
   written = ap (λ (u : PipeUse). written_by c u x.1) e;
-  end = ap (λ (u : PipeUse). ends_by c u x.1) e;
+  end = ap (λ (u : PipeUse). seals_by c u x.1) e;
   untold = λ (ends : ReadsEnd c x).
       let is_read : use_of x.0.call ≡ reads c ends.limit = ap use_of ends.call in
       absurd (cc (e, is_read));
@@ -66,7 +66,7 @@ quiet-written c (writes x bytes) r h =
 quiet-written c (closes x) r h = refl
 quiet-written c neither r h = refl
 
-quiet-end : (c : ChanNo) (u : PipeUse) (r : Reply) → says_closed r ≡ false → ends_by c u r ≡ false
+quiet-end : (c : ChanNo) (u : PipeUse) (r : Reply) → says_closed r ≡ false → seals_by c u r ≡ false
 quiet-end c (reads x n) r h = refl
 quiet-end c (writes x bytes) r h = and_right (x.0 == c.0) (says_closed r) h
 quiet-end c (closes x) r h = and_right (x.0 == c.0) (says_closed r) h
@@ -212,7 +212,7 @@ write-beside me c bytes r p other = record {
     by_end true e = and_left (c.0 == p.sink.0) (says_closed r) (elsewhere e)
     by_end false e = refl
 
--- of the caller's own sink a write says what was written, and whether it leaves the end mark
+-- of the caller's own sink a write says what was written, and whether it leaves the seal
 pub write-own : (me : CallerNo) (c : ChanNo) (bytes : List ℕ) (r : Reply) (p : Pipe) → owns_sink me c p ≡ true
     → written_of p.writer p.sink (line me (call.Pwrite c bytes) r) ≡ take (number_of r) bytes
 write-own me c bytes r p own =

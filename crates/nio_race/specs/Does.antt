@@ -8,7 +8,7 @@ use Rattle.nio_event.specs.declared.call.ScriptCall.{ScriptCall}
 use Rattle.nio_event.specs.declared.reply.Reply.{Reply}
 use Rattle.nio_race_text.specs.RaceText.{IsFirstBadRace, IsRaceText}
 use Rattle.nio_race_text.specs.declared.call.RaceLine.{RaceLine}
-use Rattle.nio_script.specs.Output.{IsWritten, Notes, WritesPrefix}
+use Rattle.nio_script.specs.Output.{IsWritten, WritesOrFails, WritesPrefix}
 use Rattle.nio_script.specs.Run.{EndsScript, ReadsText, bad_line}
 use Rattle.nio_script.specs.declared.input.TheConstants.{LONGEST_INPUT}
 use Rattle.nio_script.specs.declared.status.Status.{Status}
@@ -50,7 +50,7 @@ pub record IsRaceCutShort {K : Type 0} (k : sink.Ghosts K) (w : Words) (output o
 pub record IsRaceRefused {K : Type 0} (k : sink.Ghosts K) (output output' : K) (pass pass' : Pass) (line : ℕ)
     (text : List ℕ) : Type 0 where
   pub first : IsFirstBadRace text line
-  pub said : Notes k output output' (bad_line line)
+  pub said : WritesOrFails k output output' (bad_line line)
   pub uncalled : pass' ≡ pass
 
 -- Nothing was written, and no call was made.
@@ -71,7 +71,7 @@ pub record DoesRace {S K : Type 0} (s : source.Ghosts S) (k : sink.Ghosts K) (w 
   pub ends : EndsScript status
   -- whatever the status, the pass is still one of the table
   pub kept : IsPassOf w pass'
-  -- what comes of each text, where the source tells it
+  -- what comes of each text, where the source shows it
   pub of_race : IfSome (s.left input) (λ text. (setup : List ScriptCall) (race : List RaceLine)
       → length text ≤ LONGEST_INPUT → IsRaceText text setup race
       → (status ≡ Done) ⊎ (status ≡ ReadFault) ⊎ (status ≡ WriteFault) ⊎ (status ≡ Memory))

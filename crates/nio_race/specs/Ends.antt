@@ -8,7 +8,7 @@ use Rattle.nio_base.specs.declared.numbers.CallerNo.{CallerNo}
 use Rattle.nio_event.specs.PassViews.{HasChannel}
 use Rattle.nio_event.specs.declared.reply.Reply.{Reply}
 use Rattle.nio_pipe.specs.Calls.{HasEnds}
-use Rattle.nio_pipe.specs.Ends.{AreEnds, IsAtEnd, IsSameSink, IsSameSource, is_marked, other_chan, received, sent}
+use Rattle.nio_pipe.specs.Ends.{AreEnds, IsAtEnd, IsSameSink, IsSameSource, is_sealed, other_chan, received, sent}
 use Rattle.nio_pipe.specs.Ends.{sink_chan, source_chan, free, known, knows_end}
 use Rattle.nio_pipe.specs.Making.{AreParts}
 use Rattle.nio_pipe.specs.declared.sink.PipeSink.{PipeSink}
@@ -20,7 +20,7 @@ use Rattle.nio_sole.specs.declared.desk.OwnedPipe.{OwnedPipe}
 use Rattle.nio_steps.specs.PipeCalls.{PipeEnds}
 use Rattle.nio_words.specs.Views.{view}
 use Rattle.nio_words.specs.declared.words.Words.{Words}
-use Rattle.nio_race.specs.PipeBytes.{TellsEnd, all_read, all_written, leave_end}
+use Rattle.nio_race.specs.PipeBytes.{TellsEnd, all_read, all_written, leave_seal}
 use Rattle.nio_race.specs.PipeFinds.{Awaited, LinesFind, LinesTake, awaited_at_go, room_at_go}
 use Rattle.nio_race.specs.Piping.{OwnedEnds}
 use Rattle.nio_race.specs.declared.ends.OwnEnds.{OwnEnds}
@@ -46,7 +46,7 @@ pub record HasMadeEnds (w : Words) (d : Desk) (ends : OwnEnds) : Type 0 where
 -- the source knows at least so much
 pub record KnowsAwaited (source : PipeSource) (x : Awaited) : Type 0 where
   pub bytes : IsPrefix x.bytes (known source)
-  pub marked : IsTrue x.marked → IsTrue (knows_end source)
+  pub sealed : IsTrue x.sealed → IsTrue (knows_end source)
   pub ended : IsTrue x.ended → IsAtEnd source
 
 -- What lines with these replies do to a source that their caller owns. Once it is at its end it stays there.
@@ -58,12 +58,12 @@ pub record SourceGoesOn (lines : List (RaceCall × Reply)) (old new : PipeSource
   pub finds : (x : Awaited) → KnowsAwaited old x
       → (y : Awaited) × (LinesFind (source_chan old) lines x y × KnowsAwaited new y)
 
--- The same of a sink, which leaves its end mark where the lines say so. Nothing is written behind the mark.
+-- The same of a sink, which leaves its seal where the lines say so. Nothing is written behind the seal.
 pub record SinkGoesOn (lines : List (RaceCall × Reply)) (old new : PipeSink) : Type 0 where
   pub same : IsSameSink old new
   pub sent : sent new ≡ sent old ++ all_written (sink_chan old) lines
-  pub mark : is_marked new ≡ (is_marked old || leave_end (sink_chan old) lines)
-  pub ended : IsTrue (is_marked old) → all_written (sink_chan old) lines ≡ []
+  pub seal : is_sealed new ≡ (is_sealed old || leave_seal (sink_chan old) lines)
+  pub ended : IsTrue (is_sealed old) → all_written (sink_chan old) lines ≡ []
   pub takes : (room : ℕ) → room ≤ free old
       → (left : ℕ) × (LinesTake (sink_chan old) lines room left × (left ≤ free new))
 
@@ -84,36 +84,36 @@ pub record PartedPipe : Type 0 where
   pub source : PipeSource
   pub sink : PipeSink
 
--- the racer holds no end
+-- the racer has no end
 pub record HasNoEnds (r : Racer) : Type 0 where
   pub sources : r.ends.sources.items ≡ []
   pub sinks : r.ends.sinks.items ≡ []
 
--- the racers are the same but for the ends that they hold
+-- the racers are the same but for the ends that they have
 abbrev pub AreSameButEnds : List Racer → List Racer → Type 0
 AreSameButEnds before after = AreEach {A = Racer} {B = Racer} (λ r r'. r' ≡ record r { ends = r'.ends }) before after
 
--- what the caller's racer holds
+-- what the caller's racer has
 abbrev pub sources_at : List Racer → CallerNo → List PipeSource
 sources_at racers n = slice_index_or (map (λ r. r.ends.sources.items) racers) n.0 []
 
 abbrev pub sinks_at : List Racer → CallerNo → List PipeSink
 sinks_at racers n = slice_index_or (map (λ r. r.ends.sinks.items) racers) n.0 []
 
--- The caller's racer holds these sources too, behind those that it held. No other racer's ends change, and no sink.
-pub record HoldSources (before after : List Racer) (caller : CallerNo) (more : List PipeSource) : Type 0 where
+-- The caller's racer has these sources too, behind those that it had. No other racer's ends change, and no sink.
+pub record HaveSources (before after : List Racer) (caller : CallerNo) (more : List PipeSource) : Type 0 where
   pub sources : (n : CallerNo) → sources_at after n
       ≡ sources_at before n ++ (if caller.0 == n.0 then more else [])
   pub sinks : (n : CallerNo) → sinks_at after n ≡ sinks_at before n
 
 -- the same of sinks
-pub record HoldSinks (before after : List Racer) (caller : CallerNo) (more : List PipeSink) : Type 0 where
+pub record HaveSinks (before after : List Racer) (caller : CallerNo) (more : List PipeSink) : Type 0 where
   pub sources : (n : CallerNo) → sources_at after n ≡ sources_at before n
   pub sinks : (n : CallerNo) → sinks_at after n
       ≡ sinks_at before n ++ (if caller.0 == n.0 then more else [])
 
--- Each racer holds the ends that its caller owns of these pipes, in the order of the pipes, and no others.
-pub record HoldEnds (racers : List Racer) (parted : List PartedPipe) : Type 0 where
+-- Each racer has the ends that its caller owns of these pipes, in the order of the pipes, and no others.
+pub record HaveEnds (racers : List Racer) (parted : List PartedPipe) : Type 0 where
   pub sources : (n : CallerNo)
       → sources_at racers n ≡ map (λ x. x.source) (filter (λ x. x.owners.reader.0 == n.0) parted)
   pub sinks : (n : CallerNo)
@@ -123,11 +123,11 @@ pub record HoldEnds (racers : List Racer) (parted : List PartedPipe) : Type 0 wh
 abbrev pub owners_of : List PartedPipe → List Owners
 owners_of parted = map (λ x. x.owners) parted
 
--- The pipes with these owners are parted, and the racers hold their ends.
+-- The pipes with these owners are parted, and the racers have their ends.
 pub record ArePartedAmong (racers : List Racer) (owners : List Owners) : Type 0 where
   pub parted : List PartedPipe
   pub owners_are : owners ≡ owners_of parted
-  pub hold : HoldEnds racers parted
+  pub has_ends : HaveEnds racers parted
 
 -- ---- at `go`
 
@@ -137,7 +137,7 @@ pub record ArePipes (l : Limits) (pipes : List Pipe) : Type 0 where
   pub sources_differ : AllPairs (λ p q. p.source.0 ≢ q.source.0) pipes
   pub sinks_differ : AllPairs (λ p q. p.sink.0 ≢ q.sink.0) pipes
 
--- The pipe was parted with the bytes that waited and with its mark. They count as sent, and none was read.
+-- The pipe was parted with the bytes that waited and with its seal. They count as sent, and none was read.
 pub record IsPartedAs (p : Pipe) (x : PartedPipe) : Type 0 where
   pub reader : x.owners.reader ≡ p.reader
   pub writer : x.owners.writer ≡ p.writer
@@ -145,11 +145,11 @@ pub record IsPartedAs (p : Pipe) (x : PartedPipe) : Type 0 where
   pub sink : sink_chan x.sink ≡ p.sink
   pub none_received : received x.source ≡ []
   pub waiting : sent x.sink ≡ p.waiting
-  pub mark : is_marked x.sink ≡ p.marked
+  pub seal : is_sealed x.sink ≡ p.sealed
   pub known : KnowsAwaited x.source (awaited_at_go p)
   pub room : room_at_go p ≤ free x.sink
 
--- A pipe was parted, and its ends came behind those that its owners' racers held.
+-- A pipe was parted, and its ends came behind those that its owners' racers had.
 pub record AddsParted (pipe : OwnedPipe) (before after : List Racer) (owners : Owners) : Type 0 where
   pub reader : owners.reader ≡ pipe.reader
   pub writer : owners.writer ≡ pipe.writer
@@ -174,27 +174,27 @@ pub record HaveParted (racers : List Racer) (owners : List Owners) (pipes : List
 -- ---- at the end
 
 -- The ends of a pipe met again. What was read begins what was written, and at most 65,536 bytes wait. Where the source
--- is at its end, all was read, and the sink has left its end mark.
+-- is at its end, all was read, and the sink has left its seal.
 pub record HasMet (x : PartedPipe) : Type 0 where
   pub in_order : IsPrefix (received x.source) (sent x.sink)
   pub few : length (sent x.sink) ≤ length (received x.source) + 65536
   pub whole : IsAtEnd x.source → received x.source ≡ sent x.sink
-  pub ended : IsAtEnd x.source → IsTrue (is_marked x.sink)
+  pub ended : IsAtEnd x.source → IsTrue (is_sealed x.sink)
 
--- These owners' pipe is the last one whose ends the racers hold.
-pub record HoldLast (racers : List Racer) (owners : Owners) : Type 0 where
+-- These owners' pipe is the last one whose ends the racers have.
+pub record HaveLast (racers : List Racer) (owners : Owners) : Type 0 where
   pub earlier : List PartedPipe
   pub last : PartedPipe
   pub owners_are : owners ≡ last.owners
-  pub hold : HoldEnds racers (earlier ++ last ∷ [])
+  pub has_ends : HaveEnds racers (earlier ++ last ∷ [])
 
--- Its ends met, and the racers hold those of the earlier ones.
+-- Its ends met, and the racers have those of the earlier ones.
 abbrev pub MeetsLast : List Racer → List Racer → Owners → Type 0
 MeetsLast before after owners =
     (earlier : List PartedPipe) (last : PartedPipe)
-    → owners ≡ last.owners → HoldEnds before (earlier ++ last ∷ []) → HoldEnds after earlier × HasMet last
+    → owners ≡ last.owners → HaveEnds before (earlier ++ last ∷ []) → HaveEnds after earlier × HasMet last
 
--- so it is with each pipe whose ends these racers hold
+-- so it is with each pipe whose ends these racers have
 abbrev pub HaveMet : List Racer → List Owners → Type 0
 HaveMet racers owners =
-    (parted : List PartedPipe) → owners ≡ owners_of parted → HoldEnds racers parted → All HasMet parted
+    (parted : List PartedPipe) → owners ≡ owners_of parted → HaveEnds racers parted → All HasMet parted

@@ -161,12 +161,12 @@ written_by c (writes x bytes) r = if x.0 == c.0 then take (number_of r) bytes el
 written_by c (closes x) r = []
 written_by c neither r = []
 
--- A line of a sink's owner leaves the end mark, by its reply: it closes the sink, or a write finds or makes it closed.
-abbrev pub ends_by : ChanNo → PipeUse → Reply → Bool
-ends_by c (reads x n) r = false
-ends_by c (writes x bytes) r = (x.0 == c.0) && says_closed r
-ends_by c (closes x) r = (x.0 == c.0) && says_closed r
-ends_by c neither r = false
+-- A line of a sink's owner leaves the seal, by its reply: it closes the sink, or a write finds or makes it closed.
+abbrev pub seals_by : ChanNo → PipeUse → Reply → Bool
+seals_by c (reads x n) r = false
+seals_by c (writes x bytes) r = (x.0 == c.0) && says_closed r
+seals_by c (closes x) r = (x.0 == c.0) && says_closed r
+seals_by c neither r = false
 
 abbrev pub read_in : ChanNo → RaceCall → Reply → List ℕ
 read_in c (Script word) r = read_by c (use_of word) r
@@ -176,9 +176,9 @@ abbrev pub written_in : ChanNo → RaceCall → Reply → List ℕ
 written_in c (Script word) r = written_by c (use_of word) r
 written_in c (Block s) r = []
 
-abbrev pub ends_in : ChanNo → RaceCall → Reply → Bool
-ends_in c (Script word) r = ends_by c (use_of word) r
-ends_in c (Block s) r = false
+abbrev pub seals_in : ChanNo → RaceCall → Reply → Bool
+seals_in c (Script word) r = seals_by c (use_of word) r
+seals_in c (Block s) r = false
 
 -- ---- of lines with their replies
 
@@ -188,10 +188,10 @@ all_read c lines = flat_map (λ x. read_in c x.0 x.1) lines
 abbrev pub all_written : ChanNo → List (RaceCall × Reply) → List ℕ
 all_written c lines = flat_map (λ x. written_in c x.0 x.1) lines
 
--- one of the lines leaves the end mark of this sink
-abbrev pub leave_end : ChanNo → List (RaceCall × Reply) → Bool
-leave_end c [] = false
-leave_end c (x ∷ later) = ends_in c x.0 x.1 || leave_end c later
+-- one of the lines leaves the seal of this sink
+abbrev pub leave_seal : ChanNo → List (RaceCall × Reply) → Bool
+leave_seal c [] = false
+leave_seal c (x ∷ later) = seals_in c x.0 x.1 || leave_seal c later
 
 -- a read of this channel told the end
 abbrev pub TellsEnd : ChanNo → List (RaceCall × Reply) → Type 0
@@ -208,9 +208,9 @@ setup_lines n l setup =
 
 -- Of a pipe, by the lines of its reader and by those of its writer, the setup's first: what was read begins what was
 -- written, and at most 65,536 bytes wait. Where a read told the end, all was read, and a line of the writer leaves the
--- end mark. Nothing is said of the order between the lines of two callers.
+-- seal. Nothing is said of the order between the lines of two callers.
 pub record KeepsBytes (source sink : ChanNo) (readers writers : List (RaceCall × Reply)) : Type 0 where
   pub in_order : IsPrefix (all_read source readers) (all_written sink writers)
   pub few : length (all_written sink writers) ≤ length (all_read source readers) + 65536
   pub whole : TellsEnd source readers → all_read source readers ≡ all_written sink writers
-  pub ended : TellsEnd source readers → IsTrue (leave_end sink writers)
+  pub ended : TellsEnd source readers → IsTrue (leave_seal sink writers)

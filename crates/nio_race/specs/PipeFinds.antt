@@ -15,24 +15,24 @@ use Rattle.nio_race.specs.Piping.{PipeUse, closes, neither, reads, use_of, write
 
 -- ---- a reader
 
--- What a reader knows of its pipe, at least: these bytes wait; the end mark was left; a read told the end.
+-- What a reader knows of its pipe, at least: these bytes wait; the seal was left; a read told the end.
 pub record Awaited : Type 0 where
   pub bytes : List ℕ
-  pub marked : Bool
+  pub sealed : Bool
   pub ended : Bool
 
--- at `go`: what waits there, and whether the mark was left
+-- at `go`: what waits there, and whether the seal was left
 abbrev pub awaited_at_go : Pipe → Awaited
-awaited_at_go p = record { bytes = p.waiting; marked = p.marked; ended = false }
+awaited_at_go p = record { bytes = p.waiting; sealed = p.sealed; ended = false }
 
 -- What a read of up to n bytes may reply where its reader knows so much, and what it knows then. The reply is 0 only
 -- where it asks for nothing or knows of nothing. Once a read told the end, no byte comes.
 pub data ReadFinds (n : ℕ) (before : Awaited) : Reply → Awaited → Type 0 where
   gives : (bytes : List ℕ) → IsFalse before.ended → min (min 65536 n) (length before.bytes) ≤ length bytes
       → ReadFinds n before (reply.Bytes bytes) (record before { bytes = drop (length bytes) before.bytes })
-  tells_end : before.bytes ≡ [] → ReadFinds n before reply.End (record { bytes = []; marked = true; ended = true })
+  tells_end : before.bytes ≡ [] → ReadFinds n before reply.End (record { bytes = []; sealed = true; ended = true })
   asks_for_nothing : n ≡ 0 → ReadFinds n before (reply.Number 0) before
-  finds_nothing : before.bytes ≡ [] → IsFalse before.marked → ReadFinds n before (reply.Number 0) before
+  finds_nothing : before.bytes ≡ [] → IsFalse before.sealed → ReadFinds n before (reply.Number 0) before
   is_refused : (refusal : PipeError) → ReadFinds n before (pipe_refusal refusal) before
   has_no_channel : ReadFinds n before reply.NoChannel before
   is_not_owner : ReadFinds n before reply.NotOwner before
@@ -58,7 +58,7 @@ LinesFind c (x ∷ later) before after =
 
 -- for how many bytes the writer knows of room at `go`, at least
 abbrev pub room_at_go : Pipe → ℕ
-room_at_go p = if p.marked then 0 else 65536 - length p.waiting
+room_at_go p = if p.sealed then 0 else 65536 - length p.waiting
 
 -- What a write of these bytes may reply where its writer knows of room for so many, at least, and of how much it knows
 -- then. It takes fewer than it was given only where it takes all for which there was room. A refused write leaves

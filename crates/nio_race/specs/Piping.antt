@@ -91,7 +91,7 @@ own_sink ends c = find (λ x. x.sink.0 == c.0) ends.sinks
 -- ---- what they say
 
 -- The reply of a read of up to n bytes. The first argument says whether its last run of steps found neither a byte nor
--- the end mark; the second is the answer of its steps: a refusal, or the mode that they found, true for blocking. In
+-- the seal; the second is the answer of its steps: a refusal, or the mode that they found, true for blocking. In
 -- blocking mode a read that finds neither goes on, so no line here has that.
 pub data ReadSays (n : ℕ) : Bool → Result Bool PipeError → Reply → Type 0 where
   is_refused : {none : Bool} (refusal : PipeError) → ReadSays n none (Err refusal) (pipe_refusal refusal)

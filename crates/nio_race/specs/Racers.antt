@@ -21,7 +21,7 @@ use Rattle.nio_steps.specs.Runs.{Completes}
 use Rattle.nio_words.specs.Passes.{IsPassOf, IsReady, acts_seen, limits_of, seen}
 use Rattle.nio_words.specs.Views.{view}
 use Rattle.nio_words.specs.declared.words.Words.{Words}
-use Rattle.nio_race.specs.Ends.{EndsGoOn, HasMadeEnds, ends_of}
+use Rattle.nio_race.specs.Ends.{AreEach, EndsGoOn, HasMadeEnds, ends_of}
 use Rattle.nio_race.specs.Race.{calls_by, strange_replies}
 use Rattle.nio_race.specs.Runs.{AreRaceLines, Blocks, LooksAndBlocks, MakesRaceLine, MakesScriptLine}
 use Rattle.nio_race.specs.declared.ends.OwnEnds.{OwnEnds}
@@ -115,11 +115,9 @@ pub record HasRaced (w : Words) (race : List RaceLine) (before after : Racer) : 
   pub later : IsPrefix (seen before.desk.pass) (seen after.desk.pass)
   pub run : IsFalse after.lacks_memory → RanLines w race before after
 
--- each racer has become what it became
-pub record HaveRaced (w : Words) (race : List RaceLine) (before after : List Racer) : Type 0 where
-  pub count : length after ≡ length before
-  pub each : (k : ℕ) (r r' : Racer) → k < length before → slice_index_or before k r ≡ r → slice_index_or after k r' ≡ r'
-      → HasRaced w race r r'
+-- each racer is, before and after its lines, as `HasRaced` says
+abbrev pub HaveRaced : Words → List RaceLine → List Racer → List Racer → Type 0
+HaveRaced w race before after = AreEach {A = Racer} {B = Racer} (HasRaced w race) before after
 
 -- the replies of each caller's lines: a racer's, or those of a caller that isn't one
 abbrev pub replies_by : List RaceLine → List Racer → CallerNo → List Reply

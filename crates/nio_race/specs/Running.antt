@@ -24,8 +24,8 @@ pub record RunsTo (w : Words) (pass : Pass) (setup : List ScriptCall) (race : Li
   pub run : HasRunRace w pass setup race replies
   pub text_is : text ≡ race_output (limits_of w) setup race replies
 
--- The racers were set off from the desk, each made its lines, and then the ends of each pipe met. `raced` are they as
--- their threads left them.
+-- The racers were set off from the desk, each made its lines, and then the ends of each pipe met. `raced` is the list
+-- of the racers as their threads left them.
 pub record HaveRun (w : Words) (d : Desk) (race : List RaceLine) (racers : List Racer) : Type 0 where
   pub before : List Racer
   pub owners : List Owners

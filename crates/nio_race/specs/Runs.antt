@@ -71,8 +71,7 @@ is_busy reply.AsyncClose = false
 is_busy reply.BrokenPipe = false
 is_busy (reply.Group answer) = false
 
--- The line with this reply is made again: its call waits until nobody else holds the channel, and found that another
--- caller does.
+-- The line with this reply is made again: its call waits for a hold, and found that another caller has it.
 abbrev pub waits_for_hold : Call → Reply → Bool
 waits_for_hold call.Selector r = false
 waits_for_hold (call.Channel kind) r = false

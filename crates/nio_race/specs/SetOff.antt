@@ -3,17 +3,13 @@ use Rattle.std.specs.Prelude.{◌≡◌, ◌≢◌, ℕ, ◌<◌, ◌≤◌, ◌
 use Rattle.std.specs.Prelude.{◌∷◌, length, All}
 use Rattle.std.specs.List.{slice_index_or}
 use Rattle.nio_base.specs.declared.numbers.CallerNo.{CallerNo}
-use Rattle.nio_base.specs.declared.numbers.SelNo.{SelNo}
-use Rattle.nio_event.specs.Conditions.{has_pin}
-use Rattle.nio_event.specs.Histories.{mine, state_after}
 use Rattle.nio_event.specs.declared.event.Event.{Event}
 use Rattle.nio_serial.specs.Documented.{Progress}
-use Rattle.nio_sole.specs.Made.{HasMade}
 use Rattle.nio_sole.specs.Stands.{HasPlaces, progress_of, slot}
 use Rattle.nio_sole.specs.declared.desk.Begun.{Begun}
 use Rattle.nio_sole.specs.declared.desk.Desk.{Desk}
 use Rattle.nio_sole.specs.declared.desk.Shut.{Shut}
-use Rattle.nio_words.specs.Passes.{Holds, IsPassOf, limits_of, seen}
+use Rattle.nio_words.specs.Passes.{IsPassOf, seen}
 use Rattle.nio_words.specs.Sharing.{HandsOver}
 use Rattle.nio_words.specs.declared.words.Words.{Words}
 use Rattle.nio_race.specs.Ends.{HasNoEnds, ends_of}
@@ -68,20 +64,6 @@ pub record AddsRacer (w : Words) (d d' : Desk) (number : CallerNo) (racers racer
   pub racer : Racer
   pub takes_over : TakesOver w d d' number racer
   pub added : racers' ≡ racers ++ racer ∷ []
-
--- The desk has still what belongs to the callers from number k on: its pass acts for them, and it has in progress what
--- they had in progress at `go`.
-pub record HasLeft (w : Words) (go : List Event) (now : Progress) (d : Desk) (k : ℕ) : Type 0 where
-  pub pass : IsPassOf w d.pass
-  pub sight : seen d.pass ≡ go
-  pub holds : (n : CallerNo) → k ≤ n.0 → n.0 < (limits_of w).callers → Holds d.pass n
-  pub places : HasPlaces w d
-  pub progress : (n : CallerNo) → k ≤ n.0 → own_progress n (progress_of d) ≡ own_progress n now
-
--- what stood at `go`: no caller had a call at work, and each made whole calls
-pub record StoodAtGo (w : Words) (go : List Event) (now : Progress) : Type 0 where
-  pub unpinned : (n : CallerNo) (s : SelNo) (i : ℕ) → IsFalse (has_pin (state_after go) n s i)
-  pub made : ∥ ((n : CallerNo) → HasMade (limits_of w) (mine n go) n now) ∥₁
 
 -- the racer of caller k, at `go`, before it was given its ends of pipes
 pub record IsSetOffWithout (w : Words) (go : List Event) (now : Progress) (k : ℕ) (r : Racer) : Type 0 where

@@ -11,7 +11,7 @@ use Rattle.nio_sole.specs.declared.desk.Desk.{Desk}
 use Rattle.nio_words.specs.Passes.{limits_of, seen}
 use Rattle.nio_words.specs.declared.words.Words.{Words}
 use Rattle.nio_race.specs.Ends.{ArePipes}
-use Rattle.nio_race.specs.PipeBytes.{TellsEnd, all_read, all_written, leave_end, setup_lines}
+use Rattle.nio_race.specs.PipeBytes.{TellsEnd, all_read, all_written, leave_seal, setup_lines}
 use Rattle.nio_race.specs.Race.{IsSetUp}
 
 -- What the desk's pass has seen is the setup, and the desk has in progress what that leaves.
@@ -20,12 +20,12 @@ pub record HasSetUp (w : Words) (d : Desk) (setup : List ScriptCall) : Type 0 wh
   pub set_up : IsSetUp (limits_of w) setup (seen d.pass) (progress_of d)
 
 -- At `go` the pipe has what the setup's lines of its owners say: what they wrote and didn't read waits in it, and it
--- has an end mark where one of them left it. Where a read told the end, the mark was left and nothing waits.
+-- is sealed where one of them left the seal. Where a read told the end, the pipe is sealed and nothing waits.
 pub record KeepsPipeOfSetup (l : Limits) (setup : List ScriptCall) (p : Pipe) : Type 0 where
   pub bytes : all_read p.source (setup_lines p.reader l setup) ++ p.waiting
       ≡ all_written p.sink (setup_lines p.writer l setup)
-  pub mark : p.marked ≡ leave_end p.sink (setup_lines p.writer l setup)
-  pub told : TellsEnd p.source (setup_lines p.reader l setup) → IsTrue p.marked × (p.waiting ≡ [])
+  pub seal : p.sealed ≡ leave_seal p.sink (setup_lines p.writer l setup)
+  pub told : TellsEnd p.source (setup_lines p.reader l setup) → IsTrue p.sealed × (p.waiting ≡ [])
 
 pub record KeepsSetup (l : Limits) (setup : List ScriptCall) (pipes : List Pipe) : Type 0 where
   pub are_pipes : ArePipes l pipes

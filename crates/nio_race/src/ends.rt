@@ -2,7 +2,8 @@
 //! returned.
 ghost use Rattle.std.specs.Prelude.{◌≡◌, ◌<◌, [], ◌∷◌, length, option_to_list, None, All, IfOk};
 ghost use Rattle.nio_sole.specs.Stands.{pipes_of};
-ghost use Rattle.nio_race.specs.Ends.{AddsParted, AreSameButEnds, ArePartedAmong, HasNoEnds, HasRacers, HaveMet, HaveParted, HoldLast, HoldSinks, HoldSources, MeetsLast, sinks_at, sources_at};
+ghost use Rattle.nio_race.specs.Ends.{AddsParted, AreSameButEnds, ArePartedAmong, HasNoEnds, HasRacers, HaveMet};
+ghost use Rattle.nio_race.specs.Ends.{HaveParted, HaveLast, HaveSinks, HaveSources, MeetsLast, sinks_at, sources_at};
 
 use crate::racer::Racer;
 use nio_base::CallerNo;
@@ -81,7 +82,7 @@ fn give_source(
     source: PipeSource,
 ) -> Result<(), AllocError>
     requires { caller.0 < length racers.old.items }
-    ensures given { IfOk result (λ _. HoldSources racers.old.items racers.new.items caller (source ∷ [])) }
+    ensures given { IfOk result (λ _. HaveSources racers.old.items racers.new.items caller (source ∷ [])) }
     ensures rest { AreSameButEnds racers.old.items racers.new.items }
 {
     racers[caller.0 as usize].ends.sources.push(source)?;
@@ -91,7 +92,7 @@ fn give_source(
 // Gives the caller's racer a sink.
 fn give_sink(racers: &mut Vec<Racer>, caller: CallerNo, sink: PipeSink) -> Result<(), AllocError>
     requires { caller.0 < length racers.old.items }
-    ensures given { IfOk result (λ _. HoldSinks racers.old.items racers.new.items caller (sink ∷ [])) }
+    ensures given { IfOk result (λ _. HaveSinks racers.old.items racers.new.items caller (sink ∷ [])) }
     ensures rest { AreSameButEnds racers.old.items racers.new.items }
 {
     racers[caller.0 as usize].ends.sinks.push(sink)?;
@@ -109,9 +110,9 @@ pub(crate) fn join_ends(racers: &mut Vec<Racer>, mut owners: Vec<Owners>)
     }
 }
 
-// Brings the two ends together of the last pipe whose ends the racers hold.
+// Brings the two ends together of the last pipe whose ends the racers have.
 fn join_last(racers: &mut Vec<Racer>, owners: Owners)
-    requires { HoldLast racers.old.items owners }
+    requires { HaveLast racers.old.items owners }
     ensures met { MeetsLast racers.old.items racers.new.items owners }
     ensures rest { AreSameButEnds racers.old.items racers.new.items }
 {
@@ -124,20 +125,20 @@ fn join_last(racers: &mut Vec<Racer>, owners: Owners)
     source.beside(&mut sink);
 }
 
-// Takes the last source that the caller's racer holds.
+// Takes the last source that the caller's racer has.
 fn take_source(racers: &mut Vec<Racer>, caller: CallerNo) -> Option<PipeSource>
     requires { caller.0 < length racers.old.items }
-    ensures taken { HoldSources racers.new.items racers.old.items caller (option_to_list result) }
+    ensures taken { HaveSources racers.new.items racers.old.items caller (option_to_list result) }
     ensures none { result ≡ None → sources_at racers.old.items caller ≡ [] }
     ensures rest { AreSameButEnds racers.old.items racers.new.items }
 {
     racers[caller.0 as usize].ends.sources.pop()
 }
 
-// Takes the last sink that the caller's racer holds.
+// Takes the last sink that the caller's racer has.
 fn take_sink(racers: &mut Vec<Racer>, caller: CallerNo) -> Option<PipeSink>
     requires { caller.0 < length racers.old.items }
-    ensures taken { HoldSinks racers.new.items racers.old.items caller (option_to_list result) }
+    ensures taken { HaveSinks racers.new.items racers.old.items caller (option_to_list result) }
     ensures none { result ≡ None → sinks_at racers.old.items caller ≡ [] }
     ensures rest { AreSameButEnds racers.old.items racers.new.items }
 {

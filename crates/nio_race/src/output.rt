@@ -15,15 +15,16 @@ use std::alloc::{AllocError, Global};
 // A line names a caller below this number.
 const NAMED_CALLERS: u32 = 64;
 
-/// Adds each caller's lines with their replies to the text, in rising order of the callers. A caller that has no racer
-/// is answered `no-caller`.
+/// Adds each caller's lines with their replies to the text, in rising order of the callers. The lines of a caller
+/// that has no racer have the reply `no-caller`.
 pub(crate) fn add_callers(
     alloc: Global,
     race: &[RaceLine],
     racers: &[Racer],
     text: &mut Vec<u8>,
 ) -> Result<(), AllocError>
-    ensures { IfOk result (λ _. text.new.items ≡ text.old.items ++ callers_text 0 64 race.now (replies_by race.now racers.now)) }
+    ensures { IfOk result (λ _. text.new.items ≡ text.old.items
+        ++ callers_text 0 64 race.now (replies_by race.now racers.now)) }
 {
     for number in 0..NAMED_CALLERS {
         add_caller(alloc, race, racers, CallerNo(number), text)?;
@@ -39,7 +40,8 @@ fn add_caller(
     caller: CallerNo,
     text: &mut Vec<u8>,
 ) -> Result<(), AllocError>
-    ensures { IfOk result (λ _. WritesCaller caller race.now (replies_by race.now racers.now caller) text.old.items text.new.items) }
+    ensures { IfOk result (λ _. WritesCaller caller race.now (replies_by race.now racers.now caller) text.old.items
+        text.new.items) }
 {
     let number = caller.0 as usize;
     if number < racers.len() {
@@ -66,8 +68,8 @@ fn add_lines(
     Ok(())
 }
 
-// Adds the line, where it is the caller's and has a reply. So many lines of the caller stand before it. Answers how many
-// stand before the next one.
+// Adds the line, where it is the caller's and has a reply. So many lines of the caller stand before it. Answers how
+// many stand before the next one.
 fn add_line(
     alloc: Global,
     line: &RaceLine,
@@ -92,7 +94,8 @@ fn add_strange_lines(
     caller: CallerNo,
     text: &mut Vec<u8>,
 ) -> Result<(), AllocError>
-    ensures { IfOk result (λ _. WritesCaller caller race.now (strange_replies (calls_by caller race.now)) text.old.items text.new.items) }
+    ensures { IfOk result (λ _. WritesCaller caller race.now (strange_replies (calls_by caller race.now)) text.old.items
+        text.new.items) }
 {
     let mut made = 0;
     for line in race {
@@ -112,7 +115,8 @@ fn print_line(
     reply: &Reply,
     text: &mut Vec<u8>,
 ) -> Result<(), AllocError>
-    ensures { IfOk result (λ _. text.new.items ≡ text.old.items ++ race_line_text line.now.caller number line.now.call reply.now) }
+    ensures { IfOk result (λ _. text.new.items ≡ text.old.items
+        ++ race_line_text line.now.caller number line.now.call reply.now) }
 {
     let line = print_race_line(alloc, line.caller, number, &line.call, reply)?;
     text.extend_from_slice(&line)

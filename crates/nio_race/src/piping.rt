@@ -17,8 +17,8 @@ use nio_words::Words;
 use std::alloc::{AllocError, Global};
 use std::sync::Wait;
 
-// Reads up to so many bytes from the caller's own source. In blocking mode it waits for a byte or the end. The memory is
-// taken before the read.
+// Reads up to so many bytes from the caller's own source. In blocking mode it waits for a byte or the end. The memory
+// is taken before the read.
 pub(crate) fn read_line<R: Wait>(
     rt: &R,
     alloc: Global,
@@ -72,7 +72,7 @@ pub(crate) fn write_line<R: Wait>(
     write_reply(answer.map(|written| (written, false)))
 }
 
-// Closes a channel. The caller's own sink leaves its end mark.
+// Closes a channel. The caller's own sink leaves its seal.
 pub(crate) fn close_line<R: Wait>(
     rt: &R,
     alloc: Global,

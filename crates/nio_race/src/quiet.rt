@@ -84,5 +84,9 @@ impl<'a> Reading<Answer<'a>, ToldPoll> for OnePoll {
     ghost use Rattle.std.specs.Prelude.{[], ◌∷◌};
     ghost use Rattle.nio_select.specs.InProgress.{poll_of};
 
-    ghost items = { λ answer. record { asked = answer.asked.now; mode = answer.mode; answer = poll_of answer.told.now } ∷ [] };
+    ghost items = { λ answer. record {
+      asked = answer.asked.now;
+      mode = answer.mode;
+      answer = poll_of answer.told.now;
+    } ∷ [] };
 }

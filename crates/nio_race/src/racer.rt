@@ -20,8 +20,8 @@ use nio_words::Words;
 use std::alloc::{AllocError, Global};
 use std::sync::Wait;
 
-// A caller of a race: its number, a desk whose pass acts for it alone, the ends of pipes that it owns, the poller of its
-// `block` lines, the replies of its lines so far, and whether it stopped for want of memory.
+// A caller of a race: its number, a desk whose pass acts for it alone, the ends of pipes that it owns, the poller of
+// its `block` lines, the replies to its lines so far, and whether it stopped for want of memory.
 pub(crate) struct Racer {
     pub(crate) number: CallerNo,
     pub(crate) desk: Desk,
@@ -31,8 +31,8 @@ pub(crate) struct Racer {
     pub(crate) lacks_memory: bool,
 }
 
-// Makes the racer's lines, one after the other, and passes the gate before each, with its number among the lines of its
-// caller, from 1. Where memory lacks it makes no further line.
+// Makes the racer's lines, one after the other, and passes the test gate before each, with its number among the lines
+// of its caller, from 1. Where memory lacks it makes no further line.
 pub(crate) fn run_lines<R: Wait, G: Gate>(
     rt: &R,
     alloc: Global,

@@ -1,5 +1,6 @@
 //! Races, from the bytes that come in to the bytes that go out.
-ghost use Rattle.std.specs.Prelude.{◌≡◌, ◌<◌, ◌≤◌, ◌⊎◌, ◌↔◌, ◌++◌, [], ℕ, List, All, length, IfOk, IfSome, IsFalse, IsTrue};
+ghost use Rattle.std.specs.Prelude.{◌≡◌, ◌<◌, ◌≤◌, ◌⊎◌, ◌↔◌, ◌++◌, [], ℕ, List, All, length, IfOk, IfSome, IsFalse};
+ghost use Rattle.std.specs.Prelude.{IsTrue};
 ghost use Rattle.nio_bytes.specs.Cause.{Rose};
 ghost use Rattle.nio_event.specs.declared.call.ScriptCall.{ScriptCall};
 ghost use Rattle.nio_race_text.specs.RaceText.{IsFirstBadRace, IsRaceText};
@@ -39,12 +40,12 @@ use std::thread::Threads;
 /// Reads a race text, runs it and writes its output. The whole input is read, and every line of it parsed, before the
 /// first call. Every number is drawn with the pass, and the lines before `go` are made one after the other. Then each
 /// caller below the table's limit makes its lines after `go` in a thread of its own, with a pass of its own. It passes
-/// the gate before each, with its number and the line's number among its lines, from 1. It goes on with the selections
-/// and closings that it began before `go`, and with the ends of pipes that it owns; what it leaves in progress is
-/// forgotten. Another caller's lines have the reply `no-caller`.
+/// the test gate before each, with its number and the line's number among its lines, from 1. It goes on with the
+/// selections and closings that it began before `go`, and with the ends of pipes that it owns; what it leaves in
+/// progress is forgotten. Another caller's lines have the reply `no-caller`.
 ///
-/// No byte is written before every thread has returned and all passes are joined. Where memory lacks nothing is written.
-/// A race whose caller waits for something that no line does never returns.
+/// No byte is written before every thread has returned and all passes are joined. Where memory lacks nothing is
+/// written. A race whose caller waits for something that no line does never returns.
 pub fn run_race<R: Threads + Wait + Sync, S: Source, K: Sink, G: Gate + Sync>(
     rt: &R,
     alloc: Global,
@@ -55,7 +56,8 @@ pub fn run_race<R: Threads + Wait + Sync, S: Source, K: Sink, G: Gate + Sync>(
     gate: &G,
 ) -> Status
     requires first { IsFirstPass table.now pass.old }
-    ensures race { DoesRace S.Source K.Sink table.now input.old input.new output.old output.new pass.old pass.new result }
+    ensures race { DoesRace S.Source K.Sink table.now input.old input.new output.old output.new pass.old
+        pass.new result }
 
     // What each fault comes of.
     ensures read_fault { CausesFault (S.faults input.old) (S.faults input.new)
@@ -78,13 +80,15 @@ fn read_and_run<R: Threads + Wait + Sync, S: Source, K: Sink, G: Gate + Sync>(
     gate: &G,
 ) -> Status
     requires { IsFirstPass table.now pass.old }
-    ensures done { result ≡ Status.Done → ReadsText S.Source input.old input.new (IsRaced K.Sink table.now output.old output.new pass.new) }
+    ensures done { result ≡ Status.Done → ReadsText S.Source input.old input.new
+        (IsRaced K.Sink table.now output.old output.new pass.new) }
     ensures bad_script { (line : ℕ) → result ≡ Status.BadScript line →
         ReadsText S.Source input.old input.new (IsRaceRefused K.Sink output.old output.new pass.old pass.new line) }
     ensures write_fault { result ≡ Status.WriteFault →
         ReadsText S.Source input.old input.new (IsRaceCutShort K.Sink table.now output.old output.new pass.new) }
     ensures memory { result ≡ Status.Memory → output.new ≡ output.old }
-    ensures unread { (result ≡ Status.ReadFault) ⊎ (result ≡ Status.TooLong) → IsRaceUntouched output.old output.new pass.old pass.new }
+    ensures unread { (result ≡ Status.ReadFault) ⊎ (result ≡ Status.TooLong)
+        → IsRaceUntouched output.old output.new pass.old pass.new }
     ensures ends { EndsScript result }
     ensures kept { IsPassOf table.now pass.new }
     ensures read_fault { CausesFault (S.faults input.old) (S.faults input.new)
@@ -126,7 +130,8 @@ fn run_text<R: Threads + Wait + Sync, K: Sink, G: Gate + Sync>(
     ensures done { result ≡ Status.Done → IsRaced K.Sink table.now output.old output.new pass.new text.now }
     ensures bad_script { (line : ℕ) → result ≡ Status.BadScript line →
         IsRaceRefused K.Sink output.old output.new pass.old pass.new line text.now }
-    ensures write_fault { result ≡ Status.WriteFault → IsRaceCutShort K.Sink table.now output.old output.new pass.new text.now }
+    ensures write_fault { result ≡ Status.WriteFault → IsRaceCutShort K.Sink table.now output.old output.new
+        pass.new text.now }
     ensures rose { result ≡ Status.WriteFault → Rose (K.faults output.old) (K.faults output.new) }
     ensures memory { result ≡ Status.Memory → output.new ≡ output.old }
     ensures of_race { (setup : List ScriptCall) (race : List RaceLine) → IsRaceText text.now setup race →
@@ -149,8 +154,10 @@ fn run_text<R: Threads + Wait + Sync, K: Sink, G: Gate + Sync>(
 
 // Writes the output.
 fn write<K: Sink>(output: &mut K, bytes: &[u8]) -> Status
-    ensures done { result ≡ Status.Done → IsWritten K.Sink output.old output.new bytes.now × (K.faults output.new ≡ K.faults output.old) }
-    ensures write_fault { result ≡ Status.WriteFault → WritesPrefix K.Sink output.old output.new bytes.now × Rose (K.faults output.old) (K.faults output.new) }
+    ensures done { result ≡ Status.Done → IsWritten K.Sink output.old output.new bytes.now
+        × (K.faults output.new ≡ K.faults output.old) }
+    ensures write_fault { result ≡ Status.WriteFault → WritesPrefix K.Sink output.old output.new bytes.now
+        × Rose (K.faults output.old) (K.faults output.new) }
     ensures either { (result ≡ Status.Done) ⊎ (result ≡ Status.WriteFault) }
     ensures later { K.faults output.old ≤ K.faults output.new }
 {
@@ -201,7 +208,8 @@ fn run_callers<R: Threads + Wait + Sync, G: Gate + Sync>(
     requires pipes { ArePipes (limits_of w.now) (progress_of d.old).pipes }
     requires lines { MayRaceLines lines.now }
     ensures run { IfOk result (λ _. HaveRun w.now d.old lines.now racers.new.items) }
-    ensures text { IfOk result (λ _. text.new.items ≡ text.old.items ++ callers_text 0 64 lines.now (replies_by lines.now racers.new.items)) }
+    ensures text { IfOk result (λ _. text.new.items ≡ text.old.items
+        ++ callers_text 0 64 lines.now (replies_by lines.now racers.new.items)) }
     ensures racers { AreRacers w.now racers.new.items }
     ensures pass { IsPassOf w.now d.new.pass }
 {

@@ -4,7 +4,8 @@ ghost use Rattle.nio_sole.specs.Drawn.{AreEmpty};
 ghost use Rattle.nio_sole.specs.Stands.{HasPlaces, Stands, progress_of};
 ghost use Rattle.nio_words.specs.Passes.{Holds, IsPassOf, limits_of, seen};
 ghost use Rattle.nio_race.specs.Ends.{ArePipes, HaveParted};
-ghost use Rattle.nio_race.specs.SetOff.{AddsRacer, AreRacers, AreSetOff, AreSetOffWithout, MovedBelow, own_begun, other_begun, own_shut, other_shut};
+ghost use Rattle.nio_race.specs.SetOff.{AddsRacer, AreRacers, AreSetOff, AreSetOffWithout, MovedBelow, own_begun};
+ghost use Rattle.nio_race.specs.SetOff.{other_begun, own_shut, other_shut};
 
 use crate::ends::{OwnEnds, Owners, part_pipes};
 use crate::racer::Racer;
@@ -16,9 +17,9 @@ use nio_words::Words;
 use std::alloc::{AllocError, Global};
 use std::mem;
 
-/// Makes a racer for each caller, in rising order, with its number and what it has in progress, and gives it the ends of
-/// pipes that it owns. Answers the owners of the pipes, in their order. Where memory lacks, some racers are made, and
-/// pipes are gone.
+/// Makes a racer for each caller, in rising order, with its number and what it has in progress, and gives it the ends
+/// of pipes that it owns. Answers the owners of the pipes, in their order. Where memory lacks, some racers are made,
+/// and pipes are gone.
 pub(crate) fn set_off(
     alloc: Global,
     w: &Words,
@@ -127,7 +128,8 @@ fn move_selections(
 )
     requires from { vec_len from.old ≡ (limits_of w.now).selectors }
     requires to { AreEmpty to.old (limits_of w.now).selectors }
-    ensures moved { MovedBelow (own_begun me) (other_begun me) (limits_of w.now).selectors from.old.items from.new.items to.new.items }
+    ensures moved { MovedBelow (own_begun me) (other_begun me) (limits_of w.now).selectors from.old.items from.new.items
+        to.new.items }
     ensures from { vec_len from.new ≡ (limits_of w.now).selectors }
     ensures to { vec_len to.new ≡ (limits_of w.now).selectors }
 {
@@ -153,7 +155,8 @@ fn move_selection(from: &mut Option<Begun>, to: &mut Option<Begun>, me: CallerNo
 fn move_closings(w: &Words, from: &mut Vec<Option<Shut>>, to: &mut Vec<Option<Shut>>, me: CallerNo)
     requires from { vec_len from.old ≡ (limits_of w.now).selectors }
     requires to { AreEmpty to.old (limits_of w.now).selectors }
-    ensures moved { MovedBelow (own_shut me) (other_shut me) (limits_of w.now).selectors from.old.items from.new.items to.new.items }
+    ensures moved { MovedBelow (own_shut me) (other_shut me) (limits_of w.now).selectors from.old.items from.new.items
+        to.new.items }
     ensures from { vec_len from.new ≡ (limits_of w.now).selectors }
     ensures to { vec_len to.new ≡ (limits_of w.now).selectors }
 {

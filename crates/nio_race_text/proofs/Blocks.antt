@@ -24,13 +24,17 @@ use Rattle.nio_script.specs.Entries.{Finds}
 
 module _ (line : List ℕ) where
   pub uncut : NoCut 32 line → (p : CallerNo × SelNo) → IsBlockLine p.0 p.1 line → ⊥
-  uncut none p is = none (caller_word p.0) (codes "block " ++ selector_word p.1) (caller_spaceless p.0.0 is.caller_fits) is.text
+  uncut none p is = none (caller_word p.0) (codes "block " ++ selector_word p.1)
+      (caller_spaceless p.0.0 is.caller_fits) is.text
 
   module _ (front back : List ℕ) (only : OnlyCut 32 line front back) where
-    block_parts : (p : CallerNo × SelNo) → IsBlockLine p.0 p.1 line → (front ≡ caller_word p.0) × (back ≡ codes "block " ++ selector_word p.1)
-    block_parts p is = only (caller_word p.0) (codes "block " ++ selector_word p.1) (caller_spaceless p.0.0 is.caller_fits) is.text
+    block_parts : (p : CallerNo × SelNo) → IsBlockLine p.0 p.1 line → (front ≡ caller_word p.0)
+        × (back ≡ codes "block " ++ selector_word p.1)
+    block_parts p is = only (caller_word p.0) (codes "block " ++ selector_word p.1)
+        (caller_spaceless p.0.0 is.caller_fits) is.text
 
-    pub no_block_behind : ((rest : List ℕ) → back ≢ codes "block " ++ rest) → (p : CallerNo × SelNo) → IsBlockLine p.0 p.1 line → ⊥
+    pub no_block_behind : ((rest : List ℕ) → back ≢ codes "block " ++ rest) → (p : CallerNo × SelNo)
+        → IsBlockLine p.0 p.1 line → ⊥
     no_block_behind none p is = none (selector_word p.1) (block_parts p is).1
 
     pub no_caller : Reads (λ n. n ≤ 63) (λ n. 116 ∷ decimal n) front None → (p : CallerNo × SelNo)
@@ -39,7 +43,8 @@ module _ (line : List ℕ) where
 
     module _ (word : List ℕ) (prefixed : back ≡ codes "block " ++ word) where
       selector_part : (p : CallerNo × SelNo) → IsBlockLine p.0 p.1 line → word ≡ selector_word p.1
-      selector_part p is = append_cancel_left (codes "block ") word (selector_word p.1) (sym prefixed ∙ (block_parts p is).1)
+      selector_part p is = append_cancel_left (codes "block ") word (selector_word p.1)
+          (sym prefixed ∙ (block_parts p is).1)
 
       pub no_selector : Reads (λ n. n ≤ 4294967295) (λ n. 115 ∷ decimal n) word None → (p : CallerNo × SelNo)
           → IsBlockLine p.0 p.1 line → ⊥

@@ -66,7 +66,8 @@ block_spaceless : Spaceless (codes "block")
 block_spaceless =
     each 98 (codes "lock") (omega arith)
     (each 108 (codes "ock") (omega arith)
-    (each 111 (codes "ck") (omega arith) (each 99 (codes "k") (omega arith) (each 107 [] (omega arith) (All-nil (λ b. b ≢ 32))))))
+    (each 111 (codes "ck") (omega arith) (each 99 (codes "k") (omega arith)
+    (each 107 [] (omega arith) (All-nil (λ b. b ≢ 32))))))
   where
     each : (b : ℕ) (bs : List ℕ) → b ≢ 32 → Spaceless bs → Spaceless (b ∷ bs)
     each b bs = All-cons (λ b. b ≢ 32) b bs

@@ -36,11 +36,14 @@ module _ (caller number space rest arrow reply newline : List ℕ) where
 
 -- the history's line from its third word on, behind the first two exchanged
 pub exchanged : (number : ℕ) (caller : CallerNo) (call : Call) (reply : Reply) (line history rest : List ℕ) (size : ℕ)
-    → line ≡ caller_word caller ++ codes " " ++ decimal number ++ codes " " → history ≡ history_line number caller call reply
+    → line ≡ caller_word caller ++ codes " " ++ decimal number ++ codes " " → history
+    ≡ history_line number caller call reply
     → size ≡ length line → rest ≡ drop size history → line ++ rest ≡ race_line_text caller number (Script call) reply
 exchanged number caller call reply line history rest size e f g h =
     let words = join_with_byte 32 (call_words call) in
-    let behind = behind_swapped (caller_word caller) (decimal number) (codes " ") words (codes " -> ") (reply_text reply) (10 ∷ []) in
+    let behind = behind_swapped (caller_word caller) (decimal number) (codes " ") words (codes " -> ")
+    (reply_text reply) (10 ∷ []) in
     ap (λ l. l ++ rest) e
-    ∙ ap (λ r. caller_word caller ++ codes " " ++ decimal number ++ codes " " ++ r) (h ∙ ap (drop size) f ∙ ap (λ n. drop n (history_line number caller call reply)) (g ∙ ap length e) ∙ behind)
+    ∙ ap (λ r. caller_word caller ++ codes " " ++ decimal number ++ codes " " ++ r)
+    (h ∙ ap (drop size) f ∙ ap (λ n. drop n (history_line number caller call reply)) (g ∙ ap length e) ∙ behind)
     ∙ caller_first (caller_word caller) (decimal number) (codes " ") words (codes " -> ") (reply_text reply) (10 ∷ [])

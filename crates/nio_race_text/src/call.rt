@@ -17,7 +17,9 @@ pub enum RaceCall {
 /// A call behind `go`, and who makes it.
 #[derive(Debug, Drop)]
 pub struct RaceLine {
+    /// Whose line it is.
     pub caller: CallerNo,
+    /// What it calls.
     pub call: RaceCall,
 }
 

@@ -3,7 +3,8 @@ ghost use Rattle.std.specs.Prelude.{◌≡◌, ◌↔◌, ◌∷◌, ◌++◌, [
 ghost use Rattle.nio_event.specs.Script.{AreCalls};
 ghost use Rattle.nio_event.specs.declared.call.ScriptCall.{ScriptCall};
 ghost use Rattle.nio_race_text.specs.RaceLines.{AreRaceLines};
-ghost use Rattle.nio_race_text.specs.RaceText.{AreSomeRaceText, IsFirstBadRace, IsInRace, IsInSetup, IsRaceText, go_line};
+ghost use Rattle.nio_race_text.specs.RaceText.{AreSomeRaceText, IsFirstBadRace, IsInRace, IsInSetup, IsRaceText};
+ghost use Rattle.nio_race_text.specs.RaceText.{go_line};
 ghost use Rattle.nio_race_text.specs.declared.call.RaceLine.{RaceLine};
 
 /// A text is a race text of one setup and one race, or has one first line that isn't in the grammar at

@@ -1,5 +1,5 @@
 //! Race texts: the lines of a script, and behind a line `go` the lines of callers that run in
-//! threads. Reading them, and printing what those callers were answered.
+//! threads. Reading them, and printing the replies to those callers.
 #![tactic(auto)]
 
 pub use call::{RaceCall, RaceLine};

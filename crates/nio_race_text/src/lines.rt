@@ -1,5 +1,6 @@
 //! The lines of a race text: the setup, the line `go`, and the race.
-ghost use Rattle.std.specs.Prelude.{◌≡◌, ◌+◌, ◌<◌, ◌^◌, ◌∷◌, ◌++◌, ◌↔◌, [], ℕ, IsTrue, map, length, IfOk, OnOk, MatchOption};
+ghost use Rattle.std.specs.Prelude.{◌≡◌, ◌+◌, ◌<◌, ◌^◌, ◌∷◌, ◌++◌, ◌↔◌, [], ℕ, IsTrue, map, length, IfOk, OnOk};
+ghost use Rattle.std.specs.Prelude.{MatchOption};
 ghost use Rattle.nio_event.specs.Script.{lines_of, AreCalls};
 ghost use Rattle.nio_race_text.specs.RaceLines.{AreRaceLines};
 ghost use Rattle.nio_race_text.specs.RaceText.{go_line};

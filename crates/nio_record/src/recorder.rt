@@ -3,7 +3,8 @@ ghost use Rattle.std.specs.Prelude.{◌≡◌, ◌≢◌, ◌+◌, ◌<◌, ◌�
 ghost use Rattle.nio_record.specs.declared.recorder.RecordError.TheVariants.{NoStep};
 ghost use Rattle.std.specs.Vec.{vec_len, vec_capacity};
 ghost use Rattle.nio_event.specs.Histories.{event_of};
-ghost use Rattle.nio_record.specs.Recorded.{IsDraw, IsRecorded, MayMake, acts_for, both_drawn, one, table_limits, written, zero};
+ghost use Rattle.nio_record.specs.Recorded.{IsDraw, IsRecorded, MayMake, acts_for, both_drawn, one, table_limits};
+ghost use Rattle.nio_record.specs.Recorded.{written, zero};
 ghost use Rattle.nio_words.specs.Passes.{Holds, IsFirstPass, IsOnly, IsPassOf, limits_of, seen};
 ghost use Rattle.nio_event.specs.Questions.{question_of};
 

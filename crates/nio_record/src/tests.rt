@@ -1,6 +1,6 @@
 //! A selection with an act of another caller before each of its steps, and after the last. What was written down is
-//! legal, and with another answer it isn't. Selections whose steps are made one by one, with what each of them finds, in
-//! the order in which the calls of selections make them.
+//! legal, and with another answer it isn't. Selections whose steps are made one by one, with what each of them finds,
+//! in the order in which the calls of selections make them.
 ghost use Rattle.std.specs.Prelude.{◌<◌};
 ghost use Rattle.nio_record.specs.Recorded.{IsRecorded};
 
@@ -468,7 +468,7 @@ enum Found {
     Gate(GateWord),
     /// Who had the turn.
     Turn(Option<CallerNo>),
-    /// The keys' mark.
+    /// The keys' high-water mark.
     Bound(u32),
     /// The free bits of 64 indexes.
     Free(u64),
@@ -498,7 +498,8 @@ fn found_by(act: Act) -> Found {
     }
 }
 
-/// Makes these steps of a caller, up to the first that finds something else than is listed. How many found what is listed.
+/// Makes these steps of a caller, up to the first that finds something else than is listed. How many found what is
+/// listed.
 fn agree(
     r: &mut Recorder,
     alloc: Global,
@@ -545,8 +546,8 @@ fn key_of(number: u32, cancelled: bool) -> Found {
     })
 }
 
-/// Selections on a selector without keys: one that ends at once, one that a wakeup ends and one that would go on, with a
-/// beginning of the other caller in the first. How many steps found what is listed, of 29.
+/// Selections on a selector without keys: one that ends at once, one that a wakeup ends and one that would go on, with
+/// a beginning of the other caller in the first. How many steps found what is listed, of 29.
 fn select_without_keys(r: &mut Recorder, alloc: Global) -> Result<[usize; 9], RecordError>
     requires { IsRecorded r.old }
     ensures { IsRecorded r.new }

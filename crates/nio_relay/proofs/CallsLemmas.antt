@@ -4,14 +4,15 @@ use Rattle.std.proofs.Common.{arith, append_assoc, length-append, length-drop, l
 use Rattle.std.proofs.lemmas.List.{take-append-drop, append-nil}
 use Rattle.std.proofs.Math.Seq.{drop-append_seam, drop-length, take-nil}
 use mathlib.Core.List.{IsPrefix}
-use Rattle.nio_relay.specs.Flow.{Flow, fresh, held, IsLawful, MayTake, WantsShut, takes, writes, shuts}
+use Rattle.nio_relay.specs.Flow.{Flow, fresh, buffered, IsLawful, MayTake, WantsShut, takes, writes, shuts}
 use Rattle.nio_relay.specs.Calls.{Call, reading, writing, ending, shutting, failing, MayCall, after, MayCallAll}
 use Rattle.nio_relay.specs.Calls.{after_all, bytes_given, bytes_read, Carries, RelayLaw}
 
--- what is held follows what was written
-held-rest : (f : Flow) → IsPrefix f.written f.taken → f.taken ≡ f.written ++ held f
-held-rest f begins =
-    let rest : held f ≡ begins.0 = ap (drop (length f.written)) (sym begins.1) ∙ drop-append_seam f.written begins.0 in
+-- what is buffered follows what was written
+buffered-rest : (f : Flow) → IsPrefix f.written f.taken → f.taken ≡ f.written ++ buffered f
+buffered-rest f begins =
+    let rest : buffered f ≡ begins.0 =
+    ap (drop (length f.written)) (sym begins.1) ∙ drop-append_seam f.written begins.0 in
     sym begins.1 ∙ ap (λ xs. f.written ++ xs) (sym rest)
 
 takes-IsLawful : (f : Flow) (bytes : List ℕ) → IsLawful f → MayTake f bytes → IsLawful (takes f bytes)
@@ -19,10 +20,10 @@ takes-IsLawful f bytes lawful may =
     let w = f.written in let rest = lawful.in_order.0 in let begins : w ++ rest ≡ f.taken = lawful.in_order.1 in
     record {
       in_order = (rest ++ bytes, sym (append_assoc w rest bytes) ∙ ap (λ xs. xs ++ bytes) begins);
-      few_held = omega (
+      few_buffered = omega (
         arith,
         may.fit,
-        lawful.few_held,
+        lawful.few_buffered,
         ap length begins,
         length-append w rest,
         length-append f.taken bytes,
@@ -35,16 +36,16 @@ takes-IsLawful f bytes lawful may =
 
 writes-IsLawful : (f : Flow) (n : ℕ) → IsLawful f → IsLawful (writes f n)
 writes-IsLawful f n lawful =
-    let w = f.written in let h = held f in let whole : f.taken ≡ w ++ h = held-rest f lawful.in_order in
+    let w = f.written in let h = buffered f in let whole : f.taken ≡ w ++ h = buffered-rest f lawful.in_order in
     record {
       in_order = (
         drop n h,
         append_assoc w (take n h) (drop n h) ∙ ap (λ xs. w ++ xs) (take-append-drop n h)
             ∙ sym whole,
       );
-      few_held = omega (
+      few_buffered = omega (
         arith,
-        lawful.few_held,
+        lawful.few_buffered,
         length-append w (take n h),
         length-drop (length w) f.taken,
         length-drop (length (w ++ take n h)) f.taken,
@@ -58,10 +59,10 @@ writes-IsLawful f n lawful =
 shuts-IsLawful : (f : Flow) → IsLawful f → WantsShut f → IsLawful (shuts f)
 shuts-IsLawful f lawful wants = record {
   in_order = lawful.in_order;
-  few_held = lawful.few_held;
+  few_buffered = lawful.few_buffered;
   shut_after_end = λ _. wants.ended;
-  shut_whole = λ _. sym (append-nil f.written) ∙ ap (λ xs. f.written ++ xs) (sym wants.none_held)
-      ∙ sym (held-rest f lawful.in_order);
+  shut_whole = λ _. sym (append-nil f.written) ∙ ap (λ xs. f.written ++ xs) (sym wants.none_buffered)
+      ∙ sym (buffered-rest f lawful.in_order);
 }
 
 after-IsLawful : (f : Flow) (c : Call) → IsLawful f → MayCall f c → IsLawful (after f c)
@@ -70,7 +71,7 @@ after-IsLawful f (writing n) lawful may = writes-IsLawful f n lawful
 after-IsLawful f ending lawful may =
     record {
       in_order = lawful.in_order;
-      few_held = lawful.few_held;
+      few_buffered = lawful.few_buffered;
       shut_after_end = λ _. refl;
       shut_whole = lawful.shut_whole;
     }
@@ -78,7 +79,7 @@ after-IsLawful f shutting lawful may = shuts-IsLawful f lawful may
 after-IsLawful f failing lawful may =
     record {
       in_order = lawful.in_order;
-      few_held = lawful.few_held;
+      few_buffered = lawful.few_buffered;
       shut_after_end = lawful.shut_after_end;
       shut_whole = lawful.shut_whole;
     }
@@ -96,7 +97,7 @@ Carries-after_all f [] lawful may =
     let all : f.taken ≡ f.taken ++ [] = sym (append-nil f.taken) in
     record {
       all_taken = all;
-      few_held = lawful.few_held;
+      few_buffered = lawful.few_buffered;
       in_order = subst (IsPrefix f.written) all lawful.in_order;
       whole_at_shut = λ is_shut. lawful.shut_whole is_shut ∙ all;
     }
@@ -109,7 +110,12 @@ Carries-after_all f (c ∷ calls) lawful may =
 
 pub fresh-IsLawful : IsLawful fresh
 fresh-IsLawful =
-    record { in_order = ([], refl); few_held = lit≤ tt; shut_after_end = λ is_shut. is_shut; shut_whole = λ _. refl }
+    record {
+      in_order = ([], refl);
+      few_buffered = lit≤ tt;
+      shut_after_end = λ is_shut. is_shut;
+      shut_whole = λ _. refl;
+    }
 
 pub relay : RelayLaw
 relay calls may = Carries-after_all fresh calls fresh-IsLawful may

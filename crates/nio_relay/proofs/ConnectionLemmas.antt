@@ -11,9 +11,9 @@ flow-whole f a b lawful of is_shut = record {
   shut = sym of.shut ∙ is_shut;
 }
 
--- what isn't written yet is held
+-- what isn't written yet is buffered
 pub lawful-few : (f : Flow) → IsLawful f → length f.taken ≤ length f.written + 16384
-lawful-few f lawful = omega (arith, lawful.few_held, length-drop (length f.written) f.taken)
+lawful-few f lawful = omega (arith, lawful.few_buffered, length-drop (length f.written) f.taken)
 
 flow-relayed : (f : Flow) (a b : Carried) → IsLawful f → IsFlowOf f a b → IsRelayed a b
 flow-relayed f a b lawful of = record {

@@ -1,4 +1,4 @@
--- What a direction holds and has written, told from its trace and its buffer.
+-- What a direction buffers and has written, told from its trace and its buffer.
 use Rattle.std.proofs.Common.{◌≡◌, ℕ, ◌+◌, ◌-◌, ◌≤◌, List, [], ◌++◌, length, take, drop, Bool, sym, ap, ◌∙◌, arith}
 use Rattle.std.proofs.Common.{append_assoc, length-append, length-drop}
 use Rattle.std.proofs.lemmas.List.{length-take-le, take-append-drop}
@@ -18,9 +18,11 @@ pub length-written_of : (taken items : List ℕ) → EndsWith taken items
     → length (written_of taken items) ≡ length taken - length items
 length-written_of taken items whole = length-take-le (length taken - length items) taken (omega arith)
 
--- what is held is what the buffer has
-pub held-items : (taken items : List ℕ) → EndsWith taken items → drop (length (written_of taken items)) taken ≡ items
-held-items taken items whole = let w = written_of taken items in ap (drop (length w)) whole ∙ drop-append_seam w items
+-- what is buffered is what the buffer has
+pub buffered-items : (taken items : List ℕ) → EndsWith taken items
+    → drop (length (written_of taken items)) taken ≡ items
+buffered-items taken items whole = let w =
+    written_of taken items in ap (drop (length w)) whole ∙ drop-append_seam w items
 
 pub written_of-nil : (taken : List ℕ) → written_of taken [] ≡ taken
 written_of-nil taken = let all : length taken - 0 ≡ length taken =
@@ -36,12 +38,12 @@ written_next taken items kept n left whole few left_is kept_is =
     let fits : length items ≤ length taken = length-items taken items whole in
     let at : length (written_of taken items) ≡ before = length-written_of taken items whole in
     let all_held : length (drop (length (written_of taken items)) taken) ≡ length items = ap length
-    (held-items taken items whole) in
+    (buffered-items taken items whole) in
     let rest : length taken - length kept ≡ before
     + n = omega (arith, ap length kept_is, length-drop (length items - left) items) in
     rw (rest, at) (take-add before n taken)
 
--- where nothing was held, the first n of these bytes were written at once, and the others are kept
+-- where nothing was buffered, the first n of these bytes were written at once, and the others are kept
 pub written_passed : (taken items bytes kept : List ℕ) (n : ℕ) → EndsWith taken items → items ≡ [] → n ≤ length bytes
     → kept ≡ drop n bytes
     → written_of (taken ++ bytes) kept
@@ -69,7 +71,7 @@ module _ (taken : List ℕ) (buffer : Buffer ℕ) (ended shut failed : Bool) whe
   pub seen-IsLawful : IsKept taken buffer ended shut → IsLawful seen
   seen-IsLawful kept = record {
     in_order = (buffer.items, sym kept.whole);
-    few_held = rw (held-items taken buffer.items kept.whole) kept.few_held;
+    few_buffered = rw (buffered-items taken buffer.items kept.whole) kept.few_buffered;
     shut_after_end = kept.shut_after_end;
     shut_whole = λ is_shut. ap (written_of taken) (kept.shut_empty is_shut) ∙ written_of-nil taken;
   }

@@ -1,7 +1,7 @@
 -- Runs of calls on a direction, in any order in which they may be made.
 use Rattle.std.specs.Prelude.{◌≡◌, ℕ, ◌≤◌, List, [], ◌∷◌, ◌++◌, length, IsTrue}
 use mathlib.Core.List.{IsPrefix}
-use Rattle.nio_relay.specs.Flow.{Flow, fresh, held, MayTake, WantsShut, takes, writes, ends, shuts, fails}
+use Rattle.nio_relay.specs.Flow.{Flow, fresh, buffered, MayTake, WantsShut, takes, writes, ends, shuts, fails}
 
 -- a call on a direction: bytes were read, so many were written, the input ended, the output was
 -- shut, a fault came
@@ -15,7 +15,7 @@ pub data Call : Type 0 where
 -- whether the call may be made
 abbrev pub MayCall : Flow → Call → Type 0
 MayCall f (reading bytes) = MayTake f bytes
-MayCall f (writing n) = n ≤ length (held f)
+MayCall f (writing n) = n ≤ length (buffered f)
 MayCall f ending = Unit {0}
 MayCall f shutting = WantsShut f
 MayCall f failing = Unit {0}
@@ -50,11 +50,11 @@ abbrev pub bytes_read : List Call → List ℕ
 bytes_read [] = []
 bytes_read (c ∷ calls) = bytes_given c ++ bytes_read calls
 
--- the flow f carries these bytes: it has taken them all, holds few of them, has written a prefix
+-- the flow f carries these bytes: it has taken them all, buffers few of them, has written a prefix
 -- of them, and once its output is shut it has written them all
 pub record Carries (f : Flow) (bytes : List ℕ) : Type 0 where
   pub all_taken : f.taken ≡ bytes
-  pub few_held : length (held f) ≤ 16384
+  pub few_buffered : length (buffered f) ≤ 16384
   pub in_order : IsPrefix f.written bytes
   pub whole_at_shut : IsTrue f.shut → f.written ≡ bytes
 

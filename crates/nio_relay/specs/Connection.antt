@@ -36,7 +36,7 @@ pub record IsFlowOf (f : Flow) (a b : Carried) : Type 0 where
   pub ended : f.ended ≡ a.ended
   pub shut : f.shut ≡ b.shut
 
--- at any time a direction has relayed its bytes but for the few that it holds, and once it is shut
+-- at any time a direction has relayed its bytes but for the few that it buffers, and once it is shut
 -- all of them; so a connection with both directions shut is clean
 pub record ConnectionLaw : Type 0 where
   pub relayed : (f : Flow) (a b : Carried) → IsLawful f → IsFlowOf f a b → IsRelayed a b

@@ -17,18 +17,18 @@ abbrev pub fresh : Flow
 fresh = record { taken = []; written = []; ended = false; shut = false; failed = false }
 
 -- the bytes that were taken and aren't written yet
-abbrev pub held : Flow → List ℕ
-held f = drop (length f.written) f.taken
+abbrev pub buffered : Flow → List ℕ
+buffered f = drop (length f.written) f.taken
 
 -- how many more bytes can be taken
 abbrev pub room_of : Flow → ℕ
-room_of f = 16384 - length (held f)
+room_of f = 16384 - length (buffered f)
 
--- what was written is a prefix of what was taken, at most 16,384 bytes are held, and the output is shut
+-- what was written is a prefix of what was taken, at most 16,384 bytes are buffered, and the output is shut
 -- only after the end of the input, with all of it written
 pub record IsLawful (f : Flow) : Type 0 where
   pub in_order : IsPrefix f.written f.taken
-  pub few_held : length (held f) ≤ 16384
+  pub few_buffered : length (buffered f) ≤ 16384
   pub shut_after_end : IsTrue f.shut → IsTrue f.ended
   pub shut_whole : IsTrue f.shut → f.written ≡ f.taken
 
@@ -46,22 +46,22 @@ pub record WantsRead (f : Flow) : Type 0 where
 -- it asks to have bytes written
 pub record WantsWrite (f : Flow) : Type 0 where
   pub no_fault : IsFalse f.failed
-  pub some_held : 0 < length (held f)
+  pub some_buffered : 0 < length (buffered f)
 
 -- it asks to have the output shut
 pub record WantsShut (f : Flow) : Type 0 where
   pub no_fault : IsFalse f.failed
   pub ended : IsTrue f.ended
-  pub none_held : held f ≡ []
+  pub none_buffered : buffered f ≡ []
   pub not_shut : IsFalse f.shut
 
 -- after bytes were read
 abbrev pub takes : Flow → List ℕ → Flow
 takes f bytes = record f { taken = f.taken ++ bytes }
 
--- after the first n of the held bytes were written
+-- after the first n of the buffered bytes were written
 abbrev pub writes : Flow → ℕ → Flow
-writes f n = record f { written = f.written ++ take n (held f) }
+writes f n = record f { written = f.written ++ take n (buffered f) }
 
 -- after the end of the input
 abbrev pub ends : Flow → Flow

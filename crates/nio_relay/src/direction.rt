@@ -1,18 +1,19 @@
 //! The buffer of one direction, and what it asks of the two ends.
 ghost use Rattle.std.specs.Prelude.{◌≡◌, ◌≤◌, [], ◌↔◌, length, IsTrue, IfOk};
 ghost use mathlib.Core.List.{IsPrefix};
-ghost use Rattle.nio_relay.specs.Flow.{fresh, held, room_of, IsLawful, MayTake, WantsRead, WantsWrite, WantsShut, takes, writes, ends, shuts, fails};
+ghost use Rattle.nio_relay.specs.Flow.{fresh, buffered, room_of, IsLawful, MayTake, WantsRead, WantsWrite, WantsShut};
+ghost use Rattle.nio_relay.specs.Flow.{takes, writes, ends, shuts, fails};
 
 use circular_buffer::HeapCircularBuffer;
 use nio_trace::Trace;
 use std::alloc::{AllocError, Global};
 use std::marker::Model;
 
-/// How many bytes a direction holds at most.
+/// How many bytes a direction buffers at most.
 pub const CAPACITY: usize = 16_384;
 
 /// The bytes on their way from one end of a relayed connection to the other. Contracts see all
-/// that it ever took and wrote; the buffer holds what is taken and not yet written.
+/// that it ever took and wrote; the buffer has what is taken and not yet written.
 #[derive(Drop)]
 pub struct Direction {
     buffer: HeapCircularBuffer<u8>,
@@ -28,7 +29,13 @@ impl Model for Direction {
 
     ghost Value = { Flow };
 
-    ghost view = { λ d. record { taken = d.taken; written = written_of d.taken d.buffer.items; ended = d.ended; shut = d.shut; failed = d.failed } };
+    ghost view = { λ d. record {
+      taken = d.taken;
+      written = written_of d.taken d.buffer.items;
+      ended = d.ended;
+      shut = d.shut;
+      failed = d.failed;
+    } };
 
     ghost invariant = { λ d. IsKept d.taken d.buffer d.ended d.shut };
 }
@@ -37,8 +44,11 @@ impl Model for Direction {
 /// have the output shut.
 #[derive(Clone, Copy, Debug, PartialEq, Eq, Hash)]
 pub struct Want {
+    /// To take more: the one end hasn't ended, and there is room.
     pub read: bool,
+    /// To write what is buffered.
     pub write: bool,
+    /// To shut the other end: all that was taken is written, and the one end has ended.
     pub shut: bool,
 }
 
@@ -63,18 +73,21 @@ impl Direction {
         CAPACITY - self.buffer.len()
     }
 
+    /// Whether the one end's input has ended.
     pub fn is_ended(&self) -> bool
         ensures { result ≡ self.now.ended }
     {
         self.ended
     }
 
+    /// Whether the other end's output was shut.
     pub fn is_shut(&self) -> bool
         ensures { result ≡ self.now.shut }
     {
         self.shut
     }
 
+    /// Whether a fault has come.
     pub fn has_failed(&self) -> bool
         ensures { result ≡ self.now.failed }
     {
@@ -95,11 +108,11 @@ impl Direction {
         }
     }
 
-    /// The bytes to be written next. More may be held, which come to the front once these are
+    /// The bytes to be written next. More may be buffered, which come to the front once these are
     /// written.
     pub fn front(&self) -> &[u8]
-        ensures prefix { IsPrefix result.now (held self.now) }
-        ensures empty { (result.now ≡ []) ↔ (held self.now ≡ []) }
+        ensures prefix { IsPrefix result.now (buffered self.now) }
+        ensures empty { (result.now ≡ []) ↔ (buffered self.now ≡ []) }
     {
         let (first, second) = self.buffer.as_slices();
         if first.is_empty() { second } else { first }
@@ -114,20 +127,20 @@ impl Direction {
         self.taken.extend(bytes);
     }
 
-    /// To be called once the first `n` of the held bytes were written to the other end: as many bytes
+    /// To be called once the first `n` of the buffered bytes were written to the other end: as many bytes
     /// of `front` as it took.
     pub fn on_written(&mut self, n: usize)
-        requires { n ≤ length (held self.old) }
+        requires { n ≤ length (buffered self.old) }
         ensures { self.new ≡ writes self.old n }
     {
         self.buffer.truncate_front(self.buffer.len() - n);
     }
 
-    /// To be called once these bytes were read from the one end while none were held, and the first `n` of them were
-    /// written to the other end at once. Only the others are copied.
+    /// To be called once these bytes were read from the one end while none were buffered, and the first `n` of them
+    /// were written to the other end at once. Only the others are copied.
     pub fn on_passed(&mut self, bytes: &[u8], n: usize)
         requires bytes { MayTake self.old bytes.now }
-        requires none_held { held self.old ≡ [] }
+        requires none_buffered { buffered self.old ≡ [] }
         requires within { n ≤ length bytes.now }
         ensures { self.new ≡ writes (takes self.old bytes.now) n }
     {
@@ -135,7 +148,7 @@ impl Direction {
         self.taken.extend(bytes);
     }
 
-    /// To be called once the one end's input has ended. What is held is still to be written.
+    /// To be called once the one end's input has ended. What is buffered is still to be written.
     pub fn on_end(&mut self)
         ensures { self.new ≡ ends self.old }
     {

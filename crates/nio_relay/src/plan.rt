@@ -7,8 +7,11 @@ use nio_base::Addr;
 /// before it ends.
 #[derive(Clone, Copy, Debug, PartialEq, Eq, Hash)]
 pub struct ProxyPlan {
+    /// Where clients connect.
     pub listen: Addr,
+    /// To what each of them is relayed.
     pub target: Addr,
+    /// After how many connections the proxy ends, 1 to 16,000.
     pub conns: u32,
 }
 
@@ -26,6 +29,8 @@ impl ProxyPlan {
 /// How many connections a proxy relayed, and how many of them ended by a fault.
 #[derive(Clone, Copy, Debug, PartialEq, Eq, Hash)]
 pub struct Served {
+    /// How many connections were served.
     pub connections: u32,
+    /// How many of them had a fault.
     pub faults: u32,
 }

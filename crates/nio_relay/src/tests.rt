@@ -38,7 +38,7 @@ enum Step {
     Read(usize),
     /// So many bytes are read, and so many of them written at once.
     Pass(usize, usize),
-    /// Held bytes are written until so many are left.
+    /// Buffered bytes are written until so many are left.
     WriteTo(usize),
     End,
     Shut,
@@ -93,12 +93,12 @@ impl Run<'_> {
         Ok(())
     }
 
-    /// What is held lies in two pieces at most.
+    /// What is buffered lies in two pieces at most.
     fn write_to(&mut self, rt: &impl Abort, left: usize) -> Result<(), Fail> {
         for _ in 0..2 {
-            let held = CAPACITY - self.direction.room();
+            let buffered = CAPACITY - self.direction.room();
             let front = self.direction.front();
-            let piece = &front[..front.len().min(held.saturating_sub(left))];
+            let piece = &front[..front.len().min(buffered.saturating_sub(left))];
             self.written.extend_from_slice(piece)?;
             let count = piece.len();
             self.direction.on_written(count);
@@ -159,7 +159,7 @@ fn directions_take_write_end_and_fail(rt: HostRuntime) -> Result<(), Fail> {
             26_399,
         ),
         ("passes and is used again", PASSES_AND_IS_USED_AGAIN, 16_496),
-        ("fails with bytes held", FAILS_WITH_BYTES_HELD, 0),
+        ("fails with bytes buffered", FAILS_WITH_BYTES_HELD, 0),
     ] {
         let mut run = Run {
             direction: Direction::make(rt.alloc())?,

@@ -72,7 +72,8 @@ module _ (text before after : List ℕ) where
       ∙ ap (λ xs. before ++ 32 ∷ 45 ∷ 62 ∷ xs) f ∙ sym (append_assoc before (32 ∷ 45 ∷ 62 ∷ 32 ∷ []) after)
 
   -- where the text is cut at its first `>`
-  pub arrow_parts : (front back : List ℕ) → OnlyCut 62 text front back → All (λ b. b ≢ 62) before → text ≡ before ++ codes " -> " ++ after
+  pub arrow_parts : (front back : List ℕ) → OnlyCut 62 text front back → All (λ b. b ≢ 62) before → text ≡ before
+      ++ codes " -> " ++ after
       → (front ≡ before ++ 32 ∷ 45 ∷ []) × (back ≡ 32 ∷ after)
   arrow_parts front back only none e =
       only (before ++ 32 ∷ 45 ∷ []) (32 ∷ after) (lacks_arrow before none) (arrow_cut e)

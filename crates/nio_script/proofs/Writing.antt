@@ -4,7 +4,7 @@ use Rattle.std.proofs.Common.{None, refl, sym, ap, ◌∙◌, length-drop, appen
 use Rattle.std.specs.Prelude.{Option, Result, Ok, Err, OnErr}
 use Rattle.std.proofs.Math.Seq.{take-add, take-length, take-append_seam, take-append-add}
 use Rattle.std.specs.Io.KnownBytes.{append_known}
-use Rattle.nio_bytes.specs.Sink.{told}
+use Rattle.nio_bytes.specs.Sink.{shown}
 use Rattle.nio_bytes.specs.declared.sink.Sink as sink
 use Rattle.nio_script.specs.Output.{Writes, WritesPrefix}
 use Rattle.nio_script.proofs.Bytes.{append_known-nil, append_known-append}
@@ -23,10 +23,10 @@ pub on_err_map : {T E P Q : Type 0} (r : Result T E) → (P → Q) → OnErr r P
 on_err_map (Ok x) f p = tt
 on_err_map (Err e) f p = f p
 
--- what is told last counts
-told-told : (known : Option Bool) (first second : Bool) → told (told known first) second ≡ told known second
-told-told None first second = refl
-told-told (Some value) first second = refl
+-- what is shown last counts
+shown-shown : (known : Option Bool) (first second : Bool) → shown (shown known first) second ≡ shown known second
+shown-shown None first second = refl
+shown-shown (Some value) first second = refl
 
 module _ {K : Type 0} (k : sink.Ghosts K) where
   -- nothing yet
@@ -53,11 +53,11 @@ module _ {K : Type 0} (k : sink.Ghosts K) where
 
   -- a sink that was written to, or not yet, and then is, isn't flushed any more
   pub unflushed_on : (old mid new : K) (n : ℕ) → (n ≡ 0 → mid ≡ old)
-      → (0 < n → k.flushed mid ≡ told (k.flushed old) false)
-      → k.flushed new ≡ told (k.flushed mid) false → k.flushed new ≡ told (k.flushed old) false
-  unflushed_on old mid new zero same later e = e ∙ ap (λ sink. told (k.flushed sink) false) (same refl)
+      → (0 < n → k.flushed mid ≡ shown (k.flushed old) false)
+      → k.flushed new ≡ shown (k.flushed mid) false → k.flushed new ≡ shown (k.flushed old) false
+  unflushed_on old mid new zero same later e = e ∙ ap (λ sink. shown (k.flushed sink) false) (same refl)
   unflushed_on old mid new (suc n) same later e =
-      e ∙ ap (λ known. told known false) (later (omega arith)) ∙ told-told (k.flushed old) false false
+      e ∙ ap (λ known. shown known false) (later (omega arith)) ∙ shown-shown (k.flushed old) false false
 
   -- nothing is a prefix of any bytes
   pub writes_nothing : (old : K) (bytes : List ℕ) → WritesPrefix k old old bytes

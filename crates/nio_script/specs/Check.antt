@@ -11,7 +11,7 @@ use Rattle.nio_plain.specs.ScriptState.{ScriptState, script_opening}
 use Rattle.nio_plain.specs.Seq.{seq}
 use Rattle.nio_plain.specs.declared.rules.Rules.{Rules}
 use Rattle.nio_script.specs.History.{Entry, IsHistory, IsFirstBadEntry}
-use Rattle.nio_script.specs.Output.{IsWritten, Notes, WritesPrefix}
+use Rattle.nio_script.specs.Output.{IsWritten, WritesOrFails, WritesPrefix}
 use Rattle.nio_script.specs.Run.{bad_line, EndsText, EndsScript}
 use Rattle.nio_script.specs.declared.status.Status.{Status}
 use Rattle.nio_script.specs.declared.status.Status.TheVariants.{Done, WriteFault, Memory, Illegal}
@@ -74,7 +74,7 @@ pub record IsSaidIllegal {K : Type 0} (k : sink.Ghosts K) (output output' : K) (
     (l : Limits) (number : ℕ) (entries : List Entry) : Type 0 where
   pub right : Reply
   pub first : IsFirstIllegal rules l entries number right
-  pub said : Notes k output output' (illegal_text number right)
+  pub said : WritesOrFails k output output' (illegal_text number right)
 
 -- The text is a legal history, which was said and flushed, and no write failed.
 pub record IsFoundLegal {K : Type 0} (k : sink.Ghosts K) (output output' : K) (rules : Rules)
@@ -105,7 +105,7 @@ pub record IsFoundIllegal {K : Type 0} (k : sink.Ghosts K) (output output' : K) 
 pub record IsNoHistory {K : Type 0} (k : sink.Ghosts K) (output output' : K) (rules : Rules)
     (line : ℕ) (text : List ℕ) : Type 0 where
   pub first : IsFirstBadEntry rules text line
-  pub said : Notes k output output' (bad_line line)
+  pub said : WritesOrFails k output output' (bad_line line)
 
 -- The history that is written for a script by these rules is in their grammar of histories, has the
 -- script's calls, and is legal.

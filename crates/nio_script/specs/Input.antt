@@ -5,7 +5,7 @@ use Rattle.nio_bytes.specs.Cause.{Rose}
 use Rattle.nio_bytes.specs.declared.source.Source as source
 use Rattle.nio_script.specs.declared.input.TheConstants.{LONGEST_INPUT}
 
--- The source was read to its end and no read failed: where it tells its bytes, the input is all
+-- The source was read to its end and no read failed: where it shows its bytes, the input is all
 -- that were to come, and none is left.
 pub record IsReadWhole {S : Type 0} (s : source.Ghosts S) (old new : S) (input : List ℕ)
     : Type 0 where
@@ -14,7 +14,7 @@ pub record IsReadWhole {S : Type 0} (s : source.Ghosts S) (old new : S) (input :
   pub ended : IsAtEnd (s.left new)
   pub still : s.faults new ≡ s.faults old
 
--- So many bytes were taken from the source, where it tells its bytes.
+-- So many bytes were taken from the source, where it shows its bytes.
 pub record Takes {S : Type 0} (s : source.Ghosts S) (old new : S) (count : ℕ) : Type 0 where
   pub bytes : List ℕ
   pub taken : s.left old ≡ prepend_known bytes (s.left new)

@@ -13,7 +13,7 @@ use Rattle.nio_plain.specs.Seq.{seq}
 use Rattle.nio_plain.specs.declared.rules.Rules.{Rules}
 use Rattle.nio_plain.specs.declared.system.System as system
 use Rattle.nio_script.specs.Input.{IsReadWhole}
-use Rattle.nio_script.specs.Output.{IsWritten, Notes, WritesPrefix}
+use Rattle.nio_script.specs.Output.{IsWritten, WritesOrFails, WritesPrefix}
 use Rattle.nio_script.specs.declared.status.Status.{Status}
 use Rattle.nio_script.specs.declared.status.Status.TheVariants.{Done, Usage, BadScript, ReadFault, WriteFault, Memory}
 use Rattle.nio_script.specs.declared.status.Status.TheVariants.{NetFault, Illegal, TooLong}
@@ -55,7 +55,7 @@ bad_line line = codes "bad line " ++ decimal line ++ 10 ∷ []
 pub record IsRefused {K Y : Type 0} (k : sink.Ghosts K) (output output' : K)
     (run run' : Y) (line : ℕ) (text : List ℕ) : Type 0 where
   pub first : IsFirstBad text line
-  pub said : Notes k output output' (bad_line line)
+  pub said : WritesOrFails k output output' (bad_line line)
   pub uncalled : run' ≡ run
 
 -- Nothing was written, and no call was made.

@@ -5,11 +5,13 @@ ghost use Rattle.nio_bytes.specs.Cause.{Rose};
 ghost use Rattle.nio_event.specs.Replies.{reply_text};
 ghost use Rattle.nio_event.specs.declared.reply.Reply.{Reply};
 ghost use Rattle.nio_plain.specs.ScriptState.{script_opening};
-ghost use Rattle.nio_script.specs.Check.{right_reply, IsLegalHistory, IsFirstIllegal, IsVerdict, EndsEntries, IsSaidIllegal, legal_text, illegal_text, IsFoundLegal, IsHalfSaid, IsFoundIllegal, IsNoHistory, EndsCheckText, EndsCheck};
+ghost use Rattle.nio_script.specs.Check.{right_reply, IsLegalHistory, IsFirstIllegal, IsVerdict, EndsEntries};
+ghost use Rattle.nio_script.specs.Check.{IsSaidIllegal, legal_text, illegal_text, IsFoundLegal, IsHalfSaid};
+ghost use Rattle.nio_script.specs.Check.{IsFoundIllegal, IsNoHistory, EndsCheckText, EndsCheck};
 ghost use Rattle.nio_script.specs.History.{Entry, IsHistory, IsFirstBadEntry};
 ghost use Rattle.nio_script.specs.HistoryCall.{entry_of};
 ghost use Rattle.nio_script.specs.Input.{CausesFault, StopsPastLongest};
-ghost use Rattle.nio_script.specs.Output.{WritesPrefix, IsWritten, Notes};
+ghost use Rattle.nio_script.specs.Output.{WritesPrefix, IsWritten, WritesOrFails};
 ghost use Rattle.nio_script.specs.Run.{left_by_call, ReadsText};
 
 use crate::history::{HistoryCall, parse_history};
@@ -40,7 +42,8 @@ fn correction<Y: System>(
     system: &mut Y,
 ) -> Result<Option<Reply>, AllocError>
     ensures same { IfOk result (λ found. IfNone found (call.now.reply.now
-        ≡ reply_text (right_reply (Y.rules system.old) (Y.limits system.old) (Y.state system.old) (entry_of call.now)))) }
+        ≡ reply_text (right_reply (Y.rules system.old) (Y.limits system.old) (Y.state system.old)
+        (entry_of call.now)))) }
     ensures right { IfOk result (λ found. IfSome found (λ right.
         right ≡ right_reply (Y.rules system.old) (Y.limits system.old) (Y.state system.old) (entry_of call.now))) }
     ensures wrong { IfOk result (λ found. IfSome found (λ right.
@@ -135,7 +138,7 @@ fn illegal_line(alloc: Global, wrong: &Wrong) -> Result<Vec<u8>, AllocError>
 fn say_illegal<K: Sink>(alloc: Global, wrong: &Wrong, output: &mut K) -> Status
     ensures status { (result ≡ Status.Illegal wrong.now.number) ⊎ (result ≡ Status.Memory) }
     ensures said { result ≡ Status.Illegal wrong.now.number →
-        Notes K.Sink output.old output.new (illegal_text wrong.now.number wrong.now.right) }
+        WritesOrFails K.Sink output.old output.new (illegal_text wrong.now.number wrong.now.right) }
     ensures memory { result ≡ Status.Memory → output.new ≡ output.old }
     ensures later { K.faults output.old ≤ K.faults output.new }
 {
@@ -245,7 +248,7 @@ pub fn run_check<S: Source, K: Sink>(
     ensures later { K.faults output.old ≤ K.faults output.new }
     ensures too_long { StopsPastLongest S.Source input.old input.new (result ≡ Status.TooLong) }
 
-    // What comes of each text, where the source tells it.
+    // What comes of each text, where the source shows it.
     ensures of_legal { IfSome (S.left input.old) (λ text. (entries : List Entry) →
         length text ≤ LONGEST_INPUT → IsHistory rules text entries → IsLegalHistory rules limits entries →
         (result ≡ Status.Done) ⊎ (result ≡ Status.ReadFault) ⊎ (result ≡ Status.WriteFault)

@@ -1,5 +1,6 @@
 //! A whole text, read as a history by one of the rules.
-ghost use Rattle.std.specs.Prelude.{◌≡◌, ◌≢◌, ◌++◌, ◌+◌, ◌∷◌, ◌↔◌, [], ℕ, List, All, codes, map, option_map, option_copied, vec_len, IfOk, IfSome, IsSomeAnd, IsTrue, OnOk, MatchResult};
+ghost use Rattle.std.specs.Prelude.{◌≡◌, ◌≢◌, ◌++◌, ◌+◌, ◌∷◌, ◌↔◌, [], ℕ, List, All, codes, map, option_map};
+ghost use Rattle.std.specs.Prelude.{option_copied, vec_len, IfOk, IfSome, IsSomeAnd, IsTrue, OnOk, MatchResult};
 ghost use Rattle.std.specs.Fmt.{decimal};
 ghost use Rattle.nio_event.specs.Calls.{IsLine};
 ghost use Rattle.nio_script.specs.Entries.{Finds, Adds, IsNoEntry};
@@ -14,7 +15,9 @@ use std::alloc::{AllocError, AllocFailed, Global};
 /// A line of a history: a call, and the text of the reply that the history says it had.
 #[derive(Debug, Drop)]
 pub struct HistoryCall<'a> {
+    /// The call, and who made it.
     pub line: ScriptCall,
+    /// The reply as it was written.
     pub reply: &'a [u8],
 }
 

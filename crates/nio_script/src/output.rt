@@ -1,9 +1,9 @@
 //! The output of a command.
 ghost use Rattle.std.specs.Prelude.{◌≡◌, ◌<◌, ◌≤◌, ◌⊎◌, ◌++◌, [], false, length, IfErr, IsErrOf, OnOk, OnErr};
 ghost use Rattle.nio_bytes.specs.Cause.{HasCause};
-ghost use Rattle.nio_bytes.specs.Sink.{told};
+ghost use Rattle.nio_bytes.specs.Sink.{shown};
 ghost use Rattle.nio_script.specs.Input.{CausesFault};
-ghost use Rattle.nio_script.specs.Output.{Writes, WritesPrefix, IsWritten, Notes, Gathers};
+ghost use Rattle.nio_script.specs.Output.{Writes, WritesPrefix, IsWritten, WritesOrFails, Gathers};
 
 use crate::status::Status;
 use nio_bytes::Sink;
@@ -15,7 +15,7 @@ pub fn write_all<K: Sink>(sink: &mut K, bytes: &[u8]) -> Result<(), Status>
     ensures err { OnErr result (WritesPrefix K.Sink sink.old sink.new bytes.now) }
     ensures none { bytes.now ≡ [] → sink.new ≡ sink.old }
     ensures unflushed { 0 < length bytes.now →
-        K.flushed sink.new ≡ told (K.flushed sink.old) false }
+        K.flushed sink.new ≡ shown (K.flushed sink.old) false }
     ensures cause { HasCause (K.faults sink.old) (K.faults sink.new) result }
     ensures fault { IfErr result (λ status. status ≡ Status.WriteFault) }
 {
@@ -46,7 +46,7 @@ pub fn write_out<K: Sink>(sink: &mut K, bytes: &[u8]) -> Result<(), Status>
 
 /// Writes all the bytes, and then flushes once. A failure of the sink is ignored.
 pub fn offer<K: Sink>(output: &mut K, bytes: &[u8])
-    ensures said { Notes K.Sink output.old output.new bytes.now }
+    ensures said { WritesOrFails K.Sink output.old output.new bytes.now }
     ensures later { K.faults output.old ≤ K.faults output.new }
 {
     let _ = write_out(output, bytes);

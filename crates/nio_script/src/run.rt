@@ -6,8 +6,9 @@ ghost use Rattle.nio_event.specs.declared.call.ScriptCall.{ScriptCall};
 ghost use Rattle.nio_plain.specs.Answer.{answer_from, left_from};
 ghost use Rattle.nio_plain.specs.ScriptState.{script_opening};
 ghost use Rattle.nio_script.specs.Input.{CausesFault, StopsPastLongest};
-ghost use Rattle.nio_script.specs.Output.{WritesPrefix, IsWritten, Notes, Gathers};
-ghost use Rattle.nio_script.specs.Run.{line_for, left_by_call, bad_line, ReadsText, IsAnswered, IsCutShort, IsRefused, IsUntouched, EndsText, EndsScript};
+ghost use Rattle.nio_script.specs.Output.{WritesPrefix, IsWritten, WritesOrFails, Gathers};
+ghost use Rattle.nio_script.specs.Run.{line_for, left_by_call, bad_line, ReadsText, IsAnswered, IsCutShort, IsRefused};
+ghost use Rattle.nio_script.specs.Run.{IsUntouched, EndsText, EndsScript};
 
 use crate::input::{LONGEST_INPUT, read_input};
 use crate::output::{offer, put_line, write_out};
@@ -75,7 +76,7 @@ fn run_calls<K: Sink, Y: System>(
 pub fn refuse<K: Sink>(alloc: Global, line: u64, output: &mut K) -> Status
     ensures status { (result ≡ Status.BadScript line) ⊎ (result ≡ Status.Memory) }
     ensures said { result ≡ Status.BadScript line →
-        Notes K.Sink output.old output.new (bad_line line) }
+        WritesOrFails K.Sink output.old output.new (bad_line line) }
     ensures memory { result ≡ Status.Memory → output.new ≡ output.old }
     ensures later { K.faults output.old ≤ K.faults output.new }
 {
@@ -156,7 +157,7 @@ pub fn run_script<S: Source, K: Sink, Y: System>(
     ensures later { K.faults output.old ≤ K.faults output.new }
     ensures too_long { StopsPastLongest S.Source input.old input.new (result ≡ Status.TooLong) }
 
-    // What comes of each text, where the source tells it.
+    // What comes of each text, where the source shows it.
     ensures of_script { IfSome (S.left input.old) (λ text. (calls : List ScriptCall) →
         length text ≤ LONGEST_INPUT → IsScript text calls → (result ≡ Status.Done)
         ⊎ (result ≡ Status.ReadFault) ⊎ (result ≡ Status.WriteFault) ⊎ (result ≡ Status.Memory)) }

@@ -12,6 +12,7 @@ use std::alloc::{AllocError, AllocFailed, Global};
 pub enum ScriptError {
     /// This line is the first that isn't in the grammar, counted from 1 over all lines.
     BadLine { line: u64 },
+    /// There is no memory for the calls.
     Memory,
 }
 

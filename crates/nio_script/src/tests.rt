@@ -82,8 +82,8 @@ fn output_is_written_to_the_first_fault(rt: HostRuntime) -> Result<(), Fail> {
     Ok(())
 }
 
-/// Remembers what it is offered, and takes seven bytes at most. It tells nothing, its faults least
-/// of all: their count always stands at its end.
+/// Keeps the lengths of what it is offered, and takes seven bytes at most a write. It shows contracts neither bytes nor
+/// flushes, and its count of faults is always the greatest `u64`.
 #[derive(Drop)]
 struct Recorder {
     offers: Vec<usize>,
@@ -208,7 +208,7 @@ fn a_script_ends_with_its_status(rt: HostRuntime) -> Result<(), Fail> {
 #[test]
 fn a_script_ends_at_a_fault(rt: HostRuntime) -> Result<(), Fail> {
     let alloc = rt.alloc();
-    // The sink fails at its third call: a write, none, the flush, and a write of the bad line.
+    // The sink fails at its third call: in turn a write, no call at all, the flush, and a write of the bad line.
     let line = "1 t1 selector -> no-caller\n";
     let faults = [
         ("t1 selector\n", 5, Status::WriteFault, "1 t1 selec"),
@@ -246,7 +246,7 @@ fn a_history_is_checked(rt: HostRuntime) -> Result<(), Fail> {
         channels: 1,
         keys: 1,
     };
-    // The sink fails at its third call: none, the flush, and a write of the illegal line.
+    // The sink fails at its third call: in turn no call at all, the flush, and a write of the illegal line.
     let cases = [
         (
             "1 t1 selector -> s0\n2 t2 selector -> no-caller\n",

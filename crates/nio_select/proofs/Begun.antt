@@ -141,7 +141,7 @@ begins {w = w} {p = p} {q = q} {me = me} {s = s} {found = found} steps unshut re
   begun = begun_now (step_acts steps refl) unshut;
 }
 
--- the mark that was found is within the limits
+-- the high-water mark that was found is within the limits
 pub mark_inside : {me : CallerNo} {s : SelNo} {mark : ℕ} {v0 v1 : PassView} → ActsClause me (LookKeys s mark ∷ []) v0 v1
     → mark ≤ v0.limits.keys
 mark_inside {s = s} {mark = mark} {v0 = v0} {v1 = v1} clause =

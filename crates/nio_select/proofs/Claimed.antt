@@ -16,14 +16,14 @@ pub all_claimed_after : {me : CallerNo} {acts : List Act} {v0 v1 : PassView} (s 
     → ActsClause me acts v0 v1 → AllClaimed (known v0) s n → AllClaimed (known v1) s n
 all_claimed_after s n clause here i below = lasts_over (index_claimed s.0 i) clause (here i below)
 
--- every index below the mark that was found is claimed
+-- every index below the high-water mark that was found is claimed
 pub all_claimed_below : {me : CallerNo} {s : SelNo} {mark : ℕ} {v0 v1 : PassView}
     → ActsClause me (LookKeys s mark ∷ []) v0 v1 → AllClaimed (known v1) s mark
 all_claimed_below {s = s} {mark = mark} {v0 = v0} {v1 = v1} clause i below =
     let told : mark ≡ (known v1).keys_high s.0 = cc (look_tells clause refl) in
     (legal-sound v0.limits v1.seen clause.history.legal).keys_below s.0 i (subst (λ n. i < n) told below)
 
--- the mark is within the limits
+-- the high-water mark is within the limits
 pub mark_inside : {me : CallerNo} {s : SelNo} {mark : ℕ} {v0 v1 : PassView} → ActsClause me (LookKeys s mark ∷ []) v0 v1
     → mark ≤ v0.limits.keys
 mark_inside {s = s} {mark = mark} {v0 = v0} {v1 = v1} clause =

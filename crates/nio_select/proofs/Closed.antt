@@ -18,7 +18,7 @@ use Rattle.nio_steps.specs.Steps.{holder_in, number_in}
 use Rattle.nio_steps.specs.Sweeps.{sweep_to}
 use Rattle.nio_select.proofs.GoneOn.{done_in}
 use Rattle.nio_select.proofs.Inside.{keys-act}
-use Rattle.nio_select.specs.Laws.{ClosingsRemoveKeys, ClosingsFindMarks}
+use Rattle.nio_select.specs.Laws.{ClosingsRemoveKeys, ClosingsFindHigh}
 
 pub closings_remove_keys : ClosedRemovesKeys → ClosingsRemoveKeys
 closings_remove_keys law old new me s mark i serial past call finds claimed below =
@@ -36,7 +36,7 @@ closings_remove_keys law old new me s mark i serial past call finds claimed belo
     (subst (λ events. was_claimed ((state_after events).key s.0 i) serial ≡ true) (sym finds.after.1) claimed)
     below)
 
--- ---- the look at the mark
+-- ---- the look at the high-water mark
 
 record HasLook (s : SelNo) (acts : List Act) : Type 0 where
   enters : Act
@@ -64,8 +64,8 @@ finish-looks s =
           ap (λ act. enters ∷ act ∷ (xs ++ [])) (keys-act s look asks');
     }))
 
-pub closings_find_marks : ClosingsFindMarks
-closings_find_marks old new me s call =
+pub closings_find_high : ClosingsFindHigh
+closings_find_high old new me s call =
     let more = call.acts.history.goes_on in
     let look = always_run (LooksWhereClosed s) (try_finish_plan s) (done_between me old new) closed
     (finish-looks s) call.shape in

@@ -93,7 +93,7 @@ entered_stays {w = w} {p = p} {q = q} {me = me} {act = act} {s = s} steps new he
 
 -- ---- which indexes it may remove
 
--- it has entered, and since then found the keys' mark at this number or above it
+-- it has entered, and since then found the keys' high-water mark at this number or above it
 pub record MayClear (w : Words) (p : Pass) (me : CallerNo) (s : SelNo) (mark : ℕ) : Type 0 where
   pub entered : HasEntered w p me s
   pub inside : mark ≤ (limits_of w).keys
@@ -106,7 +106,7 @@ own_since {p = p} {me = me} {act = act} {s = s} steps new here =
     ap (since_entered s.0) (step_acts steps new).history.own
     ∙ since_first-append (enters s.0) (acts_seen p me) (act ∷ []) here.found_free
 
--- it just found the mark
+-- it just found the keys' high-water mark
 pub may_clear_now : {w : Words} {p q : Pass} {me : CallerNo} {s : SelNo} {mark : ℕ} → Steps w p q me (LookKeys s mark)
     → HasEntered w p me s → MayClear w q me s mark
 may_clear_now {w = w} {p = p} {q = q} {me = me} {s = s} {mark = mark} steps here = record {
@@ -132,7 +132,7 @@ may_clear_stays {w = w} {p = p} {q = q} {me = me} {act = act} {s = s} {mark = ma
       (here.below i less));
 }
 
--- so it may remove each index below the mark
+-- so it may remove each index below the high-water mark
 pub may_remove_below : {w : Words} {p : Pass} {me : CallerNo} {s : SelNo} {mark : ℕ} → MayClear w p me s mark → (i : ℕ)
     → i < mark
     → (may_remove_cancelled (state_seen p) me s i || may_clear_out (state_seen p) (acts_seen p me) me s i) ≡ true

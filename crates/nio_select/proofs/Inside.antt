@@ -30,7 +30,7 @@ use Rattle.nio_words.specs.Views.{view}
 use Rattle.nio_words.specs.declared.words.Pass.{Pass}
 use Rattle.nio_words.specs.declared.words.Words.{Words}
 use Rattle.nio_select.specs.InProgress.{Selects}
-use Rattle.nio_select.specs.Noted.{Rise, AreCountable}
+use Rattle.nio_select.specs.ToldSlots.{Rise, AreCountable}
 use Rattle.nio_select.specs.declared.asked.Slot.{Slot}
 
 -- ---- the bound
@@ -40,7 +40,7 @@ pub keys-act : (s : SelNo) (act : Act) → question_of act ≡ Question.look_key
 keys-act s (LookKeys s' found) asks = cc asks
 keys-act s _ asks = absurd (cc asks)
 
--- it is a keys' mark that the caller found when it began
+-- it is a keys' high-water mark that the caller found when it began
 bound_inside : (l : Limits) (n : CallerNo) (events : List Event) (selection : Selection) → IsLegal l events
     → IsBegun (mine n events) selection → selection.bound ≤ l.keys
 bound_inside l n events selection legal begun =

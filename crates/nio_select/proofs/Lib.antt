@@ -2,7 +2,7 @@ pub mod Made
 pub mod Claimed
 pub mod Entered
 pub mod Listings
-pub mod Noted
+pub mod ToldSlots
 pub mod Ended
 pub mod Inside
 pub mod Again

@@ -22,7 +22,7 @@ abbrev pub Lists : (SelNo → ℕ → List KeyNo → Plan (List KeyNo)) → SelN
     → Type 0
 Lists list_one s acts answer = Completes (list_plan list_one s (list_lacks_memory answer)) acts answer
 
--- the gate was found open, the mark was looked at, and there is memory for the list
+-- the gate was found open, the keys' high-water mark was looked at, and there is memory for the list
 pub lists_all : {me : CallerNo} {s : SelNo} {gate : GateWord} {mark : ℕ} {listed : List KeyNo} {v0 v1 v2 v3 : PassView}
     (list_one : SelNo → ℕ → List KeyNo → Plan (List KeyNo))
     → ActsClause me (LookGate s gate ∷ []) v0 v1 → gate.shut ≡ false → ActsClause me (LookKeys s mark ∷ []) v1 v2

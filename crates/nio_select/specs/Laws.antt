@@ -100,23 +100,23 @@ SelectionsAreAlone =
 
 -- ---- closing
 
--- between two moments of a pass the caller found this keys' mark, when this had happened
-pub record FindsMark (me : CallerNo) (old new : PassView) (s : SelNo) (mark : ℕ) (past : List Event) : Type 0 where
+-- between two moments of a pass the caller found `mark` as the keys' high-water mark, when `past` had happened
+pub record FindsHigh (me : CallerNo) (old new : PassView) (s : SelNo) (mark : ℕ) (past : List Event) : Type 0 where
   pub later : List Event
   pub parts : new.seen ≡ past ++ event_of me (LookKeys s mark) ∷ later
   pub after : IsPrefix old.seen past
 
--- After a `try_finish` that answers Closed each key is removed whose index is below the mark that it found, and that
--- was claimed before that look.
+-- After a `try_finish` that answers Closed each key is removed whose index is below the high-water mark that it found,
+-- and that was claimed before that look.
 abbrev pub ClosingsRemoveKeys : Type 0
 ClosingsRemoveKeys =
     (old new : PassView) (me : CallerNo) (s : SelNo) (mark i serial : ℕ) (past : List Event)
-    → CallClause me (Completes (try_finish_plan s)) old new closed → FindsMark me old new s mark past
+    → CallClause me (Completes (try_finish_plan s)) old new closed → FindsHigh me old new s mark past
     → IsTrue (was_claimed ((state_after past).key s.0 i) serial) → i < mark
     → IsTrue (was_removed ((known new).key s.0 i) serial)
 
--- Each such call found a mark.
-abbrev pub ClosingsFindMarks : Type 0
-ClosingsFindMarks =
+-- Each such call found a keys' high-water mark.
+abbrev pub ClosingsFindHigh : Type 0
+ClosingsFindHigh =
     (old new : PassView) (me : CallerNo) (s : SelNo) → CallClause me (Completes (try_finish_plan s)) old new closed
-    → (mark : ℕ) × (past : List Event) × FindsMark me old new s mark past
+    → (mark : ℕ) × (past : List Event) × FindsHigh me old new s mark past

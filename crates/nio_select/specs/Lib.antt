@@ -5,6 +5,6 @@ pub mod Begun
 pub mod Lists
 pub mod Entered
 pub mod Beginning
-pub mod Noted
+pub mod ToldSlots
 pub mod Laws
 pub mod Kept

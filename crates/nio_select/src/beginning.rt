@@ -6,7 +6,8 @@ ghost use Rattle.nio_event.specs.PassViews.{HasSelector};
 ghost use Rattle.nio_steps.specs.Calls.{CallClause};
 ghost use Rattle.nio_steps.specs.ChannelCalls.{words_below as count_words_below};
 ghost use Rattle.nio_steps.specs.Runs.{Completes};
-ghost use Rattle.nio_steps.specs.SelectCalls.{Begins, list_word as lists_word, list_below as lists_below, look_over as looks_over, look_valid as looks_valid, looked_key, not_free};
+ghost use Rattle.nio_steps.specs.SelectCalls.{Begins, list_word as lists_word, list_below as lists_below};
+ghost use Rattle.nio_steps.specs.SelectCalls.{look_over as looks_over, look_valid as looks_valid, looked_key, not_free};
 ghost use Rattle.nio_steps.specs.Sweeps.{sweep_over};
 ghost use Rattle.nio_words.specs.Passes.{IsReady, limits_of, state_seen};
 ghost use Rattle.nio_words.specs.Views.{view};
@@ -138,7 +139,8 @@ fn list_below(w: &Words, p: &mut Pass, me: CallerNo, sel: SelNo, bound: u32, lis
     requires bound { bound ≤ (limits_of w.now).keys }
     requires empty { listed.old.items ≡ [] }
     requires room { 64 * count_words_below bound ≤ vec_capacity listed.old }
-    ensures call { CallClause me (Completes (lists_below sel bound)) (view w.now p.old) (view w.now p.new) listed.new.items }
+    ensures call { CallClause me (Completes (lists_below sel bound))
+        (view w.now p.old) (view w.now p.new) listed.new.items }
     ensures begun { HasBegun w.now p.new me sel }
     ensures below { All (λ i. i < bound) listed.new.items }
     ensures count { vec_len listed.new ≤ 64 * count_words_below bound }
@@ -160,7 +162,8 @@ fn list_word(
     requires begun { HasBegun w.now p.old me sel }
     requires below { 64 * j < (limits_of w.now).keys }
     requires room { vec_len listed.old + 64 ≤ vec_capacity listed.old }
-    ensures call { CallClause me (Completes (lists_word sel bound j listed.old.items)) (view w.now p.old) (view w.now p.new) listed.new.items }
+    ensures call { CallClause me (Completes (lists_word sel bound j listed.old.items))
+        (view w.now p.old) (view w.now p.new) listed.new.items }
     ensures begun { HasBegun w.now p.new me sel }
     ensures count { vec_len listed.new ≤ vec_len listed.old + 64 }
     ensures capacity { vec_capacity listed.old ≤ vec_capacity listed.new }
@@ -206,7 +209,8 @@ fn look_at_listed(
     requires inside { All (λ i. i < (limits_of w.now).keys) listed.now }
     requires nothing { found_in found.old ≡ nothing_found }
     requires room { HasRoom found.old (length listed.now) }
-    ensures call { CallClause me (Completes (sweep_over listed.now (looks_over sel) nothing_found)) (view w.now p.old) (view w.now p.new) (found_in found.new) }
+    ensures call { CallClause me (Completes (sweep_over listed.now (looks_over sel) nothing_found))
+        (view w.now p.old) (view w.now p.new) (found_in found.new) }
     ensures begun { HasBegun w.now p.new me sel }
 {
     for i in listed {
@@ -218,7 +222,8 @@ fn look_over(w: &Words, p: &mut Pass, me: CallerNo, sel: SelNo, i: u32, found: &
     requires begun { HasBegun w.now p.old me sel }
     requires key { IsKey (limits_of w.now) sel i }
     requires room { HasRoom found.old 1 }
-    ensures call { CallClause me (Completes (looks_over sel i (found_in found.old))) (view w.now p.old) (view w.now p.new) (found_in found.new) }
+    ensures call { CallClause me (Completes (looks_over sel i (found_in found.old)))
+        (view w.now p.old) (view w.now p.new) (found_in found.new) }
     ensures begun { HasBegun w.now p.new me sel }
     ensures grew { GrewByOne found.old found.new }
 {
@@ -244,7 +249,8 @@ fn look_valid(
     requires begun { HasBegun w.now p.old me sel }
     requires key { IsKey (limits_of w.now) sel i }
     requires room { HasRoom found.old 1 }
-    ensures call { CallClause me (Completes (looks_valid sel i stage (found_in found.old))) (view w.now p.old) (view w.now p.new) (found_in found.new) }
+    ensures call { CallClause me (Completes (looks_valid sel i stage (found_in found.old)))
+        (view w.now p.old) (view w.now p.new) (found_in found.new) }
     ensures begun { HasBegun w.now p.new me sel }
     ensures grew { GrewByOne found.old found.new }
 {

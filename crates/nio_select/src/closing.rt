@@ -64,7 +64,8 @@ impl Closing {
     pub fn try_finish(self, w: &Words, p: &mut Pass, me: CallerNo) -> Finish
         requires ready { IsReady w.now p.old me }
         requires closing { Closes (view w.now p.old) me self }
-        ensures call { CallClause me (Completes (try_finish_plan self)) (view w.now p.old) (view w.now p.new) (finish_reply result) }
+        ensures call { CallClause me (Completes (try_finish_plan self))
+            (view w.now p.old) (view w.now p.new) (finish_reply result) }
         ensures ready { IsReady w.now p.new me }
         ensures still { IfBusy result (λ s. (s ≡ self) × Closes (view w.now p.new) me s) }
     {
@@ -84,7 +85,7 @@ impl Closing {
     }
 }
 
-// Removes each key with an index below the mark.
+// Removes each key with an index below the high-water mark.
 fn remove_keys(w: &Words, p: &mut Pass, me: CallerNo, sel: SelNo)
     requires entered { HasEntered w.now p.old me sel }
     ensures call { CallClause me (Completes (removes_keys sel)) (view w.now p.old) (view w.now p.new) closed }

@@ -1,11 +1,11 @@
 //! What follows from the contracts of the calls of a selection, and from the laws of their plans. The functions do
 //! nothing: their contracts are laws.
-ghost use Rattle.nio_select.specs.Laws.{CancelledKeysAreGone, SelectionsHaveWindows, CallsAreBounded, SelectionsAreAlone, ClosingsRemoveKeys, ClosingsFindMarks};
+ghost use Rattle.nio_select.specs.Laws.{CancelledKeysAreGone, SelectionsHaveWindows, CallsAreBounded};
+ghost use Rattle.nio_select.specs.Laws.{SelectionsAreAlone, ClosingsRemoveKeys, ClosingsFindHigh};
 
 use nio_steps::{begin_law, bound_law, close_law};
 
-/// A key that was cancelled before a selection began is removed once it has begun, and isn't among those that it
-/// looked at.
+/// A key that was cancelled before a selection began is removed once it has begun, and isn't one that it looked at.
 pub fn gone_law()
     ensures { CancelledKeysAreGone }
 {
@@ -25,11 +25,11 @@ pub fn alone_law()
     ensures { SelectionsAreAlone }
 {}
 
-/// A closing that has finished has found a keys' mark, and has removed each key with an index below it that was
-/// claimed before.
+/// A closing that has finished has found a keys' high-water mark, and has removed each key with an index below it that
+/// was claimed before.
 pub fn closed_law()
     ensures removes { ClosingsRemoveKeys }
-    ensures finds { ClosingsFindMarks }
+    ensures finds { ClosingsFindHigh }
 {
     close_law()
 }

@@ -4,7 +4,9 @@ ghost use Rattle.std.specs.Vec.{vec_len, vec_capacity};
 ghost use Rattle.nio_event.specs.Conditions.{AllClaimed, IsKey, IsSelector, is_claimed};
 ghost use Rattle.nio_event.specs.PassViews.{HasSelector, HasNoPin};
 ghost use Rattle.nio_steps.specs.Calls.{CallClause};
-ghost use Rattle.nio_steps.specs.SelectCalls.{ListsKeys, ListsSelected, list_key as lists_key, list_selected as lists_selected, list_present, list_all, present_key as present};
+ghost use Rattle.nio_steps.specs.SelectCalls.{ListsKeys, ListsSelected, list_key as lists_key};
+ghost use Rattle.nio_steps.specs.SelectCalls.{list_selected as lists_selected, list_present, list_all};
+ghost use Rattle.nio_steps.specs.SelectCalls.{present_key as present};
 ghost use Rattle.nio_steps.specs.Runs.{Completes};
 ghost use Rattle.nio_words.specs.Passes.{IsReady, limits_of, state_seen};
 ghost use Rattle.nio_words.specs.Views.{view, IsPinned};
@@ -56,7 +58,8 @@ fn list_below(
     requires bound { bound ≤ (limits_of w.now).keys }
     requires empty { listed.old.items ≡ [] }
     requires room { bound ≤ vec_capacity listed.old }
-    ensures call { CallClause me (Completes (list_all lists_key sel bound)) (view w.now p.old) (view w.now p.new) (Ok listed.new.items) }
+    ensures call { CallClause me (Completes (list_all lists_key sel bound))
+        (view w.now p.old) (view w.now p.new) (Ok listed.new.items) }
     ensures ready { IsReady w.now p.new me }
 {
     for i in 0..bound {
@@ -68,7 +71,8 @@ fn list_key(w: &Words, p: &mut Pass, me: CallerNo, sel: SelNo, i: u32, listed: &
     requires ready { IsReady w.now p.old me }
     requires key { IsKey (limits_of w.now) sel i }
     requires room { vec_len listed.old < vec_capacity listed.old }
-    ensures call { CallClause me (Completes (lists_key sel i listed.old.items)) (view w.now p.old) (view w.now p.new) listed.new.items }
+    ensures call { CallClause me (Completes (lists_key sel i listed.old.items))
+        (view w.now p.old) (view w.now p.new) listed.new.items }
     ensures ready { IsReady w.now p.new me }
     ensures count { vec_len listed.new ≤ vec_len listed.old + 1 }
     ensures capacity { vec_capacity listed.old ≤ vec_capacity listed.new }
@@ -103,7 +107,8 @@ pub fn selected_keys(
     requires ready { IsReady w.now p.old me }
     requires selector { HasSelector (view w.now p.old) sel }
     requires unpinned { HasNoPin (view w.now p.old) me }
-    ensures call { CallClause me (ListsSelected sel) (view w.now p.old) (view w.now p.new) (ok_seen (λ v. v.items) result) }
+    ensures call { CallClause me (ListsSelected sel)
+        (view w.now p.old) (view w.now p.new) (ok_seen (λ v. v.items) result) }
     ensures ready { IsReady w.now p.new me }
     ensures unpinned { HasNoPin (view w.now p.new) me }
 {
@@ -132,7 +137,8 @@ fn list_selected_below(
     requires unpinned { HasNoPin (view w.now p.old) me }
     requires empty { listed.old.items ≡ [] }
     requires room { bound ≤ vec_capacity listed.old }
-    ensures call { CallClause me (Completes (list_all lists_selected sel bound)) (view w.now p.old) (view w.now p.new) (Ok listed.new.items) }
+    ensures call { CallClause me (Completes (list_all lists_selected sel bound))
+        (view w.now p.old) (view w.now p.new) (Ok listed.new.items) }
     ensures ready { IsReady w.now p.new me }
     ensures unpinned { HasNoPin (view w.now p.new) me }
 {
@@ -147,7 +153,8 @@ fn list_selected(w: &Words, p: &mut Pass, me: CallerNo, sel: SelNo, i: u32, list
     requires claimed { IsTrue (is_claimed (state_seen p.old) sel i) }
     requires unpinned { HasNoPin (view w.now p.old) me }
     requires room { vec_len listed.old < vec_capacity listed.old }
-    ensures call { CallClause me (Completes (lists_selected sel i listed.old.items)) (view w.now p.old) (view w.now p.new) listed.new.items }
+    ensures call { CallClause me (Completes (lists_selected sel i listed.old.items))
+        (view w.now p.old) (view w.now p.new) listed.new.items }
     ensures ready { IsReady w.now p.new me }
     ensures unpinned { HasNoPin (view w.now p.new) me }
     ensures count { vec_len listed.new ≤ vec_len listed.old + 1 }
@@ -169,7 +176,8 @@ fn list_pinned(
 )
     requires pinned { IsPinned w.now p.old me sel i }
     requires room { vec_len listed.old < vec_capacity listed.old }
-    ensures call { CallClause me (Completes (list_present sel i listed.old.items stage)) (view w.now p.old) (view w.now p.new) listed.new.items }
+    ensures call { CallClause me (Completes (list_present sel i listed.old.items stage))
+        (view w.now p.old) (view w.now p.new) listed.new.items }
     ensures pinned { IsPinned w.now p.new me sel i }
     ensures count { vec_len listed.new ≤ vec_len listed.old + 1 }
     ensures capacity { vec_capacity listed.old ≤ vec_capacity listed.new }

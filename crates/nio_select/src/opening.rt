@@ -17,7 +17,8 @@ use nio_words::{Pass, Words};
 /// Opens a selector: Java's `Selector.open`.
 pub fn open_selector(w: &Words, p: &mut Pass, me: CallerNo) -> Result<SelNo, SelectorsSpent>
     requires ready { IsReady w.now p.old me }
-    ensures call { CallClause me (Completes (open_selector_plan (limits_of w.now))) (view w.now p.old) (view w.now p.new) result }
+    ensures call { CallClause me (Completes (open_selector_plan (limits_of w.now)))
+        (view w.now p.old) (view w.now p.new) result }
     ensures ready { IsReady w.now p.new me }
     ensures made { IfOk result (HasSelector (view w.now p.new)) }
 {
@@ -30,7 +31,8 @@ pub fn open_selector(w: &Words, p: &mut Pass, me: CallerNo) -> Result<SelNo, Sel
 // Makes the first selector that isn't made.
 fn make_first(w: &Words, p: &mut Pass, me: CallerNo) -> Option<SelNo>
     requires ready { IsReady w.now p.old me }
-    ensures call { CallClause me (Completes (seek_to (limits_of w.now).selectors 0 (λ n. makes_selector (selector n)))) (view w.now p.old) (view w.now p.new) result }
+    ensures call { CallClause me (Completes (seek_to (limits_of w.now).selectors 0 (λ n. makes_selector (selector n))))
+        (view w.now p.old) (view w.now p.new) result }
     ensures ready { IsReady w.now p.new me }
     ensures made { IfSome result (HasSelector (view w.now p.new)) }
 {

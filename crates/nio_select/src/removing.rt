@@ -3,7 +3,8 @@ ghost use Rattle.std.specs.Prelude.{◌≡◌, IsTrue};
 ghost use Rattle.nio_event.specs.Conditions.{IsKey, has_begun, may_remove_cancelled};
 ghost use Rattle.nio_steps.specs.Calls.{CallClause};
 ghost use Rattle.nio_steps.specs.Runs.{Completes};
-ghost use Rattle.nio_steps.specs.SelectCalls.{remove_cancelled as removes_cancelled, remove_if_cancelled as removes_if_cancelled};
+ghost use Rattle.nio_steps.specs.SelectCalls.{remove_cancelled as removes_cancelled};
+ghost use Rattle.nio_steps.specs.SelectCalls.{remove_if_cancelled as removes_if_cancelled};
 ghost use Rattle.nio_words.specs.Passes.{IsReady, limits_of, state_seen};
 ghost use Rattle.nio_words.specs.Views.{view};
 ghost use Rattle.nio_select.specs.Begun.{HasBegun};
@@ -40,7 +41,8 @@ pub(crate) fn remove_cancelled(
     requires key { IsKey (limits_of w.now) sel i }
     requires may { IsTrue (may_remove_cancelled (state_seen p.old) me sel i) }
     requires stage { (state_seen p.old).key sel.0 i ≡ stage }
-    ensures call { CallClause me (Completes (removes_cancelled sel i stage)) (view w.now p.old) (view w.now p.new) result }
+    ensures call { CallClause me (Completes (removes_cancelled sel i stage))
+        (view w.now p.old) (view w.now p.new) result }
     ensures begun { HasBegun w.now p.new me sel }
 {
     w.remove(p, me, sel, i);

@@ -35,7 +35,13 @@ impl Model for Selecting {
 
     ghost Value = { Selection };
 
-    ghost view = { λ s. record { selector = s.selector; mode = s.mode; bound = s.bound; looked = s.asked; kept = s.kept.items } };
+    ghost view = { λ s. record {
+      selector = s.selector;
+      mode = s.mode;
+      bound = s.bound;
+      looked = s.asked;
+      kept = s.kept.items;
+    } };
 }
 
 /// What came of a poller's answer.
@@ -67,7 +73,8 @@ impl Selecting {
     pub fn told(self, w: &Words, p: &mut Pass, me: CallerNo, told: &Told) -> After
         requires ready { IsReady w.now p.old me }
         requires begun { Selects (view w.now p.old) me self }
-        ensures call { CallClause me (Tells self (poll_of told.now)) (view w.now p.old) (view w.now p.new) (told_reply result) }
+        ensures call { CallClause me (Tells self (poll_of told.now))
+            (view w.now p.old) (view w.now p.new) (told_reply result) }
         ensures ready { IsReady w.now p.new me }
         ensures goes_on { IfAgain result (Selects (view w.now p.new) me) }
     {
@@ -81,7 +88,8 @@ impl Selecting {
     fn after_marks(self, w: &Words, p: &mut Pass, me: CallerNo, elapsed: bool, count: u32) -> After
         requires begun { HasBegun w.now p.old me self.selector }
         requires keys { All (λ i. i < (limits_of w.now).keys) self.kept }
-        ensures call { CallClause me (Completes (after_marks_plan self elapsed count)) (view w.now p.old) (view w.now p.new) (told_reply result) }
+        ensures call { CallClause me (Completes (after_marks_plan self elapsed count))
+            (view w.now p.old) (view w.now p.new) (told_reply result) }
         ensures ready { IsReady w.now p.new me }
     {
         let gate = w.look_gate(p, me, self.selector);
@@ -97,7 +105,8 @@ impl Selecting {
     fn end(self, w: &Words, p: &mut Pass, me: CallerNo, answer: Selected) -> After
         requires begun { HasBegun w.now p.old me self.selector }
         requires keys { All (λ i. i < (limits_of w.now).keys) self.kept }
-        ensures call { CallClause me (Completes (end_selection self answer)) (view w.now p.old) (view w.now p.new) (told_reply result) }
+        ensures call { CallClause me (Completes (end_selection self answer))
+            (view w.now p.old) (view w.now p.new) (told_reply result) }
         ensures ready { IsReady w.now p.new me }
     {
         remove_kept(w, p, me, self.selector, self.kept.as_slice());

@@ -4,12 +4,14 @@ ghost use Rattle.std.specs.List.{HoldsAt};
 ghost use Rattle.nio_event.specs.Conditions.{IsKey};
 ghost use Rattle.nio_steps.specs.Calls.{CallClause};
 ghost use Rattle.nio_steps.specs.Runs.{Completes};
-ghost use Rattle.nio_steps.specs.SelectCalls.{is_again as goes_on, why_ended as why, mark_entry as marks_entry, mark_told as marks_told, mark_looked as marks_looked, mark_again as marks_again, gains_nothing as nothing_gained};
+ghost use Rattle.nio_steps.specs.SelectCalls.{is_again as goes_on, why_ended as why, mark_entry as marks_entry};
+ghost use Rattle.nio_steps.specs.SelectCalls.{mark_told as marks_told, mark_looked as marks_looked};
+ghost use Rattle.nio_steps.specs.SelectCalls.{mark_again as marks_again, gains_nothing as nothing_gained};
 ghost use Rattle.nio_steps.specs.Sweeps.{sweep_over};
 ghost use Rattle.nio_words.specs.Passes.{IsReady, limits_of};
 ghost use Rattle.nio_words.specs.Views.{view};
 ghost use Rattle.nio_select.specs.Begun.{HasBegun};
-ghost use Rattle.nio_select.specs.Noted.{Rise, AreCountable, noted, noted_more, mark_slot as marks_slot};
+ghost use Rattle.nio_select.specs.ToldSlots.{Rise, AreCountable, told_slots, told_once_more, mark_slot as marks_slot};
 
 use crate::asked::{Asked, Slot};
 use nio_base::{CallerNo, Ops, SelNo};
@@ -27,31 +29,32 @@ pub(crate) fn mark_asked(
 ) -> u32
     requires begun { HasBegun w.now p.old me sel }
     requires keys { All (λ entry. entry.index < (limits_of w.now).keys) asked.old }
-    ensures call { CallClause me (Completes (sweep_over asked.old (marks_entry sel pairs.now) 0)) (view w.now p.old) (view w.now p.new) result }
+    ensures call { CallClause me (Completes (sweep_over asked.old (marks_entry sel pairs.now) 0))
+        (view w.now p.old) (view w.now p.new) result }
     ensures begun { HasBegun w.now p.new me sel }
     ensures same { asked.new ≡ asked.old }
 {
     if pairs.is_empty() {
         return 0;
     }
-    note_told(&mut asked.slots, pairs);
+    put_told(&mut asked.slots, pairs);
     mark_all(w, p, me, sel, asked.slots.as_slice())
 }
 
 // Puts beside each key what was told of it.
-fn note_told(slots: &mut Vec<Slot>, pairs: &[(u32, Ops)])
+fn put_told(slots: &mut Vec<Slot>, pairs: &[(u32, Ops)])
     requires rise { Rise slots.old.items }
-    ensures { slots.new.items ≡ noted pairs.now slots.old.items }
+    ensures { slots.new.items ≡ told_slots pairs.now slots.old.items }
 {
     clear_told(slots);
     let mut next = 0;
     for (index, ops) in pairs {
-        next = note_pair(slots, *index, *ops, next);
+        next = put_pair(slots, *index, *ops, next);
     }
 }
 
 fn clear_told(slots: &mut Vec<Slot>)
-    ensures { slots.new.items ≡ noted [] slots.old.items }
+    ensures { slots.new.items ≡ told_slots [] slots.old.items }
 {
     for at in 0..slots.len() {
         slots[at].told = Ops::NONE;
@@ -60,9 +63,9 @@ fn clear_told(slots: &mut Vec<Slot>)
 
 // Adds what one pair tells. It looks at `next` first: pollers mostly tell of keys in rising order. Answers where
 // the next pair may stand.
-fn note_pair(slots: &mut Vec<Slot>, index: u32, ops: Ops, next: usize) -> usize
+fn put_pair(slots: &mut Vec<Slot>, index: u32, ops: Ops, next: usize) -> usize
     requires rise { Rise slots.old.items }
-    ensures { slots.new.items ≡ noted_more (index, ops) slots.old.items }
+    ensures { slots.new.items ≡ told_once_more (index, ops) slots.old.items }
 {
     match find(slots.as_slice(), index, next) {
         Some(at) => {
@@ -76,7 +79,8 @@ fn note_pair(slots: &mut Vec<Slot>, index: u32, ops: Ops, next: usize) -> usize
 // Where the key with this index stands.
 fn find(slots: &[Slot], index: u32, next: usize) -> Option<usize>
     requires rise { Rise slots.now }
-    ensures { MatchOption result (All (λ slot. slot.key.index ≢ index) slots.now) (λ at. (at < length slots.now) × HoldsAt (λ slot. slot.key.index ≡ index) slots.now at) }
+    ensures { MatchOption result (All (λ slot. slot.key.index ≢ index) slots.now)
+        (λ at. (at < length slots.now) × HoldsAt (λ slot. slot.key.index ≡ index) slots.now at) }
 {
     if next < slots.len() && slots[next].key.index == index {
         return Some(next);
@@ -90,7 +94,8 @@ fn find(slots: &[Slot], index: u32, next: usize) -> Option<usize>
 fn mark_all(w: &Words, p: &mut Pass, me: CallerNo, sel: SelNo, slots: &[Slot]) -> u32
     requires begun { HasBegun w.now p.old me sel }
     requires countable { AreCountable (limits_of w.now) sel slots.now }
-    ensures call { CallClause me (Completes (sweep_over slots.now (marks_slot sel) 0)) (view w.now p.old) (view w.now p.new) result }
+    ensures call { CallClause me (Completes (sweep_over slots.now (marks_slot sel) 0))
+        (view w.now p.old) (view w.now p.new) result }
     ensures begun { HasBegun w.now p.new me sel }
 {
     let mut count = 0;
@@ -150,7 +155,8 @@ fn mark_again(
     requires begun { HasBegun w.now p.old me sel }
     requires key { IsKey (limits_of w.now) sel i }
     requires told { IsTrue (not (told == 0)) }
-    ensures call { CallClause me (Completes (marks_again sel i told first)) (view w.now p.old) (view w.now p.new) result }
+    ensures call { CallClause me (Completes (marks_again sel i told first))
+        (view w.now p.old) (view w.now p.new) result }
     ensures begun { HasBegun w.now p.new me sel }
     ensures most { result ≤ 1 }
 {

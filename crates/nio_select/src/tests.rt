@@ -1,5 +1,5 @@
-//! Whole selections: what they ask and mark, why they end, and whose turn it is; selections on a table without a channel;
-//! keys that are cancelled before a selection; closing beside one; and two threads, one of which selects.
+//! Whole selections: what they ask and mark, why they end, and whose turn it is; selections on a table without a
+//! channel; keys that are cancelled before a selection; closing beside one; and two threads, one of which selects.
 ghost use Rattle.std.specs.Prelude.{◌≡◌, IfSome, IsTrue};
 ghost use Rattle.nio_base.specs.declared.numbers.SelNo.{SelNo as Selector};
 ghost use Rattle.nio_channel.specs.Idle.{AreIdle, drawn, zero, one};
@@ -383,7 +383,8 @@ fn why_selections_end(rt: HostRuntime) -> Result<(), Fail> {
 fn begins_beside(alloc: Global, w: &Words, p: &mut Pass) -> Reply
     requires { AreIdle w.now p.old }
     ensures idle { AreIdle w.now p.new }
-    ensures selecting { (selection : Selection) → Selects (view w.now p.old) zero selection → Selects (view w.now p.new) zero selection }
+    ensures selecting { (selection : Selection) → Selects (view w.now p.old) zero selection
+        → Selects (view w.now p.new) zero selection }
 {
     match try_begin(alloc, w, p, ONE, S, Mode::Now) {
         Ok(selection) => {
@@ -398,7 +399,8 @@ fn begins_beside(alloc: Global, w: &Words, p: &mut Pass) -> Reply
 fn shuts(w: &Words, p: &mut Pass) -> Option<Closing>
     requires { AreIdle w.now p.old }
     ensures idle { AreIdle w.now p.new }
-    ensures selecting { (selection : Selection) → Selects (view w.now p.old) zero selection → Selects (view w.now p.new) zero selection }
+    ensures selecting { (selection : Selection) → Selects (view w.now p.old) zero selection
+        → Selects (view w.now p.new) zero selection }
     ensures closing { IfSome result (Closes (view w.now p.new) one) }
 {
     match shut(w, p, ONE, S) {
@@ -412,7 +414,8 @@ fn finishes(w: &Words, p: &mut Pass, closing: Option<Closing>) -> Option<Closing
     requires idle { AreIdle w.now p.old }
     requires closing { IfSome closing (Closes (view w.now p.old) one) }
     ensures idle { AreIdle w.now p.new }
-    ensures selecting { (selection : Selection) → Selects (view w.now p.old) zero selection → Selects (view w.now p.new) zero selection }
+    ensures selecting { (selection : Selection) → Selects (view w.now p.old) zero selection
+        → Selects (view w.now p.new) zero selection }
     ensures closing { IfSome result (Closes (view w.now p.new) one) }
 {
     let Some(closing) = closing else {
@@ -514,8 +517,8 @@ fn opens_first(w: &Words, p: &mut Pass) -> bool
     }
 }
 
-/// A selection that is told nothing after the other caller tried to begin one: what is asked, what the other's beginning
-/// answers, and what the telling answers.
+/// A selection that is told nothing after the other caller tried to begin one: what is asked, what the other's
+/// beginning answers, and what the telling answers.
 fn selects_beside(alloc: Global, w: &Words, p: &mut Pass, mode: Mode) -> [Reply; 3]
     requires { AreIdle w.now p.old }
     ensures { AreIdle w.now p.new }
@@ -690,7 +693,8 @@ fn one_of_two_threads_selects(rt: HostRuntime) -> Result<(), Fail> {
             ensures { IsReady words result ZERO }
         { selects_in_rounds(alloc, &words, p) },
         || -> (Pass, bool)
-            requires { IsReady words q ONE × HasNoPin (view words q) ONE × HasSelector (view words q) S × HasChannel (view words q) chan }
+            requires { IsReady words q ONE × HasNoPin (view words q) ONE × HasSelector (view words q) S
+                × HasChannel (view words q) chan }
             ensures { IsReady words result.0 ONE }
         { registers_and_closes(&words, q, chan) },
     );

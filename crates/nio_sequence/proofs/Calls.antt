@@ -36,7 +36,7 @@ use Rattle.nio_orderly.specs.Waited.{waits}
 use Rattle.nio_plain.proofs.Naming.{selector-through}
 use Rattle.nio_plain.specs.ScriptState.{ScriptState}
 use Rattle.nio_plain.specs.Seq.{call_of, seq}
-use Rattle.nio_plain.specs.Seq.Answers.{Answered, unchanged, yes_or_no}
+use Rattle.nio_plain.specs.Seq.Replies.{Replied, unchanged, yes_or_no}
 use Rattle.nio_plain.specs.Seq.Closing.{close_call}
 use Rattle.nio_plain.specs.Seq.Selections.{mode_of, begun_with, begin_call, is_caller}
 use Rattle.nio_plain.specs.declared.rules.Rules.TheVariants.{Now}
@@ -48,7 +48,7 @@ use Rattle.nio_serial.specs.Documented.{Progress, Selecting, documented, shown}
 use Rattle.nio_serial.specs.Laws.{IsMadeSelector, IsNamed, Amounts, by_key}
 use Rattle.nio_serial.specs.Lines.{Said, makes, asks, refused, begin_line, failed_line, close_end_line, call_plan}
 use Rattle.nio_serial.specs.Lines.{own_selection, after_begin, after_told, after_shut, after_finish, with_selection}
-use Rattle.nio_serial.specs.PipeLines.{with_mark}
+use Rattle.nio_serial.specs.PipeLines.{with_seal}
 use Rattle.nio_serial.specs.Replies.{key_id, find_reply, set_reply, put_reply, channel_reply, mode_reply}
 use Rattle.nio_serial.specs.Replies.{register_reply, closed_reply, selector_reply, begin_reply, told_reply, shut_reply}
 use Rattle.nio_serial.specs.Replies.{finish_reply, list_reply}
@@ -71,7 +71,7 @@ use Rattle.nio_steps.specs.SelectCalls.{try_finish_plan, FinishReply, closed, bu
 use Rattle.nio_steps.specs.Sweeps.{sweep_over}
 use Rattle.nio_steps.specs.declared.refusal.BeginError.{BeginError}
 use Rattle.nio_steps.specs.declared.refusal.ListError.{ListError}
-use Rattle.nio_sequence.proofs.Pipes.{unmarked}
+use Rattle.nio_sequence.proofs.Pipes.{unsealed}
 use Rattle.nio_sequence.proofs.Progress.{put_selection, put_closing, put_same, own-is, own_of_caller, closing_of_caller}
 use Rattle.nio_sequence.proofs.Progress.{others_begun, others_ended, others_shut, others_closed}
 use Rattle.nio_sequence.specs.Called.{Scripted, as_call, unseen, unscripted, waiting_of, script_call, lacks_memory}
@@ -147,14 +147,14 @@ none_from : (o : Option Selecting) → is_some (option_map (λ (x : Selecting). 
 none_from None is = refl
 none_from (Some x) is = absurd (cc is)
 
-begun_free : (b c : Bool) (ds : ScriptState) (y : Answered) (xs : List (KeyId × ℕ))
+begun_free : (b c : Bool) (ds : ScriptState) (y : Replied) (xs : List (KeyId × ℕ))
     → (cond b (unchanged ds reply.ClosedSelector) (cond c (unchanged ds reply.Busy) y)).reply ≡ reply.Looked xs
     → c ≡ false
 begun_free true c ds y xs is = absurd (cc is)
 begun_free false true ds y xs is = absurd (cc is)
 begun_free false false ds y xs is = refl
 
-shut_open : (b : Bool) (ds : ScriptState) (y : Answered) → (cond b (unchanged ds reply.Already) y).reply ≡ reply.Closing
+shut_open : (b : Bool) (ds : ScriptState) (y : Replied) → (cond b (unchanged ds reply.Already) y).reply ≡ reply.Closing
     → b ≡ false
 shut_open true ds y is = absurd (cc is)
 shut_open false ds y is = refl
@@ -186,8 +186,8 @@ module _ (l : Limits) (past : List Event) (now : Progress) (me : CallerNo) (fit 
       none_from (now.selection s.0)
       (ap is_some (sym (between.shown s.0).turn)
       ∙ begun_free (st.gate s.0).shut (is_some (st.turn s.0)) ds _ (shown x).looked
-      (sym (ap (λ (a : Answered). a.reply) (selector-through ds s made _
-      ∙ ap (λ o. begun_with Now ds me s.0 o) (mode_through mode time))) ∙ ap (λ (a : Answered). a.reply) is))
+      (sym (ap (λ (a : Replied). a.reply) (selector-through ds s made _
+      ∙ ap (λ o. begun_with Now ds me s.0 o) (mode_through mode time))) ∙ ap (λ (a : Replied). a.reply) is))
 
   -- and a closing too
   shut-free : (s : SelNo) (left : ScriptState) → IsMadeSelector st s
@@ -195,8 +195,8 @@ module _ (l : Limits) (past : List Event) (now : Progress) (me : CallerNo) (fit 
   unfolding call_of close_call
   shut-free s left made is =
       let open_gate : (st.gate s.0).shut ≡ false =
-      shut_open (st.gate s.0).shut ds _ (sym (ap (λ (a : Answered). a.reply) (selector-through ds s made _))
-      ∙ ap (λ (a : Answered). a.reply) is) in
+      shut_open (st.gate s.0).shut ds _ (sym (ap (λ (a : Replied). a.reply) (selector-through ds s made _))
+      ∙ ap (λ (a : Replied). a.reply) is) in
       let none : st.closer s.0 ≡ None =
       not_some (st.closer s.0) (st.gate s.0).shut ((sound l st now between).closings s.0).closer_shut open_gate in
       (between.shown s.0).closing ∙ (ap (λ o. if st.entered s.0 then None else o) none ∙ either (st.entered s.0))
@@ -221,7 +221,7 @@ module _ (l : Limits) (past : List Event) (now : Progress) (me : CallerNo) (fit 
         left =
             documented (state_after (after past me acts)) said.left;
       }
-  seq-of word acts said amounts = seq-through l ds me word by ∙ amounts.answered
+  seq-of word acts said amounts = seq-through l ds me word by ∙ amounts.replied
 
   -- a call that begins and ends nothing
   quiet-line : (o : Ongoing) (word : Call) (r : Reply) (acts : List Act) → IsNamed l st word
@@ -297,7 +297,7 @@ module _ (l : Limits) (past : List Event) (now : Progress) (me : CallerNo) (fit 
         others =
             λ n o' other at'. others_begun me n other now o' s.0 x
             (begin-free s mode
-            (documented (state_after (after past me acts)) said.left) x time made amounts.answered) at';
+            (documented (state_after (after past me acts)) said.left) x time made amounts.replied) at';
         is = seq-of word acts said amounts;
       }
   begin-ends o s mode (Err BeginError.ClosedSelector) acts run legal made time at =
@@ -398,7 +398,7 @@ module _ (l : Limits) (past : List Event) (now : Progress) (me : CallerNo) (fit 
         own = put_closing me now o s.0 true (Some me) (closing_of_caller me) at;
         others =
             λ n o' other at'. others_shut me n other now o' s.0
-            (shut-free s (documented (state_after (after past me acts)) said.left) made amounts.answered) at';
+            (shut-free s (documented (state_after (after past me acts)) said.left) made amounts.replied) at';
         is = seq-of (call.Close s) acts said amounts;
       }
   shut-ends o s already_closed acts run legal made at =
@@ -565,8 +565,8 @@ module _ (l : Limits) (past : List Event) (now : Progress) (me : CallerNo) (fit 
       quiet-line o (call.Closec c) (closed_reply answer) acts names legal
       (subst (λ (x : Progress). Completes (call_plan l now me (call.Closec c)) acts
       (record { reply = closed_reply answer; left = x }))
-      (unmarked now me c no_pipes)
-      (made-run (close_channel_plan l c) closed_reply (λ _. with_mark now (own_sink now.pipes me c))
+      (unsealed now me c no_pipes)
+      (made-run (close_channel_plan l c) closed_reply (λ _. with_seal now (own_sink now.pipes me c))
       acts answer run)) at
   ends o (open_selector answer) acts plain run legal names at may =
       quiet-line o call.Selector (selector_reply answer) acts names legal

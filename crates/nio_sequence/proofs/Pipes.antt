@@ -16,16 +16,16 @@ use Rattle.nio_event.specs.declared.reply.Reply.{Reply}
 use Rattle.nio_event.specs.declared.reply.Reply.TheVariants as reply
 use Rattle.nio_plain.specs.ScriptState.{Pipe, ScriptState}
 use Rattle.nio_plain.specs.Seq.{call_of}
-use Rattle.nio_plain.specs.Seq.Answers.{Answered}
+use Rattle.nio_plain.specs.Seq.Replies.{Replied}
 use Rattle.nio_plain.specs.Seq.Opening.{channel_made, channel_call}
-use Rattle.nio_plain.specs.Seq.Pipes.{owns_sink, marked_pipes, own_sink}
+use Rattle.nio_plain.specs.Seq.Pipes.{owns_sink, sealed_pipes, own_sink}
 use Rattle.nio_serial.proofs.Calls.{made-is}
 use Rattle.nio_serial.proofs.Histories.{calls-stay, calls-amount}
 use Rattle.nio_serial.specs.Between.{IsBetween}
 use Rattle.nio_serial.specs.Documented.{Progress, documented, amounts}
 use Rattle.nio_serial.specs.Laws.{IsMadeChannel}
 use Rattle.nio_serial.specs.Lines.{Said, makes, asks, call_plan}
-use Rattle.nio_serial.specs.PipeLines.{with_mark}
+use Rattle.nio_serial.specs.PipeLines.{with_seal}
 use Rattle.nio_serial.specs.Replies.{channel_reply, closed_reply}
 use Rattle.nio_steps.proofs.PerformLaws.{perform-bind}
 use Rattle.nio_steps.specs.ChannelCalls.{open_channel_plan, close_channel_plan}
@@ -38,10 +38,10 @@ use Rattle.nio_steps.specs.declared.refusal.PipeError.{PipeError}
 use Rattle.nio_steps.specs.declared.refusal.PipeMakeError.{PipeMakeError}
 
 -- where there are no pipes of a script, a closed channel leaves what is in progress
-pub unmarked : (now : Progress) (me : CallerNo) (c : ChanNo) → now.pipes ≡ []
-    → with_mark now (own_sink now.pipes me c) ≡ now
-unmarked now me c no_pipes =
-    ap (λ (pipes : List Pipe). record now { pipes = marked_pipes (position (owns_sink me c) pipes) pipes }) no_pipes
+pub unsealed : (now : Progress) (me : CallerNo) (c : ChanNo) → now.pipes ≡ []
+    → with_seal now (own_sink now.pipes me c) ≡ now
+unsealed now me c no_pipes =
+    ap (λ (pipes : List Pipe). record now { pipes = sealed_pipes (position (owns_sink me c) pipes) pipes }) no_pipes
     ∙ ap (λ (pipes : List Pipe). record now { pipes = pipes }) (sym no_pipes)
 
 -- a channel that is put is made, and the others stay so
@@ -90,7 +90,7 @@ module _ (l : Limits) (st : State) (now : Progress) (me : CallerNo) (fit : IsFit
       line-leaves (close_channel_plan l c) closed_reply
       (subst (λ (x : Progress). IsBetween l (perform me (makes (close_channel_plan l c) closed_reply (λ _. x)) st).state
       (perform me (makes (close_channel_plan l c) closed_reply (λ _. x)) st).answer.left)
-      (unmarked now me c no_pipes) (calls-stay l st now me (call.Closec c) fit by between made))
+      (unsealed now me c no_pipes) (calls-stay l st now me (call.Closec c) fit by between made))
 
   pub opens-leave : (kind : Kind) → IsBetween l (perform me (open_channel_plan l kind) st).state now
   unfolding call_plan
@@ -109,14 +109,14 @@ module _ (l : Limits) (st : State) (now : Progress) (me : CallerNo) (fit : IsFit
       → IsMadeChannel (perform me (open_channel_plan l kind) st).state c
   unfolding channel_call
   opens-keep kind c made =
-      ap (λ (a : Answered). (a.left.shared.chan c.0).made) (sym (opens-is kind)) ∙ made_keeps l ds kind _ c.0 made
+      ap (λ (a : Replied). (a.left.shared.chan c.0).made) (sym (opens-is kind)) ∙ made_keeps l ds kind _ c.0 made
 
   pub opens-make : (kind : Kind) (c : ChanNo) → (perform me (open_channel_plan l kind) st).answer ≡ Ok c
       → IsMadeChannel (perform me (open_channel_plan l kind) st).state c
   unfolding channel_call
   opens-make kind c is =
-      ap (λ (a : Answered). (a.left.shared.chan c.0).made) (sym (opens-is kind))
-      ∙ made_makes l ds kind _ c (ap (λ (a : Answered). a.reply) (opens-is kind) ∙ ap channel_reply is)
+      ap (λ (a : Replied). (a.left.shared.chan c.0).made) (sym (opens-is kind))
+      ∙ made_makes l ds kind _ c (ap (λ (a : Replied). a.reply) (opens-is kind) ∙ ap channel_reply is)
 
   -- ---- reading and writing
 

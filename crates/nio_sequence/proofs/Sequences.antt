@@ -24,7 +24,7 @@ use Rattle.nio_orderly.specs.Made.{set_blocking, register, select, close, read, 
 use Rattle.nio_orderly.specs.Orderly.{MadeBy, IsRunBy, AreRunsBy, calls_of}
 use Rattle.nio_plain.specs.Answer.{left_from}
 use Rattle.nio_plain.specs.ScriptState.{ScriptState}
-use Rattle.nio_plain.specs.Seq.Answers.{Answered}
+use Rattle.nio_plain.specs.Seq.Replies.{Replied}
 use Rattle.nio_plain.specs.declared.rules.Rules.TheVariants.{Now}
 use Rattle.nio_event.specs.State.{State}
 use Rattle.nio_serial.proofs.Facts.{sound}
@@ -40,7 +40,7 @@ use Rattle.nio_sequence.specs.Called.{Scripted, as_call, unseen, unscripted, scr
 use Rattle.nio_sequence.specs.Called.{IsNamedCall}
 use Rattle.nio_sequence.specs.Laws.{is_of_script, AreOfScript, line_of, reply_of, script_of, replies_of, SequencesStand}
 use Rattle.nio_sequence.specs.Laws.{NextCallIsDocumented, SequencesGrow, NothingIsSequence, SequencesAreScripts}
-use Rattle.nio_sequence.specs.Left.{after_made, in_progress, IsOngoing, AreNamed, AreNoted, IsSequence, IsLeftBy}
+use Rattle.nio_sequence.specs.Left.{after_made, in_progress, IsOngoing, AreNamed, AreEnrolled, IsSequence, IsLeftBy}
 
 -- ---- every call
 
@@ -150,7 +150,7 @@ module _ (l : Limits) (past : List Event) (now : Progress) (me : CallerNo) (acts
   replies-step true unseen is plain rs script later = absurd (cc plain)
   replies-step true unscripted is plain rs script later = absurd (cc plain)
   replies-step false (as_call word said) is plain rs script later =
-      ap (λ xs. said ∷ xs) later ∙ ap (λ (a : Answered). a.reply ∷ replies_from l a.left script) (sym is)
+      ap (λ xs. said ∷ xs) later ∙ ap (λ (a : Replied). a.reply ∷ replies_from l a.left script) (sym is)
   replies-step false unseen is plain rs script later = later ∙ ap (λ (st : ScriptState). replies_from l st script) is
   replies-step false unscripted is plain rs script later = absurd (cc plain)
 
@@ -162,7 +162,7 @@ module _ (l : Limits) (past : List Event) (now : Progress) (me : CallerNo) (acts
   left-step true unseen is plain end script later = absurd (cc plain)
   left-step true unscripted is plain end script later = absurd (cc plain)
   left-step false (as_call word said) is plain end script later =
-      later ∙ ap (λ (a : Answered). left_from Now l a.left script) (sym is)
+      later ∙ ap (λ (a : Replied). left_from Now l a.left script) (sym is)
   left-step false unseen is plain end script later = later ∙ ap (λ (st : ScriptState). left_from Now l st script) is
   left-step false unscripted is plain end script later = absurd (cc plain)
 
@@ -283,14 +283,14 @@ module _ (l : Limits) (fit : IsFit l) where
       stand_from made [] nothing_yet (λ _. nothing_ongoing) events sequence.serial.runs sequence.legal sequence.named
       (begins-between l) refl (λ n. record { selection = λ s. refl; closes = λ s. refl }) sequence.serial.in_order
 
-are-noted : (l : Limits) (st : State) (now : Progress) → IsBetween l st now → AreNoted st
-are-noted l st now between s i in_set = (sound l st now between).keys.notes.in_set s i in_set
+are-enrolled : (l : Limits) (st : State) (now : Progress) → IsBetween l st now → AreEnrolled st
+are-enrolled l st now between s i in_set = (sound l st now between).keys.enrolments.in_set s i in_set
 
 pub sequences_stand : SequencesStand
 sequences_stand l events made fit sequence = let all = stand l fit events made sequence in
     record {
       between = all.between;
-      noted = are-noted l (state_after events)
+      enrolled = are-enrolled l (state_after events)
           (in_progress nothing_yet made) all.between;
       ongoing = all.ongoing;
     }
@@ -340,11 +340,11 @@ next_call_is_documented l past made now me acts call word said fit next =
     (subst (λ b. IsScripted l past now me acts (after_made now me call) b
     (script_call call)) next.has_memory done.is) in
     record {
-      replies = sym (ap (λ (a : Answered). a.reply) is);
-      leaves = sym (ap (λ (a : Answered). a.left) is);
+      replies = sym (ap (λ (a : Replied). a.reply) is);
+      leaves = sym (ap (λ (a : Replied). a.left) is);
       stands = record {
         between = done.between;
-        noted = are-noted l (state_after (after past me acts)) (after_made now me call) done.between;
+        enrolled = are-enrolled l (state_after (after past me acts)) (after_made now me call) done.between;
         ongoing =
             λ n. subst (IsOngoing n (after_made now me call)) (after-next made one n)
             (each-ongoing l past now o one acts done stands.ongoing n);

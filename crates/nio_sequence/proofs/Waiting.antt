@@ -49,7 +49,7 @@ use Rattle.nio_event.specs.declared.reply.Reply.TheVariants as reply
 use Rattle.nio_plain.proofs.CallLawsRefusals.{refusals_change_nothing}
 use Rattle.nio_plain.specs.CallLaws.{changes_pipe, is_without_effect}
 use Rattle.nio_plain.specs.Seq.{seq}
-use Rattle.nio_plain.specs.Seq.Answers.{Answered}
+use Rattle.nio_plain.specs.Seq.Replies.{Replied}
 use Rattle.nio_plain.specs.declared.rules.Rules.TheVariants.{Now}
 use Rattle.nio_serial.specs.Documented.{documented}
 use Rattle.nio_serial.specs.Replies.{mode_reply, register_reply}
@@ -180,10 +180,10 @@ module _ (l : Limits) (me : CallerNo) (fit : IsFit l) (by : IsCaller l me) where
         ≡ record { reply = reply.Busy; left = documented (state_after (after p me xs)) now } → SeenSame p
         → SeenSame (after p me xs)
     busy-same p xs word refuses keeps is same =
-        sym (ap (λ (a : Answered). a.left) is)
+        sym (ap (λ (a : Replied). a.left) is)
         ∙ (refusals_change_nothing Now l (documented (state_after p) now) me word
-        (ap (λ (a : Answered). is_without_effect word a.reply) is ∙ refuses)
-        (ap (λ (a : Answered). changes_pipe (documented (state_after p) now) me word a.reply) is ∙ keeps) ∙ same)
+        (ap (λ (a : Replied). is_without_effect word a.reply) is ∙ refuses)
+        (ap (λ (a : Replied). changes_pipe (documented (state_after p) now) me word a.reply) is ∙ keeps) ∙ same)
 
     -- the last try, with the answer of the call
     last-ends : (p : List Event) (xs acts : List Act) (word : Call) (r : Reply)

@@ -18,7 +18,7 @@ use Rattle.nio_orderly.specs.Made.{close_channel, open_selector, try_begin, told
 use Rattle.nio_orderly.specs.Made.{selected_keys, wakeup, interrupt, interrupted, pipe, try_read, try_write}
 use Rattle.nio_orderly.specs.Made.{set_blocking, register, select, close, read, write}
 use Rattle.nio_orderly.specs.Orderly.{MadeBy}
-use Rattle.nio_plain.specs.Seq.Answers.{yes_or_no}
+use Rattle.nio_plain.specs.Seq.Replies.{yes_or_no}
 use Rattle.nio_serial.specs.Laws.{IsMadeSelector, IsMadeChannel, IsMadeKey, by_key}
 use Rattle.nio_serial.specs.Replies.{key_id, find_reply, set_reply, put_reply, channel_reply, mode_reply}
 use Rattle.nio_serial.specs.Replies.{register_reply, closed_reply, selector_reply, begin_reply, told_reply, shut_reply}

@@ -79,7 +79,7 @@ SequencesGrow =
     → MayCome (after_calls nothing_ongoing (calls_of me made)) call
     → IsSequence l (past ++ map (event_of me) acts) (one_more made me call)
 
--- and nothing is one
+-- the empty history, of no calls, is one
 abbrev pub NothingIsSequence : Type 0
 NothingIsSequence = (l : Limits) → IsSequence l [] []
 

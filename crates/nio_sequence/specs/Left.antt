@@ -99,15 +99,15 @@ pub record IsSequence (l : Limits) (events : List Event) (made : List MadeBy) : 
   pub serial : IsSerial l events made
   pub named : AreNamed l [] made events serial.runs
 
--- each key of a key set is noted for its channel
-abbrev pub AreNoted : State → Type 0
-AreNoted st = (s i : ℕ) → IsTrue (in_key_set (st.key s i))
-    → st.noted (st.key s i).chan.0 s ≡ Some (record { index = i; serial = (st.key s i).serial })
+-- each key of a key set is enrolled for its channel
+abbrev pub AreEnrolled : State → Type 0
+AreEnrolled st = (s i : ℕ) → IsTrue (in_key_set (st.key s i))
+    → st.enrolled (st.key s i).chan.0 s ≡ Some (record { index = i; serial = (st.key s i).serial })
 
 -- What it leaves: a state between two calls, with what its calls left in progress, for each of its callers.
 pub record IsLeftBy (l : Limits) (events : List Event) (made : List MadeBy) (now : Progress) : Type 0 where
-  -- nobody holds a channel, has a pin or uses an index; the marks are exact; a turn is that of a selection in progress,
-  -- and a selector that is shut and not yet closed is that of a closing in progress
+  -- nobody holds a channel, has a pin or uses an index; the high-water marks are exact; a turn is that of a selection
+  -- in progress, and a selector that is shut and not yet closed is that of a closing in progress
   pub between : IsBetween l (state_after events) now
-  pub noted : AreNoted (state_after events)
+  pub enrolled : AreEnrolled (state_after events)
   pub ongoing : (n : CallerNo) → IsOngoing n now (after_calls nothing_ongoing (calls_of n made))

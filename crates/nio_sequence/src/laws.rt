@@ -1,5 +1,6 @@
 //! The law, as the contract of a function that does nothing.
-ghost use Rattle.nio_sequence.specs.Laws.{SequencesStand, NextCallIsDocumented, SequencesGrow, NothingIsSequence, SequencesAreScripts};
+ghost use Rattle.nio_sequence.specs.Laws.{SequencesStand, NextCallIsDocumented, SequencesGrow, NothingIsSequence};
+ghost use Rattle.nio_sequence.specs.Laws.{SequencesAreScripts};
 
 /// Where calls don't overlap, the table is the sequential selector of Java. A legal serial history leaves a
 /// state between two calls, whatever its calls are. One call more that has a word in a script has the reply of the

@@ -11,7 +11,7 @@ use Rattle.nio_event.specs.Sets.{fits, in_key_set, is_in_key_set, in_cancelled_s
 use Rattle.nio_event.specs.State.{State, put, put_at, with_hold, with_pin, with_key, with_mark}
 use Rattle.nio_event.specs.declared.found.Mark.{Mark}
 use Rattle.nio_event.specs.declared.found.Stage.{Stage}
-use Rattle.nio_plain.specs.Seq.Answers.{Answered}
+use Rattle.nio_plain.specs.Seq.Replies.{Replied}
 use Rattle.nio_steps.proofs.PerformLaws.{perform-bind}
 use Rattle.nio_steps.specs.ChannelCalls.{under_hold}
 use Rattle.nio_steps.specs.KeyCalls.{under_pin}
@@ -121,7 +121,7 @@ in_set-is k q whole =
 -- ---- tests
 
 -- `F` is what becomes of a performed plan
-module _ {R : Type 0} (F : Performed R → Answered) (me : CallerNo) (P Q : Plan R) (st : State) (A B : Answered) where
+module _ {R : Type 0} (F : Performed R → Replied) (me : CallerNo) (P Q : Plan R) (st : State) (A B : Replied) where
   -- one test on both sides
   pub branch : (b c : Bool) → b ≡ c → (c ≡ true → A ≡ F (perform me P st)) → (c ≡ false → B ≡ F (perform me Q st))
       → cond b A B ≡ F (perform me (if c then P else Q) st)

@@ -9,7 +9,7 @@ use Rattle.nio_event.specs.State.{State, with_chan, with_hold}
 use Rattle.nio_event.specs.declared.reply.Reply.TheVariants as reply
 use Rattle.nio_plain.proofs.Naming.{channel-through}
 use Rattle.nio_plain.specs.ScriptState.{ScriptState}
-use Rattle.nio_plain.specs.Seq.Answers.{Answered, unchanged, answered}
+use Rattle.nio_plain.specs.Seq.Replies.{Replied, unchanged, replied}
 use Rattle.nio_plain.specs.Seq.Modes.{is_registered, blocking_call}
 use Rattle.nio_steps.proofs.PerformLaws.{perform_then_on, perform_else}
 use Rattle.nio_steps.specs.ChannelCalls.{first_key, set_mode_clear, set_mode_open, set_mode_held, try_set_blocking_plan}
@@ -30,17 +30,17 @@ module _ (l : Limits) (st : State) (now : Progress) (me : CallerNo) (c : ChanNo)
   abbrev held : State
   held = with_hold st c.0 (Some me)
 
-  abbrev after : Performed (Result (Unit {0}) ChannelError) → Answered
+  abbrev after : Performed (Result (Unit {0}) ChannelError) → Replied
   after done = amounts mode_reply (λ _. now) (released c done)
 
   -- the hold is as before
-  back : (F : (ℕ → Option CallerNo) → Answered) → F st.hold ≡ F (with_hold held c.0 None).hold
+  back : (F : (ℕ → Option CallerNo) → Replied) → F st.hold ≡ F (with_hold held c.0 None).hold
   back F = sym (ap F (put-back st.hold c.0 (Some me) None unheld))
 
   -- the mode is set unless the channel is registered and blocking mode is asked for
   set : (on : Bool) (o : Option KeyNo) (b : Bool) → b ≡ is_some o
       → cond b (unchanged ds reply.IllegalBlockingMode)
-      (answered ds reply.«Ok» (with_chan ds.shared c.0 (record (st.chan c.0) { blocking = on })))
+      (replied ds reply.«Ok» (with_chan ds.shared c.0 (record (st.chan c.0) { blocking = on })))
       ≡ after (perform me (set_mode_clear c on o) held)
   set on o b same =
       branch after me (Plan.reply (Err ChannelError.IllegalBlockingMode)) (set_mode c on >>= (λ _. Plan.reply (Ok tt)))
@@ -55,7 +55,7 @@ module _ (l : Limits) (st : State) (now : Progress) (me : CallerNo) (c : ChanNo)
 
   opened : (on : Bool)
       → cond (on && is_registered l st c.0) (unchanged ds reply.IllegalBlockingMode)
-      (answered ds reply.«Ok» (with_chan ds.shared c.0 (record (st.chan c.0) { blocking = on })))
+      (replied ds reply.«Ok» (with_chan ds.shared c.0 (record (st.chan c.0) { blocking = on })))
       ≡ after (perform me (set_mode_open l c on) held)
   opened true =
       let finds = first_key-performed l me c held in

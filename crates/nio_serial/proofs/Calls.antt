@@ -20,7 +20,7 @@ use Rattle.nio_plain.proofs.Naming.{channel-through, selector-through}
 use Rattle.nio_plain.proofs.ReachedSound.{some_same}
 use Rattle.nio_plain.specs.ScriptState.{ScriptState}
 use Rattle.nio_plain.specs.Seq.{call_of}
-use Rattle.nio_plain.specs.Seq.Answers.{unchanged, yes_or_no}
+use Rattle.nio_plain.specs.Seq.Replies.{unchanged, yes_or_no}
 use Rattle.nio_plain.specs.Seq.Closing.{close_end_call}
 use Rattle.nio_plain.specs.Seq.Piping.{pipe_call, read_from, pread_call, write_to, pwrite_call}
 use Rattle.nio_plain.specs.Seq.Registering.{given_or_none}
@@ -61,7 +61,7 @@ use Rattle.nio_serial.proofs.Telling.{told-amounts, failed-amounts}
 use Rattle.nio_serial.specs.Between.{IsOn, IsBetween}
 use Rattle.nio_serial.specs.Documented.{Progress, Selecting, looked_pair, shown, documented, amounts}
 use Rattle.nio_serial.specs.Laws.{IsNamed, by_key}
-use Rattle.nio_serial.specs.PipeLines.{with_mark, after_pipe}
+use Rattle.nio_serial.specs.PipeLines.{with_seal, after_pipe}
 use Rattle.nio_serial.specs.Lines.{Said, comes_to, makes, asks, refused, with_selection, if_own, own_selection}
 use Rattle.nio_serial.specs.Lines.{after_begin, after_told, after_shut, after_finish, begin_line, by_index, told_line}
 use Rattle.nio_serial.specs.Lines.{failed_line, close_end_line, read_line, write_line, call_plan}
@@ -291,7 +291,7 @@ module _ (l : Limits) (st : State) (now : Progress) (me : CallerNo) (between : I
   call-amounts (call.Closec c) named =
       closec-amounts l st now me c (λ s i. unpinned l st now between s i me.0) (whole l st now between)
       (within l st now between) named
-      ∙ made-is me (close_channel_plan l c) closed_reply (λ _. with_mark now (own_sink now.pipes me c)) st
+      ∙ made-is me (close_channel_plan l c) closed_reply (λ _. with_seal now (own_sink now.pipes me c)) st
   call-amounts (call.Valid s k) named =
       valid-amounts st now me s k (pin_free s k.index) named.0 named.1 ∙ asked-is (is_valid_plan (key s k)) yes_or_no
   call-amounts (call.Interest s k) named =

@@ -140,7 +140,7 @@ module _ (st : State) (me : CallerNo) (s : SelNo) (c : ChanNo) (unpinned : (i n 
           me.0 (st.pinned s.0 i me.0 || not b))
           s.0 i (if b then taken.taker s.0 i else None)
 
-  -- ---- the least free index below the mark
+  -- ---- the least free index below the high-water mark
 
   module _ (mark : ℕ) where
     abbrev can : ℕ → Bool
@@ -244,7 +244,7 @@ module _ (st : State) (me : CallerNo) (s : SelNo) (c : ChanNo)
   abbrev top : ℕ
   top = st.keys_high s.0
 
-  -- the index at the mark is claimed, with a pin
+  -- the index at the high-water mark is claimed, with a pin
   abbrev pub claimed_first : State
   claimed_first = record st {
     key = put_at st.key s.0 top (new_key c 0);
@@ -258,12 +258,12 @@ module _ (st : State) (me : CallerNo) (s : SelNo) (c : ChanNo)
         (st.pinned s.0 i me.0 || not b);
   }
 
-  at_mark : perform me (claim_new s c top) st ≡ record {
+  at_high : perform me (claim_new s c top) st ≡ record {
     answer = Some (record { index = top; serial = 0 });
     state = claimed_first;
   }
   unfolding claims
-  at_mark =
+  at_high =
       ap (λ b. claims b top) (exact top ∙ le-ltb top top (omega arith))
       ∙ (λ j. record {
         answer = Some (record { index = top; serial = 0 });
@@ -280,7 +280,7 @@ module _ (st : State) (me : CallerNo) (s : SelNo) (c : ChanNo)
   first-performed l room =
       ap (λ plan. perform me plan st) (seek_to-turn l.keys top (claim_new s c) room)
       ∙ perform_then_on me (claim_new s c top) (found_or (seek_to l.keys (top + 1) (claim_new s c))) st
-      (Some (record { index = top; serial = 0 })) claimed_first at_mark
+      (Some (record { index = top; serial = 0 })) claimed_first at_high
 
   pub full-performed : (l : Limits) → l.keys ≤ top → perform me (seek_to l.keys top (claim_new s c)) st ≡ record {
     answer = None;

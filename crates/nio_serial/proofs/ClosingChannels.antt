@@ -18,12 +18,12 @@ use Rattle.nio_event.specs.declared.reply.Reply.{Reply}
 use Rattle.nio_event.specs.declared.reply.Reply.TheVariants as reply
 use Rattle.nio_plain.proofs.Naming.{channel-through}
 use Rattle.nio_plain.specs.ScriptState.{ScriptState}
-use Rattle.nio_plain.specs.Seq.Answers.{answered}
+use Rattle.nio_plain.specs.Seq.Replies.{replied}
 use Rattle.nio_plain.specs.Seq.Cancelling.{cancelled_key, channel_closed, has_index, closec_call}
 use Rattle.nio_plain.specs.Seq.Modes.{if_in_key_set, key_of}
-use Rattle.nio_plain.specs.Seq.Pipes.{marking, own_sink}
+use Rattle.nio_plain.specs.Seq.Pipes.{sealing, own_sink}
 use Rattle.nio_steps.proofs.PerformLaws.{perform_then_on, perform_sweep}
-use Rattle.nio_steps.specs.ChannelCalls.{cancel_at, cancel_noted, cancel_keys, close_channel_plan}
+use Rattle.nio_steps.specs.ChannelCalls.{cancel_at, cancel_enrolled, cancel_keys, close_channel_plan}
 use Rattle.nio_steps.specs.KeyCalls.{cancel_plan, cancel_present}
 use Rattle.nio_steps.specs.Names.{selector, key}
 use Rattle.nio_steps.specs.Perform.{Performed, perform}
@@ -32,7 +32,7 @@ use Rattle.nio_steps.specs.Steps.{cancel_key}
 use Rattle.nio_steps.specs.Sweeps.{sweep_to}
 use Rattle.nio_serial.proofs.Base.{put-here, put_at-here, pin-back, in_set-is, branch, unpinned, perform_pinned}
 use Rattle.nio_serial.specs.Documented.{Progress, settled, settled_mark, settled_state, documented, amounts}
-use Rattle.nio_serial.specs.PipeLines.{with_mark}
+use Rattle.nio_serial.specs.PipeLines.{with_seal}
 use Rattle.nio_serial.specs.Replies.{closed_reply}
 
 -- ---- one key
@@ -113,7 +113,7 @@ module _ (st : State) (c : ℕ) where
       ap (λ b. cond (b && has_index (key_of st c s) i) (cancelled_key (st.key s i)) (st.key s i)) (lt_more s n other)
 
   module _ (n : ℕ) where
-    none_there : st.noted c n ≡ None → (s i : ℕ) → keys_after n s i ≡ keys_after (n + 1) s i
+    none_there : st.enrolled c n ≡ None → (s i : ℕ) → keys_after n s i ≡ keys_after (n + 1) s i
     none_there none s i =
         ⊎_elim
         (λ (e : s ≡ n). subst (λ (m : ℕ). keys_after n m i ≡ keys_after (n + 1) m i) (sym e)
@@ -123,7 +123,7 @@ module _ (st : State) (c : ℕ) where
         (λ (other : s ≢ n). sym (others n s i other))
         (cases_eq s n)
 
-    one_there : (k : KeyId) → st.noted c n ≡ Some k
+    one_there : (k : KeyId) → st.enrolled c n ≡ Some k
         → let stage = st.key n k.index in
         (s i : ℕ) → put_at (keys_after n) n k.index (cond (is_in_key_set stage k.serial)
         (cancelled_key stage) stage) s i ≡ keys_after (n + 1) s i
@@ -180,14 +180,14 @@ module _ (st : State) (me : CallerNo) (c : ChanNo) (free : (s i : ℕ) → st.pi
   abbrev stands : ℕ → State
   stands n = record st { key = keys_after st c.0 n }
 
-  turn : (n : ℕ) → perform me (cancel_noted c n) (stands n) ≡ record { answer = tt; state = stands (n + 1) }
-  turn n = by_noted (st.noted c.0 n) refl
+  turn : (n : ℕ) → perform me (cancel_enrolled c n) (stands n) ≡ record { answer = tt; state = stands (n + 1) }
+  turn n = by_enrolled (st.enrolled c.0 n) refl
     where
-      by_noted : (o : Option KeyId) → st.noted c.0 n ≡ o
+      by_enrolled : (o : Option KeyId) → st.enrolled c.0 n ≡ o
           → perform me (cancel_at (selector n) o) (stands n) ≡ record { answer = tt; state = stands (n + 1) }
-      by_noted None is =
+      by_enrolled None is =
           ap (λ f. record { answer = tt; state = record st { key = f } }) (λ j s i. none_there st c.0 n is s i j)
-      by_noted (Some k) is =
+      by_enrolled (Some k) is =
           let stage = st.key n k.index in
           cancel-performed (stands n) me (selector n) k (free n k.index)
           (ap (λ x. x.claimed) (not_yet st c.0 n k.index)
@@ -205,10 +205,10 @@ module _ (st : State) (me : CallerNo) (c : ChanNo) (free : (s i : ℕ) → st.pi
   pub cancel_keys-performed : (l : Limits)
       → perform me (cancel_keys l c) st ≡ record { answer = true; state = stands l.selectors }
   cancel_keys-performed l =
-      perform_then_on me (sweep_to l.selectors 0 (λ s _. cancel_noted c s) tt) (λ _. Plan.reply true) st tt
+      perform_then_on me (sweep_to l.selectors 0 (λ s _. cancel_enrolled c s) tt) (λ _. Plan.reply true) st tt
       (stands l.selectors)
-      (ap (perform me (sweep_to l.selectors 0 (λ s _. cancel_noted c s) tt)) before
-      ∙ perform_sweep me l.selectors 0 (λ s _. cancel_noted c s) (λ _. tt) stands (omega arith) (λ n _ _. turn n))
+      (ap (perform me (sweep_to l.selectors 0 (λ s _. cancel_enrolled c s) tt)) before
+      ∙ perform_sweep me l.selectors 0 (λ s _. cancel_enrolled c s) (λ _. tt) stands (omega arith) (λ n _ _. turn n))
     where
       before : st ≡ stands 0
       before =
@@ -219,7 +219,7 @@ module _ (st : State) (me : CallerNo) (c : ChanNo) (free : (s i : ℕ) → st.pi
 -- ---- the call
 
 -- the channel's key at an index is in the key set
-pub index_in_set : (st : State) (s i : ℕ) (noted : Option KeyId) → has_index (if_in_key_set st s noted) i ≡ true
+pub index_in_set : (st : State) (s i : ℕ) (enrolled : Option KeyId) → has_index (if_in_key_set st s enrolled) i ≡ true
     → in_key_set (st.key s i) ≡ true
 index_in_set st s i None e = absurd (both_ways false refl e)
 index_in_set st s i (Some k) e = by_set (is_in_key_set (st.key s k.index) k.serial) refl e
@@ -264,7 +264,7 @@ module _ (l : Limits) (st : State) (now : Progress) (me : CallerNo) (c : ChanNo)
   keys : (s i : ℕ) → cond (has_index (key_of st c.0 s) i) (cancelled_key (settled (st.key s i))) (settled (st.key s i))
       ≡ settled (keys_after closed_st c.0 l.selectors s i)
   keys s i = sym (settled_where (nat_lt s l.selectors) (has_index (key_of st c.0 s) i) (st.key s i)
-      (λ h. let in_set = index_in_set st s i (st.noted c.0 s) h in (
+      (λ h. let in_set = index_in_set st s i (st.enrolled c.0 s) h in (
         lt-ltb s l.selectors (within s i in_set),
         not-true (st.key s i).removed (and_parts (st.key s i).published (not (st.key s i).removed) in_set).1,
       )))
@@ -273,10 +273,10 @@ module _ (l : Limits) (st : State) (now : Progress) (me : CallerNo) (c : ChanNo)
       ≡ settled_mark (keys_after closed_st c.0 l.selectors s i) (st.mark s i)
   marks s i = sym (marked_where (nat_lt s l.selectors && has_index (key_of st c.0 s) i) (st.key s i) (st.mark s i))
 
-  pub closed-documented : (r : Reply) → answered ds r (channel_closed ds.shared c.0)
+  pub closed-documented : (r : Reply) → replied ds r (channel_closed ds.shared c.0)
       ≡ record { reply = r; left = documented (closed_left l st c) now }
   closed-documented r =
-      λ j. answered ds r (record (settled_state closed_st) { key = λ s i. keys s i j; mark = λ s i. marks s i j })
+      λ j. replied ds r (record (settled_state closed_st) { key = λ s i. keys s i j; mark = λ s i. marks s i j })
 
   pub close-open : (st.chan c.0).closed ≡ false
       → perform me (close_channel_plan l c) st ≡ record { answer = true; state = closed_left l st c }
@@ -285,14 +285,14 @@ module _ (l : Limits) (st : State) (now : Progress) (me : CallerNo) (c : ChanNo)
       ap (λ (b : Bool). perform me (if b then Plan.reply false else cancel_keys l c) closed_st) is
       ∙ cancel_keys-performed closed_st me c free whole l
 
-  -- a sink that its owner closes leaves its end mark
+  -- a sink that its owner closes leaves its seal
   pub closec-amounts : (st.chan c.0).made ≡ true
       → closec_call ds me c
-      ≡ amounts closed_reply (λ _. with_mark now (own_sink now.pipes me c)) (perform me (close_channel_plan l c) st)
+      ≡ amounts closed_reply (λ _. with_seal now (own_sink now.pipes me c)) (perform me (close_channel_plan l c) st)
   unfolding closec_call close_channel_plan
   closec-amounts made =
       channel-through ds c made _
-      ∙ ap (marking (own_sink now.pipes me c))
+      ∙ ap (sealing (own_sink now.pipes me c))
       (branch (amounts closed_reply (λ _. now)) me (Plan.reply false) (cancel_keys l c) closed_st _ _
       (st.chan c.0).closed (st.chan c.0).closed refl
       (λ is. ap (λ f. record { reply = reply.Already; left = documented (record st { chan = f }) now })

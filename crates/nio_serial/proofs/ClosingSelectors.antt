@@ -10,7 +10,7 @@ use Rattle.nio_event.specs.declared.found.Stage.{Stage}
 use Rattle.nio_event.specs.declared.reply.Reply.TheVariants as reply
 use Rattle.nio_plain.proofs.Naming.{selector-through}
 use Rattle.nio_plain.specs.ScriptState.{ScriptState}
-use Rattle.nio_plain.specs.Seq.Answers.{unchanged, answered}
+use Rattle.nio_plain.specs.Seq.Replies.{unchanged, replied}
 use Rattle.nio_plain.specs.Seq.Closing.{close_end_call, without_keys}
 use Rattle.nio_plain.specs.Seq.Removing.{without_keys_where}
 use Rattle.nio_plain.specs.Seq.Selections.{is_caller}
@@ -91,7 +91,7 @@ close_end-amounts st now me s begun none_due exact made own not_entered =
     selector-through ds s made _
     ∙ (ap (λ b. cond b (unchanged ds reply.NotClosing)
     (cond (is_some (st.turn s.0)) (unchanged ds reply.Busy)
-    (answered ds reply.Closed (with_entered (without_keys ds.shared s.0) s.0 true))))
+    (replied ds reply.Closed (with_entered (without_keys ds.shared s.0) s.0 true))))
     (λ j. not (own j) || not_entered j)
     ∙ by_turn (st.turn s.0) refl)
   where
@@ -100,7 +100,7 @@ close_end-amounts st now me s begun none_due exact made own not_entered =
 
     by_turn : (o : Option CallerNo) → st.turn s.0 ≡ o
         → cond (is_some o) (unchanged ds reply.Busy)
-        (answered ds reply.Closed (with_entered (without_keys ds.shared s.0) s.0 true))
+        (replied ds reply.Closed (with_entered (without_keys ds.shared s.0) s.0 true))
         ≡ amounts finish_reply (after_finish now s)
         (perform me (cond (is_some o) (Plan.reply busy) (remove_keys s))
         (with_entered st s.0 (st.entered s.0 || is_none o)))

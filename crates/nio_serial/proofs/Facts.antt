@@ -50,13 +50,13 @@ module _ (l : Limits) (st : State) (now : Progress) (between : IsBetween l st no
   none_due = between.at_rest.unused.none_due
 
   pub channels : (c : ℕ) → (st.chan c).made ≡ nat_lt c st.channels_high
-  channels = between.at_rest.marks.channels
+  channels = between.at_rest.high.channels
 
   pub claimed : (s i : ℕ) → (st.key s i).claimed ≡ nat_lt i (st.keys_high s)
-  claimed = between.at_rest.marks.claimed
+  claimed = between.at_rest.high.claimed
 
   pub published : (s i : ℕ) → (st.key s i).published ≡ nat_lt i (st.keys_high s)
-  published = between.at_rest.marks.published
+  published = between.at_rest.high.published
 
   pub whole : (s i : ℕ) → (st.key s i).claimed ≡ (st.key s i).published
   whole s i = claimed s i ∙ sym (published s i)
@@ -66,11 +66,11 @@ module _ (l : Limits) (st : State) (now : Progress) (between : IsBetween l st no
 
   pub fresh_mark : (s i : ℕ) → nat_lt i (st.keys_high s) ≡ false → st.mark s i ≡ unmarked
   fresh_mark s i above =
-      let fresh = between.at_rest.marks.fresh s i above in
+      let fresh = between.at_rest.high.fresh s i above in
       unmarked_from (st.key s i) (st.mark s i) fresh.key fresh.mark
 
   pub fresh_free : (s i : ℕ) → nat_lt i (st.keys_high s) ≡ false → st.free s i ≡ false
-  fresh_free s i above = (between.at_rest.marks.fresh s i above).free
+  fresh_free s i above = (between.at_rest.high.fresh s i above).free
 
   pub within : (s i : ℕ) → in_key_set (st.key s i) ≡ true → s < l.selectors
   within s i in_set =

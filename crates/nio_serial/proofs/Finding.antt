@@ -14,7 +14,7 @@ use Rattle.nio_event.specs.State.{State}
 use Rattle.nio_plain.specs.Seq.Modes.{if_in_key_set, key_of, is_registered}
 use Rattle.nio_plain.specs.Seq.Names.{below}
 use Rattle.nio_steps.proofs.PerformLaws.{perform_then_on, perform_sweep, perform_seek, indexes, indexes-push, found_at}
-use Rattle.nio_steps.specs.ChannelCalls.{key_for_plan, noted_in_set, registered_or, is_registered_plan, first_key}
+use Rattle.nio_steps.specs.ChannelCalls.{key_for_plan, enrolled_in_set, registered_or, is_registered_plan, first_key}
 use Rattle.nio_steps.specs.Names.{selector, key}
 use Rattle.nio_steps.specs.Perform.{Performed, perform}
 use Rattle.nio_steps.specs.Plan.{Plan}
@@ -54,14 +54,14 @@ any-push p n =
 
 -- ---- a channel's key
 
--- the look at the noted key, and where it is in the key set
-noted_performed : (me : CallerNo) (s : SelNo) (noted : Option KeyId) (st : State)
-    → perform me (noted_in_set s noted) st ≡ record {
-      answer = option_map (key s) (if_in_key_set st s.0 noted);
+-- the look at the enrolled key, and where it is in the key set
+enrolled_performed : (me : CallerNo) (s : SelNo) (enrolled : Option KeyId) (st : State)
+    → perform me (enrolled_in_set s enrolled) st ≡ record {
+      answer = option_map (key s) (if_in_key_set st s.0 enrolled);
       state = st;
     }
-noted_performed me s None st = refl
-noted_performed me s (Some k) st = by_set (is_in_key_set (st.key s.0 k.index) k.serial)
+enrolled_performed me s None st = refl
+enrolled_performed me s (Some k) st = by_set (is_in_key_set (st.key s.0 k.index) k.serial)
   where
     by_set : (b : Bool)
         → ◌≡◌ {A = Performed (Option KeyNo)} (record { answer = cond b (Some (key s k)) None; state = st })
@@ -72,7 +72,7 @@ noted_performed me s (Some k) st = by_set (is_in_key_set (st.key s.0 k.index) k.
 pub key_for-performed : (me : CallerNo) (c : ChanNo) (s : SelNo) (st : State)
     → perform me (key_for_plan c s) st ≡ record { answer = option_map (key s) (key_of st c.0 s.0); state = st }
 unfolding key_for_plan
-key_for-performed me c s st = noted_performed me s (st.noted c.0 s.0) st
+key_for-performed me c s st = enrolled_performed me s (st.enrolled c.0 s.0) st
 
 mapped_some : {A B : Type 0} (f : A → B) (o : Option A) → is_some (option_map f o) ≡ is_some o
 mapped_some f None = refl

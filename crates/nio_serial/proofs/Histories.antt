@@ -4,7 +4,7 @@ use Rattle.nio_serial.proofs.RestingCalls.{rests-seq}
 use Rattle.nio_serial.proofs.Resting.{rests-from, rests-is}
 use Rattle.nio_serial.specs.Replies.{told_reply}
 use Rattle.nio_plain.specs.ScriptState.{ScriptState}
-use Rattle.nio_plain.specs.Seq.Answers.{Answered, unchanged}
+use Rattle.nio_plain.specs.Seq.Replies.{Replied, unchanged}
 use Rattle.std.proofs.Common.{List, sym, ◌≡◌, Bool, if◌then◌else◌, Some, None, refl, ap, ◌∙◌, subst, nat_lt}
 use Rattle.std.proofs.lemmas.Bool.{lt-ltb, cond-true}
 use Rattle.nio_base.specs.Limits.{IsFit}
@@ -142,7 +142,7 @@ pub call-runs-amount : CallRunsAmount
 call-runs-amount l now me word past acts said fit below between named legal whole =
     let ran = perform_ran l me (call_plan l now me word) past acts said legal whole in
     record {
-      answered = calls-amount l (state_after past) now me word between named ∙ ap comes_to ran;
+      replied = calls-amount l (state_after past) now me word between named ∙ ap comes_to ran;
       between =
           subst (λ (done : Performed Said). IsBetween l done.state done.answer.left) ran
           (calls-stay l (state_after past) now me word fit below between named);
@@ -152,7 +152,7 @@ pub line-runs-amount : LineRunsAmount
 line-runs-amount l now me word past acts said fit between legal whole =
     let ran = perform_ran l me (line_plan l now me word) past acts said legal whole in
     record {
-      answered = lines-amount l (state_after past) now me word fit between ∙ ap comes_to ran;
+      replied = lines-amount l (state_after past) now me word fit between ∙ ap comes_to ran;
       between =
           subst (λ (done : Performed Said). IsBetween l done.state done.answer.left) ran
           (line-stays l (state_after past) now me fit between word);
@@ -210,9 +210,9 @@ told-stays l st now me s x told elapsed below between made own =
     let same : seq Now l ds me word ≡ amounts told_reply (after_told now s) (perform me (told_plan x told elapsed) st) =
     seq-through l ds me word below ∙ told-by-index l st now me between s x told elapsed made own in
     record {
-      left = subst (λ (a : Answered). IsLeft l a.left) same (left-more l ds me word between.left);
+      left = subst (λ (a : Replied). IsLeft l a.left) same (left-more l ds me word between.left);
       at_rest =
-          subst (λ (a : Answered). IsAtRest l a.left.shared) same
+          subst (λ (a : Replied). IsAtRest l a.left.shared) same
           (rests-is l (seq Now l ds me word).left.shared (rests-seq l ds (sound l st now between)
           (rests-from l ds.shared between.at_rest) me word));
       shown = told-index-shows l st now me between s x told elapsed own;
@@ -222,7 +222,7 @@ pub told-runs-amount : ToldRunsAmount
 told-runs-amount l now me s x told elapsed past acts answer below between made own legal whole =
     let ran = perform_ran l me (told_plan x told elapsed) past acts answer legal whole in
     record {
-      answered =
+      replied =
           told-by-index l (state_after past) now me between s x told elapsed made own
           ∙ ap (amounts told_reply (after_told now s)) ran;
       between =

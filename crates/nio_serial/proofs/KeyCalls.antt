@@ -14,7 +14,7 @@ use Rattle.nio_event.specs.declared.reply.Reply.{Reply}
 use Rattle.nio_event.specs.declared.reply.Reply.TheVariants as reply
 use Rattle.nio_plain.proofs.Naming.{key-through}
 use Rattle.nio_plain.specs.ScriptState.{ScriptState}
-use Rattle.nio_plain.specs.Seq.Answers.{Answered, unchanged, answered, yes_or_no}
+use Rattle.nio_plain.specs.Seq.Replies.{Replied, unchanged, replied, yes_or_no}
 use Rattle.nio_plain.specs.Seq.Cancelling.{cancel_call, cancelled_key}
 use Rattle.nio_plain.specs.Seq.Keys.{with_valid_key, valid_call, interest_call, ready_call, iset_call, ior_call}
 use Rattle.nio_plain.specs.Seq.Keys.{iand_call, unselect_call, attach_call, attachment_call, is_in_selected_set}
@@ -52,15 +52,15 @@ module _ (st : State) (now : Progress) (me : CallerNo) (s : SelNo) (k : KeyId)
   abbrev held : State
   held = with_pin st s.0 k.index me.0 true
 
-  abbrev after : {R : Type 0} → (R → Reply) → Performed R → Answered
+  abbrev after : {R : Type 0} → (R → Reply) → Performed R → Replied
   after said done = amounts said (λ _. now) (unpinned me s k.index done)
 
   -- the pins are as before
-  back : (F : (ℕ → ℕ → ℕ → Bool) → Answered) → F st.pinned ≡ F (with_pin held s.0 k.index me.0 false).pinned
+  back : (F : (ℕ → ℕ → ℕ → Bool) → Replied) → F st.pinned ≡ F (with_pin held s.0 k.index me.0 false).pinned
   back F = sym (ap F (pin-back st.pinned s.0 k.index me.0 free))
 
   -- what is done with a named key, and with a valid one
-  on_named : {A : Type 0} (said : A → Reply) (steps : Stage → Plan A) (done : Answered)
+  on_named : {A : Type 0} (said : A → Reply) (steps : Stage → Plan A) (done : Replied)
       → done ≡ after said (perform me (steps stage) held)
       → with_named_key ds s k done ≡ amounts said (λ _. now) (perform me (under_pin s k.index steps) st)
   on_named said steps done is =
@@ -68,7 +68,7 @@ module _ (st : State) (now : Progress) (me : CallerNo) (s : SelNo) (k : KeyId)
       ∙ (is ∙ sym (ap (amounts said (λ _. now)) (perform_pinned me s k.index steps st)))
 
   on_valid_key : {A : Type 0} (said : Result A KeyError → Reply) → said (Err KeyError.CancelledKey) ≡ reply.CancelledKey
-      → (steps : Stage → Plan (Result A KeyError)) (done : Answered)
+      → (steps : Stage → Plan (Result A KeyError)) (done : Replied)
       → done ≡ after said (perform me (steps stage) held)
       → with_valid_key ds s k done ≡ amounts said (λ _. now) (perform me (on_valid (key s k) steps) st)
   on_valid_key said refuses steps done is =
@@ -105,7 +105,7 @@ module _ (st : State) (now : Progress) (me : CallerNo) (s : SelNo) (k : KeyId)
 
   -- operations that the key's channel has, or not
   on_supported_ops : {A : Type 0} (said : Result A KeyError → Reply) → said (Err KeyError.IllegalOps) ≡ reply.IllegalOps
-      → (ops : ℕ) (steps : Plan (Result A KeyError)) (done : Answered)
+      → (ops : ℕ) (steps : Plan (Result A KeyError)) (done : Replied)
       → done ≡ after said (perform me steps held)
       → cond (is_within ops (valid_operations (st.chan stage.chan.0).kind)) done (unchanged ds reply.IllegalOps)
       ≡ after said (perform me (on_supported ops steps stage) held)
@@ -197,27 +197,27 @@ module _ (st : State) (now : Progress) (me : CallerNo) (s : SelNo) (k : KeyId)
         (by_set (fits stage k.serial && not stage.removed) refl (in_set-is stage k.serial whole))
       where
         by_set : (b : Bool) → (fits stage k.serial && not stage.removed) ≡ b → b ≡ is_in_key_set stage k.serial
-            → answered ds reply.«Ok»
+            → replied ds reply.«Ok»
             (with_key ds.shared s.0 k.index
             (cond (is_in_key_set stage k.serial) (cancelled_key (settled stage)) (settled stage)))
             ≡ after (λ _. reply.«Ok») (perform me (when b (cancel_key s k.index)) held)
         by_set true e same =
             let present : stage.removed ≡ false = not-true stage.removed
             (and_parts (fits stage k.serial) (not stage.removed) e).1 in
-            ap (λ b. answered ds reply.«Ok»
+            ap (λ b. replied ds reply.«Ok»
             (with_key ds.shared s.0 k.index (cond b (cancelled_key (settled stage)) (settled stage)))) (sym same)
-            ∙ (ap (λ r. answered ds reply.«Ok» (with_key ds.shared s.0 k.index (record stage { cancelled = r })))
+            ∙ (ap (λ r. replied ds reply.«Ok» (with_key ds.shared s.0 k.index (record stage { cancelled = r })))
             (λ j. not (sym present j) && true)
-            ∙ (ap (λ x. answered ds reply.«Ok» x) (sym (settled-key st s.0 k.index (cancelled_key stage) refl))
+            ∙ (ap (λ x. replied ds reply.«Ok» x) (sym (settled-key st s.0 k.index (cancelled_key stage) refl))
             ∙ back (λ p. record {
               reply = reply.«Ok»;
               left =
                   documented (record (with_key st s.0 k.index (cancelled_key stage)) { pinned = p }) now;
             })))
         by_set false e same =
-            ap (λ b. answered ds reply.«Ok»
+            ap (λ b. replied ds reply.«Ok»
             (with_key ds.shared s.0 k.index (cond b (cancelled_key (settled stage)) (settled stage)))) (sym same)
-            ∙ (ap (λ f. answered ds reply.«Ok» (record ds.shared { key = f }))
+            ∙ (ap (λ f. replied ds reply.«Ok» (record ds.shared { key = f }))
             (put_at-here ds.shared.key s.0 k.index (settled stage) refl)
             ∙ back (λ p. record { reply = reply.«Ok»; left = documented (record st { pinned = p }) now }))
 
@@ -230,7 +230,7 @@ module _ (st : State) (now : Progress) (me : CallerNo) (s : SelNo) (k : KeyId)
 
       by_set : (b : Bool) → is_in_key_set stage k.serial ≡ b
           → cond (is_in_selected_set ds.shared s.0 k)
-          (answered ds reply.Yes
+          (replied ds reply.Yes
           (with_mark ds.shared s.0 k.index (record (settled_mark stage m) { selected = false })))
           (unchanged ds reply.No)
           ≡ after yes_or_no (perform me (cond b (unselect_bit s k.index) (Plan.reply false)) held)
@@ -241,7 +241,7 @@ module _ (st : State) (now : Progress) (me : CallerNo) (s : SelNo) (k : KeyId)
           let test : is_in_selected_set ds.shared s.0 k ≡ m.selected = λ j. both.0 j
           && (both.1 j && (not (present j) && m.selected)) in
           ap (λ b. cond b
-          (answered ds reply.Yes
+          (replied ds reply.Yes
           (with_mark ds.shared s.0 k.index (record (settled_mark stage m) { selected = false })))
           (unchanged ds reply.No)) test
           ∙ (by_mark m.selected refl present
@@ -252,7 +252,7 @@ module _ (st : State) (now : Progress) (me : CallerNo) (s : SelNo) (k : KeyId)
           }))
         where
           by_mark : (b : Bool) → m.selected ≡ b → stage.removed ≡ false
-              → cond b (answered ds reply.Yes
+              → cond b (replied ds reply.Yes
               (with_mark ds.shared s.0 k.index (record (settled_mark stage m) { selected = false })))
               (unchanged ds reply.No)
               ≡ record {
@@ -261,16 +261,16 @@ module _ (st : State) (now : Progress) (me : CallerNo) (s : SelNo) (k : KeyId)
                     documented (with_mark st s.0 k.index (record m { selected = false })) now;
               }
           by_mark true is present =
-              ap (λ x. answered ds reply.Yes (with_mark ds.shared s.0 k.index (record m { selected = x })))
+              ap (λ x. replied ds reply.Yes (with_mark ds.shared s.0 k.index (record m { selected = x })))
               (λ j. not (sym present j) && false)
-              ∙ ap (λ x. answered ds reply.Yes x) (sym (settled-marked st s.0 k.index (record m { selected = false })))
+              ∙ ap (λ x. replied ds reply.Yes x) (sym (settled-marked st s.0 k.index (record m { selected = false })))
           by_mark false is present =
               ap (λ f. record { reply = reply.No; left = documented (record st { mark = f }) now })
               (sym (put_at-here st.mark s.0 k.index (record m { selected = false })
               (λ j. record m { selected = is j })))
       by_set false e =
           ap (λ b. cond b
-          (answered ds reply.Yes
+          (replied ds reply.Yes
           (with_mark ds.shared s.0 k.index (record (settled_mark stage m) { selected = false })))
           (unchanged ds reply.No))
           (neither (fits stage k.serial) (in_key_set stage) (settled_mark stage m).selected e)

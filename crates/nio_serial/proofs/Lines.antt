@@ -21,7 +21,7 @@ use Rattle.nio_event.specs.declared.reply.Reply.TheVariants as reply
 use Rattle.nio_plain.proofs.Naming.{channel-through, channel-refused, selector-through, selector-refused}
 use Rattle.nio_plain.specs.ScriptState.{ScriptState}
 use Rattle.nio_plain.specs.Seq.{call_of, seq}
-use Rattle.nio_plain.specs.Seq.Answers.{Answered, unchanged}
+use Rattle.nio_plain.specs.Seq.Replies.{Replied, unchanged}
 use Rattle.nio_plain.specs.Seq.Cancelling.{closec_call, cancel_call}
 use Rattle.nio_plain.specs.Seq.Closing.{close_call, close_end_call}
 use Rattle.nio_plain.specs.Seq.Keys.{valid_call, interest_call, ready_call, iset_call, ior_call, iand_call}
@@ -68,7 +68,7 @@ module _ (l : Limits) (st : State) (now : Progress) (me : CallerNo) (fit : IsFit
   channel_within : (n : ℕ) → nat_lt n l.channels ≡ false → (st.chan n).made ≡ false
   channel_within n above =
       let past : l.channels ≤ n = ltb-false n l.channels above in
-      let marks = between.at_rest.marks.channels_within in
+      let marks = between.at_rest.high.channels_within in
       channels l st now between n ∙ le-ltb n st.channels_high (omega arith)
 
   fresh_unpublished : (k : Stage) (q : ℕ) → settled k ≡ unclaimed → was_published k q ≡ false
@@ -82,8 +82,8 @@ module _ (l : Limits) (st : State) (now : Progress) (me : CallerNo) (fit : IsFit
   key_within : (s i q : ℕ) → nat_lt i l.keys ≡ false → was_published (st.key s i) q ≡ false
   key_within s i q above =
       let past : l.keys ≤ i = ltb-false i l.keys above in
-      let marks = between.at_rest.marks.keys_within s in
-      fresh_unpublished (st.key s i) q (between.at_rest.marks.fresh s i (le-ltb i (st.keys_high s) (omega arith))).key
+      let marks = between.at_rest.high.keys_within s in
+      fresh_unpublished (st.key s i) q (between.at_rest.high.fresh s i (le-ltb i (st.keys_high s) (omega arith))).key
 
   pub selector-found : (n : ℕ) → perform me (find_selector_plan l n) st
       ≡ record { answer = if st.selector n then Some (selector n) else None; state = st }
@@ -149,7 +149,7 @@ module _ (l : Limits) (st : State) (now : Progress) (me : CallerNo) (fit : IsFit
   found-is false a r plan = refl
 
   -- `whole` is the documented call, and `inner` what it does once the name is found
-  selector-line : (s : SelNo) (whole inner : Answered) (plan : Plan Said) → whole ≡ with_named_selector ds s inner
+  selector-line : (s : SelNo) (whole inner : Replied) (plan : Plan Said) → whole ≡ with_named_selector ds s inner
       → (st.selector s.0 ≡ true → whole ≡ comes_to (perform me plan st))
       → whole ≡ comes_to (perform me (if_selector l now s plan) st)
   selector-line s whole inner plan is named =
@@ -166,7 +166,7 @@ module _ (l : Limits) (st : State) (now : Progress) (me : CallerNo) (fit : IsFit
           is ∙ (selector-refused ds s e inner
           ∙ ap (λ (b : Bool). comes_to (perform me (if b then plan else refused now reply.NoSelector) st)) (sym e))
 
-  channel-line : (c : ChanNo) (whole inner : Answered) (plan : Plan Said) → whole ≡ with_named_channel ds c inner
+  channel-line : (c : ChanNo) (whole inner : Replied) (plan : Plan Said) → whole ≡ with_named_channel ds c inner
       → ((st.chan c.0).made ≡ true → whole ≡ comes_to (perform me plan st))
       → whole ≡ comes_to (perform me (if_channel l now c plan) st)
   channel-line c whole inner plan is named =
@@ -183,7 +183,7 @@ module _ (l : Limits) (st : State) (now : Progress) (me : CallerNo) (fit : IsFit
           is ∙ (channel-refused ds c e inner
           ∙ ap (λ (b : Bool). comes_to (perform me (if b then plan else refused now reply.NoChannel) st)) (sym e))
 
-  key-line : (s : SelNo) (k : KeyId) (whole inner : Answered) (plan : Plan Said) → whole ≡ with_named_key ds s k inner
+  key-line : (s : SelNo) (k : KeyId) (whole inner : Replied) (plan : Plan Said) → whole ≡ with_named_key ds s k inner
       → ((st.selector s.0 ≡ true) × (was_published (st.key s.0 k.index) k.serial ≡ true)
       → whole ≡ comes_to (perform me plan st))
       → whole ≡ comes_to (perform me (if_key l now s k plan) st)

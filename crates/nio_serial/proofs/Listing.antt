@@ -10,7 +10,7 @@ use Rattle.nio_event.specs.Sets.{in_key_set, in_selected_set}
 use Rattle.nio_event.specs.State.{State, with_pin}
 use Rattle.nio_plain.proofs.Naming.{selector-through}
 use Rattle.nio_plain.specs.ScriptState.{ScriptState}
-use Rattle.nio_plain.specs.Seq.Answers.{Answered, unchanged}
+use Rattle.nio_plain.specs.Seq.Replies.{Replied, unchanged}
 use Rattle.nio_plain.specs.Seq.Listing.{names_or_none, listed, keys_call, selected_call}
 use Rattle.nio_plain.specs.Seq.Names.{below, key_at}
 use Rattle.nio_steps.proofs.PerformLaws.{perform_then_on, perform_sweep}
@@ -70,7 +70,7 @@ module _ (st : State) (now : Progress) (me : CallerNo) (s : SelNo) (made : st.se
   abbrev ds : ScriptState
   ds = documented st now
 
-  abbrev stays : Performed (Result (List KeyNo) ListError) → Answered
+  abbrev stays : Performed (Result (List KeyNo) ListError) → Replied
   stays done = amounts list_reply (λ _. now) done
 
   listed-amounts : (list_one : SelNo → ℕ → List KeyNo → Plan (List KeyNo)) (p : ℕ → Bool)

@@ -10,7 +10,7 @@ use Rattle.nio_base.specs.declared.numbers.KeyNo.{KeyNo}
 use Rattle.nio_base.specs.declared.numbers.SelNo.{SelNo}
 use Rattle.nio_event.proofs.Put.{put_at-same}
 use Rattle.nio_event.specs.Acts.{new_key}
-use Rattle.nio_event.specs.State.{State, unmarked, put, put_at, with_noted, with_keys_high, with_interest, with_mark}
+use Rattle.nio_event.specs.State.{State, unmarked, put, put_at, with_enrolled, with_keys_high, with_interest, with_mark}
 use Rattle.nio_event.specs.State.{with_note}
 use Rattle.nio_event.specs.declared.found.Stage.{Stage}
 use Rattle.nio_plain.proofs.Found.{found_below}
@@ -28,13 +28,13 @@ use Rattle.nio_serial.proofs.Base.{put-here, put_at-here, put_at-twice, pin-back
 use Rattle.nio_serial.proofs.Claiming.{claimed_again, next_at, found, search-performed, claimed_first, first-performed}
 use Rattle.nio_serial.proofs.Claiming.{full-performed}
 
--- a claimed index gets its parts, its key is noted and published, and the pin of the claim is given back
+-- a claimed index gets its parts, its key is enrolled and published, and the pin of the claim is given back
 pub made-performed : (st : State) (me : CallerNo) (s : SelNo) (c : ChanNo) (ops att : ℕ) (k : KeyId)
     → st.key s.0 k.index ≡ new_key c k.serial → (st.gate s.0).shut ≡ false → (st.chan c.0).closed ≡ false
     → perform me (make_claimed s c ops att k) st
     ≡ record {
       answer = Ok (key s k);
-      state = record (with_noted (with_note (with_interest st s.0 k.index ops) s.0 k.index att) c.0 s.0 (Some k)) {
+      state = record (with_enrolled (with_note (with_interest st s.0 k.index ops) s.0 k.index att) c.0 s.0 (Some k)) {
         key = put_at st.key s.0 k.index (new_stage c.0 k.serial);
         pinned = put_at st.pinned s.0 k.index (put (st.pinned s.0 k.index) me.0 false);
       };
@@ -46,14 +46,14 @@ made-performed st me s c ops att k claimed not_shut is_open =
     (publish_key s c ops att k) st not_shut
     ∙ (ap (λ (x : Stage). perform me
     (if x.removed then Plan.reply (Err ChannelError.ClosedSelector) else settle_key s c k)
-    (record noted { key = put_at st.key s.0 k.index (record x { published = true }) })) claimed
+    (record enrolled { key = put_at st.key s.0 k.index (record x { published = true }) })) claimed
     ∙ ap (λ (b : Bool). perform me (when b (cancel_key s k.index) >> Plan.reply (Ok (key s k))) published) is_open))
   where
-    noted : State
-    noted = with_noted (with_note (with_interest st s.0 k.index ops) s.0 k.index att) c.0 s.0 (Some k)
+    enrolled : State
+    enrolled = with_enrolled (with_note (with_interest st s.0 k.index ops) s.0 k.index att) c.0 s.0 (Some k)
 
     published : State
-    published = record noted { key = put_at st.key s.0 k.index (new_stage c.0 k.serial) }
+    published = record enrolled { key = put_at st.key s.0 k.index (new_stage c.0 k.serial) }
 
 module _ (l : Limits) (st : State) (me : CallerNo) (s : SelNo) (c : ChanNo) (ops att : ℕ)
     (unpinned : (i n : ℕ) → st.pinned s.0 i n ≡ false) (untaken : (i : ℕ) → st.taker s.0 i ≡ None)
@@ -89,7 +89,7 @@ module _ (l : Limits) (st : State) (me : CallerNo) (s : SelNo) (c : ChanNo) (ops
     claimed-made : perform me (make_claimed s c ops att k) claimed
         ≡ record {
           answer = Ok (key s k);
-          state = record (with_noted (with_note (with_interest claimed s.0 k.index ops) s.0 k.index att) c.0 s.0
+          state = record (with_enrolled (with_note (with_interest claimed s.0 k.index ops) s.0 k.index att) c.0 s.0
               (Some k)) {
                 key = put_at st.key s.0 k.index (new_stage c.0 k.serial);
                 pinned = st.pinned;
@@ -101,7 +101,7 @@ module _ (l : Limits) (st : State) (me : CallerNo) (s : SelNo) (c : ChanNo) (ops
         ∙ (λ j. record {
           answer = Ok (key s k);
           state =
-              record (with_noted (with_note (with_interest claimed s.0 k.index ops) s.0 k.index att) c.0 s.0
+              record (with_enrolled (with_note (with_interest claimed s.0 k.index ops) s.0 k.index att) c.0 s.0
               (Some k)) { key = key-made j; pinned = pins-made j };
         })
 

@@ -10,9 +10,9 @@ use Rattle.nio_event.specs.State.{State}
 use Rattle.nio_event.specs.declared.reply.Reply.{Reply}
 use Rattle.nio_event.specs.declared.reply.Reply.TheVariants as reply
 use Rattle.nio_plain.specs.ScriptState.{Pipe, ScriptState}
-use Rattle.nio_plain.specs.Seq.Answers.{Answered, unchanged, answered}
+use Rattle.nio_plain.specs.Seq.Replies.{Replied, unchanged, replied}
 use Rattle.nio_plain.specs.Seq.Cancelling.{channel_closed}
-use Rattle.nio_plain.specs.Seq.Pipes.{no_pipe, marking, pipe_at}
+use Rattle.nio_plain.specs.Seq.Pipes.{no_pipe, sealing, pipe_at}
 use Rattle.nio_plain.specs.Seq.Piping.{not_now, read_first, read_from, room_for, write_first, write_to}
 use Rattle.nio_steps.proofs.PerformLaws.{perform-bind, perform_then_on}
 use Rattle.nio_steps.specs.ChannelCalls.{close_channel_plan}
@@ -78,37 +78,37 @@ module _ (l : Limits) (st : State) (now : Progress) (me : CallerNo) (c : ChanNo)
     same-pipes = ap (λ (pipes : List Pipe). record now { pipes = pipes }) (set-get_or now.pipes i no_pipe)
 
     -- a call on the pipe, by what its plan answers
-    abbrev gave : (Pipe → Result Bool PipeError → Piped) → Performed (Result Bool PipeError) → Answered
+    abbrev gave : (Pipe → Result Bool PipeError → Piped) → Performed (Result Bool PipeError) → Replied
     gave gives done = amounts (λ answer. (gives p answer).reply) (λ answer. with_pipe now i (gives p answer).left) done
 
-    abbrev left_as : State → Piped → Answered
+    abbrev left_as : State → Piped → Replied
     left_as left piped = record { reply = piped.reply; left = documented left (with_pipe now i piped.left) }
 
     only : (r : Reply) → unchanged ds r ≡ left_as st (only_says p r)
     only r = ap (λ (x : Progress). record { reply = r; left = documented st x }) (sym same-pipes)
 
-    interrupts : answered ds reply.ClosedByInterrupt (channel_closed ds.shared c.0)
+    interrupts : replied ds reply.ClosedByInterrupt (channel_closed ds.shared c.0)
         ≡ record { reply = reply.ClosedByInterrupt; left = documented (closed_left l st c) now }
     interrupts = closed-documented l st now me c free whole within reply.ClosedByInterrupt
 
     module _ (n : ℕ) where
-      taken : (mode : Bool) (waiting : List ℕ) (marked : Bool)
-          → read_first ds mode n i waiting marked ≡ left_as st (takes p mode n waiting marked)
+      taken : (mode : Bool) (waiting : List ℕ) (sealed : Bool)
+          → read_first ds mode n i waiting sealed ≡ left_as st (takes p mode n waiting sealed)
       taken mode [] false = only (not_now mode)
       taken mode [] true = only reply.End
-      taken mode (b ∷ bytes) marked = refl
+      taken mode (b ∷ bytes) sealed = refl
 
       read-some : (b : Bool)
-          → (if b then unchanged ds (reply.Number 0) else read_first ds blocking n i p.waiting p.marked)
-          ≡ left_as st (if b then only_says p (reply.Number 0) else takes p blocking n p.waiting p.marked)
+          → (if b then unchanged ds (reply.Number 0) else read_first ds blocking n i p.waiting p.sealed)
+          ≡ left_as st (if b then only_says p (reply.Number 0) else takes p blocking n p.waiting p.sealed)
       read-some true = only (reply.Number 0)
-      read-some false = taken blocking p.waiting p.marked
+      read-some false = taken blocking p.waiting p.sealed
 
       read-is : (closed interrupted : Bool)
           → (if closed then unchanged ds reply.ClosedChannel
-          else if interrupted then answered ds reply.ClosedByInterrupt (channel_closed ds.shared c.0)
+          else if interrupted then replied ds reply.ClosedByInterrupt (channel_closed ds.shared c.0)
           else if n == 0 then unchanged ds (reply.Number 0)
-          else read_first ds blocking n i p.waiting p.marked)
+          else read_first ds blocking n i p.waiting p.sealed)
           ≡ gave (read_gives n) (looked closed interrupted)
       read-is true interrupted = only reply.ClosedChannel
       read-is false true =
@@ -157,15 +157,15 @@ module _ (l : Limits) (st : State) (now : Progress) (me : CallerNo) (c : ChanNo)
       and_source done = perform me (if_unbroken p.source done.answer) done.state
 
       write-is : (closed interrupted : Bool)
-          → (if closed then marking (Some i) (unchanged ds reply.ClosedChannel)
+          → (if closed then sealing (Some i) (unchanged ds reply.ClosedChannel)
           else if interrupted then
-          marking (Some i) (answered ds reply.ClosedByInterrupt (channel_closed ds.shared c.0))
+          sealing (Some i) (replied ds reply.ClosedByInterrupt (channel_closed ds.shared c.0))
           else if broken then unchanged ds reply.BrokenPipe
           else if length bytes == 0 then unchanged ds (reply.Number 0)
           else write_first ds blocking bytes i (room_for bytes p))
           ≡ gave (write_gives bytes) (and_source (looked closed interrupted))
       write-is true interrupted = refl
-      write-is false true = ap (marking (Some i)) interrupts
+      write-is false true = ap (sealing (Some i)) interrupts
       write-is false false = broken-is broken
 
       pub write-amounts : write_to ds me c bytes (Some i)

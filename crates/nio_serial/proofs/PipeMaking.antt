@@ -11,7 +11,7 @@ use Rattle.nio_event.specs.Sets.{in_key_set}
 use Rattle.nio_event.specs.State.{State}
 use Rattle.nio_event.specs.declared.reply.Reply.TheVariants as reply
 use Rattle.nio_plain.specs.ScriptState.{ScriptState}
-use Rattle.nio_plain.specs.Seq.Answers.{Answered, answered}
+use Rattle.nio_plain.specs.Seq.Replies.{Replied, replied}
 use Rattle.nio_plain.specs.Seq.Cancelling.{channel_closed}
 use Rattle.nio_plain.specs.Seq.Opening.{next_channel}
 use Rattle.nio_plain.specs.Seq.Piping.{with_sink, with_source}
@@ -40,7 +40,7 @@ module _ (l : Limits) (st : State) (now : Progress) (me target : CallerNo)
   abbrev m : ℕ
   m = st.channels_high
 
-  abbrev gave : Performed (Result PipeEnds PipeMakeError) → Answered
+  abbrev gave : Performed (Result PipeEnds PipeMakeError) → Replied
   gave done = amounts ends_reply (after_pipe now me target) done
 
   -- the source is made
@@ -65,7 +65,7 @@ module _ (l : Limits) (st : State) (now : Progress) (me target : CallerNo)
 
     -- the source is closed where no number is left for a sink
     sink-spent : (c : ChanNo) → (st1.chan c.0).closed ≡ false
-        → answered ds1 reply.ChannelsSpent (channel_closed ds1.shared c.0)
+        → replied ds1 reply.ChannelsSpent (channel_closed ds1.shared c.0)
         ≡ gave (perform me (sink_for l c (Err ChannelError.ChannelsSpent)) st1)
     sink-spent c opened =
         closed-documented l st1 now me c free whole within reply.ChannelsSpent

@@ -17,12 +17,12 @@ use Rattle.nio_event.specs.declared.reply.Reply.{Reply}
 use Rattle.nio_event.specs.declared.reply.Reply.TheVariants as reply
 use Rattle.nio_plain.proofs.Naming.{channel-through, selector-through}
 use Rattle.nio_plain.specs.ScriptState.{ScriptState, with_shared}
-use Rattle.nio_plain.specs.Seq.Answers.{Answered, unchanged, answered}
+use Rattle.nio_plain.specs.Seq.Replies.{Replied, unchanged, replied}
 use Rattle.nio_plain.specs.Seq.Modes.{if_in_key_set}
 use Rattle.nio_plain.specs.Seq.Registering.{given_or_none, given_or_kept, next_key, new_stage, with_new_key}
 use Rattle.nio_plain.specs.Seq.Registering.{registered_new, registered, register_call}
 use Rattle.nio_steps.proofs.PerformLaws.{perform_else, perform_then_on}
-use Rattle.nio_steps.specs.ChannelCalls.{under_hold, update_key, register_noted, register_over, register_rest}
+use Rattle.nio_steps.specs.ChannelCalls.{under_hold, update_key, register_enrolled, register_over, register_rest}
 use Rattle.nio_steps.specs.ChannelCalls.{register_new, register_unblocked, register_held, try_register_plan}
 use Rattle.nio_steps.specs.KeyCalls.{under_pin, is_within}
 use Rattle.nio_steps.specs.Names.{key}
@@ -105,13 +105,13 @@ module _ (l : Limits) (st : State) (me : CallerNo) (s : SelNo) (c : ChanNo) (ops
     over_of false false true = record { answer = Some (updated k).answer; state = (updated k).state }
     over_of false false false = record { answer = None; state = st }
 
-    noted_att : (b : Bool) → ◌≡◌ {A = Done} (perform me (setting b) (with_interest held s.0 k.index ops))
+    enrolled_att : (b : Bool) → ◌≡◌ {A = Done} (perform me (setting b) (with_interest held s.0 k.index ops))
         (record {
           answer = Ok (key s k);
           state =
               with_note (with_interest held s.0 k.index ops) s.0 k.index (if b then st.note s.0 k.index else att);
         })
-    noted_att true =
+    enrolled_att true =
         λ j. record {
           answer = Ok (key s k);
           state = record
@@ -120,7 +120,7 @@ module _ (l : Limits) (st : State) (me : CallerNo) (s : SelNo) (c : ChanNo) (ops
                     (put_at-here st.note s.0 k.index (st.note s.0 k.index) refl) j;
               };
         }
-    noted_att false = refl
+    enrolled_att false = refl
 
     after_gate : (shut valid : Bool) → unpinned me s k.index (perform me (opened shut valid) held)
         ≡ over_of false shut valid
@@ -130,7 +130,7 @@ module _ (l : Limits) (st : State) (me : CallerNo) (s : SelNo) (c : ChanNo) (ops
         with_note (with_interest held s.0 k.index ops) s.0 k.index
         (if att == 0 then st.note s.0 k.index else att) in
         ap (unpinned me s k.index) (perform_then_on me (update_key s k ops att)
-        (λ answer. Plan.reply (Some answer)) held (Ok (key s k)) done (noted_att (att == 0)))
+        (λ answer. Plan.reply (Some answer)) held (Ok (key s k)) done (enrolled_att (att == 0)))
         ∙ back (Some (Ok (key s k))) (λ p. record done { pinned = p })
     after_gate false false = back None (λ p. record st { pinned = p })
 
@@ -139,10 +139,10 @@ module _ (l : Limits) (st : State) (me : CallerNo) (s : SelNo) (c : ChanNo) (ops
     at_first true = back (Some (Err ChannelError.CancelledKey)) (λ p. record st { pinned = p })
     at_first false = after_gate (st.gate s.0).shut (is_valid_key stage k.serial)
 
-    over-performed : perform me (under_pin s k.index (register_noted s ops att k)) st
+    over-performed : perform me (under_pin s k.index (register_enrolled s ops att k)) st
         ≡ over_of (is_in_key_set stage k.serial && stage.cancelled) (st.gate s.0).shut (is_valid_key stage k.serial)
     over-performed =
-        perform_pinned me s k.index (register_noted s ops att k) st
+        perform_pinned me s k.index (register_enrolled s ops att k) st
         ∙ at_first (is_in_key_set stage k.serial && stage.cancelled)
 
 -- ---- the call
@@ -179,11 +179,11 @@ module _ (l : Limits) (st : State) (now : Progress) (me : CallerNo) (s : SelNo) 
   abbrev holding : State
   holding = with_hold st c.0 (Some me)
 
-  abbrev F : Performed (Result KeyNo ChannelError) → Answered
+  abbrev F : Performed (Result KeyNo ChannelError) → Replied
   F done = amounts register_reply (λ _. now) (released c done)
 
   -- the hold is as before
-  freed : (G : (ℕ → Option CallerNo) → Answered) → G st.hold ≡ G (with_hold holding c.0 None).hold
+  freed : (G : (ℕ → Option CallerNo) → Replied) → G st.hold ≡ G (with_hold holding c.0 None).hold
   freed G = sym (ap G (put-back st.hold c.0 (Some me) None unheld))
 
   refused : (e : ChannelError) (r : Reply) → register_reply (Err e) ≡ r
@@ -221,40 +221,40 @@ module _ (l : Limits) (st : State) (now : Progress) (me : CallerNo) (s : SelNo) 
     unregistered false not_shut = newly not_shut
 
     module _ (k : KeyId) where
-      abbrev noted_stage : Stage
-      noted_stage = st.key s.0 k.index
+      abbrev enrolled_stage : Stage
+      enrolled_stage = st.key s.0 k.index
 
       abbrev over : Bool → Bool → Bool → Performed (Option (Result KeyNo ChannelError))
       over = over_of l holding me s c ops att free untaken exact fresh_mark fresh_free is_open k
 
-      abbrev finish : Performed (Option (Result KeyNo ChannelError)) → Answered
+      abbrev finish : Performed (Option (Result KeyNo ChannelError)) → Replied
       finish done = F (perform me (register_rest l s c ops att done.answer) done.state)
 
-      by_key : (in_set : Bool) → is_in_key_set noted_stage k.serial ≡ in_set → (cancelled : Bool)
-          → noted_stage.cancelled ≡ cancelled → (shut : Bool) → (st.gate s.0).shut ≡ shut
+      by_key : (in_set : Bool) → is_in_key_set enrolled_stage k.serial ≡ in_set → (cancelled : Bool)
+          → enrolled_stage.cancelled ≡ cancelled → (shut : Bool) → (st.gate s.0).shut ≡ shut
           → registered l ds s.0 c.0 ops given (cond in_set (Some k) None)
-          ≡ finish (over (in_set && cancelled) shut (is_valid_key noted_stage k.serial))
+          ≡ finish (over (in_set && cancelled) shut (is_valid_key enrolled_stage k.serial))
       by_key true e cancelled e' shut e'' =
-          let both = and_parts (fits noted_stage k.serial) (in_key_set noted_stage) e in
-          let present : noted_stage.removed ≡ false =
-          not-true noted_stage.removed (and_parts noted_stage.published (not noted_stage.removed) both.1).1 in
+          let both = and_parts (fits enrolled_stage k.serial) (in_key_set enrolled_stage) e in
+          let present : enrolled_stage.removed ≡ false =
+          not-true enrolled_stage.removed (and_parts enrolled_stage.published (not enrolled_stage.removed) both.1).1 in
           (λ j. by_tests (not (present j) && e' j) (e'' j))
-          ∙ with_key_there cancelled shut (λ out. valid_where (fits noted_stage k.serial)
-          (in_key_set noted_stage) noted_stage.cancelled e (e' ∙ out))
+          ∙ with_key_there cancelled shut (λ out. valid_where (fits enrolled_stage k.serial)
+          (in_key_set enrolled_stage) enrolled_stage.cancelled e (e' ∙ out))
         where
-          done : Answered
-          done = answered ds (reply.Key k) (with_note (with_interest ds.shared s.0 k.index ops) s.0 k.index
+          done : Replied
+          done = replied ds (reply.Key k) (with_note (with_interest ds.shared s.0 k.index ops) s.0 k.index
               (given_or_kept given (st.note s.0 k.index)))
 
-          by_tests : Bool → Bool → Answered
+          by_tests : Bool → Bool → Replied
           by_tests x y = cond x (unchanged ds reply.CancelledKey) (cond y (unchanged ds reply.ClosedSelector) done)
 
-          with_key_there : (x y : Bool) → (x ≡ false → is_valid_key noted_stage k.serial ≡ true)
-              → by_tests x y ≡ finish (over x y (is_valid_key noted_stage k.serial))
+          with_key_there : (x y : Bool) → (x ≡ false → is_valid_key enrolled_stage k.serial ≡ true)
+              → by_tests x y ≡ finish (over x y (is_valid_key enrolled_stage k.serial))
           with_key_there true y valid = refused ChannelError.CancelledKey reply.CancelledKey refl
           with_key_there false true valid = refused ChannelError.ClosedSelector reply.ClosedSelector refl
           with_key_there false false valid =
-              ap (λ n. answered ds (reply.Key k) (with_note (with_interest ds.shared s.0 k.index ops) s.0 k.index n))
+              ap (λ n. replied ds (reply.Key k) (with_note (with_interest ds.shared s.0 k.index ops) s.0 k.index n))
               (kept-is given (st.note s.0 k.index))
               ∙ (freed (λ h. record {
                 reply = reply.Key k;
@@ -271,17 +271,17 @@ module _ (l : Limits) (st : State) (now : Progress) (me : CallerNo) (s : SelNo) 
           ap (λ b. cond b (unchanged ds reply.ClosedSelector)
           (registered_new ds s.0 c.0 ops att (next_key l ds.shared s.0))) not_shut
           ∙ (newly not_shut
-          ∙ ap (λ v. finish (over false false v)) (sym (not_valid (fits noted_stage k.serial)
-          (in_key_set noted_stage) noted_stage.cancelled e)))
+          ∙ ap (λ v. finish (over false false v)) (sym (not_valid (fits enrolled_stage k.serial)
+          (in_key_set enrolled_stage) enrolled_stage.cancelled e)))
 
-    by_noted : (o : Option KeyId) → st.noted c.0 s.0 ≡ o
+    by_enrolled : (o : Option KeyId) → st.enrolled c.0 s.0 ≡ o
         → registered l ds s.0 c.0 ops given (if_in_key_set ds.shared s.0 o)
         ≡ F (perform me (register_over s ops att o >>= register_rest l s c ops att) holding)
-    by_noted None is = unregistered (st.gate s.0).shut refl
-    by_noted (Some k) is =
+    by_enrolled None is = unregistered (st.gate s.0).shut refl
+    by_enrolled (Some k) is =
         let stage = st.key s.0 k.index in
         by_key k (is_in_key_set stage k.serial) refl stage.cancelled refl (st.gate s.0).shut refl
-        ∙ sym (ap F (perform_then_on me (under_pin s k.index (register_noted s ops att k))
+        ∙ sym (ap F (perform_then_on me (under_pin s k.index (register_enrolled s ops att k))
         (register_rest l s c ops att) holding _ _
         (over-performed l holding me s c ops att free untaken exact fresh_mark fresh_free is_open k)))
 
@@ -304,7 +304,7 @@ module _ (l : Limits) (st : State) (now : Progress) (me : CallerNo) (s : SelNo) 
       (λ is_open. branch F me (Plan.reply (Err ChannelError.IllegalBlockingMode))
       (register_unblocked l s c ops att) holding _ _ chan.blocking chan.blocking refl
       (λ _. refused ChannelError.IllegalBlockingMode reply.IllegalBlockingMode refl)
-      (λ _. by_noted is_open (st.noted c.0 s.0) refl)
+      (λ _. by_enrolled is_open (st.enrolled c.0 s.0) refl)
       ∙ (ap F (sym (perform_else me chan.closed (Plan.reply (Err ChannelError.ClosedChannel))
       (if chan.blocking then Plan.reply (Err ChannelError.IllegalBlockingMode)
       else register_unblocked l s c ops att) holding is_open))

@@ -61,12 +61,12 @@ rests-from l st rest = record {
     untaken = rest.unused.untaken;
     none_due = rest.unused.none_due;
   };
-  channels = record { within = rest.marks.channels_within; made = rest.marks.channels };
+  channels = record { within = rest.high.channels_within; made = rest.high.channels };
   keys = record {
-    within = rest.marks.keys_within;
-    claimed = rest.marks.claimed;
-    published = rest.marks.published;
-    fresh = λ s i above. let new = rest.marks.fresh s i above in
+    within = rest.high.keys_within;
+    claimed = rest.high.claimed;
+    published = rest.high.published;
+    fresh = λ s i above. let new = rest.high.fresh s i above in
         record { key = new.key; mark = new.mark; free = new.free };
   };
   frees = record { removed = rest.free.removed; exactly = rest.free.exactly };
@@ -80,7 +80,7 @@ rests-is l st rest = record {
     untaken = rest.unused.untaken;
     none_due = rest.unused.none_due;
   };
-  marks = record {
+  high = record {
     channels_within = rest.channels.within;
     keys_within = rest.keys.within;
     channels = rest.channels.made;
@@ -111,7 +111,7 @@ module _ (l : Limits) (mark : ℕ) (chan : ℕ → Chan) (rest : ChannelsRest l 
       le-ltb n (mark + 1) (omega arith) ∙ sym (le-ltb n mark above))
       (cases_lt n mark)
 
-  -- the channel at the mark is made
+  -- the channel at the high-water mark is made
   pub channels-more : mark < l.channels → (x : Chan) → x.made ≡ true → ChannelsRest l (mark + 1) (put chan mark x)
   channels-more room x made = record { within = omega arith; made = λ n. at n (n == mark) refl }
     where
@@ -136,7 +136,7 @@ keys-kept l keys_high key after mark marked free freed rest claimed published fr
   fresh = λ s i above. fresh s i above (rest.fresh s i above);
 }
 
--- an index above the mark has no key in the key set
+-- an index above the high-water mark has no key in the key set
 pub above-out : (l : Limits) (keys_high : ℕ → ℕ) (key : ℕ → ℕ → Stage) (mark : ℕ → ℕ → Mark) (free : ℕ → ℕ → Bool)
     → KeysRest l keys_high key mark free
     → (s i : ℕ) → nat_lt i (keys_high s) ≡ false → in_key_set (key s i) ≡ false
@@ -261,7 +261,7 @@ module _ (l : Limits) (st : State) (rest : Rests l st) (goes : ℕ → ℕ → B
 
 -- ---- one key
 
--- a key that the index gets: a free one below the mark, or the one at the mark
+-- a key that the index gets: a free one below the high-water mark, or the one at the high-water mark
 module _ (l : Limits) (st : State) (rest : Rests l st) (s c : ℕ) (k : KeyId) (low : k.index ≤ st.keys_high s)
     (room : k.index < l.keys) where
   abbrev top : ℕ

@@ -26,7 +26,7 @@ use Rattle.nio_plain.proofs.Found.{find_unmade, find_spent, found_below}
 use Rattle.nio_plain.proofs.ReachedSound.{Sound, by_test, some_same}
 use Rattle.nio_plain.specs.ScriptState.{ScriptState, Selection}
 use Rattle.nio_plain.specs.Seq.{call_of, seq}
-use Rattle.nio_plain.specs.Seq.Answers.{Answered, unchanged}
+use Rattle.nio_plain.specs.Seq.Replies.{Replied, unchanged}
 use Rattle.nio_plain.specs.Seq.Cancelling.{cancelled_key, cancelled_in_set, channel_closed, has_index, closec_call}
 use Rattle.nio_plain.specs.Seq.Cancelling.{cancel_call}
 use Rattle.nio_plain.specs.Seq.Closing.{close_call, close_end_call}
@@ -57,7 +57,7 @@ use Rattle.nio_serial.proofs.Resting.{keys-unselected, one_cancelled}
 
 -- ---- channels
 
--- the least number that isn't made is the one at the mark
+-- the least number that isn't made is the one at the high-water mark
 next-at : (l : Limits) (st : ScriptState) → Rests l st.shared → (c : ℕ) → next_channel l st ≡ Some c
     → (c ≡ st.shared.channels_high) × (c < l.channels)
 next-at l st rest c e = ⊎_elim here spent (cases_lt m l.channels)
@@ -104,7 +104,7 @@ rests-made l st rest kind c e =
 rests-closed : (l : Limits) (st : State) → Rests l st → (c : ℕ) → Rests l (channel_closed st c)
 rests-closed l st rest c =
     let test : ℕ → ℕ → Bool = λ s i. has_index (key_of st c s) i in
-    let within = λ (s i : ℕ). index_in_set st s i (st.noted c s) in
+    let within = λ (s i : ℕ). index_in_set st s i (st.enrolled c s) in
     record {
       unused = rest.unused;
       channels =
@@ -122,27 +122,27 @@ rests-sink l st rest me target source (Some sink) e = rests-made l st rest Sink 
 -- ---- calls
 
 module _ (l : Limits) (st : ScriptState) (sound : Sound Now l st) (rest : Rests l st.shared) where
-  abbrev Keeps : Answered → Type 0
+  abbrev Keeps : Replied → Type 0
   Keeps a = Rests l a.left.shared
 
-  allowed : (test : Bool) (r : Reply) (a : Answered) → (test ≡ true → Keeps a) → Keeps (cond test a (unchanged st r))
+  allowed : (test : Bool) (r : Reply) (a : Replied) → (test ≡ true → Keeps a) → Keeps (cond test a (unchanged st r))
   allowed test r a h = by_test Keeps test a (unchanged st r) h (λ _. rest)
 
-  denied : (test : Bool) (r : Reply) (a : Answered) → (test ≡ false → Keeps a) → Keeps (cond test (unchanged st r) a)
+  denied : (test : Bool) (r : Reply) (a : Replied) → (test ≡ false → Keeps a) → Keeps (cond test (unchanged st r) a)
   denied test r a h = by_test Keeps test (unchanged st r) a (λ _. rest) h
 
-  named_channel : (c : ChanNo) (a : Answered) → Keeps a → Keeps (with_named_channel st c a)
+  named_channel : (c : ChanNo) (a : Replied) → Keeps a → Keeps (with_named_channel st c a)
   named_channel c a h = allowed (st.shared.chan c.0).made reply.NoChannel a (λ _. h)
 
-  named_selector : (s : SelNo) (a : Answered) → Keeps a → Keeps (with_named_selector st s a)
+  named_selector : (s : SelNo) (a : Replied) → Keeps a → Keeps (with_named_selector st s a)
   named_selector s a h = allowed (st.shared.selector s.0) reply.NoSelector a (λ _. h)
 
-  named_key : (s : SelNo) (k : KeyId) (a : Answered) → Keeps a → Keeps (with_named_key st s k a)
+  named_key : (s : SelNo) (k : KeyId) (a : Replied) → Keeps a → Keeps (with_named_key st s k a)
   named_key s k a h =
       let was = was_published (st.shared.key s.0 k.index) k.serial in
       named_selector s (cond was a (unchanged st reply.NoKey)) (allowed was reply.NoKey a (λ _. h))
 
-  valid_key : (s : SelNo) (k : KeyId) (a : Answered) → Keeps a → Keeps (with_valid_key st s k a)
+  valid_key : (s : SelNo) (k : KeyId) (a : Replied) → Keeps a → Keeps (with_valid_key st s k a)
   valid_key s k a h =
       let valid = is_valid_key (st.shared.key s.0 k.index) k.serial in
       named_key s k (cond valid a (unchanged st reply.CancelledKey)) (allowed valid reply.CancelledKey a (λ _. h))
@@ -402,7 +402,7 @@ module _ (l : Limits) (st : ScriptState) (sound : Sound Now l st) (rest : Rests 
   unfolding begin_call
   rests-begin_call me s waiting = named_selector s _ (rests_begun me s.0 (mode_of waiting))
 
-  -- an index above the mark isn't looked at
+  -- an index above the high-water mark isn't looked at
   module _ (s : ℕ) (x : Selection) (is : st.selection s ≡ Some x) (pairs : List (KeyId × ℕ)) where
     unlooked : (i : ℕ) → nat_lt i (st.shared.keys_high s) ≡ false → is_looked x.looked (key_at st.shared s i) ≡ false
     unlooked i above = false_from_ne_true (is_looked x.looked (key_at st.shared s i)) (λ h.
@@ -580,7 +580,7 @@ module _ (l : Limits) (st : ScriptState) (sound : Sound Now l st) (rest : Rests 
 
   -- ---- pipes
 
-  both : (test : Bool) (a b : Answered) → Keeps a → Keeps b → Keeps (cond test a b)
+  both : (test : Bool) (a b : Replied) → Keeps a → Keeps b → Keeps (cond test a b)
   both test a b h k = by_test Keeps test a b (λ _. h) (λ _. k)
 
   rests-pipe_call : (me target : CallerNo) → Keeps (pipe_call l st me target)
@@ -594,11 +594,11 @@ module _ (l : Limits) (st : ScriptState) (sound : Sound Now l st) (rest : Rests 
           let made = (channel_made st Source (Some source)).left in
           rests-sink l made (rests-made l st rest Source source e) me target source (next_channel l made) refl
 
-  rests_first : (blocking : Bool) (n i : ℕ) (waiting : List ℕ) (marked : Bool)
-      → Keeps (read_first st blocking n i waiting marked)
+  rests_first : (blocking : Bool) (n i : ℕ) (waiting : List ℕ) (sealed : Bool)
+      → Keeps (read_first st blocking n i waiting sealed)
   rests_first blocking n i [] false = rest
   rests_first blocking n i [] true = rest
-  rests_first blocking n i (b ∷ bytes) marked = rest
+  rests_first blocking n i (b ∷ bytes) sealed = rest
 
   rests_read : (me : CallerNo) (c : ChanNo) (n : ℕ) (place : Option ℕ) → Keeps (read_from st me c n place)
   rests_read me c n None = rest
@@ -606,7 +606,7 @@ module _ (l : Limits) (st : ScriptState) (sound : Sound Now l st) (rest : Rests 
       both (st.shared.chan c.0).closed _ _ rest
       (both (finds_interrupt st me c) _ _ (rests-closed l st.shared rest c.0)
       (both (n == 0) _ _ rest
-      (rests_first (st.shared.chan c.0).blocking n i (pipe_at st.pipes i).waiting (pipe_at st.pipes i).marked)))
+      (rests_first (st.shared.chan c.0).blocking n i (pipe_at st.pipes i).waiting (pipe_at st.pipes i).sealed)))
 
   rests-pread_call : (me : CallerNo) (c : ChanNo) (n : ℕ) → Keeps (pread_call st me c n)
   unfolding pread_call

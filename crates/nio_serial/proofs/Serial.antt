@@ -11,7 +11,7 @@ use Rattle.nio_event.specs.declared.act.Act.TheVariants.{DrawBit}
 use Rattle.nio_event.specs.declared.event.Event.{Event}
 use Rattle.nio_plain.specs.Answer.{left_from}
 use Rattle.nio_plain.specs.ScriptState.{ScriptState}
-use Rattle.nio_plain.specs.Seq.Answers.{Answered}
+use Rattle.nio_plain.specs.Seq.Replies.{Replied}
 use Rattle.nio_plain.specs.declared.rules.Rules.TheVariants.{Now}
 use Rattle.nio_serial.proofs.Histories.{line-runs-amount, draws-stay}
 use Rattle.nio_serial.proofs.Staying.{begins-between}
@@ -62,9 +62,9 @@ module _ (l : Limits) (fit : IsFit l) where
       let rest = amount_from later said.left (past ++ events) legal' first.between lines.1 in
       record {
         replies = (λ j. said.reply ∷ rest.replies j)
-            ∙ ap (λ (a : Answered). a.reply ∷ replies_from l a.left (script_of later)) (sym first.answered);
+            ∙ ap (λ (a : Replied). a.reply ∷ replies_from l a.left (script_of later)) (sym first.replied);
         left = ap (λ (xs : List Event). documented (state_after xs) (left_in_progress said.left later)) (sym joined)
-            ∙ (rest.left ∙ ap (λ (a : Answered). left_from Now l a.left (script_of later)) (sym first.answered));
+            ∙ (rest.left ∙ ap (λ (a : Replied). left_from Now l a.left (script_of later)) (sym first.replied));
         between = subst (λ (xs : List Event). IsBetween l (state_after xs) (left_in_progress said.left later)) joined
             rest.between;
       }

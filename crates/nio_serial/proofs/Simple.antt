@@ -15,7 +15,7 @@ use Rattle.nio_event.specs.declared.reply.Reply.TheVariants as reply
 use Rattle.nio_plain.proofs.Found.{find_none, find_first}
 use Rattle.nio_plain.proofs.Naming.{channel-through, selector-through}
 use Rattle.nio_plain.specs.ScriptState.{ScriptState}
-use Rattle.nio_plain.specs.Seq.Answers.{Answered, unchanged, answered, yes_or_no}
+use Rattle.nio_plain.specs.Seq.Replies.{Replied, unchanged, replied, yes_or_no}
 use Rattle.nio_plain.specs.Seq.Closing.{close_call}
 use Rattle.nio_plain.specs.Seq.Modes.{key_of, name_or_none, is_blocking_call, is_open_call, is_registered_call}
 use Rattle.nio_plain.specs.Seq.Modes.{key_for_call}
@@ -39,7 +39,7 @@ use Rattle.nio_serial.specs.Documented.{Progress, documented, amounts}
 use Rattle.nio_serial.specs.Lines.{after_shut}
 use Rattle.nio_serial.specs.Replies.{find_reply, channel_reply, selector_reply, shut_reply}
 
--- the state with one channel more, which is the one at the mark
+-- the state with one channel more, which is the one at the high-water mark
 abbrev pub with_channel : State → Kind → State
 with_channel st kind =
     with_channels_high (with_chan st st.channels_high (new_channel kind)) (st.channels_high + 1)
@@ -49,7 +49,7 @@ module _ (st : State) (now : Progress) (me : CallerNo) where
   ds = documented st now
 
   -- a call that changes nothing in progress
-  abbrev stays : {R : Type 0} → (R → Reply) → Performed R → Answered
+  abbrev stays : {R : Type 0} → (R → Reply) → Performed R → Replied
   stays said done = amounts said (λ _. now) done
 
   -- ---- channels
@@ -92,7 +92,7 @@ module _ (st : State) (now : Progress) (me : CallerNo) where
     close-amounts = selector-through ds s made _ ∙ by_shut (st.gate s.0).shut refl
       where
         by_shut : (b : Bool) → (st.gate s.0).shut ≡ b
-            → cond b (unchanged ds reply.Already) (answered ds reply.Closing
+            → cond b (unchanged ds reply.Already) (replied ds reply.Closing
             (with_closer (with_gate ds.shared s.0 (record (st.gate s.0) { shut = true })) s.0 (Some me)))
             ≡ amounts shut_reply (after_shut now me s) (record {
               answer = cond b already_closed closing;
@@ -160,7 +160,7 @@ module _ (st : State) (now : Progress) (me : CallerNo) where
     unmade c = not (st.chan c).made
 
     below_made : (c : ℕ) → c < m → unmade c ≡ false
-    below_made c below_mark = ap not (exact c ∙ lt-ltb c m below_mark)
+    below_made c below_high = ap not (exact c ∙ lt-ltb c m below_high)
 
     mark_unmade : (st.chan m).made ≡ false
     mark_unmade = exact m ∙ le-ltb m m (omega arith)

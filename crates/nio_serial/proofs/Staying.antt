@@ -22,7 +22,7 @@ use Rattle.nio_event.specs.declared.reply.Reply.TheVariants as reply
 use Rattle.nio_plain.specs.Answer.{left_from}
 use Rattle.nio_plain.specs.ScriptState.{ScriptState, script_opening}
 use Rattle.nio_plain.specs.Seq.{call_of, seq}
-use Rattle.nio_plain.specs.Seq.Answers.{Answered}
+use Rattle.nio_plain.specs.Seq.Replies.{Replied}
 use Rattle.nio_plain.specs.Seq.Selections.{mode_of}
 use Rattle.nio_plain.specs.declared.rules.Rules.TheVariants.{Now}
 use Rattle.nio_steps.proofs.Each.{Each}
@@ -162,10 +162,10 @@ module _ (l : Limits) (st : State) (now : Progress) (me : CallerNo) (fit : IsFit
       let same = named-amounts l st now me fit between word in
       shows-on done.state now done.answer.left t (each-performed (Kept now) me (named word) st leaves)
       (shows-same l st now me between done.state
-      (sym (ap (λ (a : Answered). a.left.shared.turn) same) ∙ steady.turn)
-      (sym (ap (λ (a : Answered). a.left.shared.begun) same) ∙ steady.begun)
-      (sym (ap (λ (a : Answered). a.left.shared.closer) same) ∙ steady.closer)
-      (sym (ap (λ (a : Answered). a.left.shared.entered) same) ∙ steady.entered) t)
+      (sym (ap (λ (a : Replied). a.left.shared.turn) same) ∙ steady.turn)
+      (sym (ap (λ (a : Replied). a.left.shared.begun) same) ∙ steady.begun)
+      (sym (ap (λ (a : Replied). a.left.shared.closer) same) ∙ steady.closer)
+      (sym (ap (λ (a : Replied). a.left.shared.entered) same) ∙ steady.entered) t)
 
   selector-shows : (s : SelNo) (plan : Plan Said) → Shows (perform me plan st)
       → Shows (perform me (if_selector l now s plan) st)
@@ -266,9 +266,9 @@ module _ (l : Limits) (st : State) (now : Progress) (me : CallerNo) (fit : IsFit
       let done = perform me (line_plan l now me word) st in
       let same : seq Now l ds me word ≡ comes_to done = line-amounts l st now me fit between word in
       record {
-        left = subst (λ (a : Answered). IsLeft l a.left) same (left-more l ds me word between.left);
+        left = subst (λ (a : Replied). IsLeft l a.left) same (left-more l ds me word between.left);
         at_rest =
-            subst (λ (a : Answered). IsAtRest l a.left.shared) same
+            subst (λ (a : Replied). IsAtRest l a.left.shared) same
             (rests-is l (seq Now l ds me word).left.shared (rests-seq l ds (sound l st now between)
             (rests-from l ds.shared between.at_rest) me word));
         shown = line-shows word;
@@ -281,7 +281,7 @@ begins-between l = record {
   left = record { calls = []; left = refl };
   at_rest = record {
     unused = record { unheld = λ _. refl; unpinned = λ _ _ _. refl; untaken = λ _ _. refl; none_due = λ _ _. refl };
-    marks = record {
+    high = record {
       channels_within = omega arith;
       keys_within = λ _. omega arith;
       channels = λ c. sym (le-ltb c 0 (omega arith));

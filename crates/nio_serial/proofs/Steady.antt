@@ -14,7 +14,7 @@ use Rattle.nio_event.specs.declared.reply.Reply.{Reply}
 use Rattle.nio_event.specs.declared.reply.Reply.TheVariants as reply
 use Rattle.nio_plain.proofs.ReachedSound.{by_test}
 use Rattle.nio_plain.specs.ScriptState.{Pipe, ScriptState, with_pipes}
-use Rattle.nio_plain.specs.Seq.Answers.{Answered, unchanged, answered}
+use Rattle.nio_plain.specs.Seq.Replies.{Replied, unchanged, replied}
 use Rattle.nio_plain.specs.Seq.Cancelling.{channel_closed, closec_call, cancel_call}
 use Rattle.nio_plain.specs.Seq.Grouping.{group_call}
 use Rattle.nio_plain.specs.Seq.Keys.{with_valid_key, are_legal_at, is_in_selected_set, valid_call, interest_call}
@@ -25,7 +25,7 @@ use Rattle.nio_plain.specs.Seq.Modes.{is_registered, blocking_call, is_blocking_
 use Rattle.nio_plain.specs.Seq.Modes.{key_of, key_for_call}
 use Rattle.nio_plain.specs.Seq.Names.{below, with_named_channel, with_named_selector, with_named_key}
 use Rattle.nio_plain.specs.Seq.Opening.{selector_made, selector_call, next_channel, channel_made, channel_call}
-use Rattle.nio_plain.specs.Seq.Pipes.{own_source, own_sink, pipe_at, marked_pipes, marking}
+use Rattle.nio_plain.specs.Seq.Pipes.{own_source, own_sink, pipe_at, sealed_pipes, sealing}
 use Rattle.nio_plain.specs.Seq.Piping.{with_sink, with_source, pipe_call, finds_interrupt, not_now, read_first}
 use Rattle.nio_plain.specs.Seq.Piping.{read_from, pread_call, room_for, write_first, write_to, pwrite_call}
 use Rattle.nio_plain.specs.Seq.Registering.{are_legal, given_or_none, next_key, registered, registered_new}
@@ -33,7 +33,7 @@ use Rattle.nio_plain.specs.Seq.Registering.{register_call}
 use Rattle.nio_plain.specs.Seq.Wakeups.{wakeup_call, interrupt_call, interrupted_call}
 
 -- turns and closings are as before
-pub record IsSteady (st : ScriptState) (a : Answered) : Type 0 where
+pub record IsSteady (st : ScriptState) (a : Replied) : Type 0 where
   pub turn : a.left.shared.turn ≡ st.shared.turn
   pub begun : a.left.shared.begun ≡ st.shared.begun
   pub closer : a.left.shared.closer ≡ st.shared.closer
@@ -43,41 +43,41 @@ module _ (l : Limits) (st : ScriptState) where
   same : (r : Reply) → IsSteady st (unchanged st r)
   same r = record { turn = refl; begun = refl; closer = refl; entered = refl }
 
-  allowed : (test : Bool) (r : Reply) (a : Answered) → IsSteady st a → IsSteady st (cond test a (unchanged st r))
+  allowed : (test : Bool) (r : Reply) (a : Replied) → IsSteady st a → IsSteady st (cond test a (unchanged st r))
   allowed test r a h = by_test (IsSteady st) test a (unchanged st r) (λ _. h) (λ _. same r)
 
-  denied : (test : Bool) (r : Reply) (a : Answered) → IsSteady st a → IsSteady st (cond test (unchanged st r) a)
+  denied : (test : Bool) (r : Reply) (a : Replied) → IsSteady st a → IsSteady st (cond test (unchanged st r) a)
   denied test r a h = by_test (IsSteady st) test (unchanged st r) a (λ _. same r) (λ _. h)
 
-  named_channel : (c : ChanNo) (a : Answered) → IsSteady st a → IsSteady st (with_named_channel st c a)
+  named_channel : (c : ChanNo) (a : Replied) → IsSteady st a → IsSteady st (with_named_channel st c a)
   named_channel c a h = allowed (st.shared.chan c.0).made reply.NoChannel a h
 
-  named_selector : (s : SelNo) (a : Answered) → IsSteady st a → IsSteady st (with_named_selector st s a)
+  named_selector : (s : SelNo) (a : Replied) → IsSteady st a → IsSteady st (with_named_selector st s a)
   named_selector s a h = allowed (st.shared.selector s.0) reply.NoSelector a h
 
-  named_key : (s : SelNo) (k : KeyId) (a : Answered) → IsSteady st a → IsSteady st (with_named_key st s k a)
+  named_key : (s : SelNo) (k : KeyId) (a : Replied) → IsSteady st a → IsSteady st (with_named_key st s k a)
   named_key s k a h =
       let was = was_published (st.shared.key s.0 k.index) k.serial in
       named_selector s (cond was a (unchanged st reply.NoKey)) (allowed was reply.NoKey a h)
 
-  valid_key : (s : SelNo) (k : KeyId) (a : Answered) → IsSteady st a → IsSteady st (with_valid_key st s k a)
+  valid_key : (s : SelNo) (k : KeyId) (a : Replied) → IsSteady st a → IsSteady st (with_valid_key st s k a)
   valid_key s k a h =
       let valid = is_valid_key (st.shared.key s.0 k.index) k.serial in
       named_key s k (cond valid a (unchanged st reply.CancelledKey)) (allowed valid reply.CancelledKey a h)
 
   -- a change of the pipes alone
-  piped : (a : Answered) (r : Reply) (pipes : List Pipe) → IsSteady st a
+  piped : (a : Replied) (r : Reply) (pipes : List Pipe) → IsSteady st a
       → IsSteady st (record { reply = r; left = with_pipes a.left pipes })
   piped a r pipes h = record { turn = h.turn; begun = h.begun; closer = h.closer; entered = h.entered }
 
-  marks : (place : Option ℕ) (a : Answered) → IsSteady st a → IsSteady st (marking place a)
-  marks place a h = piped a a.reply (marked_pipes place a.left.pipes) h
+  seals : (place : Option ℕ) (a : Replied) → IsSteady st a → IsSteady st (sealing place a)
+  seals place a h = piped a a.reply (sealed_pipes place a.left.pipes) h
 
   -- a channel is closed
-  closes : (c : ℕ) (r : Reply) → IsSteady st (answered st r (channel_closed st.shared c))
+  closes : (c : ℕ) (r : Reply) → IsSteady st (replied st r (channel_closed st.shared c))
   closes c r = record { turn = refl; begun = refl; closer = refl; entered = refl }
 
-  both : (test : Bool) (a b : Answered) → IsSteady st a → IsSteady st b → IsSteady st (cond test a b)
+  both : (test : Bool) (a b : Replied) → IsSteady st a → IsSteady st b → IsSteady st (cond test a b)
   both test a b h k = by_test (IsSteady st) test a b (λ _. h) (λ _. k)
 
   pub steady-selector : IsSteady st (selector_call l st)
@@ -144,7 +144,7 @@ module _ (l : Limits) (st : ScriptState) where
   pub steady-closec : (me : CallerNo) (c : ChanNo) → IsSteady st (closec_call st me c)
   unfolding closec_call
   steady-closec me c =
-      named_channel c _ (marks (own_sink st.pipes me c) _
+      named_channel c _ (seals (own_sink st.pipes me c) _
       (denied (st.shared.chan c.0).closed reply.Already _ (closes c.0 reply.«Ok»)))
 
   pub steady-valid : (s : SelNo) (k : KeyId) → IsSteady st (valid_call st s k)
@@ -234,11 +234,11 @@ module _ (l : Limits) (st : ScriptState) where
   steady-pipe me target =
       allowed (nat_lt target.0 l.callers) reply.NoCaller _ (steady_source me target (next_channel l st))
 
-  steady_first : (blocking : Bool) (n i : ℕ) (waiting : List ℕ) (marked : Bool)
-      → IsSteady st (read_first st blocking n i waiting marked)
+  steady_first : (blocking : Bool) (n i : ℕ) (waiting : List ℕ) (sealed : Bool)
+      → IsSteady st (read_first st blocking n i waiting sealed)
   steady_first blocking n i [] false = same (not_now blocking)
   steady_first blocking n i [] true = same reply.End
-  steady_first blocking n i (b ∷ bytes) marked = piped (unchanged st reply.End) _ _ (same reply.End)
+  steady_first blocking n i (b ∷ bytes) sealed = piped (unchanged st reply.End) _ _ (same reply.End)
 
   steady_read : (me : CallerNo) (c : ChanNo) (n : ℕ) (place : Option ℕ) → IsSteady st (read_from st me c n place)
   steady_read me c n None = same reply.NotOwner
@@ -246,7 +246,7 @@ module _ (l : Limits) (st : ScriptState) where
       both (st.shared.chan c.0).closed _ _ (same _)
       (both (finds_interrupt st me c) _ _ (closes c.0 _)
       (both (n == 0) _ _ (same _)
-      (steady_first (st.shared.chan c.0).blocking n i (pipe_at st.pipes i).waiting (pipe_at st.pipes i).marked)))
+      (steady_first (st.shared.chan c.0).blocking n i (pipe_at st.pipes i).waiting (pipe_at st.pipes i).sealed)))
 
   pub steady-pread : (me : CallerNo) (c : ChanNo) (n : ℕ) → IsSteady st (pread_call st me c n)
   unfolding pread_call
@@ -259,8 +259,8 @@ module _ (l : Limits) (st : ScriptState) where
       → IsSteady st (write_to st me c bytes place)
   steady_write me c bytes None = same reply.NotOwner
   steady_write me c bytes (Some i) =
-      both (st.shared.chan c.0).closed _ _ (marks (Some i) _ (same reply.ClosedChannel))
-      (both (finds_interrupt st me c) _ _ (marks (Some i) _ (closes c.0 reply.ClosedByInterrupt))
+      both (st.shared.chan c.0).closed _ _ (seals (Some i) _ (same reply.ClosedChannel))
+      (both (finds_interrupt st me c) _ _ (seals (Some i) _ (closes c.0 reply.ClosedByInterrupt))
       (both (st.shared.chan (pipe_at st.pipes i).source.0).closed _ _ (same _)
       (both (length bytes == 0) _ _ (same _)
       (steady_room (st.shared.chan c.0).blocking bytes i (room_for bytes (pipe_at st.pipes i))))))

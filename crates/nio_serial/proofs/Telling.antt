@@ -20,7 +20,7 @@ use Rattle.nio_event.specs.declared.found.Stage.{Stage}
 use Rattle.nio_event.specs.declared.reply.Reply.TheVariants as reply
 use Rattle.nio_plain.proofs.Lists.{same-is}
 use Rattle.nio_plain.specs.ScriptState.{ScriptState}
-use Rattle.nio_plain.specs.Seq.Answers.{Answered}
+use Rattle.nio_plain.specs.Seq.Replies.{Replied}
 use Rattle.nio_plain.specs.Seq.Names.{is_same_key, key_at}
 use Rattle.nio_plain.specs.Seq.Removing.{without_keys_where}
 use Rattle.nio_plain.specs.Seq.Selections.{all_told, looked_interest, told_bits, is_looked, marked, is_updated}
@@ -136,7 +136,7 @@ module _ (st : State) (now : Progress) (me : CallerNo) (x : Selection) (pairs : 
   abbrev marked_st : State
   marked_st = with_marks st s looked pairs
 
-  abbrev F : Performed ToldReply → Answered
+  abbrev F : Performed ToldReply → Replied
   F = amounts told_reply (after_told now x.selector)
 
   -- ---- no key is updated: the state is as it was

@@ -27,12 +27,12 @@ use Rattle.nio_plain.proofs.ReachedSound.{by_test}
 use Rattle.nio_plain.specs.Answer.{left_from}
 use Rattle.nio_plain.specs.ScriptState.{Pipe, ScriptState, script_opening}
 use Rattle.nio_plain.specs.Seq.{call_of, seq}
-use Rattle.nio_plain.specs.Seq.Answers.{Answered, unchanged, answered}
+use Rattle.nio_plain.specs.Seq.Replies.{Replied, unchanged, replied}
 use Rattle.nio_plain.specs.Seq.Cancelling.{channel_closed, closec_call}
 use Rattle.nio_plain.specs.Seq.Modes.{is_registered, blocking_call}
 use Rattle.nio_plain.specs.Seq.Names.{with_named_channel}
 use Rattle.nio_plain.specs.Seq.Opening.{next_channel, channel_made, channel_call}
-use Rattle.nio_plain.specs.Seq.Pipes.{no_pipe, own_source, own_sink, pipe_at, marked_pipes, marking}
+use Rattle.nio_plain.specs.Seq.Pipes.{no_pipe, own_source, own_sink, pipe_at, sealed_pipes, sealing}
 use Rattle.nio_plain.specs.Seq.Piping.{with_sink, with_source, pipe_call, finds_interrupt, read_first, read_from}
 use Rattle.nio_plain.specs.Seq.Piping.{pread_call, room_for, write_first, write_to, pwrite_call}
 use Rattle.nio_plain.specs.declared.rules.Rules.TheVariants.{Now}
@@ -79,10 +79,10 @@ set-whole chan pipes i x change all =
     (λ (past : length pipes ≤ i). subst (All (IsWholePipe chan)) (sym (set_past pipes i x past)) all)
     (cases_lt i (length pipes))
 
-marked-whole : (chan : ℕ → Chan) (place : Option ℕ) (pipes : List Pipe)
-    → All (IsWholePipe chan) pipes → All (IsWholePipe chan) (marked_pipes place pipes)
-marked-whole chan None pipes all = all
-marked-whole chan (Some i) pipes all =
+sealed-whole : (chan : ℕ → Chan) (place : Option ℕ) (pipes : List Pipe)
+    → All (IsWholePipe chan) pipes → All (IsWholePipe chan) (sealed_pipes place pipes)
+sealed-whole chan None pipes all = all
+sealed-whole chan (Some i) pipes all =
     set-whole chan pipes i _ (λ whole. record { source = whole.source; sink = whole.sink; room = whole.room }) all
 
 -- ---- calls that change no channel's kind and no pipe
@@ -97,7 +97,7 @@ is_apart (call.Pwrite c bytes) = false
 is_apart (call.Pread c n) = false
 is_apart _ = true
 
-abbrev Leaves : ScriptState → Call → Answered → Type 0
+abbrev Leaves : ScriptState → Call → Replied → Type 0
 Leaves st word a = is_apart word ≡ true → (a.left.shared.chan ≡ st.shared.chan) × (a.left.pipes ≡ st.pipes)
 
 leaves : (st : ScriptState) (me : CallerNo) → HoldsOfChanges Now st me (Leaves st)
@@ -151,7 +151,7 @@ made-whole l st whole kind c e =
     (unmade-stays (st.shared.chan c) (new_channel kind) (next-unmade l st c e)) st.pipes whole
 
 closed-whole : (st : ScriptState) → Whole st → (c : ℕ) (r : Reply)
-    → Whole (answered st r (channel_closed st.shared c)).left
+    → Whole (replied st r (channel_closed st.shared c)).left
 closed-whole st whole c r =
     put-whole st.shared.chan c (record (st.shared.chan c) { closed = true }) (λ made. (made, refl)) st.pipes whole
 
@@ -172,13 +172,13 @@ sink-whole l st whole me target source is (Some sink) e =
     }) (All-nil (IsWholePipe chan)))
 
 module _ (l : Limits) (st : ScriptState) (whole : Whole st) where
-  abbrev Keeps : Answered → Type 0
+  abbrev Keeps : Replied → Type 0
   Keeps a = Whole a.left
 
-  both : (test : Bool) (a b : Answered) → Keeps a → Keeps b → Keeps (cond test a b)
+  both : (test : Bool) (a b : Replied) → Keeps a → Keeps b → Keeps (cond test a b)
   both test a b h k = by_test Keeps test a b (λ _. h) (λ _. k)
 
-  named : (c : ChanNo) (a : Answered) → Keeps a → Keeps (with_named_channel st c a)
+  named : (c : ChanNo) (a : Replied) → Keeps a → Keeps (with_named_channel st c a)
   named c a h = both (st.shared.chan c.0).made a (unchanged st reply.NoChannel) h whole
 
   keeps-channel : (kind : Kind) → Keeps (channel_call l st kind)
@@ -201,11 +201,11 @@ module _ (l : Limits) (st : ScriptState) (whole : Whole st) where
   unfolding closec_call
   keeps-closec me c = named c _ (by_closed (st.shared.chan c.0).closed)
     where
-      by_closed : (b : Bool) → Keeps (marking (own_sink st.pipes me c)
-          (cond b (unchanged st reply.Already) (answered st reply.«Ok» (channel_closed st.shared c.0))))
-      by_closed true = marked-whole st.shared.chan (own_sink st.pipes me c) st.pipes whole
+      by_closed : (b : Bool) → Keeps (sealing (own_sink st.pipes me c)
+          (cond b (unchanged st reply.Already) (replied st reply.«Ok» (channel_closed st.shared c.0))))
+      by_closed true = sealed-whole st.shared.chan (own_sink st.pipes me c) st.pipes whole
       by_closed false =
-          marked-whole (put st.shared.chan c.0 (record (st.shared.chan c.0) { closed = true }))
+          sealed-whole (put st.shared.chan c.0 (record (st.shared.chan c.0) { closed = true }))
           (own_sink st.pipes me c) st.pipes
           (closed-whole st whole c.0 reply.«Ok»)
 
@@ -231,11 +231,11 @@ module _ (l : Limits) (st : ScriptState) (whole : Whole st) where
       subst (λ (p : Pipe). length p.waiting ≤ 65536) (sym (get_or_past st.pipes i no_pipe past)) (omega arith))
       (cases_lt i (length st.pipes))
 
-  keeps-first : (blocking : Bool) (n i : ℕ) (waiting : List ℕ) (marked : Bool) → length waiting ≤ 65536
-      → Keeps (read_first st blocking n i waiting marked)
+  keeps-first : (blocking : Bool) (n i : ℕ) (waiting : List ℕ) (sealed : Bool) → length waiting ≤ 65536
+      → Keeps (read_first st blocking n i waiting sealed)
   keeps-first blocking n i [] false few = whole
   keeps-first blocking n i [] true few = whole
-  keeps-first blocking n i (b ∷ bytes) marked few =
+  keeps-first blocking n i (b ∷ bytes) sealed few =
       let left = length-drop n (b ∷ bytes) in
       set-whole st.shared.chan st.pipes i _
       (λ was. record { source = was.source; sink = was.sink; room = omega arith }) whole
@@ -246,7 +246,7 @@ module _ (l : Limits) (st : ScriptState) (whole : Whole st) where
       both (st.shared.chan c.0).closed _ _ whole
       (both (finds_interrupt st me c) _ _ (closed-whole st whole c.0 reply.ClosedByInterrupt)
       (both (n == 0) _ _ whole
-      (keeps-first (st.shared.chan c.0).blocking n i (pipe_at st.pipes i).waiting (pipe_at st.pipes i).marked
+      (keeps-first (st.shared.chan c.0).blocking n i (pipe_at st.pipes i).waiting (pipe_at st.pipes i).sealed
       (waits i))))
 
   keeps-pread : (me : CallerNo) (c : ChanNo) (n : ℕ) → Keeps (pread_call st me c n)
@@ -268,9 +268,9 @@ module _ (l : Limits) (st : ScriptState) (whole : Whole st) where
   keeps-write me c bytes (Some i) =
       let few = waits i in
       let room = min-le_right (length bytes) (65536 - length (pipe_at st.pipes i).waiting) in
-      both (st.shared.chan c.0).closed _ _ (marked-whole st.shared.chan (Some i) st.pipes whole)
+      both (st.shared.chan c.0).closed _ _ (sealed-whole st.shared.chan (Some i) st.pipes whole)
       (both (finds_interrupt st me c) _ _
-      (marked-whole (put st.shared.chan c.0 (record (st.shared.chan c.0) { closed = true })) (Some i) st.pipes
+      (sealed-whole (put st.shared.chan c.0 (record (st.shared.chan c.0) { closed = true })) (Some i) st.pipes
       (closed-whole st whole c.0 reply.ClosedByInterrupt))
       (both (st.shared.chan (pipe_at st.pipes i).source.0).closed _ _ whole
       (both (length bytes == 0) _ _ whole

@@ -28,9 +28,9 @@ pub record IsFresh (st : State) (s i : ℕ) : Type 0 where
   pub mark : st.mark s i ≡ unmarked
   pub free : IsFalse (st.free s i)
 
--- the marks are exact, and within the limits: what is below them is made, or has had a published key, and nothing else
--- is or has
-pub record HasExactMarks (l : Limits) (st : State) : Type 0 where
+-- the high-water marks are exact, and within the limits: what is below them is made, or has had a published
+-- key, and nothing else is or has
+pub record HasExactHigh (l : Limits) (st : State) : Type 0 where
   pub channels_within : st.channels_high ≤ l.channels
   pub keys_within : (s : ℕ) → st.keys_high s ≤ l.keys
   pub channels : (c : ℕ) → (st.chan c).made ≡ nat_lt c st.channels_high
@@ -47,7 +47,7 @@ pub record AreFree (st : State) : Type 0 where
 
 pub record IsAtRest (l : Limits) (st : State) : Type 0 where
   pub unused : IsUnused st
-  pub marks : HasExactMarks l st
+  pub high : HasExactHigh l st
   pub free : AreFree st
 
 -- a selection in progress on the selector: it looks at each index once, in rising order, and keeps these indexes
@@ -56,7 +56,7 @@ pub record IsOn (s : ℕ) (x : Selection) : Type 0 where
   pub rises : AllPairs (λ a b. a.index < b.index) x.looked
   pub kept : x.kept ≡ map (λ entry. entry.index) x.looked
 
--- whom the progress shows is who selects or closes by the state
+-- the state has the same callers selecting and closing on the selector as the progress shows
 pub record IsShownBy (st : State) (now : Progress) (s : ℕ) : Type 0 where
   pub turn : st.turn s ≡ option_map (λ x. x.caller) (now.selection s)
   pub begun : st.begun s ≡ is_some (now.selection s)

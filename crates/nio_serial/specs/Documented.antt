@@ -9,7 +9,7 @@ use Rattle.nio_event.specs.declared.found.Stage.{Stage}
 use Rattle.nio_event.specs.declared.reply.Reply.{Reply}
 use Rattle.nio_group.specs.Group.{Group, empty_group}
 use Rattle.nio_plain.specs.ScriptState.{Pipe, ScriptState, Selection as ScriptSelection, group_limits}
-use Rattle.nio_plain.specs.Seq.Answers.{Answered}
+use Rattle.nio_plain.specs.Seq.Replies.{Replied}
 use Rattle.nio_steps.specs.Perform.{Performed}
 use Rattle.nio_steps.specs.SelectCalls.{Selection}
 use Rattle.nio_steps.specs.declared.looked.LookedKey.{LookedKey}
@@ -76,5 +76,5 @@ documented st now = record {
 -- ---- what a performed plan comes to
 
 -- by the reply to what the plan answers, and by what is in progress after it
-abbrev pub amounts : {R : Type 0} → (R → Reply) → (R → Progress) → Performed R → Answered
+abbrev pub amounts : {R : Type 0} → (R → Reply) → (R → Progress) → Performed R → Replied
 amounts said left done = record { reply = said done.answer; left = documented done.state (left done.answer) }

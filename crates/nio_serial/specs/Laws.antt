@@ -18,7 +18,7 @@ use Rattle.nio_event.specs.declared.call.Call.TheVariants as call
 use Rattle.nio_plain.specs.Seq.{call_of, seq}
 use Rattle.nio_event.specs.declared.event.Event.{Event}
 use Rattle.nio_event.specs.declared.found.Mode.{Mode}
-use Rattle.nio_plain.specs.Seq.Answers.{Answered}
+use Rattle.nio_plain.specs.Seq.Replies.{Replied}
 use Rattle.nio_plain.specs.declared.rules.Rules.TheVariants.{Now}
 use Rattle.nio_steps.specs.Calls.{CallClause}
 use Rattle.nio_steps.specs.Perform.{perform}
@@ -151,10 +151,10 @@ LackingLeaves =
 
 -- ---- the same of histories
 
--- What a call with this documented answer comes to in a history: it has the reply of the documented call, and leaves
+-- What a call comes to in a history, where `answer` is the documented one: it has that reply, and leaves
 -- the state of that call, between two calls again.
-pub record Amounts (l : Limits) (answer : Answered) (after : List Event) (said : Said) : Type 0 where
-  pub answered : answer ≡ record { reply = said.reply; left = documented (state_after after) said.left }
+pub record Amounts (l : Limits) (answer : Replied) (after : List Event) (said : Said) : Type 0 where
+  pub replied : answer ≡ record { reply = said.reply; left = documented (state_after after) said.left }
   pub between : IsBetween l (state_after after) said.left
 
 -- a run of a call that is legal after a history, with no event of another caller between

@@ -15,7 +15,7 @@ use Rattle.nio_event.specs.declared.group_call.GroupCall.{GroupCall}
 use Rattle.nio_event.specs.declared.reply.Reply.{Reply}
 use Rattle.nio_event.specs.declared.reply.Reply.TheVariants as reply
 use Rattle.nio_plain.specs.ScriptState.{Pipe}
-use Rattle.nio_plain.specs.Seq.Answers.{Answered, yes_or_no}
+use Rattle.nio_plain.specs.Seq.Replies.{Replied, yes_or_no}
 use Rattle.nio_plain.specs.Seq.Grouping.{group_reply, group_left}
 use Rattle.nio_plain.specs.Seq.Registering.{given_or_none}
 use Rattle.nio_plain.specs.Seq.Selections.{mode_of, is_looked, is_caller}
@@ -35,17 +35,17 @@ use Rattle.nio_steps.specs.SelectCalls.{wakeup_plan, interrupt_plan, interrupted
 use Rattle.nio_steps.specs.declared.refusal.BeginError.{BeginError}
 use Rattle.nio_steps.specs.declared.refusal.PipeError.{PipeError}
 use Rattle.nio_serial.specs.Documented.{Progress, Selecting, shown, amounts}
-use Rattle.nio_serial.specs.PipeLines.{with_pipe, with_mark, after_pipe, Piped, read_gives, write_gives}
+use Rattle.nio_serial.specs.PipeLines.{with_pipe, with_seal, after_pipe, Piped, read_gives, write_gives}
 use Rattle.nio_serial.specs.Replies.{find_reply, set_reply, put_reply, channel_reply, mode_reply, register_reply}
 use Rattle.nio_serial.specs.Replies.{closed_reply, ends_reply, selector_reply, begin_reply, told_reply, shut_reply}
 use Rattle.nio_serial.specs.Replies.{finish_reply, list_reply}
 
--- what a line answers, and what is in progress after it
+-- what a line replies, and what is in progress after it
 pub record Said : Type 0 where
   pub reply : Reply
   pub left : Progress
 
-abbrev pub comes_to : Performed Said → Answered
+abbrev pub comes_to : Performed Said → Replied
 comes_to performed = amounts (λ said. said.reply) (λ said. said.left) performed
 
 -- a line that makes this call
@@ -149,7 +149,7 @@ call_plan l now me (call.KeyFor c s) = asks now (key_for_plan c s) find_reply
 call_plan l now me (call.Register s c ops att) =
     asks now (try_register_plan l s c ops (given_or_none att)) register_reply
 call_plan l now me (call.Closec c) =
-    makes (close_channel_plan l c) closed_reply (λ _. with_mark now (own_sink now.pipes me c))
+    makes (close_channel_plan l c) closed_reply (λ _. with_seal now (own_sink now.pipes me c))
 call_plan l now me (call.Valid s k) = asks now (is_valid_plan (key s k)) yes_or_no
 call_plan l now me (call.Interest s k) = asks now (interest_plan (key s k)) set_reply
 call_plan l now me (call.Ready s k) = asks now (ready_plan (key s k)) set_reply

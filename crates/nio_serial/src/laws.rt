@@ -1,5 +1,7 @@
 //! The laws, as the contracts of functions that do nothing.
-ghost use Rattle.nio_serial.specs.Laws.{CallsAmount, ToldAmounts, LinesAmount, BeginsBetween, DrawsStayBetween, CallsStayBetween, ToldStaysBetween, LinesStayBetween, PipesAreWhole, CallRunsAmount, ToldRunsAmount, LineRunsAmount, PassLinesAmount, LackingLeaves};
+ghost use Rattle.nio_serial.specs.Laws.{CallsAmount, ToldAmounts, LinesAmount, BeginsBetween, DrawsStayBetween};
+ghost use Rattle.nio_serial.specs.Laws.{CallsStayBetween, ToldStaysBetween, LinesStayBetween, PipesAreWhole};
+ghost use Rattle.nio_serial.specs.Laws.{CallRunsAmount, ToldRunsAmount, LineRunsAmount, PassLinesAmount, LackingLeaves};
 ghost use Rattle.nio_serial.specs.Serial.{SerialLinesAmount};
 
 /// The steps of a call between which nobody comes amount to the documented call: the reply and the state

@@ -31,7 +31,7 @@ use Rattle.nio_orderly.specs.Made.{interest_and, ready, cancel, unselect, attach
 use Rattle.nio_orderly.specs.Made.{is_blocking, is_registered, key_for, try_set_blocking, try_register, close_channel}
 use Rattle.nio_orderly.specs.Made.{open_selector, try_begin, told, leave, shut, try_finish, keys, selected_keys, wakeup}
 use Rattle.nio_orderly.specs.Made.{interrupt, interrupted, pipe, try_read, try_write}
-use Rattle.nio_plain.specs.Seq.Answers.{yes_or_no}
+use Rattle.nio_plain.specs.Seq.Replies.{yes_or_no}
 use Rattle.nio_plain.specs.Seq.Grouping.{group_reply, group_left}
 use Rattle.nio_plain.specs.Seq.Registering.{given_or_none}
 use Rattle.nio_plain.specs.Seq.Selections.{mode_of, is_caller}
@@ -41,7 +41,7 @@ use Rattle.nio_serial.specs.Lines.{Said, makes, asks, refused, with_selection, w
 use Rattle.nio_serial.specs.Lines.{after_begin, after_told, after_shut, after_finish, begin_line, by_index, told_line}
 use Rattle.nio_serial.specs.Lines.{failed_line, close_end_line, read_line, write_line, call_plan, if_caller, if_found}
 use Rattle.nio_serial.specs.Lines.{if_selector, if_channel, if_key, if_named, line_plan}
-use Rattle.nio_serial.specs.PipeLines.{with_mark, with_pipe, after_pipe, read_gives}
+use Rattle.nio_serial.specs.PipeLines.{with_seal, with_pipe, after_pipe, read_gives}
 use Rattle.nio_serial.specs.PipeLines.{write_gives}
 use Rattle.nio_serial.specs.Replies.{ends_reply, find_reply, set_reply, put_reply, channel_reply, mode_reply}
 use Rattle.nio_serial.specs.Replies.{register_reply, closed_reply, selector_reply, begin_reply, told_reply, shut_reply}
@@ -864,7 +864,7 @@ module _ (l : Limits) (me : CallerNo) (now : Progress) where
       (λ o acts a run at. quiet l me now o (try_register s c ops (given_or_none att) a) acts run tt at)
   leads_plan (call.Closec c) on =
       leads_leaving (close_channel_plan l c) (λ a. close_channel c a) closed_reply
-      (λ _. with_mark now (own_sink now.pipes me c)) (λ _. record { selection = refl; closing = refl })
+      (λ _. with_seal now (own_sink now.pipes me c)) (λ _. record { selection = refl; closing = refl })
       (λ o acts a run at. quiet l me now o (close_channel c a) acts run tt at)
   leads_plan (call.Valid s k) on =
       leads_ask (is_valid_plan (key s k)) (λ a. is_valid (key s k) a) yes_or_no

@@ -29,7 +29,7 @@ keys-act : (s : SelNo) (act : Act) → question_of act ≡ Question.look_keys s
 keys-act s (LookKeys s' found) asks = cc asks
 keys-act s _ asks = absurd (cc asks)
 
--- the bound is a keys' mark that the caller found
+-- the bound is a keys' high-water mark that the caller found
 bound_fits : (l : Limits) (n : CallerNo) (events : List Event) (own acts : List Act) (s : SelNo) (mode : Mode)
     (x : Selection) → IsLegal l events → mine n events ≡ own ++ acts → Begins s mode acts (Ok x)
     → x.bound ≤ l.keys

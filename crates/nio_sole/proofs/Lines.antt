@@ -18,7 +18,7 @@ use Rattle.nio_event.specs.declared.reply.Reply.{Reply}
 use Rattle.nio_event.specs.declared.reply.Reply.TheVariants as reply
 use Rattle.nio_plain.specs.ScriptState.{ScriptState}
 use Rattle.nio_plain.specs.Seq.{seq, call_of}
-use Rattle.nio_plain.specs.Seq.Answers.{unchanged}
+use Rattle.nio_plain.specs.Seq.Replies.{unchanged}
 use Rattle.nio_plain.specs.Seq.Listing.{listed, keys_call, selected_call}
 use Rattle.nio_plain.specs.declared.rules.Rules.TheVariants.{Now}
 use Rattle.nio_serial.specs.Between.{IsBetween}
@@ -154,7 +154,7 @@ line_stands me now word v0 v1 said fit only before call =
         between = amounts.between;
         made = line_made me now word v0 v1 said only before.between call before.made;
       },
-      amounts.answered,
+      amounts.replied,
     )
 
 -- ---- want of memory

@@ -28,10 +28,10 @@ use Rattle.nio_pipe.specs.declared.answers.PipeWrite.{PipeWrite}
 use Rattle.nio_plain.proofs.Piping.{position-map}
 use Rattle.nio_plain.specs.ScriptState.{Pipe}
 use Rattle.nio_plain.specs.Seq.Grouping.{group_left, group_reply}
-use Rattle.nio_plain.specs.Seq.Pipes.{marked_pipes, no_pipe, owns_sink, owns_source, own_sink, own_source, pipe_at}
+use Rattle.nio_plain.specs.Seq.Pipes.{sealed_pipes, no_pipe, owns_sink, owns_source, own_sink, own_source, pipe_at}
 use Rattle.nio_serial.specs.Documented.{Progress}
 use Rattle.nio_serial.specs.Lines.{Said, call_plan, makes, read_line, refused, write_line}
-use Rattle.nio_serial.specs.PipeLines.{Piped, after_pipe, read_gives, with_mark}
+use Rattle.nio_serial.specs.PipeLines.{Piped, after_pipe, read_gives, with_seal}
 use Rattle.nio_serial.specs.PipeLines.{with_pipe, write_gives}
 use Rattle.nio_serial.specs.Replies.{closed_reply, ends_reply}
 use Rattle.nio_sole.proofs.Asking.{makes_ran, refused_at, replied_as}
@@ -295,7 +295,7 @@ pub read_said : (w : Words) (d : Desk) (q : Pass) (me : CallerNo) (c : ChanNo) (
     → room ≡ min 65536 n
     → CallClause me (Completes (try_read_plan (limits_of w) x.pipe.source)) (view w d.pass) (view w q)
     (mode_found result) → IsReady w q me
-    → IfOk result (λ found. found.0 ≡ read_answer room (min room (length (waiting x.pipe))) x.pipe.marked)
+    → IfOk result (λ found. found.0 ≡ read_answer room (min room (length (waiting x.pipe))) x.pipe.sealed)
     → into ≡ take (bytes_read (without_mode result)) (waiting x.pipe) ++ rest
     → pipes.items ≡ set d.pipes.items i (with_held x (after_read x.pipe (without_mode result)))
     → Makes w d (with_pipes_in d q pipes) me (call_plan (limits_of w) (progress_of d) me (call.Pread c n))
@@ -379,8 +379,8 @@ unfolding call_plan
 close_none w d q me c closes may none ran ready =
     let now = progress_of d in
     record {
-      call = left_as (makes_ran closed_reply (λ _. with_mark now (own_sink now.pipes me c)) ran)
-          (ap (with_mark now) (own_sink_is d me c None none));
+      call = left_as (makes_ran closed_reply (λ _. with_seal now (own_sink now.pipes me c)) ran)
+          (ap (with_seal now) (own_sink_is d me c None none));
       ready = ready;
       places = places_same q ran may.places;
     }
@@ -403,10 +403,10 @@ close_made w d q me c i x pipes closes may at is ran ready items =
     subst (λ (s : ChanNo). CallClause me (Completes (close_channel_plan l s)) (view w d.pass) (view w q) closes) here.1
     ran in
     record {
-      call = left_as (makes_ran closed_reply (λ _. with_mark now (own_sink now.pipes me c)) call)
-          (ap (with_mark now) (own_sink_is d me c (Some i) at)
+      call = left_as (makes_ran closed_reply (λ _. with_seal now (own_sink now.pipes me c)) call)
+          (ap (with_seal now) (own_sink_is d me c (Some i) at)
           ∙ ap {B = Progress} (λ (ps : List Pipe). record now { pipes = ps })
-          (ap {B = List Pipe} (λ (p : Pipe). set (pipes_of d.pipes.items) i (record p { marked = true }))
+          (ap {B = List Pipe} (λ (p : Pipe). set (pipes_of d.pipes.items) i (record p { sealed = true }))
           (shown_at d.pipes.items i x here.0 is)
           ∙ (sym (shown_set d.pipes.items i x') ∙ ap pipes_of (sym items))));
       ready = ready;

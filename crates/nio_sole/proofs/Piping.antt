@@ -70,8 +70,8 @@ written_back size slice items same =
     ∙ take-append_seam slice (drop (length slice) items)
 
 -- a read gives no more than there is to give
-few_read : (room given : ℕ) (marked : Bool) → bytes_read (Ok (read_answer room given marked)) ≤ given
-few_read room given marked = by_tests (room == 0) (nat_lt 0 given) marked
+few_read : (room given : ℕ) (sealed : Bool) → bytes_read (Ok (read_answer room given sealed)) ≤ given
+few_read room given sealed = by_tests (room == 0) (nat_lt 0 given) sealed
   where
     by_tests : (a b c : Bool)
         → bytes_read
@@ -130,36 +130,36 @@ module _ (x : OwnedPipe) (lawful : IsLawful x.pipe) where
 
   -- the read of a slice of so many places, of up to n bytes
   pub read_gave : (n room : ℕ) (blocking : Bool) (answer : PipeRead) → room ≡ min 65536 n
-      → answer ≡ read_answer room (min room (length (waiting x.pipe))) x.pipe.marked
+      → answer ≡ read_answer room (min room (length (waiting x.pipe))) x.pipe.sealed
       → read_gives n shown (Ok blocking) ≡ read_comes_to answer blocking
   read_gave n room blocking answer room_is is = by_number (n == 0) refl
     where
-      by_marked : (b : Bool) → x.pipe.marked ≡ b → waiting x.pipe ≡ [] → (room == 0) ≡ false
-          → takes shown blocking n (waiting x.pipe) x.pipe.marked ≡ read_comes_to answer blocking
-      by_marked b marked none some =
-          ap (λ ws. takes shown blocking n ws x.pipe.marked) none
-          ∙ (ap (takes shown blocking n []) marked ∙ (by_mark b marked))
+      by_sealed : (b : Bool) → x.pipe.sealed ≡ b → waiting x.pipe ≡ [] → (room == 0) ≡ false
+          → takes shown blocking n (waiting x.pipe) x.pipe.sealed ≡ read_comes_to answer blocking
+      by_sealed b sealed none some =
+          ap (λ ws. takes shown blocking n ws x.pipe.sealed) none
+          ∙ (ap (takes shown blocking n []) sealed ∙ (by_seal b sealed))
         where
           nothing : nat_lt 0 (given_of room) ≡ false
           nothing = le-ltb 0 (given_of room) (let size = ap length none in omega (arith, size))
 
-          told : answer ≡ cond x.pipe.marked PipeRead.End PipeRead.NotYet
+          told : answer ≡ cond x.pipe.sealed PipeRead.End PipeRead.NotYet
           told = is
               ∙ (cond-false (room == 0) (PipeRead.Bytes 0) _ some
               ∙ cond-false (nat_lt 0 (given_of room)) (PipeRead.Bytes (given_of room)) _ nothing)
 
-          by_mark : (c : Bool) → x.pipe.marked ≡ c → takes shown blocking n [] c ≡ read_comes_to answer blocking
-          by_mark true at =
-              let end : answer ≡ PipeRead.End = told ∙ cond-true x.pipe.marked PipeRead.End PipeRead.NotYet at in
+          by_seal : (c : Bool) → x.pipe.sealed ≡ c → takes shown blocking n [] c ≡ read_comes_to answer blocking
+          by_seal true at =
+              let end : answer ≡ PipeRead.End = told ∙ cond-true x.pipe.sealed PipeRead.End PipeRead.NotYet at in
               reads_none PipeRead.End blocking refl ∙ ap (λ a. read_comes_to a blocking) (sym end)
-          by_mark false at =
+          by_seal false at =
               let not_yet : answer ≡ PipeRead.NotYet = told
-              ∙ cond-false x.pipe.marked PipeRead.End PipeRead.NotYet at in
+              ∙ cond-false x.pipe.sealed PipeRead.End PipeRead.NotYet at in
               reads_none PipeRead.NotYet blocking refl ∙ ap (λ a. read_comes_to a blocking) (sym not_yet)
 
       by_given : (g : ℕ) → given_of room ≡ g → (y : ℕ) (ys : List ℕ) → waiting x.pipe ≡ y ∷ ys → (room == 0) ≡ false
           → (n == 0) ≡ false
-          → takes shown blocking n (waiting x.pipe) x.pipe.marked ≡ read_comes_to answer blocking
+          → takes shown blocking n (waiting x.pipe) x.pipe.sealed ≡ read_comes_to answer blocking
       by_given zero given_is y ys some places number =
           let size = ap length some in
           let room_some : room ≡ 0 → ⊥ = λ none. let clash : true ≡ false = sym (eq-eqb room 0 none) ∙ places in
@@ -178,7 +178,7 @@ module _ (x : OwnedPipe) (lawful : IsLawful x.pipe) where
           let says : read_says (PipeRead.Bytes (suc k)) w blocking ≡ reply.Bytes (take (suc k) w) =
           cond-false (suc k == 0) (reply.Number 0) (reply.Bytes (take (suc k) w))
           (ne_eqb (suc k) 0 (λ e. omega (arith, e))) in
-          ap (λ ws. takes shown blocking n ws x.pipe.marked) some
+          ap (λ ws. takes shown blocking n ws x.pipe.sealed) some
           ∙ (ap {B = Piped}
           (λ (ws : List ℕ). record { reply = reply.Bytes (take n ws); left = record shown { waiting = drop n ws } })
           (sym some)
@@ -199,7 +199,7 @@ module _ (x : OwnedPipe) (lawful : IsLawful x.pipe) where
           ∙ ap (λ a. read_comes_to a blocking) (sym told)))))
 
       by_waiting : (ws : List ℕ) → waiting x.pipe ≡ ws → (n == 0) ≡ false
-          → takes shown blocking n (waiting x.pipe) x.pipe.marked ≡ read_comes_to answer blocking
+          → takes shown blocking n (waiting x.pipe) x.pipe.sealed ≡ read_comes_to answer blocking
       by_waiting ws waits number = by_list ws waits
         where
           places : (room == 0) ≡ false
@@ -213,8 +213,8 @@ module _ (x : OwnedPipe) (lawful : IsLawful x.pipe) where
               by_room false some = refl
 
           by_list : (us : List ℕ) → waiting x.pipe ≡ us
-              → takes shown blocking n (waiting x.pipe) x.pipe.marked ≡ read_comes_to answer blocking
-          by_list [] none = by_marked x.pipe.marked refl none places
+              → takes shown blocking n (waiting x.pipe) x.pipe.sealed ≡ read_comes_to answer blocking
+          by_list [] none = by_sealed x.pipe.sealed refl none places
           by_list (y ∷ ys) some = by_given (given_of room) refl y ys some places number
 
       by_number : (b : Bool) → (n == 0) ≡ b → read_gives n shown (Ok blocking) ≡ read_comes_to answer blocking
@@ -230,13 +230,13 @@ module _ (x : OwnedPipe) (lawful : IsLawful x.pipe) where
 
   -- what a slice with so many places has after the read
   pub slice_says : (room : ℕ) (blocking : Bool) (answer : PipeRead) (into rest : List ℕ)
-      → answer ≡ read_answer room (min room (length (waiting x.pipe))) x.pipe.marked
+      → answer ≡ read_answer room (min room (length (waiting x.pipe))) x.pipe.sealed
       → into ≡ take (bytes_read (Ok answer)) (waiting x.pipe) ++ rest
       → read_says answer into blocking ≡ read_says answer (waiting x.pipe) blocking
   slice_says room blocking answer into rest is front =
       let few : bytes_read (Ok answer) ≤ min room (length (waiting x.pipe)) =
       subst (λ (a : PipeRead). bytes_read (Ok a) ≤ min room (length (waiting x.pipe))) (sym is)
-      (few_read room (min room (length (waiting x.pipe))) x.pipe.marked) in
+      (few_read room (min room (length (waiting x.pipe))) x.pipe.sealed) in
       front_says answer blocking (waiting x.pipe) into rest (omega (arith, few)) front
 
   -- a read that is refused
@@ -250,22 +250,22 @@ module _ (x : OwnedPipe) (lawful : IsLawful x.pipe) where
 
   -- ---- writing
 
-  not_marked : (b : Bool) → b || false ≡ b
-  not_marked true = refl
-  not_marked false = refl
+  not_sealed : (b : Bool) → b || false ≡ b
+  not_sealed true = refl
+  not_sealed false = refl
 
-  now_marked : (b : Bool) → b || true ≡ true
-  now_marked true = refl
-  now_marked false = refl
+  now_sealed : (b : Bool) → b || true ≡ true
+  now_sealed true = refl
+  now_sealed false = refl
 
   write_leaves : (bytes : List ℕ) (answer : PipeWrite)
       → pipe_of (with_held x (after_write x.pipe bytes (Ok answer))) ≡ record shown {
         waiting = waiting x.pipe ++ take (bytes_written (Ok answer)) bytes;
       }
   write_leaves bytes (PipeWrite.Bytes n) =
-      λ j. record shown { waiting = more_waiting x.pipe (take n bytes) lawful j; marked = not_marked x.pipe.marked j }
+      λ j. record shown { waiting = more_waiting x.pipe (take n bytes) lawful j; sealed = not_sealed x.pipe.sealed j }
   write_leaves bytes PipeWrite.NotYet =
-      λ j. record shown { waiting = more_waiting x.pipe [] lawful j; marked = not_marked x.pipe.marked j }
+      λ j. record shown { waiting = more_waiting x.pipe [] lawful j; sealed = not_sealed x.pipe.sealed j }
 
   abbrev pub write_comes_to : List ℕ → PipeWrite → Bool → Piped
   write_comes_to bytes answer blocking = record {
@@ -319,16 +319,16 @@ module _ (x : OwnedPipe) (lawful : IsLawful x.pipe) where
           cond-false (length bytes == 0) (only_says shown (reply.Number 0)) _ some
           ∙ by_room ((taken_of bytes) == 0) refl some
 
-  marks : (r : Reply) → ◌≡◌ {A = Piped} (record { reply = r; left = record shown { marked = true } }) (record {
+  seals : (r : Reply) → ◌≡◌ {A = Piped} (record { reply = r; left = record shown { sealed = true } }) (record {
     reply = r;
-    left = record shown { waiting = drop (length x.pipe.received) (x.pipe.sent ++ []); marked = x.pipe.marked || true };
+    left = record shown { waiting = drop (length x.pipe.received) (x.pipe.sent ++ []); sealed = x.pipe.sealed || true };
   })
-  marks r =
+  seals r =
       λ j. record {
         reply = r;
         left = record shown {
           waiting = (sym (more_waiting x.pipe [] lawful ∙ append-nil (waiting x.pipe))) j;
-          marked = (sym (now_marked x.pipe.marked)) j;
+          sealed = (sym (now_sealed x.pipe.sealed)) j;
         };
       }
 
@@ -338,14 +338,14 @@ module _ (x : OwnedPipe) (lawful : IsLawful x.pipe) where
         reply = pipe_refusal refusal;
         left = pipe_of (with_held x (after_write x.pipe bytes (Err refusal)));
       }
-  write_refused bytes PipeError.ClosedChannel = marks reply.ClosedChannel
-  write_refused bytes PipeError.ClosedByInterrupt = marks reply.ClosedByInterrupt
-  write_refused bytes PipeError.AsynchronousClose = marks reply.AsyncClose
+  write_refused bytes PipeError.ClosedChannel = seals reply.ClosedChannel
+  write_refused bytes PipeError.ClosedByInterrupt = seals reply.ClosedByInterrupt
+  write_refused bytes PipeError.AsynchronousClose = seals reply.AsyncClose
   write_refused bytes PipeError.BrokenPipe =
       λ j. record {
         reply = reply.BrokenPipe;
         left = record shown {
           waiting = (sym (more_waiting x.pipe [] lawful ∙ append-nil (waiting x.pipe))) j;
-          marked = (sym (not_marked x.pipe.marked)) j;
+          sealed = (sym (not_sealed x.pipe.sealed)) j;
         };
       }

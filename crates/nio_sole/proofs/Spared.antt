@@ -26,8 +26,9 @@ use Rattle.nio_steps.proofs.Each.{Each}
 use Rattle.nio_steps.proofs.EachLaws.{each_bind, each_if, each_sweep, each_over, each_run}
 use Rattle.nio_steps.proofs.Lists.{all_any}
 use Rattle.nio_steps.specs.ChannelCalls.{open_channel_plan, opened_channel, is_open_plan, is_blocking_plan}
-use Rattle.nio_steps.specs.ChannelCalls.{is_registered_plan, noted_in_set, key_for_plan, under_hold, set_mode_held}
-use Rattle.nio_steps.specs.ChannelCalls.{try_set_blocking_plan, register_noted, register_over, claim_taken, claim_free}
+use Rattle.nio_steps.specs.ChannelCalls.{is_registered_plan, enrolled_in_set, key_for_plan, under_hold, set_mode_held}
+use Rattle.nio_steps.specs.ChannelCalls.{try_set_blocking_plan, register_enrolled, register_over, claim_taken}
+use Rattle.nio_steps.specs.ChannelCalls.{claim_free}
 use Rattle.nio_steps.specs.ChannelCalls.{claim_in_word, search_free, claim_new, make_key, make_claimed, register_first}
 use Rattle.nio_steps.specs.ChannelCalls.{register_next, register_new, register_rest, register_held, try_register_plan}
 use Rattle.nio_steps.specs.ChannelCalls.{cancel_at, close_channel_plan}
@@ -240,13 +241,13 @@ pub is_blocking-spares : {t : ℕ} (c : ChanNo) → Spares t (is_blocking_plan c
 unfolding is_blocking_plan
 is_blocking-spares c = search still depth 12
 
-pub noted-spares : {t : ℕ} (s : SelNo) (noted : Option KeyId) → Spares t (noted_in_set s noted)
-noted-spares s None = search still
-noted-spares s (Some k) = search still
+pub enrolled-spares : {t : ℕ} (s : SelNo) (enrolled : Option KeyId) → Spares t (enrolled_in_set s enrolled)
+enrolled-spares s None = search still
+enrolled-spares s (Some k) = search still
 
 pub key_for-spares : {t : ℕ} (c : ChanNo) (s : SelNo) → Spares t (key_for_plan c s)
 unfolding key_for_plan
-key_for-spares c s = search (still, noted-spares) depth 12
+key_for-spares c s = search (still, enrolled-spares) depth 12
 
 pub is_registered-spares : {t : ℕ} (l : Limits) (c : ChanNo) → Spares t (is_registered_plan l c)
 unfolding is_registered_plan
@@ -269,10 +270,11 @@ set_blocking-spares l c on =
     (λ answer. spares_if _ _ _ (spares_reply _)
     (under_hold-spares c (set_mode_held l c on) (mode_held-spares l c on)))
 
-pub over-spares : {t : ℕ} (s : SelNo) (ops att : ℕ) (noted : Option KeyId) → Spares t (register_over s ops att noted)
+pub over-spares : {t : ℕ} (s : SelNo) (ops att : ℕ) (enrolled : Option KeyId)
+    → Spares t (register_over s ops att enrolled)
 over-spares s ops att None = search still depth 12
 over-spares s ops att (Some k) =
-    spares_under_pin s k.index (register_noted s ops att k) (λ stage. search still depth 16)
+    spares_under_pin s k.index (register_enrolled s ops att k) (λ stage. search still depth 16)
 
 pub taken-spares : {t : ℕ} (s : SelNo) (c : ChanNo) (i : ℕ) → Spares t (claim_taken s c i)
 taken-spares s c i = search still depth 12
@@ -336,7 +338,7 @@ register-spares l s c ops att =
     (spares_reply (Err ChannelError.ClosedChannel))
     (under_hold-spares c (register_held l s c ops att) (held-spares l s c ops att))))
 
-pub cancel_at-spares : {t : ℕ} (s : SelNo) (noted : Option KeyId) → Spares t (cancel_at s noted)
+pub cancel_at-spares : {t : ℕ} (s : SelNo) (enrolled : Option KeyId) → Spares t (cancel_at s enrolled)
 cancel_at-spares s None = spares_reply tt
 cancel_at-spares s (Some k) = cancel-spares (key s k)
 

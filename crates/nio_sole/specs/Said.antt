@@ -29,7 +29,7 @@ pub record MadeLine (w : Words) (old new : Desk) (me : CallerNo) (word : Call) (
   pub run : Completes (line_plan (limits_of w) (progress_of old) me word) acts
       (record { reply = r; left = progress_of new })
 
--- the line's reply and state are those of the documented system; a line that lacks memory leaves the state
+-- the line's reply and state are those of the documented system; one that lacks memory leaves the state
 pub record SaysLine (w : Words) (old new : Desk) (me : CallerNo) (word : Call)
     (result : Result Reply AllocError) : Type 0 where
   pub stands : Stands w new

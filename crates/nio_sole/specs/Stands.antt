@@ -45,7 +45,7 @@ pipe_of x = record {
   reader = x.reader;
   writer = x.writer;
   waiting = waiting x.pipe;
-  marked = x.pipe.marked;
+  sealed = x.pipe.sealed;
 }
 
 abbrev pub pipes_of : List OwnedPipe → List Pipe

@@ -13,21 +13,28 @@ use nio_words::Pass;
 
 /// A selection in progress, and its caller.
 pub struct Begun {
+    /// Who began it.
     pub caller: CallerNo,
+    /// How far it has come.
     pub selection: Selecting,
 }
 
 /// A closing in progress, and its caller.
 pub struct Shut {
+    /// Who closes the selector.
     pub caller: CallerNo,
+    /// How far that has come.
     pub closing: Closing,
 }
 
 /// A pipe, and the callers that own its source and its sink.
 #[derive(Drop)]
 pub struct OwnedPipe {
+    /// Who may read.
     pub reader: CallerNo,
+    /// Who may write.
     pub writer: CallerNo,
+    /// Its two ends.
     pub pipe: HeldPipe,
 }
 
@@ -35,10 +42,15 @@ pub struct OwnedPipe {
 /// place for each selector; their group, once a call was made on it; and their pipes, in the order in which they were
 /// made.
 pub struct Desk {
+    /// What the callers make their steps with.
     pub pass: Pass,
+    /// Those in progress, by the number of the selector.
     pub selections: Vec<Option<Begun>>,
+    /// Those in progress, by the number of the selector.
     pub closings: Vec<Option<Shut>>,
+    /// The script's group, once a call needed it.
     pub group: Option<GroupCore>,
+    /// The pipes that were made, in their order.
     pub pipes: Vec<OwnedPipe>,
 }
 

@@ -5,11 +5,11 @@ ghost use Rattle.nio_sole.specs.Stands.{group_of};
 
 use nio_event::{GroupCall, Reply};
 use nio_group::GroupCore;
-use nio_plain::{GROUP_LIMITS, answer_group};
+use nio_plain::{GROUP_LIMITS, call_group};
 use std::alloc::{AllocError, Global};
 
 // Makes a call on the group, which makes no step of the table. The first one makes the group.
-pub(crate) fn call_group(
+pub(crate) fn call_script_group(
     alloc: Global,
     group: &mut Option<GroupCore>,
     call: GroupCall,
@@ -19,10 +19,10 @@ pub(crate) fn call_group(
     ensures memory { OnErr result (group.new ≡ group.old) }
 {
     if let Some(group) = group {
-        return Ok(answer_group(group, call));
+        return Ok(call_group(group, call));
     }
     let mut made = GroupCore::make(alloc, GROUP_LIMITS)?;
-    let reply = answer_group(&mut made, call);
+    let reply = call_group(&mut made, call);
     *group = Some(made);
     Ok(reply)
 }

@@ -14,7 +14,7 @@ use crate::channels::{
 };
 use crate::closing::{close, close_end};
 use crate::desk::Desk;
-use crate::group::call_group;
+use crate::group::call_script_group;
 use crate::keys::{
     attach, attachment, cancel, interest, interest_and, interest_or, is_valid, ready, set_interest,
     unselect,
@@ -113,6 +113,6 @@ fn call_of(
         Call::Pipe(target) => pipe(alloc, w, d, me, *target),
         Call::Pwrite(chan, bytes) => pwrite(w, d, me, *chan, bytes),
         Call::Pread(chan, most) => pread(alloc, w, d, me, *chan, *most),
-        Call::Group(call) => call_group(alloc, &mut d.group, *call),
+        Call::Group(call) => call_script_group(alloc, &mut d.group, *call),
     }
 }

@@ -16,7 +16,8 @@ use nio_words::{Pass, Words};
 pub(crate) fn find_names(w: &Words, p: &mut Pass, me: CallerNo, call: &Call) -> Option<Reply>
     requires ready { IsReady w.now p.old me }
     requires unpinned { HasNoPin (view w.now p.old) me }
-    ensures { Finds (λ now plan. if_named (limits_of w.now) now call.now plan) (λ pass. HasNames pass call.now) w.now p.old p.new me result }
+    ensures { Finds (λ now plan. if_named (limits_of w.now) now call.now plan) (λ pass. HasNames pass call.now) w.now
+        p.old p.new me result }
 {
     match call {
         Call::Selector => None,
@@ -59,7 +60,8 @@ pub(crate) fn find_names(w: &Words, p: &mut Pass, me: CallerNo, call: &Call) -> 
 fn look_up_caller(w: &Words, p: &mut Pass, me: CallerNo, target: CallerNo) -> Option<Reply>
     requires ready { IsReady w.now p.old me }
     requires unpinned { HasNoPin (view w.now p.old) me }
-    ensures { Finds (λ now plan. if_caller (limits_of w.now) now target plan) (λ pass. IsCaller pass.limits target) w.now p.old p.new me result }
+    ensures { Finds (λ now plan. if_caller (limits_of w.now) now target plan) (λ pass. IsCaller pass.limits target)
+        w.now p.old p.new me result }
 {
     if target.0 < w.limits().callers {
         None
@@ -71,7 +73,8 @@ fn look_up_caller(w: &Words, p: &mut Pass, me: CallerNo, target: CallerNo) -> Op
 fn look_up_selector(w: &Words, p: &mut Pass, me: CallerNo, sel: SelNo) -> Option<Reply>
     requires ready { IsReady w.now p.old me }
     requires unpinned { HasNoPin (view w.now p.old) me }
-    ensures { Finds (λ now plan. if_selector (limits_of w.now) now sel plan) (λ pass. HasSelector pass sel) w.now p.old p.new me result }
+    ensures { Finds (λ now plan. if_selector (limits_of w.now) now sel plan) (λ pass. HasSelector pass sel) w.now p.old
+        p.new me result }
 {
     match find_selector(w, p, me, sel.0) {
         Some(_) => None,
@@ -82,7 +85,8 @@ fn look_up_selector(w: &Words, p: &mut Pass, me: CallerNo, sel: SelNo) -> Option
 fn look_up_channel(w: &Words, p: &mut Pass, me: CallerNo, chan: ChanNo) -> Option<Reply>
     requires ready { IsReady w.now p.old me }
     requires unpinned { HasNoPin (view w.now p.old) me }
-    ensures { Finds (λ now plan. if_channel (limits_of w.now) now chan plan) (λ pass. HasChannel pass chan) w.now p.old p.new me result }
+    ensures { Finds (λ now plan. if_channel (limits_of w.now) now chan plan) (λ pass. HasChannel pass chan) w.now p.old
+        p.new me result }
 {
     match find_channel(w, p, me, chan.0) {
         Some(_) => None,
@@ -99,7 +103,8 @@ fn look_up_channel_first(
 ) -> Option<Reply>
     requires ready { IsReady w.now p.old me }
     requires unpinned { HasNoPin (view w.now p.old) me }
-    ensures { Finds (λ now plan. if_channel (limits_of w.now) now chan (if_selector (limits_of w.now) now sel plan)) (λ pass. HasChannel pass chan × HasSelector pass sel) w.now p.old p.new me result }
+    ensures { Finds (λ now plan. if_channel (limits_of w.now) now chan (if_selector (limits_of w.now) now sel plan))
+        (λ pass. HasChannel pass chan × HasSelector pass sel) w.now p.old p.new me result }
 {
     match look_up_channel(w, p, me, chan) {
         Some(missing) => Some(missing),
@@ -116,7 +121,8 @@ fn look_up_selector_first(
 ) -> Option<Reply>
     requires ready { IsReady w.now p.old me }
     requires unpinned { HasNoPin (view w.now p.old) me }
-    ensures { Finds (λ now plan. if_selector (limits_of w.now) now sel (if_channel (limits_of w.now) now chan plan)) (λ pass. HasSelector pass sel × HasChannel pass chan) w.now p.old p.new me result }
+    ensures { Finds (λ now plan. if_selector (limits_of w.now) now sel (if_channel (limits_of w.now) now chan plan))
+        (λ pass. HasSelector pass sel × HasChannel pass chan) w.now p.old p.new me result }
 {
     match look_up_selector(w, p, me, sel) {
         Some(missing) => Some(missing),
@@ -127,7 +133,8 @@ fn look_up_selector_first(
 fn look_up_key(w: &Words, p: &mut Pass, me: CallerNo, sel: SelNo, id: KeyId) -> Option<Reply>
     requires ready { IsReady w.now p.old me }
     requires unpinned { HasNoPin (view w.now p.old) me }
-    ensures { Finds (λ now plan. if_key (limits_of w.now) now sel id plan) (λ pass. HasKey pass (key sel id)) w.now p.old p.new me result }
+    ensures { Finds (λ now plan. if_key (limits_of w.now) now sel id plan) (λ pass. HasKey pass (key sel id)) w.now
+        p.old p.new me result }
 {
     match look_up_selector(w, p, me, sel) {
         Some(missing) => Some(missing),
@@ -140,7 +147,8 @@ fn look_up_in(w: &Words, p: &mut Pass, me: CallerNo, sel: SelNo, id: KeyId) -> O
     requires ready { IsReady w.now p.old me }
     requires unpinned { HasNoPin (view w.now p.old) me }
     requires selector { HasSelector (view w.now p.old) sel }
-    ensures { Finds (λ now plan. if_present (limits_of w.now) now sel id plan) (λ pass. HasKey pass (key sel id)) w.now p.old p.new me result }
+    ensures { Finds (λ now plan. if_present (limits_of w.now) now sel id plan) (λ pass. HasKey pass (key sel id)) w.now
+        p.old p.new me result }
 {
     match find(w, p, me, sel, id.index, id.serial) {
         Some(_) => None,

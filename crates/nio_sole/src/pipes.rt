@@ -1,4 +1,4 @@
-//! The calls of lines on pipes, and the end mark that a close of an own sink leaves.
+//! The calls of lines on pipes, and the seal that a close of an own sink leaves.
 ghost use Rattle.std.specs.Prelude.{◌≡◌, ◌==◌, ◌&&◌, position};
 ghost use Rattle.nio_sole.specs.Makes.{MayMake, MakesCall};
 
@@ -85,7 +85,7 @@ pub(crate) fn pwrite(
     Ok(write_reply(answer))
 }
 
-// Closes the channel. The caller's own sink leaves its end mark.
+// Closes the channel. The caller's own sink leaves its seal.
 pub(crate) fn close_channel(
     w: &Words,
     d: &mut Desk,

@@ -1,8 +1,10 @@
 //! The reply of a line to what its call answers.
 ghost use Rattle.std.specs.Prelude.{◌≡◌, ◌==◌, if◌then◌else◌, take};
-ghost use Rattle.nio_plain.specs.Seq.Answers.{yes_or_no};
+ghost use Rattle.nio_plain.specs.Seq.Replies.{yes_or_no};
 ghost use Rattle.nio_plain.specs.Seq.Piping.{not_now};
-ghost use Rattle.nio_serial.specs.Replies.{key_refusal, channel_refusal, set_reply, put_reply, find_reply, channel_reply, mode_reply, register_reply, closed_reply, pipe_refusal, selector_reply};
+ghost use Rattle.nio_serial.specs.Replies.{key_refusal, channel_refusal, set_reply, put_reply, find_reply};
+ghost use Rattle.nio_serial.specs.Replies.{channel_reply, mode_reply, register_reply, closed_reply, pipe_refusal};
+ghost use Rattle.nio_serial.specs.Replies.{selector_reply};
 ghost use Rattle.nio_sole.specs.PipeReplies.{read_reply, read_says, write_reply, write_says};
 
 use nio_base::{ChanNo, KeyId, KeyNo, Ops, SelNo};

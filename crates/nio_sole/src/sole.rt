@@ -29,8 +29,8 @@ impl<'a> Sole<'a> {
     ghost use Rattle.nio_words.specs.Passes.{IsFirstPass, IsPassOf, IsReady, seen, state_seen};
     ghost use Rattle.nio_words.specs.Views.{view};
 
-    /// Draws every number with the pass, and hands all of them over to a pass of its own. The pass that is left acts for
-    /// nobody. Want of memory leaves the pass as it was.
+    /// Draws every number with the pass, and hands all of them over to a pass of its own. The pass that is left acts
+    /// for nobody. Want of memory leaves the pass as it was.
     pub fn make(alloc: Global, words: &'a Words, pass: &mut Pass) -> Result<Sole<'a>, AllocError>
         requires { IsFirstPass words.now pass.old }
         ensures table { IfOk result (λ sole. words_of sole ≡ words.entry.now) }

@@ -19,7 +19,7 @@ abbrev pub none_yet : LookedOver
 none_yet = record { looked = []; kept = [] }
 
 -- the look at the gate and the taking of the turn, the look by which the selection begins, the look at the
--- mark, the looks at which indexes are free, and what is done at each listed index
+-- keys' high-water mark, the looks at which indexes are free, and what is done at each listed index
 pub record Begun (s : SelNo) (mode : Mode) (acts : List Act) (selection : Selection) : Type 0 where
   pub gate : Act
   pub take : Act

@@ -1,4 +1,4 @@
--- A finished closing removed each key below the mark that it found, where the key was claimed before.
+-- A finished closing removed each key below the high-water mark that it found, where the key was claimed before.
 use Rattle.std.proofs.Common.{◌≡◌, ℕ, ◌+◌, ◌<◌, ◌==◌, Bool, true, false, List, [], ◌∷◌, ◌++◌, refl, ap, sym, ◌∙◌, subst}
 use Rattle.std.proofs.Common.{append_assoc, eqb-true, eq-eqb, arith}
 use Rattle.std.specs.Prelude.{⊤, is_some}
@@ -31,7 +31,8 @@ use Rattle.nio_steps.specs.Sweeps.{sweep_to}
 -- ---- the parts of a run that answers Closed
 
 module _ (s : SelNo) where
-  -- the look at the turn and the look at the mark, and then the removal of each index below the mark
+  -- the look at the turn and the look at the high-water mark, and then the removal of each index below the high-water
+  -- mark
   record Finished (acts : List Act) : Type 0 where
     enters : Act
     look : Act
@@ -96,7 +97,7 @@ module _ (s : SelNo) where
                 (Remove s i earlier.found) earlier.there;
           }
 
--- ---- the one look at the mark
+-- ---- the one look at the high-water mark
 
 abbrev asks_keys : Question → Bool
 asks_keys (Question.look_keys s) = true

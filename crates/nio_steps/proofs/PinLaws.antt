@@ -25,8 +25,9 @@ use Rattle.nio_steps.proofs.PinBack.{gives_back}
 use Rattle.nio_steps.proofs.WaitingPins.{retries-give, selects-give, closes-give, waits-give}
 use Rattle.nio_steps.proofs.Walks.{Always, always_weaker, always_bind, always_if}
 use Rattle.nio_steps.specs.ChannelCalls.{open_channel_plan, opened_channel, is_open_plan, is_blocking_plan}
-use Rattle.nio_steps.specs.ChannelCalls.{is_registered_plan, noted_in_set, key_for_plan, under_hold, set_mode_held}
-use Rattle.nio_steps.specs.ChannelCalls.{try_set_blocking_plan, register_noted, register_over, claim_taken, claim_free}
+use Rattle.nio_steps.specs.ChannelCalls.{is_registered_plan, enrolled_in_set, key_for_plan, under_hold, set_mode_held}
+use Rattle.nio_steps.specs.ChannelCalls.{try_set_blocking_plan, register_enrolled, register_over, claim_taken}
+use Rattle.nio_steps.specs.ChannelCalls.{claim_free}
 use Rattle.nio_steps.specs.ChannelCalls.{claim_in_word, search_free, words_below, claim_new, make_key, make_claimed}
 use Rattle.nio_steps.specs.ChannelCalls.{register_first, register_next, register_new, register_rest, register_held}
 use Rattle.nio_steps.specs.ChannelCalls.{try_register_plan, cancel_at, close_channel_plan}
@@ -131,13 +132,13 @@ is_blocking-leaves : (c : ChanNo) → Leaves (is_blocking_plan c)
 unfolding is_blocking_plan
 is_blocking-leaves c = search still depth 12
 
-noted-leaves : (s : SelNo) (noted : Option KeyId) → Leaves (noted_in_set s noted)
-noted-leaves s None = search still
-noted-leaves s (Some k) = search still
+enrolled-leaves : (s : SelNo) (enrolled : Option KeyId) → Leaves (enrolled_in_set s enrolled)
+enrolled-leaves s None = search still
+enrolled-leaves s (Some k) = search still
 
 key_for-leaves : (c : ChanNo) (s : SelNo) → Leaves (key_for_plan c s)
 unfolding key_for_plan
-key_for-leaves c s = search (still, noted-leaves) depth 12
+key_for-leaves c s = search (still, enrolled-leaves) depth 12
 
 is_registered-leaves : (l : Limits) (c : ChanNo) → Leaves (is_registered_plan l c)
 unfolding is_registered_plan
@@ -160,10 +161,10 @@ set_blocking-leaves l c on =
     (λ answer. leaves_if _ _ _ (leaves_reply _)
     (under_hold-leaves c (set_mode_held l c on) (mode_held-leaves l c on)))
 
-over-leaves : (s : SelNo) (ops att : ℕ) (noted : Option KeyId) → Leaves (register_over s ops att noted)
+over-leaves : (s : SelNo) (ops att : ℕ) (enrolled : Option KeyId) → Leaves (register_over s ops att enrolled)
 over-leaves s ops att None = search still depth 12
 over-leaves s ops att (Some k) =
-    leaves_under_pin s k.index (register_noted s ops att k) (λ stage. search still depth 16)
+    leaves_under_pin s k.index (register_enrolled s ops att k) (λ stage. search still depth 16)
 
 -- a new key's index is pinned from its claim on
 abbrev IsFound : List Act → Option KeyId → SelNo → Type 0
@@ -280,7 +281,7 @@ register-leaves l s c ops att =
     (leaves_reply (Err ChannelError.ClosedChannel))
     (under_hold-leaves c (register_held l s c ops att) (held-leaves l s c ops att))))
 
-cancel_at-leaves : (s : SelNo) (noted : Option KeyId) → Leaves (cancel_at s noted)
+cancel_at-leaves : (s : SelNo) (enrolled : Option KeyId) → Leaves (cancel_at s enrolled)
 cancel_at-leaves s None = leaves_reply tt
 cancel_at-leaves s (Some k) = cancel-leaves (key s k)
 

@@ -60,18 +60,18 @@ is_blocking_plan c = do
 
 -- ---- a channel's keys
 
--- the noted key, where it was found in the key set
-abbrev pub noted_in_set : SelNo → Option KeyId → Plan (Option KeyNo)
-noted_in_set s None = reply None
-noted_in_set s (Some k) = do
+-- the enrolled key, where it was found in the key set
+abbrev pub enrolled_in_set : SelNo → Option KeyId → Plan (Option KeyNo)
+enrolled_in_set s None = reply None
+enrolled_in_set s (Some k) = do
   stage ← look_key s k.index
   reply (if is_in_key_set stage k.serial then Some (key s k) else None)
 
--- the channel's key in the selector: the one that is noted for it there, where that is in the key set
+-- the channel's key in the selector: the one that is enrolled for it there, where that is in the key set
 unfoldable pub key_for_plan : ChanNo → SelNo → Plan (Option KeyNo)
 key_for_plan c s = do
-  noted ← look_reg c s
-  noted_in_set s noted
+  enrolled ← look_reg c s
+  enrolled_in_set s enrolled
 
 -- whether it has one there, or was found registered before
 abbrev pub registered_or : ChanNo → ℕ → Bool → Plan Bool
@@ -129,10 +129,10 @@ update_key s k ops att = do
   when (not (att == 0)) (swap_note s k.index att)
   reply (Ok (key s k))
 
--- What a registration found of the noted key: the answer with which it ends, or none where the channel has
+-- What a registration found of the enrolled key: the answer with which it ends, or none where the channel has
 -- no key there and a new one is to be made.
-abbrev pub register_noted : SelNo → ℕ → ℕ → KeyId → Stage → Plan (Option (Result KeyNo ChannelError))
-register_noted s ops att k stage =
+abbrev pub register_enrolled : SelNo → ℕ → ℕ → KeyId → Stage → Plan (Option (Result KeyNo ChannelError))
+register_enrolled s ops att k stage =
     if is_in_key_set stage k.serial && stage.cancelled then reply (Some (Err CancelledKey)) else do
       gate ← look_gate s
       if gate.shut then reply (Some (Err ClosedSelector)) else
@@ -140,15 +140,15 @@ register_noted s ops att k stage =
             answer ← update_key s k ops att
             reply (Some answer)) else reply None)
 
--- the same where no key is noted
-abbrev pub register_unnoted : SelNo → Plan (Option (Result KeyNo ChannelError))
-register_unnoted s = do
+-- the same where no key is enrolled
+abbrev pub register_unenrolled : SelNo → Plan (Option (Result KeyNo ChannelError))
+register_unenrolled s = do
   gate ← look_gate s
   reply (if gate.shut then Some (Err ClosedSelector) else None)
 
 abbrev pub register_over : SelNo → ℕ → ℕ → Option KeyId → Plan (Option (Result KeyNo ChannelError))
-register_over s ops att None = register_unnoted s
-register_over s ops att (Some k) = under_pin s k.index (register_noted s ops att k)
+register_over s ops att None = register_unenrolled s
+register_over s ops att (Some k) = under_pin s k.index (register_enrolled s ops att k)
 
 -- ---- registering: an index for a new key
 
@@ -168,8 +168,7 @@ claim_free s c i = do
   was ← take_free s i
   if was then claim_taken s c i else reply None
 
--- index b of the 64 from 64 times j on is claimed again, where it is below the mark and the look shows it as
--- free
+-- index b of the 64 from 64 times j on is claimed again, where it is below `mark` and the look shows it as free
 abbrev pub claim_at_bit : SelNo → ChanNo → ℕ → ℕ → ℕ → ℕ → Plan (Option KeyId)
 claim_at_bit s c mark j word b =
     if has_bit word b && nat_lt (64 * j + b) mark then claim_free s c (64 * j + b) else reply None
@@ -202,7 +201,7 @@ settle_key s c k = do
   when found.closed (cancel_key s k.index)
   reply (Ok (key s k))
 
--- the key's parts are set before it is noted, and it is noted before it is published
+-- the key's parts are set before it is enrolled, and it is enrolled before it is published
 abbrev pub publish_key : SelNo → ChanNo → ℕ → ℕ → KeyId → Plan (Result KeyNo ChannelError)
 publish_key s c ops att k = do
   swap_interest s k.index ops
@@ -258,8 +257,8 @@ register_rest l s c ops att (Some answer) = reply answer
 -- the channel is open and non-blocking
 abbrev pub register_unblocked : Limits → SelNo → ChanNo → ℕ → ℕ → Plan (Result KeyNo ChannelError)
 register_unblocked l s c ops att = do
-  noted ← look_reg c s
-  over ← register_over s ops att noted
+  enrolled ← look_reg c s
+  over ← register_over s ops att enrolled
   register_rest l s c ops att over
 
 -- what is done under the hold
@@ -281,16 +280,16 @@ abbrev pub cancel_at : SelNo → Option KeyId → Plan (Unit {0})
 cancel_at s None = reply tt
 cancel_at s (Some k) = cancel_plan (key s k)
 
--- the channel's key in the selector is cancelled, where one is noted
-abbrev pub cancel_noted : ChanNo → ℕ → Plan (Unit {0})
-cancel_noted c s = do
-  noted ← look_reg c (selector s)
-  cancel_at (selector s) noted
+-- the channel's key in the selector is cancelled, where one is enrolled
+abbrev pub cancel_enrolled : ChanNo → ℕ → Plan (Unit {0})
+cancel_enrolled c s = do
+  enrolled ← look_reg c (selector s)
+  cancel_at (selector s) enrolled
 
 -- the channel's key in each selector is cancelled
 abbrev pub cancel_keys : Limits → ChanNo → Plan Bool
 cancel_keys l c = do
-  sweep_to l.selectors 0 (λ s _. cancel_noted c s) tt
+  sweep_to l.selectors 0 (λ s _. cancel_enrolled c s) tt
   reply true
 
 -- whether this call closed it

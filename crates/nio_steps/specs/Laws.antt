@@ -156,8 +156,8 @@ ClosingsStand =
     → IsLegal l events → IsClosing (mine n events) s → IsTrue (is_closer (state_after events) n s)
 
 -- A `try_finish` that answers Closed looks at the selector's high-water mark. When it returns, each key that was
--- claimed before that look, at an index below the mark, is removed. `before` is the history before the call; what the
--- caller did after it is this call, and `looked` is what stands before the look.
+-- claimed before that look, at an index below the high-water mark, is removed. `before` is the history before the call;
+-- what the caller did after it is this call, and `looked` is what stands before the look.
 abbrev pub ClosedRemovesKeys : Type 0
 ClosedRemovesKeys =
     (l : Limits) (n : CallerNo) (before looked later : List Event) (s : SelNo) (mark i serial : ℕ)

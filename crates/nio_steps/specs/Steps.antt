@@ -6,7 +6,7 @@ use Rattle.nio_base.specs.declared.numbers.ChanNo.{ChanNo}
 use Rattle.nio_base.specs.declared.numbers.KeyId.{KeyId}
 use Rattle.nio_base.specs.declared.numbers.SelNo.{SelNo}
 use Rattle.nio_event.specs.Questions.{Question, Answer, flag, word, gate_word, stage, operations, channel, number}
-use Rattle.nio_event.specs.Questions.{noted_key, holder, key_mark, exchange}
+use Rattle.nio_event.specs.Questions.{enrolled_key, holder, key_mark, exchange}
 use Rattle.nio_event.specs.State.{open_gate, unclaimed, unmade_channel, unmarked}
 use Rattle.nio_event.specs.declared.found.Chan.{Chan}
 use Rattle.nio_event.specs.declared.found.GateWord.{GateWord}
@@ -46,9 +46,9 @@ abbrev pub number_in : Answer → ℕ
 number_in (number found) = found
 number_in _ = 0
 
-abbrev pub noted_in : Answer → Option KeyId
-noted_in (noted_key found) = found
-noted_in _ = None
+abbrev pub enrolled_in : Answer → Option KeyId
+enrolled_in (enrolled_key found) = found
+enrolled_in _ = None
 
 abbrev pub holder_in : Answer → Option CallerNo
 holder_in (holder found) = found
@@ -131,10 +131,10 @@ abbrev pub publish : SelNo → ℕ → Plan Stage
 publish s i = ask (Question.publish s i) (λ answer. reply (stage_in answer))
 
 abbrev pub look_reg : ChanNo → SelNo → Plan (Option KeyId)
-look_reg c s = ask (Question.look_reg c s) (λ answer. reply (noted_in answer))
+look_reg c s = ask (Question.look_reg c s) (λ answer. reply (enrolled_in answer))
 
 abbrev pub enrol : ChanNo → SelNo → ℕ → ℕ → Plan (Option KeyId)
-enrol c s i serial = ask (Question.enrol c s i serial) (λ answer. reply (noted_in answer))
+enrol c s i serial = ask (Question.enrol c s i serial) (λ answer. reply (enrolled_in answer))
 
 abbrev pub take_turn : SelNo → Plan (Option CallerNo)
 take_turn s = ask (Question.take_turn s) (λ answer. reply (holder_in answer))

@@ -1,5 +1,7 @@
 //! What the plans promise, as the contracts of functions that do nothing.
-ghost use Rattle.nio_steps.specs.Laws.{RunsArePerformed, BeginsSelection, ListsInOrder, LooksAtValidKeys, CancelledKeysGo, MarksOnlyAsTold, MarksLookedKeys, AgainGoesOn, CountsSelection, SelectionsStand, ClosingsStand, ClosedRemovesKeys};
+ghost use Rattle.nio_steps.specs.Laws.{RunsArePerformed, BeginsSelection, ListsInOrder, LooksAtValidKeys};
+ghost use Rattle.nio_steps.specs.Laws.{CancelledKeysGo, MarksOnlyAsTold, MarksLookedKeys, AgainGoesOn, CountsSelection};
+ghost use Rattle.nio_steps.specs.Laws.{SelectionsStand, ClosingsStand, ClosedRemovesKeys};
 ghost use Rattle.nio_steps.specs.PinLaws.{PinsAreGivenBack};
 ghost use Rattle.nio_steps.specs.Bound.{SelectionIsBounded};
 
@@ -36,8 +38,8 @@ pub fn progress_law()
     ensures closings { ClosingsStand }
 {}
 
-/// A closing that has finished has removed each key with an index below the mark that it found, where the
-/// key was claimed before it looked at the mark.
+/// A closing that has finished has removed each key with an index below the high-water mark that it found, where the
+/// key was claimed before it looked at the high-water mark.
 pub fn close_law()
     ensures { ClosedRemovesKeys }
 {}

@@ -17,12 +17,14 @@ use Rattle.nio_event.specs.declared.act.Act.TheVariants.{RaiseChannels, TryHoldB
 use Rattle.nio_event.specs.declared.act.Act.TheVariants.{Pin, Unpin, ClearMark, ClaimAgain, PutFree, TakeFree}
 use Rattle.nio_event.specs.declared.found.Stage.{Stage}
 use Rattle.nio_words.proofs.Bits.{bits_below-same}
-use Rattle.nio_words.specs.Encodings.{encoding, IsProper, channel_word, holder_word, noted_word, gate_word, stage_word}
+use Rattle.nio_words.specs.Encodings.{encoding, IsProper, channel_word, holder_word, enrolled_word, gate_word}
+use Rattle.nio_words.specs.Encodings.{stage_word}
 use Rattle.nio_words.specs.Encodings.{mark_word}
 use Rattle.nio_words.specs.Parts.{part_of}
 use Rattle.nio_words.specs.declared.part.Part.{Part}
-use Rattle.nio_words.specs.declared.part.Part.TheVariants.{Callers, Interrupts, Selectors, ChannelsMark, Chan, Hold}
-use Rattle.nio_words.specs.declared.part.Part.TheVariants.{Noted, Gate, Turn, KeysMark, Key, Interest, Mark, Note, Free}
+use Rattle.nio_words.specs.declared.part.Part.TheVariants.{Callers, Interrupts, Selectors, ChannelsHigh, Chan, Hold}
+use Rattle.nio_words.specs.declared.part.Part.TheVariants.{Enrolled, Gate, Turn, KeysHigh, Key, Interest, Mark, Note}
+use Rattle.nio_words.specs.declared.part.Part.TheVariants.{Free}
 
 -- at another number a changed function is what it was
 put-other : {A : Type 0} (f : ℕ → A) (i : ℕ) (x : A) (n : ℕ) → n ≢ i → put f i x n ≡ f n
@@ -57,8 +59,8 @@ apart st me (TakeInterrupt found) Interrupts ne = absurd (ne refl)
 apart st me act Interrupts ne = refl
 apart st me (MakeSelector s found) Selectors ne = absurd (ne refl)
 apart st me act Selectors ne = refl
-apart st me (RaiseChannels n found) ChannelsMark ne = absurd (ne refl)
-apart st me act ChannelsMark ne = refl
+apart st me (RaiseChannels n found) ChannelsHigh ne = absurd (ne refl)
+apart st me act ChannelsHigh ne = refl
 apart st me (MakeChannel c kind found) (Chan d) ne = ap channel_word (put-other st.chan c.0 _ d (λ e. ne (ap Chan e)))
 apart st me (SetMode c blocking found) (Chan d) ne = ap channel_word (put-other st.chan c.0 _ d (λ e. ne (ap Chan e)))
 apart st me (CloseBit c found) (Chan d) ne = ap channel_word (put-other st.chan c.0 _ d (λ e. ne (ap Chan e)))
@@ -66,9 +68,9 @@ apart st me act (Chan d) ne = refl
 apart st me (TryHoldBit c found) (Hold d) ne = ap holder_word (put-other st.hold c.0 _ d (λ e. ne (ap Hold e)))
 apart st me (Release c) (Hold d) ne = ap holder_word (put-other st.hold c.0 _ d (λ e. ne (ap Hold e)))
 apart st me act (Hold d) ne = refl
-apart st me (Enrol c s i serial found) (Noted d t) ne =
-    ap noted_word (put_at-other st.noted c.0 s.0 _ d t (λ e e'. ne cc))
-apart st me act (Noted d t) ne = refl
+apart st me (Enrol c s i serial found) (Enrolled d t) ne =
+    ap enrolled_word (put_at-other st.enrolled c.0 s.0 _ d t (λ e e'. ne cc))
+apart st me act (Enrolled d t) ne = refl
 apart st me (Wake s found) (Gate t) ne = ap gate_word (put-other st.gate s.0 _ t (λ e. ne (ap Gate e)))
 apart st me (EndWake s found) (Gate t) ne = ap gate_word (put-other st.gate s.0 _ t (λ e. ne (ap Gate e)))
 apart st me (ShutBit s found) (Gate t) ne = ap gate_word (put-other st.gate s.0 _ t (λ e. ne (ap Gate e)))
@@ -76,8 +78,8 @@ apart st me act (Gate t) ne = refl
 apart st me (TakeTurn s found) (Turn t) ne = ap holder_word (put-other st.turn s.0 _ t (λ e. ne (ap Turn e)))
 apart st me (GiveTurn s) (Turn t) ne = ap holder_word (put-other st.turn s.0 _ t (λ e. ne (ap Turn e)))
 apart st me act (Turn t) ne = refl
-apart st me (RaiseKeys s n found) (KeysMark t) ne = put-other st.keys_high s.0 _ t (λ e. ne (ap KeysMark e))
-apart st me act (KeysMark t) ne = refl
+apart st me (RaiseKeys s n found) (KeysHigh t) ne = put-other st.keys_high s.0 _ t (λ e. ne (ap KeysHigh e))
+apart st me act (KeysHigh t) ne = refl
 apart st me (CancelKey s i found) (Key t j) ne = key_word (put_at-other st.key s.0 i _ t j (λ e e'. ne cc)) refl
 apart st me (Claim s i c found) (Key t j) ne =
     key_word (put_at-other st.key s.0 i _ t j (λ e e'. ne cc)) (put_at-other st.pinned s.0 i _ t j (λ e e'. ne cc))
@@ -105,9 +107,9 @@ apart st me act (Free t j) ne = refl
 
 pub proper-apart : (st : State) (me : CallerNo) (act : Act) (q : Part) → q ≢ part_of act → IsProper st q
     → IsProper (effect st me act) q
-proper-apart st me (Enrol c s i serial found) (Noted d t) ne h =
-    subst (λ o. IfSome o (λ k. k.index + 1 < 2 ^ 32)) (sym (put_at-other st.noted c.0 s.0 _ d t (λ e e'. ne cc))) h
-proper-apart st me act (Noted d t) ne h = h
+proper-apart st me (Enrol c s i serial found) (Enrolled d t) ne h =
+    subst (λ o. IfSome o (λ k. k.index + 1 < 2 ^ 32)) (sym (put_at-other st.enrolled c.0 s.0 _ d t (λ e e'. ne cc))) h
+proper-apart st me act (Enrolled d t) ne h = h
 proper-apart st me (CancelKey s i found) (Key t j) ne h =
     subst (λ k. k.chan.0 < 2 ^ 20) (sym (put_at-other st.key s.0 i _ t j (λ e e'. ne cc))) h
 proper-apart st me (Claim s i c found) (Key t j) ne h =

@@ -8,8 +8,8 @@ use Rattle.std.specs.Option.{IfSome}
 use Rattle.nio_base.specs.declared.numbers.CallerNo.{CallerNo}
 use Rattle.nio_base.specs.declared.numbers.KeyId.{KeyId}
 use Rattle.nio_event.specs.Acts.{taken_by}
-use Rattle.nio_words.specs.Decodings.{is_set, holder_of, noted_of, number_of}
-use Rattle.nio_words.specs.Encodings.{bit, holder_word, noted_word}
+use Rattle.nio_words.specs.Decodings.{is_set, holder_of, enrolled_of, number_of}
+use Rattle.nio_words.specs.Encodings.{bit, holder_word, enrolled_word}
 use Rattle.nio_words.specs.Instructions.{applied}
 use Rattle.nio_words.specs.declared.instruction.Instruction.TheVariants.{Exchange}
 
@@ -59,7 +59,7 @@ pub if_ap : {A : Type 0} (f : A → ℕ) (b : Bool) (x y : A) → (if b then f x
 if_ap f true x y = refl
 if_ap f false x y = refl
 
--- ---- who has a hold or a turn, and which key is noted
+-- ---- who has a hold or a turn, and which key is enrolled
 
 more_than : (n : ℕ) → (n + 1 == 0) ≡ false
 more_than n = ne_eqb (n + 1) 0 (λ e. omega arith)
@@ -73,14 +73,14 @@ reads_holder (Some n) small =
     ap (λ b. if b then None else Some (record { 0 = number_of (n.0 + 1 - 1) })) (more_than n.0)
     ∙ ap (λ (k : ℕ). Some (record { 0 = k })) (less_again n.0 small)
 
-pub reads_noted : (o : Option KeyId) → IfSome o (λ k. k.index + 1 < 2 ^ 32) → noted_of (noted_word o) ≡ o
-reads_noted None fits = refl
-reads_noted (Some k) fits =
-    let index : number_of (noted_word (Some k) - 1) ≡ k.index = omega arith in
-    let serial : noted_word (Some k) / 2 ^ 32 ≡ k.serial = omega arith in
+pub reads_enrolled : (o : Option KeyId) → IfSome o (λ k. k.index + 1 < 2 ^ 32) → enrolled_of (enrolled_word o) ≡ o
+reads_enrolled None fits = refl
+reads_enrolled (Some k) fits =
+    let index : number_of (enrolled_word (Some k) - 1) ≡ k.index = omega arith in
+    let serial : enrolled_word (Some k) / 2 ^ 32 ≡ k.serial = omega arith in
     ap (λ b. if b then None
-    else Some (record { index = number_of (noted_word (Some k) - 1); serial = noted_word (Some k) / 2 ^ 32 }))
-    (ne_eqb (noted_word (Some k)) 0 (λ e. omega arith))
+    else Some (record { index = number_of (enrolled_word (Some k) - 1); serial = enrolled_word (Some k) / 2 ^ 32 }))
+    (ne_eqb (enrolled_word (Some k)) 0 (λ e. omega arith))
     ∙ (λ j. Some (record { index = index j; serial = serial j }))
 
 -- the exchange takes the hold or the turn where nobody has it

@@ -6,7 +6,7 @@ use Rattle.std.proofs.lemmas.List.{append-nil, append_cancel_left}
 use Rattle.std.proofs.lemmas.List.Folds.{list_any-append}
 use Rattle.std.specs.Option.{ForSome}
 use Rattle.nio_base.specs.declared.numbers.CallerNo.{CallerNo}
-use Rattle.nio_event.proofs.Holds.{mode_stays, noted_stays, found_noted_stays, outside_stays, found_clear_stays}
+use Rattle.nio_event.proofs.Holds.{mode_stays, enrolled_stays, found_enrolled_stays, outside_stays, found_clear_stays}
 use Rattle.nio_event.proofs.Legal.{legal_beginning}
 use Rattle.nio_event.proofs.PinLaws.{pinned_keys_stay}
 use Rattle.nio_event.proofs.SelectedKeys.{selections_keep_keys}
@@ -15,7 +15,7 @@ use Rattle.nio_event.proofs.Stays.{facts_are_permanent, invalid_keys_stay_invali
 use Rattle.nio_event.specs.Histories.{state_after, mine, IsLegal}
 use Rattle.nio_event.specs.Permanent.{OwnFact, a_selection, is_had_by, gives_back}
 use Rattle.nio_event.specs.Holders.{IsAtMostUnselected}
-use Rattle.nio_event.specs.OwnEvents.{has, last, noted_found, is_clear_by}
+use Rattle.nio_event.specs.OwnEvents.{has, last, enrolled_found, is_clear_by}
 use Rattle.nio_event.specs.Pins.{IsSameKey, IsKeptInSelection}
 use Rattle.nio_event.specs.Sets.{is_in_key_set}
 use Rattle.nio_event.specs.State.{State}
@@ -24,7 +24,7 @@ use Rattle.nio_event.specs.declared.event.Event.{Event}
 use Rattle.nio_words.proofs.Beginnings.{prefix_trans, mine-append}
 use Rattle.nio_words.specs.Laws.{IsLater, GoesOn, KeepsBetween, CallsGoOn, DrawsGoOn, SplitsGoOn, JoinsGoOn}
 use Rattle.nio_words.specs.Laws.{GoingOnChains, HistoriesGoOn, FactsStand, InvalidKeysStand, OwnStands, PinnedKeysStand}
-use Rattle.nio_words.specs.Laws.{ModeStands, NotedStands, FoundNotedStands, OutsideStands, FoundClearStands}
+use Rattle.nio_words.specs.Laws.{ModeStands, EnrolledStands, FoundEnrolledStands, OutsideStands, FoundClearStands}
 use Rattle.nio_words.specs.Laws.{SelectsAlone, KeySetStands, SelectedKeysStand, MarksStand, WakeupStands}
 use Rattle.nio_words.specs.Passes.{seen, state_seen, acts_seen, IsPassOf}
 use Rattle.nio_words.specs.declared.words.Pass.{Pass}
@@ -146,18 +146,18 @@ mode_stands w me c acts before after keeps spared =
     at_last there (λ st. (st.chan c.0).blocking ≡ ((state_seen before).chan c.0).blocking)
     (mode_stays w.limits me c (seen before) there.later there.keeps (none_such there _ spared))
 
-pub noted_stands : NotedStands
-noted_stands w me c acts before after keeps s spared =
+pub enrolled_stands : EnrolledStands
+enrolled_stands w me c acts before after keeps s spared =
     let there = histories_go_on w me _ acts before after keeps in
-    at_last there (λ st. st.noted c.0 s.0 ≡ (state_seen before).noted c.0 s.0)
-    (noted_stays w.limits me c (seen before) there.later there.keeps s (none_such there _ spared))
+    at_last there (λ st. st.enrolled c.0 s.0 ≡ (state_seen before).enrolled c.0 s.0)
+    (enrolled_stays w.limits me c (seen before) there.later there.keeps s (none_such there _ spared))
 
-pub found_noted_stands : FoundNotedStands
-found_noted_stands w me c acts before after keeps s noted found =
+pub found_enrolled_stands : FoundEnrolledStands
+found_enrolled_stands w me c acts before after keeps s enrolled found =
     let there = histories_go_on w me _ acts before after keeps in
-    at_last there (λ st. st.noted c.0 s.0 ≡ noted)
-    (found_noted_stays w.limits me c (seen before) there.later there.keeps s noted
-    (ap (last (noted_found c.0 s.0)) there.own ∙ found))
+    at_last there (λ st. st.enrolled c.0 s.0 ≡ enrolled)
+    (found_enrolled_stays w.limits me c (seen before) there.later there.keeps s enrolled
+    (ap (last (enrolled_found c.0 s.0)) there.own ∙ found))
 
 pub outside_stands : OutsideStands
 outside_stands w me c acts before after keeps s k spared =
@@ -170,9 +170,9 @@ outside_stands w me c acts before after keeps s k spared =
 pub found_clear_stands : FoundClearStands
 found_clear_stands w me c acts before after keeps s clear =
     let there = histories_go_on w me _ acts before after keeps in
-    at_last there (λ st. ForSome (st.noted c.0 s.0) (λ k. is_in_key_set (st.key s.0 k.index) k.serial ≡ false))
+    at_last there (λ st. ForSome (st.enrolled c.0 s.0) (λ k. is_in_key_set (st.key s.0 k.index) k.serial ≡ false))
     (found_clear_stays w.limits me c (seen before) there.later w.fit there.keeps s
-    (subst (λ own. is_clear_by c.0 s.0 own (last (noted_found c.0 s.0) own) ≡ true) (sym there.own) clear))
+    (subst (λ own. is_clear_by c.0 s.0 own (last (enrolled_found c.0 s.0) own) ≡ true) (sym there.own) clear))
 
 pub selects_alone : SelectsAlone
 selects_alone w me s acts before after keeps between e rest parts on =

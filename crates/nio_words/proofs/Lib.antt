@@ -9,12 +9,13 @@ pub mod Starts
 pub mod Splitting
 pub mod Joining
 pub mod Stepping
+pub mod Details
 pub mod Draws
 pub mod Gates
 pub mod Channels
 pub mod Holders
-pub mod Noted
-pub mod HighMarks
+pub mod Enrolled
+pub mod HighWater
 pub mod Marks
 pub mod Interests
 pub mod Interrupts

@@ -4,8 +4,9 @@ use Rattle.std.proofs.lemmas.Nat.{mul-add-lt, same_from_place}
 use Rattle.nio_base.specs.declared.limits.Limits.{Limits}
 use Rattle.nio_words.specs.Places.{free_words, rows, row, column, IsWithin, total, word_count, place}
 use Rattle.nio_words.specs.declared.part.Part.{Part}
-use Rattle.nio_words.specs.declared.part.Part.TheVariants.{Callers, Interrupts, Selectors, ChannelsMark, Chan, Hold}
-use Rattle.nio_words.specs.declared.part.Part.TheVariants.{Noted, Gate, Turn, KeysMark, Key, Interest, Mark, Note, Free}
+use Rattle.nio_words.specs.declared.part.Part.TheVariants.{Callers, Interrupts, Selectors, ChannelsHigh, Chan, Hold}
+use Rattle.nio_words.specs.declared.part.Part.TheVariants.{Enrolled, Gate, Turn, KeysHigh, Key, Interest, Mark, Note}
+use Rattle.nio_words.specs.declared.part.Part.TheVariants.{Free}
 
 -- a place behind some rows tells which rows, and where in the next one
 same_row : (xs : List ℕ) (i j a b : ℕ) → a < get_or xs i 0 → b < get_or xs j 0
@@ -27,13 +28,13 @@ column_below : (l : Limits) (p : Part) → IsWithin l p → column l p < get_or 
 column_below l Callers h = omega arith
 column_below l Interrupts h = omega arith
 column_below l Selectors h = omega arith
-column_below l ChannelsMark h = omega arith
+column_below l ChannelsHigh h = omega arith
 column_below l (Chan c) h = h
 column_below l (Hold c) h = h
-column_below l (Noted c s) h = omega (arith, mul-add-lt c l.selectors s l.channels h.0 h.1)
+column_below l (Enrolled c s) h = omega (arith, mul-add-lt c l.selectors s l.channels h.0 h.1)
 column_below l (Gate s) h = h
 column_below l (Turn s) h = h
-column_below l (KeysMark s) h = h
+column_below l (KeysHigh s) h = h
 column_below l (Key s i) h = omega (arith, mul-add-lt s l.keys i l.selectors h.0 h.1)
 column_below l (Interest s i) h = omega (arith, mul-add-lt s l.keys i l.selectors h.0 h.1)
 column_below l (Mark s i) h = omega (arith, mul-add-lt s l.keys i l.selectors h.0 h.1)
@@ -48,13 +49,14 @@ same_numbers : (l : Limits) (p q : Part) → IsWithin l p → IsWithin l q → r
 same_numbers l Callers Callers hp hq r c = refl
 same_numbers l Interrupts Interrupts hp hq r c = refl
 same_numbers l Selectors Selectors hp hq r c = refl
-same_numbers l ChannelsMark ChannelsMark hp hq r c = refl
+same_numbers l ChannelsHigh ChannelsHigh hp hq r c = refl
 same_numbers l (Chan a) (Chan b) hp hq r c = ap Chan c
 same_numbers l (Hold a) (Hold b) hp hq r c = ap Hold c
-same_numbers l (Noted a s) (Noted b t) hp hq r c = let both = same_from_place a s b t l.selectors hp.1 hq.1 c in cc
+same_numbers l (Enrolled a s) (Enrolled b t) hp hq r c = let both =
+    same_from_place a s b t l.selectors hp.1 hq.1 c in cc
 same_numbers l (Gate a) (Gate b) hp hq r c = ap Gate c
 same_numbers l (Turn a) (Turn b) hp hq r c = ap Turn c
-same_numbers l (KeysMark a) (KeysMark b) hp hq r c = ap KeysMark c
+same_numbers l (KeysHigh a) (KeysHigh b) hp hq r c = ap KeysHigh c
 same_numbers l (Key a i) (Key b j) hp hq r c = let both = same_from_place a i b j l.keys hp.1 hq.1 c in cc
 same_numbers l (Interest a i) (Interest b j) hp hq r c = let both = same_from_place a i b j l.keys hp.1 hq.1 c in cc
 same_numbers l (Mark a i) (Mark b j) hp hq r c = let both = same_from_place a i b j l.keys hp.1 hq.1 c in cc

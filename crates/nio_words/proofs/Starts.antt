@@ -17,7 +17,7 @@ use Rattle.nio_words.specs.Encodings.{encoding, bound, IsProper, limits_word, st
 use Rattle.nio_words.specs.Places.{IsWithin, place, word_count}
 use Rattle.nio_words.specs.Rule.{first_view, Knows, IsEncoded, IsKept}
 use Rattle.nio_words.specs.declared.part.Part.{Part}
-use Rattle.nio_words.specs.declared.part.Part.TheVariants.{Callers, Interrupts, Selectors, Noted, Key, Mark, Free}
+use Rattle.nio_words.specs.declared.part.Part.TheVariants.{Callers, Interrupts, Selectors, Enrolled, Key, Mark, Free}
 use Rattle.nio_words.specs.declared.view.View.{View}
 
 -- in the opening state every word is 0
@@ -34,7 +34,7 @@ bound-pos Callers = omega arith
 bound-pos p = omega arith
 
 proper-opening : (p : Part) → IsProper opening p
-proper-opening (Noted c s) = tt
+proper-opening (Enrolled c s) = tt
 proper-opening (Key s i) = omega arith
 proper-opening (Mark s i) = omega arith
 proper-opening p = tt

@@ -63,5 +63,5 @@ abbrev pub holder_of : ℕ → Option CallerNo
 holder_of word = if word == 0 then None else Some (record { 0 = number_of (word - 1) })
 
 -- 0 for none, and else one more than the index, beside the serial
-abbrev pub noted_of : ℕ → Option KeyId
-noted_of word = if word == 0 then None else Some (record { index = number_of (word - 1); serial = word / 2 ^ 32 })
+abbrev pub enrolled_of : ℕ → Option KeyId
+enrolled_of word = if word == 0 then None else Some (record { index = number_of (word - 1); serial = word / 2 ^ 32 })

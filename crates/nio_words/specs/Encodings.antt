@@ -14,8 +14,9 @@ use Rattle.nio_event.specs.declared.found.GateWord.{GateWord}
 use Rattle.nio_event.specs.declared.found.Mark.{Mark as KeyMark}
 use Rattle.nio_event.specs.declared.found.Stage.{Stage}
 use Rattle.nio_words.specs.declared.part.Part.{Part}
-use Rattle.nio_words.specs.declared.part.Part.TheVariants.{Callers, Interrupts, Selectors, ChannelsMark, Chan, Hold}
-use Rattle.nio_words.specs.declared.part.Part.TheVariants.{Noted, Gate, Turn, KeysMark, Key, Interest, Mark, Note, Free}
+use Rattle.nio_words.specs.declared.part.Part.TheVariants.{Callers, Interrupts, Selectors, ChannelsHigh, Chan, Hold}
+use Rattle.nio_words.specs.declared.part.Part.TheVariants.{Enrolled, Gate, Turn, KeysHigh, Key, Interest, Mark, Note}
+use Rattle.nio_words.specs.declared.part.Part.TheVariants.{Free}
 
 abbrev pub bit : Bool → ℕ
 bit b = if b then 1 else 0
@@ -51,9 +52,9 @@ holder_word None = 0
 holder_word (Some n) = n.0 + 1
 
 -- 0 for none, else bits 0 to 31 the index plus 1, and bits 32 to 63 the serial
-abbrev pub noted_word : Option KeyId → ℕ
-noted_word None = 0
-noted_word (Some k) = k.index + 1 + 2 ^ 32 * k.serial
+abbrev pub enrolled_word : Option KeyId → ℕ
+enrolled_word None = 0
+enrolled_word (Some k) = k.index + 1 + 2 ^ 32 * k.serial
 
 abbrev pub encoding : State → Part → ℕ
 -- bit n: number n is drawn
@@ -62,13 +63,13 @@ encoding st Callers = bits_below 64 st.drawn
 encoding st Interrupts = bits_below 64 st.interrupted
 -- bit s: selector s is made
 encoding st Selectors = selectors_word st
-encoding st ChannelsMark = st.channels_high
+encoding st ChannelsHigh = st.channels_high
 encoding st (Chan c) = channel_word (st.chan c)
 encoding st (Hold c) = holder_word (st.hold c)
-encoding st (Noted c s) = noted_word (st.noted c s)
+encoding st (Enrolled c s) = enrolled_word (st.enrolled c s)
 encoding st (Gate s) = gate_word (st.gate s)
 encoding st (Turn s) = holder_word (st.turn s)
-encoding st (KeysMark s) = st.keys_high s
+encoding st (KeysHigh s) = st.keys_high s
 encoding st (Key s i) = stage_word (st.key s i) (pins st s i)
 encoding st (Interest s i) = st.interest s i
 encoding st (Mark s i) = mark_word (st.mark s i)
@@ -81,13 +82,13 @@ abbrev pub bound : Part → ℕ
 bound Callers = 2 ^ 64
 bound Interrupts = 2 ^ 64
 bound Selectors = 2 ^ 64
-bound ChannelsMark = 2 ^ 32
+bound ChannelsHigh = 2 ^ 32
 bound (Chan c) = 2 ^ 6
 bound (Hold c) = 2 ^ 32 + 1
-bound (Noted c s) = 2 ^ 64
+bound (Enrolled c s) = 2 ^ 64
 bound (Gate s) = 4
 bound (Turn s) = 2 ^ 32 + 1
-bound (KeysMark s) = 2 ^ 32
+bound (KeysHigh s) = 2 ^ 32
 bound (Key s i) = 2 ^ 64
 bound (Interest s i) = 256
 bound (Mark s i) = 512
@@ -99,14 +100,14 @@ abbrev pub IsProper : State → Part → Type 0
 IsProper st Callers = ⊤
 IsProper st Interrupts = ⊤
 IsProper st Selectors = ⊤
-IsProper st ChannelsMark = ⊤
+IsProper st ChannelsHigh = ⊤
 IsProper st (Chan c) = ⊤
 IsProper st (Hold c) = ⊤
 -- an index plus 1 has 32 bits
-IsProper st (Noted c s) = IfSome (st.noted c s) (λ k. k.index + 1 < 2 ^ 32)
+IsProper st (Enrolled c s) = IfSome (st.enrolled c s) (λ k. k.index + 1 < 2 ^ 32)
 IsProper st (Gate s) = ⊤
 IsProper st (Turn s) = ⊤
-IsProper st (KeysMark s) = ⊤
+IsProper st (KeysHigh s) = ⊤
 -- a channel has 20 bits
 IsProper st (Key s i) = (st.key s i).chan.0 < 2 ^ 20
 IsProper st (Interest s i) = ⊤

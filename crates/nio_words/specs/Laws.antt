@@ -11,7 +11,7 @@ use Rattle.nio_event.specs.Histories.{mine, HistoryClause}
 use Rattle.nio_event.specs.Holders.{Keeps as KeepsHistory, marks, ends_wakeup, IsAtMostUnselected}
 use Rattle.nio_event.specs.Permanent.{PermanentFact, stands, OwnFact, a_selection, the_hold, a_pin, is_had_by}
 use Rattle.nio_event.specs.Permanent.{gives_back}
-use Rattle.nio_event.specs.OwnEvents.{has, last, sets_mode, notes_key, publishes, noted_found, is_clear_by}
+use Rattle.nio_event.specs.OwnEvents.{has, last, sets_mode, enrols_key, publishes, enrolled_found, is_clear_by}
 use Rattle.nio_event.specs.Pins.{IsSameKey, IsKeptInSelection, removes}
 use Rattle.nio_event.specs.Sets.{was_published, is_valid_key, is_in_key_set}
 use Rattle.nio_event.specs.Turns.{selects_on}
@@ -64,7 +64,7 @@ abbrev pub JoinsGoOn : Type 0
 JoinsGoOn = (w : Words) (before other after : Pass) → IsPassOf w before → IsPassOf w other → Joins w before other after
     → (n : CallerNo) → (Holds before n → GoesOn w n [] before after) × (Holds other n → GoesOn w n [] other after)
 
--- whoever went on, and then went on again, went on
+-- whoever went on by some acts, and then by more, went on by all of them
 abbrev pub GoingOnChains : Type 0
 GoingOnChains = (w : Words) (me : CallerNo) (acts more : List Act) (p q r : Pass) → GoesOn w me acts p q
     → GoesOn w me more q r
@@ -91,7 +91,7 @@ abbrev pub FactsStand : Type 0
 FactsStand = (w : Words) (before after : Pass) → IsLater w before after
     → (f : PermanentFact) → IsTrue (stands f (state_seen before)) → IsTrue (stands f (state_seen after))
 
--- so does it stand that a published key isn't valid
+-- a published key that isn't valid isn't valid in what any later pass has seen
 abbrev pub InvalidKeysStand : Type 0
 InvalidKeysStand = (w : Words) (before after : Pass) → IsLater w before after → (s : SelNo) (k : KeyId)
     → IsTrue (was_published ((state_seen before).key s.0 k.index) k.serial)
@@ -121,19 +121,19 @@ ModeStands = (w : Words) (me : CallerNo) (c : ChanNo) (acts : List Act) (before 
     → IsFalse (has (sets_mode c.0) acts)
     → ((state_seen after).chan c.0).blocking ≡ ((state_seen before).chan c.0).blocking
 
--- which key is noted for a channel stays while a caller holds it and notes none itself
-abbrev pub NotedStands : Type 0
-NotedStands = (w : Words) (me : CallerNo) (c : ChanNo) (acts : List Act) (before after : Pass)
+-- which key is enrolled for a channel stays while a caller holds it and enrols none itself
+abbrev pub EnrolledStands : Type 0
+EnrolledStands = (w : Words) (me : CallerNo) (c : ChanNo) (acts : List Act) (before after : Pass)
     → Keeps w me (the_hold c) acts before after
-    → (s : SelNo) → IsFalse (has (notes_key c.0 s.0) acts)
-    → (state_seen after).noted c.0 s.0 ≡ (state_seen before).noted c.0 s.0
+    → (s : SelNo) → IsFalse (has (enrols_key c.0 s.0) acts)
+    → (state_seen after).enrolled c.0 s.0 ≡ (state_seen before).enrolled c.0 s.0
 
--- what a caller last found noted for a channel, or noted itself, while it held the channel is noted there
-abbrev pub FoundNotedStands : Type 0
-FoundNotedStands = (w : Words) (me : CallerNo) (c : ChanNo) (acts : List Act) (before after : Pass)
+-- what a caller last found enrolled for a channel, or enrolled itself, while it held the channel is enrolled there
+abbrev pub FoundEnrolledStands : Type 0
+FoundEnrolledStands = (w : Words) (me : CallerNo) (c : ChanNo) (acts : List Act) (before after : Pass)
     → Keeps w me (the_hold c) acts before after
-    → (s : SelNo) (noted : Option KeyId) → last (noted_found c.0 s.0) acts ≡ Some noted
-    → (state_seen after).noted c.0 s.0 ≡ noted
+    → (s : SelNo) (enrolled : Option KeyId) → last (enrolled_found c.0 s.0) acts ≡ Some enrolled
+    → (state_seen after).enrolled c.0 s.0 ≡ enrolled
 
 -- a key that is outside the key set stays outside while a caller holds its channel and doesn't publish the key
 -- of its index
@@ -145,13 +145,13 @@ OutsideStands = (w : Words) (me : CallerNo) (c : ChanNo) (acts : List Act) (befo
     → ((state_seen after).key s.0 k.index).chan ≡ c
     → IsFalse (is_in_key_set ((state_seen after).key s.0 k.index) k.serial)
 
--- where a caller knows from its acts while it held a channel that no key of the key set is noted for it in a
+-- where a caller knows from its acts while it held a channel that no key of the key set is enrolled for it in a
 -- selector, none is
 abbrev pub FoundClearStands : Type 0
 FoundClearStands = (w : Words) (me : CallerNo) (c : ChanNo) (acts : List Act) (before after : Pass)
     → Keeps w me (the_hold c) acts before after
-    → (s : SelNo) → IsTrue (is_clear_by c.0 s.0 acts (last (noted_found c.0 s.0) acts))
-    → ForSome ((state_seen after).noted c.0 s.0)
+    → (s : SelNo) → IsTrue (is_clear_by c.0 s.0 acts (last (enrolled_found c.0 s.0) acts))
+    → ForSome ((state_seen after).enrolled c.0 s.0)
     (λ k. IsFalse (is_in_key_set ((state_seen after).key s.0 k.index) k.serial))
 
 -- ---- what stands during a selection

@@ -6,7 +6,6 @@ pub mod Rule
 pub mod Passes
 pub mod Sharing
 pub mod Parts
-pub mod Details
 pub mod Steps
 pub mod Telling
 pub mod Moves

@@ -1,5 +1,4 @@
--- On which part of the state each kind of step is. The lines stand in the order in which `Act` lists
--- the kinds.
+-- On which part of the state each kind of step is. The lines stand in the order in which `Act` lists the kinds.
 use Rattle.std.specs.Prelude.{ℕ, ◌/◌}
 use Rattle.nio_base.specs.declared.numbers.ChanNo.{ChanNo}
 use Rattle.nio_base.specs.declared.numbers.SelNo.{SelNo}
@@ -14,8 +13,9 @@ use Rattle.nio_event.specs.declared.act.Act.TheVariants.{RaiseChannels, TryHoldB
 use Rattle.nio_event.specs.declared.act.Act.TheVariants.{Enter, Pin, Unpin, ClearMark, ClaimAgain, LookFree, PutFree}
 use Rattle.nio_event.specs.declared.act.Act.TheVariants.{TakeFree}
 use Rattle.nio_words.specs.declared.part.Part.{Part}
-use Rattle.nio_words.specs.declared.part.Part.TheVariants.{Callers, Interrupts, Selectors, ChannelsMark, Chan, Hold}
-use Rattle.nio_words.specs.declared.part.Part.TheVariants.{Noted, Gate, Turn, KeysMark, Key, Interest, Mark, Note, Free}
+use Rattle.nio_words.specs.declared.part.Part.TheVariants.{Callers, Interrupts, Selectors, ChannelsHigh, Chan, Hold}
+use Rattle.nio_words.specs.declared.part.Part.TheVariants.{Enrolled, Gate, Turn, KeysHigh, Key, Interest, Mark, Note}
+use Rattle.nio_words.specs.declared.part.Part.TheVariants.{Free}
 
 abbrev pub part_of : Act → Part
 part_of (DrawBit n found) = Callers
@@ -37,11 +37,11 @@ part_of (LookNote s i found) = Note s.0 i
 part_of (MakeChannel c kind found) = Chan c.0
 part_of (LookChannel c found) = Chan c.0
 part_of (Claim s i c found) = Key s.0 i
-part_of (RaiseKeys s n found) = KeysMark s.0
-part_of (LookKeys s found) = KeysMark s.0
+part_of (RaiseKeys s n found) = KeysHigh s.0
+part_of (LookKeys s found) = KeysHigh s.0
 part_of (Publish s i found) = Key s.0 i
-part_of (LookReg c s found) = Noted c.0 s.0
-part_of (Enrol c s i serial found) = Noted c.0 s.0
+part_of (LookReg c s found) = Enrolled c.0 s.0
+part_of (Enrol c s i serial found) = Enrolled c.0 s.0
 part_of (TakeTurn s found) = Turn s.0
 part_of (BeginLook s found) = Gate s.0
 part_of (GiveTurn s) = Turn s.0
@@ -50,8 +50,8 @@ part_of (LookMark s i found) = Mark s.0 i
 part_of (MarkKey s i from told found) = Mark s.0 i
 part_of (UnselectBit s i found) = Mark s.0 i
 part_of (EndWake s found) = Gate s.0
-part_of (LookChannels found) = ChannelsMark
-part_of (RaiseChannels n found) = ChannelsMark
+part_of (LookChannels found) = ChannelsHigh
+part_of (RaiseChannels n found) = ChannelsHigh
 part_of (TryHoldBit c found) = Hold c.0
 part_of (Release c) = Hold c.0
 part_of (SetMode c blocking found) = Chan c.0
@@ -68,10 +68,10 @@ part_of (TakeFree s i found) = Free s.0 (i / 64)
 
 -- the selector of a part, the channel, and the index of a key or the number of a word of free indexes
 abbrev pub selector_in : Part → SelNo
-selector_in (Noted c s) = record { 0 = s }
+selector_in (Enrolled c s) = record { 0 = s }
 selector_in (Gate s) = record { 0 = s }
 selector_in (Turn s) = record { 0 = s }
-selector_in (KeysMark s) = record { 0 = s }
+selector_in (KeysHigh s) = record { 0 = s }
 selector_in (Key s i) = record { 0 = s }
 selector_in (Interest s i) = record { 0 = s }
 selector_in (Mark s i) = record { 0 = s }
@@ -82,7 +82,7 @@ selector_in _ = record { 0 = 0 }
 abbrev pub channel_in : Part → ChanNo
 channel_in (Chan c) = record { 0 = c }
 channel_in (Hold c) = record { 0 = c }
-channel_in (Noted c s) = record { 0 = c }
+channel_in (Enrolled c s) = record { 0 = c }
 channel_in _ = record { 0 = 0 }
 
 abbrev pub index_in : Part → ℕ

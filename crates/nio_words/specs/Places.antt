@@ -4,8 +4,9 @@
 use Rattle.std.specs.Prelude.{ℕ, ◌+◌, ◌*◌, ◌/◌, ◌<◌, List, [], ◌∷◌, take, ⊤}
 use Rattle.nio_base.specs.declared.limits.Limits.{Limits}
 use Rattle.nio_words.specs.declared.part.Part.{Part}
-use Rattle.nio_words.specs.declared.part.Part.TheVariants.{Callers, Interrupts, Selectors, ChannelsMark, Chan, Hold}
-use Rattle.nio_words.specs.declared.part.Part.TheVariants.{Noted, Gate, Turn, KeysMark, Key, Interest, Mark, Note, Free}
+use Rattle.nio_words.specs.declared.part.Part.TheVariants.{Callers, Interrupts, Selectors, ChannelsHigh, Chan, Hold}
+use Rattle.nio_words.specs.declared.part.Part.TheVariants.{Enrolled, Gate, Turn, KeysHigh, Key, Interest, Mark, Note}
+use Rattle.nio_words.specs.declared.part.Part.TheVariants.{Free}
 
 -- how many words a selector's free indexes have, 64 indexes each
 abbrev pub free_words : Limits → ℕ
@@ -18,13 +19,13 @@ rows l =
     ∷ 1  -- the limits
     ∷ 1  -- interrupted callers
     ∷ 1  -- selectors
-    ∷ 1  -- the channels' mark
+    ∷ 1  -- the channels' high-water mark
     ∷ l.channels  -- channels
     ∷ l.channels  -- their holders
-    ∷ (l.channels * l.selectors)  -- noted keys
+    ∷ (l.channels * l.selectors)  -- enrolled keys
     ∷ l.selectors  -- gates
     ∷ l.selectors  -- turns
-    ∷ l.selectors  -- keys' marks
+    ∷ l.selectors  -- keys' high-water marks
     ∷ (l.selectors * l.keys)  -- keys
     ∷ (l.selectors * l.keys)  -- their interest sets
     ∷ (l.selectors * l.keys)  -- their marks
@@ -37,13 +38,13 @@ abbrev pub row : Part → ℕ
 row Callers = 0
 row Interrupts = 2
 row Selectors = 3
-row ChannelsMark = 4
+row ChannelsHigh = 4
 row (Chan c) = 5
 row (Hold c) = 6
-row (Noted c s) = 7
+row (Enrolled c s) = 7
 row (Gate s) = 8
 row (Turn s) = 9
-row (KeysMark s) = 10
+row (KeysHigh s) = 10
 row (Key s i) = 11
 row (Interest s i) = 12
 row (Mark s i) = 13
@@ -55,13 +56,13 @@ abbrev pub column : Limits → Part → ℕ
 column l Callers = 0
 column l Interrupts = 0
 column l Selectors = 0
-column l ChannelsMark = 0
+column l ChannelsHigh = 0
 column l (Chan c) = c
 column l (Hold c) = c
-column l (Noted c s) = c * l.selectors + s
+column l (Enrolled c s) = c * l.selectors + s
 column l (Gate s) = s
 column l (Turn s) = s
-column l (KeysMark s) = s
+column l (KeysHigh s) = s
 column l (Key s i) = s * l.keys + i
 column l (Interest s i) = s * l.keys + i
 column l (Mark s i) = s * l.keys + i
@@ -73,13 +74,13 @@ abbrev pub IsWithin : Limits → Part → Type 0
 IsWithin l Callers = ⊤
 IsWithin l Interrupts = ⊤
 IsWithin l Selectors = ⊤
-IsWithin l ChannelsMark = ⊤
+IsWithin l ChannelsHigh = ⊤
 IsWithin l (Chan c) = c < l.channels
 IsWithin l (Hold c) = c < l.channels
-IsWithin l (Noted c s) = (c < l.channels) × (s < l.selectors)
+IsWithin l (Enrolled c s) = (c < l.channels) × (s < l.selectors)
 IsWithin l (Gate s) = s < l.selectors
 IsWithin l (Turn s) = s < l.selectors
-IsWithin l (KeysMark s) = s < l.selectors
+IsWithin l (KeysHigh s) = s < l.selectors
 IsWithin l (Key s i) = (s < l.selectors) × (i < l.keys)
 IsWithin l (Interest s i) = (s < l.selectors) × (i < l.keys)
 IsWithin l (Mark s i) = (s < l.selectors) × (i < l.keys)

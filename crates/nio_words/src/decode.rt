@@ -1,6 +1,7 @@
 //! Words as parts of the state: the other way round from `encode`.
 ghost use Rattle.std.specs.Prelude.{◌≡◌, ◌<◌};
-ghost use Rattle.nio_words.specs.Decodings.{is_set, gate_of, stage_of, operations_of, number_of, kind_of, chan_of, mark_of, holder_of, noted_of};
+ghost use Rattle.nio_words.specs.Decodings.{is_set, gate_of, stage_of, operations_of, number_of, kind_of, chan_of};
+ghost use Rattle.nio_words.specs.Decodings.{mark_of, holder_of, enrolled_of};
 
 use nio_base::{CallerNo, ChanNo, KeyId, Kind, Ops};
 use nio_event::{Chan, GateWord, Mark, Stage};
@@ -88,8 +89,8 @@ pub(crate) fn holder_of(word: u64) -> Option<CallerNo>
 }
 
 #[inline(always)]
-pub(crate) fn noted_of(word: u64) -> Option<KeyId>
-    ensures { result ≡ noted_of word }
+pub(crate) fn enrolled_of(word: u64) -> Option<KeyId>
+    ensures { result ≡ enrolled_of word }
 {
     if word == 0 {
         None

@@ -1,7 +1,8 @@
 //! Parts of the state as words.
 ghost use Rattle.std.specs.Prelude.{◌≡◌, ◌+◌, ◌^◌, ◌<◌, Some};
 ghost use Rattle.nio_event.specs.Acts.{new_channel, new_key, selected_with};
-ghost use Rattle.nio_words.specs.Encodings.{bit, kind_code, channel_word, stage_word, mark_word, holder_word, noted_word};
+ghost use Rattle.nio_words.specs.Encodings.{bit, kind_code, channel_word, stage_word, mark_word, holder_word};
+ghost use Rattle.nio_words.specs.Encodings.{enrolled_word};
 
 use nio_base::{CallerNo, ChanNo, KeyId, Kind, Ops};
 use nio_event::Stage;
@@ -68,11 +69,11 @@ pub(crate) fn holder(n: CallerNo) -> u64
     u64::from(n.0) + 1
 }
 
-/// The word that notes this key for a channel.
+/// The word of a channel's enrolled key, where it is this one.
 #[inline(always)]
-pub(crate) fn noted(key: KeyId) -> u64
+pub(crate) fn enrolled(key: KeyId) -> u64
     requires { key.index + 1 < 2 ^ 32 }
-    ensures { result ≡ noted_word (Some key) }
+    ensures { result ≡ enrolled_word (Some key) }
 {
     u64::from(key.index) + 1 + u64::from(key.serial) * (1 << 32)
 }

@@ -1,6 +1,9 @@
 //! What follows from the table's rule and from the laws of legal histories alone. The functions do
 //! nothing: their contracts are laws.
-ghost use Rattle.nio_words.specs.Laws.{CallsGoOn, DrawsGoOn, SplitsGoOn, JoinsGoOn, GoingOnChains, HistoriesGoOn, FactsStand, InvalidKeysStand, OwnStands, PinnedKeysStand, ModeStands, NotedStands, FoundNotedStands, OutsideStands, FoundClearStands, SelectsAlone, KeySetStands, SelectedKeysStand, MarksStand, WakeupStands};
+ghost use Rattle.nio_words.specs.Laws.{CallsGoOn, DrawsGoOn, SplitsGoOn, JoinsGoOn, GoingOnChains, HistoriesGoOn};
+ghost use Rattle.nio_words.specs.Laws.{FactsStand, InvalidKeysStand, OwnStands, PinnedKeysStand, ModeStands};
+ghost use Rattle.nio_words.specs.Laws.{EnrolledStands, FoundEnrolledStands, OutsideStands, FoundClearStands};
+ghost use Rattle.nio_words.specs.Laws.{SelectsAlone, KeySetStands, SelectedKeysStand, MarksStand, WakeupStands};
 ghost use Rattle.nio_words.specs.Whole.{HoldersOfAllSeeAll};
 
 /// A pass that holds every number below the limit has seen the whole history.
@@ -34,12 +37,12 @@ pub fn own_law()
     ensures pinned { PinnedKeysStand }
 {}
 
-/// While a caller holds a channel nobody else changes its mode, notes a key for it or publishes one of
+/// While a caller holds a channel nobody else changes its mode, enrols a key for it or publishes one of
 /// its keys. So what the caller found of these stands until it changes it or gives the hold back.
 pub fn hold_law()
     ensures mode { ModeStands }
-    ensures noted { NotedStands }
-    ensures found_noted { FoundNotedStands }
+    ensures enrolled { EnrolledStands }
+    ensures found_enrolled { FoundEnrolledStands }
     ensures outside { OutsideStands }
     ensures found_clear { FoundClearStands }
 {}

@@ -14,20 +14,20 @@ pub enum Part {
     Interrupts,
     /// Which selectors are made.
     Selectors,
-    /// The channels' mark.
-    ChannelsMark,
+    /// The channels' high-water mark.
+    ChannelsHigh,
     /// A channel.
     Chan(u32),
     /// Who holds a channel.
     Hold(u32),
-    /// The key that is noted for a channel in a selector.
-    Noted(u32, u32),
+    /// The key that is enrolled for a channel in a selector.
+    Enrolled(u32, u32),
     /// The gate of a selector.
     Gate(u32),
     /// Who has the turn of a selector.
     Turn(u32),
-    /// The keys' mark of a selector.
-    KeysMark(u32),
+    /// The keys' high-water mark of a selector.
+    KeysHigh(u32),
     /// The stage of an index's key, and how many pins are on the index.
     Key(u32, u32),
     /// A key's interest set.
@@ -74,13 +74,13 @@ pub(crate) fn place_of(limits: &Limits, part: Part) -> usize
         Part::Callers => 0,
         Part::Interrupts => 2,
         Part::Selectors => 3,
-        Part::ChannelsMark => 4,
+        Part::ChannelsHigh => 4,
         Part::Chan(c) => 5 + c as usize,
         Part::Hold(c) => 5 + channels + c as usize,
-        Part::Noted(c, s) => 5 + channels + channels + (c as usize * selectors + s as usize),
+        Part::Enrolled(c, s) => 5 + channels + channels + (c as usize * selectors + s as usize),
         Part::Gate(s) => gates + s as usize,
         Part::Turn(s) => gates + selectors + s as usize,
-        Part::KeysMark(s) => gates + selectors + selectors + s as usize,
+        Part::KeysHigh(s) => gates + selectors + selectors + s as usize,
         Part::Key(s, i) => stages + (s as usize * keys + i as usize),
         Part::Interest(s, i) => stages + of_keys + (s as usize * keys + i as usize),
         Part::Mark(s, i) => stages + of_keys + of_keys + (s as usize * keys + i as usize),

@@ -28,8 +28,8 @@ pub enum Details {
     Again(ChanNo, Stage),
     /// An index of a selector, or a high-water mark.
     Number(u32),
-    /// The key that is noted for a channel.
-    Noted(KeyId),
+    /// The key that is enrolled for a channel.
+    Enrolled(KeyId),
     /// Whether a channel is blocking from now on.
     Mode(bool),
     /// Whether the key was selected, its ready set, and what was told of it.
@@ -53,7 +53,8 @@ impl Words {
         requires table { seat.old.table_id ≡ self.now.table.shared.table_id }
         requires inside { word < self.now.table.shared.table_id.words }
         requires bit { IsInWord instruction }
-        requires rule { Allows (IsKept self.now.table.shared.key) self.now.table.shared.table_id.slots seat.old.id seat.old.me word (applied instruction) (M.then any_step seat.old.me) }
+        requires rule { Allows (IsKept self.now.table.shared.key) self.now.table.shared.table_id.slots seat.old.id
+            seat.old.me word (applied instruction) (M.then any_step seat.old.me) }
         ensures seat { (seat.new.table_id ≡ seat.old.table_id) × (seat.new.id ≡ seat.old.id) }
         ensures told { M.then any_step seat.old.me result seat.new.me }
     {

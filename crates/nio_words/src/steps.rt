@@ -15,15 +15,15 @@
 //! That its condition stays true while others step is proved of all kinds in `nio_event`.
 
 mod channels;
+mod enrolled;
 mod free_indexes;
 mod gates;
-mod high_marks;
+mod high_water;
 mod holds;
 mod interest;
 mod interrupts;
 mod keys;
 mod marks;
-mod noted;
 mod notes;
 mod selectors;
 mod turns;

@@ -11,7 +11,9 @@ impl Judge {
     ghost use Rattle.nio_audit.specs.Allowing.{may_clear_out_by, may_publish_by, state_of, IsAllowed};
     ghost use Rattle.nio_audit.specs.Found.{is_clear_for};
     ghost use Rattle.nio_audit.specs.Remembering.{knowledge_of};
-    ghost use Rattle.nio_event.specs.Conditions.{has_begun, has_entered, has_pin, has_taken, has_turn, holds, is_claimed, is_closer, is_made, may_put_due, may_remove_cancelled, IsChannel, IsKey, IsSelector};
+    ghost use Rattle.nio_event.specs.Conditions.{has_begun, has_entered, has_pin, has_taken, has_turn, holds};
+    ghost use Rattle.nio_event.specs.Conditions.{is_claimed, is_closer, is_made, may_put_due, may_remove_cancelled};
+    ghost use Rattle.nio_event.specs.Conditions.{IsChannel, IsKey, IsSelector};
 
     /// Whether the caller may make the step.
     pub(crate) fn allows(&self, me: CallerNo, act: &Act) -> bool
@@ -138,21 +140,24 @@ impl Judge {
 
     /// Whether the caller has a pin on the index.
     fn may_use(&self, me: CallerNo, sel: SelNo, index: u32) -> bool
-        ensures { IsTrue result ↔ (IsKey self.now.limits sel index × IsTrue (has_pin (state_of self.now) me sel index)) }
+        ensures { IsTrue result ↔ (IsKey self.now.limits sel index
+            × IsTrue (has_pin (state_of self.now) me sel index)) }
     {
         self.is_key(sel, index) && self.state.has_pin(me, sel, index)
     }
 
     /// Whether the caller has a pin on the index, or selects.
     fn may_look(&self, me: CallerNo, sel: SelNo, index: u32) -> bool
-        ensures { IsTrue result ↔ (IsKey self.now.limits sel index × IsTrue (has_pin (state_of self.now) me sel index || has_begun (state_of self.now) me sel)) }
+        ensures { IsTrue result ↔ (IsKey self.now.limits sel index
+            × IsTrue (has_pin (state_of self.now) me sel index || has_begun (state_of self.now) me sel)) }
     {
         self.is_key(sel, index)
             && (self.state.has_pin(me, sel, index) || self.state.has_begun(me, sel))
     }
 
     fn may_publish(&self, me: CallerNo, sel: SelNo, index: u32) -> bool
-        ensures { result ≡ may_publish_by (state_of self.now) (knowledge_of self.now.memory) me ((knowledge_of self.now.memory).indexes me.0 sel.0 index).claim }
+        ensures { result ≡ may_publish_by (state_of self.now) (knowledge_of self.now.memory) me
+            ((knowledge_of self.now.memory).indexes me.0 sel.0 index).claim }
     {
         match self.memory.claim(me, sel, index) {
             None => false,
@@ -171,28 +176,32 @@ impl Judge {
         channel: ChanNo,
         serial: u32,
     ) -> bool
-        ensures { IsTrue result ↔ (((knowledge_of self.now.memory).indexes me.0 sel.0 index).claim ≡ Some (record { channel = channel; serial = serial })) }
+        ensures { IsTrue result ↔ (((knowledge_of self.now.memory).indexes me.0 sel.0 index).claim
+            ≡ Some (record { channel = channel; serial = serial })) }
     {
         self.memory.claim(me, sel, index) == Some(Claim { channel, serial })
     }
 
     fn may_remove(&self, me: CallerNo, sel: SelNo, index: u32) -> bool
-        ensures { result ≡ (may_remove_cancelled (state_of self.now) me sel index || may_clear_out_by (state_of self.now) (knowledge_of self.now.memory) me sel index) }
+        ensures { result ≡ (may_remove_cancelled (state_of self.now) me sel index || may_clear_out_by
+            (state_of self.now) (knowledge_of self.now.memory) me sel index) }
     {
         self.state.may_remove_cancelled(me, sel, index)
             || self.state.has_entered(me, sel) && self.memory.found_below(me, sel, index)
     }
 
     fn may_put(&self, me: CallerNo, sel: SelNo, index: u32) -> bool
-        ensures { result ≡ (has_taken (state_of self.now) me sel index || may_put_due (state_of self.now) me sel index) }
+        ensures { result ≡ (has_taken (state_of self.now) me sel index || may_put_due (state_of self.now)
+            me sel index) }
     {
         self.state.has_taken(me, sel, index)
             || self.state.has_begun(me, sel) && self.dues.has(sel, index)
     }
 
-    /// Whether the caller found the noted key of the channel outside the key set, or none noted, for each selector.
+    /// Whether, in each selector, the caller found the channel's enrolled key outside the key set, or none enrolled.
     fn is_clear_everywhere(&self, me: CallerNo, chan: ChanNo) -> bool
-        ensures { IsTrue result ↔ ((s : ℕ) → s < self.now.limits.selectors → IsTrue (is_clear_for (knowledge_of self.now.memory) me chan.0 s)) }
+        ensures { IsTrue result ↔ ((s : ℕ) → s < self.now.limits.selectors
+            → IsTrue (is_clear_for (knowledge_of self.now.memory) me chan.0 s)) }
     {
         for sel in 0..self.limits.selectors {
             if !self.memory.is_clear(me, chan, sel) {

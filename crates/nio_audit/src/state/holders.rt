@@ -71,7 +71,8 @@ impl StateTables {
 
     /// Whether the caller selects, and the key is in the cancelled set.
     pub(crate) fn may_remove_cancelled(&self, me: CallerNo, sel: SelNo, index: u32) -> bool
-        ensures { result ≡ ((is_held_by me (row self.now.turn sel.0) && row self.now.begun sel.0) && in_cancelled_set (grid self.now.key sel.0 index)) }
+        ensures { result ≡ ((is_held_by me (row self.now.turn sel.0) && row self.now.begun sel.0) && in_cancelled_set
+            (grid self.now.key sel.0 index)) }
     {
         let key = self.key.get(sel.0, index);
         self.has_begun(me, sel) && key.published && !key.removed && key.cancelled

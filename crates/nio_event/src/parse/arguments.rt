@@ -1,6 +1,9 @@
 //! The arguments of calls: one reader for each shape that the arguments of a call may have.
 ghost use Rattle.std.specs.Prelude.{map, ⊤};
-ghost use Rattle.nio_event.specs.Arguments.{IsAttachment, ReadsArguments, attachment_words, channel_count, channel_mode, channel_selector, key_number, key_ops, mode_word, nothing, one_caller, one_channel, one_kind, one_selector, registration, selector_key};
+ghost use Rattle.nio_event.specs.Arguments.{IsAttachment, ReadsArguments, attachment_words, channel_count};
+ghost use Rattle.nio_event.specs.Arguments.{channel_mode, channel_selector, key_number, key_ops, mode_word, nothing};
+ghost use Rattle.nio_event.specs.Arguments.{one_caller, one_channel, one_kind, one_selector, registration};
+ghost use Rattle.nio_event.specs.Arguments.{selector_key};
 ghost use Rattle.nio_event.specs.Reading.{Reads};
 ghost use Rattle.nio_event.specs.Words.{kind_word};
 
@@ -8,12 +11,14 @@ use super::name::{read_caller, read_channel, read_key, read_ops, read_selector};
 use super::number::read_number;
 use nio_base::{CallerNo, ChanNo, KeyId, Kind, Ops, SelNo};
 
+/// No arguments.
 pub fn read_none(args: &[&[u8]]) -> Option<()>
     ensures { ReadsArguments (λ _. nothing) (map (λ w. w.now) args.now) result }
 {
     args.is_empty().then_some(())
 }
 
+/// One caller.
 pub fn read_one_caller(args: &[&[u8]]) -> Option<CallerNo>
     ensures { ReadsArguments one_caller (map (λ w. w.now) args.now) result }
 {
@@ -23,6 +28,7 @@ pub fn read_one_caller(args: &[&[u8]]) -> Option<CallerNo>
     read_caller(caller)
 }
 
+/// One selector.
 pub fn read_one_selector(args: &[&[u8]]) -> Option<SelNo>
     ensures { ReadsArguments one_selector (map (λ w. w.now) args.now) result }
 {
@@ -32,6 +38,7 @@ pub fn read_one_selector(args: &[&[u8]]) -> Option<SelNo>
     read_selector(selector)
 }
 
+/// One channel.
 pub fn read_one_channel(args: &[&[u8]]) -> Option<ChanNo>
     ensures { ReadsArguments one_channel (map (λ w. w.now) args.now) result }
 {
@@ -85,6 +92,7 @@ fn read_mode_word(word: &[u8]) -> Option<bool>
     }
 }
 
+/// A channel and a selector.
 pub fn read_channel_selector(args: &[&[u8]]) -> Option<(ChanNo, SelNo)>
     ensures { ReadsArguments (λ p. channel_selector p.0 p.1) (map (λ w. w.now) args.now) result }
 {

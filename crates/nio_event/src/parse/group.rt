@@ -2,7 +2,8 @@
 ghost use Rattle.std.specs.Prelude.{◌≡◌, ◌∷◌, [], map, ⊤};
 ghost use Rattle.std.specs.Fmt.{decimal};
 ghost use Rattle.nio_event.specs.GroupCalls.{IsOutcome, ReadsGroupCall};
-ghost use Rattle.nio_event.specs.GroupWords.{group_channel_word, group_kind_word, operation_kind_word, operation_word, outcome_words};
+ghost use Rattle.nio_event.specs.GroupWords.{group_channel_word, group_kind_word, operation_kind_word, operation_word};
+ghost use Rattle.nio_event.specs.GroupWords.{outcome_words};
 ghost use Rattle.nio_event.specs.Reading.{Reads};
 ghost use Rattle.nio_event.specs.Words.{IsNumber};
 
@@ -72,7 +73,8 @@ fn read_done(args: &[&[u8]]) -> Option<OpNo>
 
 /// A channel, what is to be done, and a number of bytes.
 fn read_start(args: &[&[u8]]) -> Option<(GChan, OpKind, u64)>
-    ensures { Reads (λ p. IsNumber p.0.0 × IsNumber p.2) (λ p. group_channel_word p.0 ∷ operation_kind_word p.1 ∷ decimal p.2 ∷ []) (map (λ w. w.now) args.now) result }
+    ensures { Reads (λ p. IsNumber p.0.0 × IsNumber p.2)
+        (λ p. group_channel_word p.0 ∷ operation_kind_word p.1 ∷ decimal p.2 ∷ []) (map (λ w. w.now) args.now) result }
 {
     let [channel, kind, len] = args else {
         return None;
@@ -97,7 +99,8 @@ fn read_operation_kind(word: &[u8]) -> Option<OpKind>
 
 /// An operation, and what came of it.
 fn read_report(args: &[&[u8]]) -> Option<(OpNo, Outcome)>
-    ensures { Reads (λ p. IsNumber p.0.0 × IsOutcome p.1) (λ p. operation_word p.0 ∷ outcome_words p.1) (map (λ w. w.now) args.now) result }
+    ensures { Reads (λ p. IsNumber p.0.0 × IsOutcome p.1) (λ p. operation_word p.0 ∷ outcome_words p.1)
+        (map (λ w. w.now) args.now) result }
 {
     let [operation, outcome @ ..] = args else {
         return None;

@@ -10,18 +10,21 @@ use super::cut::cut_at;
 use super::number::read_number;
 use nio_base::{CallerNo, ChanNo, GChan, KeyId, OpNo, Ops, SelNo};
 
+/// A caller.
 pub fn read_caller(word: &[u8]) -> Option<CallerNo>
     ensures { Reads (λ t. t.0 < 64) caller_word word.now result }
 {
     read_numbered(word, b't', 63).map(CallerNo)
 }
 
+/// A selector.
 pub fn read_selector(word: &[u8]) -> Option<SelNo>
     ensures { Reads (λ s. s.0 < 2 ^ 32) selector_word word.now result }
 {
     read_numbered(word, b's', u32::MAX).map(SelNo)
 }
 
+/// A channel.
 pub fn read_channel(word: &[u8]) -> Option<ChanNo>
     ensures { Reads (λ c. c.0 < 2 ^ 32) channel_word word.now result }
 {
@@ -77,6 +80,7 @@ fn read_serial(digits: &[u8]) -> Option<u32>
     }
 }
 
+/// A set of operations, as a decimal number.
 pub fn read_ops(word: &[u8]) -> Option<Ops>
     ensures { Reads (λ ops. ops < 256) decimal word.now result }
 {

@@ -1,6 +1,7 @@
 //! Reading what a selection is told: a selector, `elapsed` or not, and pairs of keys and operations,
 //! as many as there are.
-ghost use Rattle.std.specs.Prelude.{◌≡◌, ℕ, ◌==◌, ◌↔◌, ◌<◌, ◌^◌, ◌++◌, Bool, List, IsTrue, Any, IfOk, codes, map, option_map};
+ghost use Rattle.std.specs.Prelude.{◌≡◌, ℕ, ◌==◌, ◌↔◌, ◌<◌, ◌^◌, ◌++◌, Bool, List, IsTrue, Any, IfOk, codes, map};
+ghost use Rattle.std.specs.Prelude.{option_map};
 ghost use Rattle.nio_base.specs.declared.numbers.KeyId.{KeyId as Key};
 ghost use Rattle.nio_event.specs.Arguments.{ArePairs, ReadsArguments, elapsed_words, selector_told};
 ghost use Rattle.nio_event.specs.Reading.{Reads};
@@ -48,7 +49,8 @@ fn is_elapsed(word: &[u8]) -> bool
 }
 
 fn read_pairs(alloc: Global, words: &[&[u8]]) -> Result<Option<Vec<(KeyId, Ops)>>, AllocError>
-    ensures { IfOk result (λ r. Reads ArePairs (map pair_word) (map (λ w. w.now) words.now) (option_map (λ v. v.items) r)) }
+    ensures { IfOk result (λ r. Reads ArePairs (map pair_word) (map (λ w. w.now) words.now)
+        (option_map (λ v. v.items) r)) }
 {
     let mut pairs = Vec::with_capacity(alloc, words.len())?;
     for word in words {

@@ -1,7 +1,10 @@
 //! Writing the arguments of calls, each after a space: one function for each shape that has more than
 //! one argument, or more than one form.
 ghost use Rattle.std.specs.Prelude.{◌≡◌, ◌++◌, OnOk};
-ghost use Rattle.nio_event.specs.Arguments.{argument_words, attachment_words, channel_bytes, channel_count, channel_mode, channel_selector, elapsed_words, key_number, key_ops, mode_word, one_kind, registration, selector_key, selector_told, selector_wait, waiting_words};
+ghost use Rattle.nio_event.specs.Arguments.{argument_words, attachment_words, channel_bytes, channel_count};
+ghost use Rattle.nio_event.specs.Arguments.{channel_mode, channel_selector, elapsed_words, key_number, key_ops};
+ghost use Rattle.nio_event.specs.Arguments.{mode_word, one_kind, registration, selector_key, selector_told};
+ghost use Rattle.nio_event.specs.Arguments.{selector_wait, waiting_words};
 ghost use Rattle.nio_event.specs.Printing.{spaced};
 ghost use Rattle.nio_event.specs.Words.{kind_word};
 
@@ -13,12 +16,14 @@ use crate::call::Waiting;
 use nio_base::{ChanNo, KeyId, Kind, Ops, SelNo};
 use std::alloc::AllocError;
 
+/// A kind of channel.
 pub fn push_kind(line: &mut Vec<u8>, kind: Kind) -> Result<(), AllocError>
     ensures { OnOk result (line.new.items ≡ line.old.items ++ spaced (argument_words (one_kind kind))) }
 {
     push_word(line, kind_text(kind))
 }
 
+/// A channel, and `on` or `off`.
 pub fn push_mode(line: &mut Vec<u8>, channel: ChanNo, on: bool) -> Result<(), AllocError>
     ensures { OnOk result (line.new.items ≡ line.old.items ++ spaced (argument_words (channel_mode channel on))) }
 {
@@ -26,6 +31,7 @@ pub fn push_mode(line: &mut Vec<u8>, channel: ChanNo, on: bool) -> Result<(), Al
     push_word(line, mode_text(on))
 }
 
+/// A channel and a selector.
 pub fn push_channel_selector(
     line: &mut Vec<u8>,
     channel: ChanNo,
@@ -38,6 +44,7 @@ pub fn push_channel_selector(
     push_name(line, b's', selector.0)
 }
 
+/// A channel and bytes in hexadecimal digits.
 pub fn push_channel_bytes(
     line: &mut Vec<u8>,
     channel: ChanNo,
@@ -51,6 +58,7 @@ pub fn push_channel_bytes(
     push_hex(line, bytes)
 }
 
+/// A channel and a number of bytes.
 pub fn push_channel_count(line: &mut Vec<u8>, channel: ChanNo, count: u32) -> Result<(), AllocError>
     ensures { OnOk result
         (line.new.items ≡ line.old.items ++ spaced (argument_words (channel_count channel count))) }
@@ -59,6 +67,7 @@ pub fn push_channel_count(line: &mut Vec<u8>, channel: ChanNo, count: u32) -> Re
     push_number_word(line, u64::from(count))
 }
 
+/// A selector, a channel, operations and, where there is one, an attachment.
 pub fn push_registration(
     line: &mut Vec<u8>,
     selector: SelNo,
@@ -84,6 +93,7 @@ fn push_attachment(line: &mut Vec<u8>, attachment: Option<u64>) -> Result<(), Al
     }
 }
 
+/// A selector and a key.
 pub fn push_selector_key(line: &mut Vec<u8>, selector: SelNo, key: KeyId) -> Result<(), AllocError>
     ensures { OnOk result
         (line.new.items ≡ line.old.items ++ spaced (argument_words (selector_key selector key))) }
@@ -92,6 +102,7 @@ pub fn push_selector_key(line: &mut Vec<u8>, selector: SelNo, key: KeyId) -> Res
     push_key_word(line, key)
 }
 
+/// A selector, a key and operations.
 pub fn push_key_ops(
     line: &mut Vec<u8>,
     selector: SelNo,
@@ -106,6 +117,7 @@ pub fn push_key_ops(
     push_ops(line, ops)
 }
 
+/// A selector, a key and an attachment.
 pub fn push_key_number(
     line: &mut Vec<u8>,
     selector: SelNo,
@@ -120,8 +132,10 @@ pub fn push_key_number(
     push_number_word(line, number)
 }
 
+/// A selector, and how long a selection waits there.
 pub fn push_wait(line: &mut Vec<u8>, selector: SelNo, waiting: Waiting) -> Result<(), AllocError>
-    ensures { OnOk result (line.new.items ≡ line.old.items ++ spaced (argument_words (selector_wait selector waiting))) }
+    ensures { OnOk result (line.new.items ≡ line.old.items
+        ++ spaced (argument_words (selector_wait selector waiting))) }
 {
     push_name(line, b's', selector.0)?;
     push_waiting(line, waiting)
@@ -140,6 +154,7 @@ fn push_waiting(line: &mut Vec<u8>, waiting: Waiting) -> Result<(), AllocError>
     }
 }
 
+/// A selector, and what its poller told.
 pub fn push_told(
     line: &mut Vec<u8>,
     selector: SelNo,

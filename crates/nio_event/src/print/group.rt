@@ -3,7 +3,8 @@ ghost use Rattle.std.specs.Prelude.{◌≡◌, ◌∷◌, ◌++◌, OnOk};
 ghost use Rattle.std.specs.List.{join_with_byte};
 ghost use Rattle.nio_event.specs.GroupCalls.{group_argument_words};
 ghost use Rattle.nio_event.specs.GroupReplies.{group_reply_words};
-ghost use Rattle.nio_event.specs.GroupWords.{failure_word, finished_words, group_kind_word, operation_kind_word, operation_word, outcome_words};
+ghost use Rattle.nio_event.specs.GroupWords.{failure_word, finished_words, group_kind_word, operation_kind_word};
+ghost use Rattle.nio_event.specs.GroupWords.{operation_word, outcome_words};
 ghost use Rattle.nio_event.specs.Printing.{spaced};
 
 use super::piece::{
@@ -14,6 +15,7 @@ use crate::group_reply::GroupReply;
 use nio_base::{Finished, GChan, GKind, OpKind, OpNo, Outcome, Why};
 use std::alloc::AllocError;
 
+/// The arguments of a call on the group, each after a space.
 pub fn push_group_arguments(line: &mut Vec<u8>, call: GroupCall) -> Result<(), AllocError>
     ensures { OnOk result (line.new.items ≡ line.old.items ++ spaced (group_argument_words call)) }
 {
@@ -58,6 +60,7 @@ fn push_outcome(line: &mut Vec<u8>, outcome: Outcome) -> Result<(), AllocError>
     }
 }
 
+/// The text of a reply that calls on the group alone have.
 pub fn push_group_reply(line: &mut Vec<u8>, reply: GroupReply) -> Result<(), AllocError>
     ensures { OnOk result (line.new.items ≡ line.old.items ++ join_with_byte 32 (group_reply_words reply)) }
 {

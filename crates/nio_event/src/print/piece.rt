@@ -8,12 +8,14 @@ use itoa::Buffer;
 use nio_base::{KeyId, Ops};
 use std::alloc::AllocError;
 
+/// Bytes as they are.
 pub fn push_bytes(line: &mut Vec<u8>, bytes: &[u8]) -> Result<(), AllocError>
     ensures { OnOk result (line.new.items ≡ line.old.items ++ bytes.now) }
 {
     line.extend_from_slice(bytes)
 }
 
+/// A number in decimal digits.
 pub fn push_number(line: &mut Vec<u8>, number: u64) -> Result<(), AllocError>
     ensures { OnOk result (line.new.items ≡ line.old.items ++ decimal number) }
 {

@@ -14,6 +14,7 @@ use crate::reply::{Reply, Why};
 use nio_base::{KeyId, Ops};
 use std::alloc::AllocError;
 
+/// The text of a reply.
 pub fn push_reply(line: &mut Vec<u8>, reply: &Reply) -> Result<(), AllocError>
     ensures { OnOk result (line.new.items ≡ line.old.items ++ reply_text reply.now) }
 {

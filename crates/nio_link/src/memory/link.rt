@@ -1,7 +1,8 @@
 //! One end of a connection in memory.
 ghost use Rattle.std.specs.Prelude.{◌≡◌, ◌≢◌, ◌≤◌, [], true, length, IfOk};
 ghost use Rattle.nio_link.specs.Links.{IsGot, IsPut};
-ghost use Rattle.nio_link.specs.MemoryLinks.{is_connected, is_connecting, link_ready, link_after_read, link_after_write, put_of, connect_answer, stage_after_connect};
+ghost use Rattle.nio_link.specs.MemoryLinks.{is_connected, is_connecting, link_ready, link_after_read};
+ghost use Rattle.nio_link.specs.MemoryLinks.{link_after_write, put_of, connect_answer, stage_after_connect};
 ghost use Rattle.nio_link.specs.Pieces.{got_of, buffer_after};
 ghost use Rattle.nio_link.specs.declared.memory.stage.Stage.TheVariants as stage;
 

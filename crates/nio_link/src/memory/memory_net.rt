@@ -1,14 +1,23 @@
 //! The net in memory.
-ghost use Rattle.std.specs.Prelude.{◌≡◌, ◌≢◌, ◌⊎◌, ◌↔◌, [], ◌∷◌, ◌++◌, true, false, Some, None, Ok, Err, IfOk, IsErr, OnErr, IsTrue, length, refl};
+ghost use Rattle.std.specs.Prelude.{◌≡◌, ◌≢◌, ◌⊎◌, ◌↔◌, [], ◌∷◌, ◌++◌, true, false, Some, None, Ok, Err, IfOk, IsErr};
+ghost use Rattle.std.specs.Prelude.{OnErr, IsTrue, length, refl};
 ghost use Rattle.nio_bytes.specs.Calls.{FailsNext};
 ghost use Rattle.nio_bytes.specs.Cause.{HasCause};
-ghost use Rattle.nio_link.specs.Links.{Link, IsSameBut, IsGot, IsPut, after_read as carried_after_read, after_write as carried_after_write, after_shut as carried_after_shut};
-ghost use Rattle.nio_link.specs.Readiness.{ready_after_read, ready_after_write, ready_after_accept, ready_after_connect};
-ghost use Rattle.nio_link.specs.Slots.{carried_at, slot_at, connected, connecting, read_answer, read_buffer, write_answer, shut_answer, finish_answer, slots_after_close};
-ghost use Rattle.nio_link.specs.Places.{unused, IsLinked, places_after, place_after_listen, place_after_accept, place_after_connect, place_after_finish, place_after_shut, place_after_close};
+ghost use Rattle.nio_link.specs.Links.{Link, IsSameBut, IsGot, IsPut, after_read as carried_after_read};
+ghost use Rattle.nio_link.specs.Links.{after_write as carried_after_write, after_shut as carried_after_shut};
+ghost use Rattle.nio_link.specs.Readiness.{ready_after_read, ready_after_write, ready_after_accept};
+ghost use Rattle.nio_link.specs.Readiness.{ready_after_connect};
+ghost use Rattle.nio_link.specs.Slots.{carried_at, slot_at, connected, connecting, read_answer, read_buffer};
+ghost use Rattle.nio_link.specs.Slots.{write_answer, shut_answer, finish_answer, slots_after_close};
+ghost use Rattle.nio_link.specs.Places.{unused, IsLinked, places_after, place_after_listen, place_after_accept};
+ghost use Rattle.nio_link.specs.Places.{place_after_connect, place_after_finish, place_after_shut, place_after_close};
 ghost use Rattle.nio_link.specs.declared.place.Change.TheVariants as change;
 ghost use Rattle.nio_link.specs.declared.place.Standing.TheVariants as standing;
-ghost use Rattle.nio_link.specs.MemoryNet.{NetState, noted, after_read, after_write, after_shut, after_finish, times, ready_told, faulted_after, findings_after, is_waiting, told_pairs, if_some, answer_of, after_poll, after_lost_poll, after_failed_poll, KeepsLinks, can_accept, after_accept, after_failed_accept, connect_answer, after_connect, listen_answer, after_listen, is_free, is_listener, AreFresh};
+ghost use Rattle.nio_link.specs.MemoryNet.{NetState, logged, after_read, after_write, after_shut, after_finish, times};
+ghost use Rattle.nio_link.specs.MemoryNet.{ready_told, faulted_after, findings_after, is_waiting, told_pairs, if_some};
+ghost use Rattle.nio_link.specs.MemoryNet.{answer_of, after_poll, after_lost_poll, after_failed_poll, KeepsLinks};
+ghost use Rattle.nio_link.specs.MemoryNet.{can_accept, after_accept, after_failed_accept, connect_answer};
+ghost use Rattle.nio_link.specs.MemoryNet.{after_connect, listen_answer, after_listen, is_free, is_listener, AreFresh};
 ghost use Rattle.nio_poller.specs.Polls.{CountsFaults, AddsPoll, told_of_channel};
 ghost use Rattle.nio_poller.specs.declared.poller.PollError.TheVariants.{Fault, Memory};
 ghost use Rattle.nio_select.specs.InProgress.{poll_of};
@@ -73,8 +82,8 @@ fn count<T>(faulted: &mut Trace<ChanNo>, chan: ChanNo, outcome: &Result<T, Faile
     }
 }
 
-// Notes that a call found a channel not ready for an operation.
-fn note(findings: &mut Trace<Finding>, chan: ChanNo, op: Ops, is_early: bool)
+// Logs that a call found a channel not ready for an operation, where `is_early` says that it did.
+fn log(findings: &mut Trace<Finding>, chan: ChanNo, op: Ops, is_early: bool)
     ensures { findings.new ≡ findings_after is_early chan op findings.old }
 {
     if is_early {
@@ -180,7 +189,7 @@ impl MemoryNet {
         let result = read_at(&mut self.slots, chan, into);
         count(&mut self.faulted, chan, &result);
         let is_early = matches!(&result, Ok(Got::NotYet));
-        note(&mut self.findings, chan, Ops::READ, is_early);
+        log(&mut self.findings, chan, Ops::READ, is_early);
         result
     }
 
@@ -197,7 +206,7 @@ impl MemoryNet {
 
     pub(crate) fn shut_link(&mut self, chan: ChanNo) -> Result<(), Failed>
         ensures answer { result ≡ shut_answer (connected (slot_at self.old.slots chan)) }
-        ensures after { self.new ≡ noted chan (change.ShutWrite result) (after_shut self.old chan) }
+        ensures after { self.new ≡ logged chan (change.ShutWrite result) (after_shut self.old chan) }
         ensures changes { self.new.changes ≡ self.old.changes ++ (chan, change.ShutWrite result) ∷ [] }
     {
         let result = self.shut_there(chan);
@@ -216,7 +225,7 @@ impl MemoryNet {
 
     pub(crate) fn finish_link(&mut self, chan: ChanNo) -> Result<bool, Failed>
         ensures answer { result ≡ finish_answer (connecting (slot_at self.old.slots chan)) }
-        ensures after { self.new ≡ noted chan (change.FinishConnect result) (after_finish self.old chan) }
+        ensures after { self.new ≡ logged chan (change.FinishConnect result) (after_finish self.old chan) }
         ensures changes { self.new.changes ≡ self.old.changes ++ (chan, change.FinishConnect result) ∷ [] }
     {
         let result = self.finish_there(chan);
@@ -235,7 +244,7 @@ impl MemoryNet {
 
     pub(crate) fn listen_on(&mut self, chan: ChanNo, at: Addr) -> Result<(), Failed>
         ensures answer { result ≡ listen_answer self.old chan }
-        ensures after { self.new ≡ noted chan (change.Listen at result) (after_listen self.old chan) }
+        ensures after { self.new ≡ logged chan (change.Listen at result) (after_listen self.old chan) }
         ensures changes { self.new.changes ≡ self.old.changes ++ (chan, change.Listen at result) ∷ [] }
     {
         let result = self.put_listener(chan);
@@ -258,7 +267,7 @@ impl MemoryNet {
 
     pub(crate) fn connect_link(&mut self, chan: ChanNo, to: Addr) -> Result<bool, Failed>
         ensures answer { result ≡ connect_answer self.old chan }
-        ensures after { self.new ≡ noted chan (change.Connect to result) (after_connect self.old chan) }
+        ensures after { self.new ≡ logged chan (change.Connect to result) (after_connect self.old chan) }
         ensures fresh { AreFresh self.old.targets }
         ensures changes { self.new.changes ≡ self.old.changes ++ (chan, change.Connect to result) ∷ [] }
     {
@@ -290,9 +299,9 @@ impl MemoryNet {
         ensures answer { IfOk result (λ made. made ≡ is_waiting self.old.clients) }
         ensures free { IfOk result (λ _. can_accept self.old listener chan ≡ true) }
         ensures ok { IfOk result (λ _. self.new
-            ≡ noted chan (change.Accept listener result) (after_accept self.old listener chan)) }
+            ≡ logged chan (change.Accept listener result) (after_accept self.old listener chan)) }
         ensures err { OnErr result (self.new
-            ≡ noted chan (change.Accept listener result) (after_failed_accept self.old listener)) }
+            ≡ logged chan (change.Accept listener result) (after_failed_accept self.old listener)) }
         ensures fresh { AreFresh self.old.clients }
         ensures changes { self.new.changes ≡ self.old.changes ++ (chan, change.Accept listener result) ∷ [] }
     {
@@ -316,7 +325,7 @@ impl MemoryNet {
             return Err(Failed);
         }
         let Some(link) = self.clients.pop_front() else {
-            note(&mut self.findings, listener, Ops::ACCEPT, true);
+            log(&mut self.findings, listener, Ops::ACCEPT, true);
             return Ok(false);
         };
         self.slots[chan.0 as usize] = Slot::Link(link);
@@ -325,7 +334,7 @@ impl MemoryNet {
 
     pub(crate) fn close_channel(&mut self, chan: ChanNo)
         ensures after { self.new
-            ≡ noted chan change.Close (record self.old { slots = slots_after_close self.old.slots chan }) }
+            ≡ logged chan change.Close (record self.old { slots = slots_after_close self.old.slots chan }) }
         ensures changes { self.new.changes ≡ self.old.changes ++ (chan, change.Close) ∷ [] }
     {
         self.close_there(chan);
@@ -447,7 +456,7 @@ impl Net for MemoryNet {
 
         // By its plan.
         ensures answer { result ≡ listen_answer self.old chan }
-        ensures after { self.new ≡ noted chan (change.Listen at result) (after_listen self.old chan) }
+        ensures after { self.new ≡ logged chan (change.Listen at result) (after_listen self.old chan) }
     {
         self.listen_on(chan, at)
     }
@@ -472,9 +481,9 @@ impl Net for MemoryNet {
         ensures fails { IsErr result ↔ (FailsNext self.old.accepts ⊎ (can_accept self.old listener chan ≡ false)) }
         ensures answer { IfOk result (λ made. made ≡ is_waiting self.old.clients) }
         ensures ok { IfOk result (λ _. self.new
-            ≡ noted chan (change.Accept listener result) (after_accept self.old listener chan)) }
+            ≡ logged chan (change.Accept listener result) (after_accept self.old listener chan)) }
         ensures err { OnErr result (self.new
-            ≡ noted chan (change.Accept listener result) (after_failed_accept self.old listener)) }
+            ≡ logged chan (change.Accept listener result) (after_failed_accept self.old listener)) }
     {
         self.accept_link(listener, chan)
     }
@@ -492,7 +501,7 @@ impl Net for MemoryNet {
 
         // By its plan.
         ensures answer { result ≡ connect_answer self.old chan }
-        ensures after { self.new ≡ noted chan (change.Connect to result) (after_connect self.old chan) }
+        ensures after { self.new ≡ logged chan (change.Connect to result) (after_connect self.old chan) }
     {
         self.connect_link(chan, to)
     }
@@ -514,7 +523,7 @@ impl Net for MemoryNet {
 
         // By its plan.
         ensures answer { result ≡ finish_answer (connecting (slot_at self.old.slots chan)) }
-        ensures after { self.new ≡ noted chan (change.FinishConnect result) (after_finish self.old chan) }
+        ensures after { self.new ≡ logged chan (change.FinishConnect result) (after_finish self.old chan) }
     {
         self.finish_link(chan)
     }
@@ -583,7 +592,7 @@ impl Net for MemoryNet {
 
         // By its plan.
         ensures answer { result ≡ shut_answer (connected (slot_at self.old.slots chan)) }
-        ensures after { self.new ≡ noted chan (change.ShutWrite result) (after_shut self.old chan) }
+        ensures after { self.new ≡ logged chan (change.ShutWrite result) (after_shut self.old chan) }
     {
         self.shut_link(chan)
     }
@@ -599,7 +608,7 @@ impl Net for MemoryNet {
 
         // By its plan.
         ensures after { self.new
-            ≡ noted chan change.Close (record self.old { slots = slots_after_close self.old.slots chan }) }
+            ≡ logged chan change.Close (record self.old { slots = slots_after_close self.old.slots chan }) }
     {
         self.close_channel(chan);
     }

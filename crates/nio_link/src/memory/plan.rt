@@ -32,8 +32,11 @@ pub struct PeerPlan {
 /// The connections in their order, and which poll and which call of `accept` fails, counted from 0.
 #[derive(Drop)]
 pub struct NetPlan {
+    /// What the other ends of the links do: those that come to a listener, and those that are connected to.
     pub peers: Vec<PeerPlan>,
+    /// The poll that fails, counted from 0.
     pub fail_poll: Option<u64>,
+    /// The call of `accept` that fails, counted from 0.
     pub fail_accept: Option<u64>,
 }
 

@@ -2,7 +2,10 @@
 ghost use Rattle.std.specs.Prelude.{◌≡◌, ◌≢◌, [], length, IfOk, MatchOption};
 ghost use Rattle.nio_link.specs.Links.{IsPut};
 ghost use Rattle.nio_link.specs.MemoryLinks.{carried};
-ghost use Rattle.nio_link.specs.Slots.{carried_at, nothing_carried, slot_at, connected, connecting, read_answer, read_buffer, slots_after_read, write_answer, slots_after_write, shut_answer, slots_after_shut, finish_answer, slots_after_finish, slots_after_close, ready_at};
+ghost use Rattle.nio_link.specs.Slots.{carried_at, nothing_carried, slot_at, connected, connecting, read_answer};
+ghost use Rattle.nio_link.specs.Slots.{read_buffer, slots_after_read, write_answer, slots_after_write, shut_answer};
+ghost use Rattle.nio_link.specs.Slots.{slots_after_shut, finish_answer, slots_after_finish, slots_after_close};
+ghost use Rattle.nio_link.specs.Slots.{ready_at};
 
 use crate::memory::link::MemoryLink;
 use crate::net::{Failed, Got, Put};

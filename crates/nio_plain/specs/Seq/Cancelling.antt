@@ -11,10 +11,10 @@ use Rattle.nio_event.specs.State.{State, with_chan, with_key}
 use Rattle.nio_event.specs.declared.found.Stage.{Stage}
 use Rattle.nio_event.specs.declared.reply.Reply.TheVariants as reply
 use Rattle.nio_plain.specs.ScriptState.{ScriptState}
-use Rattle.nio_plain.specs.Seq.Answers.{Answered, unchanged, answered}
+use Rattle.nio_plain.specs.Seq.Replies.{Replied, unchanged, replied}
 use Rattle.nio_plain.specs.Seq.Modes.{key_of}
 use Rattle.nio_plain.specs.Seq.Names.{with_named_channel, with_named_key}
-use Rattle.nio_plain.specs.Seq.Pipes.{own_sink, marking}
+use Rattle.nio_plain.specs.Seq.Pipes.{own_sink, sealing}
 
 abbrev pub cancelled_key : Stage → Stage
 cancelled_key k = record k { cancelled = true }
@@ -32,19 +32,19 @@ with_keys_cancelled st c = record st {
 abbrev pub channel_closed : State → ℕ → State
 channel_closed st c = with_keys_cancelled (with_chan st c (record (st.chan c) { closed = true })) c
 
--- a sink that its owner closes leaves its end mark
-unfoldable pub closec_call : ScriptState → CallerNo → ChanNo → Answered
+-- a sink that its owner closes leaves its seal
+unfoldable pub closec_call : ScriptState → CallerNo → ChanNo → Replied
 closec_call st me c =
     with_named_channel st c
-    (marking (own_sink st.pipes me c)
+    (sealing (own_sink st.pipes me c)
     (if (st.shared.chan c.0).closed then unchanged st reply.Already
-    else answered st reply.«Ok» (channel_closed st.shared c.0)))
+    else replied st reply.«Ok» (channel_closed st.shared c.0)))
 
 -- a key that is in the key set is cancelled, and no other
 abbrev pub cancelled_in_set : Stage → ℕ → Stage
 cancelled_in_set k serial = if is_in_key_set k serial then cancelled_key k else k
 
-unfoldable pub cancel_call : ScriptState → SelNo → KeyId → Answered
+unfoldable pub cancel_call : ScriptState → SelNo → KeyId → Replied
 cancel_call st s k =
     with_named_key st s k
-    (answered st reply.«Ok» (with_key st.shared s.0 k.index (cancelled_in_set (st.shared.key s.0 k.index) k.serial)))
+    (replied st reply.«Ok» (with_key st.shared s.0 k.index (cancelled_in_set (st.shared.key s.0 k.index) k.serial)))

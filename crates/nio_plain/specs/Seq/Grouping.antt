@@ -16,7 +16,7 @@ use Rattle.nio_group.specs.declared.refusal.ReportError.TheVariants as unreporte
 use Rattle.nio_group.specs.declared.refusal.StartError.{StartError}
 use Rattle.nio_group.specs.declared.refusal.StartError.TheVariants as refused
 use Rattle.nio_plain.specs.ScriptState.{ScriptState, with_group}
-use Rattle.nio_plain.specs.Seq.Answers.{Answered, yes_or_no}
+use Rattle.nio_plain.specs.Seq.Replies.{Replied, yes_or_no}
 
 -- the reply to what is refused
 
@@ -42,62 +42,62 @@ report_refused unreported.WrongOutcome = reply.Group of_group.WrongOutcome
 
 -- the reply that the group's answer is
 
-abbrev pub answer_of : step.Reply → Reply
-answer_of (step.opened (Ok g)) = reply.Group (of_group.Channel g)
-answer_of (step.opened (Err e)) = start_refused e
-answer_of (step.bound (Ok _)) = reply.«Ok»
-answer_of (step.bound (Err e)) = start_refused e
-answer_of (step.started (Ok n)) = reply.Group (of_group.Op n)
-answer_of (step.started (Err e)) = start_refused e
-answer_of (step.reported (Ok _)) = reply.«Ok»
-answer_of (step.reported (Err e)) = report_refused e
-answer_of (step.taken None) = reply.None
-answer_of (step.taken (Some done)) = reply.Group (of_group.Completed done.op done.finished)
-answer_of (step.finished (Ok _)) = reply.«Ok»
-answer_of (step.finished (Err _)) = reply.Group of_group.NotRunning
-answer_of (step.closed true) = reply.«Ok»
-answer_of (step.closed false) = reply.Already
-answer_of step.done = reply.«Ok»
+abbrev pub line_reply : step.Reply → Reply
+line_reply (step.opened (Ok g)) = reply.Group (of_group.Channel g)
+line_reply (step.opened (Err e)) = start_refused e
+line_reply (step.bound (Ok _)) = reply.«Ok»
+line_reply (step.bound (Err e)) = start_refused e
+line_reply (step.started (Ok n)) = reply.Group (of_group.Op n)
+line_reply (step.started (Err e)) = start_refused e
+line_reply (step.reported (Ok _)) = reply.«Ok»
+line_reply (step.reported (Err e)) = report_refused e
+line_reply (step.taken None) = reply.None
+line_reply (step.taken (Some done)) = reply.Group (of_group.Completed done.op done.finished)
+line_reply (step.finished (Ok _)) = reply.«Ok»
+line_reply (step.finished (Err _)) = reply.Group of_group.NotRunning
+line_reply (step.closed true) = reply.«Ok»
+line_reply (step.closed false) = reply.Already
+line_reply step.done = reply.«Ok»
 
--- what a call on the group answers: a reply, and the group that it leaves
-pub record GroupAnswered : Type 0 where
+-- what comes of a call on the group: its reply, and the group that it leaves
+pub record GroupReplied : Type 0 where
   pub reply : Reply
   pub left : Group
 
 -- a call that is a step of the group
-abbrev pub stepped : Group → step.Call → GroupAnswered
-stepped g call = record { reply = answer_of (reply_to g call); left = after g call }
+abbrev pub stepped : Group → step.Call → GroupReplied
+stepped g call = record { reply = line_reply (reply_to g call); left = after g call }
 
 -- a call that leaves the group as it was
-abbrev pub group_kept : Group → Reply → GroupAnswered
+abbrev pub group_kept : Group → Reply → GroupReplied
 group_kept g reply = record { reply = reply; left = g }
 
-abbrev pub with_named_group_channel : Group → GChan → GroupAnswered → GroupAnswered
+abbrev pub with_named_group_channel : Group → GChan → GroupReplied → GroupReplied
 with_named_group_channel g chan done =
     if nat_lt chan.0 (length g.channels) then done else group_kept g reply.NoChannel
 
-unfoldable pub group_answer : Group → GroupCall → GroupAnswered
-group_answer g (group.Gopen kind) = stepped g (step.open_channel kind)
-group_answer g (group.Gbind chan) = with_named_group_channel g chan (stepped g (step.bind chan))
-group_answer g (group.Start chan kind len) = with_named_group_channel g chan (stepped g (step.start chan kind len))
-group_answer g (group.Report n outcome) = stepped g (step.report n outcome)
-group_answer g group.Take = stepped g step.take
-group_answer g (group.Done n) = stepped g (step.finish n)
-group_answer g (group.Gclose chan) = with_named_group_channel g chan (stepped g (step.close_channel chan))
-group_answer g group.Shutdown = stepped g step.shutdown
-group_answer g group.ShutdownNow = stepped g step.shutdown_now
-group_answer g group.IsShutdown = group_kept g (yes_or_no g.is_shut)
-group_answer g group.Terminated = group_kept g (yes_or_no (is_terminated g))
+unfoldable pub group_replied : Group → GroupCall → GroupReplied
+group_replied g (group.Gopen kind) = stepped g (step.open_channel kind)
+group_replied g (group.Gbind chan) = with_named_group_channel g chan (stepped g (step.bind chan))
+group_replied g (group.Start chan kind len) = with_named_group_channel g chan (stepped g (step.start chan kind len))
+group_replied g (group.Report n outcome) = stepped g (step.report n outcome)
+group_replied g group.Take = stepped g step.take
+group_replied g (group.Done n) = stepped g (step.finish n)
+group_replied g (group.Gclose chan) = with_named_group_channel g chan (stepped g (step.close_channel chan))
+group_replied g group.Shutdown = stepped g step.shutdown
+group_replied g group.ShutdownNow = stepped g step.shutdown_now
+group_replied g group.IsShutdown = group_kept g (yes_or_no g.is_shut)
+group_replied g group.Terminated = group_kept g (yes_or_no (is_terminated g))
 
 abbrev pub group_reply : Group → GroupCall → Reply
-group_reply g call = (group_answer g call).reply
+group_reply g call = (group_replied g call).reply
 
 abbrev pub group_left : Group → GroupCall → Group
-group_left g call = (group_answer g call).left
+group_left g call = (group_replied g call).left
 
 -- such a call in a script
-abbrev pub answered_by_group : ScriptState → GroupAnswered → Answered
-answered_by_group st done = record { reply = done.reply; left = with_group st done.left }
+abbrev pub replied_by_group : ScriptState → GroupReplied → Replied
+replied_by_group st done = record { reply = done.reply; left = with_group st done.left }
 
-abbrev pub group_call : ScriptState → GroupCall → Answered
-group_call st call = answered_by_group st (group_answer st.group call)
+abbrev pub group_call : ScriptState → GroupCall → Replied
+group_call st call = replied_by_group st (group_replied st.group call)

@@ -6,21 +6,21 @@ use Rattle.nio_event.specs.Sets.{in_key_set, in_selected_set}
 use Rattle.nio_event.specs.declared.reply.Reply.{Reply}
 use Rattle.nio_event.specs.declared.reply.Reply.TheVariants as reply
 use Rattle.nio_plain.specs.ScriptState.{ScriptState}
-use Rattle.nio_plain.specs.Seq.Answers.{Answered, unchanged}
+use Rattle.nio_plain.specs.Seq.Replies.{Replied, unchanged}
 use Rattle.nio_plain.specs.Seq.Names.{below, key_at, with_named_selector}
 
 abbrev pub names_or_none : List KeyId → Reply
 names_or_none [] = reply.None
 names_or_none (k ∷ ks) = reply.Names (k ∷ ks)
 
-abbrev pub listed : ScriptState → SelNo → (ℕ → Bool) → Answered
+abbrev pub listed : ScriptState → SelNo → (ℕ → Bool) → Replied
 listed st s in_set =
     with_named_selector st s
     (if (st.shared.gate s.0).shut then unchanged st reply.ClosedSelector
     else unchanged st (names_or_none (map (key_at st.shared s.0) (filter in_set (below (st.shared.keys_high s.0))))))
 
-unfoldable pub keys_call : ScriptState → SelNo → Answered
+unfoldable pub keys_call : ScriptState → SelNo → Replied
 keys_call st s = listed st s (λ i. in_key_set (st.shared.key s.0 i))
 
-unfoldable pub selected_call : ScriptState → SelNo → Answered
+unfoldable pub selected_call : ScriptState → SelNo → Replied
 selected_call st s = listed st s (λ i. in_selected_set st.shared s.0 i)

@@ -8,7 +8,7 @@ use Rattle.nio_event.specs.Sets.{was_published}
 use Rattle.nio_event.specs.State.{State}
 use Rattle.nio_event.specs.declared.reply.Reply.TheVariants as reply
 use Rattle.nio_plain.specs.ScriptState.{ScriptState}
-use Rattle.nio_plain.specs.Seq.Answers.{Answered, unchanged}
+use Rattle.nio_plain.specs.Seq.Replies.{Replied, unchanged}
 
 -- the numbers below n, in rising order
 abbrev pub below : ℕ → List ℕ
@@ -23,13 +23,13 @@ key_at st s i = record { index = i; serial = (st.key s i).serial }
 abbrev pub is_same_key : KeyId → KeyId → Bool
 is_same_key k m = (k.index == m.index) && (k.serial == m.serial)
 
-abbrev pub with_named_channel : ScriptState → ChanNo → Answered → Answered
+abbrev pub with_named_channel : ScriptState → ChanNo → Replied → Replied
 with_named_channel st c done = if (st.shared.chan c.0).made then done else unchanged st reply.NoChannel
 
-abbrev pub with_named_selector : ScriptState → SelNo → Answered → Answered
+abbrev pub with_named_selector : ScriptState → SelNo → Replied → Replied
 with_named_selector st s done = if st.shared.selector s.0 then done else unchanged st reply.NoSelector
 
-abbrev pub with_named_key : ScriptState → SelNo → KeyId → Answered → Answered
+abbrev pub with_named_key : ScriptState → SelNo → KeyId → Replied → Replied
 with_named_key st s k done =
     with_named_selector st s
     (if was_published (st.shared.key s.0 k.index) k.serial then done else unchanged st reply.NoKey)

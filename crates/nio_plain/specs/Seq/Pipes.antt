@@ -1,10 +1,10 @@
--- The pipes of a state: whose ends they are, and the end mark.
+-- The pipes of a state: whose ends they are, and the seal.
 use Rattle.std.specs.Prelude.{ℕ, ◌==◌, ◌&&◌, Bool, true, false, Option, Some, None, List, [], position, slice_index_or}
 use Rattle.std.specs.Prelude.{slice_set}
 use Rattle.nio_base.specs.declared.numbers.CallerNo.{CallerNo}
 use Rattle.nio_base.specs.declared.numbers.ChanNo.{ChanNo}
 use Rattle.nio_plain.specs.ScriptState.{Pipe, ScriptState, with_pipes}
-use Rattle.nio_plain.specs.Seq.Answers.{Answered}
+use Rattle.nio_plain.specs.Seq.Replies.{Replied}
 
 abbrev pub owns_source : CallerNo → ChanNo → Pipe → Bool
 owns_source me c p = (p.source.0 == c.0) && (p.reader.0 == me.0)
@@ -27,7 +27,7 @@ no_pipe = record {
   reader = record { 0 = 0 };
   writer = record { 0 = 0 };
   waiting = [];
-  marked = false;
+  sealed = false;
 }
 
 abbrev pub pipe_at : List Pipe → ℕ → Pipe
@@ -37,13 +37,13 @@ pipe_at pipes i = slice_index_or pipes i no_pipe
 abbrev pub with_pipe : ScriptState → ℕ → Pipe → ScriptState
 with_pipe st i p = with_pipes st (slice_set st.pipes i p)
 
--- the sink of the pipe at a place leaves its end mark, where there is such a pipe
-abbrev pub marked_pipes : Option ℕ → List Pipe → List Pipe
-marked_pipes None pipes = pipes
-marked_pipes (Some i) pipes = slice_set pipes i (record (pipe_at pipes i) { marked = true })
+-- the sink of the pipe at a place leaves its seal, where there is such a pipe
+abbrev pub sealed_pipes : Option ℕ → List Pipe → List Pipe
+sealed_pipes None pipes = pipes
+sealed_pipes (Some i) pipes = slice_set pipes i (record (pipe_at pipes i) { sealed = true })
 
-abbrev pub with_mark : Option ℕ → ScriptState → ScriptState
-with_mark place st = with_pipes st (marked_pipes place st.pipes)
+abbrev pub with_seal : Option ℕ → ScriptState → ScriptState
+with_seal place st = with_pipes st (sealed_pipes place st.pipes)
 
-abbrev pub marking : Option ℕ → Answered → Answered
-marking place done = record done { left = with_mark place done.left }
+abbrev pub sealing : Option ℕ → Replied → Replied
+sealing place done = record done { left = with_seal place done.left }

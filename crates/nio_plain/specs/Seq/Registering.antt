@@ -10,12 +10,12 @@ use Rattle.nio_base.specs.declared.limits.Limits.{Limits}
 use Rattle.nio_base.specs.declared.numbers.ChanNo.{ChanNo}
 use Rattle.nio_base.specs.declared.numbers.KeyId.{KeyId}
 use Rattle.nio_base.specs.declared.numbers.SelNo.{SelNo}
-use Rattle.nio_event.specs.State.{State, unmarked, with_noted, with_keys_high, with_key, with_interest, with_mark}
+use Rattle.nio_event.specs.State.{State, unmarked, with_enrolled, with_keys_high, with_key, with_interest, with_mark}
 use Rattle.nio_event.specs.State.{with_note, with_free}
 use Rattle.nio_event.specs.declared.found.Stage.{Stage}
 use Rattle.nio_event.specs.declared.reply.Reply.TheVariants as reply
 use Rattle.nio_plain.specs.ScriptState.{ScriptState}
-use Rattle.nio_plain.specs.Seq.Answers.{Answered, unchanged, answered}
+use Rattle.nio_plain.specs.Seq.Replies.{Replied, unchanged, replied}
 use Rattle.nio_plain.specs.Seq.Modes.{key_of}
 use Rattle.nio_plain.specs.Seq.Names.{below, with_named_channel, with_named_selector}
 
@@ -59,13 +59,13 @@ with_new_key st s c k ops att =
     let i = k.index in
     let claimed = with_keys_high (with_free (with_key st s i (new_stage c k.serial)) s i false) s
     (max (st.keys_high s) (suc i)) in
-    with_note (with_mark (with_interest (with_noted claimed c s (Some k)) s i ops) s i unmarked) s i att
+    with_note (with_mark (with_interest (with_enrolled claimed c s (Some k)) s i ops) s i unmarked) s i att
 
-abbrev pub registered_new : ScriptState → ℕ → ℕ → ℕ → ℕ → Option KeyId → Answered
+abbrev pub registered_new : ScriptState → ℕ → ℕ → ℕ → ℕ → Option KeyId → Replied
 registered_new st s c ops att None = unchanged st reply.Full
-registered_new st s c ops att (Some k) = answered st (reply.Key k) (with_new_key st.shared s c k ops att)
+registered_new st s c ops att (Some k) = replied st (reply.Key k) (with_new_key st.shared s c k ops att)
 
-abbrev pub registered : Limits → ScriptState → ℕ → ℕ → ℕ → Option ℕ → Option KeyId → Answered
+abbrev pub registered : Limits → ScriptState → ℕ → ℕ → ℕ → Option ℕ → Option KeyId → Replied
 registered l st s c ops att None =
     if (st.shared.gate s).shut then unchanged st reply.ClosedSelector
     else registered_new st s c ops (given_or_none att) (next_key l st.shared s)
@@ -74,14 +74,14 @@ registered l st s c ops att (Some k) =
     if (st.shared.key s i).cancelled then unchanged st reply.CancelledKey
     else if (st.shared.gate s).shut then unchanged st reply.ClosedSelector
     else
-    answered st (reply.Key k)
+    replied st (reply.Key k)
     (with_note (with_interest st.shared s i ops) s i (given_or_kept att (st.shared.note s i)))
 
 -- no bit is outside the kind's operations
 abbrev pub are_legal : Kind → ℕ → Bool
 are_legal kind ops = bit_and ops (valid_operations kind) == ops
 
-unfoldable pub register_call : Limits → ScriptState → SelNo → ChanNo → ℕ → Option ℕ → Answered
+unfoldable pub register_call : Limits → ScriptState → SelNo → ChanNo → ℕ → Option ℕ → Replied
 register_call l st s c ops att =
     let chan = st.shared.chan c.0 in
     with_named_selector st s

@@ -17,7 +17,7 @@ use Rattle.nio_event.specs.declared.reply.Reply.TheVariants as reply
 use Rattle.nio_event.specs.declared.reply.Why.{Why}
 use Rattle.nio_event.specs.declared.reply.Why.TheVariants as why
 use Rattle.nio_plain.specs.ScriptState.{ScriptState, Selection, with_shared, with_selection}
-use Rattle.nio_plain.specs.Seq.Answers.{Answered, unchanged}
+use Rattle.nio_plain.specs.Seq.Replies.{Replied, unchanged}
 use Rattle.nio_plain.specs.Seq.Names.{below, key_at, is_same_key, with_named_selector}
 use Rattle.nio_plain.specs.Seq.Removing.{comes_back, without_keys_where}
 use Rattle.nio_plain.specs.declared.rules.Rules.{Rules}
@@ -45,7 +45,7 @@ mode_of waiting.Now = Some mode.Now
 mode_of waiting.Wait = Some mode.Wait
 mode_of (waiting.For ms) = timed ms
 
-abbrev pub selection_begun : Rules → ScriptState → CallerNo → ℕ → Mode → Answered
+abbrev pub selection_begun : Rules → ScriptState → CallerNo → ℕ → Mode → Replied
 selection_begun rules st me s how =
     let swept = without_cancelled rules st.shared s in
     let looked = looked_keys swept s in
@@ -56,20 +56,20 @@ selection_begun rules st me s how =
           (Some (record { mode = how; bound = st.shared.keys_high s; looked = looked }));
     }
 
-abbrev pub begun_with : Rules → ScriptState → CallerNo → ℕ → Option Mode → Answered
+abbrev pub begun_with : Rules → ScriptState → CallerNo → ℕ → Option Mode → Replied
 begun_with rules st me s None = unchanged st reply.NegativeTimeout
 begun_with rules st me s (Some how) =
     if (st.shared.gate s).shut then unchanged st reply.ClosedSelector
     else if is_some (st.shared.turn s) then unchanged st reply.Busy
     else selection_begun rules st me s how
 
-unfoldable pub begin_call : Rules → ScriptState → CallerNo → SelNo → Waiting → Answered
+unfoldable pub begin_call : Rules → ScriptState → CallerNo → SelNo → Waiting → Replied
 begin_call rules st me s waiting =
     with_named_selector st s (begun_with rules st me s.0 (mode_of waiting))
 
 -- A SELECTION, STEP 2. A key that isn't in the selected set is added to it, and its ready set becomes
 -- exactly what was told of the interest looked at. For a key of the selected set the told bits are
--- united with its ready set. The answer counts the keys that were added or gained a bit.
+-- united with its ready set. The reply counts the keys that were added or gained a bit.
 
 -- all that the poller told of a key
 abbrev pub all_told : List (KeyId × ℕ) → KeyId → ℕ
@@ -147,7 +147,7 @@ selection_ended rules st s selection pairs =
     let slept = with_gate swept s (record (st.gate s) { woken = false }) in
     with_begun (with_turn slept s None) s false
 
-abbrev pub told_selection : Rules → ScriptState → CallerNo → ℕ → List (KeyId × ℕ) → Bool → Option Selection → Answered
+abbrev pub told_selection : Rules → ScriptState → CallerNo → ℕ → List (KeyId × ℕ) → Bool → Option Selection → Replied
 told_selection rules st me s pairs elapsed None = unchanged st reply.NotSelecting
 told_selection rules st me s pairs elapsed (Some selection) =
     let count = updated_count st.shared s selection.looked pairs in
@@ -167,18 +167,18 @@ is_caller me (Some other) = other.0 == me.0
 abbrev pub own_selection : ScriptState → CallerNo → ℕ → Option Selection
 own_selection st me s = if is_caller me (st.shared.turn s) then st.selection s else None
 
-unfoldable pub told_call : Rules → ScriptState → CallerNo → SelNo → Bool → List (KeyId × ℕ) → Answered
+unfoldable pub told_call : Rules → ScriptState → CallerNo → SelNo → Bool → List (KeyId × ℕ) → Replied
 told_call rules st me s elapsed pairs =
     with_named_selector st s (told_selection rules st me s.0 pairs elapsed (own_selection st me s.0))
 
 -- after a failed poll the selection is over, and nothing else changes: a pending wakeup stays
 
-abbrev pub left_selection : ScriptState → ℕ → Option Selection → Answered
+abbrev pub left_selection : ScriptState → ℕ → Option Selection → Replied
 left_selection st s None = unchanged st reply.NotSelecting
 left_selection st s (Some selection) = record {
   reply = reply.Left;
   left = with_selection (with_shared st (with_begun (with_turn st.shared s None) s false)) s None;
 }
 
-unfoldable pub failed_call : ScriptState → CallerNo → SelNo → Answered
+unfoldable pub failed_call : ScriptState → CallerNo → SelNo → Replied
 failed_call st me s = with_named_selector st s (left_selection st s.0 (own_selection st me s.0))

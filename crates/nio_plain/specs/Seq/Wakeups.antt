@@ -7,19 +7,19 @@ use Rattle.nio_base.specs.declared.numbers.SelNo.{SelNo}
 use Rattle.nio_event.specs.State.{with_interrupted, with_gate}
 use Rattle.nio_event.specs.declared.reply.Reply.TheVariants as reply
 use Rattle.nio_plain.specs.ScriptState.{ScriptState}
-use Rattle.nio_plain.specs.Seq.Answers.{Answered, unchanged, answered, yes_or_no}
+use Rattle.nio_plain.specs.Seq.Replies.{Replied, unchanged, replied, yes_or_no}
 use Rattle.nio_plain.specs.Seq.Names.{with_named_selector}
 
-unfoldable pub wakeup_call : ScriptState → SelNo → Answered
+unfoldable pub wakeup_call : ScriptState → SelNo → Replied
 wakeup_call st s =
     with_named_selector st s
-    (answered st reply.«Ok» (with_gate st.shared s.0 (record (st.shared.gate s.0) { woken = true })))
+    (replied st reply.«Ok» (with_gate st.shared s.0 (record (st.shared.gate s.0) { woken = true })))
 
-unfoldable pub interrupt_call : Limits → ScriptState → CallerNo → Answered
+unfoldable pub interrupt_call : Limits → ScriptState → CallerNo → Replied
 interrupt_call l st target =
-    if nat_lt target.0 l.callers then answered st reply.«Ok» (with_interrupted st.shared target.0 true)
+    if nat_lt target.0 l.callers then replied st reply.«Ok» (with_interrupted st.shared target.0 true)
     else unchanged st reply.NoCaller
 
-unfoldable pub interrupted_call : ScriptState → CallerNo → Answered
+unfoldable pub interrupted_call : ScriptState → CallerNo → Replied
 interrupted_call st me =
-    answered st (yes_or_no (st.shared.interrupted me.0)) (with_interrupted st.shared me.0 false)
+    replied st (yes_or_no (st.shared.interrupted me.0)) (with_interrupted st.shared me.0 false)

@@ -1,8 +1,10 @@
 //! Laws of one call, and of the calls between two wakeups.
-ghost use Rattle.nio_plain.specs.CallLaws.{RefusalsChangeNothing, OnlyToldBitsAreSelected, BitsAreToldAndLookedFor, LookedIsAnswered, OnlyItselfEndsASelection, WakeupsArePending, FurtherWakeupsChangeNothing, WakeupsAreAnswered, WakeupsActAsOne};
+ghost use Rattle.nio_plain.specs.CallLaws.{RefusalsChangeNothing, OnlyToldBitsAreSelected, BitsAreToldAndLookedFor};
+ghost use Rattle.nio_plain.specs.CallLaws.{LookedIsReplied, OnlyItselfEndsASelection, WakeupsArePending};
+ghost use Rattle.nio_plain.specs.CallLaws.{FurtherWakeupsChangeNothing, WakeupsHaveReplies, WakeupsActAsOne};
 
 /// A refused call changes nothing, nor does one that only asks. The exceptions are calls on pipes: an owner's
-/// `closec` or `pwrite` that finds its sink closed leaves the end mark, an interrupted caller's `pread` or
+/// `closec` or `pwrite` that finds its sink closed leaves the seal, an interrupted caller's `pread` or
 /// `pwrite` closes its channel, and a `pipe` with one channel left makes and closes that channel.
 pub fn refusals_law()
     ensures { RefusalsChangeNothing }
@@ -15,10 +17,10 @@ pub fn told_law()
     ensures bits { BitsAreToldAndLookedFor }
 {}
 
-/// A selection in progress looks at what its `begin` answered, the valid keys with their interests, and
+/// A selection in progress looks at what its `begin` replied, the valid keys with their interests, and
 /// stays so until its own caller ends it.
 pub fn selections_law()
-    ensures begun { LookedIsAnswered }
+    ensures begun { LookedIsReplied }
     ensures stay { OnlyItselfEndsASelection }
 {}
 
@@ -27,6 +29,6 @@ pub fn selections_law()
 pub fn wakeups_law()
     ensures pending { WakeupsArePending }
     ensures further { FurtherWakeupsChangeNothing }
-    ensures answered { WakeupsAreAnswered }
+    ensures replied { WakeupsHaveReplies }
     ensures one { WakeupsActAsOne }
 {}

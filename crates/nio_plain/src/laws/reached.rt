@@ -1,12 +1,17 @@
 //! Laws of the states that scripts leave, whatever is called and within whatever limits.
-ghost use Rattle.nio_plain.specs.ReachedLaws.{SetsAreWithinKeySet, KeysAreBelowTheMark, LookedAreInKeySet, PublishedStays, InvalidKeysStayInvalid, FreeIndexHasNoKey, FirstRulesFreeNone, FirstRulesRemoveBelowTheBound, NewKeyIsNew, NewKeysDiffer, KeyOfAChannelIsFound, OneKeyOfAChannel, RegisteredIsInAKeySet, RegisteredIsNonBlocking, ClosedChannelHasNoValidKey, ClosedSelectorIsEmpty, GroupIsLeftByARun, GroupIsLawful};
+ghost use Rattle.nio_plain.specs.ReachedLaws.{SetsAreWithinKeySet, KeysAreBelowHigh, LookedAreInKeySet, PublishedStays};
+ghost use Rattle.nio_plain.specs.ReachedLaws.{InvalidKeysStayInvalid, FreeIndexHasNoKey, FirstRulesFreeNone};
+ghost use Rattle.nio_plain.specs.ReachedLaws.{FirstRulesRemoveBelowTheBound, NewKeyIsNew, NewKeysDiffer};
+ghost use Rattle.nio_plain.specs.ReachedLaws.{KeyOfAChannelIsFound, OneKeyOfAChannel, RegisteredIsInAKeySet};
+ghost use Rattle.nio_plain.specs.ReachedLaws.{RegisteredIsNonBlocking, ClosedChannelHasNoValidKey};
+ghost use Rattle.nio_plain.specs.ReachedLaws.{ClosedSelectorIsEmpty, GroupIsLeftByARun, GroupIsLawful};
 
 /// The cancelled set and the selected set are subsets of the key set. Every key of the key set has an index
 /// below the number of indexes that its selector has claimed, so a selection that begins looks at all of
 /// them. The keys that a selection in progress looks at stay in the key set.
 pub fn sets_law()
     ensures within { SetsAreWithinKeySet }
-    ensures below { KeysAreBelowTheMark }
+    ensures below { KeysAreBelowHigh }
     ensures looked { LookedAreInKeySet }
 {}
 

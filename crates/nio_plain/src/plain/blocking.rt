@@ -1,6 +1,6 @@
 //! Setting a channel's mode: a registered channel may not return to blocking mode.
 ghost use Rattle.std.specs.Prelude.{◌≡◌};
-ghost use Rattle.nio_plain.specs.Plain.{Answers};
+ghost use Rattle.nio_plain.specs.Plain.{Replies};
 ghost use Rattle.nio_plain.specs.PlainState.{limits_of, state_of};
 ghost use Rattle.nio_plain.specs.Seq.Modes.{blocking_call, is_registered};
 
@@ -10,7 +10,7 @@ use nio_event::Reply;
 
 impl Plain {
     pub(super) fn set_blocking(&mut self, chan: ChanNo, on: bool) -> Reply
-        ensures { Answers self.old self.new result (blocking_call (limits_of self.old) (state_of self.old) chan on) }
+        ensures { Replies self.old self.new result (blocking_call (limits_of self.old) (state_of self.old) chan on) }
     {
         let number = chan.0 as usize;
         if number >= self.channels.len() {

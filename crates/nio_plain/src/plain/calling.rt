@@ -1,11 +1,11 @@
 //! The call of a line, by its word.
 ghost use Rattle.std.specs.Prelude.{◌<◌};
-ghost use Rattle.nio_plain.specs.Plain.{AnswersAs};
+ghost use Rattle.nio_plain.specs.Plain.{RepliesAs};
 ghost use Rattle.nio_plain.specs.PlainState.{limits_of, rules_of, state_of};
 ghost use Rattle.nio_plain.specs.Seq.{call_of};
 
 use super::Plain;
-use super::grouping::answer_group;
+use super::grouping::call_group;
 use nio_base::CallerNo;
 use nio_event::{Call, Reply};
 use std::alloc::{AllocError, Global};
@@ -19,7 +19,8 @@ impl Plain {
         call: &Call,
     ) -> Result<Reply, AllocError>
         requires { me.0 < (limits_of self.old).callers }
-        ensures { AnswersAs self.old self.new result (call_of (rules_of self.old) (limits_of self.old) (state_of self.old) me call.now) }
+        ensures { RepliesAs self.old self.new result (call_of (rules_of self.old) (limits_of self.old)
+            (state_of self.old) me call.now) }
     {
         match call {
             Call::Selector => self.open_selector(alloc),
@@ -54,7 +55,7 @@ impl Plain {
             Call::Pipe(target) => self.pipe(alloc, me, *target),
             Call::Pwrite(chan, bytes) => self.pwrite(me, *chan, bytes.as_slice()),
             Call::Pread(chan, most) => self.pread(alloc, me, *chan, *most),
-            Call::Group(call) => Ok(answer_group(&mut self.group, *call)),
+            Call::Group(call) => Ok(call_group(&mut self.group, *call)),
         }
     }
 }

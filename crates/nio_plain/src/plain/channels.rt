@@ -1,8 +1,8 @@
 //! What a channel is asked for.
 ghost use Rattle.std.specs.Prelude.{◌≡◌};
-ghost use Rattle.nio_plain.specs.Plain.{Answers};
+ghost use Rattle.nio_plain.specs.Plain.{Replies};
 ghost use Rattle.nio_plain.specs.PlainState.{limits_of, state_of};
-ghost use Rattle.nio_plain.specs.Seq.Answers.{yes_or_no};
+ghost use Rattle.nio_plain.specs.Seq.Replies.{yes_or_no};
 ghost use Rattle.nio_plain.specs.Seq.Modes.{is_blocking_call, is_open_call, is_registered_call, key_for_call};
 
 use super::Plain;
@@ -11,7 +11,7 @@ use nio_event::Reply;
 
 impl Plain {
     pub(super) fn is_blocking_channel(&self, chan: ChanNo) -> Reply
-        ensures { Answers self.now self.now result (is_blocking_call (state_of self.now) chan) }
+        ensures { Replies self.now self.now result (is_blocking_call (state_of self.now) chan) }
     {
         match self.channel(chan) {
             Ok(channel) => yes_or_no(channel.blocking),
@@ -20,7 +20,7 @@ impl Plain {
     }
 
     pub(super) fn is_open_channel(&self, chan: ChanNo) -> Reply
-        ensures { Answers self.now self.now result (is_open_call (state_of self.now) chan) }
+        ensures { Replies self.now self.now result (is_open_call (state_of self.now) chan) }
     {
         match self.channel(chan) {
             Ok(channel) => yes_or_no(!channel.closed),
@@ -29,7 +29,7 @@ impl Plain {
     }
 
     pub(super) fn is_registered_channel(&self, chan: ChanNo) -> Reply
-        ensures { Answers self.now self.now result (is_registered_call (limits_of self.now) (state_of self.now) chan) }
+        ensures { Replies self.now self.now result (is_registered_call (limits_of self.now) (state_of self.now) chan) }
     {
         match self.channel(chan) {
             Ok(_) => yes_or_no(self.is_registered(chan)),
@@ -38,7 +38,7 @@ impl Plain {
     }
 
     pub(super) fn key_for(&self, chan: ChanNo, sel: SelNo) -> Reply
-        ensures { Answers self.now self.now result (key_for_call (state_of self.now) chan sel) }
+        ensures { Replies self.now self.now result (key_for_call (state_of self.now) chan sel) }
     {
         if let Err(refusal) = self.channel(chan) {
             return refusal;

@@ -1,6 +1,6 @@
 //! Closing a selector, in two parts, and closing a channel.
 ghost use Rattle.std.specs.Prelude.{◌≡◌, ◌<◌, vec_len};
-ghost use Rattle.nio_plain.specs.Plain.{Answers, Kept};
+ghost use Rattle.nio_plain.specs.Plain.{Replies, Kept};
 ghost use Rattle.nio_plain.specs.PlainState.{state_of};
 ghost use Rattle.nio_plain.specs.ScriptState.{with_shared};
 ghost use Rattle.nio_plain.specs.Seq.Cancelling.{channel_closed, closec_call, with_keys_cancelled};
@@ -14,7 +14,7 @@ use nio_event::Reply;
 impl Plain {
     /// Begins to close the selector: from now on selections and registrations are refused.
     pub(super) fn close(&mut self, me: CallerNo, sel: SelNo) -> Reply
-        ensures { Answers self.old self.new result (close_call (state_of self.old) me sel) }
+        ensures { Replies self.old self.new result (close_call (state_of self.old) me sel) }
     {
         let place = match self.selector(sel) {
             Ok(place) => place,
@@ -32,7 +32,7 @@ impl Plain {
 
     /// Ends the closing that the caller began: every key is removed.
     pub(super) fn close_end(&mut self, me: CallerNo, sel: SelNo) -> Reply
-        ensures { Answers self.old self.new result (close_end_call (state_of self.old) me sel) }
+        ensures { Replies self.old self.new result (close_end_call (state_of self.old) me sel) }
     {
         let place = match self.selector(sel) {
             Ok(place) => place,
@@ -55,27 +55,28 @@ impl Plain {
         Reply::Closed
     }
 
-    /// Closes the channel, and cancels its key in each selector. A sink's owner leaves the end mark.
+    /// Closes the channel, and cancels its key in each selector. The caller's own sink leaves its seal.
     pub(super) fn close_channel(&mut self, me: CallerNo, chan: ChanNo) -> Reply
-        ensures { Answers self.old self.new result (closec_call (state_of self.old) me chan) }
+        ensures { Replies self.old self.new result (closec_call (state_of self.old) me chan) }
     {
         let channel = match self.channel(chan) {
             Ok(channel) => channel,
             Err(refusal) => return refusal,
         };
         if channel.closed {
-            self.leave_mark(me, chan);
+            self.leave_seal(me, chan);
             return Reply::Already;
         }
         self.shut_channel(chan);
-        self.leave_mark(me, chan);
+        self.leave_seal(me, chan);
         Reply::Ok
     }
 
     /// Closes a channel that is made.
     pub(super) fn shut_channel(&mut self, chan: ChanNo)
         requires { chan.0 < vec_len self.old.channels }
-        ensures left { state_of self.new ≡ with_shared (state_of self.old) (channel_closed (state_of self.old).shared chan.0) }
+        ensures left { state_of self.new ≡ with_shared (state_of self.old)
+            (channel_closed (state_of self.old).shared chan.0) }
         ensures kept { Kept self.old self.new }
     {
         self.channels[chan.0 as usize].closed = true;
@@ -84,7 +85,8 @@ impl Plain {
 
     /// Cancels the channel's key in each selector.
     fn cancel_keys_of(&mut self, chan: ChanNo)
-        ensures left { state_of self.new ≡ with_shared (state_of self.old) (with_keys_cancelled (state_of self.old).shared chan.0) }
+        ensures left { state_of self.new ≡ with_shared (state_of self.old)
+            (with_keys_cancelled (state_of self.old).shared chan.0) }
         ensures kept { Kept self.old self.new }
     {
         for place in 0..self.selectors.len() {

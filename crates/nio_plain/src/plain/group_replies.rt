@@ -1,14 +1,14 @@
 //! The replies that the group's answers are.
 ghost use Rattle.std.specs.Prelude.{◌≡◌};
 ghost use Rattle.nio_group.specs.Run as step;
-ghost use Rattle.nio_plain.specs.Seq.Grouping.{answer_of, report_refused, start_refused};
+ghost use Rattle.nio_plain.specs.Seq.Grouping.{line_reply, report_refused, start_refused};
 
 use nio_base::{GChan, OpNo};
 use nio_event::{GroupReply, Reply};
 use nio_group::{Completion, NotRunning, ReportError, StartError};
 
 pub(super) fn opened(answer: Result<GChan, StartError>) -> Reply
-    ensures { result ≡ answer_of (step.opened answer) }
+    ensures { result ≡ line_reply (step.opened answer) }
 {
     match answer {
         Ok(chan) => Reply::Group(GroupReply::Channel(chan)),
@@ -17,7 +17,7 @@ pub(super) fn opened(answer: Result<GChan, StartError>) -> Reply
 }
 
 pub(super) fn bound(answer: Result<(), StartError>) -> Reply
-    ensures { result ≡ answer_of (step.bound answer) }
+    ensures { result ≡ line_reply (step.bound answer) }
 {
     match answer {
         Ok(()) => Reply::Ok,
@@ -26,7 +26,7 @@ pub(super) fn bound(answer: Result<(), StartError>) -> Reply
 }
 
 pub(super) fn started(answer: Result<OpNo, StartError>) -> Reply
-    ensures { result ≡ answer_of (step.started answer) }
+    ensures { result ≡ line_reply (step.started answer) }
 {
     match answer {
         Ok(operation) => Reply::Group(GroupReply::Op(operation)),
@@ -35,7 +35,7 @@ pub(super) fn started(answer: Result<OpNo, StartError>) -> Reply
 }
 
 pub(super) fn reported(answer: Result<(), ReportError>) -> Reply
-    ensures { result ≡ answer_of (step.reported answer) }
+    ensures { result ≡ line_reply (step.reported answer) }
 {
     match answer {
         Ok(()) => Reply::Ok,
@@ -44,7 +44,7 @@ pub(super) fn reported(answer: Result<(), ReportError>) -> Reply
 }
 
 pub(super) fn taken(answer: Option<Completion>) -> Reply
-    ensures { result ≡ answer_of (step.taken answer) }
+    ensures { result ≡ line_reply (step.taken answer) }
 {
     match answer {
         None => Reply::None,
@@ -53,7 +53,7 @@ pub(super) fn taken(answer: Option<Completion>) -> Reply
 }
 
 pub(super) fn finished(answer: Result<(), NotRunning>) -> Reply
-    ensures { result ≡ answer_of (step.finished answer) }
+    ensures { result ≡ line_reply (step.finished answer) }
 {
     match answer {
         Ok(()) => Reply::Ok,
@@ -62,7 +62,7 @@ pub(super) fn finished(answer: Result<(), NotRunning>) -> Reply
 }
 
 pub(super) fn closed(was_open: bool) -> Reply
-    ensures { result ≡ answer_of (step.closed was_open) }
+    ensures { result ≡ line_reply (step.closed was_open) }
 {
     if was_open { Reply::Ok } else { Reply::Already }
 }

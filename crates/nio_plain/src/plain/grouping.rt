@@ -11,7 +11,7 @@ use nio_group::GroupCore;
 
 /// Makes one of the group's calls, and answers with its reply. It allocates nothing: the group took its memory when
 /// it was made.
-pub fn answer_group(group: &mut GroupCore, call: GroupCall) -> Reply
+pub fn call_group(group: &mut GroupCore, call: GroupCall) -> Reply
     ensures reply { result ≡ group_reply group.old call }
     ensures left { group.new ≡ group_left group.old call }
 {

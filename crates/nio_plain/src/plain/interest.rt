@@ -1,6 +1,6 @@
 //! A key's interest set: reading it, setting it, adding to it and taking from it.
 ghost use Rattle.std.specs.Prelude.{◌≡◌};
-ghost use Rattle.nio_plain.specs.Plain.{Answers};
+ghost use Rattle.nio_plain.specs.Plain.{Replies};
 ghost use Rattle.nio_plain.specs.PlainState.{state_of};
 ghost use Rattle.nio_plain.specs.Seq.Keys.{iand_call, interest_call, ior_call, iset_call};
 ghost use Rattle.nio_plain.specs.Seq.Registering.{are_legal};
@@ -12,7 +12,7 @@ use nio_event::Reply;
 
 impl Plain {
     pub(super) fn interest(&self, sel: SelNo, id: KeyId) -> Reply
-        ensures { Answers self.now self.now result (interest_call (state_of self.now) sel id) }
+        ensures { Replies self.now self.now result (interest_call (state_of self.now) sel id) }
     {
         match self.valid_key(sel, id) {
             Ok(key) => Reply::Number(u64::from(key.interest.bits())),
@@ -21,7 +21,7 @@ impl Plain {
     }
 
     pub(super) fn set_interest(&mut self, sel: SelNo, id: KeyId, ops: Ops) -> Reply
-        ensures { Answers self.old self.new result (iset_call (state_of self.old) sel id ops) }
+        ensures { Replies self.old self.new result (iset_call (state_of self.old) sel id ops) }
     {
         let key = match self.valid_key(sel, id) {
             Ok(key) => key,
@@ -42,7 +42,7 @@ impl Plain {
     }
 
     pub(super) fn interest_or(&mut self, sel: SelNo, id: KeyId, ops: Ops) -> Reply
-        ensures { Answers self.old self.new result (ior_call (state_of self.old) sel id ops) }
+        ensures { Replies self.old self.new result (ior_call (state_of self.old) sel id ops) }
     {
         let key = match self.valid_key(sel, id) {
             Ok(key) => key,
@@ -58,7 +58,7 @@ impl Plain {
     }
 
     pub(super) fn interest_and(&mut self, sel: SelNo, id: KeyId, ops: Ops) -> Reply
-        ensures { Answers self.old self.new result (iand_call (state_of self.old) sel id ops) }
+        ensures { Replies self.old self.new result (iand_call (state_of self.old) sel id ops) }
     {
         let key = match self.valid_key(sel, id) {
             Ok(key) => key,

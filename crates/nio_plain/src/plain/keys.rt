@@ -1,6 +1,6 @@
 //! Calls on a key: what it is asked for, cancelling it, and its attachment.
 ghost use Rattle.std.specs.Prelude.{◌≡◌};
-ghost use Rattle.nio_plain.specs.Plain.{Answers};
+ghost use Rattle.nio_plain.specs.Plain.{Replies};
 ghost use Rattle.nio_plain.specs.PlainState.{state_of};
 ghost use Rattle.nio_plain.specs.Seq.Cancelling.{cancel_call};
 ghost use Rattle.nio_plain.specs.Seq.Keys.{attach_call, attachment_call, ready_call, unselect_call, valid_call};
@@ -13,7 +13,7 @@ use nio_event::{Mark, Reply};
 
 impl Plain {
     pub(super) fn is_valid_key(&self, sel: SelNo, id: KeyId) -> Reply
-        ensures { Answers self.now self.now result (valid_call (state_of self.now) sel id) }
+        ensures { Replies self.now self.now result (valid_call (state_of self.now) sel id) }
     {
         match self.key(sel, id) {
             Ok(key) => yes_or_no(key.is_valid_key(id.serial)),
@@ -22,7 +22,7 @@ impl Plain {
     }
 
     pub(super) fn ready(&self, sel: SelNo, id: KeyId) -> Reply
-        ensures { Answers self.now self.now result (ready_call (state_of self.now) sel id) }
+        ensures { Replies self.now self.now result (ready_call (state_of self.now) sel id) }
     {
         match self.valid_key(sel, id) {
             Ok(key) => Reply::Number(u64::from(key.mark.ready.bits())),
@@ -32,7 +32,7 @@ impl Plain {
 
     /// Cancels the key, unless it is removed or its index was given to a later key.
     pub(super) fn cancel(&mut self, sel: SelNo, id: KeyId) -> Reply
-        ensures { Answers self.old self.new result (cancel_call (state_of self.old) sel id) }
+        ensures { Replies self.old self.new result (cancel_call (state_of self.old) sel id) }
     {
         let key = match self.key(sel, id) {
             Ok(key) => key,
@@ -54,7 +54,7 @@ impl Plain {
 
     /// Takes the key out of the selected set.
     pub(super) fn unselect(&mut self, sel: SelNo, id: KeyId) -> Reply
-        ensures { Answers self.old self.new result (unselect_call (state_of self.old) sel id) }
+        ensures { Replies self.old self.new result (unselect_call (state_of self.old) sel id) }
     {
         let key = match self.key(sel, id) {
             Ok(key) => key,
@@ -72,7 +72,7 @@ impl Plain {
     }
 
     pub(super) fn attach(&mut self, sel: SelNo, id: KeyId, note: u64) -> Reply
-        ensures { Answers self.old self.new result (attach_call (state_of self.old) sel id note) }
+        ensures { Replies self.old self.new result (attach_call (state_of self.old) sel id note) }
     {
         let key = match self.key(sel, id) {
             Ok(key) => key,
@@ -86,7 +86,7 @@ impl Plain {
     }
 
     pub(super) fn attachment(&self, sel: SelNo, id: KeyId) -> Reply
-        ensures { Answers self.now self.now result (attachment_call (state_of self.now) sel id) }
+        ensures { Replies self.now self.now result (attachment_call (state_of self.now) sel id) }
     {
         let key = match self.key(sel, id) {
             Ok(key) => key,

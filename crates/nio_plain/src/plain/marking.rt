@@ -34,7 +34,8 @@ pub(super) fn all_told(
     serials: &[u32],
 ) -> Result<Vec<Ops>, AllocError>
     ensures long { IfOk result (λ v. vec_len v ≡ length serials.now) }
-    ensures told { IfOk result (λ v. (i : ℕ) → i < length serials.now → slice_index v.items i ≡ all_told pairs.now (record { index = i; serial = slice_index serials.now i })) }
+    ensures told { IfOk result (λ v. (i : ℕ) → i < length serials.now → slice_index v.items i
+        ≡ all_told pairs.now (record { index = i; serial = slice_index serials.now i })) }
 {
     let mut told = Vec::from_elem(alloc, Ops::NONE, serials.len())?;
     for &(key, ops) in pairs {
@@ -78,7 +79,8 @@ pub(super) fn updated_count(keys: &[Key], looked: &[(KeyId, Ops)], told: &[Ops])
     requires in_told { All (λ p. p.0.index < length told.now) looked.now }
     requires few { length looked.now < 2 ^ 32 }
     ensures { result
-        ≡ count_by (λ p. is_updated (places key_row no_key keys.now p.0.index).mark (bit_and (slice_index told.now p.0.index) p.1)) looked.now }
+        ≡ count_by (λ p. is_updated (places key_row no_key keys.now p.0.index).mark
+        (bit_and (slice_index told.now p.0.index) p.1)) looked.now }
 {
     let mut count = 0;
     for &(key, interest) in looked {

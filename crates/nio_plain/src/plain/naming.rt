@@ -2,7 +2,8 @@
 ghost use Rattle.std.specs.Prelude.{◌≡◌, ◌<◌, IfErr, IfOk, vec_len};
 ghost use Rattle.nio_plain.specs.Naming.{LetsThrough, Refuses};
 ghost use Rattle.nio_plain.specs.Plain.{Kept};
-ghost use Rattle.nio_plain.specs.PlainState.{channel_row, key_row, no_selector, places, selector_row, state_of, with_key_row};
+ghost use Rattle.nio_plain.specs.PlainState.{channel_row, key_row, no_selector, places, selector_row, state_of};
+ghost use Rattle.nio_plain.specs.PlainState.{with_key_row};
 ghost use Rattle.nio_plain.specs.Seq.Keys.{with_valid_key};
 ghost use Rattle.nio_plain.specs.Seq.Names.{with_named_channel, with_named_key, with_named_selector};
 
@@ -42,7 +43,8 @@ impl Plain {
     /// The present key of the index of this name, where the key of this name was published.
     pub(super) fn key(&self, sel: SelNo, id: KeyId) -> Result<Key, Reply>
         ensures through { IfOk result (λ _. LetsThrough (with_named_key (state_of self.now) sel id)) }
-        ensures row { IfOk result (λ key. (places selector_row no_selector self.now.selectors.items sel.0).keys id.index ≡ key_row key) }
+        ensures row { IfOk result (λ key. (places selector_row no_selector self.now.selectors.items sel.0).keys id.index
+            ≡ key_row key) }
         ensures claimed { IfOk result (λ _. id.index < (state_of self.now).shared.keys_high sel.0) }
         ensures refused { IfErr result (Refuses (state_of self.now) (with_named_key (state_of self.now) sel id)) }
     {
@@ -63,7 +65,8 @@ impl Plain {
     /// The key of this name, where it is valid.
     pub(super) fn valid_key(&self, sel: SelNo, id: KeyId) -> Result<Key, Reply>
         ensures through { IfOk result (λ _. LetsThrough (with_valid_key (state_of self.now) sel id)) }
-        ensures row { IfOk result (λ key. (places selector_row no_selector self.now.selectors.items sel.0).keys id.index ≡ key_row key) }
+        ensures row { IfOk result (λ key. (places selector_row no_selector self.now.selectors.items sel.0).keys id.index
+            ≡ key_row key) }
         ensures claimed { IfOk result (λ _. id.index < (state_of self.now).shared.keys_high sel.0) }
         ensures refused { IfErr result (Refuses (state_of self.now) (with_valid_key (state_of self.now) sel id)) }
     {

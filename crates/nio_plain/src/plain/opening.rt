@@ -1,5 +1,5 @@
 //! Opening selectors and channels: the least number that isn't made comes next.
-ghost use Rattle.nio_plain.specs.Plain.{AnswersAs};
+ghost use Rattle.nio_plain.specs.Plain.{RepliesAs};
 ghost use Rattle.nio_plain.specs.PlainState.{limits_of, state_of};
 ghost use Rattle.nio_plain.specs.Seq.Opening.{channel_call, selector_call};
 
@@ -12,7 +12,7 @@ use std::alloc::{AllocError, Global};
 
 impl Plain {
     pub(super) fn open_selector(&mut self, alloc: Global) -> Result<Reply, AllocError>
-        ensures { AnswersAs self.old self.new result (selector_call (limits_of self.old) (state_of self.old)) }
+        ensures { RepliesAs self.old self.new result (selector_call (limits_of self.old) (state_of self.old)) }
     {
         let number = self.selectors.len();
         if number >= self.limits.selectors as usize {
@@ -23,7 +23,7 @@ impl Plain {
     }
 
     pub(super) fn open_channel(&mut self, kind: Kind) -> Result<Reply, AllocError>
-        ensures { AnswersAs self.old self.new result (channel_call (limits_of self.old) (state_of self.old) kind) }
+        ensures { RepliesAs self.old self.new result (channel_call (limits_of self.old) (state_of self.old) kind) }
     {
         let number = self.channels.len();
         if number >= self.limits.channels as usize {

@@ -13,7 +13,7 @@ pub(super) struct Pipe {
     pub(super) reader: CallerNo,
     pub(super) writer: CallerNo,
     pub(super) waiting: Vec<u8>,
-    pub(super) marked: bool,
+    pub(super) sealed: bool,
 }
 
 impl Pipe {

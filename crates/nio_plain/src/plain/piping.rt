@@ -1,8 +1,8 @@
-//! Pipes: making, reading and writing them, and the end mark.
+//! Pipes: making, reading and writing them, and the seal.
 ghost use Rattle.std.specs.Prelude.{◌≡◌, ◌<◌, ◌==◌, ◌&&◌, if◌then◌else◌, Some, position, vec_len};
-ghost use Rattle.nio_plain.specs.Plain.{Answers, AnswersAs, Kept};
+ghost use Rattle.nio_plain.specs.Plain.{Replies, RepliesAs, Kept};
 ghost use Rattle.nio_plain.specs.PlainState.{limits_of, state_of};
-ghost use Rattle.nio_plain.specs.Seq.Pipes.{own_sink, own_source, pipe_at, with_mark};
+ghost use Rattle.nio_plain.specs.Seq.Pipes.{own_sink, own_source, pipe_at, with_seal};
 ghost use Rattle.nio_plain.specs.Seq.Piping.{not_now, pipe_call, pread_call, pwrite_call, read_first, room_for};
 ghost use Rattle.nio_plain.specs.Seq.Piping.{write_first};
 
@@ -24,7 +24,7 @@ impl Plain {
         me: CallerNo,
         target: CallerNo,
     ) -> Result<Reply, AllocError>
-        ensures { AnswersAs self.old self.new result (pipe_call (limits_of self.old) (state_of self.old) me target) }
+        ensures { RepliesAs self.old self.new result (pipe_call (limits_of self.old) (state_of self.old) me target) }
     {
         if target.0 >= self.limits.callers {
             return Ok(Reply::NoCaller);
@@ -49,7 +49,7 @@ impl Plain {
             reader: me,
             writer: target,
             waiting: Vec::new(alloc),
-            marked: false,
+            sealed: false,
         });
         Ok(Reply::Ends(source, sink))
     }
@@ -68,13 +68,13 @@ impl Plain {
         sink_place(&self.pipes, me, chan)
     }
 
-    /// Leaves the end mark in the caller's own sink, where the channel is one.
-    pub(super) fn leave_mark(&mut self, me: CallerNo, chan: ChanNo)
-        ensures left { state_of self.new ≡ with_mark (own_sink (state_of self.old).pipes me chan) (state_of self.old) }
+    /// The caller's own sink leaves its seal, where the channel is one.
+    pub(super) fn leave_seal(&mut self, me: CallerNo, chan: ChanNo)
+        ensures left { state_of self.new ≡ with_seal (own_sink (state_of self.old).pipes me chan) (state_of self.old) }
         ensures kept { Kept self.old self.new }
     {
         if let Some(place) = self.own_sink(me, chan) {
-            self.mark(place);
+            self.seal(place);
         }
     }
 
@@ -87,7 +87,7 @@ impl Plain {
         most: u32,
     ) -> Result<Reply, AllocError>
         requires { me.0 < (limits_of self.old).callers }
-        ensures { AnswersAs self.old self.new result (pread_call (state_of self.old) me chan most) }
+        ensures { RepliesAs self.old self.new result (pread_call (state_of self.old) me chan most) }
     {
         let channel = match self.channel(chan) {
             Ok(channel) => channel,
@@ -119,12 +119,12 @@ impl Plain {
     ) -> Result<Reply, AllocError>
         requires { place < vec_len self.old.pipes }
         ensures { let pipe = pipe_at (state_of self.old).pipes place in
-            AnswersAs self.old self.new result
-            (read_first (state_of self.old) channel.blocking most place pipe.waiting pipe.marked) }
+            RepliesAs self.old self.new result
+            (read_first (state_of self.old) channel.blocking most place pipe.waiting pipe.sealed) }
     {
         let pipe = &self.pipes[place];
         if pipe.waiting.is_empty() {
-            return Ok(end_or_not_now(pipe.marked, channel.blocking));
+            return Ok(end_or_not_now(pipe.sealed, channel.blocking));
         }
         let bytes = self.pipes[place].take(alloc, most as usize)?;
         Ok(Reply::Bytes(Bytes::from_vec(bytes)))
@@ -138,7 +138,7 @@ impl Plain {
         bytes: &[u8],
     ) -> Result<Reply, AllocError>
         requires { me.0 < (limits_of self.old).callers }
-        ensures { AnswersAs self.old self.new result (pwrite_call (state_of self.old) me chan bytes.now) }
+        ensures { RepliesAs self.old self.new result (pwrite_call (state_of self.old) me chan bytes.now) }
     {
         let channel = match self.channel(chan) {
             Ok(channel) => channel,
@@ -148,12 +148,12 @@ impl Plain {
             return Ok(Reply::NotOwner);
         };
         if channel.closed {
-            self.mark(place);
+            self.seal(place);
             return Ok(Reply::ClosedChannel);
         }
         if self.finds_interrupt(me, channel.blocking) {
             self.shut_channel(chan);
-            self.mark(place);
+            self.seal(place);
             return Ok(Reply::ClosedByInterrupt);
         }
         let source = self.pipes[place].source;
@@ -175,7 +175,7 @@ impl Plain {
     ) -> Result<Reply, AllocError>
         requires { place < vec_len self.old.pipes }
         ensures { let room = room_for bytes.now (pipe_at (state_of self.old).pipes place) in
-            AnswersAs self.old self.new result
+            RepliesAs self.old self.new result
             (write_first (state_of self.old) channel.blocking bytes.now place room) }
     {
         let waiting = self.pipes[place].waiting.len();
@@ -187,13 +187,13 @@ impl Plain {
         Ok(Reply::Number(room as u64))
     }
 
-    /// The sink of the pipe at this place leaves its end mark.
-    fn mark(&mut self, place: usize)
+    /// The sink of the pipe at this place leaves its seal.
+    fn seal(&mut self, place: usize)
         requires { place < vec_len self.old.pipes }
-        ensures left { state_of self.new ≡ with_mark (Some place) (state_of self.old) }
+        ensures left { state_of self.new ≡ with_seal (Some place) (state_of self.old) }
         ensures kept { Kept self.old self.new }
     {
-        self.pipes[place].marked = true;
+        self.pipes[place].sealed = true;
     }
 
     /// Whether a call in this mode finds its caller interrupted.
@@ -224,11 +224,11 @@ fn not_now(blocking: bool) -> Reply
     }
 }
 
-/// The reply where no byte waits, of a pipe with the end mark or without.
-fn end_or_not_now(marked: bool, blocking: bool) -> Reply
-    ensures { result ≡ (if marked then Reply.End else not_now blocking) }
+/// The reply where no byte waits, of a pipe with the seal or without.
+fn end_or_not_now(sealed: bool, blocking: bool) -> Reply
+    ensures { result ≡ (if sealed then Reply.End else not_now blocking) }
 {
-    if marked {
+    if sealed {
         Reply::End
     } else {
         not_now(blocking)

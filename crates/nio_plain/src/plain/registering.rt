@@ -1,9 +1,9 @@
 //! Registering a channel with a selector.
 ghost use Rattle.std.specs.Option.{IfNone};
 ghost use Rattle.std.specs.Prelude.{◌≡◌, ℕ, ◌<◌, IfSome, Option, vec_len};
-ghost use Rattle.nio_plain.specs.Plain.{AnswersAs};
+ghost use Rattle.nio_plain.specs.Plain.{RepliesAs};
 ghost use Rattle.nio_plain.specs.PlainState.{limits_of, state_of};
-ghost use Rattle.nio_plain.specs.Seq.Answers.{unchanged};
+ghost use Rattle.nio_plain.specs.Seq.Replies.{unchanged};
 ghost use Rattle.nio_plain.specs.Seq.Modes.{key_of};
 ghost use Rattle.nio_plain.specs.Seq.Registering.{given_or_kept, register_call, registered};
 
@@ -21,7 +21,8 @@ impl Plain {
         ops: Ops,
         note: Option<u64>,
     ) -> Result<Reply, AllocError>
-        ensures { AnswersAs self.old self.new result (register_call (limits_of self.old) (state_of self.old) sel chan ops note) }
+        ensures { RepliesAs self.old self.new result (register_call (limits_of self.old) (state_of self.old) sel
+            chan ops note) }
     {
         if let Some(refusal) = self.refusal(sel, chan, ops) {
             return Ok(refusal);
@@ -61,9 +62,13 @@ impl Plain {
     /// Why the channel can't be registered so with any selector, and first of all that a name of
     /// the call isn't made.
     fn refusal(&self, sel: SelNo, chan: ChanNo, ops: Ops) -> Option<Reply>
-        ensures refused { IfSome result (λ reply. (note : Option ℕ) → register_call (limits_of self.now) (state_of self.now) sel chan ops note ≡ unchanged (state_of self.now) reply) }
-        ensures passed { IfNone result ((note : Option ℕ) → register_call (limits_of self.now) (state_of self.now) sel chan ops note
-            ≡ registered (limits_of self.now) (state_of self.now) sel.0 chan.0 ops note (key_of (state_of self.now).shared chan.0 sel.0)) }
+        ensures refused { IfSome result (λ reply. (note : Option ℕ)
+            → register_call (limits_of self.now) (state_of self.now) sel chan ops note
+            ≡ unchanged (state_of self.now) reply) }
+        ensures passed { IfNone result ((note : Option ℕ) → register_call (limits_of self.now) (state_of self.now)
+            sel chan ops note
+            ≡ registered (limits_of self.now) (state_of self.now) sel.0 chan.0 ops note
+            (key_of (state_of self.now).shared chan.0 sel.0)) }
         ensures made { IfNone result (sel.0 < vec_len self.now.selectors) }
     {
         if sel.0 as usize >= self.selectors.len() {

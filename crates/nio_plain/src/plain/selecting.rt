@@ -1,6 +1,6 @@
 //! Beginning a selection.
 ghost use Rattle.std.specs.Prelude.{◌≡◌};
-ghost use Rattle.nio_plain.specs.Plain.{AnswersAs};
+ghost use Rattle.nio_plain.specs.Plain.{RepliesAs};
 ghost use Rattle.nio_plain.specs.PlainState.{rules_of, state_of};
 ghost use Rattle.nio_plain.specs.Seq.Selections.{begin_call, mode_of};
 
@@ -17,7 +17,8 @@ impl Plain {
         sel: SelNo,
         waiting: Waiting,
     ) -> Result<Reply, AllocError>
-        ensures { AnswersAs self.old self.new result (begin_call (rules_of self.old) (state_of self.old) me sel waiting) }
+        ensures { RepliesAs self.old self.new result (begin_call (rules_of self.old) (state_of self.old) me
+            sel waiting) }
     {
         if sel.0 as usize >= self.selectors.len() {
             return Ok(Reply::NoSelector);

@@ -125,7 +125,8 @@ impl Key {
 
     /// The same of the key with this serial alone.
     fn remove_if_cancelled(&mut self, serial: u32, rules: Rules)
-        ensures { key_row self.new ≡ (if fits (key_row self.old).stage serial then swept_key rules (key_row self.old) else key_row self.old) }
+        ensures { key_row self.new ≡ (if fits (key_row self.old).stage serial then swept_key rules (key_row self.old)
+            else key_row self.old) }
     {
         if self.fits(serial) {
             self.sweep(rules);
@@ -134,7 +135,8 @@ impl Key {
 
     /// Marks the key with this serial with the bits that were told of it.
     fn mark_key(&mut self, serial: u32, bits: Ops)
-        ensures { key_row self.new ≡ (if fits (key_row self.old).stage serial then record (key_row self.old) { mark = marked (key_row self.old).mark bits } else key_row self.old) }
+        ensures { key_row self.new ≡ (if fits (key_row self.old).stage serial then record (key_row self.old)
+            { mark = marked (key_row self.old).mark bits } else key_row self.old) }
     {
         if self.fits(serial) {
             self.mark = marked(self.mark, bits);
@@ -180,14 +182,17 @@ pub(super) struct Selector {
     /// The latest key of each index.
     pub(super) keys: Vec<Key>,
     /// The latest key of each channel, by the channel's number.
-    pub(super) noted: BTreeMap<u32, KeyId>,
+    pub(super) enrolled: BTreeMap<u32, KeyId>,
     ghost few_keys: { vec_len keys < 2 ^ 32 },
     ghost bound_within: { IfSome selecting (λ x. x.bound ≤ vec_len keys) } by { Prim.hlevel props },
 }
 
 impl Selector {
     ghost use Rattle.std.specs.Prelude.{◌+◌, IfOk, OnOk, OnErr, is_some, length, slice_index};
-    ghost use Rattle.nio_plain.specs.PlainState.{emptied, free_in, key_in, key_row, looked_below, marked_keys, new_selector, next_in, selector_row, swept, swept_looked, with_cancelled_key, with_closing_ended, with_key_added, with_key_at, with_selection_begun, with_selection_ended};
+    ghost use Rattle.nio_plain.specs.PlainState.{emptied, free_in, key_in, key_row, looked_below, marked_keys};
+    ghost use Rattle.nio_plain.specs.PlainState.{new_selector, next_in, selector_row, swept, swept_looked};
+    ghost use Rattle.nio_plain.specs.PlainState.{with_cancelled_key, with_closing_ended, with_key_added, with_key_at};
+    ghost use Rattle.nio_plain.specs.PlainState.{with_selection_begun, with_selection_ended};
 
     pub(super) fn new(alloc: Global) -> Selector
         ensures { selector_row result ≡ new_selector }
@@ -197,7 +202,7 @@ impl Selector {
             closing: None,
             selecting: None,
             keys: Vec::new(alloc),
-            noted: BTreeMap::new(alloc),
+            enrolled: BTreeMap::new(alloc),
         }
     }
 
@@ -212,7 +217,7 @@ impl Selector {
         ensures key { result ≡ key_in (selector_row self.now) chan.0 }
         ensures made { IfSome result (λ id. id.index < vec_len self.now.keys) }
     {
-        let id = self.noted.get(&chan.0).copied()?;
+        let id = self.enrolled.get(&chan.0).copied()?;
         match self.keys.get(id.index as usize) {
             Some(key) if key.is_in_key_set(id.serial) => Some(id),
             _ => None,
@@ -238,7 +243,8 @@ impl Selector {
 
     /// Removes every key.
     fn remove_keys(&mut self)
-        ensures { selector_row self.new ≡ record (selector_row self.old) { keys = emptied (selector_row self.old).keys } }
+        ensures { selector_row self.new ≡ record (selector_row self.old)
+            { keys = emptied (selector_row self.old).keys } }
     {
         for index in 0..self.keys.len() {
             self.keys[index].remove();
@@ -288,20 +294,21 @@ impl Selector {
         }
     }
 
-    /// Adds a key with this name, and notes it for its channel.
+    /// Adds a key with this name, and enrols it for its channel.
     pub(super) fn add_key(&mut self, id: KeyId, key: Key) -> Result<(), AllocError>
         requires there { id.index ≤ vec_len self.old.keys }
         requires below { id.index + 1 < 2 ^ 32 }
-        ensures ok { OnOk result (selector_row self.new ≡ with_key_added (selector_row self.old) key.chan.0 id (key_row key)) }
+        ensures ok { OnOk result (selector_row self.new ≡ with_key_added (selector_row self.old) key.chan.0 id
+            (key_row key)) }
         ensures memory { OnErr result (selector_row self.new ≡ selector_row self.old) }
     {
         let index = id.index as usize;
         if index < self.keys.len() {
-            self.noted.insert(key.chan.0, id)?;
+            self.enrolled.insert(key.chan.0, id)?;
             self.keys[index] = key;
         } else {
             self.keys.reserve(1)?;
-            self.noted.insert(key.chan.0, id)?;
+            self.enrolled.insert(key.chan.0, id)?;
             self.keys.push(key)?;
         }
         Ok(())
@@ -309,7 +316,8 @@ impl Selector {
 
     /// Removes each cancelled key.
     fn sweep(&mut self, rules: Rules)
-        ensures { selector_row self.new ≡ record (selector_row self.old) { keys = swept rules (selector_row self.old).keys } }
+        ensures { selector_row self.new ≡ record (selector_row self.old)
+            { keys = swept rules (selector_row self.old).keys } }
     {
         for index in 0..self.keys.len() {
             self.keys[index].sweep(rules);
@@ -320,7 +328,8 @@ impl Selector {
     fn sweep_looked(&mut self, rules: Rules, looked: &[(KeyId, Ops)])
         requires rising { AllPairs (λ p q. p.0.index < q.0.index) looked.now }
         requires in_keys { All (λ p. p.0.index < vec_len self.old.keys) looked.now }
-        ensures { selector_row self.new ≡ record (selector_row self.old) { keys = swept_looked rules (selector_row self.old).keys looked.now } }
+        ensures { selector_row self.new ≡ record (selector_row self.old)
+            { keys = swept_looked rules (selector_row self.old).keys looked.now } }
     {
         for &(id, _) in looked {
             self.keys[id.index as usize].remove_if_cancelled(id.serial, rules);
@@ -335,8 +344,10 @@ impl Selector {
         caller: CallerNo,
         mode: Mode,
     ) -> Result<Pairs, AllocError>
-        ensures looked { IfOk result (λ pairs. pairs ≡ looked_below (selector_row self.old).keys (selector_row self.old).keys_high) }
-        ensures left { OnOk result (selector_row self.new ≡ with_selection_begun rules (selector_row self.old) caller mode) }
+        ensures looked { IfOk result (λ pairs. pairs ≡ looked_below (selector_row self.old).keys
+            (selector_row self.old).keys_high) }
+        ensures left { OnOk result (selector_row self.new ≡ with_selection_begun rules (selector_row self.old)
+            caller mode) }
         ensures memory { OnErr result (selector_row self.new ≡ selector_row self.old) }
     {
         let looked = valid_keys(alloc, &self.keys)?;
@@ -366,7 +377,8 @@ impl Selector {
         requires rising { AllPairs (λ p q. p.0.index < q.0.index) looked.now }
         requires in_told { All (λ p. p.0.index < length told.now) looked.now }
         requires in_keys { length told.now ≤ vec_len self.old.keys }
-        ensures row { selector_row self.new ≡ record (selector_row self.old) { keys = marked_keys (selector_row self.old).keys looked.now (slice_index told.now) } }
+        ensures row { selector_row self.new ≡ record (selector_row self.old)
+            { keys = marked_keys (selector_row self.old).keys looked.now (slice_index told.now) } }
         ensures long { vec_len self.new.keys ≡ vec_len self.old.keys }
     {
         for &(id, interest) in looked {
@@ -380,7 +392,8 @@ impl Selector {
     pub(super) fn end_selection(&mut self, rules: Rules, told: &[Ops])
         requires { IfSome self.old.selecting (λ x. length told.now ≡ x.bound) }
         ensures { IfSome self.old.selecting
-            (λ x. selector_row self.new ≡ with_selection_ended rules (selector_row self.old) x.looked.items (slice_index told.now)) }
+            (λ x. selector_row self.new ≡ with_selection_ended rules (selector_row self.old) x.looked.items
+            (slice_index told.now)) }
     {
         if let Some(selecting) = self.selecting.take() {
             self.mark(&selecting.looked, told);

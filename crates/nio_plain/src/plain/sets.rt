@@ -1,6 +1,6 @@
 //! The sets of a selector: its key set and its selected set, in rising order of the indexes.
 ghost use Rattle.std.specs.Prelude.{◌≡◌, ◌<◌, ◌^◌, IfOk, length};
-ghost use Rattle.nio_plain.specs.Plain.{AnswersAs};
+ghost use Rattle.nio_plain.specs.Plain.{RepliesAs};
 ghost use Rattle.nio_plain.specs.PlainState.{in_set_of, key_row, listed_below, no_key, places, state_of};
 ghost use Rattle.nio_plain.specs.Seq.Listing.{keys_call, listed, names_or_none, selected_call};
 
@@ -12,20 +12,21 @@ use std::alloc::{AllocError, Global};
 
 impl Plain {
     pub(super) fn keys(&self, alloc: Global, sel: SelNo) -> Result<Reply, AllocError>
-        ensures { AnswersAs self.now self.now result (keys_call (state_of self.now) sel) }
+        ensures { RepliesAs self.now self.now result (keys_call (state_of self.now) sel) }
     {
         self.set_of(alloc, sel, false)
     }
 
     pub(super) fn selected(&self, alloc: Global, sel: SelNo) -> Result<Reply, AllocError>
-        ensures { AnswersAs self.now self.now result (selected_call (state_of self.now) sel) }
+        ensures { RepliesAs self.now self.now result (selected_call (state_of self.now) sel) }
     {
         self.set_of(alloc, sel, true)
     }
 
     /// The key set, or the selected set.
     fn set_of(&self, alloc: Global, sel: SelNo, selected: bool) -> Result<Reply, AllocError>
-        ensures { AnswersAs self.now self.now result (listed (state_of self.now) sel (in_set_of (state_of self.now) sel.0 selected)) }
+        ensures { RepliesAs self.now self.now result (listed (state_of self.now) sel
+            (in_set_of (state_of self.now) sel.0 selected)) }
     {
         let place = match self.selector(sel) {
             Ok(place) => place,

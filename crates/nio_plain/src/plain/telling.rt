@@ -1,6 +1,6 @@
 //! Telling a selection what is ready.
 ghost use Rattle.std.specs.Prelude.{◌≡◌, ◌==◌, false, slice_index};
-ghost use Rattle.nio_plain.specs.Plain.{Answers, AnswersAs};
+ghost use Rattle.nio_plain.specs.Plain.{Replies, RepliesAs};
 ghost use Rattle.nio_plain.specs.PlainState.{rules_of, state_of};
 ghost use Rattle.nio_plain.specs.Seq.Selections.{failed_call, goes_on, is_again, told_call, why_ended};
 
@@ -19,7 +19,8 @@ impl Plain {
         elapsed: bool,
         pairs: &Pairs,
     ) -> Result<Reply, AllocError>
-        ensures { AnswersAs self.old self.new result (told_call (rules_of self.old) (state_of self.old) me sel elapsed pairs.now) }
+        ensures { RepliesAs self.old self.new result (told_call (rules_of self.old) (state_of self.old) me sel
+            elapsed pairs.now) }
     {
         if sel.0 as usize >= self.selectors.len() {
             return Ok(Reply::NoSelector);
@@ -47,7 +48,7 @@ impl Plain {
 
     /// Leaves the caller's selection after a failed poll. A pending wakeup stays.
     pub(super) fn failed(&mut self, me: CallerNo, sel: SelNo) -> Reply
-        ensures { Answers self.old self.new result (failed_call (state_of self.old) me sel) }
+        ensures { Replies self.old self.new result (failed_call (state_of self.old) me sel) }
     {
         let place = match self.selector(sel) {
             Ok(place) => place,

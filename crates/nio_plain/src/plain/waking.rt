@@ -1,6 +1,6 @@
 //! Wakeups and interrupts.
 ghost use Rattle.std.specs.Prelude.{◌≡◌, ◌<◌};
-ghost use Rattle.nio_plain.specs.Plain.{Answers};
+ghost use Rattle.nio_plain.specs.Plain.{Replies};
 ghost use Rattle.nio_plain.specs.PlainState.{limits_of, state_of};
 ghost use Rattle.nio_plain.specs.Seq.Wakeups.{interrupt_call, interrupted_call, wakeup_call};
 
@@ -12,7 +12,7 @@ use nio_event::Reply;
 impl Plain {
     /// Leaves a wakeup, also where no caller selects.
     pub(super) fn wakeup(&mut self, sel: SelNo) -> Reply
-        ensures { Answers self.old self.new result (wakeup_call (state_of self.old) sel) }
+        ensures { Replies self.old self.new result (wakeup_call (state_of self.old) sel) }
     {
         match self.selector(sel) {
             Ok(place) => {
@@ -25,7 +25,7 @@ impl Plain {
 
     /// Sets the interrupt status of a caller.
     pub(super) fn interrupt(&mut self, target: CallerNo) -> Reply
-        ensures { Answers self.old self.new result (interrupt_call (limits_of self.old) (state_of self.old) target) }
+        ensures { Replies self.old self.new result (interrupt_call (limits_of self.old) (state_of self.old) target) }
     {
         if target.0 >= self.limits.callers {
             return Reply::NoCaller;
@@ -37,7 +37,7 @@ impl Plain {
     /// Tells the caller's interrupt status, and clears it.
     pub(super) fn interrupted(&mut self, me: CallerNo) -> Reply
         requires { me.0 < (limits_of self.old).callers }
-        ensures { Answers self.old self.new result (interrupted_call (state_of self.old) me) }
+        ensures { Replies self.old self.new result (interrupted_call (state_of self.old) me) }
     {
         let was = self.is_interrupted(me);
         self.interrupted[me.0 as usize] = false;

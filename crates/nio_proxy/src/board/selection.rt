@@ -16,8 +16,8 @@ use nio_words::{Pass, Words};
 use std::alloc::{AllocError, Global};
 use std::sync::Wait;
 
-// Begins a selection, polls once, and ends it. A caller alone at its table never finds the selector closed or busy; this
-// is answered as want of memory.
+// Begins a selection, polls once, and ends it. A caller alone at its table never finds the selector closed or busy;
+// this is answered as want of memory.
 pub(super) fn select_once<R: Wait, N: Poller>(
     rt: &R,
     alloc: Global,

@@ -54,7 +54,8 @@ impl Words {
         requires ready { IsReady self.now p.old me }
         requires channel { IsChannel (limits_of self.now) c }
         requires holds { IsTrue (holds (state_seen p.old) me c) }
-        requires clear { IsTrue blocking → (s : ℕ) → s < (limits_of self.now).selectors → IsTrue (is_clear c.0 s (acts_seen p.old me)) }
+        requires clear { IsTrue blocking → (s : ℕ) → s < (limits_of self.now).selectors
+            → IsTrue (is_clear c.0 s (acts_seen p.old me)) }
         ensures { Steps self.now p.old p.new me (SetMode c blocking result) }
     {
         let instruction = Instruction::to_put_bit(BLOCKING, blocking);

@@ -1,9 +1,11 @@
 //! Steps on the word of an index: the stage of its key, and the pins on it.
 ghost use Rattle.std.specs.Prelude.{◌≡◌, ◌<◌, ◌||◌, not, IsTrue, Some};
-ghost use Rattle.nio_event.specs.Conditions.{IsChannel, IsKey, AllClaimed, is_claimed, holds, has_pin, has_taken, may_publish, may_remove_cancelled, may_clear_out};
+ghost use Rattle.nio_event.specs.Conditions.{IsChannel, IsKey, AllClaimed, is_claimed, holds, has_pin, has_taken};
+ghost use Rattle.nio_event.specs.Conditions.{may_publish, may_remove_cancelled, may_clear_out};
 ghost use Rattle.nio_event.specs.OwnEvents.{last, own_claim, since_taken, stage_found};
 ghost use Rattle.nio_event.specs.State.{last_serial};
-ghost use Rattle.nio_event.specs.declared.act.Act.TheVariants.{LookKey, CancelKey, Claim, Publish, Remove, Pin, Unpin, ClaimAgain};
+ghost use Rattle.nio_event.specs.declared.act.Act.TheVariants.{LookKey, CancelKey, Claim, Publish, Remove, Pin, Unpin};
+ghost use Rattle.nio_event.specs.declared.act.Act.TheVariants.{ClaimAgain};
 ghost use Rattle.nio_words.specs.Passes.{IsReady, acts_seen, limits_of, state_seen};
 ghost use Rattle.nio_words.specs.Steps.{Steps};
 
@@ -70,7 +72,8 @@ impl Words {
     pub fn publish(&self, p: &mut Pass, me: CallerNo, s: SelNo, i: u32) -> Stage
         requires ready { IsReady self.now p.old me }
         requires key { IsKey (limits_of self.now) s i }
-        requires may { IsTrue (may_publish (state_seen p.old) (acts_seen p.old me) me (own_claim s.0 i (acts_seen p.old me))) }
+        requires may { IsTrue (may_publish (state_seen p.old) (acts_seen p.old me) me
+            (own_claim s.0 i (acts_seen p.old me))) }
         ensures { Steps self.now p.old p.new me (Publish s i result) }
     {
         let found = self.step(p, me, Part::Key(s.0, i), Instruction::SetBit(PUBLISHED));
@@ -81,7 +84,8 @@ impl Words {
     pub fn remove(&self, p: &mut Pass, me: CallerNo, s: SelNo, i: u32) -> Stage
         requires ready { IsReady self.now p.old me }
         requires key { IsKey (limits_of self.now) s i }
-        requires may { IsTrue (may_remove_cancelled (state_seen p.old) me s i || may_clear_out (state_seen p.old) (acts_seen p.old me) me s i) }
+        requires may { IsTrue (may_remove_cancelled (state_seen p.old) me s i || may_clear_out (state_seen p.old)
+            (acts_seen p.old me) me s i) }
         ensures { Steps self.now p.old p.new me (Remove s i result) }
     {
         let found = self.step(p, me, Part::Key(s.0, i), Instruction::SetBit(REMOVED));

@@ -332,7 +332,7 @@ pub(super) fn removing_again() -> [(CallerNo, Act); 13]
     ]
 }
 
-/// Caller 1 sets blocking mode again: the noted key is removed.
+/// Caller 1 sets blocking mode again: the enrolled key is removed.
 pub(super) fn blocking_again() -> [(CallerNo, Act); 5]
     ensures { IsPart 98 result }
 {

@@ -4,13 +4,13 @@ use Rattle.nio_steps.specs.Sweeps.{seek_to}
 use Rattle.nio_words.specs.Passes.{limits_of, state_seen}
 use Rattle.nio_words.specs.Views.{view}
 use Rattle.nio_event.specs.PassViews.{HasNoPin}
-use Rattle.nio_channel.specs.Held.{MayNote}
+use Rattle.nio_channel.specs.Held.{MayEnrol}
 use Rattle.nio_event.specs.Conditions.{AllClaimed}
 use Rattle.nio_steps.specs.ChannelCalls.{claim_new}
 use Rattle.nio_channel.proofs.claiming.claim_first.Given as goal
 
 abbrev pub invariant-loop-i : goal.invariant-loop-i
 invariant-loop-i l =
-    MayNote l.w l.p l.me l.chan l.sel × HasNoPin (view l.w l.p) l.me × AllClaimed (state_seen l.p) l.sel l.i
+    MayEnrol l.w l.p l.me l.chan l.sel × HasNoPin (view l.w l.p) l.me × AllClaimed (state_seen l.p) l.sel l.i
     × PartClause l.me (seek_to (limits_of l.w).keys l.mark (claim_new l.sel l.chan)) (view l.w l.fn.p) (view l.w l.p)
     (seek_to (limits_of l.w).keys l.i (claim_new l.sel l.chan) >>= reply)

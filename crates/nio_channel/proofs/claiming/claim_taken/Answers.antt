@@ -10,12 +10,12 @@ use Rattle.nio_words.proofs.Views.{step_acts}
 use Rattle.nio_words.specs.Passes.{state_seen}
 use Rattle.nio_channel.proofs.Chains.{left_at}
 use Rattle.nio_channel.proofs.Claimed.{taken_serial, has_claimed_again}
-use Rattle.nio_channel.proofs.Held.{had_stays, may_note_stays}
+use Rattle.nio_channel.proofs.Held.{had_stays, may_enrol_stays}
 use Rattle.nio_channel.proofs.claiming.claim_taken.Goals as goal
 
 pub claim_again-requires-clause-holds : goal.claim_again-requires-clause-holds
 claim_again-requires-clause-holds c =
-    (may_note_stays c.look_key-stage.ensures refl refl c.requires.may).unblocked.held.holding
+    (may_enrol_stays c.look_key-stage.ensures refl refl c.requires.may).unblocked.held.holding
 
 pub claim_again-requires-clause-taken : goal.claim_again-requires-clause-taken
 claim_again-requires-clause-taken c =
@@ -54,9 +54,9 @@ returns-then-claim_again-clause-call c =
 
 pub returns-then-claim_again-clause-may : goal.returns-then-claim_again-clause-may
 returns-then-claim_again-clause-may c =
-    may_note_stays c.put_free.ensures refl refl
-    (may_note_stays c.claim_again.ensures refl refl
-    (may_note_stays c.look_key-stage.ensures refl refl c.requires.may))
+    may_enrol_stays c.put_free.ensures refl refl
+    (may_enrol_stays c.claim_again.ensures refl refl
+    (may_enrol_stays c.look_key-stage.ensures refl refl c.requires.may))
 
 pub returns-then-claim_again-clause-unpinned : goal.returns-then-claim_again-clause-unpinned
 returns-then-claim_again-clause-unpinned c = λ _.
@@ -72,10 +72,10 @@ returns-else-claim_again-clause-call c =
 
 pub returns-else-claim_again-clause-may : goal.returns-else-claim_again-clause-may
 returns-else-claim_again-clause-may c =
-    may_note_stays c.claim_again.ensures refl refl (may_note_stays c.look_key-stage.ensures refl refl c.requires.may)
+    may_enrol_stays c.claim_again.ensures refl refl (may_enrol_stays c.look_key-stage.ensures refl refl c.requires.may)
 
 pub returns-else-claim_again-clause-claimed : goal.returns-else-claim_again-clause-claimed
 returns-else-claim_again-clause-claimed c =
     has_claimed_again c.if-claim_again.ensures
-    (may_note_stays c.look_key-stage.ensures refl refl c.requires.may).unblocked.held.ready c.requires.key
+    (may_enrol_stays c.look_key-stage.ensures refl refl c.requires.may).unblocked.held.ready c.requires.key
     (no_pin_stays (step_acts c.look_key-stage.ensures refl) refl c.requires.unpinned)

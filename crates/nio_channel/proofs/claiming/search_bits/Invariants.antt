@@ -3,12 +3,12 @@ use Rattle.nio_steps.specs.Plan.{reply, ◌>>=◌}
 use Rattle.nio_steps.specs.Sweeps.{seek_to}
 use Rattle.nio_words.specs.Views.{view}
 use Rattle.nio_event.specs.PassViews.{HasNoPin}
-use Rattle.nio_channel.specs.Held.{MayNote}
+use Rattle.nio_channel.specs.Held.{MayEnrol}
 use Rattle.nio_steps.specs.ChannelCalls.{claim_at_bit}
 use Rattle.nio_channel.proofs.claiming.search_bits.Given as goal
 
 abbrev pub invariant-loop-b : goal.invariant-loop-b
 invariant-loop-b l =
-    MayNote l.w l.p l.me l.chan l.sel × HasNoPin (view l.w l.p) l.me
+    MayEnrol l.w l.p l.me l.chan l.sel × HasNoPin (view l.w l.p) l.me
     × PartClause l.me (seek_to 64 0 (claim_at_bit l.sel l.chan l.mark l.j l.word)) (view l.w l.fn.p) (view l.w l.p)
     (seek_to 64 l.b (claim_at_bit l.sel l.chan l.mark l.j l.word) >>= reply)

@@ -3,12 +3,12 @@ use Rattle.nio_steps.specs.Plan.{reply, ◌>>=◌}
 use Rattle.nio_steps.specs.Sweeps.{seek_to}
 use Rattle.nio_words.specs.Views.{view}
 use Rattle.nio_event.specs.PassViews.{HasNoPin}
-use Rattle.nio_channel.specs.Held.{MayNote}
+use Rattle.nio_channel.specs.Held.{MayEnrol}
 use Rattle.nio_steps.specs.ChannelCalls.{claim_in_word, search_free, words_below}
 use Rattle.nio_channel.proofs.claiming.search_free.Given as goal
 
 abbrev pub invariant-loop-j : goal.invariant-loop-j
 invariant-loop-j l =
-    MayNote l.w l.p l.me l.chan l.sel × HasNoPin (view l.w l.p) l.me
+    MayEnrol l.w l.p l.me l.chan l.sel × HasNoPin (view l.w l.p) l.me
     × PartClause l.me (search_free l.sel l.chan l.mark) (view l.w l.fn.p) (view l.w l.p)
     (seek_to (words_below l.mark) l.j (claim_in_word l.sel l.chan l.mark) >>= reply)

@@ -4,11 +4,11 @@ use Rattle.nio_words.proofs.Pins.{no_pin_stays}
 use Rattle.nio_words.proofs.Views.{step_acts}
 use Rattle.nio_channel.proofs.Chains.{left_at}
 use Rattle.nio_channel.proofs.Claimed.{none_free}
-use Rattle.nio_channel.proofs.Held.{may_note_stays}
+use Rattle.nio_channel.proofs.Held.{may_enrol_stays}
 use Rattle.nio_channel.proofs.claiming.search_word.Goals as goal
 
 pub search_bits-requires-clause-may : goal.search_bits-requires-clause-may
-search_bits-requires-clause-may c = may_note_stays c.look_free-word.ensures refl refl c.requires.may
+search_bits-requires-clause-may c = may_enrol_stays c.look_free-word.ensures refl refl c.requires.may
 
 pub search_bits-requires-clause-unpinned : goal.search_bits-requires-clause-unpinned
 search_bits-requires-clause-unpinned c = no_pin_stays (step_acts c.look_free-word.ensures refl) refl c.requires.unpinned
@@ -24,7 +24,7 @@ returns-then-word-eq0-clause-call c =
     (step_acts c.look_free-word.ensures refl)))
 
 pub returns-then-word-eq0-clause-may : goal.returns-then-word-eq0-clause-may
-returns-then-word-eq0-clause-may c = may_note_stays c.look_free-word.ensures refl refl c.requires.may
+returns-then-word-eq0-clause-may c = may_enrol_stays c.look_free-word.ensures refl refl c.requires.may
 
 pub returns-then-word-eq0-clause-unpinned : goal.returns-then-word-eq0-clause-unpinned
 returns-then-word-eq0-clause-unpinned c =

@@ -1,6 +1,6 @@
 use Rattle.nio_event.specs.PassViews.{HasNoPin}
 use Rattle.nio_steps.specs.Calls.{PartClause}
-use Rattle.nio_steps.specs.ChannelCalls.{cancel_noted, cancel_keys}
+use Rattle.nio_steps.specs.ChannelCalls.{cancel_enrolled, cancel_keys}
 use Rattle.nio_steps.specs.Plan.{reply, ◌>>=◌}
 use Rattle.nio_steps.specs.Sweeps.{sweep_to}
 use Rattle.std.proofs.Common.{true}
@@ -12,4 +12,4 @@ abbrev pub invariant-loop-number : goal.invariant-loop-number
 invariant-loop-number l =
     IsReady l.w l.p l.me × HasNoPin (view l.w l.p) l.me
     × PartClause l.me (cancel_keys (limits_of l.w) l.chan) (view l.w l.fn.p) (view l.w l.p)
-    (sweep_to (limits_of l.w).selectors l.number (λ s _. cancel_noted l.chan s) tt >>= λ _. reply true)
+    (sweep_to (limits_of l.w).selectors l.number (λ s _. cancel_enrolled l.chan s) tt >>= λ _. reply true)

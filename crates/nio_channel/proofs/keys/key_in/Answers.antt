@@ -10,7 +10,7 @@ use Rattle.nio_channel.proofs.Held.{hold_stays, clear_below_none, clear_below_ou
 use Rattle.nio_channel.proofs.keys.key_in.Goals as goal
 
 pub returns-in_default-clause-held : goal.returns-in_default-clause-held
-returns-in_default-clause-held c = λ held. hold_stays c.look_noted.ensures.step refl refl held
+returns-in_default-clause-held c = λ held. hold_stays c.look_enrolled.ensures.step refl refl held
 
 pub returns-in_default-clause-clear : goal.returns-in_default-clause-clear
 returns-in_default-clause-clear c = λ _ clear. clear_below_none c.in_default.ensures.step clear

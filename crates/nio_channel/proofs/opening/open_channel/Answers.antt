@@ -12,4 +12,4 @@ pub returns-clause-call : goal.returns-clause-call
 unfolding open_channel_plan
 returns-clause-call c =
     returned (left_ask _ (step_acts c.look_channels-mark.ensures refl)
-    (ran_then opened_channel c.make_from-made.ensures.call (left_of_call c.raise_mark.ensures.call)))
+    (ran_then opened_channel c.make_from-made.ensures.call (left_of_call c.raise_high.ensures.call)))

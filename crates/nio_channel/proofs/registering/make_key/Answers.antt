@@ -3,7 +3,7 @@ use Rattle.nio_steps.proofs.CallLaws.{returned, left_ask, left_else, left_of_cal
 use Rattle.nio_words.proofs.Pins.{stays_pinned}
 use Rattle.nio_words.proofs.Views.{step_acts}
 use Rattle.nio_channel.proofs.Claimed.{claimed_stays}
-use Rattle.nio_channel.proofs.Held.{hold_stays, may_note_stays}
+use Rattle.nio_channel.proofs.Held.{hold_stays, may_enrol_stays}
 use Rattle.nio_channel.proofs.registering.make_key.Goals as goal
 
 pub returns-then-look_gate-clause-held : goal.returns-then-look_gate-clause-held
@@ -13,7 +13,7 @@ pub returns-then-look_gate-clause-pinned : goal.returns-then-look_gate-clause-pi
 returns-then-look_gate-clause-pinned c = stays_pinned c.look_gate.ensures refl refl c.requires.claimed.pinned
 
 pub publish_key-requires-clause-may : goal.publish_key-requires-clause-may
-publish_key-requires-clause-may c = may_note_stays c.look_gate.ensures refl refl c.requires.may
+publish_key-requires-clause-may c = may_enrol_stays c.look_gate.ensures refl refl c.requires.may
 
 pub publish_key-requires-clause-claimed : goal.publish_key-requires-clause-claimed
 publish_key-requires-clause-claimed c = claimed_stays c.look_gate.ensures refl refl refl c.requires.claimed

@@ -3,8 +3,8 @@ use Rattle.nio_steps.proofs.CallLaws.{returned, left_ask, left_then, left_else, 
 use Rattle.nio_words.proofs.Pins.{stays_pinned}
 use Rattle.nio_words.proofs.Views.{step_acts}
 use Rattle.nio_channel.proofs.Claimed.{claimed_stays}
-use Rattle.nio_channel.proofs.Held.{hold_stays, may_note_stays}
-use Rattle.nio_channel.proofs.Registered.{enrolled_unblocked, enrolled_noted, may_publish_claimed, has_published}
+use Rattle.nio_channel.proofs.Held.{hold_stays, may_enrol_stays}
+use Rattle.nio_channel.proofs.Registered.{enrolled_unblocked, enrolled_known, may_publish_claimed, has_published}
 use Rattle.nio_channel.proofs.registering.publish_key.Goals as goal
 
 pub swap_note-requires-clause-pinned : goal.swap_note-requires-clause-pinned
@@ -13,20 +13,20 @@ swap_note-requires-clause-pinned c =
 
 pub enrol-requires-clause-holds : goal.enrol-requires-clause-holds
 enrol-requires-clause-holds c =
-    (may_note_stays c.swap_note.ensures refl refl
-    (may_note_stays c.swap_interest.ensures refl refl c.requires.may)).unblocked.held.holding
+    (may_enrol_stays c.swap_note.ensures refl refl
+    (may_enrol_stays c.swap_interest.ensures refl refl c.requires.may)).unblocked.held.holding
 
 pub enrol-requires-clause-clear : goal.enrol-requires-clause-clear
 enrol-requires-clause-clear c =
-    (may_note_stays c.swap_note.ensures refl refl
-    (may_note_stays c.swap_interest.ensures refl refl c.requires.may)).clear
+    (may_enrol_stays c.swap_note.ensures refl refl
+    (may_enrol_stays c.swap_interest.ensures refl refl c.requires.may)).clear
 
 pub publish-before-requires-clause-may : goal.publish-before-requires-clause-may
 publish-before-requires-clause-may c =
     may_publish_claimed
     (enrolled_unblocked c.enrol.ensures
-    (may_note_stays c.swap_note.ensures refl refl
-    (may_note_stays c.swap_interest.ensures refl refl c.requires.may)).unblocked)
+    (may_enrol_stays c.swap_note.ensures refl refl
+    (may_enrol_stays c.swap_interest.ensures refl refl c.requires.may)).unblocked)
     (claimed_stays c.enrol.ensures refl refl refl
     (claimed_stays c.swap_note.ensures refl refl refl
     (claimed_stays c.swap_interest.ensures refl refl refl c.requires.claimed)))
@@ -42,8 +42,8 @@ pub returns-then-before-clause-held : goal.returns-then-before-clause-held
 returns-then-before-clause-held c =
     hold_stays c.publish-before.ensures refl refl
     (enrolled_unblocked c.enrol.ensures
-    (may_note_stays c.swap_note.ensures refl refl
-    (may_note_stays c.swap_interest.ensures refl refl c.requires.may)).unblocked).held
+    (may_enrol_stays c.swap_note.ensures refl refl
+    (may_enrol_stays c.swap_interest.ensures refl refl c.requires.may)).unblocked).held
 
 pub returns-then-before-clause-pinned : goal.returns-then-before-clause-pinned
 returns-then-before-clause-pinned c =
@@ -56,9 +56,9 @@ pub settle_key-requires : goal.settle_key-requires
 settle_key-requires c =
     has_published c.publish-before.ensures
     (enrolled_unblocked c.enrol.ensures
-    (may_note_stays c.swap_note.ensures refl refl
-    (may_note_stays c.swap_interest.ensures refl refl c.requires.may)).unblocked)
-    (enrolled_noted c.enrol.ensures)
+    (may_enrol_stays c.swap_note.ensures refl refl
+    (may_enrol_stays c.swap_interest.ensures refl refl c.requires.may)).unblocked)
+    (enrolled_known c.enrol.ensures)
     (claimed_stays c.enrol.ensures refl refl refl
     (claimed_stays c.swap_note.ensures refl refl refl
     (claimed_stays c.swap_interest.ensures refl refl refl c.requires.claimed)))

@@ -4,12 +4,12 @@ use Rattle.nio_steps.specs.ChannelCalls.{register_first}
 use Rattle.nio_words.proofs.Views.{step_acts}
 use Rattle.nio_channel.proofs.Chains.{call_from}
 use Rattle.nio_channel.proofs.Claimed.{claimed_stays}
-use Rattle.nio_channel.proofs.Held.{may_note_stays}
+use Rattle.nio_channel.proofs.Held.{may_enrol_stays}
 use Rattle.nio_channel.specs.Held.{HasClaimed}
 use Rattle.nio_channel.proofs.registering.register_first.Goals as goal
 
 pub make_claimed-requires-clause-may : goal.make_claimed-requires-clause-may
-make_claimed-requires-clause-may c = may_note_stays c.raise_keys.ensures refl refl c.requires.may
+make_claimed-requires-clause-may c = may_enrol_stays c.raise_keys.ensures refl refl c.requires.may
 
 pub make_claimed-requires-clause-claimed : goal.make_claimed-requires-clause-claimed
 make_claimed-requires-clause-claimed c =

@@ -6,12 +6,12 @@ use Rattle.nio_words.proofs.Pins.{no_pin_stays}
 use Rattle.nio_words.proofs.Views.{step_acts}
 use Rattle.nio_words.specs.Passes.{limits_of}
 use Rattle.nio_channel.proofs.Claimed.{all_claimed_below, mark_inside}
-use Rattle.nio_channel.proofs.Held.{may_note_stays}
+use Rattle.nio_channel.proofs.Held.{may_enrol_stays}
 use Rattle.nio_channel.proofs.Made.{lasts_over}
 use Rattle.nio_channel.proofs.registering.register_new.Goals as goal
 
 pub search_free-claimed-requires-clause-may : goal.search_free-claimed-requires-clause-may
-search_free-claimed-requires-clause-may c = may_note_stays c.look_keys-mark.ensures refl refl c.requires.may
+search_free-claimed-requires-clause-may c = may_enrol_stays c.look_keys-mark.ensures refl refl c.requires.may
 
 pub search_free-claimed-requires-clause-mark : goal.search_free-claimed-requires-clause-mark
 search_free-claimed-requires-clause-mark c = mark_inside (step_acts c.look_keys-mark.ensures refl)

@@ -1,6 +1,6 @@
 use Rattle.std.proofs.Common.{ℕ, map, refl, subst}
 use Rattle.std.specs.String.{string_bytes}
-use Rattle.nio_script.specs.Output.{Notes}
+use Rattle.nio_script.specs.Output.{WritesOrFails}
 use Rattle.nio_cli.specs.declared.run.TheConstants.{PROGRAM_LIMITS}
 use Rattle.nio_relay.specs.declared.plan.ProxyPlan.{ProxyPlan}
 use Rattle.nio_cli.specs.Load.{DoesLoad}
@@ -22,7 +22,8 @@ returns-in-Ok-Script-clause-legal g c = λ words done.
 
 pub returns-in-Err-Usage-clause-usage_said : goal.returns-in-Err-Usage-clause-usage_said
 returns-in-Err-Usage-clause-usage_said g c = λ usage. record {
-  said = subst (Notes g.K.Sink c.args.output.now c.offer.new.output) c.as_bytes.ensures.value c.offer.ensures.said;
+  said = subst (WritesOrFails g.K.Sink c.args.output.now c.offer.new.output) c.as_bytes.ensures.value
+      c.offer.ensures.said;
   unread = refl;
   uncalled = refl;
 }

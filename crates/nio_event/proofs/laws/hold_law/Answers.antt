@@ -1,15 +1,15 @@
-use Rattle.nio_event.proofs.Holds.{mode_stays, noted_stays, found_noted_stays, outside_stays, found_clear_stays}
+use Rattle.nio_event.proofs.Holds.{mode_stays, enrolled_stays, found_enrolled_stays, outside_stays, found_clear_stays}
 use Rattle.nio_event.proofs.Holds.{clear_is_true}
 use Rattle.nio_event.proofs.laws.hold_law.Goals as goal
 
 pub returns-clause-mode : goal.returns-clause-mode
 returns-clause-mode c = mode_stays
 
-pub returns-clause-noted : goal.returns-clause-noted
-returns-clause-noted c = noted_stays
+pub returns-clause-enrolled : goal.returns-clause-enrolled
+returns-clause-enrolled c = enrolled_stays
 
-pub returns-clause-found_noted : goal.returns-clause-found_noted
-returns-clause-found_noted c = found_noted_stays
+pub returns-clause-found_enrolled : goal.returns-clause-found_enrolled
+returns-clause-found_enrolled c = found_enrolled_stays
 
 pub returns-clause-outside : goal.returns-clause-outside
 returns-clause-outside c = outside_stays

@@ -1,5 +1,5 @@
 use Rattle.nio_event.proofs.PinLaws.{pinned_keys_stay, claims_again_where_unpinned, claims_again_the_removed}
-use Rattle.nio_event.proofs.PinLaws.{own_claims_stand, noted_keys_are_claimed}
+use Rattle.nio_event.proofs.PinLaws.{own_claims_stand, enrolled_keys_are_claimed}
 use Rattle.nio_event.proofs.Unpublished.{unpublished_keys_stay}
 use Rattle.nio_event.proofs.laws.pins_law.Goals as goal
 
@@ -18,5 +18,5 @@ returns-clause-own_claim c = own_claims_stand
 pub returns-clause-unpublished : goal.returns-clause-unpublished
 returns-clause-unpublished c = unpublished_keys_stay
 
-pub returns-clause-noted : goal.returns-clause-noted
-returns-clause-noted c = noted_keys_are_claimed
+pub returns-clause-enrolled : goal.returns-clause-enrolled
+returns-clause-enrolled c = enrolled_keys_are_claimed

@@ -1,5 +1,5 @@
 use Rattle.std.proofs.Common.{◌≡◌, [], IsTrue}
-use Rattle.nio_relay.specs.Flow.{held}
+use Rattle.nio_relay.specs.Flow.{buffered}
 use Rattle.nio_steps.specs.KeyCalls.{is_within}
 use Rattle.nio_proxy.specs.Passing.{BothSame, Passes}
 use Rattle.nio_proxy.proofs.Seen.{seen}
@@ -11,5 +11,5 @@ invariant-loop g l = record {
   calm : BothSame (g.N.Net.faults l.fn.net) (g.N.Net.faults l.net) l.source l.sink;
   read : IsTrue (is_within 1 (g.N.Poller.ready l.net l.source));
   write : IsTrue (is_within 4 (g.N.Poller.ready l.net l.sink));
-  none_held : held l.direction ≡ [];
+  none_buffered : buffered l.direction ≡ [];
 }

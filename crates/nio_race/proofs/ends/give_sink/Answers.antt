@@ -1,5 +1,5 @@
 use Rattle.std.proofs.Common.{◌∷◌, [], refl}
-use Rattle.nio_race.proofs.HoldEach.{at_more, at_same, same_but_one}
+use Rattle.nio_race.proofs.HaveEach.{at_more, at_same, same_but_one}
 use Rattle.nio_race.specs.declared.racer.Racer.{Racer}
 use Rattle.nio_race.proofs.ends.give_sink.Goals as goal
 

@@ -1,5 +1,5 @@
 use Rattle.std.proofs.Common.{◌<◌, ℕ, sym, ◌∙◌, subst}
-use Rattle.nio_race.proofs.HoldEach.{same_later}
+use Rattle.nio_race.proofs.HaveEach.{same_later}
 use Rattle.nio_race.proofs.JoinEnds.{ends_meet, meets_last, none_to_meet, reader_races, sink_there, writer_races}
 use Rattle.nio_race.proofs.ends.join_last.Goals as goal
 

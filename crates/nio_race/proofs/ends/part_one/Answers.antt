@@ -1,5 +1,5 @@
 use Rattle.std.proofs.Common.{◌==◌, if◌then◌else◌, [], ◌∷◌, ◌++◌, refl, ap, ◌∙◌}
-use Rattle.nio_race.proofs.HoldEach.{same_later}
+use Rattle.nio_race.proofs.HaveEach.{same_later}
 use Rattle.nio_race.proofs.ends.part_one.Goals as goal
 
 pub returns-in_err-give_sink-clause-rest : goal.returns-in_err-give_sink-clause-rest

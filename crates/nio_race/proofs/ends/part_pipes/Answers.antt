@@ -1,6 +1,6 @@
 use Rattle.std.proofs.Common.{arith}
 use Rattle.std.proofs.lemmas.List.{nil_from_length}
-use Rattle.nio_race.proofs.HoldEach.{same_later}
+use Rattle.nio_race.proofs.HaveEach.{same_later}
 use Rattle.nio_race.proofs.PartPipes.{all_parted, begins, next_has_racers, one_parted}
 use Rattle.nio_race.proofs.ends.part_pipes.Goals as goal
 

@@ -1,5 +1,5 @@
 use Rattle.std.proofs.Common.{option_to_list, refl, sym}
-use Rattle.nio_race.proofs.HoldEach.{at_less, at_same, same_but_one}
+use Rattle.nio_race.proofs.HaveEach.{at_less, at_same, same_but_one}
 use Rattle.nio_race.specs.declared.racer.Racer.{Racer}
 use Rattle.nio_race.proofs.ends.take_source.Goals as goal
 

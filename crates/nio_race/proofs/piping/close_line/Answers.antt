@@ -58,7 +58,7 @@ returns-clause-line g c =
     (sink_found c.args.ends.now c.args.chan (Some c.in-Some.place) c.deref.result.now c.in-Some.ensures
     c.deref.ensures.value)
     c.index_mut.ensures.value close.call close.same refl c.closed_reply.result c.closed_reply.ensures close.sent
-    close.mark
+    close.seal
 
 pub returns-clause-stands : goal.returns-clause-stands
 returns-clause-stands g c =

@@ -64,7 +64,7 @@ returns-clause-line g c =
     (sink_found c.args.ends.now c.args.chan (Some c.in-Some.place) c.deref.result.now c.in-Some.ensures
     c.deref.ensures.value)
     c.index_mut.ensures.value write.call write.same refl c.write_reply.result c.as_slice.result.now said
-    c.as_slice.ensures write.bytes write.mark write.answer write.most write.places
+    c.as_slice.ensures write.bytes write.seal write.answer write.most write.places
 
 pub returns-clause-stands : goal.returns-clause-stands
 returns-clause-stands g c =

@@ -28,7 +28,8 @@ returns-in_err-selector-2 c =
     let word = c.in_ok-selector.selector in
     finds_none _ _ c.from_residual-in_err-selector-2.ensures
     (no_selector c.args.line.now cut.caller.now cut.rest.now cut.ensures.only word.now
-    (strip_prefix_is Decides-eqb cut.rest.now (codes "block ") (Some word) c.in_ok-selector.ensures.cases) c.in_err-selector-2.ensures)
+    (strip_prefix_is Decides-eqb cut.rest.now (codes "block ") (Some word) c.in_ok-selector.ensures.cases)
+    c.in_err-selector-2.ensures)
 
 pub returns : goal.returns
 returns c =

@@ -1,5 +1,5 @@
 use Rattle.std.proofs.Common.{◌≡◌, ◌-◌, ◌<◌, ◌≤◌, false, length, take}
-use Rattle.nio_bytes.specs.Sink.{told}
+use Rattle.nio_bytes.specs.Sink.{shown}
 use Rattle.nio_script.specs.Output.{Writes}
 use Rattle.nio_script.proofs.output.write_all.Given as goal
 
@@ -8,7 +8,7 @@ invariant-loop-taken g l = record {
   within : l.taken ≤ length l.bytes;
   written : Writes g.K.Sink l.initial.sink l.sink (take l.taken l.bytes);
   untouched : l.taken ≡ 0 → l.sink ≡ l.initial.sink;
-  unflushed : 0 < l.taken → g.K.Sink.flushed l.sink ≡ told (g.K.Sink.flushed l.initial.sink) false;
+  unflushed : 0 < l.taken → g.K.Sink.flushed l.sink ≡ shown (g.K.Sink.flushed l.initial.sink) false;
   still : g.K.Sink.faults l.sink ≡ g.K.Sink.faults l.initial.sink;
 }
 

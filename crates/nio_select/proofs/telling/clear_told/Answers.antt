@@ -1,6 +1,6 @@
 use Rattle.std.proofs.Common.{◌<◌, length, arith}
 use Rattle.std.proofs.lemmas.List.Edits.{map_over_more}
-use Rattle.nio_select.specs.Noted.{with_told}
+use Rattle.nio_select.specs.ToldSlots.{with_told}
 use Rattle.nio_select.specs.declared.asked.Slot.{Slot}
 use Rattle.nio_select.proofs.telling.clear_told.Goals as goal
 

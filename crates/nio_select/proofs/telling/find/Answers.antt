@@ -1,6 +1,6 @@
 use Rattle.std.proofs.Common.{rules}
 use Rattle.std.proofs.lemmas.List.Sorted.{answers_always}
-use Rattle.nio_select.proofs.Noted.{searched}
+use Rattle.nio_select.proofs.ToldSlots.{searched}
 use Rattle.nio_select.proofs.telling.find.Goals as goal
 
 pub returns : goal.returns

@@ -2,8 +2,8 @@ use Rattle.std.proofs.Common.{arith}
 use Rattle.nio_steps.proofs.CallLaws.{returned, left_reply, left_start}
 use Rattle.nio_steps.proofs.SweepLaws.{over_turn_at, over_done_at}
 use Rattle.nio_steps.specs.Plan.{reply}
-use Rattle.nio_select.specs.Noted.{mark_slot}
-use Rattle.nio_select.proofs.Noted.{slot_marked}
+use Rattle.nio_select.specs.ToldSlots.{mark_slot}
+use Rattle.nio_select.proofs.ToldSlots.{slot_marked}
 use Rattle.nio_select.proofs.telling.mark_all.Goals as goal
 
 pub loop-slot-init : goal.loop-slot-init

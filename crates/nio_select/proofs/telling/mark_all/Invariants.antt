@@ -4,7 +4,7 @@ use Rattle.nio_steps.specs.Plan.{reply, ◌>>=◌}
 use Rattle.nio_steps.specs.Sweeps.{sweep_over}
 use Rattle.nio_words.specs.Views.{view}
 use Rattle.nio_select.specs.Begun.{HasBegun}
-use Rattle.nio_select.specs.Noted.{mark_slot}
+use Rattle.nio_select.specs.ToldSlots.{mark_slot}
 use Rattle.nio_select.proofs.telling.mark_all.Given as goal
 
 abbrev pub invariant-loop-slot : goal.invariant-loop-slot

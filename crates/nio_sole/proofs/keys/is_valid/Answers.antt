@@ -1,4 +1,4 @@
-use Rattle.nio_plain.specs.Seq.Answers.{yes_or_no}
+use Rattle.nio_plain.specs.Seq.Replies.{yes_or_no}
 use Rattle.nio_serial.specs.Lines.{call_plan}
 use Rattle.nio_sole.proofs.Asking.{asks_ran}
 use Rattle.nio_sole.proofs.keys.is_valid.Goals as goal

@@ -207,7 +207,7 @@ returns-in-Pread c =
 pub returns-in-Group : goal.returns-in-Group
 returns-in-Group c =
     let d = c.args.d.now in
-    makes_by c.args.w.now d (record d { group = c.call_group.new.group }) c.args.me c.call_group.result c.in-Group.is
-    (group_called c.args.w.now d c.args.me c.in-Group.call c.call_group.new.group c.call_group.result
+    makes_by c.args.w.now d (record d { group = c.call_script_group.new.group }) c.args.me c.call_script_group.result c.in-Group.is
+    (group_called c.args.w.now d c.args.me c.in-Group.call c.call_script_group.new.group c.call_script_group.result
     (may_make c.in-Group.is c.requires)
-    c.call_group.ensures.reply c.call_group.ensures.left c.call_group.ensures.memory)
+    c.call_script_group.ensures.reply c.call_script_group.ensures.left c.call_script_group.ensures.memory)

@@ -7,4 +7,4 @@ pub returns : goal.returns
 returns c = let h =
     c.self.inside in
     subst IsLawful c.self.view_is
-    (kept-IsLawful h.source h.sink h.sent h.received h.buffer h.marked c.self.invariant)
+    (kept-IsLawful h.source h.sink h.sent h.received h.buffer h.sealed c.self.invariant)

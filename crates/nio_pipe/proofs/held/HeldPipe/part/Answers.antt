@@ -1,6 +1,6 @@
 use Rattle.std.proofs.Common.{◌≡◌, ◌++◌, [], length, ap, sym, ◌∙◌, subst, arith}
 use mathlib.Core.List.{IsPrefix}
-use Rattle.nio_pipe.specs.Ends.{received, known, sent, is_marked}
+use Rattle.nio_pipe.specs.Ends.{received, known, sent, is_sealed}
 use Rattle.nio_pipe.specs.Pipe.{waiting}
 use Rattle.nio_pipe.proofs.KeptLemmas.{waiting-items}
 use Rattle.nio_pipe.proofs.held.HeldPipe.part.Goals as goal
@@ -16,8 +16,8 @@ taken_over c =
 none_read : (c : goal.After-drop-buffer-2) → received c.beside.new.self ≡ []
 none_read c = c.beside.ensures.source.received ∙ c.ends-source.ensures.ends.none_received
 
-marked : (c : goal.After-drop-buffer-2) → is_marked c.beside.new.sink ≡ c.args.self.marked
-marked c = c.beside.ensures.sink.mark ∙ (c.take_over.ensures.mark ∙ ap (λ pipe. pipe.marked) c.self.view_is)
+sealed : (c : goal.After-drop-buffer-2) → is_sealed c.beside.new.sink ≡ c.args.self.sealed
+sealed c = c.beside.ensures.sink.seal ∙ (c.take_over.ensures.seal ∙ ap (λ pipe. pipe.sealed) c.self.view_is)
 
 pub returns : goal.returns
 returns c =
@@ -40,8 +40,8 @@ returns c =
       all_sent = whole;
       none_received = none;
       all_known = subst (λ xs. IsPrefix xs (known c.look_beside.new.source)) all look.source.known;
-      mark_left = look.sink.mark ∙ marked c;
-      mark_known = look.end ∙ (c.beside.ensures.end ∙ marked c);
-      room = λ unmarked. omega
-          (arith, look.free (look.sink.mark ∙ (marked c ∙ unmarked)), ap length whole, ap length none);
+      seal_left = look.sink.seal ∙ sealed c;
+      seal_known = look.end ∙ (c.beside.ensures.end ∙ sealed c);
+      room = λ unsealed. omega
+          (arith, look.free (look.sink.seal ∙ (sealed c ∙ unsealed)), ap length whole, ap length none);
     }

@@ -40,7 +40,7 @@ loop-preserved g c =
       };
       unpinned = c.in-Ok.ensures.unpinned;
       tried = tried_more (Ok c.in-Ok.blocking) c.loop.invariant.tried c.in-Ok.ensures.call both.1;
-      looks = sink_looks_more c.loop.invariant.looks c.push-answer.ensures.same takes c.push-answer.ensures.mark places;
+      looks = sink_looks_more c.loop.invariant.looks c.push-answer.ensures.same takes c.push-answer.ensures.seal places;
     }
 
 pub returns-then-not-write_goes_on-clause-call : goal.returns-then-not-write_goes_on-clause-call

@@ -11,11 +11,11 @@ returns c =
     record {
       same = record {
         bytes = subst (λ b. SameConsumer old.bytes b) (sym c.reach_end.ensures.bytes)
-            (subst (λ b. SameConsumer b c.slots.new.self) c.take_mark.ensures.bytes c.slots.ensures.looked.0);
-        marks = subst (λ m. SameConsumer old.marks m) (sym c.reach_end.ensures.marks) c.take_mark.ensures.marks;
-        channel = c.reach_end.ensures.channel ∙ c.take_mark.ensures.channel;
+            (subst (λ b. SameConsumer b c.slots.new.self) c.take_seal.ensures.bytes c.slots.ensures.looked.0);
+        seals = subst (λ m. SameConsumer old.seals m) (sym c.reach_end.ensures.seals) c.take_seal.ensures.seals;
+        channel = c.reach_end.ensures.channel ∙ c.take_seal.ensures.channel;
       };
-      received = ap popped c.reach_end.ensures.bytes ∙ (c.slots.ensures.looked.1 ∙ ap popped c.take_mark.ensures.bytes);
+      received = ap popped c.reach_end.ensures.bytes ∙ (c.slots.ensures.looked.1 ∙ ap popped c.take_seal.ensures.bytes);
       known = known_nothing old.to_end (known_items old.bytes) (known new) c.requires.end c.requires.empty;
       end_stays = knew_end old.to_end c.requires.end;
       no_more = knew_end old.to_end c.requires.end;

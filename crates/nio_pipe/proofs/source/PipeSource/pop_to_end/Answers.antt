@@ -18,7 +18,7 @@ invariant_of-self-clause-reached c =
       most = pop.ensures.most;
       part = pop.auto.slice;
     } in
-    reached_after _ _ _ _ _ _ _ _ _ pops self.mark (self.reached.told c.args.left c.requires)
+    reached_after _ _ _ _ _ _ _ _ _ pops self.seal (self.reached.told c.args.left c.requires)
 
 pub returns-clause-bytes : goal.returns-clause-bytes
 returns-clause-bytes c =

@@ -1,8 +1,8 @@
-use Rattle.nio_plain.proofs.CallLawsSelections.{looked_is_answered, only_itself_ends_a_selection}
+use Rattle.nio_plain.proofs.CallLawsSelections.{looked_is_replied, only_itself_ends_a_selection}
 use Rattle.nio_plain.proofs.laws.calls.selections_law.Goals as goal
 
 pub returns-clause-begun : goal.returns-clause-begun
-returns-clause-begun c = looked_is_answered
+returns-clause-begun c = looked_is_replied
 
 pub returns-clause-stay : goal.returns-clause-stay
 returns-clause-stay c = only_itself_ends_a_selection

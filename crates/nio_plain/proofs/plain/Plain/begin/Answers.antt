@@ -1,8 +1,8 @@
 use Rattle.std.proofs.Common.{◌<◌, ◌≤◌, false, is_some, refl, sym, ap, ◌∙◌, length, arith, map}
 use Rattle.nio_event.specs.State.{put, unmade_channel}
 use Rattle.nio_event.specs.declared.reply.Reply.TheVariants as reply
-use Rattle.nio_plain.proofs.Answering.{unchanged_as, answered_as, failed_as, state-same_selector, state-set_selector}
-use Rattle.nio_plain.proofs.Answering.{rows_of, with_rows, is_some-caller_of, selector_made-below, selector_made-past}
+use Rattle.nio_plain.proofs.Replying.{unchanged_as, replied_as, failed_as, state-same_selector, state-set_selector}
+use Rattle.nio_plain.proofs.Replying.{rows_of, with_rows, is_some-caller_of, selector_made-below, selector_made-past}
 use Rattle.nio_plain.proofs.Places.{places_at}
 use Rattle.nio_plain.proofs.Selecting.{begin-no_selector, begin-negative, begin-shut, begin-busy, begin-begun}
 use Rattle.nio_plain.proofs.Selecting.{state-begun, looked-begun}
@@ -82,7 +82,7 @@ returns c =
     ∙ (ap (λ (r : SelectorRow). looked_below r.keys r.keys_high) (sym at')
     ∙ sym (looked-begun p.rules p.group (map pipe_of p.pipes.items) (places (λ b. b) false p.interrupted.items)
     (length p.channels.items) (places channel_row unmade_channel p.channels.items) s rows)) in
-    answered_as p _ _ _ _
+    replied_as p _ _ _ _
     (begin-begun p.rules (state_of p) c.args.me c.args.sel c.args.waiting made c.in-Some.mode
     (sym c.mode_of.ensures ∙ c.in-Some.is) not_shut free)
     (ap reply.Looked looked)

@@ -1,6 +1,6 @@
 use Rattle.std.proofs.Common.{ℕ, List, ap, refl, sym, ◌∙◌}
-use Rattle.nio_plain.proofs.Answering.{of_word, without_memory}
-use Rattle.nio_plain.proofs.Grouping.{answers_by_group}
+use Rattle.nio_plain.proofs.Replying.{of_word, without_memory}
+use Rattle.nio_plain.proofs.Grouping.{replies_by_group}
 use Rattle.nio_plain.specs.PlainState.{limits_of, rules_of, state_of}
 use Rattle.nio_plain.specs.ScriptState.{with_group}
 use Rattle.nio_plain.specs.Seq.{call_of}
@@ -233,5 +233,5 @@ unfolding call_of
 returns-in-Group c =
     let p = c.args.self.now in
     of_word _ _ _ _ _ (ap (call_of (rules_of p) (limits_of p) (state_of p) c.args.me) c.in-Group.is)
-    (answers_by_group p _ c.in-Group.call c.answer_group.result c.answer_group.ensures.reply
-    (ap (with_group (state_of p)) c.answer_group.ensures.left) (record { limits = refl; rules = refl }))
+    (replies_by_group p _ c.in-Group.call c.call_group.result c.call_group.ensures.reply
+    (ap (with_group (state_of p)) c.call_group.ensures.left) (record { limits = refl; rules = refl }))

@@ -4,11 +4,11 @@ use Rattle.nio_event.specs.Sets.{is_in_key_set}
 use Rattle.nio_event.specs.declared.found.Stage.{Stage}
 use Rattle.nio_event.specs.State.{with_key}
 use Rattle.nio_event.specs.declared.reply.Reply.TheVariants as reply
-use Rattle.nio_plain.proofs.Answering.{unchanged_without_memory, answered_without_memory}
+use Rattle.nio_plain.proofs.Replying.{unchanged_without_memory, replied_without_memory}
 use Rattle.nio_plain.proofs.KeyChange.{key-stage, stage-same}
 use Rattle.nio_plain.specs.PlainState.{KeyRow, key_row, state_of}
 use Rattle.nio_plain.specs.ScriptState.{with_shared}
-use Rattle.nio_plain.specs.Seq.Answers.{answered}
+use Rattle.nio_plain.specs.Seq.Replies.{replied}
 use Rattle.nio_plain.specs.Seq.Cancelling.{cancel_call, cancelled_key}
 use Rattle.nio_plain.proofs.plain.Plain.cancel.Goals as goal
 
@@ -25,7 +25,7 @@ returns-then-not-is_in_key_set c =
     let same = cond-false (is_in_key_set stage id.serial) (cancelled_key stage) stage out in
     unchanged_without_memory p _ _
     (c.in-Ok.ensures.through _
-    ∙ ap (answered st reply.«Ok») (ap (with_key st.shared s id.index) same ∙ stage-same p s id.index))
+    ∙ ap (replied st reply.«Ok») (ap (with_key st.shared s id.index) same ∙ stage-same p s id.index))
 
 pub returns : goal.returns
 unfolding cancel_call
@@ -39,7 +39,7 @@ returns c =
     let in_set = ap (λ (k : KeyRow). is_in_key_set k.stage id.serial) row ∙ sym c.if-not-is_in_key_set.ensures in
     let same = cond-true (is_in_key_set stage id.serial) (cancelled_key stage) stage in_set
     ∙ ap (λ (k : KeyRow). cancelled_key k.stage) row in
-    answered_without_memory p _ _ _ _
+    replied_without_memory p _ _ _ _
     (c.in-Ok.ensures.through _)
     refl
     ((c.put_key.ensures.left

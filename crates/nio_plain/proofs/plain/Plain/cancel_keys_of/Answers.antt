@@ -1,6 +1,6 @@
 use Rattle.std.proofs.Common.{◌<◌, ◌≤◌, false, length, map, refl, ◌∙◌, arith}
 use Rattle.nio_event.specs.State.{unmade_channel}
-use Rattle.nio_plain.proofs.Answering.{rows_of}
+use Rattle.nio_plain.proofs.Replying.{rows_of}
 use Rattle.nio_plain.proofs.Changing.{changed-step, changed-all}
 use Rattle.nio_plain.proofs.Closing.{state-cancelled}
 use Rattle.nio_plain.specs.PlainState.{pipe_of, places, state_from, channel_row, selector_row, no_selector}

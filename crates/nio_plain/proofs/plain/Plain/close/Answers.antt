@@ -2,12 +2,12 @@ use Rattle.std.proofs.Common.{◌<◌, true, Some, length, refl, sym, ap, ◌∙
 use Rattle.std.proofs.lemmas.Bool.{cond-true, cond-false}
 use Rattle.nio_event.specs.State.{with_gate, with_closer}
 use Rattle.nio_event.specs.declared.reply.Reply.TheVariants as reply
-use Rattle.nio_plain.proofs.Answering.{unchanged_without_memory, answered_without_memory}
+use Rattle.nio_plain.proofs.Replying.{unchanged_without_memory, replied_without_memory}
 use Rattle.nio_plain.proofs.Closing.{changed_selector, read_row, not_finished}
 use Rattle.nio_plain.proofs.Parts.{then, makes-gate, makes-closer}
 use Rattle.nio_plain.specs.PlainState.{SelectorRow, state_of, selector_row}
 use Rattle.nio_plain.specs.ScriptState.{ScriptState, with_shared}
-use Rattle.nio_plain.specs.Seq.Answers.{unchanged}
+use Rattle.nio_plain.specs.Seq.Replies.{unchanged}
 use Rattle.nio_plain.specs.Seq.Closing.{close_call}
 use Rattle.nio_plain.proofs.plain.Plain.close.Goals as goal
 
@@ -46,7 +46,7 @@ returns c =
     let closes' : ScriptState → ScriptState = λ st. with_shared st (with_closer st.shared s (Some c.args.me)) in
     let both = then _ _ _ _ _ s shuts closes shuts' closes' (makes-gate _ _ _ _ _ s (λ g. record g { shut = true }))
     (makes-closer _ _ _ _ _ s (Some c.args.me)) in
-    answered_without_memory p _ _ _ _
+    replied_without_memory p _ _ _ _
     (c.in-Ok.ensures.through _
     ∙ cond-false ((state_of p).shared.gate s).shut (unchanged (state_of p) reply.Already) _ opened)
     refl

@@ -2,12 +2,12 @@ use Rattle.std.proofs.Common.{refl, ap, ◌∙◌}
 use Rattle.std.proofs.lemmas.Bool.{cond-true, cond-false}
 use Rattle.nio_event.specs.declared.found.Chan.{Chan}
 use Rattle.nio_event.specs.declared.reply.Reply.TheVariants as reply
-use Rattle.nio_plain.proofs.Answering.{unchanged_without_memory, answered_without_memory}
+use Rattle.nio_plain.proofs.Replying.{unchanged_without_memory, replied_without_memory}
 use Rattle.nio_plain.specs.PlainState.{state_of}
 use Rattle.nio_plain.specs.ScriptState.{ScriptState}
-use Rattle.nio_plain.specs.Seq.Answers.{unchanged}
+use Rattle.nio_plain.specs.Seq.Replies.{unchanged}
 use Rattle.nio_plain.specs.Seq.Cancelling.{closec_call}
-use Rattle.nio_plain.specs.Seq.Pipes.{marking, own_sink, with_mark}
+use Rattle.nio_plain.specs.Seq.Pipes.{sealing, own_sink, with_seal}
 use Rattle.nio_plain.proofs.plain.Plain.close_channel.Goals as goal
 
 pub returns-in-Err : goal.returns-in-Err
@@ -21,13 +21,13 @@ returns-then-channel c =
     let p = c.args.self.now in
     let st = state_of p in
     let closed = ap (λ (x : Chan). x.closed) c.in-Ok.ensures.row ∙ c.if-channel.true in
-    answered_without_memory p _ _ _ _
+    replied_without_memory p _ _ _ _
     (c.in-Ok.ensures.through _
-    ∙ ap (marking (own_sink st.pipes c.args.me c.args.chan))
+    ∙ ap (sealing (own_sink st.pipes c.args.me c.args.chan))
     (cond-true (st.shared.chan c.args.chan.0).closed (unchanged st reply.Already) _ closed))
     refl
-    c.leave_mark.ensures.left
-    (record { limits = c.leave_mark.ensures.kept.limits; rules = c.leave_mark.ensures.kept.rules })
+    c.leave_seal.ensures.left
+    (record { limits = c.leave_seal.ensures.kept.limits; rules = c.leave_seal.ensures.kept.rules })
 
 pub returns : goal.returns
 unfolding closec_call
@@ -35,14 +35,14 @@ returns c =
     let p = c.args.self.now in
     let st = state_of p in
     let opened = ap (λ (x : Chan). x.closed) c.in-Ok.ensures.row ∙ c.if-channel.false in
-    answered_without_memory p _ _ _ _
+    replied_without_memory p _ _ _ _
     (c.in-Ok.ensures.through _
-    ∙ ap (marking (own_sink st.pipes c.args.me c.args.chan))
+    ∙ ap (sealing (own_sink st.pipes c.args.me c.args.chan))
     (cond-false (st.shared.chan c.args.chan.0).closed (unchanged st reply.Already) _ opened))
     refl
-    (c.leave_mark-2.ensures.left
-    ∙ ap (λ (m : ScriptState). with_mark (own_sink m.pipes c.args.me c.args.chan) m) c.shut_channel.ensures.left)
+    (c.leave_seal-2.ensures.left
+    ∙ ap (λ (m : ScriptState). with_seal (own_sink m.pipes c.args.me c.args.chan) m) c.shut_channel.ensures.left)
     (record {
-      limits = c.leave_mark-2.ensures.kept.limits ∙ c.shut_channel.ensures.kept.limits;
-      rules = c.leave_mark-2.ensures.kept.rules ∙ c.shut_channel.ensures.kept.rules;
+      limits = c.leave_seal-2.ensures.kept.limits ∙ c.shut_channel.ensures.kept.limits;
+      rules = c.leave_seal-2.ensures.kept.rules ∙ c.shut_channel.ensures.kept.rules;
     })

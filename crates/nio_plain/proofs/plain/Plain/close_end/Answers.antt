@@ -3,14 +3,14 @@ use Rattle.std.proofs.lemmas.Bool.{cond-true, cond-false, eq-eqb, ne_eqb, or_rig
 use Rattle.std.proofs.lemmas.List.{get_or_default}
 use Rattle.nio_event.specs.State.{with_entered}
 use Rattle.nio_event.specs.declared.reply.Reply.TheVariants as reply
-use Rattle.nio_plain.proofs.Answering.{is_some-caller_of, unchanged_without_memory, answered_without_memory}
+use Rattle.nio_plain.proofs.Replying.{is_some-caller_of, unchanged_without_memory, replied_without_memory}
 use Rattle.nio_plain.proofs.Closing.{changed_selector, read_row, makes-emptied}
 use Rattle.nio_plain.proofs.Parts.{then, makes-entered}
 use Rattle.nio_plain.specs.PlainState.{SelectorRow, state_of, selector_row, emptied, closer_of, has_finished}
 use Rattle.nio_plain.specs.declared.plain.selector.Closing.{Closing}
 use Rattle.nio_plain.specs.declared.plain.selector.Selector.{Selector}
 use Rattle.nio_plain.specs.ScriptState.{ScriptState, with_shared}
-use Rattle.nio_plain.specs.Seq.Answers.{unchanged}
+use Rattle.nio_plain.specs.Seq.Replies.{unchanged}
 use Rattle.nio_plain.specs.Seq.Closing.{close_end_call, without_keys}
 use Rattle.nio_plain.specs.Seq.Selections.{is_caller}
 use Rattle.nio_plain.proofs.plain.Plain.close_end.Goals as goal
@@ -122,7 +122,7 @@ returns c =
     let enters' : ScriptState → ScriptState = λ m. with_shared m (with_entered m.shared s true) in
     let both = then _ _ _ _ _ s empties enters empties' enters' (makes-emptied _ _ _ _ _ s)
     (makes-entered _ _ _ _ _ s true) in
-    answered_without_memory p _ _ _ _
+    replied_without_memory p _ _ _ _
     (c.in-Ok.ensures.through _
     ∙ (cond-false (not (is_caller c.args.me (st.shared.closer s)) || st.shared.entered s)
     (unchanged st reply.NotClosing) _ own

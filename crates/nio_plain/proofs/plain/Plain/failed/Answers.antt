@@ -1,6 +1,6 @@
 use Rattle.std.proofs.Common.{◌<◌, false, None, length, refl, ap, ◌∙◌, arith}
 use Rattle.nio_event.specs.State.{put, with_turn, with_begun}
-use Rattle.nio_plain.proofs.Answering.{unchanged_without_memory, answered_without_memory}
+use Rattle.nio_plain.proofs.Replying.{unchanged_without_memory, replied_without_memory}
 use Rattle.nio_plain.proofs.Closing.{changed_selector, read_row}
 use Rattle.nio_plain.proofs.Telling.{own-none, own-others, own-some}
 use Rattle.nio_plain.proofs.Parts.{makes-selecting}
@@ -52,7 +52,7 @@ returns c =
       shared = with_begun (with_turn m.shared s None) s false;
       selection = put m.selection s None;
     } in
-    answered_without_memory p _ _ _ _
+    replied_without_memory p _ _ _ _
     (c.in-Ok.ensures.through _
     ∙ ap (left_selection (state_of p) s)
     (own-some p c.args.me s x row c.in-Some.selecting c.in-Some.is c.if-selecting-me.false))

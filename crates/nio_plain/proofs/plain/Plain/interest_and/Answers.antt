@@ -1,7 +1,7 @@
 use Rattle.std.proofs.Common.{bit_and, sym, ap, ◌∙◌}
 use Rattle.nio_event.specs.State.{with_interest}
 use Rattle.nio_event.specs.declared.reply.Reply.TheVariants as reply
-use Rattle.nio_plain.proofs.Answering.{unchanged_without_memory, answered_without_memory}
+use Rattle.nio_plain.proofs.Replying.{unchanged_without_memory, replied_without_memory}
 use Rattle.nio_plain.proofs.KeyChange.{key-interest}
 use Rattle.nio_plain.specs.PlainState.{KeyRow, key_row, state_of}
 use Rattle.nio_plain.specs.ScriptState.{with_shared}
@@ -17,7 +17,7 @@ returns c =
     let i = c.args.id.index in
     let row = c.in-Ok.ensures.row in
     let changed = c.meet-interest.ensures ∙ ap (λ (k : KeyRow). bit_and k.interest c.args.ops) (sym row) in
-    answered_without_memory p _ _ _ _
+    replied_without_memory p _ _ _ _
     (c.in-Ok.ensures.through _)
     (ap reply.Number ((c.from.ensures ∙ c.bits.ensures.bits) ∙ ap (λ (k : KeyRow). k.interest) (sym row)))
     ((c.put_key.ensures.left ∙ key-interest p s i (key_row c.in-Ok.key) row c.meet-interest.result)

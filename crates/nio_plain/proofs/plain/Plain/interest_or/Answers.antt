@@ -2,11 +2,11 @@ use Rattle.std.proofs.Common.{bit_or, sym, ap, ◌∙◌}
 use Rattle.std.proofs.lemmas.Bool.{cond-true, cond-false}
 use Rattle.nio_event.specs.State.{with_interest}
 use Rattle.nio_event.specs.declared.reply.Reply.TheVariants as reply
-use Rattle.nio_plain.proofs.Answering.{unchanged_without_memory, answered_without_memory}
+use Rattle.nio_plain.proofs.Replying.{unchanged_without_memory, replied_without_memory}
 use Rattle.nio_plain.proofs.KeyChange.{key-interest}
 use Rattle.nio_plain.specs.PlainState.{KeyRow, key_row, state_of}
 use Rattle.nio_plain.specs.ScriptState.{with_shared}
-use Rattle.nio_plain.specs.Seq.Answers.{unchanged}
+use Rattle.nio_plain.specs.Seq.Replies.{unchanged}
 use Rattle.nio_plain.specs.Seq.Keys.{ior_call, are_legal_at}
 use Rattle.nio_plain.specs.Seq.Registering.{are_legal}
 use Rattle.nio_plain.proofs.plain.Plain.interest_or.Goals as goal
@@ -34,7 +34,7 @@ returns c =
     let legal = ap (λ (k : KeyRow). are_legal (st.shared.chan k.stage.chan.0).kind c.args.ops) row
     ∙ sym c.if-not-are_legal.ensures in
     let changed = c.union-interest.ensures ∙ ap (λ (k : KeyRow). bit_or k.interest c.args.ops) (sym row) in
-    answered_without_memory p _ _ _ _
+    replied_without_memory p _ _ _ _
     (c.in-Ok.ensures.through _
     ∙ cond-true (are_legal_at st.shared s i c.args.ops) _ (unchanged st reply.IllegalOps) legal)
     (ap reply.Number ((c.from.ensures ∙ c.bits.ensures.bits) ∙ ap (λ (k : KeyRow). k.interest) (sym row)))

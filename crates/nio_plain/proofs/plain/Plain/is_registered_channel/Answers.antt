@@ -1,7 +1,7 @@
 use Rattle.std.proofs.Common.{sym, ap, ◌∙◌}
-use Rattle.nio_plain.proofs.Answering.{unchanged_without_memory}
+use Rattle.nio_plain.proofs.Replying.{unchanged_without_memory}
 use Rattle.nio_plain.specs.PlainState.{state_of}
-use Rattle.nio_plain.specs.Seq.Answers.{unchanged, yes_or_no}
+use Rattle.nio_plain.specs.Seq.Replies.{unchanged, yes_or_no}
 use Rattle.nio_plain.specs.Seq.Modes.{is_registered_call}
 use Rattle.nio_plain.proofs.plain.Plain.is_registered_channel.Goals as goal
 

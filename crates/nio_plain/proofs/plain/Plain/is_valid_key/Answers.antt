@@ -1,8 +1,8 @@
 use Rattle.std.proofs.Common.{sym, ap, ◌∙◌}
 use Rattle.nio_event.specs.Sets.{is_valid_key}
-use Rattle.nio_plain.proofs.Answering.{unchanged_without_memory}
+use Rattle.nio_plain.proofs.Replying.{unchanged_without_memory}
 use Rattle.nio_plain.specs.PlainState.{KeyRow, state_of}
-use Rattle.nio_plain.specs.Seq.Answers.{unchanged, yes_or_no}
+use Rattle.nio_plain.specs.Seq.Replies.{unchanged, yes_or_no}
 use Rattle.nio_plain.specs.Seq.Keys.{valid_call}
 use Rattle.nio_plain.proofs.plain.Plain.is_valid_key.Goals as goal
 

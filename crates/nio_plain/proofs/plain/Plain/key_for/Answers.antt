@@ -1,9 +1,9 @@
 use Rattle.std.proofs.Common.{◌<◌, Option, Some, None, get_or, length, ap, ◌∙◌, arith}
 use Rattle.nio_base.specs.declared.numbers.KeyId.{KeyId}
-use Rattle.nio_plain.proofs.Answering.{unchanged_without_memory}
+use Rattle.nio_plain.proofs.Replying.{unchanged_without_memory}
 use Rattle.nio_plain.proofs.Registered.{key_of-read}
 use Rattle.nio_plain.specs.PlainState.{state_of}
-use Rattle.nio_plain.specs.Seq.Answers.{unchanged}
+use Rattle.nio_plain.specs.Seq.Replies.{unchanged}
 use Rattle.nio_plain.specs.Seq.Modes.{key_for_call, name_or_none}
 use Rattle.nio_plain.proofs.plain.Plain.key_for.Goals as goal
 

@@ -1,4 +1,4 @@
-use Rattle.nio_plain.proofs.Answering.{state-opening}
+use Rattle.nio_plain.proofs.Replying.{state-opening}
 use Rattle.nio_plain.proofs.plain.Plain.make_by.Goals as goal
 
 pub returns-clause-opening : goal.returns-clause-opening

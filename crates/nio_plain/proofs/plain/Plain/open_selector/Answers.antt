@@ -1,7 +1,7 @@
 use Rattle.std.proofs.Common.{◌≡◌, ◌<◌, ◌≤◌, length, refl, ap, ◌∙◌, arith}
 use Rattle.nio_event.specs.declared.reply.Reply.TheVariants as reply
-use Rattle.nio_plain.proofs.Answering.{unchanged_as, answered_as, selector_made-below, selector_made-past}
-use Rattle.nio_plain.proofs.Answering.{state-push_selector, rows_of}
+use Rattle.nio_plain.proofs.Replying.{unchanged_as, replied_as, selector_made-below, selector_made-past}
+use Rattle.nio_plain.proofs.Replying.{state-push_selector, rows_of}
 use Rattle.nio_plain.proofs.Opening.{selector_call-spent, selector_call-found, state-new_selector}
 use Rattle.nio_plain.proofs.Places.{places_past}
 use Rattle.nio_plain.specs.PlainState.{selector_row, no_selector}
@@ -24,7 +24,7 @@ returns c =
     let past = places_past selector_row no_selector xs (length xs) (omega arith) in
     let made = selector_call-found p.limits _ _ _ _ _ (rows_of p) (length xs) (selector_made-below xs)
     (selector_made-past xs) room in
-    answered_as _ _ _ _ _ made
+    replied_as _ _ _ _ _ made
     (ap (λ n. reply.Selector (record { 0 = n })) number)
     (state-push_selector p c.push.new.self.items c.new.result _ c.in_ok-push.ensures.items c.new.ensures
     ∙ state-new_selector p.limits _ _ _ _ _ (rows_of p) (length xs) past)

@@ -4,7 +4,7 @@ use Rattle.std.proofs.lemmas.Bool.{cond-true, cond-false, le-ltb, lt-ltb}
 use Rattle.std.proofs.lemmas.List.{length_push}
 use Rattle.nio_base.specs.declared.kind.Kind.TheVariants.{Source, Sink}
 use Rattle.nio_event.specs.declared.reply.Reply.TheVariants as reply
-use Rattle.nio_plain.proofs.Answering.{answered_as, unchanged_as}
+use Rattle.nio_plain.proofs.Replying.{replied_as, unchanged_as}
 use Rattle.nio_plain.proofs.Piping.{channel_added, next_end, no_next_end, pipe_call-is, sink_made}
 use Rattle.nio_plain.specs.PlainState.{channel_row, pipe_of, state_of}
 use Rattle.nio_plain.specs.ScriptState.{ScriptState, with_pipes, with_shared}
@@ -56,7 +56,7 @@ returns-then-number-self-2 c =
     (ap channel_row c.new.ensures) in
     let next = next_end p p.pipes.items xs room in
     let none = sym (ap (next_channel l) made) ∙ no_next_end p c.reserve-2.new.self.items ys full in
-    answered_as p _ _ _ _
+    replied_as p _ _ _ _
     (pipe_call-is l st c.args.me c.args.target (length xs) None within next none)
     refl
     (c.shut_channel.ensures.left ∙ (λ i. with_shared (made i) (channel_closed (made i).shared (number i))))
@@ -88,7 +88,7 @@ returns c =
       reader = c.args.me;
       writer = c.args.target;
       waiting = c.new-3.result;
-      marked = false;
+      sealed = false;
     } in
     let is : pipe_of one ≡ pipe =
     λ i. record {
@@ -97,11 +97,11 @@ returns c =
       reader = c.args.me;
       writer = c.args.target;
       waiting = c.new-3.ensures.items i;
-      marked = false;
+      sealed = false;
     } in
     let one_more =
     c.push_reserved-3.ensures.items ∙ ap (λ (qs : List PlainPipe). qs ++ one ∷ []) c.reserve-2.ensures.items in
-    answered_as p _ _ _ _
+    replied_as p _ _ _ _
     (pipe_call-is l st c.args.me c.args.target (length xs) (Some (length ys)) within next after)
     (λ i. reply.Ends (record { 0 = number i }) (record { 0 = second i }))
     (sink_made p ps c.push_reserved-3.new.self.items ys c.push_reserved-2.new.self.items c.new-2.result one pipe

@@ -2,10 +2,10 @@ use Rattle.std.proofs.Common.{◌<◌, ◌==◌, ◌&&◌, length, refl, sym, ap
 use Rattle.std.proofs.lemmas.Bool.{cond-true, cond-false, eq-eqb, ne_eqb}
 use Rattle.nio_event.specs.declared.found.Chan.{Chan}
 use Rattle.nio_event.specs.declared.reply.Reply.TheVariants as reply
-use Rattle.nio_plain.proofs.Answering.{unchanged_as, answered_as, of_word}
+use Rattle.nio_plain.proofs.Replying.{unchanged_as, replied_as, of_word}
 use Rattle.nio_plain.proofs.Piping.{place_within}
 use Rattle.nio_plain.specs.PlainState.{state_of}
-use Rattle.nio_plain.specs.Seq.Answers.{unchanged, answered}
+use Rattle.nio_plain.specs.Seq.Replies.{unchanged, replied}
 use Rattle.nio_plain.specs.Seq.Cancelling.{channel_closed}
 use Rattle.nio_plain.specs.Seq.Pipes.{owns_source, pipe_at}
 use Rattle.nio_plain.specs.Seq.Piping.{finds_interrupt, pread_call, read_first, read_from}
@@ -42,11 +42,11 @@ returns-then-finds_interrupt c =
     let found =
     ap (λ (x : Chan). x.blocking && st.shared.interrupted c.args.me.0) c.in-Ok.ensures.row
     ∙ sym c.if-finds_interrupt.ensures in
-    answered_as p _ _ _ _
+    replied_as p _ _ _ _
     (c.in-Ok.ensures.through _ ∙ (ap (read_from st c.args.me c.args.chan c.args.most) (sym c.in-Some.ensures)
     ∙ (cond-false (st.shared.chan c.args.chan.0).closed (unchanged st reply.ClosedChannel) _ opened
     ∙ cond-true (finds_interrupt st c.args.me c.args.chan)
-    (answered st reply.ClosedByInterrupt (channel_closed st.shared c.args.chan.0)) _ found)))
+    (replied st reply.ClosedByInterrupt (channel_closed st.shared c.args.chan.0)) _ found)))
     refl
     c.shut_channel.ensures.left
     c.shut_channel.ensures.kept
@@ -64,7 +64,7 @@ returns-then-most-eq0 c =
     (c.in-Ok.ensures.through _ ∙ (ap (read_from st c.args.me c.args.chan c.args.most) (sym c.in-Some.ensures)
     ∙ (cond-false (st.shared.chan c.args.chan.0).closed (unchanged st reply.ClosedChannel) _ opened
     ∙ (cond-false (finds_interrupt st c.args.me c.args.chan)
-    (answered st reply.ClosedByInterrupt (channel_closed st.shared c.args.chan.0)) _ none
+    (replied st reply.ClosedByInterrupt (channel_closed st.shared c.args.chan.0)) _ none
     ∙ cond-true (c.args.most == 0) (unchanged st (reply.Number 0)) _ (eq-eqb c.args.most 0 c.if-most-eq0.true)))))
 
 pub read_from-requires : goal.read_from-requires
@@ -87,8 +87,8 @@ returns c =
     (c.in-Ok.ensures.through _ ∙ (ap (read_from st c.args.me c.args.chan c.args.most) (sym c.in-Some.ensures)
     ∙ (cond-false (st.shared.chan c.args.chan.0).closed (unchanged st reply.ClosedChannel) _ opened
     ∙ (cond-false (finds_interrupt st c.args.me c.args.chan)
-    (answered st reply.ClosedByInterrupt (channel_closed st.shared c.args.chan.0)) _ none
+    (replied st reply.ClosedByInterrupt (channel_closed st.shared c.args.chan.0)) _ none
     ∙ (cond-false (c.args.most == 0) (unchanged st (reply.Number 0)) _ (ne_eqb c.args.most 0 c.if-most-eq0.false)
     ∙ ap (λ (x : Chan). read_first st x.blocking c.args.most c.in-Some.place (pipe_at st.pipes c.in-Some.place).waiting
-    (pipe_at st.pipes c.in-Some.place).marked) c.in-Ok.ensures.row)))))
+    (pipe_at st.pipes c.in-Some.place).sealed) c.in-Ok.ensures.row)))))
     c.read_from.ensures

@@ -1,6 +1,6 @@
 use Rattle.std.proofs.Common.{refl, ap, sym, ◌∙◌, arith}
 use Rattle.nio_event.specs.State.{put}
-use Rattle.nio_plain.proofs.Answering.{rows_of, with_rows, state-set_selector}
+use Rattle.nio_plain.proofs.Replying.{rows_of, with_rows, state-set_selector}
 use Rattle.nio_plain.proofs.KeyChange.{claimed-made, state-key}
 use Rattle.nio_plain.proofs.Places.{places_at}
 use Rattle.nio_plain.specs.PlainState.{SelectorRow, selector_row, no_selector, key_row, with_key_at}

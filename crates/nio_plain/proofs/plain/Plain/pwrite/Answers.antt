@@ -2,13 +2,13 @@ use Rattle.std.proofs.Common.{◌<◌, ◌==◌, ◌&&◌, Some, length, refl, s
 use Rattle.std.proofs.lemmas.Bool.{cond-true, cond-false}
 use Rattle.nio_event.specs.declared.found.Chan.{Chan}
 use Rattle.nio_event.specs.declared.reply.Reply.TheVariants as reply
-use Rattle.nio_plain.proofs.Answering.{unchanged_as, answered_as, of_word}
+use Rattle.nio_plain.proofs.Replying.{unchanged_as, replied_as, of_word}
 use Rattle.nio_plain.proofs.Piping.{pipe_at-is, place_within}
 use Rattle.nio_plain.specs.PlainState.{state_of}
 use Rattle.nio_plain.specs.ScriptState.{Pipe}
-use Rattle.nio_plain.specs.Seq.Answers.{unchanged, answered}
+use Rattle.nio_plain.specs.Seq.Replies.{unchanged, replied}
 use Rattle.nio_plain.specs.Seq.Cancelling.{channel_closed}
-use Rattle.nio_plain.specs.Seq.Pipes.{marking, owns_sink, pipe_at, with_mark}
+use Rattle.nio_plain.specs.Seq.Pipes.{sealing, owns_sink, pipe_at, with_seal}
 use Rattle.nio_plain.specs.Seq.Piping.{finds_interrupt, pwrite_call, room_for, write_first, write_to}
 use Rattle.nio_plain.proofs.plain.Plain.pwrite.Goals as goal
 
@@ -24,8 +24,8 @@ returns-in_default c =
     (c.in-Ok.ensures.through _
     ∙ ap (write_to (state_of p) c.args.me c.args.chan c.args.bytes.now) (sym c.in_default.ensures))
 
-pub mark-requires : goal.mark-requires
-mark-requires c =
+pub seal-requires : goal.seal-requires
+seal-requires c =
     let p = c.args.self.now in
     let within : c.in-Some.place < length p.pipes.items =
     place_within (owns_sink c.args.me c.args.chan) p.pipes.items c.in-Some.place (sym c.in-Some.ensures) in
@@ -37,13 +37,13 @@ returns-then-channel c =
     let p = c.args.self.now in
     let st = state_of p in
     let closed = ap (λ (x : Chan). x.closed) c.in-Ok.ensures.row ∙ c.if-channel.true in
-    answered_as p _ _ _ _
+    replied_as p _ _ _ _
     (c.in-Ok.ensures.through _ ∙ (ap (write_to st c.args.me c.args.chan c.args.bytes.now) (sym c.in-Some.ensures)
     ∙ cond-true (st.shared.chan c.args.chan.0).closed
-    (marking (Some c.in-Some.place) (unchanged st reply.ClosedChannel)) _ closed))
+    (sealing (Some c.in-Some.place) (unchanged st reply.ClosedChannel)) _ closed))
     refl
-    c.mark.ensures.left
-    c.mark.ensures.kept
+    c.seal.ensures.left
+    c.seal.ensures.kept
 
 pub returns-then-finds_interrupt : goal.returns-then-finds_interrupt
 unfolding pwrite_call
@@ -54,18 +54,18 @@ returns-then-finds_interrupt c =
     let found =
     ap (λ (x : Chan). x.blocking && st.shared.interrupted c.args.me.0) c.in-Ok.ensures.row
     ∙ sym c.if-finds_interrupt.ensures in
-    answered_as p _ _ _ _
+    replied_as p _ _ _ _
     (c.in-Ok.ensures.through _ ∙ (ap (write_to st c.args.me c.args.chan c.args.bytes.now) (sym c.in-Some.ensures)
     ∙ (cond-false (st.shared.chan c.args.chan.0).closed
-    (marking (Some c.in-Some.place) (unchanged st reply.ClosedChannel)) _ opened
+    (sealing (Some c.in-Some.place) (unchanged st reply.ClosedChannel)) _ opened
     ∙ cond-true (finds_interrupt st c.args.me c.args.chan)
-    (marking (Some c.in-Some.place)
-    (answered st reply.ClosedByInterrupt (channel_closed st.shared c.args.chan.0))) _ found)))
+    (sealing (Some c.in-Some.place)
+    (replied st reply.ClosedByInterrupt (channel_closed st.shared c.args.chan.0))) _ found)))
     refl
-    (c.mark-then-finds_interrupt.ensures.left ∙ ap (with_mark (Some c.in-Some.place)) c.shut_channel.ensures.left)
+    (c.seal-then-finds_interrupt.ensures.left ∙ ap (with_seal (Some c.in-Some.place)) c.shut_channel.ensures.left)
     (record {
-      limits = c.mark-then-finds_interrupt.ensures.kept.limits ∙ c.shut_channel.ensures.kept.limits;
-      rules = c.mark-then-finds_interrupt.ensures.kept.rules ∙ c.shut_channel.ensures.kept.rules;
+      limits = c.seal-then-finds_interrupt.ensures.kept.limits ∙ c.shut_channel.ensures.kept.limits;
+      rules = c.seal-then-finds_interrupt.ensures.kept.rules ∙ c.shut_channel.ensures.kept.rules;
     })
 
 pub index-requires : goal.index-requires
@@ -94,9 +94,9 @@ returns-then-is_closed c =
     unchanged_as p _ _
     (c.in-Ok.ensures.through _ ∙ (ap (write_to st c.args.me c.args.chan c.args.bytes.now) (sym c.in-Some.ensures)
     ∙ (cond-false (st.shared.chan c.args.chan.0).closed
-    (marking (Some place) (unchanged st reply.ClosedChannel)) _ opened
+    (sealing (Some place) (unchanged st reply.ClosedChannel)) _ opened
     ∙ (cond-false (finds_interrupt st c.args.me c.args.chan)
-    (marking (Some place) (answered st reply.ClosedByInterrupt (channel_closed st.shared c.args.chan.0))) _ none
+    (sealing (Some place) (replied st reply.ClosedByInterrupt (channel_closed st.shared c.args.chan.0))) _ none
     ∙ cond-true (st.shared.chan (pipe_at st.pipes place).source.0).closed (unchanged st reply.BrokenPipe) _ broken))))
 
 pub returns-then-is_empty : goal.returns-then-is_empty
@@ -118,9 +118,9 @@ returns-then-is_empty c =
     unchanged_as p _ _
     (c.in-Ok.ensures.through _ ∙ (ap (write_to st c.args.me c.args.chan c.args.bytes.now) (sym c.in-Some.ensures)
     ∙ (cond-false (st.shared.chan c.args.chan.0).closed
-    (marking (Some place) (unchanged st reply.ClosedChannel)) _ opened
+    (sealing (Some place) (unchanged st reply.ClosedChannel)) _ opened
     ∙ (cond-false (finds_interrupt st c.args.me c.args.chan)
-    (marking (Some place) (answered st reply.ClosedByInterrupt (channel_closed st.shared c.args.chan.0))) _ none
+    (sealing (Some place) (replied st reply.ClosedByInterrupt (channel_closed st.shared c.args.chan.0))) _ none
     ∙ (cond-false (st.shared.chan (pipe_at st.pipes place).source.0).closed (unchanged st reply.BrokenPipe) _ whole
     ∙ cond-true (length c.args.bytes.now == 0) (unchanged st (reply.Number 0)) _ (sym c.if-is_empty.ensures))))))
 
@@ -150,9 +150,9 @@ returns c =
     of_word _ _ _ _ _
     (c.in-Ok.ensures.through _ ∙ (ap (write_to st c.args.me c.args.chan c.args.bytes.now) (sym c.in-Some.ensures)
     ∙ (cond-false (st.shared.chan c.args.chan.0).closed
-    (marking (Some place) (unchanged st reply.ClosedChannel)) _ opened
+    (sealing (Some place) (unchanged st reply.ClosedChannel)) _ opened
     ∙ (cond-false (finds_interrupt st c.args.me c.args.chan)
-    (marking (Some place) (answered st reply.ClosedByInterrupt (channel_closed st.shared c.args.chan.0))) _ none
+    (sealing (Some place) (replied st reply.ClosedByInterrupt (channel_closed st.shared c.args.chan.0))) _ none
     ∙ (cond-false (st.shared.chan (pipe_at st.pipes place).source.0).closed (unchanged st reply.BrokenPipe) _ whole
     ∙ (cond-false (length c.args.bytes.now == 0) (unchanged st (reply.Number 0)) _ (sym c.if-is_empty.ensures)
     ∙ ap (λ (x : Chan). write_first st x.blocking c.args.bytes.now place

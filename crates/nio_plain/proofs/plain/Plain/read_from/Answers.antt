@@ -3,11 +3,11 @@ use Rattle.std.proofs.Math.Seq.{map-set_same}
 use Rattle.std.proofs.lemmas.Bool.{eq-eqb, eqb-true, false≢true}
 use Rattle.std.proofs.lemmas.List.{nil_from_length}
 use Rattle.nio_event.specs.declared.reply.Reply.TheVariants as reply
-use Rattle.nio_plain.proofs.Answering.{unchanged_as, answered_as, failed_as}
+use Rattle.nio_plain.proofs.Replying.{unchanged_as, replied_as, failed_as}
 use Rattle.nio_plain.proofs.Piping.{changed_pipe, pipe_at-is, read_first-none, read_first-some}
 use Rattle.nio_plain.specs.PlainState.{pipe_of, state_of}
 use Rattle.nio_plain.specs.ScriptState.{Pipe, with_pipes}
-use Rattle.nio_plain.specs.Seq.Answers.{unchanged}
+use Rattle.nio_plain.specs.Seq.Replies.{unchanged}
 use Rattle.nio_plain.specs.Seq.Pipes.{pipe_at}
 use Rattle.nio_plain.specs.Seq.Piping.{not_now}
 use Rattle.nio_plain.proofs.plain.Plain.read_from.Goals as goal
@@ -24,9 +24,9 @@ returns-then-is_empty c =
     omega (arith, x.waiting.ok.0, eqb-true x.waiting.len 0 (sym c.if-is_empty.ensures)) in
     let none = ap (λ (q : Pipe). q.waiting) at ∙ nil_from_length x.waiting.items size in
     unchanged_as p _ _
-    (read_first-none st blocking c.args.most c.args.place _ (pipe_at st.pipes c.args.place).marked none
+    (read_first-none st blocking c.args.most c.args.place _ (pipe_at st.pipes c.args.place).sealed none
     ∙ ap (unchanged st)
-    (ap (λ (q : Pipe). cond q.marked reply.End (not_now blocking)) at ∙ sym c.end_or_not_now.ensures))
+    (ap (λ (q : Pipe). cond q.sealed reply.End (not_now blocking)) at ∙ sym c.end_or_not_now.ensures))
 
 pub returns-in_err-bytes : goal.returns-in_err-bytes
 returns-in_err-bytes c =
@@ -52,8 +52,8 @@ returns c =
     let none = sym (ap (λ (q : Pipe). q.waiting) read) ∙ e in
     let size : x.waiting.len ≡ 0 = omega (arith, x.waiting.ok.0, ap length none) in
     absurd (false≢true (c.if-is_empty.ensures ∙ eq-eqb x.waiting.len 0 size)) in
-    answered_as p _ _ _ _
-    (read_first-some st c.args.channel.blocking n c.args.place _ (pipe_at st.pipes c.args.place).marked some)
+    replied_as p _ _ _ _
+    (read_first-some st c.args.channel.blocking n c.args.place _ (pipe_at st.pipes c.args.place).sealed some)
     (ap (λ (bytes : List ℕ). reply.Bytes bytes)
     (c.from_vec.ensures ∙ (c.in_ok-bytes.ensures.bytes ∙ sym (ap (λ (q : Pipe). take n q.waiting) at))))
     (ap (with_pipes st)

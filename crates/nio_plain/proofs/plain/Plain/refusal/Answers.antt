@@ -2,7 +2,7 @@ use Rattle.std.proofs.Common.{◌≡◌, ◌==◌, ℕ, ◌<◌, ◌≤◌, true
 use Rattle.std.proofs.lemmas.Bool.{eq-eqb, ne_eqb, true≢false}
 use Rattle.nio_base.specs.Kind.{valid_operations}
 use Rattle.nio_event.specs.State.{unmade_channel}
-use Rattle.nio_plain.proofs.Answering.{selector_made-below, selector_made-past}
+use Rattle.nio_plain.proofs.Replying.{selector_made-below, selector_made-past}
 use Rattle.nio_plain.proofs.Places.{places_at, places_past}
 use Rattle.nio_plain.proofs.Registering.{register-no_selector, register-no_channel, register-illegal_ops}
 use Rattle.nio_plain.proofs.Registering.{register-closed, register-blocking, register-passed}

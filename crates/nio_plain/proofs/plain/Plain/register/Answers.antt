@@ -1,5 +1,5 @@
 use Rattle.std.proofs.Common.{ℕ, ◌<◌, refl, sym, ap, ◌∙◌, length, arith}
-use Rattle.nio_plain.proofs.Answering.{failed_as, state-same_selector, same_row}
+use Rattle.nio_plain.proofs.Replying.{failed_as, state-same_selector, same_row}
 use Rattle.nio_plain.proofs.Registering.{given-unwrapped}
 use Rattle.nio_plain.proofs.RegisteringAt.{answers-cancelled, answers-shut, answers-again, answers_new-shut}
 use Rattle.nio_plain.proofs.RegisteringAt.{answers-full, answers-new}
@@ -85,9 +85,9 @@ returns-in_ok-add_key-in-None c =
     let same = same_row p c.args.sel.0 y x within c.index_mut-in-None.ensures.value c.index-selector.ensures in
     let as_new = ap (λ k. with_key_added (selector_row y) k.stage.chan.0 id k) c.new-key.ensures in
     let att = c.unwrap_or.ensures ∙ given-unwrapped c.args.note in
-    let noted = ap (λ n. with_key_added (selector_row y) chan id (new_key_row chan id.serial c.args.ops n)) att in
+    let enrolled = ap (λ n. with_key_added (selector_row y) chan id (new_key_row chan id.serial c.args.ops n)) att in
     let added = c.in_ok-add_key-in-None.ensures.ok
-    ∙ ((as_new ∙ noted)
+    ∙ ((as_new ∙ enrolled)
     ∙ ap (λ r. with_key_added r chan id (new_key_row chan id.serial c.args.ops (given_or_none c.args.note)))
     same) in
     answers-new p c.args.sel c.args.chan c.args.ops c.args.note x within c.index-selector.ensures

@@ -1,5 +1,5 @@
 use Rattle.std.proofs.Common.{◌<◌, ◌≤◌, length, arith}
-use Rattle.nio_plain.proofs.Answering.{selector_made-below, selector_made-past}
+use Rattle.nio_plain.proofs.Replying.{selector_made-below, selector_made-past}
 use Rattle.nio_plain.proofs.Naming.{selector-through, selector-refused}
 use Rattle.nio_plain.specs.PlainState.{state_of}
 use Rattle.nio_plain.proofs.plain.Plain.selector.Goals as goal

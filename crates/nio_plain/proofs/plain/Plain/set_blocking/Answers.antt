@@ -2,7 +2,7 @@ use Rattle.std.proofs.Common.{◌≡◌, ◌<◌, ◌≤◌, false, ◌&&◌, re
 use Rattle.std.proofs.lemmas.Bool.{and_from, and_left, and_right}
 use Rattle.nio_event.specs.State.{unmade_channel}
 use Rattle.nio_event.specs.declared.reply.Reply.TheVariants as reply
-use Rattle.nio_plain.proofs.Answering.{unchanged_without_memory, answered_without_memory, state-set_channel, rows_of}
+use Rattle.nio_plain.proofs.Replying.{unchanged_without_memory, replied_without_memory, state-set_channel, rows_of}
 use Rattle.nio_plain.proofs.Blocking.{blocking-no_channel, blocking-closed, blocking-registered, blocking-set}
 use Rattle.nio_plain.proofs.Places.{places_at, places_past}
 use Rattle.nio_plain.specs.PlainState.{state_of, limits_of, channel_row}
@@ -55,7 +55,7 @@ returns c =
       | else-on-via-then-on+else-is_registered w ↦ and_right c.args.on _ (sym w.if-is_registered.ensures)
       | else-on-via-else-on w ↦ and_left c.args.on _ w.if-on.false
     ] in
-    answered_without_memory _ _ _ _ _
+    replied_without_memory _ _ _ _ _
     (blocking-set p.limits (state_of p) c.args.chan c.args.on (channel_row x) at refl opened free)
     refl
     (state-set_channel _ _ _ (rows_of p) p.channels.items _ chan (record x { blocking = c.args.on }) within refl)

@@ -1,10 +1,10 @@
 use Rattle.std.proofs.Common.{refl, sym, ap, ◌∙◌}
 use Rattle.std.proofs.lemmas.Bool.{cond-true, cond-false}
 use Rattle.nio_event.specs.declared.reply.Reply.TheVariants as reply
-use Rattle.nio_plain.proofs.Answering.{unchanged_without_memory, answered_without_memory}
+use Rattle.nio_plain.proofs.Replying.{unchanged_without_memory, replied_without_memory}
 use Rattle.nio_plain.proofs.KeyChange.{key-interest}
 use Rattle.nio_plain.specs.PlainState.{KeyRow, key_row, state_of}
-use Rattle.nio_plain.specs.Seq.Answers.{unchanged}
+use Rattle.nio_plain.specs.Seq.Replies.{unchanged}
 use Rattle.nio_plain.specs.Seq.Keys.{iset_call, are_legal_at}
 use Rattle.nio_plain.specs.Seq.Registering.{are_legal}
 use Rattle.nio_plain.proofs.plain.Plain.set_interest.Goals as goal
@@ -29,7 +29,7 @@ returns c =
     let row = c.in-Ok.ensures.row in
     let legal = ap (λ (k : KeyRow). are_legal (st.shared.chan k.stage.chan.0).kind c.args.ops) row
     ∙ sym c.if-not-are_legal.ensures in
-    answered_without_memory p _ _ _ _
+    replied_without_memory p _ _ _ _
     (c.in-Ok.ensures.through _
     ∙ cond-true (are_legal_at st.shared c.args.sel.0 c.args.id.index c.args.ops) _
     (unchanged st reply.IllegalOps) legal)

@@ -2,10 +2,10 @@ use Rattle.std.proofs.Common.{◌<◌, List, filter, map, length, sym, ap, ◌�
 use Rattle.std.proofs.lemmas.Bool.{cond-true, cond-false}
 use Rattle.nio_base.specs.declared.numbers.KeyId.{KeyId}
 use Rattle.nio_event.specs.declared.reply.Reply.TheVariants as reply
-use Rattle.nio_plain.proofs.Answering.{unchanged_as}
+use Rattle.nio_plain.proofs.Replying.{unchanged_as}
 use Rattle.nio_plain.proofs.Closing.{read_row}
 use Rattle.nio_plain.specs.PlainState.{SelectorRow, state_of, places, key_row, no_key, key_id, is_listed, listed_below}
-use Rattle.nio_plain.specs.Seq.Answers.{Answered, unchanged}
+use Rattle.nio_plain.specs.Seq.Replies.{Replied, unchanged}
 use Rattle.nio_plain.specs.Seq.Listing.{names_or_none}
 use Rattle.nio_plain.specs.Seq.Names.{below}
 use Rattle.nio_plain.proofs.plain.Plain.set_of.Goals as goal
@@ -35,7 +35,7 @@ returns c =
     let within : c.args.sel.0 < length p.selectors.items = omega (arith, p.selectors.ok.0, c.in-Ok.ensures.made) in
     let row = read_row p s c.in-Ok.place x c.in-Ok.ensures.place within c.index-selector.ensures in
     let opened = ap (λ (r : SelectorRow). r.gate.shut) row ∙ sym c.if-is_shut.ensures in
-    let names : List KeyId → Answered = λ ks. unchanged (state_of p) (names_or_none ks) in
+    let names : List KeyId → Replied = λ ks. unchanged (state_of p) (names_or_none ks) in
     let of_row = ap
     (λ (r : SelectorRow). names
     (map (key_id r.keys) (filter (λ i. is_listed (r.keys i) selected) (below r.keys_high)))) row in

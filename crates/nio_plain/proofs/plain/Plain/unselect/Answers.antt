@@ -3,11 +3,11 @@ use Rattle.std.proofs.lemmas.Bool.{cond-true, cond-false}
 use Rattle.nio_event.specs.Sets.{fits}
 use Rattle.nio_event.specs.State.{with_mark}
 use Rattle.nio_event.specs.declared.reply.Reply.TheVariants as reply
-use Rattle.nio_plain.proofs.Answering.{unchanged_without_memory, answered_without_memory}
+use Rattle.nio_plain.proofs.Replying.{unchanged_without_memory, replied_without_memory}
 use Rattle.nio_plain.proofs.KeyChange.{key-mark}
 use Rattle.nio_plain.specs.PlainState.{KeyRow, is_listed, key_row, state_of}
 use Rattle.nio_plain.specs.ScriptState.{with_shared}
-use Rattle.nio_plain.specs.Seq.Answers.{unchanged}
+use Rattle.nio_plain.specs.Seq.Replies.{unchanged}
 use Rattle.nio_plain.specs.Seq.Keys.{is_in_selected_set, unselect_call}
 use Rattle.nio_plain.specs.Seq.Removing.{unselected}
 use Rattle.nio_plain.proofs.plain.Plain.unselect.Goals as goal
@@ -36,7 +36,7 @@ returns c =
     let is_in = ap (λ (k : KeyRow). fits k.stage id.serial && is_listed k true) row
     ∙ sym c.if-not-is_selected_key.ensures in
     let marked = ap (λ (k : KeyRow). with_shared st (with_mark st.shared s id.index (unselected k.mark))) (sym row) in
-    answered_without_memory p _ _ _ _
+    replied_without_memory p _ _ _ _
     (c.in-Ok.ensures.through _ ∙ cond-true (is_in_selected_set st.shared s id) _ (unchanged st reply.No) is_in)
     refl
     ((c.put_key.ensures.left ∙ key-mark p s id.index (key_row key) row (unselected key.mark)) ∙ marked)

@@ -1,6 +1,6 @@
 use Rattle.std.proofs.Common.{◌<◌, true, length, refl, arith}
 use Rattle.nio_event.specs.State.{with_gate}
-use Rattle.nio_plain.proofs.Answering.{unchanged_without_memory, answered_without_memory}
+use Rattle.nio_plain.proofs.Replying.{unchanged_without_memory, replied_without_memory}
 use Rattle.nio_plain.proofs.Closing.{changed_selector}
 use Rattle.nio_plain.proofs.Parts.{makes-gate}
 use Rattle.nio_plain.specs.PlainState.{SelectorRow}
@@ -22,7 +22,7 @@ returns-in-Ok c =
     let wakes : SelectorRow → SelectorRow = λ r. record r { gate = record r.gate { woken = true } } in
     let wakes' : ScriptState
     → ScriptState = λ st. with_shared st (with_gate st.shared s (record (st.shared.gate s) { woken = true })) in
-    answered_without_memory p _ _ _ _
+    replied_without_memory p _ _ _ _
     (c.in-Ok.ensures.through _)
     refl
     (changed_selector p s c.in-Ok.place c.index_mut.result.now _ wakes wakes'

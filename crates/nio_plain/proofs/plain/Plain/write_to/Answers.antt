@@ -2,11 +2,11 @@ use Rattle.std.proofs.Common.{◌≡◌, ℕ, ◌-◌, ◌<◌, ◌==◌, ◌++�
 use Rattle.std.proofs.Math.Seq.{map-set_same}
 use Rattle.std.proofs.lemmas.Bool.{cond-true, cond-false, eq-eqb, ne_eqb}
 use Rattle.nio_event.specs.declared.reply.Reply.TheVariants as reply
-use Rattle.nio_plain.proofs.Answering.{unchanged_as, answered_as, failed_as}
+use Rattle.nio_plain.proofs.Replying.{unchanged_as, replied_as, failed_as}
 use Rattle.nio_plain.proofs.Piping.{changed_pipe, pipe_at-is}
 use Rattle.nio_plain.specs.PlainState.{pipe_of, state_of}
 use Rattle.nio_plain.specs.ScriptState.{Pipe, with_pipes}
-use Rattle.nio_plain.specs.Seq.Answers.{unchanged}
+use Rattle.nio_plain.specs.Seq.Replies.{unchanged}
 use Rattle.nio_plain.specs.Seq.Pipes.{pipe_at}
 use Rattle.nio_plain.specs.Seq.Piping.{not_now, room_for}
 use Rattle.nio_plain.proofs.plain.Plain.write_to.Goals as goal
@@ -49,7 +49,7 @@ returns c =
     let room : c.min-room.result ≡ min (length bytes) (65536 - length x.waiting.items) =
     omega (arith, x.waiting.ok.0) in
     let all : c.min-room.result ≡ size = room ∙ sym (ap (room_for bytes) at) in
-    answered_as p _ _ _ _
+    replied_as p _ _ _ _
     (cond-false (size == 0) (unchanged st (not_now c.args.channel.blocking)) _
     (ne_eqb size 0 (λ e. c.if-room-eq0.false (all ∙ e))))
     (ap reply.Number all)

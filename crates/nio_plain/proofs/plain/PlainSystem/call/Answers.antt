@@ -1,4 +1,4 @@
-use Rattle.nio_plain.proofs.Answering.{of_word, unchanged_as}
+use Rattle.nio_plain.proofs.Replying.{of_word, unchanged_as}
 use Rattle.nio_plain.proofs.Calling.{seq-no_caller, seq-call}
 use Rattle.nio_plain.specs.PlainState.{limits_of, rules_of, state_of}
 use Rattle.nio_plain.proofs.plain.PlainSystem.call.Goals as goal

@@ -2,9 +2,9 @@ use Rattle.std.proofs.Common.{◌≡◌, ◌++◌, ℕ, ◌-◌, ◌≤◌, List
 use Rattle.std.proofs.Common.{◌∙◌, arith, length-drop}
 use Rattle.std.proofs.Math.Seq.{take-length}
 use Rattle.circular_buffer.specs.Buffer.{Buffer}
-use Rattle.nio_relay.specs.Flow.{Flow, held, takes, writes}
+use Rattle.nio_relay.specs.Flow.{Flow, buffered, takes, writes}
 use Rattle.nio_relay.specs.Kept.{written_of}
-use Rattle.nio_relay.proofs.KeptLemmas.{EndsWith, EndsWith-passed, held-items, written_passed}
+use Rattle.nio_relay.proofs.KeptLemmas.{EndsWith, EndsWith-passed, buffered-items, written_passed}
 use Rattle.nio_relay.proofs.direction.Direction.on_passed.Goals as goal
 
 -- all of what is to be kept fits in an empty buffer
@@ -23,8 +23,8 @@ module _ (c : goal.After-extend) where
   none_kept : c.self.inside.buffer.items ≡ []
   none_kept =
       let d = c.self.inside in
-      sym (held-items d.taken d.buffer.items c.self.invariant.whole)
-      ∙ subst (λ (f : Flow). held f ≡ []) (sym c.self.view_is) c.requires.none_held
+      sym (buffered-items d.taken d.buffer.items c.self.invariant.whole)
+      ∙ subst (λ (f : Flow). buffered f ≡ []) (sym c.self.view_is) c.requires.none_buffered
 
   fits : length c.args.bytes.now ≤ 16384
   fits = omega (arith, c.requires.bytes.fit)
@@ -51,7 +51,7 @@ invariant_of-self c =
       whole = subst (λ xs. EndsWith xs items) (sym c.extend.ensures)
           (EndsWith-passed d.taken bytes items c.args.n c.requires.within (kept c));
       capacity = ap (λ (b : Buffer ℕ). b.capacity) c.fill_from_slice.ensures.items ∙ c.self.invariant.capacity;
-      few_held = omega (arith, ap length (kept c), length-drop c.args.n bytes, fits c);
+      few_buffered = omega (arith, ap length (kept c), length-drop c.args.n bytes, fits c);
       shut_after_end = c.self.invariant.shut_after_end;
       shut_empty = λ is_shut. let never : false ≡ true = sym open_still ∙ c.self.invariant.shut_after_end is_shut in cc;
     }

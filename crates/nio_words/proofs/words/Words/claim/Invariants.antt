@@ -1,7 +1,7 @@
 use Rattle.nio_event.specs.declared.act.Act.TheVariants.{Claim}
 use Rattle.nio_words.specs.Decodings.{is_set}
 use Rattle.nio_words.specs.Parts.{selector_in, index_in}
-use Rattle.nio_words.specs.Details.{channel_of_details}
+use Rattle.nio_words.proofs.Details.{channel_of_details}
 use Rattle.nio_words.proofs.words.Words.claim.Given as goal
 
 abbrev pub ghost-step_that : goal.ghost-step_that

@@ -1,7 +1,7 @@
 use Rattle.nio_event.specs.declared.act.Act.TheVariants.{ClaimAgain}
 use Rattle.nio_words.specs.Decodings.{was_pinned}
 use Rattle.nio_words.specs.Parts.{selector_in, index_in}
-use Rattle.nio_words.specs.Details.{channel_of_details, stage_of_details}
+use Rattle.nio_words.proofs.Details.{channel_of_details, stage_of_details}
 use Rattle.nio_words.proofs.words.Words.claim_again.Given as goal
 
 abbrev pub ghost-step_that : goal.ghost-step_that

@@ -1,7 +1,7 @@
 use Rattle.nio_event.specs.declared.act.Act.TheVariants.{Enrol}
-use Rattle.nio_words.specs.Decodings.{noted_of}
+use Rattle.nio_words.specs.Decodings.{enrolled_of}
 use Rattle.nio_words.specs.Parts.{channel_in, selector_in}
-use Rattle.nio_words.specs.Details.{key_of_details}
+use Rattle.nio_words.proofs.Details.{key_of_details}
 use Rattle.nio_words.proofs.words.Words.enrol.Given as goal
 
 abbrev pub ghost-step_that : goal.ghost-step_that
@@ -9,5 +9,5 @@ ghost-step_that a =
     record {
       who = a.me;
       act = λ n. Enrol (channel_in a.part) (selector_in a.part) (key_of_details a._details).index
-          (key_of_details a._details).serial (noted_of n);
+          (key_of_details a._details).serial (enrolled_of n);
     }

@@ -1,4 +1,4 @@
-use Rattle.nio_words.proofs.HighMarks.{look_channels_moves}
+use Rattle.nio_words.proofs.HighWater.{look_channels_moves}
 use Rattle.nio_words.proofs.words.Words.look_channels.Goals as goal
 
 pub step-found-requires : goal.step-found-requires

@@ -1,4 +1,4 @@
-use Rattle.nio_words.proofs.HighMarks.{look_keys_moves}
+use Rattle.nio_words.proofs.HighWater.{look_keys_moves}
 use Rattle.nio_words.proofs.words.Words.look_keys.Goals as goal
 
 pub step-found-requires : goal.step-found-requires

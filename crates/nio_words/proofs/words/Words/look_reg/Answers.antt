@@ -1,4 +1,4 @@
-use Rattle.nio_words.proofs.Noted.{look_reg_moves}
+use Rattle.nio_words.proofs.Enrolled.{look_reg_moves}
 use Rattle.nio_words.proofs.words.Words.look_reg.Goals as goal
 
 pub step-found-requires : goal.step-found-requires

@@ -1,7 +1,7 @@
 use Rattle.nio_event.specs.declared.act.Act.TheVariants.{MakeChannel}
 use Rattle.nio_words.specs.Decodings.{is_set}
 use Rattle.nio_words.specs.Parts.{channel_in}
-use Rattle.nio_words.specs.Details.{kind_of_details}
+use Rattle.nio_words.proofs.Details.{kind_of_details}
 use Rattle.nio_words.proofs.words.Words.make_channel.Given as goal
 
 abbrev pub ghost-step_that : goal.ghost-step_that

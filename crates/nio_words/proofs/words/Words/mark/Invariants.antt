@@ -1,7 +1,7 @@
 use Rattle.nio_event.specs.declared.act.Act.TheVariants.{Mark}
 use Rattle.nio_words.specs.Decodings.{exchange_found}
 use Rattle.nio_words.specs.Parts.{selector_in, index_in}
-use Rattle.nio_words.specs.Details.{mark_of_details, told_of_details}
+use Rattle.nio_words.proofs.Details.{mark_of_details, told_of_details}
 use Rattle.nio_words.proofs.words.Words.mark.Given as goal
 
 abbrev pub ghost-step_that : goal.ghost-step_that

@@ -1,6 +1,6 @@
 use Rattle.nio_event.specs.declared.act.Act.TheVariants.{PutFree}
 use Rattle.nio_words.specs.Parts.{selector_in}
-use Rattle.nio_words.specs.Details.{number_of_details}
+use Rattle.nio_words.proofs.Details.{number_of_details}
 use Rattle.nio_words.proofs.words.Words.put_free.Given as goal
 
 abbrev pub ghost-step_that : goal.ghost-step_that

@@ -1,5 +1,5 @@
 use Rattle.std.proofs.Common.{arith}
-use Rattle.nio_words.proofs.HighMarks.{raise_keys_moves}
+use Rattle.nio_words.proofs.HighWater.{raise_keys_moves}
 use Rattle.nio_words.proofs.words.Words.raise_keys.Goals as goal
 
 pub step_that-found-requires : goal.step_that-found-requires

@@ -1,7 +1,7 @@
 use Rattle.nio_event.specs.declared.act.Act.TheVariants.{RaiseKeys}
 use Rattle.nio_words.specs.Decodings.{number_of}
 use Rattle.nio_words.specs.Parts.{selector_in}
-use Rattle.nio_words.specs.Details.{number_of_details}
+use Rattle.nio_words.proofs.Details.{number_of_details}
 use Rattle.nio_words.proofs.words.Words.raise_keys.Given as goal
 
 abbrev pub ghost-step_that : goal.ghost-step_that

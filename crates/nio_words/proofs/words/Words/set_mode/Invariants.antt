@@ -1,7 +1,7 @@
 use Rattle.nio_event.specs.declared.act.Act.TheVariants.{SetMode}
 use Rattle.nio_words.specs.Decodings.{chan_of}
 use Rattle.nio_words.specs.Parts.{channel_in}
-use Rattle.nio_words.specs.Details.{mode_of_details}
+use Rattle.nio_words.proofs.Details.{mode_of_details}
 use Rattle.nio_words.proofs.words.Words.set_mode.Given as goal
 
 abbrev pub ghost-step_that : goal.ghost-step_that

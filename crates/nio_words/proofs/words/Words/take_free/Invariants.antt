@@ -2,7 +2,7 @@ use Rattle.std.specs.Prelude.{◌%◌}
 use Rattle.nio_event.specs.declared.act.Act.TheVariants.{TakeFree}
 use Rattle.nio_words.specs.Decodings.{is_set}
 use Rattle.nio_words.specs.Parts.{selector_in}
-use Rattle.nio_words.specs.Details.{number_of_details}
+use Rattle.nio_words.proofs.Details.{number_of_details}
 use Rattle.nio_words.proofs.words.Words.take_free.Given as goal
 
 abbrev pub ghost-step_that : goal.ghost-step_that

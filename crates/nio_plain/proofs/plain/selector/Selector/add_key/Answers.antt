@@ -15,13 +15,13 @@ returns-in_ok-insert-clause-ok c =
     let within : id.index < length xs = omega (arith, self.keys.ok.0) in
     let len : length xs ≡ max (length xs) (suc id.index) = omega arith in
     let kept = length-set xs id.index key in
-    let noted = get-insert self.noted c.insert.new.self key.chan.0 id c.in_ok-insert.ensures.updates in
+    let enrolled = get-insert self.enrolled c.insert.new.self key.chan.0 id c.in_ok-insert.ensures.updates in
     let keys = places-set key_row no_key xs id.index key within in
     let mark = kept ∙ len in
     λ i. record (selector_row self) {
       keys_high = mark i;
       keys = keys i;
-      noted = noted i;
+      enrolled = enrolled i;
     }
 
 pub returns-in_ok-push-clause-ok : goal.returns-in_ok-push-clause-ok
@@ -37,9 +37,10 @@ returns-in_ok-push-clause-ok c =
     let mark : length c.push.new.self.items ≡ max (length xs) (suc id.index) = omega (arith, len) in
     let keys = ap (places key_row no_key) pushed
     ∙ (places-push key_row no_key xs key ∙ ap (λ n. put (places key_row no_key xs) n (key_row key)) index) in
-    let noted = get-insert self.noted c.insert-else-index-len.new.self key.chan.0 id c.in_ok-insert-2.ensures.updates in
+    let enrolled = get-insert self.enrolled c.insert-else-index-len.new.self key.chan.0 id
+    c.in_ok-insert-2.ensures.updates in
     λ i. record (selector_row self) {
       keys_high = mark i;
       keys = keys i;
-      noted = noted i;
+      enrolled = enrolled i;
     }

@@ -12,5 +12,5 @@ returns c =
     λ i. record new_selector {
       keys_high = length (c.new.ensures.items i);
       keys = none i;
-      noted = λ k. lookup (is_at (nat_cmp k)) (c.new-2.ensures.empty i);
+      enrolled = λ k. lookup (is_at (nat_cmp k)) (c.new-2.ensures.empty i);
     }
