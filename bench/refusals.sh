@@ -1,0 +1,122 @@
+#!/usr/bin/env bash
+# Refuses each allocation of the program in turn, for each of the inputs below: once alone, and once with all after it.
+# For each input it writes how many allocations a run makes, how many runs there were, and how they ended. A run is
+# wrong where its status is neither the input's nor 6 (want of memory), where what it wrote isn't a beginning of the
+# input's output (at 6 of a race: where it wrote anything), where it wrote to standard error, or where it didn't end.
+# `bench/refusals.sh WORD` tries only the inputs whose name has that word.
+set -euo pipefail
+cd "$(dirname "$0")/.."
+./nio script </dev/null >/dev/null
+program=$PWD/crates/nio_cli/out/nio_cli
+bench=$PWD/crates/nio_bench/out/nio_bench
+only=${1-}
+work=$(mktemp -d)
+trap 'rm -rf "$work"; kill $(jobs -p) 2>/dev/null || true' EXIT
+gcc -O2 -Wall -shared -fPIC -o "$work/refuse.so" bench/refuse.c -ldl
+wrong=0 runs=0
+
+# refused AT ON INPUT COMMAND..: a run in which allocation AT fails, and each one after it where ON is 1
+refused() {
+    local at=$1 on=$2 input=$3
+    shift 3
+    local set=(LD_PRELOAD="$work/refuse.so" REFUSE_AT="$at" REFUSE_COUNT="$work/count")
+    [ "$on" = 0 ] || set+=(REFUSE_ON=1)
+    rm -f "$work/count"
+    timeout 20 env "${set[@]}" "$@" <"$input" >"$work/out" 2>"$work/err"
+}
+
+# begins: whether what the run wrote is a beginning of one of the outputs of the input
+begins() {
+    local output size
+    size=$(stat -c %s "$work/out")
+    for output in "$work"/right.*; do
+        ! cmp -s -n "$size" "$work/out" "$output" || [ "$(stat -c %s "$output")" -lt "$size" ] || return 0
+    done
+    return 1
+}
+
+# judge NAME AT ON STATUS WANTED IS_RACE: says what is wrong with a run
+judge() {
+    local why=
+    [ "$4" = "$5" ] || [ "$4" = 6 ] || why="status $4"
+    begins || why="$why output"
+    [ "$4" != 6 ] || [ "$6" = 0 ] || [ ! -s "$work/out" ] || why="$why output at want of memory"
+    [ ! -s "$work/err" ] || why="$why standard error"
+    runs=$((runs + 1))
+    [ -n "$why" ] || return 0
+    wrong=$((wrong + 1))
+    echo "WRONG: $1, allocation $2$([ "$3" = 0 ] || echo ' and all after it'): $why"
+}
+
+# each NAME WANTED IS_RACE INPUT COMMAND..: the input's outputs stand in "$work"/right.*
+each() {
+    local name=$1 wanted=$2 is_race=$3 input=$4 at=0 on status count lacked=0 before=$runs
+    shift 4
+    case "$name" in *"$only"*) ;; *) return 0 ;; esac
+    refused 0 0 "$input" "$@" && status=0 || status=$?
+    judge "$name" 0 0 "$status" "$wanted" "$is_race"
+    count=$(cat "$work/count")
+    while [ "$at" -lt "$count" ]; do
+        at=$((at + 1))
+        for on in 0 1; do
+            before_run
+            refused "$at" "$on" "$input" "$@" && status=0 || status=$?
+            after_run
+            [ "$status" != 6 ] || lacked=$((lacked + 1))
+            judge "$name" "$at" "$on" "$status" "$wanted" "$is_race"
+        done
+    done
+    echo "$name: $count allocations, $((runs - before)) runs, want of memory in $lacked"
+}
+before_run() { :; }
+after_run() { :; }
+
+# right FILE..: the outputs that are right
+right() {
+    rm -f "$work"/right.*
+    local number=0 file
+    for file in "$@"; do
+        number=$((number + 1))
+        cp "$file" "$work/right.$number"
+    done
+}
+
+for name in one_selection cancelling_while_selecting shutting_a_group_down accepting_in_a_group pipe_bytes broken_pipe \
+    cancelling; do
+    right "examples/$name.history"
+    each "script $name" 0 0 "examples/$name.nio" "$program" script
+done
+echo "legal 6" >"$work/legal"
+right "$work/legal"
+each "check one_selection" 0 0 examples/one_selection.history "$program" check
+each "check-1 one_selection" 0 0 examples/one_selection.history "$program" check-1
+for name in block_and_wakeup pipe_between_threads; do
+    right crates/nio_races/data/"$name".out*
+    each "race $name" 0 1 "crates/nio_races/data/$name.race" "$program" race
+done
+printf '%s\n' 't1 selector' 't1 channel source' 't1 blocking c0 off' 't1 register s0 c0 1' go 't1 begin s0 now' \
+    't2 wakeup s0' >"$work/beside.race"
+printf '%s\n' '1 t1 selector -> s0' '2 t1 channel source -> c0' '3 t1 blocking c0 off -> ok' \
+    '4 t1 register s0 c0 1 -> k0' 't1 1 begin s0 now -> looked k0:1' 't2 1 wakeup s0 -> ok' >"$work/beside"
+right "$work/beside"
+each "race beside" 0 1 "$work/beside.race" "$program" race
+printf 'lines 222\nselections 9\nupdates 9\n' >"$work/load"
+right "$work/load"
+each "load 9" 0 0 /dev/null "$program" load 9
+
+# The proxy over loopback: a target that answers what it is sent, and two clients for each run. A connection that fails
+# for want of memory counts as faulty, so the outputs are those of two connections of which some failed.
+for faults in 0 1 2; do echo "served 2 faults $faults" >"$work/served.$faults"; done
+right "$work"/served.*
+port=$((20000 + RANDOM % 20000))
+python3 bench/loopback.py target "$port" &
+before_run() { python3 bench/loopback.py clients $((port + 1)) & clients=$!; }
+after_run() { kill "$clients" 2>/dev/null || true; wait "$clients" 2>/dev/null || true; }
+for way in select; do
+    before_run
+    each "proxy --way $way" 0 0 /dev/null "$program" proxy --way "$way" --listen "127.0.0.1:$((port + 1))" \
+        --target "127.0.0.1:$port" --conns 2
+done
+
+echo "$runs runs, $wrong wrong"
+[ "$wrong" = 0 ]
