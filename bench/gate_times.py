@@ -76,7 +76,7 @@ class Watch:
 def crates_below():
     """Which crates of the repository each crate stands on."""
     lines = [it.split("#")[0].strip() for it in read("crates.txt").split("\n")]
-    below = {it.split(":")[0].split()[0]: it.split(":")[1].split() for it in lines if it}
+    below = {it.split(":")[0].split()[0]: it.split(":")[1].split() for it in lines if ":" in it}
     return {crate: [it for it in libraries if it in below] for crate, libraries in below.items()}
 
 

@@ -11,6 +11,8 @@
 #include <stdio.h>
 #include <stdlib.h>
 #include <string.h>
+#include <sys/syscall.h>
+#include <unistd.h>
 
 static atomic_ulong made;
 static unsigned long refused_at;
@@ -47,7 +49,7 @@ __attribute__((constructor)) static void begin(void) {
     atomic_store(&made, 0);
 }
 
-__attribute__((destructor)) static void end(void) {
+static void write_count(void) {
     const char *to = getenv("REFUSE_COUNT");
     if (!to) return;
     unsigned long number = atomic_load(&made);
@@ -56,6 +58,15 @@ __attribute__((destructor)) static void end(void) {
     if (!file) return;
     fprintf(file, "%lu\n", number);
     fclose(file);
+}
+
+__attribute__((destructor)) static void end(void) { write_count(); }
+
+/* The program ends so, with no destructor run. */
+void _exit(int status) {
+    write_count();
+    syscall(SYS_exit_group, status);
+    __builtin_unreachable();
 }
 
 static int is_refused(void) {

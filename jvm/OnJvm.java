@@ -311,9 +311,9 @@ class Stream extends Channel {
             stream.read(ByteBuffer.allocate(1));
             isFed = false;
         }
-        for (int turn = 0; turn < 5; turn++) {
-            while (stream.write(ByteBuffer.wrap(BLOCK)) > 0) {
-            }
+        // what the peer took frees places for a while yet
+        for (int quiet = 0, turn = 0; quiet < 5 && turn < 100; turn++) {
+            quiet = stream.write(ByteBuffer.wrap(BLOCK)) > 0 ? 0 : quiet + 1;
             pause();
         }
     }
@@ -986,6 +986,7 @@ class Run {
             if (caller.hasEnded(PATIENCE)) {
                 throw new Stop("the real selection ended before its line");
             }
+            chosen.findRemoved();
         }
         StringBuilder text = new StringBuilder("looked");
         for (Key key : chosen.newest.values()) {
@@ -1077,7 +1078,8 @@ class Run {
         }
         boolean wasInterrupted = caller.isToBeInterrupted();
         for (Map.Entry<Key, Integer> entry : told.entrySet()) {
-            int fed = entry.getValue() & ~entry.getKey().channel.always();
+            int looked = entry.getValue() & selection.looked.get(entry.getKey());
+            int fed = looked & ~entry.getKey().channel.always();
             if (fed != 0) {
                 entry.getKey().channel.feed(fed);
             }
@@ -1089,6 +1091,7 @@ class Run {
         for (Key key : told.keySet()) {
             key.channel.clear();
         }
+        chosen.findRemoved();
         if (!hasEnded) {
             return "again";
         }
@@ -1099,7 +1102,6 @@ class Run {
                 : selection.mayElapse ? "elapsed" : "for-no-reason";
         chosen.isWoken = false;
         chosen.selection = null;
-        chosen.findRemoved();
         return "selected " + count + " " + why;
     }
 

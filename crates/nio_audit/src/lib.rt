@@ -10,5 +10,3 @@ mod judge;
 mod memory;
 mod state;
 mod table;
-#[cfg(test)]
-mod tests;

@@ -3,7 +3,7 @@ ghost use Rattle.std.specs.Prelude.{◌≡◌};
 
 use crate::ops::Ops;
 
-/// What a channel is: a stream connection, a listener, or an end of a pipe.
+/// What a channel is: a stream connection, a listener, an end of a pipe, or a datagram channel.
 #[derive(Clone, Copy, Debug, PartialEq, Eq, Hash)]
 pub enum Kind {
     /// A stream connection, as Java's `SocketChannel`.
@@ -14,6 +14,8 @@ pub enum Kind {
     Source,
     /// The end of a pipe that is written.
     Sink,
+    /// What sends and receives packets, as Java's `DatagramChannel`.
+    Datagram,
 }
 
 impl Kind {
@@ -29,6 +31,7 @@ impl Kind {
             Kind::Listener => Ops::ACCEPT,
             Kind::Source => Ops::READ,
             Kind::Sink => Ops::WRITE,
+            Kind::Datagram => Ops::of(5),
         }
     }
 }

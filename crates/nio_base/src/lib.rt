@@ -16,5 +16,3 @@ mod kind;
 mod limits;
 mod numbers;
 mod ops;
-#[cfg(test)]
-mod tests;

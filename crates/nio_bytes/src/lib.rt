@@ -23,5 +23,3 @@ mod source;
 mod std_sink;
 mod std_source;
 mod steady_source;
-#[cfg(test)]
-mod tests;

@@ -30,6 +30,4 @@ mod looks;
 mod modes;
 mod opening;
 mod registering;
-#[cfg(test)]
-mod tests;
 mod waiting;

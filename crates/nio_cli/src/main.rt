@@ -4,9 +4,9 @@
 use nio_base::NoGate;
 use nio_bytes::{StdSink, StdSource};
 use nio_mio::MioNet;
+use nio_run::{PROGRAM_LIMITS, run};
 use nio_script::Status;
 use nio_words::Words;
-use run::{PROGRAM_LIMITS, run};
 use std::alloc::{AllocError, Global};
 use std::net::Net;
 use std::process::ExitCode;
@@ -15,10 +15,6 @@ use std::sync::Wait;
 use std::thread::Threads;
 use std::time::Clock;
 use std::{env, io};
-
-mod proxy;
-mod run;
-mod words;
 
 /// The words of the command line, after the program's name. Where one isn't text there are none,
 /// which is no command.
@@ -62,6 +58,3 @@ fn status(
 fn main(rt: HostRuntime) -> ExitCode {
     ExitCode::from(status(&rt, rt.alloc()).code())
 }
-
-#[cfg(test)]
-mod tests;

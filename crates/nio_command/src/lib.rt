@@ -8,5 +8,3 @@ mod command;
 mod number;
 mod options;
 mod plan;
-#[cfg(test)]
-mod tests;

@@ -10,7 +10,7 @@ use Rattle.std.proofs.lemmas.Fmt.{decimal_injective, decimal_nonempty}
 use Rattle.std.proofs.lemmas.List.Elements.{All-head, All-tail}
 use Rattle.std.proofs.lemmas.Option.{same_Some}
 use Rattle.nio_base.specs.declared.kind.Kind.{Kind}
-use Rattle.nio_base.specs.declared.kind.Kind.TheVariants.{Stream, Listener, Source, Sink}
+use Rattle.nio_base.specs.declared.kind.Kind.TheVariants.{Stream, Listener, Source, Sink, Datagram}
 use Rattle.nio_base.specs.declared.numbers.CallerNo.{CallerNo}
 use Rattle.nio_base.specs.declared.numbers.ChanNo.{ChanNo}
 use Rattle.nio_base.specs.declared.numbers.KeyId.{KeyId}
@@ -104,18 +104,27 @@ kind_one Stream Stream e = refl
 kind_one Listener Listener e = refl
 kind_one Source Source e = refl
 kind_one Sink Sink e = refl
+kind_one Datagram Datagram e = refl
 kind_one Stream Listener e = absurd (omega (arith, byte_at 0 e))
 kind_one Stream Source e = absurd (omega (arith, byte_at 1 e))
 kind_one Stream Sink e = absurd (omega (arith, byte_at 1 e))
+kind_one Stream Datagram e = absurd (omega (arith, byte_at 0 e))
 kind_one Listener Stream e = absurd (omega (arith, byte_at 0 e))
 kind_one Listener Source e = absurd (omega (arith, byte_at 0 e))
 kind_one Listener Sink e = absurd (omega (arith, byte_at 0 e))
+kind_one Listener Datagram e = absurd (omega (arith, byte_at 0 e))
 kind_one Source Stream e = absurd (omega (arith, byte_at 1 e))
 kind_one Source Listener e = absurd (omega (arith, byte_at 0 e))
 kind_one Source Sink e = absurd (omega (arith, byte_at 1 e))
+kind_one Source Datagram e = absurd (omega (arith, byte_at 0 e))
 kind_one Sink Stream e = absurd (omega (arith, byte_at 1 e))
 kind_one Sink Listener e = absurd (omega (arith, byte_at 0 e))
 kind_one Sink Source e = absurd (omega (arith, byte_at 1 e))
+kind_one Sink Datagram e = absurd (omega (arith, byte_at 0 e))
+kind_one Datagram Stream e = absurd (omega (arith, byte_at 0 e))
+kind_one Datagram Listener e = absurd (omega (arith, byte_at 0 e))
+kind_one Datagram Source e = absurd (omega (arith, byte_at 0 e))
+kind_one Datagram Sink e = absurd (omega (arith, byte_at 0 e))
 
 mode_one : (x y : Bool) → mode_word x ≡ mode_word y → x ≡ y
 mode_one true true e = refl

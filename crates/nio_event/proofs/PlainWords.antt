@@ -20,7 +20,7 @@ use Rattle.nio_base.specs.declared.group.Outcome.{Outcome}
 use Rattle.nio_base.specs.declared.group.Outcome.TheVariants as outcome
 use Rattle.nio_base.specs.declared.group.Why.TheVariants as failed
 use Rattle.nio_base.specs.declared.kind.Kind.{Kind}
-use Rattle.nio_base.specs.declared.kind.Kind.TheVariants.{Stream, Listener, Source, Sink}
+use Rattle.nio_base.specs.declared.kind.Kind.TheVariants.{Stream, Listener, Source, Sink, Datagram}
 use Rattle.nio_base.specs.declared.numbers.CallerNo.{CallerNo}
 use Rattle.nio_base.specs.declared.numbers.ChanNo.{ChanNo}
 use Rattle.nio_base.specs.declared.numbers.GChan.{GChan}
@@ -174,6 +174,7 @@ kind_plain Stream = literal (codes "stream") refl
 kind_plain Listener = literal (codes "listener") refl
 kind_plain Source = literal (codes "source") refl
 kind_plain Sink = literal (codes "sink") refl
+kind_plain Datagram = literal (codes "datagram") refl
 
 mode_plain : (on : Bool) → IsPlain (mode_word on)
 mode_plain true = literal (codes "on") refl

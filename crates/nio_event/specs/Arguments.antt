@@ -4,6 +4,7 @@ use Rattle.std.specs.Prelude.{◌∷◌, ◌++◌, length, map, codes, All, Any}
 use Rattle.std.specs.Fmt.{decimal, signed_decimal}
 use Rattle.std.specs.List.{AllPairs}
 use Rattle.nio_base.specs.declared.kind.Kind.{Kind}
+use Rattle.nio_base.specs.declared.kind.Kind.TheVariants.{Stream, Listener, Source, Sink, Datagram}
 use Rattle.nio_base.specs.declared.numbers.CallerNo.{CallerNo}
 use Rattle.nio_base.specs.declared.numbers.ChanNo.{ChanNo}
 use Rattle.nio_base.specs.declared.numbers.KeyId.{KeyId}
@@ -132,26 +133,34 @@ ArgumentsFit (selector_wait s waiting) = IsNumber s.0 × IsTime waiting
 ArgumentsFit (selector_told s elapsed pairs) = IsNumber s.0 × ArePairs pairs
 ArgumentsFit (on_group g) = IsGroupCall g
 
--- ---- their keys
+-- ---- what came later than the first rules
 
--- the arguments name a key whose serial isn't 0
-abbrev pub HaveSerial : Arguments → Type 0
-HaveSerial nothing = ⊥
-HaveSerial (one_caller t) = ⊥
-HaveSerial (one_selector s) = ⊥
-HaveSerial (one_channel c) = ⊥
-HaveSerial (one_kind kind) = ⊥
-HaveSerial (channel_mode c on) = ⊥
-HaveSerial (channel_selector c s) = ⊥
-HaveSerial (channel_bytes c bytes) = ⊥
-HaveSerial (channel_count c n) = ⊥
-HaveSerial (registration s c ops att) = ⊥
-HaveSerial (selector_key s k) = k.serial ≢ 0
-HaveSerial (key_ops s k ops) = k.serial ≢ 0
-HaveSerial (key_number s k n) = k.serial ≢ 0
-HaveSerial (selector_wait s waiting) = ⊥
-HaveSerial (selector_told s elapsed pairs) = Any (λ p. p.0.serial ≢ 0) pairs
-HaveSerial (on_group g) = ⊥
+-- no line opened a channel of this kind by the first rules
+abbrev pub IsLaterKind : Kind → Type 0
+IsLaterKind Stream = ⊥
+IsLaterKind Listener = ⊥
+IsLaterKind Source = ⊥
+IsLaterKind Sink = ⊥
+IsLaterKind Datagram = ⊤
+
+-- no line had these arguments by the first rules: they name a key whose serial isn't 0, or a later kind of channel
+abbrev pub AreLater : Arguments → Type 0
+AreLater nothing = ⊥
+AreLater (one_caller t) = ⊥
+AreLater (one_selector s) = ⊥
+AreLater (one_channel c) = ⊥
+AreLater (one_kind kind) = IsLaterKind kind
+AreLater (channel_mode c on) = ⊥
+AreLater (channel_selector c s) = ⊥
+AreLater (channel_bytes c bytes) = ⊥
+AreLater (channel_count c n) = ⊥
+AreLater (registration s c ops att) = ⊥
+AreLater (selector_key s k) = k.serial ≢ 0
+AreLater (key_ops s k ops) = k.serial ≢ 0
+AreLater (key_number s k n) = k.serial ≢ 0
+AreLater (selector_wait s waiting) = ⊥
+AreLater (selector_told s elapsed pairs) = Any (λ p. p.0.serial ≢ 0) pairs
+AreLater (on_group g) = ⊥
 
 -- ---- reading them
 

@@ -2,7 +2,7 @@
 use Rattle.std.specs.Prelude.{◌≡◌, ℕ, ◌<◌, ◌≤◌, Some, List, [], ◌∷◌, ◌⊎◌, length, slice_get}
 use Rattle.std.specs.List.{join_with_byte}
 use Rattle.nio_base.specs.declared.numbers.CallerNo.{CallerNo}
-use Rattle.nio_event.specs.Arguments.{ArgumentsFit, HaveSerial, argument_words}
+use Rattle.nio_event.specs.Arguments.{AreLater, ArgumentsFit, argument_words}
 use Rattle.nio_event.specs.CallWords.{arguments, call_word, call_word_text}
 use Rattle.nio_event.specs.Words.{caller_word}
 use Rattle.nio_event.specs.declared.call.Call.{Call}
@@ -15,9 +15,9 @@ call_words call = call_word_text (call_word call) ∷ argument_words (arguments 
 abbrev pub IsCall : Call → Type 0
 IsCall call = ArgumentsFit (arguments call)
 
--- the call names a key whose serial isn't 0
-abbrev pub NamesSerial : Call → Type 0
-NamesSerial call = HaveSerial (arguments call)
+-- the call came later than the first rules: it names a key whose serial isn't 0, or opens a datagram channel
+abbrev pub IsLaterCall : Call → Type 0
+IsLaterCall call = AreLater (arguments call)
 
 -- a caller and its call, each word after one space
 abbrev pub line_text : CallerNo → Call → List ℕ

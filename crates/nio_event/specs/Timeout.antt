@@ -7,5 +7,5 @@ use Rattle.nio_event.specs.declared.timeout.NegativeTimeout.{NegativeTimeout}
 -- 0 waits without limit, and a negative time is refused
 abbrev pub mode_for : ℤ → Result Mode NegativeTimeout
 mode_for (pos zero) = Ok Wait
-mode_for (pos (suc ms)) = Ok (For (suc ms))
+mode_for (pos (suc ms)) = Ok (For (record { after_the_first = ms }))
 mode_for (negsuc _) = Err (record {})

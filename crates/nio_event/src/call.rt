@@ -1,5 +1,8 @@
 //! The calls of a script: one variant for each call word, its arguments in the order of the line, and one for
 //! all calls on the group.
+ghost use Rattle.std.specs.Prelude.{◌↔◌, IsTrue};
+ghost use Rattle.nio_event.specs.Arguments.{IsLaterKind};
+
 use crate::bytes::Bytes;
 use crate::group_call::GroupCall;
 use crate::pairs::Pairs;
@@ -79,16 +82,15 @@ pub enum Call {
 }
 
 impl Call {
-    ghost use Rattle.std.specs.Prelude.{◌↔◌, IsTrue};
-    ghost use Rattle.nio_event.specs.Calls.{NamesSerial};
+    ghost use Rattle.nio_event.specs.Calls.{IsLaterCall};
 
-    /// Whether the call names a key whose serial isn't 0. No line did before indexes came back.
-    pub fn names_serial(&self) -> bool
-        ensures { IsTrue result ↔ NamesSerial self.now }
+    /// Whether the call came later than the first rules: no line named a key with a serial, or opened a datagram
+    /// channel, then.
+    pub fn is_later(&self) -> bool
+        ensures { IsTrue result ↔ IsLaterCall self.now }
     {
         match self {
             Call::Selector
-            | Call::Channel(..)
             | Call::Blocking(..)
             | Call::IsBlocking(..)
             | Call::IsOpen(..)
@@ -109,6 +111,7 @@ impl Call {
             | Call::Pwrite(..)
             | Call::Pread(..)
             | Call::Group(..) => false,
+            Call::Channel(kind) => is_later_kind(*kind),
             Call::Valid(_, key)
             | Call::Interest(_, key)
             | Call::Ready(_, key)
@@ -121,6 +124,16 @@ impl Call {
             | Call::Attachment(_, key) => key.serial != 0,
             Call::Told(_, _, pairs) => pairs.as_slice().iter().any(|pair| pair.0.serial != 0),
         }
+    }
+}
+
+/// Whether no line opened a channel of this kind by the first rules.
+fn is_later_kind(kind: Kind) -> bool
+    ensures { IsTrue result ↔ IsLaterKind kind }
+{
+    match kind {
+        Kind::Stream | Kind::Listener | Kind::Source | Kind::Sink => false,
+        Kind::Datagram => true,
     }
 }
 

@@ -2,6 +2,7 @@
 ghost use Rattle.std.specs.Prelude.{◌≡◌};
 ghost use Rattle.nio_event.specs.Sets.{fits, is_in_key_set, is_valid_key, was_published};
 
+use crate::timeout::Milliseconds;
 use nio_base::{ChanNo, Kind, Ops};
 
 /// The gate of a selector: whether a wakeup is pending, and whether closing it has begun.
@@ -85,14 +86,13 @@ pub struct Mark {
     pub ready: Ops,
 }
 
-/// How long a selection waits: not at all, without limit, or at most so many milliseconds, at
-/// least 1.
+/// How long a selection waits.
 #[derive(Clone, Copy, Debug, PartialEq, Eq)]
 pub enum Mode {
     /// It doesn't wait: Java's `selectNow`.
     Now,
     /// It waits without a limit of time: Java's `select()`.
     Wait,
-    /// It waits for so many milliseconds: Java's `select(timeout)`.
-    For(u64),
+    /// It waits for at most so many milliseconds: Java's `select(timeout)`. `Mode::waiting` makes it.
+    For(Milliseconds),
 }

@@ -14,7 +14,7 @@ pub use pairs::Pairs;
 pub use parse::{ParseError, Parsed, cut_at, is_blank, parse_line, read_number};
 pub use print::{print_line, print_reply};
 pub use reply::{Reply, Why};
-pub use timeout::NegativeTimeout;
+pub use timeout::{Milliseconds, NegativeTimeout};
 
 mod act;
 mod bytes;

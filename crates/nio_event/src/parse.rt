@@ -19,8 +19,6 @@ mod group;
 mod line;
 mod name;
 mod number;
-#[cfg(test)]
-mod tests;
 mod told;
 mod waiting;
 mod words;

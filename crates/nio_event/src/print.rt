@@ -16,8 +16,6 @@ mod call;
 mod group;
 mod piece;
 mod reply;
-#[cfg(test)]
-mod tests;
 
 /// Most lines of a history have fewer bytes.
 const USUAL_LENGTH: usize = 64;

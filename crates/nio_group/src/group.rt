@@ -3,7 +3,7 @@ ghost use Rattle.std.specs.Prelude.{◌≡◌, ℕ, ◌+◌, ◌<◌, ◌≤◌,
 ghost use Rattle.std.specs.Prelude.{IsNone};
 ghost use Rattle.nio_group.specs.Limits.{IsFit};
 ghost use Rattle.nio_group.specs.Stages.{is_running as handler_runs};
-ghost use Rattle.nio_group.specs.Flight.{IsPendingAs, op_at};
+ghost use Rattle.nio_group.specs.Flight.{IsPendingAs, accepted, op_at};
 ghost use Rattle.nio_group.specs.Group.{empty_group, channel_at, is_terminated, IsLawful};
 ghost use Rattle.nio_group.specs.Refusals.{report_refusal, start_refusal as refusal_of_start};
 ghost use Rattle.nio_group.specs.Steps.{answer_to_open, after_open, answer_to_bind, after_bind, answer_to_start};
@@ -340,6 +340,21 @@ impl GroupCore {
         ensures { result ≡ length self.now.channels }
     {
         self.channels.len() as u32
+    }
+
+    /// Whether a channel isn't closed: Java's `isOpen`.
+    pub fn is_open(&self, chan: GChan) -> bool
+        requires { chan.0 < length self.now.channels }
+        ensures { result ≡ (channel_at self.now chan.0).is_open }
+    {
+        self.channels[chan.0 as usize].is_open
+    }
+
+    /// How many operations were accepted. They have the numbers from 0 on.
+    pub fn accepted(&self) -> u64
+        ensures { result ≡ accepted self.now.flight }
+    {
+        self.flight.accepted()
     }
 }
 

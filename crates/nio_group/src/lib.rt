@@ -24,5 +24,3 @@ mod operations;
 mod pending;
 mod refusal;
 mod refuse;
-#[cfg(test)]
-mod tests;

@@ -17,5 +17,3 @@ mod interests;
 mod pinned;
 mod selected;
 mod simple;
-#[cfg(test)]
-mod tests;

@@ -13,7 +13,7 @@ use Rattle.nio_link.specs.Slots.{slot_at, ready_at, holds_nothing, holds_listene
 use Rattle.nio_link.specs.Slots.{slots_after_read, write_answer, slots_after_write, shut_answer, slots_after_shut}
 use Rattle.nio_link.specs.Slots.{finish_answer, slots_after_finish}
 use Rattle.nio_link.specs.declared.memory.finding.Finding.{Finding}
-use Rattle.nio_link.specs.declared.memory.finding.Finding.TheVariants.{Told as WasTold, NotReady}
+use Rattle.nio_link.specs.declared.memory.finding.Finding.TheVariants.{Told as WasTold, Untold, NotReady}
 use Rattle.nio_link.specs.declared.memory.slot.Slot.{Slot}
 use Rattle.nio_link.specs.declared.memory.slot.Slot.TheVariants as slot
 use Rattle.nio_link.specs.declared.net.Failed.{Failed}
@@ -51,9 +51,10 @@ is_waiting (l ∷ later) = true
 -- what a channel is ready for, once this was found
 abbrev pub heed : (ChanNo → ℕ) → Finding → ChanNo → ℕ
 heed before (WasTold polled) c = told_of_channel polled.asked polled.answer.pairs c
+heed before Untold c = 0
 heed before (NotReady chan op) c = if chan.0 == c.0 then without op (before c) else before c
 
--- what the last poll told of a channel, without what calls found since
+-- what the last poll told of a channel, without what calls found since: nothing where it had no answer
 abbrev pub ready_told : List Finding → ChanNo → ℕ
 ready_told findings = fold heed (λ _. 0) findings
 
@@ -171,11 +172,11 @@ after_poll s polled = record s { polls = after_success s.polls; findings = s.fin
 
 -- after a poll for whose answer there was no memory
 abbrev pub after_lost_poll : NetState → NetState
-after_lost_poll s = record s { polls = after_success s.polls }
+after_lost_poll s = record s { polls = after_success s.polls; findings = s.findings ++ Untold ∷ [] }
 
 -- after a poll that failed
 abbrev pub after_failed_poll : NetState → NetState
-after_failed_poll s = record s { polls = after_failure s.polls }
+after_failed_poll s = record s { polls = after_failure s.polls; findings = s.findings ++ Untold ∷ [] }
 
 -- polls leave what links carried, which calls failed, and what stands
 pub record KeepsLinks (s now : NetState) : Type 0 where

@@ -10,5 +10,3 @@ mod memory;
 mod net;
 mod place;
 mod stream;
-#[cfg(test)]
-mod tests;

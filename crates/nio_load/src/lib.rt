@@ -8,5 +8,3 @@ mod generator;
 pub mod laws;
 mod run;
 mod summary;
-#[cfg(test)]
-mod tests;

@@ -10,4 +10,4 @@ abbrev pub left_of : ChanNo → ℕ → List (ChanNo × ℕ) → ℕ
 left_of c bits taken = fold (λ left one. if one.0.0 == c.0 then without one.1 left else left) bits taken
 
 abbrev pub ready_of : Readiness → ChanNo → ℕ
-ready_of r c = left_of c (last_told r.polls c) r.taken
+ready_of r c = left_of c (last_told r.last c) r.taken

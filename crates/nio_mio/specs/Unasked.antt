@@ -2,8 +2,14 @@
 use Rattle.std.specs.Prelude.{◌≡◌}
 use Rattle.nio_base.specs.declared.numbers.ChanNo.{ChanNo}
 use Rattle.nio_link.specs.Places.{places_after, unused}
+use Rattle.nio_mio.specs.Counts.{count_of}
 use Rattle.nio_mio.specs.declared.net.MioNet.{MioNet}
 
 -- no channel was asked to be anything
 abbrev pub IsUnasked : {S : Type 0} → MioNet S → Type 0
 IsUnasked net = (c : ChanNo) → places_after net.changes c ≡ unused
+
+-- no poll has failed, and no call on a channel
+pub record IsFaultless {S : Type 0} (net : MioNet S) : Type 0 where
+  pub polls : net.poll_faults ≡ 0
+  pub calls : (c : ChanNo) → count_of net.counts c ≡ 0

@@ -1,5 +1,6 @@
 //! How often calls on each channel have failed.
-ghost use Rattle.std.specs.Prelude.{◌≤◌};
+ghost use Rattle.std.specs.Prelude.{◌≡◌, ◌≤◌, IfOk};
+ghost use Rattle.nio_base.specs.declared.numbers.ChanNo.{ChanNo as Channel};
 ghost use Rattle.nio_bytes.specs.Cause.{Rose};
 ghost use Rattle.nio_link.specs.Links.{IsSameBut};
 
@@ -19,7 +20,10 @@ pub(crate) struct Counts {
 impl Counts {
     ghost use Rattle.nio_mio.specs.Counts.{count_of};
 
-    pub(crate) fn make(alloc: Global, places: usize) -> Result<Counts, AllocError> {
+    /// No call has failed.
+    pub(crate) fn make(alloc: Global, places: usize) -> Result<Counts, AllocError>
+        ensures { IfOk result (λ counts. (c : Channel) → count_of counts c ≡ 0) }
+    {
         Ok(Counts {
             own: vec![in alloc; 0_u64; places]?,
             beyond: Trace::new(),

@@ -15,5 +15,3 @@ mod net;
 mod readiness;
 mod socket;
 mod sockets;
-#[cfg(test)]
-mod tests;

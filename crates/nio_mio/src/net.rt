@@ -29,12 +29,13 @@ pub struct MioNet<S> {
 }
 
 impl<S: System + Clock + Copy> MioNet<S> {
-    ghost use Rattle.nio_mio.specs.Unasked.{IsUnasked};
+    ghost use Rattle.nio_mio.specs.Unasked.{IsFaultless, IsUnasked};
 
     /// A net without sockets, and its bell. Takes the memory for all sockets that there may be. Where the system
     /// refuses a poll object or a waker, the bell does nothing, and each call of the net that can fail fails.
     pub fn make(system: S, alloc: Global) -> Result<(MioNet<S>, MioBell), AllocError>
-        ensures { IfOk result (λ made. IsUnasked made.0) }
+        ensures unasked { IfOk result (λ made. IsUnasked made.0) }
+        ensures faultless { IfOk result (λ made. IsFaultless made.0) }
     {
         let counts = Counts::make(alloc, PLACES)?;
         let (sockets, bell) = Sockets::make(&system, alloc)?;
@@ -77,9 +78,13 @@ impl<S: System + Clock + Copy> Poller for MioNet<S> {
                     self.readiness.answered(asked, mode, &told);
                     Ok(told)
                 }
-                Err(AllocError) => Err(PollError::Memory),
+                Err(AllocError) => {
+                    self.readiness.failed();
+                    Err(PollError::Memory)
+                }
             },
             Err(Failed) => {
+                self.readiness.failed();
                 raise(&mut self.poll_faults);
                 Err(PollError::Fault)
             }

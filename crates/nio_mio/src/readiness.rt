@@ -11,10 +11,11 @@ use nio_poller::ToldPoll;
 use nio_select::{Asked, Told};
 use nio_trace::{Reading, Trace};
 
-/// The polls that answered, and which operations calls have found not ready since the last one.
+/// The polls that answered; the last poll, where it answered; and which operations calls have found not ready since.
 #[derive(Drop)]
 pub(crate) struct Readiness {
     polls: Trace<ToldPoll>,
+    last: Trace<ToldPoll>,
     taken: Trace<(ChanNo, Ops)>,
 }
 
@@ -26,6 +27,7 @@ impl Readiness {
     pub(crate) fn new() -> Readiness {
         Readiness {
             polls: Trace::new(),
+            last: Trace::new(),
             taken: Trace::new(),
         }
     }
@@ -36,8 +38,19 @@ impl Readiness {
             ≡ self.old.polls ++ record { asked = asked.now; mode = mode; answer = poll_of told.now } ∷ [] }
         ensures ready { (c : Channel) → ready_of self.new c ≡ told_of_channel asked.now told.now.pairs.items c }
     {
-        self.polls
-            .extend_from::<Answer, OnePoll>(&Answer { asked, mode, told });
+        let answer = Answer { asked, mode, told };
+        self.polls.extend_from::<Answer, OnePoll>(&answer);
+        self.last = Trace::new();
+        self.last.extend_from::<Answer, OnePoll>(&answer);
+        self.taken = Trace::new();
+    }
+
+    /// A poll failed.
+    pub(crate) fn failed(&mut self)
+        ensures polls { self.new.polls ≡ self.old.polls }
+        ensures unready { (c : Channel) → ready_of self.new c ≡ 0 }
+    {
+        self.last = Trace::new();
         self.taken = Trace::new();
     }
 

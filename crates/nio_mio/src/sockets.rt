@@ -91,7 +91,7 @@ impl Sockets {
                 self.poll_for(Some(Duration::ZERO))?;
                 Ok(false)
             }
-            Mode::For(ms) => self.wait_at_most(rt, clock, asked, Duration::from_millis(ms)),
+            Mode::For(ms) => self.wait_at_most(rt, clock, asked, Duration::from_millis(ms.get())),
             Mode::Wait => {
                 self.wait_for(rt, asked)?;
                 Ok(false)

@@ -19,5 +19,7 @@ pub mod Registration
 pub mod OrderlyCare
 pub mod Examples
 pub mod OrderlyClosings
+pub mod Removals
+pub mod ToldRemovals
 pub mod WaitedCalls
 pub mod OrderlyExamples

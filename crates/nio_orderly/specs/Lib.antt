@@ -6,6 +6,7 @@ pub mod Owed
 pub mod Settled
 pub mod AfterClosing
 pub mod OrderlyCare
+pub mod Removals
 pub mod Examples
 pub mod Waited
 pub mod OrderlyExamples

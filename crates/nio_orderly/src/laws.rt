@@ -9,6 +9,8 @@ ghost use Rattle.nio_orderly.specs.OrderlyCare.{CloseChannelCloses, FinishCloses
 ghost use Rattle.nio_orderly.specs.OrderlyCare.{NoKeyAfterCloseChannel, NoKeyAfterFinish, NoKeyAfterClose};
 ghost use Rattle.nio_orderly.specs.OrderlyExamples.{ClosedInRegistration, StepsOfNoCalls};
 ghost use Rattle.nio_orderly.specs.Owed.{NothingIsLost};
+ghost use Rattle.nio_orderly.specs.Removals.{BeginRemovesCancelled, SelectRemovesCancelled, ToldRemovesCancelled};
+ghost use Rattle.nio_orderly.specs.Removals.{CloseRemovesBelow, FinishRemovesPublished, CloseRemovesPublished};
 ghost use Rattle.nio_orderly.specs.Settled.{SettledLosesNoKey};
 ghost use Rattle.nio_orderly.specs.Waited.{WaitingCallsAreCalls, CallsWithoutWaiting};
 
@@ -47,6 +49,20 @@ pub fn closing_calls_law()
     ensures no_key_of_channel { NoKeyAfterCloseChannel }
     ensures no_key_of_selector { NoKeyAfterFinish }
     ensures no_key_after_close { NoKeyAfterClose }
+{}
+
+/// What is removed in a legal and orderly history. A selection that has begun has removed each key that was cancelled
+/// before the call. A `try_finish` that answers Closed, or a `close` that answers true, has removed each key that was
+/// published before the call. In any legal history the `told` that ends a selection has removed each looked key that
+/// was cancelled before that call; and such a `close` each key that was claimed before it looked at the keys'
+/// high-water mark, at an index below it.
+pub fn removals_law()
+    ensures begin { BeginRemovesCancelled }
+    ensures select { SelectRemovesCancelled }
+    ensures told { ToldRemovesCancelled }
+    ensures below { CloseRemovesBelow }
+    ensures finish { FinishRemovesPublished }
+    ensures close { CloseRemovesPublished }
 {}
 
 /// A channel that is closed while it is registered: the callers make whole calls, and the key is cancelled. A legal

@@ -398,3 +398,7 @@ sink_looks_more {a = a} {b = b} {c = c} looks same takes seal places = record {
   free = omega (arith, looks.free, places);
   seal = seal ∙ looks.seal;
 }
+
+-- who knows no free place after looks knew none before them
+pub no_place_before : {a b : PipeSink} → SinkLooks a b → free b ≡ 0 → free a ≡ 0
+no_place_before looks none = omega (arith, looks.free, none)

@@ -1,10 +1,10 @@
 -- The steps of the calls on pipes, with what these calls answer.
-use Rattle.std.specs.Prelude.{Bool, Result, Ok, Err, IsTrue, List}
+use Rattle.std.specs.Prelude.{◌≢◌, Bool, Result, Ok, Err, IsTrue, List, []}
 use Rattle.nio_base.specs.declared.limits.Limits.{Limits}
 use Rattle.nio_base.specs.declared.numbers.ChanNo.{ChanNo}
 use Rattle.nio_event.specs.PassViews.{PassView, known, HasChannel}
 use Rattle.nio_event.specs.declared.act.Act.{Act}
-use Rattle.nio_steps.specs.PipeCalls.{try_read_plan, try_write_plan, Reads, Writes}
+use Rattle.nio_steps.specs.PipeCalls.{try_read_plan, try_write_plan, Waits}
 use Rattle.nio_steps.specs.Plan.{Plan}
 use Rattle.nio_steps.specs.Runs.{Completes}
 use Rattle.nio_steps.specs.declared.refusal.PipeError.{PipeError}
@@ -24,17 +24,28 @@ TriesRead l source = RefusesBy (try_read_plan l source)
 abbrev pub TriesWrite : Limits → ChanNo → ChanNo → List Act → Result PipeWrite PipeError → Type 0
 TriesWrite l source sink = RefusesBy (try_write_plan l source sink)
 
--- The same of a call that waits: `none` says whether its last run found no bytes, or no room.
-abbrev pub WaitsBy : {A : Type 0} → (Bool → List Act → Result Bool PipeError → Type 0) → Bool → List Act
-    → Result A PipeError → Type 0
-WaitsBy Shape none acts (Ok answer) = (blocking : Bool) × Shape none acts (Ok blocking)
-WaitsBy Shape none acts (Err refusal) = Shape none acts (Err refusal)
+-- A call that waits is runs of a plan. `none` says whether the last one found no bytes, or no room. There was an
+-- earlier one only where `HadToWait` holds.
+pub record WaitsWhere (HadToWait : Type 0) (plan : Plan (Result Bool PipeError)) (none : Bool) (acts : List Act)
+    (answer : Result Bool PipeError) : Type 0 where
+  pub waits : Waits plan none acts answer
+  pub earlier : waits.runs.tries.runs ≢ [] → HadToWait
 
-abbrev pub WaitsToRead : Limits → ChanNo → List Act → Result PipeRead PipeError → Type 0
-WaitsToRead l source acts answer = WaitsBy (Reads l source) (read_waits answer) acts answer
+-- The same with what the call answers: a refusal is the plan's.
+abbrev pub WaitsBy : {A : Type 0} → Type 0 → Plan (Result Bool PipeError) → Bool → List Act → Result A PipeError
+    → Type 0
+WaitsBy HadToWait plan none acts (Ok answer) = (blocking : Bool) × WaitsWhere HadToWait plan none acts (Ok blocking)
+WaitsBy HadToWait plan none acts (Err refusal) = WaitsWhere HadToWait plan none acts (Err refusal)
 
-abbrev pub WaitsToWrite : Limits → ChanNo → ChanNo → List Act → Result PipeWrite PipeError → Type 0
-WaitsToWrite l source sink acts answer = WaitsBy (Writes l source sink) (write_waits answer) acts answer
+abbrev pub WaitsToRead : Limits → ChanNo → (Result PipeRead PipeError → Type 0) → List Act
+    → Result PipeRead PipeError → Type 0
+WaitsToRead l source HadToWait acts answer =
+    WaitsBy (HadToWait answer) (try_read_plan l source) (read_waits answer) acts answer
+
+abbrev pub WaitsToWrite : Limits → ChanNo → ChanNo → (Result PipeWrite PipeError → Type 0) → List Act
+    → Result PipeWrite PipeError → Type 0
+WaitsToWrite l source sink HadToWait acts answer =
+    WaitsBy (HadToWait answer) (try_write_plan l source sink) (write_waits answer) acts answer
 
 -- the channel is closed, as far as the pass has seen
 abbrev pub IsClosed : PassView → ChanNo → Type 0

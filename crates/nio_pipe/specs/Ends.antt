@@ -1,12 +1,15 @@
 -- What contracts see of the two ends of a pipe.
 use Rattle.std.specs.Prelude.{◌≡◌, ℕ, ◌≤◌, List, [], ◌++◌, length, take, drop, Bool, if◌then◌else◌, is_some, IsTrue}
-use Rattle.std.specs.Prelude.{IsFalse}
+use Rattle.std.specs.Prelude.{IsFalse, ◌<◌, Result, OnErr}
 use mathlib.Core.List.{IsPrefix}
 use Rattle.rtrb.specs.Ring.{known_free, known_items, IsPair, SameConsumer, SameProducer}
 use Rattle.rtrb.specs.Ring.{sent as pushed, received as popped}
 use Rattle.nio_base.specs.declared.numbers.ChanNo.{ChanNo}
+use Rattle.nio_steps.specs.declared.refusal.PipeError.{PipeError}
 use Rattle.nio_pipe.specs.Counts.{known_of}
 use Rattle.nio_pipe.specs.Pipe.{Pipe}
+use Rattle.nio_pipe.specs.declared.answers.PipeRead.{PipeRead}
+use Rattle.nio_pipe.specs.declared.answers.PipeWrite.{PipeWrite}
 use Rattle.nio_pipe.specs.declared.sink.PipeSink.{PipeSink}
 use Rattle.nio_pipe.specs.declared.source.PipeSource.{PipeSource}
 
@@ -37,6 +40,13 @@ pub record KnowsNothing (source : PipeSource) : Type 0 where
 pub record IsAtEnd (source : PipeSource) : Type 0 where
   pub sealed : IsTrue (knows_end source)
   pub no_byte : known source ≡ []
+
+-- A read had to wait: its slice isn't empty, and the source knew nothing at the call's start. A refused one found
+-- nothing while it waited.
+pub record HadNoByte (old new : PipeSource) (slice : List ℕ) (answer : Result PipeRead PipeError) : Type 0 where
+  pub room : 0 < length slice
+  pub before : KnowsNothing old
+  pub after : OnErr answer (KnowsNothing new)
 
 -- the same end of the same pipe
 pub record IsSameSource (old new : PipeSource) : Type 0 where
@@ -82,6 +92,13 @@ is_sealed sink = sink.sealed
 -- the places that it knows to be free; none once it has left its seal, since it takes no more bytes then
 abbrev pub free : PipeSink → ℕ
 free sink = if is_sealed sink then 0 else known_free sink.bytes
+
+-- A write had to wait: its slice isn't empty, and the sink knew of no free place at the call's start. A refused one
+-- found none while it waited.
+pub record HadNoPlace (old new : PipeSink) (slice : List ℕ) (answer : Result PipeWrite PipeError) : Type 0 where
+  pub bytes : 0 < length slice
+  pub before : free old ≡ 0
+  pub after : OnErr answer (free new ≡ 0)
 
 -- the same end of the same pipe
 pub record IsSameSink (old new : PipeSink) : Type 0 where

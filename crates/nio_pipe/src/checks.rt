@@ -4,7 +4,7 @@ ghost use Rattle.nio_event.specs.PassViews.{HasChannel, HasNoPin};
 ghost use Rattle.nio_steps.specs.Calls.{CallClause};
 ghost use Rattle.nio_steps.specs.PipeCalls.{pipe_plan, try_read_plan, try_write_plan};
 ghost use Rattle.nio_steps.specs.Runs.{Completes};
-ghost use Rattle.nio_steps.specs.declared.refusal.PipeError.TheVariants.{ClosedByInterrupt};
+ghost use Rattle.nio_steps.specs.declared.refusal.PipeError.TheVariants.{AsynchronousClose, ClosedByInterrupt};
 ghost use Rattle.nio_steps.specs.declared.refusal.PipeMakeError.TheVariants.{Memory};
 ghost use Rattle.nio_words.specs.Passes.{IsReady, limits_of};
 ghost use Rattle.nio_words.specs.Views.{view};
@@ -32,6 +32,7 @@ pub(crate) fn check_open(
         (view w.now p.old) (view w.now p.new) result }
     ensures ready { IsReady w.now p.new me }
     ensures closed { result ≡ Err ClosedByInterrupt → IsClosed (view w.now p.new) chan }
+    ensures at_once { result ≢ Err AsynchronousClose }
     ensures unpinned { HasNoPin (view w.now p.new) me }
 {
     let found = w.look_channel(p, me, chan);
@@ -53,6 +54,7 @@ fn check_interrupt(w: &Words, p: &mut Pass, me: CallerNo, chan: ChanNo) -> Resul
         (view w.now p.old) (view w.now p.new) result }
     ensures ready { IsReady w.now p.new me }
     ensures closed { result ≡ Err ClosedByInterrupt → IsClosed (view w.now p.new) chan }
+    ensures at_once { result ≢ Err AsynchronousClose }
     ensures unpinned { HasNoPin (view w.now p.new) me }
 {
     if !w.look_interrupt(p, me) {
@@ -78,6 +80,7 @@ pub(crate) fn check_write(
         (view w.now p.old) (view w.now p.new) result }
     ensures ready { IsReady w.now p.new me }
     ensures closed { result ≡ Err ClosedByInterrupt → IsClosed (view w.now p.new) sink }
+    ensures at_once { result ≢ Err AsynchronousClose }
     ensures unpinned { HasNoPin (view w.now p.new) me }
 {
     let blocking = check_open(w, p, me, sink)?;

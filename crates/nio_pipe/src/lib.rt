@@ -14,5 +14,3 @@ mod held;
 mod making;
 mod sink;
 mod source;
-#[cfg(test)]
-mod tests;

@@ -36,14 +36,14 @@ impl PipeSink {
     ghost use Rattle.nio_steps.specs.Calls.{CallClause};
     ghost use Rattle.nio_steps.specs.ChannelCalls.{close_channel_plan};
     ghost use Rattle.nio_steps.specs.Runs.{Completes};
-    ghost use Rattle.nio_steps.specs.declared.refusal.PipeError.TheVariants.{ClosedByInterrupt};
+    ghost use Rattle.nio_steps.specs.declared.refusal.PipeError.TheVariants.{AsynchronousClose, ClosedByInterrupt};
     ghost use Rattle.nio_words.specs.Passes.{IsReady, limits_of};
     ghost use Rattle.nio_words.specs.Views.{view};
     ghost use Rattle.nio_pipe.specs.Answers.{bytes_written, leaves_seal as answer_leaves_seal};
     ghost use Rattle.nio_pipe.specs.Answers.{write_answer as answer_of_write};
     ghost use Rattle.nio_pipe.specs.Calls.{HasEnds, IsClosed, TriesWrite, WaitsToWrite};
     ghost use Rattle.nio_pipe.specs.Ends.{other_chan, sink_chan, received, knows_end, sent, free, is_sealed, AreEnds};
-    ghost use Rattle.nio_pipe.specs.Ends.{IsSameSink, SourceLooks, SinkLooks, TakesBytes};
+    ghost use Rattle.nio_pipe.specs.Ends.{HadNoPlace, IsSameSink, SourceLooks, SinkLooks, TakesBytes};
     ghost use Rattle.nio_pipe.specs.declared.answers.PipeWrite.TheVariants.{NotYet};
 
     // The sink of a pipe into which nothing was written.
@@ -109,9 +109,7 @@ impl PipeSink {
         match check_write(w, p, me, self.source, self.chan) {
             Ok(_) => Ok(self.push(from)),
             Err(refusal) => {
-                if leaves_seal(refusal) {
-                    self.leave_seal();
-                }
+                self.seal_after(refusal);
                 Err(refusal)
             }
         }
@@ -129,11 +127,12 @@ impl PipeSink {
         requires ready { IsReady w.now p.old me }
         requires ends { HasEnds (view w.now p.old) (other_chan self.old) (sink_chan self.old) }
         requires unpinned { HasNoPin (view w.now p.old) me }
-        ensures call { CallClause me (WaitsToWrite (limits_of w.now) (other_chan self.old) (sink_chan self.old))
-            (view w.now p.old) (view w.now p.new) result }
+        ensures call { CallClause me (WaitsToWrite (limits_of w.now) (other_chan self.old) (sink_chan self.old)
+            (HadNoPlace self.old self.new from.now)) (view w.now p.old) (view w.now p.new) result }
         ensures ready { IsReady w.now p.new me }
         ensures unpinned { HasNoPin (view w.now p.new) me }
         ensures closed { result ≡ Err ClosedByInterrupt → IsClosed (view w.now p.new) (sink_chan self.old) }
+        ensures closed_meanwhile { result ≡ Err AsynchronousClose → HadNoPlace self.old self.new from.now result }
         ensures same { IsSameSink self.old self.new }
         ensures bytes { TakesBytes self.old self.new from.now (bytes_written result) }
         ensures seal { is_sealed self.new ≡ (is_sealed self.old || answer_leaves_seal result) }
@@ -155,9 +154,7 @@ impl PipeSink {
                     }
                 }
                 Err(refusal) => {
-                    if leaves_seal(refusal) {
-                        self.leave_seal();
-                    }
+                    self.seal_after(refusal);
                     return Err(refusal_after(waited, refusal));
                 }
             }
@@ -184,6 +181,18 @@ impl PipeSink {
         let (pushed, _) = self.bytes.push_partial_slice(from);
         self.count = self.count.wrapping_add(pushed.len() as u64);
         write_answer(from.len(), pushed.len())
+    }
+
+    // Leaves the seal where a write that is refused so does.
+    fn seal_after(&mut self, refusal: PipeError)
+        ensures same { IsSameSink self.old self.new }
+        ensures sent { sent self.new ≡ sent self.old }
+        ensures seal { is_sealed self.new ≡ (is_sealed self.old || answer_leaves_seal (Err refusal)) }
+        ensures free { free self.new ≤ free self.old }
+    {
+        if leaves_seal(refusal) {
+            self.leave_seal();
+        }
     }
 
     // Leaves the seal, once.

@@ -41,14 +41,14 @@ impl PipeSource {
     ghost use Rattle.nio_steps.specs.Calls.{CallClause};
     ghost use Rattle.nio_steps.specs.ChannelCalls.{close_channel_plan};
     ghost use Rattle.nio_steps.specs.Runs.{Completes};
-    ghost use Rattle.nio_steps.specs.declared.refusal.PipeError.TheVariants.{ClosedByInterrupt};
+    ghost use Rattle.nio_steps.specs.declared.refusal.PipeError.TheVariants.{AsynchronousClose, ClosedByInterrupt};
     ghost use Rattle.nio_words.specs.Passes.{IsReady, limits_of};
     ghost use Rattle.nio_words.specs.Views.{view};
     ghost use Rattle.nio_pipe.specs.Answers.{bytes_read, read_answer as answer_of_read};
     ghost use Rattle.nio_pipe.specs.Calls.{IsClosed, TriesRead, WaitsToRead};
     ghost use Rattle.nio_pipe.specs.Ends.{source_chan, received, known, knows_end, sent, is_sealed, pipe_of, AreEnds};
-    ghost use Rattle.nio_pipe.specs.Ends.{GivesBytes, IsAtEnd, IsSameSource, IsSameSink, KnowsNothing, SourceLooks};
-    ghost use Rattle.nio_pipe.specs.Ends.{SinkLooks};
+    ghost use Rattle.nio_pipe.specs.Ends.{GivesBytes, HadNoByte, IsAtEnd, IsSameSource, IsSameSink, KnowsNothing};
+    ghost use Rattle.nio_pipe.specs.Ends.{SinkLooks, SourceLooks};
     ghost use Rattle.nio_pipe.specs.Pipe.{IsLawful};
     ghost use Rattle.nio_pipe.specs.Pipe.{IsAtEnd as IsPipeAtEnd};
     ghost use Rattle.nio_pipe.specs.declared.answers.PipeRead.TheVariants.{End, NotYet};
@@ -122,11 +122,12 @@ impl PipeSource {
         requires ready { IsReady w.now p.old me }
         requires channel { HasChannel (view w.now p.old) (source_chan self.old) }
         requires unpinned { HasNoPin (view w.now p.old) me }
-        ensures call { CallClause me (WaitsToRead (limits_of w.now) (source_chan self.old))
-            (view w.now p.old) (view w.now p.new) result }
+        ensures call { CallClause me (WaitsToRead (limits_of w.now) (source_chan self.old)
+            (HadNoByte self.old self.new into.old)) (view w.now p.old) (view w.now p.new) result }
         ensures ready { IsReady w.now p.new me }
         ensures unpinned { HasNoPin (view w.now p.new) me }
         ensures closed { result ≡ Err ClosedByInterrupt → IsClosed (view w.now p.new) (source_chan self.old) }
+        ensures closed_meanwhile { result ≡ Err AsynchronousClose → HadNoByte self.old self.new into.old result }
         ensures same { IsSameSource self.old self.new }
         ensures bytes { GivesBytes self.old self.new into.old into.new (bytes_read result) }
         ensures answer { IfOk result (λ answer. answer ≡ answer_of_read (length into.old) (bytes_read result)

@@ -9,5 +9,3 @@ pub mod laws;
 mod plain;
 mod rules;
 mod system;
-#[cfg(test)]
-mod tests;

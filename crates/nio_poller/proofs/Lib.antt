@@ -1,7 +1,7 @@
 mod Trying
 pub mod Ready
 mod Marks
-mod Quiet
+pub mod Quiet
 mod Scripts
 mod Telling
 mod Whole

@@ -1,5 +1,5 @@
 -- A poller whose answers are given beforehand, as its callers see it.
-use Rattle.std.specs.Prelude.{ℕ, true, List, [], ◌∷◌, ◌++◌}
+use Rattle.std.specs.Prelude.{ℕ, Bool, true, false, if◌then◌else◌, List, [], ◌∷◌, ◌++◌}
 use Rattle.nio_base.specs.declared.numbers.ChanNo.{ChanNo}
 use Rattle.nio_bytes.specs.Calls.{Calls, after_success}
 use Rattle.nio_event.specs.declared.found.Mode.{Mode}
@@ -13,6 +13,8 @@ pub record Script : Type 0 where
   pub answers : List Poll
   -- the polls so far, those that failed too
   pub calls : Calls
+  -- whether the last of them failed
+  pub failed : Bool
   -- the polls that answered
   pub polls : List Polled
 
@@ -35,6 +37,7 @@ abbrev pub after_poll : Script → List LookedKey → Mode → Script
 after_poll s asked mode = record {
   answers = later_answers s.answers;
   calls = after_success s.calls;
+  failed = false;
   polls = s.polls ++ record { asked = asked; mode = mode; answer = next_answer s.answers } ∷ [];
 }
 
@@ -43,3 +46,7 @@ abbrev pub last_told : List Polled → ChanNo → ℕ
 last_told [] c = 0
 last_told (polled ∷ []) c = told_of_channel polled.asked polled.answer.pairs c
 last_told (polled ∷ (next ∷ later)) c = last_told (next ∷ later) c
+
+-- what the last poll told of a channel: nothing where it failed
+abbrev pub told_last : Script → ChanNo → ℕ
+told_last s c = if s.failed then 0 else last_told s.polls c

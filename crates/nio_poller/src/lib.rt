@@ -19,7 +19,5 @@ mod poller;
 mod scripted;
 mod selecting;
 mod sleeper;
-#[cfg(test)]
-mod tests;
 mod told_poll;
 mod waking;

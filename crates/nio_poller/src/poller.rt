@@ -1,5 +1,5 @@
 //! What says which channels are ready.
-ghost use Rattle.std.specs.Prelude.{◌≡◌, IfOk};
+ghost use Rattle.std.specs.Prelude.{◌≡◌, IfOk, OnErr};
 ghost use Rattle.nio_poller.specs.Polls.{CountsFaults, AddsPoll, told_of_channel};
 ghost use Rattle.nio_poller.specs.declared.poller.PollError.TheVariants.{Fault};
 
@@ -29,8 +29,7 @@ pub trait Poller {
     // How often a poll has failed.
     ghost poll_faults: { Self → ℕ };
 
-    // What the last poll that answered told of a channel, as far as no call on that channel has found since that
-    // it isn't ready.
+    // What the last poll told of a channel, as far as no call on that channel has found since that it isn't ready.
     ghost ready: { Self → ChanNo → ℕ };
 
     // The polls that answered, oldest first, where the poller shows them.
@@ -51,6 +50,7 @@ pub trait Poller {
         ensures cause { CountsFaults Fault (poll_faults self.old) (poll_faults self.new) result }
         ensures ready { IfOk result (λ told. (c : ChanNo) → ready self.new c
             ≡ told_of_channel asked.now told.pairs.items c) }
+        ensures unready { OnErr result ((c : ChanNo) → ready self.new c ≡ 0) }
         ensures polls { AddsPoll (polls self.old) (polls self.new) asked.now mode result }
         ensures kept { kept self.old self.new };
 

@@ -1,5 +1,5 @@
 //! A poller whose answers are given beforehand, for tests.
-ghost use Rattle.std.specs.Prelude.{◌≡◌, ◌↔◌, true, Some, IfOk, IsErr, OnErr};
+ghost use Rattle.std.specs.Prelude.{◌≡◌, ◌↔◌, true, false, Some, IfOk, IsErr, OnErr};
 ghost use Rattle.nio_bytes.specs.Calls.{after_failure, FailsNext};
 ghost use Rattle.nio_poller.specs.Polls.{CountsFaults, AddsPoll, told_of_channel};
 ghost use Rattle.nio_poller.specs.declared.poller.PollError.TheVariants.{Fault};
@@ -21,6 +21,7 @@ use std::vec::IntoIter;
 pub struct Scripted {
     answers: IntoIter<Told>,
     calls: Calls,
+    failed: bool,
     polls: Trace<ToldPoll>,
 }
 
@@ -35,6 +36,7 @@ impl Model for Scripted {
     ghost view = { λ s. record {
       answers = map poll_of (into_iter_items s.answers);
       calls = s.calls;
+      failed = s.failed;
       polls = s.polls;
     } };
 }
@@ -47,11 +49,17 @@ impl Scripted {
 
     /// A poller with these answers, whose calls with these numbers fail.
     pub fn make(answers: Vec<Told>, fail_at: Vec<u64>) -> Scripted
-        ensures { result ≡ record { answers = map poll_of answers.items; calls = no_calls fail_at.items; polls = [] } }
+        ensures { result ≡ record {
+          answers = map poll_of answers.items;
+          calls = no_calls fail_at.items;
+          failed = false;
+          polls = [];
+        } }
     {
         Scripted {
             answers: answers.into_iter(),
             calls: Calls::new(fail_at),
+            failed: false,
             polls: Trace::new(),
         }
     }
@@ -74,11 +82,11 @@ impl Poller for Scripted {
     ghost use Rattle.std.specs.Prelude.{⊤};
     ghost use Rattle.nio_base.specs.declared.numbers.ChanNo.{ChanNo};
     ghost use Rattle.nio_select.specs.InProgress.{poll_of};
-    ghost use Rattle.nio_poller.specs.Scripts.{next_answer, after_poll, last_told};
+    ghost use Rattle.nio_poller.specs.Scripts.{next_answer, after_poll, told_last};
 
     ghost poll_faults = { λ s. s.calls.faults };
 
-    ghost ready = { λ s. last_told s.polls };
+    ghost ready = { told_last };
 
     ghost polls = { λ s. Some s.polls };
 
@@ -93,20 +101,24 @@ impl Poller for Scripted {
     ) -> Result<Told, PollError>
         // As every poller.
         ensures cause { CountsFaults Fault self.old.calls.faults self.new.calls.faults result }
-        ensures ready { IfOk result (λ told. (c : ChanNo) → last_told self.new.polls c
+        ensures ready { IfOk result (λ told. (c : ChanNo) → told_last self.new c
             ≡ told_of_channel asked.now told.pairs.items c) }
+        ensures unready { OnErr result ((c : ChanNo) → told_last self.new c ≡ 0) }
         ensures polls { AddsPoll (Some self.old.polls) (Some self.new.polls) asked.now mode result }
 
         // By its answers and the failures that it was made with.
         ensures fails { IsErr result ↔ FailsNext self.old.calls }
         ensures answer { IfOk result (λ told. poll_of told ≡ next_answer self.old.answers) }
         ensures ok { IfOk result (λ _. self.new ≡ after_poll self.old asked.now mode) }
-        ensures err { OnErr result (self.new ≡ record self.old { calls = after_failure self.old.calls }) }
+        ensures err { OnErr result (self.new
+            ≡ record self.old { calls = after_failure self.old.calls; failed = true }) }
     {
         if self.calls.next(true).is_err() {
+            self.failed = true;
             return Err(PollError::Fault);
         }
         let told = self.next_told(alloc);
+        self.failed = false;
         self.polls.extend_from::<Answer, OnePoll>(&Answer {
             asked,
             mode,

@@ -46,6 +46,9 @@ pub enum SelectError {
 /// Waits until a key of the selector is ready, a wakeup is pending, the selector is closed or the caller is
 /// interrupted: Java's `select()`. While a selection is in progress there it waits for that one first; where that is
 /// the caller's own, it waits for ever.
+///
+/// The poller sees one poll more than the wait needs: the first poll of the selection is made with `Mode::Now`, so that
+/// what is pending is found before a poll waits. Each further one is made with `Mode::Wait`.
 pub fn select<R: Wait, P: Poller>(
     rt: &R,
     alloc: Global,

@@ -1,5 +1,5 @@
 //! A poller that only waits for its bell.
-ghost use Rattle.std.specs.Prelude.{◌≡◌, true, [], refl, None, IfOk};
+ghost use Rattle.std.specs.Prelude.{◌≡◌, ◌≢◌, ◌↔◌, true, [], refl, None, IfOk};
 ghost use Rattle.nio_event.specs.declared.found.Mode.TheVariants.{Wait as WithoutLimit};
 ghost use Rattle.nio_poller.specs.Polls.{CountsFaults, AddsPoll, told_of_channel};
 ghost use Rattle.nio_poller.specs.declared.poller.PollError.TheVariants.{Fault};
@@ -60,8 +60,9 @@ impl Poller for Sleeper {
         ensures ready { IfOk result (λ told. (c : ChanNo) → 0 ≡ told_of_channel asked.now told.pairs.items c) }
         ensures polls { AddsPoll None None asked.now mode result }
 
-        // It tells nothing.
+        // It tells nothing, and that the time is over where it may not wait without limit.
         ensures nothing { IfOk result (λ told. told.pairs.items ≡ []) }
+        ensures elapsed { IfOk result (λ told. (told.elapsed ≡ true) ↔ (mode ≢ WithoutLimit)) }
     {
         let waits = mode == Mode::Wait;
         if waits {

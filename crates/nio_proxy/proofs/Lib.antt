@@ -3,7 +3,6 @@ mod Bits
 mod Carrying
 mod Counts
 mod Ends
-pub mod FreshNet
 mod Idle
 pub mod Promise
 mod Ordered

@@ -10,5 +10,3 @@ mod proxy;
 mod serve;
 mod slot;
 mod spare;
-#[cfg(test)]
-mod tests;

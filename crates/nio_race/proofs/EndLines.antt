@@ -1,7 +1,7 @@
 -- What a line on the bytes of a pipe does to the ends that its caller owns.
 use Rattle.std.proofs.Common.{◌≡◌, ◌≢◌, ℕ, zero, suc, ◌+◌, ◌-◌, ◌<◌, ◌≤◌, ◌==◌, min, Bool, true, false, ◌||◌, ◌&&◌}
-use Rattle.std.proofs.Common.{if◌then◌else◌, IsTrue, Result, Ok, Err, List, [], ◌∷◌, ◌++◌, length, get_or, set, take}
-use Rattle.std.proofs.Common.{drop, position, None, refl, sym, ap, ◌∙◌, subst, eqb-true, eq-eqb, arith, ⊎_elim}
+use Rattle.std.proofs.Common.{if◌then◌else◌, IsTrue, IsFalse, Result, Ok, Err, List, [], ◌∷◌, ◌++◌, length, get_or, set}
+use Rattle.std.proofs.Common.{take, drop, position, None, refl, sym, ap, ◌∙◌, subst, eqb-true, eq-eqb, arith, ⊎_elim}
 use Rattle.std.proofs.Common.{length-append}
 use Rattle.std.proofs.Math.Nat.{le_refl, le_trans}
 use Rattle.std.proofs.lemmas.Bool.{cases_lt, cond-false, cond-true, ne_eqb}
@@ -16,8 +16,8 @@ use Rattle.nio_event.specs.declared.call.Call.TheVariants as call
 use Rattle.nio_event.specs.declared.reply.Reply.{Reply}
 use Rattle.nio_event.specs.declared.reply.Reply.TheVariants as reply
 use Rattle.nio_pipe.specs.Answers.{bytes_read, bytes_written, leaves_seal}
-use Rattle.nio_pipe.specs.Ends.{GivesBytes, IsAtEnd, IsSameSink, IsSameSource, KnowsNothing, TakesBytes, free}
-use Rattle.nio_pipe.specs.Ends.{is_sealed, known, received, sent, sink_chan, source_chan}
+use Rattle.nio_pipe.specs.Ends.{GivesBytes, HadNoByte, HadNoPlace, IsAtEnd, IsSameSink, IsSameSource, KnowsNothing}
+use Rattle.nio_pipe.specs.Ends.{TakesBytes, free, is_sealed, known, received, sent, sink_chan, source_chan}
 use Rattle.nio_pipe.specs.declared.answers.PipeRead.{PipeRead}
 use Rattle.nio_pipe.specs.declared.answers.PipeWrite.{PipeWrite}
 use Rattle.nio_pipe.specs.declared.sink.PipeSink.{PipeSink}
@@ -27,6 +27,7 @@ use Rattle.nio_race_text.specs.declared.call.RaceCall.TheVariants.{Script}
 use Rattle.nio_serial.specs.Replies.{closed_reply, pipe_refusal}
 use Rattle.nio_sole.specs.PipeReplies.{read_reply, write_reply}
 use Rattle.nio_steps.specs.declared.refusal.PipeError.{PipeError}
+use Rattle.nio_steps.specs.declared.refusal.PipeError.TheVariants.{AsynchronousClose}
 use Rattle.nio_words.proofs.Beginnings.{prefix_length, prefix_trans}
 use Rattle.nio_race.proofs.EndLists.{each_itself, each_set, none_passes, other_number}
 use Rattle.nio_race.proofs.FindLines.{KeepsRoom, close_keeps_room, close_takes_here, is_false, one_finds, one_takes}
@@ -35,7 +36,7 @@ use Rattle.nio_race.proofs.FindLines.{write_keeps_room, write_takes_elsewhere, w
 use Rattle.nio_race.proofs.LineEnds.{or-false, same_sink_self, same_source_self, told_alone}
 use Rattle.nio_race.specs.Ends.{AreEach, EndsGoOn, KnowsAwaited, SinkGoesOn, SourceGoesOn}
 use Rattle.nio_race.specs.PipeBytes.{TellsEnd, bytes_of, seals_in, number_of, read_in, says_closed, written_in}
-use Rattle.nio_race.specs.PipeFinds.{Awaited, LineFinds, ReadFinds, WriteFinds}
+use Rattle.nio_race.specs.PipeFinds.{Awaited, HasToWait, LineFinds, ReadFinds, WriteFinds}
 use Rattle.nio_race.specs.declared.ends.OwnEnds.{OwnEnds}
 
 abbrev pub the_line : Call → Reply → List (RaceCall × Reply)
@@ -212,6 +213,7 @@ pub record FindsBytes (n : ℕ) (old new : PipeSource) (before after : List ℕ)
   pub not_yet : answer ≡ Ok PipeRead.NotYet → KnowsNothing old × KnowsNothing new
   pub at_end : answer ≡ Ok PipeRead.End → IsAtEnd new
   pub asked : answer ≡ Ok (PipeRead.Bytes 0) → n ≡ 0
+  pub closed : answer ≡ Err AsynchronousClose → HadNoByte old new before answer
 
 module _ (old new : PipeSource) (before after : List ℕ) (given : ℕ) (gives : GivesBytes old new before after given)
   where
@@ -278,6 +280,15 @@ module _ (n : ℕ) (old new : PipeSource) (before after : List ℕ) (x : Awaited
         ),
       )
 
+  no_byte_known : KnowsNothing old → x.bytes ≡ []
+  no_byte_known nothing =
+      prefix_none x.bytes (subst (λ (xs : List ℕ). IsPrefix x.bytes xs) nothing.no_byte knows.bytes)
+
+  no_seal_known : KnowsNothing old → IsFalse x.sealed
+  no_seal_known nothing =
+      is_false x.sealed
+      (λ sealed. let clash : true ≡ false = sym (knows.sealed sealed) ∙ nothing.no_seal in absurd (cc clash))
+
   read_finds : (answer : Result PipeRead PipeError) → GivesBytes old new before after (bytes_read answer)
       → FindsBytes n old new before after answer → ReadGoesOn n new (read_said answer after) x
   read_finds (Ok (PipeRead.Bytes k)) gives finds = count_finds k gives finds
@@ -297,19 +308,23 @@ module _ (n : ℕ) (old new : PipeSource) (before after : List ℕ) (x : Awaited
         ),
       )
   read_finds (Ok PipeRead.NotYet) gives finds =
-      let nothing : KnowsNothing old = (finds.not_yet refl).0 in
-      let none : x.bytes ≡ [] =
-      prefix_none x.bytes (subst (λ (xs : List ℕ). IsPrefix x.bytes xs) nothing.no_byte knows.bytes) in
-      let unsealed : IsTrue x.sealed → ⊥ =
-      λ sealed. let clash : true ≡ false = sym (knows.sealed sealed) ∙ nothing.no_seal in absurd (cc clash) in (
+      let nothing : KnowsNothing old = (finds.not_yet refl).0 in (
         x,
         (
-          ReadFinds.finds_nothing none (is_false x.sealed unsealed),
+          ReadFinds.finds_nothing (no_byte_known nothing) (no_seal_known nothing),
           knows_still old new before after gives x knows,
         ),
       )
   read_finds (Err refusal) gives finds =
-      (x, (ReadFinds.is_refused refusal, knows_still old new before after gives x knows))
+      let waited : refusal ≡ AsynchronousClose → HasToWait n x =
+      λ same.
+      let had = finds.closed (λ i. Err (same i)) in
+      record {
+        asks = omega (arith, had.room, finds.room);
+        no_byte = no_byte_known had.before;
+        no_seal = no_seal_known had.before;
+      } in
+      (x, (ReadFinds.is_refused refusal waited, knows_still old new before after gives x knows))
 
 -- the read source
 pub source_read : (c : ChanNo) (n : ℕ) (old new : PipeSource) (before after : List ℕ)
@@ -440,6 +455,7 @@ seal_said (Err PipeError.BrokenPipe) = refl
 pub record FindsRoom (bytes : List ℕ) (old new : PipeSink) (answer : Result PipeWrite PipeError) : Type 0 where
   pub most : OnOk answer (bytes_written answer < length bytes → free new ≡ 0)
   pub places : OnOk answer (free old ≤ free new + bytes_written answer)
+  pub closed : answer ≡ Err AsynchronousClose → HadNoPlace old new bytes answer
 
 module _ (bytes : List ℕ) (old new : PipeSink) (room : ℕ) (few : room ≤ free old) where
   count_takes : (k : ℕ) → (k < length bytes → free new ≡ 0) → free old ≤ free new + k
@@ -453,7 +469,12 @@ module _ (bytes : List ℕ) (old new : PipeSink) (room : ℕ) (few : room ≤ fr
       → (left : ℕ) × (WriteFinds bytes room (write_said answer) left × (left ≤ free new))
   write_finds (Ok (PipeWrite.Bytes k)) finds = count_takes k finds.most finds.places
   write_finds (Ok PipeWrite.NotYet) finds = count_takes 0 finds.most finds.places
-  write_finds (Err refusal) finds = (0, (WriteFinds.is_refused refusal, omega arith))
+  write_finds (Err refusal) finds =
+      let waited : refusal ≡ AsynchronousClose → (0 < length bytes) × (room ≡ 0) =
+      λ same.
+      let had = finds.closed (λ i. Err (same i)) in
+      (had.bytes, omega (arith, had.before, few)) in
+      (0, (WriteFinds.is_refused refusal waited, omega arith))
 
 -- the written sink
 pub sink_written : (c : ChanNo) (bytes : List ℕ) (old new : PipeSink) (answer : Result PipeWrite PipeError)

@@ -22,8 +22,8 @@ use Rattle.nio_orderly.specs.Made.{find_channel, read, write}
 use Rattle.nio_pipe.specs.Answers.{bytes_read, bytes_written, leaves_seal, read_answer, read_waits, write_answer}
 use Rattle.nio_pipe.specs.Answers.{write_waits}
 use Rattle.nio_pipe.specs.Calls.{HasEnds, WaitsToRead, WaitsToWrite}
-use Rattle.nio_pipe.specs.Ends.{GivesBytes, IsAtEnd, IsSameSink, IsSameSource, KnowsNothing, TakesBytes, free}
-use Rattle.nio_pipe.specs.Ends.{is_sealed, known, other_chan, sink_chan, source_chan}
+use Rattle.nio_pipe.specs.Ends.{GivesBytes, HadNoByte, HadNoPlace, IsAtEnd, IsSameSink, IsSameSource, KnowsNothing}
+use Rattle.nio_pipe.specs.Ends.{TakesBytes, free, is_sealed, known, other_chan, sink_chan, source_chan}
 use Rattle.nio_pipe.specs.declared.answers.PipeRead.{PipeRead}
 use Rattle.nio_pipe.specs.declared.answers.PipeWrite.{PipeWrite}
 use Rattle.nio_pipe.specs.declared.sink.PipeSink.{PipeSink}
@@ -40,6 +40,7 @@ use Rattle.nio_steps.specs.KeyCalls.{find_channel_plan}
 use Rattle.nio_steps.specs.PipeCalls.{PipeEnds, Reads, Writes}
 use Rattle.nio_steps.specs.Runs.{Completes}
 use Rattle.nio_steps.specs.declared.refusal.PipeError.{PipeError}
+use Rattle.nio_steps.specs.declared.refusal.PipeError.TheVariants.{AsynchronousClose}
 use Rattle.nio_words.specs.Passes.{IsReady, acts_seen, limits_of}
 use Rattle.nio_words.specs.Views.{view}
 use Rattle.nio_words.specs.declared.words.Pass.{Pass}
@@ -211,10 +212,10 @@ record HasRead (w : Words) (c : ChanNo) (acts : List Act) : Type 0 where
   reads : Reads (limits_of w) c none acts found
 
 has_read : (w : Words) (c : ChanNo) (acts : List Act) (answer : Result PipeRead PipeError)
-    → WaitsToRead (limits_of w) c acts answer → HasRead w c acts
-has_read w c acts (Ok answer) waits =
-    record { none = read_waits (Ok answer); found = Ok waits.0; reads = waits.1 }
-has_read w c acts (Err refusal) waits = record { none = false; found = Err refusal; reads = waits }
+    (Had : Result PipeRead PipeError → Type 0) → WaitsToRead (limits_of w) c Had acts answer → HasRead w c acts
+has_read w c acts (Ok answer) Had waits =
+    record { none = read_waits (Ok answer); found = Ok waits.0; reads = waits.1.waits }
+has_read w c acts (Err refusal) Had waits = record { none = false; found = Err refusal; reads = waits.waits }
 
 -- a read that answers `Bytes 0` had no place for a byte
 asked_nothing : {n : ℕ} (before : List ℕ) (answer : Result PipeRead PipeError) (sealed : Bool)
@@ -276,7 +277,8 @@ module _ (w : Words) (d : Desk) (ends : OwnEnds) (me : CallerNo) (c : ChanNo) (n
       (before after : List ℕ) (answer : Result PipeRead PipeError) (sealed : Bool) (stands : StandsWith w d ends me)
       (looks : LooksUp w me c d.pass q (Some found)) (ready : IsReady w q me) (at : IsSourcePlace ends c (Some place))
       (here : old ≡ get_or ends.sources.items place old)
-      (reads : CallClause me (WaitsToRead (limits_of w) (source_chan old)) (view w q) (view w q') answer)
+      (reads : CallClause me (WaitsToRead (limits_of w) (source_chan old) (HadNoByte old new before)) (view w q)
+      (view w q') answer)
       (same : IsSameSource old new) (items : sources.items ≡ set ends.sources.items place new) where
     inside : place < length ends.sources.items
     inside = source_inside ends c place at old
@@ -284,9 +286,11 @@ module _ (w : Words) (d : Desk) (ends : OwnEnds) (me : CallerNo) (c : ChanNo) (n
     its : source_chan old ≡ c
     its = source_its ends c place old at here
 
-    reads_its : CallClause me (WaitsToRead (limits_of w) c) (view w q) (view w q') answer
+    reads_its : CallClause me (WaitsToRead (limits_of w) c (HadNoByte old new before)) (view w q) (view w q') answer
     reads_its =
-        subst (λ (x : ChanNo). CallClause me (WaitsToRead (limits_of w) x) (view w q) (view w q') answer) its reads
+        subst
+        (λ (x : ChanNo). CallClause me (WaitsToRead (limits_of w) x (HadNoByte old new before)) (view w q) (view w q')
+        answer) its reads
 
     says_read : length before ≡ min 65536 n → length after ≡ length before
         → GivesBytes old new before after (bytes_read answer)
@@ -294,9 +298,10 @@ module _ (w : Words) (d : Desk) (ends : OwnEnds) (me : CallerNo) (c : ChanNo) (n
         → OnOk answer (bytes_read answer < length before → known new ≡ [])
         → (answer ≡ Ok PipeRead.NotYet → KnowsNothing old × KnowsNothing new)
         → (answer ≡ Ok PipeRead.End → IsAtEnd new)
+        → (answer ≡ Err AsynchronousClose → HadNoByte old new before answer)
         → CalledOn w d (with_pass d q') ends (record ends { sources = sources }) me (call.Pread c n)
         (read_said answer after)
-    says_read room size gives answers most not_yet at_end =
+    says_read room size gives answers most not_yet at_end closed =
         let r = read_said answer after in
         let own : own_source (ends_of ends) c ≡ Some (source_chan old) =
         find_some (λ (x : ChanNo). x.0 == c.0) source_chan ends.sources.items place old (sym at) here in
@@ -307,7 +312,8 @@ module _ (w : Words) (d : Desk) (ends : OwnEnds) (me : CallerNo) (c : ChanNo) (n
               (record { reply = r; left = progress_of d })
               (λ xs waits. subst (λ (o : Option ChanNo). ReadsOwn (limits_of w) (progress_of d) c n o xs
               (record { reply = r; left = progress_of d })) (sym own) (
-                reads_to (limits_of w) c n (length before) xs sealed after room size answer gives.fit answers waits,
+                reads_to (limits_of w) c n (length before) xs sealed after (HadNoByte old new before) room size
+                    (λ _ had. had.room) answer gives.fit answers closed waits,
                 refl,
               )) reads_its);
           went_on =
@@ -319,6 +325,7 @@ module _ (w : Words) (d : Desk) (ends : OwnEnds) (me : CallerNo) (c : ChanNo) (n
                 not_yet = not_yet;
                 at_end = at_end;
                 asked = asked_nothing before answer sealed room answers;
+                closed = closed;
               }));
         }
 
@@ -328,17 +335,19 @@ module _ (w : Words) (d : Desk) (ends : OwnEnds) (me : CallerNo) (c : ChanNo) (n
         → OnOk answer (bytes_read answer < length before → known new ≡ [])
         → (answer ≡ Ok PipeRead.NotYet → KnowsNothing old × KnowsNothing new)
         → (answer ≡ Ok PipeRead.End → IsAtEnd new)
+        → (answer ≡ Err AsynchronousClose → HadNoByte old new before answer)
         → CalledOn w d (with_pass d q') ends (record ends { sources = sources }) me (call.Pread c n) r
-    reads_own r said room size gives answers most not_yet at_end =
+    reads_own r said room size gives answers most not_yet at_end closed =
         subst
         (λ (x : Reply). CalledOn w d (with_pass d q') ends (record ends { sources = sources }) me (call.Pread c n) x)
-        (sym said) (says_read room size gives answers most not_yet at_end)
+        (sym said) (says_read room size gives answers most not_yet at_end closed)
 
     pub stands_read : IsReady w q' me → StandsWith w (with_pass d q') (record ends { sources = sources }) me
     stands_read ready' =
         let d1 = with_pass d q in
         let looked : StandsWith w d1 ends me = stands_looked w d q ends me c (Some found) stands ready looks in
-        let run = has_read w c (done_between me (view w q) (view w q')) answer reads_its.shape in
+        let run = has_read w c (done_between me (view w q) (view w q')) answer (HadNoByte old new before)
+        reads_its.shape in
         record {
           stands = stands_called w d1 q' me (read c run.none run.found) looked.stands ready' reads_its run.reads
               (λ o. tt) (λ o. refl);
@@ -362,10 +371,12 @@ record HasWritten (w : Words) (source sink : ChanNo) (acts : List Act) : Type 0 
   writes : Writes (limits_of w) source sink none acts found
 
 has_written : (w : Words) (source sink : ChanNo) (acts : List Act) (answer : Result PipeWrite PipeError)
-    → WaitsToWrite (limits_of w) source sink acts answer → HasWritten w source sink acts
-has_written w source sink acts (Ok answer) waits =
-    record { none = write_waits (Ok answer); found = Ok waits.0; writes = waits.1 }
-has_written w source sink acts (Err refusal) waits = record { none = false; found = Err refusal; writes = waits }
+    (Had : Result PipeWrite PipeError → Type 0) → WaitsToWrite (limits_of w) source sink Had acts answer
+    → HasWritten w source sink acts
+has_written w source sink acts (Ok answer) Had waits =
+    record { none = write_waits (Ok answer); found = Ok waits.0; writes = waits.1.waits }
+has_written w source sink acts (Err refusal) Had waits =
+    record { none = false; found = Err refusal; writes = waits.waits }
 
 module _ (w : Words) (d : Desk) (ends : OwnEnds) (me : CallerNo) (c : ChanNo) (bytes : List ℕ) where
   pub writes_nowhere : (q : Pass) → LooksUp w me c d.pass q None
@@ -408,21 +419,22 @@ module _ (w : Words) (d : Desk) (ends : OwnEnds) (me : CallerNo) (c : ChanNo) (b
       }
 
   module _ (q q' : Pass) (found : ChanNo) (place : ℕ) (old new : PipeSink) (sinks : Vec PipeSink Global)
-      (answer : Result PipeWrite PipeError) (stands : StandsWith w d ends me)
+      (answer : Result PipeWrite PipeError) (from : List ℕ) (stands : StandsWith w d ends me)
       (looks : LooksUp w me c d.pass q (Some found)) (ready : IsReady w q me) (at : IsSinkPlace ends c (Some place))
       (here : old ≡ get_or ends.sinks.items place old)
-      (writes : CallClause me (WaitsToWrite (limits_of w) (other_chan old) (sink_chan old)) (view w q) (view w q')
+      (writes : CallClause me
+      (WaitsToWrite (limits_of w) (other_chan old) (sink_chan old) (HadNoPlace old new from)) (view w q) (view w q')
       answer)
       (same : IsSameSink old new) (items : sinks.items ≡ set ends.sinks.items place new) where
     sink_in : place < length ends.sinks.items
     sink_in = sink_inside ends c place at old
 
-    says_written : TakesBytes old new bytes (bytes_written answer)
+    says_written : from ≡ bytes → TakesBytes old new bytes (bytes_written answer)
         → is_sealed new ≡ (is_sealed old || leaves_seal answer)
         → IfOk answer (λ a. a ≡ write_answer (length bytes) (bytes_written answer)) → FindsRoom bytes old new answer
         → CalledOn w d (with_pass d q') ends (record ends { sinks = sinks }) me (call.Pwrite c bytes)
         (write_said answer)
-    says_written takes seals answers finds =
+    says_written same_bytes takes seals answers finds =
         let r = write_said answer in
         let own : own_sink (ends_of ends) c ≡ Some (ends_of_sink old) =
         find_some (λ (x : PipeEnds). x.sink.0 == c.0) ends_of_sink ends.sinks.items place old (sym at) here in
@@ -433,29 +445,40 @@ module _ (w : Words) (d : Desk) (ends : OwnEnds) (me : CallerNo) (c : ChanNo) (b
               (call_as (WritesFound (limits_of w) (ends_of ends) (progress_of d) c bytes (Some found))
               (record { reply = r; left = progress_of d })
               (λ xs waits. subst (λ (o : Option PipeEnds). WritesOwn (limits_of w) (progress_of d) bytes o xs
-              (record { reply = r; left = progress_of d })) (sym own)
-              (writes_to (limits_of w) (ends_of_sink old) bytes xs answer takes.fit answers waits, refl)) writes);
+              (record { reply = r; left = progress_of d })) (sym own) (
+                writes_to (limits_of w) (ends_of_sink old) bytes xs (HadNoPlace old new bytes) (λ _ had. had.bytes)
+                    answer takes.fit answers finds.closed waits,
+                refl,
+              ))
+              (subst
+              (λ (ys : List ℕ). CallClause me
+              (WaitsToWrite (limits_of w) (other_chan old) (sink_chan old) (HadNoPlace old new ys)) (view w q)
+              (view w q') answer) same_bytes writes));
           went_on =
               write_goes_on c bytes r ends place old new sinks sink_in here its stands.made_ends.sinks_differ items
               (sink_written c bytes old new answer its same takes seals finds);
         }
 
-    pub writes_own : (r : Reply) (from : List ℕ) → r ≡ write_said answer → from ≡ bytes
+    pub writes_own : (r : Reply) → r ≡ write_said answer → from ≡ bytes
         → TakesBytes old new from (bytes_written answer) → is_sealed new ≡ (is_sealed old || leaves_seal answer)
         → IfOk answer (λ a. a ≡ write_answer (length from) (bytes_written answer))
         → OnOk answer (bytes_written answer < length from → free new ≡ 0)
         → OnOk answer (free old ≤ free new + bytes_written answer)
+        → (answer ≡ Err AsynchronousClose → HadNoPlace old new from answer)
         → CalledOn w d (with_pass d q') ends (record ends { sinks = sinks }) me (call.Pwrite c bytes) r
-    writes_own r from said same_bytes takes seals answers most places =
+    writes_own r said same_bytes takes seals answers most places closed =
         subst
         (λ (x : Reply). CalledOn w d (with_pass d q') ends (record ends { sinks = sinks }) me (call.Pwrite c bytes) x)
         (sym said)
-        (says_written (subst (λ (xs : List ℕ). TakesBytes old new xs (bytes_written answer)) same_bytes takes) seals
+        (says_written same_bytes
+        (subst (λ (xs : List ℕ). TakesBytes old new xs (bytes_written answer)) same_bytes takes) seals
         (subst (λ (xs : List ℕ). IfOk answer (λ a. a ≡ write_answer (length xs) (bytes_written answer))) same_bytes
         answers)
         (record {
           most = subst (λ (xs : List ℕ). OnOk answer (bytes_written answer < length xs → free new ≡ 0)) same_bytes most;
           places = places;
+          closed = subst (λ (xs : List ℕ). answer ≡ Err AsynchronousClose → HadNoPlace old new xs answer) same_bytes
+              closed;
         }))
 
     pub stands_written : IsReady w q' me → StandsWith w (with_pass d q') (record ends { sinks = sinks }) me
@@ -463,7 +486,7 @@ module _ (w : Words) (d : Desk) (ends : OwnEnds) (me : CallerNo) (c : ChanNo) (b
         let d1 = with_pass d q in
         let looked : StandsWith w d1 ends me = stands_looked w d q ends me c (Some found) stands ready looks in
         let run = has_written w (other_chan old) (sink_chan old) (done_between me (view w q) (view w q')) answer
-        writes.shape in
+        (HadNoPlace old new from) writes.shape in
         record {
           stands = stands_called w d1 q' me (write (other_chan old) (sink_chan old) run.none run.found) looked.stands
               ready' writes run.writes (λ o. tt) (λ o. refl);

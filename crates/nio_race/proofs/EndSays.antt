@@ -1,21 +1,23 @@
 -- What a read or a write that waits says, by what it answers.
 use Rattle.std.proofs.Common.{◌≡◌, ℕ, zero, suc, ◌<◌, ◌≤◌, ◌==◌, Bool, true, false, if◌then◌else◌}
 use Rattle.std.proofs.Common.{IsFalse, Result, Ok, Err, IfOk, List, [], ◌∷◌, length, min, take, arith, refl, sym, ◌∙◌}
-use Rattle.std.proofs.Common.{eqb-true, eq-eqb, subst}
-use Rattle.std.proofs.lemmas.Bool.{cond-false, cond-true, ne_eqb}
+use Rattle.std.proofs.Common.{eqb-true, subst}
+use Rattle.std.proofs.lemmas.Bool.{cond-false, ne_eqb}
 use Rattle.std.proofs.lemmas.List.{length-take-le}
 use Rattle.nio_base.specs.declared.limits.Limits.{Limits}
 use Rattle.nio_base.specs.declared.numbers.ChanNo.{ChanNo}
 use Rattle.nio_event.specs.declared.act.Act.{Act}
 use Rattle.nio_event.specs.declared.reply.Reply.{Reply}
 use Rattle.nio_event.specs.declared.reply.Reply.TheVariants as reply
+use Rattle.nio_pipe.proofs.Waits.{read_some, write_some}
 use Rattle.nio_pipe.specs.Answers.{bytes_read, bytes_written, read_answer, write_answer}
-use Rattle.nio_pipe.specs.Calls.{WaitsToRead, WaitsToWrite}
+use Rattle.nio_pipe.specs.Calls.{WaitsToRead, WaitsToWrite, WaitsWhere}
 use Rattle.nio_pipe.specs.declared.answers.PipeRead.{PipeRead}
 use Rattle.nio_pipe.specs.declared.answers.PipeWrite.{PipeWrite}
-use Rattle.nio_steps.specs.PipeCalls.{PipeEnds, Reads, Waits, Writes, as_waited, waits_for_bytes}
+use Rattle.nio_steps.specs.PipeCalls.{PipeEnds, Waits, as_waited, try_read_plan, try_write_plan, waits_for_bytes}
 use Rattle.nio_steps.specs.Plan.{Plan}
 use Rattle.nio_steps.specs.declared.refusal.PipeError.{PipeError}
+use Rattle.nio_steps.specs.declared.refusal.PipeError.TheVariants.{AsynchronousClose}
 use Rattle.nio_race.proofs.EndLines.{read_said, write_said}
 use Rattle.nio_race.specs.Piping.{ReadSays, ReadsTo, WriteSays, WritesTo, asks_for_nothing, finds_no_place}
 use Rattle.nio_race.specs.Piping.{finds_nothing, gives, offers_nothing, takes, tells_end}
@@ -41,20 +43,16 @@ mode_is plan acts blocking waits =
     subst (λ (o : Result Bool PipeError). waits_for_bytes true o ≡ false) found
     (subst (λ (b : Bool). waits_for_bytes b waits.runs.last.answer ≡ false) waits.found_none over)
 
+-- why a call had to wait, in other words
+as_said : {Had Had' : Type 0} {plan : Plan (Result Bool PipeError)} {none : Bool} {acts : List Act}
+    {answer : Result Bool PipeError} → (Had → Had') → WaitsWhere Had plan none acts answer
+    → WaitsWhere Had' plan none acts answer
+as_said had waits = record { waits = waits.waits; earlier = λ other. had (waits.earlier other) }
+
 -- ---- a read
 
 abbrev IsReadAnswer : ℕ → Bool → ℕ → PipeRead → Type 0
 IsReadAnswer room sealed given answer = answer ≡ read_answer room given sealed
-
--- no place for a byte
-no_room : (room given : ℕ) (sealed : Bool) → room ≡ 0 → read_answer room given sealed ≡ PipeRead.Bytes 0
-no_room room given sealed none =
-    cond-true (room == 0) (PipeRead.Bytes 0) _ (eq-eqb room 0 none)
-
--- with places and no byte
-none_given : (room : ℕ) (sealed : Bool) → (room ≡ 0 → ⊥)
-    → read_answer room 0 sealed ≡ (if sealed then PipeRead.End else PipeRead.NotYet)
-none_given room sealed some = cond-false (room == 0) (PipeRead.Bytes 0) _ (ne_eqb room 0 some)
 
 pub read_zero : (room : ℕ) (sealed : Bool) → IsReadAnswer room sealed 0 (PipeRead.Bytes 0) → room ≡ 0
 read_zero room sealed is = by_test (room == 0) refl
@@ -69,25 +67,23 @@ read_zero room sealed is = by_test (room == 0) refl
         by_seal sealed
         (is ∙ cond-false (room == 0) (PipeRead.Bytes 0) (if sealed then PipeRead.End else PipeRead.NotYet) some)
 
--- what tells the end, or that there is nothing yet, had places
-read_some : (room : ℕ) (sealed : Bool) (answer : PipeRead) → (answer ≡ PipeRead.Bytes 0 → ⊥)
-    → IsReadAnswer room sealed 0 answer → 0 < room
-read_some room sealed answer other is = by_test (room == 0) refl
-  where
-    by_test : (b : Bool) → (room == 0) ≡ b → 0 < room
-    by_test true none = absurd (other (is ∙ no_room room 0 sealed (eqb-true room 0 none)))
-    by_test false some =
-        let apart : room ≡ 0 → ⊥ =
-        λ same. let clash : true ≡ false = sym (eq-eqb room 0 same) ∙ some in absurd (cc clash) in
-        omega (arith, apart)
-
 module _ (l : Limits) (c : ChanNo) (n room : ℕ) (acts : List Act) (sealed : Bool) (after : List ℕ)
-    (room_is : room ≡ min 65536 n) (size : length after ≡ room) where
+    (Had : Result PipeRead PipeError → Type 0) (room_is : room ≡ min 65536 n) (size : length after ≡ room)
+    (had_room : (answer : Result PipeRead PipeError) → Had answer → 0 < room) where
+  asks : (answer : Result PipeRead PipeError) → Had answer → 0 < n
+  asks answer had = omega (arith, had_room answer had, room_is)
+
   reads_count : (k : ℕ) → k ≤ room → IsReadAnswer room sealed k (PipeRead.Bytes k)
-      → WaitsToRead l c acts (Ok (PipeRead.Bytes k)) → ReadsTo l c n acts (read_said (Ok (PipeRead.Bytes k)) after)
+      → WaitsToRead l c Had acts (Ok (PipeRead.Bytes k))
+      → ReadsTo l c n acts (read_said (Ok (PipeRead.Bytes k)) after)
   reads_count zero few is waits =
       let none : room ≡ 0 = read_zero room sealed is in
-      record { none = false; answer = Ok waits.0; waits = waits.1; says = asks_for_nothing (omega arith) }
+      record {
+        none = false;
+        answer = Ok waits.0;
+        waits = as_said (asks (Ok (PipeRead.Bytes 0))) waits.1;
+        says = asks_for_nothing (omega arith);
+      }
   reads_count (suc k) few is waits =
       let long : length (take (suc k) after) ≡ suc k = length-take-le (suc k) after (omega arith) in
       let some : (suc k == 0) ≡ false = ne_eqb (suc k) 0 (λ same. omega (arith, same)) in
@@ -96,29 +92,40 @@ module _ (l : Limits) (c : ChanNo) (n room : ℕ) (acts : List Act) (sealed : Bo
       record {
         none = false;
         answer = Ok waits.0;
-        waits = waits.1;
+        waits = as_said (asks (Ok (PipeRead.Bytes (suc k)))) waits.1;
         says = subst (λ (r : Reply). ReadSays n false (Ok waits.0) r) says
             (gives (take (suc k) after) (omega arith) (omega arith));
       }
 
   pub reads_to : (answer : Result PipeRead PipeError) → bytes_read answer ≤ room
       → IfOk answer (λ a. IsReadAnswer room sealed (bytes_read answer) a)
-      → WaitsToRead l c acts answer → ReadsTo l c n acts (read_said answer after)
-  reads_to (Ok (PipeRead.Bytes k)) few is waits = reads_count k few is waits
-  reads_to (Ok PipeRead.End) few is waits =
+      → (answer ≡ Err AsynchronousClose → Had answer)
+      → WaitsToRead l c Had acts answer → ReadsTo l c n acts (read_said answer after)
+  reads_to (Ok (PipeRead.Bytes k)) few is closed waits = reads_count k few is waits
+  reads_to (Ok PipeRead.End) few is closed waits =
       let some : 0 < room = read_some room sealed PipeRead.End (λ same. absurd (cc same)) is in
-      record { none = false; answer = Ok waits.0; waits = waits.1; says = tells_end (omega arith) }
-  reads_to (Ok PipeRead.NotYet) few is waits =
+      record {
+        none = false;
+        answer = Ok waits.0;
+        waits = as_said (asks (Ok PipeRead.End)) waits.1;
+        says = tells_end (omega arith);
+      }
+  reads_to (Ok PipeRead.NotYet) few is closed waits =
       let some : 0 < room = read_some room sealed PipeRead.NotYet (λ same. absurd (cc same)) is in
-      let mode : waits.0 ≡ false = mode_is _ acts waits.0 waits.1 in
+      let mode : waits.0 ≡ false = mode_is _ acts waits.0 waits.1.waits in
       record {
         none = true;
         answer = Ok false;
-        waits = subst (λ (b : Bool). Reads l c true acts (Ok b)) mode waits.1;
+        waits = subst (λ (b : Bool). WaitsWhere (0 < n) (try_read_plan l c) true acts (Ok b)) mode
+            (as_said (asks (Ok PipeRead.NotYet)) waits.1);
         says = finds_nothing (omega arith);
       }
-  reads_to (Err refusal) few is waits =
-      record { none = false; answer = Err refusal; waits = waits; says = ReadSays.is_refused refusal }
+  reads_to (Err refusal) few is closed waits = record {
+    none = false;
+    answer = Err refusal;
+    waits = as_said (asks (Err refusal)) waits;
+    says = ReadSays.is_refused refusal (λ same. asks (Err refusal) (closed (λ i. Err (same i))));
+  }
 
 -- ---- a write
 
@@ -135,45 +142,51 @@ write_zero size is = by_test (size == 0) refl
         ∙ cond-false (size == 0) (PipeWrite.Bytes 0) PipeWrite.NotYet some in
         absurd (cc clash)
 
-write_some : (size : ℕ) → IsWriteAnswer size 0 PipeWrite.NotYet → 0 < size
-write_some size is = by_test (size == 0) refl
-  where
-    by_test : (b : Bool) → (size == 0) ≡ b → 0 < size
-    by_test true none =
-        let clash : PipeWrite.NotYet ≡ PipeWrite.Bytes 0 = is
-        ∙ cond-true (size == 0) (PipeWrite.Bytes 0) PipeWrite.NotYet none in
-        absurd (cc clash)
-    by_test false some =
-        let apart : size ≡ 0 → ⊥ =
-        λ same. let clash : true ≡ false = sym (eq-eqb size 0 same) ∙ some in absurd (cc clash) in
-        omega (arith, apart)
-
 no_items : {A : Type 0} (xs : List A) → length xs ≡ 0 → xs ≡ []
 no_items [] none = refl
 no_items (x ∷ xs) none = absurd (omega (arith, none))
 
-module _ (l : Limits) (ends : PipeEnds) (bytes : List ℕ) (acts : List Act) where
+module _ (l : Limits) (ends : PipeEnds) (bytes : List ℕ) (acts : List Act)
+    (Had : Result PipeWrite PipeError → Type 0)
+    (offers : (answer : Result PipeWrite PipeError) → Had answer → 0 < length bytes) where
   writes_count : (k : ℕ) → k ≤ length bytes → IsWriteAnswer (length bytes) k (PipeWrite.Bytes k)
-      → WaitsToWrite l ends.source ends.sink acts (Ok (PipeWrite.Bytes k))
+      → WaitsToWrite l ends.source ends.sink Had acts (Ok (PipeWrite.Bytes k))
       → WritesTo l ends bytes acts (write_said (Ok (PipeWrite.Bytes k)))
   writes_count zero few is waits =
       let none : bytes ≡ [] = no_items bytes (write_zero (length bytes) is) in
-      record { none = false; answer = Ok waits.0; waits = waits.1; says = offers_nothing none }
-  writes_count (suc k) few is waits =
-      record { none = false; answer = Ok waits.0; waits = waits.1; says = takes (suc k) (omega arith) few }
+      record {
+        none = false;
+        answer = Ok waits.0;
+        waits = as_said (offers (Ok (PipeWrite.Bytes 0))) waits.1;
+        says = offers_nothing none;
+      }
+  writes_count (suc k) few is waits = record {
+    none = false;
+    answer = Ok waits.0;
+    waits = as_said (offers (Ok (PipeWrite.Bytes (suc k)))) waits.1;
+    says = takes (suc k) (omega arith) few;
+  }
 
   pub writes_to : (answer : Result PipeWrite PipeError) → bytes_written answer ≤ length bytes
       → IfOk answer (λ a. IsWriteAnswer (length bytes) (bytes_written answer) a)
-      → WaitsToWrite l ends.source ends.sink acts answer → WritesTo l ends bytes acts (write_said answer)
-  writes_to (Ok (PipeWrite.Bytes k)) few is waits = writes_count k few is waits
-  writes_to (Ok PipeWrite.NotYet) few is waits =
+      → (answer ≡ Err AsynchronousClose → Had answer)
+      → WaitsToWrite l ends.source ends.sink Had acts answer → WritesTo l ends bytes acts (write_said answer)
+  writes_to (Ok (PipeWrite.Bytes k)) few is closed waits = writes_count k few is waits
+  writes_to (Ok PipeWrite.NotYet) few is closed waits =
       let some : 0 < length bytes = write_some (length bytes) is in
-      let mode : waits.0 ≡ false = mode_is _ acts waits.0 waits.1 in
+      let mode : waits.0 ≡ false = mode_is _ acts waits.0 waits.1.waits in
       record {
         none = true;
         answer = Ok false;
-        waits = subst (λ (b : Bool). Writes l ends.source ends.sink true acts (Ok b)) mode waits.1;
+        waits =
+            subst
+            (λ (b : Bool). WaitsWhere (0 < length bytes) (try_write_plan l ends.source ends.sink) true acts (Ok b))
+            mode (as_said (offers (Ok PipeWrite.NotYet)) waits.1);
         says = finds_no_place some;
       }
-  writes_to (Err refusal) few is waits =
-      record { none = false; answer = Err refusal; waits = waits; says = WriteSays.is_refused refusal }
+  writes_to (Err refusal) few is closed waits = record {
+    none = false;
+    answer = Err refusal;
+    waits = as_said (offers (Err refusal)) waits;
+    says = WriteSays.is_refused refusal (λ same. offers (Err refusal) (closed (λ i. Err (same i))));
+  }

@@ -11,6 +11,7 @@ use Rattle.nio_race_text.specs.declared.call.RaceCall.{RaceCall}
 use Rattle.nio_race_text.specs.declared.call.RaceCall.TheVariants.{Script, Block}
 use Rattle.nio_serial.specs.Replies.{pipe_refusal}
 use Rattle.nio_steps.specs.declared.refusal.PipeError.{PipeError}
+use Rattle.nio_steps.specs.declared.refusal.PipeError.TheVariants.{AsynchronousClose}
 use Rattle.nio_race.specs.Piping.{PipeUse, closes, neither, reads, use_of, writes}
 
 -- ---- a reader
@@ -25,15 +26,24 @@ pub record Awaited : Type 0 where
 abbrev pub awaited_at_go : Pipe → Awaited
 awaited_at_go p = record { bytes = p.waiting; sealed = p.sealed; ended = false }
 
+-- A read of up to n bytes has to wait where its reader knows so much: it asks for a byte, and knows of none and of no
+-- seal.
+pub record HasToWait (n : ℕ) (before : Awaited) : Type 0 where
+  pub asks : 0 < n
+  pub no_byte : before.bytes ≡ []
+  pub no_seal : IsFalse before.sealed
+
 -- What a read of up to n bytes may reply where its reader knows so much, and what it knows then. The reply is 0 only
--- where it asks for nothing or knows of nothing. Once a read told the end, no byte comes.
+-- where it asks for nothing or knows of nothing, and `async-close` only where it has to wait. Once a read told the end,
+-- no byte comes.
 pub data ReadFinds (n : ℕ) (before : Awaited) : Reply → Awaited → Type 0 where
   gives : (bytes : List ℕ) → IsFalse before.ended → min (min 65536 n) (length before.bytes) ≤ length bytes
       → ReadFinds n before (reply.Bytes bytes) (record before { bytes = drop (length bytes) before.bytes })
   tells_end : before.bytes ≡ [] → ReadFinds n before reply.End (record { bytes = []; sealed = true; ended = true })
   asks_for_nothing : n ≡ 0 → ReadFinds n before (reply.Number 0) before
   finds_nothing : before.bytes ≡ [] → IsFalse before.sealed → ReadFinds n before (reply.Number 0) before
-  is_refused : (refusal : PipeError) → ReadFinds n before (pipe_refusal refusal) before
+  is_refused : (refusal : PipeError) → (refusal ≡ AsynchronousClose → HasToWait n before)
+      → ReadFinds n before (pipe_refusal refusal) before
   has_no_channel : ReadFinds n before reply.NoChannel before
   is_not_owner : ReadFinds n before reply.NotOwner before
 
@@ -61,12 +71,13 @@ abbrev pub room_at_go : Pipe → ℕ
 room_at_go p = if p.sealed then 0 else 65536 - length p.waiting
 
 -- What a write of these bytes may reply where its writer knows of room for so many, at least, and of how much it knows
--- then. It takes fewer than it was given only where it takes all for which there was room. A refused write leaves
--- nothing known.
+-- then. It takes fewer than it was given only where it takes all for which there was room. `async-close` is the reply
+-- only where it had bytes and no room was known. A refused write leaves nothing known.
 pub data WriteFinds (bytes : List ℕ) (room : ℕ) : Reply → ℕ → Type 0 where
   takes : (taken : ℕ) → (taken < length bytes → room ≤ taken)
       → WriteFinds bytes room (reply.Number taken) (room - taken)
-  is_refused : (refusal : PipeError) → WriteFinds bytes room (pipe_refusal refusal) 0
+  is_refused : (refusal : PipeError) → (refusal ≡ AsynchronousClose → (0 < length bytes) × (room ≡ 0))
+      → WriteFinds bytes room (pipe_refusal refusal) 0
   has_no_channel : WriteFinds bytes room reply.NoChannel room
   is_not_owner : WriteFinds bytes room reply.NotOwner room
 

@@ -9,15 +9,17 @@ use Rattle.nio_event.specs.declared.call.Call.{Call}
 use Rattle.nio_event.specs.declared.call.Call.TheVariants as call
 use Rattle.nio_event.specs.declared.reply.Reply.{Reply}
 use Rattle.nio_event.specs.declared.reply.Reply.TheVariants as reply
+use Rattle.nio_pipe.specs.Calls.{WaitsWhere}
 use Rattle.nio_plain.specs.ScriptState.{Pipe}
 use Rattle.nio_serial.specs.Documented.{Progress}
 use Rattle.nio_serial.specs.Lines.{Said}
 use Rattle.nio_serial.specs.Replies.{pipe_refusal}
 use Rattle.nio_steps.specs.KeyCalls.{find_channel_plan}
-use Rattle.nio_steps.specs.PipeCalls.{PipeEnds, Reads, Writes}
+use Rattle.nio_steps.specs.PipeCalls.{PipeEnds, try_read_plan, try_write_plan}
 use Rattle.nio_steps.specs.Runs.{Completes}
 use Rattle.nio_steps.specs.Waiting.{Then}
 use Rattle.nio_steps.specs.declared.refusal.PipeError.{PipeError}
+use Rattle.nio_steps.specs.declared.refusal.PipeError.TheVariants.{AsynchronousClose}
 
 -- ---- which lines these are
 
@@ -92,9 +94,11 @@ own_sink ends c = find (λ x. x.sink.0 == c.0) ends.sinks
 
 -- The reply of a read of up to n bytes. The first argument says whether its last run of steps found neither a byte nor
 -- the seal; the second is the answer of its steps: a refusal, or the mode that they found, true for blocking. In
--- blocking mode a read that finds neither goes on, so no line here has that.
+-- blocking mode a read that finds neither goes on, so no line here has that. A read that asks for nothing doesn't wait,
+-- so it never says that its channel was closed meanwhile.
 pub data ReadSays (n : ℕ) : Bool → Result Bool PipeError → Reply → Type 0 where
-  is_refused : {none : Bool} (refusal : PipeError) → ReadSays n none (Err refusal) (pipe_refusal refusal)
+  is_refused : {none : Bool} (refusal : PipeError) → (refusal ≡ AsynchronousClose → 0 < n)
+      → ReadSays n none (Err refusal) (pipe_refusal refusal)
   asks_for_nothing : {blocking : Bool} → n ≡ 0 → ReadSays n false (Ok blocking) (reply.Number 0)
   gives : {blocking : Bool} (bytes : List ℕ)
       → 0 < length bytes → length bytes ≤ n → ReadSays n false (Ok blocking) (reply.Bytes bytes)
@@ -103,7 +107,8 @@ pub data ReadSays (n : ℕ) : Bool → Result Bool PipeError → Reply → Type 
 
 -- The same of a write of these bytes, which goes on in blocking mode where it finds no free place.
 pub data WriteSays (bytes : List ℕ) : Bool → Result Bool PipeError → Reply → Type 0 where
-  is_refused : {none : Bool} (refusal : PipeError) → WriteSays bytes none (Err refusal) (pipe_refusal refusal)
+  is_refused : {none : Bool} (refusal : PipeError) → (refusal ≡ AsynchronousClose → 0 < length bytes)
+      → WriteSays bytes none (Err refusal) (pipe_refusal refusal)
   offers_nothing : {blocking : Bool} → bytes ≡ [] → WriteSays bytes false (Ok blocking) (reply.Number 0)
   takes : {blocking : Bool} (taken : ℕ)
       → 0 < taken → taken ≤ length bytes → WriteSays bytes false (Ok blocking) (reply.Number taken)
@@ -111,17 +116,18 @@ pub data WriteSays (bytes : List ℕ) : Bool → Result Bool PipeError → Reply
 
 -- ---- by which steps
 
--- The acts are those of a read that waits, and the reply is one that its answer allows.
+-- The acts are those of a read that waits, of one try where it asks for nothing, and the reply is one that its answer
+-- allows.
 pub record ReadsTo (l : Limits) (c : ChanNo) (n : ℕ) (acts : List Act) (r : Reply) : Type 0 where
   pub none : Bool
   pub answer : Result Bool PipeError
-  pub waits : Reads l c none acts answer
+  pub waits : WaitsWhere (0 < n) (try_read_plan l c) none acts answer
   pub says : ReadSays n none answer r
 
 pub record WritesTo (l : Limits) (ends : PipeEnds) (bytes : List ℕ) (acts : List Act) (r : Reply) : Type 0 where
   pub none : Bool
   pub answer : Result Bool PipeError
-  pub waits : Writes l ends.source ends.sink none acts answer
+  pub waits : WaitsWhere (0 < length bytes) (try_write_plan l ends.source ends.sink) none acts answer
   pub says : WriteSays bytes none answer r
 
 -- no further step is made: the line has this reply, and changes nothing in progress

@@ -16,5 +16,3 @@ mod racer;
 mod run;
 mod set_off;
 mod setup;
-#[cfg(test)]
-mod tests;

@@ -1,5 +1,5 @@
 //! The poller of a `block`.
-ghost use Rattle.std.specs.Prelude.{◌≡◌, Some, IfOk};
+ghost use Rattle.std.specs.Prelude.{◌≡◌, ℕ, Some, IfOk, OnErr};
 ghost use Rattle.nio_poller.specs.Polls.{CountsFaults, AddsPoll, told_of_channel};
 ghost use Rattle.nio_poller.specs.declared.poller.PollError.TheVariants.{Fault};
 ghost use Rattle.nio_race.specs.Quiet.{AreStillUntold};
@@ -53,6 +53,7 @@ impl<'a> Poller for Quiet<'a> {
     ) -> Result<Told, PollError>
         ensures cause { CountsFaults Fault 0 0 result }
         ensures ready { IfOk result (λ told. (c : ChanNo) → 0 ≡ told_of_channel asked.now told.pairs.items c) }
+        ensures unready { OnErr result ((_ : ChanNo) → ◌≡◌ {A = ℕ} 0 0) }
         ensures polls { AddsPoll (Some self.old.polls) (Some self.new.polls) asked.now mode result }
         ensures kept { AreStillUntold self.old.polls self.new.polls }
     {

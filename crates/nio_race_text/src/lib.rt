@@ -11,6 +11,4 @@ pub mod laws;
 mod line;
 mod lines;
 mod print;
-#[cfg(test)]
-mod tests;
 mod text;

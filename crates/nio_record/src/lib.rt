@@ -5,5 +5,3 @@ pub use recorder::{RecordError, Recorder};
 
 mod making;
 mod recorder;
-#[cfg(test)]
-mod tests;

@@ -9,5 +9,3 @@ pub use plan::{ProxyPlan, Served};
 mod direction;
 mod law;
 mod plan;
-#[cfg(test)]
-mod tests;

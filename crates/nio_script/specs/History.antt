@@ -2,7 +2,7 @@
 -- where the first line stands that isn't in its grammar.
 use Rattle.std.specs.Prelude.{◌≡◌, ℕ, ◌+◌, List, [], ◌∷◌, ◌++◌, length, codes}
 use Rattle.std.specs.Fmt.{decimal}
-use Rattle.nio_event.specs.Calls.{IsBlank, IsLine, NamesSerial, line_text}
+use Rattle.nio_event.specs.Calls.{IsBlank, IsLaterCall, IsLine, line_text}
 use Rattle.nio_event.specs.Script.{lines_of}
 use Rattle.nio_event.specs.declared.call.Call.{Call}
 use Rattle.nio_event.specs.declared.call.ScriptCall.{ScriptCall}
@@ -23,9 +23,9 @@ abbrev pub entry_text : ℕ → Entry → List ℕ
 entry_text n e = decimal n ++ codes " " ++ call_text e ++ codes " -> " ++ e.reply
 
 -- The call is in the grammar of these rules. By the first rules each key has the serial 0, so no call
--- names another.
+-- names another, and there are no datagram channels.
 abbrev pub IsCallOf : Rules → Call → Type 0
-IsCallOf First call = ¬ NamesSerial call
+IsCallOf First call = ¬ IsLaterCall call
 IsCallOf Now call = Unit {0}
 
 -- These bytes are entry number n. Its call is in the grammar of scripts and of these rules, and its

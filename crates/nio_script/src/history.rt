@@ -73,7 +73,7 @@ fn is_call_of(rules: Rules, call: &Call) -> bool
     ensures { IsTrue result ↔ IsCallOf rules call.now }
 {
     match rules {
-        Rules::First => !call.names_serial(),
+        Rules::First => !call.is_later(),
         Rules::Now => true,
     }
 }

@@ -17,5 +17,3 @@ mod output;
 mod run;
 mod script;
 mod status;
-#[cfg(test)]
-mod tests;

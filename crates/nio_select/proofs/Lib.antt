@@ -14,5 +14,5 @@ pub mod GoneOn
 pub mod Steps
 pub mod Windows
 pub mod Alone
+pub mod GivenBack
 pub mod Closed
-pub mod Idle

@@ -1,5 +1,6 @@
 -- Laws of the calls of a selection, as passes see them.
-use Rattle.std.specs.Prelude.{◌≡◌, ℕ, ◌+◌, ◌*◌, ◌<◌, ◌≤◌, Ok, IsTrue, IsFalse, List, [], ◌∷◌, ◌++◌, length, map}
+use Rattle.std.specs.Prelude.{◌≡◌, ℕ, ◌+◌, ◌*◌, ◌<◌, ◌≤◌, Ok, Err, None, IsTrue, IsFalse, List, [], ◌∷◌}
+use Rattle.std.specs.Prelude.{◌++◌, length, map}
 use Rattle.std.specs.List.{All}
 use mathlib.Core.List.{IsPrefix}
 use Rattle.nio_base.specs.Limits.{IsFit}
@@ -11,7 +12,7 @@ use Rattle.nio_event.specs.OwnEvents.{has, count, gives_turn}
 use Rattle.nio_event.specs.PassViews.{PassView, known, done_between}
 use Rattle.nio_event.specs.Sets.{was_claimed, was_published, was_cancelled, was_removed}
 use Rattle.nio_event.specs.Turns.{removes_on, selects_on}
-use Rattle.nio_event.specs.declared.act.Act.TheVariants.{BeginLook, EndWake, LookKeys}
+use Rattle.nio_event.specs.declared.act.Act.TheVariants.{TakeTurn, BeginLook, EndWake, LookKeys}
 use Rattle.nio_event.specs.declared.event.Event.{Event}
 use Rattle.nio_event.specs.declared.found.GateWord.{GateWord}
 use Rattle.nio_event.specs.declared.found.Mode.{Mode}
@@ -19,7 +20,8 @@ use Rattle.nio_steps.specs.Bound.{disturbs, finds_listed}
 use Rattle.nio_steps.specs.Calls.{CallClause}
 use Rattle.nio_steps.specs.ChannelCalls.{words_below}
 use Rattle.nio_steps.specs.Runs.{Completes}
-use Rattle.nio_steps.specs.SelectCalls.{Selection, Begins, Poll, Tells, done, closed, try_finish_plan}
+use Rattle.nio_steps.specs.SelectCalls.{Selection, Begins, Poll, Tells, done, leave_plan, closed, try_finish_plan}
+use Rattle.nio_steps.specs.declared.refusal.BeginError.{BeginError}
 use Rattle.nio_steps.specs.declared.selected.Selected.{Selected}
 use Rattle.nio_select.specs.InProgress.{Selects}
 
@@ -120,3 +122,31 @@ abbrev pub ClosingsFindHigh : Type 0
 ClosingsFindHigh =
     (old new : PassView) (me : CallerNo) (s : SelNo) → CallClause me (Completes (try_finish_plan s)) old new closed
     → (mark : ℕ) × (past : List Event) × FindsHigh me old new s mark past
+
+-- ---- the turn after a poll that failed, and after want of memory
+
+-- The turn of the selector is free, and a wakeup that was pending when `past` had happened is pending still.
+pub record IsGivenBack (past : List Event) (now : PassView) (s : SelNo) : Type 0 where
+  pub free : (known now).turn s.0 ≡ None
+  pub wakeup : IsTrue ((state_after past).gate s.0).woken → IsTrue ((known now).gate s.0).woken
+
+-- When `leave` returns the turn is free, and a wakeup that was pending before the call is pending still.
+abbrev pub LeavingGivesBack : Type 0
+LeavingGivesBack =
+    (old new : PassView) (me : CallerNo) (selection : Selection)
+    → Selects old me selection → CallClause me (Completes (leave_plan selection)) old new tt
+    → IsGivenBack old.seen new selection.selector
+
+-- between two moments of a pass the caller took the turn of the selector, when `past` had happened
+pub record TakesTurn (me : CallerNo) (old new : PassView) (s : SelNo) (past : List Event) : Type 0 where
+  pub later : List Event
+  pub parts : new.seen ≡ past ++ event_of me (TakeTurn s None) ∷ later
+  pub after : IsPrefix old.seen past
+
+-- A `try_begin` for which there is no memory took the turn. When it returns the turn is free, and a wakeup that was
+-- pending when it took the turn is pending still.
+abbrev pub NoMemoryGivesBack : Type 0
+NoMemoryGivesBack =
+    (old new : PassView) (me : CallerNo) (s : SelNo) (mode : Mode)
+    → CallClause me (Begins s mode) old new (Err BeginError.Memory)
+    → (past : List Event) × TakesTurn me old new s past × IsGivenBack past new s

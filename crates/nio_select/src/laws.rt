@@ -1,7 +1,8 @@
 //! What follows from the contracts of the calls of a selection, and from the laws of their plans. The functions do
 //! nothing: their contracts are laws.
 ghost use Rattle.nio_select.specs.Laws.{CancelledKeysAreGone, SelectionsHaveWindows, CallsAreBounded};
-ghost use Rattle.nio_select.specs.Laws.{SelectionsAreAlone, ClosingsRemoveKeys, ClosingsFindHigh};
+ghost use Rattle.nio_select.specs.Laws.{SelectionsAreAlone, LeavingGivesBack, NoMemoryGivesBack};
+ghost use Rattle.nio_select.specs.Laws.{ClosingsRemoveKeys, ClosingsFindHigh};
 
 use nio_steps::{begin_law, bound_law, close_law};
 
@@ -23,6 +24,13 @@ pub fn steps_law()
 /// While a caller selects nobody else marks or removes a key of the selector, or ends its wakeup.
 pub fn alone_law()
     ensures { SelectionsAreAlone }
+{}
+
+/// After `leave`, and after a `try_begin` for which there is no memory, the turn is free, and a wakeup that was pending
+/// while the caller had the turn stays pending.
+pub fn turn_law()
+    ensures leave { LeavingGivesBack }
+    ensures no_memory { NoMemoryGivesBack }
 {}
 
 /// A closing that has finished has found a keys' high-water mark, and has removed each key with an index below it that

@@ -13,7 +13,7 @@
 pub use asked::Asked;
 pub use beginning::try_begin;
 pub use closing::{Closing, Finish, Shutting, shut};
-pub use laws::{alone_law, closed_law, gone_law, steps_law};
+pub use laws::{alone_law, closed_law, gone_law, steps_law, turn_law};
 pub use listing::{keys, selected_keys};
 pub use nio_event::Mode;
 pub use nio_steps::{BeginError, ListError, LookedKey, Selected, SelectorsSpent};
@@ -32,6 +32,4 @@ mod removing;
 mod selecting;
 mod stages;
 mod telling;
-#[cfg(test)]
-mod tests;
 mod told;

@@ -1,8 +1,8 @@
 -- Each call that doesn't wait, made between two calls: what it leaves.
 use Rattle.nio_plain.specs.Seq.Pipes.{own_sink}
-use Rattle.std.proofs.Common.{◌≡◌, ℕ, zero, suc, ◌==◌, nat_lt, Bool, true, false, not, ◌&&◌, cond, if◌then◌else◌}
+use Rattle.std.proofs.Common.{◌≡◌, ℕ, ◌==◌, nat_lt, Bool, true, false, not, ◌&&◌, cond, if◌then◌else◌}
 use Rattle.std.proofs.Common.{Option, Some, None, option_map, Result, Ok, Err, List, [], ◌∷◌, ◌++◌, map, refl, ap, sym}
-use Rattle.std.proofs.Common.{◌∙◌, subst, arith}
+use Rattle.std.proofs.Common.{◌∙◌, subst}
 use Rattle.std.specs.Prelude.{is_some, IsTrue}
 use Rattle.std.proofs.lemmas.Bool.{both_ways, lt-ltb, cond-true}
 use Rattle.nio_base.specs.Limits.{IsFit}
@@ -75,7 +75,7 @@ use Rattle.nio_sequence.proofs.Pipes.{unsealed}
 use Rattle.nio_sequence.proofs.Progress.{put_selection, put_closing, put_same, own-is, own_of_caller, closing_of_caller}
 use Rattle.nio_sequence.proofs.Progress.{others_begun, others_ended, others_shut, others_closed}
 use Rattle.nio_sequence.specs.Called.{Scripted, as_call, unseen, unscripted, waiting_of, script_call, lacks_memory}
-use Rattle.nio_sequence.specs.Called.{HasTime, HasNames}
+use Rattle.nio_sequence.specs.Called.{HasNames}
 use Rattle.nio_sequence.specs.Laws.{is_of_script}
 use Rattle.nio_sequence.specs.Left.{after_made, IsOngoing}
 
@@ -125,11 +125,10 @@ seq-through l st me word below =
     cond-true (nat_lt me.0 l.callers) (call_of Now l st me word) (unchanged st reply.NoCaller)
     (lt-ltb me.0 l.callers below)
 
-mode_through : (mode : Mode) → HasTime mode → mode_of (waiting_of mode) ≡ Some mode
-mode_through Mode.Now time = refl
-mode_through Mode.Wait time = refl
-mode_through (Mode.For zero) time = absurd (omega arith)
-mode_through (Mode.For (suc ms)) time = refl
+mode_through : (mode : Mode) → mode_of (waiting_of mode) ≡ Some mode
+mode_through Mode.Now = refl
+mode_through Mode.Wait = refl
+mode_through (Mode.For ms) = refl
 
 -- a `told` that answers Again goes on with the same selection
 again-same : (x next : Selection) (pairs : List (ℕ × ℕ)) (elapsed : Bool) (acts : List Act)
@@ -178,16 +177,16 @@ module _ (l : Limits) (past : List Event) (now : Progress) (me : CallerNo) (fit 
   Here ongoing acts call = Ends l past now me ongoing acts call
 
   -- a selection begins where there is none
-  begin-free : (s : SelNo) (mode : Mode) (left : ScriptState) (x : Selection) → HasTime mode → IsMadeSelector st s
+  begin-free : (s : SelNo) (mode : Mode) (left : ScriptState) (x : Selection) → IsMadeSelector st s
       → call_of Now l ds me (call.Begin s (waiting_of mode)) ≡ record { reply = begin_reply (Ok x); left = left }
       → now.selection s.0 ≡ None
   unfolding call_of begin_call
-  begin-free s mode left x time made is =
+  begin-free s mode left x made is =
       none_from (now.selection s.0)
       (ap is_some (sym (between.shown s.0).turn)
       ∙ begun_free (st.gate s.0).shut (is_some (st.turn s.0)) ds _ (shown x).looked
       (sym (ap (λ (a : Replied). a.reply) (selector-through ds s made _
-      ∙ ap (λ o. begun_with Now ds me s.0 o) (mode_through mode time))) ∙ ap (λ (a : Replied). a.reply) is))
+      ∙ ap (λ o. begun_with Now ds me s.0 o) (mode_through mode))) ∙ ap (λ (a : Replied). a.reply) is))
 
   -- and a closing too
   shut-free : (s : SelNo) (left : ScriptState) → IsMadeSelector st s
@@ -282,13 +281,13 @@ module _ (l : Limits) (past : List Event) (now : Progress) (me : CallerNo) (fit 
 
   begin-ends : (o : Ongoing) (s : SelNo) (mode : Mode) (answer : Result Selection BeginError) (acts : List Act)
       → IsRun l (try_begin s mode answer) acts → IsLegal l (after past me acts)
-      → IsMadeSelector st s → HasTime mode → IsOngoing me now o → Here o acts (try_begin s mode answer)
+      → IsMadeSelector st s → IsOngoing me now o → Here o acts (try_begin s mode answer)
   unfolding call_plan
-  begin-ends o s mode (Ok x) acts run legal made time at =
+  begin-ends o s mode (Ok x) acts run legal made at =
       let said : Said = record { reply = begin_reply (Ok x); left = after_begin now me s (Ok x) } in
       let word = call.Begin s (waiting_of mode) in
       let amounts = line-amounts word acts said made legal
-      (subst (λ m. Completes (begin_line now me s m) acts said) (sym (mode_through mode time))
+      (subst (λ m. Completes (begin_line now me s m) acts said) (sym (mode_through mode))
       (made-run (try_begin_plan s mode false) begin_reply (after_begin now me s) acts (Ok x) run)) in
       record {
         between = amounts.between;
@@ -297,21 +296,21 @@ module _ (l : Limits) (past : List Event) (now : Progress) (me : CallerNo) (fit 
         others =
             λ n o' other at'. others_begun me n other now o' s.0 x
             (begin-free s mode
-            (documented (state_after (after past me acts)) said.left) x time made amounts.replied) at';
+            (documented (state_after (after past me acts)) said.left) x made amounts.replied) at';
         is = seq-of word acts said amounts;
       }
-  begin-ends o s mode (Err BeginError.ClosedSelector) acts run legal made time at =
+  begin-ends o s mode (Err BeginError.ClosedSelector) acts run legal made at =
       quiet-line o (call.Begin s (waiting_of mode)) reply.ClosedSelector acts made legal
       (subst (λ m. Completes (begin_line now me s m) acts (record { reply = reply.ClosedSelector; left = now }))
-      (sym (mode_through mode time))
+      (sym (mode_through mode))
       (made-run (try_begin_plan s mode false) begin_reply (after_begin now me s) acts
       (Err BeginError.ClosedSelector) run)) at
-  begin-ends o s mode (Err BeginError.Busy) acts run legal made time at =
+  begin-ends o s mode (Err BeginError.Busy) acts run legal made at =
       quiet-line o (call.Begin s (waiting_of mode)) reply.Busy acts made legal
       (subst (λ m. Completes (begin_line now me s m) acts (record { reply = reply.Busy; left = now }))
-      (sym (mode_through mode time))
+      (sym (mode_through mode))
       (made-run (try_begin_plan s mode false) begin_reply (after_begin now me s) acts (Err BeginError.Busy) run)) at
-  begin-ends o s mode (Err BeginError.Memory) acts run legal made time at =
+  begin-ends o s mode (Err BeginError.Memory) acts run legal made at =
       lacking-ends o acts (script_call (try_begin s mode (Err BeginError.Memory)))
       (same-state (try_begin_plan s mode true) acts (Err BeginError.Memory)
       (lacking-leaves l st now me s mode between).begins legal run) at
@@ -572,7 +571,7 @@ module _ (l : Limits) (past : List Event) (now : Progress) (me : CallerNo) (fit 
       quiet-line o call.Selector (selector_reply answer) acts names legal
       (made-run (open_selector_plan l) selector_reply (λ _. now) acts answer run) at
   ends o (try_begin s mode answer) acts plain run legal names at may =
-      begin-ends o s mode answer acts run legal names.0 names.1 at
+      begin-ends o s mode answer acts run legal names at
   ends o (told x poll answer) acts plain run legal names at may = told-ends o x poll answer acts run legal names at may
   ends o (leave x) acts plain run legal names at may = leave-ends o x acts run legal names at may
   ends o (shut s answer) acts plain run legal names at may = shut-ends o s answer acts run legal names at

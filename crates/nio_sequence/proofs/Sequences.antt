@@ -125,7 +125,7 @@ module _ (l : Limits) (past : List Event) (now : Progress) (me : CallerNo) (fit 
   each-ends o (register s c ops att answer) acts run legal names at may =
       register-ends l me fit by past now o between no_pipes at s c ops att answer acts run legal names.0 names.1
   each-ends o (select s mode polls answer) acts run legal names at may =
-      select-ends l me fit by past now o between no_pipes at s names.0 mode names.1 polls answer acts run legal
+      select-ends l me fit by past now o between no_pipes at s names mode polls answer acts run legal
   each-ends o (close s answer) acts run legal names at may =
       close-ends l me fit by past now o between no_pipes at s names answer acts run legal
   each-ends o (read source none answer) acts run legal names at may =

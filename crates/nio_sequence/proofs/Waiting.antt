@@ -58,7 +58,7 @@ use Rattle.nio_steps.specs.declared.refusal.PipeError.{PipeError}
 use Rattle.nio_steps.specs.declared.refusal.PipeMakeError.{PipeMakeError}
 use Rattle.nio_sequence.proofs.Calls.{after, IsScripted, EndsAs, Ends, ends}
 use Rattle.nio_sequence.proofs.Pipes.{read-leaves, write-leaves, pipe-leaves}
-use Rattle.nio_sequence.specs.Called.{Scripted, unscripted, HasTime}
+use Rattle.nio_sequence.specs.Called.{Scripted, unscripted}
 use Rattle.nio_sequence.specs.Left.{IsOngoing}
 
 unscripted-is : (l : Limits) (past : List Event) (now : Progress) (me : CallerNo) (acts : List Act) (x : Progress)
@@ -410,7 +410,7 @@ module _ (l : Limits) (me : CallerNo) (fit : IsFit l) (by : IsCaller l me) where
   -- a selection in progress of this caller, and what is over or left then
   module _ (past : List Event) (now : Progress) (o : Ongoing) (between : IsBetween l (state_after past) now)
       (no_pipes : now.pipes ≡ []) (at : IsOngoing me now o) (s : SelNo) (made : IsMadeSelector (state_after past) s)
-      (mode : Mode) (time : HasTime mode) where
+      (mode : Mode) where
     begin-again : (p : List Event) (xs : List Act) (r : Result Selection BeginError) → WithSelector now s p
         → IsLegal l (after p me xs) → Begins s mode xs r → begin_finds_busy r ≡ true
         → WithSelector now s (after p me xs)
@@ -419,7 +419,7 @@ module _ (l : Limits) (me : CallerNo) (fit : IsFit l) (by : IsCaller l me) where
     begin-again p xs (Err BeginError.Memory) here legal run goes = absurd (cc goes)
     begin-again p xs (Err BeginError.Busy) here legal run goes = (
       (ends l p now me fit by here.0 no_pipes o (try_begin s mode (Err BeginError.Busy)) xs refl run legal
-          (here.1, time) at tt).between,
+          here.1 at tt).between,
       selector-stays p xs s legal here.1,
     )
 
@@ -530,7 +530,7 @@ module _ (l : Limits) (me : CallerNo) (fit : IsFit l) (by : IsCaller l me) where
 
         one : Ends l it.before now me o it.last (try_begin s mode middle)
         one = ends l it.before now me fit by it.here.0 no_pipes o
-            (try_begin s mode middle) it.last refl it.made it.legal (it.here.1, time) at tt
+            (try_begin s mode middle) it.last refl it.made it.legal it.here.1 at tt
 
         there : IsMadeSelector (state_after (after past me first)) s
         there = selector-stays past first s first_legal made

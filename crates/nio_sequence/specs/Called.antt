@@ -1,5 +1,5 @@
 -- Which call of the documented system a call on the table is: its word with what it was given, and its reply.
-use Rattle.std.specs.Prelude.{◌≤◌, pos, Bool, true, false, Some, ⊤}
+use Rattle.std.specs.Prelude.{pos, suc, Bool, true, false, Some, ⊤}
 use Rattle.nio_base.specs.declared.limits.Limits.{Limits}
 use Rattle.nio_base.specs.declared.numbers.KeyNo.{KeyNo}
 use Rattle.nio_event.specs.Conditions.{IsCaller}
@@ -42,7 +42,7 @@ pub data Scripted : Type 0 where
 abbrev pub waiting_of : Mode → Waiting
 waiting_of Mode.Now = waiting.Now
 waiting_of Mode.Wait = waiting.Wait
-waiting_of (Mode.For ms) = waiting.For (pos ms)
+waiting_of (Mode.For ms) = waiting.For (pos (suc ms.after_the_first))
 
 abbrev pub script_call : Made → Scripted
 script_call (draw n) = unseen
@@ -140,16 +140,10 @@ lacks_memory (write source sink none answer) = false
 
 -- ---- the names of a call
 
--- a timed selection waits a millisecond at least
-abbrev pub HasTime : Mode → Type 0
-HasTime Mode.Now = ⊤
-HasTime Mode.Wait = ⊤
-HasTime (Mode.For ms) = 1 ≤ ms
-
 abbrev pub HasKey : State → KeyNo → Type 0
 HasKey st k = IsMadeKey st k.sel (key_id k)
 
--- the selectors and channels that the call names are made, its key was published, and a selection has a time to wait
+-- the selectors and channels that the call names are made, and its key was published
 abbrev pub HasNames : State → Made → Type 0
 HasNames st (draw n) = ⊤
 HasNames st (find_selector n answer) = ⊤
@@ -174,7 +168,7 @@ HasNames st (try_set_blocking c on answer) = IsMadeChannel st c
 HasNames st (try_register s c ops att answer) = IsMadeSelector st s × IsMadeChannel st c
 HasNames st (close_channel c answer) = IsMadeChannel st c
 HasNames st (open_selector answer) = ⊤
-HasNames st (try_begin s mode answer) = IsMadeSelector st s × HasTime mode
+HasNames st (try_begin s mode answer) = IsMadeSelector st s
 HasNames st (told selection poll answer) = IsMadeSelector st selection.selector
 HasNames st (leave selection) = IsMadeSelector st selection.selector
 HasNames st (shut s answer) = IsMadeSelector st s
@@ -189,7 +183,7 @@ HasNames st (try_read source answer) = IsMadeChannel st source
 HasNames st (try_write source sink answer) = IsMadeChannel st source × IsMadeChannel st sink
 HasNames st (set_blocking c on answer) = IsMadeChannel st c
 HasNames st (register s c ops att answer) = IsMadeSelector st s × IsMadeChannel st c
-HasNames st (select s mode polls answer) = IsMadeSelector st s × HasTime mode
+HasNames st (select s mode polls answer) = IsMadeSelector st s
 HasNames st (close s answer) = IsMadeSelector st s
 HasNames st (read source none answer) = IsMadeChannel st source
 HasNames st (write source sink none answer) = IsMadeChannel st source × IsMadeChannel st sink

@@ -24,5 +24,3 @@ mod replies;
 mod selections;
 mod selectors;
 mod sole;
-#[cfg(test)]
-mod tests;

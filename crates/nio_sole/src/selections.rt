@@ -87,15 +87,14 @@ fn begin_in(
     }
 }
 
-// How long the selection waits: a negative time is refused, and 0 waits without limit.
+// How long the selection waits: a negative time is refused.
 fn mode_of(waiting: Waiting) -> Option<Mode>
     ensures { result ≡ mode_of waiting }
 {
     match waiting {
         Waiting::Now => Some(Mode::Now),
-        Waiting::Wait | Waiting::For(0) => Some(Mode::Wait),
-        Waiting::For(ms) if ms < 0 => None,
-        Waiting::For(ms) => Some(Mode::For(ms as u64)),
+        Waiting::Wait => Some(Mode::Wait),
+        Waiting::For(ms) => Mode::waiting(ms).ok(),
     }
 }
 

@@ -24,7 +24,8 @@ impl<'a> Sole<'a> {
     ghost use Rattle.nio_event.specs.PassViews.{HasNoPin};
     ghost use Rattle.nio_orderly.specs.Orderly.{IsWhole};
     ghost use Rattle.nio_plain.specs.ScriptState.{script_opening};
-    ghost use Rattle.nio_sole.specs.Drawn.{AreAllDrawn};
+    ghost use Rattle.nio_serial.specs.Serial.{history_of};
+    ghost use Rattle.nio_sole.specs.Drawn.{AreAllDrawn, draws};
     ghost use Rattle.nio_sole.specs.Sole.{limits_of, pass_of, state_of, words_of};
     ghost use Rattle.nio_words.specs.Passes.{IsFirstPass, IsPassOf, IsReady, seen, state_seen};
     ghost use Rattle.nio_words.specs.Views.{view};
@@ -36,6 +37,7 @@ impl<'a> Sole<'a> {
         ensures table { IfOk result (λ sole. words_of sole ≡ words.entry.now) }
         ensures opening { IfOk result (λ sole. state_of sole ≡ script_opening) }
         ensures drawn { IfOk result (λ sole. AreAllDrawn (limits_of sole) (state_seen (pass_of sole))) }
+        ensures draws { IfOk result (λ sole. seen (pass_of sole) ≡ history_of (draws (limits_of sole).callers)) }
         ensures pass { IsPassOf words.entry.now pass.new }
         ensures sight { IfOk result (λ sole. seen pass.new ≡ seen (pass_of sole)) }
         ensures memory { OnErr result (pass.new ≡ pass.old) }

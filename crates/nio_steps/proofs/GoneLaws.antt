@@ -35,14 +35,14 @@ use Rattle.nio_steps.specs.Steps.{stage_in, word_in}
 --
 -- `later` says that the index has a later key, and `fit` that it has this one.
 
-also_removed : (later fit published removed : Bool) → (later || (fit && published)) ≡ true → removed ≡ true
+pub also_removed : (later fit published removed : Bool) → (later || (fit && published)) ≡ true → removed ≡ true
     → (later || (fit && removed)) ≡ true
 also_removed true fit published removed was is = refl
 also_removed false true published removed was is = is
 also_removed false false published removed was is = was
 
 -- a key that is published and cancelled, and not in the cancelled set, is removed
-outside_removed : (later fit published cancelled removed : Bool) → (later || (fit && published)) ≡ true
+pub outside_removed : (later fit published cancelled removed : Bool) → (later || (fit && published)) ≡ true
     → (later || (fit && cancelled)) ≡ true
     → (published && not removed && cancelled) ≡ false → (later || (fit && removed)) ≡ true
 outside_removed true fit p c r was_p was_c out = refl

@@ -230,8 +230,8 @@ attachments : Setup Source 1
 unfolding plans
 attachments = (refl, (refl, (refl, (refl, (refl, (refl, (refl, (refl, (refl, (refl, tt))))))))))
 
-timeouts : Setup Source 1 (Begins t1 (For 5) 1 (Says t1 (told_plan (sel (For 5) 1) [] false) (again (sel (For 5) 1))
-    (Says t1 (told_plan (sel (For 5) 1) [] true) (done (record { count = 0; why = Elapsed })) (Begins t1 Wait 1
+timeouts : Setup Source 1 (Begins t1 (For (record { after_the_first = 4 })) 1 (Says t1 (told_plan (sel (For (record { after_the_first = 4 })) 1) [] false) (again (sel (For (record { after_the_first = 4 })) 1))
+    (Says t1 (told_plan (sel (For (record { after_the_first = 4 })) 1) [] true) (done (record { count = 0; why = Elapsed })) (Begins t1 Wait 1
     (Says t1 (told_plan (sel Wait 1) [] true) (again (sel Wait 1)) End))))) opening
 unfolding plans
 timeouts = (refl, (refl, (refl, (refl, (refl, (refl, (refl, (refl, (refl, tt)))))))))

@@ -7,6 +7,4 @@
 
 pub use trace::{Reading, Trace};
 
-#[cfg(test)]
-mod tests;
 mod trace;

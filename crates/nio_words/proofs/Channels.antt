@@ -5,7 +5,7 @@ use Rattle.std.specs.Prelude.{bit_and, bit_or}
 use Rattle.std.specs.Int.{bit_not, w64}
 use Rattle.std.proofs.lemmas.Nat.{or_lt, and_le_l}
 use Rattle.nio_base.specs.declared.kind.Kind.{Kind}
-use Rattle.nio_base.specs.declared.kind.Kind.TheVariants.{Stream, Listener, Source, Sink}
+use Rattle.nio_base.specs.declared.kind.Kind.TheVariants.{Stream, Listener, Source, Sink, Datagram}
 use Rattle.nio_base.specs.declared.limits.Limits.{Limits}
 use Rattle.nio_base.specs.declared.numbers.CallerNo.{CallerNo}
 use Rattle.nio_base.specs.declared.numbers.ChanNo.{ChanNo}
@@ -26,24 +26,26 @@ use Rattle.nio_words.specs.Moves.{IsMoment, Moves}
 use Rattle.nio_words.specs.declared.instruction.Instruction.TheVariants.{Load, SetBit, Exchange}
 use Rattle.nio_words.specs.declared.part.Part.TheVariants.{Chan}
 
-kind_code-lt : (k : Kind) → kind_code k < 4
+kind_code-lt : (k : Kind) → kind_code k < 5
 kind_code-lt Stream = omega arith
 kind_code-lt Listener = omega arith
 kind_code-lt Source = omega arith
 kind_code-lt Sink = omega arith
+kind_code-lt Datagram = omega arith
 
 reads_kind : (k : Kind) → kind_of (kind_code k) ≡ k
 reads_kind Stream = refl
 reads_kind Listener = refl
 reads_kind Source = refl
 reads_kind Sink = refl
+reads_kind Datagram = refl
 
 -- the fields of a channel's word
 module _ (c : Channel) where
   made-lt : bit c.made < 2
   made-lt = bit-lt c.made
 
-  kind-lt : kind_code c.kind < 4
+  kind-lt : kind_code c.kind < 5
   kind-lt = kind_code-lt c.kind
 
   closed-lt : bit c.closed < 2

@@ -25,7 +25,6 @@ pub mod FreeIndexes
 pub mod Notes
 pub mod Selectors
 pub mod Whole
-pub mod Following
 pub mod GoingOn
 pub mod Views
 pub mod Pins

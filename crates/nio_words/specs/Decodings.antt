@@ -2,7 +2,7 @@
 use Rattle.std.specs.Prelude.{ℕ, ◌-◌, ◌/◌, ◌%◌, ◌^◌, ◌==◌, Bool, not, if◌then◌else◌, Option, Some, None, Result, Ok}
 use Rattle.std.specs.Prelude.{Err}
 use Rattle.nio_base.specs.declared.kind.Kind.{Kind}
-use Rattle.nio_base.specs.declared.kind.Kind.TheVariants.{Stream, Listener, Source, Sink}
+use Rattle.nio_base.specs.declared.kind.Kind.TheVariants.{Stream, Listener, Source, Sink, Datagram}
 use Rattle.nio_base.specs.declared.numbers.CallerNo.{CallerNo}
 use Rattle.nio_base.specs.declared.numbers.KeyId.{KeyId}
 use Rattle.nio_event.specs.declared.found.Chan.{Chan as Channel}
@@ -48,7 +48,9 @@ abbrev pub number_of : ℕ → ℕ
 number_of word = word % 2 ^ 32
 
 abbrev pub kind_of : ℕ → Kind
-kind_of code = if code == 0 then Stream else if code == 1 then Listener else if code == 2 then Source else Sink
+kind_of code =
+    if code == 0 then Stream else if code == 1 then Listener else if code == 2 then Source else if code == 3 then Sink
+    else Datagram
 
 abbrev pub chan_of : ℕ → Channel
 chan_of word = record {

@@ -3,7 +3,7 @@
 use Rattle.std.specs.Prelude.{ℕ, ◌+◌, ◌*◌, ◌^◌, ◌<◌, Bool, if◌then◌else◌, Option, Some, None, ⊤}
 use Rattle.std.specs.Option.{IfSome}
 use Rattle.nio_base.specs.declared.kind.Kind.{Kind}
-use Rattle.nio_base.specs.declared.kind.Kind.TheVariants.{Stream, Listener, Source, Sink}
+use Rattle.nio_base.specs.declared.kind.Kind.TheVariants.{Stream, Listener, Source, Sink, Datagram}
 use Rattle.nio_base.specs.declared.limits.Limits.{Limits}
 use Rattle.nio_base.specs.declared.numbers.CallerNo.{CallerNo}
 use Rattle.nio_base.specs.declared.numbers.KeyId.{KeyId}
@@ -37,6 +37,7 @@ kind_code Stream = 0
 kind_code Listener = 1
 kind_code Source = 2
 kind_code Sink = 3
+kind_code Datagram = 4
 
 -- bit 0 made; bits 1 to 3 kind; bit 4 closed; bit 5 blocking
 abbrev pub channel_word : Channel → ℕ

@@ -12,5 +12,4 @@ pub mod Moves
 pub mod Drawing
 pub mod Whole
 pub mod Laws
-pub mod Following
 pub mod Views

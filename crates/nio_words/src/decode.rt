@@ -61,7 +61,8 @@ fn kind_of(code: u64) -> Kind
         0 => Kind::Stream,
         1 => Kind::Listener,
         2 => Kind::Source,
-        _ => Kind::Sink,
+        3 => Kind::Sink,
+        _ => Kind::Datagram,
     }
 }
 

@@ -18,13 +18,14 @@ fn bit(set: bool) -> u64
 #[inline(always)]
 fn kind_code(kind: Kind) -> u64
     ensures code { result ≡ kind_code kind }
-    ensures below { result < 4 }
+    ensures below { result < 5 }
 {
     match kind {
         Kind::Stream => 0,
         Kind::Listener => 1,
         Kind::Source => 2,
         Kind::Sink => 3,
+        Kind::Datagram => 4,
     }
 }
 

@@ -16,7 +16,5 @@ mod sharing;
 mod step;
 mod steps;
 mod table;
-#[cfg(test)]
-mod tests;
 mod view;
 mod words;

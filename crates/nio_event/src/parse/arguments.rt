@@ -66,6 +66,7 @@ fn read_kind_word(word: &[u8]) -> Option<Kind>
         b"listener" => Some(Kind::Listener),
         b"source" => Some(Kind::Source),
         b"sink" => Some(Kind::Sink),
+        b"datagram" => Some(Kind::Datagram),
         _ => None,
     }
 }

@@ -187,6 +187,7 @@ fn kind_text(kind: Kind) -> &'static [u8]
         Kind::Listener => b"listener",
         Kind::Source => b"source",
         Kind::Sink => b"sink",
+        Kind::Datagram => b"datagram",
     }
 }
 

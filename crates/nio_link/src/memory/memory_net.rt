@@ -180,7 +180,8 @@ impl MemoryNet {
         }
     }
 
-    pub(crate) fn read_link(&mut self, chan: ChanNo, into: &mut [u8]) -> Result<Got, Failed>
+    /// Reads as `Net::read` does, at any time: it fails where no connected link stands there.
+    pub fn read_link(&mut self, chan: ChanNo, into: &mut [u8]) -> Result<Got, Failed>
         requires { into.old ≢ [] }
         ensures answer { result ≡ read_answer (connected (slot_at self.old.slots chan)) (length into.old) }
         ensures buffer { into.new ≡ read_buffer (connected (slot_at self.old.slots chan)) into.old }
@@ -193,7 +194,9 @@ impl MemoryNet {
         result
     }
 
-    pub(crate) fn write_link(&mut self, chan: ChanNo, from: &[u8]) -> Result<Put, Failed>
+    /// Writes as `Net::write` does, at any time: it fails where no connected link stands there, and where the plan says
+    /// so.
+    pub fn write_link(&mut self, chan: ChanNo, from: &[u8]) -> Result<Put, Failed>
         requires { from.now ≢ [] }
         ensures answer { result ≡ write_answer (connected (slot_at self.old.slots chan)) (length from.now) }
         ensures after { self.new ≡ after_write self.old chan from.now }
@@ -204,7 +207,8 @@ impl MemoryNet {
         result
     }
 
-    pub(crate) fn shut_link(&mut self, chan: ChanNo) -> Result<(), Failed>
+    /// Shuts as `Net::shut_write` does, at any time: it fails where no connected link stands there.
+    pub fn shut_link(&mut self, chan: ChanNo) -> Result<(), Failed>
         ensures answer { result ≡ shut_answer (connected (slot_at self.old.slots chan)) }
         ensures after { self.new ≡ logged chan (change.ShutWrite result) (after_shut self.old chan) }
         ensures changes { self.new.changes ≡ self.old.changes ++ (chan, change.ShutWrite result) ∷ [] }
@@ -223,7 +227,9 @@ impl MemoryNet {
         result
     }
 
-    pub(crate) fn finish_link(&mut self, chan: ChanNo) -> Result<bool, Failed>
+    /// Goes on connecting as `Net::finish_connect` does, at any time: it fails where no link is being connected
+    /// there, and where the plan says so.
+    pub fn finish_link(&mut self, chan: ChanNo) -> Result<bool, Failed>
         ensures answer { result ≡ finish_answer (connecting (slot_at self.old.slots chan)) }
         ensures after { self.new ≡ logged chan (change.FinishConnect result) (after_finish self.old chan) }
         ensures changes { self.new.changes ≡ self.old.changes ++ (chan, change.FinishConnect result) ∷ [] }
@@ -242,7 +248,8 @@ impl MemoryNet {
         result
     }
 
-    pub(crate) fn listen_on(&mut self, chan: ChanNo, at: Addr) -> Result<(), Failed>
+    /// Listens as `Net::listen` does, at any time: it fails where the channel has no free place.
+    pub fn listen_on(&mut self, chan: ChanNo, at: Addr) -> Result<(), Failed>
         ensures answer { result ≡ listen_answer self.old chan }
         ensures after { self.new ≡ logged chan (change.Listen at result) (after_listen self.old chan) }
         ensures changes { self.new.changes ≡ self.old.changes ++ (chan, change.Listen at result) ∷ [] }
@@ -265,7 +272,9 @@ impl MemoryNet {
         Ok(())
     }
 
-    pub(crate) fn connect_link(&mut self, chan: ChanNo, to: Addr) -> Result<bool, Failed>
+    /// Begins to connect as `Net::connect` does, at any time: it fails where the channel has no free place, and where the
+    /// plan has no further peer.
+    pub fn connect_link(&mut self, chan: ChanNo, to: Addr) -> Result<bool, Failed>
         ensures answer { result ≡ connect_answer self.old chan }
         ensures after { self.new ≡ logged chan (change.Connect to result) (after_connect self.old chan) }
         ensures fresh { AreFresh self.old.targets }
@@ -294,7 +303,9 @@ impl MemoryNet {
         Ok(false)
     }
 
-    pub(crate) fn accept_link(&mut self, listener: ChanNo, chan: ChanNo) -> Result<bool, Failed>
+    /// Accepts as `Net::accept` does, at any time: it fails where no listener stands there, where the channel has no free
+    /// place, and where the plan says so.
+    pub fn accept_link(&mut self, listener: ChanNo, chan: ChanNo) -> Result<bool, Failed>
         ensures fails { IsErr result ↔ (FailsNext self.old.accepts ⊎ (can_accept self.old listener chan ≡ false)) }
         ensures answer { IfOk result (λ made. made ≡ is_waiting self.old.clients) }
         ensures free { IfOk result (λ _. can_accept self.old listener chan ≡ true) }
@@ -371,6 +382,7 @@ impl Poller for MemoryNet {
         ensures cause { CountsFaults Fault self.old.polls.faults self.new.polls.faults result }
         ensures ready { IfOk result (λ told. (c : ChanNo)
             → ready_told self.new.findings c ≡ told_of_channel asked.now told.pairs.items c) }
+        ensures unready { OnErr result ((c : ChanNo) → ready_told self.new.findings c ≡ 0) }
         ensures polls { AddsPoll None None asked.now mode result }
         ensures kept { KeepsLinks self.old self.new }
 
@@ -384,9 +396,11 @@ impl Poller for MemoryNet {
         ensures failed { result ≡ Err Fault → self.new ≡ after_failed_poll self.old }
     {
         if self.polls.next(true).is_err() {
+            self.findings.push(&Finding::Untold);
             return Err(PollError::Fault);
         }
         let Ok(pairs) = tell(alloc, &self.slots, is_next(&self.clients), asked) else {
+            self.findings.push(&Finding::Untold);
             return Err(PollError::Memory);
         };
         let told = Told {

@@ -1,8 +1,8 @@
-//! What errors of the system mean to the calls, a connection that is refused, and what is read of one that ends.
+//! What errors of the system mean to the calls, a connection that is refused, and what is read of one that ends. They
+//! stand here because `Sockets` is private: through a net these calls need polls for keys that a selection asks for.
 use super::*;
-use crate::tests::free_address;
 use std::io::Write;
-use std::net::{TcpListener, TcpStream};
+use std::net::{Ipv4Addr, TcpListener, TcpStream};
 use std::test::Fail;
 use std::thread::sleep;
 
@@ -82,16 +82,28 @@ fn calls_take_errors_by_their_kind(rt: HostRuntime) -> Result<(), Fail> {
     Ok(())
 }
 
-/// A link to a peer whose end is given too.
-fn linked(rt: &HostRuntime, sockets: &mut Sockets) -> Result<TcpStream, Fail> {
+/// An address that nobody listens at.
+fn free_address(rt: &HostRuntime) -> Result<Addr, Fail> {
     let listener = TcpListener::bind(rt, "127.0.0.1:0")?;
-    let at = Addr {
+    Ok(Addr {
         ip: [127, 0, 0, 1],
         port: listener.local_addr()?.port(),
-    };
-    sockets.connect(rt, LINK, at)?;
-    let (peer, _from) = listener.accept()?;
-    Ok(peer)
+    })
+}
+
+/// Accepts a link to a peer, whose end is given. A poll leaves what an earlier one was told of the listener.
+fn linked(rt: &HostRuntime, sockets: &mut Sockets) -> Result<TcpStream, Fail> {
+    let at = free_address(rt)?;
+    sockets.listen(rt, LISTENER, at)?;
+    let peer = TcpStream::connect(rt, (Ipv4Addr::new(127, 0, 0, 1), at.port))?;
+    sockets.poll_for(Some(Duration::from_millis(50)))?;
+    sockets.poll_for(Some(Duration::ZERO))?;
+    let is_kept = not_yet(sockets, LISTENER, Ops::ACCEPT) == Outcome::Again;
+    if is_kept && sockets.accept(LISTENER, LINK)? {
+        Ok(peer)
+    } else {
+        Err(Fail::from("the listener has no connection"))
+    }
 }
 
 /// What a read gives once the system has told what came.

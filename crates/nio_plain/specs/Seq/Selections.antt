@@ -1,12 +1,14 @@
 -- Selections: how one begins, what it is told, and how it ends.
-use Rattle.std.specs.Prelude.{ℕ, zero, suc, ℤ, pos, negsuc, ◌==◌, Bool, true, false, not, ◌&&◌, ◌||◌, if◌then◌else◌}
+use Rattle.std.specs.Prelude.{ℕ, ◌==◌, Bool, true, false, not, ◌&&◌, ◌||◌, if◌then◌else◌}
 use Rattle.std.specs.Prelude.{Option, Some, None, is_some, List, [], ◌∷◌, map, filter, count_by, bit_and, bit_or}
 use Rattle.std.specs.List.{list_any}
+use Rattle.std.specs.Result.{result_ok}
 use Rattle.nio_base.specs.declared.numbers.CallerNo.{CallerNo}
 use Rattle.nio_base.specs.declared.numbers.KeyId.{KeyId}
 use Rattle.nio_base.specs.declared.numbers.SelNo.{SelNo}
 use Rattle.nio_event.specs.Sets.{in_key_set, in_cancelled_set}
 use Rattle.nio_event.specs.State.{State, with_gate, with_turn, with_begun}
+use Rattle.nio_event.specs.Timeout.{mode_for}
 use Rattle.nio_event.specs.declared.call.Waiting.{Waiting}
 use Rattle.nio_event.specs.declared.call.Waiting.TheVariants as waiting
 use Rattle.nio_event.specs.declared.found.GateWord.{GateWord}
@@ -34,16 +36,11 @@ abbrev pub looked_keys : State → ℕ → List (KeyId × ℕ)
 looked_keys st s =
     map (λ i. (key_at st s i, st.interest s i)) (filter (λ i. in_key_set (st.key s i)) (below (st.keys_high s)))
 
--- how long a line's selection waits: a negative time is refused, and 0 waits without limit
-abbrev pub timed : ℤ → Option Mode
-timed (pos zero) = Some mode.Wait
-timed (pos (suc ms)) = Some (mode.For (suc ms))
-timed (negsuc _) = None
-
+-- how long a line's selection waits: a negative time is refused
 abbrev pub mode_of : Waiting → Option Mode
 mode_of waiting.Now = Some mode.Now
 mode_of waiting.Wait = Some mode.Wait
-mode_of (waiting.For ms) = timed ms
+mode_of (waiting.For ms) = result_ok (mode_for ms)
 
 abbrev pub selection_begun : Rules → ScriptState → CallerNo → ℕ → Mode → Replied
 selection_begun rules st me s how =

@@ -78,7 +78,8 @@ impl Plain {
 fn is_again(gate: GateWord, interrupted: bool, mode: Mode, elapsed: bool, count: u32) -> bool
     ensures { result ≡ is_again gate interrupted mode elapsed count }
 {
-    count == 0 && goes_on(mode, elapsed) && !gate.woken && !gate.shut && !interrupted
+    let waits = goes_on(mode, elapsed);
+    count == 0 && waits && !gate.woken && !gate.shut && !interrupted
 }
 
 /// Whether a selection of this mode waits on.

@@ -75,7 +75,7 @@ returns-clause-line g c =
     c.deref.ensures.value)
     c.index_mut.ensures.value read.call read.same refl c.read_reply.result said
     (omega (arith, c.in_ok-bytes.ensures.len)) (omega arith) read.bytes read.answer read.most read.not_yet
-    read.end
+    read.end read.closed_meanwhile
 
 pub returns-clause-stands : goal.returns-clause-stands
 returns-clause-stands g c =

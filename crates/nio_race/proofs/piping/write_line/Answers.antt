@@ -57,14 +57,15 @@ returns-clause-line g c =
     writes_own c.args.w.now c.args.d.now c.args.ends.now c.args.me c.args.chan c.args.bytes.now c.find_channel.new.p
     c.write-answer.new.p (found_of c.find_channel.result c.is_none.result c.is_none.ensures c.if-is_none.false)
     c.in-Some.place c.index_mut.result.now c.write-answer.new.self
-    (with_item c.args.ends.now.sinks c.in-Some.place c.write-answer.new.self) c.write-answer.result c.requires
+    (with_item c.args.ends.now.sinks c.in-Some.place c.write-answer.new.self) c.write-answer.result
+    c.as_slice.result.now c.requires
     (looks_found c.args.w.now c.args.me c.args.chan c.args.d.now.pass c.find_channel.new.p c.find_channel.result
     c.is_none.result c.is_none.ensures c.if-is_none.false c.find_channel.ensures.call)
     c.find_channel.ensures.ready
     (sink_found c.args.ends.now c.args.chan (Some c.in-Some.place) c.deref.result.now c.in-Some.ensures
     c.deref.ensures.value)
-    c.index_mut.ensures.value write.call write.same refl c.write_reply.result c.as_slice.result.now said
-    c.as_slice.ensures write.bytes write.seal write.answer write.most write.places
+    c.index_mut.ensures.value write.call write.same refl c.write_reply.result said
+    c.as_slice.ensures write.bytes write.seal write.answer write.most write.places write.closed_meanwhile
 
 pub returns-clause-stands : goal.returns-clause-stands
 returns-clause-stands g c =
@@ -73,7 +74,8 @@ returns-clause-stands g c =
     c.find_channel.new.p c.write-answer.new.p
     (found_of c.find_channel.result c.is_none.result c.is_none.ensures c.if-is_none.false)
     c.in-Some.place c.index_mut.result.now c.write-answer.new.self
-    (with_item c.args.ends.now.sinks c.in-Some.place c.write-answer.new.self) c.write-answer.result c.requires
+    (with_item c.args.ends.now.sinks c.in-Some.place c.write-answer.new.self) c.write-answer.result
+    c.as_slice.result.now c.requires
     (looks_found c.args.w.now c.args.me c.args.chan c.args.d.now.pass c.find_channel.new.p c.find_channel.result
     c.is_none.result c.is_none.ensures c.if-is_none.false c.find_channel.ensures.call)
     c.find_channel.ensures.ready

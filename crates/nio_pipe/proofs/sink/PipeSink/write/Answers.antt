@@ -1,15 +1,18 @@
-use Rattle.std.proofs.Common.{◌≡◌, ◌+◌, ◌≤◌, ◌&&◌, true, false, Ok, Err, sym, subst, rules}
+use Rattle.std.proofs.Common.{◌≡◌, ◌+◌, ◌≤◌, ◌&&◌, true, false, length, Ok, Err, sym, ◌∙◌, subst, rules, arith}
 use Rattle.std.proofs.lemmas.Bool.{and_parts}
 use Rattle.nio_event.proofs.PassViews.{channel_after}
 use Rattle.nio_steps.specs.Calls.{CallClause}
+use Rattle.nio_steps.specs.declared.refusal.PipeError.TheVariants.{AsynchronousClose}
 use Rattle.nio_words.specs.Passes.{limits_of}
 use Rattle.nio_words.specs.Views.{view}
-use Rattle.nio_pipe.specs.Answers.{bytes_written, write_waits}
+use Rattle.nio_pipe.specs.Answers.{bytes_written, refusal_after, write_answer, write_waits}
 use Rattle.nio_pipe.specs.Calls.{WaitsToWrite}
-use Rattle.nio_pipe.specs.Ends.{TakesBytes, free}
-use Rattle.nio_pipe.proofs.EndLemmas.{sink_looks_none, sink_looks_more}
+use Rattle.nio_pipe.specs.Ends.{HadNoPlace, TakesBytes, free}
+use Rattle.nio_pipe.specs.declared.answers.PipeWrite.{PipeWrite}
+use Rattle.nio_pipe.specs.declared.answers.PipeWrite.TheVariants.{NotYet}
+use Rattle.nio_pipe.proofs.EndLemmas.{no_place_before, sink_looks_none, sink_looks_more}
 use Rattle.nio_pipe.proofs.Waits.{tried_none, tried_more, tried_last, refused_ends, found_no_place, write_done}
-use Rattle.nio_pipe.proofs.Waits.{write_refused}
+use Rattle.nio_pipe.proofs.Waits.{waited_before, write_refused, write_some}
 use Rattle.nio_pipe.proofs.sink.PipeSink.write.Goals as goal
 
 pub loop-init : goal.loop-init
@@ -19,6 +22,8 @@ loop-init g c = record {
   unpinned = c.requires.unpinned;
   tried = tried_none _ _ _ c.requires.ready.pass.legal;
   looks = sink_looks_none c.args.self.now;
+  room = λ waited. absurd (cc waited);
+  nothing = λ waited. absurd (cc waited);
 }
 
 pub loop-preserved : goal.loop-preserved
@@ -32,6 +37,9 @@ loop-preserved g c =
     let places : free c.loop.self ≤ free c.push-answer.new.self + 0 =
     subst (λ answer. free c.loop.self ≤ free c.push-answer.new.self + bytes_written (Ok answer)) none
     c.push-answer.ensures.places in
+    let answers : NotYet ≡ write_answer (length c.args.from.now) 0 =
+    subst (λ (answer : PipeWrite). answer ≡ write_answer (length c.args.from.now) (bytes_written (Ok answer))) none
+    c.push-answer.ensures.answer in
     record {
       ready = c.in-Ok.ensures.ready;
       ends = record {
@@ -41,22 +49,47 @@ loop-preserved g c =
       unpinned = c.in-Ok.ensures.unpinned;
       tried = tried_more (Ok c.in-Ok.blocking) c.loop.invariant.tried c.in-Ok.ensures.call both.1;
       looks = sink_looks_more c.loop.invariant.looks c.push-answer.ensures.same takes c.push-answer.ensures.seal places;
+      room = λ _. write_some (length c.args.from.now) answers;
+      nothing = λ _. (c.push-answer.ensures.not_yet none).1;
     }
 
 pub returns-then-not-write_goes_on-clause-call : goal.returns-then-not-write_goes_on-clause-call
 returns-then-not-write_goes_on-clause-call g c =
     let over : (write_waits (Ok c.push-answer.result) && c.in-Ok.blocking) ≡ false = search rules in
-    write_done _ _ _ _ _
-    (tried_last (write_waits (Ok c.push-answer.result)) (Ok c.in-Ok.blocking) c.loop.invariant.tried
-    c.in-Ok.ensures.call over)
+    let answer = c.push-answer.result in
+    let had = HadNoPlace c.args.self.now c.push-answer.new.self c.args.from.now in
+    write_done _ _ _ had answer c.in-Ok.blocking
+    (tried_last (had (Ok answer)) (write_waits (Ok answer)) (Ok c.in-Ok.blocking) (λ waited. record {
+      bytes = c.loop.invariant.room waited;
+      before = no_place_before c.loop.invariant.looks (c.loop.invariant.nothing waited);
+      after = tt;
+    }) c.loop.invariant.tried c.in-Ok.ensures.call over)
 
 pub returns-in-Err-clause-call : goal.returns-in-Err-clause-call
 returns-in-Err-clause-call g c =
     let l = limits_of c.args.w.now in
     let source = c.args.self.now.source in
     let sink = c.args.self.now.chan in
-    subst (λ refusal. CallClause c.args.me (WaitsToWrite l source sink) (view c.args.w.now c.args.p.now)
+    let had = HadNoPlace c.args.self.now c.seal_after.new.self c.args.from.now in
+    subst (λ refusal. CallClause c.args.me (WaitsToWrite l source sink had) (view c.args.w.now c.args.p.now)
     (view c.args.w.now c.check_write.new.p) (Err refusal)) (sym c.refusal_after.ensures)
-    (write_refused l source sink c.loop.waited c.in-Err.refusal
-    (tried_last false (Err c.in-Err.refusal) c.loop.invariant.tried c.in-Err.ensures.call
+    (write_refused l source sink had c.loop.waited c.in-Err.refusal
+    (tried_last (had (Err (refusal_after c.loop.waited c.in-Err.refusal))) false (Err c.in-Err.refusal)
+    (λ waited. record {
+      bytes = c.loop.invariant.room waited;
+      before = no_place_before c.loop.invariant.looks (c.loop.invariant.nothing waited);
+      after = omega (arith, c.loop.invariant.nothing waited, c.seal_after.ensures.free);
+    }) c.loop.invariant.tried c.in-Err.ensures.call
     (refused_ends false c.in-Err.refusal)))
+
+pub returns-in-Err-clause-closed_meanwhile : goal.returns-in-Err-clause-closed_meanwhile
+returns-in-Err-clause-closed_meanwhile g c = λ is.
+    let closed : refusal_after c.loop.waited c.in-Err.refusal ≡ AsynchronousClose =
+    sym c.refusal_after.ensures ∙ cc is in
+    let waited : c.loop.waited ≡ true =
+    waited_before c.loop.waited c.in-Err.refusal (λ same. c.in-Err.ensures.at_once (λ i. Err (same i))) closed in
+    record {
+      bytes = c.loop.invariant.room waited;
+      before = no_place_before c.loop.invariant.looks (c.loop.invariant.nothing waited);
+      after = omega (arith, c.loop.invariant.nothing waited, c.seal_after.ensures.free);
+    }

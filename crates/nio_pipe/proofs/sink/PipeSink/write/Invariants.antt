@@ -1,9 +1,10 @@
+use Rattle.std.proofs.Common.{◌≡◌, ◌<◌, true, length}
 use Rattle.nio_event.specs.PassViews.{HasNoPin}
 use Rattle.nio_steps.specs.PipeCalls.{try_write_plan}
 use Rattle.nio_words.specs.Passes.{IsReady, limits_of}
 use Rattle.nio_words.specs.Views.{view}
 use Rattle.nio_pipe.specs.Calls.{HasEnds}
-use Rattle.nio_pipe.specs.Ends.{SinkLooks}
+use Rattle.nio_pipe.specs.Ends.{SinkLooks, free}
 use Rattle.nio_pipe.proofs.Waits.{TriedClause}
 use Rattle.nio_pipe.proofs.sink.PipeSink.write.Given as goal
 
@@ -15,4 +16,6 @@ invariant-loop g l = record {
   tried : TriedClause l.me (try_write_plan (limits_of l.w) l.fn.self.source l.fn.self.chan) l.waited (view l.w l.fn.p)
       (view l.w l.p);
   looks : SinkLooks l.fn.self l.self;
+  room : l.waited ≡ true → 0 < length l.from;
+  nothing : l.waited ≡ true → free l.self ≡ 0;
 }

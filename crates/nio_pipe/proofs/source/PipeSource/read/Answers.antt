@@ -1,16 +1,18 @@
-use Rattle.std.proofs.Common.{◌≡◌, ◌&&◌, true, false, Ok, Err, refl, sym, ◌∙◌, subst, rules}
+use Rattle.std.proofs.Common.{◌≡◌, ◌<◌, ◌&&◌, true, false, length, Ok, Err, refl, sym, ◌∙◌, subst, rules}
 use Rattle.std.proofs.lemmas.Bool.{and_parts}
 use Rattle.nio_event.proofs.PassViews.{channel_after}
 use Rattle.nio_steps.specs.Calls.{CallClause}
+use Rattle.nio_steps.specs.declared.refusal.PipeError.TheVariants.{AsynchronousClose}
 use Rattle.nio_words.specs.Passes.{limits_of}
 use Rattle.nio_words.specs.Views.{view}
-use Rattle.nio_pipe.specs.Answers.{bytes_read, read_waits}
+use Rattle.nio_pipe.specs.Answers.{bytes_read, read_answer, read_waits, refusal_after}
 use Rattle.nio_pipe.specs.Calls.{WaitsToRead}
-use Rattle.nio_pipe.specs.Ends.{GivesBytes}
+use Rattle.nio_pipe.specs.Ends.{GivesBytes, HadNoByte, knows_end}
+use Rattle.nio_pipe.specs.declared.answers.PipeRead.{PipeRead}
 use Rattle.nio_pipe.specs.declared.answers.PipeRead.TheVariants.{NotYet}
 use Rattle.nio_pipe.proofs.EndLemmas.{looks_none, looks_more, gives_after, knew_nothing}
 use Rattle.nio_pipe.proofs.Waits.{tried_none, tried_more, tried_last, refused_ends, found_nothing, read_done}
-use Rattle.nio_pipe.proofs.Waits.{read_refused}
+use Rattle.nio_pipe.proofs.Waits.{read_refused, read_some, waited_before}
 use Rattle.nio_pipe.proofs.source.PipeSource.read.Goals as goal
 
 pub loop-init : goal.loop-init
@@ -21,15 +23,23 @@ loop-init g c = record {
   tried = tried_none _ _ _ c.requires.ready.pass.legal;
   looks = looks_none c.args.self.now;
   into = refl;
+  room = λ waited. absurd (cc waited);
+  nothing = λ waited. absurd (cc waited);
 }
 
 pub loop-preserved : goal.loop-preserved
 loop-preserved g c =
     let goes : (read_waits (Ok c.give-answer.result) && c.in-Ok.blocking) ≡ true = search rules in
     let both = and_parts (read_waits (Ok c.give-answer.result)) c.in-Ok.blocking goes in
+    let none : c.give-answer.result ≡ NotYet = found_nothing c.give-answer.result both.0 in
     let gives : GivesBytes c.loop.self c.give-answer.new.self c.loop.into c.give-answer.new.into 0 =
     subst (λ answer. GivesBytes c.loop.self c.give-answer.new.self c.loop.into c.give-answer.new.into
-    (bytes_read (Ok answer))) (found_nothing c.give-answer.result both.0) c.give-answer.ensures.bytes in
+    (bytes_read (Ok answer))) none c.give-answer.ensures.bytes in
+    let answers : NotYet ≡ read_answer (length c.loop.into) 0 (knows_end c.give-answer.new.self) =
+    subst (λ (answer : PipeRead). answer ≡ read_answer (length c.loop.into) (bytes_read (Ok answer))
+    (knows_end c.give-answer.new.self)) none c.give-answer.ensures.answer in
+    let room : 0 < length c.loop.into =
+    read_some (length c.loop.into) (knows_end c.give-answer.new.self) NotYet (λ same. absurd (cc same)) answers in
     record {
       ready = c.in-Ok.ensures.ready;
       channel = channel_after c.in-Ok.ensures.call.acts c.loop.invariant.channel;
@@ -37,14 +47,21 @@ loop-preserved g c =
       tried = tried_more (Ok c.in-Ok.blocking) c.loop.invariant.tried c.in-Ok.ensures.call both.1;
       looks = looks_more c.loop.invariant.looks c.give-answer.ensures.same gives;
       into = gives.rest ∙ c.loop.invariant.into;
+      room = λ _. subst (λ into. 0 < length into) c.loop.invariant.into room;
+      nothing = λ _. (c.give-answer.ensures.not_yet none).1;
     }
 
 pub returns-then-not-read_goes_on-clause-call : goal.returns-then-not-read_goes_on-clause-call
 returns-then-not-read_goes_on-clause-call g c =
     let over : (read_waits (Ok c.give-answer.result) && c.in-Ok.blocking) ≡ false = search rules in
-    read_done _ _ _ _
-    (tried_last (read_waits (Ok c.give-answer.result)) (Ok c.in-Ok.blocking) c.loop.invariant.tried
-    c.in-Ok.ensures.call over)
+    let answer = c.give-answer.result in
+    let had = HadNoByte c.args.self.now c.give-answer.new.self c.args.into.now in
+    read_done _ _ had answer c.in-Ok.blocking
+    (tried_last (had (Ok answer)) (read_waits (Ok answer)) (Ok c.in-Ok.blocking) (λ waited. record {
+      room = c.loop.invariant.room waited;
+      before = knew_nothing c.loop.invariant.looks (c.loop.invariant.nothing waited);
+      after = tt;
+    }) c.loop.invariant.tried c.in-Ok.ensures.call over)
 
 pub returns-then-not-read_goes_on-clause-bytes : goal.returns-then-not-read_goes_on-clause-bytes
 returns-then-not-read_goes_on-clause-bytes g c =
@@ -62,8 +79,26 @@ pub returns-in-Err-clause-call : goal.returns-in-Err-clause-call
 returns-in-Err-clause-call g c =
     let l = limits_of c.args.w.now in
     let chan = c.args.self.now.chan in
-    subst (λ refusal. CallClause c.args.me (WaitsToRead l chan) (view c.args.w.now c.args.p.now)
+    let had = HadNoByte c.args.self.now c.loop.self c.args.into.now in
+    subst (λ refusal. CallClause c.args.me (WaitsToRead l chan had) (view c.args.w.now c.args.p.now)
     (view c.args.w.now c.check_open.new.p) (Err refusal)) (sym c.refusal_after.ensures)
-    (read_refused l chan c.loop.waited c.in-Err.refusal
-    (tried_last false (Err c.in-Err.refusal) c.loop.invariant.tried c.in-Err.ensures.call
+    (read_refused l chan had c.loop.waited c.in-Err.refusal
+    (tried_last (had (Err (refusal_after c.loop.waited c.in-Err.refusal))) false (Err c.in-Err.refusal)
+    (λ waited. record {
+      room = c.loop.invariant.room waited;
+      before = knew_nothing c.loop.invariant.looks (c.loop.invariant.nothing waited);
+      after = c.loop.invariant.nothing waited;
+    }) c.loop.invariant.tried c.in-Err.ensures.call
     (refused_ends false c.in-Err.refusal)))
+
+pub returns-in-Err-clause-closed_meanwhile : goal.returns-in-Err-clause-closed_meanwhile
+returns-in-Err-clause-closed_meanwhile g c = λ is.
+    let closed : refusal_after c.loop.waited c.in-Err.refusal ≡ AsynchronousClose =
+    sym c.refusal_after.ensures ∙ cc is in
+    let waited : c.loop.waited ≡ true =
+    waited_before c.loop.waited c.in-Err.refusal (λ same. c.in-Err.ensures.at_once (λ i. Err (same i))) closed in
+    record {
+      room = c.loop.invariant.room waited;
+      before = knew_nothing c.loop.invariant.looks (c.loop.invariant.nothing waited);
+      after = c.loop.invariant.nothing waited;
+    }

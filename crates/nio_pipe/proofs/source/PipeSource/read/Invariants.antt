@@ -1,9 +1,9 @@
-use Rattle.std.proofs.Common.{◌≡◌}
+use Rattle.std.proofs.Common.{◌≡◌, ◌<◌, true, length}
 use Rattle.nio_event.specs.PassViews.{HasChannel, HasNoPin}
 use Rattle.nio_steps.specs.PipeCalls.{try_read_plan}
 use Rattle.nio_words.specs.Passes.{IsReady, limits_of}
 use Rattle.nio_words.specs.Views.{view}
-use Rattle.nio_pipe.specs.Ends.{SourceLooks}
+use Rattle.nio_pipe.specs.Ends.{KnowsNothing, SourceLooks}
 use Rattle.nio_pipe.proofs.Waits.{TriedClause}
 use Rattle.nio_pipe.proofs.source.PipeSource.read.Given as goal
 
@@ -15,4 +15,6 @@ invariant-loop g l = record {
   tried : TriedClause l.me (try_read_plan (limits_of l.w) l.fn.self.chan) l.waited (view l.w l.fn.p) (view l.w l.p);
   looks : SourceLooks l.fn.self l.self;
   into : l.into ≡ l.fn.into;
+  room : l.waited ≡ true → 0 < length l.fn.into;
+  nothing : l.waited ≡ true → KnowsNothing l.self;
 }

@@ -1,5 +1,0 @@
-use Rattle.nio_pipe.proofs.Idle.{may_idle}
-use Rattle.nio_pipe.proofs.tests.a_pipe_is_parted_with_bytes_in_it.Goals as goal
-
-pub are_answered-requires : goal.are_answered-requires
-are_answered-requires g c = may_idle c.in_ok-pipe.ensures.idle c.in_ok-pipe.ensures.ends

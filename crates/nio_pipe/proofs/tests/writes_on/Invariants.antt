@@ -1,6 +1,0 @@
-use Rattle.nio_pipe.specs.Idle.{MayUse}
-use Rattle.nio_channel.specs.Idle.{one}
-use Rattle.nio_pipe.proofs.tests.writes_on.Given as goal
-
-abbrev pub invariant-loop : goal.invariant-loop
-invariant-loop g l = MayUse l.w l.q one l.sink.source l.sink.chan

@@ -1,5 +1,0 @@
-use Rattle.nio_record.specs.Recorded.{IsRecorded}
-use Rattle.nio_record.proofs.tests.agree.Given as goal
-
-abbrev pub invariant-loop-at : goal.invariant-loop-at
-invariant-loop-at l = IsRecorded l.r

@@ -1,0 +1,73 @@
+-- The command that the words say.
+use Rattle.std.proofs.Common.{◌≡◌, ◌≢◌, ◌⊎◌, inl, inr, ℕ, Option, Some, None, List, [], ◌∷◌, Result, Ok, Err}
+use Rattle.std.proofs.Common.{slice_index_or, refl, sym, ap, ◌∙◌, arith}
+use Rattle.nio_command.specs.Words.{IsProxyCommand}
+use Rattle.nio_command.specs.declared.command.Command.{Command}
+use Rattle.nio_command.specs.declared.command.Command.TheVariants.{Load, Proxy}
+use Rattle.nio_command.specs.declared.command.WordsError.{WordsError}
+use Rattle.nio_command.specs.declared.command.WordsError.TheVariants.{Usage, Memory}
+use Rattle.nio_bytes.specs.declared.source.Source as source
+use Rattle.nio_relay.specs.declared.plan.ProxyPlan.{ProxyPlan}
+use Rattle.nio_script.specs.Input.{StopsPastLongest}
+use Rattle.nio_script.specs.declared.status.Status.{Status}
+use Rattle.nio_script.specs.declared.status.Status.TheVariants.{TooLong}
+use Rattle.std.specs.Io.KnownBytes.{prepend_known}
+use Rattle.nio_run.specs.Words.{BeginsProxy}
+
+abbrev first_byte : List (List ℕ) → ℕ
+first_byte words = slice_index_or (slice_index_or words 0 []) 0 0
+
+-- words whose first begins with another byte than `p` (112) aren't those of `proxy`
+pub not_proxy : (words : List (List ℕ)) (a : ℕ) (xs : List ℕ) (rest : List (List ℕ)) → words ≡ (a ∷ xs) ∷ rest
+    → (a ≡ 112 → ⊥) → BeginsProxy words → ⊥
+not_proxy words a xs rest is other begins = other (ap first_byte (sym is ∙ begins.begins))
+
+pub or_memory : (r : Result Command WordsError) (command : Command) → (r ≢ Err Memory → r ≡ Ok command)
+    → (r ≡ Ok command) ⊎ (r ≡ Err Memory)
+or_memory (Ok x) command is = inl (is (λ e. cc e))
+or_memory (Err Usage) command is = inl (is (λ e. cc e))
+or_memory (Err Memory) command is = inr refl
+
+-- the plan of a command is the one that the words say
+pub its_plan : (x : Command) (p p' : ProxyPlan) → x ≡ Proxy p
+    → (◌≡◌ {A = Result Command WordsError} (Ok x) (Ok (Proxy p')))
+    ⊎ (◌≡◌ {A = Result Command WordsError} (Ok x) (Err Memory)) → p ≡ p'
+its_plan x p p' is (inl same) = let e : ◌≡◌ {A = Result Command WordsError} (Ok (Proxy p)) (Ok (Proxy p')) =
+    ap (λ (y : Command). Ok y) (sym is) ∙ same in cc e
+its_plan x p p' is (inr clash) = absurd (cc clash)
+
+-- the rounds of a command are those that the words say
+pub its_rounds : (x : Command) (n m : ℕ) → x ≡ Load n → ◌≡◌ {A = Result Command WordsError} (Ok x) (Ok (Load m)) → n ≡ m
+its_rounds x n m is same = let e : ◌≡◌ {A = Result Command WordsError} (Ok (Load n)) (Ok (Load m)) =
+    ap (λ (y : Command). Ok y) (sym is) ∙ same in cc e
+
+-- the words of a plan begin with `proxy`
+pub begins_proxy : (words : List (List ℕ)) (x : Command) (p : ProxyPlan) → x ≡ Proxy p
+    → ((q : ProxyPlan) → ◌≡◌ {A = Result Command WordsError} (Ok x) (Ok (Proxy q)) → IsProxyCommand words q)
+    → BeginsProxy words
+begins_proxy words x p is says = let it : IsProxyCommand words p = says p (ap (λ (y : Command). Ok y) is) in
+    record { rest = it.rest; begins = it.begins }
+
+-- words that say nothing are no `proxy`
+pub no_plan : (x : WordsError) (p : ProxyPlan) → x ≡ Usage
+    → (◌≡◌ {A = Result Command WordsError} (Err x) (Ok (Proxy p)))
+    ⊎ (◌≡◌ {A = Result Command WordsError} (Err x) (Err Memory)) → ⊥
+no_plan x p is (inl clash) = absurd (cc clash)
+no_plan x p is (inr clash) = let e : ◌≡◌ {A = Result Command WordsError} (Err Usage) (Err Memory) =
+    ap (λ (y : WordsError). Err y) (sym is) ∙ clash in absurd (cc e)
+
+-- ---- nothing was read
+
+none_taken : (known : Option (List ℕ)) → known ≡ prepend_known [] known
+none_taken None = refl
+none_taken (Some bytes) = refl
+
+-- nothing is taken from a source that isn't read
+pub takes_none : {S : Type 0} (s : source.Ghosts S) (input : S) (status : Status) → (status ≡ TooLong → ⊥)
+    → StopsPastLongest s input input (status ≡ TooLong)
+takes_none s input status short = record {
+  count = 0;
+  taken = record { bytes = []; taken = none_taken (s.left input); counted = refl };
+  few = omega arith;
+  exactly = (λ long. absurd (short long), λ none. absurd (omega (arith, none)));
+}

@@ -1,0 +1,56 @@
+use Rattle.std.proofs.Common.{◌≡◌, ap, ◌∙◌, subst, List}
+use Rattle.nio_base.specs.declared.limits.Limits.{Limits}
+use Rattle.nio_event.specs.declared.call.ScriptCall.{ScriptCall}
+use Rattle.nio_event.specs.Script.{IsScript}
+use Rattle.nio_load.specs.Generator.{generated}
+use Rattle.nio_load.specs.Summary.{summary_of}
+use Rattle.nio_plain.specs.Answer.{left_by_script}
+use Rattle.nio_plain.specs.declared.rules.Rules.TheVariants.{Now}
+use Rattle.nio_script.specs.Output.{IsWritten, WritesPrefix}
+use Rattle.nio_sole.specs.Sole.{state_of, words_of}
+use Rattle.nio_words.specs.Passes.{limits_of}
+use Rattle.nio_run.specs.Load.{IsLoadedOn}
+use Rattle.nio_run.proofs.Leaving.{joined_table, leaves}
+use Rattle.nio_run.proofs.program.load_on_table.Goals as goal
+
+pub join-requires-clause-other : goal.join-requires-clause-other
+join-requires-clause-other g c =
+    joined_table c.args.table.now c.in-Ok.sole c.run_load-status.new.system c.run_load-status.ensures.kept
+    c.in-Ok.ensures.table c.into_pass.result c.into_pass.ensures.pass c.into_pass.ensures.ready
+
+pub returns-in-Ok-clause-load : goal.returns-in-Ok-clause-load
+returns-in-Ok-clause-load g c =
+    let w = c.args.table.now in
+    let first = c.in-Ok.sole in
+    let its = c.run_load-status.ensures in
+    let same : limits_of (words_of first) ≡ limits_of w = ap limits_of c.in-Ok.ensures.table in
+    let loaded : (calls : List ScriptCall) → IsScript (generated c.args.rounds) calls
+    → state_of c.run_load-status.new.system ≡ left_by_script Now (limits_of (words_of first)) calls
+    → IsLoadedOn w c.join.new.p c.args.rounds calls = λ calls script left. record {
+      script = script;
+      left = leaves w first c.run_load-status.new.system its.kept c.in-Ok.ensures.table
+          (left_by_script Now (limits_of w) calls) c.make.new.pass c.into_pass.result c.join.new.p c.in-Ok.ensures.sight
+          c.in-Ok.ensures.drawn
+          (left ∙ ap (λ (l : Limits). left_by_script Now l calls) same) c.into_pass.ensures.pass
+          c.into_pass.ensures.ready c.into_pass.ensures.whole c.join.ensures;
+    } in
+    record {
+      done = λ is. let summed = its.done is in record {
+        calls = summed.calls;
+        loaded = loaded summed.calls summed.loaded.script summed.loaded.left;
+        written = subst
+            (λ (l : Limits). IsWritten g.K.Sink c.args.output.now c.run_load-status.new.output
+            (summary_of Now l summed.calls)) same summed.written;
+        still = summed.still;
+      };
+      write_fault = λ is. let half = its.write_fault is in record {
+        calls = half.calls;
+        loaded = loaded half.calls half.loaded.script half.loaded.left;
+        written = subst
+            (λ (l : Limits). WritesPrefix g.K.Sink c.args.output.now c.run_load-status.new.output
+            (summary_of Now l half.calls)) same half.written;
+      };
+      memory = its.memory;
+      ends = its.ends;
+      complete = its.complete;
+    }

@@ -1,0 +1,68 @@
+use Rattle.std.proofs.Common.{ℕ, map, refl, subst}
+use Rattle.std.specs.String.{string_bytes}
+use Rattle.nio_script.specs.Output.{WritesOrFails}
+use Rattle.nio_run.specs.declared.program.TheConstants.{PROGRAM_LIMITS}
+use Rattle.nio_relay.specs.declared.plan.ProxyPlan.{ProxyPlan}
+use Rattle.nio_run.specs.Load.{DoesLoad}
+use Rattle.nio_run.specs.Proxy.{DoesProxy, EndsProxy}
+use Rattle.nio_load.specs.Load.{EndsLoad}
+use Rattle.nio_run.proofs.Legal.{writes_legal}
+use Rattle.nio_run.proofs.Named.{begins_proxy, its_plan, its_rounds, no_plan, takes_none}
+use Rattle.nio_run.proofs.Unserved.{unserved}
+use Rattle.nio_run.proofs.program.run_over.Goals as goal
+
+pub returns-in-Ok-Script-clause-legal : goal.returns-in-Ok-Script-clause-legal
+returns-in-Ok-Script-clause-legal g c = λ words done.
+    let read = c.run_on_table.ensures.script.done done in (
+      read.0,
+      read.1,
+      writes_legal g.K.Sink c.args.table.now c.args.output.now c.run_on_table.new.output
+          c.run_on_table.new.pass PROGRAM_LIMITS read.0 c.requires.limits read.2,
+    )
+
+pub returns-in-Err-Usage-clause-usage_said : goal.returns-in-Err-Usage-clause-usage_said
+returns-in-Err-Usage-clause-usage_said g c = λ usage. record {
+  said = subst (WritesOrFails g.K.Sink c.args.output.now c.offer.new.output) c.as_bytes.ensures.value
+      c.offer.ensures.said;
+  unread = refl;
+  uncalled = refl;
+}
+
+pub returns-in-Ok-Proxy-clause-proxy : goal.returns-in-Ok-Proxy-clause-proxy
+returns-in-Ok-Proxy-clause-proxy g c = λ plan says.
+    subst (λ (p : ProxyPlan). DoesProxy g.K.Sink p (g.N.Net.link c.serve.new.net) (g.N.Net.place c.serve.new.net)
+    (g.N.Net.faults c.args.net.now) (g.N.Net.faults c.serve.new.net) (g.N.Poller.poll_faults c.args.net.now)
+    (g.N.Poller.poll_faults c.serve.new.net) c.args.output.now c.serve.new.output c.serve.result)
+    (its_plan c.in-Ok-Proxy.field-0 c.in-Ok-Proxy.plan plan c.in-Ok-Proxy.field-0-is
+    (c.in-Ok-Proxy.ensures.proxy_only plan says)) c.serve.ensures.proxy
+
+pub returns-in-Ok-Proxy-clause-too_long : goal.returns-in-Ok-Proxy-clause-too_long
+returns-in-Ok-Proxy-clause-too_long g c = takes_none g.S.Source c.args.input.now c.serve.result
+    (λ long. subst EndsProxy long c.serve.ensures.proxy.ends)
+
+pub returns-in-Ok-Proxy-clause-no_net : goal.returns-in-Ok-Proxy-clause-no_net
+returns-in-Ok-Proxy-clause-no_net g c = λ other. absurd (other
+    (begins_proxy (map string_bytes c.args.words.now) c.in-Ok-Proxy.field-0 c.in-Ok-Proxy.plan c.in-Ok-Proxy.field-0-is
+    c.in-Ok-Proxy.ensures.proxy))
+
+pub returns-in-Ok-Load-clause-load : goal.returns-in-Ok-Load-clause-load
+returns-in-Ok-Load-clause-load g c = λ rounds says.
+    subst (λ (n : ℕ). DoesLoad g.K.Sink c.args.table.now n c.args.output.now c.load_on_table.new.output
+    c.load_on_table.new.pass c.load_on_table.result)
+    (its_rounds c.in-Ok-Load.field-0 c.in-Ok-Load.rounds rounds c.in-Ok-Load.field-0-is
+    ((c.in-Ok-Load.ensures.load rounds).1 says)) c.load_on_table.ensures.load
+
+pub returns-in-Ok-Load-clause-too_long : goal.returns-in-Ok-Load-clause-too_long
+returns-in-Ok-Load-clause-too_long g c =
+    takes_none g.S.Source c.args.input.now c.load_on_table.result
+    (λ long. subst EndsLoad long c.load_on_table.ensures.load.ends)
+
+pub returns-in-Err-Usage-clause-proxy : goal.returns-in-Err-Usage-clause-proxy
+returns-in-Err-Usage-clause-proxy g c =
+    λ plan says. absurd
+    (no_plan c.in-Err-Usage.field-0 plan c.in-Err-Usage.field-0-is (c.in-Err-Usage.ensures.proxy_only plan says))
+
+pub returns-in-Err-Memory-clause-proxy : goal.returns-in-Err-Memory-clause-proxy
+returns-in-Err-Memory-clause-proxy g c = λ plan says.
+    unserved g.K.Sink plan (g.N.Net.link c.args.net.now) (g.N.Net.place c.args.net.now) (g.N.Net.faults c.args.net.now)
+    (g.N.Poller.poll_faults c.args.net.now) c.args.output.now c.requires.fresh c.requires.unasked

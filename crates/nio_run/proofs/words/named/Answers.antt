@@ -1,0 +1,56 @@
+use Rattle.std.proofs.Common.{arith}
+use Rattle.nio_command.specs.declared.command.Command.TheVariants.{Script, Check, CheckFirst, Race, Load, Proxy}
+use Rattle.nio_run.proofs.Named.{not_proxy, or_memory}
+use Rattle.nio_run.proofs.words.named.Goals as goal
+
+pub returns-clause-script : goal.returns-clause-script
+returns-clause-script c = let its =
+    c.command_of.ensures in (
+      its.found Script,
+      λ says. its.only Script says
+          (λ lacks. not_proxy _ _ _ _ says (λ e. absurd (omega (arith, e)))
+          (record { rest = (its.memory lacks).0; begins = (its.memory lacks).1 })),
+    )
+
+pub returns-clause-check : goal.returns-clause-check
+returns-clause-check c = let its =
+    c.command_of.ensures in (
+      its.found Check,
+      λ says. its.only Check says
+          (λ lacks. not_proxy _ _ _ _ says (λ e. absurd (omega (arith, e)))
+          (record { rest = (its.memory lacks).0; begins = (its.memory lacks).1 })),
+    )
+
+pub returns-clause-check_first : goal.returns-clause-check_first
+returns-clause-check_first c = let its =
+    c.command_of.ensures in (
+      its.found CheckFirst,
+      λ says. its.only CheckFirst says
+          (λ lacks. not_proxy _ _ _ _ says (λ e. absurd (omega (arith, e)))
+          (record { rest = (its.memory lacks).0; begins = (its.memory lacks).1 })),
+    )
+
+pub returns-clause-race : goal.returns-clause-race
+returns-clause-race c = let its =
+    c.command_of.ensures in (
+      its.found Race,
+      λ says. its.only Race says
+          (λ lacks. not_proxy _ _ _ _ says (λ e. absurd (omega (arith, e)))
+          (record { rest = (its.memory lacks).0; begins = (its.memory lacks).1 })),
+    )
+
+pub returns-clause-load : goal.returns-clause-load
+returns-clause-load c = λ rounds. let its =
+    c.command_of.ensures in (
+      its.found (Load rounds),
+      λ says. its.only (Load rounds) says
+          (λ lacks. not_proxy _ _ _ _ says.says (λ e. absurd (omega (arith, e)))
+          (record { rest = (its.memory lacks).0; begins = (its.memory lacks).1 })),
+    )
+
+pub returns-clause-proxy : goal.returns-clause-proxy
+returns-clause-proxy c = λ plan. c.command_of.ensures.found (Proxy plan)
+
+pub returns-clause-proxy_only : goal.returns-clause-proxy_only
+returns-clause-proxy_only c =
+    λ plan says. or_memory c.command_of.result (Proxy plan) (c.command_of.ensures.only (Proxy plan) says)

@@ -1,0 +1,155 @@
+-- What the program does for each command.
+use Rattle.std.specs.Prelude.{◌≡◌, ◌⊎◌, ℕ, ◌<◌, ◌≤◌, IsTrue, List, length, IfSome}
+use mathlib.Core.List.{IsPrefix}
+use Rattle.nio_base.specs.declared.limits.Limits.{Limits}
+use Rattle.nio_base.specs.declared.numbers.CallerNo.{CallerNo}
+use Rattle.nio_bytes.specs.Cause.{Rose}
+use Rattle.nio_bytes.specs.declared.source.Source as source
+use Rattle.nio_bytes.specs.declared.sink.Sink as sink
+use Rattle.nio_event.specs.Script.{IsScript, IsFirstBad}
+use Rattle.nio_event.specs.State.{State}
+use Rattle.nio_event.specs.declared.call.ScriptCall.{ScriptCall}
+use Rattle.nio_event.specs.declared.event.Event.{Event}
+use Rattle.nio_event.specs.declared.reply.Reply.{Reply}
+use Rattle.nio_orderly.specs.Orderly.{IsWhole}
+use Rattle.nio_orderly.specs.Owed.{Owed}
+use Rattle.nio_plain.specs.Answer.{answer_to, left_by_script}
+use Rattle.nio_plain.specs.ScriptState.{ScriptState, script_opening}
+use Rattle.nio_plain.specs.declared.rules.Rules.{Rules}
+use Rattle.nio_plain.specs.declared.rules.Rules.TheVariants.{Now}
+use Rattle.nio_script.specs.Check.{HasLegalHistory, IsLegalHistory, IsFirstIllegal, IsVerdict, IsFoundLegal}
+use Rattle.nio_script.specs.Check.{IsFoundIllegal, IsHalfSaid, IsNoHistory, EndsCheck}
+use Rattle.nio_script.specs.History.{Entry, IsHistory, IsFirstBadEntry}
+use Rattle.nio_script.specs.Output.{IsWritten, WritesOrFails, WritesPrefix}
+use Rattle.nio_script.specs.Run.{ReadsText, bad_line, EndsScript}
+use Rattle.nio_script.specs.declared.input.TheConstants.{LONGEST_INPUT}
+use Rattle.nio_script.specs.declared.status.Status.{Status}
+use Rattle.nio_script.specs.declared.status.Status.TheVariants.{Done, BadScript, ReadFault, WriteFault, Memory, Illegal}
+use Rattle.nio_script.specs.declared.status.Status.TheVariants.{TooLong}
+use Rattle.nio_serial.specs.Documented.{Progress, documented}
+use Rattle.nio_serial.specs.Serial.{history_of}
+use Rattle.nio_sole.specs.Drawn.{draws}
+use Rattle.nio_words.specs.Passes.{IsReady, limits_of, state_seen, seen}
+use Rattle.nio_words.specs.declared.words.Pass.{Pass}
+use Rattle.nio_words.specs.declared.words.Words.{Words}
+
+-- The text is a script, and what was written is a legal history of its calls by these rules and limits.
+pub record WritesLegal {K : Type 0} (k : sink.Ghosts K) (output output' : K) (rules : Rules) (limits : Limits)
+    (text : List ℕ) : Type 0 where
+  pub calls : List ScriptCall
+  pub script : IsScript text calls
+  pub written : IsWritten k output output' (answer_to rules limits calls)
+  pub legal : HasLegalHistory rules limits calls
+
+-- ---- a script on the table
+
+-- The state of scripts is this one, with something in progress or nothing.
+pub record LeavesState (st : State) (left : ScriptState) : Type 0 where
+  pub now : Progress
+  pub is : documented st now ≡ left
+
+-- What a script leaves of the table. What the pass has seen leaves this state of scripts. Every number is drawn, and
+-- the pass holds each. Each caller made whole calls. At each moment what is owed is owed by a caller that has still to
+-- do it: no cancellation is lost.
+pub record Leaves (w : Words) (pass : Pass) (left : ScriptState) : Type 0 where
+  pub state : LeavesState (state_seen pass) left
+  pub drawn : (n : CallerNo) → n.0 < (limits_of w).callers → IsTrue ((state_seen pass).drawn n.0)
+  pub holds : (n : CallerNo) → n.0 < (limits_of w).callers → IsReady w pass n
+  pub whole : ∥ IsWhole (limits_of w) (seen pass) ∥₁
+  pub owed : (before : List Event) → IsPrefix before (seen pass) → ∥ Owed before ∥₁
+
+-- Every number was drawn, and nothing else was done.
+abbrev pub DrewAlone : Words → Pass → Type 0
+DrewAlone w pass = seen pass ≡ history_of (draws (limits_of w).callers)
+
+-- The text is a script, its answer was written and flushed, no write failed, and the table is left as the script
+-- leaves it.
+pub record IsAnsweredOn {K : Type 0} (k : sink.Ghosts K) (w : Words) (output output' : K) (pass : Pass)
+    (text : List ℕ) : Type 0 where
+  pub calls : List ScriptCall
+  pub script : IsScript text calls
+  pub written : IsWritten k output output' (answer_to Now (limits_of w) calls)
+  pub still : k.faults output' ≡ k.faults output
+  pub left : Leaves w pass (left_by_script Now (limits_of w) calls)
+
+-- The text is a script, and some of its answer was written, from its front.
+pub record IsCutShortOn {K : Type 0} (k : sink.Ghosts K) (w : Words) (output output' : K) (text : List ℕ) : Type 0 where
+  pub calls : List ScriptCall
+  pub script : IsScript text calls
+  pub written : WritesPrefix k output output' (answer_to Now (limits_of w) calls)
+
+-- The line is the text's first that isn't in the grammar, which was said, and no call was made.
+pub record IsRefusedOn {K : Type 0} (k : sink.Ghosts K) (w : Words) (output output' : K) (pass : Pass) (line : ℕ)
+    (text : List ℕ) : Type 0 where
+  pub first : IsFirstBad text line
+  pub said : WritesOrFails k output output' (bad_line line)
+  pub uncalled : Leaves w pass script_opening
+  pub drew : DrewAlone w pass
+
+-- Nothing was written, and no call was made.
+pub record IsUntouchedOn {K : Type 0} (w : Words) (output output' : K) (pass : Pass) : Type 0 where
+  pub unwritten : output' ≡ output
+  pub uncalled : Leaves w pass script_opening
+  pub drew : DrewAlone w pass
+
+-- What `script` does where it ends with this status, and the pass has then seen so much of the table.
+pub record DoesScript {S K : Type 0} (s : source.Ghosts S) (k : sink.Ghosts K) (w : Words) (input input' : S)
+    (output output' : K) (pass : Pass) (status : Status) : Type 0 where
+  -- what each status says
+  pub done : status ≡ Done → ReadsText s input input' (IsAnsweredOn k w output output' pass)
+  pub bad_script : (line : ℕ) → status ≡ BadScript line
+      → ReadsText s input input' (IsRefusedOn k w output output' pass line)
+  pub write_fault : status ≡ WriteFault → ReadsText s input input' (IsCutShortOn k w output output')
+  pub memory : status ≡ Memory → (output' ≡ output) ⊎ ReadsText s input input' (IsCutShortOn k w output output')
+  pub unread : (status ≡ ReadFault) ⊎ (status ≡ TooLong) → IsUntouchedOn w output output' pass
+  pub ends : EndsScript status
+  -- what comes of each text, where the source shows it
+  pub of_script : IfSome (s.left input) (λ text. (calls : List ScriptCall)
+      → length text ≤ LONGEST_INPUT → IsScript text calls
+      → (status ≡ Done) ⊎ (status ≡ ReadFault) ⊎ (status ≡ WriteFault) ⊎ (status ≡ Memory))
+  pub of_bad : IfSome (s.left input) (λ text. (line : ℕ)
+      → length text ≤ LONGEST_INPUT → IsFirstBad text line
+      → (status ≡ BadScript line) ⊎ (status ≡ ReadFault) ⊎ (status ≡ Memory))
+  pub of_long : IfSome (s.left input) (λ text. LONGEST_INPUT < length text
+      → (status ≡ TooLong) ⊎ (status ≡ ReadFault) ⊎ (status ≡ Memory))
+  -- a script is answered where no count of faults rises and there is memory
+  pub complete : IfSome (s.left input) (λ text. (calls : List ScriptCall)
+      → length text ≤ LONGEST_INPUT → IsScript text calls
+      → ¬ Rose (s.faults input) (s.faults input') → ¬ Rose (k.faults output) (k.faults output')
+      → (status ≡ Done) ⊎ (status ≡ Memory))
+
+-- ---- a history
+
+-- What `check` and `check-1` do over a system of these rules and limits where they end with this
+-- status. They make no step on the program's own table.
+pub record DoesCheck {S K : Type 0} (s : source.Ghosts S) (k : sink.Ghosts K) (rules : Rules) (limits : Limits)
+    (input input' : S) (output output' : K) (pass pass' : Pass) (status : Status) : Type 0 where
+  -- what each status says
+  pub done : status ≡ Done → ReadsText s input input' (IsFoundLegal k output output' rules limits)
+  pub illegal : (number : ℕ) → status ≡ Illegal number
+      → ReadsText s input input' (IsFoundIllegal k output output' rules limits number)
+  pub bad_script : (line : ℕ) → status ≡ BadScript line
+      → ReadsText s input input' (IsNoHistory k output output' rules line)
+  pub write_fault : status ≡ WriteFault → ReadsText s input input' (IsHalfSaid k output output' rules limits)
+  pub memory : status ≡ Memory → output' ≡ output
+  pub unread : (status ≡ ReadFault) ⊎ (status ≡ TooLong) → output' ≡ output
+  pub ends : EndsCheck status
+  pub uncalled : pass' ≡ pass
+  -- what comes of each text, where the source shows it
+  pub of_legal : IfSome (s.left input) (λ text. (entries : List Entry)
+      → length text ≤ LONGEST_INPUT → IsHistory rules text entries → IsLegalHistory rules limits entries
+      → (status ≡ Done) ⊎ (status ≡ ReadFault) ⊎ (status ≡ WriteFault) ⊎ (status ≡ Memory))
+  pub of_illegal : IfSome (s.left input) (λ text. (entries : List Entry) (number : ℕ) (right : Reply)
+      → length text ≤ LONGEST_INPUT → IsHistory rules text entries
+      → IsFirstIllegal rules limits entries number right
+      → (status ≡ Illegal number) ⊎ (status ≡ ReadFault) ⊎ (status ≡ Memory))
+  pub of_bad : IfSome (s.left input) (λ text. (line : ℕ)
+      → length text ≤ LONGEST_INPUT → IsFirstBadEntry rules text line
+      → (status ≡ BadScript line) ⊎ (status ≡ ReadFault) ⊎ (status ≡ Memory))
+  pub of_long : IfSome (s.left input) (λ text. LONGEST_INPUT < length text
+      → (status ≡ TooLong) ⊎ (status ≡ ReadFault) ⊎ (status ≡ Memory))
+  -- a history is judged where no count of faults rises and there is memory
+  pub complete : IfSome (s.left input) (λ text. (entries : List Entry)
+      → length text ≤ LONGEST_INPUT → IsHistory rules text entries
+      → ¬ Rose (s.faults input) (s.faults input') → ¬ Rose (k.faults output) (k.faults output')
+      → IsVerdict rules limits entries status ⊎ (status ≡ Memory))

@@ -1,0 +1,49 @@
+-- What `load` does.
+use Rattle.std.specs.Prelude.{◌≡◌, ◌⊎◌, ℕ, List}
+use Rattle.nio_bytes.specs.Cause.{Rose}
+use Rattle.nio_bytes.specs.declared.sink.Sink as sink
+use Rattle.nio_event.specs.Script.{IsScript}
+use Rattle.nio_event.specs.declared.call.ScriptCall.{ScriptCall}
+use Rattle.nio_load.specs.Generator.{generated}
+use Rattle.nio_load.specs.Load.{EndsLoad}
+use Rattle.nio_load.specs.Summary.{summary_of}
+use Rattle.nio_plain.specs.Answer.{left_by_script}
+use Rattle.nio_plain.specs.declared.rules.Rules.TheVariants.{Now}
+use Rattle.nio_script.specs.Output.{IsWritten, WritesPrefix}
+use Rattle.nio_script.specs.declared.status.Status.{Status}
+use Rattle.nio_script.specs.declared.status.Status.TheVariants.{Done, WriteFault, Memory}
+use Rattle.nio_words.specs.Passes.{limits_of}
+use Rattle.nio_words.specs.declared.words.Pass.{Pass}
+use Rattle.nio_words.specs.declared.words.Words.{Words}
+use Rattle.nio_run.specs.Commands.{Leaves}
+
+-- These are the calls of the generated script of so many rounds, and the table is left as they leave it.
+pub record IsLoadedOn (w : Words) (pass : Pass) (rounds : ℕ) (calls : List ScriptCall) : Type 0 where
+  pub script : IsScript (generated rounds) calls
+  pub left : Leaves w pass (left_by_script Now (limits_of w) calls)
+
+-- The generated script was run, and its summary was written and flushed; no write failed.
+pub record IsSummedOn {K : Type 0} (k : sink.Ghosts K) (w : Words) (rounds : ℕ) (output output' : K)
+    (pass : Pass) : Type 0 where
+  pub calls : List ScriptCall
+  pub loaded : IsLoadedOn w pass rounds calls
+  pub written : IsWritten k output output' (summary_of Now (limits_of w) calls)
+  pub still : k.faults output' ≡ k.faults output
+
+-- The generated script was run, and some of its summary was written, from its front.
+pub record IsHalfSummedOn {K : Type 0} (k : sink.Ghosts K) (w : Words) (rounds : ℕ) (output output' : K)
+    (pass : Pass) : Type 0 where
+  pub calls : List ScriptCall
+  pub loaded : IsLoadedOn w pass rounds calls
+  pub written : WritesPrefix k output output' (summary_of Now (limits_of w) calls)
+
+-- What `load` does for so many rounds where it ends with this status, and the pass has then seen so much of the
+-- table.
+pub record DoesLoad {K : Type 0} (k : sink.Ghosts K) (w : Words) (rounds : ℕ) (output output' : K) (pass : Pass)
+    (status : Status) : Type 0 where
+  pub done : status ≡ Done → IsSummedOn k w rounds output output' pass
+  pub write_fault : status ≡ WriteFault → IsHalfSummedOn k w rounds output output' pass
+  pub memory : status ≡ Memory → output' ≡ output
+  pub ends : EndsLoad status
+  -- the script is run and summed up where no count of faults rises and there is memory
+  pub complete : ¬ Rose (k.faults output) (k.faults output') → (status ≡ Done) ⊎ (status ≡ Memory)

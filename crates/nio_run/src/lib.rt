@@ -1,0 +1,9 @@
+//! All that the program nio does, as one call: from the words of its command line and its input to its output and its
+//! status.
+#![tactic(auto)]
+
+pub use program::{Ended, PROGRAM_LIMITS, run};
+
+mod program;
+mod proxy;
+mod words;

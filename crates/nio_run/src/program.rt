@@ -1,0 +1,257 @@
+//! All that the program does, from its words and its input to its output and its status.
+ghost use Rattle.std.specs.Prelude.{◌≡◌, ◌≤◌, ◌⊎◌, ℕ, map};
+ghost use Rattle.std.specs.String.{string_bytes};
+ghost use Rattle.nio_bytes.specs.Cause.{Rose};
+ghost use Rattle.nio_script.specs.Input.{CausesFault, StopsPastLongest};
+ghost use Rattle.nio_script.specs.Run.{ReadsText};
+ghost use Rattle.nio_words.specs.Passes.{IsFirstPass, limits_of};
+ghost use Rattle.nio_run.specs.Commands.{DoesScript, DoesCheck, WritesLegal};
+ghost use Rattle.nio_run.specs.Load.{DoesLoad};
+ghost use Rattle.nio_run.specs.Proxy.{DoesProxy};
+ghost use Rattle.nio_run.specs.Words.{BeginsProxy, IsUsage};
+ghost use Rattle.nio_base.specs.declared.numbers.ChanNo.{ChanNo};
+ghost use Rattle.nio_command.specs.Words.{IsScriptCommand, IsCheckCommand, IsCheckFirstCommand, IsRaceCommand};
+ghost use Rattle.nio_command.specs.Words.{IsLoadCommand, IsProxyCommand, SaysNothing};
+ghost use Rattle.nio_link.specs.Links.{IsUnused};
+ghost use Rattle.nio_link.specs.Places.{unused};
+ghost use Rattle.nio_race.specs.Does.{DoesRace};
+ghost use Rattle.nio_relay.specs.declared.plan.ProxyPlan.{ProxyPlan};
+
+use crate::proxy::serve;
+use crate::words::named;
+use nio_base::{Gate, Limits};
+use nio_bytes::{Sink, Source};
+use nio_command::{Command, WordsError};
+use nio_link::Net;
+use nio_load::run_load;
+use nio_plain::Rules;
+use nio_race::run_race;
+use nio_script::{Status, offer, run_check, run_script};
+use nio_sole::Sole;
+use nio_words::{Pass, Words};
+use std::alloc::{AllocError, Global};
+use std::sync::Wait;
+use std::thread::Threads;
+
+/// How much a system of the program can hold.
+pub const PROGRAM_LIMITS: Limits = Limits {
+    callers: 64,
+    selectors: 16,
+    channels: 1_024,
+    keys: 1_024,
+};
+
+/// The usage line, which is written where the words are no command.
+const USAGE: &str =
+    "usage: nio script | check | check-1 | race | proxy --way select|group --listen ADDR --target ADDR --conns N [--workers W] | load N\n";
+
+/// How the program ends, and the net that it was given.
+#[derive(Drop)]
+pub struct Ended<N> {
+    /// How it ended.
+    pub status: Status,
+    /// The net that it was given.
+    pub net: N,
+}
+
+/// Does what the words say: all that the program does. `script`, `race` and `load` make their calls on this table, by
+/// the rules of now; `check` and `check-1` make theirs on a system of their own with the same limits; `proxy` relays
+/// over the net, with a table of its own.
+pub fn run<R: Threads + Wait + Sync, S: Source, K: Sink, N: Net, G: Gate + Sync>(
+    rt: &R,
+    alloc: Global,
+    words: &[String],
+    input: &mut S,
+    output: &mut K,
+    table: &Words,
+    pass: &mut Pass,
+    net: N,
+    gate: &G,
+) -> Ended<N>
+    requires first { IsFirstPass table.now pass.old }
+    requires limits { limits_of table.now ≡ PROGRAM_LIMITS }
+    requires fresh { (c : ChanNo) → IsUnused (N.link net c) }
+    requires unasked { (c : ChanNo) → N.place net c ≡ unused }
+
+    // The words are looked at first. There may be no memory to read the options of `proxy`.
+    ensures usage { result.status ≡ Status.Usage → SaysNothing (map string_bytes words.now) }
+    ensures nothing { SaysNothing (map string_bytes words.now) →
+        (result.status ≡ Status.Usage)
+        ⊎ ((result.status ≡ Status.Memory) × BeginsProxy (map string_bytes words.now)) }
+    ensures usage_said { result.status ≡ Status.Usage →
+        IsUsage K.Sink input.old input.new output.old output.new pass.old pass.new }
+    ensures nothing_written { SaysNothing (map string_bytes words.now) → result.status ≡ Status.Memory →
+        output.new ≡ output.old }
+    ensures nothing_relayed { SaysNothing (map string_bytes words.now) → result.net ≡ net }
+
+    // What each command does.
+    ensures script { IsScriptCommand (map string_bytes words.now) →
+        DoesScript S.Source K.Sink table.now input.old input.new output.old output.new
+        pass.new result.status }
+    ensures race { IsRaceCommand (map string_bytes words.now) →
+        DoesRace S.Source K.Sink table.now input.old input.new output.old output.new
+        pass.old pass.new result.status }
+    ensures check { IsCheckCommand (map string_bytes words.now) →
+        DoesCheck S.Source K.Sink Rules.Now PROGRAM_LIMITS input.old input.new
+        output.old output.new pass.old pass.new result.status }
+    ensures check_first { IsCheckFirstCommand (map string_bytes words.now) →
+        DoesCheck S.Source K.Sink Rules.First PROGRAM_LIMITS input.old input.new
+        output.old output.new pass.old pass.new result.status }
+    ensures load { (rounds : ℕ) → IsLoadCommand (map string_bytes words.now) rounds →
+        DoesLoad K.Sink table.now rounds output.old output.new pass.new result.status }
+    ensures load_alone { (rounds : ℕ) → IsLoadCommand (map string_bytes words.now) rounds →
+        input.new ≡ input.old }
+    ensures proxy { (plan : ProxyPlan) → IsProxyCommand (map string_bytes words.now) plan →
+        DoesProxy K.Sink plan (N.link result.net) (N.place result.net)
+        (N.faults net) (N.faults result.net) (N.poll_faults net) (N.poll_faults result.net) output.old output.new
+        result.status }
+    ensures proxy_alone { BeginsProxy (map string_bytes words.now) →
+        (input.new ≡ input.old) × (pass.new ≡ pass.old) }
+    ensures no_net { (BeginsProxy (map string_bytes words.now) → ⊥) → result.net ≡ net }
+
+    // What `script` writes is legal for `check`.
+    ensures legal { IsScriptCommand (map string_bytes words.now) → result.status ≡ Status.Done →
+        ReadsText S.Source input.old input.new
+        (WritesLegal K.Sink output.old output.new Rules.Now PROGRAM_LIMITS) }
+
+    // What each fault comes of.
+    ensures read_fault { CausesFault (S.faults input.old) (S.faults input.new)
+        (result.status ≡ Status.ReadFault) }
+    ensures rose { result.status ≡ Status.WriteFault → Rose (K.faults output.old) (K.faults output.new) }
+    ensures later { K.faults output.old ≤ K.faults output.new }
+    ensures too_long { StopsPastLongest S.Source input.old input.new (result.status ≡ Status.TooLong) }
+{
+    let mut net = net;
+    let status = run_over(rt, alloc, words, input, output, table, pass, &mut net, gate);
+    Ended { status, net }
+}
+
+// The same over a net that is lent.
+fn run_over<R: Threads + Wait + Sync, S: Source, K: Sink, N: Net, G: Gate + Sync>(
+    rt: &R,
+    alloc: Global,
+    words: &[String],
+    input: &mut S,
+    output: &mut K,
+    table: &Words,
+    pass: &mut Pass,
+    net: &mut N,
+    gate: &G,
+) -> Status
+    requires first { IsFirstPass table.now pass.old }
+    requires limits { limits_of table.now ≡ PROGRAM_LIMITS }
+    requires fresh { (c : ChanNo) → IsUnused (N.link net.old c) }
+    requires unasked { (c : ChanNo) → N.place net.old c ≡ unused }
+
+    // The words are looked at first. There may be no memory to read the options of `proxy`.
+    ensures usage { result ≡ Status.Usage → SaysNothing (map string_bytes words.now) }
+    ensures nothing { SaysNothing (map string_bytes words.now) →
+        (result ≡ Status.Usage)
+        ⊎ ((result ≡ Status.Memory) × BeginsProxy (map string_bytes words.now)) }
+    ensures usage_said { result ≡ Status.Usage →
+        IsUsage K.Sink input.old input.new output.old output.new pass.old pass.new }
+    ensures nothing_written { SaysNothing (map string_bytes words.now) → result ≡ Status.Memory →
+        output.new ≡ output.old }
+    ensures nothing_relayed { SaysNothing (map string_bytes words.now) → net.new ≡ net.old }
+
+    // What each command does.
+    ensures script { IsScriptCommand (map string_bytes words.now) →
+        DoesScript S.Source K.Sink table.now input.old input.new output.old output.new
+        pass.new result }
+    ensures race { IsRaceCommand (map string_bytes words.now) →
+        DoesRace S.Source K.Sink table.now input.old input.new output.old output.new
+        pass.old pass.new result }
+    ensures check { IsCheckCommand (map string_bytes words.now) →
+        DoesCheck S.Source K.Sink Rules.Now PROGRAM_LIMITS input.old input.new
+        output.old output.new pass.old pass.new result }
+    ensures check_first { IsCheckFirstCommand (map string_bytes words.now) →
+        DoesCheck S.Source K.Sink Rules.First PROGRAM_LIMITS input.old input.new
+        output.old output.new pass.old pass.new result }
+    ensures load { (rounds : ℕ) → IsLoadCommand (map string_bytes words.now) rounds →
+        DoesLoad K.Sink table.now rounds output.old output.new pass.new result }
+    ensures load_alone { (rounds : ℕ) → IsLoadCommand (map string_bytes words.now) rounds →
+        input.new ≡ input.old }
+    ensures proxy { (plan : ProxyPlan) → IsProxyCommand (map string_bytes words.now) plan →
+        DoesProxy K.Sink plan (N.link net.new) (N.place net.new)
+        (N.faults net.old) (N.faults net.new) (N.poll_faults net.old) (N.poll_faults net.new) output.old
+        output.new result }
+    ensures proxy_alone { BeginsProxy (map string_bytes words.now) →
+        (input.new ≡ input.old) × (pass.new ≡ pass.old) }
+    ensures no_net { (BeginsProxy (map string_bytes words.now) → ⊥) → net.new ≡ net.old }
+
+    // What `script` writes is legal for `check`.
+    ensures legal { IsScriptCommand (map string_bytes words.now) → result ≡ Status.Done →
+        ReadsText S.Source input.old input.new
+        (WritesLegal K.Sink output.old output.new Rules.Now PROGRAM_LIMITS) }
+
+    // What each fault comes of.
+    ensures read_fault { CausesFault (S.faults input.old) (S.faults input.new)
+        (result ≡ Status.ReadFault) }
+    ensures rose { result ≡ Status.WriteFault → Rose (K.faults output.old) (K.faults output.new) }
+    ensures later { K.faults output.old ≤ K.faults output.new }
+    ensures too_long { StopsPastLongest S.Source input.old input.new (result ≡ Status.TooLong) }
+{
+    match named(alloc, words) {
+        Ok(Command::Script) => run_on_table(alloc, input, output, table, pass),
+        Ok(Command::Check) => run_check(alloc, input, output, PROGRAM_LIMITS, Rules::Now),
+        Ok(Command::CheckFirst) => run_check(alloc, input, output, PROGRAM_LIMITS, Rules::First),
+        Ok(Command::Race) => run_race(rt, alloc, input, output, table, pass, gate),
+        Ok(Command::Load(rounds)) => load_on_table(alloc, rounds, output, table, pass),
+        Ok(Command::Proxy(plan)) => serve(rt, alloc, output, net, plan),
+        Err(WordsError::Usage) => {
+            offer(output, USAGE.as_bytes());
+            Status::Usage
+        }
+        Err(WordsError::Memory) => Status::Memory,
+    }
+}
+
+// Runs a script on the table.
+fn run_on_table<S: Source, K: Sink>(
+    alloc: Global,
+    input: &mut S,
+    output: &mut K,
+    table: &Words,
+    pass: &mut Pass,
+) -> Status
+    requires first { IsFirstPass table.now pass.old }
+    ensures script { DoesScript S.Source K.Sink table.now input.old input.new output.old output.new pass.new result }
+    ensures read_fault { CausesFault (S.faults input.old) (S.faults input.new)
+        (result ≡ Status.ReadFault) }
+    ensures rose { result ≡ Status.WriteFault → Rose (K.faults output.old) (K.faults output.new) }
+    ensures later { K.faults output.old ≤ K.faults output.new }
+    ensures too_long { StopsPastLongest S.Source input.old input.new (result ≡ Status.TooLong) }
+{
+    match Sole::make(alloc, table, pass) {
+        Ok(mut sole) => {
+            let status = run_script(alloc, input, output, &mut sole);
+            table.join(pass, sole.into_pass());
+            status
+        }
+        Err(AllocError) => Status::Memory,
+    }
+}
+
+// Runs the generated script of so many rounds on the table.
+fn load_on_table<K: Sink>(
+    alloc: Global,
+    rounds: u32,
+    output: &mut K,
+    table: &Words,
+    pass: &mut Pass,
+) -> Status
+    requires first { IsFirstPass table.now pass.old }
+    requires rounds { rounds ≤ 100000 }
+    ensures load { DoesLoad K.Sink table.now rounds output.old output.new pass.new result }
+    ensures rose { result ≡ Status.WriteFault → Rose (K.faults output.old) (K.faults output.new) }
+    ensures later { K.faults output.old ≤ K.faults output.new }
+{
+    match Sole::make(alloc, table, pass) {
+        Ok(mut sole) => {
+            let status = run_load(alloc, rounds, output, &mut sole);
+            table.join(pass, sole.into_pass());
+            status
+        }
+        Err(AllocError) => Status::Memory,
+    }
+}

@@ -1,9 +1,0 @@
-use Rattle.std.proofs.Common.{refl}
-use Rattle.nio_channel.specs.Idle.{zero}
-use Rattle.nio_select.proofs.tests.follow.Goals as goal
-
-pub set_up-requires-clause-zero : goal.set_up-requires-clause-zero
-set_up-requires-clause-zero g c =
-    let first = c.in_ok-draw.ensures.answer.1 in
-    let second = c.in_ok-draw-2.ensures.answer.1 in
-    record { pass = second.pass; number = second.keeps zero (first.holds refl) }

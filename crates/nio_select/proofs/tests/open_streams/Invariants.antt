@@ -1,5 +1,0 @@
-use Rattle.nio_channel.specs.Idle.{AreIdle}
-use Rattle.nio_select.proofs.tests.open_streams.Given as goal
-
-abbrev pub invariant-loop : goal.invariant-loop
-invariant-loop l = AreIdle l.w l.p

@@ -1,0 +1,319 @@
+//! Each call with its answers and the rings of its bell, in one hand; how long the polls of selections may wait; and a
+//! selection that waits while a second thread wakes it, interrupts its caller or closes its selector.
+ghost use Rattle.std.specs.Prelude.{◌≡◌, None, IfOk};
+ghost use Rattle.nio_event.specs.Conditions.{IsCaller};
+ghost use Rattle.nio_event.specs.PassViews.{HasSelector};
+ghost use Rattle.nio_words.specs.Passes.{IsPassOf, IsReady, limits_of};
+ghost use Rattle.nio_words.specs.Views.{view};
+ghost use Rattle.nio_table_tests.specs.Callers.{MayCall};
+ghost use Rattle.nio_poller.specs.Polls.{CountsFaults, AddsPoll, told_of_channel};
+ghost use Rattle.nio_poller.specs.declared.poller.PollError.TheVariants.{Fault};
+
+use crate::tables::{ONE, S, ZERO, hand_over, table};
+use nio_base::Limits;
+use nio_event::{Mode, Why};
+use nio_poller::{
+    Bell, PollError, Poller, Scripted, SelectError, Sleeper, SleeperBell, close, interrupt,
+    interrupted, select, select_for, select_now, wakeup,
+};
+use nio_select::{Asked, Selected, Told};
+use nio_words::{Pass, Words};
+use std::alloc::{AllocError, Global};
+use std::sync::Wait;
+use std::sync::atomic::{AtomicU64, Ordering};
+use std::test::Fail;
+use std::thread::{Threads, join};
+
+const SMALL: Limits = Limits {
+    callers: 2,
+    selectors: 1,
+    channels: 1,
+    keys: 1,
+};
+
+/// A bell that counts its rings.
+#[derive(Drop)]
+struct Counting {
+    rings: AtomicU64,
+}
+
+impl Bell for Counting {
+    fn ring(&self) {
+        self.rings.fetch_add(1, Ordering::SeqCst);
+    }
+}
+
+/// A poller that tells nothing and that the time is over. It keeps how long its last poll may wait.
+#[derive(Drop)]
+struct LastWait {
+    last: Option<Mode>,
+}
+
+impl Poller for LastWait {
+    ghost use Rattle.std.specs.Prelude.{⊤};
+    ghost use Rattle.nio_base.specs.declared.numbers.ChanNo.{ChanNo};
+
+    ghost poll_faults = { λ _. 0 };
+
+    ghost ready = { λ _ _. 0 };
+
+    ghost polls = { λ _. None };
+
+    ghost kept = { λ _ _. ⊤ };
+
+    fn poll<R: Wait>(
+        &mut self,
+        _rt: &R,
+        alloc: Global,
+        asked: &Asked,
+        mode: Mode,
+    ) -> Result<Told, PollError>
+        ensures cause { CountsFaults Fault 0 0 result }
+        ensures ready { IfOk result (λ told. (c : ChanNo) → 0 ≡ told_of_channel asked.now told.pairs.items c) }
+        ensures polls { AddsPoll None None asked.now mode result }
+    {
+        self.last = Some(mode);
+        Ok(Told {
+            pairs: Vec::new(alloc),
+            elapsed: true,
+        })
+    }
+
+    ghost kept_same = { λ _. tt };
+
+    ghost kept_on = { λ _ _ _ _ _. tt };
+}
+
+/// A call of the first caller.
+#[derive(Clone, Copy)]
+enum OnSelector {
+    Select,
+    SelectNow,
+    SelectFor(i64),
+    Wakeup,
+    Interrupt,
+    Interrupted,
+    Close,
+}
+
+#[derive(Clone, Copy, Debug, PartialEq, Eq)]
+enum Reply {
+    Selected(Result<Selected, SelectError>),
+    Flag(bool),
+    Done,
+}
+
+fn answer<R: Wait, P: Poller>(
+    rt: &R,
+    alloc: Global,
+    w: &Words,
+    p: &mut Pass,
+    poller: &mut P,
+    bell: &Counting,
+    call: OnSelector,
+) -> Reply
+    requires ready { IsReady w.now p.old ZERO }
+    requires selector { HasSelector (view w.now p.old) S }
+    ensures ready { IsReady w.now p.new ZERO }
+    ensures selector { HasSelector (view w.now p.new) S }
+{
+    match call {
+        OnSelector::Select => Reply::Selected(select(rt, alloc, w, p, ZERO, S, poller)),
+        OnSelector::SelectNow => Reply::Selected(select_now(rt, alloc, w, p, ZERO, S, poller)),
+        OnSelector::SelectFor(ms) => {
+            Reply::Selected(select_for(rt, alloc, w, p, ZERO, S, poller, ms))
+        }
+        OnSelector::Wakeup => {
+            wakeup(w, p, ZERO, S, bell);
+            Reply::Done
+        }
+        OnSelector::Interrupt => {
+            interrupt(w, p, ZERO, ZERO, bell);
+            Reply::Done
+        }
+        OnSelector::Interrupted => Reply::Flag(interrupted(w, p, ZERO)),
+        OnSelector::Close => Reply::Flag(close(rt, w, p, ZERO, S, bell)),
+    }
+}
+
+/// Nothing was ready, for this reason.
+fn nothing(why: Why) -> Reply {
+    Reply::Selected(ended(why))
+}
+
+#[test]
+fn calls_on_a_selector(rt: HostRuntime) -> Result<(), Fail> {
+    let (words, mut p) = table(rt.alloc(), SMALL)?;
+    let mut poller = Scripted::make(Vec::new(rt.alloc()), vec![in rt.alloc(); 1_u64]?);
+    let bell = Counting {
+        rings: AtomicU64::new(0),
+    };
+    let rows = [
+        (OnSelector::SelectNow, nothing(Why::Now), 0),
+        (OnSelector::Wakeup, Reply::Done, 1),
+        // The poll fails, and the wakeup stays.
+        (
+            OnSelector::Select,
+            Reply::Selected(Err(SelectError::PollFault)),
+            1,
+        ),
+        (OnSelector::Select, nothing(Why::Woken), 1),
+        (
+            OnSelector::SelectFor(-1),
+            Reply::Selected(Err(SelectError::NegativeTimeout)),
+            1,
+        ),
+        (OnSelector::SelectFor(5), nothing(Why::Elapsed), 1),
+        (OnSelector::Interrupt, Reply::Done, 2),
+        (OnSelector::Select, nothing(Why::Interrupted), 2),
+        (OnSelector::Interrupted, Reply::Flag(true), 2),
+        (OnSelector::Interrupted, Reply::Flag(false), 2),
+        (OnSelector::Close, Reply::Flag(true), 3),
+        (OnSelector::Close, Reply::Flag(false), 4),
+        (
+            OnSelector::Select,
+            Reply::Selected(Err(SelectError::ClosedSelector)),
+            4,
+        ),
+    ];
+    for (call, reply, rings) in rows {
+        let found = answer(&rt, rt.alloc(), &words, &mut p, &mut poller, &bell, call);
+        assert!(rt; found == reply);
+        assert!(rt; bell.rings.load(Ordering::SeqCst) == rings);
+    }
+    Ok(())
+}
+
+#[test]
+fn how_long_polls_may_wait(rt: HostRuntime) -> Result<(), Fail> {
+    let (words, mut p) = table(rt.alloc(), SMALL)?;
+    let mut poller = LastWait { last: None };
+    let bell = Counting {
+        rings: AtomicU64::new(0),
+    };
+    let negative = Reply::Selected(Err(SelectError::NegativeTimeout));
+    // The mode of the last poll that the call makes, if any.
+    let rows = [
+        (OnSelector::SelectNow, nothing(Why::Now), Some(Mode::Now)),
+        (
+            OnSelector::SelectFor(5),
+            nothing(Why::Elapsed),
+            Some(Mode::waiting(5)?),
+        ),
+        (OnSelector::SelectFor(-1), negative, None),
+        // No ring is left: what is pending stands in the table alone, and no poll waits.
+        (OnSelector::Wakeup, Reply::Done, None),
+        (
+            OnSelector::SelectFor(0),
+            nothing(Why::Woken),
+            Some(Mode::Now),
+        ),
+        (OnSelector::Wakeup, Reply::Done, None),
+        (
+            OnSelector::SelectFor(5),
+            nothing(Why::Woken),
+            Some(Mode::Now),
+        ),
+        (OnSelector::Interrupt, Reply::Done, None),
+        (
+            OnSelector::Select,
+            nothing(Why::Interrupted),
+            Some(Mode::Now),
+        ),
+    ];
+    for (call, reply, mode) in rows {
+        poller.last = None;
+        let found = answer(&rt, rt.alloc(), &words, &mut p, &mut poller, &bell, call);
+        assert!(rt; found == reply);
+        assert!(rt; poller.last == mode);
+    }
+    Ok(())
+}
+
+/// How the second thread ends the wait of the first.
+#[derive(Clone, Copy)]
+enum Ending {
+    Wakes,
+    Interrupts,
+    Closes,
+}
+
+/// Selects, and waits for it.
+fn waits<R: Wait>(
+    rt: &R,
+    alloc: Global,
+    w: &Words,
+    mut p: Pass,
+    mut sleeper: Sleeper,
+) -> Result<Selected, SelectError>
+    requires { MayCall w.now p ZERO }
+{
+    select(rt, alloc, w, &mut p, ZERO, S, &mut sleeper)
+}
+
+fn ends<R: Wait>(rt: &R, w: &Words, mut p: Pass, bell: &SleeperBell, how: Ending) -> Pass
+    requires may { MayCall w.now p ONE }
+    requires caller { IsCaller (limits_of w.now) ZERO }
+    ensures { IsPassOf w.now result }
+{
+    match how {
+        Ending::Wakes => wakeup(w, &mut p, ONE, S, bell),
+        Ending::Interrupts => interrupt(w, &mut p, ONE, ZERO, bell),
+        Ending::Closes => {
+            close(rt, w, &mut p, ONE, S, bell);
+        }
+    }
+    p
+}
+
+/// What the selection of the first caller answers that the other one ends, in a second thread.
+fn waits_and_ends<R: Threads + Wait + Sync>(
+    rt: &R,
+    alloc: Global,
+    w: &Words,
+    p: Pass,
+    q: Pass,
+    how: Ending,
+) -> Result<Result<Selected, SelectError>, AllocError>
+    requires first { MayCall w.now p ZERO }
+    requires second { MayCall w.now q ONE }
+{
+    let (sleeper, bell) = Sleeper::pair(alloc)?;
+    let (answer, _q) = join(
+        rt,
+        || -> Result<Selected, SelectError>
+            requires { MayCall w.now p ZERO }
+        { waits(rt, alloc, w, p, sleeper) },
+        || -> Pass
+            requires { MayCall w.now q ONE × IsCaller (limits_of w.now) ZERO }
+            ensures { IsPassOf w.entry.now result }
+        { ends(rt, w, q, &bell, how) },
+    );
+    Ok(answer)
+}
+
+/// A selection that ended with no key.
+fn ended(why: Why) -> Result<Selected, SelectError> {
+    Ok(Selected { count: 0, why })
+}
+
+#[test]
+fn a_second_thread_ends_the_wait(rt: HostRuntime) -> Result<(), Fail> {
+    let closed = Err(SelectError::ClosedSelector);
+    // The selector may be closed before the selection begins.
+    for (how, first, second) in [
+        (Ending::Wakes, ended(Why::Woken), ended(Why::Woken)),
+        (
+            Ending::Interrupts,
+            ended(Why::Interrupted),
+            ended(Why::Interrupted),
+        ),
+        (Ending::Closes, ended(Why::Closed), closed),
+    ] {
+        let (words, mut p) = table(rt.alloc(), SMALL)?;
+        let q = hand_over(&words, &mut p)?;
+        let found = waits_and_ends(&rt, rt.alloc(), &words, p, q, how)?;
+        assert!(rt; found == first || found == second);
+    }
+    Ok(())
+}

@@ -1,0 +1,136 @@
+//! Command lines, and the commands that are read from them, as tables.
+use nio_base::Addr;
+use nio_command::*;
+use nio_relay::ProxyPlan;
+use std::alloc::{AllocError, Global};
+use std::test::Fail;
+
+/// Splits a line at each space. Two spaces in a row make an empty word.
+fn words_of(alloc: Global, line: &str) -> Result<Vec<String>, AllocError> {
+    let mut words = Vec::new(alloc);
+    for word in line.split(' ') {
+        words.push(String::from_str(alloc, word)?)?;
+    }
+    Ok(words)
+}
+
+/// Reads a command line.
+fn command_in(alloc: Global, line: &str) -> Result<Command, WordsError> {
+    let words = words_of(alloc, line)?;
+    command_of(alloc, words.as_slice())
+}
+
+const PLAN: ProxyPlan = ProxyPlan {
+    listen: Addr {
+        ip: [127, 0, 0, 1],
+        port: 8080,
+    },
+    target: Addr {
+        ip: [10, 0, 0, 2],
+        port: 80,
+    },
+    conns: 3,
+};
+
+const ENDS: ProxyPlan = ProxyPlan {
+    listen: Addr {
+        ip: [0, 0, 0, 0],
+        port: 1,
+    },
+    target: Addr {
+        ip: [255, 255, 255, 255],
+        port: 65_535,
+    },
+    conns: 16_000,
+};
+
+const COMMANDS: &[(&str, Command)] = &[
+    ("script", Command::Script),
+    ("check", Command::Check),
+    ("check-1", Command::CheckFirst),
+    ("race", Command::Race),
+    ("load 1", Command::Load(1)),
+    ("load 100000", Command::Load(100_000)),
+    (
+        "proxy --way select --listen 127.0.0.1:8080 --target 10.0.0.2:80 --conns 3",
+        Command::Proxy(PLAN),
+    ),
+    (
+        "proxy --way=select --listen=127.0.0.1:8080 --target=10.0.0.2:80 --conns=3",
+        Command::Proxy(PLAN),
+    ),
+    (
+        "proxy --conns 3 --target=10.0.0.2:80 --way=select --listen 127.0.0.1:8080",
+        Command::Proxy(PLAN),
+    ),
+    (
+        "proxy --way select --listen 0.0.0.0:1 --target 255.255.255.255:65535 --conns 16000",
+        Command::Proxy(ENDS),
+    ),
+];
+
+/// Lines that are no command.
+const OTHER_LINES: &[&str] = &[
+    "",
+    "scripts",
+    "check-2",
+    "script script",
+    "load",
+    "load ",
+    "load 0",
+    "load 01",
+    "load +1",
+    "load -1",
+    "load 100001",
+    "load 1 1",
+    "loads 1",
+    "proxy",
+    "proxy --help",
+    "proxy --listen 127.0.0.1:1 --target 127.0.0.1:2 --conns 1",
+    "proxy --way select --target 127.0.0.1:2 --conns 1",
+    "proxy --way select --listen 127.0.0.1:1 --conns 1",
+    "proxy --way select --listen 127.0.0.1:1 --target 127.0.0.1:2",
+    "proxy --way select --listen 127.0.0.1:1 --target 127.0.0.1:2 --conns",
+    "proxy --way select --listen 127.0.0.1:1 --target 127.0.0.1:2 --conns 1 --conns 1",
+    "proxy --way select --listen 127.0.0.1:1 --target 127.0.0.1:2 --conns 1 --workers 2",
+    "proxy --way select --listen 127.0.0.1:1 --target 127.0.0.1:2 --conns 1 --help",
+    "proxy --way select --listen 127.0.0.1:1 --target 127.0.0.1:2 --conns 1 --",
+    "proxy --way select --listen 127.0.0.1:1 --target 127.0.0.1:2 -- --conns 1",
+    "proxy --way select --listen 127.0.0.1:1 --target 127.0.0.1:2 --conns 1 more",
+    "proxy --way select --listen 127.0.0.1:1 --target 127.0.0.1:2 --conns 1 -x",
+    "proxy --way select --listen 127.0.0.1:1 --target 127.0.0.1:2 --conns -1",
+    "proxy --way select --listen 127.0.0.1:1 --target 127.0.0.1:2 --conns=-1",
+    "proxy --way select --listen 127.0.0.1:1 --target 127.0.0.1:2 --conns=",
+    "proxy --way select --listen 127.0.0.1:1 --target 127.0.0.1:2 --conns ",
+    "proxy --way select --listen 127.0.0.1:1 --target 127.0.0.1:2 --conns 0",
+    "proxy --way select --listen 127.0.0.1:1 --target 127.0.0.1:2 --conns 16001",
+    "proxy --way select --listen 127.0.0.1:1 --target 127.0.0.1:2 --conns 01",
+    "proxy --way select --listen 127.0.0.1:1 --target 127.0.0.1:2 --conns +1",
+    "proxy --way group --listen 127.0.0.1:1 --target 127.0.0.1:2 --conns 1",
+    "proxy --way select --listen 127.0.0.1:0 --target 127.0.0.1:2 --conns 1",
+    "proxy --way select --listen 127.0.0.1:65536 --target 127.0.0.1:2 --conns 1",
+    "proxy --way select --listen 127.0.0.256:1 --target 127.0.0.1:2 --conns 1",
+    "proxy --way select --listen 127.0.0.01:1 --target 127.0.0.1:2 --conns 1",
+    "proxy --way select --listen 127.0.0.1 --target 127.0.0.1:2 --conns 1",
+    "proxy --way select --listen localhost:1 --target 127.0.0.1:2 --conns 1",
+];
+
+#[test]
+fn reads_commands(rt: HostRuntime) -> Result<(), Fail> {
+    for (line, command) in COMMANDS {
+        assert!(&rt; command_in(rt.alloc(), line) == Ok(*command), "{line}");
+    }
+    Ok(())
+}
+
+#[test]
+fn refuses_other_words(rt: HostRuntime) -> Result<(), Fail> {
+    for line in OTHER_LINES {
+        assert!(&rt;
+            command_in(rt.alloc(), line) == Err(WordsError::Usage),
+            "{line}"
+        );
+    }
+    assert!(&rt; command_of(rt.alloc(), &[]) == Err(WordsError::Usage));
+    Ok(())
+}

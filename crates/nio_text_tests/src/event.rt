@@ -1,0 +1,3 @@
+//! The lines of scripts and histories.
+mod parse;
+mod print;

@@ -1,5 +1,0 @@
-use Rattle.std.proofs.Common.{refl}
-use Rattle.nio_words.proofs.tests.history.registering_again.Goals as goal
-
-pub returns : goal.returns
-returns c = rw c.union-operations.ensures refl
