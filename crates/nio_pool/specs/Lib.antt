@@ -1,0 +1,4 @@
+pub mod Hands
+pub mod Queues
+pub mod Kept
+pub mod Threads

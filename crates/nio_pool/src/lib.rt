@@ -1,0 +1,14 @@
+//! Asynchronous channel groups between threads: a group under a lock, whose workers take its completions through a
+//! bounded queue and call a handler with each.
+#![tactic(auto)]
+
+pub use group::{Group, GroupError};
+pub use laws::taken_once_law;
+pub use queue::{CompletionQueue, Handed, QueuePass};
+pub use worker::{Handler, work};
+
+mod group;
+mod hand;
+mod laws;
+mod queue;
+mod worker;

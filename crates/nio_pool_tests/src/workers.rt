@@ -1,0 +1,263 @@
+//! Workers in threads of their own.
+ghost use Rattle.std.specs.Prelude.{◌≤◌, All};
+ghost use Rattle.std.specs.Thread.{IsSync};
+ghost use Rattle.nio_pool.specs.Queues.{IsPassOf};
+
+use crate::group::{close, close_stream, connect_stream, limits, start_read};
+use crate::queue::next_pass;
+use nio_base::{Gate, NoGate, OpNo};
+use nio_group::{Finished, Why};
+use nio_pool::{CompletionQueue, Group, Handed, Handler, QueuePass, work};
+use std::alloc::Global;
+use std::sync::Wait;
+use std::sync::atomic::{AtomicBool, AtomicU64, Ordering};
+use std::test::Fail;
+use std::thread;
+use std::thread::{Threads, join};
+use std::time::{Clock, CpuClock, Duration};
+
+/// Works with each pass in a thread of its own.
+fn run_workers<R: Threads + Wait + Sync, H: Handler + Sync, G: Gate + Sync>(
+    rt: &R,
+    group: &Group,
+    queue: &CompletionQueue,
+    passes: &mut [QueuePass],
+    handler: &H,
+    gate: &G,
+)
+    requires { All (IsPassOf queue.now) passes.old }
+{
+    let threads = passes.len().max(1);
+    thread::for_each_mut(
+        rt,
+        passes,
+        threads,
+        &|_, pass| { work(rt, group, queue, pass, handler, gate, 0) },
+    );
+}
+
+/// Expects the operations in their order.
+#[derive(Drop)]
+struct InOrder {
+    met: AtomicU64,
+    failed: AtomicBool,
+}
+
+impl Handler for InOrder {
+    fn completed<R: Wait>(&self, rt: &R, group: &Group, done: Handed) {
+        if self.met.fetch_add(1, Ordering::SeqCst) != done.done().op().0 {
+            self.failed.store(true, Ordering::SeqCst);
+            // so that a worker that goes by a queue of its own ends too
+            let _ = group.lock(rt).finish(OpNo(0));
+        }
+    }
+}
+
+#[test]
+fn worker_uses_its_queue(rt: HostRuntime) -> Result<(), Fail> {
+    let group = Group::make(rt.alloc(), 1, limits(2))?;
+    let (queue, mut passes) = CompletionQueue::make(rt.alloc(), 1, 4)?;
+    let mut pass = next_pass(&queue, &mut passes).expect(&rt, "the one pass");
+    let mut core = group.lock(&rt);
+    close_stream(&mut core)?;
+    start_read(&mut core)?;
+    start_read(&mut core)?;
+    let zero = core.take().expect(&rt, "operation 0 has completed");
+    core.shutdown();
+    drop(core);
+    assert!(rt; queue.put(&rt, &mut pass, zero).is_ok());
+    let handler = InOrder {
+        met: AtomicU64::new(0),
+        failed: AtomicBool::new(false),
+    };
+    work(&rt, &group, &queue, &mut pass, &handler, &NoGate, 0);
+    assert!(rt; !handler.failed.load(Ordering::SeqCst));
+    assert_eq!(rt; handler.met.load(Ordering::SeqCst), 2);
+    assert!(rt; group.await_termination(&rt).is_terminated());
+    Ok(())
+}
+
+/// Counts how often each operation is handled. For each it starts another, and where no more may be started it shuts
+/// the group down.
+#[derive(Drop)]
+struct Counting<'a> {
+    handled: &'a [AtomicU64],
+}
+
+impl<'a> Handler for Counting<'a> {
+    fn completed<R: Wait>(&self, rt: &R, group: &Group, done: Handed) {
+        if let Some(count) = self.handled.get(done.done().op().0 as usize) {
+            count.fetch_add(1, Ordering::SeqCst);
+        }
+        let mut core = group.lock(rt);
+        if start_read(&mut core).is_err() {
+            core.shutdown();
+        }
+        drop(core);
+        group.wake(rt);
+    }
+}
+
+/// Runs so many workers until as many operations are handled, of which the first 64 are started at once. Answers
+/// whether each was handled once.
+fn handles_each_once<R: Threads + Wait + Sync, G: Gate + Sync>(
+    rt: &R,
+    alloc: Global,
+    workers: u32,
+    operations: u32,
+    gate: &G,
+) -> Result<bool, Fail>
+    requires workers { (1 ≤ workers) × (workers ≤ 65) }
+    requires operations { (1 ≤ operations) × (operations ≤ 1000000) }
+{
+    let mut handled = Vec::with_capacity(alloc, operations as usize)?;
+    for _ in 0..operations {
+        handled.push(AtomicU64::new(0))?;
+    }
+    let group = Group::make(alloc, i64::from(workers), limits(u64::from(operations)))?;
+    let mut core = group.lock(rt);
+    close_stream(&mut core)?;
+    for _ in 0..operations.min(64) {
+        start_read(&mut core)?;
+    }
+    drop(core);
+    let (queue, mut passes) = CompletionQueue::make(alloc, workers, 8)?;
+    let handler = Counting { handled: &handled };
+    run_workers(rt, &group, &queue, passes.as_mut_slice(), &handler, gate);
+    let terminated = group.await_termination(rt).is_terminated();
+    Ok(
+        terminated
+            && handled
+                .iter()
+                .all(|count| count.load(Ordering::SeqCst) == 1),
+    )
+}
+
+#[test]
+fn four_workers(rt: HostRuntime) -> Result<(), Fail> {
+    assert!(rt; handles_each_once(&rt, rt.alloc(), 4, 100_000, &NoGate)?);
+    Ok(())
+}
+
+/// How often a worker looks whether the other has come before it gives up.
+const TURNS: u32 = 100_000_000;
+
+/// Holds each of two workers until the other has come with a completion of its own.
+#[derive(Drop)]
+struct Meeting {
+    come: AtomicU64,
+    given_up: AtomicBool,
+}
+
+impl Gate for Meeting {
+    fn pass<R: Wait>(&self, _rt: &R, _who: u32, _what: u64) {
+        self.come.fetch_add(1, Ordering::SeqCst);
+        for _ in 0..TURNS {
+            if self.come.load(Ordering::SeqCst) == 2 {
+                return;
+            }
+            thread::yield_now();
+        }
+        self.given_up.store(true, Ordering::SeqCst);
+    }
+}
+
+#[test]
+fn two_workers_meet(rt: HostRuntime) -> Result<(), Fail> {
+    let gate = Meeting {
+        come: AtomicU64::new(0),
+        given_up: AtomicBool::new(false),
+    };
+    assert!(rt; handles_each_once(&rt, rt.alloc(), 2, 2, &gate)?);
+    assert!(rt; !gate.given_up.load(Ordering::SeqCst));
+    Ok(())
+}
+
+/// Where the stream is connected it starts a read and closes the stream. Where the read has been ended by that it shuts
+/// the group down.
+#[derive(Drop)]
+struct Closing {
+    ended_by_close: AtomicBool,
+}
+
+impl Handler for Closing {
+    fn completed<R: Wait>(&self, rt: &R, group: &Group, done: Handed) {
+        let mut core = group.lock(rt);
+        match done.done().result() {
+            Finished::Connected => {
+                let _ = start_read(&mut core);
+                close(&mut core);
+            }
+            Finished::Failed(Why::AsynchronousClose) => {
+                self.ended_by_close.store(true, Ordering::SeqCst);
+                core.shutdown();
+            }
+            _ => core.shutdown(),
+        }
+    }
+}
+
+#[test]
+fn handler_closes_and_shuts_down(rt: HostRuntime) -> Result<(), Fail> {
+    let group = Group::make(rt.alloc(), 1, limits(2))?;
+    let (queue, mut passes) = CompletionQueue::make(rt.alloc(), 1, 1)?;
+    connect_stream(&mut group.lock(&rt))?;
+    let handler = Closing {
+        ended_by_close: AtomicBool::new(false),
+    };
+    run_workers(
+        &rt,
+        &group,
+        &queue,
+        passes.as_mut_slice(),
+        &handler,
+        &NoGate,
+    );
+    assert!(rt; handler.ended_by_close.load(Ordering::SeqCst));
+    assert!(rt; group.await_termination(&rt).is_terminated());
+    Ok(())
+}
+
+/// How much processor time all threads take together while four workers have nothing to do for a second. Then the group
+/// is shut down. `None` where the clock failed.
+fn idle_second<R: Threads + Wait + Sync + Clock + CpuClock>(
+    rt: &R,
+    group: &Group,
+    queue: &CompletionQueue,
+    passes: Vec<QueuePass>,
+) -> Option<Duration>
+    requires { All (IsPassOf queue.now) passes.items }
+{
+    let handler = Closing {
+        ended_by_close: AtomicBool::new(false),
+    };
+    let (took, ()) = join(
+        rt,
+        || {
+            thread::sleep(rt, Duration::from_millis(200));
+            let before = rt.process_cpu_time().ok();
+            thread::sleep(rt, Duration::from_secs(1));
+            let after = rt.process_cpu_time().ok();
+            group.lock(rt).shutdown_now();
+            group.wake(rt);
+            after?.checked_sub(before?)
+        },
+        move ||
+            requires { IsSync R.row × All (IsPassOf queue.now) passes.items }
+        {
+            let mut passes = passes;
+            run_workers(rt, group, queue, passes.as_mut_slice(), &handler, &NoGate);
+        },
+    );
+    took
+}
+
+#[test]
+fn idle_workers_sleep(rt: HostRuntime) -> Result<(), Fail> {
+    let group = Group::make(rt.alloc(), 4, limits(2))?;
+    let (queue, passes) = CompletionQueue::make(rt.alloc(), 4, 1)?;
+    let took = idle_second(&rt, &group, &queue, passes);
+    let took = took.expect(&rt, "the clock can be read");
+    assert!(rt; took < Duration::from_millis(20), "{took:?}");
+    Ok(())
+}
