@@ -12,6 +12,7 @@ mod checked;
 mod group;
 mod pair;
 mod pipe;
+mod pool;
 mod relay;
 mod select;
 mod waiting;
@@ -34,6 +35,7 @@ fn main(rt: HostRuntime) -> anyhow::Result<()> {
             select::run(&rt, SMALL, 2)?;
             waiting::run(&rt)?;
             pipe::run(&rt)?;
+            pool::run(&rt)?;
             checked::run(&rt, Slow::Reader)?;
             checked::run(&rt, Slow::Writer)?;
             println!(rt; "ok")?;
@@ -41,6 +43,7 @@ fn main(rt: HostRuntime) -> anyhow::Result<()> {
         Some("channels") => channels::measure(&rt)?,
         Some("group") => group::measure(&rt)?,
         Some("pipe") => pipe::measure(&rt)?,
+        Some("pool") => pool::measure(&rt)?,
         Some("relay") => relay::measure(&rt)?,
         Some("select") => select::measure(&rt)?,
         Some("waiting") => waiting::measure(&rt)?,

@@ -1,0 +1,10 @@
+pub mod DeadlineLemmas
+pub mod ExpireLemmas
+pub mod FilterLemmas
+pub mod PendingLemmas
+pub mod QueueLemmas
+pub mod RunLemmas
+pub mod StartLemmas
+pub mod TakeLemmas
+pub mod TimedLemmas
+pub mod TimeoutLemmas

@@ -1,0 +1,225 @@
+-- Each timed step leads from a lawful state to a lawful one.
+use Rattle.std.specs.Bool.{⊤}
+use Rattle.std.proofs.Common.{◌≡◌, ℕ, ◌<◌, ◌≤◌, ◌+◌, Bool, true, false, not, ◌&&◌, eqb, leb, List, []}
+use Rattle.std.proofs.Common.{◌∷◌, ◌++◌, cond, Option, Some, None, length, refl, sym, ap, ◌∙◌, subst, get_or}
+use Rattle.std.specs.Option.{option_or}
+use Rattle.std.proofs.lemmas.Bool.{false≢true}
+use Rattle.std.proofs.lemmas.List.{get_or_push}
+use Rattle.nio_base.specs.declared.numbers.GChan.{GChan}
+use Rattle.nio_base.specs.declared.group.OpKind.{OpKind}
+use Rattle.nio_group.specs.declared.limits.GroupLimits.{GroupLimits}
+use Rattle.nio_group.specs.declared.operation.Operation.{Operation}
+use Rattle.nio_group.specs.Completion.{CompletionFields}
+use Rattle.nio_group.specs.Flight.{op_at, accepted, IsPendingAs}
+use Rattle.nio_group.specs.Group.{Group, channel_at}
+use Rattle.nio_group.specs.Refusals.{start_refusal}
+use Rattle.nio_group.specs.Run as run
+use Rattle.nio_group.specs.Stages.{is_pending, is_pending_as}
+use Rattle.nio_group.specs.Steps as group_steps
+use Rattle.nio_group.specs.Steps.{first_stage, answer_to_take}
+use Rattle.nio_group.proofs.ListLemmas.{eqb-same}
+use Rattle.nio_group.proofs.PendingLemmas.{same_kind-refl}
+use Rattle.nio_group.proofs.RestLemmas.{lawful-empty}
+use Rattle.nio_group.proofs.RunLemmas.{lawful-after, unless-refused}
+use Rattle.nio_group.proofs.StageLemmas.{stepped-after}
+use Rattle.nio_group.proofs.TableLemmas.{by_test}
+use Rattle.std.proofs.lemmas.List.{length-replicate}
+use Rattle.nio_deadline.specs.Deadlines.{Deadline, AreInOrder, due}
+use Rattle.nio_deadline.specs.Kept.{timed_of, IsAboveAll}
+use Rattle.nio_deadline.specs.Run.{Call, open_channel, bind, start_timed, report, expire, take, finish, close_channel}
+use Rattle.nio_deadline.specs.Run.{shutdown, shutdown_now, IsCallOf, IsRunOf, after, reply_to, left_by, StepsAreLawful}
+use Rattle.nio_deadline.specs.Steps.{after_start, after_expire, after_take, with_timeout, with_timeouts, with_limit}
+use Rattle.nio_deadline.specs.Steps.{kept_if_refused, started}
+use Rattle.nio_deadline.specs.Timed.{Timed, IsLawful, no_number, with_group, may_have_limit, own_refusal}
+use Rattle.nio_deadline.specs.Timed.{late_refusal, empty_timed, no_kinds, last_moment}
+use Rattle.nio_deadline.specs.declared.refusal.TimedError.{TimedError}
+use Rattle.nio_deadline.proofs.DeadlineLemmas.{insert-in_order, is-le, not-le, none-due}
+use Rattle.nio_deadline.proofs.ExpireLemmas.{expire-first, lawful-timeout, timeout-deadlines}
+use Rattle.nio_deadline.proofs.PendingLemmas.{stays-start}
+use Rattle.nio_deadline.proofs.QueueLemmas.{keeps-open, keeps-bind, keeps-start, keeps-report, keeps-finish}
+use Rattle.nio_deadline.proofs.QueueLemmas.{keeps-close}
+use Rattle.nio_deadline.proofs.QueueLemmas.{keeps-shutdown, keeps-shutdown_now}
+use Rattle.nio_deadline.proofs.StartLemmas.{none-next, pending-insert}
+use Rattle.nio_deadline.proofs.TakeLemmas.{lawful-take, nothing-same, taken-nothing, taken-one}
+use Rattle.nio_deadline.proofs.TimedLemmas.{above-all, all-stay, lawful-with_group}
+
+-- ---- `expire`, one deadline after the other
+
+-- what holds before the first deadline that has come times out holds after it, and so after all have
+pub expire-by : (P : Timed → Type 0) (now : ℕ)
+    → ((t : Timed) (d : Deadline) (ds : List Deadline) → IsLawful t → t.deadlines ≡ d ∷ ds → d.at ≤ now → P t
+    → P (with_timeout t d))
+    → (es : List Deadline) (t : Timed) → t.deadlines ≡ es → IsLawful t → P t
+    → (x : Timed) × (x ≡ after_expire t now) × IsLawful x × P x × (due now x.deadlines ≡ [])
+expire-by P now step [] t is lawful holds =
+    let none : due now t.deadlines ≡ [] = ap (λ (xs : List Deadline). due now xs) is in
+    (t, sym (ap (λ (xs : List Deadline). with_timeouts t xs) none), lawful, holds, none)
+expire-by P now step (d ∷ ds) t is lawful holds =
+    by_test (leb d.at now)
+    (λ u.
+    let come = is-le d.at now u in
+    let left = sym (timeout-deadlines t d ds lawful is) in
+    let rest = expire-by P now step ds (with_timeout t d) left (lawful-timeout t d ds lawful is)
+    (step t d ds lawful is come holds) in
+    (rest.0, rest.1 ∙ sym (expire-first t now d ds is come left), rest.2, rest.3, rest.4))
+    (λ f.
+    let order : AreInOrder (d ∷ ds) = subst (λ (xs : List Deadline). AreInOrder xs) is lawful.in_order in
+    let none : due now t.deadlines ≡ [] =
+    ap (λ (xs : List Deadline). due now xs) is ∙ none-due now d.at (d ∷ ds) order refl (not-le d.at now f) in
+    (t, sym (ap (λ (xs : List Deadline). with_timeouts t xs) none), lawful, holds, none))
+
+lawful-expire : (t : Timed) (now : ℕ) → IsLawful t → IsLawful (after_expire t now)
+lawful-expire t now lawful =
+    let all = expire-by (λ x. ⊤) now (λ x d ds l is come h. tt) t.deadlines t refl lawful tt in
+    subst (λ (x : Timed). IsLawful x) all.1 all.2
+
+-- ---- `take`
+
+lawful-taken : (t : Timed) → IsLawful t → IsLawful (after_take t)
+lawful-taken t lawful = by_answer (answer_to_take t.group) refl
+  where
+    by_answer : (o : Option CompletionFields) → answer_to_take t.group ≡ o → IsLawful (after_take t)
+    by_answer None none =
+        subst (λ (x : Timed). IsLawful x)
+        (ap (λ (g : Group). timed_of g t.deadlines t.timed_out t.kinds)
+        (sym (nothing-same t.group lawful.group none))
+        ∙ taken-nothing t lawful none) lawful
+    by_answer (Some x) some =
+        subst (λ (y : Timed). IsLawful y) (taken-one t x lawful some) (lawful-take t x lawful some)
+
+-- ---- `start_timed`
+
+started-as : (g : Group) (chan : GChan) (kind : OpKind) (len : ℕ)
+    → is_pending (op_at (group_steps.after_start g chan kind len).flight (accepted g.flight)) ≡ true
+    → IsPendingAs (group_steps.after_start g chan kind len).flight chan.0 kind (accepted g.flight)
+started-as g chan kind len =
+    unless-refused
+    (λ (h : Group). is_pending (op_at h.flight (accepted g.flight)) ≡ true
+    → IsPendingAs h.flight chan.0 kind (accepted g.flight))
+    (start_refusal g chan.0 kind) g (group_steps.started g chan kind len)
+    (λ p. absurd (false≢true (sym (none-next g.flight) ∙ p)))
+    (λ free p. by_op (record {
+      chan = chan;
+      kind = kind;
+      len = len;
+      stage = first_stage (channel_at g chan.0).is_open kind len;
+    }) refl refl p)
+  where
+    by_op : (op : Operation) → op.chan ≡ chan → op.kind ≡ kind
+        → is_pending (get_or (g.flight.operations ++ Some op ∷ []) (accepted g.flight) None) ≡ true
+        → is_pending_as chan.0 kind (get_or (g.flight.operations ++ Some op ∷ []) (accepted g.flight) None) ≡ true
+    by_op op same_chan same p =
+        let last = get_or_push g.flight.operations (Some op) None (accepted g.flight) refl in
+        let pending = sym (ap is_pending last) ∙ p in
+        rw last (rw (pending, same_chan, same, eqb-same chan.0, same_kind-refl kind) refl)
+
+limited-kind : (limit_is_0 may late : Bool) (e e' : TimedError) (rest : Option TimedError) → limit_is_0 ≡ false
+    → option_or (cond (not limit_is_0 && not may) (Some e) (cond late None (Some e'))) rest ≡ None → may ≡ true
+limited-kind false true late e e' rest zero none = refl
+limited-kind false false late e e' rest zero none = cc
+limited-kind true may late e e' rest zero none = absurd (false≢true (sym zero))
+
+own-limited : (t : Timed) (c : ℕ) (kind : OpKind) (now limit : ℕ) → eqb limit 0 ≡ false
+    → own_refusal t c kind now limit ≡ None → may_have_limit kind ≡ true
+own-limited t c kind now limit some free =
+    limited-kind (eqb limit 0) (may_have_limit kind) (leb (now + limit) last_moment) _ _
+    (late_refusal t c kind) some free
+
+pub kept-or : (P : Timed → Type 0) (r : Option TimedError) (old new : Timed) → P old → (r ≡ None → P new)
+    → P (kept_if_refused r old new)
+kept-or P None old new kept made = made refl
+kept-or P (Some e) old new kept made = kept
+
+lawful-limit : (t : Timed) (chan : GChan) (kind : OpKind) (len at : ℕ) → IsLawful t → chan.0 < length t.group.channels
+    → may_have_limit kind ≡ true
+    → IsLawful (with_limit t chan kind at (with_group t (group_steps.after_start t.group chan kind len)))
+lawful-limit t chan kind len at lawful within limited =
+    let g = group_steps.after_start t.group chan kind len in
+    let plain = lawful-with_group t g lawful
+    (lawful-after t.group (run.start chan kind len) lawful.group within)
+    (stepped-after t.group (run.start chan kind len) lawful.group) (keeps-start t.group chan kind len) in
+    let stay = all-stay t.group g t.deadlines (stays-start t.group chan kind len) lawful.pending in
+    let d : Deadline = record { at = at; op = accepted t.group.flight; chan = chan.0; kind = kind } in
+    by_test (is_pending (op_at g.flight (accepted t.group.flight)))
+    (λ u. rw u
+    (record {
+      group = plain.group;
+      pending = pending-insert g d (with_group t g).deadlines
+          (started-as t.group chan kind len u) limited plain.pending;
+      in_order = insert-in_order d (with_group t g).deadlines plain.in_order
+          (subst (λ (ds : List Deadline). IsAboveAll (accepted t.group.flight) ds) stay
+          (above-all t.group t.deadlines lawful.pending));
+      queued = plain.queued;
+      each_channel = plain.each_channel;
+    }))
+    (λ f. rw f plain)
+
+lawful-start : (t : Timed) (chan : GChan) (kind : OpKind) (len now limit : ℕ) → IsLawful t
+    → chan.0 < length t.group.channels → IsLawful (after_start t chan kind len now limit)
+lawful-start t chan kind len now limit lawful within =
+    kept-or IsLawful (own_refusal t chan.0 kind now limit) t (started t chan kind len now limit) lawful
+    (λ free.
+    by_test (eqb limit 0)
+    (λ u. rw u
+    (lawful-with_group t (group_steps.after_start t.group chan kind len) lawful
+    (lawful-after t.group (run.start chan kind len) lawful.group within)
+    (stepped-after t.group (run.start chan kind len) lawful.group) (keeps-start t.group chan kind len)))
+    (λ f. rw f
+    (lawful-limit t chan kind len (now + limit) lawful within (own-limited t chan.0 kind now limit f free))))
+
+pub lawful-step : (t : Timed) (call : Call) → IsLawful t → IsCallOf t call → IsLawful (after t call)
+lawful-step t (open_channel kind) lawful made =
+    lawful-with_group t (group_steps.after_open t.group kind) lawful
+    (lawful-after t.group (run.open_channel kind) lawful.group tt)
+    (stepped-after t.group (run.open_channel kind) lawful.group) (keeps-open t.group kind)
+lawful-step t (bind chan) lawful made =
+    lawful-with_group t (group_steps.after_bind t.group chan.0) lawful
+    (lawful-after t.group (run.bind chan) lawful.group made) (stepped-after t.group (run.bind chan) lawful.group)
+    (keeps-bind t.group chan.0)
+lawful-step t (start_timed chan kind len now limit) lawful made = lawful-start t chan kind len now limit lawful made
+lawful-step t (report op outcome) lawful made =
+    lawful-with_group t (group_steps.after_report t.group op.0 outcome) lawful
+    (lawful-after t.group (run.report op outcome) lawful.group tt)
+    (stepped-after t.group (run.report op outcome) lawful.group) (keeps-report t.group op.0 outcome)
+lawful-step t (expire now) lawful made = lawful-expire t now lawful
+lawful-step t take lawful made = lawful-taken t lawful
+lawful-step t (finish op) lawful made =
+    lawful-with_group t (group_steps.after_finish t.group op.0) lawful
+    (lawful-after t.group (run.finish op) lawful.group tt) (stepped-after t.group (run.finish op) lawful.group)
+    (keeps-finish t.group op.0)
+lawful-step t (close_channel chan) lawful made =
+    lawful-with_group t (group_steps.after_close t.group chan.0) lawful
+    (lawful-after t.group (run.close_channel chan) lawful.group made)
+    (stepped-after t.group (run.close_channel chan) lawful.group) (keeps-close t.group chan.0)
+lawful-step t shutdown lawful made =
+    lawful-with_group t (group_steps.after_shutdown t.group) lawful
+    (lawful-after t.group run.shutdown lawful.group tt)
+    (stepped-after t.group run.shutdown lawful.group) (keeps-shutdown t.group)
+lawful-step t shutdown_now lawful made =
+    lawful-with_group t (group_steps.after_shutdown_now t.group) lawful
+    (lawful-after t.group run.shutdown_now lawful.group tt) (stepped-after t.group run.shutdown_now lawful.group)
+    (keeps-shutdown_now t.group)
+
+pub steps-lawful : StepsAreLawful
+steps-lawful t call lawful made =
+    record {
+      reply = reply_to t call;
+      left = after t call;
+      step = record { answers = refl; leaves = refl };
+      lawful = lawful-step t call lawful made;
+      only = λ reply left step. (step.answers, step.leaves);
+    }
+
+pub lawful-empty_timed : (limits : GroupLimits) → IsLawful (empty_timed limits)
+lawful-empty_timed limits =
+    record {
+      group = lawful-empty limits;
+      pending = tt;
+      in_order = tt;
+      queued = no_number [];
+      each_channel = length-replicate limits.channels no_kinds;
+    }
+
+pub lawful-left : (t : Timed) (calls : List Call) → IsLawful t → IsRunOf t calls → IsLawful (left_by t calls)
+lawful-left t [] lawful run' = lawful
+lawful-left t (call ∷ calls) lawful run' = lawful-left (after t call) calls (lawful-step t call lawful run'.0) run'.1

@@ -1,0 +1,209 @@
+-- A group with time limits after an operation was started.
+use Rattle.std.proofs.Common.{◌≡◌, ◌⊎◌, inl, inr, ℕ, ◌<◌, ◌≤◌, ◌+◌, true, false, eqb, leb, List, []}
+use Rattle.std.proofs.Common.{◌∷◌, Option, Some, None, length, refl, sym, ap, ◌∙◌, subst, arith}
+use Rattle.std.proofs.lemmas.Bool.{false≢true}
+use Rattle.std.proofs.lemmas.List.{get_or_push, get_or_past}
+use Rattle.nio_base.specs.declared.numbers.GChan.{GChan}
+use Rattle.nio_base.specs.declared.group.OpKind.{OpKind}
+use Rattle.nio_base.specs.declared.group.OpKind.TheVariants.{Accept, Connect, Read, Write}
+use Rattle.nio_group.specs.declared.operation.Stage.TheVariants.{Pending}
+use Rattle.nio_group.specs.declared.refusal.StartError.{StartError}
+use Rattle.nio_group.specs.Flight.{Flight, op_at, accepted, IsPendingAs}
+use Rattle.nio_group.specs.Group.{Group, channel_at}
+use Rattle.nio_group.specs.Refusals.{start_refusal}
+use Rattle.nio_group.specs.Run as run
+use Rattle.nio_group.specs.Stages.{is_pending, stage_is_pending}
+use Rattle.nio_group.specs.Steps as group_steps
+use Rattle.nio_group.specs.Steps.{after_report, kept_if_refused, reported, first_stage, completion_at, completion_of}
+use Rattle.nio_group.specs.Steps.{taken_from, answer_to_take}
+use Rattle.nio_group.proofs.ListLemmas.{eqb-same}
+use Rattle.nio_group.proofs.PendingLemmas.{same_kind-refl}
+use Rattle.nio_group.proofs.RunLemmas.{lawful-after, unless-refused}
+use Rattle.nio_group.proofs.StageLemmas.{stepped-after}
+use Rattle.nio_group.proofs.TableLemmas.{by_test}
+use Rattle.nio_deadline.specs.Deadlines.{Deadline, without, with_deadline}
+use Rattle.nio_deadline.specs.Kept.{IsTimedKept, timed_of, IsAboveAll}
+use Rattle.nio_deadline.specs.Steps.{with_limit}
+use Rattle.nio_deadline.specs.Timed.{Timed, ArePending, IsLawful, with_group}
+use Rattle.nio_deadline.specs.Timed.{may_have_limit}
+use Rattle.nio_deadline.proofs.DeadlineLemmas.{eq-false, insert-in_order, without-others}
+use Rattle.nio_deadline.proofs.DeadlineLemmas.{others-above}
+use Rattle.nio_deadline.proofs.PendingLemmas.{as-pending, stays-start}
+use Rattle.nio_deadline.proofs.QueueLemmas.{keeps-start}
+use Rattle.nio_deadline.proofs.TimedLemmas.{all-stay, still-pending, above-all, part-grows}
+use Rattle.nio_deadline.proofs.TimedLemmas.{when-free, when-refused}
+
+first-pending : (kind : OpKind) (len : ℕ) → may_have_limit kind ≡ true → 0 < len → first_stage true kind len ≡ Pending
+first-pending Accept len limited some = refl
+first-pending Connect len limited some = refl
+first-pending Read len limited some = rw (eq-false len 0 (λ none. absurd (omega arith))) refl
+first-pending Write len limited some = rw (eq-false len 0 (λ none. absurd (omega arith))) refl
+
+-- an operation that is started with a limit is pending
+pub started-pending : (g : Group) (chan : GChan) (kind : OpKind) (len : ℕ) → start_refusal g chan.0 kind ≡ None
+    → (channel_at g chan.0).is_open ≡ true → 0 < len → may_have_limit kind ≡ true
+    → IsPendingAs (group_steps.after_start g chan kind len).flight chan.0 kind (accepted g.flight)
+started-pending g chan kind len free is_open some limited =
+    when-free (λ (h : Group). IsPendingAs h.flight chan.0 kind (accepted g.flight)) (start_refusal g chan.0 kind) g
+    (group_steps.started g chan kind len) free
+    (rw (
+      get_or_push g.flight.operations (Some (record {
+        chan = chan;
+        kind = kind;
+        len = len;
+        stage = first_stage (channel_at g chan.0).is_open kind len;
+      })) None (accepted g.flight) refl,
+      is_open,
+      first-pending kind len limited some,
+      eqb-same chan.0,
+      same_kind-refl kind,
+    ) refl)
+
+pub with-limit : (t : Timed) (chan : GChan) (kind : OpKind) (len at : ℕ) → IsLawful t
+    → start_refusal t.group chan.0 kind ≡ None → (channel_at t.group chan.0).is_open ≡ true → 0 < len
+    → may_have_limit kind ≡ true
+    → timed_of (group_steps.after_start t.group chan kind len)
+    (with_deadline (record { at = at; op = accepted t.group.flight; chan = chan.0; kind = kind }) t.deadlines)
+    t.timed_out t.kinds
+    ≡ with_limit t chan kind at (with_group t (group_steps.after_start t.group chan kind len))
+with-limit t chan kind len at lawful free is_open some limited =
+    let g = group_steps.after_start t.group chan kind len in
+    let pending = as-pending chan.0 kind (op_at g.flight (accepted t.group.flight))
+    (started-pending t.group chan kind len free is_open some limited) in
+    let stay = all-stay t.group g t.deadlines (stays-start t.group chan kind len) lawful.pending in
+    rw pending
+    (ap
+    (λ (ds : List Deadline).
+    timed_of g (with_deadline (record { at = at; op = accepted t.group.flight; chan = chan.0; kind = kind }) ds)
+    t.timed_out t.kinds) stay)
+
+pub without-inserted : (d : Deadline) (ds : List Deadline) → IsAboveAll d.op ds → without d.op (with_deadline d ds)
+    ≡ ds
+without-inserted d [] above = rw (eqb-same d.op) refl
+without-inserted d (e ∷ es) above =
+    let l = above.0 in
+    let apart : eqb e.op d.op ≡ false = eq-false e.op d.op (λ same. absurd (omega arith)) in
+    by_test (leb e.at d.at)
+    (λ t. rw (t, apart) (ap (λ xs. e ∷ xs) (without-inserted d es above.1)))
+    (λ f. rw (f, eqb-same d.op) (without-others d.op (e ∷ es) (others-above d.op (e ∷ es) above)))
+
+-- a refused operation changes nothing
+pub refused-same : (t : Timed) (chan : GChan) (kind : OpKind) (len : ℕ) (e : StartError) → IsLawful t
+    → start_refusal t.group chan.0 kind ≡ Some e → t ≡ with_group t (group_steps.after_start t.group chan kind len)
+refused-same t chan kind len e lawful refused =
+    when-refused (λ (h : Group). t ≡ with_group t h) (start_refusal t.group chan.0 kind) e t.group
+    (group_steps.started t.group chan kind len) refused
+    (ap (λ (ds : List Deadline). timed_of t.group ds t.timed_out t.kinds)
+    (all-stay t.group t.group t.deadlines (λ n p. p) lawful.pending))
+
+pub refused-group : (g : Group) (chan : GChan) (kind : OpKind) (len : ℕ) (e : StartError)
+    → start_refusal g chan.0 kind ≡ Some e → group_steps.after_start g chan kind len ≡ g
+refused-group g chan kind len e refused =
+    when-refused (λ (h : Group). h ≡ g) (start_refusal g chan.0 kind) e g
+    (group_steps.started g chan kind len) refused
+    refl
+
+pub kept-room : (t : Timed) (n n' room room' : ℕ) → IsTimedKept t n room → n' ≡ n → room ≤ room'
+    → IsTimedKept t n' room'
+kept-room t n n' room room' kept same more =
+    let counted = kept.counted in
+    let had = kept.has_room in
+    record {
+      lawful = kept.lawful;
+      counted = omega (arith, counted, same);
+      has_room = omega (arith, had, more);
+      few_in_flight = kept.few_in_flight;
+    }
+
+pub none-next : (f : Flight) → is_pending (op_at f (accepted f)) ≡ false
+none-next f = ap is_pending (get_or_past f.operations (accepted f) None (omega arith))
+
+pub refused-limit : (t : Timed) (chan : GChan) (kind : OpKind) (len at : ℕ) (e : StartError) → IsLawful t
+    → start_refusal t.group chan.0 kind ≡ Some e
+    → t ≡ with_limit t chan kind at (with_group t (group_steps.after_start t.group chan kind len))
+refused-limit t chan kind len at e lawful refused =
+    let none : is_pending (op_at (group_steps.after_start t.group chan kind len).flight (accepted t.group.flight))
+    ≡ false =
+    when-refused (λ (h : Group). is_pending (op_at h.flight (accepted t.group.flight)) ≡ false)
+    (start_refusal t.group chan.0 kind) e t.group (group_steps.started t.group chan kind len) refused
+    (none-next t.group.flight) in
+    rw none (refused-same t chan kind len e lawful refused)
+
+pub pending-insert : (g : Group) (d : Deadline) (ds : List Deadline) → IsPendingAs g.flight d.chan d.kind d.op
+    → may_have_limit d.kind ≡ true → ArePending g ds → ArePending g (with_deadline d ds)
+pending-insert g d [] p limited pending = (p, limited, tt)
+pending-insert g d (e ∷ es) p limited pending =
+    by_test (leb e.at d.at)
+    (λ t. rw t (pending.0, pending.1, pending-insert g d es p limited pending.2))
+    (λ f. rw f (p, limited, (pending.0, pending.1, pending.2)))
+
+length-insert : (d : Deadline) (ds : List Deadline) → length (with_deadline d ds) ≡ length ds + 1
+length-insert d [] = omega arith
+length-insert d (e ∷ es) =
+    let rest = length-insert d es in
+    by_test (leb e.at d.at) (λ t. rw t (omega (arith, rest))) (λ f. rw f (omega arith))
+
+pub kept-limited : (t : Timed) (chan : GChan) (kind : OpKind) (len at n n' room room' : ℕ) → IsTimedKept t n room
+    → chan.0 < length t.group.channels → start_refusal t.group chan.0 kind ≡ None
+    → (channel_at t.group chan.0).is_open ≡ true → 0 < len → may_have_limit kind ≡ true → n' ≡ n
+    → n + (length t.deadlines + 1) ≤ room'
+    → IsTimedKept (timed_of (group_steps.after_start t.group chan kind len)
+    (with_deadline (record { at = at; op = accepted t.group.flight; chan = chan.0; kind = kind }) t.deadlines)
+    t.timed_out t.kinds) n' room'
+kept-limited t chan kind len at n n' room room' kept within free is_open some limited same fits =
+    let g = group_steps.after_start t.group chan kind len in
+    let d : Deadline = record { at = at; op = accepted t.group.flight; chan = chan.0; kind = kind } in
+    let lawful = kept.lawful in
+    let step = stepped-after t.group (run.start chan kind len) lawful.group in
+    let keeps = keeps-start t.group chan kind len in
+    let stay = all-stay t.group g t.deadlines (stays-start t.group chan kind len) lawful.pending in
+    let pending : ArePending g t.deadlines =
+    subst (λ (ds : List Deadline). ArePending g ds) (sym stay)
+    (still-pending t.group g t.deadlines step lawful.pending) in
+    let counted = kept.counted in
+    let longer = length-insert d t.deadlines in
+    record {
+      lawful = record {
+        group = lawful-after t.group (run.start chan kind len) lawful.group within;
+        pending = pending-insert g d t.deadlines
+            (started-pending t.group chan kind len free is_open some limited) limited pending;
+        in_order = insert-in_order d t.deadlines lawful.in_order (above-all t.group t.deadlines lawful.pending);
+        queued = rw keeps.queue (part-grows keeps.more lawful.queued);
+        each_channel = lawful.each_channel ∙ sym keeps.channels;
+      };
+      counted = omega (arith, counted, same);
+      has_room = omega (arith, counted, longer, fits);
+      few_in_flight = rw keeps.flight kept.few_in_flight;
+    }
+
+-- an operation that isn't pending gets no deadline
+pub no-limit : (t : Timed) (chan : GChan) (kind : OpKind) (len now limit : ℕ) → may_have_limit kind ≡ true
+    → (len ≡ 0) ⊎ ((channel_at t.group chan.0).is_open ≡ false)
+    → with_limit t chan kind (now + limit) (with_group t (group_steps.after_start t.group chan kind len))
+    ≡ with_group t (group_steps.after_start t.group chan kind len)
+no-limit t chan kind len now limit limited idle =
+    rw
+    (unless-refused
+    (λ (h : Group). is_pending (op_at h.flight (accepted t.group.flight)) ≡ false)
+    (start_refusal t.group chan.0 kind) t.group (group_steps.started t.group chan kind len)
+    (none-next t.group.flight)
+    (λ free.
+    ap is_pending
+    (get_or_push t.group.flight.operations (Some (record {
+      chan = chan;
+      kind = kind;
+      len = len;
+      stage = first_stage (channel_at t.group chan.0).is_open kind len;
+    })) None (accepted t.group.flight) refl)
+    ∙ at_once kind limited idle)) refl
+  where
+    at_once : (k : OpKind) → may_have_limit k ≡ true → (len ≡ 0) ⊎ ((channel_at t.group chan.0).is_open ≡ false)
+        → stage_is_pending (first_stage (channel_at t.group chan.0).is_open k len) ≡ false
+    at_once Accept limited' idle' = absurd (false≢true limited')
+    at_once Connect limited' idle' = absurd (false≢true limited')
+    at_once Read limited' (inr closed) = rw closed refl
+    at_once Write limited' (inr closed) = rw closed refl
+    at_once Read limited' (inl none) =
+        by_test (channel_at t.group chan.0).is_open (λ o. rw (o, none) refl) (λ f. rw f refl)
+    at_once Write limited' (inl none) =
+        by_test (channel_at t.group chan.0).is_open (λ o. rw (o, none) refl) (λ f. rw f refl)

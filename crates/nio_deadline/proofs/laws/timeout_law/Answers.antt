@@ -1,0 +1,5 @@
+use Rattle.nio_deadline.proofs.TimeoutLemmas.{times-out-exactly}
+use Rattle.nio_deadline.proofs.laws.timeout_law.Goals as goal
+
+pub returns : goal.returns
+returns c = times-out-exactly

@@ -1,0 +1,163 @@
+-- The calls that change a group with time limits, one timed step for each, runs of them, and their laws.
+use Rattle.std.specs.Prelude.{◌≡◌, ℕ, ◌+◌, ◌<◌, ◌↔◌, ◌==◌, Bool, false, not, ◌&&◌, ◌||◌, List, [], ◌∷◌, length}
+use Rattle.std.specs.Prelude.{Option, Some, Result, IsTrue, nat_le}
+use Rattle.std.specs.List.{list_any}
+use Rattle.nio_base.specs.declared.numbers.OpNo.{OpNo}
+use Rattle.nio_base.specs.declared.numbers.GChan.{GChan}
+use Rattle.nio_base.specs.declared.group.GKind.{GKind}
+use Rattle.nio_base.specs.declared.group.OpKind.{OpKind}
+use Rattle.nio_base.specs.declared.group.Outcome.{Outcome}
+use Rattle.nio_group.specs.declared.limits.GroupLimits.{GroupLimits}
+use Rattle.nio_group.specs.declared.refusal.StartError.{StartError}
+use Rattle.nio_group.specs.declared.refusal.ReportError.{ReportError}
+use Rattle.nio_group.specs.declared.refusal.NotRunning.{NotRunning}
+use Rattle.nio_group.specs.Flight.{op_at, accepted}
+use Rattle.nio_group.specs.Group.{channel_at, is_terminated}
+use Rattle.nio_group.specs.Run.{has_completed, has_ended, once_where}
+use Rattle.nio_group.specs.Stages.{is_pending}
+use Rattle.nio_group.specs.Steps as group
+use Rattle.nio_deadline.specs.Steps.{answer_to_start, after_start, answer_to_expire, after_expire, answer_to_take}
+use Rattle.nio_deadline.specs.Steps.{after_take}
+use Rattle.nio_deadline.specs.Timed.{Timed, IsLawful, empty_timed, with_group}
+use Rattle.nio_deadline.specs.declared.done.TimedDone.{TimedDone}
+use Rattle.nio_deadline.specs.declared.done.TimedResult.TheVariants.{InterruptedByTimeout}
+use Rattle.nio_deadline.specs.declared.refusal.TimedError.{TimedError}
+
+pub data Call : Type 0 where
+  open_channel : GKind → Call
+  bind : GChan → Call
+  -- a channel, a kind, a length, the moment now, and a limit
+  start_timed : GChan → OpKind → ℕ → ℕ → ℕ → Call
+  report : OpNo → Outcome → Call
+  expire : ℕ → Call
+  take : Call
+  finish : OpNo → Call
+  close_channel : GChan → Call
+  shutdown : Call
+  shutdown_now : Call
+
+pub data Reply : Type 0 where
+  opened : Result GChan StartError → Reply
+  bound : Result Unit StartError → Reply
+  started : Result OpNo TimedError → Reply
+  reported : Result Unit ReportError → Reply
+  expired : ℕ → Reply
+  taken : Option TimedDone → Reply
+  finished : Result Unit NotRunning → Reply
+  closed : Bool → Reply
+  done : Reply
+
+-- a call names channels that are made
+abbrev pub IsCallOf : Timed → Call → Type 0
+IsCallOf t (open_channel kind) = Unit {0}
+IsCallOf t (bind chan) = chan.0 < length t.group.channels
+IsCallOf t (start_timed chan kind len now limit) = chan.0 < length t.group.channels
+IsCallOf t (report op outcome) = Unit {0}
+IsCallOf t (expire now) = Unit {0}
+IsCallOf t take = Unit {0}
+IsCallOf t (finish op) = Unit {0}
+IsCallOf t (close_channel chan) = chan.0 < length t.group.channels
+IsCallOf t shutdown = Unit {0}
+IsCallOf t shutdown_now = Unit {0}
+
+abbrev pub reply_to : Timed → Call → Reply
+reply_to t (open_channel kind) = opened (group.answer_to_open t.group)
+reply_to t (bind chan) = bound (group.answer_to_bind t.group chan.0)
+reply_to t (start_timed chan kind len now limit) = started (answer_to_start t chan kind now limit)
+reply_to t (report op outcome) = reported (group.answer_to_report t.group op.0 outcome)
+reply_to t (expire now) = expired (answer_to_expire t now)
+reply_to t take = taken (answer_to_take t)
+reply_to t (finish op) = finished (group.answer_to_finish t.group op.0)
+reply_to t (close_channel chan) = closed (channel_at t.group chan.0).is_open
+reply_to t shutdown = done
+reply_to t shutdown_now = done
+
+abbrev pub after : Timed → Call → Timed
+after t (open_channel kind) = with_group t (group.after_open t.group kind)
+after t (bind chan) = with_group t (group.after_bind t.group chan.0)
+after t (start_timed chan kind len now limit) = after_start t chan kind len now limit
+after t (report op outcome) = with_group t (group.after_report t.group op.0 outcome)
+after t (expire now) = after_expire t now
+after t take = after_take t
+after t (finish op) = with_group t (group.after_finish t.group op.0)
+after t (close_channel chan) = with_group t (group.after_close t.group chan.0)
+after t shutdown = with_group t (group.after_shutdown t.group)
+after t shutdown_now = with_group t (group.after_shutdown_now t.group)
+
+-- the timed step: this call has this reply and leaves this state
+pub record IsStep (t : Timed) (call : Call) (reply : Reply) (left : Timed) : Type 0 where
+  pub answers : reply ≡ reply_to t call
+  pub leaves : left ≡ after t call
+
+-- for each lawful state and call there is one reply and one next state, and that state is lawful
+pub record IsOneStep (t : Timed) (call : Call) : Type 0 where
+  pub reply : Reply
+  pub left : Timed
+  pub step : IsStep t call reply left
+  pub lawful : IsLawful left
+  pub only : (reply' : Reply) (left' : Timed) → IsStep t call reply' left' → (reply' ≡ reply) × (left' ≡ left)
+
+abbrev pub StepsAreLawful : Type 0
+StepsAreLawful = (t : Timed) (call : Call) → IsLawful t → IsCallOf t call → IsOneStep t call
+
+-- a run: each call names channels that are made by then
+abbrev pub IsRunOf : Timed → List Call → Type 0
+IsRunOf t [] = Unit {0}
+IsRunOf t (call ∷ calls) = IsCallOf t call × IsRunOf (after t call) calls
+
+-- the state after a run
+abbrev pub left_by : Timed → List Call → Timed
+left_by t [] = t
+left_by t (call ∷ calls) = left_by (after t call) calls
+
+-- the operation is pending, and its deadline has come
+abbrev pub is_due : Timed → ℕ → ℕ → Bool
+is_due t now n = is_pending (op_at t.group.flight n) && list_any (λ d. (d.op == n) && nat_le d.at now) t.deadlines
+
+-- the call is an `expire` at which the operation is pending and its deadline has come
+abbrev pub is_due_at : ℕ → Timed → Call → Bool
+is_due_at n t (open_channel kind) = false
+is_due_at n t (bind chan) = false
+is_due_at n t (start_timed chan kind len now limit) = false
+is_due_at n t (report op outcome) = false
+is_due_at n t (expire now) = is_due t now n
+is_due_at n t take = false
+is_due_at n t (finish op) = false
+is_due_at n t (close_channel chan) = false
+is_due_at n t shutdown = false
+is_due_at n t shutdown_now = false
+
+-- some call of the run is
+abbrev pub was_due : ℕ → Timed → List Call → Bool
+was_due n t [] = false
+was_due n t (call ∷ calls) = is_due_at n t call || was_due n (after t call) calls
+
+-- in every run an operation completes with InterruptedByTimeout exactly where it was pending at an `expire` whose
+-- moment is at least its deadline: after any list of calls that is what the next completion to be taken says
+abbrev pub TimesOutExactly : Type 0
+TimesOutExactly =
+    (limits : GroupLimits) (calls : List Call) (done : TimedDone) → IsRunOf (empty_timed limits) calls
+    → answer_to_take (left_by (empty_timed limits) calls) ≡ Some done
+    → (done.result ≡ InterruptedByTimeout) ↔ IsTrue (was_due done.op.0 (empty_timed limits) calls)
+
+-- how often an operation completes in a run
+abbrev pub completions : ℕ → Timed → List Call → ℕ
+completions n t [] = 0
+completions n t (call ∷ calls) =
+    once_where (has_completed (after t call).group n && not (has_completed t.group n))
+    + completions n (after t call) calls
+
+-- in every run each operation that was accepted and isn't pending has completed once, and no other has completed
+abbrev pub CompletesOnce : Type 0
+CompletesOnce =
+    (limits : GroupLimits) (calls : List Call) (n : ℕ) → IsRunOf (empty_timed limits) calls
+    → completions n (empty_timed limits) calls ≡ once_where (has_completed (left_by
+    (empty_timed limits) calls).group n)
+
+-- an operation is never lost: where the group has terminated each accepted operation has ended
+abbrev pub LosesNone : Type 0
+LosesNone =
+    (limits : GroupLimits) (calls : List Call) (n : ℕ) → IsRunOf (empty_timed limits) calls
+    → IsTrue (is_terminated (left_by (empty_timed limits) calls).group)
+    → n < accepted (left_by (empty_timed limits) calls).group.flight
+    → IsTrue (has_ended (left_by (empty_timed limits) calls).group n)

@@ -1,0 +1,5 @@
+//! Tests of groups with time limits.
+#![tactic(auto)]
+
+#[cfg(test)]
+mod tests;
