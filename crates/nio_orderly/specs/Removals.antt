@@ -1,5 +1,5 @@
--- What is removed in a legal and orderly history: a selection that has begun has removed the keys that were cancelled
--- before the call, and a closing that is over those that were published before it.
+-- What is removed in a legal and orderly history: a selection that has begun has removed the keys that were published
+-- and cancelled before the call, and a closing that is over those that were published before it.
 --
 -- `before` is the history before a call; what the caller did after it is this call.
 use Rattle.std.specs.Prelude.{◌≡◌, ℕ, ◌<◌, Bool, true, false, Ok, IsTrue, List, ◌∷◌, ◌++◌}

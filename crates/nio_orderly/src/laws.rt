@@ -51,11 +51,11 @@ pub fn closing_calls_law()
     ensures no_key_after_close { NoKeyAfterClose }
 {}
 
-/// What is removed in a legal and orderly history. A selection that has begun has removed each key that was cancelled
-/// before the call. A `try_finish` that answers Closed, or a `close` that answers true, has removed each key that was
-/// published before the call. In any legal history the `told` that ends a selection has removed each looked key that
-/// was cancelled before that call; and such a `close` each key that was claimed before it looked at the keys'
-/// high-water mark, at an index below it.
+/// What is removed in a legal and orderly history. A selection that has begun has removed each key that was published
+/// and cancelled before the call. A `try_finish` that answers Closed, or a `close` that answers true, has removed each
+/// key that was published before the call. In any legal history the `told` that ends a selection has removed each key
+/// that it looked at and that was cancelled before that call; and such a `close` each key that was claimed before it
+/// looked at the keys' high-water mark, at an index below it.
 pub fn removals_law()
     ensures begin { BeginRemovesCancelled }
     ensures select { SelectRemovesCancelled }

@@ -38,6 +38,7 @@ impl<'a> Poller for Quiet<'a> {
 
     ghost poll_faults = { λ _. 0 };
 
+    // Nothing is ever ready.
     ghost ready = { λ _ _. 0 };
 
     ghost polls = { λ s. Some s.polls };

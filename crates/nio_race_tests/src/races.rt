@@ -320,6 +320,22 @@ const PIPES_IN_RACES: &[(&str, Race)] = &[
         ),
     ),
     (
+        "a source closed while its owner reads no bytes",
+        (
+            (
+                "t1 pipe t2\ngo\nt1 pread c0 0\nt2 closec c0\n",
+                &[(1, 1), (2, 1)],
+            ),
+            (
+                0,
+                &[
+                    "1 t1 pipe t2 -> c0 c1\nt1 1 pread c0 0 -> 0\nt2 1 closec c0 -> ok\n",
+                    "1 t1 pipe t2 -> c0 c1\nt1 1 pread c0 0 -> closed-channel\nt2 1 closec c0 -> ok\n",
+                ],
+            ),
+        ),
+    ),
+    (
         "an interrupted read",
         (
             (

@@ -1,13 +1,14 @@
 -- The indexes that a word shows as not free, from one to the next.
 use Rattle.std.proofs.Common.{◌≡◌, ℕ, zero, suc, ◌+◌, ◌-◌, ◌*◌, ◌/◌, ◌%◌, ◌^◌, ◌<◌, ◌≤◌, Bool, true, false, not, ◌&&◌}
-use Rattle.std.proofs.Common.{if◌then◌else◌, List, [], ◌∷◌, ◌++◌, refl, ap, sym, ◌∙◌, arith, add-one, eq-eqb, ne_eqb}
+use Rattle.std.proofs.Common.{if◌then◌else◌, List, [], ◌∷◌, ◌++◌, refl, ap, sym, ◌∙◌}
+use Rattle.std.proofs.Common.{arith, add-one, eq-eqb, ne_eqb, bit_and}
 use Rattle.std.specs.Prelude.{nat_lt}
 use Rattle.std.specs.Int.{bit_at, bit_not, trailing_zeros, w64}
-use Rattle.std.proofs.Math.Nat.{div-div-eq-div-mul, div-le_self}
 use Rattle.std.proofs.lemmas.Bool.{ltb-true, ltb-false, lt-ltb, le-ltb}
 use Rattle.std.proofs.lemmas.List.{append-nil}
-use Rattle.std.proofs.lemmas.Nat.{pow-add}
-use Rattle.std.proofs.lemmas.Nat.Bits.{bit_at-zero, bit_at-lt, bit_at_above, bit_at_not, bit_at-trailing_zeros}
+use Rattle.std.proofs.lemmas.Nat.{and_le_l}
+use Rattle.std.proofs.lemmas.Nat.Bits.{bit_at-zero, bit_at-lt, bit_at_not, bit_at-trailing_zeros}
+use Rattle.std.proofs.lemmas.Nat.Bits.{bit_at_and, bit_at-suc, bit_at_lowest}
 use Rattle.nio_steps.specs.KeyCalls.{has_bit}
 use Rattle.nio_steps.specs.SelectCalls.{not_free}
 
@@ -56,93 +57,166 @@ not_free-above word j bound n above =
     ∙ ap (λ b. if b && not (has_bit word n) then not_free word j bound n ++ (64 * j + n) ∷ []
     else not_free word j bound n) above
 
--- ---- the word
-
--- the bits that aren't set, from bit b on
-abbrev pub rest_of : ℕ → ℕ → ℕ
-rest_of word b = bit_not w64 word / 2 ^ b
-
-bit_at-shifted : (n b i : ℕ) → bit_at (n / 2 ^ b) i ≡ bit_at n (b + i)
-bit_at-shifted n b i =
-    ap (λ m. m % 2) (div-div-eq-div-mul n (2 ^ b) (2 ^ i)) ∙ ap (λ m. n / m % 2) (sym (pow-add 2 b i))
-
-bit_at-rest : (word b i : ℕ) → word < 2 ^ 64 → b + i < 64 → bit_at (rest_of word b) i ≡ 1 - bit_at word (b + i)
-bit_at-rest word b i fits below = bit_at-shifted (bit_not w64 word) b i ∙ bit_at_not w64 word (b + i) fits below
-
--- a bit of the word is set where the rest has none there
-set_at : (word b i : ℕ) → word < 2 ^ 64 → b ≤ i → i < 64 → bit_at (rest_of word b) (i - b) ≡ 0 → has_bit word i ≡ true
-set_at word b i fits above below none =
-    let there : b + (i - b) ≡ i = omega arith in
-    let inside : b + (i - b) < 64 = omega arith in
-    let is : bit_at (rest_of word b) (i - b) ≡ 1 - bit_at word i = bit_at-rest word b (i - b) fits inside
-    ∙ ap (λ k. 1 - bit_at word k) there in
-    let small = bit_at-lt word i in
-    eq-eqb (bit_at word i) 1 (omega arith)
-
-pub none_left : (word b : ℕ) → word < 2 ^ 64 → rest_of word b ≡ 0 → (i : ℕ) → b ≤ i → i < 64 → has_bit word i ≡ true
-none_left word b fits none i above below =
-    set_at word b i fits above below (ap (λ n. bit_at n (i - b)) none ∙ bit_at-zero (i - b))
-
--- the next bit that isn't set, and those before it
-pub record IsNext (word b t : ℕ) : Type 0 where
-  pub inside : b + t < 64
-  pub clear : has_bit word (b + t) ≡ false
-  pub before : (i : ℕ) → b ≤ i → i < b + t → has_bit word i ≡ true
-
-lowest_clear : (word b t : ℕ) → word < 2 ^ 64 → bit_at (rest_of word b) t ≡ 1
-    → ((i : ℕ) → i < t → bit_at (rest_of word b) i ≡ 0) → IsNext word b t
-lowest_clear word b t fits here before = by_test (nat_lt (b + t) 64) refl
-  where
-    there : bit_at (bit_not w64 word) (b + t) ≡ 1
-    there = sym (bit_at-shifted (bit_not w64 word) b t) ∙ here
-
-    by_test : (x : Bool) → nat_lt (b + t) 64 ≡ x → IsNext word b t
-    by_test true is =
-        let inside : b + t < 64 = ltb-true (b + t) 64 is in
-        let clear = bit_at-rest word b t fits inside in
-        record {
-          inside = inside;
-          clear = ne_eqb (bit_at word (b + t)) 1 (λ set. omega (arith, here, clear, set));
-          before = λ i above below. set_at word b i fits above (omega arith) (before (i - b) (omega arith));
-        }
-    by_test false is =
-        let past : 64 ≤ b + t = ltb-false (b + t) 64 is in
-        let small : bit_not w64 word < 2 ^ 64 = omega arith in
-        let none : bit_at (bit_not w64 word) (b + t) ≡ 0 = bit_at_above (bit_not w64 word) 64 (b + t) small past in
-        absurd (omega (arith, there, none))
-
-pub next_clear : (word b : ℕ) → word < 2 ^ 64 → 0 < rest_of word b → IsNext word b (trailing_zeros w64 (rest_of word b))
-next_clear word b fits some =
-    let least = div-le_self (bit_not w64 word) (2 ^ b) in
-    let small : rest_of word b < 2 ^ 64 = omega (arith, least) in
-    let lowest = bit_at-trailing_zeros w64 (rest_of word b) some small in
-    lowest_clear word b (trailing_zeros w64 (rest_of word b)) fits lowest.1 lowest.2
+-- from one index to a later one nothing is added where all between are free
+none_between : (word j bound from to : ℕ) → from ≤ to → ((i : ℕ) → from ≤ i → i < to → has_bit word i ≡ true)
+    → not_free word j bound to ≡ not_free word j bound from
+none_between word j bound from to rise free =
+    let there : from + (to - from) ≡ to = omega arith in
+    sym (ap (not_free word j bound) there)
+    ∙ all_free_add_none word j bound from (to - from) (λ i above below. free i above (omega arith))
 
 pub none_from_start : (word j bound : ℕ) (xs : List ℕ) → xs ≡ xs ++ not_free word j bound 0
 unfolding not_free
 none_from_start word j bound xs = sym (append-nil xs)
 
+-- ---- the word
+
+-- `rest` has the bits from `passed` on that the word hasn't
+pub record AreLeft (word passed rest : ℕ) : Type 0 where
+  pub inside : passed ≤ 64
+  pub gone : (i : ℕ) → i < passed → bit_at rest i ≡ 0
+  pub left : (i : ℕ) → passed ≤ i → i < 64 → bit_at rest i ≡ 1 - bit_at word i
+
+pub all_left : (word : ℕ) → word < 2 ^ 64 → AreLeft word 0 (bit_not w64 word)
+all_left word fits = record {
+  inside = omega arith;
+  gone = λ i below. absurd (omega (arith, below));
+  left = λ i above below. bit_at_not w64 word i fits below;
+}
+
+-- a bit of the word is set where it isn't left
+set_at : (word passed rest i : ℕ) → AreLeft word passed rest → passed ≤ i → i < 64 → bit_at rest i ≡ 0
+    → has_bit word i ≡ true
+set_at word passed rest i so_far above below none =
+    let is : bit_at rest i ≡ 1 - bit_at word i = so_far.left i above below in
+    let small = bit_at-lt word i in
+    eq-eqb (bit_at word i) 1 (omega arith)
+
+-- the next bit from `passed` on that the word hasn't
+pub record IsNext (word passed next : ℕ) : Type 0 where
+  pub after : passed ≤ next
+  pub inside : next < 64
+  pub clear : has_bit word next ≡ false
+  pub before : (i : ℕ) → passed ≤ i → i < next → has_bit word i ≡ true
+
+not_passed : (word passed rest i : ℕ) → AreLeft word passed rest → bit_at rest i ≡ 1 → passed ≤ i
+not_passed word passed rest i so_far here = by_test (nat_lt i passed) refl
+  where
+    by_test : (x : Bool) → nat_lt i passed ≡ x → passed ≤ i
+    by_test true is =
+        let gone : bit_at rest i ≡ 0 = so_far.gone i (ltb-true i passed is) in absurd (omega (arith, here, gone))
+    by_test false is = ltb-false i passed is
+
+lowest_left : (word passed rest t : ℕ) → AreLeft word passed rest → t < 64 → bit_at rest t ≡ 1
+    → ((i : ℕ) → i < t → bit_at rest i ≡ 0) → IsNext word passed t
+lowest_left word passed rest t so_far inside here before =
+    let after : passed ≤ t = not_passed word passed rest t so_far here in
+    let clear : bit_at rest t ≡ 1 - bit_at word t = so_far.left t after inside in
+    record {
+      after = after;
+      inside = inside;
+      clear = ne_eqb (bit_at word t) 1 (λ set. omega (arith, here, clear, set));
+      before = λ i above below. set_at word passed rest i so_far above (omega arith) (before i below);
+    }
+
+-- n - 1 doesn't have the lowest bit that n has, and has the same bits above it
+one_less : (t n : ℕ) → bit_at n t ≡ 1 → ((i : ℕ) → i < t → bit_at n i ≡ 0)
+    → (bit_at (n - 1) t ≡ 0) × ((i : ℕ) → t < i → bit_at (n - 1) i ≡ bit_at n i)
+one_less zero n here before =
+    let odd : n % 2 ≡ 1 = sym (bit_at_lowest n) ∙ here in
+    let even : (n - 1) % 2 ≡ 0 = omega arith in
+    let half : (n - 1) / 2 ≡ n / 2 = omega arith in
+    (bit_at_lowest (n - 1) ∙ even, above half)
+  where
+    above : (n - 1) / 2 ≡ n / 2 → (i : ℕ) → 0 < i → bit_at (n - 1) i ≡ bit_at n i
+    above half zero below = absurd (omega (arith, below))
+    above half (suc i) below = bit_at-suc (n - 1) i ∙ (ap (λ x. bit_at x i) half ∙ sym (bit_at-suc n i))
+one_less (suc t) n here before =
+    let even : n % 2 ≡ 0 = sym (bit_at_lowest n) ∙ before 0 (omega arith) in
+    let half : (n - 1) / 2 ≡ n / 2 - 1 = omega arith in
+    let rest = one_less t (n / 2) (sym (bit_at-suc n t) ∙ here)
+    (λ i below. sym (bit_at-suc n i) ∙ before (suc i) (omega arith)) in
+    (bit_at-suc (n - 1) t ∙ (ap (λ x. bit_at x t) half ∙ rest.0), above half rest.1)
+  where
+    above : (n - 1) / 2 ≡ n / 2 - 1 → ((i : ℕ) → t < i → bit_at (n / 2 - 1) i ≡ bit_at (n / 2) i) → (i : ℕ)
+        → suc t < i → bit_at (n - 1) i ≡ bit_at n i
+    above half rest zero below = absurd (omega (arith, below))
+    above half rest (suc i) below =
+        bit_at-suc (n - 1) i ∙ (ap (λ x. bit_at x i) half ∙ (rest i (omega arith) ∙ sym (bit_at-suc n i)))
+
+-- `n & (n - 1)` has the bits of n without the lowest
+pub record IsWithoutLowest (n t m : ℕ) : Type 0 where
+  pub none : (i : ℕ) → i < t + 1 → bit_at m i ≡ 0
+  pub others : (i : ℕ) → t + 1 ≤ i → bit_at m i ≡ bit_at n i
+  pub fewer : m < n
+
+without_lowest : (n t : ℕ) → bit_at n t ≡ 1 → ((i : ℕ) → i < t → bit_at n i ≡ 0)
+    → IsWithoutLowest n t (bit_and n (n - 1))
+without_lowest n t here before =
+    let less = one_less t n here before in
+    let at_t : bit_at (bit_and n (n - 1)) t ≡ 0 = omega (arith, bit_at_and n (n - 1) t, less.0) in
+    record {
+      none = λ i below. by_test i below (nat_lt i t) refl at_t;
+      others = λ i above.
+          let both = bit_at_and n (n - 1) i in
+          let same = less.1 i (omega arith) in
+          omega (arith, both, same);
+      fewer =
+          let most : bit_and n (n - 1) ≤ n = and_le_l n (n - 1) in
+          let other : (bit_and n (n - 1) ≡ n → ⊥) = λ same. omega (arith, here, at_t, ap (λ x. bit_at x t) same) in
+          omega (arith, most, other);
+    }
+  where
+    by_test : (i : ℕ) → i < t + 1 → (x : Bool) → nat_lt i t ≡ x → bit_at (bit_and n (n - 1)) t ≡ 0
+        → bit_at (bit_and n (n - 1)) i ≡ 0
+    by_test i below true is at_t =
+        let none : bit_at n i ≡ 0 = before i (ltb-true i t is) in
+        let both = bit_at_and n (n - 1) i in
+        omega (arith, both, none)
+    by_test i below false is at_t =
+        let above : t ≤ i = ltb-false i t is in
+        let same : i ≡ t = omega arith in
+        ap (bit_at (bit_and n (n - 1))) same ∙ at_t
+
+-- what stands after a step to the lowest bit that is left
+pub record NextFound (word passed rest : ℕ) : Type 0 where
+  pub next : IsNext word passed (trailing_zeros w64 rest)
+  pub left : AreLeft word (trailing_zeros w64 rest + 1) (bit_and rest (rest - 1))
+  pub fewer : bit_and rest (rest - 1) < rest
+
+pub found_next : (word passed rest : ℕ) → rest < 2 ^ 64 → (rest ≡ 0 → ⊥) → AreLeft word passed rest
+    → NextFound word passed rest
+found_next word passed rest fits some so_far =
+    let t : ℕ = trailing_zeros w64 rest in
+    let lowest = bit_at-trailing_zeros w64 rest (omega arith) fits in
+    let next : IsNext word passed t = lowest_left word passed rest t so_far lowest.0 lowest.1 lowest.2 in
+    let without : IsWithoutLowest rest t (bit_and rest (rest - 1)) = without_lowest rest t lowest.1 lowest.2 in
+    record {
+      next = next;
+      left = record {
+        inside = omega (arith, next.inside);
+        gone = without.none;
+        left = λ i above below. without.others i above ∙ so_far.left i (omega (arith, next.after)) below;
+      };
+      fewer = without.fewer;
+    }
+
 -- ---- from one index to the next
 
-pub no_more : (word j bound b : ℕ) → word < 2 ^ 64 → b ≤ 64 → rest_of word b ≡ 0
-    → not_free word j bound 64 ≡ not_free word j bound b
-no_more word j bound b fits inside none =
-    let all : b + (64 - b) ≡ 64 = omega arith in
-    sym (ap (not_free word j bound) all)
-    ∙ all_free_add_none word j bound b (64 - b) (λ i above below. none_left word b fits none i above (omega arith))
+pub no_more : (word j bound passed rest : ℕ) → AreLeft word passed rest → rest ≡ 0
+    → not_free word j bound 64 ≡ not_free word j bound passed
+no_more word j bound passed rest so_far none =
+    none_between word j bound passed 64 so_far.inside
+    (λ i above below. set_at word passed rest i so_far above below (ap (λ n. bit_at n i) none ∙ bit_at-zero i))
 
-pub next_of : (word b : ℕ) → word < 2 ^ 64 → (rest_of word b ≡ 0 → ⊥)
-    → IsNext word b (trailing_zeros w64 (rest_of word b))
-next_of word b fits some = next_clear word b fits (omega arith)
+pub next_below : (word j bound passed next : ℕ) → IsNext word passed next → 64 * j + next < bound
+    → not_free word j bound (next + 1) ≡ not_free word j bound passed ++ (64 * j + next) ∷ []
+next_below word j bound passed next is below =
+    not_free-below word j bound next is.clear (lt-ltb (64 * j + next) bound below)
+    ∙ ap (λ xs. xs ++ (64 * j + next) ∷ []) (none_between word j bound passed next is.after is.before)
 
-pub next_below : (word j bound b t : ℕ) → IsNext word b t → 64 * j + (b + t) < bound
-    → not_free word j bound (b + t + 1) ≡ not_free word j bound b ++ (64 * j + (b + t)) ∷ []
-next_below word j bound b t next below =
-    not_free-below word j bound (b + t) next.clear (lt-ltb (64 * j + (b + t)) bound below)
-    ∙ ap (λ xs. xs ++ (64 * j + (b + t)) ∷ []) (all_free_add_none word j bound b t next.before)
-
-pub next_above : (word j bound b t : ℕ) → IsNext word b t → bound ≤ 64 * j + (b + t)
-    → not_free word j bound (b + t + 1) ≡ not_free word j bound b
-next_above word j bound b t next above =
-    not_free-above word j bound (b + t) (le-ltb (64 * j + (b + t)) bound above)
-    ∙ all_free_add_none word j bound b t next.before
+pub next_above : (word j bound passed next : ℕ) → IsNext word passed next → bound ≤ 64 * j + next
+    → not_free word j bound (next + 1) ≡ not_free word j bound passed
+next_above word j bound passed next is above =
+    not_free-above word j bound next (le-ltb (64 * j + next) bound above)
+    ∙ none_between word j bound passed next is.after is.before

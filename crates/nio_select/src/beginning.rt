@@ -181,17 +181,13 @@ fn add_not_free(listed: &mut Vec<u32>, word: u64, j: u32, bound: u32)
     ensures count { vec_len listed.new ≤ vec_len listed.old + 64 }
     ensures capacity { vec_capacity listed.old ≤ vec_capacity listed.new }
 {
-    let mut b = 0;
-    while b < 64 {
-        let rest = !word >> b;
-        if rest == 0 {
-            return;
-        }
-        b += rest.trailing_zeros();
+    let mut rest = !word;
+    while rest != 0 {
+        let b = rest.trailing_zeros();
         if 64 * j + b < bound {
             add(listed, 64 * j + b);
         }
-        b += 1;
+        rest &= rest - 1;
     }
 }
 

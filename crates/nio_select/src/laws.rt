@@ -26,8 +26,8 @@ pub fn alone_law()
     ensures { SelectionsAreAlone }
 {}
 
-/// After `leave`, and after a `try_begin` for which there is no memory, the turn is free, and a wakeup that was pending
-/// while the caller had the turn stays pending.
+/// After `leave`, and after a `try_begin` for which there is no memory, the turn is free. A wakeup that was pending when
+/// `leave` was called, or when the `try_begin` took the turn, is pending still.
 pub fn turn_law()
     ensures leave { LeavingGivesBack }
     ensures no_memory { NoMemoryGivesBack }

@@ -1,4 +1,5 @@
 pub mod Places
+pub mod RowStarts
 pub mod Instructions
 pub mod Encodings
 pub mod Decodings

@@ -12,6 +12,7 @@ mod encode;
 mod instruction;
 mod laws;
 mod part;
+mod row_starts;
 mod sharing;
 mod step;
 mod steps;

@@ -2,7 +2,9 @@
 ghost use Rattle.std.specs.Prelude.{◌≡◌, ◌<◌};
 ghost use Rattle.nio_base.specs.Limits.{IsFit};
 ghost use Rattle.nio_words.specs.Places.{IsWithin, free_words as words_of_free, place, word_count};
+ghost use Rattle.nio_words.specs.RowStarts.{AreRowStarts};
 
+use crate::row_starts::RowStarts;
 use nio_base::Limits;
 
 /// A part of the state that one word holds, with the numbers that it is of.
@@ -57,8 +59,9 @@ pub(crate) fn free_words(limits: &Limits) -> usize
 
 /// The place of a part's word.
 #[inline(always)]
-pub(crate) fn place_of(limits: &Limits, part: Part) -> usize
+pub(crate) fn place_of(limits: &Limits, starts: &RowStarts, part: Part) -> usize
     requires fit { IsFit limits.now }
+    requires starts { AreRowStarts limits.now starts.now }
     requires within { IsWithin limits.now part }
     ensures place { result ≡ place limits.now part }
     ensures inside { result < word_count limits.now }
@@ -66,10 +69,6 @@ pub(crate) fn place_of(limits: &Limits, part: Part) -> usize
     let selectors = limits.selectors as usize;
     let channels = limits.channels as usize;
     let keys = limits.keys as usize;
-    let gates = 5 + channels + channels + channels * selectors;
-    let stages = gates + selectors + selectors + selectors;
-    let of_keys = selectors * keys;
-    let frees = stages + of_keys + of_keys + of_keys + of_keys;
     match part {
         Part::Callers => 0,
         Part::Interrupts => 2,
@@ -78,15 +77,13 @@ pub(crate) fn place_of(limits: &Limits, part: Part) -> usize
         Part::Chan(c) => 5 + c as usize,
         Part::Hold(c) => 5 + channels + c as usize,
         Part::Enrolled(c, s) => 5 + channels + channels + (c as usize * selectors + s as usize),
-        Part::Gate(s) => gates + s as usize,
-        Part::Turn(s) => gates + selectors + s as usize,
-        Part::KeysHigh(s) => gates + selectors + selectors + s as usize,
-        Part::Key(s, i) => stages + (s as usize * keys + i as usize),
-        Part::Interest(s, i) => stages + of_keys + (s as usize * keys + i as usize),
-        Part::Mark(s, i) => stages + of_keys + of_keys + (s as usize * keys + i as usize),
-        Part::Note(s, i) => {
-            stages + of_keys + of_keys + of_keys + (s as usize * keys + i as usize)
-        }
-        Part::Free(s, j) => frees + (s as usize * free_words(limits) + j as usize),
+        Part::Gate(s) => starts.gates + s as usize,
+        Part::Turn(s) => starts.gates + selectors + s as usize,
+        Part::KeysHigh(s) => starts.gates + selectors + selectors + s as usize,
+        Part::Key(s, i) => starts.stages + (s as usize * keys + i as usize),
+        Part::Interest(s, i) => starts.interests + (s as usize * keys + i as usize),
+        Part::Mark(s, i) => starts.marks + (s as usize * keys + i as usize),
+        Part::Note(s, i) => starts.notes + (s as usize * keys + i as usize),
+        Part::Free(s, j) => starts.frees + (s as usize * free_words(limits) + j as usize),
     }
 }

@@ -91,7 +91,7 @@ impl Words {
         requires condition { MayDo self.now p.old doing }
         ensures step { Steps self.now p.old p.new doing.who (doing.act result) }
     {
-        let word = place_of(&self.limits, part);
+        let word = place_of(&self.limits, &self.starts, part);
         self.perform::<Brand>(&mut p.seat, word, instruction)
     }
 

@@ -6,6 +6,7 @@ ghost use Rattle.nio_words.specs.Passes.{IsFirstPass, limits_of};
 ghost use Rattle.nio_words.specs.Places.{word_count as count_of_words};
 
 use crate::part::{LIMITS, free_words};
+use crate::row_starts::RowStarts;
 use crate::words::{Pass, Words};
 use atomic_table::Table;
 use nio_base::Limits;
@@ -51,7 +52,15 @@ impl Words {
         let mut words = vec![in alloc; 0u64; word_count(&limits)]?;
         words[LIMITS] = limits_word(&limits);
         let (table, seat) = Table::of_words(alloc, words.as_slice(), &limits)?;
-        Ok((Words { limits, table }, Pass { numbers: 0, seat }))
+        let starts = RowStarts::of(&limits);
+        Ok((
+            Words {
+                limits,
+                starts,
+                table,
+            },
+            Pass { numbers: 0, seat },
+        ))
     }
 
     /// How many callers, selectors, channels and keys the table has words for.

@@ -2,7 +2,9 @@
 ghost use Rattle.std.specs.Prelude.{◌≡◌, [], false};
 ghost use Rattle.nio_base.specs.Limits.{IsFit};
 ghost use Rattle.nio_words.specs.Places.{word_count};
+ghost use Rattle.nio_words.specs.RowStarts.{AreRowStarts};
 
+use crate::row_starts::RowStarts;
 use crate::view::{OneHistory, View};
 use atomic_table::{Seat, Table};
 use nio_base::Limits;
@@ -13,8 +15,10 @@ use std::alloc::Global;
 #[derive(Drop)]
 pub struct Words {
     pub(crate) limits: Limits,
+    pub(crate) starts: RowStarts,
     pub(crate) table: Table<(), View, Limits, OneHistory, Global>,
     ghost fit: { IsFit limits },
+    ghost starts_are: { AreRowStarts limits starts },
     ghost key: { table.shared.key ≡ limits },
     ghost sized: { table.shared.table_id.words ≡ word_count limits },
 }

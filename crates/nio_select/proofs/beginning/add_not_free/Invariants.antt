@@ -1,15 +1,17 @@
-use Rattle.std.proofs.Common.{◌≡◌, ◌+◌, ◌-◌, ◌≤◌, ◌++◌}
+use Rattle.std.proofs.Common.{◌≡◌, ℕ, ◌+◌, ◌≤◌, ◌++◌}
 use Rattle.std.specs.Vec.{vec_len, vec_capacity}
 use Rattle.nio_steps.specs.SelectCalls.{not_free}
+use Rattle.nio_select.proofs.FreeBits.{AreLeft}
 use Rattle.nio_select.proofs.beginning.add_not_free.Given as goal
 
-abbrev pub invariant-loop-b : goal.invariant-loop-b
-invariant-loop-b l = record {
-  inside : l.b ≤ 64;
-  items : l.listed.items ≡ l.initial.listed.items ++ not_free l.word l.j l.bound l.b;
-  count : vec_len l.listed ≤ vec_len l.initial.listed + l.b;
+abbrev pub invariant-loop-rest : goal.invariant-loop-rest
+invariant-loop-rest l = record {
+  passed : ℕ;
+  left : AreLeft l.word passed l.rest;
+  items : l.listed.items ≡ l.initial.listed.items ++ not_free l.word l.j l.bound passed;
+  count : vec_len l.listed ≤ vec_len l.initial.listed + passed;
   room : vec_capacity l.initial.listed ≤ vec_capacity l.listed;
 }
 
-abbrev pub decreases-loop-b : goal.decreases-loop-b
-decreases-loop-b l = 64 - l.b
+abbrev pub decreases-loop-rest : goal.decreases-loop-rest
+decreases-loop-rest l = l.rest
