@@ -55,6 +55,10 @@ HasTakenAll p = SameNumbers p.hand.put p.hand.taken
 abbrev pub Waits : PassFields → CompletionFields → Type 0
 Waits p done = times (number done) p.hand.taken < times (number done) p.hand.put
 
+-- where the pass has all parts, what was put has been taken
+abbrev pub IsDrained : QueueFields → PassFields → Type 0
+IsDrained q p = HasAllParts q p → HasTakenAll p
+
 -- the pass is the same, and it may have put and taken more
 pub record GoesOn (q : QueueFields) (old new : PassFields) : Type 0 where
   pub pass : IsPassOf q new

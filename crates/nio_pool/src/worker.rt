@@ -1,5 +1,7 @@
 //! The workers of a group.
-ghost use Rattle.nio_pool.specs.Queues.{IsPassOf, GoesOn};
+ghost use Rattle.std.specs.Prelude.{◌≡◌, IfNone};
+ghost use Rattle.nio_pool.specs.Queues.{IsPassOf, GoesOn, IsDrained};
+ghost use Rattle.nio_pool.specs.declared.worker.Found.TheVariants.{End};
 
 use crate::group::Group;
 use crate::queue::{CompletionQueue, Handed, QueuePass};
@@ -40,7 +42,8 @@ struct Worker<'a, H, G> {
 
 /// Works as the worker `me` of the group until it has terminated. It takes a completion from the queue, passes the
 /// test gate with `me` and the operation's number, calls the handler, and finishes the operation. Where the queue is
-/// empty it puts the group's completions there, and where there are none it sleeps.
+/// empty it puts the group's completions there, and where there are none it sleeps. With a pass that has all parts it
+/// leaves the queue empty.
 pub fn work<R: Wait, H: Handler, G: Gate>(
     rt: &R,
     group: &Group,
@@ -51,7 +54,8 @@ pub fn work<R: Wait, H: Handler, G: Gate>(
     me: u32,
 )
     requires { IsPassOf queue.now pass.old }
-    ensures { GoesOn queue.now pass.old pass.new }
+    ensures pass { GoesOn queue.now pass.old pass.new }
+    ensures drained { IsDrained queue.now pass.new }
 {
     let worker = Worker {
         group,
@@ -61,23 +65,26 @@ pub fn work<R: Wait, H: Handler, G: Gate>(
         me,
     };
     for _ in rt.forever() {
-        if let Some(handed) = take(rt, queue, pass) {
-            worker.serve(rt, handed);
-            continue;
-        }
-        match worker.find(rt, pass) {
-            Found::Fresh(batch) => worker.put_all(rt, pass, batch),
-            Found::Waiting(handed) => worker.serve(rt, handed),
-            Found::End => break,
+        match take(rt, queue, pass) {
+            Some(handed) => worker.serve(rt, handed),
+            None => match worker.find(rt, pass) {
+                Found::Fresh(batch) => worker.put_all(rt, pass, batch),
+                Found::Waiting(handed) => worker.serve(rt, handed),
+                Found::End => {
+                    group.wake_all();
+                    return;
+                }
+            },
         }
     }
-    group.wake_all();
+    unreachable!()
 }
 
 // As the queue's `take`, with the clause that loops keep.
 fn take<R: Wait>(rt: &R, queue: &CompletionQueue, pass: &mut QueuePass) -> Option<Handed>
     requires { IsPassOf queue.now pass.old }
-    ensures { GoesOn queue.now pass.old pass.new }
+    ensures pass { GoesOn queue.now pass.old pass.new }
+    ensures drained { IfNone result (IsDrained queue.now pass.new) }
 {
     queue.take(rt, pass)
 }
@@ -118,8 +125,10 @@ impl<'a, H: Handler, G: Gate> Worker<'a, H, G> {
 
     // Looks under the lock for something to do, and sleeps while there is nothing.
     fn find<R: Wait>(&self, rt: &R, pass: &mut QueuePass) -> Found
-        requires { IsPassOf self.now.queue.now pass.old }
-        ensures { GoesOn self.now.queue.now pass.old pass.new }
+        requires pass { IsPassOf self.now.queue.now pass.old }
+        requires drained { IsDrained self.now.queue.now pass.old }
+        ensures pass { GoesOn self.now.queue.now pass.old pass.new }
+        ensures end { result ≡ End → IsDrained self.now.queue.now pass.new }
     {
         let mut core = self.group.lock(rt);
         for _ in rt.forever() {
@@ -132,14 +141,14 @@ impl<'a, H: Handler, G: Gate> Worker<'a, H, G> {
             }
             self.group.announce_sleep();
             // completions may have been put since the queue was found empty
-            let waiting = take(rt, self.queue, pass);
-            if waiting.is_none() {
-                core = self.group.sleep(rt, core);
+            match take(rt, self.queue, pass) {
+                None => core = self.group.sleep(rt, core),
+                Some(handed) => {
+                    self.group.end_sleep();
+                    return Found::Waiting(handed);
+                }
             }
             self.group.end_sleep();
-            if let Some(handed) = waiting {
-                return Found::Waiting(handed);
-            }
         }
         unreachable!()
     }

@@ -1,5 +1,5 @@
 //! Workers in threads of their own.
-ghost use Rattle.std.specs.Prelude.{◌≤◌, All};
+ghost use Rattle.std.specs.Prelude.{◌<◌, ◌≤◌, All, length};
 ghost use Rattle.std.specs.Thread.{IsSync};
 ghost use Rattle.nio_pool.specs.Queues.{IsPassOf};
 
@@ -16,7 +16,7 @@ use std::thread;
 use std::thread::{Threads, join};
 use std::time::{Clock, CpuClock, Duration};
 
-/// Works with each pass in a thread of its own.
+/// Works with each pass in a thread of its own, as the worker with the pass's place.
 fn run_workers<R: Threads + Wait + Sync, H: Handler + Sync, G: Gate + Sync>(
     rt: &R,
     group: &Group,
@@ -25,14 +25,17 @@ fn run_workers<R: Threads + Wait + Sync, H: Handler + Sync, G: Gate + Sync>(
     handler: &H,
     gate: &G,
 )
-    requires { All (IsPassOf queue.now) passes.old }
+    requires passes { All (IsPassOf queue.now) passes.old }
+    requires few { length passes.old ≤ 65 }
 {
     let threads = passes.len().max(1);
     thread::for_each_mut(
         rt,
         passes,
         threads,
-        &|_, pass| { work(rt, group, queue, pass, handler, gate, 0) },
+        &|me, pass|
+            requires { (me < 65) × IsPassOf queue.now pass.old }
+        { work(rt, group, queue, pass, handler, gate, me as u32) },
     );
 }
 
@@ -145,15 +148,15 @@ const TURNS: u32 = 100_000_000;
 /// Holds each of two workers until the other has come with a completion of its own.
 #[derive(Drop)]
 struct Meeting {
-    come: AtomicU64,
+    first_came: AtomicBool,
+    second_came: AtomicBool,
     given_up: AtomicBool,
 }
 
-impl Gate for Meeting {
-    fn pass<R: Wait>(&self, _rt: &R, _who: u32, _what: u64) {
-        self.come.fetch_add(1, Ordering::SeqCst);
+impl Meeting {
+    fn wait_for(&self, other: &AtomicBool) {
         for _ in 0..TURNS {
-            if self.come.load(Ordering::SeqCst) == 2 {
+            if other.load(Ordering::SeqCst) {
                 return;
             }
             thread::yield_now();
@@ -162,10 +165,27 @@ impl Gate for Meeting {
     }
 }
 
+impl Gate for Meeting {
+    fn pass<R: Wait>(&self, _rt: &R, who: u32, _what: u64) {
+        match who {
+            0 => {
+                self.first_came.store(true, Ordering::SeqCst);
+                self.wait_for(&self.second_came);
+            }
+            1 => {
+                self.second_came.store(true, Ordering::SeqCst);
+                self.wait_for(&self.first_came);
+            }
+            _ => self.given_up.store(true, Ordering::SeqCst),
+        }
+    }
+}
+
 #[test]
 fn two_workers_meet(rt: HostRuntime) -> Result<(), Fail> {
     let gate = Meeting {
-        come: AtomicU64::new(0),
+        first_came: AtomicBool::new(false),
+        second_came: AtomicBool::new(false),
         given_up: AtomicBool::new(false),
     };
     assert!(rt; handles_each_once(&rt, rt.alloc(), 2, 2, &gate)?);
@@ -192,7 +212,12 @@ impl Handler for Closing {
                 self.ended_by_close.store(true, Ordering::SeqCst);
                 core.shutdown();
             }
-            _ => core.shutdown(),
+            Finished::Count(_)
+            | Finished::End
+            | Finished::Accepted(_)
+            | Finished::Failed(
+                Why::Fault | Why::ClosedChannel | Why::ShutdownGroup | Why::ChannelsSpent,
+            ) => core.shutdown(),
         }
     }
 }
@@ -226,7 +251,8 @@ fn idle_second<R: Threads + Wait + Sync + Clock + CpuClock>(
     queue: &CompletionQueue,
     passes: Vec<QueuePass>,
 ) -> Option<Duration>
-    requires { All (IsPassOf queue.now) passes.items }
+    requires passes { All (IsPassOf queue.now) passes.items }
+    requires few { length passes.items ≤ 65 }
 {
     let handler = Closing {
         ended_by_close: AtomicBool::new(false),
@@ -243,7 +269,7 @@ fn idle_second<R: Threads + Wait + Sync + Clock + CpuClock>(
             after?.checked_sub(before?)
         },
         move ||
-            requires { IsSync R.row × All (IsPassOf queue.now) passes.items }
+            requires { IsSync R.row × All (IsPassOf queue.now) passes.items × (length passes.items ≤ 65) }
         {
             let mut passes = passes;
             run_workers(rt, group, queue, passes.as_mut_slice(), &handler, &NoGate);

@@ -1,5 +1,8 @@
-use Rattle.nio_pool.specs.Queues.{GoesOn}
+use Rattle.nio_pool.specs.Queues.{GoesOn, IsDrained}
 use Rattle.nio_pool.proofs.worker.Worker.find.Given as goal
 
 abbrev pub invariant-loop : goal.invariant-loop
-invariant-loop g l = GoesOn l.self.queue.now l.fn.pass l.pass
+invariant-loop g l = record {
+  pass : GoesOn l.self.queue.now l.fn.pass l.pass;
+  drained : IsDrained l.self.queue.now l.pass;
+}
