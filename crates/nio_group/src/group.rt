@@ -143,7 +143,8 @@ impl GroupCore {
         Ok(OpNo(number))
     }
 
-    fn start_refusal(&self, chan: GChan, kind: OpKind) -> Option<StartError>
+    /// What `start` would be refused with now.
+    pub fn start_refusal(&self, chan: GChan, kind: OpKind) -> Option<StartError>
         requires { chan.0 < length self.now.channels }
         ensures { result ≡ refusal_of_start self.now chan.0 kind }
     {

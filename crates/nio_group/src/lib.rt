@@ -10,6 +10,7 @@ pub use laws::{completion_law, rest_law, stage_law, step_law, take_law, terminat
 pub use limits::GroupLimits;
 pub use nio_base::{Finished, GKind, OpKind, Outcome, Why};
 pub use operation::{Operation, Stage};
+pub use operations::Operations;
 pub use refusal::{NotRunning, ReportError, StartError};
 
 mod channel;

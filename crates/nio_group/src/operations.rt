@@ -17,9 +17,10 @@ pub(crate) struct Numbered {
     pub(crate) operation: Operation,
 }
 
-/// The operations in flight in a slab, with an index from their numbers to their keys.
+/// Operations by their numbers, which count from 0 in the order of acceptance. Only those in flight take room: they stand
+/// in a slab, with an index from their numbers to their keys. No call but `make` takes memory.
 #[derive(Drop)]
-pub(crate) struct Operations {
+pub struct Operations {
     slab: Slab<Numbered>,
     index: Index,
     accepted: u64,
@@ -40,7 +41,7 @@ impl Model for Operations {
 
 impl Operations {
     /// Room for `limit` operations in flight.
-    pub(crate) fn make(alloc: Global, limit: u32) -> Result<Operations, AllocError>
+    pub fn make(alloc: Global, limit: u32) -> Result<Operations, AllocError>
         requires some { 1 ≤ limit }
         requires few { limit ≤ 65536 }
         ensures empty { IfOk result (λ o. o ≡ record { operations = []; limit = limit }) }
@@ -55,25 +56,29 @@ impl Operations {
         })
     }
 
-    pub(crate) fn accepted(&self) -> u64
+    /// How many operations were accepted.
+    pub fn accepted(&self) -> u64
         ensures { result ≡ length self.now.operations }
     {
         self.accepted
     }
 
-    pub(crate) fn in_flight(&self) -> usize
+    /// How many operations are in flight.
+    pub fn in_flight(&self) -> usize
         ensures { result ≡ count_by is_some self.now.operations }
     {
         self.slab.len()
     }
 
-    pub(crate) fn limit(&self) -> u32
+    /// How many operations may be in flight.
+    pub fn limit(&self) -> u32
         ensures { result ≡ self.now.limit }
     {
         self.limit
     }
 
-    pub(crate) fn get(&self, number: u64) -> Option<Operation>
+    /// The operation of this number, where it is in flight.
+    pub fn get(&self, number: u64) -> Option<Operation>
         ensures { result ≡ operation_at self.now number }
     {
         let key = self.index.get(number)?;
@@ -82,7 +87,7 @@ impl Operations {
     }
 
     /// Accepts one more operation and gives its number.
-    pub(crate) fn accept(&mut self, operation: Operation) -> u64
+    pub fn accept(&mut self, operation: Operation) -> u64
         requires room { count_by is_some self.old.operations < self.old.limit }
         requires numbers { length self.old.operations < 2 ^ 62 }
         ensures number { result ≡ length self.old.operations }
@@ -96,7 +101,7 @@ impl Operations {
     }
 
     /// Puts this operation in the place of one in flight.
-    pub(crate) fn replace(&mut self, number: u64, operation: Operation)
+    pub fn replace(&mut self, number: u64, operation: Operation)
         requires { IsSome (operation_at self.old number) }
         ensures { self.new ≡ with_operation self.old number (Some operation) }
     {
@@ -106,7 +111,7 @@ impl Operations {
     }
 
     /// Ends an operation in flight.
-    pub(crate) fn end(&mut self, number: u64)
+    pub fn end(&mut self, number: u64)
         requires { IsSome (operation_at self.old number) }
         ensures { self.new ≡ with_operation self.old number None }
     {

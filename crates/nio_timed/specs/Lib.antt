@@ -1,0 +1,6 @@
+pub mod Lines
+pub mod Replies
+pub mod Called
+pub mod Reading
+pub mod Does
+pub mod Laws
