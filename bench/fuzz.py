@@ -10,7 +10,8 @@ import time
 
 PROGRAM = "crates/nio_cli/out/nio_cli"
 # the statuses of each command on an input that can be read and an output that takes all
-STATUSES = {"script": {0, 3, 9}, "check": {0, 3, 8, 9}, "check-1": {0, 3, 8, 9}, "race": {0, 3, 9}, "words": {0, 2}}
+STATUSES = {"script": {0, 3, 9}, "check": {0, 3, 8, 9}, "check-1": {0, 3, 8, 9}, "race": {0, 3, 9}, "timed": {0, 3, 9},
+            "words": {0, 2}}
 # replies of a line behind `go` that waits for nobody: the calls that such a race text is made of
 QUICK = ("keys", "selected", "valid", "interest", "ready", "iset", "ior", "iand", "cancel", "unselect", "attach", "wakeup")
 WORDS = ("script", "check", "check-1", "race", "load", "proxy", "timed", "packets", "--way", "select", "group", "--listen",
@@ -31,7 +32,7 @@ class Fuzz:
     def __init__(self, seed):
         self.random = random.Random(seed)
         self.scripts, self.histories = texts("examples/*.nio"), texts("examples/*.history")
-        self.races = texts("crates/nio_races/data/*.race")
+        self.races, self.timed = texts("crates/nio_races/data/*.race"), texts("examples/*.timed")
         self.runs, self.wrong = 0, []
 
     def some_bytes(self):
@@ -77,7 +78,7 @@ class Fuzz:
 
     def case(self):
         """A command, its words and its input."""
-        kind = self.random.choice(["script", "script", "check", "check-1", "race", "words"])
+        kind = self.random.choice(["script", "script", "check", "check-1", "race", "timed", "words"])
         if kind == "words":
             count = self.random.randrange(7)
             return kind, [self.random.choice(WORDS) for _ in range(count)], b""
@@ -85,7 +86,8 @@ class Fuzz:
             return kind, [kind], self.some_bytes()
         if kind == "race":
             return kind, [kind], self.ending_race()
-        return kind, [kind], self.changed(self.random.choice(self.scripts if kind == "script" else self.histories))
+        bases = {"script": self.scripts, "timed": self.timed}.get(kind, self.histories)
+        return kind, [kind], self.changed(self.random.choice(bases))
 
     def ran(self, words, text):
         return subprocess.run([PROGRAM, *words], input=text, stdout=subprocess.PIPE, stderr=subprocess.PIPE, timeout=SECONDS)

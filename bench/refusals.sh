@@ -8,7 +8,6 @@ set -euo pipefail
 cd "$(dirname "$0")/.."
 ./nio script </dev/null >/dev/null
 program=$PWD/crates/nio_cli/out/nio_cli
-bench=$PWD/crates/nio_bench/out/nio_bench
 only=${1-}
 work=$(mktemp -d)
 trap 'rm -rf "$work"; kill $(jobs -p) 2>/dev/null || true' EXIT
@@ -100,6 +99,8 @@ printf '%s\n' '1 t1 selector -> s0' '2 t1 channel source -> c0' '3 t1 blocking c
     '4 t1 register s0 c0 1 -> k0' 't1 1 begin s0 now -> looked k0:1' 't2 1 wakeup s0 -> ok' >"$work/beside"
 right "$work/beside"
 each "race beside" 0 1 "$work/beside.race" "$program" race
+right examples/timing_out.out
+each "timed timing_out" 0 0 examples/timing_out.timed "$program" timed
 printf 'lines 222\nselections 9\nupdates 9\n' >"$work/load"
 right "$work/load"
 each "load 9" 0 0 /dev/null "$program" load 9

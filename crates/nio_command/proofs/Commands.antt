@@ -19,7 +19,7 @@ use Rattle.std.specs.String.{string_bytes}
 use Rattle.std.specs.Str.{bytes_eq}
 use Rattle.std.proofs.lemmas.Slice.Eq.{bytes_eq-Decides}
 use Rattle.nio_command.specs.declared.command.Command.{Command}
-use Rattle.nio_command.specs.declared.command.Command.TheVariants.{Script, Check, CheckFirst, Race, Load, Proxy}
+use Rattle.nio_command.specs.declared.command.Command.TheVariants.{Script, Check, CheckFirst, Race, Timed, Load, Proxy}
 use Rattle.nio_command.specs.declared.command.WordsError.{WordsError}
 use Rattle.nio_command.specs.declared.command.WordsError.TheVariants.{Usage, Memory}
 
@@ -40,14 +40,15 @@ not_four v words none o =
 -- a single word that is none of these names no command
 pub not_named : (word : Text) (command : Command) → word ≢ codes "script" → word ≢ codes "check"
     → word ≢ codes "check-1"
-    → word ≢ codes "race" → IsCommand (word ∷ []) command → ⊥
-not_named word Script s k f r h = s (cc)
-not_named word Check s k f r h = k (cc)
-not_named word CheckFirst s k f r h = f (cc)
-not_named word Race s k f r h = r (cc)
-not_named word (Load rounds) s k f r h = let two : word ∷ [] ≡ codes "load" ∷ decimal rounds ∷ [] =
+    → word ≢ codes "race" → word ≢ codes "timed" → IsCommand (word ∷ []) command → ⊥
+not_named word Script s k f r t h = s (cc)
+not_named word Check s k f r t h = k (cc)
+not_named word CheckFirst s k f r t h = f (cc)
+not_named word Race s k f r t h = r (cc)
+not_named word Timed s k f r t h = t (cc)
+not_named word (Load rounds) s k f r t h = let two : word ∷ [] ≡ codes "load" ∷ decimal rounds ∷ [] =
     h.says in absurd (cc)
-not_named word (Proxy plan) s k f r h =
+not_named word (Proxy plan) s k f r t h =
     let begins : word ∷ [] ≡ codes "proxy" ∷ h.rest = h.begins in
     let none : h.rest ≡ [] = cc in
     not_four _ h.rest none h.options
@@ -155,6 +156,8 @@ only_proxy words rest r plan begins is only Check h = let bad : 112 ≡ 99 = ap 
 only_proxy words rest r plan begins is only CheckFirst h = let bad : 112 ≡ 99 = ap initial (sym begins ∙ h) in
     absurd (omega (arith, bad))
 only_proxy words rest r plan begins is only Race h = let bad : 112 ≡ 114 = ap initial (sym begins ∙ h) in
+    absurd (omega (arith, bad))
+only_proxy words rest r plan begins is only Timed h = let bad : 112 ≡ 116 = ap initial (sym begins ∙ h) in
     absurd (omega (arith, bad))
 only_proxy words rest r plan begins is only (Load rounds) h = let bad : 112 ≡ 108 = ap initial (sym begins ∙ h.says) in
     absurd (omega (arith, bad))

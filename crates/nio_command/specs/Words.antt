@@ -6,7 +6,7 @@ use Rattle.nio_relay.specs.declared.plan.ProxyPlan.{ProxyPlan}
 use Rattle.nio_command.specs.Options.{Text, AreOptions}
 use Rattle.nio_command.specs.Values.{IsAddress, ProxyValues, address_text, proxy_options}
 use Rattle.nio_command.specs.declared.command.Command.{Command}
-use Rattle.nio_command.specs.declared.command.Command.TheVariants.{Script, Check, CheckFirst, Race, Load, Proxy}
+use Rattle.nio_command.specs.declared.command.Command.TheVariants.{Script, Check, CheckFirst, Race, Timed, Load, Proxy}
 
 -- the one word `script`
 abbrev pub IsScriptCommand : List Text → Type 0
@@ -23,6 +23,10 @@ IsCheckFirstCommand words = words ≡ codes "check-1" ∷ []
 -- the one word `race`
 abbrev pub IsRaceCommand : List Text → Type 0
 IsRaceCommand words = words ≡ codes "race" ∷ []
+
+-- the one word `timed`
+abbrev pub IsTimedCommand : List Text → Type 0
+IsTimedCommand words = words ≡ codes "timed" ∷ []
 
 -- the word `load`, then the number of rounds, from 1 to 100,000
 pub record IsLoadCommand (words : List Text) (rounds : ℕ) : Type 0 where
@@ -58,6 +62,7 @@ IsCommand words Script = IsScriptCommand words
 IsCommand words Check = IsCheckCommand words
 IsCommand words CheckFirst = IsCheckFirstCommand words
 IsCommand words Race = IsRaceCommand words
+IsCommand words Timed = IsTimedCommand words
 IsCommand words (Load rounds) = IsLoadCommand words rounds
 IsCommand words (Proxy plan) = IsProxyCommand words plan
 

@@ -20,6 +20,8 @@ pub enum Command {
     CheckFirst,
     /// `race`: reads a race, runs each of its callers in a thread, and writes their lines with the replies.
     Race,
+    /// `timed`: reads a timed script and writes its history.
+    Timed,
     /// `load N`: runs a generated script of N rounds, and writes a summary of the replies.
     Load(u32),
     /// `proxy` and its options: relays TCP connections as this plan says.
@@ -80,6 +82,7 @@ fn command_named(word: &str) -> Option<Command>
         "check" => Some(Command::Check),
         "check-1" => Some(Command::CheckFirst),
         "race" => Some(Command::Race),
+        "timed" => Some(Command::Timed),
         _ => None,
     }
 }

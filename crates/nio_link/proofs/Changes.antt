@@ -1,8 +1,9 @@
--- The places of channels, as calls change them.
+-- The places of channels and the accepted links, as calls change them.
 use Rattle.std.proofs.Common.{◌≡◌, ◌==◌, ◌∙◌, Bool, true, false, if◌then◌else◌, List, [], ◌∷◌, ◌++◌, refl, ap}
 use Rattle.std.proofs.Common.{eq-eqb, eqb-true}
 use Rattle.std.proofs.lemmas.List.Sums.{fold-append}
 use Rattle.nio_base.specs.declared.numbers.ChanNo.{ChanNo}
+use Rattle.nio_link.specs.Accepts.{accepted_by, accepted_next}
 use Rattle.nio_link.specs.Links.{IsSameBut}
 use Rattle.nio_link.specs.Places.{changed, place_after, places_after, unused}
 use Rattle.nio_link.specs.declared.place.Change.{Change}
@@ -11,6 +12,9 @@ use Rattle.nio_link.specs.declared.place.Place.{Place}
 module _ (changes : List (ChanNo × Change)) (c : ChanNo) (change : Change) where
   one_more : (k : ChanNo) → places_after (changes ++ (c, change) ∷ []) k ≡ changed (places_after changes) (c, change) k
   one_more k = ap (λ (places : ChanNo → Place). places k) (fold-append changed (λ _. unused) changes ((c, change) ∷ []))
+
+  pub accepted_here : accepted_by (changes ++ (c, change) ∷ []) ≡ accepted_next (accepted_by changes) (c, change)
+  accepted_here = fold-append accepted_next [] changes ((c, change) ∷ [])
 
   pub changed_here : places_after (changes ++ (c, change) ∷ []) c ≡ place_after change (places_after changes c)
   changed_here =

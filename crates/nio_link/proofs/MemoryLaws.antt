@@ -1,26 +1,30 @@
 -- The laws that a net keeps, at a net in memory.
-use Rattle.std.proofs.Common.{◌≡◌, ◌≢◌, ℕ, ◌+◌, ◌-◌, ◌<◌, ◌≤◌, ◌⊎◌, inl, inr, ◌==◌, nat_lt, min, Bool, true, false}
-use Rattle.std.proofs.Common.{◌&&◌, if◌then◌else◌, cond, Option, Some, None, option_map, Result, Ok, Err, IfOk, List}
-use Rattle.std.proofs.Common.{[], ◌∷◌, ◌++◌, length, map, replicate, ◌*◌, slice_set, refl, ap, sym, ◌∙◌, arith, eq-eqb}
+use Rattle.std.proofs.Common.{◌≡◌, ◌≢◌, ℕ, suc, ◌+◌, ◌-◌, ◌<◌, ◌≤◌, ◌⊎◌, inl, inr, ◌==◌, nat_lt, min, Bool, true, false}
+use Rattle.std.proofs.Common.{◌&&◌, if◌then◌else◌, cond, Option, Some, None, option_map, IfSome, Result, Ok, Err, IfOk}
+use Rattle.std.proofs.Common.{List}
+use Rattle.std.proofs.Common.{[], ◌∷◌, ◌++◌, length, replicate, ◌*◌, slice_set, refl, ap, sym, ◌∙◌, arith, eq-eqb}
+use Rattle.std.proofs.Common.{length-append}
 use Rattle.std.proofs.Common.{eqb-true, ltb-true, get_or-set_other, get_or-set_same}
-use Rattle.std.proofs.lemmas.Bool.{eqb-false}
+use Rattle.std.proofs.lemmas.Bool.{eqb-false, lt-ltb}
 use Rattle.std.proofs.lemmas.Grind.{common_steps}
-use Rattle.std.proofs.lemmas.List.{set_past}
+use Rattle.std.proofs.lemmas.List.{set_past, length-replicate}
 use Rattle.std.proofs.lemmas.List.Sums.{fold-append}
 use Rattle.nio_base.specs.declared.numbers.ChanNo.{ChanNo}
 use Rattle.nio_bytes.specs.Calls.{after_success}
 use Rattle.nio_bytes.specs.Cause.{HasCause}
+use Rattle.nio_link.proofs.Growing.{goes_on}
 use Rattle.nio_link.proofs.Pieces.{is_got}
 use Rattle.nio_poller.specs.Polled.{Polled}
 use Rattle.nio_poller.specs.Polls.{told_of_channel}
-use Rattle.nio_link.specs.Links.{IsSameBut, IsGot, after_read, after_write, after_shut}
+use Rattle.nio_link.specs.Links.{IsSameBut, IsUnused, IsGot, after_read, after_write, after_shut}
 use Rattle.nio_link.specs.MemoryLinks.{LinkState, IsFresh, carried, is_connected, is_connecting, link_after_read}
 use Rattle.nio_link.specs.MemoryLinks.{link_after_write, got_after, ended_after, put_of, put_after, stage_after_connect}
 use Rattle.nio_link.specs.MemoryLinks.{connect_answer as connect_link_answer}
 use Rattle.nio_link.specs.MemoryNet.{ready_told, heed, times, faulted_after, findings_after, is_early, AreFresh}
 use Rattle.nio_link.specs.MemoryNet.{NetState, is_free, is_waiting, after_listen, listen_answer, with_target}
-use Rattle.nio_link.specs.MemoryNet.{after_connect, connect_answer, with_client, after_accept, can_accept, is_listener}
-use Rattle.nio_link.specs.NetPlans.{client_end, target_end, free_slots}
+use Rattle.nio_link.specs.MemoryNet.{end_under, after_connect, connect_answer, with_client, after_accept, can_accept}
+use Rattle.nio_link.specs.MemoryNet.{is_listener}
+use Rattle.nio_link.specs.NetPlans.{client_end, target_end, ends_from, free_slots}
 use Rattle.nio_link.specs.Pieces.{got_of, pieces_after, buffer_after}
 use Rattle.nio_link.specs.declared.memory.plan.PeerPlan.{PeerPlan}
 use Rattle.nio_link.specs.Readiness.{without, ready_after_read, ready_after_write, ready_after_connect}
@@ -28,7 +32,7 @@ use Rattle.nio_link.specs.Readiness.{ready_after_accept}
 use Rattle.nio_link.specs.Slots.{slot_at, carried_by, carried_at, connected, connecting, placed, read_answer}
 use Rattle.nio_link.specs.Slots.{read_buffer, slots_after_read, write_answer, slots_after_write, shut_answer}
 use Rattle.nio_link.specs.Slots.{slots_after_shut, finish_answer, slots_after_finish, slots_after_close, closed}
-use Rattle.nio_link.specs.Slots.{holds_nothing}
+use Rattle.nio_link.specs.Slots.{holds_nothing, without_link, slots_after_take, grown}
 use Rattle.nio_link.specs.declared.memory.finding.Finding.{Finding}
 use Rattle.nio_link.specs.declared.memory.finding.Finding.TheVariants.{Told as WasTold, NotReady}
 use Rattle.nio_link.specs.declared.memory.slot.Slot.{Slot}
@@ -357,6 +361,45 @@ module _ (slots : List Slot) (c : ChanNo) where
   pub close_carried : (k : ChanNo) → carried_at (slots_after_close slots c) k ≡ carried_at slots k
   close_carried = close_by (slot_at slots c) refl
 
+  -- taking out a link that has carried nothing
+  take_by : (s : Slot) → slot_at slots c ≡ s → IsUnused (carried_by s) → (k : ChanNo)
+      → carried_at (slice_set slots c.0 (without_link s)) k ≡ carried_at slots k
+  take_by slot.Free is unused k = close_by slot.Free is k
+  take_by slot.Listener is unused k =
+      same_there slot.Listener (ap carried_by (sym is)) (in_net slots c (λ free. cc)) k
+  take_by (slot.Link l) is unused k =
+      let fresh : IsFresh l =
+      record { got = unused.got; ended = unused.ended; put = unused.put; shut = unused.shut } in
+      same_there slot.Free (sym (fresh_slot l fresh) ∙ ap carried_by (sym is)) (in_net slots c (link_some _ l is)) k
+
+  pub take_carried : IsUnused (carried_at slots c) → (k : ChanNo)
+      → carried_at (slots_after_take slots c) k ≡ carried_at slots k
+  take_carried = take_by (slot_at slots c) refl
+
+  grown_carried : (n : ℕ) (k : ChanNo) → carried_at (grown slots n) k ≡ carried_at slots k
+  grown_carried n k = ap carried_by (goes_on slot.Free slots (n - length slots) k.0)
+
+  both_true : (a b : Bool) → a ≡ true → b ≡ true → a && b ≡ true
+  both_true true b left right = right
+  both_true false b left right = left
+
+  -- putting in one that has carried nothing
+  pub put_carried : (n : ℕ) (link : Option LinkState) → holds_nothing (slot_at slots c) ≡ true → c.0 < n
+      → IfSome link IsFresh → (k : ChanNo)
+      → carried_at (placed c (grown slots n) (option_map (end_under c) link)) k ≡ carried_at slots k
+  put_carried n None vacant within fresh k = grown_carried n k
+  put_carried n (Some l) vacant within fresh k =
+      let more : length (grown slots n) ≡ length slots + (n - length slots) =
+      length-append slots (replicate (n - length slots) slot.Free)
+      ∙ ap (λ (m : ℕ). length slots + m) (length-replicate (n - length slots) slot.Free) in
+      let inside : nat_lt c.0 (length (grown slots n)) ≡ true = lt-ltb c.0 (length (grown slots n)) (omega arith) in
+      let free : is_free (grown slots n) c ≡ true =
+      both_true (nat_lt c.0 (length (grown slots n))) (holds_nothing (slot_at (grown slots n) c)) inside
+      (ap holds_nothing (goes_on slot.Free slots (n - length slots) c.0) ∙ vacant) in
+      put_fresh (grown slots n) c free (end_under c l)
+      (record { got = fresh.got; ended = fresh.ended; put = fresh.put; shut = fresh.shut }) k
+      ∙ grown_carried n k
+
 -- ---- the calls that make links
 
 pub listen_faulted : (s : NetState) (c : ChanNo)
@@ -450,13 +493,29 @@ connect_ready (Some l) ops = by_test l.fail_connect
 
 -- ---- the plan
 
-pub clients_fresh : (peers : List PeerPlan) → AreFresh (map client_end peers)
-clients_fresh [] = tt
-clients_fresh (peer ∷ peers) = (record { got = refl; ended = refl; put = refl; shut = refl }, clients_fresh peers)
+pub clients_fresh : (place : ℕ) (peers : List PeerPlan) → AreFresh (ends_from client_end place peers)
+clients_fresh place [] = tt
+clients_fresh place (peer ∷ peers) =
+    (record { got = refl; ended = refl; put = refl; shut = refl }, clients_fresh (place + 1) peers)
 
-pub targets_fresh : (peers : List PeerPlan) → AreFresh (map target_end peers)
-targets_fresh [] = tt
-targets_fresh (peer ∷ peers) = (record { got = refl; ended = refl; put = refl; shut = refl }, targets_fresh peers)
+pub targets_fresh : (place : ℕ) (peers : List PeerPlan) → AreFresh (ends_from target_end place peers)
+targets_fresh place [] = tt
+targets_fresh place (peer ∷ peers) =
+    (record { got = refl; ended = refl; put = refl; shut = refl }, targets_fresh (place + 1) peers)
+
+-- one peer more
+module _ (end : ℕ → PeerPlan → LinkState) where
+  pub length_ends : (place : ℕ) (peers : List PeerPlan) → length (ends_from end place peers) ≡ length peers
+  length_ends place [] = refl
+  length_ends place (peer ∷ peers) = ap (λ (n : ℕ). suc n) (length_ends (place + 1) peers)
+
+  pub ends_more : (place : ℕ) (peers : List PeerPlan) (peer : PeerPlan)
+      → ends_from end place (peers ++ peer ∷ []) ≡ ends_from end place peers ++ end (place + length peers) peer ∷ []
+  ends_more place [] peer = let same : place ≡ place + 0 = omega arith in ap (λ (n : ℕ). end n peer ∷ []) same
+  ends_more place (first ∷ peers) peer =
+      let same : place + 1 + length peers ≡ place + suc (length peers) = omega arith in
+      ap (λ (ends : List LinkState). end place first ∷ ends) (ends_more (place + 1) peers peer)
+      ∙ ap (λ (n : ℕ). end place first ∷ ends_from end (place + 1) peers ++ end n peer ∷ []) same
 
 -- two more channels
 pub slots_more : (n : ℕ) → (free_slots n ++ slot.Free ∷ []) ++ slot.Free ∷ [] ≡ free_slots (n + 1)

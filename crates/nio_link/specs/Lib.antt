@@ -1,5 +1,7 @@
+pub mod Accepts
 pub mod Links
 pub mod Places
+pub mod PlaceLogs
 pub mod Readiness
 pub mod Pieces
 pub mod MemoryLinks

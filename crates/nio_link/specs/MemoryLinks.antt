@@ -1,8 +1,11 @@
 -- A link in memory, as the net in memory sees it.
-use Rattle.std.specs.Prelude.{◌≡◌, ℕ, ◌-◌, nat_lt, min, Bool, true, false, if◌then◌else◌, Some, Result, Ok, Err, List}
+use Rattle.std.specs.Prelude.{◌≡◌, ℕ, ◌-◌, ◌==◌, nat_lt, min, Bool, true, false, if◌then◌else◌, Some, Result, Ok, Err}
+use Rattle.std.specs.Prelude.{List}
 use Rattle.std.specs.Prelude.{[], ◌++◌, length, take, bit_or}
 use Rattle.nio_link.specs.Links.{Link}
 use Rattle.nio_link.specs.Pieces.{got_of, pieces_after, buffer_after}
+use Rattle.nio_link.specs.declared.memory.peer_no.PeerNo.{PeerNo}
+use Rattle.nio_link.specs.declared.memory.peer_no.PeerNo.TheVariants as peer
 use Rattle.nio_link.specs.declared.memory.stage.Stage.{Stage}
 use Rattle.nio_link.specs.declared.memory.stage.Stage.TheVariants as stage
 use Rattle.nio_link.specs.declared.net.Failed.{Failed}
@@ -12,6 +15,8 @@ use Rattle.nio_link.specs.declared.net.Put.{Put}
 use Rattle.nio_link.specs.declared.net.Put.TheVariants as put
 
 pub record LinkState : Type 0 where
+  -- the peer whose end it is
+  pub peer : PeerNo
   pub stage : Stage
   -- the pieces that reads are still to give, before the end
   pub pieces : List (List ℕ)
@@ -38,6 +43,12 @@ pub record IsFresh (l : LinkState) : Type 0 where
   pub ended : l.ended ≡ false
   pub put : l.put ≡ []
   pub shut : l.shut ≡ false
+
+abbrev pub is_same_peer : PeerNo → PeerNo → Bool
+is_same_peer (peer.Planned m) (peer.Planned n) = m == n
+is_same_peer (peer.Planned m) (peer.PutIn c) = false
+is_same_peer (peer.PutIn c) (peer.Planned n) = false
+is_same_peer (peer.PutIn c) (peer.PutIn d) = c.0 == d.0
 
 abbrev pub is_connected : Stage → Bool
 is_connected stage.Connecting = false

@@ -1,19 +1,25 @@
 -- A net in memory, as its callers see it.
-use Rattle.std.specs.Prelude.{◌≡◌, ℕ, ◌==◌, nat_lt, Bool, true, false, not, ◌&&◌, if◌then◌else◌, Result, Ok, Err, List}
-use Rattle.std.specs.Prelude.{[], ◌∷◌, ◌++◌, length, map, filter, fold, count_by, slice_set, bit_and}
+use Rattle.std.specs.Prelude.{◌≡◌, ℕ, ◌+◌, ◌==◌, nat_lt, Bool, true, false, not, ◌&&◌, if◌then◌else◌, Option, Some}
+use Rattle.std.specs.Prelude.{None}
+use Rattle.std.specs.Prelude.{option_map, Result, Ok, Err, List, [], ◌∷◌, ◌++◌, length, map, filter, fold, count_by}
+use Rattle.std.specs.Prelude.{slice_set, bit_and}
+use Rattle.std.specs.List.{position_or_len, slice_get, remove}
+use Rattle.std.specs.Option.{option_to_list}
 use Rattle.nio_base.specs.declared.numbers.ChanNo.{ChanNo}
 use Rattle.nio_bytes.specs.Calls.{Calls, after_success, after_failure}
 use Rattle.nio_poller.specs.Polled.{Polled}
 use Rattle.nio_poller.specs.Polls.{told_of_channel}
 use Rattle.nio_steps.specs.SelectCalls.{Poll}
 use Rattle.nio_steps.specs.declared.looked.LookedKey.{LookedKey}
-use Rattle.nio_link.specs.MemoryLinks.{LinkState, IsFresh}
+use Rattle.nio_link.specs.MemoryLinks.{LinkState, IsFresh, is_same_peer}
 use Rattle.nio_link.specs.Readiness.{without}
 use Rattle.nio_link.specs.Slots.{slot_at, ready_at, holds_nothing, holds_listener, connected, connecting, read_answer}
 use Rattle.nio_link.specs.Slots.{slots_after_read, write_answer, slots_after_write, shut_answer, slots_after_shut}
-use Rattle.nio_link.specs.Slots.{finish_answer, slots_after_finish}
+use Rattle.nio_link.specs.Slots.{finish_answer, slots_after_finish, placed, link_of, slots_after_take, grown}
 use Rattle.nio_link.specs.declared.memory.finding.Finding.{Finding}
 use Rattle.nio_link.specs.declared.memory.finding.Finding.TheVariants.{Told as WasTold, Untold, NotReady}
+use Rattle.nio_link.specs.declared.memory.peer_no.PeerNo.{PeerNo}
+use Rattle.nio_link.specs.declared.memory.peer_no.PeerNo.TheVariants as peer
 use Rattle.nio_link.specs.declared.memory.slot.Slot.{Slot}
 use Rattle.nio_link.specs.declared.memory.slot.Slot.TheVariants as slot
 use Rattle.nio_link.specs.declared.net.Failed.{Failed}
@@ -166,6 +172,54 @@ after_accept s listener c = with_client s.clients listener c (record s { accepts
 -- after one that failed
 abbrev pub after_failed_accept : NetState → ChanNo → NetState
 after_failed_accept s listener = record s { accepts = after_failure s.accepts; faulted = s.faulted ++ listener ∷ [] }
+
+-- ---- links handed over
+
+-- what contracts see of a link that stands in no net: the link, and its peer's target, where that is still to be
+-- connected
+pub record Loose : Type 0 where
+  pub link : Option LinkState
+  pub target : Option LinkState
+
+-- the place of this peer's target among those still to be connected, past the last where it isn't among them
+abbrev pub target_place : List LinkState → PeerNo → ℕ
+target_place targets peer = position_or_len (λ (l : LinkState). is_same_peer l.peer peer) targets
+
+-- the target of the link's peer, where it is among them
+abbrev pub target_beside : List LinkState → Option LinkState → Option LinkState
+target_beside targets None = None
+target_beside targets (Some l) = slice_get targets (target_place targets l.peer)
+
+-- the targets without it
+abbrev pub other_targets : List LinkState → Option LinkState → List LinkState
+other_targets targets None = targets
+other_targets targets (Some l) = remove targets (target_place targets l.peer)
+
+-- what is taken out with the link of this channel, and what stays
+abbrev pub taken_out : NetState → ChanNo → Loose
+taken_out s c = record {
+  link = link_of (slot_at s.slots c);
+  target = target_beside s.targets (link_of (slot_at s.slots c));
+}
+
+abbrev pub after_take_out : NetState → ChanNo → NetState
+after_take_out s c = record s {
+  slots = slots_after_take s.slots c;
+  targets = other_targets s.targets (link_of (slot_at s.slots c));
+}
+
+-- an end of the peer of the link that is put in under this channel
+abbrev pub end_under : ChanNo → LinkState → LinkState
+end_under c l = record l { peer = peer.PutIn c }
+
+-- after a link was put in: the net has room for its channel and the next, and its peer's target is connected next
+abbrev pub after_put_in : NetState → ChanNo → Loose → NetState
+after_put_in s c loose = record s {
+  slots = placed c (grown s.slots (c.0 + 2)) (option_map (end_under c) loose.link);
+  targets = option_to_list (option_map (end_under c) loose.target) ++ s.targets;
+}
+
+-- ---- polls
 
 abbrev pub after_poll : NetState → Polled → NetState
 after_poll s polled = record s { polls = after_success s.polls; findings = s.findings ++ WasTold polled ∷ [] }

@@ -1,5 +1,6 @@
 -- What a channel of a net was asked to be, and what stands there, after each call.
-use Rattle.std.specs.Prelude.{◌==◌, Bool, true, false, if◌then◌else◌, Result, Ok, Err, List, fold}
+use Rattle.std.specs.Prelude.{◌≡◌, ◌==◌, Bool, true, false, if◌then◌else◌, Option, Some, None, Result, Ok, Err, List}
+use Rattle.std.specs.Prelude.{fold}
 use Rattle.nio_base.specs.declared.numbers.Addr.{Addr}
 use Rattle.nio_base.specs.declared.numbers.ChanNo.{ChanNo}
 use Rattle.nio_link.specs.declared.net.Failed.{Failed}
@@ -31,6 +32,18 @@ IsLinked standing.Connecting = ⊥
 IsLinked standing.Linked = Unit {0}
 IsLinked standing.Shut = Unit {0}
 IsLinked standing.Gone = ⊥
+
+-- a link stands there: it was made or put in, and neither closed nor taken out
+abbrev pub is_standing : Standing → Bool
+is_standing standing.Nothing = false
+is_standing standing.Listening = false
+is_standing standing.Connecting = false
+is_standing standing.Linked = true
+is_standing standing.Shut = true
+is_standing standing.Gone = false
+
+abbrev pub stands : Place → Bool
+stands place = is_standing place.standing
 
 -- ---- after each call: one that fails makes nothing, and leaves what stands; but a link that fails to connect is gone
 
@@ -70,6 +83,16 @@ closed standing.Gone = standing.Gone
 abbrev pub place_after_close : Place → Place
 place_after_close before = record before { standing = closed before.standing }
 
+-- where no link stands, nothing is taken out
+abbrev pub place_after_take_out : {L : Type 0} → Option L → Place → Place
+place_after_take_out (Some link) before = record before { standing = standing.Gone }
+place_after_take_out None before = before
+
+-- where memory lacks, the link comes back
+abbrev pub place_after_put_in : {L : Type 0} → Result (Unit {0}) L → Place → Place
+place_after_put_in (Ok _) before = record { role = role.PutIn; standing = standing.Linked }
+place_after_put_in (Err link) before = before
+
 -- ---- after a list of calls
 
 abbrev pub place_after : Change → Place → Place
@@ -79,6 +102,8 @@ place_after (change.Connect to made) before = place_after_connect made to
 place_after (change.FinishConnect made) before = place_after_finish made before
 place_after (change.ShutWrite made) before = place_after_shut made before
 place_after change.Close before = place_after_close before
+place_after change.TakeOut before = record before { standing = standing.Gone }
+place_after change.PutIn before = record { role = role.PutIn; standing = standing.Linked }
 
 -- the places after a call on this channel
 abbrev pub changed : (ChanNo → Place) → ChanNo × Change → ChanNo → Place
@@ -87,3 +112,48 @@ changed before (c, change) k = if k.0 == c.0 then place_after change (before k) 
 -- the places of a net on which these calls were made, the oldest first
 abbrev pub places_after : List (ChanNo × Change) → ChanNo → Place
 places_after changes = fold changed (λ _. unused) changes
+
+-- ---- whether a link stands
+
+-- after a call, by whether one stood before
+abbrev pub stands_after : Change → Bool → Bool
+stands_after (change.Listen at made) before = false
+stands_after (change.Accept listener (Ok true)) before = true
+stands_after (change.Accept listener (Ok false)) before = before
+stands_after (change.Accept listener (Err _)) before = false
+stands_after (change.Connect to (Ok true)) before = true
+stands_after (change.Connect to (Ok false)) before = false
+stands_after (change.Connect to (Err _)) before = false
+stands_after (change.FinishConnect (Ok true)) before = true
+stands_after (change.FinishConnect (Ok false)) before = before
+stands_after (change.FinishConnect (Err _)) before = false
+stands_after (change.ShutWrite (Ok _)) before = true
+stands_after (change.ShutWrite (Err _)) before = before
+stands_after change.Close before = false
+stands_after change.TakeOut before = false
+stands_after change.PutIn before = true
+
+-- the calls that make a link stand, or end that
+abbrev pub moves_link : Change → Bool
+moves_link (change.Listen at made) = false
+moves_link (change.Accept listener (Ok made)) = made
+moves_link (change.Accept listener (Err _)) = false
+moves_link (change.Connect to (Ok made)) = made
+moves_link (change.Connect to (Err _)) = false
+moves_link (change.FinishConnect (Ok made)) = made
+moves_link (change.FinishConnect (Err _)) = false
+moves_link (change.ShutWrite made) = false
+moves_link change.Close = true
+moves_link change.TakeOut = true
+moves_link change.PutIn = true
+
+-- the call may be made on a channel of this place
+abbrev pub IsAllowed : Change → Place → Type 0
+IsAllowed (change.Listen at made) before = before ≡ unused
+IsAllowed (change.Accept listener made) before = before ≡ unused
+IsAllowed (change.Connect to made) before = before ≡ unused
+IsAllowed (change.FinishConnect made) before = before.standing ≡ standing.Connecting
+IsAllowed (change.ShutWrite made) before = before.standing ≡ standing.Linked
+IsAllowed change.Close before = Unit {0}
+IsAllowed change.TakeOut before = before.standing ≡ standing.Linked
+IsAllowed change.PutIn before = before ≡ unused

@@ -1,6 +1,6 @@
 -- The channels of a net in memory: what stands under each, and what calls answer and leave there.
 use Rattle.std.specs.Prelude.{ℕ, Bool, true, false, if◌then◌else◌, Option, Some, None, option_map, Result, Ok, Err}
-use Rattle.std.specs.Prelude.{List, [], slice_set}
+use Rattle.std.specs.Prelude.{List, [], ◌++◌, ◌-◌, length, replicate, slice_set}
 use Rattle.std.specs.List.{slice_index_or}
 use Rattle.nio_base.specs.declared.numbers.ChanNo.{ChanNo}
 use Rattle.nio_link.specs.Links.{Link}
@@ -113,6 +113,26 @@ closed (slot.Link l) = slot.Link (record l { stage = stage.Closed })
 -- a channel outside the net has nothing to close
 abbrev pub slots_after_close : List Slot → ChanNo → List Slot
 slots_after_close slots c = slice_set slots c.0 (closed (slot_at slots c))
+
+-- ---- taking out and putting in
+
+-- the link there, connected or not
+abbrev pub link_of : Slot → Option LinkState
+link_of slot.Free = None
+link_of slot.Listener = None
+link_of (slot.Link l) = Some l
+
+abbrev pub without_link : Slot → Slot
+without_link slot.Free = slot.Free
+without_link slot.Listener = slot.Listener
+without_link (slot.Link l) = slot.Free
+
+abbrev pub slots_after_take : List Slot → ChanNo → List Slot
+slots_after_take slots c = slice_set slots c.0 (without_link (slot_at slots c))
+
+-- with free places for the channels below this number
+abbrev pub grown : List Slot → ℕ → List Slot
+grown slots places = slots ++ replicate (places - length slots) slot.Free
 
 -- ---- readiness
 

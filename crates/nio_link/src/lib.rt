@@ -1,12 +1,18 @@
 //! Links: connections over a net, which a poller says are ready. A net is memory, in tests, or the system's sockets.
 #![tactic(auto)]
 
-pub use memory::{MemoryNet, NetPlan, PeerPlan};
+pub use job_net::JobNet;
+pub use memory::{LooseLink, MemoryNet, NetPlan, PeerPlan};
 pub use net::{Failed, Got, Net, Put};
-pub use place::{Change, Place, Role, Standing};
+pub use passable::Passable;
+pub use place::{Change, Place, Role, Standing, stands_law};
+pub use place_log::PlaceLog;
 pub use stream::{LinkError, StreamLink, StreamState};
 
+mod job_net;
 mod memory;
 mod net;
+mod passable;
 mod place;
+mod place_log;
 mod stream;

@@ -2,6 +2,7 @@
 ghost use Rattle.std.specs.Prelude.{◌≡◌, ◌≢◌, [], IfOk, IsTrue};
 ghost use Rattle.nio_bytes.specs.Cause.{HasCause};
 ghost use Rattle.nio_steps.specs.KeyCalls.{is_within};
+ghost use Rattle.nio_link.specs.Accepts.{accepted_after};
 ghost use Rattle.nio_link.specs.Links.{Link, IsSameBut, IsGot, IsPut, after_read, after_write, after_shut};
 ghost use Rattle.nio_link.specs.Places.{unused, IsLinked, place_after_listen, place_after_accept, place_after_connect};
 ghost use Rattle.nio_link.specs.Places.{place_after_finish, place_after_shut, place_after_close};
@@ -42,7 +43,7 @@ pub enum Put {
 /// finds, and not because the caller made it at a wrong time. A call that needs readiness may be made where the last
 /// poll told it and no call since has found otherwise.
 pub trait Net: Poller {
-    ghost use Rattle.std.specs.Prelude.{ℕ};
+    ghost use Rattle.std.specs.Prelude.{ℕ, List};
     ghost use Rattle.nio_base.specs.declared.numbers.ChanNo.{ChanNo};
     ghost use Rattle.nio_link.specs.declared.place.Place.{Place};
     ghost use Rattle.nio_link.specs.declared.place.Standing.TheVariants as standing;
@@ -56,6 +57,9 @@ pub trait Net: Poller {
     // What a channel was asked to be, and what stands there.
     ghost place: { Self → ChanNo → Place };
 
+    // The channels of the links that were accepted, in the order in which their accepts answered true.
+    ghost accepted: { Self → List ChanNo };
+
     /// Makes a listener under this channel.
     fn listen(&mut self, chan: ChanNo, at: Addr) -> Result<(), Failed>
         requires unused { place self.old chan ≡ unused }
@@ -65,6 +69,7 @@ pub trait Net: Poller {
         ensures ready { (c : ChanNo) → Self.ready self.new c ≡ Self.ready self.old c }
         ensures place { place self.new chan ≡ place_after_listen result at }
         ensures places { IsSameBut chan (place self.old) (place self.new) }
+        ensures accepted { accepted self.new ≡ accepted self.old }
         ensures polls { Self.poll_faults self.new ≡ Self.poll_faults self.old };
 
     /// Takes a connection from a listener, and makes a link of it under the channel `chan`. False where none has come
@@ -80,6 +85,7 @@ pub trait Net: Poller {
         ensures ready_else { IsSameBut listener (Self.ready self.old) (Self.ready self.new) }
         ensures place { place self.new chan ≡ place_after_accept result listener (place self.old chan) }
         ensures places { IsSameBut chan (place self.old) (place self.new) }
+        ensures accepted { accepted self.new ≡ accepted_after result chan (accepted self.old) }
         ensures polls { Self.poll_faults self.new ≡ Self.poll_faults self.old };
 
     /// Begins to connect a link under this channel. True where it is connected; false where that isn't done yet.
@@ -91,6 +97,7 @@ pub trait Net: Poller {
         ensures ready { (c : ChanNo) → Self.ready self.new c ≡ Self.ready self.old c }
         ensures place { place self.new chan ≡ place_after_connect result to }
         ensures places { IsSameBut chan (place self.old) (place self.new) }
+        ensures accepted { accepted self.new ≡ accepted self.old }
         ensures polls { Self.poll_faults self.new ≡ Self.poll_faults self.old };
 
     /// Goes on connecting a link. True where it is connected; false where that isn't done yet. As in Java, a link that
@@ -105,6 +112,7 @@ pub trait Net: Poller {
         ensures ready_else { IsSameBut chan (Self.ready self.old) (Self.ready self.new) }
         ensures place { place self.new chan ≡ place_after_finish result (place self.old chan) }
         ensures places { IsSameBut chan (place self.old) (place self.new) }
+        ensures accepted { accepted self.new ≡ accepted self.old }
         ensures polls { Self.poll_faults self.new ≡ Self.poll_faults self.old };
 
     /// Reads what has come on a link, as far as it fits.
@@ -120,6 +128,7 @@ pub trait Net: Poller {
         ensures ready { Self.ready self.new chan ≡ ready_after_read result (Self.ready self.old chan) }
         ensures ready_else { IsSameBut chan (Self.ready self.old) (Self.ready self.new) }
         ensures places { (c : ChanNo) → place self.new c ≡ place self.old c }
+        ensures accepted { accepted self.new ≡ accepted self.old }
         ensures polls { Self.poll_faults self.new ≡ Self.poll_faults self.old };
 
     /// Writes bytes on a link, as many as it takes.
@@ -135,6 +144,7 @@ pub trait Net: Poller {
         ensures ready { Self.ready self.new chan ≡ ready_after_write result (Self.ready self.old chan) }
         ensures ready_else { IsSameBut chan (Self.ready self.old) (Self.ready self.new) }
         ensures places { (c : ChanNo) → place self.new c ≡ place self.old c }
+        ensures accepted { accepted self.new ≡ accepted self.old }
         ensures polls { Self.poll_faults self.new ≡ Self.poll_faults self.old };
 
     /// Shuts the side of a link on which bytes are written, so that the other side finds their end.
@@ -147,6 +157,7 @@ pub trait Net: Poller {
         ensures ready { (c : ChanNo) → Self.ready self.new c ≡ Self.ready self.old c }
         ensures place { place self.new chan ≡ place_after_shut result (place self.old chan) }
         ensures places { IsSameBut chan (place self.old) (place self.new) }
+        ensures accepted { accepted self.new ≡ accepted self.old }
         ensures polls { Self.poll_faults self.new ≡ Self.poll_faults self.old };
 
     /// Closes a link or a listener, where one stands there. What it has carried is shown as before.
@@ -156,12 +167,15 @@ pub trait Net: Poller {
         ensures ready { (c : ChanNo) → Self.ready self.new c ≡ Self.ready self.old c }
         ensures place { place self.new chan ≡ place_after_close (place self.old chan) }
         ensures places { IsSameBut chan (place self.old) (place self.new) }
+        ensures accepted { accepted self.new ≡ accepted self.old }
         ensures polls { Self.poll_faults self.new ≡ Self.poll_faults self.old };
 
-    // Polls carry no bytes, count no faults of links, and leave what stands.
+    // Polls carry no bytes, count no faults of links, leave what stands, and accept nothing.
     ghost kept_links: { (x y : Self) → Self.kept x y → (c : ChanNo) → link y c ≡ link x c };
 
     ghost kept_faults: { (x y : Self) → Self.kept x y → (c : ChanNo) → faults y c ≡ faults x c };
 
     ghost kept_places: { (x y : Self) → Self.kept x y → (c : ChanNo) → place y c ≡ place x c };
+
+    ghost kept_accepted: { (x y : Self) → Self.kept x y → accepted y ≡ accepted x };
 }

@@ -1,4 +1,7 @@
 //! What a channel of a net was asked to be, and what stands there.
+ghost use Rattle.std.specs.Prelude.{◌≡◌, false};
+ghost use Rattle.nio_link.specs.Places.{stands, place_after, stands_after, moves_link, IsAllowed};
+
 use crate::net::Failed;
 use nio_base::{Addr, ChanNo};
 
@@ -13,6 +16,8 @@ pub enum Role {
     Accepted(ChanNo),
     /// A link to this address.
     Connected(Addr),
+    /// A link that was taken out of another net, or of this one from under another channel.
+    PutIn,
 }
 
 /// What stands under a channel of a net.
@@ -41,8 +46,8 @@ pub struct Place {
     pub standing: Standing,
 }
 
-/// A call on a channel that can change its place: the call of `Net` that the variant names, with what it was given and
-/// its answer. The places of a net follow from the list of its changes (`places_after`).
+/// A call on a channel that can change its place: the call of `Net` or `Passable` that the variant names, with what it
+/// was given and its answer. The places of a net follow from the list of its changes (`places_after`).
 #[derive(Clone, Copy, Debug, PartialEq, Eq)]
 pub enum Change {
     Listen(Addr, Result<(), Failed>),
@@ -51,4 +56,16 @@ pub enum Change {
     FinishConnect(Result<bool, Failed>),
     ShutWrite(Result<(), Failed>),
     Close,
+    /// A link was taken out.
+    TakeOut,
+    /// A link was put in.
+    PutIn,
 }
+
+/// A link stands under a channel from the call that makes it or puts it in until the call that closes it or takes it
+/// out; as long as calls are made only where they are allowed, no other call changes that.
+pub fn stands_law(before: Place, change: Change)
+    ensures stands { stands (place_after change before) ≡ stands_after change (stands before) }
+    ensures others { moves_link change ≡ false → IsAllowed change before
+        → stands (place_after change before) ≡ stands before }
+{}

@@ -7,7 +7,7 @@ use Rattle.nio_mio.specs.declared.net.MioNet.{MioNet}
 
 -- no channel was asked to be anything
 abbrev pub IsUnasked : {S : Type 0} → MioNet S → Type 0
-IsUnasked net = (c : ChanNo) → places_after net.changes c ≡ unused
+IsUnasked net = (c : ChanNo) → places_after net.log.changes c ≡ unused
 
 -- no poll has failed, and no call on a channel
 pub record IsFaultless {S : Type 0} (net : MioNet S) : Type 0 where

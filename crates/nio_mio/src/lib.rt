@@ -6,11 +6,13 @@
 #![tactic(auto)]
 
 pub use bell::MioBell;
+pub use loose::LooseSocket;
 pub use net::MioNet;
 
 mod bell;
 mod causes;
 mod counts;
+mod loose;
 mod net;
 mod readiness;
 mod socket;

@@ -1,23 +1,23 @@
 //! The net over sockets.
-ghost use Rattle.std.specs.Prelude.{◌≡◌, IfOk};
+ghost use Rattle.std.specs.Prelude.{◌≡◌, ◌<◌, IfOk, OnOk};
 
 use crate::bell::MioBell;
 use crate::counts::{Counts, raise};
+use crate::loose::LooseSocket;
 use crate::readiness::Readiness;
 use crate::sockets::{PLACES, Sockets};
 use nio_base::{Addr, ChanNo, Ops};
 use nio_event::Mode;
-use nio_link::{Change, Failed, Got, Net, Put};
+use nio_link::{Change, Failed, Got, Net, Passable, PlaceLog, Put};
 use nio_poller::{PollError, Poller};
 use nio_select::{Asked, Told};
-use nio_trace::Trace;
 use std::alloc::{AllocError, Global};
 use std::net::Net as System;
 use std::sync::Wait;
 use std::time::Clock;
 
-/// A net of TCP sockets over IPv4, for channels numbered below 32,001. A call on another number fails. It doesn't
-/// show contracts which bytes a link has carried.
+/// A net of TCP sockets over IPv4, for channels numbered below 32,001 until a link is put in beyond them. A call of
+/// `Net` on another number fails. It doesn't show contracts which bytes a link has carried.
 #[derive(Drop)]
 pub struct MioNet<S> {
     system: S,
@@ -25,7 +25,7 @@ pub struct MioNet<S> {
     readiness: Readiness,
     poll_faults: u64,
     counts: Counts,
-    changes: Trace<(ChanNo, Change)>,
+    log: PlaceLog,
 }
 
 impl<S: System + Clock + Copy> MioNet<S> {
@@ -38,6 +38,7 @@ impl<S: System + Clock + Copy> MioNet<S> {
         ensures faultless { IfOk result (λ made. IsFaultless made.0) }
     {
         let counts = Counts::make(alloc, PLACES)?;
+        let log = PlaceLog::make(alloc, PLACES)?;
         let (sockets, bell) = Sockets::make(&system, alloc)?;
         let net = MioNet {
             system,
@@ -45,9 +46,22 @@ impl<S: System + Clock + Copy> MioNet<S> {
             readiness: Readiness::new(),
             poll_faults: 0,
             counts,
-            changes: Trace::new(),
+            log,
         };
         Ok((net, bell))
+    }
+}
+
+impl<S> MioNet<S> {
+    // Makes room for this channel and the next, under which the link to the peer is then made.
+    fn make_room(&mut self, chan: ChanNo) -> Result<(), AllocError>
+        ensures changes { self.new.log.changes ≡ self.old.log.changes }
+        ensures room { OnOk result (chan.0 < self.new.log.room) }
+        ensures rest { self.new ≡ record self.old { sockets = self.new.sockets; log = self.new.log } }
+    {
+        let places = chan.0 as usize + 2;
+        self.log.grow(places)?;
+        self.sockets.grow(places)
     }
 }
 
@@ -63,7 +77,7 @@ impl<S: System + Clock + Copy> Poller for MioNet<S> {
     ghost polls = { λ m. Some m.readiness.polls };
 
     // The counts stay, and what stands.
-    ghost kept = { λ x y. (y.counts ≡ x.counts) × (y.changes ≡ x.changes) };
+    ghost kept = { λ x y. (y.counts ≡ x.counts) × (y.log.changes ≡ x.log.changes) };
 
     fn poll<R: Wait>(
         &mut self,
@@ -96,10 +110,11 @@ impl<S: System + Clock + Copy> Poller for MioNet<S> {
     ghost kept_on = { λ x y z h k. (k.0 ∙ h.0, k.1 ∙ h.1) };
 }
 
-#[tactic(auto, using(nio_link::proofs::Changes::changed_here, nio_link::proofs::Changes::changed_else))]
+#[tactic(auto, using(nio_link::proofs::Changes::accepted_here, nio_link::proofs::Changes::changed_here, nio_link::proofs::Changes::changed_else))]
 impl<S: System + Clock + Copy> Net for MioNet<S> {
     ghost use Rattle.std.proofs.Common.{ap};
     ghost use Rattle.std.specs.Prelude.{None, refl};
+    ghost use Rattle.nio_link.specs.Accepts.{accepted_by};
     ghost use Rattle.nio_link.specs.Places.{places_after};
     ghost use Rattle.nio_mio.specs.Counts.{count_of};
 
@@ -107,26 +122,31 @@ impl<S: System + Clock + Copy> Net for MioNet<S> {
 
     ghost faults = { λ m. count_of m.counts };
 
-    ghost place = { λ m. places_after m.changes };
+    ghost place = { λ m. places_after m.log.changes };
+
+    ghost accepted = { λ m. accepted_by m.log.changes };
 
     fn listen(&mut self, chan: ChanNo, at: Addr) -> Result<(), Failed> {
         match self.sockets.listen(&self.system, chan, at) {
             Ok(()) => {
-                self.changes.push(&(chan, Change::Listen(at, Ok(()))));
+                self.log.push(chan, Change::Listen(at, Ok(())));
                 Ok(())
             }
             Err(Failed) => {
-                self.changes.push(&(chan, Change::Listen(at, Err(Failed))));
+                self.log.push(chan, Change::Listen(at, Err(Failed)));
                 Err(self.counts.fail(chan))
             }
         }
     }
 
     fn accept(&mut self, listener: ChanNo, chan: ChanNo) -> Result<bool, Failed> {
+        if !self.log.has(chan) {
+            self.log.push(chan, Change::Accept(listener, Err(Failed)));
+            return Err(self.counts.fail(listener));
+        }
         match self.sockets.accept(listener, chan) {
             Ok(true) => {
-                self.changes
-                    .push(&(chan, Change::Accept(listener, Ok(true))));
+                self.log.push(chan, Change::Accept(listener, Ok(true)));
                 Ok(true)
             }
             Ok(false) => {
@@ -134,31 +154,37 @@ impl<S: System + Clock + Copy> Net for MioNet<S> {
                 Ok(false)
             }
             Err(Failed) => {
-                self.changes
-                    .push(&(chan, Change::Accept(listener, Err(Failed))));
+                self.log.push(chan, Change::Accept(listener, Err(Failed)));
                 Err(self.counts.fail(listener))
             }
         }
     }
 
     fn connect(&mut self, chan: ChanNo, to: Addr) -> Result<bool, Failed> {
+        if !self.log.has(chan) {
+            self.log.push(chan, Change::Connect(to, Err(Failed)));
+            return Err(self.counts.fail(chan));
+        }
         match self.sockets.connect(&self.system, chan, to) {
             Ok(connected) => {
-                self.changes
-                    .push(&(chan, Change::Connect(to, Ok(connected))));
+                self.log.push(chan, Change::Connect(to, Ok(connected)));
                 Ok(connected)
             }
             Err(Failed) => {
-                self.changes.push(&(chan, Change::Connect(to, Err(Failed))));
+                self.log.push(chan, Change::Connect(to, Err(Failed)));
                 Err(self.counts.fail(chan))
             }
         }
     }
 
     fn finish_connect(&mut self, chan: ChanNo) -> Result<bool, Failed> {
+        if !self.log.has(chan) {
+            self.log.push(chan, Change::FinishConnect(Err(Failed)));
+            return Err(self.counts.fail(chan));
+        }
         match self.sockets.finish_connect(chan) {
             Ok(true) => {
-                self.changes.push(&(chan, Change::FinishConnect(Ok(true))));
+                self.log.push(chan, Change::FinishConnect(Ok(true)));
                 Ok(true)
             }
             Ok(false) => {
@@ -166,8 +192,7 @@ impl<S: System + Clock + Copy> Net for MioNet<S> {
                 Ok(false)
             }
             Err(Failed) => {
-                self.changes
-                    .push(&(chan, Change::FinishConnect(Err(Failed))));
+                self.log.push(chan, Change::FinishConnect(Err(Failed)));
                 Err(self.counts.fail(chan))
             }
         }
@@ -196,9 +221,12 @@ impl<S: System + Clock + Copy> Net for MioNet<S> {
     }
 
     fn shut_write(&mut self, chan: ChanNo) -> Result<(), Failed> {
+        if !self.log.has(chan) {
+            return Err(self.counts.fail(chan));
+        }
         match self.sockets.shut_write(chan) {
             Ok(()) => {
-                self.changes.push(&(chan, Change::ShutWrite(Ok(()))));
+                self.log.push(chan, Change::ShutWrite(Ok(())));
                 Ok(())
             }
             Err(Failed) => Err(self.counts.fail(chan)),
@@ -207,7 +235,7 @@ impl<S: System + Clock + Copy> Net for MioNet<S> {
 
     fn close(&mut self, chan: ChanNo) {
         self.sockets.close(chan);
-        self.changes.push(&(chan, Change::Close));
+        self.log.push(chan, Change::Close);
     }
 
     ghost kept_links = { λ x y h c. refl };
@@ -215,4 +243,30 @@ impl<S: System + Clock + Copy> Net for MioNet<S> {
     ghost kept_faults = { λ x y h c. ap (λ counts. count_of counts c) h.0 };
 
     ghost kept_places = { λ x y h c. ap (λ changes. places_after changes c) h.1 };
+
+    ghost kept_accepted = { λ x y h. ap accepted_by h.1 };
+}
+
+#[tactic(auto, using(nio_link::proofs::Changes::accepted_here, nio_link::proofs::Changes::changed_here, nio_link::proofs::Changes::changed_else))]
+impl<S: System + Clock + Copy> Passable for MioNet<S> {
+    type Link = LooseSocket;
+
+    fn take_out(&mut self, chan: ChanNo) -> Option<LooseSocket> {
+        if !self.log.stands(chan) {
+            return None;
+        }
+        self.log.push(chan, Change::TakeOut);
+        Some(LooseSocket::over(self.sockets.take_out(chan)))
+    }
+
+    /// Where the system refuses to watch the socket, the next poll tells all that is asked of the channel, and its next
+    /// call fails.
+    fn put_in(&mut self, chan: ChanNo, link: LooseSocket) -> Result<(), LooseSocket> {
+        if self.make_room(chan).is_err() {
+            return Err(link);
+        }
+        self.sockets.put_in(chan, link.into_stream());
+        self.log.push(chan, Change::PutIn);
+        Ok(())
+    }
 }

@@ -84,6 +84,29 @@ pub(crate) fn take(sockets: &mut [Option<Socket>], chan: ChanNo) -> Option<Socke
     }
 }
 
+/// The link at this place, which has none then. The poll object tells nothing more of it.
+pub(crate) fn take_link(
+    poll: &Option<Poll>,
+    sockets: &mut [Option<Socket>],
+    chan: ChanNo,
+) -> Option<TcpStream> {
+    let Some(place) = sockets.get_mut(chan.0 as usize) else {
+        return None;
+    };
+    match place.take() {
+        Some(Socket::Link(mut stream)) => {
+            if let Some(poll) = poll {
+                let _ = poll.registry().deregister(&mut stream);
+            }
+            Some(stream)
+        }
+        other => {
+            *place = other;
+            None
+        }
+    }
+}
+
 /// A spare descriptor, which is let go where none is left for a link that connects.
 pub(crate) fn spare(poll: &Option<Poll>) -> io::Result<Registry> {
     match poll {

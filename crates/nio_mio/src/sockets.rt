@@ -22,11 +22,11 @@ use std::time::{Clock, Duration, Instant};
 #[cfg(test)]
 mod tests;
 
-/// How many sockets there may be: the listener, and two links of each of 16,000 connections.
+/// How many sockets there may be at first: the listener, and two links of each of 16,000 connections.
 pub(crate) const PLACES: usize = 32_001;
 
 /// The bell's token, past those of the sockets.
-const BELL: Token = Token(PLACES);
+const BELL: Token = Token(usize::MAX);
 
 /// How many events one poll takes from the system.
 const EVENTS: usize = 1_024;
@@ -368,9 +368,54 @@ impl Sockets {
             drop(socket);
             self.retry_waiting();
         }
+        self.forget(chan);
+    }
+
+    // Forgets what the system told of a channel.
+    fn forget(&mut self, chan: ChanNo) {
         keep_only(&mut self.kept, chan, Ops::NONE);
         if let Some(ended) = self.ended.get_mut(chan.0 as usize) {
             *ended = false;
+        }
+    }
+
+    /// Takes out the link, where there is one. Its descriptor isn't free: listeners that wait for one go on waiting.
+    pub(crate) fn take_out(&mut self, chan: ChanNo) -> Option<TcpStream> {
+        let stream = socket::take_link(&self.poll, &mut self.sockets, chan);
+        if stream.is_some() {
+            self.links = self.links.saturating_sub(1);
+        }
+        self.forget(chan);
+        stream
+    }
+
+    /// Makes places for the channels below this number.
+    pub(crate) fn grow(&mut self, places: usize) -> Result<(), AllocError> {
+        let places = places.max(self.sockets.len());
+        self.kept.resize(places, Ops::NONE)?;
+        self.ended.resize(places, false)?;
+        self.sockets.resize_with(places, no_socket)
+    }
+
+    /// Puts a link in. Where the system refuses to watch it, it is closed, and counts as ready for all: so its next
+    /// call is made, and fails.
+    pub(crate) fn put_in(&mut self, chan: ChanNo, stream: Option<TcpStream>) {
+        if self.watch(chan, stream).is_err() {
+            add(
+                &mut self.kept,
+                chan,
+                Ops::READ.union(Ops::WRITE).union(Ops::CONNECT),
+            );
+        }
+    }
+
+    fn watch(&mut self, chan: ChanNo, stream: Option<TcpStream>) -> Result<(), Failed> {
+        let Some(stream) = stream else {
+            return Err(Failed);
+        };
+        match socket::link(&self.poll, chan, stream) {
+            Ok(link) => self.put_link(chan, link),
+            Err(_error) => Err(Failed),
         }
     }
 

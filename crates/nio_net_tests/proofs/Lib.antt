@@ -1,3 +1,3 @@
+mod Accepted
 mod Drawn
-mod FreshNet
 mod Standings

@@ -1,10 +1,14 @@
-//! Tests of nets, links, relays and the top call `run`.
+//! Tests of nets, links, lines, relays and the top call `run`.
 #![tactic(auto)]
 
+#[cfg(test)]
+mod lines;
 #[cfg(test)]
 mod link;
 #[cfg(test)]
 mod mio_net;
+#[cfg(test)]
+mod passing;
 #[cfg(test)]
 mod relay;
 #[cfg(test)]

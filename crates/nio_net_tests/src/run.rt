@@ -19,6 +19,7 @@ mod loopback;
 mod refusals;
 mod relays;
 mod rows;
+mod timed;
 
 const ONE_SELECTION: &str =
     "t1 selector\nt1 channel source\nt1 blocking c0 off\nt1 register s0 c0 1\nt1 begin s0 now\nt1 told s0 k0:1\n";
@@ -47,7 +48,7 @@ const SIGNED_SET: &str =
 
 const USAGE: &str =
     "usage: nio script | check | check-1 | race | proxy --way select|group --listen ADDR --target ADDR --conns N \
-        [--workers W] | load N\n";
+        [--workers W] | load N | timed\n";
 
 /// Which call of the source fails and which of the sink, counted from 0.
 #[derive(Clone, Copy)]

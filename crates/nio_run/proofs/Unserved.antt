@@ -5,7 +5,7 @@ use Rattle.nio_bytes.specs.declared.sink.Sink as sink
 use Rattle.nio_link.specs.Links.{Link, IsUnused}
 use Rattle.nio_link.specs.Places.{unused}
 use Rattle.nio_link.specs.declared.place.Place.{Place}
-use Rattle.nio_proxy.proofs.Promise.{unbegun, leaves_unasked}
+use Rattle.nio_serve.proofs.Promise.{unbegun, leaves_unasked}
 use Rattle.nio_relay.specs.declared.plan.ProxyPlan.{ProxyPlan}
 use Rattle.nio_script.specs.declared.status.Status.TheVariants.{Memory}
 use Rattle.nio_run.specs.Proxy.{DoesProxy}

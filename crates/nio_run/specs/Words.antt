@@ -12,7 +12,7 @@ pub record BeginsProxy (words : List (List ℕ)) : Type 0 where
 -- the usage line, which is written where the words are no command
 abbrev pub usage_line : List ℕ
 usage_line =
-    codes "usage: nio script | check | check-1 | race | proxy --way select|group --listen ADDR --target ADDR --conns N [--workers W] | load N"
+    codes "usage: nio script | check | check-1 | race | proxy --way select|group --listen ADDR --target ADDR --conns N [--workers W] | load N | timed"
     ++ 10 ∷ []
 
 -- The usage was said, nothing was read, and no step was made.

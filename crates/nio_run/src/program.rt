@@ -11,11 +11,12 @@ ghost use Rattle.nio_run.specs.Proxy.{DoesProxy};
 ghost use Rattle.nio_run.specs.Words.{BeginsProxy, IsUsage};
 ghost use Rattle.nio_base.specs.declared.numbers.ChanNo.{ChanNo};
 ghost use Rattle.nio_command.specs.Words.{IsScriptCommand, IsCheckCommand, IsCheckFirstCommand, IsRaceCommand};
-ghost use Rattle.nio_command.specs.Words.{IsLoadCommand, IsProxyCommand, SaysNothing};
+ghost use Rattle.nio_command.specs.Words.{IsLoadCommand, IsProxyCommand, IsTimedCommand, SaysNothing};
 ghost use Rattle.nio_link.specs.Links.{IsUnused};
 ghost use Rattle.nio_link.specs.Places.{unused};
 ghost use Rattle.nio_race.specs.Does.{DoesRace};
 ghost use Rattle.nio_relay.specs.declared.plan.ProxyPlan.{ProxyPlan};
+ghost use Rattle.nio_run.specs.Timed.{DoesTimed};
 
 use crate::proxy::serve;
 use crate::words::named;
@@ -28,6 +29,7 @@ use nio_plain::Rules;
 use nio_race::run_race;
 use nio_script::{Status, offer, run_check, run_script};
 use nio_sole::Sole;
+use nio_timed::run_timed;
 use nio_words::{Pass, Words};
 use std::alloc::{AllocError, Global};
 use std::sync::Wait;
@@ -43,7 +45,7 @@ pub const PROGRAM_LIMITS: Limits = Limits {
 
 /// The usage line, which is written where the words are no command.
 const USAGE: &str =
-    "usage: nio script | check | check-1 | race | proxy --way select|group --listen ADDR --target ADDR --conns N [--workers W] | load N\n";
+    "usage: nio script | check | check-1 | race | proxy --way select|group --listen ADDR --target ADDR --conns N [--workers W] | load N | timed\n";
 
 /// How the program ends, and the net that it was given.
 #[derive(Drop)]
@@ -55,8 +57,8 @@ pub struct Ended<N> {
 }
 
 /// Does what the words say: all that the program does. `script`, `race` and `load` make their calls on this table, by
-/// the rules of now; `check` and `check-1` make theirs on a system of their own with the same limits; `proxy` relays
-/// over the net, with a table of its own.
+/// the rules of now; `check` and `check-1` make theirs on a system of their own with the same limits; `timed` makes its
+/// calls on a group of its own; `proxy` relays over the net, with a table of its own.
 pub fn run<R: Threads + Wait + Sync, S: Source, K: Sink, N: Net, G: Gate + Sync>(
     rt: &R,
     alloc: Global,
@@ -97,6 +99,9 @@ pub fn run<R: Threads + Wait + Sync, S: Source, K: Sink, N: Net, G: Gate + Sync>
     ensures check_first { IsCheckFirstCommand (map string_bytes words.now) →
         DoesCheck S.Source K.Sink Rules.First PROGRAM_LIMITS input.old input.new
         output.old output.new pass.old pass.new result.status }
+    ensures timed { IsTimedCommand (map string_bytes words.now) →
+        DoesTimed S.Source K.Sink input.old input.new output.old output.new result.status }
+    ensures timed_alone { IsTimedCommand (map string_bytes words.now) → pass.new ≡ pass.old }
     ensures load { (rounds : ℕ) → IsLoadCommand (map string_bytes words.now) rounds →
         DoesLoad K.Sink table.now rounds output.old output.new pass.new result.status }
     ensures load_alone { (rounds : ℕ) → IsLoadCommand (map string_bytes words.now) rounds →
@@ -167,6 +172,9 @@ fn run_over<R: Threads + Wait + Sync, S: Source, K: Sink, N: Net, G: Gate + Sync
     ensures check_first { IsCheckFirstCommand (map string_bytes words.now) →
         DoesCheck S.Source K.Sink Rules.First PROGRAM_LIMITS input.old input.new
         output.old output.new pass.old pass.new result }
+    ensures timed { IsTimedCommand (map string_bytes words.now) →
+        DoesTimed S.Source K.Sink input.old input.new output.old output.new result }
+    ensures timed_alone { IsTimedCommand (map string_bytes words.now) → pass.new ≡ pass.old }
     ensures load { (rounds : ℕ) → IsLoadCommand (map string_bytes words.now) rounds →
         DoesLoad K.Sink table.now rounds output.old output.new pass.new result }
     ensures load_alone { (rounds : ℕ) → IsLoadCommand (map string_bytes words.now) rounds →
@@ -196,6 +204,7 @@ fn run_over<R: Threads + Wait + Sync, S: Source, K: Sink, N: Net, G: Gate + Sync
         Ok(Command::Check) => run_check(alloc, input, output, PROGRAM_LIMITS, Rules::Now),
         Ok(Command::CheckFirst) => run_check(alloc, input, output, PROGRAM_LIMITS, Rules::First),
         Ok(Command::Race) => run_race(rt, alloc, input, output, table, pass, gate),
+        Ok(Command::Timed) => run_timed(alloc, input, output),
         Ok(Command::Load(rounds)) => load_on_table(alloc, rounds, output, table, pass),
         Ok(Command::Proxy(plan)) => serve(rt, alloc, output, net, plan),
         Err(WordsError::Usage) => {

@@ -9,9 +9,10 @@ ghost use Rattle.nio_run.specs.Proxy.{DoesProxy, SaysServed};
 
 use nio_bytes::Sink;
 use nio_link::Net;
-use nio_proxy::{ServeError, serve_select};
+use nio_proxy::serve_select;
 use nio_relay::{ProxyPlan, Served};
 use nio_script::{Status, write_out};
+use nio_serve::ServeError;
 use std::alloc::Global;
 use std::sync::Wait;
 

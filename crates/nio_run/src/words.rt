@@ -2,7 +2,7 @@
 ghost use Rattle.std.specs.Prelude.{◌≡◌, ◌≢◌, ◌⊎◌, ◌↔◌, ℕ, map};
 ghost use Rattle.std.specs.String.{string_bytes};
 ghost use Rattle.nio_command.specs.Words.{IsScriptCommand, IsCheckCommand, IsCheckFirstCommand, IsRaceCommand};
-ghost use Rattle.nio_command.specs.Words.{IsLoadCommand, IsProxyCommand, SaysNothing};
+ghost use Rattle.nio_command.specs.Words.{IsLoadCommand, IsProxyCommand, IsTimedCommand, SaysNothing};
 ghost use Rattle.nio_relay.specs.declared.plan.ProxyPlan.{ProxyPlan};
 ghost use Rattle.nio_run.specs.Words.{BeginsProxy};
 
@@ -15,6 +15,7 @@ pub fn named(alloc: Global, words: &[String]) -> Result<Command, WordsError>
     ensures check { (result ≡ Ok Command.Check) ↔ IsCheckCommand (map string_bytes words.now) }
     ensures check_first { (result ≡ Ok Command.CheckFirst) ↔ IsCheckFirstCommand (map string_bytes words.now) }
     ensures race { (result ≡ Ok Command.Race) ↔ IsRaceCommand (map string_bytes words.now) }
+    ensures timed { (result ≡ Ok Command.Timed) ↔ IsTimedCommand (map string_bytes words.now) }
     ensures load { (rounds : ℕ) → (result ≡ Ok (Command.Load rounds))
         ↔ IsLoadCommand (map string_bytes words.now) rounds }
     ensures proxy { (plan : ProxyPlan) → result ≡ Ok (Command.Proxy plan)

@@ -49,6 +49,7 @@ const COMMANDS: &[(&str, Command)] = &[
     ("check", Command::Check),
     ("check-1", Command::CheckFirst),
     ("race", Command::Race),
+    ("timed", Command::Timed),
     ("load 1", Command::Load(1)),
     ("load 100000", Command::Load(100_000)),
     (
@@ -75,6 +76,7 @@ const OTHER_LINES: &[&str] = &[
     "scripts",
     "check-2",
     "script script",
+    "timed 1",
     "load",
     "load ",
     "load 0",

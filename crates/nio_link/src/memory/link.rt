@@ -6,6 +6,7 @@ ghost use Rattle.nio_link.specs.MemoryLinks.{link_after_write, put_of, connect_a
 ghost use Rattle.nio_link.specs.Pieces.{got_of, buffer_after};
 ghost use Rattle.nio_link.specs.declared.memory.stage.Stage.TheVariants as stage;
 
+use crate::memory::peer_no::PeerNo;
 use crate::memory::pieces::Pieces;
 use crate::memory::stage::Stage;
 use crate::net::{Failed, Got, Put};
@@ -15,6 +16,7 @@ use std::marker::Model;
 /// One end of a connection. Memory for what it gives and takes was taken when it was made.
 #[derive(Drop)]
 pub(crate) struct MemoryLink {
+    pub(crate) peer: PeerNo,
     pub(crate) stage: Stage,
     pub(crate) pieces: Pieces,
     pub(crate) got: Vec<u8>,
@@ -34,6 +36,7 @@ impl Model for MemoryLink {
     ghost Value = { LinkState };
 
     ghost view = { λ l. record {
+      peer = l.peer;
       stage = l.stage;
       pieces = l.pieces;
       got = l.got.items;

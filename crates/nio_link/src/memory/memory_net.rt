@@ -1,8 +1,9 @@
 //! The net in memory.
 ghost use Rattle.std.specs.Prelude.{◌≡◌, ◌≢◌, ◌⊎◌, ◌↔◌, [], ◌∷◌, ◌++◌, true, false, Some, None, Ok, Err, IfOk, IsErr};
-ghost use Rattle.std.specs.Prelude.{OnErr, IsTrue, length, refl};
+ghost use Rattle.std.specs.Prelude.{OnErr, IsOk, IsTrue, ◌<◌, length, refl};
 ghost use Rattle.nio_bytes.specs.Calls.{FailsNext};
 ghost use Rattle.nio_bytes.specs.Cause.{HasCause};
+ghost use Rattle.nio_link.specs.Accepts.{accepted_after, accepted_by};
 ghost use Rattle.nio_link.specs.Links.{Link, IsSameBut, IsGot, IsPut, after_read as carried_after_read};
 ghost use Rattle.nio_link.specs.Links.{after_write as carried_after_write, after_shut as carried_after_shut};
 ghost use Rattle.nio_link.specs.Readiness.{ready_after_read, ready_after_write, ready_after_accept};
@@ -30,6 +31,7 @@ use crate::memory::slot::{
 };
 use crate::net::{Failed, Got, Net, Put};
 use crate::place::Change;
+use crate::place_log::PlaceLog;
 use nio_base::{Addr, ChanNo, Ops};
 use nio_bytes::Calls;
 use nio_event::Mode;
@@ -50,11 +52,12 @@ pub struct MemoryNet {
     pub(crate) polls: Calls,
     pub(crate) accepts: Calls,
     pub(crate) faulted: Trace<ChanNo>,
-    pub(crate) changes: Trace<(ChanNo, Change)>,
+    pub(crate) log: PlaceLog,
     pub(crate) findings: Trace<Finding>,
 }
 
 impl Model for MemoryNet {
+    ghost use Rattle.std.specs.Prelude.{◌≤◌, vec_len};
     ghost use Rattle.nio_link.specs.MemoryNet.{NetState, AreFresh};
 
     ghost Value = { NetState };
@@ -66,11 +69,11 @@ impl Model for MemoryNet {
       polls = n.polls;
       accepts = n.accepts;
       faulted = n.faulted;
-      changes = n.changes;
+      changes = n.log.changes;
       findings = n.findings;
     } };
 
-    ghost invariant = { λ n. AreFresh n.clients.items × AreFresh n.targets.items };
+    ghost invariant = { λ n. AreFresh n.clients.items × AreFresh n.targets.items × (vec_len n.slots ≤ n.log.room) };
 }
 
 // Counts a failure of a call on this channel.
@@ -214,13 +217,14 @@ impl MemoryNet {
         ensures changes { self.new.changes ≡ self.old.changes ++ (chan, change.ShutWrite result) ∷ [] }
     {
         let result = self.shut_there(chan);
-        self.changes.push(&(chan, Change::ShutWrite(result)));
+        self.log.push(chan, Change::ShutWrite(result));
         result
     }
 
     fn shut_there(&mut self, chan: ChanNo) -> Result<(), Failed>
         ensures answer { result ≡ shut_answer (connected (slot_at self.old.slots chan)) }
         ensures after { self.new ≡ after_shut self.old chan }
+        ensures inside { IsOk result → chan.0 < length self.new.slots }
     {
         let result = shut_at(&mut self.slots, chan);
         count(&mut self.faulted, chan, &result);
@@ -235,13 +239,14 @@ impl MemoryNet {
         ensures changes { self.new.changes ≡ self.old.changes ++ (chan, change.FinishConnect result) ∷ [] }
     {
         let result = self.finish_there(chan);
-        self.changes.push(&(chan, Change::FinishConnect(result)));
+        self.log.push(chan, Change::FinishConnect(result));
         result
     }
 
     fn finish_there(&mut self, chan: ChanNo) -> Result<bool, Failed>
         ensures answer { result ≡ finish_answer (connecting (slot_at self.old.slots chan)) }
         ensures after { self.new ≡ after_finish self.old chan }
+        ensures inside { IsOk result → chan.0 < length self.new.slots }
     {
         let result = finish_at(&mut self.slots, chan);
         count(&mut self.faulted, chan, &result);
@@ -255,7 +260,7 @@ impl MemoryNet {
         ensures changes { self.new.changes ≡ self.old.changes ++ (chan, change.Listen at result) ∷ [] }
     {
         let result = self.put_listener(chan);
-        self.changes.push(&(chan, Change::Listen(at, result)));
+        self.log.push(chan, Change::Listen(at, result));
         result
     }
 
@@ -281,7 +286,7 @@ impl MemoryNet {
         ensures changes { self.new.changes ≡ self.old.changes ++ (chan, change.Connect to result) ∷ [] }
     {
         let result = self.put_target(chan);
-        self.changes.push(&(chan, Change::Connect(to, result)));
+        self.log.push(chan, Change::Connect(to, result));
         result
     }
 
@@ -317,7 +322,7 @@ impl MemoryNet {
         ensures changes { self.new.changes ≡ self.old.changes ++ (chan, change.Accept listener result) ∷ [] }
     {
         let result = self.put_client(listener, chan);
-        self.changes.push(&(chan, Change::Accept(listener, result)));
+        self.log.push(chan, Change::Accept(listener, result));
         result
     }
 
@@ -329,6 +334,7 @@ impl MemoryNet {
         ensures err { OnErr result (self.new ≡ after_failed_accept self.old listener) }
         ensures fresh { AreFresh self.old.clients }
         ensures changes { self.new.changes ≡ self.old.changes }
+        ensures inside { IsOk result → chan.0 < length self.new.slots }
     {
         let able = is_listener_at(&self.slots, listener) && is_free_at(&self.slots, chan);
         if self.accepts.next(able).is_err() {
@@ -349,7 +355,7 @@ impl MemoryNet {
         ensures changes { self.new.changes ≡ self.old.changes ++ (chan, change.Close) ∷ [] }
     {
         self.close_there(chan);
-        self.changes.push(&(chan, Change::Close));
+        self.log.push(chan, Change::Close);
     }
 
     fn close_there(&mut self, chan: ChanNo)
@@ -457,6 +463,8 @@ impl Net for MemoryNet {
 
     ghost place = { λ s. places_after s.changes };
 
+    ghost accepted = { λ s. accepted_by s.changes };
+
     fn listen(&mut self, chan: ChanNo, at: Addr) -> Result<(), Failed>
         // As every net.
         requires unused { places_after self.old.changes chan ≡ unused }
@@ -466,6 +474,7 @@ impl Net for MemoryNet {
         ensures ready { (c : ChanNo) → ready_told self.new.findings c ≡ ready_told self.old.findings c }
         ensures place { places_after self.new.changes chan ≡ place_after_listen result at }
         ensures places { IsSameBut chan (places_after self.old.changes) (places_after self.new.changes) }
+        ensures accepted { accepted_by self.new.changes ≡ accepted_by self.old.changes }
         ensures polls { self.new.polls.faults ≡ self.old.polls.faults }
 
         // By its plan.
@@ -489,6 +498,8 @@ impl Net for MemoryNet {
         ensures place { places_after self.new.changes chan
             ≡ place_after_accept result listener (places_after self.old.changes chan) }
         ensures places { IsSameBut chan (places_after self.old.changes) (places_after self.new.changes) }
+        ensures accepted { accepted_by self.new.changes
+            ≡ accepted_after result chan (accepted_by self.old.changes) }
         ensures polls { self.new.polls.faults ≡ self.old.polls.faults }
 
         // By its plan.
@@ -511,6 +522,7 @@ impl Net for MemoryNet {
         ensures ready { (c : ChanNo) → ready_told self.new.findings c ≡ ready_told self.old.findings c }
         ensures place { places_after self.new.changes chan ≡ place_after_connect result to }
         ensures places { IsSameBut chan (places_after self.old.changes) (places_after self.new.changes) }
+        ensures accepted { accepted_by self.new.changes ≡ accepted_by self.old.changes }
         ensures polls { self.new.polls.faults ≡ self.old.polls.faults }
 
         // By its plan.
@@ -533,6 +545,7 @@ impl Net for MemoryNet {
         ensures place { places_after self.new.changes chan
             ≡ place_after_finish result (places_after self.old.changes chan) }
         ensures places { IsSameBut chan (places_after self.old.changes) (places_after self.new.changes) }
+        ensures accepted { accepted_by self.new.changes ≡ accepted_by self.old.changes }
         ensures polls { self.new.polls.faults ≡ self.old.polls.faults }
 
         // By its plan.
@@ -557,6 +570,7 @@ impl Net for MemoryNet {
             ≡ ready_after_read result (ready_told self.old.findings chan) }
         ensures ready_else { IsSameBut chan (ready_told self.old.findings) (ready_told self.new.findings) }
         ensures places { (c : ChanNo) → places_after self.new.changes c ≡ places_after self.old.changes c }
+        ensures accepted { accepted_by self.new.changes ≡ accepted_by self.old.changes }
         ensures polls { self.new.polls.faults ≡ self.old.polls.faults }
 
         // By its plan.
@@ -582,6 +596,7 @@ impl Net for MemoryNet {
             ≡ ready_after_write result (ready_told self.old.findings chan) }
         ensures ready_else { IsSameBut chan (ready_told self.old.findings) (ready_told self.new.findings) }
         ensures places { (c : ChanNo) → places_after self.new.changes c ≡ places_after self.old.changes c }
+        ensures accepted { accepted_by self.new.changes ≡ accepted_by self.old.changes }
         ensures polls { self.new.polls.faults ≡ self.old.polls.faults }
 
         // By its plan.
@@ -602,6 +617,7 @@ impl Net for MemoryNet {
         ensures place { places_after self.new.changes chan
             ≡ place_after_shut result (places_after self.old.changes chan) }
         ensures places { IsSameBut chan (places_after self.old.changes) (places_after self.new.changes) }
+        ensures accepted { accepted_by self.new.changes ≡ accepted_by self.old.changes }
         ensures polls { self.new.polls.faults ≡ self.old.polls.faults }
 
         // By its plan.
@@ -618,6 +634,7 @@ impl Net for MemoryNet {
         ensures ready { (c : ChanNo) → ready_told self.new.findings c ≡ ready_told self.old.findings c }
         ensures place { places_after self.new.changes chan ≡ place_after_close (places_after self.old.changes chan) }
         ensures places { IsSameBut chan (places_after self.old.changes) (places_after self.new.changes) }
+        ensures accepted { accepted_by self.new.changes ≡ accepted_by self.old.changes }
         ensures polls { self.new.polls.faults ≡ self.old.polls.faults }
 
         // By its plan.
@@ -632,4 +649,6 @@ impl Net for MemoryNet {
     ghost kept_faults = { λ x y kept c. ap (λ faulted. times faulted c) kept.faulted };
 
     ghost kept_places = { λ x y kept c. ap (λ changes. places_after changes c) kept.changes };
+
+    ghost kept_accepted = { λ x y kept. ap accepted_by kept.changes };
 }

@@ -1,13 +1,20 @@
 //! What a net in memory is to do.
 ghost use Rattle.std.specs.Prelude.{◌≡◌, ◌≤◌, map, IfOk};
+ghost use Rattle.nio_base.specs.declared.numbers.ChanNo.{ChanNo};
+ghost use Rattle.nio_link.specs.Links.{IsUnused};
+ghost use Rattle.nio_link.specs.Places.{places_after, unused};
+ghost use Rattle.nio_link.specs.Slots.{carried_at};
 ghost use Rattle.nio_link.specs.NetPlans.{fresh_link, client_end, target_end, limit_of, numbers_of, planned};
 ghost use Rattle.nio_link.specs.Pieces.{total};
+ghost use Rattle.nio_link.specs.declared.memory.peer_no.PeerNo.TheVariants as peer;
 
 use crate::memory::link::MemoryLink;
 use crate::memory::memory_net::MemoryNet;
+use crate::memory::peer_no::PeerNo;
 use crate::memory::pieces::Pieces;
 use crate::memory::slot::Slot;
 use crate::memory::stage::Stage;
+use crate::place_log::PlaceLog;
 use nio_bytes::Calls;
 use nio_trace::Trace;
 use std::alloc::{AllocError, Global};
@@ -42,10 +49,19 @@ pub struct NetPlan {
 
 impl MemoryNet {
     /// A net with room for a listener and two links a peer: its channels have numbers up to twice the number of peers,
-    /// and a call on any other channel fails. It takes memory for all bytes of its plan; a write past them fails. A
-    /// link that `accept` makes is the client of the next peer, and one that `connect` makes is the target of the next
-    /// peer not yet connected. Each channel bears one link.
+    /// until a link is put in beyond them, and a call of `Net` on any other channel fails. It takes memory for all bytes
+    /// of its plan; a write past them fails. A link that `accept` makes is the client of the next peer, and one that
+    /// `connect` makes is the target of the next peer not yet connected. Each channel bears one link.
+    #[tactic(auto, using(crate::proofs::FreshNet::planned_unused, crate::proofs::FreshNet::planned_unasked))]
     pub fn make(alloc: Global, plan: NetPlan) -> Result<MemoryNet, AllocError>
+        ensures planned { IfOk result (λ net. net ≡ planned plan) }
+        ensures fresh { IfOk result (λ net. (c : ChanNo) → IsUnused (carried_at net.slots c)) }
+        ensures unasked { IfOk result (λ net. (c : ChanNo) → places_after net.changes c ≡ unused) }
+    {
+        Self::of_plan(alloc, plan)
+    }
+
+    fn of_plan(alloc: Global, plan: NetPlan) -> Result<MemoryNet, AllocError>
         ensures { IfOk result (λ net. net ≡ planned plan) }
     {
         let mut slots = Vec::new(alloc);
@@ -53,12 +69,13 @@ impl MemoryNet {
         let mut targets = Vec::new(alloc);
         slots.push(Slot::Free)?;
         for peer in plan.peers {
-            let (client, target) = ends_of(alloc, peer)?;
+            let (client, target) = ends_of(alloc, clients.len(), peer)?;
             clients.push(client)?;
             targets.push(target)?;
             slots.push(Slot::Free)?;
             slots.push(Slot::Free)?;
         }
+        let log = PlaceLog::make(alloc, slots.len())?;
         Ok(MemoryNet {
             slots,
             clients: VecDeque::from_vec(clients),
@@ -66,7 +83,7 @@ impl MemoryNet {
             polls: Calls::new(numbers(alloc, plan.fail_poll)?),
             accepts: Calls::new(numbers(alloc, plan.fail_accept)?),
             faulted: Trace::new(),
-            changes: Trace::new(),
+            log,
             findings: Trace::new(),
         })
     }
@@ -82,21 +99,27 @@ fn numbers(alloc: Global, number: Option<u64>) -> Result<Vec<u64>, AllocError>
     Ok(list)
 }
 
-// Both ends of a connection.
-fn ends_of(alloc: Global, peer: PeerPlan) -> Result<(MemoryLink, MemoryLink), AllocError>
-    ensures { IfOk result (λ ends. (ends.0 ≡ client_end peer) × (ends.1 ≡ target_end peer)) }
+// Both ends of the connection at this place of the plan.
+fn ends_of(
+    alloc: Global,
+    place: usize,
+    peer: PeerPlan,
+) -> Result<(MemoryLink, MemoryLink), AllocError>
+    ensures { IfOk result (λ ends. (ends.0 ≡ client_end place peer) × (ends.1 ≡ target_end place peer)) }
 {
     let sent = bytes_in(&peer.sends)?;
     let answered = bytes_in(&peer.answers)?;
     let limit = limit(peer.fail_write_after, sent);
-    let client = open(alloc, peer.sends, sent, usize::MAX, answered)?;
+    let mut client = open(alloc, peer.sends, sent, usize::MAX, answered)?;
+    client.peer = PeerNo::Planned(place);
     let mut target = open(alloc, peer.answers, answered, peer.most.max(1), limit)?;
+    target.peer = PeerNo::Planned(place);
     target.stage = Stage::Connecting;
     target.fail_connect = peer.fail_connect;
     Ok((client, target))
 }
 
-// An end that has carried nothing, and memory for what it is to carry.
+// An end of the first peer that has carried nothing, and memory for what it is to carry.
 fn open(
     alloc: Global,
     pieces: Vec<Vec<u8>>,
@@ -106,9 +129,11 @@ fn open(
 ) -> Result<MemoryLink, AllocError>
     requires count { count ≡ total (map (λ piece. piece.items) pieces.items) }
     requires most { 1 ≤ most }
-    ensures { IfOk result (λ link. link ≡ fresh_link (map (λ piece. piece.items) pieces.items) most limit) }
+    ensures { IfOk result (λ link. link
+        ≡ fresh_link (peer.Planned 0) (map (λ piece. piece.items) pieces.items) most limit) }
 {
     Ok(MemoryLink {
+        peer: PeerNo::Planned(0),
         stage: Stage::Connected,
         pieces: Pieces::make(Vec::new(alloc), pieces),
         got: Vec::with_capacity(alloc, count)?,

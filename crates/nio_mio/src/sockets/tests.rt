@@ -106,11 +106,34 @@ fn linked(rt: &HostRuntime, sockets: &mut Sockets) -> Result<TcpStream, Fail> {
     }
 }
 
-/// What a read gives once the system has told what came.
+/// What a read of the link gives once the system has told what came.
 fn next(rt: &HostRuntime, sockets: &mut Sockets) -> Result<Got, Fail> {
+    next_of(rt, sockets, LINK)
+}
+
+fn next_of(rt: &HostRuntime, sockets: &mut Sockets, chan: ChanNo) -> Result<Got, Fail> {
     sleep(rt, Duration::from_millis(50));
     sockets.poll_for(Some(Duration::ZERO))?;
-    Ok(sockets.read(LINK, &mut [0_u8; 64])?)
+    Ok(sockets.read(chan, &mut [0_u8; 64])?)
+}
+
+#[test]
+fn a_link_is_read_in_the_net_that_it_was_put_into(rt: HostRuntime) -> Result<(), Fail> {
+    let (mut from, _bell) = Sockets::make(&rt, rt.alloc())?;
+    let (mut to, _other_bell) = Sockets::make(&rt, rt.alloc())?;
+    let mut peer = linked(&rt, &mut from)?;
+    let stream = from.take_out(LINK);
+    assert!(rt; stream.is_some() && from.links == 0 && from.take_out(LINK).is_none());
+    let (beyond, unwatched) = (ChanNo(40_000), ChanNo(40_001));
+    to.grow(40_002)?;
+    to.put_in(beyond, stream);
+    peer.write_all(b"bytes")?;
+    assert_eq!(rt; next_of(&rt, &mut to, beyond)?, Got::Bytes(5));
+    // Where the system refuses to watch a link, the channel counts as ready, and its next call fails.
+    to.put_in(unwatched, None);
+    assert!(rt; not_yet(&to, unwatched, Ops::READ) == Outcome::Again);
+    assert!(rt; to.read(unwatched, &mut [0_u8; 64]) == Err(Failed));
+    Ok(())
 }
 
 #[test]

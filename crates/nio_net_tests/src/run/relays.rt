@@ -276,15 +276,6 @@ fn peer_plan(alloc: Global, peer: &Peer) -> Result<PeerPlan, AllocError> {
     })
 }
 
-/// A net of this plan.
-#[tactic(auto, using(crate::proofs::FreshNet::planned_unused, crate::proofs::FreshNet::planned_unasked))]
-fn make_net(alloc: Global, plan: NetPlan) -> Result<MemoryNet, AllocError>
-    ensures fresh { IfOk result (λ net. (c : ChanNo) → IsUnused (carried_at net.slots c)) }
-    ensures unasked { IfOk result (λ net. (c : ChanNo) → places_after net.changes c ≡ unused) }
-{
-    MemoryNet::make(alloc, plan)
-}
-
 /// A net that was just made, for these connections.
 pub(super) fn net_of(
     alloc: Global,
@@ -299,7 +290,7 @@ pub(super) fn net_of(
     for peer in peers {
         plans.push(peer_plan(alloc, peer)?)?;
     }
-    make_net(
+    MemoryNet::make(
         alloc,
         NetPlan {
             peers: plans,

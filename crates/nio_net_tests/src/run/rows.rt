@@ -14,7 +14,7 @@ use std::test::Fail;
 use std::thread::Threads;
 
 /// Lines of a script, each with its reply.
-type Lines = &'static [(&'static str, &'static str)];
+pub(super) type Lines = &'static [(&'static str, &'static str)];
 
 const SCRIPT_WORDS: &[&str] = &["script"];
 
@@ -380,14 +380,14 @@ const INDEX_GIVEN_AGAIN: Lines = &[
 
 /// A script and its history.
 #[derive(Drop)]
-struct Texts {
-    script: String,
-    history: String,
+pub(super) struct Texts {
+    pub(super) script: String,
+    pub(super) history: String,
     calls: u64,
 }
 
 impl Texts {
-    fn new(alloc: Global) -> Texts {
+    pub(super) fn new(alloc: Global) -> Texts {
         Texts {
             script: String::new(alloc),
             history: String::new(alloc),
@@ -396,7 +396,7 @@ impl Texts {
     }
 
     /// Adds lines at the end.
-    fn add(&mut self, alloc: Global, lines: Lines) -> Result<(), Fail> {
+    pub(super) fn add(&mut self, alloc: Global, lines: Lines) -> Result<(), Fail> {
         for (line, reply) in lines {
             self.calls = self.calls.saturating_add(1);
             let entry = format!(in alloc; "{} {line} -> {reply}\n", self.calls)?;

@@ -66,3 +66,19 @@ pub returns-in-Err-Memory-clause-proxy : goal.returns-in-Err-Memory-clause-proxy
 returns-in-Err-Memory-clause-proxy g c = λ plan says.
     unserved g.K.Sink plan (g.N.Net.link c.args.net.now) (g.N.Net.place c.args.net.now) (g.N.Net.faults c.args.net.now)
     (g.N.Poller.poll_faults c.args.net.now) c.args.output.now c.requires.fresh c.requires.unasked
+
+pub returns-in-Ok-Timed-clause-timed : goal.returns-in-Ok-Timed-clause-timed
+returns-in-Ok-Timed-clause-timed g c = λ words.
+    let does = c.run_timed.ensures in
+    record {
+      done = does.done;
+      bad_script = does.bad_script;
+      write_fault = does.write_fault;
+      memory = does.memory;
+      unread = does.unread;
+      ends = does.ends;
+      of_script = does.of_script;
+      of_bad = does.of_bad;
+      of_long = does.of_long;
+      complete = does.complete;
+    }

@@ -1,5 +1,5 @@
 use Rattle.std.proofs.Common.{arith}
-use Rattle.nio_command.specs.declared.command.Command.TheVariants.{Script, Check, CheckFirst, Race, Load, Proxy}
+use Rattle.nio_command.specs.declared.command.Command.TheVariants.{Script, Check, CheckFirst, Race, Timed, Load, Proxy}
 use Rattle.nio_run.proofs.Named.{not_proxy, or_memory}
 use Rattle.nio_run.proofs.words.named.Goals as goal
 
@@ -35,6 +35,15 @@ returns-clause-race c = let its =
     c.command_of.ensures in (
       its.found Race,
       λ says. its.only Race says
+          (λ lacks. not_proxy _ _ _ _ says (λ e. absurd (omega (arith, e)))
+          (record { rest = (its.memory lacks).0; begins = (its.memory lacks).1 })),
+    )
+
+pub returns-clause-timed : goal.returns-clause-timed
+returns-clause-timed c = let its =
+    c.command_of.ensures in (
+      its.found Timed,
+      λ says. its.only Timed says
           (λ lacks. not_proxy _ _ _ _ says (λ e. absurd (omega (arith, e)))
           (record { rest = (its.memory lacks).0; begins = (its.memory lacks).1 })),
     )

@@ -1,4 +1,4 @@
-use Rattle.nio_link.proofs.Changes.{changed_here, changed_else}
+use Rattle.nio_link.proofs.Changes.{accepted_here, changed_here, changed_else}
 use Rattle.nio_link.specs.declared.place.Change.TheVariants as change
 use Rattle.nio_link.proofs.MemoryLaws.{cause_after, cause_else, connects}
 use Rattle.nio_link.specs.MemoryNet.{connect_answer}
@@ -39,3 +39,8 @@ pub returns-clause-places : goal.returns-clause-places
 returns-clause-places c =
     rw c.connect_link.ensures.changes
     (changed_else c.args.self.now.changes c.args.chan (change.Connect c.args.to c.connect_link.result))
+
+pub returns-clause-accepted : goal.returns-clause-accepted
+returns-clause-accepted c =
+    rw c.connect_link.ensures.changes
+    (accepted_here c.args.self.now.changes c.args.chan (change.Connect c.args.to c.connect_link.result))

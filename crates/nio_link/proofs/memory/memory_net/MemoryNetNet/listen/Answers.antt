@@ -1,4 +1,4 @@
-use Rattle.nio_link.proofs.Changes.{changed_here, changed_else}
+use Rattle.nio_link.proofs.Changes.{accepted_here, changed_here, changed_else}
 use Rattle.nio_link.specs.declared.place.Change.TheVariants as change
 use Rattle.nio_link.proofs.MemoryLaws.{cause_after, cause_else, listen_carried, listen_faulted, listen_findings}
 use Rattle.nio_link.proofs.MemoryLaws.{listen_polls}
@@ -33,3 +33,8 @@ pub returns-clause-places : goal.returns-clause-places
 returns-clause-places c =
     rw c.listen_on.ensures.changes
     (changed_else c.args.self.now.changes c.args.chan (change.Listen c.args.at c.listen_on.result))
+
+pub returns-clause-accepted : goal.returns-clause-accepted
+returns-clause-accepted c =
+    rw c.listen_on.ensures.changes
+    (accepted_here c.args.self.now.changes c.args.chan (change.Listen c.args.at c.listen_on.result))

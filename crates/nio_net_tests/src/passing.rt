@@ -1,0 +1,183 @@
+//! Links that are handed from net to net, and a net whose calls use up jobs.
+ghost use Rattle.std.specs.Prelude.{◌≡◌, ◌≢◌, true, Ok, IfOk, IsTrue};
+ghost use Rattle.nio_base.specs.declared.group.OpKind.TheVariants as op;
+ghost use Rattle.nio_base.specs.declared.numbers.ChanNo.{ChanNo as Channel};
+ghost use Rattle.nio_link.specs.Links.{IsUnused};
+ghost use Rattle.nio_link.specs.Places.{places_after, unused};
+ghost use Rattle.nio_link.specs.Slots.{carried_at};
+ghost use Rattle.nio_link.specs.declared.place.Standing.TheVariants as standing;
+
+use nio_base::{Addr, ChanNo};
+use nio_group::{GKind, GroupCore, GroupLimits, Job, OpKind};
+use nio_link::{Failed, JobNet, MemoryNet, Net, NetPlan, Passable, PeerPlan, Put};
+use nio_mio::MioNet;
+use std::alloc::{AllocError, Global};
+use std::net::TcpListener;
+use std::test::Fail;
+
+const ANYWHERE: Addr = Addr {
+    ip: [127, 0, 0, 1],
+    port: 7,
+};
+
+/// Hands a link from one net to another.
+fn hand_over<N: Passable>(from: &mut N, out: ChanNo, to: &mut N, chan: ChanNo) -> bool
+    requires unused { IsUnused (N.link from.old out) }
+    requires unshut { (N.place from.old out).standing ≢ standing.Shut }
+    requires vacant { N.place to.old chan ≡ unused }
+{
+    match from.take_out(out) {
+        Some(link) => to.put_in(chan, link).is_ok(),
+        None => false,
+    }
+}
+
+/// A peer whose client sends 64 bytes, and whose target sends none.
+fn peer(alloc: Global, fail_connect: bool) -> Result<PeerPlan, AllocError> {
+    let mut sends = Vec::new(alloc);
+    sends.push(vec![in alloc; b'x'; 64]?)?;
+    Ok(PeerPlan {
+        sends,
+        answers: Vec::new(alloc),
+        most: 64,
+        fail_connect,
+        fail_write_after: None,
+    })
+}
+
+/// A net of two peers, of which the first can't be connected to.
+fn two_peers(alloc: Global) -> Result<MemoryNet, AllocError>
+    ensures unused { IfOk result (λ net. (c : Channel) → IsUnused (carried_at net.slots c)) }
+    ensures unasked { IfOk result (λ net. (c : Channel) → places_after net.changes c ≡ unused) }
+{
+    let mut peers = Vec::new(alloc);
+    peers.push(peer(alloc, true)?)?;
+    peers.push(peer(alloc, false)?)?;
+    MemoryNet::make(
+        alloc,
+        NetPlan {
+            peers,
+            fail_poll: None,
+            fail_accept: None,
+        },
+    )
+}
+
+/// A net without peers: it has channel 0 alone.
+fn no_peers(alloc: Global) -> Result<MemoryNet, AllocError>
+    ensures unasked { IfOk result (λ net. (c : Channel) → places_after net.changes c ≡ unused) }
+{
+    MemoryNet::make(
+        alloc,
+        NetPlan {
+            peers: Vec::new(alloc),
+            fail_poll: None,
+            fail_accept: None,
+        },
+    )
+}
+
+/// Accepts the next client. Nothing is carried by that.
+#[tactic(auto, using(nio_link::proofs::Changes::changed_here))]
+fn accept(net: &mut MemoryNet, chan: ChanNo) -> Result<bool, Failed>
+    ensures links { (c : Channel) → carried_at net.new.slots c ≡ carried_at net.old.slots c }
+    ensures linked { result ≡ Ok true → (places_after net.new.changes chan).standing ≡ standing.Linked }
+{
+    net.accept_link(ChanNo(0), chan)
+}
+
+/// Accepts both clients, under the channels 1 and 3.
+fn accept_both(net: &mut MemoryNet) -> bool
+    requires unused { (c : Channel) → IsUnused (carried_at net.old.slots c) }
+    requires unasked { (c : Channel) → places_after net.old.changes c ≡ unused }
+    ensures unused { IsUnused (carried_at net.new.slots (record { 0 = 3 })) }
+    ensures linked { IsTrue result → (places_after net.new.changes (record { 0 = 3 })).standing ≡ standing.Linked }
+{
+    let _listens = net.listen(ChanNo(0), ANYWHERE);
+    let _first = accept(net, ChanNo(1));
+    let second = accept(net, ChanNo(3));
+    is_made(second)
+}
+
+fn is_made(accepted: Result<bool, Failed>) -> bool
+    ensures { IsTrue result → accepted ≡ Ok true }
+{
+    matches!(accepted, Ok(true))
+}
+
+#[test]
+fn a_link_takes_its_own_peer_along(rt: HostRuntime) -> Result<(), Fail> {
+    let mut from = two_peers(rt.alloc())?;
+    let mut to = no_peers(rt.alloc())?;
+    let accepted = accept_both(&mut from);
+    assert!(rt; accepted);
+    let handed = hand_over(&mut from, ChanNo(3), &mut to, ChanNo(5));
+    assert!(rt; handed);
+    // Its target can be connected to in the other net; the target that stayed can't.
+    assert!(rt; to.connect_link(ChanNo(6), ANYWHERE) == Ok(false));
+    assert!(rt; to.finish_link(ChanNo(6)) == Ok(true));
+    assert!(rt; to.write_link(ChanNo(6), b"second") == Ok(Put::Bytes(6)));
+    assert!(rt; from.connect_link(ChanNo(2), ANYWHERE) == Ok(false));
+    assert!(rt; from.finish_link(ChanNo(2)) == Err(Failed));
+    assert!(rt; from.connect_link(ChanNo(4), ANYWHERE) == Err(Failed));
+    Ok(())
+}
+
+/// Connects a link in one net, and hands it to another.
+fn hand_connected<N: Passable>(from: &mut N, to: &mut N, at: Addr) -> Result<bool, Failed>
+    requires place { N.place from.old (record { 0 = 1 }) ≡ unused }
+    requires link { IsUnused (N.link from.old (record { 0 = 1 })) }
+    requires vacant { N.place to.old (record { 0 = 40000 }) ≡ unused }
+{
+    if !from.connect(ChanNo(1), at)? {
+        return Ok(false);
+    }
+    Ok(hand_over(from, ChanNo(1), to, ChanNo(40_000)))
+}
+
+#[test]
+fn a_connected_socket_goes_to_another_net(rt: HostRuntime) -> Result<(), Fail> {
+    let listener = TcpListener::bind(&rt, "127.0.0.1:0")?;
+    let at = Addr {
+        ip: [127, 0, 0, 1],
+        port: listener.local_addr()?.port(),
+    };
+    let (mut from, _bell) = MioNet::make(rt, rt.alloc())?;
+    let (mut to, _other_bell) = MioNet::make(rt, rt.alloc())?;
+    assert!(rt; hand_connected(&mut from, &mut to, at) == Ok(true));
+    Ok(())
+}
+
+/// Makes the call of a job that connects.
+fn connect_for<N: Net>(net: N, job: Job, chan: ChanNo) -> (Result<bool, Failed>, N)
+    requires kind { job.kind ≡ op.Connect }
+    requires its { job.chan.0 ≡ chan.0 }
+    requires unused { N.place net chan ≡ unused }
+{
+    let mut jobs = JobNet::over(net);
+    let made = jobs.try_connect(job, chan, ANYWHERE);
+    (made, jobs.into_net())
+}
+
+#[test]
+fn a_job_is_used_up(rt: HostRuntime) -> Result<(), Fail> {
+    let mut group = GroupCore::make(
+        rt.alloc(),
+        GroupLimits {
+            channels: 3,
+            flight: 1,
+            ops: 1,
+        },
+    )?;
+    let _listener = group.open_channel(GKind::Listener)?;
+    let _client = group.open_channel(GKind::Stream)?;
+    let target = group.open_channel(GKind::Stream)?;
+    let _op = group.start(target, OpKind::Connect, 0)?;
+    let net = two_peers(rt.alloc())?;
+    let made = match group.job(target, OpKind::Connect) {
+        Some(job) => connect_for(net, job, ChanNo(target.0)).0,
+        None => Err(Failed),
+    };
+    assert!(rt; made == Ok(false));
+    Ok(())
+}

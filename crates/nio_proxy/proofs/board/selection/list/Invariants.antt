@@ -1,6 +1,0 @@
-use Rattle.nio_poller.specs.Polls.{told_of_channel}
-use Rattle.nio_proxy.specs.Board.{AreReady}
-use Rattle.nio_proxy.proofs.board.selection.list.Given as goal
-
-abbrev pub invariant-loop-index : goal.invariant-loop-index
-invariant-loop-index l = AreReady (told_of_channel l.asked l.pairs) l.told.items

@@ -1,9 +1,0 @@
-use Rattle.nio_proxy.proofs.Promise.{all_vacant}
-use Rattle.nio_proxy.proofs.proxy.Proxy.close_all.Goals as goal
-
-pub returns-clause-vacant : goal.returns-clause-vacant
-returns-clause-vacant g c =
-    all_vacant (g.N.Net.link c.args.net.now) (g.N.Net.place c.args.net.now) (g.N.Net.place c.close_all.new.net)
-    (g.N.Net.place c.close_listener.new.net) c.args.self.now.connections c.requires.served
-    c.close_all.ensures.quiet.places c.close_listener.ensures.quiet.places c.close_all.ensures.closed
-    c.close_listener.ensures.vacant

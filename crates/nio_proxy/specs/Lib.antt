@@ -1,6 +1,0 @@
-pub mod Board
-pub mod Nets
-pub mod Passing
-pub mod Relaying
-pub mod Serving
-pub mod Slots

@@ -1,0 +1,108 @@
+-- A connection whose target is connected: before, while and after its connecting is begun.
+use Rattle.std.proofs.Common.{◌≡◌, Bool, true, false, Some, Result, Ok, Err, IsTrue, refl, sym, ap, subst, ◌∙◌}
+use Rattle.nio_base.specs.declared.numbers.Addr.{Addr}
+use Rattle.nio_link.specs.Links.{Link, IsUnused}
+use Rattle.nio_link.specs.Places.{unused, IsVacant, place_after_close, place_after_connect}
+use Rattle.nio_link.specs.declared.net.Failed.{Failed}
+use Rattle.nio_link.specs.declared.place.Place.{Place}
+use Rattle.nio_link.specs.declared.place.Role.{Role}
+use Rattle.nio_link.specs.declared.place.Role.TheVariants as role
+use Rattle.nio_link.specs.declared.place.Standing.TheVariants as standing
+use Rattle.nio_relay.specs.Flow.{Flow, fresh}
+use Rattle.nio_serve.specs.Nets.{OnlyCloses}
+use Rattle.nio_serve.specs.Relaying.{carried, stage_after, target_role, IsAsked, IsTarget}
+use Rattle.nio_serve.specs.Serving.{listener}
+use Rattle.nio_serve.specs.Slots.{HasRoles, IsLive, IsSlotOf}
+use Rattle.nio_serve.specs.declared.slot.Relay.{Relay}
+use Rattle.nio_serve.specs.declared.slot.Slot.TheVariants.{Live, Faulted}
+use Rattle.nio_serve.specs.declared.slot.Stage.{Stage}
+use Rattle.nio_serve.specs.declared.slot.Stage.TheVariants as stage
+use Rattle.nio_serve.proofs.Begun.{accepted_live, made_live}
+use Rattle.nio_serve.proofs.Promise.{ended_faulty}
+use Rattle.nio_serve.proofs.Working.{role_stays}
+
+-- ---- what its channels were asked to be
+
+asked_role : (s : Stage) (to : Addr) → IsAsked s → target_role s to ≡ role.Connected to
+asked_role stage.Accepted to asked = absurd asked
+asked_role stage.Connecting to asked = refl
+asked_role stage.Connected to asked = refl
+
+-- one whose target was asked for keeps its roles at its end
+pub ended_roles : (relay : Relay) (to : Addr) (r s : Role) → IsAsked relay.stage → HasRoles to (Some (Live relay)) r s
+    → (r ≡ role.Accepted listener) × (s ≡ role.Connected to)
+ended_roles relay to r s asked roles = (roles.0, roles.1 ∙ asked_role relay.stage to asked)
+
+-- the target of a connection whose directions are shut was asked for
+pub shut_asked : (s : Stage) (there back : Flow) (l : Link) (p : Place) → IsTarget s l p (carried back there)
+    → IsTrue there.shut → IsAsked s
+shut_asked stage.Accepted there back l p is shut = let never : true ≡ false = sym shut ∙ is.unshut in absurd (cc)
+shut_asked stage.Connecting there back l p is shut = tt
+shut_asked stage.Connected there back l p is shut = tt
+
+-- ---- a connection whose client was accepted
+
+pub accepted_slot : (relay : Relay) (to : Addr) (client target : Link) (p q : Place) → relay.there ≡ fresh
+    → relay.back ≡ fresh → relay.stage ≡ stage.Accepted → IsUnused client → IsUnused target
+    → p ≡ record { role = role.Accepted listener; standing = standing.Linked } → q ≡ unused
+    → IsSlotOf to (Some (Live relay)) client target p q
+accepted_slot relay to client target p q there back at c t accepted none =
+    let live : IsLive stage.Accepted fresh fresh client target p q =
+    accepted_live client target p q c t (ap (λ (x : Place). x.standing) accepted) none in
+    record {
+      is_slot = subst (λ s. IsLive s relay.there relay.back client target p q) (sym at)
+          (subst (λ f. IsLive stage.Accepted f relay.back client target p q) (sym there)
+          (subst (λ f. IsLive stage.Accepted fresh f client target p q) (sym back) live));
+      roles = (
+        ap (λ (x : Place). x.role) accepted,
+        ap (λ (x : Place). x.role) none ∙ ap (λ s. target_role s to) (sym at),
+      );
+    }
+
+-- ---- a connection whose target is asked for
+
+module _ (relay : Relay) (to : Addr) (c0 c1 t0 t1 : Link) (p0 p1 q0 q1 : Place)
+    (at : relay.stage ≡ stage.Accepted) (is : IsSlotOf to (Some (Live relay)) c0 t0 p0 q0) (clients : c1 ≡ c0)
+    (targets : t1 ≡ t0) where
+  live : IsLive stage.Accepted relay.there relay.back c0 t0 p0 q0
+  live = subst (λ s. IsLive s relay.there relay.back c0 t0 p0 q0) at is.is_slot
+
+  made_role : (made : Bool) → target_role (stage_after made) to ≡ role.Connected to
+  made_role true = refl
+  made_role false = refl
+
+  answered_role : (result : Result Bool Failed) → q1 ≡ place_after_connect result to → q1.role ≡ role.Connected to
+  answered_role (Ok true) place = ap (λ (x : Place). x.role) place
+  answered_role (Ok false) place = ap (λ (x : Place). x.role) place
+  answered_role (Err failed) place = ap (λ (x : Place). x.role) place
+
+  -- it is connected, or is being connected
+  pub made_slot : (now : Relay) (made : Bool) → now.there ≡ relay.there → now.back ≡ relay.back
+      → now.stage ≡ stage_after made → p1 ≡ p0 → q1 ≡ place_after_connect (Ok made) to
+      → IsSlotOf to (Some (Live now)) c1 t1 p1 q1
+  made_slot now made there back stages at_client at_target =
+      let here : IsLive (stage_after made) relay.there relay.back c1 t1 p1 q1 =
+      made_live made to relay.there relay.back c0 c1 t0 t1 p0 p1 q0 q1 live clients targets at_client at_target in
+      record {
+        is_slot = subst (λ s. IsLive s now.there now.back c1 t1 p1 q1) (sym stages)
+            (subst (λ f. IsLive (stage_after made) f now.back c1 t1 p1 q1) (sym there)
+            (subst (λ f. IsLive (stage_after made) relay.there f c1 t1 p1 q1) (sym back) here));
+        roles = (
+          ap (λ (x : Place). x.role) at_client ∙ is.roles.0,
+          answered_role (Ok made) at_target
+              ∙ sym (ap (λ s. target_role s to) stages ∙ made_role made),
+        );
+      }
+
+  -- it can't be connected, and its links were closed
+  pub unmade_slot : (failed : Failed) (p2 q2 : Place) → p1 ≡ p0 → q1 ≡ place_after_connect (Err failed) to
+      → p2 ≡ place_after_close p1 → OnlyCloses q1 q2 → IsVacant q2.standing → IsSlotOf to (Some Faulted) c1 t1 p2 q2
+  unmade_slot failed p2 q2 at_client at_target closed closes vacant = record {
+    is_slot = ended_faulty relay.there relay.back c0 c1 t0 t1 p0 p2 q2 live.there_lawful live.back_lawful
+        (record { by_client = live.relaying.by_client; by_target = live.relaying.by_target.carried }) clients targets
+        (closed ∙ ap place_after_close at_client) vacant;
+    roles = (
+      ap (λ (x : Place). x.role) closed ∙ (ap (λ (x : Place). x.role) at_client ∙ is.roles.0),
+      role_stays q1 q2 closes ∙ answered_role (Err failed) at_target,
+    );
+  }

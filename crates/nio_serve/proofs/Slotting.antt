@@ -1,0 +1,686 @@
+-- One connection's slot changes, and the others stay.
+use Rattle.std.proofs.Common.{◌≡◌, ◌≢◌, ℕ, zero, suc, ◌+◌, ◌*◌, ◌<◌, ◌≤◌, ◌⊎◌, inl, inr, Bool, true, false, IsTrue}
+use Rattle.std.proofs.Common.{IsFalse, Option, Some, None, List, [], ◌∷◌, ◌++◌, length, set, slice_get, vec_capacity}
+use Rattle.std.proofs.Common.{refl, sym, ap, subst, ◌∙◌, arith, add-one, append_assoc, length-append}
+use Rattle.std.proofs.lemmas.Bool.{cases_order}
+use Rattle.std.proofs.lemmas.Option.{slice_get_past, slice_get_within}
+use Rattle.nio_base.specs.declared.numbers.Addr.{Addr}
+use Rattle.nio_base.specs.declared.numbers.ChanNo.{ChanNo}
+use Rattle.nio_bytes.specs.Cause.{Rose}
+use Rattle.nio_link.specs.Links.{Link, IsSameBut, IsUnused}
+use Rattle.nio_link.specs.Places.{unused, IsVacant}
+use Rattle.nio_link.specs.declared.place.Place.{Place}
+use Rattle.nio_link.specs.declared.place.Role.{Role}
+use Rattle.nio_link.specs.declared.place.Role.TheVariants as role
+use Rattle.nio_link.specs.declared.place.Standing.TheVariants.{Nothing}
+use Rattle.nio_serve.specs.Serving.{HasFaulted, IsUnfaulted, client_of, target_of, listener, clients_below, count_below}
+use Rattle.nio_serve.specs.declared.way.Way.{Ghosts}
+use Rattle.nio_serve.specs.Nets.{Begins, FailsToAccept, IsQuiet, IsStill, Works}
+use Rattle.nio_serve.specs.Passing.{BothSame, OneRose}
+use Rattle.nio_serve.specs.Slots.{IsSlot, IsUnbegun, HasRoles, IsSlotOf, AreSlots, AreServed, ListensAt, Serving}
+use Rattle.nio_serve.specs.Slots.{has_ended, has_faulted, was_accepted}
+use Rattle.nio_serve.specs.declared.board.Port.{Port}
+use Rattle.nio_serve.specs.declared.connections.Connections.{Connections}
+use Rattle.nio_serve.specs.declared.slot.Relay.{Relay}
+use Rattle.nio_serve.specs.declared.slot.Slot.{Slot}
+use Rattle.nio_serve.specs.declared.slot.Slot.TheVariants.{Live, Unaccepted}
+use Rattle.nio_serve.proofs.Counts.{one_if, count-same, count_one}
+use Rattle.nio_serve.proofs.Working.{rose_from, rose_on}
+
+-- ---- lists
+
+pub get-set_same : {X : Type 0} (xs : List X) (k : ℕ) (x : X) → k < length xs → slice_get (set xs k x) k ≡ Some x
+get-set_same [] k x few = absurd (omega arith)
+get-set_same (y ∷ ys) zero x few = refl
+get-set_same (y ∷ ys) (suc k) x few = get-set_same ys k x (omega arith)
+
+pub get-set_other : {X : Type 0} (xs : List X) (k j : ℕ) (x : X) → j ≢ k → slice_get (set xs k x) j ≡ slice_get xs j
+get-set_other [] k j x other = refl
+get-set_other (y ∷ ys) zero zero x other = absurd (other refl)
+get-set_other (y ∷ ys) zero (suc j) x other = refl
+get-set_other (y ∷ ys) (suc k) zero x other = refl
+get-set_other (y ∷ ys) (suc k) (suc j) x other = get-set_other ys k j x (λ same. other (ap suc same))
+
+pub get-push_same : {X : Type 0} (xs : List X) (x : X) → slice_get (xs ++ x ∷ []) (length xs) ≡ Some x
+get-push_same [] x = refl
+get-push_same (y ∷ ys) x = get-push_same ys x
+
+pub get-push_other : {X : Type 0} (xs : List X) (j : ℕ) (x : X) → j ≢ length xs
+    → slice_get (xs ++ x ∷ []) j ≡ slice_get xs j
+get-push_other [] zero x other = absurd (other refl)
+get-push_other [] (suc j) x other = refl
+get-push_other (y ∷ ys) zero x other = refl
+get-push_other (y ∷ ys) (suc j) x other = get-push_other ys j x (λ same. other (ap suc same))
+
+-- ---- channels
+
+pub client_else : (j k : ℕ) → j ≢ k → client_of j ≢ client_of k
+client_else j k other same = other (let at : 2 * j + 1 ≡ 2 * k + 1 = ap (λ c. c.0) same in omega arith)
+
+pub target_else : (j k : ℕ) → j ≢ k → target_of j ≢ target_of k
+target_else j k other same = other (let at : 2 * j + 2 ≡ 2 * k + 2 = ap (λ c. c.0) same in omega arith)
+
+pub client_target : (j k : ℕ) → client_of j ≢ target_of k
+client_target j k same = let at : 2 * j + 1 ≡ 2 * k + 2 = ap (λ c. c.0) same in omega arith
+
+pub client_listener : (k : ℕ) → client_of k ≢ listener
+client_listener k same = let at : 2 * k + 1 ≡ 0 = ap (λ c. c.0) same in omega arith
+
+pub target_listener : (k : ℕ) → target_of k ≢ listener
+target_listener k same = let at : 2 * k + 2 ≡ 0 = ap (λ c. c.0) same in omega arith
+
+-- only these two channels may have changed
+abbrev pub IsSameElse : {A : Type 0} → ChanNo → ChanNo → (ChanNo → A) → (ChanNo → A) → Type 0
+IsSameElse a b before now = (c : ChanNo) → c ≢ a → c ≢ b → now c ≡ before c
+
+-- the two channels of another connection
+module _ {A : Type 0} (before now : ChanNo → A) (k j : ℕ) (same : IsSameElse (client_of k) (target_of k) before now)
+    (other : j ≢ k) where
+  pub same_client : now (client_of j) ≡ before (client_of j)
+  same_client = same (client_of j) (client_else j k other) (client_target j k)
+
+  pub same_target : now (target_of j) ≡ before (target_of j)
+  same_target = same (target_of j) (λ at. client_target k j (sym at)) (target_else j k other)
+
+-- ---- a change of one slot
+
+-- the slots are the same but the one of the connection k
+pub record Changes (before now : List Slot) (k : ℕ) (slot : Slot) : Type 0 where
+  pub here : slice_get now k ≡ Some slot
+  pub else_ : (j : ℕ) → j ≢ k → slice_get now j ≡ slice_get before j
+
+pub changes_set : (slots : List Slot) (k : ℕ) (slot : Slot) → k < length slots → Changes slots (set slots k slot) k slot
+changes_set slots k slot few =
+    record { here = get-set_same slots k slot few; else_ = λ j other. get-set_other slots k j slot other }
+
+pub changes_push : (slots : List Slot) (slot : Slot) → Changes slots (slots ++ slot ∷ []) (length slots) slot
+changes_push slots slot =
+    record { here = get-push_same slots slot; else_ = λ j other. get-push_other slots j slot other }
+
+is_slot_as : (to : Addr) (a b : Option Slot) (c0 c1 t0 t1 : Link) (p0 p1 q0 q1 : Place) → b ≡ a → c1 ≡ c0 → t1 ≡ t0
+    → p1 ≡ p0 → q1 ≡ q0
+    → IsSlotOf to a c0 t0 p0 q0 → IsSlotOf to b c1 t1 p1 q1
+is_slot_as to a b c0 c1 t0 t1 p0 p1 q0 q1 slots clients targets at_clients at_targets is =
+    subst (λ s. IsSlotOf to s c1 t1 p1 q1) (sym slots)
+    (subst (λ c. IsSlotOf to a c t1 p1 q1) (sym clients) (subst (λ t. IsSlotOf to a c0 t p1 q1) (sym targets)
+    (subst (λ p. IsSlotOf to a c0 t0 p q1) (sym at_clients)
+    (subst (λ q. IsSlotOf to a c0 t0 p0 q) (sym at_targets) is))))
+
+module _ (to : Addr) (link0 link1 : ChanNo → Link) (place0 place1 : ChanNo → Place) (before now : List Slot) (k : ℕ)
+    (slot : Slot) where
+  pub slots_change : AreSlots to link0 place0 before → Changes before now k slot
+      → IsSameElse (client_of k) (target_of k) link0 link1 → IsSameElse (client_of k) (target_of k) place0 place1
+      → IsSlotOf to (Some slot) (link1 (client_of k)) (link1 (target_of k)) (place1 (client_of k))
+      (place1 (target_of k)) → AreSlots to link1 place1 now
+  slots_change slots changes links places is j = elim (cases_order j k) [
+    | inl at ↦ subst
+        (λ i. IsSlotOf to (slice_get now i) (link1 (client_of i)) (link1 (target_of i)) (place1 (client_of i))
+        (place1 (target_of i))) (sym at)
+        (subst (λ s. IsSlotOf to s (link1 (client_of k)) (link1 (target_of k)) (place1 (client_of k))
+        (place1 (target_of k))) (sym changes.here) is)
+    | inr (inl less) ↦ stays (λ at. absurd (omega arith))
+    | inr (inr more) ↦ stays (λ at. absurd (omega arith))
+  ]
+    where
+      stays : j ≢ k
+          → IsSlotOf to (slice_get now j) (link1 (client_of j)) (link1 (target_of j)) (place1 (client_of j))
+          (place1 (target_of j))
+      stays other =
+          is_slot_as to (slice_get before j) (slice_get now j) (link0 (client_of j)) (link1 (client_of j))
+          (link0 (target_of j)) (link1 (target_of j))
+          (place0 (client_of j)) (place1 (client_of j)) (place0 (target_of j)) (place1 (target_of j))
+          (changes.else_ j other)
+          (same_client link0 link1 k j links other) (same_target link0 link1 k j links other)
+          (same_client place0 place1 k j places other) (same_target place0 place1 k j places other) (slots j)
+
+-- the work left the links of connections alone
+pub slots_still : (to : Addr) (link0 link1 : ChanNo → Link) (place0 place1 : ChanNo → Place) (slots : List Slot)
+    → ((c : ChanNo) → link1 c ≡ link0 c) → IsSameBut listener place0 place1
+    → AreSlots to link0 place0 slots → AreSlots to link1 place1 slots
+slots_still to link0 link1 place0 place1 slots links places are j =
+    is_slot_as to (slice_get slots j) (slice_get slots j) (link0 (client_of j)) (link1 (client_of j))
+    (link0 (target_of j)) (link1 (target_of j))
+    (place0 (client_of j)) (place1 (client_of j)) (place0 (target_of j)) (place1 (target_of j)) refl
+    (links (client_of j)) (links (target_of j))
+    (places (client_of j) (client_listener j)) (places (target_of j) (target_listener j)) (are j)
+
+-- ---- faults
+
+pub faulted_on : (before mid now : ChanNo → ℕ) (k : ℕ) → ((c : ChanNo) → before c ≤ mid c)
+    → ((c : ChanNo) → mid c ≤ now c) → HasFaulted before mid k → HasFaulted before now k
+faulted_on before mid now k first second (inl rose) =
+    inl (rose_on _ _ _ (first (client_of k)) rose (second (client_of k)))
+faulted_on before mid now k first second (inr rose) =
+    inr (rose_on _ _ _ (first (target_of k)) rose (second (target_of k)))
+
+pub faulted_from : (before mid now : ChanNo → ℕ) (k : ℕ) → ((c : ChanNo) → before c ≤ mid c) → HasFaulted mid now k
+    → HasFaulted before now k
+faulted_from before mid now k first (inl rose) = inl (rose_from _ _ _ (first (client_of k)) rose)
+faulted_from before mid now k first (inr rose) = inr (rose_from _ _ _ (first (target_of k)) rose)
+
+pub unfaulted_then : (before mid now : ChanNo → ℕ) (k : ℕ) → IsUnfaulted before mid k → IsUnfaulted mid now k
+    → IsUnfaulted before now k
+unfaulted_then before mid now k first second =
+    record { client = second.client ∙ first.client; target = second.target ∙ first.target }
+
+pub not_true : (b : Bool) → IsFalse b → IsTrue b → ⊥
+not_true true is_false is_true = cc
+not_true false is_false is_true = cc
+
+false_before : (a b : Bool) → (IsTrue a → IsTrue b) → IsFalse b → IsFalse a
+false_before true b lasts is = absurd (not_true b is (lasts refl))
+false_before false b lasts is = refl
+
+-- ---- all connections
+
+module _ (k : ℕ) (slot : Slot) (link0 link1 : ChanNo → Link) (place0 place1 : ChanNo → Place)
+    (c0 c1 : Connections) where
+  pub served_change : AreServed link0 place0 c0 → k < c0.conns → c1.conns ≡ c0.conns → c1.target ≡ c0.target
+      → c0.conns ≤ vec_capacity c1.slots → length c1.slots.items ≤ c0.conns
+      → Changes c0.slots.items c1.slots.items k slot → IsSameElse (client_of k) (target_of k) link0 link1
+      → IsSameElse (client_of k) (target_of k) place0 place1
+      → IsSlotOf c0.target (Some slot) (link1 (client_of k)) (link1 (target_of k)) (place1 (client_of k))
+      (place1 (target_of k))
+      → has_ended (slice_get c0.slots.items k) ≡ false → has_faulted (slice_get c0.slots.items k) ≡ false
+      → c1.ended ≡ c0.ended + one_if (has_ended (Some slot))
+      → c1.faulted ≡ c0.faulted + one_if (has_faulted (Some slot))
+      → c1.accepted ≡ count_below (λ j. was_accepted (slice_get c1.slots.items j)) c1.conns
+      → (IsTrue c1.is_listening → c1.accepted ≡ length c1.slots.items) → AreServed link1 place1 c1
+  served_change served few conns target room short changes links places is not_ended not_faulted ended faulted accepted
+      whole =
+      record {
+        slots = subst (λ to. AreSlots to link1 place1 c1.slots.items) (sym target)
+            (slots_change c0.target link0 link1 place0 place1 c0.slots.items c1.slots.items k slot served.slots changes
+            links places is);
+        few = omega (arith, short, conns);
+        room = omega (arith, room, conns);
+        bound = omega (arith, served.bound, conns);
+        accepted = accepted;
+        whole = whole;
+        ended = ended ∙ ap (λ n. n + one_if (has_ended (Some slot))) served.ended
+            ∙ sym (count_one (λ j. has_ended (slice_get c0.slots.items j)) (λ j. has_ended (slice_get c1.slots.items j))
+            k
+            c0.conns few not_ended (λ j other. ap has_ended (changes.else_ j other))
+            ∙ ap (λ (s : Option Slot). count_below (λ j. has_ended (slice_get c0.slots.items j)) c0.conns
+            + one_if (has_ended s)) changes.here)
+            ∙ ap (count_below (λ j. has_ended (slice_get c1.slots.items j))) (sym conns);
+        faulted = faulted ∙ ap (λ n. n + one_if (has_faulted (Some slot))) served.faulted
+            ∙ sym (count_one (λ j. has_faulted (slice_get c0.slots.items j))
+            (λ j. has_faulted (slice_get c1.slots.items j))
+            k c0.conns few not_faulted (λ j other. ap has_faulted (changes.else_ j other))
+            ∙ ap (λ (s : Option Slot). count_below (λ j. has_faulted (slice_get c0.slots.items j)) c0.conns
+            + one_if (has_faulted s)) changes.here)
+            ∙ ap (count_below (λ j. has_faulted (slice_get c1.slots.items j))) (sym conns);
+      }
+
+-- how many were accepted, where one connection changed that was accepted before
+pub accepted_set : (k : ℕ) (slot : Slot) (relay : Relay) (c0 c1 : Connections)
+    → c0.accepted ≡ count_below (λ j. was_accepted (slice_get c0.slots.items j)) c0.conns
+    → slice_get c0.slots.items k ≡ Some (Live relay) → Changes c0.slots.items c1.slots.items k slot
+    → IsTrue (was_accepted (Some slot)) → c1.accepted ≡ c0.accepted → c1.conns ≡ c0.conns
+    → c1.accepted ≡ count_below (λ j. was_accepted (slice_get c1.slots.items j)) c1.conns
+accepted_set k slot relay c0 c1 count was changes stands same conns =
+    same
+    ∙ (count
+    ∙ (sym (count-same (λ j. was_accepted (slice_get c0.slots.items j)) (λ j. was_accepted (slice_get c1.slots.items j))
+    c0.conns (λ j _. at j))
+    ∙ ap (count_below (λ j. was_accepted (slice_get c1.slots.items j))) (sym conns)))
+  where
+    here : was_accepted (slice_get c1.slots.items k) ≡ was_accepted (slice_get c0.slots.items k)
+    here = ap was_accepted changes.here ∙ (stands ∙ sym (ap was_accepted was))
+
+    at : (j : ℕ) → was_accepted (slice_get c1.slots.items j) ≡ was_accepted (slice_get c0.slots.items j)
+    at j = elim (cases_order j k) [
+      | inl same_index ↦ subst
+          (λ i. was_accepted (slice_get c1.slots.items i) ≡ was_accepted (slice_get c0.slots.items i)) (sym same_index)
+          here
+      | inr (inl less) ↦ ap was_accepted (changes.else_ j (λ is. absurd (omega arith)))
+      | inr (inr more) ↦ ap was_accepted (changes.else_ j (λ is. absurd (omega arith)))
+    ]
+
+-- where the next one came, accepted or not
+pub accepted_push : (k : ℕ) (slot : Slot) (c0 c1 : Connections)
+    → c0.accepted ≡ count_below (λ j. was_accepted (slice_get c0.slots.items j)) c0.conns
+    → k < c0.conns → slice_get c0.slots.items k ≡ None → Changes c0.slots.items c1.slots.items k slot
+    → c1.accepted ≡ c0.accepted + one_if (was_accepted (Some slot)) → c1.conns ≡ c0.conns
+    → c1.accepted ≡ count_below (λ j. was_accepted (slice_get c1.slots.items j)) c1.conns
+accepted_push k slot c0 c1 count few none changes more conns =
+    more
+    ∙ (ap (λ n. n + one_if (was_accepted (Some slot))) count
+    ∙ (sym (count_one (λ j. was_accepted (slice_get c0.slots.items j))
+    (λ j. was_accepted (slice_get c1.slots.items j)) k
+    c0.conns few (ap was_accepted none) (λ j other. ap was_accepted (changes.else_ j other))
+    ∙ ap (λ (s : Option Slot). count_below (λ j. was_accepted (slice_get c0.slots.items j)) c0.conns
+    + one_if (was_accepted s)) changes.here)
+    ∙ ap (count_below (λ j. was_accepted (slice_get c1.slots.items j))) (sym conns)))
+
+module _ (k : ℕ) (slot : Slot) (faults0 faults1 : ChanNo → ℕ) (c0 c1 : Connections) where
+  pub faulty_change : Changes c0.slots.items c1.slots.items k slot
+      → (IsTrue (has_faulted (Some slot)) → HasFaulted faults0 faults1 k)
+      → (j : ℕ) → IsTrue (has_faulted (slice_get c1.slots.items j)) → IsTrue (has_faulted (slice_get c0.slots.items j))
+      ⊎ HasFaulted faults0 faults1 j
+  faulty_change changes faulty j is = elim (cases_order j k) [
+    | inl at ↦ inr
+        (subst (HasFaulted faults0 faults1) (sym at)
+        (faulty (ap has_faulted (sym changes.here) ∙ ap (λ i. has_faulted (slice_get c1.slots.items i)) (sym at)
+        ∙ is)))
+    | inr (inl less) ↦ inl (ap has_faulted (sym (changes.else_ j (λ at. absurd (omega arith)))) ∙ is)
+    | inr (inr more) ↦ inl (ap has_faulted (sym (changes.else_ j (λ at. absurd (omega arith)))) ∙ is)
+  ]
+
+  -- the connection hadn't ended by a fault
+  pub lasting_change : Changes c0.slots.items c1.slots.items k slot → has_faulted (slice_get c0.slots.items k) ≡ false
+      → (j : ℕ) → IsTrue (has_faulted (slice_get c0.slots.items j)) → IsTrue (has_faulted (slice_get c1.slots.items j))
+  lasting_change changes was j is = elim (cases_order j k) [
+    | inl at ↦ absurd
+        (not_true (has_faulted (slice_get c0.slots.items j))
+        (ap (λ i. has_faulted (slice_get c0.slots.items i)) at ∙ was) is)
+    | inr (inl less) ↦ ap has_faulted (changes.else_ j (λ at. absurd (omega arith))) ∙ is
+    | inr (inr more) ↦ ap has_faulted (changes.else_ j (λ at. absurd (omega arith))) ∙ is
+  ]
+
+  pub unfaulted_change : Changes c0.slots.items c1.slots.items k slot
+      → (IsFalse (has_faulted (Some slot)) → IsUnfaulted faults0 faults1 k)
+      → IsSameElse (client_of k) (target_of k) faults0 faults1 → (j : ℕ)
+      → IsFalse (has_faulted (slice_get c1.slots.items j)) → IsUnfaulted faults0 faults1 j
+  unfaulted_change changes unfaulted same j is = elim (cases_order j k) [
+    | inl at ↦ subst (IsUnfaulted faults0 faults1) (sym at)
+        (unfaulted (ap has_faulted (sym changes.here) ∙ ap (λ i. has_faulted (slice_get c1.slots.items i)) (sym at)
+        ∙ is))
+    | inr (inl less) ↦ stays (λ at. absurd (omega arith))
+    | inr (inr more) ↦ stays (λ at. absurd (omega arith))
+  ]
+    where
+      stays : j ≢ k → IsUnfaulted faults0 faults1 j
+      stays other =
+          record {
+            client = same_client faults0 faults1 k j same other;
+            target = same_target faults0 faults1 k j same other;
+          }
+
+-- no connection has carried more, and they are the same
+pub served_still : (link0 link1 : ChanNo → Link) (place0 place1 : ChanNo → Place) (c : Connections)
+    → AreServed link0 place0 c → ((k : ChanNo) → link1 k ≡ link0 k)
+    → IsSameBut listener place0 place1 → AreServed link1 place1 c
+served_still link0 link1 place0 place1 c served links places = record {
+  slots = slots_still c.target link0 link1 place0 place1 c.slots.items links places served.slots;
+  few = served.few;
+  room = served.room;
+  bound = served.bound;
+  accepted = served.accepted;
+  whole = served.whole;
+  ended = served.ended;
+  faulted = served.faulted;
+}
+
+-- the next connection hasn't been begun
+pub next_unbegun : (link : ChanNo → Link) (place : ChanNo → Place) (c : Connections) (client target : ChanNo)
+    → AreServed link place c
+    → client ≡ client_of (length c.slots.items) → target ≡ target_of (length c.slots.items)
+    → IsUnbegun (link client) (link target) (place client) (place target)
+next_unbegun link place c client target served is_client is_target =
+    let k = length c.slots.items in
+    let none : slice_get c.slots.items k ≡ None = slice_get_past c.slots.items k (omega arith) in
+    let next : IsUnbegun (link (client_of k)) (link (target_of k)) (place (client_of k)) (place (target_of k)) =
+    subst (λ s. IsSlot s (link (client_of k)) (link (target_of k)) (place (client_of k)) (place (target_of k))) none
+    (served.slots k).is_slot in
+    subst (λ a. IsUnbegun (link a) (link target) (place a) (place target)) (sym is_client)
+    (subst (λ b. IsUnbegun (link (client_of k)) (link b) (place (client_of k)) (place b)) (sym is_target) next)
+
+module _ {W N : Type 0} (n : Ghosts W N) where
+  -- what stands of a connection that hasn't ended
+  pub slot_is : (k : ℕ) (relay : Relay) (client target : ChanNo) (x : N) (c : Connections) → client ≡ client_of k
+      → target ≡ target_of k → AreServed (n.link x) (n.place x) c → slice_get c.slots.items k ≡ Some (Live relay)
+      → IsSlotOf c.target (Some (Live relay)) (n.link x client) (n.link x target) (n.place x client) (n.place x target)
+  slot_is k relay client target x c is_client is_target served was =
+      subst (λ a. IsSlotOf c.target (Some (Live relay)) (n.link x a) (n.link x target) (n.place x a)
+      (n.place x target)) (sym is_client)
+      (subst (λ b. IsSlotOf c.target (Some (Live relay)) (n.link x (client_of k)) (n.link x b)
+      (n.place x (client_of k)) (n.place x b)) (sym is_target)
+      (subst (λ s. IsSlotOf c.target s (n.link x (client_of k)) (n.link x (target_of k)) (n.place x (client_of k))
+      (n.place x (target_of k))) was (served.slots k)))
+
+  -- the accepted links stay those of the first connections
+  abbrev KeepsOrder : N → N → Connections → Connections → Type 0
+  KeepsOrder x y c0 c1 = (start : List ChanNo) → n.accepted x ≡ start ++ clients_below c0.accepted
+      → n.accepted y ≡ start ++ clients_below c1.accepted
+
+  order_still : (x y : N) (c0 c1 : Connections) → n.accepted y ≡ n.accepted x → c1.accepted ≡ c0.accepted
+      → KeepsOrder x y c0 c1
+  order_still x y c0 c1 none accepted start is =
+      none ∙ (is ∙ ap (λ m. start ++ clients_below m) (sym accepted))
+
+  order_more : (x y : N) (c0 c1 : Connections) → n.accepted y ≡ n.accepted x ++ client_of c0.accepted ∷ []
+      → c1.accepted ≡ c0.accepted + 1 → KeepsOrder x y c0 c1
+  order_more x y c0 c1 more accepted start is =
+      more
+      ∙ (ap (λ xs. xs ++ client_of c0.accepted ∷ []) is
+      ∙ (append_assoc start (clients_below c0.accepted) (client_of c0.accepted ∷ [])
+      ∙ ap (λ m. start ++ clients_below m) (sym (accepted ∙ add-one c0.accepted))))
+
+  whole_still : (c0 c1 : Connections) → (IsTrue c0.is_listening → c0.accepted ≡ length c0.slots.items)
+      → c1.accepted ≡ c0.accepted → c1.is_listening ≡ c0.is_listening
+      → length c1.slots.items ≡ length c0.slots.items → IsTrue c1.is_listening → c1.accepted ≡ length c1.slots.items
+  whole_still c0 c1 whole accepted listening short is =
+      accepted ∙ (whole (sym listening ∙ is) ∙ sym short)
+
+  pub serving_none : (x : N) (c : Connections) → AreServed (n.link x) (n.place x) c → Serving n x x c c
+  serving_none x c served = record {
+    served = served;
+    conns = refl;
+    target = refl;
+    faulty = λ k is. inl is;
+    lasting = λ k is. is;
+    unfaulted = λ k is. record { client = refl; target = refl };
+    order = λ start is. is;
+    no_bytes = refl;
+    later = λ c. omega arith;
+    polls = omega arith;
+  }
+
+  pub serving_then : (x y z : N) (c0 c1 c2 : Connections) → Serving n x y c0 c1 → Serving n y z c1 c2
+      → Serving n x z c0 c2
+  serving_then x y z c0 c1 c2 first second = record {
+    served = second.served;
+    conns = second.conns ∙ first.conns;
+    target = second.target ∙ first.target;
+    faulty = λ k is. elim (second.faulty k is) [
+      | inl before ↦ elim (first.faulty k before) [
+        | inl at_first ↦ inl at_first
+        | inr rose ↦ inr (faulted_on (n.faults x) (n.faults y) (n.faults z) k first.later second.later rose)
+      ]
+      | inr rose ↦ inr (faulted_from (n.faults x) (n.faults y) (n.faults z) k first.later rose)
+    ];
+    lasting = λ k is. second.lasting k (first.lasting k is);
+    unfaulted = λ k is. unfaulted_then (n.faults x) (n.faults y) (n.faults z) k
+        (first.unfaulted k
+        (false_before (has_faulted (slice_get c1.slots.items k)) (has_faulted (slice_get c2.slots.items k))
+        (second.lasting k) is)) (second.unfaulted k is);
+    order = λ start is. second.order start (first.order start is);
+    no_bytes = second.no_bytes ∙ first.no_bytes;
+    later = λ c. omega (arith, first.later c, second.later c);
+    polls = omega (arith, first.polls, second.polls);
+  }
+
+  -- where no link has carried more, and only the listener has failed or stands in another way
+  pub serving_alone : (x y : N) (c : Connections) → AreServed (n.link x) (n.place x) c
+      → ((k : ChanNo) → n.link y k ≡ n.link x k) → IsSameBut listener (n.place x) (n.place y)
+      → ((k : ChanNo) → k ≢ listener → n.faults y k ≡ n.faults x k) → ((k : ChanNo) → n.faults x k ≤ n.faults y k)
+      → n.poll_faults x ≤ n.poll_faults y → n.accepted y ≡ n.accepted x → Serving n x y c c
+  serving_alone x y c served links places faults later polls accepted = record {
+    served = served_still (n.link x) (n.link y) (n.place x) (n.place y) c served links places;
+    conns = refl;
+    target = refl;
+    faulty = λ k is. inl is;
+    lasting = λ k is. is;
+    unfaulted = λ k is. record {
+      client = faults (client_of k) (client_listener k);
+      target = faults (target_of k) (target_listener k);
+    };
+    order = λ start is. accepted ∙ is;
+    no_bytes = links listener;
+    later = later;
+    polls = polls;
+  }
+
+  pub serving_still : (x y : N) (c : Connections) → AreServed (n.link x) (n.place x) c → IsStill n x y
+      → Serving n x y c c
+  serving_still x y c served still =
+      serving_alone x y c served still.links (λ k _. still.places k) (λ k _. still.faults k)
+      (λ k. omega (arith, still.faults k)) (omega (arith, still.polls)) still.accepted
+
+  -- where work was done on the links of one connection
+  pub serving_step : (k : ℕ) (slot : Slot) (relay : Relay) (x y : N) (c0 c1 : Connections)
+      → AreServed (n.link x) (n.place x) c0
+      → slice_get c0.slots.items k ≡ Some (Live relay) → Works n (client_of k) (target_of k) x y
+      → Changes c0.slots.items c1.slots.items k slot
+      → length c1.slots.items ≡ length c0.slots.items → vec_capacity c1.slots ≡ vec_capacity c0.slots
+      → c1.conns ≡ c0.conns → c1.target ≡ c0.target
+      → IsSlot (Some slot) (n.link y (client_of k)) (n.link y (target_of k)) (n.place y (client_of k))
+      (n.place y (target_of k))
+      → ((to : Addr) (r s : Role) → HasRoles to (Some (Live relay)) r s → HasRoles to (Some slot) r s)
+      → c1.ended ≡ c0.ended + one_if (has_ended (Some slot))
+      → c1.faulted ≡ c0.faulted + one_if (has_faulted (Some slot))
+      → (IsTrue (has_faulted (Some slot)) → HasFaulted (n.faults x) (n.faults y) k)
+      → (IsFalse (has_faulted (Some slot)) → IsUnfaulted (n.faults x) (n.faults y) k)
+      → IsTrue (was_accepted (Some slot)) → c1.accepted ≡ c0.accepted → c1.is_listening ≡ c0.is_listening
+      → Serving n x y c0 c1
+  serving_step k slot relay x y c0 c1 served was work changes short room conns target is roles ended faulted faulty
+      unfaulted stands accepted listening =
+      let before : HasRoles c0.target (Some (Live relay)) (n.place x (client_of k)).role
+      (n.place x (target_of k)).role =
+      subst (λ s. HasRoles c0.target s (n.place x (client_of k)).role (n.place x (target_of k)).role) was
+      (served.slots k).roles in
+      let now : HasRoles c0.target (Some (Live relay)) (n.place y (client_of k)).role (n.place y (target_of k)).role =
+      (work.roles (client_of k) ∙ before.0, work.roles (target_of k) ∙ before.1) in
+      record {
+        served = served_change k slot (n.link x) (n.link y) (n.place x) (n.place y) c0 c1 served
+            (omega (arith, served.few, slice_get_within c0.slots.items k (Live relay) was)) conns target
+            (omega (arith, served.room, room)) (omega (arith, served.few, short)) changes work.links work.places
+            (record {
+              is_slot = is;
+              roles = roles c0.target (n.place y (client_of k)).role
+                  (n.place y (target_of k)).role now;
+            }) (ap has_ended was) (ap has_faulted was) ended faulted
+            (accepted_set k slot relay c0 c1 served.accepted was changes stands accepted conns)
+            (whole_still c0 c1 served.whole accepted listening short);
+        conns = conns;
+        target = target;
+        faulty = faulty_change k slot (n.faults x) (n.faults y) c0 c1 changes faulty;
+        lasting = lasting_change k slot (n.faults x) (n.faults y) c0 c1 changes (ap has_faulted was);
+        unfaulted = unfaulted_change k slot (n.faults x) (n.faults y) c0 c1 changes unfaulted work.faults;
+        order = order_still x y c0 c1 work.accepted accepted;
+        no_bytes = work.links listener (λ at. client_listener k (sym at)) (λ at. target_listener k (sym at));
+        later = work.later;
+        polls = omega (arith, work.polls);
+      }
+
+  -- where a connection was begun, or connecting its target
+  pub serving_begun : (k : ℕ) (slot : Slot) (client target : ChanNo) (x y : N) (c0 c1 : Connections)
+      → client ≡ client_of k → target ≡ target_of k → AreServed (n.link x) (n.place x) c0 → k < c0.conns
+      → has_ended (slice_get c0.slots.items k) ≡ false → has_faulted (slice_get c0.slots.items k) ≡ false
+      → Begins n client target x y → Changes c0.slots.items c1.slots.items k slot → c0.conns ≤ vec_capacity c1.slots
+      → length c1.slots.items ≤ c0.conns → c1.conns ≡ c0.conns → c1.target ≡ c0.target
+      → IsSlotOf c0.target (Some slot) (n.link y client) (n.link y target) (n.place y client) (n.place y target)
+      → c1.ended ≡ c0.ended + one_if (has_ended (Some slot))
+      → c1.faulted ≡ c0.faulted + one_if (has_faulted (Some slot))
+      → (IsTrue (has_faulted (Some slot)) → Rose (n.faults x target) (n.faults y target))
+      → (IsFalse (has_faulted (Some slot)) → n.faults y target ≡ n.faults x target)
+      → c1.accepted ≡ count_below (λ j. was_accepted (slice_get c1.slots.items j)) c1.conns
+      → (IsTrue c1.is_listening → c1.accepted ≡ length c1.slots.items) → KeepsOrder x y c0 c1 → Serving n x y c0 c1
+  serving_begun k slot client target x y c0 c1 is_client is_target served few not_ended not_faulted begins changes room
+      short conns to is ended faulted faulty calm accepted whole order =
+      let begun : Begins n (client_of k) (target_of k) x y = subst (λ a. Begins n a (target_of k) x y) is_client
+      (subst (λ b. Begins n client b x y) is_target begins) in
+      let here : IsSlotOf c0.target (Some slot) (n.link y (client_of k)) (n.link y (target_of k))
+      (n.place y (client_of k)) (n.place y (target_of k)) =
+      subst (λ a. IsSlotOf c0.target (Some slot) (n.link y a) (n.link y (target_of k)) (n.place y a)
+      (n.place y (target_of k))) is_client
+      (subst (λ b. IsSlotOf c0.target (Some slot) (n.link y client) (n.link y b) (n.place y client) (n.place y b))
+      is_target is) in
+      let has : IsTrue (has_faulted (Some slot)) → HasFaulted (n.faults x) (n.faults y) k =
+      λ f. inr (subst (λ b. Rose (n.faults x b) (n.faults y b)) is_target (faulty f)) in
+      let hasnt : IsFalse (has_faulted (Some slot)) → IsUnfaulted (n.faults x) (n.faults y) k = λ f. record {
+        client = begun.faults (client_of k) (client_target k k);
+        target = subst (λ b. n.faults y b ≡ n.faults x b) is_target (calm f);
+      } in
+      record {
+        served = served_change k slot (n.link x) (n.link y) (n.place x) (n.place y) c0 c1 served few conns to room short
+            changes (λ c _ _. begun.links c) begun.places here not_ended not_faulted ended faulted accepted whole;
+        conns = conns;
+        target = to;
+        faulty = faulty_change k slot (n.faults x) (n.faults y) c0 c1 changes has;
+        lasting = lasting_change k slot (n.faults x) (n.faults y) c0 c1 changes not_faulted;
+        unfaulted = unfaulted_change k slot (n.faults x) (n.faults y) c0 c1 changes hasnt
+            (λ c _ not_target. begun.faults c not_target);
+        order = order;
+        no_bytes = begun.links listener;
+        later = begun.later;
+        polls = omega (arith, begun.polls);
+      }
+
+  -- where connecting the target of a connection was begun
+  pub serving_connected : (k : ℕ) (slot : Slot) (relay : Relay) (client target : ChanNo) (x y : N)
+      (c0 c1 : Connections) → client ≡ client_of k → target ≡ target_of k → AreServed (n.link x) (n.place x) c0
+      → slice_get c0.slots.items k ≡ Some (Live relay) → Begins n client target x y
+      → Changes c0.slots.items c1.slots.items k slot → length c1.slots.items ≡ length c0.slots.items
+      → vec_capacity c1.slots ≡ vec_capacity c0.slots → c1.conns ≡ c0.conns → c1.target ≡ c0.target
+      → IsSlotOf c0.target (Some slot) (n.link y client) (n.link y target) (n.place y client) (n.place y target)
+      → c1.ended ≡ c0.ended + one_if (has_ended (Some slot))
+      → c1.faulted ≡ c0.faulted + one_if (has_faulted (Some slot))
+      → (IsTrue (has_faulted (Some slot)) → Rose (n.faults x target) (n.faults y target))
+      → (IsFalse (has_faulted (Some slot)) → n.faults y target ≡ n.faults x target)
+      → IsTrue (was_accepted (Some slot)) → c1.accepted ≡ c0.accepted → c1.is_listening ≡ c0.is_listening
+      → n.accepted y ≡ n.accepted x → Serving n x y c0 c1
+  serving_connected k slot relay client target x y c0 c1 is_client is_target served was begins changes short room conns
+      to is ended faulted faulty calm stands accepted listening none =
+      serving_begun k slot client target x y c0 c1 is_client is_target served
+      (omega (arith, served.few, slice_get_within c0.slots.items k (Live relay) was)) (ap has_ended was)
+      (ap has_faulted was) begins changes (omega (arith, served.room, room)) (omega (arith, served.few, short)) conns to
+      is ended faulted faulty calm
+      (accepted_set k slot relay c0 c1 served.accepted was changes stands accepted conns)
+      (whole_still c0 c1 served.whole accepted listening short) (order_still x y c0 c1 none accepted)
+
+  -- the same, where the two links have other names
+  pub serving_told : (k : ℕ) (slot : Slot) (relay : Relay) (client target : ChanNo) (x y : N) (c0 c1 : Connections)
+      → client ≡ client_of k → target ≡ target_of k → AreServed (n.link x) (n.place x) c0
+      → slice_get c0.slots.items k ≡ Some (Live relay) → Works n client target x y
+      → Changes c0.slots.items c1.slots.items k slot → length c1.slots.items ≡ length c0.slots.items
+      → vec_capacity c1.slots ≡ vec_capacity c0.slots → c1.conns ≡ c0.conns → c1.target ≡ c0.target
+      → IsSlot (Some slot) (n.link y client) (n.link y target) (n.place y client) (n.place y target)
+      → ((to : Addr) (r s : Role) → HasRoles to (Some (Live relay)) r s → HasRoles to (Some slot) r s)
+      → c1.ended ≡ c0.ended + one_if (has_ended (Some slot))
+      → c1.faulted ≡ c0.faulted + one_if (has_faulted (Some slot))
+      → (IsTrue (has_faulted (Some slot)) → OneRose (n.faults x) (n.faults y) client target)
+      → (IsFalse (has_faulted (Some slot)) → BothSame (n.faults x) (n.faults y) client target)
+      → IsTrue (was_accepted (Some slot)) → c1.accepted ≡ c0.accepted → c1.is_listening ≡ c0.is_listening
+      → Serving n x y c0 c1
+  serving_told k slot relay client target x y c0 c1 is_client is_target served was work changes short room conns to is
+      roles ended faulted faulty calm stands accepted listening =
+      serving_step k slot relay x y c0 c1 served was
+      (subst (λ a. Works n a (target_of k) x y) is_client (subst (λ b. Works n client b x y) is_target work))
+      changes short room conns to
+      (subst (λ a. IsSlot (Some slot) (n.link y a) (n.link y (target_of k)) (n.place y a) (n.place y (target_of k)))
+      is_client
+      (subst (λ b. IsSlot (Some slot) (n.link y client) (n.link y b) (n.place y client) (n.place y b)) is_target is))
+      roles ended faulted
+      (λ f. subst (λ a. OneRose (n.faults x) (n.faults y) a (target_of k)) is_client
+      (subst (λ b. OneRose (n.faults x) (n.faults y) client b) is_target (faulty f)))
+      (λ f. record {
+        client = subst (λ a. n.faults y a ≡ n.faults x a) is_client (calm f).first;
+        target = subst (λ b. n.faults y b ≡ n.faults x b) is_target (calm f).second;
+      })
+      stands accepted listening
+
+  -- where the next connection was begun
+  pub serving_new : (slot : Slot) (client target : ChanNo) (x y : N) (c0 c1 : Connections)
+      → client ≡ client_of (length c0.slots.items) → target ≡ target_of (length c0.slots.items)
+      → AreServed (n.link x) (n.place x) c0
+      → length c0.slots.items < c0.conns → Begins n client target x y → c1.slots.items ≡ c0.slots.items ++ slot ∷ []
+      → vec_capacity c0.slots ≤ vec_capacity c1.slots → c1.conns ≡ c0.conns → c1.target ≡ c0.target
+      → IsSlotOf c0.target (Some slot) (n.link y client) (n.link y target) (n.place y client) (n.place y target)
+      → c1.ended ≡ c0.ended + one_if (has_ended (Some slot))
+      → c1.faulted ≡ c0.faulted + one_if (has_faulted (Some slot))
+      → (IsTrue (has_faulted (Some slot)) → Rose (n.faults x target) (n.faults y target))
+      → (IsFalse (has_faulted (Some slot)) → n.faults y target ≡ n.faults x target)
+      → IsTrue (was_accepted (Some slot)) → c1.accepted ≡ c0.accepted + 1 → IsTrue c0.is_listening
+      → n.accepted y ≡ n.accepted x ++ client ∷ [] → Serving n x y c0 c1
+  serving_new slot client target x y c0 c1 is_client is_target served few begins slots room conns to is ended faulted
+      faulty calm stands accepted listening more =
+      let k = length c0.slots.items in
+      let none : slice_get c0.slots.items k ≡ None = slice_get_past c0.slots.items k (omega arith) in
+      let changes : Changes c0.slots.items c1.slots.items k slot = subst (λ xs. Changes c0.slots.items xs k slot)
+      (sym slots) (changes_push c0.slots.items slot) in
+      serving_begun k slot client target x y c0 c1 is_client is_target served few (ap has_ended none)
+      (ap has_faulted none) begins changes (omega (arith, served.room, room))
+      (omega (arith, few, ap length slots, length-append c0.slots.items (slot ∷ []))) conns to is ended faulted faulty
+      calm
+      (accepted_push k slot c0 c1 served.accepted few none changes
+      (accepted ∙ ap (λ b. c0.accepted + one_if b) (sym stands)) conns)
+      (λ _. omega (
+        arith,
+        accepted,
+        served.whole listening,
+        ap length slots,
+        length-append c0.slots.items (slot ∷ []),
+      ))
+      (order_more x y c0 c1 (more ∙ ap (λ (c : ChanNo). n.accepted x ++ c ∷ [])
+      (is_client ∙ ap client_of (sym (served.whole listening)))) accepted)
+
+  -- where the next client couldn't be accepted
+  pub serving_unaccepted : (client : ChanNo) (x y : N) (c0 c1 : Connections)
+      → client ≡ client_of (length c0.slots.items) → AreServed (n.link x) (n.place x) c0
+      → length c0.slots.items < c0.conns → FailsToAccept n client x y
+      → n.place y client ≡ record { role = role.Accepted listener; standing = Nothing }
+      → c1.slots.items ≡ c0.slots.items ++ Unaccepted ∷ [] → vec_capacity c0.slots ≤ vec_capacity c1.slots
+      → c1.conns ≡ c0.conns → c1.target ≡ c0.target
+      → c1.ended ≡ c0.ended → c1.faulted ≡ c0.faulted → c1.accepted ≡ c0.accepted → IsFalse c1.is_listening
+      → Serving n x y c0 c1
+  serving_unaccepted client x y c0 c1 is_client served few fails unmade slots room conns target ended faulted accepted
+      stopped =
+      let k = length c0.slots.items in
+      let none : slice_get c0.slots.items k ≡ None = slice_get_past c0.slots.items k (omega arith) in
+      let changes : Changes c0.slots.items c1.slots.items k Unaccepted =
+      subst (λ xs. Changes c0.slots.items xs k Unaccepted)
+      (sym slots) (changes_push c0.slots.items Unaccepted) in
+      let next = next_unbegun (n.link x) (n.place x) c0 (client_of k) (target_of k) served refl refl in
+      let places : (c : ChanNo) → c ≢ client_of k
+      → n.place y c ≡ n.place x c = λ c other. fails.places c (λ at. other (at ∙ is_client)) in
+      let at_client : n.place y (client_of k) ≡ record { role = role.Accepted listener; standing = Nothing } =
+      subst (λ a. n.place y a ≡ record { role = role.Accepted listener; standing = Nothing }) is_client unmade in
+      let at_target : n.place y (target_of k) ≡ unused = places (target_of k) (λ at. client_target k k (sym at))
+      ∙ next.target_unasked in
+      let is : IsSlotOf c0.target (Some Unaccepted) (n.link y (client_of k)) (n.link y (target_of k))
+      (n.place y (client_of k)) (n.place y (target_of k)) = record {
+        is_slot = record {
+          client_unused = subst IsUnused (sym (fails.links (client_of k))) next.client_unused;
+          target_unused = subst IsUnused (sym (fails.links (target_of k))) next.target_unused;
+          client_closed = subst (λ (p : Place). IsVacant p.standing) (sym at_client) tt;
+          target_closed = subst (λ (p : Place). IsVacant p.standing) (sym at_target) tt;
+        };
+        roles = (ap (λ (p : Place). p.role) at_client, ap (λ (p : Place). p.role) at_target);
+      } in
+      record {
+        served = served_change k Unaccepted (n.link x) (n.link y) (n.place x) (n.place y) c0 c1 served few conns target
+            (omega (arith, served.room, room))
+            (omega (arith, few, ap length slots, length-append c0.slots.items (Unaccepted ∷ []))) changes
+            (λ c _ _. fails.links c) (λ c not_client _. places c not_client) is
+            (ap has_ended none) (ap has_faulted none) (omega (arith, ended)) (omega (arith, faulted))
+            (accepted_push k Unaccepted c0 c1 served.accepted few none changes (omega (arith, accepted)) conns)
+            (λ is_true. absurd (not_true c1.is_listening stopped is_true));
+        conns = conns;
+        target = target;
+        faulty = faulty_change k Unaccepted (n.faults x) (n.faults y) c0 c1 changes
+            (λ never. absurd (not_true false refl never));
+        lasting = lasting_change k Unaccepted (n.faults x) (n.faults y) c0 c1 changes (ap has_faulted none);
+        unfaulted = λ j _. record {
+          client = fails.faults (client_of j) (client_listener j);
+          target = fails.faults (target_of j) (target_listener j);
+        };
+        order = order_still x y c0 c1 fails.accepted accepted;
+        no_bytes = fails.links listener;
+        later = fails.later;
+        polls = omega (arith, fails.polls);
+      }
+
+  -- where a link was closed, or the listener
+  pub serving_quiet : (x y z : N) (c0 c1 c2 : Connections) → Serving n x y c0 c1 → IsQuiet n y z
+      → IsSameBut listener (n.place y) (n.place z) → c2 ≡ c1 → Serving n x z c0 c2
+  serving_quiet x y z c0 c1 c2 serving quiet places same =
+      let still : Serving n y z c1 c1 = serving_alone y z c1 serving.served quiet.links places (λ k _. quiet.faults k)
+      (λ k. omega (arith, quiet.faults k)) (omega (arith, quiet.polls)) quiet.accepted in
+      serving_then x y z c0 c1 c2 serving (subst (Serving n y z c1) (sym same) still)
+
+  -- why a later part of the work failed is why the whole did
+  pub cause_on : (x y z : N) (c0 c1 : Connections) → Serving n x y c0 c1
+      → Rose (n.poll_faults y) (n.poll_faults z) ⊎ Rose (n.faults y listener) (n.faults z listener)
+      → Rose (n.poll_faults x) (n.poll_faults z) ⊎ Rose (n.faults x listener) (n.faults z listener)
+  cause_on x y z c0 c1 serving (inl rose) = inl (rose_from _ _ _ serving.polls rose)
+  cause_on x y z c0 c1 serving (inr rose) = inr (rose_from _ _ _ (serving.later listener) rose)
+
+-- the listener stands as it did, and is watched as it was
+pub listens_on : (before now : Option Port) (p q : Place) → now ≡ before → q ≡ p → ListensAt before p.standing
+    → ListensAt now q.standing
+listens_on before now p q ports places listens =
+    subst (λ o. ListensAt o q.standing) (sym ports)
+    (subst (λ (x : Place). ListensAt before x.standing) (sym places) listens)

@@ -1,0 +1,6 @@
+use Rattle.nio_poller.specs.Polls.{told_of_channel}
+use Rattle.nio_serve.specs.Board.{AreReady}
+use Rattle.nio_serve.proofs.board.selection.list.Given as goal
+
+abbrev pub invariant-loop-index : goal.invariant-loop-index
+invariant-loop-index l = AreReady (told_of_channel l.asked l.pairs) l.told.items

@@ -1,0 +1,80 @@
+use Rattle.std.proofs.Common.{◌≡◌, sym, ap, subst, ◌∙◌, ◌+◌, Some, arith, slice_get}
+use Rattle.nio_serve.specs.Serving.{listener}
+use Rattle.nio_serve.specs.Slots.{has_ended, has_faulted, IsSlotOf}
+use Rattle.nio_serve.specs.declared.slot.Slot.TheVariants.{Live}
+use Rattle.nio_serve.proofs.Counts.{one_if, count_few}
+use Rattle.nio_serve.proofs.Slotting.{serving_connected, slot_is, client_listener, target_listener}
+use Rattle.nio_serve.proofs.connections.Connections.begin.Goals as goal
+
+pub begin_relay-slot-requires : goal.begin_relay-slot-requires
+begin_relay-slot-requires g c = record {
+  apart = c.links_of.ensures.apart;
+  slot = subst
+      (λ to. IsSlotOf to (Some (Live c.in-Some.relay)) (g.W.Way.link c.args.net.now c.links_of.result.0)
+      (g.W.Way.link c.args.net.now c.links_of.result.1) (g.W.Way.place c.args.net.now c.links_of.result.0)
+      (g.W.Way.place c.args.net.now c.links_of.result.1))
+      (sym c.take.ensures.others.target)
+      (slot_is g.W.Way _ c.in-Some.relay c.links_of.result.0 c.links_of.result.1 c.args.net.now c.args.self.now
+      c.links_of.ensures.client c.links_of.ensures.target c.requires.served c.in-Some.ensures.taken);
+}
+
+pub put-requires-clause-few : goal.put-requires-clause-few
+put-requires-clause-few g c =
+    omega (
+      arith,
+      c.take.ensures.ended,
+      c.requires.served.ended,
+      c.requires.served.bound,
+      count_few (λ k. has_ended (slice_get c.args.self.now.slots.items k)) c.args.self.now.conns,
+    )
+
+pub put-requires-clause-few_faulted : goal.put-requires-clause-few_faulted
+put-requires-clause-few_faulted g c =
+    omega (
+      arith,
+      c.take.ensures.faulted,
+      c.requires.served.faulted,
+      c.requires.served.bound,
+      count_few (λ k. has_faulted (slice_get c.args.self.now.slots.items k)) c.args.self.now.conns,
+    )
+
+pub returns-clause-serving : goal.returns-clause-serving
+returns-clause-serving g c =
+    let slot = c.follow-followed.new.self in
+    let begun = c.begin_relay-slot.ensures in
+    let at = c.args.self.now in
+    let to : c.take.new.self.target ≡ at.target = c.take.ensures.others.target in
+    serving_connected g.W.Way _ slot c.in-Some.relay c.links_of.result.0 c.links_of.result.1 c.args.net.now
+    c.begin_relay-slot.new.net c.args.self.now c.put.new.self
+    c.links_of.ensures.client c.links_of.ensures.target c.requires.served c.in-Some.ensures.taken begun.begins
+    (record {
+      here = c.put.ensures.slot;
+      else_ = λ j other. c.put.ensures.others.others j other ∙ c.take.ensures.others.others j other;
+    })
+    (c.put.ensures.others.length ∙ c.take.ensures.others.length)
+    (c.put.ensures.others.room ∙ c.take.ensures.others.room)
+    (c.put.ensures.others.conns ∙ c.take.ensures.others.conns)
+    (c.put.ensures.others.target ∙ c.take.ensures.others.target)
+    (subst
+    (λ a. IsSlotOf a (Some slot) (g.W.Way.link c.begin_relay-slot.new.net c.links_of.result.0)
+    (g.W.Way.link c.begin_relay-slot.new.net c.links_of.result.1)
+    (g.W.Way.place c.begin_relay-slot.new.net c.links_of.result.0)
+    (g.W.Way.place c.begin_relay-slot.new.net c.links_of.result.1)) to
+    (record {
+      is_slot = c.follow-followed.ensures.slot _ _ _ _ begun.slot.is_slot;
+      roles = c.follow-followed.ensures.roles _ _ _ begun.slot.roles;
+    }))
+    (c.put.ensures.ended ∙ ap (λ m. m + one_if (has_ended (Some slot))) c.take.ensures.ended)
+    (c.put.ensures.faulted ∙ ap (λ m. m + one_if (has_faulted (Some slot))) c.take.ensures.faulted)
+    (λ f. begun.faulty (sym c.follow-followed.ensures.faulted ∙ f))
+    (λ f. begun.calm (sym c.follow-followed.ensures.faulted ∙ f))
+    (c.follow-followed.ensures.stands ∙ begun.stands)
+    (c.put.ensures.others.accepted ∙ c.take.ensures.others.accepted)
+    (c.put.ensures.others.listening ∙ c.take.ensures.others.listening)
+    begun.accepted
+
+pub returns-clause-listens : goal.returns-clause-listens
+returns-clause-listens g c =
+    c.begin_relay-slot.ensures.begins.places listener
+    (λ at. client_listener _ (sym (at ∙ c.links_of.ensures.client)))
+    (λ at. target_listener _ (sym (at ∙ c.links_of.ensures.target)))

@@ -1,0 +1,65 @@
+use Rattle.std.proofs.Common.{sym, ap, ◌∙◌, ◌+◌, Some, arith, slice_get}
+use Rattle.nio_base.specs.declared.numbers.Addr.{Addr}
+use Rattle.nio_link.specs.declared.place.Role.{Role}
+use Rattle.nio_serve.specs.Serving.{listener}
+use Rattle.nio_serve.specs.Slots.{has_ended, has_faulted}
+use Rattle.nio_serve.proofs.Counts.{one_if, count_few}
+use Rattle.nio_serve.proofs.Slotting.{serving_told, client_listener, target_listener}
+use Rattle.nio_serve.proofs.connections.Connections.serve.Goals as goal
+
+pub put-requires-clause-few : goal.put-requires-clause-few
+put-requires-clause-few g c =
+    omega (
+      arith,
+      c.take.ensures.ended,
+      c.requires.served.ended,
+      c.requires.served.bound,
+      count_few (λ k. has_ended (slice_get c.args.self.now.slots.items k)) c.args.self.now.conns,
+    )
+
+pub put-requires-clause-few_faulted : goal.put-requires-clause-few_faulted
+put-requires-clause-few_faulted g c =
+    omega (
+      arith,
+      c.take.ensures.faulted,
+      c.requires.served.faulted,
+      c.requires.served.bound,
+      count_few (λ k. has_faulted (slice_get c.args.self.now.slots.items k)) c.args.self.now.conns,
+    )
+
+pub returns-clause-serving : goal.returns-clause-serving
+returns-clause-serving g c =
+    let slot = c.follow-followed.new.self in
+    let served = c.serve_relay-slot.ensures in
+    serving_told g.W.Way _ slot c.in-Some.relay c.links_of.result.0 c.links_of.result.1 c.args.net.now
+    c.serve_relay-slot.new.net c.args.self.now c.put.new.self
+    c.links_of.ensures.client c.links_of.ensures.target c.requires.served c.in-Some.ensures.taken served.work
+    (record {
+      here = c.put.ensures.slot;
+      else_ = λ j other. c.put.ensures.others.others j other ∙ c.take.ensures.others.others j other;
+    })
+    (c.put.ensures.others.length ∙ c.take.ensures.others.length)
+    (c.put.ensures.others.room ∙ c.take.ensures.others.room)
+    (c.put.ensures.others.conns ∙ c.take.ensures.others.conns)
+    (c.put.ensures.others.target ∙ c.take.ensures.others.target)
+    (c.follow-followed.ensures.slot _ _ _ _ served.slot)
+    (λ (to : Addr) (r s : Role) roles. c.follow-followed.ensures.roles to r s (served.roles to r s roles))
+    (c.put.ensures.ended ∙ ap (λ m. m + one_if (has_ended (Some slot))) c.take.ensures.ended)
+    (c.put.ensures.faulted ∙ ap (λ m. m + one_if (has_faulted (Some slot))) c.take.ensures.faulted)
+    (λ f. served.faulty (sym c.follow-followed.ensures.faulted ∙ f))
+    (λ f. served.calm (sym c.follow-followed.ensures.faulted ∙ f))
+    (c.follow-followed.ensures.stands ∙ served.stands)
+    (c.put.ensures.others.accepted ∙ c.take.ensures.others.accepted)
+    (c.put.ensures.others.listening ∙ c.take.ensures.others.listening)
+
+pub returns-clause-ready : goal.returns-clause-ready
+returns-clause-ready g c =
+    λ d not_client not_target.
+    c.serve_relay-slot.ensures.work.ready d (λ at. not_client (at ∙ c.links_of.ensures.client))
+    (λ at. not_target (at ∙ c.links_of.ensures.target))
+
+pub returns-clause-listens : goal.returns-clause-listens
+returns-clause-listens g c =
+    c.serve_relay-slot.ensures.work.places listener
+    (λ at. client_listener _ (sym (at ∙ c.links_of.ensures.client)))
+    (λ at. target_listener _ (sym (at ∙ c.links_of.ensures.target)))

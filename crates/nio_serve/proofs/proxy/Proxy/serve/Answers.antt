@@ -1,0 +1,46 @@
+use Rattle.std.proofs.Common.{refl, ap, ◌∙◌}
+use Rattle.nio_link.specs.declared.place.Place.{Place}
+use Rattle.nio_serve.specs.Serving.{listener}
+use Rattle.nio_serve.proofs.Slotting.{serving_none, serving_then, serving_quiet, cause_on, listens_on}
+use Rattle.nio_serve.proofs.Working.{role_stays}
+use Rattle.nio_serve.proofs.proxy.Proxy.serve.Goals as goal
+
+pub loop-init : goal.loop-init
+loop-init g c = record {
+  serving = serving_none g.W.Way c.args.net.now c.args.self.now.connections c.requires.served;
+  listens = c.requires.listens;
+  role = refl;
+}
+
+pub returns-then-is_err-clause-serving : goal.returns-then-is_err-clause-serving
+returns-then-is_err-clause-serving g c =
+    serving_then g.W.Way _ _ _ _ _ _ c.loop.invariant.serving c.turn-turned.ensures.serving
+
+pub returns-then-is_err-clause-listens : goal.returns-then-is_err-clause-listens
+returns-then-is_err-clause-listens g c =
+    listens_on _ _ _ _ c.turn-turned.ensures.port c.turn-turned.ensures.listens c.loop.invariant.listens
+
+pub returns-then-is_err-clause-role : goal.returns-then-is_err-clause-role
+returns-then-is_err-clause-role g c = ap (λ (p : Place). p.role) c.turn-turned.ensures.listens ∙ c.loop.invariant.role
+
+pub returns-then-is_err-clause-cause : goal.returns-then-is_err-clause-cause
+returns-then-is_err-clause-cause g c failed =
+    cause_on g.W.Way _ _ _ _ _ c.loop.invariant.serving (c.turn-turned.ensures.cause failed)
+
+pub loop-preserved : goal.loop-preserved
+loop-preserved g c = record {
+  serving =
+      serving_quiet g.W.Way _ _ _ _ _ _
+      (serving_then g.W.Way _ _ _ _ _ _ c.loop.invariant.serving c.turn-turned.ensures.serving)
+      c.stop_listening.ensures.quiet c.stop_listening.ensures.places c.stop_listening.ensures.connections;
+  listens = c.stop_listening.ensures.listens;
+  role = role_stays _ _ (c.stop_listening.ensures.quiet.places listener)
+      ∙ (ap (λ (p : Place). p.role) c.turn-turned.ensures.listens ∙ c.loop.invariant.role);
+}
+
+pub stop_listening-requires : goal.stop_listening-requires
+stop_listening-requires g c =
+    record {
+      listens = listens_on _ _ _ _ c.turn-turned.ensures.port c.turn-turned.ensures.listens
+          c.loop.invariant.listens;
+    }

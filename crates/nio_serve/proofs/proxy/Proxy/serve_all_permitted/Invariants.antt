@@ -1,0 +1,11 @@
+use Rattle.std.proofs.Common.{◌≡◌}
+use Rattle.nio_serve.specs.Serving.{listener}
+use Rattle.nio_serve.specs.Slots.{Serving}
+use Rattle.nio_serve.proofs.proxy.Proxy.serve_all_permitted.Given as goal
+
+abbrev pub invariant-loop : goal.invariant-loop
+invariant-loop g l = record {
+  serving : Serving g.W.Way l.fn.net l.net l.fn.self.connections l.self.connections;
+  listens : g.W.Way.place l.net listener ≡ g.W.Way.place l.fn.net listener;
+  port : l.self.port ≡ l.fn.self.port;
+}

@@ -1,0 +1,6 @@
+use Rattle.nio_serve.proofs.Slotting.{serving_then}
+use Rattle.nio_serve.proofs.proxy.Proxy.serve_permitted.Goals as goal
+
+pub returns-in-Ok-clause-serving : goal.returns-in-Ok-clause-serving
+returns-in-Ok-clause-serving g c =
+    serving_then g.W.Way _ _ _ _ _ _ c.begin.ensures.serving c.serve_links.ensures.serving

@@ -1,0 +1,7 @@
+use Rattle.nio_serve.proofs.Working.{works_quiet}
+use Rattle.nio_serve.proofs.slot.serve_relay.Goals as goal
+
+pub returns-clause-work : goal.returns-clause-work
+returns-clause-work g c =
+    works_quiet g.W.Way c.args.client c.args.target c.args.net.now c.advance-served.new.net c.settle.new.net
+    c.advance-served.ensures.work c.settle.ensures.quiet c.settle.ensures.places

@@ -1,0 +1,7 @@
+pub mod Board
+pub mod Nets
+pub mod Passing
+pub mod Relaying
+pub mod Serving
+pub mod Slots
+pub mod Ways

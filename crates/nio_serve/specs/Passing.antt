@@ -1,0 +1,44 @@
+-- What work on one direction of a connection does to a net.
+use Rattle.std.specs.Prelude.{◌≡◌, ◌⊎◌, ℕ, ◌+◌, ◌*◌, ◌/◌, IsTrue, Result, Ok, Err, List, take}
+use Rattle.nio_base.specs.declared.numbers.ChanNo.{ChanNo}
+use Rattle.nio_bytes.specs.Cause.{Rose}
+use Rattle.nio_link.specs.declared.net.Failed.{Failed}
+use Rattle.nio_link.specs.declared.net.Got.{Got}
+use Rattle.nio_link.specs.declared.net.Got.TheVariants as got
+use Rattle.nio_relay.specs.Flow.{Flow, ends, takes}
+use Rattle.nio_steps.specs.KeyCalls.{is_within}
+use Rattle.nio_serve.specs.declared.way.Way.{Ghosts}
+use Rattle.nio_serve.specs.Nets.{Works}
+use Rattle.nio_serve.specs.Relaying.{KeepsSink, KeepsSource}
+
+-- A direction that takes from the link a and writes to the link b has gone from f to g, and the net from x to y. What
+-- the links have carried and what the direction has taken and written agree as before. The links stand as they did.
+-- If a was ready for writing, it still is, and so is b for reading.
+pub record Passes {W N : Type 0} (n : Ghosts W N) (a b : ChanNo) (f g : Flow) (x y : N) : Type 0 where
+  pub work : Works n a b x y
+  pub source : KeepsSource f g (n.link x a) (n.place x a) (n.link y a) (n.place y a)
+  pub sink : KeepsSink f g (n.link x b) (n.place x b) (n.link y b) (n.place y b)
+  pub places : (c : ChanNo) → n.place y c ≡ n.place x c
+  pub shut : g.shut ≡ f.shut
+  pub write : IsTrue (is_within 4 (n.ready x a)) → IsTrue (is_within 4 (n.ready y a))
+  pub read : IsTrue (is_within 1 (n.ready x b)) → IsTrue (is_within 1 (n.ready y b))
+
+-- a direction that was told of a read into this buffer
+abbrev pub flow_after_read : Result Got Failed → List ℕ → Flow → Flow
+flow_after_read (Ok (got.Bytes n)) buffer f = takes f (take n buffer)
+flow_after_read (Ok got.End) buffer f = ends f
+flow_after_read (Ok got.NotYet) buffer f = f
+flow_after_read (Err _) buffer f = f
+
+-- the count of faults of one of two links rose
+abbrev pub OneRose : (ChanNo → ℕ) → (ChanNo → ℕ) → ChanNo → ChanNo → Type 0
+OneRose before now a b = Rose (before a) (now a) ⊎ Rose (before b) (now b)
+
+-- the counts of faults of two links are as they were
+pub record BothSame (before now : ChanNo → ℕ) (a b : ChanNo) : Type 0 where
+  pub first : now a ≡ before a
+  pub second : now b ≡ before b
+
+-- the first channel after those of the connection to which this one belongs; after the listener's the first of all
+abbrev pub channel_after : ChanNo → ℕ
+channel_after c = 2 * ((c.0 + 1) / 2) + 1

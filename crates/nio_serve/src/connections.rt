@@ -1,0 +1,351 @@
+//! All connections that were accepted.
+ghost use Rattle.std.specs.Prelude.{◌≡◌, ◌≢◌, ℕ, ◌+◌, ◌<◌, ◌≤◌, [], ◌∷◌, ◌++◌, Some, Err, if◌then◌else◌, length};
+ghost use Rattle.std.specs.Prelude.{slice_get, vec_capacity, IfOk, IsFalse, IsTrue, MatchOption, OnErr};
+ghost use Rattle.nio_base.specs.declared.numbers.ChanNo.{ChanNo};
+ghost use Rattle.nio_bytes.specs.Cause.{Rose};
+ghost use Rattle.nio_link.specs.Links.{IsSameBut};
+ghost use Rattle.nio_link.specs.Places.{unused, IsVacant};
+ghost use Rattle.nio_link.specs.declared.place.Role.TheVariants as role;
+ghost use Rattle.nio_link.specs.declared.place.Standing.TheVariants.{Linked, Listening, Nothing};
+ghost use Rattle.nio_steps.specs.KeyCalls.{is_within};
+ghost use Rattle.nio_serve.specs.Nets.{Accepts, FailsToAccept, IsQuiet, IsStill};
+ghost use Rattle.nio_serve.specs.Serving.{client_of, listener, target_of};
+ghost use Rattle.nio_serve.specs.declared.serving.ServeError.TheVariants.{NetFault};
+ghost use Rattle.nio_serve.specs.declared.slot.Slot.TheVariants.{Live, Unaccepted};
+ghost use Rattle.nio_serve.specs.Slots.{AreServed, IsSameButOne, Serving, has_ended, has_faulted};
+
+use crate::board::{Board, Refused};
+use crate::proxy::LISTENER;
+use crate::serving::ServeError;
+use crate::slot::{Relay, Slot, begin_relay, close_links, serve_relay, take_on};
+use crate::spare::Spare;
+use crate::way::Way;
+use nio_base::{Addr, ChanNo, Ops};
+use nio_link::Failed;
+use nio_relay::CAPACITY;
+use std::alloc::{AllocError, Global};
+use std::mem;
+use std::sync::Wait;
+
+/// The connections so far, by their numbers, of `conns` in all, whom they are connected to, and how many of them were
+/// accepted and have ended.
+#[derive(Drop)]
+pub(crate) struct Connections {
+    pub conns: u32,
+    pub target: Addr,
+    pub slots: Vec<Slot>,
+    spare: Spare,
+    /// Whether no accept has failed.
+    pub is_listening: bool,
+    pub accepted: u32,
+    pub ended: u32,
+    pub faulted: u32,
+}
+
+// Accepts a connection under the channel of the next client, if one has come.
+fn accept<N, W: Way<N>>(way: &mut W, net: &mut N, client: ChanNo) -> Result<bool, Failed>
+    requires ready { IsTrue (is_within 16 (W.ready net.old listener)) }
+    requires listens { (W.place net.old listener).standing ≡ Listening }
+    requires unasked { W.place net.old client ≡ unused }
+    ensures begun { IfOk result (λ more. IsTrue more → Accepts W.Way client net.old net.new) }
+    ensures accepted { IfOk result (λ more. IsTrue more → W.place net.new client
+        ≡ record { role = role.Accepted listener; standing = Linked }) }
+    ensures early { IfOk result (λ more. IsFalse more → IsStill W.Way net.old net.new) }
+    ensures failed { OnErr result (FailsToAccept W.Way client net.old net.new) }
+    ensures unmade { OnErr result (W.place net.new client ≡ record {
+      role = role.Accepted listener;
+      standing = Nothing;
+    }) }
+    ensures cause { OnErr result (Rose (W.faults net.old listener) (W.faults net.new listener)) }
+{
+    way.accept(net, LISTENER, client)
+}
+
+/// The links of a connection: its client's and its target's.
+pub(crate) fn links_of(number: usize) -> (ChanNo, ChanNo)
+    requires few { number < 16000 }
+    ensures client { result.0 ≡ client_of number }
+    ensures target { result.1 ≡ target_of number }
+    ensures apart { result.0 ≢ result.1 }
+{
+    let client = 2 * number as u32 + 1;
+    (ChanNo(client), ChanNo(client + 1))
+}
+
+impl Connections {
+    /// None yet, with room for so many.
+    pub(crate) fn make(alloc: Global, conns: u32, target: Addr) -> Result<Connections, AllocError>
+        ensures slots { IfOk result (λ c. c.slots.items ≡ []) }
+        ensures room { IfOk result (λ c. conns ≤ vec_capacity c.slots) }
+        ensures conns { IfOk result (λ c. c.conns ≡ conns) }
+        ensures target { IfOk result (λ c. c.target ≡ target) }
+        ensures listening { IfOk result (λ c. IsTrue c.is_listening) }
+        ensures accepted { IfOk result (λ c. c.accepted ≡ 0) }
+        ensures ended { IfOk result (λ c. c.ended ≡ 0) }
+        ensures faulted { IfOk result (λ c. c.faulted ≡ 0) }
+    {
+        Ok(Connections {
+            conns,
+            target,
+            slots: Vec::with_capacity(alloc, conns as usize)?,
+            spare: Spare::new(alloc),
+            is_listening: true,
+            accepted: 0,
+            ended: 0,
+            faulted: 0,
+        })
+    }
+
+    // Takes a connection out that hasn't ended.
+    fn take(&mut self, number: usize) -> Option<Relay>
+        ensures taken { MatchOption result (self.new ≡ self.old)
+            (λ relay. slice_get self.old.slots.items number ≡ Some (Live relay)) }
+        ensures others { IsSameButOne number self.old self.new }
+        ensures ended { self.new.ended ≡ self.old.ended }
+        ensures faulted { self.new.faulted ≡ self.old.faulted }
+    {
+        let Some(Slot::Live(_)) = self.slots.get(number) else {
+            return None;
+        };
+        match mem::replace(&mut self.slots[number], Slot::Clean) {
+            Slot::Live(relay) => Some(relay),
+            Slot::Clean | Slot::Faulted | Slot::Dropped | Slot::Unaccepted => unreachable!(),
+        }
+    }
+
+    // Puts back what stands of a connection now.
+    fn put(&mut self, number: usize, slot: Slot)
+        requires within { number < length self.old.slots.items }
+        requires few { self.old.ended ≤ 16000 }
+        requires few_faulted { self.old.faulted ≤ 16000 }
+        ensures slot { slice_get self.new.slots.items number ≡ Some slot }
+        ensures others { IsSameButOne number self.old self.new }
+        ensures ended { self.new.ended ≡ self.old.ended + (if has_ended (Some slot) then 1 else 0) }
+        ensures faulted { self.new.faulted ≡ self.old.faulted + (if has_faulted (Some slot) then 1 else 0) }
+    {
+        self.ended += u32::from(slot.has_ended());
+        self.faulted += u32::from(slot.has_faulted());
+        self.slots[number] = slot;
+    }
+
+    // Adds the next connection, whose client was accepted, and for which there is room.
+    fn add(&mut self, slot: Slot)
+        requires room { length self.old.slots.items < vec_capacity self.old.slots }
+        requires few_accepted { self.old.accepted ≤ 16000 }
+        requires few { self.old.ended ≤ 16000 }
+        requires few_faulted { self.old.faulted ≤ 16000 }
+        ensures slots { self.new.slots.items ≡ self.old.slots.items ++ (slot ∷ []) }
+        ensures accepted { self.new.accepted ≡ self.old.accepted + 1 }
+        ensures listening { self.new.is_listening ≡ self.old.is_listening }
+        ensures ended { self.new.ended ≡ self.old.ended + (if has_ended (Some slot) then 1 else 0) }
+        ensures faulted { self.new.faulted ≡ self.old.faulted + (if has_faulted (Some slot) then 1 else 0) }
+        ensures room { vec_capacity self.old.slots ≤ vec_capacity self.new.slots }
+        ensures conns { self.new.conns ≡ self.old.conns }
+        ensures target { self.new.target ≡ self.old.target }
+    {
+        self.ended += u32::from(slot.has_ended());
+        self.faulted += u32::from(slot.has_faulted());
+        self.accepted += 1;
+        self.slots.push(slot).unwrap();
+    }
+
+    // Adds the next connection, whose client couldn't be accepted. No other one is accepted then.
+    fn stop_at_unaccepted(&mut self)
+        requires room { length self.old.slots.items < vec_capacity self.old.slots }
+        ensures slots { self.new.slots.items ≡ self.old.slots.items ++ (Unaccepted ∷ []) }
+        ensures accepted { self.new.accepted ≡ self.old.accepted }
+        ensures listening { IsFalse self.new.is_listening }
+        ensures ended { self.new.ended ≡ self.old.ended }
+        ensures faulted { self.new.faulted ≡ self.old.faulted }
+        ensures room { vec_capacity self.old.slots ≤ vec_capacity self.new.slots }
+        ensures conns { self.new.conns ≡ self.old.conns }
+        ensures target { self.new.target ≡ self.old.target }
+    {
+        self.is_listening = false;
+        self.slots.push(Slot::Unaccepted).unwrap();
+    }
+
+    /// Does what the two links of a connection were told ready for.
+    pub(crate) fn serve<N, W: Way<N>>(
+        &mut self,
+        way: &mut W,
+        net: &mut N,
+        board: &mut Board<'_>,
+        number: usize,
+        at_client: Ops,
+        at_target: Ops,
+        scratch: &mut [u8],
+    ) -> Result<(), Refused>
+        requires scratch { length scratch.old ≡ CAPACITY }
+        requires ready_client { IsTrue (is_within at_client (W.ready net.old (client_of number))) }
+        requires ready_target { IsTrue (is_within at_target (W.ready net.old (target_of number))) }
+        requires served { AreServed (W.link net.old) (W.place net.old) self.old }
+        ensures serving { Serving W.Way net.old net.new self.old self.new }
+        ensures ready { (c : ChanNo) → c ≢ client_of number → c ≢ target_of number → W.ready net.new c
+            ≡ W.ready net.old c }
+        ensures listens { W.place net.new listener ≡ W.place net.old listener }
+    {
+        let Some(relay) = self.take(number) else {
+            return Ok(());
+        };
+        let (client, target) = links_of(number);
+        let mut slot = serve_relay(
+            way,
+            net,
+            board,
+            &mut self.spare,
+            client,
+            target,
+            relay,
+            at_client,
+            at_target,
+            scratch,
+        );
+        let followed = slot.follow::<N, W>(way, board);
+        self.put(number, slot);
+        followed
+    }
+
+    /// Begins to connect the target of a connection, where that wasn't begun before and the way permits it now.
+    pub(crate) fn begin<N, W: Way<N>>(
+        &mut self,
+        way: &mut W,
+        net: &mut N,
+        board: &mut Board<'_>,
+        number: usize,
+    ) -> Result<(), Refused>
+        requires served { AreServed (W.link net.old) (W.place net.old) self.old }
+        ensures serving { Serving W.Way net.old net.new self.old self.new }
+        ensures ready { (c : ChanNo) → W.ready net.new c ≡ W.ready net.old c }
+        ensures listens { W.place net.new listener ≡ W.place net.old listener }
+    {
+        let Some(relay) = self.take(number) else {
+            return Ok(());
+        };
+        let (client, target) = links_of(number);
+        let mut slot = begin_relay(
+            way,
+            net,
+            board,
+            &mut self.spare,
+            client,
+            target,
+            relay,
+            self.target,
+        );
+        let followed = slot.follow::<N, W>(way, board);
+        self.put(number, slot);
+        followed
+    }
+
+    // Accepts the next connection, if one has come, and takes it on. Says whether another one may have come.
+    fn accept_next<R: Wait, N, W: Way<N>>(
+        &mut self,
+        rt: &R,
+        alloc: Global,
+        way: &mut W,
+        net: &mut N,
+        board: &mut Board<'_>,
+    ) -> Result<bool, ServeError>
+        requires ready { IsTrue (is_within 16 (W.ready net.old listener)) }
+        requires listens { (W.place net.old listener).standing ≡ Listening }
+        requires served { AreServed (W.link net.old) (W.place net.old) self.old }
+        requires few { length self.old.slots.items < self.old.conns }
+        requires listening { IsTrue self.old.is_listening }
+        ensures serving { Serving W.Way net.old net.new self.old self.new }
+        ensures ready { IsSameBut listener (W.ready net.old) (W.ready net.new) }
+        ensures listens { W.place net.new listener ≡ W.place net.old listener }
+        ensures cause { result ≡ Err NetFault → Rose (W.faults net.old listener) (W.faults net.new listener) }
+        ensures more { IfOk result (λ more. IsTrue more → W.ready net.new listener ≡ W.ready net.old listener) }
+    {
+        let (client, target) = links_of(self.slots.len());
+        match accept(way, net, client) {
+            Ok(true) => {
+                let (slot, taken) = take_on(
+                    rt,
+                    alloc,
+                    way,
+                    net,
+                    board,
+                    &mut self.spare,
+                    client,
+                    target,
+                );
+                self.add(slot);
+                match taken {
+                    Ok(()) => Ok(true),
+                    Err(Refused) => Err(ServeError::Memory),
+                }
+            }
+            Ok(false) => Ok(false),
+            Err(Failed) => {
+                self.stop_at_unaccepted();
+                Err(ServeError::NetFault)
+            }
+        }
+    }
+
+    /// Accepts the next connection, if one has come, takes it on, and begins to connect its target. Says whether
+    /// another one may have come.
+    pub(crate) fn accept<R: Wait, N, W: Way<N>>(
+        &mut self,
+        rt: &R,
+        alloc: Global,
+        way: &mut W,
+        net: &mut N,
+        board: &mut Board<'_>,
+    ) -> Result<bool, ServeError>
+        requires ready { IsTrue (is_within 16 (W.ready net.old listener)) }
+        requires listens { (W.place net.old listener).standing ≡ Listening }
+        requires served { AreServed (W.link net.old) (W.place net.old) self.old }
+        requires few { length self.old.slots.items < self.old.conns }
+        requires listening { IsTrue self.old.is_listening }
+        ensures serving { Serving W.Way net.old net.new self.old self.new }
+        ensures ready { IsSameBut listener (W.ready net.old) (W.ready net.new) }
+        ensures listens { W.place net.new listener ≡ W.place net.old listener }
+        ensures cause { result ≡ Err NetFault → Rose (W.faults net.old listener) (W.faults net.new listener) }
+        ensures more { IfOk result (λ more. IsTrue more → W.ready net.new listener ≡ W.ready net.old listener) }
+    {
+        let number = self.slots.len();
+        if !self.accept_next(rt, alloc, way, net, board)? {
+            return Ok(false);
+        }
+        match self.begin(way, net, board, number) {
+            Ok(()) => Ok(true),
+            Err(Refused) => Err(ServeError::Memory),
+        }
+    }
+
+    /// Closes the links of the connections that haven't ended.
+    pub(crate) fn close_all<N, W: Way<N>>(&self, way: &mut W, net: &mut N)
+        requires served { AreServed (W.link net.old) (W.place net.old) self.now }
+        ensures quiet { IsQuiet W.Way net.old net.new }
+        ensures closed { (k : ℕ) → k < length self.now.slots.items → IsVacant (W.place net.new (client_of k)).standing
+            × IsVacant (W.place net.new (target_of k)).standing }
+        ensures listens { W.place net.new listener ≡ W.place net.old listener }
+    {
+        for number in 0..self.slots.len() {
+            let (client, target) = links_of(number);
+            close_unended(way, net, &self.slots[number], client, target);
+        }
+    }
+}
+
+// Closes the links of a connection, if it hasn't ended.
+fn close_unended<N, W: Way<N>>(
+    way: &mut W,
+    net: &mut N,
+    slot: &Slot,
+    client: ChanNo,
+    target: ChanNo,
+)
+    requires apart { client ≢ target }
+    ensures quiet { IsQuiet W.Way net.old net.new }
+    ensures places { (c : ChanNo) → c ≢ client → c ≢ target → W.place net.new c ≡ W.place net.old c }
+    ensures closed { IsFalse (has_ended (Some slot.now)) → IsVacant (W.place net.new client).standing
+        × IsVacant (W.place net.new target).standing }
+{
+    if !slot.has_ended() {
+        close_links(way, net, client, target);
+    }
+}

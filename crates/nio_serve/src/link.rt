@@ -1,0 +1,527 @@
+//! The work on one direction of a connection: reading, writing, passing on an end.
+ghost use Rattle.std.specs.Prelude.{◌≡◌, ◌≢◌, [], IfOk, IsTrue, OnErr, OnOk, length};
+ghost use Rattle.nio_base.specs.declared.numbers.ChanNo.{ChanNo};
+ghost use Rattle.nio_bytes.specs.Cause.{Rose};
+ghost use Rattle.nio_link.specs.Links.{IsGot};
+ghost use Rattle.nio_link.specs.Places.{IsLinked};
+ghost use Rattle.nio_relay.specs.Flow.{Flow, MayTake, buffered, takes};
+ghost use Rattle.nio_steps.specs.KeyCalls.{is_within};
+ghost use Rattle.nio_serve.specs.Nets.{Works};
+ghost use Rattle.nio_serve.specs.Passing.{BothSame, OneRose, Passes, flow_after_read};
+ghost use Rattle.nio_serve.specs.Ways.{ReadyAfterRead};
+ghost use Rattle.nio_serve.specs.Relaying.{IsEnd, KeepsSource, KeepsSink, SameSink, SameSource, carried, open_or_shut};
+
+use crate::way::Way;
+use nio_base::{ChanNo, Ops};
+use nio_link::{Failed, Got, Put};
+use nio_relay::{CAPACITY, Direction};
+
+// How many reads, and how many writes, are made on a link before the next connection has its turn.
+const ROUNDS: u32 = 64;
+
+// How many buffers at most are passed from one link to the other before the next connection has its turn.
+const PASSES: u32 = 4;
+
+/// Whether more may be passed on at once, in each of the two directions of a connection.
+#[derive(Clone, Copy, Debug, PartialEq, Eq)]
+pub(crate) struct Flows {
+    pub there: bool,
+    pub back: bool,
+}
+
+impl Flows {
+    pub(crate) const NEITHER: Flows = Flows {
+        there: false,
+        back: false,
+    };
+}
+
+#[tactic(auto, using(crate::proofs::Bits::read_keeps_write))]
+// Reads once what has come on a link into the direction that takes from it. Says whether more may be read at once.
+fn read_once<N, W: Way<N>>(
+    way: &mut W,
+    net: &mut N,
+    own: ChanNo,
+    outgoing: &mut Direction,
+    scratch: &mut [u8],
+) -> Result<bool, Failed>
+    requires scratch { length scratch.old ≡ CAPACITY }
+    requires ready { IsTrue (is_within 1 (W.ready net.old own)) }
+    requires linked { IsLinked (W.place net.old own).standing }
+    ensures source { KeepsSource outgoing.old outgoing.new (W.link net.old own) (W.place net.old own)
+        (W.link net.new own) (W.place net.new own) }
+    ensures sink { SameSink outgoing.old outgoing.new }
+    ensures work { Works W.Way own own net.old net.new }
+    ensures stands { W.place net.new own ≡ W.place net.old own }
+    ensures cause { OnErr result (Rose (W.faults net.old own) (W.faults net.new own)) }
+    ensures calm { OnOk result (W.faults net.new own ≡ W.faults net.old own) }
+    ensures more { IfOk result (λ more. IsTrue more → W.ready net.new own ≡ W.ready net.old own) }
+    ensures write { IsTrue (is_within 4 (W.ready net.old own)) → IsTrue (is_within 4 (W.ready net.new own)) }
+{
+    let room = outgoing.room();
+    if room == 0 || outgoing.is_ended() {
+        return Ok(false);
+    }
+    match way.read(net, own, &mut scratch[..room])? {
+        Got::Bytes(count) => {
+            outgoing.on_read(&scratch[..count]);
+            Ok(true)
+        }
+        Got::End => {
+            outgoing.on_end();
+            Ok(false)
+        }
+        Got::NotYet => Ok(false),
+    }
+}
+
+// Reads what has come on a link.
+fn read_all<N, W: Way<N>>(
+    way: &mut W,
+    net: &mut N,
+    own: ChanNo,
+    outgoing: &mut Direction,
+    scratch: &mut [u8],
+) -> Result<(), Failed>
+    requires scratch { length scratch.old ≡ CAPACITY }
+    requires ready { IsTrue (is_within 1 (W.ready net.old own)) }
+    requires linked { IsLinked (W.place net.old own).standing }
+    ensures source { KeepsSource outgoing.old outgoing.new (W.link net.old own) (W.place net.old own)
+        (W.link net.new own) (W.place net.new own) }
+    ensures sink { SameSink outgoing.old outgoing.new }
+    ensures work { Works W.Way own own net.old net.new }
+    ensures stands { W.place net.new own ≡ W.place net.old own }
+    ensures cause { OnErr result (Rose (W.faults net.old own) (W.faults net.new own)) }
+    ensures calm { OnOk result (W.faults net.new own ≡ W.faults net.old own) }
+    ensures write { IsTrue (is_within 4 (W.ready net.old own)) → IsTrue (is_within 4 (W.ready net.new own)) }
+{
+    for _ in 0..ROUNDS {
+        if !read_once(way, net, own, outgoing, scratch)? {
+            return Ok(());
+        }
+    }
+    Ok(())
+}
+
+// Writes once what a direction buffers to the link on which it is put. Says whether more may be written at once.
+#[tactic(auto, using(crate::proofs::Bits::write_keeps_read))]
+fn write_once<N, W: Way<N>>(
+    way: &mut W,
+    net: &mut N,
+    own: ChanNo,
+    incoming: &mut Direction,
+) -> Result<bool, Failed>
+    requires ready { IsTrue (is_within 4 (W.ready net.old own)) }
+    requires stands { (W.place net.old own).standing ≡ open_or_shut incoming.old.shut }
+    ensures sink { KeepsSink incoming.old incoming.new (W.link net.old own) (W.place net.old own) (W.link net.new own)
+        (W.place net.new own) }
+    ensures source { SameSource incoming.old incoming.new }
+    ensures work { Works W.Way own own net.old net.new }
+    ensures stands { W.place net.new own ≡ W.place net.old own }
+    ensures shut { incoming.new.shut ≡ incoming.old.shut }
+    ensures cause { OnErr result (Rose (W.faults net.old own) (W.faults net.new own)) }
+    ensures calm { OnOk result (W.faults net.new own ≡ W.faults net.old own) }
+    ensures more { IfOk result (λ more. IsTrue more → W.ready net.new own ≡ W.ready net.old own) }
+    ensures read { IsTrue (is_within 1 (W.ready net.old own)) → IsTrue (is_within 1 (W.ready net.new own)) }
+{
+    let front = incoming.front();
+    if front.is_empty() || incoming.is_shut() {
+        return Ok(false);
+    }
+    match way.write(net, own, front)? {
+        Put::Bytes(count) => {
+            incoming.on_written(count);
+            Ok(true)
+        }
+        Put::NotYet => Ok(false),
+    }
+}
+
+// Writes what a direction buffers. Says whether that is all written, and more could be written at once.
+fn write_all<N, W: Way<N>>(
+    way: &mut W,
+    net: &mut N,
+    own: ChanNo,
+    incoming: &mut Direction,
+) -> Result<bool, Failed>
+    requires ready { IsTrue (is_within 4 (W.ready net.old own)) }
+    requires stands { (W.place net.old own).standing ≡ open_or_shut incoming.old.shut }
+    ensures sink { KeepsSink incoming.old incoming.new (W.link net.old own) (W.place net.old own) (W.link net.new own)
+        (W.place net.new own) }
+    ensures source { SameSource incoming.old incoming.new }
+    ensures work { Works W.Way own own net.old net.new }
+    ensures stands { W.place net.new own ≡ W.place net.old own }
+    ensures shut { incoming.new.shut ≡ incoming.old.shut }
+    ensures cause { OnErr result (Rose (W.faults net.old own) (W.faults net.new own)) }
+    ensures calm { OnOk result (W.faults net.new own ≡ W.faults net.old own) }
+    ensures read { IsTrue (is_within 1 (W.ready net.old own)) → IsTrue (is_within 1 (W.ready net.new own)) }
+    ensures writable { IfOk result (λ more. IsTrue more → IsTrue (is_within 4 (W.ready net.new own))) }
+    ensures none_buffered { IfOk result (λ more. IsTrue more → buffered incoming.new ≡ []) }
+{
+    for _ in 0..ROUNDS {
+        if incoming.front().is_empty() {
+            return Ok(true);
+        }
+        if !write_once(way, net, own, incoming)? {
+            return Ok(false);
+        }
+    }
+    Ok(false)
+}
+
+// Writes bytes to the link `own` that were just read, while none were buffered. What it doesn't take is buffered. Says
+// whether it took all.
+#[tactic(auto, using(crate::proofs::Bits::write_keeps_read, crate::proofs::Carrying::buffered_new, crate::proofs::Carrying::buffered_passed))]
+fn write_new<N, W: Way<N>>(
+    way: &mut W,
+    net: &mut N,
+    own: ChanNo,
+    direction: &mut Direction,
+    bytes: &[u8],
+) -> Result<bool, Failed>
+    requires some { bytes.now ≢ [] }
+    requires ready { IsTrue (is_within 4 (W.ready net.old own)) }
+    requires stands { (W.place net.old own).standing ≡ open_or_shut direction.old.shut }
+    requires bytes { MayTake direction.old bytes.now }
+    requires none_buffered { buffered direction.old ≡ [] }
+    ensures sink { KeepsSink direction.old direction.new (W.link net.old own) (W.place net.old own) (W.link net.new own)
+        (W.place net.new own) }
+    ensures source { SameSource (takes direction.old bytes.now) direction.new }
+    ensures work { Works W.Way own own net.old net.new }
+    ensures stands { W.place net.new own ≡ W.place net.old own }
+    ensures shut { direction.new.shut ≡ direction.old.shut }
+    ensures cause { OnErr result (Rose (W.faults net.old own) (W.faults net.new own)) }
+    ensures calm { OnOk result (W.faults net.new own ≡ W.faults net.old own) }
+    ensures read { IsTrue (is_within 1 (W.ready net.old own)) → IsTrue (is_within 1 (W.ready net.new own)) }
+    ensures writable { IfOk result (λ all. IsTrue all → IsTrue (is_within 4 (W.ready net.new own))) }
+    ensures none_buffered { IfOk result (λ all. IsTrue all → buffered direction.new ≡ []) }
+{
+    direction.law();
+    if direction.is_shut() {
+        direction.on_read(bytes);
+        return Ok(false);
+    }
+    match way.write(net, own, bytes) {
+        Ok(Put::Bytes(count)) => {
+            direction.on_passed(bytes, count);
+            Ok(count == bytes.len())
+        }
+        Ok(Put::NotYet) => {
+            direction.on_read(bytes);
+            Ok(false)
+        }
+        Err(Failed) => {
+            direction.on_read(bytes);
+            Err(Failed)
+        }
+    }
+}
+
+// Reads once what has come on a link.
+#[tactic(auto, using(crate::proofs::Bits::read_keeps_write))]
+fn read_new<N, W: Way<N>>(
+    way: &mut W,
+    net: &mut N,
+    own: ChanNo,
+    scratch: &mut [u8],
+) -> Result<Got, Failed>
+    requires scratch { length scratch.old ≡ CAPACITY }
+    requires ready { IsTrue (is_within 1 (W.ready net.old own)) }
+    requires linked { IsLinked (W.place net.old own).standing }
+    ensures got { IfOk result (IsGot scratch.old) }
+    ensures source { (f : Flow) → KeepsSource f (flow_after_read result scratch.new f) (W.link net.old own)
+        (W.place net.old own) (W.link net.new own) (W.place net.new own) }
+    ensures work { Works W.Way own own net.old net.new }
+    ensures stands { W.place net.new own ≡ W.place net.old own }
+    ensures cause { OnErr result (Rose (W.faults net.old own) (W.faults net.new own)) }
+    ensures calm { OnOk result (W.faults net.new own ≡ W.faults net.old own) }
+    ensures ready { ReadyAfterRead result (W.ready net.old own) (W.ready net.new own) }
+    ensures write { IsTrue (is_within 4 (W.ready net.old own)) → IsTrue (is_within 4 (W.ready net.new own)) }
+{
+    way.read(net, own, scratch)
+}
+
+// Reads once from the link `source`, and writes to the link `sink` at once what has come. Says whether more may be
+// passed on at once.
+fn pass_once<N, W: Way<N>>(
+    way: &mut W,
+    net: &mut N,
+    source: ChanNo,
+    sink: ChanNo,
+    direction: &mut Direction,
+    scratch: &mut [u8],
+) -> Result<bool, Failed>
+    requires scratch { length scratch.old ≡ CAPACITY }
+    requires apart { source ≢ sink }
+    requires read { IsTrue (is_within 1 (W.ready net.old source)) }
+    requires write { IsTrue (is_within 4 (W.ready net.old sink)) }
+    requires linked { IsLinked (W.place net.old source).standing }
+    requires stands { (W.place net.old sink).standing ≡ open_or_shut direction.old.shut }
+    requires none_buffered { buffered direction.old ≡ [] }
+    ensures passes { Passes W.Way source sink direction.old direction.new net.old net.new }
+    ensures cause { OnErr result (OneRose (W.faults net.old) (W.faults net.new) source sink) }
+    ensures calm { OnOk result (BothSame (W.faults net.old) (W.faults net.new) source sink) }
+    ensures readable { IfOk result (λ more. IsTrue more → IsTrue (is_within 1 (W.ready net.new source))) }
+    ensures writable { IfOk result (λ more. IsTrue more → IsTrue (is_within 4 (W.ready net.new sink))) }
+    ensures none_buffered { IfOk result (λ more. IsTrue more → buffered direction.new ≡ []) }
+{
+    if direction.is_ended() {
+        return Ok(false);
+    }
+    match read_new(way, net, source, scratch)? {
+        Got::Bytes(count) => return write_new(way, net, sink, direction, &scratch[..count]),
+        Got::End => direction.on_end(),
+        Got::NotYet => {}
+    }
+    Ok(false)
+}
+
+// Passes on what comes from one link to the other. Says whether more may be passed on at once.
+fn pass_all<N, W: Way<N>>(
+    way: &mut W,
+    net: &mut N,
+    source: ChanNo,
+    sink: ChanNo,
+    direction: &mut Direction,
+    scratch: &mut [u8],
+) -> Result<bool, Failed>
+    requires scratch { length scratch.old ≡ CAPACITY }
+    requires apart { source ≢ sink }
+    requires read { IsTrue (is_within 1 (W.ready net.old source)) }
+    requires write { IsTrue (is_within 4 (W.ready net.old sink)) }
+    requires linked { IsLinked (W.place net.old source).standing }
+    requires stands { (W.place net.old sink).standing ≡ open_or_shut direction.old.shut }
+    requires none_buffered { buffered direction.old ≡ [] }
+    ensures passes { Passes W.Way source sink direction.old direction.new net.old net.new }
+    ensures cause { OnErr result (OneRose (W.faults net.old) (W.faults net.new) source sink) }
+    ensures calm { OnOk result (BothSame (W.faults net.old) (W.faults net.new) source sink) }
+{
+    for _ in 0..PASSES {
+        if !pass_once(way, net, source, sink, direction, scratch)? {
+            return Ok(false);
+        }
+    }
+    Ok(true)
+}
+
+// Writes what is buffered where the link was told ready for it. Says whether more could be written at once.
+fn write_told<N, W: Way<N>>(
+    way: &mut W,
+    net: &mut N,
+    source: ChanNo,
+    sink: ChanNo,
+    direction: &mut Direction,
+    can_write: bool,
+) -> Result<bool, Failed>
+    requires apart { source ≢ sink }
+    requires ready { IsTrue can_write → IsTrue (is_within 4 (W.ready net.old sink)) }
+    requires stands { (W.place net.old sink).standing ≡ open_or_shut direction.old.shut }
+    ensures passes { Passes W.Way source sink direction.old direction.new net.old net.new }
+    ensures readable { W.ready net.new source ≡ W.ready net.old source }
+    ensures cause { OnErr result (OneRose (W.faults net.old) (W.faults net.new) source sink) }
+    ensures calm { OnOk result (BothSame (W.faults net.old) (W.faults net.new) source sink) }
+    ensures writable { IfOk result (λ more. IsTrue more → IsTrue (is_within 4 (W.ready net.new sink))) }
+    ensures none_buffered { IfOk result (λ more. IsTrue more → buffered direction.new ≡ []) }
+{
+    if can_write {
+        write_all(way, net, sink, direction)
+    } else {
+        Ok(false)
+    }
+}
+
+// Whether a direction became full that had so much room before, and has so much now.
+fn is_filled(before: usize, now: usize) -> bool {
+    before > 0 && now == 0
+}
+
+// Reads where the link was told ready for it, and passes on what comes where the other can be written. Says whether
+// more may be passed on at once: so it is where the direction is full only now, since more may have come than it took.
+fn read_told<N, W: Way<N>>(
+    way: &mut W,
+    net: &mut N,
+    source: ChanNo,
+    sink: ChanNo,
+    direction: &mut Direction,
+    can_read: bool,
+    can_write: bool,
+    scratch: &mut [u8],
+) -> Result<bool, Failed>
+    requires scratch { length scratch.old ≡ CAPACITY }
+    requires apart { source ≢ sink }
+    requires read { IsTrue can_read → IsTrue (is_within 1 (W.ready net.old source)) }
+    requires write { IsTrue can_write → IsTrue (is_within 4 (W.ready net.old sink)) }
+    requires linked { IsLinked (W.place net.old source).standing }
+    requires stands { (W.place net.old sink).standing ≡ open_or_shut direction.old.shut }
+    requires none_buffered { IsTrue can_write → buffered direction.old ≡ [] }
+    ensures passes { Passes W.Way source sink direction.old direction.new net.old net.new }
+    ensures cause { OnErr result (OneRose (W.faults net.old) (W.faults net.new) source sink) }
+    ensures calm { OnOk result (BothSame (W.faults net.old) (W.faults net.new) source sink) }
+{
+    if !can_read {
+        return Ok(false);
+    }
+    if can_write {
+        return pass_all(way, net, source, sink, direction, scratch);
+    }
+    let room = direction.room();
+    read_all(way, net, source, direction, scratch)?;
+    Ok(is_filled(room, direction.room()))
+}
+
+// Carries bytes from the link `source` to the link `sink`, as they were told ready. Says whether more may be passed on
+// at once.
+fn carry<N, W: Way<N>>(
+    way: &mut W,
+    net: &mut N,
+    source: ChanNo,
+    sink: ChanNo,
+    direction: &mut Direction,
+    can_read: bool,
+    can_write: bool,
+    scratch: &mut [u8],
+) -> Result<bool, Failed>
+    requires scratch { length scratch.old ≡ CAPACITY }
+    requires apart { source ≢ sink }
+    requires read { IsTrue can_read → IsTrue (is_within 1 (W.ready net.old source)) }
+    requires write { IsTrue can_write → IsTrue (is_within 4 (W.ready net.old sink)) }
+    requires linked { IsLinked (W.place net.old source).standing }
+    requires stands { (W.place net.old sink).standing ≡ open_or_shut direction.old.shut }
+    ensures passes { Passes W.Way source sink direction.old direction.new net.old net.new }
+    ensures cause { OnErr result (OneRose (W.faults net.old) (W.faults net.new) source sink) }
+    ensures calm { OnOk result (BothSame (W.faults net.old) (W.faults net.new) source sink) }
+{
+    let takes_more = write_told(way, net, source, sink, direction, can_write)?;
+    read_told(
+        way, net, source, sink, direction, can_read, takes_more, scratch,
+    )
+}
+
+// Shuts the link to which a direction writes, once all that it took is written.
+#[tactic(auto, using(crate::proofs::Working::works_none))]
+fn pass_end<N, W: Way<N>>(
+    way: &mut W,
+    net: &mut N,
+    own: ChanNo,
+    incoming: &mut Direction,
+) -> Result<(), Failed>
+    requires stands { (W.place net.old own).standing ≡ open_or_shut incoming.old.shut }
+    ensures sink { KeepsSink incoming.old incoming.new (W.link net.old own) (W.place net.old own) (W.link net.new own)
+        (W.place net.new own) }
+    ensures source { SameSource incoming.old incoming.new }
+    ensures work { Works W.Way own own net.old net.new }
+    ensures cause { OnErr result (Rose (W.faults net.old own) (W.faults net.new own)) }
+    ensures calm { OnOk result (W.faults net.new own ≡ W.faults net.old own) }
+{
+    if incoming.want().shut {
+        way.shut_write(net, own)?;
+        incoming.on_shut();
+    }
+    Ok(())
+}
+
+// Carries what the two links of a connection were told ready for, both ways.
+fn carry_both<N, W: Way<N>>(
+    way: &mut W,
+    net: &mut N,
+    client: ChanNo,
+    target: ChanNo,
+    there: &mut Direction,
+    back: &mut Direction,
+    at_client: Ops,
+    at_target: Ops,
+    scratch: &mut [u8],
+) -> Result<Flows, Failed>
+    requires scratch { length scratch.old ≡ CAPACITY }
+    requires ready_client { IsTrue (is_within at_client (W.ready net.old client)) }
+    requires ready_target { IsTrue (is_within at_target (W.ready net.old target)) }
+    requires apart { client ≢ target }
+    requires client { IsEnd (W.link net.old client) (W.place net.old client) (carried there.old back.old) }
+    requires target { IsEnd (W.link net.old target) (W.place net.old target) (carried back.old there.old) }
+    ensures client { IsEnd (W.link net.new client) (W.place net.new client) (carried there.new back.new) }
+    ensures target { IsEnd (W.link net.new target) (W.place net.new target) (carried back.new there.new) }
+    ensures work { Works W.Way client target net.old net.new }
+    ensures cause { OnErr result (OneRose (W.faults net.old) (W.faults net.new) client target) }
+    ensures calm { OnOk result (BothSame (W.faults net.old) (W.faults net.new) client target) }
+{
+    let client_reads = Ops::READ.within(at_client);
+    let client_writes = Ops::WRITE.within(at_client);
+    let target_reads = Ops::READ.within(at_target);
+    let target_writes = Ops::WRITE.within(at_target);
+    Ok(Flows {
+        there: carry(
+            way,
+            net,
+            client,
+            target,
+            there,
+            client_reads,
+            target_writes,
+            scratch,
+        )?,
+        back: carry(
+            way,
+            net,
+            target,
+            client,
+            back,
+            target_reads,
+            client_writes,
+            scratch,
+        )?,
+    })
+}
+
+// Passes on what has ended, both ways.
+fn pass_ends<N, W: Way<N>>(
+    way: &mut W,
+    net: &mut N,
+    client: ChanNo,
+    target: ChanNo,
+    there: &mut Direction,
+    back: &mut Direction,
+) -> Result<(), Failed>
+    requires apart { client ≢ target }
+    requires client { IsEnd (W.link net.old client) (W.place net.old client) (carried there.old back.old) }
+    requires target { IsEnd (W.link net.old target) (W.place net.old target) (carried back.old there.old) }
+    ensures client { IsEnd (W.link net.new client) (W.place net.new client) (carried there.new back.new) }
+    ensures target { IsEnd (W.link net.new target) (W.place net.new target) (carried back.new there.new) }
+    ensures work { Works W.Way client target net.old net.new }
+    ensures cause { OnErr result (OneRose (W.faults net.old) (W.faults net.new) client target) }
+    ensures calm { OnOk result (BothSame (W.faults net.old) (W.faults net.new) client target) }
+{
+    pass_end(way, net, target, there)?;
+    pass_end(way, net, client, back)
+}
+
+// Carries what the two links of a connection were told ready for, and passes on what has ended. Says whether more may
+// be passed on at once.
+pub(crate) fn serve_links<N, W: Way<N>>(
+    way: &mut W,
+    net: &mut N,
+    client: ChanNo,
+    target: ChanNo,
+    there: &mut Direction,
+    back: &mut Direction,
+    at_client: Ops,
+    at_target: Ops,
+    scratch: &mut [u8],
+) -> Result<Flows, Failed>
+    requires scratch { length scratch.old ≡ CAPACITY }
+    requires ready_client { IsTrue (is_within at_client (W.ready net.old client)) }
+    requires ready_target { IsTrue (is_within at_target (W.ready net.old target)) }
+    requires apart { client ≢ target }
+    requires client { IsEnd (W.link net.old client) (W.place net.old client) (carried there.old back.old) }
+    requires target { IsEnd (W.link net.old target) (W.place net.old target) (carried back.old there.old) }
+    ensures client { IsEnd (W.link net.new client) (W.place net.new client) (carried there.new back.new) }
+    ensures target { IsEnd (W.link net.new target) (W.place net.new target) (carried back.new there.new) }
+    ensures work { Works W.Way client target net.old net.new }
+    ensures cause { OnErr result (OneRose (W.faults net.old) (W.faults net.new) client target) }
+    ensures calm { OnOk result (BothSame (W.faults net.old) (W.faults net.new) client target) }
+{
+    let flows = carry_both(
+        way, net, client, target, there, back, at_client, at_target, scratch,
+    )?;
+    pass_ends(way, net, client, target, there, back)?;
+    Ok(flows)
+}

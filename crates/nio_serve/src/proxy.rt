@@ -1,0 +1,507 @@
+//! The proxy at work: accepting, and serving what a selection tells.
+ghost use Rattle.std.specs.Prelude.{◌≡◌, ◌≢◌, ◌-◌, ◌/◌, ◌≤◌, ◌⊎◌, [], Err, IfOk, IsSome, IsTrue, OnOk};
+ghost use Rattle.std.specs.Prelude.{length, vec_capacity};
+ghost use Rattle.nio_base.specs.declared.numbers.ChanNo.{ChanNo};
+ghost use Rattle.nio_bytes.specs.Cause.{Rose};
+ghost use Rattle.nio_link.specs.Links.{IsSameBut};
+ghost use Rattle.nio_link.specs.Places.{IsVacant};
+ghost use Rattle.nio_link.specs.declared.place.Standing.TheVariants.{Listening};
+ghost use Rattle.nio_steps.specs.KeyCalls.{is_within};
+ghost use Rattle.nio_serve.specs.Board.{AreOrdered, AreReady};
+ghost use Rattle.nio_serve.specs.Nets.{IsQuiet};
+ghost use Rattle.nio_serve.specs.Passing.{channel_after};
+ghost use Rattle.nio_serve.specs.Serving.{client_of, listener, target_of};
+ghost use Rattle.nio_serve.specs.Slots.{AreServed, ListensAt, Serving};
+ghost use Rattle.nio_serve.specs.declared.serving.ServeError.TheVariants.{NetFault};
+
+use crate::board::{Board, Port, Refused};
+use crate::connections::Connections;
+use crate::serving::ServeError;
+use crate::way::Way;
+use nio_base::{ChanNo, Kind, Ops};
+use nio_poller::PollError;
+use nio_relay::{CAPACITY, ProxyPlan};
+use std::alloc::{AllocError, Global};
+use std::sync::Wait;
+
+/// The channel of the listener.
+pub(crate) const LISTENER: ChanNo = ChanNo(0);
+
+// The first channel after those of the connection to which this one belongs; after the listener's the first of all.
+fn channel_after(chan: ChanNo) -> u64
+    ensures { result ≡ channel_after chan }
+{
+    2 * ((u64::from(chan.0) + 1) / 2) + 1
+}
+
+// The number of the connection to which a channel belongs that isn't the listener's.
+fn number_of(chan: ChanNo) -> usize
+    requires { 1 ≤ chan.0 }
+    ensures { result ≡ (chan.0 - 1) / 2 }
+{
+    (chan.0 as usize - 1) / 2
+}
+
+/// What a proxy works with. The listener is watched at its port, for `interest`, until all connections were accepted.
+#[derive(Drop)]
+pub(crate) struct Proxy<'a> {
+    board: Board<'a>,
+    pub port: Option<Port>,
+    interest: Ops,
+    pub connections: Connections,
+}
+
+impl<'a> Proxy<'a> {
+    /// A proxy that hasn't begun to listen.
+    pub(crate) fn open<R: Wait>(
+        rt: &R,
+        alloc: Global,
+        board: Board<'a>,
+        plan: ProxyPlan,
+    ) -> Result<Proxy<'a>, Refused>
+        ensures slots { IfOk result (λ proxy. proxy.connections.slots.items ≡ []) }
+        ensures room { IfOk result (λ proxy. plan.conns ≤ vec_capacity proxy.connections.slots) }
+        ensures target { IfOk result (λ proxy. proxy.connections.target ≡ plan.target) }
+        ensures watched { IfOk result (λ proxy. IsSome proxy.port) }
+        ensures conns { IfOk result (λ proxy. proxy.connections.conns ≡ plan.conns) }
+        ensures listening { IfOk result (λ proxy. IsTrue proxy.connections.is_listening) }
+        ensures accepted { IfOk result (λ proxy. proxy.connections.accepted ≡ 0) }
+        ensures ended { IfOk result (λ proxy. proxy.connections.ended ≡ 0) }
+        ensures faulted { IfOk result (λ proxy. proxy.connections.faulted ≡ 0) }
+    {
+        let Ok(connections) = Connections::make(alloc, plan.conns, plan.target) else {
+            return Err(Refused);
+        };
+        let mut board = board;
+        let port = board.watch(rt, LISTENER, Kind::Listener, Ops::ACCEPT)?;
+        Ok(Proxy {
+            board,
+            port: Some(port),
+            interest: Ops::ACCEPT,
+            connections,
+        })
+    }
+
+    // Accepts the next connection, if the plan has one and it has come. Says whether another one may have come.
+    fn accept_one<R: Wait, N, W: Way<N>>(
+        &mut self,
+        rt: &R,
+        alloc: Global,
+        way: &mut W,
+        net: &mut N,
+    ) -> Result<bool, ServeError>
+        requires ready { IsTrue (is_within 16 (W.ready net.old listener)) }
+        requires listens { (W.place net.old listener).standing ≡ Listening }
+        requires served { AreServed (W.link net.old) (W.place net.old) self.old.connections }
+        ensures serving { Serving W.Way net.old net.new self.old.connections self.new.connections }
+        ensures ready { IsSameBut listener (W.ready net.old) (W.ready net.new) }
+        ensures listens { W.place net.new listener ≡ W.place net.old listener }
+        ensures port { self.new.port ≡ self.old.port }
+        ensures cause { result ≡ Err NetFault → Rose (W.faults net.old listener) (W.faults net.new listener) }
+        ensures more { IfOk result (λ more. IsTrue more → W.ready net.new listener ≡ W.ready net.old listener) }
+    {
+        let has_next = self.connections.slots.len() < self.connections.conns as usize;
+        if has_next && self.connections.is_listening {
+            self.connections
+                .accept(rt, alloc, way, net, &mut self.board)
+        } else {
+            Ok(false)
+        }
+    }
+
+    // Accepts all connections that have come.
+    fn accept_all<R: Wait, N, W: Way<N>>(
+        &mut self,
+        rt: &R,
+        alloc: Global,
+        way: &mut W,
+        net: &mut N,
+    ) -> Result<(), ServeError>
+        requires ready { IsTrue (is_within 16 (W.ready net.old listener)) }
+        requires listens { (W.place net.old listener).standing ≡ Listening }
+        requires served { AreServed (W.link net.old) (W.place net.old) self.old.connections }
+        ensures serving { Serving W.Way net.old net.new self.old.connections self.new.connections }
+        ensures listens { W.place net.new listener ≡ W.place net.old listener }
+        ensures port { self.new.port ≡ self.old.port }
+        ensures ready { IsSameBut listener (W.ready net.old) (W.ready net.new) }
+        ensures cause { result ≡ Err NetFault → Rose (W.faults net.old listener) (W.faults net.new listener) }
+    {
+        for _ in 0..=self.connections.conns {
+            if !self.accept_one(rt, alloc, way, net)? {
+                return Ok(());
+            }
+        }
+        Ok(())
+    }
+
+    // Accepts where the listener was told ready for that.
+    fn accept_told<R: Wait, N, W: Way<N>>(
+        &mut self,
+        rt: &R,
+        alloc: Global,
+        way: &mut W,
+        net: &mut N,
+        ops: Ops,
+    ) -> Result<(), ServeError>
+        requires ready { IsTrue (is_within ops (W.ready net.old listener)) }
+        requires listens { ListensAt self.old.port (W.place net.old listener).standing }
+        requires served { AreServed (W.link net.old) (W.place net.old) self.old.connections }
+        ensures serving { Serving W.Way net.old net.new self.old.connections self.new.connections }
+        ensures listens { W.place net.new listener ≡ W.place net.old listener }
+        ensures port { self.new.port ≡ self.old.port }
+        ensures ready { IsSameBut listener (W.ready net.old) (W.ready net.new) }
+        ensures cause { result ≡ Err NetFault → Rose (W.faults net.old listener) (W.faults net.new listener) }
+    {
+        if self.port.is_some() && Ops::ACCEPT.within(ops) {
+            self.accept_all(rt, alloc, way, net)
+        } else {
+            Ok(())
+        }
+    }
+
+    // Does what the links of one connection were told ready for, and what comes of it for the table.
+    fn serve_links<N, W: Way<N>>(
+        &mut self,
+        way: &mut W,
+        net: &mut N,
+        number: usize,
+        at_client: Ops,
+        at_target: Ops,
+        scratch: &mut [u8],
+    ) -> Result<(), ServeError>
+        requires scratch { length scratch.old ≡ CAPACITY }
+        requires ready_client { IsTrue (is_within at_client (W.ready net.old (client_of number))) }
+        requires ready_target { IsTrue (is_within at_target (W.ready net.old (target_of number))) }
+        requires served { AreServed (W.link net.old) (W.place net.old) self.old.connections }
+        ensures serving { Serving W.Way net.old net.new self.old.connections self.new.connections }
+        ensures listens { W.place net.new listener ≡ W.place net.old listener }
+        ensures port { self.new.port ≡ self.old.port }
+        ensures ready { (c : ChanNo) → c ≢ client_of number → c ≢ target_of number → W.ready net.new c
+            ≡ W.ready net.old c }
+        ensures cause { result ≢ Err NetFault }
+    {
+        match self.connections.serve(
+            way,
+            net,
+            &mut self.board,
+            number,
+            at_client,
+            at_target,
+            scratch,
+        ) {
+            Ok(()) => Ok(()),
+            Err(Refused) => Err(ServeError::Memory),
+        }
+    }
+
+    // Does what a channel was told ready for: where it is a client's link, also what its target's link was told, if
+    // that comes next.
+    fn serve_told<R: Wait, N, W: Way<N>>(
+        &mut self,
+        rt: &R,
+        alloc: Global,
+        way: &mut W,
+        net: &mut N,
+        told: (ChanNo, Ops),
+        next: (ChanNo, Ops),
+        scratch: &mut [u8],
+    ) -> Result<(), ServeError>
+        requires scratch { length scratch.old ≡ CAPACITY }
+        requires ready { IsTrue (is_within told.1 (W.ready net.old told.0)) }
+        requires ready_next { IsTrue (is_within next.1 (W.ready net.old next.0)) }
+        requires listens { ListensAt self.old.port (W.place net.old listener).standing }
+        requires served { AreServed (W.link net.old) (W.place net.old) self.old.connections }
+        ensures serving { Serving W.Way net.old net.new self.old.connections self.new.connections }
+        ensures listens { W.place net.new listener ≡ W.place net.old listener }
+        ensures port { self.new.port ≡ self.old.port }
+        ensures ready { (c : ChanNo) → channel_after told.0 ≤ c.0 → W.ready net.new c ≡ W.ready net.old c }
+        ensures cause { result ≡ Err NetFault → Rose (W.faults net.old listener) (W.faults net.new listener) }
+    {
+        let (chan, ops) = told;
+        if chan.0 == 0 {
+            return self.accept_told(rt, alloc, way, net, ops);
+        }
+        let number = number_of(chan);
+        if chan.0 % 2 == 0 {
+            self.serve_links(way, net, number, Ops::NONE, ops, scratch)
+        } else if next.0.0 as usize == 2 * number + 2 {
+            self.serve_links(way, net, number, ops, next.1, scratch)
+        } else {
+            self.serve_links(way, net, number, ops, Ops::NONE, scratch)
+        }
+    }
+
+    // Does what a selection told: serves each connection once, with what was told first of each of its links. It may
+    // not be ready any more for what was told of it again; the next selection tells that if it is.
+    fn serve_all<R: Wait, N, W: Way<N>>(
+        &mut self,
+        rt: &R,
+        alloc: Global,
+        way: &mut W,
+        net: &mut N,
+        told: &[(ChanNo, Ops)],
+        scratch: &mut [u8],
+    ) -> Result<(), ServeError>
+        requires scratch { length scratch.old ≡ CAPACITY }
+        requires ready { AreReady (W.ready net.old) told.now }
+        requires ordered { AreOrdered told.now }
+        requires listens { ListensAt self.old.port (W.place net.old listener).standing }
+        requires served { AreServed (W.link net.old) (W.place net.old) self.old.connections }
+        ensures serving { Serving W.Way net.old net.new self.old.connections self.new.connections }
+        ensures listens { W.place net.new listener ≡ W.place net.old listener }
+        ensures port { self.new.port ≡ self.old.port }
+        ensures cause { result ≡ Err NetFault → Rose (W.faults net.old listener) (W.faults net.new listener) }
+    {
+        let mut unserved = 0;
+        for index in 0..told.len() {
+            let one = told[index];
+            if (one.0.0 as u64) < unserved {
+                continue;
+            }
+            let next = told[(index + 1).min(told.len() - 1)];
+            unserved = channel_after(one.0);
+            let served = self.serve_told(rt, alloc, way, net, one, next, scratch);
+            if served.is_err() {
+                return served;
+            }
+        }
+        Ok(())
+    }
+
+    // One selection.
+    fn select<R: Wait, N, W: Way<N>>(
+        &mut self,
+        rt: &R,
+        alloc: Global,
+        way: &mut W,
+        net: &mut N,
+        told: &mut Vec<(ChanNo, Ops)>,
+    ) -> Result<(), ServeError>
+        requires served { AreServed (W.link net.old) (W.place net.old) self.old.connections }
+        ensures serving { Serving W.Way net.old net.new self.old.connections self.new.connections }
+        ensures listens { W.place net.new listener ≡ W.place net.old listener }
+        ensures port { self.new.port ≡ self.old.port }
+        ensures ready { IfOk result (λ _. AreReady (W.ready net.new) told.new.items) }
+        ensures ordered { IfOk result (λ _. AreOrdered told.new.items) }
+        ensures cause { result ≡ Err NetFault → Rose (W.poll_faults net.old) (W.poll_faults net.new) }
+    {
+        match self.board.select(rt, alloc, way, net, told) {
+            Ok(()) => Ok(()),
+            Err(PollError::Fault) => Err(ServeError::NetFault),
+            Err(PollError::Memory) => Err(ServeError::Memory),
+        }
+    }
+
+    // Goes on with the connection of a channel for which the way permits a call now: begins to connect its target, and
+    // watches its links for what is permitted.
+    fn serve_permitted<N, W: Way<N>>(
+        &mut self,
+        way: &mut W,
+        net: &mut N,
+        chan: ChanNo,
+        scratch: &mut [u8],
+    ) -> Result<(), ServeError>
+        requires scratch { length scratch.old ≡ CAPACITY }
+        requires served { AreServed (W.link net.old) (W.place net.old) self.old.connections }
+        ensures serving { Serving W.Way net.old net.new self.old.connections self.new.connections }
+        ensures listens { W.place net.new listener ≡ W.place net.old listener }
+        ensures port { self.new.port ≡ self.old.port }
+        ensures cause { result ≢ Err NetFault }
+    {
+        if chan.0 == 0 {
+            return Ok(());
+        }
+        let number = number_of(chan);
+        match self.connections.begin(way, net, &mut self.board, number) {
+            Ok(()) => self.serve_links(way, net, number, Ops::NONE, Ops::NONE, scratch),
+            Err(Refused) => Err(ServeError::Memory),
+        }
+    }
+
+    // Goes on with the connections of all channels for which the way has permitted a call.
+    fn serve_all_permitted<N, W: Way<N>>(
+        &mut self,
+        way: &mut W,
+        net: &mut N,
+        scratch: &mut [u8],
+    ) -> Result<(), ServeError>
+        requires scratch { length scratch.old ≡ CAPACITY }
+        requires served { AreServed (W.link net.old) (W.place net.old) self.old.connections }
+        ensures serving { Serving W.Way net.old net.new self.old.connections self.new.connections }
+        ensures listens { W.place net.new listener ≡ W.place net.old listener }
+        ensures port { self.new.port ≡ self.old.port }
+        ensures cause { result ≢ Err NetFault }
+    {
+        for _ in 0..u64::MAX {
+            let Some(chan) = way.permitted() else {
+                return Ok(());
+            };
+            self.serve_permitted(way, net, chan, scratch)?;
+        }
+        Ok(())
+    }
+
+    // Watches the listener where the way permits to accept, if it isn't watched so already.
+    fn watch_listener<N, W: Way<N>>(&mut self, way: &W) -> Result<(), ServeError>
+        ensures connections { self.new.connections ≡ self.old.connections }
+        ensures port { self.new.port ≡ self.old.port }
+        ensures cause { result ≢ Err NetFault }
+    {
+        let Some(port) = self.port else {
+            return Ok(());
+        };
+        let permitted = Ops::ACCEPT.meet(way.permits(LISTENER));
+        if self.interest != permitted {
+            if self.board.set(port, permitted).is_err() {
+                return Err(ServeError::Memory);
+            }
+            self.interest = permitted;
+        }
+        Ok(())
+    }
+
+    // Goes on with what the way has permitted since the last turn, and watches for no more than that.
+    fn prepare<R: Wait, N, W: Way<N>>(
+        &mut self,
+        rt: &R,
+        way: &mut W,
+        net: &mut N,
+        scratch: &mut [u8],
+    ) -> Result<(), ServeError>
+        requires scratch { length scratch.old ≡ CAPACITY }
+        requires served { AreServed (W.link net.old) (W.place net.old) self.old.connections }
+        ensures serving { Serving W.Way net.old net.new self.old.connections self.new.connections }
+        ensures listens { W.place net.new listener ≡ W.place net.old listener }
+        ensures port { self.new.port ≡ self.old.port }
+        ensures cause { result ≢ Err NetFault }
+    {
+        way.begin_turn(rt);
+        self.serve_all_permitted(way, net, scratch)?;
+        self.watch_listener::<N, W>(way)
+    }
+
+    // One turn: what was permitted since the last one, one selection, and what it told.
+    fn turn<R: Wait, N, W: Way<N>>(
+        &mut self,
+        rt: &R,
+        alloc: Global,
+        way: &mut W,
+        net: &mut N,
+        told: &mut Vec<(ChanNo, Ops)>,
+        scratch: &mut [u8],
+    ) -> Result<(), ServeError>
+        requires scratch { length scratch.old ≡ CAPACITY }
+        requires listens { ListensAt self.old.port (W.place net.old listener).standing }
+        requires served { AreServed (W.link net.old) (W.place net.old) self.old.connections }
+        ensures serving { Serving W.Way net.old net.new self.old.connections self.new.connections }
+        ensures listens { W.place net.new listener ≡ W.place net.old listener }
+        ensures port { self.new.port ≡ self.old.port }
+        ensures cause { result ≡ Err NetFault → Rose (W.poll_faults net.old) (W.poll_faults net.new)
+            ⊎ Rose (W.faults net.old listener) (W.faults net.new listener) }
+    {
+        let prepared = self.prepare(rt, way, net, scratch);
+        if prepared.is_err() {
+            return prepared;
+        }
+        let selected = self.select(rt, alloc, way, net, told);
+        if selected.is_err() {
+            return selected;
+        }
+        self.serve_all(rt, alloc, way, net, told, scratch)
+    }
+
+    // Closes the listener once all connections were accepted.
+    fn stop_listening<N, W: Way<N>>(&mut self, way: &mut W, net: &mut N)
+        requires listens { ListensAt self.old.port (W.place net.old listener).standing }
+        ensures quiet { IsQuiet W.Way net.old net.new }
+        ensures places { IsSameBut listener (W.place net.old) (W.place net.new) }
+        ensures listens { ListensAt self.new.port (W.place net.new listener).standing }
+        ensures connections { self.new.connections ≡ self.old.connections }
+    {
+        if self.connections.slots.len() >= self.connections.conns as usize {
+            if let Some(port) = self.port {
+                self.board.unwatch(port);
+                way.close(net, LISTENER);
+                self.port = None;
+            }
+        }
+    }
+
+    // Serves until all connections have ended.
+    fn serve<R: Wait, N, W: Way<N>>(
+        &mut self,
+        rt: &R,
+        alloc: Global,
+        way: &mut W,
+        net: &mut N,
+        scratch: &mut [u8],
+    ) -> Result<(), ServeError>
+        requires scratch { length scratch.old ≡ CAPACITY }
+        requires listens { ListensAt self.old.port (W.place net.old listener).standing }
+        requires served { AreServed (W.link net.old) (W.place net.old) self.old.connections }
+        ensures serving { Serving W.Way net.old net.new self.old.connections self.new.connections }
+        ensures listens { ListensAt self.new.port (W.place net.new listener).standing }
+        ensures role { (W.place net.new listener).role ≡ (W.place net.old listener).role }
+        ensures cause { result ≡ Err NetFault → Rose (W.poll_faults net.old) (W.poll_faults net.new)
+            ⊎ Rose (W.faults net.old listener) (W.faults net.new listener) }
+        ensures ended { OnOk result (self.new.connections.ended ≡ self.new.connections.conns) }
+    {
+        let mut told = Vec::new(alloc);
+        for _ in rt.forever() {
+            if self.connections.ended == self.connections.conns {
+                return Ok(());
+            }
+            let turned = self.turn(rt, alloc, way, net, &mut told, scratch);
+            if turned.is_err() {
+                return turned;
+            }
+            self.stop_listening(way, net);
+        }
+        unreachable!()
+    }
+
+    /// Serves until all connections have ended.
+    pub(crate) fn run<R: Wait, N, W: Way<N>>(
+        &mut self,
+        rt: &R,
+        alloc: Global,
+        way: &mut W,
+        net: &mut N,
+    ) -> Result<(), ServeError>
+        requires listens { ListensAt self.old.port (W.place net.old listener).standing }
+        requires served { AreServed (W.link net.old) (W.place net.old) self.old.connections }
+        ensures serving { Serving W.Way net.old net.new self.old.connections self.new.connections }
+        ensures listens { ListensAt self.new.port (W.place net.new listener).standing }
+        ensures role { (W.place net.new listener).role ≡ (W.place net.old listener).role }
+        ensures cause { result ≡ Err NetFault → Rose (W.poll_faults net.old) (W.poll_faults net.new)
+            ⊎ Rose (W.faults net.old listener) (W.faults net.new listener) }
+        ensures ended { OnOk result (self.new.connections.ended ≡ self.new.connections.conns) }
+    {
+        match vec![in alloc; 0; CAPACITY] {
+            Ok(mut scratch) => self.serve(rt, alloc, way, net, &mut scratch),
+            Err(AllocError) => Err(ServeError::Memory),
+        }
+    }
+
+    /// Closes what is still open.
+    pub(crate) fn close_all<N, W: Way<N>>(&self, way: &mut W, net: &mut N)
+        requires served { AreServed (W.link net.old) (W.place net.old) self.now.connections }
+        requires listens { ListensAt self.now.port (W.place net.old listener).standing }
+        ensures quiet { IsQuiet W.Way net.old net.new }
+        ensures vacant { (c : ChanNo) → IsVacant (W.place net.new c).standing }
+    {
+        self.connections.close_all(way, net);
+        self.close_listener(way, net);
+    }
+
+    // Closes the listener, if it still stands.
+    fn close_listener<N, W: Way<N>>(&self, way: &mut W, net: &mut N)
+        requires listens { ListensAt self.now.port (W.place net.old listener).standing }
+        ensures quiet { IsQuiet W.Way net.old net.new }
+        ensures vacant { IsVacant (W.place net.new listener).standing }
+    {
+        if self.port.is_some() {
+            way.close(net, LISTENER);
+        }
+    }
+}

@@ -1,0 +1,96 @@
+//! Serving a plan.
+ghost use Rattle.std.specs.Prelude.{◌≡◌};
+ghost use Rattle.nio_base.specs.declared.numbers.ChanNo.{ChanNo};
+ghost use Rattle.nio_link.specs.Links.{IsUnused};
+ghost use Rattle.nio_link.specs.Places.{unused};
+ghost use Rattle.nio_relay.specs.Plan.{IsServable};
+ghost use Rattle.nio_words.specs.Passes.{IsFirstPass};
+ghost use Rattle.nio_serve.specs.Serving.{AreNumbered, LeavesNothing, NoneRose, RelaysBytes, Serves, ServesAllOr};
+
+use crate::board::{Board, Refused};
+use crate::proxy::{LISTENER, Proxy};
+use crate::way::Way;
+use nio_base::{CallerNo, Limits};
+use nio_relay::{ProxyPlan, Served};
+use nio_words::{Pass, Words};
+use std::alloc::Global;
+use std::sync::Wait;
+use thiserror::Error;
+
+/// Why a proxy ended before its plan was served.
+#[derive(Clone, Copy, Debug, PartialEq, Eq, Error)]
+pub enum ServeError {
+    /// A poll failed, or the listener.
+    #[error("the net failed")]
+    NetFault,
+    /// There is no memory, or the proxy's own table refused a call.
+    #[error("out of memory")]
+    Memory,
+}
+
+/// A channel and a key for each link of 16,000 connections, with the listener; the number of a channel that was closed
+/// isn't given again.
+const LIMITS: Limits = Limits {
+    callers: 2,
+    selectors: 1,
+    channels: 32_768,
+    keys: 32_768,
+};
+
+/// The caller that makes the calls.
+const ME: CallerNo = CallerNo(0);
+
+// The board of the first caller of a new table. Nothing refuses it, since the limits have a caller and a selector.
+fn open_board<'a>(words: &'a Words, pass: Pass) -> Result<Board<'a>, Refused>
+    requires { IsFirstPass words.now pass }
+{
+    let mut pass = pass;
+    match words.draw(&mut pass, ME) {
+        Ok(()) => Board::open(words, pass, ME),
+        Err(_error) => Err(Refused),
+    }
+}
+
+/// Relays as many connections as the plan says, and then ends. A connection ends when both of its directions are shut,
+/// or at the first fault of one of its links, which closes both and is counted. At every end the links and the listener
+/// that are still open are closed. `Memory` is also answered where the proxy's own table refuses a call.
+pub fn serve<R: Wait, N, W: Way<N>>(
+    rt: &R,
+    alloc: Global,
+    way: &mut W,
+    net: &mut N,
+    plan: ProxyPlan,
+) -> Result<Served, ServeError>
+    requires plan { IsServable plan }
+    requires fresh { (c : ChanNo) → IsUnused (W.link net.old c) }
+    requires unasked { (c : ChanNo) → W.place net.old c ≡ unused }
+    ensures serves { Serves plan (W.link net.new) (W.place net.new) (W.faults net.old) (W.faults net.new)
+        (W.poll_faults net.old) (W.poll_faults net.new) result }
+    ensures relays { RelaysBytes (W.link net.new) }
+    ensures leaves { LeavesNothing plan (W.link net.new) (W.place net.new) }
+    ensures accepts { AreNumbered plan.conns (W.accepted net.old) (W.accepted net.new) result }
+    ensures complete { NoneRose (W.faults net.old) (W.faults net.new) (W.poll_faults net.old) (W.poll_faults net.new)
+        → ServesAllOr plan.conns (W.link net.new) result }
+{
+    let Ok((words, pass)) = Words::make(alloc, LIMITS) else {
+        return Err(ServeError::Memory);
+    };
+    let Ok(board) = open_board(&words, pass) else {
+        return Err(ServeError::Memory);
+    };
+    let Ok(mut proxy) = Proxy::open(rt, alloc, board, plan) else {
+        return Err(ServeError::Memory);
+    };
+    if way.listen(net, LISTENER, plan.listen).is_err() {
+        return Err(ServeError::NetFault);
+    }
+    let outcome = proxy.run(rt, alloc, way, net);
+    proxy.close_all(way, net);
+    match outcome {
+        Ok(()) => Ok(Served {
+            connections: plan.conns,
+            faults: proxy.connections.faulted,
+        }),
+        Err(error) => Err(error),
+    }
+}
