@@ -1,0 +1,11 @@
+pub use Rattle.nio_base.specs.Limits
+pub use Rattle.nio_caller.specs.Callers
+pub use Rattle.nio_event.specs.Conditions
+pub use Rattle.nio_event.specs.PassViews
+pub use Rattle.nio_pool.specs.Queues
+pub use Rattle.nio_steps.specs.Calls
+pub use Rattle.nio_steps.specs.ChannelCalls
+pub use Rattle.nio_steps.specs.KeyCalls
+pub use Rattle.nio_steps.specs.Runs
+pub use Rattle.nio_steps.specs.SelectCalls
+pub use Rattle.nio_words.specs.Passes

@@ -1,0 +1,7 @@
+//! Asynchronous channel groups: in one thread, and between threads.
+pub use nio_base::{GChan, Gate, NoGate, OpNo};
+pub use nio_group::{
+    Completion, Finished, GKind, GroupCore, GroupLimits, Job, NotRunning, OpKind, Operation,
+    Outcome, ReportError, Stage, StartError, Why,
+};
+pub use nio_pool::{CompletionQueue, Group, GroupError, Handed, Handler, QueuePass, work};

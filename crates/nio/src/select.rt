@@ -1,0 +1,9 @@
+//! Selectors, selections, pollers and bells.
+pub use nio_poller::{
+    Bell, NoBell, PollError, Poller, Scripted, SelectError, Sleeper, SleeperBell, close, interrupt,
+    interrupted, select, select_for, select_now, wakeup,
+};
+pub use nio_select::{
+    After, Asked, BeginError, Closing, Finish, ListError, LookedKey, Mode, Selected, Selecting,
+    SelectorsSpent, Shutting, Told, keys, open_selector, selected_keys, shut, try_begin,
+};

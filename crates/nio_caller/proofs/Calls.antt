@@ -1,0 +1,118 @@
+-- A caller may make calls after a call, as before it.
+use Rattle.std.proofs.Common.{◌≡◌, ◌≢◌, ℕ, ◌==◌, Bool, true, false, Option, Result, Ok, Err, IsTrue, List}
+use Rattle.std.proofs.Common.{ap, sym, ◌∙◌, refl, subst, eqb-true, eq-eqb}
+use Rattle.std.specs.Int.{bit_at}
+use Rattle.nio_base.specs.declared.limits.Limits.{Limits}
+use Rattle.nio_base.specs.declared.numbers.CallerNo.{CallerNo}
+use Rattle.nio_base.specs.declared.numbers.ChanNo.{ChanNo}
+use Rattle.nio_base.specs.declared.numbers.SelNo.{SelNo}
+use Rattle.nio_event.proofs.OwnPins.{pins_are_own}
+use Rattle.nio_event.proofs.PassViews.{selector_after, channel_after, key_after}
+use Rattle.nio_event.proofs.Stays.{beginnings_are_legal}
+use Rattle.nio_event.specs.Histories.{mine, IsLegal}
+use Rattle.nio_event.specs.OwnEvents.{keeps_pin}
+use Rattle.nio_event.specs.PassViews.{PassView, Holds, HasNoPin, ActsClause}
+use Rattle.nio_event.specs.declared.act.Act.{Act}
+use Rattle.nio_event.specs.declared.found.Mode.{Mode}
+use Rattle.nio_event.specs.declared.timeout.NegativeTimeout.{NegativeTimeout}
+use Rattle.nio_poller.specs.Polled.{Polled}
+use Rattle.nio_poller.specs.Selecting.{SelectClause, TimedBy, told_from}
+use Rattle.nio_poller.specs.declared.selecting.SelectError.{SelectError}
+use Rattle.nio_steps.proofs.PinBack.{no_pin_after}
+use Rattle.nio_steps.proofs.PinLaws.{pins_are_given_back}
+use Rattle.nio_steps.specs.Calls.{CallClause}
+use Rattle.nio_steps.specs.PinLaws.{GivesPinsBack}
+use Rattle.nio_steps.specs.SelectCalls.{Begins, ListsKeys, ListsSelected}
+use Rattle.nio_steps.specs.declared.selected.Selected.{Selected}
+use Rattle.nio_words.specs.Passes.{IsReady, numbers_of}
+use Rattle.nio_words.specs.Views.{view}
+use Rattle.nio_words.specs.declared.words.Pass.{Pass}
+use Rattle.nio_words.specs.declared.words.Words.{Words}
+use Rattle.nio_caller.specs.Callers.{HasNoPins, MayCall, StillHas}
+
+abbrev numbered : ℕ → CallerNo
+numbered k = record { 0 = k }
+
+-- who did the same has the same pins
+pub same_pins : (l : Limits) (n : CallerNo) (old new : PassView) → IsLegal l old.seen → IsLegal l new.seen
+    → mine n new.seen ≡ mine n old.seen → HasNoPin old n → HasNoPin new n
+same_pins l n old new legal_old legal_new same none s i =
+    pins_are_own l n s i new.seen legal_new
+    ∙ (ap (keeps_pin s.0 i) same ∙ (sym (pins_are_own l n s i old.seen legal_old) ∙ none s i))
+
+-- the numbers that didn't call have no pin either
+unpinned_after : {me : CallerNo} {acts : List Act} {old new : PassView} → ActsClause me acts old new
+    → HasNoPin new me → HasNoPins old → HasNoPins new
+unpinned_after {me = me} {acts = acts} {old = old} {new = new} clause own others n held =
+    by_test (n.0 == me.0) refl
+  where
+    held_before : Holds old n
+    held_before = subst (λ (h : CallerNo → Bool). IsTrue (h n)) clause.held held
+
+    by_test : (b : Bool) → (n.0 == me.0) ≡ b → HasNoPin new n
+    by_test true is =
+        let same : me ≡ n = sym (ap numbered (eqb-true n.0 me.0 is)) in
+        subst (λ (m : CallerNo). HasNoPin new m) same own
+    by_test false is =
+        let other : n ≢ me = λ same.
+        let clash : false ≡ true = sym is ∙ eq-eqb n.0 me.0 (ap (λ (m : CallerNo). m.0) same) in absurd cc
+        in
+        same_pins old.limits n old new
+        (beginnings_are_legal old.limits old.seen new.seen clause.history.goes_on clause.history.legal)
+        clause.history.legal (clause.history.others n held_before other) (others n held_before)
+
+-- after a call that gives its pins back
+pub may_call_after : {R : Type 0} {Shape : List Act → R → Type 0} {answer : R} {w : Words} {p q : Pass} {me : CallerNo}
+    → GivesPinsBack Shape → CallClause me Shape (view w p) (view w q) answer → IsReady w q me → MayCall w p me
+    → MayCall w q me
+may_call_after {answer = answer} {w = w} {p = p} {me = me} gives call ready may = record {
+  ready = ready;
+  unpinned = unpinned_after call.acts
+      (no_pin_after (λ acts shape. gives acts answer shape) call (may.unpinned me own)) may.unpinned;
+}
+  where
+    own : Holds (view w p) me
+    own = eq-eqb (bit_at (numbers_of p) me.0) 1 may.ready.number
+
+-- ---- what was made stays made
+
+pub still_has : {me : CallerNo} {acts : List Act} {old new : PassView} → ActsClause me acts old new → StillHas old new
+still_has clause = record {
+  selectors = λ s has. selector_after clause has;
+  channels = λ c has. channel_after clause has;
+  keys = λ k has. key_after clause has;
+}
+
+pub same_has : {v : PassView} → StillHas v v
+same_has = record { selectors = λ s has. has; channels = λ c has. has; keys = λ k has. has }
+
+-- ---- calls whose plan depends on their answer
+
+pub begin_gives : (s : SelNo) (mode : Mode) → GivesPinsBack (Begins s mode)
+begin_gives s mode = λ acts answer shape. pins_are_given_back.try_begin s mode _ acts answer shape
+
+pub keys_give : (s : SelNo) → GivesPinsBack (ListsKeys s)
+keys_give s = λ acts answer shape. pins_are_given_back.keys s _ acts answer shape
+
+pub selected_keys_give : (s : SelNo) → GivesPinsBack (ListsSelected s)
+selected_keys_give s = λ acts answer shape. pins_are_given_back.selected_keys s _ acts answer shape
+
+-- ---- whole selections
+
+module _ (w : Words) (p q : Pass) (me : CallerNo) (s : SelNo) (p0 p1 : Option (List Polled)) (are_ready : ChanNo → ℕ)
+    (result : Result Selected SelectError) where
+  pub may_call_selected : (mode : Mode) → SelectClause me s mode (view w p) (view w q) p0 p1 are_ready result
+      → IsReady w q me → MayCall w p me → MayCall w q me
+  may_call_selected mode clause ready may =
+      may_call_after (pins_are_given_back.select s mode (told_from clause.polls)) clause.call ready may
+
+  pub may_call_timed : (r : Result Mode NegativeTimeout)
+      → TimedBy r me s (view w p) (view w q) p0 p1 are_ready result → IsReady w q me → MayCall w p me → MayCall w q me
+  may_call_timed (Ok mode) clause ready may = may_call_selected mode clause ready may
+  may_call_timed (Err too_low) clause ready may =
+      record { ready = ready; unpinned = subst HasNoPins (sym clause.same) may.unpinned }
+
+  pub timed_has : (r : Result Mode NegativeTimeout)
+      → TimedBy r me s (view w p) (view w q) p0 p1 are_ready result → StillHas (view w p) (view w q)
+  timed_has (Ok mode) clause = still_has clause.call.acts
+  timed_has (Err too_low) clause = subst (λ (v : PassView). StillHas (view w p) v) (sym clause.same) same_has

@@ -1,0 +1,13 @@
+use Rattle.nio_steps.proofs.PinLaws.{pins_are_given_back}
+use Rattle.nio_caller.proofs.Calls.{may_call_after, still_has}
+use Rattle.nio_caller.proofs.callers.Caller.shut.Goals as goal
+
+pub invariant_of-self : goal.invariant_of-self
+invariant_of-self c =
+    may_call_after (pins_are_given_back.shut _) c.shut.ensures.call c.shut.ensures.ready c.self.invariant
+
+pub returns-clause-still : goal.returns-clause-still
+returns-clause-still c = rw (← c.self.view_is) (still_has c.shut.ensures.call.acts)
+
+pub returns-clause-closing : goal.returns-clause-closing
+returns-clause-closing c = rw (← c.self.view_is) c.shut.ensures.closing

@@ -1,0 +1,87 @@
+-- What contracts see of a caller; how a caller is parted in two, and how two become one.
+use Rattle.std.specs.Prelude.{◌≡◌, ◌≢◌, ◌↔◌, ◌⊎◌, ℕ, zero, suc, ◌<◌, ◌++◌, false, List, [], ◌∷◌}
+use mathlib.Core.List.{IsPrefix}
+use Rattle.nio_base.specs.declared.numbers.CallerNo.{CallerNo}
+use Rattle.nio_base.specs.declared.numbers.ChanNo.{ChanNo}
+use Rattle.nio_base.specs.declared.numbers.KeyNo.{KeyNo}
+use Rattle.nio_base.specs.declared.numbers.SelNo.{SelNo}
+use Rattle.nio_event.specs.Histories.{event_of, mine}
+use Rattle.nio_event.specs.PassViews.{PassView, Holds, HasNoPin, HasSelector, HasChannel, HasKey}
+use Rattle.nio_event.specs.declared.act.Act.TheVariants.{DrawBit}
+use Rattle.nio_event.specs.declared.event.Event.{Event}
+use Rattle.nio_words.specs.Passes.{IsOnly, IsPassOf, IsReady, Holds as HoldsNumber, seen}
+use Rattle.nio_words.specs.Rule.{longer}
+use Rattle.nio_words.specs.Views.{view}
+use Rattle.nio_words.specs.declared.words.Pass.{Pass}
+use Rattle.nio_words.specs.declared.words.Words.{Words}
+
+pub record Acting : Type 0 where
+  -- the table at which it makes its calls
+  pub table : Words
+  -- what it steps with
+  pub pass : Pass
+  -- its number
+  pub number : CallerNo
+
+-- what it has seen of the table's history, and the numbers that it holds: its own, and those that it can give away
+abbrev pub sees : Acting → PassView
+sees caller = view caller.table caller.pass
+
+-- none of the numbers that the pass holds has a pin
+abbrev pub HasNoPins : PassView → Type 0
+HasNoPins pass = (n : CallerNo) → Holds pass n → HasNoPin pass n
+
+-- A caller may make calls: its pass is one of the table and holds its number, and no number that the pass holds has
+-- a pin.
+pub record MayCall (w : Words) (p : Pass) (me : CallerNo) : Type 0 where
+  pub ready : IsReady w p me
+  pub unpinned : HasNoPins (view w p)
+
+-- it makes its calls at the same table, with the same number
+pub record IsSameCaller (old new : Acting) : Type 0 where
+  pub table : new.table ≡ old.table
+  pub number : new.number ≡ old.number
+
+-- each selector, channel and key that may be passed to a call may be passed to a later one
+pub record StillHas (old new : PassView) : Type 0 where
+  pub selectors : (s : SelNo) → HasSelector old s → HasSelector new s
+  pub channels : (c : ChanNo) → HasChannel old c → HasChannel new c
+  pub keys : (k : KeyNo) → HasKey old k → HasKey new k
+
+-- ---- the first caller
+
+-- the draws of so many numbers, from 0 up
+abbrev pub draws : ℕ → List Event
+draws zero = []
+draws (suc k) = draws k ++ event_of (record { 0 = k }) (DrawBit (record { 0 = k }) false) ∷ []
+
+-- the table's only pass has drawn each number below k, and nothing else was done
+pub record HasDrawn (w : Words) (p : Pass) (k : ℕ) : Type 0 where
+  pub pass : IsPassOf w p
+  pub only : IsOnly p
+  pub holds : (n : CallerNo) → n.0 < k → HoldsNumber p n
+  pub sight : seen p ≡ draws k
+
+-- ---- two callers
+
+-- the number leaves the caller for a new one, which makes its calls at the same table; both have seen what the
+-- caller had seen
+pub record GivesNumber (n : CallerNo) (old new given : Acting) : Type 0 where
+  pub table : given.table ≡ old.table
+  pub number : given.number ≡ n
+  pub sight : (sees new).seen ≡ (sees old).seen
+  pub given_sight : (sees given).seen ≡ (sees old).seen
+  pub holds : (m : CallerNo) → Holds (sees new) m ↔ (Holds (sees old) m × (m ≢ n))
+  pub given_holds : (m : CallerNo) → Holds (sees given) m ↔ (m ≡ n)
+
+-- what was seen begins what is seen now, and each number that was held has done no more
+pub record StandsIn (old new : PassView) : Type 0 where
+  pub begins : IsPrefix old.seen new.seen
+  pub own : (n : CallerNo) → Holds old n → mine n new.seen ≡ mine n old.seen
+
+-- the caller has seen the longer of what both had seen, and holds the numbers of both
+pub record Joins (old other new : PassView) : Type 0 where
+  pub sight : new.seen ≡ longer old.seen other.seen
+  pub stands : StandsIn old new
+  pub other_stands : StandsIn other new
+  pub holds : (n : CallerNo) → Holds new n ↔ (Holds old n ⊎ Holds other n)

@@ -1,0 +1,175 @@
+//! The calls of a caller on channels.
+ghost use Rattle.std.specs.Prelude.{◌≡◌, ◌≢◌, Err, IfOk, IfSome, IsTrue};
+ghost use Rattle.nio_event.specs.PassViews.{HasChannel, HasKey, HasSelector, known};
+ghost use Rattle.nio_steps.specs.Calls.{CallClause};
+ghost use Rattle.nio_steps.specs.ChannelCalls.{open_channel_plan, is_open_plan, is_blocking_plan, SetsBlocking};
+ghost use Rattle.nio_steps.specs.ChannelCalls.{try_set_blocking_plan, Registers, try_register_plan, key_for_plan};
+ghost use Rattle.nio_steps.specs.ChannelCalls.{is_registered_plan, close_channel_plan};
+ghost use Rattle.nio_steps.specs.Runs.{Completes};
+ghost use Rattle.nio_steps.specs.declared.refusal.ChannelError.TheVariants.{Busy};
+ghost use Rattle.nio_channel.specs.Registered.{IsKeyOf, IsCancelledWhereClosed};
+ghost use Rattle.nio_words.specs.Passes.{limits_of};
+ghost use Rattle.nio_caller.specs.Callers.{IsSameCaller, StillHas, sees};
+
+use super::Caller;
+use nio_base::{ChanNo, KeyNo, Kind, Ops, SelNo};
+use nio_steps::ChannelError;
+use std::sync::Wait;
+
+impl<'a> Caller<'a> {
+    /// Opens a channel of this kind, in blocking mode: Java's `open`.
+    pub fn open_channel(&mut self, kind: Kind) -> Result<ChanNo, ChannelError>
+        ensures call { CallClause self.old.number (Completes (open_channel_plan (limits_of self.old.table) kind))
+            (sees self.old) (sees self.new) result }
+        ensures same { IsSameCaller self.old self.new }
+        ensures still { StillHas (sees self.old) (sees self.new) }
+        ensures made { IfOk result (HasChannel (sees self.new)) }
+    {
+        nio_channel::open_channel(self.words, &mut self.pass, self.number, kind)
+    }
+
+    /// Whether the channel is open: Java's `isOpen`.
+    pub fn is_open(&mut self, chan: ChanNo) -> bool
+        requires { HasChannel (sees self.old) chan }
+        ensures call { CallClause self.old.number (Completes (is_open_plan chan))
+            (sees self.old) (sees self.new) result }
+        ensures same { IsSameCaller self.old self.new }
+        ensures still { StillHas (sees self.old) (sees self.new) }
+    {
+        nio_channel::is_open(self.words, &mut self.pass, self.number, chan)
+    }
+
+    /// Whether the channel is in blocking mode: Java's `isBlocking`.
+    pub fn is_blocking(&mut self, chan: ChanNo) -> bool
+        requires { HasChannel (sees self.old) chan }
+        ensures call { CallClause self.old.number (Completes (is_blocking_plan chan))
+            (sees self.old) (sees self.new) result }
+        ensures same { IsSameCaller self.old self.new }
+        ensures still { StillHas (sees self.old) (sees self.new) }
+    {
+        nio_channel::is_blocking(self.words, &mut self.pass, self.number, chan)
+    }
+
+    /// Sets whether the channel is in blocking mode: Java's `configureBlocking`. A channel that is registered stays
+    /// non-blocking: `IllegalBlockingMode`. It waits while another caller registers the channel or sets its mode.
+    pub fn set_blocking<R: Wait>(
+        &mut self,
+        rt: &R,
+        chan: ChanNo,
+        on: bool,
+    ) -> Result<(), ChannelError>
+        requires { HasChannel (sees self.old) chan }
+        ensures call { CallClause self.old.number (SetsBlocking (limits_of self.old.table) chan on)
+            (sees self.old) (sees self.new) result }
+        ensures same { IsSameCaller self.old self.new }
+        ensures still { StillHas (sees self.old) (sees self.new) }
+        ensures waits { result ≢ Err Busy }
+    {
+        nio_channel::set_blocking(rt, self.words, &mut self.pass, self.number, chan, on)
+    }
+
+    /// The same without waiting: `Busy` where another caller registers the channel or sets its mode.
+    pub fn try_set_blocking(&mut self, chan: ChanNo, on: bool) -> Result<(), ChannelError>
+        requires { HasChannel (sees self.old) chan }
+        ensures call { CallClause self.old.number (Completes (try_set_blocking_plan (limits_of self.old.table) chan on))
+            (sees self.old) (sees self.new) result }
+        ensures same { IsSameCaller self.old self.new }
+        ensures still { StillHas (sees self.old) (sees self.new) }
+    {
+        nio_channel::try_set_blocking(self.words, &mut self.pass, self.number, chan, on)
+    }
+
+    /// Registers the channel with the selector: Java's `register`. Where the channel has a valid key there, this key is
+    /// answered: its interest set becomes `ops`, and its attachment `att` where that isn't 0. Else a new key is made.
+    /// It waits while another caller registers the channel or sets its mode.
+    pub fn register<R: Wait>(
+        &mut self,
+        rt: &R,
+        sel: SelNo,
+        chan: ChanNo,
+        ops: Ops,
+        att: u64,
+    ) -> Result<KeyNo, ChannelError>
+        requires selector { HasSelector (sees self.old) sel }
+        requires channel { HasChannel (sees self.old) chan }
+        ensures call { CallClause self.old.number (Registers (limits_of self.old.table) sel chan ops att)
+            (sees self.old) (sees self.new) result }
+        ensures same { IsSameCaller self.old self.new }
+        ensures still { StillHas (sees self.old) (sees self.new) }
+        ensures waits { result ≢ Err Busy }
+        ensures in_selector { IfOk result (λ k. k.sel ≡ sel) }
+        ensures key { IfOk result (HasKey (sees self.new)) }
+        ensures its { IfOk result (IsKeyOf (sees self.new) chan) }
+        ensures cancelled { IfOk result (IsCancelledWhereClosed (sees self.new) self.old.number chan) }
+    {
+        nio_channel::register(
+            rt,
+            self.words,
+            &mut self.pass,
+            self.number,
+            sel,
+            chan,
+            ops,
+            att,
+        )
+    }
+
+    /// The same without waiting: `Busy` where another caller registers the channel or sets its mode.
+    pub fn try_register(
+        &mut self,
+        sel: SelNo,
+        chan: ChanNo,
+        ops: Ops,
+        att: u64,
+    ) -> Result<KeyNo, ChannelError>
+        requires selector { HasSelector (sees self.old) sel }
+        requires channel { HasChannel (sees self.old) chan }
+        ensures call { CallClause self.old.number
+            (Completes (try_register_plan (limits_of self.old.table) sel chan ops att))
+            (sees self.old) (sees self.new) result }
+        ensures same { IsSameCaller self.old self.new }
+        ensures still { StillHas (sees self.old) (sees self.new) }
+        ensures in_selector { IfOk result (λ k. k.sel ≡ sel) }
+        ensures key { IfOk result (HasKey (sees self.new)) }
+        ensures its { IfOk result (IsKeyOf (sees self.new) chan) }
+        ensures cancelled { IfOk result (IsCancelledWhereClosed (sees self.new) self.old.number chan) }
+    {
+        nio_channel::try_register(self.words, &mut self.pass, self.number, sel, chan, ops, att)
+    }
+
+    /// The channel's key in the selector, where it has one: Java's `keyFor`.
+    pub fn key_for(&mut self, chan: ChanNo, sel: SelNo) -> Option<KeyNo>
+        requires channel { HasChannel (sees self.old) chan }
+        requires selector { HasSelector (sees self.old) sel }
+        ensures call { CallClause self.old.number (Completes (key_for_plan chan sel))
+            (sees self.old) (sees self.new) result }
+        ensures same { IsSameCaller self.old self.new }
+        ensures still { StillHas (sees self.old) (sees self.new) }
+        ensures found { IfSome result (HasKey (sees self.new)) }
+    {
+        nio_channel::key_for(self.words, &mut self.pass, self.number, chan, sel)
+    }
+
+    /// Whether the channel is registered with any selector: Java's `isRegistered`.
+    pub fn is_registered(&mut self, chan: ChanNo) -> bool
+        requires { HasChannel (sees self.old) chan }
+        ensures call { CallClause self.old.number (Completes (is_registered_plan (limits_of self.old.table) chan))
+            (sees self.old) (sees self.new) result }
+        ensures same { IsSameCaller self.old self.new }
+        ensures still { StillHas (sees self.old) (sees self.new) }
+    {
+        nio_channel::is_registered(self.words, &mut self.pass, self.number, chan)
+    }
+
+    /// Closes the channel and cancels its keys: Java's `close`. Says whether this call closed it. It never waits.
+    pub fn close_channel(&mut self, chan: ChanNo) -> bool
+        requires { HasChannel (sees self.old) chan }
+        ensures call { CallClause self.old.number (Completes (close_channel_plan (limits_of self.old.table) chan))
+            (sees self.old) (sees self.new) result }
+        ensures same { IsSameCaller self.old self.new }
+        ensures still { StillHas (sees self.old) (sees self.new) }
+        ensures closed { IsTrue ((known (sees self.new)).chan chan.0).closed }
+    {
+        nio_channel::close_channel(self.words, &mut self.pass, self.number, chan)
+    }
+}

@@ -1,0 +1,10 @@
+//! A net whose calls may be made at any time: each looks first at what stands under its channel, and at what the last
+//! poll told of it.
+#![tactic(auto)]
+
+pub use calls::NetError;
+pub use checked::CheckedNet;
+
+mod calls;
+mod checked;
+mod told;

@@ -1,0 +1,69 @@
+//! What a poll told, by channels.
+ghost use Rattle.std.specs.Prelude.{◌≡◌, ◌↔◌, ◌==◌, if◌then◌else◌, ◌≤◌, [], IsTrue, bit_or, length, map, vec_capacity};
+ghost use Rattle.nio_steps.specs.SelectCalls.{told_of as told_of_index};
+ghost use Rattle.nio_checked.specs.Listed.{IsTold, listed, untold};
+
+use nio_base::{ChanNo, Ops};
+use nio_select::Asked;
+
+/// Lists, for each key that was asked for, its channel with what was told of it and asked for.
+pub(crate) fn list(asked: &Asked, pairs: &[(u32, Ops)], told: &mut Vec<(ChanNo, Ops)>)
+    requires empty { told.old.items ≡ [] }
+    requires room { length asked.now ≤ vec_capacity told.old }
+    ensures { told.new.items ≡ listed pairs.now asked.now }
+{
+    for at in 0..asked.len() {
+        let (index, chan, interest) = asked.entry(at);
+        told.push_reserved((chan, told_of(pairs, index).meet(interest)));
+    }
+}
+
+// What was told of the key with this index.
+fn told_of(pairs: &[(u32, Ops)], index: u32) -> Ops
+    ensures { result ≡ told_of_index pairs.now index }
+{
+    let mut bits = Ops::NONE;
+    for pair in pairs {
+        bits = with_pair(bits, *pair, index);
+    }
+    bits
+}
+
+fn with_pair(bits: Ops, pair: (u32, Ops), index: u32) -> Ops
+    ensures { result ≡ if pair.0 == index then bit_or bits pair.1 else bits }
+{
+    if pair.0 == index {
+        bits.union(pair.1)
+    } else {
+        bits
+    }
+}
+
+/// Whether the list tells of the channel that it is ready for this operation.
+pub(crate) fn is_told(told: &[(ChanNo, Ops)], chan: ChanNo, op: Ops) -> bool
+    ensures { IsTrue result ↔ IsTold told.now chan op }
+{
+    told.iter()
+        .any(|&(ready, ops)| ready.0 == chan.0 && op.within(ops))
+}
+
+/// Takes away what the list tells of the channel.
+pub(crate) fn untell(told: &mut [(ChanNo, Ops)], chan: ChanNo)
+    ensures { told.new ≡ map (untold chan) told.old }
+{
+    for one in told.iter_mut() {
+        *one = without(*one, chan);
+    }
+}
+
+// The same, but nothing where it is of the channel.
+fn without(one: (ChanNo, Ops), chan: ChanNo) -> (ChanNo, Ops)
+    ensures { result ≡ untold chan one }
+{
+    let (ready, ops) = one;
+    if ready.0 == chan.0 {
+        (ready, Ops::NONE)
+    } else {
+        (ready, ops)
+    }
+}

@@ -1,0 +1,76 @@
+//! A selector that another thread wakes. The first caller registers a channel, and selects it when a poller tells that
+//! it is ready. Then it waits in a selection until the second caller, in a thread of its own, wakes it.
+#![tactic(auto)]
+
+ghost use Rattle.nio.specs.Callers.{sees};
+ghost use Rattle.nio.specs.PassViews.{HasSelector};
+
+use nio::select::{Scripted, SelectError, Selected, Sleeper, SleeperBell, Told};
+use nio::{Caller, CallerNo, Kind, Limits, Ops, SelNo, Words};
+use std::alloc::Global;
+use std::sync::Wait;
+use std::thread::join;
+
+const LIMITS: Limits = Limits {
+    callers: 2,
+    selectors: 1,
+    channels: 1,
+    keys: 64,
+};
+
+fn main(rt: HostRuntime) -> anyhow::Result<()> {
+    // The table, and a caller for each thread.
+    let (words, pass) = Words::make(rt.alloc(), LIMITS)?;
+    let mut first = Caller::first(&words, pass);
+    let sel = first.open_selector()?;
+    let chan = first.open_channel(Kind::Source)?;
+    first.set_blocking(&rt, chan, false)?;
+    let key = first.register(&rt, sel, chan, Ops::READ, 0)?;
+    println!(rt; "registered: key {} with serial {}", key.index, key.serial)?;
+
+    // A poller says which channels are ready. This one says it of the key just made, and then of none.
+    let told = Told {
+        pairs: vec![in rt.alloc(); (key.index, Ops::READ)]?,
+        elapsed: false,
+    };
+    let mut script = Scripted::make(vec![in rt.alloc(); told]?, Vec::new(rt.alloc()));
+    let selected = first.select(&rt, rt.alloc(), sel, &mut script)?;
+    println!(rt; "selected: {} ({:?})", selected.count, selected.why)?;
+
+    // The second caller is for another thread. The first sleeps in its selection until it is woken.
+    let (sleeper, bell) = Sleeper::pair(rt.alloc())?;
+    let second = first.split(CallerNo(1))?;
+    let (answer, ()) = join(
+        &rt,
+        || -> Result<Selected, SelectError>
+            requires { HasSelector (sees first) sel }
+        { sleeps(&rt, rt.alloc(), first, sel, sleeper) },
+        ||
+            requires { HasSelector (sees second) sel }
+        { wakes(second, sel, &bell) },
+    );
+    let selected = answer?;
+    println!(rt; "selected: {} ({:?})", selected.count, selected.why)?;
+    Ok(())
+}
+
+fn sleeps<R: Wait>(
+    rt: &R,
+    alloc: Global,
+    caller: Caller<'_>,
+    sel: SelNo,
+    sleeper: Sleeper,
+) -> Result<Selected, SelectError>
+    requires { HasSelector (sees caller) sel }
+{
+    let mut caller = caller;
+    let mut sleeper = sleeper;
+    caller.select(rt, alloc, sel, &mut sleeper)
+}
+
+fn wakes(caller: Caller<'_>, sel: SelNo, bell: &SleeperBell)
+    requires { HasSelector (sees caller) sel }
+{
+    let mut caller = caller;
+    caller.wakeup(sel, bell);
+}
