@@ -3,6 +3,7 @@
 # makes the same atomic operations at the same places in C; prints the nanoseconds for a call and the ratios, which
 # are to be at most 2. The best of five runs of each counts.
 . "$(dirname "$0")/prelude.sh"
+build nio_bench
 compile channels_atomics
 {
     least nio 5 "$made/nio_bench" channels

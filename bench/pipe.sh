@@ -4,6 +4,7 @@
 # and the ratios. In pieces of 4,096 a pipe is to carry at least 3 times what the system's does, and at least half of
 # what the ring does. The best of three runs of each counts.
 . "$(dirname "$0")/prelude.sh"
+build nio_bench
 compile pipe_system
 {
     least nio 3 "$made/nio_bench" pipe

@@ -3,9 +3,10 @@
 # and does the same in C over a mutex, a ring and condition variables; prints the operations a second and the ratios,
 # which are to be at least 0.7. The best of five runs of each counts.
 . "$(dirname "$0")/prelude.sh"
+build nio_bench_groups
 compile pool
 {
-    least nio 5 "$made/nio_bench" pool
+    least nio 5 "$made/nio_bench_groups" pool
     least C 5 "$made/pool"
 } | awk -F'|' '
     $1 == "nio" { order[++count] = $2 }

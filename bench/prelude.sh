@@ -1,5 +1,5 @@
-# What the benchmarks of nio_bench share. Sourced first, in place of `set -euo pipefail`: stops at the first failure, goes
-# to this folder, builds nio_bench as "$made/nio_bench", and takes "$made" away at the end.
+# What the benchmarks of nio_bench and nio_bench_groups share. Sourced first, in place of `set -euo pipefail`: stops at
+# the first failure, goes to this folder, makes the folder "$made", and takes it away at the end.
 #
 # A measured program writes lines of names and numbers, as `few idle 521 ready 1310`: each number belongs to the name
 # before it, and a name before another name goes with each of the line. A number named `calls` is how many calls the
@@ -11,8 +11,11 @@ cd "$(dirname "$0")"
 made=$(mktemp -d)
 trap 'rm -rf "$made"' EXIT
 
-(cd ../crates/nio_bench && rt run) >"$made/log" 2>&1 || { cat "$made/log"; exit 1; }
-cp ../crates/nio_bench/out/nio_bench "$made/nio_bench"
+# build NAME: proves and builds the program NAME as "$made/NAME"
+build() {
+    (cd "../crates/$1" && rt run) >"$made/log" 2>&1 || { cat "$made/log"; exit 1; }
+    cp "../crates/$1/out/$1" "$made/$1"
+}
 
 # compile NAME: builds NAME.c as "$made/NAME"
 compile() { gcc -O2 -Wall -pthread -o "$made/$1" "$1.c"; }

@@ -3,6 +3,7 @@
 # were ever claimed, with no key ready and with all ready, and the same atomic operations at the same places in C;
 # prints the nanoseconds for a selection and the ratios, which are to be at most 2. The least of all selections counts.
 . "$(dirname "$0")/prelude.sh"
+build nio_bench
 compile select_atomics
 {
     least nio 2 "$made/nio_bench" select

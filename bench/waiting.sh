@@ -5,6 +5,7 @@
 # medians of the time from the wakeup until the sleeper has returned, whose ratio is to be at most 1.5. The best of
 # three runs of each counts.
 . "$(dirname "$0")/prelude.sh"
+build nio_bench
 javac -d "$made" Waiting.java
 {
     least nio 3 "$made/nio_bench" waiting

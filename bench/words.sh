@@ -3,6 +3,7 @@
 # places in C; prints the nanoseconds for a step and the ratios, which are to be at most 1.5 for wake and
 # swap_interest. The best of five runs of each counts.
 . "$(dirname "$0")/prelude.sh"
+build nio_bench
 compile words_atomics
 {
     least nio 5 "$made/nio_bench" words

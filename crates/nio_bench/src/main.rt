@@ -1,4 +1,4 @@
-//! Measures of nio's crates. The first word names the measure; with no word each does a small run,
+//! Measures of nio's selectors, pipes and relays. The first word names the measure; with no word each does a small run,
 //! and `ok` is printed.
 #![tactic(auto)]
 
@@ -9,10 +9,8 @@ use std::env;
 
 mod channels;
 mod checked;
-mod group;
 mod pair;
 mod pipe;
-mod pool;
 mod relay;
 mod select;
 mod waiting;
@@ -30,20 +28,16 @@ fn main(rt: HostRuntime) -> anyhow::Result<()> {
     match word.as_deref() {
         None => {
             channels::run(&rt, 4)?;
-            group::run(&rt, 4)?;
             relay::run(&rt, 4)?;
             select::run(&rt, SMALL, 2)?;
             waiting::run(&rt)?;
             pipe::run(&rt)?;
-            pool::run(&rt)?;
             checked::run(&rt, Slow::Reader)?;
             checked::run(&rt, Slow::Writer)?;
             println!(rt; "ok")?;
         }
         Some("channels") => channels::measure(&rt)?,
-        Some("group") => group::measure(&rt)?,
         Some("pipe") => pipe::measure(&rt)?,
-        Some("pool") => pool::measure(&rt)?,
         Some("relay") => relay::measure(&rt)?,
         Some("select") => select::measure(&rt)?,
         Some("waiting") => waiting::measure(&rt)?,
