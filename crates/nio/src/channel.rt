@@ -1,6 +1,5 @@
-//! Channels and pipes.
+//! Channels.
 pub use nio_channel::{
     ChannelError, close_channel, is_blocking, is_open, is_registered, key_for, open_channel,
     register, set_blocking, try_register, try_set_blocking,
 };
-pub use nio_pipe::{PipeError, PipeMakeError, PipeRead, PipeSink, PipeSource, PipeWrite, pipe};

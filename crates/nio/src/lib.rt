@@ -12,4 +12,6 @@ pub mod channel;
 pub mod group;
 pub mod keys;
 pub mod net;
+pub mod pipe;
+pub mod proxy;
 pub mod select;

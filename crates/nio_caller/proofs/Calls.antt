@@ -61,6 +61,13 @@ unpinned_after {me = me} {acts = acts} {old = old} {new = new} clause own others
         (beginnings_are_legal old.limits old.seen new.seen clause.history.goes_on clause.history.legal)
         clause.history.legal (clause.history.others n held_before other) (others n held_before)
 
+-- after a call that leaves the caller no pin
+pub may_call_unpinned : {acts : List Act} {w : Words} {p q : Pass} {me : CallerNo}
+    → ActsClause me acts (view w p) (view w q) → HasNoPin (view w q) me → IsReady w q me → MayCall w p me
+    → MayCall w q me
+may_call_unpinned clause none ready may =
+    record { ready = ready; unpinned = unpinned_after clause none may.unpinned }
+
 -- after a call that gives its pins back
 pub may_call_after : {R : Type 0} {Shape : List Act → R → Type 0} {answer : R} {w : Words} {p q : Pass} {me : CallerNo}
     → GivesPinsBack Shape → CallClause me Shape (view w p) (view w q) answer → IsReady w q me → MayCall w p me

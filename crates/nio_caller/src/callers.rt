@@ -14,6 +14,7 @@ use thiserror::Error;
 
 mod channels;
 mod keys;
+mod pipes;
 mod selections;
 mod selectors;
 

@@ -5,6 +5,8 @@
 #[cfg(test)]
 mod audit;
 #[cfg(test)]
+mod caller;
+#[cfg(test)]
 mod calls;
 #[cfg(test)]
 mod channel;

@@ -1,0 +1,2 @@
+//! Pipes.
+pub use nio_pipe::{PipeError, PipeMakeError, PipeRead, PipeSink, PipeSource, PipeWrite, pipe};

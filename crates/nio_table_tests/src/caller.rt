@@ -1,0 +1,51 @@
+//! Callers that are parted and joined, and their calls on pipes.
+use nio_base::{CallerNo, Limits};
+use nio_caller::Caller;
+use nio_pipe::{PipeRead, PipeWrite};
+use nio_poller::NoBell;
+use nio_words::Words;
+use std::test::Fail;
+
+const LIMITS: Limits = Limits {
+    callers: 2,
+    selectors: 1,
+    channels: 2,
+    keys: 64,
+};
+
+#[test]
+fn a_caller_is_parted_and_joined(rt: HostRuntime) -> Result<(), Fail> {
+    let (words, pass) = Words::make(rt.alloc(), LIMITS)?;
+    let mut first = Caller::first(&words, pass);
+    let mut second = first.split(CallerNo(1))?;
+    let sel = second.open_selector()?;
+    let given_twice = first.split(CallerNo(1)).is_ok();
+    first.join(second);
+    // The first caller may use what the second one made, and holds both numbers.
+    first.wakeup(sel, &NoBell);
+    let second = first.split(CallerNo(1))?;
+    let mut again = Caller::new(&words, second.into_pass(), CallerNo(1));
+    let found = again.find_selector(0);
+    assert!(rt; !given_twice);
+    assert!(rt; found == Some(sel));
+    Ok(())
+}
+
+#[test]
+fn a_caller_reads_what_it_wrote(rt: HostRuntime) -> Result<(), Fail> {
+    let (words, pass) = Words::make(rt.alloc(), LIMITS)?;
+    let mut caller = Caller::first(&words, pass);
+    let (mut source, mut sink) = caller.pipe(rt.alloc())?;
+    let mut bytes = [0; 4];
+    let none = caller.try_read(&mut source, &mut bytes)?;
+    let written = caller.write(&rt, &mut sink, b"pi")?;
+    let more = caller.try_write(&mut sink, b"pe")?;
+    let read = caller.read(&rt, &mut source, &mut bytes)?;
+    let closes = caller.close_sink(&mut sink);
+    let end = caller.read(&rt, &mut source, &mut bytes)?;
+    assert!(rt; none == PipeRead::NotYet && end == PipeRead::End);
+    assert!(rt; written == PipeWrite::Bytes(2) && more == PipeWrite::Bytes(2));
+    assert!(rt; read == PipeRead::Bytes(4) && bytes == *b"pipe");
+    assert!(rt; closes && caller.close_source(&mut source));
+    Ok(())
+}
