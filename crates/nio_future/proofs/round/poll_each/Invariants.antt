@@ -1,0 +1,18 @@
+use Rattle.std.proofs.Common.{◌≡◌, length, vec_capacity}
+use Rattle.futures.specs.Task.{Keeps}
+use Rattle.nio_future.proofs.RoundLemmas.{IsPolling}
+use Rattle.nio_future.proofs.round.poll_each.Given as goal
+
+abbrev pub invariant-loop-ticket : goal.invariant-loop-ticket
+invariant-loop-ticket l =
+    record {
+      polling : IsPolling l.initial.hand.desk l.hand.desk l.initial.hand.tickets.items l.hand.tickets.items
+          l.hand.still.items l.hand.ready.items;
+      kept : Keeps l.initial.cx l.cx;
+      tickets_room : vec_capacity l.hand.tickets ≡ vec_capacity l.initial.hand.tickets;
+      still_room : vec_capacity l.hand.still ≡ vec_capacity l.initial.hand.still;
+      ready_room : vec_capacity l.hand.ready ≡ vec_capacity l.initial.hand.ready;
+    }
+
+abbrev pub decreases-loop-ticket : goal.decreases-loop-ticket
+decreases-loop-ticket l = length l.hand.tickets.items

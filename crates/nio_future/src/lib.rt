@@ -1,0 +1,15 @@
+//! The operations of an asynchronous channel group as futures. Each operation that is started has a ticket, which is
+//! polled until it gives the operation's one result.
+#![tactic(auto)]
+
+pub use desk::Desk;
+pub use laws::ticket_law;
+pub use refusal::FutureError;
+pub use round::{Hand, Round, run_round};
+pub use ticket::{OpTicket, Polled};
+
+mod desk;
+mod laws;
+mod refusal;
+mod round;
+mod ticket;

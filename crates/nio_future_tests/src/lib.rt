@@ -1,0 +1,5 @@
+//! Tests of operations as futures.
+#![tactic(auto)]
+
+#[cfg(test)]
+mod tests;
