@@ -1,5 +1,6 @@
 #!/usr/bin/env bash
 # Refuses each allocation of the program in turn, for each of the inputs below: once alone, and once with all after it.
+# The proxy runs over loopback, and over a net in memory (the program nio_memory_proxy).
 # For each input it writes how many allocations a run makes, how many runs there were, and how they ended. A run is
 # wrong where its status is neither the input's nor 6 (want of memory), where what it wrote isn't a beginning of the
 # input's output (at 6 of a race: where it wrote anything), where it wrote to standard error, or where it didn't end.
@@ -8,9 +9,13 @@ set -euo pipefail
 cd "$(dirname "$0")/.."
 ./nio script </dev/null >/dev/null
 program=$PWD/crates/nio_cli/out/nio_cli
+addresses=(--listen 127.0.0.1:8080 --target 127.0.0.1:80)
+(cd crates/nio_memory_proxy && rt run -- proxy --way select "${addresses[@]}" --conns 2 </dev/null) >/dev/null 2>&1
+in_memory=$PWD/crates/nio_memory_proxy/out/nio_memory_proxy
 only=${1-}
 work=$(mktemp -d)
-trap 'rm -rf "$work"; kill $(jobs -p) 2>/dev/null || true' EXIT
+# a process that is ended before it has begun its command is still this shell, and mustn't take the folder away
+trap '[ "$BASHPID" != $$ ] || { rm -rf "$work"; kill $(jobs -p) 2>/dev/null || true; }' EXIT
 gcc -O2 -Wall -shared -fPIC -o "$work/refuse.so" bench/refuse.c -ldl
 wrong=0 runs=0
 
@@ -104,6 +109,14 @@ each "timed timing_out" 0 0 examples/timing_out.timed "$program" timed
 printf 'lines 222\nselections 9\nupdates 9\n' >"$work/load"
 right "$work/load"
 each "load 9" 0 0 /dev/null "$program" load 9
+
+# The proxy over a net in memory: two connections, of which the first fails once its target has taken ten bytes. The
+# other may fail for want of memory.
+for faults in 1 2; do echo "served 2 faults $faults" >"$work/served.$faults"; done
+right "$work"/served.*
+for way in select; do
+    each "proxy in memory --way $way" 0 0 /dev/null "$in_memory" proxy --way "$way" "${addresses[@]}" --conns 2
+done
 
 # The proxy over loopback: a target that answers what it is sent, and two clients for each run. A connection that fails
 # for want of memory counts as faulty, so the outputs are those of two connections of which some failed.

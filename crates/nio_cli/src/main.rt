@@ -36,7 +36,7 @@ fn status(
     let Ok((table, mut pass)) = Words::make(alloc, PROGRAM_LIMITS) else {
         return Status::Memory;
     };
-    let Ok((net, _bell)) = MioNet::make(*rt, alloc) else {
+    let Ok((net, bell)) = MioNet::make(*rt, alloc) else {
         return Status::Memory;
     };
     let mut input = StdSource::over(rt.reader());
@@ -50,6 +50,7 @@ fn status(
         &table,
         &mut pass,
         net,
+        &bell,
         &NoGate,
     );
     ended.status

@@ -1,16 +1,16 @@
 -- Which command words are.
 use Rattle.std.proofs.Common.{◌≡◌, ◌≢◌, ◌↔◌, ◌∙◌, ◌<◌, ◌≤◌, ℕ, List, [], ◌∷◌, Result, Ok, Err, Option, Some, None}
 use Rattle.std.proofs.Common.{codes}
-use Rattle.std.proofs.Common.{length, map, arith, refl, sym, ap, subst, true, get_or, Global, String, take, drop, ◌-◌}
+use Rattle.std.proofs.Common.{length, map, arith, refl, sym, ap, subst, true, get_or, Global, String, take, drop, ◌-◌, suc}
 use Rattle.std.specs.Prelude.{IfSome, IsSomeAnd}
 use Rattle.std.specs.Fmt.{decimal}
 use Rattle.std.specs.Option.{ok_or}
 use Rattle.std.specs.List.{flat_map, slice_index_or}
 use Rattle.std.proofs.lemmas.List.Sorted.{length_permutation}
 use Rattle.nio_command.specs.Options.{AreOptions, Text, Written, apart, given, joined, option_words}
-use Rattle.nio_command.specs.Texts.{AreNoOptions}
-use Rattle.nio_command.specs.Values.{ProxyValues, proxy_options}
-use Rattle.nio_command.specs.Words.{IsCommand, IsInRange, IsProxyCommand, values_of}
+use Rattle.nio_command.specs.Texts.{AreNoOptions, IsNoOption}
+use Rattle.nio_command.specs.Values.{ProxyValues, proxy_options, workers_option}
+use Rattle.nio_command.specs.Words.{AsksFor, AsksForWay, AsksForWorkers, IsCommand, IsProxyCommand}
 use Rattle.nio_command.proofs.Addresses.{address_plain}
 use Rattle.nio_command.proofs.Numbers.{decimal_plain}
 use Rattle.nio_relay.specs.declared.plan.ProxyPlan.{ProxyPlan}
@@ -19,6 +19,8 @@ use Rattle.std.specs.String.{string_bytes}
 use Rattle.std.specs.Str.{bytes_eq}
 use Rattle.std.proofs.lemmas.Slice.Eq.{bytes_eq-Decides}
 use Rattle.nio_command.specs.declared.command.Command.{Command}
+use Rattle.nio_command.specs.declared.way.ProxyWay.{ProxyWay}
+use Rattle.nio_command.specs.declared.way.ProxyWay.TheVariants.{Select, Group}
 use Rattle.nio_command.specs.declared.command.Command.TheVariants.{Script, Check, CheckFirst, Race, Timed, Load, Proxy}
 use Rattle.nio_command.specs.declared.command.WordsError.{WordsError}
 use Rattle.nio_command.specs.declared.command.WordsError.TheVariants.{Usage, Memory}
@@ -28,12 +30,13 @@ nothing_written [] e = refl
 nothing_written (joined n v ∷ ws) e = absurd (cc)
 nothing_written (apart n v ∷ ws) e = absurd (cc)
 
--- no words are not four options
-pub not_four : (v : ProxyValues) (words : List Text) → words ≡ [] → AreOptions words (proxy_options v) → ⊥
-not_four v words none o =
+-- no words are not the options
+pub not_options : (v : ProxyValues) (words : List Text) → words ≡ [] → AreOptions words (proxy_options v) → ⊥
+not_options v words none o =
     let gs = map given o.written in
     let nothing : gs ≡ [] = nothing_written o.written (sym none ∙ o.spelled) in
-    let four : 4 ≡ length gs = length_permutation gs (proxy_options v) o.order in
+    let four : suc (suc (suc (suc (length (workers_option v.workers))))) ≡ length gs =
+    length_permutation gs (proxy_options v) o.order in
     let zero : length gs ≡ 0 = ap length nothing in
     omega arith
 
@@ -48,10 +51,10 @@ not_named word Race s k f r t h = r (cc)
 not_named word Timed s k f r t h = t (cc)
 not_named word (Load rounds) s k f r t h = let two : word ∷ [] ≡ codes "load" ∷ decimal rounds ∷ [] =
     h.says in absurd (cc)
-not_named word (Proxy plan) s k f r t h =
+not_named word (Proxy plan way) s k f r t h =
     let begins : word ∷ [] ≡ codes "proxy" ∷ h.rest = h.begins in
     let none : h.rest ≡ [] = cc in
-    not_four _ h.rest none h.options
+    not_options h.values h.rest none h.options
 
 -- the clause on Usage, from the two on `Ok`
 pub usage_from : (words : List Text) (r : Result Command WordsError) → ((c : Command) → r ≡ Ok c → IsCommand words c)
@@ -67,21 +70,38 @@ usage_from words r found only room = (
     by_cases (Err Usage) e none = e
     by_cases (Err Memory) e none = absurd (room e)
 
--- the words behind `proxy` are the plan's options
-pub same_rest : (words : List Text) (plan : ProxyPlan) → IsProxyCommand (codes "proxy" ∷ words) plan
-    → AreOptions words (proxy_options (values_of plan))
-same_rest words plan is =
+-- the words behind `proxy` are the options
+pub same_rest : (words : List Text) (plan : ProxyPlan) (way : ProxyWay)
+    → (is : IsProxyCommand (codes "proxy" ∷ words) plan way) → AreOptions words (proxy_options is.values)
+same_rest words plan way is =
     let begins : codes "proxy" ∷ words ≡ codes "proxy" ∷ is.rest = is.begins in
     let same : is.rest ≡ words = cc in
-    subst (λ (ws : List Text). AreOptions ws (proxy_options (values_of plan))) same is.options
+    subst (λ (ws : List Text). AreOptions ws (proxy_options is.values)) same is.options
 
--- no value of a plan begins with a hyphen
-pub plain_values : (plan : ProxyPlan) → IsInRange plan → AreNoOptions (values_of plan)
-plain_values plan h = record {
-  way = λ e. omega arith;
-  listen = address_plain plan.listen h.listen;
-  target = address_plain plan.target h.target;
-  conns = decimal_plain plan.conns (let few = h.connections.few_connections in omega arith);
+-- no value that asks for a way begins with a hyphen
+plain_way : (text : Text) (workers : Option Text) (way : ProxyWay) → AsksForWay text workers way → IsNoOption text
+plain_way text workers Select h = subst IsNoOption (sym h.0) (λ e. omega arith)
+plain_way text workers (Group count) h = subst IsNoOption (sym h.0) (λ e. omega arith)
+
+plain_count : (workers : Option Text) (count : ℕ) → AsksForWorkers workers count → IfSome workers IsNoOption
+plain_count None count h = tt
+plain_count (Some text) count h =
+    subst IsNoOption (sym h.2) (decimal_plain count (let few = h.1 in omega arith))
+
+plain_workers : (text : Text) (workers : Option Text) (way : ProxyWay) → AsksForWay text workers way
+    → IfSome workers IsNoOption
+plain_workers text workers Select h = subst (λ (o : Option Text). IfSome o IsNoOption) (sym h.1) tt
+plain_workers text workers (Group count) h = plain_count workers count h.1
+
+-- no value that asks for a plan begins with a hyphen
+pub plain_values : (v : ProxyValues) (plan : ProxyPlan) (way : ProxyWay) → AsksFor v plan way → AreNoOptions v
+plain_values v plan way h = record {
+  way = plain_way v.way v.workers way h.by_way;
+  listen = subst IsNoOption (sym h.listen) (address_plain plan.listen h.in_range.listen);
+  target = subst IsNoOption (sym h.target) (address_plain plan.target h.in_range.target);
+  conns = subst IsNoOption (sym h.conns)
+      (decimal_plain plan.conns (let few = h.in_range.connections.few_connections in omega arith));
+  workers = plain_workers v.way v.workers way h.by_way;
 }
 
 -- an option that is turned into a result
@@ -145,29 +165,33 @@ initial [] = 0
 initial (w ∷ ws) = get_or w 0 0
 
 -- what is read behind `proxy` is the only command
-pub only_proxy : (words rest : List Text) (r : Result ProxyPlan WordsError) (plan : ProxyPlan)
-    → words ≡ codes "proxy" ∷ rest → r ≡ Ok plan
-    → ((p : ProxyPlan) → IsProxyCommand (codes "proxy" ∷ rest) p → r ≢ Err Memory → r ≡ Ok p)
-    → (command : Command) → IsCommand words command → made (Proxy plan) ≡ made command
-only_proxy words rest r plan begins is only Script h = let bad : 112 ≡ 115 = ap initial (sym begins ∙ h) in
+pub only_proxy : (words rest : List Text) (r : Result (ProxyPlan × ProxyWay) WordsError) (plan : ProxyPlan)
+    (way : ProxyWay) → words ≡ codes "proxy" ∷ rest → r ≡ Ok (plan, way)
+    → ((p : ProxyPlan) (w : ProxyWay) → IsProxyCommand (codes "proxy" ∷ rest) p w → r ≢ Err Memory → r ≡ Ok (p, w))
+    → (command : Command) → IsCommand words command → made (Proxy plan way) ≡ made command
+only_proxy words rest r plan way begins is only Script h = let bad : 112 ≡ 115 = ap initial (sym begins ∙ h) in
     absurd (omega (arith, bad))
-only_proxy words rest r plan begins is only Check h = let bad : 112 ≡ 99 = ap initial (sym begins ∙ h) in
+only_proxy words rest r plan way begins is only Check h = let bad : 112 ≡ 99 = ap initial (sym begins ∙ h) in
     absurd (omega (arith, bad))
-only_proxy words rest r plan begins is only CheckFirst h = let bad : 112 ≡ 99 = ap initial (sym begins ∙ h) in
+only_proxy words rest r plan way begins is only CheckFirst h = let bad : 112 ≡ 99 = ap initial (sym begins ∙ h) in
     absurd (omega (arith, bad))
-only_proxy words rest r plan begins is only Race h = let bad : 112 ≡ 114 = ap initial (sym begins ∙ h) in
+only_proxy words rest r plan way begins is only Race h = let bad : 112 ≡ 114 = ap initial (sym begins ∙ h) in
     absurd (omega (arith, bad))
-only_proxy words rest r plan begins is only Timed h = let bad : 112 ≡ 116 = ap initial (sym begins ∙ h) in
+only_proxy words rest r plan way begins is only Timed h = let bad : 112 ≡ 116 = ap initial (sym begins ∙ h) in
     absurd (omega (arith, bad))
-only_proxy words rest r plan begins is only (Load rounds) h = let bad : 112 ≡ 108 = ap initial (sym begins ∙ h.says) in
+only_proxy words rest r plan way begins is only (Load rounds) h =
+    let bad : 112 ≡ 108 = ap initial (sym begins ∙ h.says) in
     absurd (omega (arith, bad))
-only_proxy words rest r plan begins is only (Proxy p) h =
-    let read : r ≡ Ok p = only p (subst (λ (ws : List Text). IsProxyCommand ws p) begins h) (no_memory r plan is) in
-    let same : plan ≡ p = same_plan r plan p is read in
-    ap (λ (x : ProxyPlan). made (Proxy x)) same
+only_proxy words rest r plan way begins is only (Proxy p w) h =
+    let read : r ≡ Ok (p, w) = only p w
+    (subst (λ (ws : List Text). IsProxyCommand ws p w) begins h) (no_memory r (plan, way) is) in
+    let same : (plan, way) ≡ (p, w) = same_read r (plan, way) (p, w) is read in
+    ap (λ (x : ProxyPlan × ProxyWay). made (Proxy x.0 x.1)) same
   where
-    no_memory : (r : Result ProxyPlan WordsError) (plan : ProxyPlan) → r ≡ Ok plan → r ≡ Err Memory → ⊥
-    no_memory r plan is e = cc
+    no_memory : (r : Result (ProxyPlan × ProxyWay) WordsError) (x : ProxyPlan × ProxyWay) → r ≡ Ok x
+        → r ≡ Err Memory → ⊥
+    no_memory r x is e = cc
 
-    same_plan : (r : Result ProxyPlan WordsError) (plan p : ProxyPlan) → r ≡ Ok plan → r ≡ Ok p → plan ≡ p
-    same_plan r plan p is e = cc
+    same_read : (r : Result (ProxyPlan × ProxyWay) WordsError) (x y : ProxyPlan × ProxyWay) → r ≡ Ok x → r ≡ Ok y
+        → x ≡ y
+    same_read r x y is e = cc

@@ -1,5 +1,5 @@
 -- The options of `proxy`, and how an address is written.
-use Rattle.std.specs.Prelude.{◌≡◌, ◌≤◌, List, [], ◌∷◌, ◌++◌, All, length, codes}
+use Rattle.std.specs.Prelude.{◌≡◌, ◌≤◌, List, [], ◌∷◌, ◌++◌, All, Option, Some, None, length, codes}
 use Rattle.std.specs.Fmt.{decimal}
 use Rattle.std.specs.Net.Text.{ipv4_text}
 use Rattle.nio_command.specs.Options.{Text}
@@ -16,18 +16,24 @@ pub record IsAddress (a : Addr) : Type 0 where
 abbrev pub address_text : Addr → Text
 address_text a = ipv4_text a.ip ++ codes ":" ++ decimal a.port
 
--- the values of the four options, as texts
+-- the values of the options, as texts; that of `--workers` only where it is given
 pub record ProxyValues : Type 0 where
   pub way : Text
   pub listen : Text
   pub target : Text
   pub conns : Text
+  pub workers : Option Text
 
--- the four options, each a name and its value
+-- the option `--workers`, where it is given
+abbrev pub workers_option : Option Text → List (Text × Text)
+workers_option None = []
+workers_option (Some workers) = (codes "workers", workers) ∷ []
+
+-- the options, each a name and its value
 abbrev pub proxy_options : ProxyValues → List (Text × Text)
 proxy_options v =
     (codes "way", v.way)
     ∷ (codes "listen", v.listen)
     ∷ (codes "target", v.target)
     ∷ (codes "conns", v.conns)
-    ∷ []
+    ∷ workers_option v.workers

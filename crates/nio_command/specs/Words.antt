@@ -1,11 +1,13 @@
 -- The commands, by the words of the command line. The program's name isn't one of these words.
-use Rattle.std.specs.Prelude.{◌≡◌, ℕ, ◌≤◌, List, [], ◌∷◌, codes}
+use Rattle.std.specs.Prelude.{◌≡◌, ℕ, ◌≤◌, List, [], ◌∷◌, Option, Some, None, codes}
 use Rattle.std.specs.Fmt.{decimal}
 use Rattle.nio_relay.specs.Plan.{IsServable}
 use Rattle.nio_relay.specs.declared.plan.ProxyPlan.{ProxyPlan}
 use Rattle.nio_command.specs.Options.{Text, AreOptions}
 use Rattle.nio_command.specs.Values.{IsAddress, ProxyValues, address_text, proxy_options}
 use Rattle.nio_command.specs.declared.command.Command.{Command}
+use Rattle.nio_command.specs.declared.way.ProxyWay.{ProxyWay}
+use Rattle.nio_command.specs.declared.way.ProxyWay.TheVariants.{Select, Group}
 use Rattle.nio_command.specs.declared.command.Command.TheVariants.{Script, Check, CheckFirst, Race, Timed, Load, Proxy}
 
 -- the one word `script`
@@ -40,21 +42,31 @@ pub record IsInRange (plan : ProxyPlan) : Type 0 where
   pub target : IsAddress plan.target
   pub connections : IsServable plan
 
--- the values of the options that ask for this plan
-abbrev pub values_of : ProxyPlan → ProxyValues
-values_of plan = record {
-  way = codes "select";
-  listen = address_text plan.listen;
-  target = address_text plan.target;
-  conns = decimal plan.conns;
-}
+-- The value of `--workers` asks for so many workers, from 1 to 64; where it isn't given there are 4.
+abbrev pub AsksForWorkers : Option Text → ℕ → Type 0
+AsksForWorkers None count = count ≡ 4
+AsksForWorkers (Some workers) count = (1 ≤ count) × (count ≤ 64) × (workers ≡ decimal count)
 
--- the word `proxy`, then the options that ask for this plan
-pub record IsProxyCommand (words : List Text) (plan : ProxyPlan) : Type 0 where
+-- The values of `--way` and `--workers` ask for this way. With `select` there is no `--workers`.
+abbrev pub AsksForWay : Text → Option Text → ProxyWay → Type 0
+AsksForWay way workers Select = (way ≡ codes "select") × (workers ≡ None)
+AsksForWay way workers (Group count) = (way ≡ codes "group") × AsksForWorkers workers count
+
+-- the values of the options ask for this plan and this way
+pub record AsksFor (v : ProxyValues) (plan : ProxyPlan) (way : ProxyWay) : Type 0 where
   pub in_range : IsInRange plan
+  pub by_way : AsksForWay v.way v.workers way
+  pub listen : v.listen ≡ address_text plan.listen
+  pub target : v.target ≡ address_text plan.target
+  pub conns : v.conns ≡ decimal plan.conns
+
+-- the word `proxy`, then options that ask for this plan and this way
+pub record IsProxyCommand (words : List Text) (plan : ProxyPlan) (way : ProxyWay) : Type 0 where
+  pub values : ProxyValues
+  pub asks : AsksFor values plan way
   pub rest : List Text
   pub begins : words ≡ codes "proxy" ∷ rest
-  pub options : AreOptions rest (proxy_options (values_of plan))
+  pub options : AreOptions rest (proxy_options values)
 
 -- the words are this command
 abbrev pub IsCommand : List Text → Command → Type 0
@@ -64,7 +76,7 @@ IsCommand words CheckFirst = IsCheckFirstCommand words
 IsCommand words Race = IsRaceCommand words
 IsCommand words Timed = IsTimedCommand words
 IsCommand words (Load rounds) = IsLoadCommand words rounds
-IsCommand words (Proxy plan) = IsProxyCommand words plan
+IsCommand words (Proxy plan way) = IsProxyCommand words plan way
 
 -- the words aren't a command
 abbrev pub SaysNothing : List Text → Type 0

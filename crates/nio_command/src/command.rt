@@ -6,6 +6,7 @@ ghost use Rattle.nio_command.specs.Words.{IsCommand, IsProxyCommand, SaysNothing
 use crate::number::read_number;
 use crate::options::read_options;
 use crate::plan::read_plan;
+use crate::way::ProxyWay;
 use nio_relay::ProxyPlan;
 use std::alloc::{AllocError, Global};
 
@@ -24,8 +25,8 @@ pub enum Command {
     Timed,
     /// `load N`: runs a generated script of N rounds, and writes a summary of the replies.
     Load(u32),
-    /// `proxy` and its options: relays TCP connections as this plan says.
-    Proxy(ProxyPlan),
+    /// `proxy` and its options: relays TCP connections as this plan says, and waits for them in this way.
+    Proxy(ProxyPlan, ProxyWay),
 }
 
 /// Why the words of a command line aren't a command.
@@ -62,7 +63,8 @@ pub fn command_of(alloc: Global, words: &[String]) -> Result<Command, WordsError
     match words {
         [word] => command_named(word.as_str()).ok_or(WordsError::Usage),
         [word, options @ ..] if word.as_str() == "proxy" => {
-            Ok(Command::Proxy(read_proxy(alloc, options)?))
+            let (plan, way) = read_proxy(alloc, options)?;
+            Ok(Command::Proxy(plan, way))
         }
         [word, rounds] if word.as_str() == "load" => {
             read_load(rounds.as_str()).ok_or(WordsError::Usage)
@@ -97,13 +99,13 @@ fn read_load(word: &str) -> Option<Command>
     Some(Command::Load(rounds))
 }
 
-// Reads the words after `proxy` as a plan.
-fn read_proxy(alloc: Global, words: &[String]) -> Result<ProxyPlan, WordsError>
-    ensures found { (plan : ProxyPlan) → result ≡ Ok plan
-        → IsProxyCommand (codes "proxy" ∷ map string_bytes words.now) plan }
-    ensures only { (plan : ProxyPlan)
-        → IsProxyCommand (codes "proxy" ∷ map string_bytes words.now) plan
-        → result ≢ Err WordsError.Memory → result ≡ Ok plan }
+// Reads the words after `proxy` as a plan and a way.
+fn read_proxy(alloc: Global, words: &[String]) -> Result<(ProxyPlan, ProxyWay), WordsError>
+    ensures found { (plan : ProxyPlan) (way : ProxyWay) → result ≡ Ok (plan, way)
+        → IsProxyCommand (codes "proxy" ∷ map string_bytes words.now) plan way }
+    ensures only { (plan : ProxyPlan) (way : ProxyWay)
+        → IsProxyCommand (codes "proxy" ∷ map string_bytes words.now) plan way
+        → result ≢ Err WordsError.Memory → result ≡ Ok (plan, way) }
 {
     let texts = read_options(alloc, words)?.ok_or(WordsError::Usage)?;
     read_plan(texts).ok_or(WordsError::Usage)

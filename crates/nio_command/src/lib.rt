@@ -2,9 +2,11 @@
 #![tactic(auto)]
 
 pub use command::{Command, WordsError, command_of};
+pub use way::ProxyWay;
 
 mod address;
 mod command;
 mod number;
 mod options;
 mod plan;
+mod way;

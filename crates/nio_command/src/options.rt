@@ -24,9 +24,12 @@ pub struct ProxyTexts<'a> {
     pub target: &'a str,
     /// `--conns`: how many connections it relays before it ends.
     pub conns: &'a str,
+    /// `--workers`, where it is given: how many workers there are.
+    pub workers: Option<&'a str>,
 }
 
-/// Reads the words after `proxy` as its options. `Ok(None)` where they aren't the four options, each given once.
+/// Reads the words after `proxy` as its options. `Ok(None)` where they aren't the four required options and
+/// perhaps `--workers`, each given once.
 pub fn read_options<'a>(
     alloc: Global,
     words: &'a [String],
@@ -66,21 +69,22 @@ fn proxy_command<'a>(alloc: Global) -> Result<Command<'a>, AllocError>
     Command::new(alloc, "proxy")
         .no_binary_name(true)
         .disable_help_flag(true)
-        .arg(required_option(alloc, "way"))?
-        .arg(required_option(alloc, "listen"))?
-        .arg(required_option(alloc, "target"))?
-        .arg(required_option(alloc, "conns"))
+        .arg(option(alloc, "way", true))?
+        .arg(option(alloc, "listen", true))?
+        .arg(option(alloc, "target", true))?
+        .arg(option(alloc, "conns", true))?
+        .arg(option(alloc, "workers", false))
 }
 
-// The required option `--name`, which takes one value.
-fn required_option<'a>(alloc: Global, name: &'a str) -> Arg<'a>
-    ensures rule { rule_of result ≡ added_rule name.entry.now }
+// The option `--name`, which takes one value.
+fn option<'a>(alloc: Global, name: &'a str, required: bool) -> Arg<'a>
+    ensures rule { rule_of result ≡ added_rule name.entry.now required }
     ensures local { result.global ≡ false }
 {
-    Arg::new(alloc, name).long(name).required(true)
+    Arg::new(alloc, name).long(name).required(required)
 }
 
-// The values of the four options, if `clap` found them all.
+// The values of the options, if `clap` found those that are required.
 fn texts_found<'a>(matches: &ArgMatches<'a>) -> Option<ProxyTexts<'a>>
     ensures found { IfSome result (λ t. FindsValues (found_of matches.now) (texts_of t)) }
     ensures only { (v : ProxyValues) → FindsValues (found_of matches.now) v
@@ -91,5 +95,6 @@ fn texts_found<'a>(matches: &ArgMatches<'a>) -> Option<ProxyTexts<'a>>
         listen: matches.get_str("listen")?,
         target: matches.get_str("target")?,
         conns: matches.get_str("conns")?,
+        workers: matches.get_str("workers"),
     })
 }

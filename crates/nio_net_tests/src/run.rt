@@ -7,6 +7,7 @@ ghost use Rattle.nio_link.specs.Places.{unused};
 use nio_base::NoGate;
 use nio_bytes::{MemorySink, MemorySource, Sink, Source};
 use nio_link::Net;
+use nio_poller::{Bell, NoBell};
 use nio_run::{PROGRAM_LIMITS, run};
 use nio_words::Words;
 use std::alloc::{AllocError, Global};
@@ -304,13 +305,14 @@ const OTHER_COMMANDS: &[Row] = &[
 ];
 
 /// Runs these words on a new table. Gives the status, and the net that is left.
-fn runs<R: Threads + Wait + Sync, S: Source, K: Sink, N: Net + Drop>(
+fn runs<R: Threads + Wait + Sync, S: Source, K: Sink, N: Net + Drop, B: Bell + Sync>(
     rt: &R,
     alloc: Global,
     words: &[&str],
     input: &mut S,
     output: &mut K,
     net: N,
+    bell: &B,
 ) -> Result<(u8, N), AllocError>
     requires fresh { (c : ChanNo) → IsUnused (N.link net c) }
     requires unasked { (c : ChanNo) → N.place net c ≡ unused }
@@ -321,7 +323,7 @@ fn runs<R: Threads + Wait + Sync, S: Source, K: Sink, N: Net + Drop>(
     }
     let (table, mut pass) = Words::make(alloc, PROGRAM_LIMITS)?;
     let ended = run(
-        rt, alloc, &given, input, output, &table, &mut pass, net, &NoGate,
+        rt, alloc, &given, input, output, &table, &mut pass, net, bell, &NoGate,
     );
     Ok((ended.status.code(), ended.net))
 }
@@ -346,7 +348,7 @@ fn outcome<R: Threads + Wait + Sync>(
     let mut source = MemorySource::make(input.to_vec(alloc)?, 12, faults(alloc, fails.read)?);
     let mut sink = MemorySink::make(alloc, 5, faults(alloc, fails.write)?, 8_192)?;
     let net = relays::net_of(alloc, &[], None, None)?;
-    let (status, _net) = runs(rt, alloc, words, &mut source, &mut sink, net)?;
+    let (status, _net) = runs(rt, alloc, words, &mut source, &mut sink, net, &NoBell)?;
     Ok((status, sink))
 }
 

@@ -1,17 +1,22 @@
 -- The command that the words say.
 use Rattle.std.proofs.Common.{◌≡◌, ◌≢◌, ◌⊎◌, inl, inr, ℕ, Option, Some, None, List, [], ◌∷◌, Result, Ok, Err}
-use Rattle.std.proofs.Common.{slice_index_or, refl, sym, ap, ◌∙◌, arith}
-use Rattle.nio_command.specs.Words.{IsProxyCommand}
+use Rattle.std.proofs.Common.{slice_index_or, refl, sym, ap, ◌∙◌, ◌≤◌, arith}
+use Rattle.nio_command.specs.Options.{Text}
+use Rattle.nio_command.specs.Words.{AsksForWay, AsksForWorkers, IsProxyCommand}
 use Rattle.nio_command.specs.declared.command.Command.{Command}
 use Rattle.nio_command.specs.declared.command.Command.TheVariants.{Load, Proxy}
 use Rattle.nio_command.specs.declared.command.WordsError.{WordsError}
 use Rattle.nio_command.specs.declared.command.WordsError.TheVariants.{Usage, Memory}
+use Rattle.nio_command.specs.declared.way.ProxyWay.{ProxyWay}
+use Rattle.nio_command.specs.declared.way.ProxyWay.TheVariants.{Select, Group}
 use Rattle.nio_bytes.specs.declared.source.Source as source
+use Rattle.nio_relay.specs.Plan.{IsServable}
 use Rattle.nio_relay.specs.declared.plan.ProxyPlan.{ProxyPlan}
 use Rattle.nio_script.specs.Input.{StopsPastLongest}
 use Rattle.nio_script.specs.declared.status.Status.{Status}
 use Rattle.nio_script.specs.declared.status.Status.TheVariants.{TooLong}
 use Rattle.std.specs.Io.KnownBytes.{prepend_known}
+use Rattle.nio_run.specs.Proxy.{HasWorkers}
 use Rattle.nio_run.specs.Words.{BeginsProxy}
 
 abbrev first_byte : List (List ℕ) → ℕ
@@ -29,12 +34,25 @@ or_memory (Err Usage) command is = inl (is (λ e. cc e))
 or_memory (Err Memory) command is = inr refl
 
 -- the plan of a command is the one that the words say
-pub its_plan : (x : Command) (p p' : ProxyPlan) → x ≡ Proxy p
-    → (◌≡◌ {A = Result Command WordsError} (Ok x) (Ok (Proxy p')))
+pub its_plan : (x : Command) (p p' : ProxyPlan) (w w' : ProxyWay) → x ≡ Proxy p w
+    → (◌≡◌ {A = Result Command WordsError} (Ok x) (Ok (Proxy p' w')))
     ⊎ (◌≡◌ {A = Result Command WordsError} (Ok x) (Err Memory)) → p ≡ p'
-its_plan x p p' is (inl same) = let e : ◌≡◌ {A = Result Command WordsError} (Ok (Proxy p)) (Ok (Proxy p')) =
+its_plan x p p' w w' is (inl same) = let e : ◌≡◌ {A = Result Command WordsError} (Ok (Proxy p w)) (Ok (Proxy p' w')) =
     ap (λ (y : Command). Ok y) (sym is) ∙ same in cc e
-its_plan x p p' is (inr clash) = absurd (cc clash)
+its_plan x p p' w w' is (inr clash) = absurd (cc clash)
+
+-- the plan that the words say can be served
+pub its_servable : (words : List (List ℕ)) (p : ProxyPlan) (w : ProxyWay) → IsProxyCommand words p w
+    → IsServable p × HasWorkers w
+its_servable words p w says = (says.asks.in_range.connections, by_way w says.asks.by_way)
+  where
+    by_workers : (o : Option Text) (count : ℕ) → AsksForWorkers o count → (1 ≤ count) × (count ≤ 64)
+    by_workers None count h = (omega (arith, h), omega (arith, h))
+    by_workers (Some text) count h = (h.0, h.1)
+
+    by_way : (w : ProxyWay) → AsksForWay says.values.way says.values.workers w → HasWorkers w
+    by_way Select h = tt
+    by_way (Group count) h = by_workers says.values.workers count h.1
 
 -- the rounds of a command are those that the words say
 pub its_rounds : (x : Command) (n m : ℕ) → x ≡ Load n → ◌≡◌ {A = Result Command WordsError} (Ok x) (Ok (Load m)) → n ≡ m
@@ -42,18 +60,26 @@ its_rounds x n m is same = let e : ◌≡◌ {A = Result Command WordsError} (Ok
     ap (λ (y : Command). Ok y) (sym is) ∙ same in cc e
 
 -- the words of a plan begin with `proxy`
-pub begins_proxy : (words : List (List ℕ)) (x : Command) (p : ProxyPlan) → x ≡ Proxy p
-    → ((q : ProxyPlan) → ◌≡◌ {A = Result Command WordsError} (Ok x) (Ok (Proxy q)) → IsProxyCommand words q)
+pub begins_proxy : (words : List (List ℕ)) (x : Command) (p : ProxyPlan) (w : ProxyWay) → x ≡ Proxy p w
+    → ((q : ProxyPlan) (v : ProxyWay) → ◌≡◌ {A = Result Command WordsError} (Ok x) (Ok (Proxy q v))
+    → IsProxyCommand words q v)
     → BeginsProxy words
-begins_proxy words x p is says = let it : IsProxyCommand words p = says p (ap (λ (y : Command). Ok y) is) in
+begins_proxy words x p w is says = let it : IsProxyCommand words p w = says p w (ap (λ (y : Command). Ok y) is) in
     record { rest = it.rest; begins = it.begins }
 
+-- the way of a command has workers
+pub its_workers : (x : Command) (p : ProxyPlan) (w : ProxyWay) → x ≡ Proxy p w
+    → ((q : ProxyPlan) (v : ProxyWay) → ◌≡◌ {A = Result Command WordsError} (Ok x) (Ok (Proxy q v))
+    → IsServable q × HasWorkers v)
+    → HasWorkers w
+its_workers x p w is says = (says p w (ap (λ (y : Command). Ok y) is)).1
+
 -- words that say nothing are no `proxy`
-pub no_plan : (x : WordsError) (p : ProxyPlan) → x ≡ Usage
-    → (◌≡◌ {A = Result Command WordsError} (Err x) (Ok (Proxy p)))
+pub no_plan : (x : WordsError) (p : ProxyPlan) (w : ProxyWay) → x ≡ Usage
+    → (◌≡◌ {A = Result Command WordsError} (Err x) (Ok (Proxy p w)))
     ⊎ (◌≡◌ {A = Result Command WordsError} (Err x) (Err Memory)) → ⊥
-no_plan x p is (inl clash) = absurd (cc clash)
-no_plan x p is (inr clash) = let e : ◌≡◌ {A = Result Command WordsError} (Err Usage) (Err Memory) =
+no_plan x p w is (inl clash) = absurd (cc clash)
+no_plan x p w is (inr clash) = let e : ◌≡◌ {A = Result Command WordsError} (Err Usage) (Err Memory) =
     ap (λ (y : WordsError). Err y) (sym is) ∙ clash in absurd (cc e)
 
 -- ---- nothing was read

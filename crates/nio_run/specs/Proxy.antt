@@ -1,9 +1,11 @@
 -- What `proxy` does.
-use Rattle.std.specs.Prelude.{◌≡◌, ◌⊎◌, ℕ, ◌++◌, List, [], ◌∷◌, codes}
+use Rattle.std.specs.Prelude.{◌≡◌, ◌≤◌, ◌⊎◌, ℕ, ◌++◌, List, [], ◌∷◌, codes}
 use Rattle.std.specs.Fmt.{decimal}
 use Rattle.nio_base.specs.declared.numbers.ChanNo.{ChanNo}
 use Rattle.nio_bytes.specs.Cause.{Rose}
 use Rattle.nio_bytes.specs.declared.sink.Sink as sink
+use Rattle.nio_command.specs.declared.way.ProxyWay.{ProxyWay}
+use Rattle.nio_command.specs.declared.way.ProxyWay.TheVariants.{Select, Group}
 use Rattle.nio_link.specs.Links.{Link}
 use Rattle.nio_link.specs.declared.place.Place.{Place}
 use Rattle.nio_serve.specs.Serving.{HasServed, LeavesNothing, NoneRose, RelaysBytes, ServesCleanly, listener}
@@ -13,6 +15,11 @@ use Rattle.nio_script.specs.Output.{IsWritten, WritesPrefix}
 use Rattle.nio_script.specs.declared.status.Status.{Status}
 use Rattle.nio_script.specs.declared.status.Status.TheVariants.{Done, Usage, BadScript, ReadFault, WriteFault, Memory}
 use Rattle.nio_script.specs.declared.status.Status.TheVariants.{NetFault, Illegal, TooLong}
+
+-- a group has from 1 to 64 workers
+abbrev pub HasWorkers : ProxyWay → Type 0
+HasWorkers Select = Unit {0}
+HasWorkers (Group count) = (1 ≤ count) × (count ≤ 64)
 
 -- what is said of the connections that were served, and of those that ended by a fault
 abbrev pub served_line : Served → List ℕ

@@ -2,8 +2,10 @@
 //! status.
 #![tactic(auto)]
 
-pub use program::{Ended, PROGRAM_LIMITS, run};
+pub use ended::Ended;
+pub use program::{PROGRAM_LIMITS, run};
 
+mod ended;
 mod program;
 mod proxy;
 mod words;

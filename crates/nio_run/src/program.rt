@@ -15,9 +15,11 @@ ghost use Rattle.nio_command.specs.Words.{IsLoadCommand, IsProxyCommand, IsTimed
 ghost use Rattle.nio_link.specs.Links.{IsUnused};
 ghost use Rattle.nio_link.specs.Places.{unused};
 ghost use Rattle.nio_race.specs.Does.{DoesRace};
+ghost use Rattle.nio_command.specs.declared.way.ProxyWay.{ProxyWay};
 ghost use Rattle.nio_relay.specs.declared.plan.ProxyPlan.{ProxyPlan};
 ghost use Rattle.nio_run.specs.Timed.{DoesTimed};
 
+use crate::ended::Ended;
 use crate::proxy::serve;
 use crate::words::named;
 use nio_base::{Gate, Limits};
@@ -26,6 +28,7 @@ use nio_command::{Command, WordsError};
 use nio_link::Net;
 use nio_load::run_load;
 use nio_plain::Rules;
+use nio_poller::Bell;
 use nio_race::run_race;
 use nio_script::{Status, offer, run_check, run_script};
 use nio_sole::Sole;
@@ -47,19 +50,11 @@ pub const PROGRAM_LIMITS: Limits = Limits {
 const USAGE: &str =
     "usage: nio script | check | check-1 | race | proxy --way select|group --listen ADDR --target ADDR --conns N [--workers W] | load N | timed\n";
 
-/// How the program ends, and the net that it was given.
-#[derive(Drop)]
-pub struct Ended<N> {
-    /// How it ended.
-    pub status: Status,
-    /// The net that it was given.
-    pub net: N,
-}
-
 /// Does what the words say: all that the program does. `script`, `race` and `load` make their calls on this table, by
 /// the rules of now; `check` and `check-1` make theirs on a system of their own with the same limits; `timed` makes its
-/// calls on a group of its own; `proxy` relays over the net, with a table of its own.
-pub fn run<R: Threads + Wait + Sync, S: Source, K: Sink, N: Net, G: Gate + Sync>(
+/// calls on a group of its own; `proxy` relays over the net, in the way that the words say, with a table of its own;
+/// the bell makes the net's poll return.
+pub fn run<R: Threads + Wait + Sync, S: Source, K: Sink, N: Net, B: Bell + Sync, G: Gate + Sync>(
     rt: &R,
     alloc: Global,
     words: &[String],
@@ -68,6 +63,7 @@ pub fn run<R: Threads + Wait + Sync, S: Source, K: Sink, N: Net, G: Gate + Sync>
     table: &Words,
     pass: &mut Pass,
     net: N,
+    bell: &B,
     gate: &G,
 ) -> Ended<N>
     requires first { IsFirstPass table.now pass.old }
@@ -106,7 +102,7 @@ pub fn run<R: Threads + Wait + Sync, S: Source, K: Sink, N: Net, G: Gate + Sync>
         DoesLoad K.Sink table.now rounds output.old output.new pass.new result.status }
     ensures load_alone { (rounds : ℕ) → IsLoadCommand (map string_bytes words.now) rounds →
         input.new ≡ input.old }
-    ensures proxy { (plan : ProxyPlan) → IsProxyCommand (map string_bytes words.now) plan →
+    ensures proxy { (plan : ProxyPlan) (way : ProxyWay) → IsProxyCommand (map string_bytes words.now) plan way →
         DoesProxy K.Sink plan (N.link result.net) (N.place result.net)
         (N.faults net) (N.faults result.net) (N.poll_faults net) (N.poll_faults result.net) output.old output.new
         result.status }
@@ -126,92 +122,43 @@ pub fn run<R: Threads + Wait + Sync, S: Source, K: Sink, N: Net, G: Gate + Sync>
     ensures later { K.faults output.old ≤ K.faults output.new }
     ensures too_long { StopsPastLongest S.Source input.old input.new (result.status ≡ Status.TooLong) }
 {
-    let mut net = net;
-    let status = run_over(rt, alloc, words, input, output, table, pass, &mut net, gate);
-    Ended { status, net }
-}
-
-// The same over a net that is lent.
-fn run_over<R: Threads + Wait + Sync, S: Source, K: Sink, N: Net, G: Gate + Sync>(
-    rt: &R,
-    alloc: Global,
-    words: &[String],
-    input: &mut S,
-    output: &mut K,
-    table: &Words,
-    pass: &mut Pass,
-    net: &mut N,
-    gate: &G,
-) -> Status
-    requires first { IsFirstPass table.now pass.old }
-    requires limits { limits_of table.now ≡ PROGRAM_LIMITS }
-    requires fresh { (c : ChanNo) → IsUnused (N.link net.old c) }
-    requires unasked { (c : ChanNo) → N.place net.old c ≡ unused }
-
-    // The words are looked at first. There may be no memory to read the options of `proxy`.
-    ensures usage { result ≡ Status.Usage → SaysNothing (map string_bytes words.now) }
-    ensures nothing { SaysNothing (map string_bytes words.now) →
-        (result ≡ Status.Usage)
-        ⊎ ((result ≡ Status.Memory) × BeginsProxy (map string_bytes words.now)) }
-    ensures usage_said { result ≡ Status.Usage →
-        IsUsage K.Sink input.old input.new output.old output.new pass.old pass.new }
-    ensures nothing_written { SaysNothing (map string_bytes words.now) → result ≡ Status.Memory →
-        output.new ≡ output.old }
-    ensures nothing_relayed { SaysNothing (map string_bytes words.now) → net.new ≡ net.old }
-
-    // What each command does.
-    ensures script { IsScriptCommand (map string_bytes words.now) →
-        DoesScript S.Source K.Sink table.now input.old input.new output.old output.new
-        pass.new result }
-    ensures race { IsRaceCommand (map string_bytes words.now) →
-        DoesRace S.Source K.Sink table.now input.old input.new output.old output.new
-        pass.old pass.new result }
-    ensures check { IsCheckCommand (map string_bytes words.now) →
-        DoesCheck S.Source K.Sink Rules.Now PROGRAM_LIMITS input.old input.new
-        output.old output.new pass.old pass.new result }
-    ensures check_first { IsCheckFirstCommand (map string_bytes words.now) →
-        DoesCheck S.Source K.Sink Rules.First PROGRAM_LIMITS input.old input.new
-        output.old output.new pass.old pass.new result }
-    ensures timed { IsTimedCommand (map string_bytes words.now) →
-        DoesTimed S.Source K.Sink input.old input.new output.old output.new result }
-    ensures timed_alone { IsTimedCommand (map string_bytes words.now) → pass.new ≡ pass.old }
-    ensures load { (rounds : ℕ) → IsLoadCommand (map string_bytes words.now) rounds →
-        DoesLoad K.Sink table.now rounds output.old output.new pass.new result }
-    ensures load_alone { (rounds : ℕ) → IsLoadCommand (map string_bytes words.now) rounds →
-        input.new ≡ input.old }
-    ensures proxy { (plan : ProxyPlan) → IsProxyCommand (map string_bytes words.now) plan →
-        DoesProxy K.Sink plan (N.link net.new) (N.place net.new)
-        (N.faults net.old) (N.faults net.new) (N.poll_faults net.old) (N.poll_faults net.new) output.old
-        output.new result }
-    ensures proxy_alone { BeginsProxy (map string_bytes words.now) →
-        (input.new ≡ input.old) × (pass.new ≡ pass.old) }
-    ensures no_net { (BeginsProxy (map string_bytes words.now) → ⊥) → net.new ≡ net.old }
-
-    // What `script` writes is legal for `check`.
-    ensures legal { IsScriptCommand (map string_bytes words.now) → result ≡ Status.Done →
-        ReadsText S.Source input.old input.new
-        (WritesLegal K.Sink output.old output.new Rules.Now PROGRAM_LIMITS) }
-
-    // What each fault comes of.
-    ensures read_fault { CausesFault (S.faults input.old) (S.faults input.new)
-        (result ≡ Status.ReadFault) }
-    ensures rose { result ≡ Status.WriteFault → Rose (K.faults output.old) (K.faults output.new) }
-    ensures later { K.faults output.old ≤ K.faults output.new }
-    ensures too_long { StopsPastLongest S.Source input.old input.new (result ≡ Status.TooLong) }
-{
     match named(alloc, words) {
-        Ok(Command::Script) => run_on_table(alloc, input, output, table, pass),
-        Ok(Command::Check) => run_check(alloc, input, output, PROGRAM_LIMITS, Rules::Now),
-        Ok(Command::CheckFirst) => run_check(alloc, input, output, PROGRAM_LIMITS, Rules::First),
-        Ok(Command::Race) => run_race(rt, alloc, input, output, table, pass, gate),
-        Ok(Command::Timed) => run_timed(alloc, input, output),
-        Ok(Command::Load(rounds)) => load_on_table(alloc, rounds, output, table, pass),
-        Ok(Command::Proxy(plan)) => serve(rt, alloc, output, net, plan),
+        Ok(Command::Script) => Ended {
+            status: run_on_table(alloc, input, output, table, pass),
+            net,
+        },
+        Ok(Command::Check) => Ended {
+            status: run_check(alloc, input, output, PROGRAM_LIMITS, Rules::Now),
+            net,
+        },
+        Ok(Command::CheckFirst) => Ended {
+            status: run_check(alloc, input, output, PROGRAM_LIMITS, Rules::First),
+            net,
+        },
+        Ok(Command::Race) => Ended {
+            status: run_race(rt, alloc, input, output, table, pass, gate),
+            net,
+        },
+        Ok(Command::Timed) => Ended {
+            status: run_timed(alloc, input, output),
+            net,
+        },
+        Ok(Command::Load(rounds)) => Ended {
+            status: load_on_table(alloc, rounds, output, table, pass),
+            net,
+        },
+        Ok(Command::Proxy(plan, way)) => serve(rt, alloc, output, net, bell, gate, plan, way),
         Err(WordsError::Usage) => {
             offer(output, USAGE.as_bytes());
-            Status::Usage
+            Ended {
+                status: Status::Usage,
+                net,
+            }
         }
-        Err(WordsError::Memory) => Status::Memory,
+        Err(WordsError::Memory) => Ended {
+            status: Status::Memory,
+            net,
+        },
     }
 }
 

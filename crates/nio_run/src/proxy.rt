@@ -4,37 +4,102 @@ ghost use Rattle.nio_base.specs.declared.numbers.ChanNo.{ChanNo};
 ghost use Rattle.nio_link.specs.Links.{IsUnused};
 ghost use Rattle.nio_link.specs.Places.{unused};
 ghost use Rattle.nio_relay.specs.Plan.{IsServable};
-ghost use Rattle.nio_script.specs.Output.{IsWritten, WritesPrefix};
-ghost use Rattle.nio_run.specs.Proxy.{DoesProxy, SaysServed};
+ghost use Rattle.nio_run.specs.Proxy.{DoesProxy, HasWorkers, SaysServed};
+ghost use Rattle.nio_serve.specs.Serving.{LeavesNothing, NoneRose, RelaysBytes, Serves, ServesAllOr};
 
+use crate::ended::Ended;
+use nio_base::Gate;
 use nio_bytes::Sink;
-use nio_link::Net;
+use nio_command::ProxyWay;
+use nio_link::{JobNet, Net};
+use nio_operations::serve_group;
+use nio_poller::Bell;
 use nio_proxy::serve_select;
 use nio_relay::{ProxyPlan, Served};
 use nio_script::{Status, write_out};
 use nio_serve::ServeError;
 use std::alloc::Global;
 use std::sync::Wait;
+use std::thread::Threads;
 
-/// Relays the connections of a plan, and says how many there were.
-pub fn serve<R: Wait, K: Sink, N: Net>(
+// What a relay answers, and the net that it was given.
+#[derive(Drop)]
+struct Relayed<N> {
+    served: Result<Served, ServeError>,
+    net: N,
+}
+
+/// Relays the connections of a plan in this way, and says how many there were.
+pub fn serve<R: Threads + Wait + Sync, K: Sink, N: Net, B: Bell + Sync, G: Gate + Sync>(
     rt: &R,
     alloc: Global,
     output: &mut K,
-    net: &mut N,
+    net: N,
+    bell: &B,
+    gate: &G,
     plan: ProxyPlan,
-) -> Status
+    way: ProxyWay,
+) -> Ended<N>
     requires plan { IsServable plan }
-    requires fresh { (c : ChanNo) → IsUnused (N.link net.old c) }
-    requires unasked { (c : ChanNo) → N.place net.old c ≡ unused }
-    ensures proxy { DoesProxy K.Sink plan (N.link net.new) (N.place net.new) (N.faults net.old) (N.faults net.new)
-        (N.poll_faults net.old) (N.poll_faults net.new) output.old output.new result }
+    requires way { HasWorkers way }
+    requires fresh { (c : ChanNo) → IsUnused (N.link net c) }
+    requires unasked { (c : ChanNo) → N.place net c ≡ unused }
+    ensures proxy { DoesProxy K.Sink plan (N.link result.net) (N.place result.net) (N.faults net) (N.faults result.net)
+        (N.poll_faults net) (N.poll_faults result.net) output.old output.new result.status }
     ensures later { K.faults output.old ≤ K.faults output.new }
 {
-    match serve_select(rt, alloc, net, plan) {
-        Ok(served) => say_served(alloc, output, served),
-        Err(ServeError::NetFault) => Status::NetFault,
-        Err(ServeError::Memory) => Status::Memory,
+    let Relayed { served, net } = relay(rt, alloc, net, bell, gate, plan, way);
+    match served {
+        Ok(served) => Ended {
+            status: say_served(alloc, output, served),
+            net,
+        },
+        Err(ServeError::NetFault) => Ended {
+            status: Status::NetFault,
+            net,
+        },
+        Err(ServeError::Memory) => Ended {
+            status: Status::Memory,
+            net,
+        },
+    }
+}
+
+// Relays the connections of a plan: by a selector, or by the operations of a group.
+fn relay<R: Threads + Wait + Sync, N: Net, B: Bell + Sync, G: Gate + Sync>(
+    rt: &R,
+    alloc: Global,
+    net: N,
+    bell: &B,
+    gate: &G,
+    plan: ProxyPlan,
+    way: ProxyWay,
+) -> Relayed<N>
+    requires plan { IsServable plan }
+    requires way { HasWorkers way }
+    requires fresh { (c : ChanNo) → IsUnused (N.link net c) }
+    requires unasked { (c : ChanNo) → N.place net c ≡ unused }
+    ensures serves { Serves plan (N.link result.net) (N.place result.net) (N.faults net) (N.faults result.net)
+        (N.poll_faults net) (N.poll_faults result.net) result.served }
+    ensures relays { RelaysBytes (N.link result.net) }
+    ensures leaves { LeavesNothing plan (N.link result.net) (N.place result.net) }
+    ensures complete { NoneRose (N.faults net) (N.faults result.net) (N.poll_faults net) (N.poll_faults result.net)
+        → ServesAllOr plan.conns (N.link result.net) result.served }
+{
+    match way {
+        ProxyWay::Select => {
+            let mut net = net;
+            let served = serve_select(rt, alloc, &mut net, plan);
+            Relayed { served, net }
+        }
+        ProxyWay::Group(workers) => {
+            let mut jobs = JobNet::over(net);
+            let served = serve_group(rt, alloc, &mut jobs, bell, gate, plan, workers);
+            Relayed {
+                served,
+                net: jobs.into_net(),
+            }
+        }
     }
 }
 

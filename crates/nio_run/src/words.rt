@@ -3,7 +3,10 @@ ghost use Rattle.std.specs.Prelude.{◌≡◌, ◌≢◌, ◌⊎◌, ◌↔◌, 
 ghost use Rattle.std.specs.String.{string_bytes};
 ghost use Rattle.nio_command.specs.Words.{IsScriptCommand, IsCheckCommand, IsCheckFirstCommand, IsRaceCommand};
 ghost use Rattle.nio_command.specs.Words.{IsLoadCommand, IsProxyCommand, IsTimedCommand, SaysNothing};
+ghost use Rattle.nio_command.specs.declared.way.ProxyWay.{ProxyWay};
+ghost use Rattle.nio_relay.specs.Plan.{IsServable};
 ghost use Rattle.nio_relay.specs.declared.plan.ProxyPlan.{ProxyPlan};
+ghost use Rattle.nio_run.specs.Proxy.{HasWorkers};
 ghost use Rattle.nio_run.specs.Words.{BeginsProxy};
 
 use nio_command::{Command, WordsError, command_of};
@@ -18,10 +21,12 @@ pub fn named(alloc: Global, words: &[String]) -> Result<Command, WordsError>
     ensures timed { (result ≡ Ok Command.Timed) ↔ IsTimedCommand (map string_bytes words.now) }
     ensures load { (rounds : ℕ) → (result ≡ Ok (Command.Load rounds))
         ↔ IsLoadCommand (map string_bytes words.now) rounds }
-    ensures proxy { (plan : ProxyPlan) → result ≡ Ok (Command.Proxy plan)
-        → IsProxyCommand (map string_bytes words.now) plan }
-    ensures proxy_only { (plan : ProxyPlan) → IsProxyCommand (map string_bytes words.now) plan
-        → (result ≡ Ok (Command.Proxy plan)) ⊎ (result ≡ Err WordsError.Memory) }
+    ensures proxy { (plan : ProxyPlan) (way : ProxyWay) → result ≡ Ok (Command.Proxy plan way)
+        → IsProxyCommand (map string_bytes words.now) plan way }
+    ensures proxy_only { (plan : ProxyPlan) (way : ProxyWay) → IsProxyCommand (map string_bytes words.now) plan way
+        → (result ≡ Ok (Command.Proxy plan way)) ⊎ (result ≡ Err WordsError.Memory) }
+    ensures servable { (plan : ProxyPlan) (way : ProxyWay) → result ≡ Ok (Command.Proxy plan way)
+        → IsServable plan × HasWorkers way }
     ensures usage { result ≡ Err WordsError.Usage → SaysNothing (map string_bytes words.now) }
     ensures nothing { SaysNothing (map string_bytes words.now) → (result ≡ Err WordsError.Usage)
         ⊎ (result ≡ Err WordsError.Memory) }

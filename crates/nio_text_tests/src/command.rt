@@ -54,19 +54,31 @@ const COMMANDS: &[(&str, Command)] = &[
     ("load 100000", Command::Load(100_000)),
     (
         "proxy --way select --listen 127.0.0.1:8080 --target 10.0.0.2:80 --conns 3",
-        Command::Proxy(PLAN),
+        Command::Proxy(PLAN, ProxyWay::Select),
     ),
     (
         "proxy --way=select --listen=127.0.0.1:8080 --target=10.0.0.2:80 --conns=3",
-        Command::Proxy(PLAN),
+        Command::Proxy(PLAN, ProxyWay::Select),
     ),
     (
         "proxy --conns 3 --target=10.0.0.2:80 --way=select --listen 127.0.0.1:8080",
-        Command::Proxy(PLAN),
+        Command::Proxy(PLAN, ProxyWay::Select),
     ),
     (
         "proxy --way select --listen 0.0.0.0:1 --target 255.255.255.255:65535 --conns 16000",
-        Command::Proxy(ENDS),
+        Command::Proxy(ENDS, ProxyWay::Select),
+    ),
+    (
+        "proxy --way group --listen 127.0.0.1:8080 --target 10.0.0.2:80 --conns 3",
+        Command::Proxy(PLAN, ProxyWay::Group(4)),
+    ),
+    (
+        "proxy --way group --workers 1 --listen 127.0.0.1:8080 --target 10.0.0.2:80 --conns 3",
+        Command::Proxy(PLAN, ProxyWay::Group(1)),
+    ),
+    (
+        "proxy --workers=64 --conns=3 --listen 127.0.0.1:8080 --target 10.0.0.2:80 --way=group",
+        Command::Proxy(PLAN, ProxyWay::Group(64)),
     ),
 ];
 
@@ -108,7 +120,14 @@ const OTHER_LINES: &[&str] = &[
     "proxy --way select --listen 127.0.0.1:1 --target 127.0.0.1:2 --conns 16001",
     "proxy --way select --listen 127.0.0.1:1 --target 127.0.0.1:2 --conns 01",
     "proxy --way select --listen 127.0.0.1:1 --target 127.0.0.1:2 --conns +1",
-    "proxy --way group --listen 127.0.0.1:1 --target 127.0.0.1:2 --conns 1",
+    "proxy --way groups --listen 127.0.0.1:1 --target 127.0.0.1:2 --conns 1",
+    "proxy --way group --listen 127.0.0.1:1 --target 127.0.0.1:2 --conns 1 --workers",
+    "proxy --way group --listen 127.0.0.1:1 --target 127.0.0.1:2 --conns 1 --workers=",
+    "proxy --way group --listen 127.0.0.1:1 --target 127.0.0.1:2 --conns 1 --workers 0",
+    "proxy --way group --listen 127.0.0.1:1 --target 127.0.0.1:2 --conns 1 --workers 04",
+    "proxy --way group --listen 127.0.0.1:1 --target 127.0.0.1:2 --conns 1 --workers 65",
+    "proxy --way group --listen 127.0.0.1:1 --target 127.0.0.1:2 --conns 1 --workers 4 --workers 4",
+    "proxy --workers 4 --way select --listen 127.0.0.1:1 --target 127.0.0.1:2 --conns 1",
     "proxy --way select --listen 127.0.0.1:0 --target 127.0.0.1:2 --conns 1",
     "proxy --way select --listen 127.0.0.1:65536 --target 127.0.0.1:2 --conns 1",
     "proxy --way select --listen 127.0.0.256:1 --target 127.0.0.1:2 --conns 1",

@@ -33,16 +33,17 @@ fn bytes(alloc: Global, period: usize) -> Result<Vec<u8>, AllocError> {
 fn relay<R: Threads + Wait + Sync + Net + Clock + Copy>(
     rt: &R,
     alloc: Global,
+    way: &str,
     listen: &str,
     target: &str,
 ) -> Result<(u8, Vec<u8>), AllocError> {
     let words = [
-        "proxy", "--way", "select", "--listen", listen, "--target", target, "--conns", "1",
+        "proxy", "--way", way, "--listen", listen, "--target", target, "--conns", "1",
     ];
     let mut source = MemorySource::make(Vec::new(alloc), 1, Vec::new(alloc));
     let mut sink = MemorySink::make(alloc, 8, Vec::new(alloc), 64)?;
-    let (net, _bell) = MioNet::make(*rt, alloc)?;
-    let (status, _net) = runs(rt, alloc, &words, &mut source, &mut sink, net)?;
+    let (net, bell) = MioNet::make(*rt, alloc)?;
+    let (status, _net) = runs(rt, alloc, &words, &mut source, &mut sink, net, &bell)?;
     Ok((status, sink.bytes().to_vec(alloc)?))
 }
 
@@ -78,27 +79,35 @@ fn answer(rt: &HostRuntime, listener: &TcpListener, sent: &[u8]) -> io::Result<V
 
 #[test]
 fn relays_over_loopback(rt: HostRuntime) -> Result<(), Fail> {
-    let listener = TcpListener::bind(&rt, "127.0.0.1:0")?;
-    let port = listener.local_addr()?.port();
-    let target = format!(in rt.alloc(); "127.0.0.1:{port}")?;
-    let listen = free_address(&rt)?;
     let question = bytes(rt.alloc(), 251)?;
     let reply = bytes(rt.alloc(), 241)?;
-    let (relayed, (asked, answered)) = join(
-        &rt,
-        || -> Result<(u8, Vec<u8>), AllocError> { relay(&rt, rt.alloc(), &listen, &target) },
-        || -> (io::Result<Vec<u8>>, io::Result<Vec<u8>>) {
-            join(
-                &rt,
-                || -> io::Result<Vec<u8>> { ask(&rt, &listen, &question) },
-                || -> io::Result<Vec<u8>> { answer(&rt, &listener, &reply) },
-            )
-        },
-    );
-    let (code, written) = relayed?;
-    assert_eq!(rt; code, 0);
-    assert_eq!(rt; written.as_slice(), "served 1 faults 0\n".as_bytes());
-    assert!(rt; asked? == reply);
-    assert!(rt; answered? == question);
+    for way in ["select", "group"] {
+        let listener = TcpListener::bind(&rt, "127.0.0.1:0")?;
+        let port = listener.local_addr()?.port();
+        let target = format!(in rt.alloc(); "127.0.0.1:{port}")?;
+        let listen = free_address(&rt)?;
+        let (relayed, (asked, answered)) = join(
+            &rt,
+            || -> Result<(u8, Vec<u8>), AllocError> {
+                relay(&rt, rt.alloc(), way, &listen, &target)
+            },
+            || -> (io::Result<Vec<u8>>, io::Result<Vec<u8>>) {
+                join(
+                    &rt,
+                    || -> io::Result<Vec<u8>> { ask(&rt, &listen, &question) },
+                    || -> io::Result<Vec<u8>> { answer(&rt, &listener, &reply) },
+                )
+            },
+        );
+        let (code, written) = relayed?;
+        assert_eq!(rt; code, 0, "{way}");
+        assert_eq!(rt;
+            written.as_slice(),
+            "served 1 faults 0\n".as_bytes(),
+            "{way}"
+        );
+        assert!(rt; asked? == reply, "{way}");
+        assert!(rt; answered? == question, "{way}");
+    }
     Ok(())
 }

@@ -9,6 +9,7 @@ use super::runs;
 use nio_base::ChanNo;
 use nio_bytes::{MemorySink, MemorySource};
 use nio_link::{MemoryNet, NetPlan, PeerPlan};
+use nio_poller::NoBell;
 use std::alloc::{AllocError, Global};
 use std::process::Abort;
 use std::sync::Wait;
@@ -81,6 +82,15 @@ const ONE: Row = Row {
     fail_accept: None,
     status: 0,
     written: "served 1 faults 0\n",
+};
+
+/// Two connections, which are relayed in both ways.
+const TWO: Row = Row {
+    name: "two",
+    peers: &[SENDER, SHORT],
+    conns: "2",
+    written: "served 2 faults 0\n",
+    ..ONE
 };
 
 const ROWS: &[Row] = &[
@@ -305,6 +315,7 @@ fn relays<R: Threads + Wait + Sync>(
     rt: &R,
     alloc: Global,
     net: MemoryNet,
+    way: &str,
     conns: &str,
 ) -> Result<(u8, MemorySink, MemoryNet), AllocError>
     requires fresh { (c : ChanNo) → IsUnused (carried_at net.slots c) }
@@ -313,7 +324,7 @@ fn relays<R: Threads + Wait + Sync>(
     let words = [
         "proxy",
         "--way",
-        "select",
+        way,
         "--listen=127.0.0.1:8080",
         "--target",
         "127.0.0.1:80",
@@ -322,7 +333,7 @@ fn relays<R: Threads + Wait + Sync>(
     ];
     let mut source = MemorySource::make(Vec::new(alloc), 1, Vec::new(alloc));
     let mut sink = MemorySink::make(alloc, 5, Vec::new(alloc), 64)?;
-    let (status, net) = runs(rt, alloc, &words, &mut source, &mut sink, net)?;
+    let (status, net) = runs(rt, alloc, &words, &mut source, &mut sink, net, &NoBell)?;
     Ok((status, sink, net))
 }
 
@@ -347,18 +358,19 @@ fn has_arrived(
 fn ends_as(
     rt: &(impl Abort + Threads + Wait + Sync),
     alloc: Global,
+    way: &str,
     row: &Row,
     sent: (&[u8], &[u8]),
 ) -> Result<(), Fail> {
     let net = net_of(alloc, row.peers, row.fail_poll, row.fail_accept)?;
-    let (status, sink, net) = relays(rt, alloc, net, row.conns)?;
-    assert_eq!(rt; status, row.status, "{}", row.name);
-    assert_eq!(rt; sink.bytes(), row.written.as_bytes(), "{}", row.name);
+    let (status, sink, net) = relays(rt, alloc, net, way, row.conns)?;
+    assert_eq!(rt; status, row.status, "{} {way}", row.name);
+    assert_eq!(rt; sink.bytes(), row.written.as_bytes(), "{} {way}", row.name);
     let mut client: u32 = 1;
     for peer in row.peers {
         let target = ChanNo(client.wrapping_add(1));
         let arrived = has_arrived(&net, ChanNo(client), target, peer, sent);
-        assert!(rt; arrived, "{}: {client}", row.name);
+        assert!(rt; arrived, "{} {way}: {client}", row.name);
         client = client.wrapping_add(2);
     }
     Ok(())
@@ -369,7 +381,17 @@ fn relays_end_as_written_down(rt: HostRuntime) -> Result<(), Fail> {
     let of_client = bytes(rt.alloc(), 0, 20_000, OF_CLIENT)?;
     let of_target = bytes(rt.alloc(), 0, 20_000, OF_TARGET)?;
     for row in ROWS {
-        ends_as(&rt, rt.alloc(), row, (&of_client, &of_target))?;
+        ends_as(&rt, rt.alloc(), "select", row, (&of_client, &of_target))?;
+    }
+    Ok(())
+}
+
+#[test]
+fn both_ways_end_alike(rt: HostRuntime) -> Result<(), Fail> {
+    let of_client = bytes(rt.alloc(), 0, 20_000, OF_CLIENT)?;
+    let of_target = bytes(rt.alloc(), 0, 20_000, OF_TARGET)?;
+    for way in ["select", "group"] {
+        ends_as(&rt, rt.alloc(), way, &TWO, (&of_client, &of_target))?;
     }
     Ok(())
 }
@@ -386,7 +408,7 @@ fn failing_nets(rt: HostRuntime) -> Result<(), Fail> {
     for (name, peers, poll, accept, polls, code, written) in FAILING {
         for more in 0..polls {
             let net = net_of(alloc, peers, poll.map(|at| at.saturating_add(more)), accept)?;
-            let (status, sink, net) = relays(&rt, alloc, net, "2")?;
+            let (status, sink, net) = relays(&rt, alloc, net, "select", "2")?;
             assert_eq!(rt; status, code, "failing_nets: {name} {more}");
             assert_eq!(rt;
                 sink.bytes(),

@@ -23,36 +23,39 @@ returns-in-len1-clause-usage c =
     usage_from (map string_bytes c.args.words.now) c.ok_or-in-len1.result (returns-in-len1-clause-found c)
     (returns-in-len1-clause-only c)
 
-pub returns-in_err-read_proxy-in-len1-up-clause-memory : goal.returns-in_err-read_proxy-in-len1-up-clause-memory
-returns-in_err-read_proxy-in-len1-up-clause-memory c = λ e. (
+pub returns-in_err-plan-in-len1-up-clause-memory : goal.returns-in_err-plan-in-len1-up-clause-memory
+returns-in_err-plan-in-len1-up-clause-memory c = λ e. (
   map string_bytes (take (length c.args.words.now - 1) (drop 1 c.args.words.now)),
   behind_proxy c.args.words.now c.word-item-2.result c.as_str.result.now c.word-item-2.is
       (omega arith) c.as_str.ensures.value
       (sym c.eq.ensures ∙ c.if-eq.true),
 )
 
-pub returns-in_ok-read_proxy-in-len1-up-clause-found : goal.returns-in_ok-read_proxy-in-len1-up-clause-found
-returns-in_ok-read_proxy-in-len1-up-clause-found c = λ command e.
-    let plan = c.in_ok-read_proxy-in-len1-up.field-0 in
+pub returns-in_ok-plan-in-len1-up-clause-found : goal.returns-in_ok-plan-in-len1-up-clause-found
+returns-in_ok-plan-in-len1-up-clause-found c = λ command e.
+    let plan = c.in_ok-plan-in-len1-up.plan in
+    let way = c.in_ok-plan-in-len1-up.way in
     let begins = behind_proxy c.args.words.now c.word-item-2.result c.as_str.result.now c.word-item-2.is (omega arith)
     c.as_str.ensures.value (sym c.eq.ensures ∙ c.if-eq.true) in
-    let found = c.read_proxy.ensures.found plan c.in_ok-read_proxy-in-len1-up.was in
-    subst (IsCommand (map string_bytes c.args.words.now)) (sym (same_command (Proxy plan) command e))
-    (subst (λ (ws : List (List ℕ)). IsProxyCommand ws plan) (sym begins) found)
+    let found = c.read_proxy.ensures.found plan way c.in_ok-plan-in-len1-up.was in
+    subst (IsCommand (map string_bytes c.args.words.now)) (sym (same_command (Proxy plan way) command e))
+    (subst (λ (ws : List (List ℕ)). IsProxyCommand ws plan way) (sym begins) found)
 
-pub returns-in_ok-read_proxy-in-len1-up-clause-only : goal.returns-in_ok-read_proxy-in-len1-up-clause-only
-returns-in_ok-read_proxy-in-len1-up-clause-only c = λ command is room.
-    let plan = c.in_ok-read_proxy-in-len1-up.field-0 in
+pub returns-in_ok-plan-in-len1-up-clause-only : goal.returns-in_ok-plan-in-len1-up-clause-only
+returns-in_ok-plan-in-len1-up-clause-only c = λ command is room.
+    let plan = c.in_ok-plan-in-len1-up.plan in
+    let way = c.in_ok-plan-in-len1-up.way in
     let begins = behind_proxy c.args.words.now c.word-item-2.result c.as_str.result.now c.word-item-2.is (omega arith)
     c.as_str.ensures.value (sym c.eq.ensures ∙ c.if-eq.true) in
     only_proxy (map string_bytes c.args.words.now)
     (map string_bytes (take (length c.args.words.now - 1) (drop 1 c.args.words.now)))
-    c.read_proxy.result plan begins c.in_ok-read_proxy-in-len1-up.was c.read_proxy.ensures.only command is
+    c.read_proxy.result plan way begins c.in_ok-plan-in-len1-up.was c.read_proxy.ensures.only command is
 
-pub returns-in_ok-read_proxy-in-len1-up-clause-usage : goal.returns-in_ok-read_proxy-in-len1-up-clause-usage
-returns-in_ok-read_proxy-in-len1-up-clause-usage c =
-    usage_from (map string_bytes c.args.words.now) (made (Proxy c.in_ok-read_proxy-in-len1-up.field-0))
-    (returns-in_ok-read_proxy-in-len1-up-clause-found c) (returns-in_ok-read_proxy-in-len1-up-clause-only c)
+pub returns-in_ok-plan-in-len1-up-clause-usage : goal.returns-in_ok-plan-in-len1-up-clause-usage
+returns-in_ok-plan-in-len1-up-clause-usage c =
+    usage_from (map string_bytes c.args.words.now)
+    (made (Proxy c.in_ok-plan-in-len1-up.plan c.in_ok-plan-in-len1-up.way))
+    (returns-in_ok-plan-in-len1-up-clause-found c) (returns-in_ok-plan-in-len1-up-clause-only c)
 
 -- the words of the arm on `load`
 are_two : (c : After-ok_or) → map string_bytes c.args.words.now ≡ codes "load" ∷ c.as_str-in-len2.result.now ∷ []

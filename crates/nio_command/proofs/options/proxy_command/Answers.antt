@@ -1,4 +1,4 @@
--- The command is put together from its settings and four options.
+-- The command is put together from its settings and its options.
 use Rattle.std.proofs.Common.{ap, ap₂, true, codes, ◌≡◌, ◌∙◌}
 use Rattle.std.proofs.lemmas.Result.{IfOk-weaker}
 use Rattle.clap.specs.Simple.{Shape, app_of, app_of_fields, new_app, on_top, with_rule}
@@ -12,12 +12,14 @@ returns c =
     ∙ ap (on_top (λ (s : Shape). record s { disable_help_flag = true }))
     (ap app_of_fields c.no_binary_name.ensures
     ∙ ap (on_top (λ (s : Shape). record s { no_binary_name = true })) c.new.ensures.app) in
-    let one = c.in_ok-arg.ensures.shape c.required_option.ensures.local
-    ∙ ap₂ with_rule start c.required_option.ensures.rule in
-    let two = c.in_ok-arg-2.ensures.shape c.required_option-2.ensures.local
-    ∙ ap₂ with_rule one c.required_option-2.ensures.rule in
-    let three = c.in_ok-arg-3.ensures.shape c.required_option-3.ensures.local
-    ∙ ap₂ with_rule two c.required_option-3.ensures.rule in
-    IfOk-weaker c.arg-4.result _ _
-    (λ r added. added.shape c.required_option-4.ensures.local
-    ∙ ap₂ with_rule three c.required_option-4.ensures.rule) c.arg-4.ensures
+    let one = c.in_ok-arg.ensures.shape c.option.ensures.local
+    ∙ ap₂ with_rule start c.option.ensures.rule in
+    let two = c.in_ok-arg-2.ensures.shape c.option-2.ensures.local
+    ∙ ap₂ with_rule one c.option-2.ensures.rule in
+    let three = c.in_ok-arg-3.ensures.shape c.option-3.ensures.local
+    ∙ ap₂ with_rule two c.option-3.ensures.rule in
+    let four = c.in_ok-arg-4.ensures.shape c.option-4.ensures.local
+    ∙ ap₂ with_rule three c.option-4.ensures.rule in
+    IfOk-weaker c.arg-5.result _ _
+    (λ r added. added.shape c.option-5.ensures.local
+    ∙ ap₂ with_rule four c.option-5.ensures.rule) c.arg-5.ensures

@@ -12,7 +12,7 @@ use Rattle.clap.specs.Faults.{fault_of}
 use Rattle.clap.specs.Kinds.{FailsBy}
 use Rattle.nio_command.specs.ProxyApp.{proxy_app}
 use Rattle.nio_command.specs.Texts.{texts_of}
-use Rattle.nio_command.proofs.ProxyWords.{are_options, fault_at, found_four, four_found, only_memory, rows_at}
+use Rattle.nio_command.proofs.ProxyWords.{are_options, fault_at, found_five, five_found, only_memory, rows_at}
 use Rattle.nio_command.proofs.ProxyWords.{values_taken}
 use Rattle.nio_command.proofs.options.read_options.Goals as goal
 
@@ -33,17 +33,17 @@ returns-in-Ok-clause-found c =
     IfSome_then c.texts_found.result c.texts_found.ensures.found
     (λ t f.
     let v = texts_of t in
-    are_options words v.way v.listen v.target v.conns
+    are_options words v.way v.listen v.target v.conns v.workers
     (sym (c.has_dashes.ensures ∙ list_any-map (λ w. bytes_eq w (codes "--")) string_bytes c.args.words.now)
     ∙ c.if-has_dashes.false) none
-    (found_four c.in-Ok.matches (matches_of proxy_app words) v rows f))
+    (found_five c.in-Ok.matches (matches_of proxy_app words) v rows f))
 
 pub returns-in-Ok-clause-only : goal.returns-in-Ok-clause-only
 returns-in-Ok-clause-only c = λ v o p.
     let words = map string_bytes c.args.words.now in
     let rows = rows_at c.in_ok-command.command words c.in-Ok.matches c.in_ok-command.ensures c.in-Ok.ensures.matches in
     let taken = values_taken words v o p in
-    c.texts_found.ensures.only v (four_found c.in-Ok.matches (matches_of proxy_app words) v rows taken.finds)
+    c.texts_found.ensures.only v (five_found c.in-Ok.matches (matches_of proxy_app words) v rows taken.finds)
 
 pub returns-clause-only : goal.returns-clause-only
 returns-clause-only c = λ v o p.

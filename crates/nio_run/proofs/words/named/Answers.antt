@@ -1,6 +1,6 @@
 use Rattle.std.proofs.Common.{arith}
 use Rattle.nio_command.specs.declared.command.Command.TheVariants.{Script, Check, CheckFirst, Race, Timed, Load, Proxy}
-use Rattle.nio_run.proofs.Named.{not_proxy, or_memory}
+use Rattle.nio_run.proofs.Named.{its_servable, not_proxy, or_memory}
 use Rattle.nio_run.proofs.words.named.Goals as goal
 
 pub returns-clause-script : goal.returns-clause-script
@@ -58,8 +58,12 @@ returns-clause-load c = λ rounds. let its =
     )
 
 pub returns-clause-proxy : goal.returns-clause-proxy
-returns-clause-proxy c = λ plan. c.command_of.ensures.found (Proxy plan)
+returns-clause-proxy c = λ plan way. c.command_of.ensures.found (Proxy plan way)
 
 pub returns-clause-proxy_only : goal.returns-clause-proxy_only
 returns-clause-proxy_only c =
-    λ plan says. or_memory c.command_of.result (Proxy plan) (c.command_of.ensures.only (Proxy plan) says)
+    λ plan way says. or_memory c.command_of.result (Proxy plan way) (c.command_of.ensures.only (Proxy plan way) says)
+
+pub returns-clause-servable : goal.returns-clause-servable
+returns-clause-servable c =
+    λ plan way is. its_servable _ plan way (c.command_of.ensures.found (Proxy plan way) is)

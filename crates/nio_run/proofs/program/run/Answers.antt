@@ -7,9 +7,9 @@ use Rattle.nio_run.specs.Load.{DoesLoad}
 use Rattle.nio_run.specs.Proxy.{DoesProxy, EndsProxy}
 use Rattle.nio_load.specs.Load.{EndsLoad}
 use Rattle.nio_run.proofs.Legal.{writes_legal}
-use Rattle.nio_run.proofs.Named.{begins_proxy, its_plan, its_rounds, no_plan, takes_none}
+use Rattle.nio_run.proofs.Named.{begins_proxy, its_plan, its_rounds, its_workers, no_plan, takes_none}
 use Rattle.nio_run.proofs.Unserved.{unserved}
-use Rattle.nio_run.proofs.program.run_over.Goals as goal
+use Rattle.nio_run.proofs.program.run.Goals as goal
 
 pub returns-in-Ok-Script-clause-legal : goal.returns-in-Ok-Script-clause-legal
 returns-in-Ok-Script-clause-legal g c = λ words done.
@@ -29,21 +29,22 @@ returns-in-Err-Usage-clause-usage_said g c = λ usage. record {
 }
 
 pub returns-in-Ok-Proxy-clause-proxy : goal.returns-in-Ok-Proxy-clause-proxy
-returns-in-Ok-Proxy-clause-proxy g c = λ plan says.
-    subst (λ (p : ProxyPlan). DoesProxy g.K.Sink p (g.N.Net.link c.serve.new.net) (g.N.Net.place c.serve.new.net)
-    (g.N.Net.faults c.args.net.now) (g.N.Net.faults c.serve.new.net) (g.N.Poller.poll_faults c.args.net.now)
-    (g.N.Poller.poll_faults c.serve.new.net) c.args.output.now c.serve.new.output c.serve.result)
-    (its_plan c.in-Ok-Proxy.field-0 c.in-Ok-Proxy.plan plan c.in-Ok-Proxy.field-0-is
-    (c.in-Ok-Proxy.ensures.proxy_only plan says)) c.serve.ensures.proxy
+returns-in-Ok-Proxy-clause-proxy g c = λ plan way says.
+    subst (λ (p : ProxyPlan). DoesProxy g.K.Sink p (g.N.Net.link c.serve.result.net)
+    (g.N.Net.place c.serve.result.net)
+    (g.N.Net.faults c.args.net) (g.N.Net.faults c.serve.result.net) (g.N.Poller.poll_faults c.args.net)
+    (g.N.Poller.poll_faults c.serve.result.net) c.args.output.now c.serve.new.output c.serve.result.status)
+    (its_plan c.in-Ok-Proxy.field-0 c.in-Ok-Proxy.plan plan c.in-Ok-Proxy.way way c.in-Ok-Proxy.field-0-is
+    (c.in-Ok-Proxy.ensures.proxy_only plan way says)) c.serve.ensures.proxy
 
 pub returns-in-Ok-Proxy-clause-too_long : goal.returns-in-Ok-Proxy-clause-too_long
-returns-in-Ok-Proxy-clause-too_long g c = takes_none g.S.Source c.args.input.now c.serve.result
+returns-in-Ok-Proxy-clause-too_long g c = takes_none g.S.Source c.args.input.now c.serve.result.status
     (λ long. subst EndsProxy long c.serve.ensures.proxy.ends)
 
 pub returns-in-Ok-Proxy-clause-no_net : goal.returns-in-Ok-Proxy-clause-no_net
 returns-in-Ok-Proxy-clause-no_net g c = λ other. absurd (other
-    (begins_proxy (map string_bytes c.args.words.now) c.in-Ok-Proxy.field-0 c.in-Ok-Proxy.plan c.in-Ok-Proxy.field-0-is
-    c.in-Ok-Proxy.ensures.proxy))
+    (begins_proxy (map string_bytes c.args.words.now) c.in-Ok-Proxy.field-0 c.in-Ok-Proxy.plan c.in-Ok-Proxy.way
+    c.in-Ok-Proxy.field-0-is c.in-Ok-Proxy.ensures.proxy))
 
 pub returns-in-Ok-Load-clause-load : goal.returns-in-Ok-Load-clause-load
 returns-in-Ok-Load-clause-load g c = λ rounds says.
@@ -59,13 +60,14 @@ returns-in-Ok-Load-clause-too_long g c =
 
 pub returns-in-Err-Usage-clause-proxy : goal.returns-in-Err-Usage-clause-proxy
 returns-in-Err-Usage-clause-proxy g c =
-    λ plan says. absurd
-    (no_plan c.in-Err-Usage.field-0 plan c.in-Err-Usage.field-0-is (c.in-Err-Usage.ensures.proxy_only plan says))
+    λ plan way says. absurd
+    (no_plan c.in-Err-Usage.field-0 plan way c.in-Err-Usage.field-0-is
+    (c.in-Err-Usage.ensures.proxy_only plan way says))
 
 pub returns-in-Err-Memory-clause-proxy : goal.returns-in-Err-Memory-clause-proxy
-returns-in-Err-Memory-clause-proxy g c = λ plan says.
-    unserved g.K.Sink plan (g.N.Net.link c.args.net.now) (g.N.Net.place c.args.net.now) (g.N.Net.faults c.args.net.now)
-    (g.N.Poller.poll_faults c.args.net.now) c.args.output.now c.requires.fresh c.requires.unasked
+returns-in-Err-Memory-clause-proxy g c = λ plan way says.
+    unserved g.K.Sink plan (g.N.Net.link c.args.net) (g.N.Net.place c.args.net) (g.N.Net.faults c.args.net)
+    (g.N.Poller.poll_faults c.args.net) c.args.output.now c.requires.fresh c.requires.unasked
 
 pub returns-in-Ok-Timed-clause-timed : goal.returns-in-Ok-Timed-clause-timed
 returns-in-Ok-Timed-clause-timed g c = λ words.
@@ -82,3 +84,8 @@ returns-in-Ok-Timed-clause-timed g c = λ words.
       of_long = does.of_long;
       complete = does.complete;
     }
+
+pub serve-requires-clause-way : goal.serve-requires-clause-way
+serve-requires-clause-way g c κs within =
+    its_workers c.in-Ok-Proxy.field-0 c.in-Ok-Proxy.plan c.in-Ok-Proxy.way c.in-Ok-Proxy.field-0-is
+    c.in-Ok-Proxy.ensures.servable

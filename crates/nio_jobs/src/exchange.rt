@@ -1,0 +1,33 @@
+//! What a way by jobs and those who start the operations tell each other.
+ghost use Rattle.std.specs.Prelude.{◌≡◌, []};
+
+use nio_base::{ChanNo, OpKind, OpNo, Outcome};
+use nio_group::Job;
+use std::alloc::AllocError;
+use std::sync::Wait;
+
+/// What the calls of a turn came to.
+#[derive(Clone, Copy, Debug, PartialEq, Eq)]
+pub enum Done {
+    /// The operation has this outcome.
+    Outcome(OpNo, Outcome),
+    /// The channel's operation of this kind is still pending: its call found nothing to do, and used up the job.
+    Again(ChanNo, OpKind),
+    /// The net's channel was closed.
+    Closed(ChanNo),
+}
+
+/// What a way by jobs reports to, and gets jobs from: a group whose handlers start the operations, or a desk whose tickets
+/// are polled.
+pub trait Exchange {
+    /// Should report what the calls came to, in their order, and add the jobs that have been handed out since to the
+    /// others. It waits for none. The clause says only that nothing is left to report. An error says that no jobs will be
+    /// handed out any more, for want of memory.
+    fn exchange<R: Wait>(
+        &mut self,
+        rt: &R,
+        done: &mut Vec<Done>,
+        arrived: &mut Vec<Job>,
+    ) -> Result<(), AllocError>
+        ensures { done.new.items ≡ [] };
+}

@@ -1,0 +1,104 @@
+//! Jobs by channel and kind.
+ghost use Rattle.std.specs.Prelude.{◌≡◌, IfSome};
+
+use nio_base::{ChanNo, OpKind, Ops};
+use nio_group::Job;
+use std::alloc::{AllocError, Global};
+
+/// The jobs of a channel, one of a kind at most.
+#[derive(Drop)]
+struct OfChannel {
+    accept: Option<Job>,
+    connect: Option<Job>,
+    read: Option<Job>,
+    write: Option<Job>,
+}
+
+impl OfChannel {
+    fn none() -> OfChannel {
+        OfChannel {
+            accept: None,
+            connect: None,
+            read: None,
+            write: None,
+        }
+    }
+
+    // Keeps a job, in the place of an earlier one of its kind.
+    fn put(&mut self, job: Job) {
+        match job.kind() {
+            OpKind::Accept => self.accept = Some(job),
+            OpKind::Connect => self.connect = Some(job),
+            OpKind::Read => self.read = Some(job),
+            OpKind::Write => self.write = Some(job),
+        }
+    }
+
+    fn take(&mut self, kind: OpKind) -> Option<Job> {
+        match kind {
+            OpKind::Accept => self.accept.take(),
+            OpKind::Connect => self.connect.take(),
+            OpKind::Read => self.read.take(),
+            OpKind::Write => self.write.take(),
+        }
+    }
+
+    // For which operations there is a job.
+    fn permits(&self) -> Ops {
+        permit(&self.accept, Ops::ACCEPT)
+            .union(permit(&self.connect, Ops::CONNECT))
+            .union(permit(&self.read, Ops::READ))
+            .union(permit(&self.write, Ops::WRITE))
+    }
+}
+
+// The operation, where there is a job for it.
+fn permit(job: &Option<Job>, operation: Ops) -> Ops {
+    if job.is_some() { operation } else { Ops::NONE }
+}
+
+/// The jobs that were handed out and not yet used up.
+#[derive(Drop)]
+pub(crate) struct Jobs {
+    channels: Vec<OfChannel>,
+}
+
+impl Jobs {
+    /// None yet, with room for those of so many channels.
+    pub(crate) fn make(alloc: Global, channels: u32) -> Result<Jobs, AllocError> {
+        let mut all = Vec::with_capacity(alloc, channels as usize)?;
+        for _ in 0..channels {
+            all.push(OfChannel::none())?;
+        }
+        Ok(Jobs { channels: all })
+    }
+
+    /// Keeps a job, in the place of an earlier one of its channel and kind. One of a channel for which there is no room
+    /// is dropped.
+    pub(crate) fn put(&mut self, job: Job) {
+        if let Some(channel) = self.channels.get_mut(job.chan().0 as usize) {
+            channel.put(job);
+        }
+    }
+
+    /// Takes out the job of this kind for this channel, if there is one.
+    pub(crate) fn take(&mut self, chan: ChanNo, kind: OpKind) -> Option<Job>
+        ensures kind { IfSome result (λ job. job.kind ≡ kind) }
+        ensures its { IfSome result (λ job. job.chan.0 ≡ chan.0) }
+    {
+        let job = self.channels.get_mut(chan.0 as usize)?.take(kind)?;
+        if job.kind() == kind && job.chan().0 == chan.0 {
+            Some(job)
+        } else {
+            None
+        }
+    }
+
+    /// For which operations there is a job for this channel.
+    pub(crate) fn permits(&self, chan: ChanNo) -> Ops {
+        match self.channels.get(chan.0 as usize) {
+            Some(channel) => channel.permits(),
+            None => Ops::NONE,
+        }
+    }
+}

@@ -1,0 +1,239 @@
+//! Serving a plan by the operations of a group.
+ghost use Rattle.std.specs.Prelude.{◌≡◌, ◌+◌, ◌*◌, ◌<◌, ◌≤◌, All, IfOk, length};
+ghost use Rattle.std.specs.Thread.{IsSync};
+ghost use Rattle.nio_base.specs.declared.numbers.ChanNo.{ChanNo};
+ghost use Rattle.nio_link.specs.Links.{IsUnused};
+ghost use Rattle.nio_link.specs.Places.{unused};
+ghost use Rattle.nio_pool.specs.Queues.{IsPassOf};
+ghost use Rattle.nio_relay.specs.Plan.{IsServable};
+ghost use Rattle.nio_serve.specs.Serving.{AreNumbered, LeavesNothing, NoneRose, RelaysBytes, Serves, ServesAllOr};
+
+use crate::dispatcher::Dispatcher;
+use crate::relaying::{Relaying, Ringing};
+use crate::streams::Streams;
+use nio_base::Gate;
+use nio_group::GroupLimits;
+use nio_jobs::ByJobs;
+use nio_link::{JobNet, Net};
+use nio_poller::Bell;
+use nio_pool::{CompletionQueue, Group, QueuePass, work};
+use nio_relay::{ProxyPlan, Served};
+use nio_serve::{ServeError, serve};
+use std::alloc::{AllocError, Global};
+use std::sync::Wait;
+use std::thread;
+use std::thread::Threads;
+
+// How many channels the group of this plan has: the listener's, and two for each connection.
+fn channels_of(plan: ProxyPlan) -> u32
+    requires { IsServable plan }
+    ensures { result ≡ 2 * plan.conns + 1 }
+{
+    2 * plan.conns + 1
+}
+
+// How many operations of this plan's group are in flight at most: an accept, a read and a write for each stream, and
+// one whose handler runs, for each worker and for the dispatcher.
+fn flight_of(plan: ProxyPlan) -> u32
+    requires { IsServable plan }
+    ensures { result ≡ 4 * plan.conns + 66 }
+{
+    4 * plan.conns + 66
+}
+
+// What the dispatcher and the workers share.
+#[derive(Drop)]
+struct Staff {
+    group: Group,
+    queue: CompletionQueue,
+    relaying: Relaying,
+}
+
+impl Staff {
+    // The workers come with a pass each.
+    fn make(
+        alloc: Global,
+        plan: ProxyPlan,
+        workers: u32,
+    ) -> Result<(Staff, Vec<QueuePass>), AllocError>
+        requires plan { IsServable plan }
+        requires workers { (1 ≤ workers) × (workers ≤ 64) }
+        ensures passes { IfOk result (λ made. All (IsPassOf made.0.queue) made.1.items) }
+        ensures count { IfOk result (λ made. length made.1.items ≡ workers) }
+    {
+        let channels = channels_of(plan);
+        let flight = flight_of(plan);
+        let limits = GroupLimits {
+            channels,
+            flight,
+            ops: 1 << 62,
+        };
+        let Ok(group) = Group::make(alloc, i64::from(workers), limits) else {
+            return Err(AllocError);
+        };
+        let streams = Streams::make(alloc, channels, flight)?;
+        let (queue, passes) = CompletionQueue::make(alloc, workers, flight)?;
+        let staff = Staff {
+            group,
+            queue,
+            relaying: Relaying::over(streams),
+        };
+        Ok((staff, passes))
+    }
+}
+
+// Works with each pass in a thread of its own, as the worker with the pass's place, until the group has terminated.
+fn work_all<R: Threads + Wait + Sync, B: Bell + Sync, G: Gate + Sync>(
+    rt: &R,
+    staff: &Staff,
+    passes: &mut [QueuePass],
+    bell: &B,
+    gate: &G,
+)
+    requires passes { All (IsPassOf staff.now.queue) passes.old }
+    requires few { length passes.old ≤ 64 }
+{
+    let threads = passes.len().max(1);
+    let Staff {
+        group,
+        queue,
+        relaying,
+    } = staff;
+    thread::for_each_mut(
+        rt,
+        passes,
+        threads,
+        &|me, pass|
+            requires { (me < 64) × IsPassOf queue.now pass.old }
+        {
+            relaying.join_in();
+            let handler = Ringing { relaying, bell };
+            work(rt, group, queue, pass, &handler, gate, me as u32)
+        },
+    );
+}
+
+// What a proxy answers that has no memory to begin.
+fn no_memory<N: Net>(net: &JobNet<N>, plan: ProxyPlan) -> Result<Served, ServeError>
+    requires fresh { (c : ChanNo) → IsUnused (N.link net.now c) }
+    requires unasked { (c : ChanNo) → N.place net.now c ≡ unused }
+    ensures serves { Serves plan (N.link net.now) (N.place net.now) (N.faults net.now) (N.faults net.now)
+        (N.poll_faults net.now) (N.poll_faults net.now) result }
+    ensures relays { RelaysBytes (N.link net.now) }
+    ensures leaves { LeavesNothing plan (N.link net.now) (N.place net.now) }
+    ensures accepts { AreNumbered plan.conns (N.accepted net.now) (N.accepted net.now) result }
+    ensures complete { ServesAllOr plan.conns (N.link net.now) result }
+{
+    let _ = net;
+    Err(ServeError::Memory)
+}
+
+// Serves the plan with the jobs that the group hands out.
+fn serve_by_jobs<R: Wait, N: Net>(
+    rt: &R,
+    alloc: Global,
+    net: &mut JobNet<N>,
+    staff: &Staff,
+    plan: ProxyPlan,
+) -> Result<Served, ServeError>
+    requires plan { IsServable plan }
+    requires fresh { (c : ChanNo) → IsUnused (N.link net.old c) }
+    requires unasked { (c : ChanNo) → N.place net.old c ≡ unused }
+    ensures serves { Serves plan (N.link net.new) (N.place net.new) (N.faults net.old) (N.faults net.new)
+        (N.poll_faults net.old) (N.poll_faults net.new) result }
+    ensures relays { RelaysBytes (N.link net.new) }
+    ensures leaves { LeavesNothing plan (N.link net.new) (N.place net.new) }
+    ensures accepts { AreNumbered plan.conns (N.accepted net.old) (N.accepted net.new) result }
+    ensures complete { NoneRose (N.faults net.old) (N.faults net.new) (N.poll_faults net.old) (N.poll_faults net.new)
+        → ServesAllOr plan.conns (N.link net.new) result }
+{
+    let Staff {
+        group,
+        queue: _,
+        relaying,
+    } = staff;
+    relaying.listen(rt, group);
+    let dispatcher = Dispatcher { group, relaying };
+    match ByJobs::make(alloc, dispatcher, channels_of(plan), flight_of(plan)) {
+        Ok(mut way) => serve(rt, alloc, &mut way, net, plan),
+        Err(AllocError) => no_memory(net, plan),
+    }
+}
+
+// Closes all channels of the group. It terminates once the workers have handled what was pending.
+fn close_group<R: Wait>(rt: &R, group: &Group) {
+    group.lock(rt).shutdown_now();
+    group.wake(rt);
+}
+
+// Is the dispatcher: serves the plan, and then closes the group, so that the workers end.
+fn dispatch<R: Wait, N: Net>(
+    rt: &R,
+    alloc: Global,
+    net: &mut JobNet<N>,
+    staff: &Staff,
+    plan: ProxyPlan,
+) -> Result<Served, ServeError>
+    requires plan { IsServable plan }
+    requires fresh { (c : ChanNo) → IsUnused (N.link net.old c) }
+    requires unasked { (c : ChanNo) → N.place net.old c ≡ unused }
+    ensures serves { Serves plan (N.link net.new) (N.place net.new) (N.faults net.old) (N.faults net.new)
+        (N.poll_faults net.old) (N.poll_faults net.new) result }
+    ensures relays { RelaysBytes (N.link net.new) }
+    ensures leaves { LeavesNothing plan (N.link net.new) (N.place net.new) }
+    ensures accepts { AreNumbered plan.conns (N.accepted net.old) (N.accepted net.new) result }
+    ensures complete { NoneRose (N.faults net.old) (N.faults net.new) (N.poll_faults net.old) (N.poll_faults net.new)
+        → ServesAllOr plan.conns (N.link net.new) result }
+{
+    staff.relaying.await_worker();
+    let served = serve_by_jobs(rt, alloc, net, staff, plan);
+    close_group(rt, &staff.group);
+    served
+}
+
+/// Relays as many connections as the plan says, and then ends, by the operations of an asynchronous channel group. The
+/// calling thread is the dispatcher: it polls the net, and makes each call on it for a job of the group's. This many
+/// workers, each in a thread of its own, handle the completions and start the next operations; before each they pass the
+/// test gate, with their number and the operation's. A handler rings the bell, which has to be that of the net, where the
+/// dispatcher may wait for what it started. Where no thread can be made, the dispatcher handles the completions itself,
+/// and passes no gate.
+///
+/// A connection ends when both of its directions are shut, or at the first fault of one of its links, which closes both
+/// and is counted. At every end the links, the listener and the group are closed, and the workers have ended. `Memory`
+/// is also answered where the proxy's own table refuses a call.
+pub fn serve_group<R: Threads + Wait + Sync, N: Net, B: Bell + Sync, G: Gate + Sync>(
+    rt: &R,
+    alloc: Global,
+    net: &mut JobNet<N>,
+    bell: &B,
+    gate: &G,
+    plan: ProxyPlan,
+    workers: u32,
+) -> Result<Served, ServeError>
+    requires plan { IsServable plan }
+    requires workers { (1 ≤ workers) × (workers ≤ 64) }
+    requires fresh { (c : ChanNo) → IsUnused (N.link net.old c) }
+    requires unasked { (c : ChanNo) → N.place net.old c ≡ unused }
+    ensures serves { Serves plan (N.link net.new) (N.place net.new) (N.faults net.old) (N.faults net.new)
+        (N.poll_faults net.old) (N.poll_faults net.new) result }
+    ensures relays { RelaysBytes (N.link net.new) }
+    ensures leaves { LeavesNothing plan (N.link net.new) (N.place net.new) }
+    ensures accepts { AreNumbered plan.conns (N.accepted net.old) (N.accepted net.new) result }
+    ensures complete { NoneRose (N.faults net.old) (N.faults net.new) (N.poll_faults net.old) (N.poll_faults net.new)
+        → ServesAllOr plan.conns (N.link net.new) result }
+{
+    let Ok((staff, passes)) = Staff::make(alloc, plan, workers) else {
+        return no_memory(net, plan);
+    };
+    let mut passes = passes;
+    let mut served = Err(ServeError::Memory);
+    thread::join_mut(
+        rt,
+        &mut ||
+            requires { IsSync R.row × IsSync B.row × IsSync G.row × All (IsPassOf staff.queue) passes.items
+                × (length passes.items ≤ 64) }
+        { work_all(rt, &staff, passes.as_mut_slice(), bell, gate) },
+        &mut || served = dispatch(rt, alloc, net, &staff, plan),
+    );
+    served
+}

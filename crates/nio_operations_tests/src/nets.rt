@@ -1,0 +1,111 @@
+//! Nets in memory, and the proxy over them.
+ghost use Rattle.std.specs.Prelude.{◌≡◌, IfOk};
+ghost use Rattle.nio_base.specs.declared.numbers.ChanNo.{ChanNo};
+ghost use Rattle.nio_link.specs.Links.{IsUnused};
+ghost use Rattle.nio_link.specs.Places.{places_after, unused};
+ghost use Rattle.nio_link.specs.Slots.{carried_at};
+
+use nio_base::{Addr, Gate};
+use nio_link::{JobNet, MemoryNet, NetPlan, PeerPlan};
+use nio_operations::serve_group;
+use nio_poller::NoBell;
+use nio_relay::{ProxyPlan, Served};
+use nio_serve::ServeError;
+use std::alloc::{AllocError, Global};
+use std::sync::Wait;
+use std::thread::Threads;
+
+/// A client and its target: the lengths of the pieces that each sends; how many bytes each takes a write at most; what
+/// fails; and how many bytes arrive at each, and whether both links are shut at the end.
+#[derive(Clone, Copy)]
+pub(crate) struct Peer {
+    pub sends: &'static [usize],
+    pub answers: &'static [usize],
+    pub most: usize,
+    pub fail_connect: bool,
+    pub fail_write_after: Option<u64>,
+    pub at_target: usize,
+    pub at_client: usize,
+    pub is_shut: bool,
+}
+
+pub(crate) const SHORT: Peer = Peer {
+    sends: &[2],
+    answers: &[1],
+    most: 1,
+    fail_connect: false,
+    fail_write_after: None,
+    at_target: 2,
+    at_client: 1,
+    is_shut: true,
+};
+
+/// Pieces of bytes that repeat after 251.
+fn pieces(alloc: Global, lengths: &[usize]) -> Result<Vec<Vec<u8>>, AllocError> {
+    let mut pieces = Vec::new(alloc);
+    let mut from: usize = 0;
+    for length in lengths {
+        let mut piece = Vec::with_capacity(alloc, *length)?;
+        for i in 0..*length {
+            piece.push((from.wrapping_add(i) % 251) as u8)?;
+        }
+        pieces.push(piece)?;
+        from = from.wrapping_add(*length);
+    }
+    Ok(pieces)
+}
+
+/// A net that was just made, for these connections.
+pub(crate) fn net_of(
+    alloc: Global,
+    peers: &[Peer],
+    fail_accept: Option<u64>,
+) -> Result<MemoryNet, AllocError>
+    ensures fresh { IfOk result (λ net. (c : ChanNo) → IsUnused (carried_at net.slots c)) }
+    ensures unasked { IfOk result (λ net. (c : ChanNo) → places_after net.changes c ≡ unused) }
+{
+    let mut plans = Vec::new(alloc);
+    for peer in peers {
+        plans.push(PeerPlan {
+            sends: pieces(alloc, peer.sends)?,
+            answers: pieces(alloc, peer.answers)?,
+            most: peer.most,
+            fail_connect: peer.fail_connect,
+            fail_write_after: peer.fail_write_after,
+        })?;
+    }
+    MemoryNet::make(
+        alloc,
+        NetPlan {
+            peers: plans,
+            fail_poll: None,
+            fail_accept,
+        },
+    )
+}
+
+const ANYWHERE: Addr = Addr {
+    ip: [127, 0, 0, 1],
+    port: 8080,
+};
+
+/// Serves so many connections by two workers.
+pub(crate) fn serves<R: Threads + Wait + Sync, G: Gate + Sync>(
+    rt: &R,
+    alloc: Global,
+    net: MemoryNet,
+    conns: usize,
+    gate: &G,
+) -> (Result<Served, ServeError>, MemoryNet)
+    requires fresh { (c : ChanNo) → IsUnused (carried_at net.slots c) }
+    requires unasked { (c : ChanNo) → places_after net.changes c ≡ unused }
+{
+    let plan = ProxyPlan {
+        listen: ANYWHERE,
+        target: ANYWHERE,
+        conns: conns.clamp(1, 16) as u32,
+    };
+    let mut jobs = JobNet::over(net);
+    let served = serve_group(rt, alloc, &mut jobs, &NoBell, gate, plan, 2);
+    (served, jobs.into_net())
+}

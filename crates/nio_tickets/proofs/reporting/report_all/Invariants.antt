@@ -1,0 +1,11 @@
+use Rattle.std.proofs.Common.{◌≡◌, drop}
+use Rattle.nio_future.specs.Tickets.{KeepsTickets}
+use Rattle.nio_tickets.specs.Reports.{after_turn}
+use Rattle.nio_tickets.proofs.reporting.report_all.Given as goal
+
+abbrev pub invariant-loop-one : goal.invariant-loop-one
+invariant-loop-one l =
+    record {
+      desk : after_turn l.desk (drop l.one-index l.fn.done) ≡ after_turn l.fn.desk l.fn.done;
+      tickets : KeepsTickets l.fn.desk l.desk;
+    }

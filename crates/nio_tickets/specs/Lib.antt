@@ -1,0 +1,3 @@
+pub mod Handling
+pub mod Reports
+pub mod Seats

@@ -1,0 +1,11 @@
+//! Serving the connections of a proxy by operations that have tickets. One thread makes the calls on the net, each for a
+//! job of an operation that is pending at a desk, and polls the tickets between its turns.
+#![tactic(auto)]
+
+pub use serving::serve_future;
+
+mod clerk;
+mod reporting;
+mod seat;
+mod serving;
+mod streams;

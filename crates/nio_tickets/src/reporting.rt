@@ -1,0 +1,57 @@
+//! Reporting to a desk what the calls on the net came to.
+ghost use Rattle.std.specs.Prelude.{◌≡◌};
+ghost use Rattle.nio_jobs.specs.declared.exchange.Done.TheVariants as done;
+ghost use Rattle.nio_future.specs.Tickets.{KeepsTickets};
+ghost use Rattle.nio_tickets.specs.Reports.{after_done, after_turn};
+
+use nio_base::{GChan, OpKind};
+use nio_future::Desk;
+use nio_group::Job;
+use nio_jobs::Done;
+
+/// Reports what calls came to, and takes the next job of each operation that is still pending.
+pub(crate) fn report_all(desk: &mut Desk, done: &[Done], arrived: &mut Vec<Job>)
+    ensures desk { desk.new ≡ after_turn desk.old done.now }
+    ensures tickets { KeepsTickets desk.old desk.new }
+{
+    for one in done {
+        report(desk, *one, arrived);
+    }
+}
+
+fn report(desk: &mut Desk, done: Done, arrived: &mut Vec<Job>)
+    ensures desk { desk.new ≡ after_done desk.old done }
+    ensures tickets { KeepsTickets desk.old desk.new }
+{
+    match done {
+        Done::Outcome(op, outcome) => {
+            // refused where the operation's channel was closed meanwhile
+            let _ = desk.report(op, outcome);
+        }
+        Done::Again(chan, kind) => {
+            if let Some(job) = job(desk, GChan(chan.0), kind) {
+                // there is room for the jobs of all operations that can be in flight
+                let _ = arrived.push(job);
+            }
+        }
+        Done::Closed(chan) => close(desk, GChan(chan.0)),
+    }
+}
+
+fn close(desk: &mut Desk, chan: GChan)
+    ensures desk { desk.new ≡ after_done desk.old (done.Closed (record { 0 = chan.0 })) }
+    ensures tickets { KeepsTickets desk.old desk.new }
+{
+    if chan.0 < desk.channels() {
+        desk.close_channel(chan);
+    }
+}
+
+/// The job of the pending operation of this kind on this channel, if there is one.
+pub(crate) fn job(desk: &Desk, chan: GChan, kind: OpKind) -> Option<Job> {
+    if chan.0 < desk.channels() {
+        desk.job(chan, kind)
+    } else {
+        None
+    }
+}

@@ -1,0 +1,80 @@
+//! Serving a plan by operations that have tickets.
+ghost use Rattle.std.specs.Prelude.{◌≡◌, ◌+◌, ◌*◌};
+ghost use Rattle.nio_base.specs.declared.numbers.ChanNo.{ChanNo};
+ghost use Rattle.nio_link.specs.Links.{IsUnused};
+ghost use Rattle.nio_link.specs.Places.{unused};
+ghost use Rattle.nio_relay.specs.Plan.{IsServable};
+ghost use Rattle.nio_serve.specs.Serving.{AreNumbered, LeavesNothing, NoneRose, RelaysBytes, Serves, ServesAllOr};
+
+use crate::clerk::Clerk;
+use nio_jobs::ByJobs;
+use nio_link::{JobNet, Net};
+use nio_relay::{ProxyPlan, Served};
+use nio_serve::{ServeError, serve};
+use std::alloc::{AllocError, AllocGlobal, Global};
+use std::random::RandomSource;
+use std::sync::Wait;
+
+// How many channels the desk of this plan has: the listener's, and two for each connection.
+fn channels_of(plan: ProxyPlan) -> u32
+    requires { IsServable plan }
+    ensures { result ≡ 2 * plan.conns + 1 }
+{
+    2 * plan.conns + 1
+}
+
+// How many tickets of this plan's desk are out at most: of an accept, and of a read and a write for each stream.
+fn flight_of(plan: ProxyPlan) -> u32
+    requires { IsServable plan }
+    ensures { result ≡ 4 * plan.conns + 1 }
+{
+    4 * plan.conns + 1
+}
+
+// The way by jobs of a new desk.
+fn open_way<'a, R>(
+    rt: &'a R,
+    alloc: Global,
+    plan: ProxyPlan,
+) -> Result<ByJobs<Clerk<'a, R>>, AllocError>
+    requires { IsServable plan }
+{
+    let channels = channels_of(plan);
+    let flight = flight_of(plan);
+    let clerk = Clerk::open(rt, alloc, channels, flight)?;
+    ByJobs::make(alloc, clerk, channels, flight)
+}
+
+/// Relays as many connections as the plan says, and then ends, by the operations of a desk. The calling thread makes each
+/// call on the net for a job of a pending operation. As each turn begins it reports what its calls came to, runs one round
+/// of polls over the tickets that are out, and starts what is due after each result.
+///
+/// A connection ends when both of its directions are shut, or at the first fault of one of its links, which closes both
+/// and is counted. At every end the links, the listener and the desk are closed. `Memory` is also answered where the
+/// proxy's own table refuses a call, or where a round is refused.
+pub fn serve_future<R, N: Net>(
+    rt: &R,
+    alloc: Global,
+    net: &mut JobNet<N>,
+    plan: ProxyPlan,
+) -> Result<Served, ServeError>
+where
+    R: Wait + RandomSource + AllocGlobal,
+    requires plan { IsServable plan }
+    requires fresh { (c : ChanNo) → IsUnused (N.link net.old c) }
+    requires unasked { (c : ChanNo) → N.place net.old c ≡ unused }
+    ensures serves { Serves plan (N.link net.new) (N.place net.new) (N.faults net.old) (N.faults net.new)
+        (N.poll_faults net.old) (N.poll_faults net.new) result }
+    ensures relays { RelaysBytes (N.link net.new) }
+    ensures leaves { LeavesNothing plan (N.link net.new) (N.place net.new) }
+    ensures accepts { AreNumbered plan.conns (N.accepted net.old) (N.accepted net.new) result }
+    ensures complete { NoneRose (N.faults net.old) (N.faults net.new) (N.poll_faults net.old) (N.poll_faults net.new)
+        → ServesAllOr plan.conns (N.link net.new) result }
+{
+    let Ok(mut way) = open_way(rt, alloc, plan) else {
+        return Err(ServeError::Memory);
+    };
+    let served = serve(rt, alloc, &mut way, net, plan);
+    way.into_exchange().close();
+    served
+}
