@@ -1,0 +1,10 @@
+pub mod Packets
+pub mod Places
+pub mod Readiness
+pub mod Nets
+pub mod Datagrams
+pub mod Sides
+pub mod MemoryPackets
+pub mod Passing
+pub mod Serving
+pub mod Relaying

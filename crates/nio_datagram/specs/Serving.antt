@@ -1,0 +1,105 @@
+-- What a relay of packets promises.
+use Rattle.std.specs.Prelude.{◌≡◌, ◌≢◌, ℕ, ◌-◌, ◌^◌, ◌≤◌, ◌⊎◌, min, Option, Some, Result, Ok, Err, List, ◌++◌, length}
+use Rattle.std.specs.List.{All}
+use Rattle.nio_base.specs.declared.numbers.Addr.{Addr}
+use Rattle.nio_base.specs.declared.numbers.ChanNo.{ChanNo}
+use Rattle.nio_bytes.specs.Cause.{Rose}
+use Rattle.nio_datagram.specs.Nets.{NoneFailed}
+use Rattle.nio_datagram.specs.Packets.{Packet, Traffic, bytes_of, heard_from, first_sender}
+use Rattle.nio_datagram.specs.Passing.{IsTo, heard_by}
+use Rattle.nio_datagram.specs.declared.net.Place.{Place}
+use Rattle.nio_datagram.specs.declared.net.Place.TheVariants.{Unbound, Bound, Closed}
+use Rattle.nio_datagram.specs.declared.serving.PacketPlan.{PacketPlan}
+use Rattle.nio_datagram.specs.declared.serving.PacketServeError.{PacketServeError}
+use Rattle.nio_datagram.specs.declared.serving.PacketServeError.TheVariants.{NetFault, Memory}
+use Rattle.nio_datagram.specs.declared.serving.PacketsServed.{PacketsServed}
+
+-- 1 to 1,000,000 packets
+pub record IsRelayable (plan : PacketPlan) : Type 0 where
+  pub some_packets : 1 ≤ plan.count
+  pub few_packets : plan.count ≤ 1000000
+
+-- the channel to which the client sends, and that to which the target answers
+abbrev pub front : ChanNo
+front = record { 0 = 0 }
+
+abbrev pub back : ChanNo
+back = record { 0 = 1 }
+
+-- ---- what was passed on
+
+-- the bytes of the packets from the client, who is the sender of the first one
+abbrev pub heard_first : List Packet → List (List ℕ)
+heard_first packets = heard_by (first_sender packets) packets
+
+-- these packets went to this address, and are what was heard, in its order, at most one fewer
+pub record IsPassedOn (to : Option Addr) (heard : List (List ℕ)) (went : List Packet) : Type 0 where
+  pub sent_to : All (IsTo to) went
+  pub rest : List (List ℕ)
+  pub order : bytes_of went ++ rest ≡ heard
+  pub at_most_one : length rest ≤ 1
+
+-- What was received from the client went to the target, in its order, but for at most one packet; the same of the
+-- target's packets and the client.
+pub record RelaysPackets (target : Addr) (traffic : ChanNo → Traffic) : Type 0 where
+  pub to_target : IsPassedOn (Some target) (heard_first (traffic front).came) (traffic back).went
+  pub to_client : IsPassedOn (first_sender (traffic front).came) (heard_from target (traffic back).came)
+      (traffic front).went
+
+-- ---- what is answered
+
+-- All packets of the plan were sent. The counts are how many went; that of the way back stops at its type's end. The
+-- channels were bound where the plan says.
+pub record HasRelayed (plan : PacketPlan) (traffic : ChanNo → Traffic) (place : ChanNo → Place) (served : PacketsServed)
+    : Type 0 where
+  pub all_went : length (traffic back).went ≡ plan.count
+  pub forth_count : served.forth ≡ plan.count
+  pub back_count : served.back ≡ min (length (traffic front).went) (2 ^ 32 - 1)
+  pub listened : place front ≡ Closed plan.listen
+  pub bound : place back ≡ Closed plan.local
+
+-- a poll failed, or a call on one of the two channels
+abbrev pub OneRose : (ChanNo → ℕ) → (ChanNo → ℕ) → ℕ → ℕ → Type 0
+OneRose before now polls_before polls_now =
+    Rose polls_before polls_now ⊎ (Rose (before front) (now front) ⊎ Rose (before back) (now back))
+
+-- none of these counts rose
+pub record NoneRose (before now : ChanNo → ℕ) (polls_before polls_now : ℕ) : Type 0 where
+  pub polls : Rose polls_before polls_now → ⊥
+  pub on_front : Rose (before front) (now front) → ⊥
+  pub on_back : Rose (before back) (now back) → ⊥
+
+-- what the call answers: all were sent, and nothing failed; or the net failed; or memory lacked
+abbrev pub Serves : PacketPlan → (ChanNo → Traffic) → (ChanNo → Place) → (ChanNo → ℕ) → (ChanNo → ℕ) → ℕ → ℕ
+    → Result PacketsServed PacketServeError → Type 0
+Serves plan traffic place before now polls_before polls_now (Ok served) =
+    HasRelayed plan traffic place served × NoneFailed before now polls_before polls_now
+Serves plan traffic place before now polls_before polls_now (Err NetFault) = OneRose before now polls_before polls_now
+Serves plan traffic place before now polls_before polls_now (Err Memory) = Unit {0}
+
+-- where no count rose, all were sent, or memory lacked
+abbrev pub ServesAllOr : PacketPlan → (ChanNo → Traffic) → (ChanNo → Place) → Result PacketsServed PacketServeError
+    → Type 0
+ServesAllOr plan traffic place (Ok served) = HasRelayed plan traffic place served
+ServesAllOr plan traffic place (Err NetFault) = ⊥
+ServesAllOr plan traffic place (Err Memory) = Unit {0}
+
+-- ---- what is left
+
+-- No socket is bound there. One that was, was bound to this address.
+abbrev pub IsLeft : Addr → Place → Type 0
+IsLeft wanted Unbound = Unit {0}
+IsLeft wanted (Bound at) = ⊥
+IsLeft wanted (Closed at) = at ≡ wanted
+
+-- At every end: nothing is bound, and each channel was bound to its address of the plan at most. Other channels are as
+-- they were. No count of faults fell.
+pub record LeavesNothing (plan : PacketPlan) (traffic0 traffic : ChanNo → Traffic) (place0 place : ChanNo → Place)
+    (before now : ChanNo → ℕ) (polls_before polls_now : ℕ) : Type 0 where
+  pub listened : IsLeft plan.listen (place front)
+  pub bound : IsLeft plan.local (place back)
+  pub other_traffic : (c : ChanNo) → c ≢ front → c ≢ back → traffic c ≡ traffic0 c
+  pub other_places : (c : ChanNo) → c ≢ front → c ≢ back → place c ≡ place0 c
+  pub other_faults : (c : ChanNo) → c ≢ front → c ≢ back → now c ≡ before c
+  pub later : (c : ChanNo) → before c ≤ now c
+  pub polls : polls_before ≤ polls_now

@@ -1,0 +1,7 @@
+//! A net of packets in memory, for tests.
+pub use memory_packets::{MemoryPackets, SendFailure};
+pub use side::SentPacket;
+
+mod finding;
+mod memory_packets;
+mod side;

@@ -1,0 +1,428 @@
+//! The net of packets in memory.
+ghost use Rattle.std.specs.Prelude.{◌≡◌, ◌≢◌, ◌↔◌, ◌⊎◌, ◌<◌, ◌≤◌, [], ◌∷◌, ◌++◌, true, false, None, Ok, Err, IfOk, IsErr};
+ghost use Rattle.std.specs.Prelude.{OnErr, OnOk, IsOk, IsTrue, Some, length, option_map, refl};
+ghost use Rattle.std.specs.List.{slice_get};
+ghost use Rattle.nio_base.specs.declared.numbers.ChanNo.{ChanNo};
+ghost use Rattle.nio_bytes.specs.Calls.{FailsNext};
+ghost use Rattle.nio_poller.specs.Polls.{CountsFaults, AddsPoll, told_of_channel};
+ghost use Rattle.nio_poller.specs.declared.poller.PollError.TheVariants.{Fault, Memory};
+ghost use Rattle.nio_select.specs.InProgress.{poll_of};
+ghost use Rattle.nio_datagram.specs.Packets.{no_traffic, IsCame};
+ghost use Rattle.nio_datagram.specs.Sides.{is_bound, receive_answer, receive_buffer, side_ready};
+ghost use Rattle.nio_datagram.specs.MemoryPackets.{side_at, planned, numbers_of, traffic_at, place_at, times, ready_told};
+ghost use Rattle.nio_datagram.specs.MemoryPackets.{told_pairs, if_some, faulted_after, findings_after, answer_of};
+ghost use Rattle.nio_datagram.specs.MemoryPackets.{sides_after_bind, sides_after_receive, sides_after_send};
+ghost use Rattle.nio_datagram.specs.MemoryPackets.{sides_after_close, bind_answer_at, after_bind, after_receive};
+ghost use Rattle.nio_datagram.specs.MemoryPackets.{after_sent, after_planned_send, after_lost_send, after_close};
+ghost use Rattle.nio_datagram.specs.MemoryPackets.{after_poll, after_lost_poll, KeepsPackets};
+ghost use Rattle.nio_datagram.specs.declared.memory.memory_packets.SendFailure.TheVariants as failure;
+ghost use Rattle.nio_datagram.specs.declared.net.Place.TheVariants as place_is;
+
+use crate::memory::finding::Finding;
+use crate::memory::side::{SentPacket, Side};
+use crate::net::{Came, LONGEST, PacketNet};
+use nio_base::{Addr, ChanNo, Ops};
+use nio_bytes::Calls;
+use nio_event::Mode;
+use nio_link::Failed;
+use nio_poller::{PollError, Poller};
+use nio_select::{Asked, Told};
+use nio_trace::{Reading, Trace};
+use std::alloc::{AllocError, Global};
+use std::marker::Model;
+use std::sync::Wait;
+use thiserror::Error;
+
+/// Why a packet couldn't be sent in memory.
+#[derive(Clone, Copy, Debug, PartialEq, Eq, Error)]
+pub enum SendFailure {
+    /// No socket stands there, or this send was to fail.
+    #[error("the send failed")]
+    Planned,
+    /// There is no memory to keep the packet.
+    #[error("out of memory")]
+    Memory,
+}
+
+/// A net of two channels, 0 and 1, whose packets are memory. A relay over it returns only where enough of the client's
+/// packets are planned, or a call fails or memory lacks.
+#[derive(Drop)]
+pub struct MemoryPackets {
+    alloc: Global,
+    sides: Vec<Side>,
+    sends: Calls,
+    faulted: Trace<ChanNo>,
+    findings: Trace<Finding>,
+}
+
+impl Model for MemoryPackets {
+    ghost use Rattle.nio_datagram.specs.MemoryPackets.{PacketsState};
+
+    ghost Value = { PacketsState };
+
+    ghost view = { λ n. record {
+      sides = n.sides.items;
+      sends = n.sends;
+      faulted = n.faulted;
+      findings = n.findings;
+    } };
+}
+
+// Counts a failure of a call on this channel.
+fn count<T>(faulted: &mut Trace<ChanNo>, chan: ChanNo, outcome: &Result<T, Failed>)
+    ensures { faulted.new ≡ faulted_after outcome.now chan faulted.old }
+{
+    if outcome.is_err() {
+        faulted.push(&chan);
+    }
+}
+
+// Logs that a receive found no packet, where `is_early` says that it did.
+fn log(findings: &mut Trace<Finding>, chan: ChanNo, is_early: bool)
+    ensures { findings.new ≡ findings_after is_early chan 1 findings.old }
+{
+    if is_early {
+        findings.push(&Finding::NotReady(chan, Ops::READ));
+    }
+}
+
+fn numbers(alloc: Global, number: Option<u64>) -> Result<Vec<u64>, AllocError>
+    ensures { IfOk result (λ list. list.items ≡ numbers_of number) }
+{
+    let mut list = Vec::new(alloc);
+    if let Some(number) = number {
+        list.push(number)?;
+    }
+    Ok(list)
+}
+
+fn is_bound_at(sides: &[Side], chan: ChanNo) -> bool
+    ensures bound { result ≡ is_bound (place_at sides.now chan) }
+    ensures inside { IsTrue result → chan.0 < length sides.now }
+{
+    let at = chan.0 as usize;
+    at < sides.len() && sides[at].is_bound()
+}
+
+fn bind_at(sides: &mut [Side], chan: ChanNo, at: Addr) -> Result<(), Failed>
+    ensures answer { result ≡ bind_answer_at sides.old chan }
+    ensures after { sides.new ≡ sides_after_bind sides.old chan at }
+{
+    let place = chan.0 as usize;
+    if place >= sides.len() {
+        return Err(Failed);
+    }
+    sides[place].bind(at)
+}
+
+fn receive_at(sides: &mut [Side], chan: ChanNo, into: &mut [u8]) -> Result<Came, Failed>
+    requires { LONGEST ≤ length into.old }
+    ensures answer { result ≡ receive_answer (side_at sides.old chan) }
+    ensures buffer { into.new ≡ receive_buffer (side_at sides.old chan) into.old }
+    ensures after { sides.new ≡ sides_after_receive sides.old chan }
+    ensures short { IfOk result IsCame }
+{
+    let at = chan.0 as usize;
+    if at >= sides.len() {
+        return Err(Failed);
+    }
+    sides[at].receive(into)
+}
+
+fn send_at(sides: &mut [Side], chan: ChanNo, packet: SentPacket) -> Result<(), AllocError>
+    requires { chan.0 < length sides.old }
+    ensures ok { OnOk result (sides.new ≡ sides_after_send sides.old chan packet) }
+    ensures err { OnErr result (sides.new ≡ sides.old) }
+{
+    sides[chan.0 as usize].send(packet)
+}
+
+fn close_at(sides: &mut [Side], chan: ChanNo)
+    ensures { sides.new ≡ sides_after_close sides.old chan }
+{
+    let at = chan.0 as usize;
+    if at < sides.len() {
+        sides[at].close();
+    }
+}
+
+// The packets that were sent on a channel.
+fn went_at(sides: &[Side], chan: ChanNo) -> &[SentPacket]
+    ensures { result.now ≡ (traffic_at sides.now chan).went }
+{
+    let at = chan.0 as usize;
+    if at >= sides.len() {
+        return &[];
+    }
+    sides[at].went()
+}
+
+// What a channel is ready for.
+fn ready_of(sides: &[Side], chan: ChanNo) -> Ops
+    ensures { result ≡ side_ready (side_at sides.now chan) }
+{
+    let at = chan.0 as usize;
+    if at >= sides.len() {
+        return Ops::NONE;
+    }
+    sides[at].ready()
+}
+
+// Tells of a key, where there is something to tell.
+fn tell_one(pairs: &mut Vec<(u32, Ops)>, index: u32, ops: Ops) -> Result<(), AllocError>
+    ensures { IfOk result (λ _. pairs.new.items ≡ pairs.old.items ++ if_some (index, ops)) }
+{
+    if ops.bits() != 0 {
+        pairs.push((index, ops))?;
+    }
+    Ok(())
+}
+
+// What a poll tells of these keys.
+fn tell(alloc: Global, sides: &[Side], asked: &Asked) -> Result<Vec<(u32, Ops)>, AllocError>
+    ensures { IfOk result (λ pairs. pairs.items ≡ told_pairs sides.now asked.now) }
+{
+    let mut pairs = Vec::new(alloc);
+    for at in 0..asked.len() {
+        let (index, chan, interest) = asked.entry(at);
+        let ops = ready_of(sides, chan).meet(interest);
+        tell_one(&mut pairs, index, ops)?;
+    }
+    Ok(pairs)
+}
+
+impl MemoryPackets {
+    /// A net with the channels 0 and 1. `front` are the packets that come to channel 0, `back` those of channel 1, each
+    /// with its sender. A packet is cut at 65,507 bytes. The send with the number `fail_send` fails, counted from 0 over
+    /// both channels.
+    pub fn make(
+        alloc: Global,
+        front: Vec<(Addr, Vec<u8>)>,
+        back: Vec<(Addr, Vec<u8>)>,
+        fail_send: Option<u64>,
+    ) -> Result<MemoryPackets, AllocError>
+        ensures planned { IfOk result (λ net. net ≡ planned front.items back.items fail_send) }
+        ensures fresh { IfOk result (λ net. (c : ChanNo) → traffic_at net.sides c ≡ no_traffic) }
+        ensures unbound { IfOk result (λ net. (c : ChanNo) → place_at net.sides c ≡ place_is.Unbound) }
+    {
+        Self::of_plan(alloc, front, back, fail_send)
+    }
+
+    fn of_plan(
+        alloc: Global,
+        front: Vec<(Addr, Vec<u8>)>,
+        back: Vec<(Addr, Vec<u8>)>,
+        fail_send: Option<u64>,
+    ) -> Result<MemoryPackets, AllocError>
+        ensures { IfOk result (λ net. net ≡ planned front.items back.items fail_send) }
+    {
+        let mut sides = Vec::new(alloc);
+        sides.push(Side::make(alloc, front))?;
+        sides.push(Side::make(alloc, back))?;
+        Ok(MemoryPackets {
+            alloc,
+            sides,
+            sends: Calls::new(numbers(alloc, fail_send)?),
+            faulted: Trace::new(),
+            findings: Trace::new(),
+        })
+    }
+
+    /// How many packets were sent on this channel.
+    pub fn went_len(&self, chan: ChanNo) -> usize
+        ensures { result ≡ length (traffic_at self.now.sides chan).went }
+    {
+        went_at(&self.sides, chan).len()
+    }
+
+    /// To whom a packet was sent, by its place among those that were sent on this channel.
+    pub fn went_to(&self, chan: ChanNo, at: usize) -> Addr
+        requires { at < length (traffic_at self.now.sides chan).went }
+        ensures { option_map (λ p. p.addr) (slice_get (traffic_at self.now.sides chan).went at) ≡ Some result }
+    {
+        went_at(&self.sides, chan)[at].to()
+    }
+
+    /// The bytes of that packet.
+    pub fn went_bytes(&self, chan: ChanNo, at: usize) -> &[u8]
+        requires { at < length (traffic_at self.now.sides chan).went }
+        ensures { option_map (λ p. p.bytes) (slice_get (traffic_at self.now.sides chan).went at) ≡ Some result.now }
+    {
+        went_at(&self.sides, chan)[at].bytes()
+    }
+
+    /// Binds as `PacketNet::bind_packets` does, at any time: it fails where the net hasn't got the channel, and where it
+    /// was bound before.
+    pub fn bind_socket(&mut self, chan: ChanNo, at: Addr) -> Result<(), Failed>
+        ensures answer { result ≡ bind_answer_at self.old.sides chan }
+        ensures after { self.new ≡ after_bind self.old chan at }
+    {
+        let result = bind_at(&mut self.sides, chan, at);
+        count(&mut self.faulted, chan, &result);
+        result
+    }
+
+    /// Receives as `PacketNet::receive` does, at any time: it fails where nothing is bound there.
+    pub fn receive_packet(&mut self, chan: ChanNo, into: &mut [u8]) -> Result<Came, Failed>
+        requires { LONGEST ≤ length into.old }
+        ensures answer { result ≡ receive_answer (side_at self.old.sides chan) }
+        ensures buffer { into.new ≡ receive_buffer (side_at self.old.sides chan) into.old }
+        ensures after { self.new ≡ after_receive self.old chan }
+        ensures short { IfOk result IsCame }
+    {
+        let result = receive_at(&mut self.sides, chan, into);
+        count(&mut self.faulted, chan, &result);
+        let is_early = matches!(&result, Ok(Came::NotYet));
+        log(&mut self.findings, chan, is_early);
+        result
+    }
+
+    /// Sends as `PacketNet::send` does, at any time: it fails where nothing is bound there, where the plan says so, and
+    /// where there is no memory to keep the packet.
+    pub fn send_packet(&mut self, chan: ChanNo, bytes: &[u8], to: Addr) -> Result<(), SendFailure>
+        ensures fails { result ≢ Err failure.Memory → ((result ≡ Err failure.Planned)
+            ↔ (FailsNext self.old.sends ⊎ (is_bound (place_at self.old.sides chan) ≡ false))) }
+        ensures ok { OnOk result (self.new
+            ≡ after_sent self.old chan (record { addr = to; bytes = bytes.now })) }
+        ensures failed { result ≡ Err failure.Planned → self.new ≡ after_planned_send self.old chan }
+        ensures lost { result ≡ Err failure.Memory → self.new ≡ after_lost_send self.old chan }
+        ensures inside { IsOk result → chan.0 < length self.old.sides }
+    {
+        let able = is_bound_at(&self.sides, chan);
+        if self.sends.next(able).is_err() {
+            self.faulted.push(&chan);
+            return Err(SendFailure::Planned);
+        }
+        let Ok(packet) = SentPacket::of(self.alloc, bytes, to) else {
+            self.faulted.push(&chan);
+            return Err(SendFailure::Memory);
+        };
+        let Ok(()) = send_at(&mut self.sides, chan, packet) else {
+            self.faulted.push(&chan);
+            return Err(SendFailure::Memory);
+        };
+        Ok(())
+    }
+
+    /// Closes the socket of a channel.
+    pub(crate) fn close_socket(&mut self, chan: ChanNo)
+        ensures { self.new ≡ after_close self.old chan }
+    {
+        close_at(&mut self.sides, chan);
+    }
+}
+
+impl Poller for MemoryPackets {
+    ghost use Rattle.std.proofs.Common.{◌∙◌};
+
+    ghost poll_faults = { λ _. 0 };
+
+    ghost ready = { λ s. ready_told s.findings };
+
+    ghost polls = { λ _. None };
+
+    ghost kept = { KeepsPackets };
+
+    fn poll<R: Wait>(
+        &mut self,
+        _rt: &R,
+        alloc: Global,
+        asked: &Asked,
+        mode: Mode,
+    ) -> Result<Told, PollError>
+        // As every poller.
+        ensures cause { CountsFaults Fault 0 0 result }
+        ensures ready { IfOk result (λ told. (c : ChanNo)
+            → ready_told self.new.findings c ≡ told_of_channel asked.now told.pairs.items c) }
+        ensures unready { OnErr result ((c : ChanNo) → ready_told self.new.findings c ≡ 0) }
+        ensures polls { AddsPoll None None asked.now mode result }
+        ensures kept { KeepsPackets self.old self.new }
+
+        // By its packets.
+        ensures never { result ≢ Err Fault }
+        ensures answer { IfOk result (λ told. poll_of told ≡ answer_of (told_pairs self.old.sides asked.now)) }
+        ensures ok { IfOk result (λ told. self.new
+            ≡ after_poll self.old (record { asked = asked.now; mode = mode; answer = poll_of told })) }
+        ensures lost { OnErr result (self.new ≡ after_lost_poll self.old) }
+    {
+        let Ok(pairs) = tell(alloc, &self.sides, asked) else {
+            self.findings.push(&Finding::Untold);
+            return Err(PollError::Memory);
+        };
+        let told = Told {
+            elapsed: pairs.is_empty(),
+            pairs,
+        };
+        self.findings
+            .extend_from::<PollAnswer, OnePoll>(&PollAnswer {
+                asked,
+                mode,
+                told: &told,
+            });
+        Ok(told)
+    }
+
+    ghost kept_same = { λ s. record { sides = refl; faulted = refl } };
+
+    ghost kept_on = { λ x y z first second. record {
+      sides = second.sides ∙ first.sides;
+      faulted = second.faulted ∙ first.faulted;
+    } };
+}
+
+#[derive(Clone, Copy)]
+struct PollAnswer<'a> {
+    asked: &'a Asked,
+    mode: Mode,
+    told: &'a Told,
+}
+
+/// Reads a poll off its answer.
+struct OnePoll;
+
+impl<'a> Reading<PollAnswer<'a>, Finding> for OnePoll {
+    ghost use Rattle.std.specs.Prelude.{[], ◌∷◌};
+    ghost use Rattle.nio_datagram.specs.declared.memory.finding.Finding.TheVariants.{Told as WasTold};
+    ghost use Rattle.nio_select.specs.InProgress.{poll_of};
+
+    ghost items = { λ answer. WasTold (record {
+      asked = answer.asked.now;
+      mode = answer.mode;
+      answer = poll_of answer.told.now;
+    }) ∷ [] };
+}
+
+impl PacketNet for MemoryPackets {
+    ghost use Rattle.std.proofs.Common.{ap};
+
+    ghost traffic = { λ s. traffic_at s.sides };
+
+    ghost packet_faults = { λ s. times s.faulted };
+
+    ghost place = { λ s. place_at s.sides };
+
+    fn bind_packets(&mut self, chan: ChanNo, at: Addr) -> Result<(), Failed> {
+        self.bind_socket(chan, at)
+    }
+
+    fn receive(&mut self, chan: ChanNo, into: &mut [u8]) -> Result<Came, Failed> {
+        self.receive_packet(chan, into)
+    }
+
+    fn send(&mut self, chan: ChanNo, bytes: &[u8], to: Addr) -> Result<bool, Failed> {
+        match self.send_packet(chan, bytes, to) {
+            Ok(()) => Ok(true),
+            Err(_failure) => Err(Failed),
+        }
+    }
+
+    fn close_packets(&mut self, chan: ChanNo) {
+        self.close_socket(chan);
+    }
+
+    ghost kept_traffic = { λ x y kept c. ap (λ sides. traffic_at sides c) kept.sides };
+
+    ghost kept_faults = { λ x y kept c. ap (λ faulted. times faulted c) kept.faulted };
+
+    ghost kept_places = { λ x y kept c. ap (λ sides. place_at sides c) kept.sides };
+}

@@ -1,0 +1,279 @@
+//! Relaying packets.
+ghost use Rattle.std.specs.Prelude.{◌≡◌, ◌<◌, ◌≤◌, ◌⊎◌, Err, OnOk};
+ghost use Rattle.nio_bytes.specs.Cause.{Rose};
+ghost use Rattle.nio_serve.specs.Board.{AreReady};
+ghost use Rattle.nio_words.specs.Passes.{IsFirstPass};
+ghost use Rattle.nio_datagram.specs.Nets.{view_by, NoneFailed};
+ghost use Rattle.nio_datagram.specs.Packets.{no_traffic};
+ghost use Rattle.nio_datagram.specs.Relaying.{fresh_relay, IsDone, IsRelaying, Moves, Ran};
+ghost use Rattle.nio_datagram.specs.Serving.{front, back, IsRelayable, LeavesNothing, NoneRose, OneRose, RelaysPackets};
+ghost use Rattle.nio_datagram.specs.Serving.{Serves, ServesAllOr};
+ghost use Rattle.nio_datagram.specs.declared.net.Place.TheVariants as place_is;
+ghost use Rattle.nio_datagram.specs.declared.serving.PacketServeError.TheVariants.{NetFault};
+
+use crate::net::PacketNet;
+use crate::relay::Relay;
+use crate::watching::{Watched, select, set, told_of, watch};
+use nio_base::{Addr, CallerNo, ChanNo, Limits, Ops};
+use nio_poller::PollError;
+use nio_serve::{Board, Refused};
+use nio_words::{Pass, Words};
+use std::alloc::Global;
+use std::sync::Wait;
+use thiserror::Error;
+
+/// What a relay of packets is to do.
+#[derive(Clone, Copy, Debug, PartialEq, Eq)]
+pub struct PacketPlan {
+    /// Where the client's packets come.
+    pub listen: Addr,
+    /// The address from which packets are sent to the target, and at which its answers come.
+    pub local: Addr,
+    /// The target.
+    pub target: Addr,
+    /// How many packets of the client are sent on.
+    pub count: u32,
+}
+
+/// How many packets a relay has sent.
+#[derive(Clone, Copy, Debug, PartialEq, Eq)]
+pub struct PacketsServed {
+    /// To the target.
+    pub forth: u32,
+    /// To the client. The count stops at its type's end.
+    pub back: u32,
+}
+
+/// Why a relay ended before all packets were sent.
+#[derive(Clone, Copy, Debug, PartialEq, Eq, Error)]
+pub enum PacketServeError {
+    /// A poll failed, or a call on one of the two channels.
+    #[error("the net failed")]
+    NetFault,
+    /// There is no memory, or the relay's own table refused a call.
+    #[error("out of memory")]
+    Memory,
+}
+
+const LIMITS: Limits = Limits {
+    callers: 1,
+    selectors: 1,
+    channels: 2,
+    keys: 2,
+};
+
+/// The caller that makes the calls.
+const ME: CallerNo = CallerNo(0);
+
+/// The channel to which the client sends.
+const FRONT: ChanNo = ChanNo(0);
+
+/// The channel to which the target answers.
+const BACK: ChanNo = ChanNo(1);
+
+// The board of the first caller of a new table. Nothing refuses it, since the limits have a caller and a selector.
+fn open_board<'a>(words: &'a Words, pass: Pass) -> Result<Board<'a>, Refused>
+    requires { IsFirstPass words.now pass }
+{
+    let mut pass = pass;
+    match words.draw(&mut pass, ME) {
+        Ok(()) => Board::open(words, pass, ME),
+        Err(_error) => Err(Refused),
+    }
+}
+
+/// What a relay serves by: a board on which both of its channels are watched.
+#[derive(Drop)]
+struct Server<'a> {
+    board: Board<'a>,
+    front: Watched,
+    back: Watched,
+}
+
+impl<'a> Server<'a> {
+    fn open<R: Wait>(rt: &R, board: Board<'a>) -> Result<Server<'a>, Refused> {
+        let mut board = board;
+        let front = watch(&mut board, rt, FRONT)?;
+        let back = watch(&mut board, rt, BACK)?;
+        Ok(Server { board, front, back })
+    }
+
+    // Watches both channels for what the relay can use.
+    fn watch(&mut self, relay: &Relay) -> Result<(), Refused> {
+        set(&mut self.board, &mut self.front, relay.front_interest())?;
+        set(&mut self.board, &mut self.back, relay.back_interest())
+    }
+
+    // One turn: one selection, and both directions as far as it told them ready.
+    fn turn<R: Wait, N: PacketNet>(
+        &mut self,
+        rt: &R,
+        alloc: Global,
+        net: &mut N,
+        relay: &mut Relay,
+        told: &mut Vec<(ChanNo, Ops)>,
+        count: u32,
+    ) -> Result<(), PacketServeError>
+        requires relaying { IsRelaying relay.old
+            (view_by N.traffic N.packet_faults N.place N.ready N.poll_faults net.old) }
+        ensures relaying { IsRelaying relay.new
+            (view_by N.traffic N.packet_faults N.place N.ready N.poll_faults net.new) }
+        ensures server { relay.new.back.peer ≡ relay.old.back.peer }
+        ensures moves { Moves (view_by N.traffic N.packet_faults N.place N.ready N.poll_faults net.old)
+            (view_by N.traffic N.packet_faults N.place N.ready N.poll_faults net.new) }
+        ensures count { relay.old.forth.sent < count → relay.new.forth.sent ≤ count }
+        ensures still { OnOk result (NoneFailed (N.packet_faults net.old) (N.packet_faults net.new)
+            (N.poll_faults net.old) (N.poll_faults net.new)) }
+        ensures cause { result ≡ Err NetFault → OneRose (N.packet_faults net.old) (N.packet_faults net.new)
+            (N.poll_faults net.old) (N.poll_faults net.new) }
+    {
+        if self.watch(relay).is_err() {
+            return Err(PacketServeError::Memory);
+        }
+        match select(&mut self.board, rt, alloc, net, told) {
+            Ok(()) => pass_told(net, relay, told, count),
+            Err(PollError::Fault) => Err(PacketServeError::NetFault),
+            Err(PollError::Memory) => Err(PacketServeError::Memory),
+        }
+    }
+
+    // Binds channel 0 to `plan.listen` and channel 1 to `plan.local`, and serves until `plan.count` packets have gone to
+    // the target.
+    fn serve<R: Wait, N: PacketNet>(
+        &mut self,
+        rt: &R,
+        alloc: Global,
+        net: &mut N,
+        relay: &mut Relay,
+        plan: PacketPlan,
+    ) -> Result<(), PacketServeError>
+        requires plan { IsRelayable plan }
+        requires fresh { relay.old ≡ fresh_relay }
+        requires front_unused { N.traffic net.old front ≡ no_traffic }
+        requires back_unused { N.traffic net.old back ≡ no_traffic }
+        requires front_unbound { N.place net.old front ≡ place_is.Unbound }
+        requires back_unbound { N.place net.old back ≡ place_is.Unbound }
+        ensures ran { Ran plan relay.new (view_by N.traffic N.packet_faults N.place N.ready N.poll_faults net.old)
+            (view_by N.traffic N.packet_faults N.place N.ready N.poll_faults net.new) }
+        ensures done { OnOk result (IsDone plan relay.new
+            (view_by N.traffic N.packet_faults N.place N.ready N.poll_faults net.new)) }
+        ensures still { OnOk result (NoneFailed (N.packet_faults net.old) (N.packet_faults net.new)
+            (N.poll_faults net.old) (N.poll_faults net.new)) }
+        ensures cause { result ≡ Err NetFault → OneRose (N.packet_faults net.old) (N.packet_faults net.new)
+            (N.poll_faults net.old) (N.poll_faults net.new) }
+    {
+        if relay.open(net, plan).is_err() {
+            return Err(PacketServeError::NetFault);
+        }
+        self.run(rt, alloc, net, relay, plan.count)
+    }
+
+    // Serves until `count` packets have gone to the target.
+    fn run<R: Wait, N: PacketNet>(
+        &mut self,
+        rt: &R,
+        alloc: Global,
+        net: &mut N,
+        relay: &mut Relay,
+        count: u32,
+    ) -> Result<(), PacketServeError>
+        requires relaying { IsRelaying relay.old
+            (view_by N.traffic N.packet_faults N.place N.ready N.poll_faults net.old) }
+        requires count { relay.old.forth.sent ≤ count }
+        ensures relaying { IsRelaying relay.new
+            (view_by N.traffic N.packet_faults N.place N.ready N.poll_faults net.new) }
+        ensures server { relay.new.back.peer ≡ relay.old.back.peer }
+        ensures moves { Moves (view_by N.traffic N.packet_faults N.place N.ready N.poll_faults net.old)
+            (view_by N.traffic N.packet_faults N.place N.ready N.poll_faults net.new) }
+        ensures all { OnOk result (relay.new.forth.sent ≡ count) }
+        ensures still { OnOk result (NoneFailed (N.packet_faults net.old) (N.packet_faults net.new)
+            (N.poll_faults net.old) (N.poll_faults net.new)) }
+        ensures cause { result ≡ Err NetFault → OneRose (N.packet_faults net.old) (N.packet_faults net.new)
+            (N.poll_faults net.old) (N.poll_faults net.new) }
+    {
+        let mut told = Vec::new(alloc);
+        for _ in rt.forever() {
+            if relay.forth.sent() == count {
+                return Ok(());
+            }
+            let turned = self.turn(rt, alloc, net, relay, &mut told, count);
+            if turned.is_err() {
+                return turned;
+            }
+        }
+        unreachable!()
+    }
+}
+
+// Passes packets on, as far as a selection told the channels ready.
+fn pass_told<N: PacketNet>(
+    net: &mut N,
+    relay: &mut Relay,
+    told: &[(ChanNo, Ops)],
+    count: u32,
+) -> Result<(), PacketServeError>
+    requires ready { AreReady (N.ready net.old) told.now }
+    requires relaying { IsRelaying relay.old
+        (view_by N.traffic N.packet_faults N.place N.ready N.poll_faults net.old) }
+    ensures relaying { IsRelaying relay.new
+        (view_by N.traffic N.packet_faults N.place N.ready N.poll_faults net.new) }
+    ensures server { relay.new.back.peer ≡ relay.old.back.peer }
+    ensures moves { Moves (view_by N.traffic N.packet_faults N.place N.ready N.poll_faults net.old)
+        (view_by N.traffic N.packet_faults N.place N.ready N.poll_faults net.new) }
+    ensures count { relay.old.forth.sent < count → relay.new.forth.sent ≤ count }
+    ensures still { OnOk result (NoneFailed (N.packet_faults net.old) (N.packet_faults net.new)
+        (N.poll_faults net.old) (N.poll_faults net.new)) }
+    ensures cause { result ≡ Err NetFault → Rose (N.packet_faults net.old front) (N.packet_faults net.new front)
+        ⊎ Rose (N.packet_faults net.old back) (N.packet_faults net.new back) }
+{
+    match relay.pass_both(net, told_of(told, FRONT), told_of(told, BACK), count) {
+        Ok(()) => Ok(()),
+        Err(_error) => Err(PacketServeError::NetFault),
+    }
+}
+
+/// Relays packets between a client and a target, until `plan.count` packets of the client were sent on. Binds channel 0
+/// to `plan.listen` and channel 1 to `plan.local`. Sends to the target from channel 1. The client is the sender of the
+/// first packet; others' packets are dropped. Each direction holds at most one packet. At every end both sockets are closed. `Memory`
+/// is also answered where the relay's own table refuses a call.
+pub fn serve_packets<R: Wait, N: PacketNet>(
+    rt: &R,
+    alloc: Global,
+    net: &mut N,
+    plan: PacketPlan,
+) -> Result<PacketsServed, PacketServeError>
+    requires plan { IsRelayable plan }
+    requires front_unused { N.traffic net.old front ≡ no_traffic }
+    requires back_unused { N.traffic net.old back ≡ no_traffic }
+    requires front_unbound { N.place net.old front ≡ place_is.Unbound }
+    requires back_unbound { N.place net.old back ≡ place_is.Unbound }
+    ensures relays { RelaysPackets plan.target (N.traffic net.new) }
+    ensures serves { Serves plan (N.traffic net.new) (N.place net.new) (N.packet_faults net.old)
+        (N.packet_faults net.new) (N.poll_faults net.old) (N.poll_faults net.new) result }
+    ensures complete { NoneRose (N.packet_faults net.old) (N.packet_faults net.new) (N.poll_faults net.old)
+        (N.poll_faults net.new) → ServesAllOr plan (N.traffic net.new) (N.place net.new) result }
+    ensures leaves { LeavesNothing plan (N.traffic net.old) (N.traffic net.new) (N.place net.old) (N.place net.new)
+        (N.packet_faults net.old) (N.packet_faults net.new) (N.poll_faults net.old) (N.poll_faults net.new) }
+{
+    let Ok((words, pass)) = Words::make(alloc, LIMITS) else {
+        return Err(PacketServeError::Memory);
+    };
+    let Ok(board) = open_board(&words, pass) else {
+        return Err(PacketServeError::Memory);
+    };
+    let Ok(mut server) = Server::open(rt, board) else {
+        return Err(PacketServeError::Memory);
+    };
+    let Ok(mut relay) = Relay::make(alloc, FRONT, BACK) else {
+        return Err(PacketServeError::Memory);
+    };
+    let served = server.serve(rt, alloc, net, &mut relay, plan);
+    relay.close(net);
+    match served {
+        Ok(()) => Ok(PacketsServed {
+            forth: relay.forth.sent(),
+            back: relay.backward.sent(),
+        }),
+        Err(error) => Err(error),
+    }
+}

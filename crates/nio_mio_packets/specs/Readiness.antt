@@ -1,0 +1,13 @@
+-- What the last poll told, as far as no call has found otherwise since.
+use Rattle.std.specs.Prelude.{ℕ, ◌==◌, if◌then◌else◌, List, fold}
+use Rattle.nio_base.specs.declared.numbers.ChanNo.{ChanNo}
+use Rattle.nio_link.specs.Readiness.{without}
+use Rattle.nio_mio_packets.specs.declared.readiness.Readiness.{Readiness}
+use Rattle.nio_poller.specs.Scripts.{last_told}
+
+-- without what was taken of this channel
+abbrev pub left_of : ChanNo → ℕ → List (ChanNo × ℕ) → ℕ
+left_of c bits taken = fold (λ left one. if one.0.0 == c.0 then without one.1 left else left) bits taken
+
+abbrev pub ready_of : Readiness → ChanNo → ℕ
+ready_of r c = left_of c (last_told r.last c) r.taken

@@ -1,0 +1,176 @@
+//! The net over sockets.
+ghost use Rattle.std.specs.Prelude.{◌≡◌, IfOk};
+
+use crate::counts::{Counts, raise};
+use crate::readiness::Readiness;
+use crate::side::{Side, add, new_sides};
+use crate::sockets::Sockets;
+use nio_base::{Addr, ChanNo, Ops};
+use nio_datagram::{Came, PacketNet, Place};
+use nio_event::Mode;
+use nio_link::Failed;
+use nio_poller::{PollError, Poller};
+use nio_select::{Asked, Told};
+use std::alloc::{AllocError, Global};
+use std::net::Net as System;
+use std::sync::Wait;
+use std::time::Clock;
+
+/// A net of UDP sockets over IPv4, for as many channels as it was made for, numbered from 0. It has no bell: only
+/// packets end a wait. On another number `bind_packets`, `receive` and `send` fail.
+#[derive(Drop)]
+pub struct MioPackets<S> {
+    system: S,
+    sockets: Sockets,
+    readiness: Readiness,
+    poll_faults: u64,
+    counts: Counts,
+    sides: Vec<Side>,
+}
+
+impl<S: System + Clock + Copy> MioPackets<S> {
+    ghost use Rattle.nio_mio_packets.specs.Counts.{IsFaultless};
+    ghost use Rattle.nio_mio_packets.specs.Sides.{IsFresh};
+
+    /// A net without sockets. Where the system refuses a poll object, each call of the net that can fail fails.
+    pub fn make(system: S, alloc: Global, channels: usize) -> Result<MioPackets<S>, AllocError>
+        ensures fresh { IfOk result IsFresh }
+        ensures faultless { IfOk result IsFaultless }
+    {
+        let sides = new_sides(alloc, channels)?;
+        let sockets = Sockets::make(&system, alloc, channels)?;
+        let counts = Counts::make(alloc, channels)?;
+        Ok(MioPackets {
+            system,
+            sockets,
+            readiness: Readiness::new(),
+            poll_faults: 0,
+            counts,
+            sides,
+        })
+    }
+}
+
+impl<S: System + Clock + Copy> Poller for MioPackets<S> {
+    ghost use Rattle.std.specs.Prelude.{Some, refl};
+    ghost use Rattle.std.proofs.Common.{◌∙◌};
+    ghost use Rattle.nio_mio_packets.specs.Readiness.{ready_of};
+
+    ghost poll_faults = { λ m. m.poll_faults };
+
+    ghost ready = { λ m. ready_of m.readiness };
+
+    ghost polls = { λ m. Some m.readiness.polls };
+
+    // The counts stay, and what was carried and stands.
+    ghost kept = { λ x y. (y.counts ≡ x.counts) × (y.sides ≡ x.sides) };
+
+    fn poll<R: Wait>(
+        &mut self,
+        rt: &R,
+        alloc: Global,
+        asked: &Asked,
+        mode: Mode,
+    ) -> Result<Told, PollError> {
+        match self.sockets.wait(rt, &self.system, asked, mode) {
+            Ok(elapsed) => match self.sockets.tell(alloc, asked, elapsed) {
+                Ok(told) => {
+                    self.readiness.answered(asked, mode, &told);
+                    Ok(told)
+                }
+                Err(AllocError) => {
+                    self.readiness.failed();
+                    Err(PollError::Memory)
+                }
+            },
+            Err(Failed) => {
+                self.readiness.failed();
+                raise(&mut self.poll_faults);
+                Err(PollError::Fault)
+            }
+        }
+    }
+
+    ghost kept_same = { λ x. (refl, refl) };
+
+    ghost kept_on = { λ x y z h k. (k.0 ∙ h.0, k.1 ∙ h.1) };
+}
+
+impl<S: System + Clock + Copy> PacketNet for MioPackets<S> {
+    ghost use Rattle.std.proofs.Common.{ap};
+    ghost use Rattle.nio_mio_packets.specs.Counts.{count_of};
+    ghost use Rattle.nio_mio_packets.specs.Sides.{traffic_at as traffic_there, place_at as place_there};
+
+    ghost traffic = { λ m. traffic_there m.sides.items };
+
+    ghost packet_faults = { λ m. count_of m.counts };
+
+    ghost place = { λ m. place_there m.sides.items };
+
+    fn bind_packets(&mut self, chan: ChanNo, at: Addr) -> Result<(), Failed> {
+        let place = chan.0 as usize;
+        if place >= self.sides.len() {
+            return Err(self.counts.fail(chan));
+        }
+        match self.sockets.bind(&self.system, chan, at) {
+            Ok(()) => {
+                self.sides[place].place = Place::Bound(at);
+                Ok(())
+            }
+            Err(Failed) => Err(self.counts.fail(chan)),
+        }
+    }
+
+    fn receive(&mut self, chan: ChanNo, into: &mut [u8]) -> Result<Came, Failed> {
+        let place = chan.0 as usize;
+        if place >= self.sides.len() {
+            return Err(self.counts.fail(chan));
+        }
+        match self.sockets.receive(chan, into) {
+            Ok(Came::Packet { len, from }) => {
+                add(&mut self.sides[place].came, from, &into[..len]);
+                Ok(Came::Packet { len, from })
+            }
+            Ok(Came::NotYet) => {
+                self.readiness.take(chan, Ops::READ);
+                Ok(Came::NotYet)
+            }
+            Err(Failed) => Err(self.counts.fail(chan)),
+        }
+    }
+
+    fn send(&mut self, chan: ChanNo, bytes: &[u8], to: Addr) -> Result<bool, Failed> {
+        let place = chan.0 as usize;
+        if place >= self.sides.len() {
+            return Err(self.counts.fail(chan));
+        }
+        match self.sockets.send(chan, bytes, to) {
+            Ok(true) => {
+                add(&mut self.sides[place].went, to, bytes);
+                Ok(true)
+            }
+            Ok(false) => {
+                self.readiness.take(chan, Ops::WRITE);
+                Ok(false)
+            }
+            Err(Failed) => Err(self.counts.fail(chan)),
+        }
+    }
+
+    fn close_packets(&mut self, chan: ChanNo) {
+        self.sockets.close(chan);
+        let place = chan.0 as usize;
+        if place >= self.sides.len() {
+            return;
+        }
+        if let Place::Bound(at) = self.sides[place].place {
+            self.sides[place].place = Place::Closed(at);
+        }
+    }
+
+    ghost kept_traffic = { λ x y h c. ap (λ sides. traffic_there sides.items c) h.1 };
+
+    ghost kept_faults = { λ x y h c. ap (λ counts. count_of counts c) h.0 };
+
+    ghost kept_places = { λ x y h c. ap (λ sides. place_there sides.items c) h.1 };
+}

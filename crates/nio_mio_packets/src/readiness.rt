@@ -1,0 +1,86 @@
+//! What the last poll told, as far as no call has found otherwise since. It exists in proofs alone.
+ghost use Rattle.std.specs.Prelude.{◌≡◌};
+ghost use Rattle.nio_base.specs.declared.numbers.ChanNo.{ChanNo as Channel};
+ghost use Rattle.nio_link.specs.Links.{IsSameBut};
+ghost use Rattle.nio_link.specs.Readiness.{without};
+ghost use Rattle.nio_poller.specs.Polls.{told_of_channel};
+
+use nio_base::{ChanNo, Ops};
+use nio_event::Mode;
+use nio_poller::ToldPoll;
+use nio_select::{Asked, Told};
+use nio_trace::{Reading, Trace};
+
+/// The polls that answered; the last poll, where it answered; and which operations calls have found not ready since.
+#[derive(Drop)]
+pub(crate) struct Readiness {
+    polls: Trace<ToldPoll>,
+    last: Trace<ToldPoll>,
+    taken: Trace<(ChanNo, Ops)>,
+}
+
+impl Readiness {
+    ghost use Rattle.std.specs.Prelude.{◌++◌, [], ◌∷◌};
+    ghost use Rattle.nio_select.specs.InProgress.{poll_of};
+    ghost use Rattle.nio_mio_packets.specs.Readiness.{ready_of};
+
+    pub(crate) fn new() -> Readiness {
+        Readiness {
+            polls: Trace::new(),
+            last: Trace::new(),
+            taken: Trace::new(),
+        }
+    }
+
+    /// A poll answered.
+    pub(crate) fn answered(&mut self, asked: &Asked, mode: Mode, told: &Told)
+        ensures polls { self.new.polls
+            ≡ self.old.polls ++ record { asked = asked.now; mode = mode; answer = poll_of told.now } ∷ [] }
+        ensures ready { (c : Channel) → ready_of self.new c ≡ told_of_channel asked.now told.now.pairs.items c }
+    {
+        let answer = Answer { asked, mode, told };
+        self.polls.extend_from::<Answer, OnePoll>(&answer);
+        self.last = Trace::new();
+        self.last.extend_from::<Answer, OnePoll>(&answer);
+        self.taken = Trace::new();
+    }
+
+    /// A poll failed.
+    pub(crate) fn failed(&mut self)
+        ensures polls { self.new.polls ≡ self.old.polls }
+        ensures unready { (c : Channel) → ready_of self.new c ≡ 0 }
+    {
+        self.last = Trace::new();
+        self.taken = Trace::new();
+    }
+
+    /// A call found the channel not ready for the operation.
+    pub(crate) fn take(&mut self, chan: ChanNo, op: Ops)
+        ensures polls { self.new.polls ≡ self.old.polls }
+        ensures taken { ready_of self.new chan ≡ without op (ready_of self.old chan) }
+        ensures others { IsSameBut chan (ready_of self.old) (ready_of self.new) }
+    {
+        self.taken.push(&(chan, op));
+    }
+}
+
+#[derive(Clone, Copy)]
+struct Answer<'a> {
+    asked: &'a Asked,
+    mode: Mode,
+    told: &'a Told,
+}
+
+/// Reads a poll off its answer.
+struct OnePoll;
+
+impl<'a> Reading<Answer<'a>, ToldPoll> for OnePoll {
+    ghost use Rattle.std.specs.Prelude.{[], ◌∷◌};
+    ghost use Rattle.nio_select.specs.InProgress.{poll_of};
+
+    ghost items = { λ answer. record {
+      asked = answer.asked.now;
+      mode = answer.mode;
+      answer = poll_of answer.told.now;
+    } ∷ [] };
+}
