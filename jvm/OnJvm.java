@@ -311,8 +311,8 @@ class Stream extends Channel {
             stream.read(ByteBuffer.allocate(1));
             isFed = false;
         }
-        // what the peer took frees places for a while yet
-        for (int quiet = 0, turn = 0; quiet < 5 && turn < 100; turn++) {
+        // what the peer took frees places until it is acknowledged, which a system may put off for 40 ms
+        for (int quiet = 0, turn = 0; quiet < 60 && turn < 600; turn++) {
             quiet = stream.write(ByteBuffer.wrap(BLOCK)) > 0 ? 0 : quiet + 1;
             pause();
         }
@@ -1073,10 +1073,11 @@ class Run {
         }
         checkTold(chosen, selection, told);
         checkAlways(chosen, told);
-        if (selection.hasBegun && caller.hasEnded(0) && !told.isEmpty()) {
+        boolean wasInterrupted = caller.isToBeInterrupted();
+        boolean isOver = chosen.isWoken || wasInterrupted || chosen.closer >= 0;
+        if (selection.hasBegun && !told.isEmpty() && caller.hasEnded(isOver ? 10_000 : 0)) {
             throw new Stop("the real selection ended before its line");
         }
-        boolean wasInterrupted = caller.isToBeInterrupted();
         for (Map.Entry<Key, Integer> entry : told.entrySet()) {
             int looked = entry.getValue() & selection.looked.get(entry.getKey());
             int fed = looked & ~entry.getKey().channel.always();
@@ -1087,7 +1088,9 @@ class Run {
         if (!selection.hasBegun) {
             start(caller, chosen, selection);
         }
-        boolean hasEnded = caller.hasEnded(selection.mayElapse ? selection.ms + 1000 : PATIENCE);
+        boolean isTold = told.entrySet().stream().anyMatch(it -> (it.getValue() & selection.looked.get(it.getKey())) != 0);
+        boolean isToEnd = isTold || isOver || selection.mode.equals("now");
+        boolean hasEnded = caller.hasEnded(selection.mayElapse ? selection.ms + 1000 : isToEnd ? 10_000 : PATIENCE);
         for (Key key : told.keySet()) {
             key.channel.clear();
         }
