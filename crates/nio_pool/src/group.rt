@@ -6,10 +6,12 @@ ghost use Rattle.nio_group.specs.Limits.{IsFit};
 ghost use Rattle.nio_pool.specs.Threads.{IsThreadCount};
 ghost use Rattle.nio_pool.specs.declared.group.GroupError.TheVariants.{BadThreads};
 
+use crate::ended::{Ended, OwnSlate};
 use crossbeam_utils::CachePadded;
+use nio_base::OpNo;
 use nio_group::{GroupCore, GroupLimits};
-use std::alloc::Global;
-use std::sync::atomic::{AtomicU64, Ordering};
+use std::alloc::{AllocError, Global};
+use std::sync::atomic::{AtomicBool, AtomicU64, Ordering};
 use std::sync::{Condvar, Mutex, MutexGuard, Wait};
 use thiserror::Error;
 
@@ -28,12 +30,25 @@ pub enum GroupError {
 #[derive(Drop)]
 pub struct Group {
     core: CachePadded<Mutex<GroupCore>>,
+    // operations whose handlers have ended and that still run by the core
+    handled: Ended,
+    rest: CachePadded<Rest>,
+}
+
+/// Who sleeps until something happens in a group. A worker sleeps only where neither the core nor the queue has a
+/// completion; who adds one then calls it. One worker at a time is called: it looks at both before it sleeps again, and
+/// calls the next one where it leaves something.
+#[derive(Drop)]
+struct Rest {
     // what workers sleep on
     changed: Condvar,
     // what `await_termination` sleeps on
     ended: Condvar,
-    // how many sleep on either. Who is about to sleep adds itself under the lock
+    // How many workers sleep, and whether one of them was called and hasn't come yet. Both change under the lock alone.
     asleep: AtomicU64,
+    called: AtomicBool,
+    // how many wait for termination
+    waiting: AtomicU64,
 }
 
 impl Group {
@@ -45,61 +60,92 @@ impl Group {
         if threads < 1 || 64 < threads {
             return Err(GroupError::BadThreads);
         }
-        let Ok(core) = GroupCore::make(alloc, limits) else {
+        let Ok(group) = Group::make_for(alloc, threads as usize, limits) else {
             return Err(GroupError::Memory);
         };
+        Ok(group)
+    }
+
+    fn make_for(alloc: Global, threads: usize, limits: GroupLimits) -> Result<Group, AllocError>
+        requires { IsFit limits }
+    {
+        let core = GroupCore::make(alloc, limits)?;
+        let handled = Ended::make(alloc, threads)?;
         Ok(Group {
             core: CachePadded::new(Mutex::new(core)),
-            changed: Condvar::new(),
-            ended: Condvar::new(),
-            asleep: AtomicU64::new(0),
+            handled,
+            rest: CachePadded::new(Rest::new()),
         })
     }
 
-    /// Lends the group's core. After a call that queues completions or ends the group, let the core go and call
-    /// `wake`.
+    /// Lends the group's core. Each operation has ended there whose handler's return a worker had noted, so it doesn't
+    /// count as one in flight; `work` notes it as soon as the handler has returned. After a call that queues completions
+    /// or ends the group, let the core go and call `wake`.
     pub fn lock<R: Wait>(&self, rt: &R) -> MutexGuard<'_, GroupCore>
         ensures { IsLawful (mutex_guard_value result) }
     {
-        let core = self.core.lock(rt);
+        let mut core = self.core.lock(rt);
+        self.handled.finish_all(&mut core);
         core.law();
         core
     }
 
-    /// Wakes a worker that sleeps; where the group has terminated, everyone who sleeps.
+    /// Wakes a worker that sleeps, unless one was called and is on its way; where the group has terminated, everyone
+    /// who sleeps.
     pub fn wake<R: Wait>(&self, rt: &R) {
-        if self.asleep.load(Ordering::SeqCst) == 0 {
+        if !self.rest.can_call() && !self.rest.has_waiting() {
             return;
         }
-        if self.lock(rt).is_terminated() {
+        let core = self.lock(rt);
+        let terminated = core.is_terminated();
+        let called = !terminated && self.rest.call();
+        drop(core);
+        if terminated {
             self.wake_all();
-        } else {
-            self.changed.notify_one();
+        } else if called {
+            self.rest.changed.notify_one();
         }
     }
 
     pub(crate) fn wake_all(&self) {
-        self.changed.notify_all();
-        self.ended.notify_all();
+        self.rest.changed.notify_all();
+        self.rest.ended.notify_all();
     }
 
-    // Wakes a sleeping worker for each of these completions but one, for which the caller is there. They were put into
-    // the queue before.
-    pub(crate) fn call_others<R: Wait>(&self, rt: &R, completions: u64) {
-        let asleep = self.asleep.load(Ordering::SeqCst);
-        if completions < 2 || asleep == 0 {
-            return;
-        }
-        // a worker that is about to sleep does so before the lock is got
-        drop(self.lock(rt));
-        for _ in 0..asleep.min(completions - 1) {
-            self.changed.notify_one();
+    // Whether a worker sleeps and none is on its way.
+    pub(crate) fn can_call(&self) -> bool {
+        self.rest.can_call()
+    }
+
+    // Wakes a worker that sleeps, unless one is on its way.
+    pub(crate) fn call<R: Wait>(&self, rt: &R) {
+        let core = self.core.lock(rt);
+        let called = self.rest.call();
+        drop(core);
+        if called {
+            self.rest.changed.notify_one();
         }
     }
 
-    // A worker is about to sleep, or somebody who waits for termination. From here on it is called.
+    // A slate for a worker, if one is left.
+    pub(crate) fn take_slate(&self) -> Option<OwnSlate<'_>> {
+        self.handled.take_slate()
+    }
+
+    // The handler of this operation has ended.
+    pub(crate) fn end<R: Wait>(&self, rt: &R, own: Option<&OwnSlate<'_>>, op: OpNo) {
+        if let Some(own) = own {
+            if self.handled.note(own, op) {
+                return;
+            }
+        }
+        // refused where the handler has finished it itself
+        let _ = self.lock(rt).finish(op);
+    }
+
+    // A worker is about to sleep. From here on it is called.
     pub(crate) fn announce_sleep(&self) {
-        self.asleep.fetch_add(1, Ordering::SeqCst);
+        self.rest.asleep.fetch_add(1, Ordering::SeqCst);
     }
 
     pub(crate) fn sleep<'a, R: Wait>(
@@ -107,11 +153,14 @@ impl Group {
         rt: &R,
         core: MutexGuard<'a, GroupCore>,
     ) -> MutexGuard<'a, GroupCore> {
-        self.changed.wait(rt, core)
+        let mut core = self.rest.changed.wait(rt, core);
+        self.handled.finish_all(&mut core);
+        core
     }
 
     pub(crate) fn end_sleep(&self) {
-        self.asleep.fetch_sub(1, Ordering::SeqCst);
+        self.rest.asleep.fetch_sub(1, Ordering::SeqCst);
+        self.rest.called.store(false, Ordering::SeqCst);
     }
 
     /// Waits until the group has terminated: Java's `awaitTermination` without a time limit.
@@ -119,16 +168,46 @@ impl Group {
         ensures terminated { IsTrue (is_terminated (mutex_guard_value result)) }
         ensures lawful { IsLawful (mutex_guard_value result) }
     {
-        let mut core = self.core.lock(rt);
+        let mut core = self.lock(rt);
         for _ in rt.forever() {
             if core.is_terminated() {
                 core.law();
                 return core;
             }
-            self.announce_sleep();
-            core = self.ended.wait(rt, core);
-            self.end_sleep();
+            self.rest.waiting.fetch_add(1, Ordering::SeqCst);
+            core = self.rest.ended.wait(rt, core);
+            self.rest.waiting.fetch_sub(1, Ordering::SeqCst);
+            self.handled.finish_all(&mut core);
         }
         unreachable!()
+    }
+}
+
+impl Rest {
+    fn new() -> Rest {
+        Rest {
+            changed: Condvar::new(),
+            ended: Condvar::new(),
+            asleep: AtomicU64::new(0),
+            called: AtomicBool::new(false),
+            waiting: AtomicU64::new(0),
+        }
+    }
+
+    fn can_call(&self) -> bool {
+        self.asleep.load(Ordering::SeqCst) != 0 && !self.called.load(Ordering::SeqCst)
+    }
+
+    fn has_waiting(&self) -> bool {
+        self.waiting.load(Ordering::SeqCst) != 0
+    }
+
+    // Under the lock: takes note that a worker is called, where one can be. The caller then wakes it.
+    fn call(&self) -> bool {
+        let can_call = self.can_call();
+        if can_call {
+            self.called.store(true, Ordering::SeqCst);
+        }
+        can_call
     }
 }

@@ -7,6 +7,7 @@ pub use laws::taken_once_law;
 pub use queue::{CompletionQueue, Handed, QueuePass};
 pub use worker::{Handler, work};
 
+mod ended;
 mod group;
 mod hand;
 mod laws;

@@ -1,6 +1,6 @@
 //! The bounded queue through which the workers of a group share its completions.
 ghost use Rattle.std.specs.Prelude.{◌≡◌, ℕ, ◌-◌, ◌<◌, ◌≤◌, ◌↔◌, [], length, All, IfOk, IfErr, IfSome, IsOk, IsNone};
-ghost use Rattle.std.specs.Prelude.{OnOk, OnErr};
+ghost use Rattle.std.specs.Prelude.{OnOk, OnErr, IsTrue};
 ghost use Rattle.crossbeam_queue.specs.Passes.{view as view_of, IsPassOf as IsOf};
 ghost use Rattle.nio_pool.specs.Hands.{hand, joined};
 ghost use Rattle.nio_pool.specs.Queues.{IsPassOf, new_pass, with_put, with_taken, WasFull, WasEmpty, HasAllParts};
@@ -179,6 +179,15 @@ impl CompletionQueue {
     {
         let done = self.ring.pop_as::<Take, R>(rt, &mut pass.pass)?;
         Some(Handed { done })
+    }
+
+    // Whether nothing waited at a moment of this call.
+    pub(crate) fn is_empty(&self, pass: &mut QueuePass) -> bool
+        requires { IsPassOf self.now pass.old }
+        ensures unchanged { pass.new ≡ pass.old }
+        ensures empty { IsTrue result → WasEmpty pass.old }
+    {
+        self.ring.is_empty_as::<Take>(&mut pass.pass)
     }
 
     /// Makes one pass of two: it has the parts of both, and what both have put and taken.

@@ -3,6 +3,7 @@ ghost use Rattle.std.specs.Prelude.{◌≡◌, IfNone};
 ghost use Rattle.nio_pool.specs.Queues.{IsPassOf, GoesOn, IsDrained};
 ghost use Rattle.nio_pool.specs.declared.worker.Found.TheVariants.{End};
 
+use crate::ended::OwnSlate;
 use crate::group::Group;
 use crate::queue::{CompletionQueue, Handed, QueuePass};
 use nio_base::Gate;
@@ -38,12 +39,16 @@ struct Worker<'a, H, G> {
     handler: &'a H,
     gate: &'a G,
     me: u32,
+    slate: Option<OwnSlate<'a>>,
 }
 
 /// Works as the worker `me` of the group until it has terminated. It takes a completion from the queue, passes the
-/// test gate with `me` and the operation's number, calls the handler, and finishes the operation. Where the queue is
-/// empty it puts the group's completions there, and where there are none it sleeps. With a pass that has all parts it
-/// leaves the queue empty.
+/// test gate with `me` and the operation's number, calls the handler, and notes that the operation has ended: from then
+/// on nobody who locks the group finds it running. Where the queue is empty it puts up to 16 of the group's completions
+/// there, and where there are none it sleeps. While it leaves completions in the queue and another worker sleeps, it
+/// calls that one before it passes the gate. Where the queue has no room for all that it took from the group, it handles
+/// one from the queue before it goes on: the rest waits until that handler has returned, also while other workers sleep.
+/// With room for as many as can be in flight that doesn't come. With a pass that has all parts it leaves the queue empty.
 pub fn work<R: Wait, H: Handler, G: Gate>(
     rt: &R,
     group: &Group,
@@ -63,15 +68,16 @@ pub fn work<R: Wait, H: Handler, G: Gate>(
         handler,
         gate,
         me,
+        slate: group.take_slate(),
     };
     for _ in rt.forever() {
         match take(rt, queue, pass) {
-            Some(handed) => worker.serve(rt, handed),
+            Some(handed) => worker.serve(rt, pass, handed),
             None => match worker.find(rt, pass) {
                 Found::Fresh(batch) => worker.put_all(rt, pass, batch),
-                Found::Waiting(handed) => worker.serve(rt, handed),
+                Found::Waiting(handed) => worker.serve(rt, pass, handed),
                 Found::End => {
-                    group.wake_all();
+                    worker.leave();
                     return;
                 }
             },
@@ -108,19 +114,27 @@ fn next_batch(core: &mut GroupCore) -> Batch {
 }
 
 impl<'a, H: Handler, G: Gate> Worker<'a, H, G> {
-    // Calls the handler and finishes the operation. The last one to end wakes everyone.
-    fn serve<R: Wait>(&self, rt: &R, handed: Handed) {
+    // Calls a sleeping worker for what else waits in the queue, and then the handler, with which the operation ends.
+    // Where it was the last one, this worker finds next that the group has terminated.
+    fn serve<R: Wait>(&self, rt: &R, pass: &mut QueuePass, handed: Handed)
+        requires { IsPassOf self.now.queue.now pass.old }
+        ensures { GoesOn self.now.queue.now pass.old pass.new }
+    {
+        if self.group.can_call() && !self.queue.is_empty(pass) {
+            self.group.call(rt);
+        }
         let op = handed.done().op();
         self.gate.pass(rt, self.me, op.0);
         self.handler.completed(rt, self.group, handed);
-        let mut core = self.group.lock(rt);
-        // refused where the handler has finished it itself
-        let _ = core.finish(op);
-        let terminated = core.is_terminated();
-        drop(core);
-        if terminated {
-            self.group.wake_all();
+        self.group.end(rt, self.slate.as_ref(), op);
+    }
+
+    // The group has terminated: gives the slate back, and wakes everyone.
+    fn leave(&self) {
+        if let Some(slate) = &self.slate {
+            slate.give_back();
         }
+        self.group.wake_all();
     }
 
     // Looks under the lock for something to do, and sleeps while there is nothing.
@@ -153,37 +167,35 @@ impl<'a, H: Handler, G: Gate> Worker<'a, H, G> {
         unreachable!()
     }
 
-    // Puts the completions into the queue, and calls other workers for them.
+    // Puts the completions into the queue. Calls a sleeping worker for what may be left in the group.
     fn put_all<R: Wait>(&self, rt: &R, pass: &mut QueuePass, batch: Batch)
         requires { IsPassOf self.now.queue.now pass.old }
         ensures { GoesOn self.now.queue.now pass.old pass.new }
     {
-        let mut count = 0u64;
+        // a full batch may have left more in the group
+        if batch[15].is_some() && self.group.can_call() {
+            self.group.call(rt);
+        }
         for slot in batch {
             if let Some(done) = slot {
-                count = self.put_next(rt, pass, done, count).saturating_add(1);
+                self.put_next(rt, pass, done);
             }
         }
-        self.group.call_others(rt, count);
     }
 
-    // Puts one more completion. While the queue is full it calls other workers for those that it has put, and handles
-    // one itself. Answers how many it has put for which it hasn't called them.
-    fn put_next<R: Wait>(&self, rt: &R, pass: &mut QueuePass, done: Completion, count: u64) -> u64
+    // Puts one more completion. While the queue is full it handles one itself.
+    fn put_next<R: Wait>(&self, rt: &R, pass: &mut QueuePass, done: Completion)
         requires { IsPassOf self.now.queue.now pass.old }
         ensures { GoesOn self.now.queue.now pass.old pass.new }
     {
-        let mut count = count;
         let mut done = done;
         for _ in rt.forever() {
             match put(rt, self.queue, pass, done) {
-                Ok(()) => return count,
+                Ok(()) => return,
                 Err(back) => done = back,
             }
-            self.group.call_others(rt, count);
-            count = 0;
             if let Some(handed) = take(rt, self.queue, pass) {
-                self.serve(rt, handed);
+                self.serve(rt, pass, handed);
             }
         }
         unreachable!()

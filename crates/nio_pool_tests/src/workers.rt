@@ -6,7 +6,7 @@ ghost use Rattle.nio_pool.specs.Queues.{IsPassOf};
 use crate::group::{close, close_stream, connect_stream, limits, start_read};
 use crate::queue::next_pass;
 use nio_base::{Gate, NoGate, OpNo};
-use nio_group::{Finished, Why};
+use nio_group::{Finished, GroupLimits, StartError, Why};
 use nio_pool::{CompletionQueue, Group, Handed, Handler, QueuePass, work};
 use std::alloc::Global;
 use std::sync::Wait;
@@ -139,6 +139,53 @@ fn handles_each_once<R: Threads + Wait + Sync, G: Gate + Sync>(
 #[test]
 fn four_workers(rt: HostRuntime) -> Result<(), Fail> {
     assert!(rt; handles_each_once(&rt, rt.alloc(), 4, 100_000, &NoGate)?);
+    Ok(())
+}
+
+/// For each operation it starts another. Where none may be started it shuts the group down.
+#[derive(Drop)]
+struct Refilling {
+    handled: AtomicU64,
+    had_too_many: AtomicBool,
+}
+
+impl Handler for Refilling {
+    fn completed<R: Wait>(&self, rt: &R, group: &Group, _done: Handed) {
+        self.handled.fetch_add(1, Ordering::SeqCst);
+        let mut core = group.lock(rt);
+        if let Err(refused) = start_read(&mut core) {
+            if matches!(refused, StartError::FlightFull) {
+                self.had_too_many.store(true, Ordering::SeqCst);
+            }
+            core.shutdown();
+        }
+    }
+}
+
+/// One worker takes two completions at a time, and three operations may be in flight. So a handler may start one only
+/// where that of the operation before has ended its own.
+#[test]
+fn operation_ends_with_its_handler(rt: HostRuntime) -> Result<(), Fail> {
+    let limits = GroupLimits {
+        channels: 1,
+        flight: 3,
+        ops: 100,
+    };
+    let group = Group::make(rt.alloc(), 1, limits)?;
+    let (queue, mut passes) = CompletionQueue::make(rt.alloc(), 1, 4)?;
+    let mut pass = next_pass(&queue, &mut passes).expect(&rt, "the one pass");
+    let mut core = group.lock(&rt);
+    close_stream(&mut core)?;
+    start_read(&mut core)?;
+    start_read(&mut core)?;
+    drop(core);
+    let handler = Refilling {
+        handled: AtomicU64::new(0),
+        had_too_many: AtomicBool::new(false),
+    };
+    work(&rt, &group, &queue, &mut pass, &handler, &NoGate, 0);
+    assert!(rt; !handler.had_too_many.load(Ordering::SeqCst));
+    assert_eq!(rt; handler.handled.load(Ordering::SeqCst), 100);
     Ok(())
 }
 
