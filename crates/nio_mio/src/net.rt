@@ -86,18 +86,16 @@ impl<S: System + Clock + Copy> Poller for MioNet<S> {
         asked: &Asked,
         mode: Mode,
     ) -> Result<Told, PollError> {
-        match self.sockets.wait(rt, &self.system, asked, mode) {
-            Ok(elapsed) => match self.sockets.tell(alloc, asked, elapsed) {
-                Ok(told) => {
-                    self.readiness.answered(asked, mode, &told);
-                    Ok(told)
-                }
-                Err(AllocError) => {
-                    self.readiness.failed();
-                    Err(PollError::Memory)
-                }
-            },
-            Err(Failed) => {
+        match self.sockets.poll(rt, &self.system, alloc, asked, mode) {
+            Ok(told) => {
+                self.readiness.answered(asked, mode, &told);
+                Ok(told)
+            }
+            Err(PollError::Memory) => {
+                self.readiness.failed();
+                Err(PollError::Memory)
+            }
+            Err(PollError::Fault) => {
                 self.readiness.failed();
                 raise(&mut self.poll_faults);
                 Err(PollError::Fault)

@@ -1,5 +1,6 @@
 //! The sockets by the numbers of their channels, and what the system told of each.
-ghost use Rattle.std.specs.Prelude.{IfOk};
+ghost use Rattle.std.specs.Prelude.{◌≡◌, ◌≤◌, IsTrue, IfOk, OnOk, length};
+ghost use Rattle.nio_kept.specs.News.{AreApart, AreFound, ready_keys};
 ghost use Rattle.nio_link.specs.Links.{IsGot, IsPut};
 
 use crate::bell::MioBell;
@@ -11,7 +12,9 @@ use mio::net::TcpStream;
 use mio::{Events, Poll, Registry, Token, Waker};
 use nio_base::{Addr, ChanNo, Ops};
 use nio_event::Mode;
+use nio_kept::News;
 use nio_link::{Failed, Got, Put};
+use nio_poller::PollError;
 use nio_select::{Asked, Told};
 use std::alloc::{AllocError, Global};
 use std::io;
@@ -31,6 +34,9 @@ const BELL: Token = Token(usize::MAX);
 /// How many events one poll takes from the system.
 const EVENTS: usize = 1_024;
 
+// The search for one key costs about as much as a walk over this many.
+const WALKED: usize = 16;
+
 /// The sockets. A bit is kept for an operation of a channel from an event until a call finds it not ready, or a read
 /// has taken all that had come.
 #[derive(Drop)]
@@ -38,7 +44,9 @@ pub(crate) struct Sockets {
     poll: Option<Poll>,
     events: Events,
     sockets: Vec<Option<Socket>>,
-    kept: Vec<Ops>,
+    news: News,
+    // In a poll, the places of the keys that are ready.
+    found: Vec<usize>,
     // Of which sockets the system has told an end or an error.
     ended: Vec<bool>,
     // How many links stand.
@@ -52,10 +60,14 @@ pub(crate) struct Sockets {
 impl Sockets {
     /// Takes all memory, and asks the system for a poll object and a waker. Where it refuses one of them, there is no
     /// poll object.
-    pub(crate) fn make<R: Net>(rt: &R, alloc: Global) -> Result<(Sockets, MioBell), AllocError> {
+    pub(crate) fn make<R: Net>(rt: &R, alloc: Global) -> Result<(Sockets, MioBell), AllocError>
+        ensures sockets { IfOk result (λ made. length made.0.sockets.items ≡ PLACES) }
+        ensures news { IfOk result (λ made. length made.0.news ≡ PLACES) }
+        ensures ended { IfOk result (λ made. length made.0.ended.items ≡ PLACES) }
+    {
         let mut sockets = Vec::new(alloc);
         sockets.resize_with(PLACES, no_socket)?;
-        let kept = vec![in alloc; Ops::NONE; PLACES]?;
+        let news = News::make(alloc, PLACES)?;
         let ended = vec![in alloc; false; PLACES]?;
         let events = Events::with_capacity(alloc, EVENTS)?;
         let waiting = Vec::with_capacity(alloc, PLACES)?;
@@ -64,7 +76,8 @@ impl Sockets {
             poll,
             events,
             sockets,
-            kept,
+            news,
+            found: Vec::new(alloc),
             ended,
             links: 0,
             waiting,
@@ -73,22 +86,46 @@ impl Sockets {
         Ok((sockets, bell))
     }
 
-    /// Waits as long as `mode` says, but not where a bit that is asked for is kept. Answers whether the time is over.
-    pub(crate) fn wait<R: Wait, C: Clock>(
+    /// Waits as long as `mode` says, but not where a bit that is asked for is kept. Tells which keys of the list are
+    /// ready by what is kept then, with what for. No list of a selection should have a channel twice; no clause says
+    /// that none has, and of such a list nothing is promised.
+    pub(crate) fn poll<R: Wait, C: Clock>(
+        &mut self,
+        rt: &R,
+        clock: &C,
+        alloc: Global,
+        asked: &Asked,
+        mode: Mode,
+    ) -> Result<Told, PollError>
+        ensures { IfOk result (λ told. AreApart asked.now → told.pairs.items ≡ ready_keys self.new.news asked.now) }
+    {
+        let elapsed = self.wait(rt, clock, asked, mode)?;
+        match self.news.tell(alloc, asked, &mut self.found) {
+            Ok(pairs) => Ok(Told { pairs, elapsed }),
+            Err(AllocError) => Err(PollError::Memory),
+        }
+    }
+
+    // Answers whether the time is over.
+    fn wait<R: Wait, C: Clock>(
         &mut self,
         rt: &R,
         clock: &C,
         asked: &Asked,
         mode: Mode,
-    ) -> Result<bool, Failed> {
-        let is_ready = is_any_ready(&self.kept, asked);
+    ) -> Result<bool, PollError>
+        ensures { OnOk result (AreApart asked.now → AreFound self.new.news asked.now self.new.found.items) }
+    {
+        self.walk(asked)?;
         match mode {
             Mode::Now => {
                 self.poll_for(Some(Duration::ZERO))?;
+                self.hear(asked)?;
                 Ok(true)
             }
-            Mode::For(_) | Mode::Wait if is_ready => {
+            Mode::For(_) | Mode::Wait if !self.found.is_empty() => {
                 self.poll_for(Some(Duration::ZERO))?;
+                self.hear(asked)?;
                 Ok(false)
             }
             Mode::For(ms) => self.wait_at_most(rt, clock, asked, Duration::from_millis(ms.get())),
@@ -101,10 +138,14 @@ impl Sockets {
 
     // Waits until a bit that is asked for is kept, or the bell rings. What comes for other channels is kept meanwhile,
     // and a signal ends no wait.
-    fn wait_for<R: Wait>(&mut self, rt: &R, asked: &Asked) -> Result<(), Failed> {
+    fn wait_for<R: Wait>(&mut self, rt: &R, asked: &Asked) -> Result<(), PollError>
+        requires { AreApart asked.now → AreFound self.old.news asked.now self.old.found.items }
+        ensures { OnOk result (AreApart asked.now → AreFound self.new.news asked.now self.new.found.items) }
+    {
         for _ in rt.forever() {
             self.poll_for(None)?;
-            if self.is_told(asked) {
+            self.hear(asked)?;
+            if self.is_told() {
                 return Ok(());
             }
         }
@@ -118,12 +159,16 @@ impl Sockets {
         clock: &C,
         asked: &Asked,
         time: Duration,
-    ) -> Result<bool, Failed> {
+    ) -> Result<bool, PollError>
+        requires { AreApart asked.now → AreFound self.old.news asked.now self.old.found.items }
+        ensures { OnOk result (AreApart asked.now → AreFound self.new.news asked.now self.new.found.items) }
+    {
         let begun = now(clock)?;
         for _ in rt.forever() {
             let left = time.saturating_sub(now(clock)?.duration_since(begun));
             self.poll_for(Some(left))?;
-            if self.is_told(asked) {
+            self.hear(asked)?;
+            if self.is_told() {
                 return Ok(false);
             }
             if left == Duration::ZERO {
@@ -134,41 +179,52 @@ impl Sockets {
     }
 
     // Whether the last poll ends a wait.
-    fn is_told(&self, asked: &Asked) -> bool {
-        has_rung(&self.events) || is_any_ready(&self.kept, asked)
+    fn is_told(&self) -> bool {
+        has_rung(&self.events) || !self.found.is_empty()
     }
 
-    // One poll of the system, whose events are kept.
-    fn poll_for(&mut self, timeout: Option<Duration>) -> Result<(), Failed> {
+    // One poll of the system.
+    fn poll_for(&mut self, timeout: Option<Duration>) -> Result<(), PollError>
+        ensures news { self.new.news ≡ self.old.news }
+        ensures found { self.new.found ≡ self.old.found }
+    {
         let Some(poll) = &mut self.poll else {
-            return Err(Failed);
+            return Err(PollError::Fault);
         };
         match poll.poll(&mut self.events, timeout) {
             Ok(()) => {
-                keep_all(&mut self.kept, &self.events);
                 keep_ends(&mut self.ended, &self.events);
                 Ok(())
             }
-            Err(_error) => Err(Failed),
+            Err(_error) => Err(PollError::Fault),
         }
     }
 
-    /// What is kept of the channels that are asked for.
-    pub(crate) fn tell(
-        &self,
-        alloc: Global,
-        asked: &Asked,
-        elapsed: bool,
-    ) -> Result<Told, AllocError> {
-        let mut pairs = Vec::new(alloc);
-        for at in 0..asked.len() {
-            let (index, chan, interest) = asked.entry(at);
-            let bits = kept_of(&self.kept, chan).meet(interest);
-            if bits != Ops::NONE {
-                pairs.push((index, bits))?;
-            }
+    // Keeps the events of the last poll, and finds the keys that are ready by them: by a search for each, or by a walk
+    // where many came or one isn't found.
+    fn hear(&mut self, asked: &Asked) -> Result<(), PollError>
+        requires { AreApart asked.now → AreFound self.old.news asked.now self.old.found.items }
+        ensures { OnOk result (AreApart asked.now → AreFound self.new.news asked.now self.new.found.items) }
+    {
+        if self.events.iter().count() > asked.len() / WALKED {
+            keep_all(&mut self.news, &self.events);
+            return self.walk(asked);
         }
-        Ok(Told { pairs, elapsed })
+        if hear_all(&mut self.news, &self.events, asked, &mut self.found) {
+            Ok(())
+        } else {
+            self.walk(asked)
+        }
+    }
+
+    // Finds the keys that are ready by what is kept.
+    fn walk(&mut self, asked: &Asked) -> Result<(), PollError>
+        ensures { OnOk result (AreFound self.new.news asked.now self.new.found.items) }
+    {
+        match self.news.walk(asked, &mut self.found) {
+            Ok(()) => Ok(()),
+            Err(AllocError) => Err(PollError::Memory),
+        }
     }
 
     fn has_place(&self, chan: ChanNo) -> bool {
@@ -230,12 +286,12 @@ impl Sockets {
     fn not_accepted(&mut self, listener: ChanNo, cause: Cause) -> Result<bool, Failed> {
         match cause {
             Cause::NotReady => {
-                clear(&mut self.kept, listener, Ops::ACCEPT);
+                self.news.clear(listener, incoming());
                 Ok(false)
             }
             Cause::Interrupted | Cause::Aborted => Ok(false),
             Cause::NoDescriptor if self.links > 0 => {
-                clear(&mut self.kept, listener, Ops::ACCEPT);
+                self.news.clear(listener, incoming());
                 self.await_descriptor(listener)
             }
             Cause::NoDescriptor | Cause::Fault => Err(Failed),
@@ -288,7 +344,7 @@ impl Sockets {
         match socket::is_connected(&self.sockets, chan) {
             Ok(true) => Ok(true),
             Ok(false) => {
-                clear(&mut self.kept, chan, Ops::CONNECT);
+                self.news.clear(chan, Ops::CONNECT);
                 Ok(false)
             }
             Err(_error) => {
@@ -302,7 +358,7 @@ impl Sockets {
     pub(crate) fn read(&mut self, chan: ChanNo, into: &mut [u8]) -> Result<Got, Failed>
         ensures { IfOk result (IsGot into.old) }
     {
-        if kept_of(&self.kept, chan).meet(Ops::READ) == Ops::NONE {
+        if self.news.of(chan).meet(Ops::READ) == Ops::NONE {
             return Ok(Got::NotYet);
         }
         let room = into.len();
@@ -312,7 +368,7 @@ impl Sockets {
                 self.keep_read(chan, count < room);
                 Ok(Got::Bytes(count))
             }
-            Err(error) => match self.not_moved(chan, Ops::READ, cause_of(&error)) {
+            Err(error) => match self.not_moved(chan, incoming(), cause_of(&error)) {
                 Ok(()) => Ok(Got::NotYet),
                 Err(Failed) => Err(Failed),
             },
@@ -323,7 +379,7 @@ impl Sockets {
     // tell again of an end or an error that it told before that read.
     fn keep_read(&mut self, chan: ChanNo, took_all: bool) {
         if took_all && !has_ended(&self.ended, chan) {
-            clear(&mut self.kept, chan, Ops::READ);
+            self.news.clear(chan, incoming());
         }
     }
 
@@ -344,7 +400,7 @@ impl Sockets {
     fn not_moved(&mut self, chan: ChanNo, op: Ops, cause: Cause) -> Result<(), Failed> {
         match cause {
             Cause::NotReady => {
-                clear(&mut self.kept, chan, op);
+                self.news.clear(chan, op);
                 Ok(())
             }
             Cause::Interrupted => Ok(()),
@@ -373,7 +429,7 @@ impl Sockets {
 
     // Forgets what the system told of a channel.
     fn forget(&mut self, chan: ChanNo) {
-        keep_only(&mut self.kept, chan, Ops::NONE);
+        self.news.keep_only(chan, Ops::NONE);
         if let Some(ended) = self.ended.get_mut(chan.0 as usize) {
             *ended = false;
         }
@@ -390,9 +446,13 @@ impl Sockets {
     }
 
     /// Makes places for the channels below this number.
-    pub(crate) fn grow(&mut self, places: usize) -> Result<(), AllocError> {
+    pub(crate) fn grow(&mut self, places: usize) -> Result<(), AllocError>
+        ensures sockets { OnOk result (places ≤ length self.new.sockets.items) }
+        ensures news { OnOk result (places ≤ length self.new.news) }
+        ensures ended { OnOk result (places ≤ length self.new.ended.items) }
+    {
         let places = places.max(self.sockets.len());
-        self.kept.resize(places, Ops::NONE)?;
+        self.news.grow(places)?;
         self.ended.resize(places, false)?;
         self.sockets.resize_with(places, no_socket)
     }
@@ -401,11 +461,8 @@ impl Sockets {
     /// call is made, and fails.
     pub(crate) fn put_in(&mut self, chan: ChanNo, stream: Option<TcpStream>) {
         if self.watch(chan, stream).is_err() {
-            add(
-                &mut self.kept,
-                chan,
-                Ops::READ.union(Ops::WRITE).union(Ops::CONNECT),
-            );
+            self.news
+                .add(chan, Ops::READ.union(Ops::WRITE).union(Ops::CONNECT));
         }
     }
 
@@ -421,7 +478,7 @@ impl Sockets {
 
     fn retry_waiting(&mut self) {
         for listener in &self.waiting {
-            add(&mut self.kept, *listener, Ops::ACCEPT);
+            self.news.add(*listener, Ops::ACCEPT);
         }
         self.waiting.clear();
     }
@@ -441,10 +498,10 @@ fn poll_and_bell<R: Net>(rt: &R) -> (Option<Poll>, MioBell) {
     }
 }
 
-fn now<C: Clock>(clock: &C) -> Result<Instant, Failed> {
+fn now<C: Clock>(clock: &C) -> Result<Instant, PollError> {
     match Instant::now(clock) {
         Ok(now) => Ok(now),
-        Err(_error) => Err(Failed),
+        Err(_error) => Err(PollError::Fault),
     }
 }
 
@@ -452,30 +509,35 @@ fn has_rung(events: &Events) -> bool {
     events.iter().any(|event| event.token() == BELL)
 }
 
-// Whether a channel is ready for something that is asked of it.
-fn is_any_ready(kept: &[Ops], asked: &Asked) -> bool {
-    for at in 0..asked.len() {
-        let (_index, chan, interest) = asked.entry(at);
-        if kept_of(kept, chan).meet(interest) != Ops::NONE {
-            return true;
-        }
-    }
-    false
-}
-
-fn kept_of(kept: &[Ops], chan: ChanNo) -> Ops {
-    match kept.get(chan.0 as usize) {
-        Some(bits) => *bits,
-        None => Ops::NONE,
-    }
-}
-
-fn keep_all(kept: &mut [Ops], events: &Events) {
+// Keeps what the events tell, and adds the keys that are ready by it to those that were found. Says whether the place
+// of each was known.
+fn hear_all(news: &mut News, events: &Events, asked: &Asked, found: &mut Vec<usize>) -> bool
+    ensures { IsTrue result → AreApart asked.now → AreFound news.old asked.now found.old.items
+        → AreFound news.new asked.now found.new.items }
+{
+    let mut are_known = true;
     for event in events {
-        let Token(place) = event.token();
-        if let Some(bits) = kept.get_mut(place) {
-            *bits = bits.union(told_by(event));
+        if let Some(chan) = channel_of(event) {
+            are_known &= news.hear(asked, chan, told_by(event), found);
         }
+    }
+    are_known
+}
+
+fn keep_all(news: &mut News, events: &Events) {
+    for event in events {
+        if let Some(chan) = channel_of(event) {
+            news.add(chan, told_by(event));
+        }
+    }
+}
+
+// The channel of which an event tells; None for the bell's.
+fn channel_of(event: &Event) -> Option<ChanNo> {
+    let Token(place) = event.token();
+    match u32::try_from(place) {
+        Ok(number) => Some(ChanNo(number)),
+        Err(_beyond) => None,
     }
 }
 
@@ -497,35 +559,21 @@ fn has_ended(ended: &[bool], chan: ChanNo) -> bool {
     }
 }
 
+// What an event that a socket is readable tells. They are kept together and go together, since the system doesn't say
+// whether the socket is a listener: so nothing of this stays kept of one from which all was taken.
+fn incoming() -> Ops {
+    Ops::READ.union(Ops::ACCEPT)
+}
+
 // An error or an end makes a socket ready for each operation that would find it.
 fn told_by(event: &Event) -> Ops {
     let reads = event.is_readable() || event.is_read_closed() || event.is_error();
     let writes = event.is_writable() || event.is_write_closed() || event.is_error();
-    let reading = if reads {
-        Ops::READ.union(Ops::ACCEPT)
-    } else {
-        Ops::NONE
-    };
+    let reading = if reads { incoming() } else { Ops::NONE };
     let writing = if writes {
         Ops::WRITE.union(Ops::CONNECT)
     } else {
         Ops::NONE
     };
     reading.union(writing)
-}
-
-fn add(kept: &mut [Ops], chan: ChanNo, ops: Ops) {
-    if let Some(bits) = kept.get_mut(chan.0 as usize) {
-        *bits = bits.union(ops);
-    }
-}
-
-fn clear(kept: &mut [Ops], chan: ChanNo, op: Ops) {
-    keep_only(kept, chan, Ops::of(!op.bits()));
-}
-
-fn keep_only(kept: &mut [Ops], chan: ChanNo, ops: Ops) {
-    if let Some(bits) = kept.get_mut(chan.0 as usize) {
-        *bits = bits.meet(ops);
-    }
 }

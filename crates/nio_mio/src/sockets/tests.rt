@@ -37,7 +37,7 @@ const ERRORS: [(i32, [Outcome; 3]); 6] = [
 
 /// How a "not yet" leaves the channel.
 fn not_yet(sockets: &Sockets, chan: ChanNo, op: Ops) -> Outcome {
-    if kept_of(&sockets.kept, chan).meet(op) == op {
+    if sockets.news.of(chan).meet(op) == op {
         Outcome::Again
     } else {
         Outcome::NotReady
@@ -46,7 +46,7 @@ fn not_yet(sockets: &Sockets, chan: ChanNo, op: Ops) -> Outcome {
 
 /// A read that finds the error.
 fn read(sockets: &mut Sockets, cause: Cause) -> Outcome {
-    add(&mut sockets.kept, LINK, Ops::READ);
+    sockets.news.add(LINK, Ops::READ);
     match sockets.not_moved(LINK, Ops::READ, cause) {
         Ok(()) => not_yet(sockets, LINK, Ops::READ),
         Err(Failed) => Outcome::Failed,
@@ -56,7 +56,7 @@ fn read(sockets: &mut Sockets, cause: Cause) -> Outcome {
 /// An accept that finds the error, where so many links stand.
 fn accept(sockets: &mut Sockets, links: usize, cause: Cause) -> Outcome {
     sockets.links = links;
-    add(&mut sockets.kept, LISTENER, Ops::ACCEPT);
+    sockets.news.add(LISTENER, Ops::ACCEPT);
     match sockets.not_accepted(LISTENER, cause) {
         Ok(_made) => not_yet(sockets, LISTENER, Ops::ACCEPT),
         Err(Failed) => Outcome::Failed,
@@ -76,9 +76,9 @@ fn calls_take_errors_by_their_kind(rt: HostRuntime) -> Result<(), Fail> {
         assert_eq!(rt; found, wanted);
     }
     // A listener that waits for a descriptor is tried again once a link is closed.
-    clear(&mut sockets.kept, LISTENER, Ops::ACCEPT);
+    sockets.news.clear(LISTENER, Ops::ACCEPT);
     sockets.retry_waiting();
-    assert_eq!(rt; kept_of(&sockets.kept, LISTENER), Ops::ACCEPT);
+    assert_eq!(rt; sockets.news.of(LISTENER), Ops::ACCEPT);
     Ok(())
 }
 
@@ -91,13 +91,20 @@ fn free_address(rt: &HostRuntime) -> Result<Addr, Fail> {
     })
 }
 
+/// One poll of the system, whose events are kept.
+fn poll(sockets: &mut Sockets, time: Duration) -> Result<(), Fail> {
+    sockets.poll_for(Some(time))?;
+    keep_all(&mut sockets.news, &sockets.events);
+    Ok(())
+}
+
 /// Accepts a link to a peer, whose end is given. A poll leaves what an earlier one was told of the listener.
 fn linked(rt: &HostRuntime, sockets: &mut Sockets) -> Result<TcpStream, Fail> {
     let at = free_address(rt)?;
     sockets.listen(rt, LISTENER, at)?;
     let peer = TcpStream::connect(rt, (Ipv4Addr::new(127, 0, 0, 1), at.port))?;
-    sockets.poll_for(Some(Duration::from_millis(50)))?;
-    sockets.poll_for(Some(Duration::ZERO))?;
+    poll(sockets, Duration::from_millis(50))?;
+    poll(sockets, Duration::ZERO)?;
     let is_kept = not_yet(sockets, LISTENER, Ops::ACCEPT) == Outcome::Again;
     if is_kept && sockets.accept(LISTENER, LINK)? {
         Ok(peer)
@@ -113,7 +120,7 @@ fn next(rt: &HostRuntime, sockets: &mut Sockets) -> Result<Got, Fail> {
 
 fn next_of(rt: &HostRuntime, sockets: &mut Sockets, chan: ChanNo) -> Result<Got, Fail> {
     sleep(rt, Duration::from_millis(50));
-    sockets.poll_for(Some(Duration::ZERO))?;
+    poll(sockets, Duration::ZERO)?;
     Ok(sockets.read(chan, &mut [0_u8; 64])?)
 }
 

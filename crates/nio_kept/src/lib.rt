@@ -1,0 +1,6 @@
+//! What nets over the system's sockets keep of their channels.
+#![tactic(auto)]
+
+pub use news::News;
+
+mod news;
