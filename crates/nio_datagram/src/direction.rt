@@ -1,5 +1,6 @@
 //! One direction of a relay of packets.
-ghost use Rattle.std.specs.Prelude.{◌≡◌, ◌+◌, ◌<◌, ◌≤◌, ◌⊎◌, false, IfOk, IfSome, IsErr, IsSome, IsTrue, None, OnOk, Some, is_some};
+ghost use Rattle.std.specs.Prelude.{◌≡◌, ◌+◌, ◌<◌, ◌≤◌, ◌⊎◌, false, IfOk, IfSome, IsErr, IsSome, IsTrue, None, OnOk};
+ghost use Rattle.std.specs.Prelude.{Some, is_some};
 ghost use Rattle.nio_bytes.specs.Cause.{Rose};
 ghost use Rattle.nio_steps.specs.KeyCalls.{is_within};
 ghost use Rattle.nio_datagram.specs.Nets.{view_by, NoneFailed};

@@ -99,6 +99,15 @@ pub trait PacketNet: Poller {
         ensures places { (c : ChanNo) → place self.new c ≡ place self.old c }
         ensures polls { Self.poll_faults self.new ≡ Self.poll_faults self.old };
 
+    /// Tells the net that this channel is to send to no other address than this one, and to hear of no other. It may
+    /// then drop what others send, and find later that the address refuses packets: calls on the channel then fail.
+    fn connect_packets(&mut self, chan: ChanNo, to: Addr)
+        ensures faults { (c : ChanNo) → packet_faults self.new c ≡ packet_faults self.old c }
+        ensures traffic { (c : ChanNo) → traffic self.new c ≡ traffic self.old c }
+        ensures ready { (c : ChanNo) → Self.ready self.new c ≡ Self.ready self.old c }
+        ensures places { (c : ChanNo) → place self.new c ≡ place self.old c }
+        ensures polls { Self.poll_faults self.new ≡ Self.poll_faults self.old };
+
     /// Closes the socket of a channel, where one is bound there. Its packets are shown as before.
     fn close_packets(&mut self, chan: ChanNo)
         ensures faults { (c : ChanNo) → packet_faults self.new c ≡ packet_faults self.old c }

@@ -12,7 +12,7 @@ ghost use Rattle.nio_datagram.specs.declared.net.Place.TheVariants as place_is;
 use crate::direction::{Direction, Readiness, pass};
 use crate::link::{DatagramLink, PacketError};
 use crate::net::PacketNet;
-use crate::serving::PacketPlan;
+use crate::serving::{BACK, PacketPlan};
 use nio_base::{ChanNo, Ops};
 use std::alloc::{AllocError, Global};
 
@@ -49,7 +49,7 @@ impl Relay {
         })
     }
 
-    /// Binds both channels as the plan says, and connects the back one to the target.
+    /// Binds both channels as the plan says, and connects the back one to the target, in the net too.
     pub(crate) fn open<N: PacketNet>(
         &mut self,
         net: &mut N,
@@ -74,6 +74,7 @@ impl Relay {
     {
         self.front.bind(net, plan.listen)?;
         self.back.bind(net, plan.local)?;
+        net.connect_packets(BACK, plan.target);
         let _connected = self.back.connect(plan.target);
         Ok(())
     }

@@ -66,10 +66,10 @@ const LIMITS: Limits = Limits {
 const ME: CallerNo = CallerNo(0);
 
 /// The channel to which the client sends.
-const FRONT: ChanNo = ChanNo(0);
+pub(crate) const FRONT: ChanNo = ChanNo(0);
 
 /// The channel to which the target answers.
-const BACK: ChanNo = ChanNo(1);
+pub(crate) const BACK: ChanNo = ChanNo(1);
 
 // The board of the first caller of a new table. Nothing refuses it, since the limits have a caller and a selector.
 fn open_board<'a>(words: &'a Words, pass: Pass) -> Result<Board<'a>, Refused>
@@ -234,8 +234,8 @@ fn pass_told<N: PacketNet>(
 
 /// Relays packets between a client and a target, until `plan.count` packets of the client were sent on. Binds channel 0
 /// to `plan.listen` and channel 1 to `plan.local`. Sends to the target from channel 1. The client is the sender of the
-/// first packet; others' packets are dropped. Each direction holds at most one packet. At every end both sockets are closed. `Memory`
-/// is also answered where the relay's own table refuses a call.
+/// first packet; others' packets are dropped. Each direction holds at most one packet. At every end both sockets are
+/// closed. `Memory` is also answered where the relay's own table refuses a call.
 pub fn serve_packets<R: Wait, N: PacketNet>(
     rt: &R,
     alloc: Global,

@@ -157,6 +157,10 @@ impl<S: System + Clock + Copy> PacketNet for MioPackets<S> {
         }
     }
 
+    fn connect_packets(&mut self, chan: ChanNo, to: Addr) {
+        self.sockets.connect(chan, to);
+    }
+
     fn close_packets(&mut self, chan: ChanNo) {
         self.sockets.close(chan);
         let place = chan.0 as usize;

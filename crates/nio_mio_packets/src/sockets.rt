@@ -20,16 +20,25 @@ use std::time::{Clock, Duration, Instant};
 /// How many events one poll takes from the system.
 const EVENTS: usize = 64;
 
+/// A socket, and to whom it is connected in the system.
+#[derive(Drop)]
+struct Socket {
+    socket: UdpSocket,
+    peer: Option<Addr>,
+}
+
 /// The sockets. A bit is kept for an operation of a channel from an event until a call finds it not ready.
 #[derive(Drop)]
 pub(crate) struct Sockets {
     poll: Option<Poll>,
     events: Events,
-    sockets: Vec<Option<UdpSocket>>,
+    sockets: Vec<Option<Socket>>,
     kept: Vec<Ops>,
+    /// Whether the last poll asked the system.
+    has_asked: bool,
 }
 
-fn no_socket() -> Option<UdpSocket> {
+fn no_socket() -> Option<Socket> {
     None
 }
 
@@ -47,6 +56,7 @@ impl Sockets {
             events: Events::with_capacity(alloc, EVENTS)?,
             sockets,
             kept: vec![in alloc; Ops::NONE; places]?,
+            has_asked: false,
         })
     }
 
@@ -65,7 +75,7 @@ impl Sockets {
                 Ok(true)
             }
             Mode::For(_) | Mode::Wait if is_ready => {
-                self.poll_for(Some(Duration::ZERO))?;
+                self.look()?;
                 Ok(false)
             }
             Mode::For(ms) => self.wait_at_most(rt, clock, asked, Duration::from_millis(ms.get())),
@@ -74,6 +84,16 @@ impl Sockets {
                 Ok(false)
             }
         }
+    }
+
+    // A poll that needn't wait. It saves the system call where the last poll made one, and never twice in a row: so
+    // what comes for other channels is told too.
+    fn look(&mut self) -> Result<(), Failed> {
+        if self.has_asked {
+            self.has_asked = false;
+            return Ok(());
+        }
+        self.poll_for(Some(Duration::ZERO))
     }
 
     // Waits until a bit that is asked for is kept. What comes for other channels is kept meanwhile, and a signal ends no
@@ -115,6 +135,7 @@ impl Sockets {
         let Some(poll) = &mut self.poll else {
             return Err(Failed);
         };
+        self.has_asked = true;
         match poll.poll(&mut self.events, timeout) {
             Ok(()) => {
                 keep_all(&mut self.kept, &self.events);
@@ -152,10 +173,20 @@ impl Sockets {
     fn put(&mut self, chan: ChanNo, socket: UdpSocket) -> Result<(), Failed> {
         match self.sockets.get_mut(chan.0 as usize) {
             Some(place) => {
-                *place = Some(socket);
+                *place = Some(Socket { socket, peer: None });
                 Ok(())
             }
             None => Err(Failed),
+        }
+    }
+
+    /// Connects a socket in the system, which then looks no route up for each packet. Where the system refuses, the
+    /// socket stays as it was.
+    pub(crate) fn connect(&mut self, chan: ChanNo, to: Addr) {
+        if let Some(Some(socket)) = self.sockets.get_mut(chan.0 as usize) {
+            if socket.socket.connect(socket_addr(to)).is_ok() {
+                socket.peer = Some(to);
+            }
         }
     }
 
@@ -251,19 +282,20 @@ fn packet(len: usize, from: SocketAddr) -> Result<Came, Failed>
 
 // The next packet of the socket at this place.
 fn received(
-    sockets: &[Option<UdpSocket>],
+    sockets: &[Option<Socket>],
     chan: ChanNo,
     into: &mut [u8],
 ) -> io::Result<(usize, SocketAddr)> {
     match sockets.get(chan.0 as usize) {
-        Some(Some(socket)) => socket.recv_from(into),
+        Some(Some(socket)) => socket.socket.recv_from(into),
         _ => Err(missing()),
     }
 }
 
-fn sent(sockets: &[Option<UdpSocket>], chan: ChanNo, bytes: &[u8], to: Addr) -> io::Result<usize> {
+fn sent(sockets: &[Option<Socket>], chan: ChanNo, bytes: &[u8], to: Addr) -> io::Result<usize> {
     match sockets.get(chan.0 as usize) {
-        Some(Some(socket)) => socket.send_to(bytes, socket_addr(to)),
+        Some(Some(socket)) if socket.peer == Some(to) => socket.socket.send(bytes),
+        Some(Some(socket)) => socket.socket.send_to(bytes, socket_addr(to)),
         _ => Err(missing()),
     }
 }

@@ -7,3 +7,5 @@ mod link;
 mod loopback;
 #[cfg(test)]
 mod relay;
+#[cfg(test)]
+mod reluctant;

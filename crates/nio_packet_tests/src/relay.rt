@@ -1,4 +1,12 @@
 //! The relay of packets, as tables.
+ghost use Rattle.std.specs.Prelude.{◌≡◌, IfOk};
+ghost use Rattle.nio_base.specs.declared.numbers.ChanNo.{ChanNo as Channel};
+ghost use Rattle.nio_datagram.specs.MemoryPackets.{place_at, traffic_at};
+ghost use Rattle.nio_datagram.specs.Packets.{no_traffic};
+ghost use Rattle.nio_datagram.specs.Serving.{IsRelayable};
+ghost use Rattle.nio_datagram.specs.declared.net.Place.TheVariants.{Unbound};
+
+use crate::reluctant::Reluctant;
 use nio_base::{Addr, ChanNo};
 use nio_datagram::{MemoryPackets, PacketPlan, PacketServeError, PacketsServed, serve_packets};
 use std::alloc::{AllocError, Global};
@@ -115,23 +123,49 @@ fn has_sent(net: &MemoryPackets, chan: ChanNo, to: Addr, wanted: &[&str]) -> boo
     true
 }
 
-fn is_served<R: Wait>(rt: &R, alloc: Global, row: &Row) -> Result<bool, AllocError> {
+fn net_of(alloc: Global, row: &Row) -> Result<MemoryPackets, AllocError>
+    ensures fresh { IfOk result (λ net. (c : Channel) → traffic_at net.sides c ≡ no_traffic) }
+    ensures unbound { IfOk result (λ net. (c : Channel) → place_at net.sides c ≡ Unbound) }
+{
     let front = packets(alloc, row.front)?;
     let back = packets(alloc, row.back)?;
-    let mut net = MemoryPackets::make(alloc, front, back, row.fail_send)?;
-    let plan = PacketPlan {
+    MemoryPackets::make(alloc, front, back, row.fail_send)
+}
+
+fn plan_of(count: u32) -> PacketPlan
+    ensures { IsRelayable result }
+{
+    PacketPlan {
         listen: LISTEN,
         local: LOCAL,
         target: TARGET,
-        count: row.count.clamp(1, 1_000_000),
-    };
-    let answer = serve_packets(rt, alloc, &mut net, plan);
+        count: count.clamp(1, 1_000_000),
+    }
+}
+
+/// Whether the relay of the row made of the packets what it says.
+fn is_as_planned(
+    row: &Row,
+    net: &MemoryPackets,
+    answer: Result<PacketsServed, PacketServeError>,
+) -> bool {
     let client = row.front.first().map_or(CLIENT, |first| first.0);
-    Ok(
-        answer == row.answer
-            && has_sent(&net, ChanNo(1), TARGET, row.to_target)
-            && has_sent(&net, ChanNo(0), client, row.to_client),
-    )
+    answer == row.answer
+        && has_sent(net, ChanNo(1), TARGET, row.to_target)
+        && has_sent(net, ChanNo(0), client, row.to_client)
+}
+
+fn is_served<R: Wait>(rt: &R, alloc: Global, row: &Row) -> Result<bool, AllocError> {
+    let mut net = net_of(alloc, row)?;
+    let answer = serve_packets(rt, alloc, &mut net, plan_of(row.count));
+    Ok(is_as_planned(row, &net, answer))
+}
+
+/// The same over a net of which each other send finds no room.
+fn is_served_late<R: Wait>(rt: &R, alloc: Global, row: &Row) -> Result<bool, AllocError> {
+    let mut net = Reluctant::over(net_of(alloc, row)?);
+    let answer = serve_packets(rt, alloc, &mut net, plan_of(row.count));
+    Ok(is_as_planned(row, &net.net, answer))
 }
 
 #[test]
@@ -145,5 +179,45 @@ fn a_relay_passes_packets_on(rt: HostRuntime) -> Result<(), Fail> {
     ] {
         assert!(rt; is_served(&rt, rt.alloc(), row)?, "{}", row.label);
     }
+    for row in &[STRANGERS_PACKETS, FAILING_SEND, BOTH_WAYS, COUNT_OF_ONE] {
+        assert!(rt; is_served_late(&rt, rt.alloc(), row)?, "{} late", row.label);
+    }
+    Ok(())
+}
+
+/// So many packets of the client, each with its number.
+fn numbered(alloc: Global, count: u32) -> Result<Vec<(Addr, Vec<u8>)>, AllocError> {
+    let mut packets = Vec::new(alloc);
+    for number in 0..count {
+        packets.push((CLIENT, number.to_le_bytes().to_vec(alloc)?))?;
+    }
+    Ok(packets)
+}
+
+/// How many packets were sent to the target, as far as each has its number.
+fn numbered_to_target(net: &MemoryPackets) -> u32 {
+    let mut count: u32 = 0;
+    for place in 0..net.went_len(ChanNo(1)) {
+        if net.went_bytes(ChanNo(1), place) != count.to_le_bytes().as_slice() {
+            return count;
+        }
+        count = count.saturating_add(1);
+    }
+    count
+}
+
+#[test]
+fn a_hundred_thousand_packets(rt: HostRuntime) -> Result<(), Fail> {
+    let alloc = rt.alloc();
+    let mut net = MemoryPackets::make(alloc, numbered(alloc, 100_010)?, Vec::new(alloc), None)?;
+    let answer = serve_packets(&rt, alloc, &mut net, plan_of(100_000));
+    assert!(rt;
+        answer
+            == Ok(PacketsServed {
+                forth: 100_000,
+                back: 0
+            })
+    );
+    assert!(rt; numbered_to_target(&net) == 100_000 && net.went_len(ChanNo(1)) == 100_000);
     Ok(())
 }

@@ -416,6 +416,8 @@ impl PacketNet for MemoryPackets {
         }
     }
 
+    fn connect_packets(&mut self, _chan: ChanNo, _to: Addr) {}
+
     fn close_packets(&mut self, chan: ChanNo) {
         self.close_socket(chan);
     }

@@ -1,0 +1,167 @@
+//! A net in memory of which each other send finds no room.
+ghost use Rattle.std.specs.Prelude.{◌≡◌, ◌≢◌, ℕ, IfOk, OnErr};
+ghost use Rattle.nio_poller.specs.Polls.{CountsFaults, AddsPoll, told_of_channel};
+ghost use Rattle.nio_poller.specs.Scripts.{last_told};
+ghost use Rattle.nio_poller.specs.declared.poller.PollError.TheVariants.{Fault};
+ghost use Rattle.nio_link.specs.Readiness.{without};
+ghost use Rattle.nio_mio_packets.specs.Readiness.{left_of};
+ghost use Rattle.nio_base.specs.declared.numbers.ChanNo.{ChanNo as Channel};
+ghost use Rattle.nio_datagram.specs.MemoryPackets.{KeepsPackets};
+
+use nio_base::{Addr, ChanNo, Ops};
+use nio_datagram::{Came, Failed, MemoryPackets, PacketNet};
+use nio_event::Mode;
+use nio_poller::{PollError, Poller, ToldPoll};
+use nio_select::{Asked, Told};
+use nio_trace::{Reading, Trace};
+use std::alloc::Global;
+use std::sync::Wait;
+
+/// The net, and whether its next send finds no room.
+#[derive(Drop)]
+pub(crate) struct Reluctant {
+    pub net: MemoryPackets,
+    is_full: bool,
+    last: Trace<ToldPoll>,
+    taken: Trace<(ChanNo, Ops)>,
+}
+
+// A call found the channel not ready for the operation.
+fn take(taken: &mut Trace<(ChanNo, Ops)>, chan: ChanNo, op: Ops)
+    ensures its { (told : ℕ) → left_of chan told taken.new ≡ without op (left_of chan told taken.old) }
+    ensures others { (c : Channel) → c ≢ chan → (told : ℕ) → left_of c told taken.new ≡ left_of c told taken.old }
+{
+    taken.push(&(chan, op));
+}
+
+impl Reluctant {
+    pub(crate) fn over(net: MemoryPackets) -> Reluctant
+        ensures { result.net ≡ net }
+    {
+        Reluctant {
+            net,
+            is_full: true,
+            last: Trace::new(),
+            taken: Trace::new(),
+        }
+    }
+}
+
+#[derive(Clone, Copy)]
+struct Answer<'a> {
+    asked: &'a Asked,
+    mode: Mode,
+    told: &'a Told,
+}
+
+/// Reads a poll off its answer.
+struct OnePoll;
+
+impl<'a> Reading<Answer<'a>, ToldPoll> for OnePoll {
+    ghost use Rattle.std.specs.Prelude.{[], ◌∷◌};
+    ghost use Rattle.nio_select.specs.InProgress.{poll_of};
+
+    ghost items = { λ answer. record {
+      asked = answer.asked.now;
+      mode = answer.mode;
+      answer = poll_of answer.told.now;
+    } ∷ [] };
+}
+
+impl Poller for Reluctant {
+    ghost use Rattle.std.specs.Prelude.{None, refl};
+    ghost use Rattle.std.proofs.Common.{◌∙◌};
+
+    ghost poll_faults = { λ _. 0 };
+
+    ghost ready = { λ s c. left_of c (last_told s.last c) s.taken };
+
+    ghost polls = { λ _. None };
+
+    ghost kept = { λ x y. KeepsPackets x.net y.net };
+
+    fn poll<R: Wait>(
+        &mut self,
+        rt: &R,
+        alloc: Global,
+        asked: &Asked,
+        mode: Mode,
+    ) -> Result<Told, PollError>
+        ensures cause { CountsFaults Fault 0 0 result }
+        ensures ready { IfOk result (λ told. (c : Channel)
+            → left_of c (last_told self.new.last c) self.new.taken ≡ told_of_channel asked.now told.pairs.items c) }
+        ensures unready { OnErr result ((c : Channel) → left_of c (last_told self.new.last c) self.new.taken ≡ 0) }
+        ensures polls { AddsPoll None None asked.now mode result }
+        ensures kept { KeepsPackets self.old.net self.new.net }
+    {
+        self.last = Trace::new();
+        self.taken = Trace::new();
+        match self.net.poll(rt, alloc, asked, mode) {
+            Ok(told) => {
+                let answer = Answer {
+                    asked,
+                    mode,
+                    told: &told,
+                };
+                self.last.extend_from::<Answer, OnePoll>(&answer);
+                Ok(told)
+            }
+            Err(error) => Err(error),
+        }
+    }
+
+    ghost kept_same = { λ s. record { sides = refl; faulted = refl } };
+
+    ghost kept_on = { λ x y z first second. record {
+      sides = second.sides ∙ first.sides;
+      faulted = second.faulted ∙ first.faulted;
+    } };
+}
+
+impl PacketNet for Reluctant {
+    ghost use Rattle.std.proofs.Common.{ap};
+    ghost use Rattle.nio_datagram.specs.MemoryPackets.{traffic_at, place_at, times};
+
+    ghost traffic = { λ s. traffic_at s.net.sides };
+
+    ghost packet_faults = { λ s. times s.net.faulted };
+
+    ghost place = { λ s. place_at s.net.sides };
+
+    fn bind_packets(&mut self, chan: ChanNo, at: Addr) -> Result<(), Failed> {
+        self.net.bind_socket(chan, at)
+    }
+
+    fn receive(&mut self, chan: ChanNo, into: &mut [u8]) -> Result<Came, Failed> {
+        let came = self.net.receive_packet(chan, into);
+        if let Ok(Came::NotYet) = &came {
+            take(&mut self.taken, chan, Ops::READ);
+        }
+        came
+    }
+
+    fn send(&mut self, chan: ChanNo, bytes: &[u8], to: Addr) -> Result<bool, Failed> {
+        let is_full = self.is_full;
+        self.is_full = !is_full;
+        if is_full {
+            take(&mut self.taken, chan, Ops::WRITE);
+            return Ok(false);
+        }
+        match self.net.send_packet(chan, bytes, to) {
+            Ok(()) => Ok(true),
+            Err(_failure) => Err(Failed),
+        }
+    }
+
+    fn connect_packets(&mut self, _chan: ChanNo, _to: Addr) {}
+
+    fn close_packets(&mut self, chan: ChanNo) {
+        self.net.close_packets(chan);
+    }
+
+    ghost kept_traffic = { λ x y kept c. ap (λ sides. traffic_at sides c) kept.sides };
+
+    ghost kept_faults = { λ x y kept c. ap (λ faulted. times faulted c) kept.faulted };
+
+    ghost kept_places = { λ x y kept c. ap (λ sides. place_at sides c) kept.sides };
+}
