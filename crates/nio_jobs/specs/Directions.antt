@@ -2,9 +2,10 @@
 -- were read from the stream, and not yet written to the peer.
 use Rattle.std.specs.Prelude.{ℕ, ◌+◌, ◌-◌, ◌<◌, ◌≤◌, ◌↔◌, ◌==◌, Bool, true, false, IsTrue, ◌||◌, if◌then◌else◌, nat_lt, min}
 
--- how many bytes a direction holds at most
+-- How many bytes a direction holds, and a read that is in flight may add, together at most: two buffers of the proxy.
+-- So a read may fill a whole buffer while another one is held.
 abbrev pub capacity : ℕ
-capacity = 16384
+capacity = 32768
 
 -- how many it holds once n more were read, and once k were written
 abbrev pub held_after_read : ℕ → ℕ → ℕ

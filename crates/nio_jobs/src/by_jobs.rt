@@ -15,9 +15,9 @@ use std::alloc::{AllocError, Global};
 use std::sync::Wait;
 
 /// Makes each call that accepts, connects, reads or writes for a job of its kind and channel, and uses that up. While
-/// there is none, such a call is "not yet", and the net isn't called. What the calls of a turn came to is reported all
-/// at once, as the next turn begins, to those who hand out the jobs. Once they hand out none any more, a poll answers
-/// that memory lacks.
+/// there is none, such a call is "not yet", and the net isn't called. What calls came to is reported to those who hand
+/// out the jobs: after each call, if they take it then, and else all at once as the next turn begins. Once they hand
+/// out none any more, a poll answers that memory lacks.
 #[derive(Drop)]
 pub struct ByJobs<E> {
     exchange: E,
@@ -26,6 +26,10 @@ pub struct ByJobs<E> {
     done: Vec<Done>,
     // jobs that were handed out, and for which no call is permitted yet
     arrived: Vec<Job>,
+    // jobs that were handed out after a call
+    early: Vec<Job>,
+    // what a call came to was reported at once
+    is_early: bool,
     // no jobs will come any more, for want of memory
     is_refused: bool,
 }
@@ -45,6 +49,8 @@ impl<E: Drop> ByJobs<E> {
             jobs: Jobs::make(alloc, channels)?,
             done: Vec::with_capacity(alloc, (channels + flight) as usize)?,
             arrived: Vec::with_capacity(alloc, flight as usize)?,
+            early: Vec::with_capacity(alloc, flight as usize)?,
+            is_early: false,
             is_refused: false,
         })
     }
@@ -76,6 +82,63 @@ impl<E: Drop> ByJobs<E> {
             self.done.push_reserved(done);
         }
     }
+}
+
+impl<E: Exchange + Drop> ByJobs<E> {
+    // Notes what a call for a link came to, or for the listener, and takes the jobs in that are handed out for that.
+    fn conclude(&mut self, chan: ChanNo, done: Done) {
+        self.note(done);
+        self.exchange
+            .exchange_early(&mut self.done, &mut self.early);
+        self.is_early = self.done.is_empty();
+        for _ in 0..self.early.len() {
+            if let Some(job) = self.early.pop() {
+                self.take_in(chan, job);
+            }
+        }
+    }
+
+    // Takes a job in while a link is served. After that the proxy watches both links of the same connection anew, and
+    // each turn the listener: so jobs for these are permitted at once. Those for other links are, once the next turn
+    // begins.
+    fn take_in(&mut self, served: ChanNo, job: Job) {
+        if job.kind() == OpKind::Accept || connection_of(served.0) == connection_of(job.chan().0) {
+            self.jobs.put(job);
+        } else {
+            // there is room for the jobs of all operations that can be in flight
+            let _ = self.arrived.push(job);
+        }
+    }
+}
+
+// The number of the connection to which a channel belongs, counted from 1. The listener's channel has 0.
+fn connection_of(chan: u32) -> u32 {
+    chan / 2 + chan % 2
+}
+
+// The other link of a connection.
+fn peer_of(chan: ChanNo) -> ChanNo {
+    ChanNo(if chan.0 % 2 == 1 {
+        chan.0.saturating_add(1)
+    } else {
+        chan.0.saturating_sub(1)
+    })
+}
+
+// What may be started on a link once these operations have completed on its peer: a write of what was read there; and a
+// read, since there is room again for what was written there.
+fn following(at_peer: Ops) -> Ops {
+    let write = if Ops::READ.within(at_peer) {
+        Ops::WRITE
+    } else {
+        Ops::NONE
+    };
+    let read = if Ops::WRITE.within(at_peer) {
+        Ops::READ
+    } else {
+        Ops::NONE
+    };
+    write.union(read)
 }
 
 // What is to be reported of a call that makes a link, and that has this outcome where the link is made.
@@ -145,8 +208,15 @@ impl<N: Net, E: Exchange + Drop> Way<JobNet<N>> for ByJobs<E> {
 
     ghost accepted = { N.accepted };
 
+    // A link is watched for what there is a job for; and for what there will be one for once a call for the other link
+    // of its connection has been made, if jobs are handed out at once: so bytes may be read and written in one turn.
     fn permits(&self, chan: ChanNo) -> Ops {
-        self.jobs.permits(chan)
+        let now = self.jobs.permits(chan);
+        if self.is_early {
+            now.union(following(self.jobs.permits(peer_of(chan))))
+        } else {
+            now
+        }
     }
 
     fn permitted(&mut self) -> Option<ChanNo> {
@@ -198,7 +268,8 @@ impl<N: Net, E: Exchange + Drop> Way<JobNet<N>> for ByJobs<E> {
         };
         let op = job.op();
         let accepted = net.try_accept(job, listener, chan);
-        self.note(done_of_made(op, listener, OpKind::Accept, Outcome::Accepted, accepted));
+        let done = done_of_made(op, listener, OpKind::Accept, Outcome::Accepted, accepted);
+        self.conclude(chan, done);
         accepted
     }
 
@@ -211,7 +282,8 @@ impl<N: Net, E: Exchange + Drop> Way<JobNet<N>> for ByJobs<E> {
         let job = self.take(chan, OpKind::Connect)?;
         let op = job.op();
         let made = net.try_connect(job, chan, to);
-        self.note(done_of_made(op, chan, OpKind::Connect, Outcome::Connected, made));
+        let done = done_of_made(op, chan, OpKind::Connect, Outcome::Connected, made);
+        self.conclude(chan, done);
         Some(made)
     }
 
@@ -221,7 +293,8 @@ impl<N: Net, E: Exchange + Drop> Way<JobNet<N>> for ByJobs<E> {
         };
         let op = job.op();
         let made = net.try_finish(job, chan);
-        self.note(done_of_made(op, chan, OpKind::Connect, Outcome::Connected, made));
+        let done = done_of_made(op, chan, OpKind::Connect, Outcome::Connected, made);
+        self.conclude(chan, done);
         made
     }
 
@@ -232,7 +305,7 @@ impl<N: Net, E: Exchange + Drop> Way<JobNet<N>> for ByJobs<E> {
         let op = job.op();
         let len = part(&job, into.len());
         let got = net.try_read(job, chan, &mut into[..len]);
-        self.note(done_of_read(op, chan, got));
+        self.conclude(chan, done_of_read(op, chan, got));
         got
     }
 
@@ -243,7 +316,7 @@ impl<N: Net, E: Exchange + Drop> Way<JobNet<N>> for ByJobs<E> {
         let op = job.op();
         let len = part(&job, from.len());
         let put = net.try_write(job, chan, &from[..len]);
-        self.note(done_of_written(op, chan, put));
+        self.conclude(chan, done_of_written(op, chan, put));
         put
     }
 
@@ -253,7 +326,7 @@ impl<N: Net, E: Exchange + Drop> Way<JobNet<N>> for ByJobs<E> {
 
     fn close(&mut self, net: &mut JobNet<N>, chan: ChanNo) {
         net.close(chan);
-        self.note(Done::Closed(chan));
+        self.conclude(chan, Done::Closed(chan));
     }
 
     ghost kept_same = { N.kept_same };

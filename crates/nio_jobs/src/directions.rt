@@ -7,8 +7,9 @@ ghost use Rattle.nio_jobs.specs.Directions.{StaysFlowing};
 
 use nio_relay::CAPACITY;
 
-/// How many bytes a direction holds at most.
-pub(crate) const ROOM: u64 = CAPACITY as u64;
+/// How many bytes a direction holds, and a read that is in flight may add, together at most: two buffers. With one,
+/// each read after a short one would be for the rest of a buffer.
+pub(crate) const ROOM: u64 = 2 * CAPACITY as u64;
 
 /// How many bytes a direction holds, and the lengths of the operations that are due in it: a write to the peer and a read
 /// from the stream. None is due where the length is 0.

@@ -1,5 +1,5 @@
 //! What a way by jobs and those who start the operations tell each other.
-ghost use Rattle.std.specs.Prelude.{◌≡◌, []};
+ghost use Rattle.std.specs.Prelude.{◌≡◌, ◌⊎◌, []};
 
 use nio_base::{ChanNo, OpKind, OpNo, Outcome};
 use nio_group::Job;
@@ -30,4 +30,9 @@ pub trait Exchange {
         arrived: &mut Vec<Job>,
     ) -> Result<(), AllocError>
         ensures { done.new.items ≡ [] };
+
+    /// May do the same within a turn, once a call was made, so that what is due next can be done in this turn. It may
+    /// wait only for a lock. The clause says only that all is taken off `done`, or nothing.
+    fn exchange_early(&mut self, done: &mut Vec<Done>, arrived: &mut Vec<Job>)
+        ensures { (done.new.items ≡ []) ⊎ (done.new.items ≡ done.old.items) };
 }

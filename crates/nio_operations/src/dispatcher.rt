@@ -1,79 +1,140 @@
 //! The dispatcher of a group: the thread that makes the calls on the net.
 ghost use Rattle.std.specs.Prelude.{◌≡◌, []};
 ghost use Rattle.nio_operations.specs.Reports.{after_done, after_turn};
+ghost use Rattle.nio_pool.specs.Queues.{IsPassOf};
 
-use crate::relaying::Relaying;
-use crate::streams::job;
-use nio_base::GChan;
-use nio_group::{GroupCore, Job};
+use crate::relaying::{Relaying, handle};
+use crate::streams::{Streams, job};
+use nio_base::{GChan, OpKind};
+use nio_group::{Completion, GroupCore, Job};
 use nio_jobs::{Done, Exchange};
-use nio_pool::Group;
+use nio_pool::{CompletionQueue, Group, QueuePass};
 use std::alloc::AllocError;
 use std::sync::Wait;
 
-/// Exchanges jobs with a group between threads, whose handlers start the next operations.
+/// Where the dispatcher puts completions for the workers.
 #[derive(Drop)]
-pub(crate) struct Dispatcher<'a> {
-    pub group: &'a Group,
-    pub relaying: &'a Relaying,
+pub(crate) struct Outbox<'a> {
+    queue: &'a CompletionQueue,
+    pass: QueuePass,
+    ghost its: { IsPassOf queue.now pass },
 }
 
-impl<'a> Exchange for Dispatcher<'a> {
-    // Takes the group's lock once where there is something to report, and the lock of the streams once.
-    fn exchange<R: Wait>(
+impl<'a> Outbox<'a> {
+    pub(crate) fn over(queue: &'a CompletionQueue, pass: QueuePass) -> Outbox<'a>
+        requires { IsPassOf queue.now pass }
+    {
+        Outbox { queue, pass }
+    }
+
+    // Puts a completion; it comes back where the queue is full.
+    fn put<R: Wait>(&mut self, rt: &R, done: Completion) -> Result<(), Completion> {
+        self.queue.put(rt, &mut self.pass, done)
+    }
+}
+
+/// Exchanges jobs with a group between threads, and starts the next operations itself but for those that are due once a
+/// target is connected.
+#[derive(Drop)]
+pub(crate) struct Dispatcher<'a, R> {
+    pub rt: &'a R,
+    pub group: &'a Group,
+    pub relaying: &'a Relaying,
+    pub outbox: Outbox<'a>,
+}
+
+impl<'a, R: Wait> Exchange for Dispatcher<'a, R> {
+    fn exchange<S: Wait>(
         &mut self,
-        rt: &R,
+        _rt: &S,
         done: &mut Vec<Done>,
         arrived: &mut Vec<Job>,
     ) -> Result<(), AllocError> {
-        if self.report(rt, done, arrived) {
-            self.relaying.see_to(rt, self.group);
-        }
-        self.relaying.give(rt, arrived);
+        self.settle(done, arrived);
         Ok(())
     }
+
+    fn exchange_early(&mut self, done: &mut Vec<Done>, arrived: &mut Vec<Job>) {
+        self.settle(done, arrived);
+    }
 }
 
-impl<'a> Dispatcher<'a> {
-    // Reports all under one lock. Says whether that queued a completion.
-    fn report<R: Wait>(&self, rt: &R, done: &mut Vec<Done>, arrived: &mut Vec<Job>) -> bool
+impl<'a, R: Wait> Dispatcher<'a, R> {
+    // Reports all, handles what that completes, and takes the jobs that were handed out. It gets the lock of the
+    // streams once, and the group's where there is something to report.
+    fn settle(&mut self, done: &mut Vec<Done>, arrived: &mut Vec<Job>)
         ensures { done.new.items ≡ [] }
     {
-        if done.is_empty() {
-            return false;
-        }
-        let mut core = self.group.lock(rt);
-        let queued = report_all(&mut core, done, arrived);
-        drop(core);
+        let mut streams = self.relaying.lock(self.rt);
+        let is_for_workers = !done.is_empty() && self.report(&mut streams, done, arrived);
         done.clear();
-        queued
+        streams.give(arrived);
+        drop(streams);
+        if is_for_workers {
+            self.group.wake(self.rt);
+        }
+    }
+
+    // Says whether there is a completion for the workers.
+    fn report(&mut self, streams: &mut Streams, done: &[Done], arrived: &mut Vec<Job>) -> bool {
+        let mut core = self.group.lock(self.rt);
+        report_all(&mut core, done, arrived);
+        self.handle_all(streams, &mut core)
+    }
+
+    // Handles the completions that are queued, and those that are queued by that. Says whether there is one for the
+    // workers.
+    fn handle_all(&mut self, streams: &mut Streams, core: &mut GroupCore) -> bool {
+        let mut is_for_workers = false;
+        for _ in 0..u64::MAX {
+            let Some(taken) = core.take() else {
+                return is_for_workers;
+            };
+            match self.hand_over(taken) {
+                None => is_for_workers = true,
+                Some(done) => handle(streams, core, &done),
+            }
+        }
+        is_for_workers
+    }
+
+    // Gives a completion to the workers, if it is one of theirs. It comes back where it is the dispatcher's own.
+    fn hand_over(&mut self, done: Completion) -> Option<Completion> {
+        if done.kind() == OpKind::Connect && self.relaying.has_worker() {
+            self.outbox.put(self.rt, done).err()
+        } else {
+            Some(done)
+        }
     }
 }
 
-// Reports what calls came to, and takes the next job of each operation that is still pending. Says whether that may have
-// queued a completion.
-fn report_all(core: &mut GroupCore, done: &[Done], arrived: &mut Vec<Job>) -> bool
+// Reports what calls came to, and takes the next job of each operation that is still pending.
+fn report_all(core: &mut GroupCore, done: &[Done], arrived: &mut Vec<Job>)
     ensures { core.new ≡ after_turn core.old done.now }
 {
-    let mut queued = false;
     for one in done {
-        queued = report(core, *one, arrived) || queued;
+        report(core, *one, arrived);
     }
-    queued
 }
 
-fn report(core: &mut GroupCore, done: Done, arrived: &mut Vec<Job>) -> bool
+fn report(core: &mut GroupCore, done: Done, arrived: &mut Vec<Job>)
     ensures { core.new ≡ after_done core.old done }
 {
     match done {
-        Done::Outcome(op, outcome) => core.report(op, outcome).is_ok(),
+        Done::Outcome(op, outcome) => {
+            // refused where the operation's channel was closed meanwhile
+            let _ = core.report(op, outcome);
+        }
         Done::Again(chan, kind) => {
             if let Some(job) = job(core, GChan(chan.0), kind) {
                 // there is room for the jobs of all operations that can be in flight
                 let _ = arrived.push(job);
             }
-            false
         }
-        Done::Closed(chan) => chan.0 < core.channels() && core.close_channel(GChan(chan.0)),
+        Done::Closed(chan) => {
+            if chan.0 < core.channels() {
+                core.close_channel(GChan(chan.0));
+            }
+        }
     }
 }

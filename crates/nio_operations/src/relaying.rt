@@ -1,14 +1,15 @@
 //! The handlers of a proxy's completions.
 use crate::streams::Streams;
-use nio_group::{Completion, Job};
+use nio_group::{Completion, GroupCore};
 use nio_poller::Bell;
 use nio_pool::{Group, Handed, Handler};
 use std::sync::atomic::{AtomicU64, Ordering};
-use std::sync::{Mutex, Wait};
+use std::sync::{Mutex, MutexGuard, Wait};
 use std::thread;
 
-// How often the dispatcher lets other threads run before it goes on without a worker: some tenths of a second.
-const YIELDS: u32 = 200_000;
+// How often the dispatcher lets other threads run before it begins without a worker. It does so to the end only where a
+// thread could be made a moment ago and no longer can.
+const YIELDS: u32 = 500_000;
 
 /// What the handlers share. Who holds the lock of the streams may take the group's lock.
 #[derive(Drop)]
@@ -47,7 +48,7 @@ impl Relaying {
         self.workers.fetch_add(1, Ordering::SeqCst);
     }
 
-    /// Lets other threads run until a worker has begun, so many times at most: where no thread could be made none does.
+    /// Lets other threads run until a worker has begun, so many times at most.
     pub(crate) fn await_worker(&self) {
         for _ in 0..YIELDS {
             if self.has_worker() {
@@ -57,53 +58,43 @@ impl Relaying {
         }
     }
 
-    fn has_worker(&self) -> bool {
+    /// Whether a worker has begun.
+    pub(crate) fn has_worker(&self) -> bool {
         self.workers.load(Ordering::SeqCst) != 0
+    }
+
+    /// Lends the streams.
+    pub(crate) fn lock<R: Wait>(&self, rt: &R) -> MutexGuard<'_, Streams> {
+        self.streams.lock(rt)
     }
 
     /// Opens the listener's channel, and starts its first accept.
     pub(crate) fn listen<R: Wait>(&self, rt: &R, group: &Group) {
-        let mut streams = self.streams.lock(rt);
+        let mut streams = self.lock(rt);
         let mut core = group.lock(rt);
         streams.listen(&mut core);
     }
 
     // Starts what is due. Says whether there was no job for the dispatcher before, and is now.
     fn go_on<R: Wait>(&self, rt: &R, group: &Group, done: &Completion) -> bool {
-        let mut streams = self.streams.lock(rt);
+        let mut streams = self.lock(rt);
         let had_started = streams.has_started();
         let mut core = group.lock(rt);
-        if done.chan().0 < core.channels() {
-            streams.go_on(&mut core, done);
-        }
+        start_due(&mut streams, &mut core, done);
         drop(core);
         !had_started && streams.has_started()
     }
+}
 
-    /// Adds the jobs of the operations that were started to those that the dispatcher has.
-    pub(crate) fn give<R: Wait>(&self, rt: &R, arrived: &mut Vec<Job>) {
-        self.streams.lock(rt).give(arrived);
-    }
+/// Starts what is due once an operation has completed, and ends the operation.
+pub(crate) fn handle(streams: &mut Streams, core: &mut GroupCore, done: &Completion) {
+    start_due(streams, core, done);
+    // it runs, since its completion was taken
+    let _ = core.finish(done.op());
+}
 
-    /// Sees that completions are handled: wakes a worker, or handles them all where none has begun, as where no thread
-    /// could be made.
-    pub(crate) fn see_to<R: Wait>(&self, rt: &R, group: &Group) {
-        if self.has_worker() {
-            group.wake(rt);
-        } else {
-            self.handle_all(rt, group);
-        }
-    }
-
-    // Handles the completions that are queued, and those that are queued by that.
-    fn handle_all<R: Wait>(&self, rt: &R, group: &Group) {
-        for _ in rt.forever() {
-            let taken = group.lock(rt).take();
-            let Some(done) = taken else {
-                return;
-            };
-            self.go_on(rt, group, &done);
-            let _ = group.lock(rt).finish(done.op());
-        }
+fn start_due(streams: &mut Streams, core: &mut GroupCore, done: &Completion) {
+    if done.chan().0 < core.channels() {
+        streams.go_on(core, done);
     }
 }

@@ -1,5 +1,5 @@
 //! Serving a plan by the operations of a group.
-ghost use Rattle.std.specs.Prelude.{◌≡◌, ◌+◌, ◌*◌, ◌<◌, ◌≤◌, All, IfOk, length};
+ghost use Rattle.std.specs.Prelude.{◌≡◌, ◌+◌, ◌*◌, ◌<◌, ◌≤◌, All, IfOk, IfSome, length};
 ghost use Rattle.std.specs.Thread.{IsSync};
 ghost use Rattle.nio_base.specs.declared.numbers.ChanNo.{ChanNo};
 ghost use Rattle.nio_link.specs.Links.{IsUnused};
@@ -8,7 +8,7 @@ ghost use Rattle.nio_pool.specs.Queues.{IsPassOf};
 ghost use Rattle.nio_relay.specs.Plan.{IsServable};
 ghost use Rattle.nio_serve.specs.Serving.{AreNumbered, LeavesNothing, NoneRose, RelaysBytes, Serves, ServesAllOr};
 
-use crate::dispatcher::Dispatcher;
+use crate::dispatcher::{Dispatcher, Outbox};
 use crate::relaying::{Relaying, Ringing};
 use crate::streams::Streams;
 use nio_base::Gate;
@@ -50,16 +50,17 @@ struct Staff {
 }
 
 impl Staff {
-    // The workers come with a pass each.
+    // With a pass of the queue for the dispatcher, and one for each worker.
     fn make(
         alloc: Global,
         plan: ProxyPlan,
         workers: u32,
-    ) -> Result<(Staff, Vec<QueuePass>), AllocError>
+    ) -> Result<(Staff, Option<QueuePass>, Vec<QueuePass>), AllocError>
         requires plan { IsServable plan }
         requires workers { (1 ≤ workers) × (workers ≤ 64) }
-        ensures passes { IfOk result (λ made. All (IsPassOf made.0.queue) made.1.items) }
-        ensures count { IfOk result (λ made. length made.1.items ≡ workers) }
+        ensures own { IfOk result (λ made. IfSome made.1 (IsPassOf made.0.queue)) }
+        ensures passes { IfOk result (λ made. All (IsPassOf made.0.queue) made.2.items) }
+        ensures count { IfOk result (λ made. length made.2.items ≤ 64) }
     {
         let channels = channels_of(plan);
         let flight = flight_of(plan);
@@ -72,13 +73,15 @@ impl Staff {
             return Err(AllocError);
         };
         let streams = Streams::make(alloc, channels, flight)?;
-        let (queue, passes) = CompletionQueue::make(alloc, workers, flight)?;
+        let (queue, passes) = CompletionQueue::make(alloc, workers + 1, flight)?;
         let staff = Staff {
             group,
             queue,
             relaying: Relaying::over(streams),
         };
-        Ok((staff, passes))
+        let mut passes = passes;
+        let own = passes.pop();
+        Ok((staff, own, passes))
     }
 }
 
@@ -134,9 +137,11 @@ fn serve_by_jobs<R: Wait, N: Net>(
     alloc: Global,
     net: &mut JobNet<N>,
     staff: &Staff,
+    own: QueuePass,
     plan: ProxyPlan,
 ) -> Result<Served, ServeError>
     requires plan { IsServable plan }
+    requires pass { IsPassOf staff.now.queue own }
     requires fresh { (c : ChanNo) → IsUnused (N.link net.old c) }
     requires unasked { (c : ChanNo) → N.place net.old c ≡ unused }
     ensures serves { Serves plan (N.link net.new) (N.place net.new) (N.faults net.old) (N.faults net.new)
@@ -149,11 +154,16 @@ fn serve_by_jobs<R: Wait, N: Net>(
 {
     let Staff {
         group,
-        queue: _,
+        queue,
         relaying,
     } = staff;
     relaying.listen(rt, group);
-    let dispatcher = Dispatcher { group, relaying };
+    let dispatcher = Dispatcher {
+        rt,
+        group,
+        relaying,
+        outbox: Outbox::over(queue, own),
+    };
     match ByJobs::make(alloc, dispatcher, channels_of(plan), flight_of(plan)) {
         Ok(mut way) => serve(rt, alloc, &mut way, net, plan),
         Err(AllocError) => no_memory(net, plan),
@@ -166,15 +176,19 @@ fn close_group<R: Wait>(rt: &R, group: &Group) {
     group.wake(rt);
 }
 
-// Is the dispatcher: serves the plan, and then closes the group, so that the workers end.
+// Is the dispatcher: serves the plan, and then closes the group, so that the workers end. Where threads can be made, it
+// begins once a worker has.
 fn dispatch<R: Wait, N: Net>(
     rt: &R,
     alloc: Global,
     net: &mut JobNet<N>,
     staff: &Staff,
+    own: &mut Option<QueuePass>,
+    has_threads: bool,
     plan: ProxyPlan,
 ) -> Result<Served, ServeError>
     requires plan { IsServable plan }
+    requires pass { IfSome own.old (IsPassOf staff.now.queue) }
     requires fresh { (c : ChanNo) → IsUnused (N.link net.old c) }
     requires unasked { (c : ChanNo) → N.place net.old c ≡ unused }
     ensures serves { Serves plan (N.link net.new) (N.place net.new) (N.faults net.old) (N.faults net.new)
@@ -185,18 +199,36 @@ fn dispatch<R: Wait, N: Net>(
     ensures complete { NoneRose (N.faults net.old) (N.faults net.new) (N.poll_faults net.old) (N.poll_faults net.new)
         → ServesAllOr plan.conns (N.link net.new) result }
 {
-    staff.relaying.await_worker();
-    let served = serve_by_jobs(rt, alloc, net, staff, plan);
+    if has_threads {
+        staff.relaying.await_worker();
+    }
+    let served = match own.take() {
+        Some(own) => serve_by_jobs(rt, alloc, net, staff, own, plan),
+        None => no_memory(net, plan),
+    };
     close_group(rt, &staff.group);
     served
 }
 
+// Whether a thread can be made now.
+fn can_make_threads<R: Threads + Wait>(rt: &R) -> bool {
+    match thread::spawn(rt, || ()) {
+        Ok(made) => {
+            made.join(rt);
+            true
+        }
+        Err(_refused) => false,
+    }
+}
+
 /// Relays as many connections as the plan says, and then ends, by the operations of an asynchronous channel group. The
-/// calling thread is the dispatcher: it polls the net, and makes each call on it for a job of the group's. This many
-/// workers, each in a thread of its own, handle the completions and start the next operations; before each they pass the
-/// test gate, with their number and the operation's. A handler rings the bell, which has to be that of the net, where the
-/// dispatcher may wait for what it started. Where no thread can be made, the dispatcher handles the completions itself,
-/// and passes no gate.
+/// calling thread is the dispatcher: it polls the net, and makes each call on it for a job of the group's. It handles
+/// the completion of an accept, a read or a write itself, as soon as its call has been made: so what it starts next can
+/// be done before the next poll. The completions of connects are for this many workers, each in a thread of its own: a
+/// worker passes the test gate, with its number and the operation's, and starts the first reads of the connection. It
+/// rings the bell, which has to be that of the net, where the dispatcher may wait for what it started. So a
+/// connect's handler that takes long holds up no other connection while a worker is free (tested only). Until a worker
+/// has begun, as where no thread can be made, the dispatcher handles all completions, and passes no gate.
 ///
 /// A connection ends when both of its directions are shut, or at the first fault of one of its links, which closes both
 /// and is counted. At every end the links, the listener and the group are closed, and the workers have ended. `Memory`
@@ -222,10 +254,12 @@ pub fn serve_group<R: Threads + Wait + Sync, N: Net, B: Bell + Sync, G: Gate + S
     ensures complete { NoneRose (N.faults net.old) (N.faults net.new) (N.poll_faults net.old) (N.poll_faults net.new)
         → ServesAllOr plan.conns (N.link net.new) result }
 {
-    let Ok((staff, passes)) = Staff::make(alloc, plan, workers) else {
+    let Ok((staff, own, passes)) = Staff::make(alloc, plan, workers) else {
         return no_memory(net, plan);
     };
+    let mut own = own;
     let mut passes = passes;
+    let has_threads = can_make_threads(rt);
     let mut served = Err(ServeError::Memory);
     thread::join_mut(
         rt,
@@ -233,7 +267,7 @@ pub fn serve_group<R: Threads + Wait + Sync, N: Net, B: Bell + Sync, G: Gate + S
             requires { IsSync R.row × IsSync B.row × IsSync G.row × All (IsPassOf staff.queue) passes.items
                 × (length passes.items ≤ 64) }
         { work_all(rt, &staff, passes.as_mut_slice(), bell, gate) },
-        &mut || served = dispatch(rt, alloc, net, &staff, plan),
+        &mut || served = dispatch(rt, alloc, net, &staff, &mut own, has_threads, plan),
     );
     served
 }

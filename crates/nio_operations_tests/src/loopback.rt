@@ -1,6 +1,6 @@
 //! The proxy by operations over sockets: a client, the proxy and a target, each in a thread. The proxy's polls wait, and
 //! its handlers ring.
-use nio_base::{Addr, NoGate};
+use nio_base::{Addr, Gate, NoGate};
 use nio_link::JobNet;
 use nio_mio::MioNet;
 use nio_operations::serve_group;
@@ -11,8 +11,9 @@ use std::io;
 use std::io::{Read, Write};
 use std::net::{Net, Shutdown, TcpListener, TcpStream};
 use std::sync::Wait;
+use std::sync::atomic::{AtomicBool, Ordering};
 use std::test::Fail;
-use std::thread::{Threads, join, sleep};
+use std::thread::{Threads, join, sleep, yield_now};
 use std::time::{Clock, Duration};
 
 const COUNT: usize = 50_000;
@@ -34,12 +35,14 @@ fn bytes(alloc: Global, period: usize) -> Result<Vec<u8>, AllocError> {
     Ok(bytes)
 }
 
-/// Relays one connection, by four workers.
-fn relay<R: Threads + Wait + Sync + Net + Clock + Copy>(
+/// Relays one or two connections, by four workers.
+fn relay<R: Threads + Wait + Sync + Net + Clock + Copy, G: Gate + Sync>(
     rt: &R,
     alloc: Global,
     listen: u16,
     target: u16,
+    conns: u32,
+    gate: &G,
 ) -> Result<Result<Served, ServeError>, AllocError> {
     let plan = ProxyPlan {
         listen: Addr {
@@ -50,11 +53,11 @@ fn relay<R: Threads + Wait + Sync + Net + Clock + Copy>(
             ip: LOCAL,
             port: target,
         },
-        conns: 1,
+        conns: conns.clamp(1, 2),
     };
     let (net, bell) = MioNet::make(*rt, alloc)?;
     let mut jobs = JobNet::over(net);
-    Ok(serve_group(rt, alloc, &mut jobs, &bell, &NoGate, plan, 4))
+    Ok(serve_group(rt, alloc, &mut jobs, &bell, gate, plan, 4))
 }
 
 /// Connects once somebody listens.
@@ -69,8 +72,8 @@ fn connect(rt: &HostRuntime, to: u16) -> io::Result<TcpStream> {
 }
 
 /// Sends the bytes and their end, and then takes what comes back.
-fn ask(rt: &HostRuntime, to: u16, sent: &[u8]) -> io::Result<Vec<u8>> {
-    let mut stream = connect(rt, to)?;
+fn ask(rt: &HostRuntime, stream: TcpStream, sent: &[u8]) -> io::Result<Vec<u8>> {
+    let mut stream = stream;
     stream.write_all(sent)?;
     stream.shutdown(Shutdown::Write)?;
     let mut came = Vec::new(rt.alloc());
@@ -78,9 +81,9 @@ fn ask(rt: &HostRuntime, to: u16, sent: &[u8]) -> io::Result<Vec<u8>> {
     Ok(came)
 }
 
-/// Takes what comes on one connection until its end, and then sends the bytes.
-fn answer(rt: &HostRuntime, listener: &TcpListener, sent: &[u8]) -> io::Result<Vec<u8>> {
-    let (mut stream, _from) = listener.accept()?;
+/// Takes what comes on a connection until its end, and then sends the bytes.
+fn answer(rt: &HostRuntime, stream: TcpStream, sent: &[u8]) -> io::Result<Vec<u8>> {
+    let mut stream = stream;
     let mut came = Vec::new(rt.alloc());
     stream.read_to_end(&mut came)?;
     stream.write_all(sent)?;
@@ -97,13 +100,13 @@ fn relays_over_loopback(rt: HostRuntime) -> Result<(), Fail> {
     let (relayed, (asked, answered)) = join(
         &rt,
         || -> Result<Result<Served, ServeError>, AllocError> {
-            relay(&rt, rt.alloc(), listen, target)
+            relay(&rt, rt.alloc(), listen, target, 1, &NoGate)
         },
         || -> (io::Result<Vec<u8>>, io::Result<Vec<u8>>) {
             join(
                 &rt,
-                || -> io::Result<Vec<u8>> { ask(&rt, listen, &question) },
-                || -> io::Result<Vec<u8>> { answer(&rt, &listener, &reply) },
+                || -> io::Result<Vec<u8>> { ask(&rt, connect(&rt, listen)?, &question) },
+                || -> io::Result<Vec<u8>> { answer(&rt, listener.accept()?.0, &reply) },
             )
         },
     );
@@ -114,5 +117,90 @@ fn relays_over_loopback(rt: HostRuntime) -> Result<(), Fail> {
     assert_eq!(rt; relayed?, Ok(one));
     assert!(rt; asked? == reply);
     assert!(rt; answered? == question);
+    Ok(())
+}
+
+/// How often a thread looks whether another has come before it gives up.
+const TURNS: u32 = 100_000_000;
+
+fn awaits(flag: &AtomicBool) -> bool {
+    for _ in 0..TURNS {
+        if flag.load(Ordering::SeqCst) {
+            return true;
+        }
+        yield_now();
+    }
+    false
+}
+
+/// Holds the first completion that a worker handles until it is let go.
+#[derive(Drop)]
+struct Holding {
+    is_held: AtomicBool,
+    is_let_go: AtomicBool,
+    given_up: AtomicBool,
+}
+
+impl Gate for Holding {
+    fn pass<R: Wait>(&self, _rt: &R, _who: u32, _what: u64) {
+        if !self.is_held.swap(true, Ordering::SeqCst) && !awaits(&self.is_let_go) {
+            self.given_up.store(true, Ordering::SeqCst);
+        }
+    }
+}
+
+/// Connects twice, and asks over the second connection while the first one's connect is held; then over the first.
+fn ask_beside(rt: &HostRuntime, to: u16, sent: &[u8], gate: &Holding) -> io::Result<Vec<u8>> {
+    let first = connect(rt, to)?;
+    let was_held = awaits(&gate.is_held);
+    let mut came = ask(rt, connect(rt, to)?, sent)?;
+    gate.is_let_go.store(true, Ordering::SeqCst);
+    if was_held {
+        came.append(&mut ask(rt, first, sent)?)?;
+    }
+    Ok(came)
+}
+
+/// Takes two connections, and answers over the second and then over the first.
+fn answer_beside(rt: &HostRuntime, listener: &TcpListener, sent: &[u8]) -> io::Result<usize> {
+    let (first, _from) = listener.accept()?;
+    let (second, _from) = listener.accept()?;
+    let came = answer(rt, second, sent)?.len();
+    Ok(came.saturating_add(answer(rt, first, sent)?.len()))
+}
+
+#[test]
+fn a_connect_that_is_held_holds_up_no_other_connection(rt: HostRuntime) -> Result<(), Fail> {
+    let listener = TcpListener::bind(&rt, "127.0.0.1:0")?;
+    let target = listener.local_addr()?.port();
+    let listen = free_port(&rt)?;
+    let text = bytes(rt.alloc(), 251)?;
+    let gate = Holding {
+        is_held: AtomicBool::new(false),
+        is_let_go: AtomicBool::new(false),
+        given_up: AtomicBool::new(false),
+    };
+    let (relayed, (asked, answered)) = join(
+        &rt,
+        || -> Result<Result<Served, ServeError>, AllocError> {
+            relay(&rt, rt.alloc(), listen, target, 2, &gate)
+        },
+        || -> (io::Result<Vec<u8>>, io::Result<usize>) {
+            join(
+                &rt,
+                || -> io::Result<Vec<u8>> { ask_beside(&rt, listen, &text, &gate) },
+                || -> io::Result<usize> { answer_beside(&rt, &listener, &text) },
+            )
+        },
+    );
+    let both = Served {
+        connections: 2,
+        faults: 0,
+    };
+    assert_eq!(rt; relayed?, Ok(both));
+    let asked = asked?;
+    assert!(rt; asked.len() / 2 == COUNT && asked.starts_with(&text) && asked.ends_with(&text));
+    assert_eq!(rt; answered? / 2, COUNT);
+    assert!(rt; !gate.given_up.load(Ordering::SeqCst));
     Ok(())
 }

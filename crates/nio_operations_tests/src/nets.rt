@@ -59,6 +59,7 @@ fn pieces(alloc: Global, lengths: &[usize]) -> Result<Vec<Vec<u8>>, AllocError> 
 pub(crate) fn net_of(
     alloc: Global,
     peers: &[Peer],
+    fail_poll: Option<u64>,
     fail_accept: Option<u64>,
 ) -> Result<MemoryNet, AllocError>
     ensures fresh { IfOk result (λ net. (c : ChanNo) → IsUnused (carried_at net.slots c)) }
@@ -78,7 +79,7 @@ pub(crate) fn net_of(
         alloc,
         NetPlan {
             peers: plans,
-            fail_poll: None,
+            fail_poll,
             fail_accept,
         },
     )

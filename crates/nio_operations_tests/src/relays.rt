@@ -99,6 +99,52 @@ const ROWS: &[Row] = &[
         }),
         ..ONE
     },
+    Row {
+        name: "a_write_fails_beside_others",
+        peers: &[
+            SHORT,
+            Peer {
+                sends: &[100],
+                answers: &[0, 0, 0, 0, 0, 0, 0, 0, 0, 0, 9],
+                most: 100,
+                fail_write_after: Some(10),
+                at_target: 10,
+                at_client: 0,
+                is_shut: false,
+                ..SHORT
+            },
+            SHORT,
+        ],
+        served: Ok(Served {
+            connections: 3,
+            faults: 1,
+        }),
+        ..ONE
+    },
+    Row {
+        name: "client_ends_first",
+        peers: &[Peer {
+            sends: &[5],
+            answers: &[0, 0, 0, 0, 0, 0, 9],
+            most: 100,
+            at_target: 5,
+            at_client: 9,
+            ..SHORT
+        }],
+        ..ONE
+    },
+    Row {
+        name: "target_ends_first",
+        peers: &[Peer {
+            sends: &[0, 0, 0, 0, 0, 0, 5],
+            answers: &[],
+            most: 100,
+            at_target: 5,
+            at_client: 0,
+            ..SHORT
+        }],
+        ..ONE
+    },
     // a permit that is lost where several come together leaves a connection unserved, and this doesn't end
     Row {
         name: "eight_at_once",
@@ -125,7 +171,7 @@ fn has_arrived(net: &MemoryNet, client: ChanNo, target: ChanNo, peer: &Peer) -> 
 #[test]
 fn relays_end_as_written_down(rt: HostRuntime) -> Result<(), Fail> {
     for row in ROWS {
-        let net = net_of(rt.alloc(), row.peers, row.fail_accept)?;
+        let net = net_of(rt.alloc(), row.peers, None, row.fail_accept)?;
         let (served, net) = serves(&rt, rt.alloc(), net, row.peers.len(), &NoGate);
         assert_eq!(rt; served, row.served, "{}", row.name);
         let mut client: u32 = 1;
@@ -135,6 +181,23 @@ fn relays_end_as_written_down(rt: HostRuntime) -> Result<(), Fail> {
             assert!(rt; arrived, "{}: {client}", row.name);
             client = client.wrapping_add(2);
         }
+    }
+    Ok(())
+}
+
+/// How many of the first polls fail in turn.
+const POLLS: u64 = 8;
+
+#[test]
+fn each_of_the_first_polls_fails(rt: HostRuntime) -> Result<(), Fail> {
+    let (client, target) = (ChanNo(1), ChanNo(2));
+    for poll in 0..POLLS {
+        let net = net_of(rt.alloc(), &[SENDER], Some(poll), None)?;
+        let (served, net) = serves(&rt, rt.alloc(), net, 1, &NoGate);
+        assert_eq!(rt; served, Err(ServeError::NetFault), "poll {poll}");
+        let arrived = net.put_bytes(target);
+        assert!(rt; net.got_bytes(client).starts_with(arrived), "poll {poll}");
+        assert!(rt; net.put_bytes(client).is_empty(), "poll {poll}");
     }
     Ok(())
 }

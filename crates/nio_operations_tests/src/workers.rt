@@ -10,8 +10,9 @@ use std::thread;
 /// How often a worker looks whether the other has come before it gives up.
 const TURNS: u32 = 100_000_000;
 
-/// Holds each of two workers until the other has come with a completion of its own. That of the first accept isn't
-/// held: nothing can complete beside it.
+/// Holds each of two workers until the other has come with a completion of its own. The dispatcher waits for a worker
+/// before it begins, and leaves the completions of the two connects to the workers: while one of them is held with the
+/// one, only the other can take the other one.
 #[derive(Drop)]
 struct Meeting {
     first_came: AtomicBool,
@@ -33,9 +34,8 @@ impl Meeting {
 }
 
 impl Gate for Meeting {
-    fn pass<R: Wait>(&self, _rt: &R, who: u32, what: u64) {
+    fn pass<R: Wait>(&self, _rt: &R, who: u32, _what: u64) {
         match who {
-            _ if what == 0 => {}
             0 => self.meet(&self.first_came, &self.second_came),
             1 => self.meet(&self.second_came, &self.first_came),
             _ => self.given_up.store(true, Ordering::SeqCst),
@@ -60,7 +60,7 @@ fn two_workers_meet(rt: HostRuntime) -> Result<(), Fail> {
         second_came: AtomicBool::new(false),
         given_up: AtomicBool::new(false),
     };
-    let net = net_of(rt.alloc(), &[STEADY; 2], None)?;
+    let net = net_of(rt.alloc(), &[STEADY; 2], None, None)?;
     let (served, _net) = serves(&rt, rt.alloc(), net, 2, &gate);
     let all = Served {
         connections: 2,
