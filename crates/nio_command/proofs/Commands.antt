@@ -8,9 +8,11 @@ use Rattle.std.specs.Option.{ok_or}
 use Rattle.std.specs.List.{flat_map, slice_index_or}
 use Rattle.std.proofs.lemmas.List.Sorted.{length_permutation}
 use Rattle.nio_command.specs.Options.{AreOptions, Text, Written, apart, given, joined, option_words}
-use Rattle.nio_command.specs.Texts.{AreNoOptions, IsNoOption}
-use Rattle.nio_command.specs.Values.{ProxyValues, proxy_options, workers_option}
-use Rattle.nio_command.specs.Words.{AsksFor, AsksForWay, AsksForWorkers, IsCommand, IsProxyCommand}
+use Rattle.nio_command.specs.Texts.{AreNoOptions, AreNoPacketOptions, IsNoOption}
+use Rattle.nio_command.specs.Values.{PacketValues, ProxyValues, packet_options, proxy_options}
+use Rattle.nio_command.specs.Words.{AsksFor, AsksForPackets, AsksForWay, AsksForWorkers, IsCommand, IsPacketsCommand}
+use Rattle.nio_command.specs.Words.{IsProxyCommand}
+use Rattle.nio_datagram.specs.declared.serving.PacketPlan.{PacketPlan}
 use Rattle.nio_command.proofs.Addresses.{address_plain}
 use Rattle.nio_command.proofs.Numbers.{decimal_plain}
 use Rattle.nio_relay.specs.declared.plan.ProxyPlan.{ProxyPlan}
@@ -20,8 +22,9 @@ use Rattle.std.specs.Str.{bytes_eq}
 use Rattle.std.proofs.lemmas.Slice.Eq.{bytes_eq-Decides}
 use Rattle.nio_command.specs.declared.command.Command.{Command}
 use Rattle.nio_command.specs.declared.way.ProxyWay.{ProxyWay}
-use Rattle.nio_command.specs.declared.way.ProxyWay.TheVariants.{Select, Group}
+use Rattle.nio_command.specs.declared.way.ProxyWay.TheVariants.{Select, Group, Future}
 use Rattle.nio_command.specs.declared.command.Command.TheVariants.{Script, Check, CheckFirst, Race, Timed, Load, Proxy}
+use Rattle.nio_command.specs.declared.command.Command.TheVariants.{Packets}
 use Rattle.nio_command.specs.declared.command.WordsError.{WordsError}
 use Rattle.nio_command.specs.declared.command.WordsError.TheVariants.{Usage, Memory}
 
@@ -31,12 +34,12 @@ nothing_written (joined n v ∷ ws) e = absurd (cc)
 nothing_written (apart n v ∷ ws) e = absurd (cc)
 
 -- no words are not the options
-pub not_options : (v : ProxyValues) (words : List Text) → words ≡ [] → AreOptions words (proxy_options v) → ⊥
-not_options v words none o =
-    let gs = map given o.written in
-    let nothing : gs ≡ [] = nothing_written o.written (sym none ∙ o.spelled) in
-    let four : suc (suc (suc (suc (length (workers_option v.workers))))) ≡ length gs =
-    length_permutation gs (proxy_options v) o.order in
+not_options : (o : Text × Text) (os : List (Text × Text)) (words : List Text) → words ≡ [] → AreOptions words (o ∷ os)
+    → ⊥
+not_options o os words none are =
+    let gs = map given are.written in
+    let nothing : gs ≡ [] = nothing_written are.written (sym none ∙ are.spelled) in
+    let some : suc (length os) ≡ length gs = length_permutation gs (o ∷ os) are.order in
     let zero : length gs ≡ 0 = ap length nothing in
     omega arith
 
@@ -54,7 +57,11 @@ not_named word (Load rounds) s k f r t h = let two : word ∷ [] ≡ codes "load
 not_named word (Proxy plan way) s k f r t h =
     let begins : word ∷ [] ≡ codes "proxy" ∷ h.rest = h.begins in
     let none : h.rest ≡ [] = cc in
-    not_options h.values h.rest none h.options
+    not_options _ _ h.rest none h.options
+not_named word (Packets plan) s k f r t h =
+    let begins : word ∷ [] ≡ codes "packets" ∷ h.rest = h.begins in
+    let none : h.rest ≡ [] = cc in
+    not_options _ _ h.rest none h.options
 
 -- the clause on Usage, from the two on `Ok`
 pub usage_from : (words : List Text) (r : Result Command WordsError) → ((c : Command) → r ≡ Ok c → IsCommand words c)
@@ -78,10 +85,29 @@ same_rest words plan way is =
     let same : is.rest ≡ words = cc in
     subst (λ (ws : List Text). AreOptions ws (proxy_options is.values)) same is.options
 
+-- the words behind `packets` are the options
+pub packets_rest : (words : List Text) (plan : PacketPlan) → (is : IsPacketsCommand (codes "packets" ∷ words) plan)
+    → AreOptions words (packet_options is.values)
+packets_rest words plan is =
+    let begins : codes "packets" ∷ words ≡ codes "packets" ∷ is.rest = is.begins in
+    let same : is.rest ≡ words = cc in
+    subst (λ (ws : List Text). AreOptions ws (packet_options is.values)) same is.options
+
+-- no value that asks for packets begins with a hyphen
+pub plain_packet_values : (v : PacketValues) (plan : PacketPlan) → AsksForPackets v plan → AreNoPacketOptions v
+plain_packet_values v plan h = record {
+  listen = subst IsNoOption (sym h.listen) (address_plain plan.listen h.in_range.listen);
+  local = subst IsNoOption (sym h.local) (address_plain plan.local h.in_range.local);
+  target = subst IsNoOption (sym h.target) (address_plain plan.target h.in_range.target);
+  count = subst IsNoOption (sym h.count)
+      (decimal_plain plan.count (let few = h.in_range.packets.few_packets in omega arith));
+}
+
 -- no value that asks for a way begins with a hyphen
 plain_way : (text : Text) (workers : Option Text) (way : ProxyWay) → AsksForWay text workers way → IsNoOption text
 plain_way text workers Select h = subst IsNoOption (sym h.0) (λ e. omega arith)
 plain_way text workers (Group count) h = subst IsNoOption (sym h.0) (λ e. omega arith)
+plain_way text workers Future h = subst IsNoOption (sym h.0) (λ e. omega arith)
 
 plain_count : (workers : Option Text) (count : ℕ) → AsksForWorkers workers count → IfSome workers IsNoOption
 plain_count None count h = tt
@@ -92,6 +118,7 @@ plain_workers : (text : Text) (workers : Option Text) (way : ProxyWay) → AsksF
     → IfSome workers IsNoOption
 plain_workers text workers Select h = subst (λ (o : Option Text). IfSome o IsNoOption) (sym h.1) tt
 plain_workers text workers (Group count) h = plain_count workers count h.1
+plain_workers text workers Future h = subst (λ (o : Option Text). IfSome o IsNoOption) (sym h.1) tt
 
 -- no value that asks for a plan begins with a hyphen
 pub plain_values : (v : ProxyValues) (plan : ProxyPlan) (way : ProxyWay) → AsksFor v plan way → AreNoOptions v
@@ -130,15 +157,15 @@ behind_first : (words : List (String Global)) (w : String Global) → w ≡ slic
 behind_first [] w is some = absurd (omega arith)
 behind_first (x ∷ xs) w is some = grind (arith, common_steps)
 
--- words whose first is `proxy`
-pub behind_proxy : (words : List (String Global)) (w : String Global) (text : Text) → w ≡ slice_index_or words 0 w
-    → 1 ≤ length words
-    → text ≡ string_bytes w → bytes_eq text (codes "proxy") ≡ true
-    → map string_bytes words ≡ codes "proxy" ∷ map string_bytes (take (length words - 1) (drop 1 words))
-behind_proxy words w text is some same e =
+-- words whose first is this one
+pub behind_word : (word : Text) (words : List (String Global)) (w : String Global) (text : Text)
+    → w ≡ slice_index_or words 0 w → 1 ≤ length words
+    → text ≡ string_bytes w → bytes_eq text word ≡ true
+    → map string_bytes words ≡ word ∷ map string_bytes (take (length words - 1) (drop 1 words))
+behind_word word words w text is some same e =
     behind_first words w is some
     ∙ ap (λ (t : Text). t ∷ map string_bytes (take (length words - 1) (drop 1 words)))
-    (sym same ∙ (bytes_eq-Decides text (codes "proxy")).0 e)
+    (sym same ∙ (bytes_eq-Decides text word).0 e)
 
 -- two words whose first is `load`
 pub behind_load : (words : List (String Global)) (w r : String Global) (first second : Text)
@@ -160,9 +187,20 @@ made command = Ok command
 pub same_command : (a b : Command) → made a ≡ made b → b ≡ a
 same_command a b e = cc
 
+-- the first and the second letter of the first word
 abbrev initial : List Text → ℕ
 initial [] = 0
 initial (w ∷ ws) = get_or w 0 0
+
+abbrev second : List Text → ℕ
+second [] = 0
+second (w ∷ ws) = get_or w 1 0
+
+no_memory : {X : Type 0} (r : Result X WordsError) (x : X) → r ≡ Ok x → r ≡ Err Memory → ⊥
+no_memory r x is e = cc
+
+same_read : {X : Type 0} (r : Result X WordsError) (x y : X) → r ≡ Ok x → r ≡ Ok y → x ≡ y
+same_read r x y is e = cc
 
 -- what is read behind `proxy` is the only command
 pub only_proxy : (words rest : List Text) (r : Result (ProxyPlan × ProxyWay) WordsError) (plan : ProxyPlan)
@@ -187,11 +225,32 @@ only_proxy words rest r plan way begins is only (Proxy p w) h =
     (subst (λ (ws : List Text). IsProxyCommand ws p w) begins h) (no_memory r (plan, way) is) in
     let same : (plan, way) ≡ (p, w) = same_read r (plan, way) (p, w) is read in
     ap (λ (x : ProxyPlan × ProxyWay). made (Proxy x.0 x.1)) same
-  where
-    no_memory : (r : Result (ProxyPlan × ProxyWay) WordsError) (x : ProxyPlan × ProxyWay) → r ≡ Ok x
-        → r ≡ Err Memory → ⊥
-    no_memory r x is e = cc
+only_proxy words rest r plan way begins is only (Packets p) h =
+    let bad : 114 ≡ 97 = ap second (sym begins ∙ h.begins) in
+    absurd (omega (arith, bad))
 
-    same_read : (r : Result (ProxyPlan × ProxyWay) WordsError) (x y : ProxyPlan × ProxyWay) → r ≡ Ok x → r ≡ Ok y
-        → x ≡ y
-    same_read r x y is e = cc
+-- what is read behind `packets` is the only command
+pub only_packets : (words rest : List Text) (r : Result PacketPlan WordsError) (plan : PacketPlan)
+    → words ≡ codes "packets" ∷ rest → r ≡ Ok plan
+    → ((p : PacketPlan) → IsPacketsCommand (codes "packets" ∷ rest) p → r ≢ Err Memory → r ≡ Ok p)
+    → (command : Command) → IsCommand words command → made (Packets plan) ≡ made command
+only_packets words rest r plan begins is only Script h = let bad : 112 ≡ 115 = ap initial (sym begins ∙ h) in
+    absurd (omega (arith, bad))
+only_packets words rest r plan begins is only Check h = let bad : 112 ≡ 99 = ap initial (sym begins ∙ h) in
+    absurd (omega (arith, bad))
+only_packets words rest r plan begins is only CheckFirst h = let bad : 112 ≡ 99 = ap initial (sym begins ∙ h) in
+    absurd (omega (arith, bad))
+only_packets words rest r plan begins is only Race h = let bad : 112 ≡ 114 = ap initial (sym begins ∙ h) in
+    absurd (omega (arith, bad))
+only_packets words rest r plan begins is only Timed h = let bad : 112 ≡ 116 = ap initial (sym begins ∙ h) in
+    absurd (omega (arith, bad))
+only_packets words rest r plan begins is only (Load rounds) h =
+    let bad : 112 ≡ 108 = ap initial (sym begins ∙ h.says) in
+    absurd (omega (arith, bad))
+only_packets words rest r plan begins is only (Proxy p w) h =
+    let bad : 97 ≡ 114 = ap second (sym begins ∙ h.begins) in
+    absurd (omega (arith, bad))
+only_packets words rest r plan begins is only (Packets p) h =
+    let read : r ≡ Ok p = only p
+    (subst (λ (ws : List Text). IsPacketsCommand ws p) begins h) (no_memory r plan is) in
+    ap (λ (x : PacketPlan). made (Packets x)) (same_read r plan p is read)

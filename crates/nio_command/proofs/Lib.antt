@@ -1,11 +1,13 @@
 pub mod Addresses
+pub mod Apps
 pub mod Commands
 pub mod Givens
 pub mod LongWords
 pub mod Numbers
+pub mod OptionWords
 pub mod Orders
+pub mod PacketWords
 pub mod Parses
-pub mod ProxyApp
 pub mod ProxyWords
 pub mod Table
 pub mod Turns

@@ -1,7 +1,7 @@
 -- What a parse of options makes of words, both ways.
 use Rattle.std.proofs.Common.{◌≡◌, ◌∙◌, ◌++◌, Bool, true, false, List, [], ◌∷◌, map, refl, sym, ap, subst}
 use Rattle.std.specs.Prelude.{fold}
-use Rattle.std.specs.List.{flat_map, list_any}
+use Rattle.std.specs.List.{flat_map}
 use Rattle.std.specs.Str.{bytes_eq}
 use Rattle.std.proofs.lemmas.List.{append-nil, append_assoc}
 use Rattle.clap.specs.Kinds.{Kinds, or_else}
@@ -9,18 +9,16 @@ use Rattle.clap.specs.Faults.{settle_fault, turn_fault, walk_fault}
 use Rattle.clap.specs.Walk.{Held, Row, Text, Walk, settled, walk_from, walked}
 use Rattle.nio_command.specs.Options.{Written, given, option_words}
 use Rattle.nio_command.specs.Options.{apart, joined}
+use Rattle.nio_command.specs.Texts.{NoDashes}
+use Rattle.nio_command.proofs.Apps.{shape}
 use Rattle.nio_command.proofs.Givens.{Distinct, Given, fresh_before, row}
 use Rattle.nio_command.proofs.LongWords.{IsPlainName, IsPlainValue, alone_no_dashes, alone_word, dashes}
 use Rattle.nio_command.proofs.LongWords.{joined_no_dashes, joined_word}
 use Rattle.nio_command.proofs.Table.{IsName, rules_of}
 use Rattle.nio_command.proofs.Turns.{Stands, Turn, alone_turn, alone_walked, clean, clean_stands, named_fault, naming}
 use Rattle.nio_command.proofs.Turns.{joined_turn, joined_walked, no_two, pending, pending_settles, pending_stands}
-use Rattle.nio_command.proofs.Turns.{shape, turn_idle, turn_naming, value_turn, value_walked}
+use Rattle.nio_command.proofs.Turns.{turn_idle, turn_naming, value_turn, value_walked}
 use Rattle.nio_command.proofs.Turns.{took, waits}
-
--- no word is `--`
-abbrev pub NoDashes : List Text → Type 0
-NoDashes words = list_any (λ w. bytes_eq w dashes) words ≡ false
 
 abbrev pub AreNames : List Text → List Written → Type 0
 AreNames names [] = Unit {0}

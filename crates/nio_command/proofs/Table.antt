@@ -4,7 +4,7 @@ use Rattle.std.proofs.Common.{inr}
 use Rattle.std.proofs.lemmas.Slice.Eq.{bytes_eq-Decides}
 use Rattle.std.specs.Str.{bytes_eq}
 use Rattle.clap.specs.Walk.{Rule, Text, arg_by_id, arg_by_index, arg_by_long, arg_by_short}
-use Rattle.nio_command.proofs.ProxyApp.{option_rule}
+use Rattle.nio_command.proofs.Apps.{option_rule}
 
 abbrev pub rules_of : List Text → List Rule
 rules_of names = map option_rule names

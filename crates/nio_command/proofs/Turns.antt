@@ -1,6 +1,6 @@
 -- What one word does to a parse of options, each of which takes one value.
 use Rattle.std.proofs.Common.{◌≡◌, ◌⊎◌, ◌∙◌, ◌++◌, ℕ, Bool, true, false, List, [], ◌∷◌, Option, Some, None, map}
-use Rattle.std.proofs.Common.{length, refl, sym, ap, inl, inr, subst, zero, suc, codes}
+use Rattle.std.proofs.Common.{length, refl, sym, ap, inl, inr, subst, zero, suc}
 use Rattle.std.specs.Prelude.{nat_lt, slice_get}
 use Rattle.std.specs.Option.{option_map_or}
 use Rattle.std.specs.Str.{bytes_eq, chars}
@@ -10,7 +10,6 @@ use Rattle.clap.specs.Lexer.{long_of, short_of}
 use Rattle.clap.specs.Kinds.{Kinds, or_else}
 use Rattle.clap.specs.Faults.{bundle_fault, bundle_step_fault, flags_fault, long_fault, option_fault, settle_fault}
 use Rattle.clap.specs.Faults.{step_fault, turn_fault, use_fault}
-use Rattle.clap.specs.Simple.{Shape}
 use Rattle.clap.specs.Walk.{Held, Outcome, Row, Rule, Step, Text, Waiting, Walk, after_flag, after_step, arg_by_long}
 use Rattle.clap.specs.Walk.{at_row, bundle_met, bundle_step, has_row, plain, used_by_id, idle, more_values, next}
 use Rattle.clap.specs.Walk.{option, option_met, pending_count, plain_word, settled, short_or_plain, used, value}
@@ -19,11 +18,8 @@ use Rattle.clap.specs.declared.parser.matches.ValueSource.TheVariants.{CommandLi
 use Rattle.nio_command.proofs.Givens.{Distinct, Given, more_distinct, row}
 use Rattle.nio_command.proofs.LongWords.{IsPlainName, IsPlainValue, alone_no_dashes, alone_word, dashes}
 use Rattle.nio_command.proofs.LongWords.{joined_no_dashes, joined_word, long_alone, long_joined, long_made}
-use Rattle.nio_command.proofs.ProxyApp.{option_rule, options_shape}
+use Rattle.nio_command.proofs.Apps.{option_rule, shape}
 use Rattle.nio_command.proofs.Table.{IsName, id_found, long_either, long_found, no_index, no_short, rules_of}
-
-abbrev pub shape : List Text → Shape
-shape names = options_shape (codes "proxy") names
 
 -- ---- what is held
 

@@ -1,5 +1,5 @@
+pub mod Apps
 pub mod Options
-pub mod ProxyApp
 pub mod Texts
 pub mod Values
 pub mod Words

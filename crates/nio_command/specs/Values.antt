@@ -1,4 +1,4 @@
--- The options of `proxy`, and how an address is written.
+-- The options of `proxy` and of `packets`, and how an address is written.
 use Rattle.std.specs.Prelude.{◌≡◌, ◌≤◌, List, [], ◌∷◌, ◌++◌, All, Option, Some, None, length, codes}
 use Rattle.std.specs.Fmt.{decimal}
 use Rattle.std.specs.Net.Text.{ipv4_text}
@@ -16,7 +16,7 @@ pub record IsAddress (a : Addr) : Type 0 where
 abbrev pub address_text : Addr → Text
 address_text a = ipv4_text a.ip ++ codes ":" ++ decimal a.port
 
--- the values of the options, as texts; that of `--workers` only where it is given
+-- the values of the options of `proxy`, as texts; that of `--workers` only where it is given
 pub record ProxyValues : Type 0 where
   pub way : Text
   pub listen : Text
@@ -29,7 +29,7 @@ abbrev pub workers_option : Option Text → List (Text × Text)
 workers_option None = []
 workers_option (Some workers) = (codes "workers", workers) ∷ []
 
--- the options, each a name and its value
+-- the options of `proxy`, each a name and its value
 abbrev pub proxy_options : ProxyValues → List (Text × Text)
 proxy_options v =
     (codes "way", v.way)
@@ -37,3 +37,19 @@ proxy_options v =
     ∷ (codes "target", v.target)
     ∷ (codes "conns", v.conns)
     ∷ workers_option v.workers
+
+-- the values of the options of `packets`, as texts
+pub record PacketValues : Type 0 where
+  pub listen : Text
+  pub local : Text
+  pub target : Text
+  pub count : Text
+
+-- the options of `packets`, each a name and its value
+abbrev pub packet_options : PacketValues → List (Text × Text)
+packet_options v =
+    (codes "listen", v.listen)
+    ∷ (codes "local", v.local)
+    ∷ (codes "target", v.target)
+    ∷ (codes "count", v.count)
+    ∷ []

@@ -1,14 +1,17 @@
 -- The commands, by the words of the command line. The program's name isn't one of these words.
-use Rattle.std.specs.Prelude.{◌≡◌, ℕ, ◌≤◌, List, [], ◌∷◌, Option, Some, None, codes}
+use Rattle.std.specs.Prelude.{◌≡◌, ◌⊎◌, ℕ, ◌≤◌, List, [], ◌∷◌, Option, Some, None, codes}
 use Rattle.std.specs.Fmt.{decimal}
+use Rattle.nio_datagram.specs.Serving.{IsRelayable}
+use Rattle.nio_datagram.specs.declared.serving.PacketPlan.{PacketPlan}
 use Rattle.nio_relay.specs.Plan.{IsServable}
 use Rattle.nio_relay.specs.declared.plan.ProxyPlan.{ProxyPlan}
 use Rattle.nio_command.specs.Options.{Text, AreOptions}
-use Rattle.nio_command.specs.Values.{IsAddress, ProxyValues, address_text, proxy_options}
+use Rattle.nio_command.specs.Values.{IsAddress, PacketValues, ProxyValues, address_text, packet_options, proxy_options}
 use Rattle.nio_command.specs.declared.command.Command.{Command}
 use Rattle.nio_command.specs.declared.way.ProxyWay.{ProxyWay}
-use Rattle.nio_command.specs.declared.way.ProxyWay.TheVariants.{Select, Group}
+use Rattle.nio_command.specs.declared.way.ProxyWay.TheVariants.{Select, Group, Future}
 use Rattle.nio_command.specs.declared.command.Command.TheVariants.{Script, Check, CheckFirst, Race, Timed, Load, Proxy}
+use Rattle.nio_command.specs.declared.command.Command.TheVariants.{Packets}
 
 -- the one word `script`
 abbrev pub IsScriptCommand : List Text → Type 0
@@ -47,10 +50,11 @@ abbrev pub AsksForWorkers : Option Text → ℕ → Type 0
 AsksForWorkers None count = count ≡ 4
 AsksForWorkers (Some workers) count = (1 ≤ count) × (count ≤ 64) × (workers ≡ decimal count)
 
--- The values of `--way` and `--workers` ask for this way. With `select` there is no `--workers`.
+-- The values of `--way` and `--workers` ask for this way. With `select` and with `future` there is no `--workers`.
 abbrev pub AsksForWay : Text → Option Text → ProxyWay → Type 0
 AsksForWay way workers Select = (way ≡ codes "select") × (workers ≡ None)
 AsksForWay way workers (Group count) = (way ≡ codes "group") × AsksForWorkers workers count
+AsksForWay way workers Future = (way ≡ codes "future") × (workers ≡ None)
 
 -- the values of the options ask for this plan and this way
 pub record AsksFor (v : ProxyValues) (plan : ProxyPlan) (way : ProxyWay) : Type 0 where
@@ -68,6 +72,29 @@ pub record IsProxyCommand (words : List Text) (plan : ProxyPlan) (way : ProxyWay
   pub begins : words ≡ codes "proxy" ∷ rest
   pub options : AreOptions rest (proxy_options values)
 
+-- the addresses are valid, and there are from 1 to 1,000,000 packets
+pub record ArePacketsInRange (plan : PacketPlan) : Type 0 where
+  pub listen : IsAddress plan.listen
+  pub local : IsAddress plan.local
+  pub target : IsAddress plan.target
+  pub packets : IsRelayable plan
+
+-- the values of the options ask for this plan
+pub record AsksForPackets (v : PacketValues) (plan : PacketPlan) : Type 0 where
+  pub in_range : ArePacketsInRange plan
+  pub listen : v.listen ≡ address_text plan.listen
+  pub local : v.local ≡ address_text plan.local
+  pub target : v.target ≡ address_text plan.target
+  pub count : v.count ≡ decimal plan.count
+
+-- the word `packets`, then options that ask for this plan
+pub record IsPacketsCommand (words : List Text) (plan : PacketPlan) : Type 0 where
+  pub values : PacketValues
+  pub asks : AsksForPackets values plan
+  pub rest : List Text
+  pub begins : words ≡ codes "packets" ∷ rest
+  pub options : AreOptions rest (packet_options values)
+
 -- the words are this command
 abbrev pub IsCommand : List Text → Command → Type 0
 IsCommand words Script = IsScriptCommand words
@@ -77,6 +104,21 @@ IsCommand words Race = IsRaceCommand words
 IsCommand words Timed = IsTimedCommand words
 IsCommand words (Load rounds) = IsLoadCommand words rounds
 IsCommand words (Proxy plan way) = IsProxyCommand words plan way
+IsCommand words (Packets plan) = IsPacketsCommand words plan
+
+-- the first word is `proxy`
+pub record BeginsProxy (words : List Text) : Type 0 where
+  pub rest : List Text
+  pub begins : words ≡ codes "proxy" ∷ rest
+
+-- the first word is `packets`
+pub record BeginsPackets (words : List Text) : Type 0 where
+  pub rest : List Text
+  pub begins : words ≡ codes "packets" ∷ rest
+
+-- the words after the first are read as options
+abbrev pub HasOptions : List Text → Type 0
+HasOptions words = BeginsProxy words ⊎ BeginsPackets words
 
 -- the words aren't a command
 abbrev pub SaysNothing : List Text → Type 0

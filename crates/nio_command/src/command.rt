@@ -1,12 +1,14 @@
 //! The commands of the program, and how they are read from the words of the command line.
 ghost use Rattle.std.specs.Prelude.{◌≡◌, ◌≢◌, ◌↔◌, List, ℕ, ◌∷◌, [], map, codes, Ok, Err, Some, IfSome};
 ghost use Rattle.std.specs.String.{string_bytes};
-ghost use Rattle.nio_command.specs.Words.{IsCommand, IsProxyCommand, SaysNothing};
+ghost use Rattle.nio_command.specs.Words.{HasOptions, IsCommand, IsPacketsCommand, IsProxyCommand, SaysNothing};
 
 use crate::number::read_number;
-use crate::options::read_options;
-use crate::plan::read_plan;
+use crate::packet_options::read_packet_options;
+use crate::plan::{read_packet_plan, read_proxy_plan};
+use crate::proxy_options::read_proxy_options;
 use crate::way::ProxyWay;
+use nio_datagram::PacketPlan;
 use nio_relay::ProxyPlan;
 use std::alloc::{AllocError, Global};
 
@@ -27,6 +29,8 @@ pub enum Command {
     Load(u32),
     /// `proxy` and its options: relays TCP connections as this plan says, and waits for them in this way.
     Proxy(ProxyPlan, ProxyWay),
+    /// `packets` and its options: relays UDP packets as this plan says.
+    Packets(PacketPlan),
 }
 
 /// Why the words of a command line aren't a command.
@@ -34,7 +38,7 @@ pub enum Command {
 pub enum WordsError {
     /// The program has no such command.
     Usage,
-    /// There was no memory to read the options of `proxy`.
+    /// There was no memory to read the options of `proxy` or of `packets`.
     Memory,
 }
 
@@ -49,7 +53,7 @@ impl From<AllocError> for WordsError {
 }
 
 /// Reads the words of a command line, without the program's name, as a command. Memory is taken only where the first
-/// word is `proxy`.
+/// word is `proxy` or `packets`.
 pub fn command_of(alloc: Global, words: &[String]) -> Result<Command, WordsError>
     ensures found { (command : Command) → result ≡ Ok command
         → IsCommand (map string_bytes words.now) command }
@@ -57,14 +61,16 @@ pub fn command_of(alloc: Global, words: &[String]) -> Result<Command, WordsError
         → result ≢ Err WordsError.Memory → result ≡ Ok command }
     ensures usage { result ≢ Err WordsError.Memory
         → (result ≡ Err WordsError.Usage ↔ SaysNothing (map string_bytes words.now)) }
-    ensures memory { result ≡ Err WordsError.Memory
-        → (rest : List (List ℕ)) × (map string_bytes words.now ≡ codes "proxy" ∷ rest) }
+    ensures memory { result ≡ Err WordsError.Memory → HasOptions (map string_bytes words.now) }
 {
     match words {
         [word] => command_named(word.as_str()).ok_or(WordsError::Usage),
         [word, options @ ..] if word.as_str() == "proxy" => {
             let (plan, way) = read_proxy(alloc, options)?;
             Ok(Command::Proxy(plan, way))
+        }
+        [word, options @ ..] if word.as_str() == "packets" => {
+            Ok(Command::Packets(read_packets(alloc, options)?))
         }
         [word, rounds] if word.as_str() == "load" => {
             read_load(rounds.as_str()).ok_or(WordsError::Usage)
@@ -107,6 +113,17 @@ fn read_proxy(alloc: Global, words: &[String]) -> Result<(ProxyPlan, ProxyWay), 
         → IsProxyCommand (codes "proxy" ∷ map string_bytes words.now) plan way
         → result ≢ Err WordsError.Memory → result ≡ Ok (plan, way) }
 {
-    let texts = read_options(alloc, words)?.ok_or(WordsError::Usage)?;
-    read_plan(texts).ok_or(WordsError::Usage)
+    let texts = read_proxy_options(alloc, words)?.ok_or(WordsError::Usage)?;
+    read_proxy_plan(texts).ok_or(WordsError::Usage)
+}
+
+// Reads the words after `packets` as a plan.
+fn read_packets(alloc: Global, words: &[String]) -> Result<PacketPlan, WordsError>
+    ensures found { (plan : PacketPlan) → result ≡ Ok plan
+        → IsPacketsCommand (codes "packets" ∷ map string_bytes words.now) plan }
+    ensures only { (plan : PacketPlan) → IsPacketsCommand (codes "packets" ∷ map string_bytes words.now) plan
+        → result ≢ Err WordsError.Memory → result ≡ Ok plan }
+{
+    let texts = read_packet_options(alloc, words)?.ok_or(WordsError::Usage)?;
+    read_packet_plan(texts).ok_or(WordsError::Usage)
 }

@@ -1,4 +1,4 @@
-//! Reads the program's command line. The options of `proxy` are read with `clap`.
+//! Reads the program's command line. The options of `proxy` and of `packets` are read with `clap`.
 #![tactic(auto)]
 
 pub use command::{Command, WordsError, command_of};
@@ -8,5 +8,7 @@ mod address;
 mod command;
 mod number;
 mod options;
+mod packet_options;
 mod plan;
+mod proxy_options;
 mod way;

@@ -1,50 +1,50 @@
-//! The options of `proxy`, read as texts.
-ghost use Rattle.std.specs.Prelude.{◌≡◌, IfOk, IfSome, IsSomeAnd, false, map, codes};
+//! The options behind the first word of a command, found with `clap`. Each takes one value.
+ghost use Rattle.std.specs.Prelude.{◌≡◌, IfOk, IfSome, IsSome, [], false, true, map, codes};
 ghost use Rattle.std.specs.List.{list_any};
 ghost use Rattle.std.specs.Str.{bytes_eq};
 ghost use Rattle.std.specs.String.{string_bytes};
-ghost use Rattle.clap.specs.Words.{app_of, found_of, rule_of};
-ghost use Rattle.nio_command.specs.Options.{AreOptions};
-ghost use Rattle.nio_command.specs.ProxyApp.{added_rule, proxy_app};
-ghost use Rattle.nio_command.specs.Texts.{AreNoOptions, FindsValues, texts_of};
-ghost use Rattle.nio_command.specs.Values.{ProxyValues, proxy_options};
+ghost use Rattle.clap.specs.Words.{app_of, fault_of, is_simple_and_free, rule_of};
+ghost use Rattle.nio_command.specs.Apps.{added_rule, no_options};
+ghost use Rattle.nio_command.specs.Texts.{IsParse, NoDashes};
 
 use clap::error::ErrorKind;
 use clap::{Arg, ArgMatches, Command};
 use std::alloc::{AllocError, Global};
 
-/// The values of the options of `proxy`, as they are written on the command line.
-#[derive(Clone, Copy, Debug, PartialEq, Eq)]
-pub struct ProxyTexts<'a> {
-    /// `--way`: how the proxy waits for its connections.
-    pub way: &'a str,
-    /// `--listen`: the address at which it accepts connections.
-    pub listen: &'a str,
-    /// `--target`: the address to which it connects for each of them.
-    pub target: &'a str,
-    /// `--conns`: how many connections it relays before it ends.
-    pub conns: &'a str,
-    /// `--workers`, where it is given: how many workers there are.
-    pub workers: Option<&'a str>,
+/// A command without options. `clap` is given only the words after the first. There is no option for help.
+pub fn without_options<'a>(alloc: Global) -> Command<'a>
+    ensures { app_of result ≡ no_options }
+{
+    Command::new(alloc, "nio")
+        .no_binary_name(true)
+        .disable_help_flag(true)
 }
 
-/// Reads the words after `proxy` as its options. `Ok(None)` where they aren't the four required options and
-/// perhaps `--workers`, each given once.
-pub fn read_options<'a>(
-    alloc: Global,
+/// The option `--name`, which takes one value.
+pub fn option<'a>(alloc: Global, name: &'a str, required: bool) -> Arg<'a>
+    ensures rule { rule_of result ≡ added_rule name.entry.now required }
+    ensures local { result.global ≡ false }
+{
+    Arg::new(alloc, name).long(name).required(required)
+}
+
+/// Finds the options of a command in these words. `Ok(None)` where the words aren't options of this command, each
+/// once at most and all required ones among them.
+pub fn find_options<'a>(
+    command: Command<'a>,
     words: &'a [String],
-) -> Result<Option<ProxyTexts<'a>>, AllocError>
-    ensures found { IfOk result (λ read. IfSome read (λ t.
-        AreOptions (map string_bytes words.now) (proxy_options (texts_of t)))) }
-    ensures only { (v : ProxyValues) → AreOptions (map string_bytes words.now) (proxy_options v)
-        → AreNoOptions v → IfOk result (λ read. IsSomeAnd read (λ t. texts_of t ≡ v)) }
+) -> Result<Option<ArgMatches<'a>>, AllocError>
+    requires { is_simple_and_free (app_of command) ≡ true }
+    ensures found { IfOk result (λ read. IfSome read
+        (IsParse (app_of command.entry) (map string_bytes words.now))) }
+    ensures only { NoDashes (map string_bytes words.now)
+        → fault_of (app_of command.entry) (map string_bytes words.now) ≡ [] → IfOk result IsSome }
 {
     if has_dashes(words) {
         return Ok(None);
     }
-    let command = proxy_command(alloc)?;
     match command.try_get_matches_from(words) {
-        Ok(matches) => Ok(texts_found(&matches)),
+        Ok(matches) => Ok(Some(matches)),
         Err(error) if error.kind() == ErrorKind::OutOfMemory => Err(AllocError),
         Err(_) => Ok(None),
     }
@@ -60,41 +60,4 @@ fn has_dashes(words: &[String]) -> bool
         }
     }
     false
-}
-
-// Describes the options of `proxy` to `clap`, which is given only the words after `proxy`. There is no option for help.
-fn proxy_command<'a>(alloc: Global) -> Result<Command<'a>, AllocError>
-    ensures { IfOk result (λ c. app_of c ≡ proxy_app) }
-{
-    Command::new(alloc, "proxy")
-        .no_binary_name(true)
-        .disable_help_flag(true)
-        .arg(option(alloc, "way", true))?
-        .arg(option(alloc, "listen", true))?
-        .arg(option(alloc, "target", true))?
-        .arg(option(alloc, "conns", true))?
-        .arg(option(alloc, "workers", false))
-}
-
-// The option `--name`, which takes one value.
-fn option<'a>(alloc: Global, name: &'a str, required: bool) -> Arg<'a>
-    ensures rule { rule_of result ≡ added_rule name.entry.now required }
-    ensures local { result.global ≡ false }
-{
-    Arg::new(alloc, name).long(name).required(required)
-}
-
-// The values of the options, if `clap` found those that are required.
-fn texts_found<'a>(matches: &ArgMatches<'a>) -> Option<ProxyTexts<'a>>
-    ensures found { IfSome result (λ t. FindsValues (found_of matches.now) (texts_of t)) }
-    ensures only { (v : ProxyValues) → FindsValues (found_of matches.now) v
-        → IsSomeAnd result (λ t. texts_of t ≡ v) }
-{
-    Some(ProxyTexts {
-        way: matches.get_str("way")?,
-        listen: matches.get_str("listen")?,
-        target: matches.get_str("target")?,
-        conns: matches.get_str("conns")?,
-        workers: matches.get_str("workers"),
-    })
 }

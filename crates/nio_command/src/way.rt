@@ -15,6 +15,8 @@ pub enum ProxyWay {
     Select,
     /// `group`: by the operations of an asynchronous channel group, with so many workers, each in a thread of its own.
     Group(u32),
+    /// `future`: by operations that have tickets, in one thread.
+    Future,
 }
 
 /// Reads the values of `--way` and of `--workers`. None where one of them isn't valid, or the second is given without
@@ -24,19 +26,20 @@ pub fn read_way(way: &str, workers: Option<&str>) -> Option<ProxyWay>
     ensures only { (read : ProxyWay) → AsksForWay way.now (text_of workers.entry) read → result ≡ Some read }
 {
     match way {
-        "select" => read_select(workers),
+        "select" => without_workers(workers, ProxyWay::Select),
         "group" => Some(ProxyWay::Group(read_workers(workers)?)),
+        "future" => without_workers(workers, ProxyWay::Future),
         _ => None,
     }
 }
 
-// With `select` there is no number of workers.
-fn read_select(workers: Option<&str>) -> Option<ProxyWay>
-    ensures found { IfSome result (λ read. (read ≡ ProxyWay.Select) × (text_of workers.entry ≡ None)) }
-    ensures only { text_of workers.entry ≡ None → result ≡ Some ProxyWay.Select }
+// A way with which no number of workers is given.
+fn without_workers(workers: Option<&str>, way: ProxyWay) -> Option<ProxyWay>
+    ensures found { IfSome result (λ read. (read ≡ way) × (text_of workers.entry ≡ None)) }
+    ensures only { text_of workers.entry ≡ None → result ≡ Some way }
 {
     match workers {
-        None => Some(ProxyWay::Select),
+        None => Some(way),
         Some(_) => None,
     }
 }

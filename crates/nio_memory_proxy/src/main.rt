@@ -4,6 +4,7 @@
 
 use nio_base::NoGate;
 use nio_bytes::{StdSink, SteadySource};
+use nio_datagram::MemoryPackets;
 use nio_link::{MemoryNet, NetPlan, PeerPlan};
 use nio_poller::NoBell;
 use nio_run::{PROGRAM_LIMITS, run};
@@ -11,6 +12,7 @@ use nio_script::Status;
 use nio_words::Words;
 use std::alloc::{AllocError, Global};
 use std::process::ExitCode;
+use std::random::RandomSource;
 use std::rt::Env;
 use std::sync::Wait;
 use std::thread::Threads;
@@ -56,13 +58,14 @@ fn arguments(rt: &(impl Env + AllocGlobal)) -> Result<Vec<String>, AllocError> {
     }
 }
 
-fn status(
-    rt: &(impl Env + Print + AllocGlobal + Threads + Wait + Sync),
-    alloc: Global,
-) -> Result<Status, AllocError> {
+fn status<R>(rt: &R, alloc: Global) -> Result<Status, AllocError>
+where
+    R: Env + Print + AllocGlobal + RandomSource + Threads + Wait + Sync,
+{
     let words = arguments(rt)?;
     let (table, mut pass) = Words::make(alloc, PROGRAM_LIMITS)?;
     let net = MemoryNet::make(alloc, plan(alloc)?)?;
+    let mut packets = MemoryPackets::make(alloc, Vec::new(alloc), Vec::new(alloc), None)?;
     let mut input = SteadySource::make(Vec::new(alloc));
     let mut output = StdSink::over(io::writer(rt));
     let ended = run(
@@ -74,6 +77,7 @@ fn status(
         &table,
         &mut pass,
         net,
+        &mut packets,
         &NoBell,
         &NoGate,
     );

@@ -1,22 +1,28 @@
 //! The program as a whole, over sources and sinks in memory.
 ghost use Rattle.std.specs.Prelude.{◌≡◌};
 ghost use Rattle.nio_base.specs.declared.numbers.ChanNo.{ChanNo};
+ghost use Rattle.nio_datagram.specs.Packets.{no_traffic};
+ghost use Rattle.nio_datagram.specs.Serving.{back, front};
+ghost use Rattle.nio_datagram.specs.declared.net.Place.TheVariants as place_is;
 ghost use Rattle.nio_link.specs.Links.{IsUnused};
 ghost use Rattle.nio_link.specs.Places.{unused};
 
 use nio_base::NoGate;
 use nio_bytes::{MemorySink, MemorySource, Sink, Source};
+use nio_datagram::{MemoryPackets, PacketNet};
 use nio_link::Net;
 use nio_poller::{Bell, NoBell};
 use nio_run::{PROGRAM_LIMITS, run};
 use nio_words::Words;
-use std::alloc::{AllocError, Global};
+use std::alloc::{AllocError, AllocGlobal, Global};
 use std::process::Abort;
+use std::random::RandomSource;
 use std::sync::Wait;
 use std::test::Fail;
 use std::thread::Threads;
 
 mod loopback;
+mod packets;
 mod refusals;
 mod relays;
 mod rows;
@@ -48,8 +54,8 @@ const SIGNED_SET: &str =
     "t1 selector\nt1 channel source\nt1 blocking c0 off\nt1 register s0 c0 1\nt1 iand s0 k0 -5\n";
 
 const USAGE: &str =
-    "usage: nio script | check | check-1 | race | proxy --way select|group --listen ADDR --target ADDR --conns N \
-        [--workers W] | load N | timed\n";
+    "usage: nio script | check | check-1 | race | proxy --way select|group|future --listen ADDR --target ADDR \
+        --conns N [--workers W] | load N | packets --listen ADDR --local ADDR --target ADDR --count N | timed\n";
 
 /// Which call of the source fails and which of the sink, counted from 0.
 #[derive(Clone, Copy)]
@@ -295,6 +301,10 @@ const OTHER_COMMANDS: &[Row] = &[
         ..IS_USAGE
     },
     Row {
+        words: &["packets"],
+        ..IS_USAGE
+    },
+    Row {
         words: &["script", "script"],
         ..IS_USAGE
     },
@@ -304,8 +314,8 @@ const OTHER_COMMANDS: &[Row] = &[
     },
 ];
 
-/// Runs these words on a new table. Gives the status, and the net that is left.
-fn runs<R: Threads + Wait + Sync, S: Source, K: Sink, N: Net + Drop, B: Bell + Sync>(
+/// Runs these words on a new table, without packets. Gives the status, and the net that is left.
+fn runs<R, S: Source, K: Sink, N: Net + Drop, B: Bell + Sync>(
     rt: &R,
     alloc: Global,
     words: &[&str],
@@ -314,8 +324,34 @@ fn runs<R: Threads + Wait + Sync, S: Source, K: Sink, N: Net + Drop, B: Bell + S
     net: N,
     bell: &B,
 ) -> Result<(u8, N), AllocError>
+where
+    R: Threads + Wait + RandomSource + AllocGlobal + Sync,
     requires fresh { (c : ChanNo) → IsUnused (N.link net c) }
     requires unasked { (c : ChanNo) → N.place net c ≡ unused }
+{
+    let mut packets = MemoryPackets::make(alloc, Vec::new(alloc), Vec::new(alloc), None)?;
+    runs_over(rt, alloc, words, input, output, net, &mut packets, bell)
+}
+
+/// Runs these words on a new table, over these nets.
+fn runs_over<R, S: Source, K: Sink, N: Net + Drop, D: PacketNet, B: Bell + Sync>(
+    rt: &R,
+    alloc: Global,
+    words: &[&str],
+    input: &mut S,
+    output: &mut K,
+    net: N,
+    packets: &mut D,
+    bell: &B,
+) -> Result<(u8, N), AllocError>
+where
+    R: Threads + Wait + RandomSource + AllocGlobal + Sync,
+    requires fresh { (c : ChanNo) → IsUnused (N.link net c) }
+    requires unasked { (c : ChanNo) → N.place net c ≡ unused }
+    requires front_unused { D.traffic packets.old front ≡ no_traffic }
+    requires back_unused { D.traffic packets.old back ≡ no_traffic }
+    requires front_unbound { D.place packets.old front ≡ place_is.Unbound }
+    requires back_unbound { D.place packets.old back ≡ place_is.Unbound }
 {
     let mut given = Vec::new(alloc);
     for word in words {
@@ -323,7 +359,7 @@ fn runs<R: Threads + Wait + Sync, S: Source, K: Sink, N: Net + Drop, B: Bell + S
     }
     let (table, mut pass) = Words::make(alloc, PROGRAM_LIMITS)?;
     let ended = run(
-        rt, alloc, &given, input, output, &table, &mut pass, net, bell, &NoGate,
+        rt, alloc, &given, input, output, &table, &mut pass, net, packets, bell, &NoGate,
     );
     Ok((ended.status.code(), ended.net))
 }
@@ -338,13 +374,16 @@ fn faults(alloc: Global, at: Option<u64>) -> Result<Vec<u64>, Fail> {
 
 /// Runs these words on this input. Gives the status and what was written. The source gives pieces of 12 bytes, and the
 /// sink takes pieces of 5.
-fn outcome<R: Threads + Wait + Sync>(
+fn outcome<R>(
     rt: &R,
     alloc: Global,
     words: &[&str],
     input: &[u8],
     fails: Fails,
-) -> Result<(u8, MemorySink), Fail> {
+) -> Result<(u8, MemorySink), Fail>
+where
+    R: Threads + Wait + RandomSource + AllocGlobal + Sync,
+{
     let mut source = MemorySource::make(input.to_vec(alloc)?, 12, faults(alloc, fails.read)?);
     let mut sink = MemorySink::make(alloc, 5, faults(alloc, fails.write)?, 8_192)?;
     let net = relays::net_of(alloc, &[], None, None)?;
@@ -353,7 +392,10 @@ fn outcome<R: Threads + Wait + Sync>(
 }
 
 /// Runs a row, and compares the status and what was written.
-fn ends(rt: &(impl Abort + Threads + Wait + Sync), alloc: Global, row: &Row) -> Result<(), Fail> {
+fn ends<R>(rt: &R, alloc: Global, row: &Row) -> Result<(), Fail>
+where
+    R: Abort + Threads + Wait + RandomSource + AllocGlobal + Sync,
+{
     let (status, sink) = outcome(rt, alloc, row.words, row.input.as_bytes(), row.fails)?;
     assert!(rt;
         status == row.code && sink.bytes() == row.written.as_bytes(),

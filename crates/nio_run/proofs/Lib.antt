@@ -1,4 +1,5 @@
 mod Leaving
 pub mod Legal
 mod Named
+mod Unsent
 mod Unserved

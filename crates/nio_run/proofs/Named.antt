@@ -2,13 +2,16 @@
 use Rattle.std.proofs.Common.{◌≡◌, ◌≢◌, ◌⊎◌, inl, inr, ℕ, Option, Some, None, List, [], ◌∷◌, Result, Ok, Err}
 use Rattle.std.proofs.Common.{slice_index_or, refl, sym, ap, ◌∙◌, ◌≤◌, arith}
 use Rattle.nio_command.specs.Options.{Text}
-use Rattle.nio_command.specs.Words.{AsksForWay, AsksForWorkers, IsProxyCommand}
+use Rattle.nio_command.specs.Words.{AsksForWay, AsksForWorkers, BeginsPackets, BeginsProxy, HasOptions}
+use Rattle.nio_command.specs.Words.{IsPacketsCommand}
+use Rattle.nio_command.specs.Words.{IsProxyCommand}
+use Rattle.nio_datagram.specs.declared.serving.PacketPlan.{PacketPlan}
 use Rattle.nio_command.specs.declared.command.Command.{Command}
-use Rattle.nio_command.specs.declared.command.Command.TheVariants.{Load, Proxy}
+use Rattle.nio_command.specs.declared.command.Command.TheVariants.{Load, Packets, Proxy}
 use Rattle.nio_command.specs.declared.command.WordsError.{WordsError}
 use Rattle.nio_command.specs.declared.command.WordsError.TheVariants.{Usage, Memory}
 use Rattle.nio_command.specs.declared.way.ProxyWay.{ProxyWay}
-use Rattle.nio_command.specs.declared.way.ProxyWay.TheVariants.{Select, Group}
+use Rattle.nio_command.specs.declared.way.ProxyWay.TheVariants.{Select, Group, Future}
 use Rattle.nio_bytes.specs.declared.source.Source as source
 use Rattle.nio_relay.specs.Plan.{IsServable}
 use Rattle.nio_relay.specs.declared.plan.ProxyPlan.{ProxyPlan}
@@ -17,15 +20,15 @@ use Rattle.nio_script.specs.declared.status.Status.{Status}
 use Rattle.nio_script.specs.declared.status.Status.TheVariants.{TooLong}
 use Rattle.std.specs.Io.KnownBytes.{prepend_known}
 use Rattle.nio_run.specs.Proxy.{HasWorkers}
-use Rattle.nio_run.specs.Words.{BeginsProxy}
 
 abbrev first_byte : List (List ℕ) → ℕ
 first_byte words = slice_index_or (slice_index_or words 0 []) 0 0
 
--- words whose first begins with another byte than `p` (112) aren't those of `proxy`
-pub not_proxy : (words : List (List ℕ)) (a : ℕ) (xs : List ℕ) (rest : List (List ℕ)) → words ≡ (a ∷ xs) ∷ rest
-    → (a ≡ 112 → ⊥) → BeginsProxy words → ⊥
-not_proxy words a xs rest is other begins = other (ap first_byte (sym is ∙ begins.begins))
+-- words whose first begins with another byte than `p` (112) have no options
+pub without_options : (words : List (List ℕ)) (a : ℕ) (xs : List ℕ) (rest : List (List ℕ)) → words ≡ (a ∷ xs) ∷ rest
+    → (a ≡ 112 → ⊥) → HasOptions words → ⊥
+without_options words a xs rest is other (inl begins) = other (ap first_byte (sym is ∙ begins.begins))
+without_options words a xs rest is other (inr begins) = other (ap first_byte (sym is ∙ begins.begins))
 
 pub or_memory : (r : Result Command WordsError) (command : Command) → (r ≢ Err Memory → r ≡ Ok command)
     → (r ≡ Ok command) ⊎ (r ≡ Err Memory)
@@ -53,6 +56,7 @@ its_servable words p w says = (says.asks.in_range.connections, by_way w says.ask
     by_way : (w : ProxyWay) → AsksForWay says.values.way says.values.workers w → HasWorkers w
     by_way Select h = tt
     by_way (Group count) h = by_workers says.values.workers count h.1
+    by_way Future h = tt
 
 -- the rounds of a command are those that the words say
 pub its_rounds : (x : Command) (n m : ℕ) → x ≡ Load n → ◌≡◌ {A = Result Command WordsError} (Ok x) (Ok (Load m)) → n ≡ m
@@ -81,6 +85,49 @@ pub no_plan : (x : WordsError) (p : ProxyPlan) (w : ProxyWay) → x ≡ Usage
 no_plan x p w is (inl clash) = absurd (cc clash)
 no_plan x p w is (inr clash) = let e : ◌≡◌ {A = Result Command WordsError} (Err Usage) (Err Memory) =
     ap (λ (y : WordsError). Err y) (sym is) ∙ clash in absurd (cc e)
+
+-- ---- packets
+
+-- the plan of packets is the one that the words say
+pub its_packets : (x : Command) (p p' : PacketPlan) → x ≡ Packets p
+    → (◌≡◌ {A = Result Command WordsError} (Ok x) (Ok (Packets p')))
+    ⊎ (◌≡◌ {A = Result Command WordsError} (Ok x) (Err Memory)) → p ≡ p'
+its_packets x p p' is (inl same) = let e : ◌≡◌ {A = Result Command WordsError} (Ok (Packets p)) (Ok (Packets p')) =
+    ap (λ (y : Command). Ok y) (sym is) ∙ same in cc e
+its_packets x p p' is (inr clash) = absurd (cc clash)
+
+-- the words of such a plan begin with `packets`
+pub begins_packets : (words : List (List ℕ)) (x : Command) (p : PacketPlan) → x ≡ Packets p
+    → ((q : PacketPlan) → ◌≡◌ {A = Result Command WordsError} (Ok x) (Ok (Packets q)) → IsPacketsCommand words q)
+    → BeginsPackets words
+begins_packets words x p is says =
+    let it : IsPacketsCommand words p = says p (ap (λ (y : Command). Ok y) is) in
+    record { rest = it.rest; begins = it.begins }
+
+-- words that say nothing are no `packets`
+pub no_packets : (x : WordsError) (p : PacketPlan) → x ≡ Usage
+    → (◌≡◌ {A = Result Command WordsError} (Err x) (Ok (Packets p)))
+    ⊎ (◌≡◌ {A = Result Command WordsError} (Err x) (Err Memory)) → ⊥
+no_packets x p is (inl clash) = absurd (cc clash)
+no_packets x p is (inr clash) = let e : ◌≡◌ {A = Result Command WordsError} (Err Usage) (Err Memory) =
+    ap (λ (y : WordsError). Err y) (sym is) ∙ clash in absurd (cc e)
+
+-- no words are both
+pub proxy_no_packets : (x : Command) (p : ProxyPlan) (w : ProxyWay) (q : PacketPlan) → x ≡ Proxy p w
+    → (◌≡◌ {A = Result Command WordsError} (Ok x) (Ok (Packets q)))
+    ⊎ (◌≡◌ {A = Result Command WordsError} (Ok x) (Err Memory)) → ⊥
+proxy_no_packets x p w q is (inl clash) =
+    let e : ◌≡◌ {A = Result Command WordsError} (Ok (Proxy p w)) (Ok (Packets q)) =
+    ap (λ (y : Command). Ok y) (sym is) ∙ clash in absurd (cc e)
+proxy_no_packets x p w q is (inr clash) = absurd (cc clash)
+
+pub packets_no_proxy : (x : Command) (q : PacketPlan) (p : ProxyPlan) (w : ProxyWay) → x ≡ Packets q
+    → (◌≡◌ {A = Result Command WordsError} (Ok x) (Ok (Proxy p w)))
+    ⊎ (◌≡◌ {A = Result Command WordsError} (Ok x) (Err Memory)) → ⊥
+packets_no_proxy x q p w is (inl clash) =
+    let e : ◌≡◌ {A = Result Command WordsError} (Ok (Packets q)) (Ok (Proxy p w)) =
+    ap (λ (y : Command). Ok y) (sym is) ∙ clash in absurd (cc e)
+packets_no_proxy x q p w is (inr clash) = absurd (cc clash)
 
 -- ---- nothing was read
 

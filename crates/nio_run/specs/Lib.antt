@@ -1,5 +1,7 @@
 pub mod Commands
 pub mod Load
+pub mod Packets
 pub mod Proxy
+pub mod Relays
 pub mod Timed
 pub mod Words

@@ -5,7 +5,7 @@ use Rattle.nio_base.specs.declared.numbers.ChanNo.{ChanNo}
 use Rattle.nio_bytes.specs.Cause.{Rose}
 use Rattle.nio_bytes.specs.declared.sink.Sink as sink
 use Rattle.nio_command.specs.declared.way.ProxyWay.{ProxyWay}
-use Rattle.nio_command.specs.declared.way.ProxyWay.TheVariants.{Select, Group}
+use Rattle.nio_command.specs.declared.way.ProxyWay.TheVariants.{Select, Group, Future}
 use Rattle.nio_link.specs.Links.{Link}
 use Rattle.nio_link.specs.declared.place.Place.{Place}
 use Rattle.nio_serve.specs.Serving.{HasServed, LeavesNothing, NoneRose, RelaysBytes, ServesCleanly, listener}
@@ -13,13 +13,14 @@ use Rattle.nio_relay.specs.declared.plan.ProxyPlan.{ProxyPlan}
 use Rattle.nio_relay.specs.declared.plan.Served.{Served}
 use Rattle.nio_script.specs.Output.{IsWritten, WritesPrefix}
 use Rattle.nio_script.specs.declared.status.Status.{Status}
-use Rattle.nio_script.specs.declared.status.Status.TheVariants.{Done, Usage, BadScript, ReadFault, WriteFault, Memory}
-use Rattle.nio_script.specs.declared.status.Status.TheVariants.{NetFault, Illegal, TooLong}
+use Rattle.nio_script.specs.declared.status.Status.TheVariants.{Done, WriteFault, Memory, NetFault}
+use Rattle.nio_run.specs.Relays.{EndsRelay}
 
 -- a group has from 1 to 64 workers
 abbrev pub HasWorkers : ProxyWay → Type 0
 HasWorkers Select = Unit {0}
 HasWorkers (Group count) = (1 ≤ count) × (count ≤ 64)
+HasWorkers Future = Unit {0}
 
 -- what is said of the connections that were served, and of those that ended by a fault
 abbrev pub served_line : Served → List ℕ
@@ -48,27 +49,6 @@ pub record IsServedCleanly {K : Type 0} (k : sink.Ghosts K) (conns : ℕ) (link 
   pub cleanly : ServesCleanly conns link served
   pub written : IsWritten k output output' (served_line served)
 
--- the line was written and flushed, or some of it and the sink failed, or there was no memory for it
-pub record SaysServed {K : Type 0} (k : sink.Ghosts K) (served : Served) (output output' : K)
-    (status : Status) : Type 0 where
-  pub done : status ≡ Done → IsWritten k output output' (served_line served) × (k.faults output' ≡ k.faults output)
-  pub write_fault : status ≡ WriteFault → WritesPrefix k output output' (served_line served)
-      × Rose (k.faults output) (k.faults output')
-  pub memory : status ≡ Memory → output' ≡ output
-  pub ends : (status ≡ Done) ⊎ ((status ≡ WriteFault) ⊎ (status ≡ Memory))
-
--- how `proxy` may end
-abbrev pub EndsProxy : Status → Type 0
-EndsProxy Done = Unit {0}
-EndsProxy Usage = ⊥
-EndsProxy (BadScript line) = ⊥
-EndsProxy ReadFault = ⊥
-EndsProxy WriteFault = Unit {0}
-EndsProxy Memory = Unit {0}
-EndsProxy NetFault = Unit {0}
-EndsProxy (Illegal line) = ⊥
-EndsProxy TooLong = ⊥
-
 -- What `proxy` does by this plan where it ends with this status. Links and places are those after it; counts of
 -- faults, of links and of polls, are those before it and after it.
 pub record DoesProxy {K : Type 0} (k : sink.Ghosts K) (plan : ProxyPlan) (link : ChanNo → Link) (place : ChanNo → Place)
@@ -78,7 +58,7 @@ pub record DoesProxy {K : Type 0} (k : sink.Ghosts K) (plan : ProxyPlan) (link :
   pub rose : status ≡ WriteFault → Rose (k.faults output) (k.faults output')
   pub net_fault : status ≡ NetFault → Rose polls_before polls_now ⊎ Rose (before listener) (now listener)
   pub unwritten : (status ≡ NetFault) ⊎ (status ≡ Memory) → output' ≡ output
-  pub ends : EndsProxy status
+  pub ends : EndsRelay status
   -- at every end each connection has relayed its bytes, and nothing stands
   pub relays : RelaysBytes link
   pub leaves : LeavesNothing plan link place

@@ -4,15 +4,11 @@ use Rattle.nio_bytes.specs.declared.sink.Sink as sink
 use Rattle.nio_script.specs.Output.{WritesOrFails}
 use Rattle.nio_words.specs.declared.words.Pass.{Pass}
 
--- the first word is `proxy`
-pub record BeginsProxy (words : List (List ℕ)) : Type 0 where
-  pub rest : List (List ℕ)
-  pub begins : words ≡ codes "proxy" ∷ rest
-
 -- the usage line, which is written where the words are no command
 abbrev pub usage_line : List ℕ
 usage_line =
-    codes "usage: nio script | check | check-1 | race | proxy --way select|group --listen ADDR --target ADDR --conns N [--workers W] | load N | timed"
+    codes "usage: nio script | check | check-1 | race | proxy --way select|group|future --listen ADDR --target ADDR "
+    ++ codes "--conns N [--workers W] | load N | packets --listen ADDR --local ADDR --target ADDR --count N | timed"
     ++ 10 ∷ []
 
 -- The usage was said, nothing was read, and no step was made.

@@ -6,6 +6,7 @@ pub use ended::Ended;
 pub use program::{PROGRAM_LIMITS, run};
 
 mod ended;
+mod packets;
 mod program;
 mod proxy;
 mod words;

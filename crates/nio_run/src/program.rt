@@ -7,11 +7,17 @@ ghost use Rattle.nio_script.specs.Run.{ReadsText};
 ghost use Rattle.nio_words.specs.Passes.{IsFirstPass, limits_of};
 ghost use Rattle.nio_run.specs.Commands.{DoesScript, DoesCheck, WritesLegal};
 ghost use Rattle.nio_run.specs.Load.{DoesLoad};
+ghost use Rattle.nio_run.specs.Packets.{DoesPackets};
 ghost use Rattle.nio_run.specs.Proxy.{DoesProxy};
-ghost use Rattle.nio_run.specs.Words.{BeginsProxy, IsUsage};
+ghost use Rattle.nio_run.specs.Words.{IsUsage};
 ghost use Rattle.nio_base.specs.declared.numbers.ChanNo.{ChanNo};
 ghost use Rattle.nio_command.specs.Words.{IsScriptCommand, IsCheckCommand, IsCheckFirstCommand, IsRaceCommand};
-ghost use Rattle.nio_command.specs.Words.{IsLoadCommand, IsProxyCommand, IsTimedCommand, SaysNothing};
+ghost use Rattle.nio_command.specs.Words.{BeginsPackets, BeginsProxy, HasOptions, IsLoadCommand, IsPacketsCommand};
+ghost use Rattle.nio_command.specs.Words.{IsProxyCommand, IsTimedCommand, SaysNothing};
+ghost use Rattle.nio_datagram.specs.Packets.{no_traffic};
+ghost use Rattle.nio_datagram.specs.Serving.{back, front};
+ghost use Rattle.nio_datagram.specs.declared.net.Place.TheVariants as place_is;
+ghost use Rattle.nio_datagram.specs.declared.serving.PacketPlan.{PacketPlan};
 ghost use Rattle.nio_link.specs.Links.{IsUnused};
 ghost use Rattle.nio_link.specs.Places.{unused};
 ghost use Rattle.nio_race.specs.Does.{DoesRace};
@@ -20,11 +26,13 @@ ghost use Rattle.nio_relay.specs.declared.plan.ProxyPlan.{ProxyPlan};
 ghost use Rattle.nio_run.specs.Timed.{DoesTimed};
 
 use crate::ended::Ended;
+use crate::packets::relay_packets;
 use crate::proxy::serve;
 use crate::words::named;
 use nio_base::{Gate, Limits};
 use nio_bytes::{Sink, Source};
 use nio_command::{Command, WordsError};
+use nio_datagram::PacketNet;
 use nio_link::Net;
 use nio_load::run_load;
 use nio_plain::Rules;
@@ -34,7 +42,8 @@ use nio_script::{Status, offer, run_check, run_script};
 use nio_sole::Sole;
 use nio_timed::run_timed;
 use nio_words::{Pass, Words};
-use std::alloc::{AllocError, Global};
+use std::alloc::{AllocError, AllocGlobal, Global};
+use std::random::RandomSource;
 use std::sync::Wait;
 use std::thread::Threads;
 
@@ -48,13 +57,14 @@ pub const PROGRAM_LIMITS: Limits = Limits {
 
 /// The usage line, which is written where the words are no command.
 const USAGE: &str =
-    "usage: nio script | check | check-1 | race | proxy --way select|group --listen ADDR --target ADDR --conns N [--workers W] | load N | timed\n";
+    "usage: nio script | check | check-1 | race | proxy --way select|group|future --listen ADDR --target ADDR \
+        --conns N [--workers W] | load N | packets --listen ADDR --local ADDR --target ADDR --count N | timed\n";
 
 /// Does what the words say: all that the program does. `script`, `race` and `load` make their calls on this table, by
 /// the rules of now; `check` and `check-1` make theirs on a system of their own with the same limits; `timed` makes its
 /// calls on a group of its own; `proxy` relays over the net, in the way that the words say, with a table of its own;
-/// the bell makes the net's poll return.
-pub fn run<R: Threads + Wait + Sync, S: Source, K: Sink, N: Net, B: Bell + Sync, G: Gate + Sync>(
+/// the bell makes the net's poll return. `packets` relays over the net of packets, with a table of its own.
+pub fn run<R, S: Source, K: Sink, N: Net, D: PacketNet, B: Bell + Sync, G: Gate + Sync>(
     rt: &R,
     alloc: Global,
     words: &[String],
@@ -63,24 +73,32 @@ pub fn run<R: Threads + Wait + Sync, S: Source, K: Sink, N: Net, B: Bell + Sync,
     table: &Words,
     pass: &mut Pass,
     net: N,
+    packets: &mut D,
     bell: &B,
     gate: &G,
 ) -> Ended<N>
+where
+    R: Threads + Wait + RandomSource + AllocGlobal + Sync,
     requires first { IsFirstPass table.now pass.old }
     requires limits { limits_of table.now ≡ PROGRAM_LIMITS }
     requires fresh { (c : ChanNo) → IsUnused (N.link net c) }
     requires unasked { (c : ChanNo) → N.place net c ≡ unused }
+    requires front_unused { D.traffic packets.old front ≡ no_traffic }
+    requires back_unused { D.traffic packets.old back ≡ no_traffic }
+    requires front_unbound { D.place packets.old front ≡ place_is.Unbound }
+    requires back_unbound { D.place packets.old back ≡ place_is.Unbound }
 
-    // The words are looked at first. There may be no memory to read the options of `proxy`.
+    // The words are looked at first. There may be no memory to read the options of `proxy` or of `packets`.
     ensures usage { result.status ≡ Status.Usage → SaysNothing (map string_bytes words.now) }
     ensures nothing { SaysNothing (map string_bytes words.now) →
         (result.status ≡ Status.Usage)
-        ⊎ ((result.status ≡ Status.Memory) × BeginsProxy (map string_bytes words.now)) }
+        ⊎ ((result.status ≡ Status.Memory) × HasOptions (map string_bytes words.now)) }
     ensures usage_said { result.status ≡ Status.Usage →
         IsUsage K.Sink input.old input.new output.old output.new pass.old pass.new }
     ensures nothing_written { SaysNothing (map string_bytes words.now) → result.status ≡ Status.Memory →
         output.new ≡ output.old }
-    ensures nothing_relayed { SaysNothing (map string_bytes words.now) → result.net ≡ net }
+    ensures nothing_relayed { SaysNothing (map string_bytes words.now) →
+        (result.net ≡ net) × (packets.new ≡ packets.old) }
 
     // What each command does.
     ensures script { IsScriptCommand (map string_bytes words.now) →
@@ -109,6 +127,13 @@ pub fn run<R: Threads + Wait + Sync, S: Source, K: Sink, N: Net, B: Bell + Sync,
     ensures proxy_alone { BeginsProxy (map string_bytes words.now) →
         (input.new ≡ input.old) × (pass.new ≡ pass.old) }
     ensures no_net { (BeginsProxy (map string_bytes words.now) → ⊥) → result.net ≡ net }
+    ensures packets { (plan : PacketPlan) → IsPacketsCommand (map string_bytes words.now) plan →
+        DoesPackets K.Sink plan (D.traffic packets.old) (D.traffic packets.new) (D.place packets.old)
+        (D.place packets.new) (D.packet_faults packets.old) (D.packet_faults packets.new) (D.poll_faults packets.old)
+        (D.poll_faults packets.new) output.old output.new result.status }
+    ensures packets_alone { BeginsPackets (map string_bytes words.now) →
+        (input.new ≡ input.old) × (pass.new ≡ pass.old) }
+    ensures no_packets { (BeginsPackets (map string_bytes words.now) → ⊥) → packets.new ≡ packets.old }
 
     // What `script` writes is legal for `check`.
     ensures legal { IsScriptCommand (map string_bytes words.now) → result.status ≡ Status.Done →
@@ -148,6 +173,10 @@ pub fn run<R: Threads + Wait + Sync, S: Source, K: Sink, N: Net, B: Bell + Sync,
             net,
         },
         Ok(Command::Proxy(plan, way)) => serve(rt, alloc, output, net, bell, gate, plan, way),
+        Ok(Command::Packets(plan)) => Ended {
+            status: relay_packets(rt, alloc, output, packets, plan),
+            net,
+        },
         Err(WordsError::Usage) => {
             offer(output, USAGE.as_bytes());
             Ended {

@@ -4,7 +4,8 @@ ghost use Rattle.nio_base.specs.declared.numbers.ChanNo.{ChanNo};
 ghost use Rattle.nio_link.specs.Links.{IsUnused};
 ghost use Rattle.nio_link.specs.Places.{unused};
 ghost use Rattle.nio_relay.specs.Plan.{IsServable};
-ghost use Rattle.nio_run.specs.Proxy.{DoesProxy, HasWorkers, SaysServed};
+ghost use Rattle.nio_run.specs.Proxy.{DoesProxy, HasWorkers, served_line};
+ghost use Rattle.nio_run.specs.Relays.{SaysLine};
 ghost use Rattle.nio_serve.specs.Serving.{LeavesNothing, NoneRose, RelaysBytes, Serves, ServesAllOr};
 
 use crate::ended::Ended;
@@ -18,7 +19,9 @@ use nio_proxy::serve_select;
 use nio_relay::{ProxyPlan, Served};
 use nio_script::{Status, write_out};
 use nio_serve::ServeError;
-use std::alloc::Global;
+use nio_tickets::serve_future;
+use std::alloc::{AllocGlobal, Global};
+use std::random::RandomSource;
 use std::sync::Wait;
 use std::thread::Threads;
 
@@ -30,7 +33,7 @@ struct Relayed<N> {
 }
 
 /// Relays the connections of a plan in this way, and says how many there were.
-pub fn serve<R: Threads + Wait + Sync, K: Sink, N: Net, B: Bell + Sync, G: Gate + Sync>(
+pub fn serve<R, K: Sink, N: Net, B: Bell + Sync, G: Gate + Sync>(
     rt: &R,
     alloc: Global,
     output: &mut K,
@@ -40,6 +43,8 @@ pub fn serve<R: Threads + Wait + Sync, K: Sink, N: Net, B: Bell + Sync, G: Gate 
     plan: ProxyPlan,
     way: ProxyWay,
 ) -> Ended<N>
+where
+    R: Threads + Wait + RandomSource + AllocGlobal + Sync,
     requires plan { IsServable plan }
     requires way { HasWorkers way }
     requires fresh { (c : ChanNo) → IsUnused (N.link net c) }
@@ -65,8 +70,8 @@ pub fn serve<R: Threads + Wait + Sync, K: Sink, N: Net, B: Bell + Sync, G: Gate 
     }
 }
 
-// Relays the connections of a plan: by a selector, or by the operations of a group.
-fn relay<R: Threads + Wait + Sync, N: Net, B: Bell + Sync, G: Gate + Sync>(
+// Relays the connections of a plan: by a selector, by the operations of a group, or by operations with tickets.
+fn relay<R, N: Net, B: Bell + Sync, G: Gate + Sync>(
     rt: &R,
     alloc: Global,
     net: N,
@@ -75,6 +80,8 @@ fn relay<R: Threads + Wait + Sync, N: Net, B: Bell + Sync, G: Gate + Sync>(
     plan: ProxyPlan,
     way: ProxyWay,
 ) -> Relayed<N>
+where
+    R: Threads + Wait + RandomSource + AllocGlobal + Sync,
     requires plan { IsServable plan }
     requires way { HasWorkers way }
     requires fresh { (c : ChanNo) → IsUnused (N.link net c) }
@@ -100,11 +107,19 @@ fn relay<R: Threads + Wait + Sync, N: Net, B: Bell + Sync, G: Gate + Sync>(
                 net: jobs.into_net(),
             }
         }
+        ProxyWay::Future => {
+            let mut jobs = JobNet::over(net);
+            let served = serve_future(rt, alloc, &mut jobs, plan);
+            Relayed {
+                served,
+                net: jobs.into_net(),
+            }
+        }
     }
 }
 
 fn say_served<K: Sink>(alloc: Global, output: &mut K, served: Served) -> Status
-    ensures said { SaysServed K.Sink served output.old output.new result }
+    ensures said { SaysLine K.Sink (served_line served) output.old output.new result }
     ensures later { K.faults output.old ≤ K.faults output.new }
 {
     let connections = served.connections;

@@ -2,12 +2,14 @@
 ghost use Rattle.std.specs.Prelude.{◌≡◌, ◌≢◌, ◌⊎◌, ◌↔◌, ℕ, map};
 ghost use Rattle.std.specs.String.{string_bytes};
 ghost use Rattle.nio_command.specs.Words.{IsScriptCommand, IsCheckCommand, IsCheckFirstCommand, IsRaceCommand};
-ghost use Rattle.nio_command.specs.Words.{IsLoadCommand, IsProxyCommand, IsTimedCommand, SaysNothing};
+ghost use Rattle.nio_command.specs.Words.{HasOptions, IsLoadCommand, IsPacketsCommand, IsProxyCommand, IsTimedCommand};
+ghost use Rattle.nio_command.specs.Words.{SaysNothing};
 ghost use Rattle.nio_command.specs.declared.way.ProxyWay.{ProxyWay};
+ghost use Rattle.nio_datagram.specs.Serving.{IsRelayable};
+ghost use Rattle.nio_datagram.specs.declared.serving.PacketPlan.{PacketPlan};
 ghost use Rattle.nio_relay.specs.Plan.{IsServable};
 ghost use Rattle.nio_relay.specs.declared.plan.ProxyPlan.{ProxyPlan};
 ghost use Rattle.nio_run.specs.Proxy.{HasWorkers};
-ghost use Rattle.nio_run.specs.Words.{BeginsProxy};
 
 use nio_command::{Command, WordsError, command_of};
 use std::alloc::Global;
@@ -27,10 +29,15 @@ pub fn named(alloc: Global, words: &[String]) -> Result<Command, WordsError>
         → (result ≡ Ok (Command.Proxy plan way)) ⊎ (result ≡ Err WordsError.Memory) }
     ensures servable { (plan : ProxyPlan) (way : ProxyWay) → result ≡ Ok (Command.Proxy plan way)
         → IsServable plan × HasWorkers way }
+    ensures packets { (plan : PacketPlan) → result ≡ Ok (Command.Packets plan)
+        → IsPacketsCommand (map string_bytes words.now) plan }
+    ensures packets_only { (plan : PacketPlan) → IsPacketsCommand (map string_bytes words.now) plan
+        → (result ≡ Ok (Command.Packets plan)) ⊎ (result ≡ Err WordsError.Memory) }
+    ensures relayable { (plan : PacketPlan) → result ≡ Ok (Command.Packets plan) → IsRelayable plan }
     ensures usage { result ≡ Err WordsError.Usage → SaysNothing (map string_bytes words.now) }
     ensures nothing { SaysNothing (map string_bytes words.now) → (result ≡ Err WordsError.Usage)
         ⊎ (result ≡ Err WordsError.Memory) }
-    ensures memory { result ≡ Err WordsError.Memory → BeginsProxy (map string_bytes words.now) }
+    ensures memory { result ≡ Err WordsError.Memory → HasOptions (map string_bytes words.now) }
 {
     command_of(alloc, words)
 }

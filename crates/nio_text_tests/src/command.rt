@@ -1,6 +1,7 @@
 //! Command lines, and the commands that are read from them, as tables.
 use nio_base::Addr;
 use nio_command::*;
+use nio_datagram::PacketPlan;
 use nio_relay::ProxyPlan;
 use std::alloc::{AllocError, Global};
 use std::test::Fail;
@@ -44,6 +45,22 @@ const ENDS: ProxyPlan = ProxyPlan {
     conns: 16_000,
 };
 
+const PACKETS: PacketPlan = PacketPlan {
+    listen: Addr {
+        ip: [127, 0, 0, 1],
+        port: 7000,
+    },
+    local: Addr {
+        ip: [127, 0, 0, 1],
+        port: 7001,
+    },
+    target: Addr {
+        ip: [10, 0, 0, 2],
+        port: 9000,
+    },
+    count: 1_000_000,
+};
+
 const COMMANDS: &[(&str, Command)] = &[
     ("script", Command::Script),
     ("check", Command::Check),
@@ -79,6 +96,18 @@ const COMMANDS: &[(&str, Command)] = &[
     (
         "proxy --workers=64 --conns=3 --listen 127.0.0.1:8080 --target 10.0.0.2:80 --way=group",
         Command::Proxy(PLAN, ProxyWay::Group(64)),
+    ),
+    (
+        "proxy --way future --listen 127.0.0.1:8080 --target 10.0.0.2:80 --conns 3",
+        Command::Proxy(PLAN, ProxyWay::Future),
+    ),
+    (
+        "packets --listen 127.0.0.1:7000 --local 127.0.0.1:7001 --target 10.0.0.2:9000 --count 1000000",
+        Command::Packets(PACKETS),
+    ),
+    (
+        "packets --count=1000000 --target=10.0.0.2:9000 --local 127.0.0.1:7001 --listen=127.0.0.1:7000",
+        Command::Packets(PACKETS),
     ),
 ];
 
@@ -127,6 +156,16 @@ const OTHER_LINES: &[&str] = &[
     "proxy --way group --listen 127.0.0.1:1 --target 127.0.0.1:2 --conns 1 --workers 04",
     "proxy --way group --listen 127.0.0.1:1 --target 127.0.0.1:2 --conns 1 --workers 65",
     "proxy --way group --listen 127.0.0.1:1 --target 127.0.0.1:2 --conns 1 --workers 4 --workers 4",
+    "proxy --way future --listen 127.0.0.1:1 --target 127.0.0.1:2 --conns 1 --workers 4",
+    "packets",
+    "packets --help",
+    "packets --listen 127.0.0.1:1 --target 127.0.0.1:2 --count 1",
+    "packets --listen 127.0.0.1:1 --local 127.0.0.1:3 --target 127.0.0.1:2 --count 0",
+    "packets --listen 127.0.0.1:1 --local 127.0.0.1:3 --target 127.0.0.1:2 --count 1000001",
+    "packets --listen 127.0.0.1:1 --local 127.0.0.1:0 --target 127.0.0.1:2 --count 1",
+    "packets --listen 127.0.0.1:1 --local 127.0.0.1:3 --target 127.0.0.1:2 --count 1 --count 1",
+    "packets --listen 127.0.0.1:1 --local 127.0.0.1:3 --target 127.0.0.1:2 --count 1 --workers 1",
+    "packets --listen 127.0.0.1:1 --local 127.0.0.1:3 --target 127.0.0.1:2 --conns 1",
     "proxy --workers 4 --way select --listen 127.0.0.1:1 --target 127.0.0.1:2 --conns 1",
     "proxy --way select --listen 127.0.0.1:0 --target 127.0.0.1:2 --conns 1",
     "proxy --way select --listen 127.0.0.1:65536 --target 127.0.0.1:2 --conns 1",

@@ -2,10 +2,11 @@
 use super::runs;
 use nio_bytes::{MemorySink, MemorySource};
 use nio_mio::MioNet;
-use std::alloc::{AllocError, Global};
+use std::alloc::{AllocError, AllocGlobal, Global};
 use std::io;
 use std::io::{Read, Write};
 use std::net::{Net, Shutdown, TcpListener, TcpStream};
+use std::random::RandomSource;
 use std::sync::Wait;
 use std::test::Fail;
 use std::thread::{Threads, join, sleep};
@@ -30,13 +31,16 @@ fn bytes(alloc: Global, period: usize) -> Result<Vec<u8>, AllocError> {
 }
 
 /// The status of the program that relays one connection, and what it wrote.
-fn relay<R: Threads + Wait + Sync + Net + Clock + Copy>(
+fn relay<R>(
     rt: &R,
     alloc: Global,
     way: &str,
     listen: &str,
     target: &str,
-) -> Result<(u8, Vec<u8>), AllocError> {
+) -> Result<(u8, Vec<u8>), AllocError>
+where
+    R: Threads + Wait + RandomSource + AllocGlobal + Net + Clock + Copy + Sync,
+{
     let words = [
         "proxy", "--way", way, "--listen", listen, "--target", target, "--conns", "1",
     ];
@@ -81,7 +85,7 @@ fn answer(rt: &HostRuntime, listener: &TcpListener, sent: &[u8]) -> io::Result<V
 fn relays_over_loopback(rt: HostRuntime) -> Result<(), Fail> {
     let question = bytes(rt.alloc(), 251)?;
     let reply = bytes(rt.alloc(), 241)?;
-    for way in ["select", "group"] {
+    for way in ["select", "group", "future"] {
         let listener = TcpListener::bind(&rt, "127.0.0.1:0")?;
         let port = listener.local_addr()?.port();
         let target = format!(in rt.alloc(); "127.0.0.1:{port}")?;

@@ -10,8 +10,10 @@ use nio_base::ChanNo;
 use nio_bytes::{MemorySink, MemorySource};
 use nio_link::{MemoryNet, NetPlan, PeerPlan};
 use nio_poller::NoBell;
-use std::alloc::{AllocError, Global};
+use std::alloc::{Alloc, AllocError, AllocGlobal, Global};
+use std::io;
 use std::process::Abort;
+use std::random::RandomSource;
 use std::sync::Wait;
 use std::test::Fail;
 use std::thread::Threads;
@@ -93,32 +95,38 @@ const TWO: Row = Row {
     ..ONE
 };
 
+const RELAY_ONE: Row = Row {
+    name: "relay_one",
+    peers: &[SENDER],
+    ..ONE
+};
+
+const RELAY_ONE_OF_TWO_FAILS: Row = Row {
+    name: "relay_one_of_two_fails",
+    peers: ONE_OF_TWO_FAILS,
+    conns: "2",
+    written: "served 2 faults 1\n",
+    ..ONE
+};
+
+const RELAY_ACCEPT_FAILS: Row = Row {
+    name: "relay_accept_fails",
+    peers: &[Peer {
+        at_target: 0,
+        is_shut: false,
+        ..SENDER
+    }],
+    fail_accept: Some(0),
+    status: 7,
+    written: "",
+    ..ONE
+};
+
+/// The rows that end alike in every way.
+const ALIKE: &[Row] = &[TWO, RELAY_ONE, RELAY_ONE_OF_TWO_FAILS, RELAY_ACCEPT_FAILS];
+
 const ROWS: &[Row] = &[
     ONE,
-    Row {
-        name: "relay_one",
-        peers: &[SENDER],
-        ..ONE
-    },
-    Row {
-        name: "relay_one_of_two_fails",
-        peers: ONE_OF_TWO_FAILS,
-        conns: "2",
-        written: "served 2 faults 1\n",
-        ..ONE
-    },
-    Row {
-        name: "relay_accept_fails",
-        peers: &[Peer {
-            at_target: 0,
-            is_shut: false,
-            ..SENDER
-        }],
-        fail_accept: Some(0),
-        status: 7,
-        written: "",
-        ..ONE
-    },
     Row {
         name: "empty_connection",
         peers: &[Peer {
@@ -311,13 +319,15 @@ pub(super) fn net_of(
 }
 
 /// The status of the program that relays so many connections, what it wrote, and the net that it left.
-fn relays<R: Threads + Wait + Sync>(
+fn relays<R>(
     rt: &R,
     alloc: Global,
     net: MemoryNet,
     way: &str,
     conns: &str,
 ) -> Result<(u8, MemorySink, MemoryNet), AllocError>
+where
+    R: Threads + Wait + RandomSource + AllocGlobal + Sync,
     requires fresh { (c : ChanNo) → IsUnused (carried_at net.slots c) }
     requires unasked { (c : ChanNo) → places_after net.changes c ≡ unused }
 {
@@ -355,13 +365,10 @@ fn has_arrived(
         && (net.is_shut(client) && net.is_shut(target)) == peer.is_shut
 }
 
-fn ends_as(
-    rt: &(impl Abort + Threads + Wait + Sync),
-    alloc: Global,
-    way: &str,
-    row: &Row,
-    sent: (&[u8], &[u8]),
-) -> Result<(), Fail> {
+fn ends_as<R>(rt: &R, alloc: Global, way: &str, row: &Row, sent: (&[u8], &[u8])) -> Result<(), Fail>
+where
+    R: Abort + Threads + Wait + RandomSource + AllocGlobal + Sync,
+{
     let net = net_of(alloc, row.peers, row.fail_poll, row.fail_accept)?;
     let (status, sink, net) = relays(rt, alloc, net, way, row.conns)?;
     assert_eq!(rt; status, row.status, "{} {way}", row.name);
@@ -387,11 +394,13 @@ fn relays_end_as_written_down(rt: HostRuntime) -> Result<(), Fail> {
 }
 
 #[test]
-fn both_ways_end_alike(rt: HostRuntime) -> Result<(), Fail> {
+fn all_ways_end_alike(rt: HostRuntime) -> Result<(), Fail> {
     let of_client = bytes(rt.alloc(), 0, 20_000, OF_CLIENT)?;
     let of_target = bytes(rt.alloc(), 0, 20_000, OF_TARGET)?;
-    for way in ["select", "group"] {
-        ends_as(&rt, rt.alloc(), way, &TWO, (&of_client, &of_target))?;
+    for way in ["select", "group", "future"] {
+        for row in ALIKE {
+            ends_as(&rt, rt.alloc(), way, row, (&of_client, &of_target))?;
+        }
     }
     Ok(())
 }
@@ -420,5 +429,39 @@ fn failing_nets(rt: HostRuntime) -> Result<(), Fail> {
             assert!(rt; begun, "failing_nets: {name} {more}");
         }
     }
+    Ok(())
+}
+
+/// A runtime that has no random bytes, so that no round of polls is run.
+#[derive(Drop)]
+struct NoRandom<R> {
+    rt: R,
+}
+
+impl<R: Threads> Threads for NoRandom<R> {}
+
+impl<R: Wait> Wait for NoRandom<R> {}
+
+impl<R: Alloc> Alloc for NoRandom<R> {
+    type A = R::A;
+
+    fn alloc(&self) -> R::A {
+        self.rt.alloc()
+    }
+}
+
+impl<R> RandomSource for NoRandom<R> {
+    fn fill_bytes(&self, _buf: &mut [u8]) -> io::Result<()> {
+        Err(io::Error::other("no random bytes"))
+    }
+}
+
+#[test]
+fn a_refused_round_counts_as_want_of_memory(rt: HostRuntime) -> Result<(), Fail> {
+    let net = net_of(rt.alloc(), &[SHORT], None, None)?;
+    let refusing = NoRandom { rt: &rt };
+    let (status, sink, _net) = relays(&refusing, rt.alloc(), net, "future", "1")?;
+    assert_eq!(rt; status, 6);
+    assert!(rt; sink.bytes().is_empty());
     Ok(())
 }

@@ -7,8 +7,9 @@ use nio_bytes::{MemorySink, MemorySource};
 use nio_script::run_script;
 use nio_sole::Sole;
 use nio_words::Words;
-use std::alloc::Global;
+use std::alloc::{AllocGlobal, Global};
 use std::process::Abort;
+use std::random::RandomSource;
 use std::sync::Wait;
 use std::test::Fail;
 use std::thread::Threads;
@@ -409,13 +410,10 @@ impl Texts {
 }
 
 /// Runs a row on the program's table by `script`, and has `check` compare its history with the documented system's.
-fn row(
-    rt: &(impl Abort + Threads + Wait + Sync),
-    alloc: Global,
-    label: &str,
-    opening: Lines,
-    lines: Lines,
-) -> Result<(), Fail> {
+fn row<R>(rt: &R, alloc: Global, label: &str, opening: Lines, lines: Lines) -> Result<(), Fail>
+where
+    R: Abort + Threads + Wait + RandomSource + AllocGlobal + Sync,
+{
     let mut texts = Texts::new(alloc);
     texts.add(alloc, opening)?;
     texts.add(alloc, lines)?;

@@ -11,19 +11,19 @@ use Rattle.nio_command.proofs.command.read_proxy.Goals as goal
 
 pub returns-in_err-texts-clause-only : goal.returns-in_err-texts-clause-only
 returns-in_err-texts-clause-only c = λ plan way is ok.
-    let only = c.in_ok-read_options.ensures.only is.values (same_rest _ plan way is)
+    let only = c.in_ok-read_proxy_options.ensures.only is.values (same_rest _ plan way is)
     (plain_values is.values plan way is.asks) in
-    absurd (some_no_err c.in_ok-read_options.field-0
+    absurd (some_no_err c.in_ok-read_proxy_options.field-0
     (λ t. texts_of t ≡ is.values) Usage c.in_err-texts.field-0.0 c.ok_or.result only
     c.ok_or.ensures.value c.in_err-texts.was)
 
 pub returns-clause-only : goal.returns-clause-only
 returns-clause-only c = λ plan way is ok.
-    let only = c.in_ok-read_options.ensures.only is.values (same_rest _ plan way is)
+    let only = c.in_ok-read_proxy_options.ensures.only is.values (same_rest _ plan way is)
     (plain_values is.values plan way is.asks) in
-    let texts = some_as c.in_ok-read_options.field-0
+    let texts = some_as c.in_ok-read_proxy_options.field-0
     (λ t. texts_of t ≡ is.values) Usage c.ok_or.result c.in_ok-texts.texts only
     c.ok_or.ensures.value c.in_ok-texts.was in
-    let read = c.read_plan.ensures.only plan way
+    let read = c.read_proxy_plan.ensures.only plan way
     (subst (λ (v : ProxyValues). AsksFor v plan way) (sym texts) is.asks) in
     c.ok_or-2.ensures.value ∙ ap (λ (o : Option (ProxyPlan × ProxyWay)). ok_or o Usage) read

@@ -1,13 +1,19 @@
 use Rattle.std.proofs.Common.{ℕ, map, refl, subst}
 use Rattle.std.specs.String.{string_bytes}
 use Rattle.nio_script.specs.Output.{WritesOrFails}
+use Rattle.nio_script.specs.declared.status.Status.TheVariants as status
 use Rattle.nio_run.specs.declared.program.TheConstants.{PROGRAM_LIMITS}
 use Rattle.nio_relay.specs.declared.plan.ProxyPlan.{ProxyPlan}
 use Rattle.nio_run.specs.Load.{DoesLoad}
-use Rattle.nio_run.specs.Proxy.{DoesProxy, EndsProxy}
+use Rattle.nio_datagram.specs.declared.serving.PacketPlan.{PacketPlan}
+use Rattle.nio_run.specs.Packets.{DoesPackets}
+use Rattle.nio_run.specs.Proxy.{DoesProxy}
+use Rattle.nio_run.specs.Relays.{EndsRelay}
 use Rattle.nio_load.specs.Load.{EndsLoad}
 use Rattle.nio_run.proofs.Legal.{writes_legal}
-use Rattle.nio_run.proofs.Named.{begins_proxy, its_plan, its_rounds, its_workers, no_plan, takes_none}
+use Rattle.nio_run.proofs.Named.{begins_packets, begins_proxy, its_packets, its_plan, its_rounds}
+use Rattle.nio_run.proofs.Named.{its_workers, no_packets, no_plan, packets_no_proxy, proxy_no_packets, takes_none}
+use Rattle.nio_run.proofs.Unsent.{unsent}
 use Rattle.nio_run.proofs.Unserved.{unserved}
 use Rattle.nio_run.proofs.program.run.Goals as goal
 
@@ -28,6 +34,10 @@ returns-in-Err-Usage-clause-usage_said g c = λ usage. record {
   uncalled = refl;
 }
 
+pub returns-in-Err-Usage-clause-too_long : goal.returns-in-Err-Usage-clause-too_long
+returns-in-Err-Usage-clause-too_long g c =
+    takes_none g.S.Source c.args.input.now status.Usage (λ long. absurd (cc long))
+
 pub returns-in-Ok-Proxy-clause-proxy : goal.returns-in-Ok-Proxy-clause-proxy
 returns-in-Ok-Proxy-clause-proxy g c = λ plan way says.
     subst (λ (p : ProxyPlan). DoesProxy g.K.Sink p (g.N.Net.link c.serve.result.net)
@@ -39,7 +49,7 @@ returns-in-Ok-Proxy-clause-proxy g c = λ plan way says.
 
 pub returns-in-Ok-Proxy-clause-too_long : goal.returns-in-Ok-Proxy-clause-too_long
 returns-in-Ok-Proxy-clause-too_long g c = takes_none g.S.Source c.args.input.now c.serve.result.status
-    (λ long. subst EndsProxy long c.serve.ensures.proxy.ends)
+    (λ long. subst EndsRelay long c.serve.ensures.proxy.ends)
 
 pub returns-in-Ok-Proxy-clause-no_net : goal.returns-in-Ok-Proxy-clause-no_net
 returns-in-Ok-Proxy-clause-no_net g c = λ other. absurd (other
@@ -89,3 +99,49 @@ pub serve-requires-clause-way : goal.serve-requires-clause-way
 serve-requires-clause-way g c κs within =
     its_workers c.in-Ok-Proxy.field-0 c.in-Ok-Proxy.plan c.in-Ok-Proxy.way c.in-Ok-Proxy.field-0-is
     c.in-Ok-Proxy.ensures.servable
+
+pub returns-in-Ok-Proxy-clause-packets : goal.returns-in-Ok-Proxy-clause-packets
+returns-in-Ok-Proxy-clause-packets g c = λ plan says. absurd
+    (proxy_no_packets c.in-Ok-Proxy.field-0 c.in-Ok-Proxy.plan c.in-Ok-Proxy.way plan c.in-Ok-Proxy.field-0-is
+    (c.in-Ok-Proxy.ensures.packets_only plan says))
+
+pub returns-in-Ok-Packets-clause-proxy : goal.returns-in-Ok-Packets-clause-proxy
+returns-in-Ok-Packets-clause-proxy g c = λ plan way says. absurd
+    (packets_no_proxy c.in-Ok-Packets.field-0 c.in-Ok-Packets.plan plan way c.in-Ok-Packets.field-0-is
+    (c.in-Ok-Packets.ensures.proxy_only plan way says))
+
+pub returns-in-Err-Memory-clause-too_long : goal.returns-in-Err-Memory-clause-too_long
+returns-in-Err-Memory-clause-too_long g c =
+    takes_none g.S.Source c.args.input.now status.Memory (λ long. absurd (cc long))
+
+pub returns-in-Ok-Packets-clause-packets : goal.returns-in-Ok-Packets-clause-packets
+returns-in-Ok-Packets-clause-packets g c = λ plan says.
+    subst (λ (p : PacketPlan). DoesPackets g.K.Sink p (g.D.PacketNet.traffic c.args.packets.now)
+    (g.D.PacketNet.traffic c.relay_packets.new.packets) (g.D.PacketNet.place c.args.packets.now)
+    (g.D.PacketNet.place c.relay_packets.new.packets) (g.D.PacketNet.packet_faults c.args.packets.now)
+    (g.D.PacketNet.packet_faults c.relay_packets.new.packets) (g.D.Poller.poll_faults c.args.packets.now)
+    (g.D.Poller.poll_faults c.relay_packets.new.packets) c.args.output.now c.relay_packets.new.output
+    c.relay_packets.result)
+    (its_packets c.in-Ok-Packets.field-0 c.in-Ok-Packets.plan plan c.in-Ok-Packets.field-0-is
+    (c.in-Ok-Packets.ensures.packets_only plan says)) c.relay_packets.ensures.packets
+
+pub returns-in-Ok-Packets-clause-too_long : goal.returns-in-Ok-Packets-clause-too_long
+returns-in-Ok-Packets-clause-too_long g c = takes_none g.S.Source c.args.input.now c.relay_packets.result
+    (λ long. subst EndsRelay long c.relay_packets.ensures.packets.ends)
+
+pub returns-in-Ok-Packets-clause-no_packets : goal.returns-in-Ok-Packets-clause-no_packets
+returns-in-Ok-Packets-clause-no_packets g c = λ other. absurd (other
+    (begins_packets (map string_bytes c.args.words.now) c.in-Ok-Packets.field-0 c.in-Ok-Packets.plan
+    c.in-Ok-Packets.field-0-is c.in-Ok-Packets.ensures.packets))
+
+pub returns-in-Err-Usage-clause-packets : goal.returns-in-Err-Usage-clause-packets
+returns-in-Err-Usage-clause-packets g c =
+    λ plan says. absurd
+    (no_packets c.in-Err-Usage.field-0 plan c.in-Err-Usage.field-0-is
+    (c.in-Err-Usage.ensures.packets_only plan says))
+
+pub returns-in-Err-Memory-clause-packets : goal.returns-in-Err-Memory-clause-packets
+returns-in-Err-Memory-clause-packets g c = λ plan says.
+    unsent g.K.Sink plan (g.D.PacketNet.traffic c.args.packets.now) (g.D.PacketNet.place c.args.packets.now)
+    (g.D.PacketNet.packet_faults c.args.packets.now) (g.D.Poller.poll_faults c.args.packets.now) c.args.output.now
+    c.requires.front_unused c.requires.back_unused c.requires.front_unbound c.requires.back_unbound
