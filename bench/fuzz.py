@@ -3,9 +3,11 @@
 import glob
 import os
 import random
+import socket
 import subprocess
 import sys
 import tempfile
+import threading
 import time
 
 PROGRAM = "crates/nio_cli/out/nio_cli"
@@ -14,9 +16,10 @@ STATUSES = {"script": {0, 3, 9}, "check": {0, 3, 8, 9}, "check-1": {0, 3, 8, 9},
             "words": {0, 2}}
 # replies of a line behind `go` that waits for nobody: the calls that such a race text is made of
 QUICK = ("keys", "selected", "valid", "interest", "ready", "iset", "ior", "iand", "cancel", "unselect", "attach", "wakeup")
-WORDS = ("script", "check", "check-1", "race", "load", "proxy", "timed", "packets", "--way", "select", "group", "--listen",
-         "--target", "--conns", "--workers", "192.0.2.1:9", "[::1]:9", "0", "1", "3", "-1", "99999999999999999999",
-         "--help", "-h", "", "é", "--", "--way=select")
+WORDS = ("script", "check", "check-1", "race", "load", "proxy", "timed", "packets", "--way", "select", "group", "future",
+         "--listen", "--target", "--conns", "--workers", "192.0.2.1:9", "[::1]:9", "0", "1", "3", "-1",
+         "99999999999999999999", "--help", "-h", "", "é", "--", "--way=select", "--way=group", "--way=future",
+         "--workers=2", "--local", "--count", "--count=2")
 SECONDS = 10
 
 
@@ -26,6 +29,92 @@ def texts(pattern):
         with open(path, "rb") as file:
             found.append(file.read())
     return found
+
+
+def bound():
+    """A socket of packets on a port of its own."""
+    link = socket.socket(socket.AF_INET, socket.SOCK_DGRAM)
+    link.bind(("127.0.0.1", 0))
+    link.settimeout(0.002)
+    return link
+
+
+def port(link):
+    return link.getsockname()[1]
+
+
+def is_part(some, whole):
+    """Whether the first list is made of items of the second one, in their order."""
+    left = iter(whole)
+    return all(any(item == other for other in left) for item in some)
+
+
+class Ends:
+    """Two clients of a relay of packets, and its target: packets are sent again and again until the relay ends. On a busy
+    machine the system drops some."""
+
+    def __init__(self, packets):
+        self.packets, self.ended = packets, False
+        self.senders, self.target = [bound(), bound()], bound()
+        with bound() as one, bound() as other:
+            self.listen, self.local = port(one), port(other)
+        self.sent, self.came, self.back = ([], []), [], ([], [])
+        self.threads = [threading.Thread(target=work) for work in (self.send, self.answer)]
+        for thread in self.threads:
+            thread.start()
+
+    def options(self):
+        ports = {"--listen": self.listen, "--local": self.local, "--target": port(self.target)}
+        return [word for name, at in ports.items() for word in (name, f"127.0.0.1:{at}")]
+
+    def send(self):
+        at = 0
+        while not self.ended:
+            who, packet = self.packets[at % len(self.packets)]
+            self.senders[who].sendto(packet, ("127.0.0.1", self.listen))
+            self.sent[who].append(packet)
+            at += 1
+            self.hear()
+
+    def hear(self):
+        for who, sender in enumerate(self.senders):
+            try:
+                while True:
+                    self.back[who].append(sender.recv(65536))
+            except TimeoutError:
+                pass
+
+    def answer(self):
+        while True:
+            try:
+                packet, sender = self.target.recvfrom(65536)
+            except TimeoutError:
+                if self.ended:
+                    return
+                continue
+            self.came.append(packet)
+            if sender[1] == self.local:
+                self.target.sendto(packet[::-1], sender)
+
+    def end(self):
+        self.ended = True
+        for thread in self.threads:
+            thread.join()
+        self.hear()
+        for link in (*self.senders, self.target):
+            link.close()
+
+    def fault(self, count, output):
+        """What is wrong with what the relay wrote and passed on, or nothing: the packets of one sender alone, in their
+        order, and the answers to them, in theirs."""
+        words = output.split()
+        if len(words) != 4 or words[:3] != [b"forth", b"%d" % count, b"back"] or len(self.came) > count:
+            return f"{output!r} after {count} packets, of which {len(self.came)} came"
+        for who in (0, 1):
+            answers = [packet[::-1] for packet in self.came]
+            if is_part(self.came, self.sent[who]) and is_part(self.back[who], answers) and not self.back[1 - who]:
+                return None if len(self.back[who]) <= int(words[3]) else f"{output!r}, and more answers came back"
+        return "other packets came, or came back"
 
 
 class Fuzz:
@@ -78,7 +167,9 @@ class Fuzz:
 
     def case(self):
         """A command, its words and its input."""
-        kind = self.random.choice(["script", "script", "check", "check-1", "race", "timed", "words"])
+        kind = self.random.choice(["script", "script", "check", "check-1", "race", "timed", "words", "packets"])
+        if kind == "packets":
+            return kind, [kind], b""
         if kind == "words":
             count = self.random.randrange(7)
             return kind, [self.random.choice(WORDS) for _ in range(count)], b""
@@ -92,16 +183,38 @@ class Fuzz:
     def ran(self, words, text):
         return subprocess.run([PROGRAM, *words], input=text, stdout=subprocess.PIPE, stderr=subprocess.PIPE, timeout=SECONDS)
 
+    def some_packets(self):
+        """A few packets, each with which of two clients sends it."""
+        sizes = [0, 1, 2, 1400, 65507, self.random.randrange(65508)]
+        return [(self.random.randrange(2), self.random.randbytes(self.random.choice(sizes)))
+                for _ in range(self.random.randrange(1, 6))]
+
+    def relay_fault(self):
+        """What is wrong with a run of a relay of packets, or nothing."""
+        ends, count = Ends(self.some_packets()), self.random.randrange(1, 6)
+        try:
+            done = self.ran(["packets", *ends.options(), "--count", str(count)], b"")
+        finally:
+            ends.end()
+        if done.stderr or done.returncode != 0:
+            return f"status {done.returncode}, to standard error {done.stderr!r}"
+        return ends.fault(count, done.stdout)
+
     def fault(self, kind, words, text):
         """What is wrong with a run, or nothing."""
         self.runs += 1
+        if kind == "packets":
+            try:
+                return self.relay_fault()
+            except subprocess.TimeoutExpired:
+                return "it didn't end"
         try:
             done = self.ran(words, text)
         except subprocess.TimeoutExpired:
             return "it didn't end"
         if done.stderr:
             return "it wrote to standard error"
-        if kind == "words" and words[:1] == ["proxy"]:
+        if kind == "words" and words[:1] in (["proxy"], ["packets"]):
             return None if done.returncode in {2, 7} else f"status {done.returncode}"
         if kind == "words" and words[:1] and words[0] in STATUSES and len(words) == 1:
             kind = words[0]

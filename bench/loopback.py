@@ -2,6 +2,11 @@
 
 loopback.py target PORT     accepts connections, and sends back what it reads until the end of input
 loopback.py clients PORT    two clients, one after the other: each sends 40,000 bytes, shuts its side and reads to the end
+
+and of a relay of packets in refusals.sh:
+
+loopback.py answers PORT    sends each packet back
+loopback.py packets PORT    a client that sends a packet every five milliseconds, until it is ended
 """
 
 import socket
@@ -56,10 +61,29 @@ def client(port):
             pass
 
 
+def answers(port):
+    with socket.socket(socket.AF_INET, socket.SOCK_DGRAM) as link:
+        link.bind((HOST, port))
+        while True:
+            packet, sender = link.recvfrom(65536)
+            link.sendto(packet, sender)
+
+
+def packets(port):
+    with socket.socket(socket.AF_INET, socket.SOCK_DGRAM) as link:
+        while True:
+            link.sendto(BYTES[:1400], (HOST, port))
+            time.sleep(0.005)
+
+
 def main(words):
     kind, port = words[0], int(words[1])
     if kind == "target":
         target(port)
+    if kind == "answers":
+        answers(port)
+    if kind == "packets":
+        packets(port)
     for _ in range(2):
         client(port)
 

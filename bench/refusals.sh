@@ -1,6 +1,6 @@
 #!/usr/bin/env bash
 # Refuses each allocation of the program in turn, for each of the inputs below: once alone, and once with all after it.
-# The proxy runs over loopback, and over a net in memory (the program nio_memory_proxy).
+# The proxy runs over loopback, and over a net in memory (the program nio_memory_proxy). `packets` runs over loopback.
 # For each input it writes how many allocations a run makes, how many runs there were, and how they ended. A run is
 # wrong where its status is neither the input's nor 6 (want of memory), where what it wrote isn't a beginning of the
 # input's output (at 6 of a race: where it wrote anything), where it wrote to standard error, or where it didn't end.
@@ -14,8 +14,7 @@ addresses=(--listen 127.0.0.1:8080 --target 127.0.0.1:80)
 in_memory=$PWD/crates/nio_memory_proxy/out/nio_memory_proxy
 only=${1-}
 work=$(mktemp -d)
-# a process that is ended before it has begun its command is still this shell, and mustn't take the folder away
-trap '[ "$BASHPID" != $$ ] || { rm -rf "$work"; kill $(jobs -p) 2>/dev/null || true; }' EXIT
+trap 'rm -rf "$work"; kill $(jobs -p) 2>/dev/null || true' EXIT
 gcc -O2 -Wall -shared -fPIC -o "$work/refuse.so" bench/refuse.c -ldl
 wrong=0 runs=0
 
@@ -114,8 +113,9 @@ each "load 9" 0 0 /dev/null "$program" load 9
 # other may fail for want of memory.
 for faults in 1 2; do echo "served 2 faults $faults" >"$work/served.$faults"; done
 right "$work"/served.*
-for way in select; do
-    each "proxy in memory --way $way" 0 0 /dev/null "$in_memory" proxy --way "$way" "${addresses[@]}" --conns 2
+for way in select "group --workers 2" future; do
+    read -ra words <<<"$way"
+    each "proxy in memory --way $way" 0 0 /dev/null "$in_memory" proxy --way "${words[@]}" "${addresses[@]}" --conns 2
 done
 
 # The proxy over loopback: a target that answers what it is sent, and two clients for each run. A connection that fails
@@ -125,12 +125,30 @@ right "$work"/served.*
 port=$((20000 + RANDOM % 20000))
 python3 bench/loopback.py target "$port" &
 before_run() { python3 bench/loopback.py clients $((port + 1)) & clients=$!; }
-after_run() { kill "$clients" 2>/dev/null || true; wait "$clients" 2>/dev/null || true; }
-for way in select; do
+# a process that hasn't begun its command yet is still this shell, which has a trap: it is killed after that
+after_run() {
+    while [ "$(cat "/proc/$clients/comm" 2>/dev/null)" = "$(cat "/proc/$$/comm")" ]; do sleep 0.001; done
+    kill "$clients" 2>/dev/null || true
+    wait "$clients" 2>/dev/null || true
+}
+for way in select "group --workers 2" future; do
+    read -ra words <<<"$way"
+    [[ "proxy --way $way" == *"$only"* ]] || continue
     before_run
-    each "proxy --way $way" 0 0 /dev/null "$program" proxy --way "$way" --listen "127.0.0.1:$((port + 1))" \
+    each "proxy --way $way" 0 0 /dev/null "$program" proxy --way "${words[@]}" --listen "127.0.0.1:$((port + 1))" \
         --target "127.0.0.1:$port" --conns 2
 done
+
+# The relay of packets over loopback: a client that goes on sending, and a target that answers. How many answers come
+# back before the third packet is sent on isn't said.
+before_run() { :; }
+after_run() { :; }
+for back in 0 1 2 3; do echo "forth 3 back $back" >"$work/relayed.$back"; done
+right "$work"/relayed.*
+python3 bench/loopback.py answers $((port + 2)) &
+python3 bench/loopback.py packets $((port + 3)) &
+each "packets" 0 0 /dev/null "$program" packets --listen "127.0.0.1:$((port + 3))" --local "127.0.0.1:$((port + 4))" \
+    --target "127.0.0.1:$((port + 2))" --count 3
 
 echo "$runs runs, $wrong wrong"
 [ "$wrong" = 0 ]

@@ -1,7 +1,7 @@
 #!/usr/bin/env bash
 # Makes selections that don't wait in one thread, over 64 keys, over 1,000, and over 1,000 among 262,144 indexes that
 # were ever claimed, with no key ready and with all ready, and the same atomic operations at the same places in C;
-# prints the nanoseconds for a selection and the ratios, which are to be at most 2. The least of all selections counts.
+# prints the nanoseconds for a selection and the ratios, which are to be at most 1.2. The least of all selections counts.
 . "$(dirname "$0")/prelude.sh"
 build nio_bench
 compile select_atomics
