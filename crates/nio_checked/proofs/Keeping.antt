@@ -1,8 +1,7 @@
 -- What is kept of a net stands after each call.
 use Rattle.std.proofs.Common.{◌≡◌, ◌≢◌, ℕ, ◌<◌, ◌≤◌, ◌==◌, Bool, true, false, if◌then◌else◌, Option, Some, None, IsTrue}
-use Rattle.std.proofs.Common.{List, [], ◌∷◌, length, get_or, set, map, bit_and, refl, ap, sym, ◌∙◌, subst, arith}
+use Rattle.std.proofs.Common.{List, length, get_or, set, map, bit_and, refl, ap, sym, ◌∙◌, subst, arith}
 use Rattle.std.proofs.Common.{eqb-true, eq-eqb}
-use Rattle.std.specs.List.{All, Contains}
 use Rattle.std.proofs.lemmas.List.Elements.{All-map}
 use Rattle.std.proofs.lemmas.Nat.Bits.{bit_at_and, same_from_bits}
 use Rattle.std.proofs.lemmas.List.{get_or-set_other, get_or-set_same, get_or_past}
@@ -13,7 +12,7 @@ use Rattle.nio_link.specs.declared.place.Place.{Place}
 use Rattle.nio_link.specs.declared.place.Standing.{Standing}
 use Rattle.nio_steps.specs.KeyCalls.{is_within}
 use Rattle.nio_checked.specs.Checked.{IsKept, kept_at}
-use Rattle.nio_checked.specs.Listed.{AreReady, IsTold, listed, untold}
+use Rattle.nio_checked.specs.Listed.{AreReady, IsTold, untold}
 
 abbrev numbered : ℕ → ChanNo
 numbered k = record { 0 = k }

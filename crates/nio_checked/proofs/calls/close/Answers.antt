@@ -1,7 +1,7 @@
 use Rattle.std.proofs.Common.{Some, sym, subst}
 use Rattle.nio_link.specs.Places.{closed}
 use Rattle.nio_checked.proofs.Keeping.{closed_kept, kept_changed, ready_same, within_kept}
-use Rattle.nio_checked.specs.Checked.{IsKept, kept_at}
+use Rattle.nio_checked.specs.Checked.{IsKept}
 use Rattle.nio_checked.proofs.calls.close.Goals as goal
 
 pub returns-in-Some-clause-checked : goal.returns-in-Some-clause-checked
