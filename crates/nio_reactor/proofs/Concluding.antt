@@ -1,0 +1,295 @@
+-- What the proxy answers, from what its acceptor and its workers came to.
+use Rattle.std.proofs.Common.{◌≡◌, ℕ, zero, suc, ◌<◌, ◌⊎◌, inl, inr, Bool, false, IsTrue, IsOk, Ok, Err, Result, Some}
+use Rattle.std.proofs.Common.{option_map, List, [], ◌∷◌, map, length, slice_get, slice_index_or, refl, sym, ap, subst}
+use Rattle.std.proofs.Common.{◌∙◌, arith}
+use Rattle.std.proofs.Common.{All, ◌++◌, take, drop}
+use Rattle.std.proofs.lemmas.List.{append-nil, length-map}
+use Rattle.std.proofs.lemmas.List.Elements.{All-get_or}
+use Rattle.std.proofs.lemmas.Option.{get_or_from_slice_get, slice_get_within, slice_get-get_or}
+use Rattle.nio_base.specs.declared.numbers.ChanNo.{ChanNo}
+use Rattle.nio_bytes.specs.Cause.{Rose}
+use Rattle.nio_relay.specs.declared.plan.ProxyPlan.{ProxyPlan}
+use Rattle.nio_relay.specs.declared.plan.Served.{Served}
+use Rattle.nio_link.specs.Links.{IsUnused}
+use Rattle.nio_link.specs.Places.{unused, IsVacant}
+use Rattle.nio_link.specs.declared.place.Place.{Place}
+use Rattle.nio_serve.proofs.Promise.{unbegun}
+use Rattle.nio_reactor.proofs.Asked.{asked_first, asked_more, left}
+use Rattle.nio_reactor.proofs.Worked.{fresh_leaves}
+use Rattle.nio_serve.specs.Serving.{NoneRose, RelaysBytes, WasClean, listener}
+use Rattle.nio_serve.specs.declared.serving.ServeError.{ServeError}
+use Rattle.nio_reactor.specs.Accepting.{HasAccepted}
+use Rattle.nio_reactor.specs.Dealing.{share}
+use Rattle.nio_reactor.specs.Many.{Meanings, HasServedAll, HasServedPart, ServesMany, APollRose, NoneRoseOfAll}
+use Rattle.nio_reactor.specs.Many.{AreAllClean}
+use Rattle.nio_reactor.specs.Many.{ServesAllCleanOr, LeavesAcceptor, LeavesWorker, LeavesWorkers, RelayBytes}
+use Rattle.nio_reactor.specs.Many.{AreAccepted, sum_below}
+use Rattle.nio_reactor.specs.Working.{HasWorked, HaveWorked, IsFresh, AddsAll, APollFailed, Concludes, faults_of}
+use Rattle.nio_reactor.specs.declared.many.ManyError.{ManyError}
+use Rattle.nio_reactor.specs.declared.many.ManyError.TheVariants.{NetFault, Memory}
+
+some_same : {A : Type 0} (x y : A) → Some x ≡ Some y → x ≡ y
+some_same x y is = cc
+
+-- the lane whose net stands at a place of the nets
+from_map : {X N : Type 0} (net : X → N) (lanes : List X) (v : ℕ) (y : N) → slice_get (map net lanes) v ≡ Some y
+    → (b : X) × (slice_get lanes v ≡ Some b) × (net b ≡ y)
+from_map net [] v y at = absurd (cc)
+from_map net (b ∷ lanes) zero y at = (b, refl, some_same (net b) y at)
+from_map net (b ∷ lanes) (suc v) y at = from_map net lanes v y at
+
+to_map : {X N : Type 0} (net : X → N) (lanes : List X) (v : ℕ) (b : X) → slice_get lanes v ≡ Some b
+    → slice_get (map net lanes) v ≡ Some (net b)
+to_map net [] v b at = absurd (cc)
+to_map net (a ∷ lanes) zero b at = ap (λ o. option_map net o) at
+to_map net (a ∷ lanes) (suc v) b at = to_map net lanes v b at
+
+element : {X : Type 0} (xs : List X) (v : ℕ) → v < length xs → (b : X) × (slice_get xs v ≡ Some b)
+element [] v few = absurd (omega (arith, few))
+element (b ∷ xs) zero few = (b, refl)
+element (b ∷ xs) (suc v) few = element xs v (omega (arith, few))
+
+-- a sum of none
+pub sum_none : (f : ℕ → ℕ) (n : ℕ) → ((v : ℕ) → v < n → f v ≡ 0) → sum_below f n ≡ 0
+sum_none f zero none = refl
+sum_none f (suc n) none = omega (arith, sum_none f n (λ v few. none v (omega (arith, few))), none n (omega arith))
+
+module _ {X N : Type 0} (m : Meanings N) (plan : ProxyPlan) (net : X → N) (early : X → Bool)
+    (outcome : X → Result Served ServeError) (before now : List X) (count : length now ≡ length before)
+    (worked : HaveWorked m plan net early outcome before now) where
+  -- what the worker of two nets came to
+  at_worker : (v : ℕ) (x y : N) → slice_get (map net before) v ≡ Some x → slice_get (map net now) v ≡ Some y
+      → (b : X) × (slice_get now v ≡ Some b)
+      × HasWorked m plan.target (share (length (map net now)) v plan.conns) x y (early b) (outcome b)
+  at_worker v x y at_x at_y =
+      let old = from_map net before v x at_x in
+      let new = from_map net now v y at_y in
+      let within : v < length before = slice_get_within before v old.0 old.1 in
+      let old_is : slice_index_or before v new.0 ≡ old.0 = get_or_from_slice_get before v old.0 new.0 old.1 in
+      let new_is : slice_index_or now v new.0 ≡ new.0 = get_or_from_slice_get now v new.0 new.0 new.1 in
+      let workers : length before ≡ length (map net now) = sym (length-map now net ∙ count) in
+      let first = worked v new.0 within in
+      let second : HasWorked m plan.target (share (length (map net now)) v plan.conns) x y (early new.0) (outcome new.0)
+      = subst (λ w. HasWorked m plan.target (share w v plan.conns) x y (early new.0) (outcome new.0)) workers
+      (subst (λ a. HasWorked m plan.target (share (length before) v plan.conns) a y (early new.0) (outcome new.0))
+      (ap net old_is ∙ old.2)
+      (subst (λ b. HasWorked m plan.target (share (length before) v plan.conns) (net (slice_index_or before v new.0)) b
+      (early new.0) (outcome new.0)) new.2
+      (subst (λ b. HasWorked m plan.target (share (length before) v plan.conns) (net (slice_index_or before v new.0))
+      (net b) (early b) (outcome b)) new_is first))) in
+      (new.0, new.1, second)
+
+  part_of : (n : ℕ) (x y : N) (e : Bool) (o : Result Served ServeError) → IsOk o
+      → HasWorked m plan.target n x y e o
+      → HasServedPart plan.target n (m.link y) (m.place y) (m.faults x) (m.faults y) (faults_of (Some o))
+  part_of n x y e (Ok served) is has = has.serves
+  part_of n x y e (Err error) is has = absurd (cc)
+
+  clean_of : (n : ℕ) (x y : N) (e : Bool) (o : Result Served ServeError) → IsOk o → HasWorked m plan.target n x y e o
+      → NoneRose (m.faults x) (m.faults y) (m.polls x) (m.polls y)
+      → (faults_of (Some o) ≡ 0) × ((k : ℕ) → k < n → WasClean (m.link y) k)
+  clean_of n x y e (Ok served) is has none = let part = has.complete none in (part.faults, part.clean)
+  clean_of n x y e (Err error) is has none = absurd (cc)
+
+  adds_all : (served : Served) → AddsAll outcome plan.conns now served
+      → HasServedAll m plan (map net before) (map net now) served
+  adds_all served adds = record {
+    connections = adds.connections;
+    faulty = λ v. faults_of (option_map outcome (slice_get now v));
+    faults = adds.faults ∙ ap (sum_below (λ v. faults_of (option_map outcome (slice_get now v))))
+        (sym (length-map now net));
+    parts = λ v x y at_x at_y.
+        let has = at_worker v x y at_x at_y in
+        subst (HasServedPart plan.target (share (length (map net now)) v plan.conns) (m.link y) (m.place y) (m.faults x)
+        (m.faults y)) (ap (λ o. faults_of (option_map outcome o)) (sym has.1))
+        (part_of (share (length (map net now)) v plan.conns) x y (early has.0) (outcome has.0)
+        (adds.all v has.0 has.1) has.2);
+  }
+
+  -- what the worker at a place came to
+  worker_at : (v : ℕ) (b : X) → slice_get now v ≡ Some b
+      → (x : N) × (slice_get (map net before) v ≡ Some x)
+      × HasWorked m plan.target (share (length (map net now)) v plan.conns) x (net b) (early b) (outcome b)
+  worker_at v b at =
+      let within : v < length before = subst (λ n. v < n) count (slice_get_within now v b at) in
+      let a = element before v within in
+      let has = at_worker v (net a.0) (net b) (to_map net before v a.0 a.1) (to_map net now v b at) in
+      let same : has.0 ≡ b = some_same has.0 b (sym has.1 ∙ at) in (
+        net a.0,
+        to_map net before v a.0 a.1,
+        subst (λ c. HasWorked m plan.target (share (length (map net now)) v plan.conns) (net a.0) (net b) (early c)
+            (outcome c)) same has.2,
+      )
+
+  rose_of : (e : Bool) (P : Type 0) → e ≡ false → IsTrue e ⊎ P → P
+  rose_of e P on_time (inl is) = absurd (cc)
+  rose_of e P on_time (inr rose) = rose
+
+  poll_failed : APollFailed early outcome now → APollRose m (map net before) (map net now)
+  poll_failed failed =
+      let has = worker_at failed.worker failed.lane failed.is in record {
+        worker = failed.worker;
+        first = has.0;
+        last = net failed.lane;
+        was = has.1;
+        is = to_map net now failed.worker failed.lane failed.is;
+        rose = rose_of (early failed.lane) (Rose (m.polls has.0) (m.polls (net failed.lane))) failed.on_time
+            (has.2.fault failed.fault);
+      }
+
+  pub serves_many : (x y : N) (accepted : N → List ChanNo) (done : Result (Unit {0}) ManyError)
+      (answer : Result Served ManyError) → HasAccepted m accepted plan x y done
+      → Concludes done early outcome plan.conns now answer
+      → ServesMany m plan x y (map net before) (map net now) answer
+  serves_many x y accepted (Ok done) (Ok served) has is = adds_all served is
+  serves_many x y accepted (Ok done) (Err NetFault) has is = inr (poll_failed is)
+  serves_many x y accepted (Ok done) (Err Memory) has is = tt
+  serves_many x y accepted (Err NetFault) answer has is =
+      subst (ServesMany m plan x y (map net before) (map net now)) (sym is) (inl (has.fault refl))
+  serves_many x y accepted (Err Memory) answer has is =
+      subst (ServesMany m plan x y (map net before) (map net now)) (sym is) tt
+
+  pub leaves_workers : LeavesWorkers m plan (map net now)
+  leaves_workers v y at =
+      let b = from_map net now v y at in
+      let has = worker_at v b.0 b.1 in
+      subst (λ n. LeavesWorker plan.target (share (length (map net now)) v plan.conns) (m.link n) (m.place n)) b.2
+      has.2.leaves
+
+  pub relay_bytes : RelayBytes m (map net now)
+  relay_bytes v y at =
+      let b = from_map net now v y at in
+      let has = worker_at v b.0 b.1 in
+      subst (λ n. RelaysBytes (m.link n)) b.2 has.2.relays
+
+  all_clean : (x y : N) (served : Served) → NoneRoseOfAll m x y (map net before) (map net now)
+      → AddsAll outcome plan.conns now served → AreAllClean m plan (map net now) served
+  all_clean x y served none adds =
+      let clean_at : (v : ℕ) (b : X) → slice_get now v ≡ Some b
+      → (faults_of (Some (outcome b)) ≡ 0)
+      × ((k : ℕ) → k < share (length (map net now)) v plan.conns → WasClean (m.link (net b)) k)
+      = λ v b at.
+      let has = worker_at v b at in
+      clean_of (share (length (map net now)) v plan.conns) has.0 (net b) (early b) (outcome b) (adds.all v b at) has.2
+      (none.workers v has.0 (net b) has.1 (to_map net now v b at)) in
+      record {
+        connections = adds.connections;
+        faults = adds.faults ∙ sum_none (λ v. faults_of (option_map outcome (slice_get now v))) (length now)
+            (λ v few. let b = element now v few in
+            ap (λ o. faults_of (option_map outcome o)) b.1 ∙ (clean_at v b.0 b.1).0);
+        clean = λ v z at k few.
+            let b = from_map net now v z at in
+            subst (λ n. WasClean (m.link n) k) b.2 ((clean_at v b.0 b.1).1 k few);
+      }
+
+  pub serves_all : (x y : N) (accepted : N → List ChanNo) (done : Result (Unit {0}) ManyError)
+      (answer : Result Served ManyError) → HasAccepted m accepted plan x y done
+      → Concludes done early outcome plan.conns now answer → NoneRoseOfAll m x y (map net before) (map net now)
+      → ServesAllCleanOr m plan (map net now) answer
+  serves_all x y accepted (Ok done) (Ok served) has is none = all_clean x y served none is
+  serves_all x y accepted (Ok done) (Err NetFault) has is none =
+      let rose = poll_failed is in
+      (none.workers rose.worker rose.first rose.last rose.was rose.is).polls rose.rose
+  serves_all x y accepted (Ok done) (Err Memory) has is none = tt
+  serves_all x y accepted (Err NetFault) answer has is none = absurd (elim (has.fault refl) [
+    | inl rose ↦ none.acceptor.polls rose
+    | inr rose ↦ none.acceptor.links listener rose
+  ])
+  serves_all x y accepted (Err Memory) answer has is none =
+      subst (ServesAllCleanOr m plan (map net now)) (sym is) tt
+
+-- the same over other names for the nets
+module _ {X N : Type 0} (m : Meanings N) (plan : ProxyPlan) (net : X → N) (early : X → Bool)
+    (outcome : X → Result Served ServeError) (before now : List X) (first last : List N)
+    (first_is : map net before ≡ first) (last_is : last ≡ map net now) (count : length now ≡ length before)
+    (worked : HaveWorked m plan net early outcome before now) where
+  pub serves_of : (x y : N) (accepted : N → List ChanNo) (done : Result (Unit {0}) ManyError)
+      (answer : Result Served ManyError) → HasAccepted m accepted plan x y done
+      → Concludes done early outcome plan.conns now answer → ServesMany m plan x y first last answer
+  serves_of x y accepted done answer has is =
+      subst (λ a. ServesMany m plan x y a last answer) first_is
+      (subst (λ b. ServesMany m plan x y (map net before) b answer) (sym last_is)
+      (serves_many m plan net early outcome before now count worked x y accepted done answer has is))
+
+  pub complete_of : (x y : N) (accepted : N → List ChanNo) (done : Result (Unit {0}) ManyError)
+      (answer : Result Served ManyError) → HasAccepted m accepted plan x y done
+      → Concludes done early outcome plan.conns now answer → NoneRoseOfAll m x y first last
+      → ServesAllCleanOr m plan last answer
+  complete_of x y accepted done answer has is none =
+      subst (λ b. ServesAllCleanOr m plan b answer) (sym last_is)
+      (serves_all m plan net early outcome before now count worked x y accepted done answer has is
+      (subst (λ a. NoneRoseOfAll m x y a (map net now)) (sym first_is)
+      (subst (λ b. NoneRoseOfAll m x y first b) last_is none)))
+
+  pub workers_of : LeavesWorkers m plan last
+  workers_of = subst (LeavesWorkers m plan) (sym last_is)
+      (leaves_workers m plan net early outcome before now count worked)
+
+  pub relays_of : RelayBytes m last
+  relays_of = subst (RelayBytes m) (sym last_is) (relay_bytes m plan net early outcome before now count worked)
+
+pub accepts_of : {X N : Type 0} (m : Meanings N) (plan : ProxyPlan) (early : X → Bool)
+    (outcome : X → Result Served ServeError) (lanes : List X) (x y : N) (accepted : N → List ChanNo)
+    (done : Result (Unit {0}) ManyError) (answer : Result Served ManyError) → HasAccepted m accepted plan x y done
+    → Concludes done early outcome plan.conns lanes answer
+    → AreAccepted plan.conns (accepted x) (accepted y) answer
+accepts_of m plan early outcome lanes x y accepted (Ok done) (Ok served) has is = has.all
+accepts_of m plan early outcome lanes x y accepted (Ok done) (Err error) has is = (has.count, has.some, has.order)
+accepts_of m plan early outcome lanes x y accepted (Err error) answer has is =
+    subst (AreAccepted plan.conns (accepted x) (accepted y)) (sym is) (has.count, has.some, has.order)
+
+-- ---- where nothing was done
+
+module _ {N : Type 0} (m : Meanings N) (plan : ProxyPlan) where
+  fresh_at : (nets : List N) (v : ℕ) (y : N) → All (IsFresh m) nets → slice_get nets v ≡ Some y → IsFresh m y
+  fresh_at nets v y all at =
+      subst (IsFresh m) (get_or_from_slice_get nets v y y at)
+      (All-get_or (IsFresh m) nets v y (slice_get_within nets v y at) all)
+
+  pub fresh_places : (nets : List N) → All (IsFresh m) nets → All (λ net. m.place net listener ≡ unused) nets
+  fresh_places nets all k d few = (all k d few).unasked listener
+
+  pub fresh_lanes : {X : Type 0} (net : X → N) (lanes : List X) (nets : List N) → map net lanes ≡ nets
+      → All (IsFresh m) nets → All (λ l. IsFresh m (net l)) lanes
+  fresh_lanes {X} net lanes nets same all k d few =
+      fresh_at (map net lanes) k (net (slice_index_or lanes k d)) (subst (All (IsFresh m)) (sym same) all)
+      (to_map net lanes k (slice_index_or lanes k d) (slice_get-get_or lanes k d few))
+
+  pub none_relay : (nets now : List N) → now ≡ nets → All (IsFresh m) nets → RelayBytes m now
+  none_relay nets now same all =
+      subst (RelayBytes m) (sym same) (λ v y at. unbegun (m.link y) (fresh_at nets v y all at).fresh)
+
+  pub none_workers : (nets now : List N) → now ≡ nets → All (IsFresh m) nets → LeavesWorkers m plan now
+  none_workers nets now same all =
+      subst (LeavesWorkers m plan) (sym same)
+      (λ v y at. fresh_leaves m plan (share (length nets) v plan.conns) y (fresh_at nets v y all at))
+
+  pub none_acceptor : (x : N) → ((c : ChanNo) → IsUnused (m.link x c)) → ((c : ChanNo) → m.place x c ≡ unused)
+      → LeavesAcceptor m plan x x
+  none_acceptor x fresh unasked =
+      left m plan x x x (asked_more m 0 plan.conns x (omega arith) (asked_first m x fresh (λ c other. unasked c)))
+      (λ c. refl) (λ c. refl) (λ c other. refl)
+      (subst (λ (p : Place). IsVacant p.standing) (sym (unasked listener)) tt)
+      (inl (ap (λ (p : Place). p.role) (unasked listener)))
+
+  pub none_accepts : (before : List ChanNo) → AreAccepted plan.conns before before (Err Memory)
+  none_accepts before = (0, omega arith, sym (append-nil before))
+
+-- ---- back from a slice of lanes
+
+take_back : {A : Type 0} (new old : List A) → length new ≡ length old
+    → take (length old) (new ++ drop (length new) old) ≡ new
+take_back [] [] same = refl
+take_back [] (o ∷ os) same = absurd (omega (arith, same))
+take_back (n ∷ ns) [] same = absurd (omega (arith, same))
+take_back (n ∷ ns) (o ∷ os) same = ap (λ l. n ∷ l) (take_back ns os (omega (arith, same)))
+
+pub worked_back : {X N : Type 0} (m : Meanings N) (plan : ProxyPlan) (net : X → N) (early : X → Bool)
+    (outcome : X → Result Served ServeError) (old before new : List X) (n : ℕ) → before ≡ old → n ≡ length old
+    → length new ≡ length before → HaveWorked m plan net early outcome before new
+    → HaveWorked m plan net early outcome old (take n (new ++ drop (length new) old))
+worked_back {X} m plan net early outcome old before new n old_is n_is count worked =
+    let back : take n (new ++ drop (length new) old) ≡ new
+    = ap (λ k. take k (new ++ drop (length new) old)) n_is ∙ take_back new old (count ∙ ap length old_is) in
+    subst (λ l. HaveWorked m plan net early outcome old l) (sym back)
+    (subst (λ l. HaveWorked m plan net early outcome l new) old_is worked)

@@ -1,0 +1,42 @@
+use Rattle.std.proofs.Common.{refl, ◌∙◌, arith}
+use Rattle.nio_reactor.proofs.Asked.{accepts_none, accepts_then, fault_then}
+use Rattle.nio_reactor.proofs.Dealing.{deals_none, deals_then}
+use Rattle.nio_reactor.specs.Many.{meanings}
+use Rattle.nio_reactor.proofs.accepting.deal_all.Goals as goal
+
+pub loop-init : goal.loop-init
+loop-init g c = record {
+  listens = refl;
+  accepting = c.requires.accepting;
+  within = c.requires.few.0;
+  accepted = accepts_none (meanings g.N.Net.link g.N.Net.place g.N.Net.faults g.N.Poller.poll_faults) g.N.Net.accepted
+      c.args.number.now c.args.net.now c.args.net.now (λ k. refl) refl (omega arith) (omega arith);
+  dealt = deals_none c.args.number.now c.args.lines.now;
+}
+
+pub loop-preserved : goal.loop-preserved
+loop-preserved g c = record {
+  listens = c.turn.ensures.listens ∙ c.loop.invariant.listens;
+  accepting = c.in-Ok.ensures.accepting;
+  within = c.turn.ensures.within;
+  accepted = accepts_then (meanings g.N.Net.link g.N.Net.place g.N.Net.faults g.N.Poller.poll_faults) g.N.Net.accepted
+      _ _ _ _ _ _ c.loop.invariant.accepted c.turn.ensures.accepted;
+  dealt = deals_then _ _ _ _ _ _ c.loop.invariant.dealt c.turn.ensures.dealt;
+}
+
+pub returns-in-Err-clause-accepted : goal.returns-in-Err-clause-accepted
+returns-in-Err-clause-accepted g c =
+    accepts_then (meanings g.N.Net.link g.N.Net.place g.N.Net.faults g.N.Poller.poll_faults) g.N.Net.accepted
+    _ _ _ _ _ _ c.loop.invariant.accepted c.turn.ensures.accepted
+
+pub returns-in-Err-clause-dealt : goal.returns-in-Err-clause-dealt
+returns-in-Err-clause-dealt g c = deals_then _ _ _ _ _ _ c.loop.invariant.dealt c.turn.ensures.dealt
+
+pub returns-in-Err-clause-listens : goal.returns-in-Err-clause-listens
+returns-in-Err-clause-listens g c = c.turn.ensures.listens ∙ c.loop.invariant.listens
+
+pub returns-in-Err-clause-cause : goal.returns-in-Err-clause-cause
+returns-in-Err-clause-cause g c failed =
+    fault_then (meanings g.N.Net.link g.N.Net.place g.N.Net.faults g.N.Poller.poll_faults) g.N.Net.accepted
+    c.args.number.now c.loop.number c.turn.new.number c.args.net.now c.loop.net c.turn.new.net
+    c.loop.invariant.accepted (c.in-Err.ensures.cause failed)

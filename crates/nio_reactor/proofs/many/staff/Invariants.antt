@@ -1,0 +1,18 @@
+use Rattle.std.proofs.Common.{◌≡◌, ◌+◌, ◌++◌, false, All, length, map, vec_capacity}
+use Rattle.nio_link.specs.Places.{unused}
+use Rattle.nio_serve.specs.Serving.{listener}
+use Rattle.nio_reactor.specs.declared.lane.Door.TheVariants.{Unasked}
+use Rattle.nio_reactor.proofs.many.staff.Given as goal
+
+abbrev pub invariant-loop : goal.invariant-loop
+invariant-loop g l = record {
+  nets : map (λ x. x.net) l.lanes.items ++ l.more.items ≡ l.fn.more.items;
+  count : length l.lanes.items ≡ l.counter;
+  rest : length l.more.items + l.counter ≡ length l.fn.more.items;
+  lines : length l.lines.items ≡ length l.more.items;
+  unasked : All (λ net. g.N.Net.place net listener ≡ unused) l.more.items;
+  doors : All (λ x. x.door ≡ Unasked) l.lanes.items;
+  on_time : All (λ x. x.is_early ≡ false) l.lanes.items;
+  room : vec_capacity l.more ≡ vec_capacity l.fn.more;
+  spare : vec_capacity l.lanes ≡ vec_capacity l.initial.lanes;
+}

@@ -1,0 +1,5 @@
+pub mod Accepting
+pub mod Dealing
+pub mod Lanes
+pub mod Many
+pub mod Working

@@ -1,0 +1,100 @@
+-- What one worker has come to.
+use Rattle.std.specs.Prelude.{◌≡◌, ℕ, ◌<◌, ◌≤◌, ◌⊎◌, Bool, false, IsTrue, IfOk, IsOk, Result, Ok, Err, Option, Some, None}
+use Rattle.std.specs.Prelude.{All, option_map}
+use Rattle.std.specs.Prelude.{List, length, slice_get, slice_index_or}
+use Rattle.nio_base.specs.declared.numbers.Addr.{Addr}
+use Rattle.nio_base.specs.declared.numbers.ChanNo.{ChanNo}
+use Rattle.nio_bytes.specs.Cause.{Rose}
+use Rattle.nio_link.specs.Links.{IsUnused}
+use Rattle.nio_link.specs.Places.{unused}
+use Rattle.nio_relay.specs.declared.plan.ProxyPlan.{ProxyPlan}
+use Rattle.nio_relay.specs.declared.plan.Served.{Served}
+use Rattle.nio_serve.specs.Serving.{NoneRose, RelaysBytes, WasClean}
+use Rattle.nio_serve.specs.declared.serving.ServeError.{ServeError}
+use Rattle.nio_serve.specs.declared.serving.ServeError.TheVariants.{NetFault}
+use Rattle.nio_reactor.specs.Dealing.{share}
+use Rattle.nio_reactor.specs.Many.{Meanings, HasServedPart, LeavesWorker, sum_below}
+use Rattle.nio_reactor.specs.declared.lane.Door.{Door}
+use Rattle.nio_reactor.specs.declared.lane.Door.TheVariants.{Unasked}
+use Rattle.nio_reactor.specs.declared.many.ManyError.{ManyError}
+use Rattle.nio_reactor.specs.declared.many.ManyError.TheVariants as many
+
+-- nothing was carried, and no channel was asked to be anything
+pub record IsFresh {N : Type 0} (m : Meanings N) (net : N) : Type 0 where
+  pub fresh : (c : ChanNo) → IsUnused (m.link net c)
+  pub unasked : (c : ChanNo) → m.place net c ≡ unused
+
+-- workers that have done nothing yet: `net`, `door` and `early` are what their lanes show
+pub record CanWork {X N : Type 0} (m : Meanings N) (plan : ProxyPlan) (net : X → N) (door : X → Door)
+    (early : X → Bool) (lanes : List X) : Type 0 where
+  pub conns : plan.conns ≤ 16000
+  pub few : length lanes ≤ 15
+  pub nets : All (λ l. IsFresh m (net l)) lanes
+  pub doors : All (λ l. door l ≡ Unasked) lanes
+  pub on_time : All (λ l. early l ≡ false) lanes
+
+-- every connection was clean
+pub record IsCleanPart {N : Type 0} (m : Meanings N) (conns : ℕ) (net : N) (served : Served) : Type 0 where
+  pub faults : served.faults ≡ 0
+  pub clean : (k : ℕ) → k < conns → WasClean (m.link net) k
+
+-- A worker with so many connections to this target has gone from x to y. It was told early that no more links come, or
+-- not.
+pub record HasWorked {N : Type 0} (m : Meanings N) (target : Addr) (conns : ℕ) (x y : N) (early : Bool)
+    (outcome : Result Served ServeError) : Type 0 where
+  pub serves : IfOk outcome (λ served.
+      HasServedPart target conns (m.link y) (m.place y) (m.faults x) (m.faults y) served.faults)
+  pub fault : outcome ≡ Err NetFault → IsTrue early ⊎ Rose (m.polls x) (m.polls y)
+  pub leaves : LeavesWorker target conns (m.link y) (m.place y)
+  pub relays : RelaysBytes (m.link y)
+  pub complete : NoneRose (m.faults x) (m.faults y) (m.polls x) (m.polls y)
+      → IfOk outcome (IsCleanPart m conns y)
+
+-- Every worker has: `net`, `early` and `outcome` are what its lane shows.
+abbrev pub HaveWorked : {X N : Type 0} → Meanings N → ProxyPlan → (X → N) → (X → Bool)
+    → (X → Result Served ServeError) → List X → List X → Type 0
+HaveWorked {X} m plan net early outcome before now =
+    (v : ℕ) (x : X) → v < length before → HasWorked m plan.target (share (length before) v plan.conns)
+    (net (slice_index_or before v x)) (net (slice_index_or now v x)) (early (slice_index_or now v x))
+    (outcome (slice_index_or now v x))
+
+-- how many of a worker's connections had a fault, where it has served them
+abbrev pub faults_of : Option (Result Served ServeError) → ℕ
+faults_of None = 0
+faults_of (Some (Ok served)) = served.faults
+faults_of (Some (Err error)) = 0
+
+-- the first n workers have served their connections, of which so many had a fault
+pub record AddsSoFar {X : Type 0} (outcome : X → Result Served ServeError) (lanes : List X) (n faults : ℕ)
+    : Type 0 where
+  pub sum : faults ≡ sum_below (λ v. faults_of (option_map outcome (slice_get lanes v))) n
+  pub all : (v : ℕ) (x : X) → v < n → slice_get lanes v ≡ Some x → IsOk (outcome x)
+
+-- every worker has served its connections
+pub record AddsAll {X : Type 0} (outcome : X → Result Served ServeError) (conns : ℕ) (lanes : List X)
+    (served : Served) : Type 0 where
+  pub connections : served.connections ≡ conns
+  pub faults : served.faults ≡ sum_below (λ v. faults_of (option_map outcome (slice_get lanes v))) (length lanes)
+  pub all : (v : ℕ) (x : X) → slice_get lanes v ≡ Some x → IsOk (outcome x)
+
+-- a poll of this worker's net has failed
+pub record APollFailed {X : Type 0} (early : X → Bool) (outcome : X → Result Served ServeError) (lanes : List X)
+    : Type 0 where
+  pub worker : ℕ
+  pub lane : X
+  pub is : slice_get lanes worker ≡ Some lane
+  pub fault : outcome lane ≡ Err NetFault
+  pub on_time : early lane ≡ false
+
+-- what the workers came to, together
+abbrev pub AddsUp : {X : Type 0} → (X → Bool) → (X → Result Served ServeError) → ℕ → List X → Result Served ManyError
+    → Type 0
+AddsUp early outcome conns lanes (Ok served) = AddsAll outcome conns lanes served
+AddsUp early outcome conns lanes (Err many.NetFault) = APollFailed early outcome lanes
+AddsUp early outcome conns lanes (Err many.Memory) = Unit {0}
+
+-- what the proxy answers, by what its acceptor came to
+abbrev pub Concludes : {X : Type 0} → Result (Unit {0}) ManyError → (X → Bool) → (X → Result Served ServeError) → ℕ
+    → List X → Result Served ManyError → Type 0
+Concludes (Ok done) early outcome conns lanes result = AddsUp early outcome conns lanes result
+Concludes (Err error) early outcome conns lanes result = result ≡ Err error

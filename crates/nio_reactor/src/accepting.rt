@@ -1,0 +1,314 @@
+//! The selector that accepts.
+ghost use Rattle.std.specs.Prelude.{◌≡◌, ◌≢◌, ℕ, ◌<◌, ◌≤◌, ◌+◌, ◌⊎◌, Err, IfOk, IsTrue, IsFalse, OnOk, OnErr, length};
+ghost use Rattle.nio_base.specs.declared.numbers.ChanNo.{ChanNo as Channel};
+ghost use Rattle.nio_bytes.specs.Cause.{Rose};
+ghost use Rattle.nio_link.specs.Links.{IsUnused};
+ghost use Rattle.nio_link.specs.Places.{unused};
+ghost use Rattle.nio_link.specs.declared.place.Standing.TheVariants.{Listening};
+ghost use Rattle.nio_relay.specs.Plan.{IsServable};
+ghost use Rattle.nio_serve.specs.Board.{AreReady};
+ghost use Rattle.nio_serve.specs.Serving.{client_of, clients_below, listener};
+ghost use Rattle.nio_steps.specs.KeyCalls.{is_within};
+ghost use Rattle.nio_words.specs.Passes.{IsFirstPass};
+ghost use Rattle.nio_reactor.specs.Accepting.{Accepts, Deals, HasAccepted, IsAccepting};
+ghost use Rattle.nio_reactor.specs.Many.{meanings, LeavesAcceptor};
+ghost use Rattle.nio_reactor.specs.declared.many.ManyError.TheVariants.{NetFault};
+
+use crate::many::ManyError;
+use crate::message::{Handed, Message, Outgoing};
+use nio_base::{CallerNo, ChanNo, Kind, Limits, Ops};
+use nio_line::LineIn;
+use nio_link::{Failed, Net, Passable};
+use nio_poller::{Bell, PollError};
+use nio_relay::ProxyPlan;
+use nio_serve::{Board, Direct, Refused};
+use nio_words::{Pass, Words};
+use std::alloc::Global;
+use std::sync::Wait;
+
+/// The caller that accepts, a selector and a channel for the listener.
+const LIMITS: Limits = Limits {
+    callers: 1,
+    selectors: 1,
+    channels: 1,
+    keys: 1,
+};
+
+/// The caller that makes the calls.
+const ME: CallerNo = CallerNo(0);
+
+/// The channel of the listener.
+const LISTENER: ChanNo = ChanNo(0);
+
+// A board of the first caller of a new table on which the listener is watched.
+fn watch_listener<'a, R: Wait>(rt: &R, words: &'a Words, pass: Pass) -> Result<Board<'a>, Refused>
+    requires { IsFirstPass words.now pass }
+{
+    let mut pass = pass;
+    if words.draw(&mut pass, ME).is_err() {
+        return Err(Refused);
+    }
+    let mut board = Board::open(words, pass, ME)?;
+    board.watch(rt, LISTENER, Kind::Listener, Ops::ACCEPT)?;
+    Ok(board)
+}
+
+// Rings for the worker, where its net has a bell.
+fn ring<B: Bell>(bells: &[B], worker: usize) {
+    if let Some(bell) = bells.get(worker) {
+        bell.ring();
+    }
+}
+
+// Sends the link of this connection to its worker.
+fn deal<R: Wait, L: Drop, B: Bell>(
+    rt: &R,
+    lines: &mut [LineIn<Message<L>>],
+    bells: &[B],
+    number: u32,
+    link: L,
+)
+    requires some { 0 < length lines.old }
+    ensures { Deals number (number + 1) lines.old lines.new }
+{
+    let worker = number as usize % lines.len();
+    lines[worker].send(rt, Message::Work(Handed { number, link }));
+    ring(bells, worker);
+}
+
+// Accepts the connection with this number, if it has come, takes its link out and sends it to its worker.
+fn accept_one<R: Wait, N: Passable, B: Bell>(
+    rt: &R,
+    net: &mut N,
+    lines: &mut [LineIn<Message<N::Link>>],
+    bells: &[B],
+    number: u32,
+) -> Result<bool, Failed>
+    requires ready { IsTrue (is_within 16 (N.ready net.old listener)) }
+    requires listens { (N.place net.old listener).standing ≡ Listening }
+    requires accepting { IsAccepting (meanings N.link N.place N.faults N.poll_faults) number net.old }
+    requires few { number < 16000 }
+    requires some { 0 < length lines.old }
+    ensures listens { N.place net.new listener ≡ N.place net.old listener }
+    ensures asked { IsAccepting (meanings N.link N.place N.faults N.poll_faults) (number + 1) net.new }
+    ensures early { IfOk result (λ more. IsFalse more
+        → IsAccepting (meanings N.link N.place N.faults N.poll_faults) number net.new) }
+    ensures accepted { IfOk result (λ more. IsTrue more
+        → Accepts (meanings N.link N.place N.faults N.poll_faults) N.accepted number (number + 1) net.old net.new) }
+    ensures still { IfOk result (λ more. IsFalse more
+        → Accepts (meanings N.link N.place N.faults N.poll_faults) N.accepted number number net.old net.new) }
+    ensures failed { OnErr result
+        (Accepts (meanings N.link N.place N.faults N.poll_faults) N.accepted number number net.old net.new) }
+    ensures dealt { IfOk result (λ more. IsTrue more → Deals number (number + 1) lines.old lines.new) }
+    ensures undealt { IfOk result (λ more. IsFalse more → lines.new ≡ lines.old) }
+    ensures unsent { OnErr result (lines.new ≡ lines.old) }
+    ensures cause { OnErr result (Rose (N.faults net.old listener) (N.faults net.new listener)) }
+    ensures more { IfOk result (λ more. IsTrue more → N.ready net.new listener ≡ N.ready net.old listener) }
+{
+    let client = ChanNo(2 * number + 1);
+    if !net.accept(LISTENER, client)? {
+        return Ok(false);
+    }
+    let Some(link) = net.take_out(client) else {
+        unreachable!();
+    };
+    deal(rt, lines, bells, number, link);
+    Ok(true)
+}
+
+// Accepts all connections that have come, as far as the plan has them; `number` of them were accepted so far.
+fn accept_come<R: Wait, N: Passable, B: Bell>(
+    rt: &R,
+    net: &mut N,
+    lines: &mut [LineIn<Message<N::Link>>],
+    bells: &[B],
+    number: &mut u32,
+    conns: u32,
+) -> Result<(), ManyError>
+    requires ready { IsTrue (is_within 16 (N.ready net.old listener)) }
+    requires listens { (N.place net.old listener).standing ≡ Listening }
+    requires accepting { IsAccepting (meanings N.link N.place N.faults N.poll_faults) number.old net.old }
+    requires few { (number.old ≤ conns) × (conns ≤ 16000) }
+    requires some { 0 < length lines.old }
+    ensures listens { N.place net.new listener ≡ N.place net.old listener }
+    ensures within { number.new ≤ conns }
+    ensures asked { IsAccepting (meanings N.link N.place N.faults N.poll_faults) conns net.new }
+    ensures accepting { OnOk result
+        (IsAccepting (meanings N.link N.place N.faults N.poll_faults) number.new net.new) }
+    ensures accepted { Accepts (meanings N.link N.place N.faults N.poll_faults) N.accepted number.old number.new
+        net.old net.new }
+    ensures dealt { Deals number.old number.new lines.old lines.new }
+    ensures cause { result ≡ Err NetFault → Rose (N.faults net.old listener) (N.faults net.new listener) }
+{
+    for next in *number..conns {
+        match accept_one(rt, net, lines, bells, next) {
+            Ok(true) => *number = next + 1,
+            Ok(false) => return Ok(()),
+            Err(Failed) => return Err(ManyError::NetFault),
+        }
+    }
+    Ok(())
+}
+
+// What was told first of a channel.
+fn told_of(told: &[(ChanNo, Ops)], chan: ChanNo) -> Ops
+    ensures { (ready : Channel → ℕ) → AreReady ready told.now → IsTrue (is_within result (ready chan)) }
+{
+    for &(one, ops) in told {
+        if one == chan {
+            return ops;
+        }
+    }
+    Ops::NONE
+}
+
+// One selection, and what has come.
+fn turn<R: Wait, N: Passable, B: Bell>(
+    rt: &R,
+    alloc: Global,
+    board: &mut Board<'_>,
+    net: &mut N,
+    lines: &mut [LineIn<Message<N::Link>>],
+    bells: &[B],
+    number: &mut u32,
+    conns: u32,
+    told: &mut Vec<(ChanNo, Ops)>,
+) -> Result<(), ManyError>
+    requires listens { (N.place net.old listener).standing ≡ Listening }
+    requires accepting { IsAccepting (meanings N.link N.place N.faults N.poll_faults) number.old net.old }
+    requires few { (number.old ≤ conns) × (conns ≤ 16000) }
+    requires some { 0 < length lines.old }
+    ensures listens { N.place net.new listener ≡ N.place net.old listener }
+    ensures within { number.new ≤ conns }
+    ensures asked { IsAccepting (meanings N.link N.place N.faults N.poll_faults) conns net.new }
+    ensures accepting { OnOk result
+        (IsAccepting (meanings N.link N.place N.faults N.poll_faults) number.new net.new) }
+    ensures accepted { Accepts (meanings N.link N.place N.faults N.poll_faults) N.accepted number.old number.new
+        net.old net.new }
+    ensures dealt { Deals number.old number.new lines.old lines.new }
+    ensures cause { result ≡ Err NetFault → Rose (N.poll_faults net.old) (N.poll_faults net.new)
+        ⊎ Rose (N.faults net.old listener) (N.faults net.new listener) }
+{
+    match board.select(rt, alloc, &mut Direct, net, told) {
+        Ok(()) => {}
+        Err(PollError::Fault) => return Err(ManyError::NetFault),
+        Err(PollError::Memory) => return Err(ManyError::Memory),
+    }
+    if Ops::ACCEPT.within(told_of(told, LISTENER)) {
+        accept_come(rt, net, lines, bells, number, conns)
+    } else {
+        Ok(())
+    }
+}
+
+// Accepts until the plan has no more connections.
+fn deal_all<R: Wait, N: Passable, B: Bell>(
+    rt: &R,
+    alloc: Global,
+    board: &mut Board<'_>,
+    net: &mut N,
+    lines: &mut [LineIn<Message<N::Link>>],
+    bells: &[B],
+    number: &mut u32,
+    conns: u32,
+) -> Result<(), ManyError>
+    requires listens { (N.place net.old listener).standing ≡ Listening }
+    requires accepting { IsAccepting (meanings N.link N.place N.faults N.poll_faults) number.old net.old }
+    requires few { (number.old ≤ conns) × (conns ≤ 16000) }
+    requires some { 0 < length lines.old }
+    ensures listens { N.place net.new listener ≡ N.place net.old listener }
+    ensures within { number.new ≤ conns }
+    ensures all { OnOk result (number.new ≡ conns) }
+    ensures asked { IsAccepting (meanings N.link N.place N.faults N.poll_faults) conns net.new }
+    ensures accepted { Accepts (meanings N.link N.place N.faults N.poll_faults) N.accepted number.old number.new
+        net.old net.new }
+    ensures dealt { Deals number.old number.new lines.old lines.new }
+    ensures cause { result ≡ Err NetFault → Rose (N.poll_faults net.old) (N.poll_faults net.new)
+        ⊎ Rose (N.faults net.old listener) (N.faults net.new listener) }
+{
+    let mut told = Vec::new(alloc);
+    for _ in rt.forever() {
+        if *number == conns {
+            return Ok(());
+        }
+        match turn(
+            rt, alloc, board, net, lines, bells, number, conns, &mut told,
+        ) {
+            Ok(()) => {}
+            Err(error) => return Err(error),
+        }
+    }
+    unreachable!()
+}
+
+// Listens, and accepts all connections of the plan; at the end the listener is closed.
+fn accept_plan<R: Wait, N: Passable, B: Bell>(
+    rt: &R,
+    alloc: Global,
+    net: &mut N,
+    lines: &mut [LineIn<Message<N::Link>>],
+    bells: &[B],
+    plan: ProxyPlan,
+    number: &mut u32,
+) -> Result<(), ManyError>
+    requires plan { IsServable plan }
+    requires fresh { (c : Channel) → IsUnused (N.link net.old c) }
+    requires unasked { (c : Channel) → N.place net.old c ≡ unused }
+    requires some { 0 < length lines.old }
+    requires none { number.old ≡ 0 }
+    ensures within { number.new ≤ plan.conns }
+    ensures all { OnOk result (number.new ≡ plan.conns) }
+    ensures accepted { Accepts (meanings N.link N.place N.faults N.poll_faults) N.accepted number.old number.new
+        net.old net.new }
+    ensures dealt { Deals number.old number.new lines.old lines.new }
+    ensures cause { result ≡ Err NetFault → Rose (N.poll_faults net.old) (N.poll_faults net.new)
+        ⊎ Rose (N.faults net.old listener) (N.faults net.new listener) }
+    ensures leaves { LeavesAcceptor (meanings N.link N.place N.faults N.poll_faults) plan net.old net.new }
+{
+    let Ok((words, pass)) = Words::make(alloc, LIMITS) else {
+        return Err(ManyError::Memory);
+    };
+    let Ok(mut board) = watch_listener(rt, &words, pass) else {
+        return Err(ManyError::Memory);
+    };
+    if net.listen(LISTENER, plan.listen).is_err() {
+        return Err(ManyError::NetFault);
+    }
+    let outcome = deal_all(rt, alloc, &mut board, net, lines, bells, number, plan.conns);
+    net.close(LISTENER);
+    outcome
+}
+
+// Sends to each worker that no more links come.
+fn end_all<R: Wait, L: Drop, B: Bell>(rt: &R, lines: &mut [LineIn<Message<L>>], bells: &[B]) {
+    for worker in 0..lines.len() {
+        lines[worker].send(rt, Message::End);
+        ring(bells, worker);
+    }
+}
+
+/// Accepts all connections of the plan, and sends each to its worker. At every end, the end of the lines is sent too.
+pub(crate) fn accept_all<R: Wait, N: Passable, B: Bell + Drop>(
+    rt: &R,
+    net: &mut N,
+    outgoing: &mut Outgoing<N::Link, B>,
+) -> Result<(), ManyError>
+    requires plan { IsServable outgoing.old.plan }
+    requires fresh { (c : Channel) → IsUnused (N.link net.old c) }
+    requires unasked { (c : Channel) → N.place net.old c ≡ unused }
+    requires some { 0 < length outgoing.old.lines.items }
+    ensures { HasAccepted (meanings N.link N.place N.faults N.poll_faults) N.accepted outgoing.old.plan net.old
+        net.new result }
+{
+    let Outgoing {
+        alloc,
+        lines,
+        bells,
+        plan,
+    } = outgoing;
+    let lines = lines.as_mut_slice();
+    let mut number = 0;
+    let outcome = accept_plan(rt, *alloc, net, lines, bells, *plan, &mut number);
+    end_all(rt, lines, bells);
+    outcome
+}

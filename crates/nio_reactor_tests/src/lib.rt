@@ -1,0 +1,11 @@
+//! Tests of the proxy with several selectors, over nets in memory and over sockets.
+#![tactic(auto)]
+
+#[cfg(test)]
+mod gates;
+#[cfg(test)]
+mod loopback;
+#[cfg(test)]
+mod nets;
+#[cfg(test)]
+mod relays;
