@@ -20,7 +20,7 @@ use nio_relay::{CAPACITY, Direction};
 const ROUNDS: u32 = 64;
 
 // How many buffers at most are passed from one link to the other before the next connection has its turn.
-const PASSES: u32 = 4;
+const PASSES: u32 = 16;
 
 /// Whether more may be passed on at once, in each of the two directions of a connection.
 #[derive(Clone, Copy, Debug, PartialEq, Eq)]

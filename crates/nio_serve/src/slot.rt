@@ -305,7 +305,7 @@ fn wanted(outgoing: &Direction, incoming: &Direction, flows_out: bool, flows_in:
 }
 
 impl End {
-    // Watches the link for those of these operations that the way permits now, if it isn't watched for them already.
+    // Watches the link for those of these operations that the way permits, if it isn't watched for them already.
     fn watch<N, W: Way<N>>(
         &mut self,
         way: &W,

@@ -49,7 +49,8 @@ pub trait Way<N> {
     // The channels of the links that were accepted, in the order in which their accepts answered true.
     ghost accepted: { N → List ChanNo };
 
-    /// For which operations calls on this channel are permitted now. A channel is watched for no others.
+    /// For which operations this channel is to be watched: those for which calls on it are permitted, now or later in
+    /// this turn. A channel is watched for no others.
     fn permits(&self, chan: ChanNo) -> Ops;
 
     /// Takes out one of the channels for which a call was permitted since the last turn began; None where none is left.
