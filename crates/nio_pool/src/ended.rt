@@ -52,6 +52,11 @@ impl Ended {
         })
     }
 
+    /// For how many workers it was made.
+    pub fn workers(&self) -> u64 {
+        self.slates.len() as u64
+    }
+
     /// A slate that no other worker has, if there is one.
     pub fn take_slate(&self) -> Option<OwnSlate<'_>> {
         let mut bit = 1u64;

@@ -13,7 +13,15 @@ use nio_group::{GroupCore, GroupLimits};
 use std::alloc::{AllocError, Global};
 use std::sync::atomic::{AtomicBool, AtomicU64, Ordering};
 use std::sync::{Condvar, Mutex, MutexGuard, Wait};
+use std::thread;
 use thiserror::Error;
+
+/// How often a thread that finds a group locked lets others run before it sleeps until the lock is free. The lock is
+/// held for about as long as that takes, which is less than to fall asleep and to be woken.
+const YIELDS: u32 = 8;
+
+/// With more workers awake the lock is wanted so often that who finds it taken sleeps at once.
+const FEW_WORKERS: u64 = 2;
 
 /// Why a group isn't made.
 #[derive(Clone, Copy, Debug, PartialEq, Eq, Error)]
@@ -38,6 +46,11 @@ pub struct Group {
 /// Who sleeps until something happens in a group. A worker sleeps only where neither the core nor the queue has a
 /// completion; who adds one then calls it. One worker at a time is called: it looks at both before it sleeps again, and
 /// calls the next one where it leaves something.
+///
+/// No completion is left while all sleep. Who adds one, to the core or to the queue, reads these counts after that. A
+/// worker counts itself as asleep under the lock, once it has found the core empty and before it looks at the queue. So
+/// where the reader finds nobody asleep, each worker looks at both before it sleeps. Where the reader finds that one was
+/// called, that one hasn't had the lock yet, and looks at both when it has it.
 #[derive(Drop)]
 struct Rest {
     // what workers sleep on
@@ -84,10 +97,29 @@ impl Group {
     pub fn lock<R: Wait>(&self, rt: &R) -> MutexGuard<'_, GroupCore>
         ensures { IsLawful (mutex_guard_value result) }
     {
-        let mut core = self.core.lock(rt);
+        let mut core = self.take_lock(rt);
         self.handled.finish_all(&mut core);
         core.law();
         core
+    }
+
+    fn take_lock<R: Wait>(&self, rt: &R) -> MutexGuard<'_, GroupCore> {
+        for _ in 0..YIELDS {
+            if let Some(core) = self.core.try_lock() {
+                return core;
+            }
+            if self.awake() > FEW_WORKERS {
+                break;
+            }
+            thread::yield_now();
+        }
+        self.core.lock(rt)
+    }
+
+    // How many workers are awake where each has a thread.
+    fn awake(&self) -> u64 {
+        let asleep = self.rest.asleep.load(Ordering::SeqCst);
+        self.handled.workers().saturating_sub(asleep)
     }
 
     /// Wakes a worker that sleeps, unless one was called and is on its way; where the group has terminated, everyone
@@ -119,7 +151,7 @@ impl Group {
 
     // Wakes a worker that sleeps, unless one is on its way.
     pub(crate) fn call<R: Wait>(&self, rt: &R) {
-        let core = self.core.lock(rt);
+        let core = self.take_lock(rt);
         let called = self.rest.call();
         drop(core);
         if called {

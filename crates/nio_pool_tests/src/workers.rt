@@ -334,3 +334,44 @@ fn idle_workers_sleep(rt: HostRuntime) -> Result<(), Fail> {
     assert!(rt; took < Duration::from_millis(20), "{took:?}");
     Ok(())
 }
+
+/// Starts an operation while the workers sleep. Answers how many are handled until the group has terminated.
+fn start_late<R: Threads + Wait + Sync + Clock>(
+    rt: &R,
+    group: &Group,
+    queue: &CompletionQueue,
+    passes: Vec<QueuePass>,
+) -> u64
+    requires passes { All (IsPassOf queue.now) passes.items }
+    requires few { length passes.items ≤ 65 }
+{
+    let handler = Refilling {
+        handled: AtomicU64::new(0),
+        had_too_many: AtomicBool::new(false),
+    };
+    let refilling = &handler;
+    join(
+        rt,
+        || {
+            thread::sleep(rt, Duration::from_millis(200));
+            let _ = start_read(&mut group.lock(rt));
+            group.wake(rt);
+        },
+        move ||
+            requires { IsSync R.row × All (IsPassOf queue.now) passes.items × (length passes.items ≤ 65) }
+        {
+            let mut passes = passes;
+            run_workers(rt, group, queue, passes.as_mut_slice(), refilling, &NoGate);
+        },
+    );
+    handler.handled.load(Ordering::SeqCst)
+}
+
+#[test]
+fn sleeper_is_woken(rt: HostRuntime) -> Result<(), Fail> {
+    let group = Group::make(rt.alloc(), 2, limits(1))?;
+    let (queue, passes) = CompletionQueue::make(rt.alloc(), 2, 1)?;
+    close_stream(&mut group.lock(&rt))?;
+    assert_eq!(rt; start_late(&rt, &group, &queue, passes), 1);
+    Ok(())
+}
