@@ -3,7 +3,7 @@ ghost use Rattle.std.specs.Prelude.{◌≡◌, ◌<◌, ◌≤◌, ◌↔◌, �
 ghost use Rattle.futures.specs.Task.{Covers, Keeps};
 ghost use Rattle.nio_group.specs.Flight.{IsPendingAs, op_at};
 ghost use Rattle.nio_group.specs.Stages.{is_pending};
-ghost use Rattle.nio_future.specs.Desk.{empty_desk, is_out, result_at, tickets_out};
+ghost use Rattle.nio_future.specs.Desk.{empty_desk, held_at, is_out, result_at, tickets_out};
 ghost use Rattle.nio_group.specs.Group.{channel_at, is_terminated};
 ghost use Rattle.nio_group.specs.Limits.{IsFit};
 ghost use Rattle.nio_future.specs.Kept.{IsDesk, IsSettling};
@@ -132,6 +132,13 @@ impl Desk {
             return Some(StartError::FlightFull);
         }
         None
+    }
+
+    /// The operation with this number, if its ticket is out: pending, or queued with the result that waits for the ticket.
+    pub fn operation(&self, op: OpNo) -> Option<Operation>
+        ensures { result ≡ held_at self.now op.0 }
+    {
+        self.out.get(op.0)
     }
 
     /// Polls a ticket: the operation's result, once that has come, or the ticket back while the operation is pending.

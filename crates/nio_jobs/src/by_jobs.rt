@@ -16,20 +16,20 @@ use std::sync::Wait;
 
 /// Makes each call that accepts, connects, reads or writes for a job of its kind and channel, and uses that up. While
 /// there is none, such a call is "not yet", and the net isn't called. What calls came to is reported to those who hand
-/// out the jobs: after each call, if they take it then, and else all at once as the next turn begins. Once they hand
-/// out none any more, a poll answers that memory lacks.
+/// out the jobs: all at once as the next turn begins, or, if they take it then, where a call lacks its job. Once they
+/// hand out none any more, a poll answers that memory lacks.
 #[derive(Drop)]
 pub struct ByJobs<E> {
     exchange: E,
     jobs: Jobs,
-    // what the calls of this turn came to
+    // what calls came to, as far as it wasn't reported yet
     done: Vec<Done>,
     // jobs that were handed out, and for which no call is permitted yet
     arrived: Vec<Job>,
-    // jobs that were handed out after a call
-    early: Vec<Job>,
-    // what a call came to was reported at once
-    is_early: bool,
+    // jobs that were just handed out; empty between calls
+    fresh: Vec<Job>,
+    // the link from which the last read of this turn took all that had come
+    emptied: Option<ChanNo>,
     // no jobs will come any more, for want of memory
     is_refused: bool,
 }
@@ -49,8 +49,8 @@ impl<E: Drop> ByJobs<E> {
             jobs: Jobs::make(alloc, channels)?,
             done: Vec::with_capacity(alloc, (channels + flight) as usize)?,
             arrived: Vec::with_capacity(alloc, flight as usize)?,
-            early: Vec::with_capacity(alloc, flight as usize)?,
-            is_early: false,
+            fresh: Vec::with_capacity(alloc, flight as usize)?,
+            emptied: None,
             is_refused: false,
         })
     }
@@ -58,17 +58,6 @@ impl<E: Drop> ByJobs<E> {
     /// With whom jobs were exchanged.
     pub fn into_exchange(self) -> E {
         self.exchange
-    }
-
-    // The job of this kind for this channel, if there is one, and if there is room to note what its call comes to.
-    fn take(&mut self, chan: ChanNo, kind: OpKind) -> Option<Job>
-        ensures kind { IfSome result (λ job. job.kind ≡ kind) }
-        ensures its { IfSome result (λ job. job.chan.0 ≡ chan.0) }
-    {
-        if self.done.len() == self.done.capacity() {
-            return None;
-        }
-        self.jobs.take(chan, kind)
     }
 
     // Notes what a call came to. `take` gives no job while the list is full, so only `close` can find it full; that
@@ -85,60 +74,52 @@ impl<E: Drop> ByJobs<E> {
 }
 
 impl<E: Exchange + Drop> ByJobs<E> {
-    // Notes what a call for a link came to, or for the listener, and takes the jobs in that are handed out for that.
-    fn conclude(&mut self, chan: ChanNo, done: Done) {
-        self.note(done);
+    // The job of this kind for this channel, if there is one, and if there is room to note what its call comes to.
+    // Where there is none, it may be handed out for what is reported now.
+    fn take(&mut self, chan: ChanNo, kind: OpKind) -> Option<Job>
+        ensures kind { IfSome result (λ job. job.kind ≡ kind) }
+        ensures its { IfSome result (λ job. job.chan.0 ≡ chan.0) }
+    {
+        if self.done.len() == self.done.capacity() {
+            return None;
+        }
+        if let Some(job) = self.jobs.take(chan, kind) {
+            return Some(job);
+        }
+        self.report_early(chan, kind);
+        self.jobs.take(chan, kind)
+    }
+
+    // Reports what calls came to within a turn, where that is taken: a job of this kind for this channel is wanted.
+    fn report_early(&mut self, chan: ChanNo, kind: OpKind) {
+        if self.done.is_empty() {
+            return;
+        }
         self.exchange
-            .exchange_early(&mut self.done, &mut self.early);
-        self.is_early = self.done.is_empty();
-        for _ in 0..self.early.len() {
-            if let Some(job) = self.early.pop() {
-                self.take_in(chan, job);
+            .exchange_early(&mut self.done, &mut self.fresh);
+        self.take_in_all(Some((chan, kind)));
+    }
+
+    // Takes in the jobs that were just handed out; one of this kind for this channel is wanted now.
+    fn take_in_all(&mut self, wanted: Option<(ChanNo, OpKind)>) {
+        for _ in 0..self.fresh.len() {
+            if let Some(job) = self.fresh.pop() {
+                let is_wanted = wanted == Some((ChanNo(job.chan().0), job.kind()));
+                self.take_in(job, is_wanted);
             }
         }
     }
 
-    // Takes a job in while a link is served. After that the proxy watches both links of the same connection anew, and
-    // each turn the listener: so jobs for these are permitted at once. Those for other links are, once the next turn
-    // begins.
-    fn take_in(&mut self, served: ChanNo, job: Job) {
-        if job.kind() == OpKind::Accept || connection_of(served.0) == connection_of(job.chan().0) {
+    // Takes in a job that was just handed out. The proxy may use it at once if it wants that now, or if there was one of
+    // the same kind and channel before: then it watches for that. Else the next turn says that it came.
+    fn take_in(&mut self, job: Job, is_wanted: bool) {
+        if is_wanted || self.jobs.had_like(&job) {
             self.jobs.put(job);
         } else {
             // there is room for the jobs of all operations that can be in flight
             let _ = self.arrived.push(job);
         }
     }
-}
-
-// The number of the connection to which a channel belongs, counted from 1. The listener's channel has 0.
-fn connection_of(chan: u32) -> u32 {
-    chan / 2 + chan % 2
-}
-
-// The other link of a connection.
-fn peer_of(chan: ChanNo) -> ChanNo {
-    ChanNo(if chan.0 % 2 == 1 {
-        chan.0.saturating_add(1)
-    } else {
-        chan.0.saturating_sub(1)
-    })
-}
-
-// What may be started on a link once these operations have completed on its peer: a write of what was read there; and a
-// read, since there is room again for what was written there.
-fn following(at_peer: Ops) -> Ops {
-    let write = if Ops::READ.within(at_peer) {
-        Ops::WRITE
-    } else {
-        Ops::NONE
-    };
-    let read = if Ops::WRITE.within(at_peer) {
-        Ops::READ
-    } else {
-        Ops::NONE
-    };
-    write.union(read)
 }
 
 // What is to be reported of a call that makes a link, and that has this outcome where the link is made.
@@ -179,6 +160,14 @@ fn done_of_written(op: OpNo, chan: ChanNo, put: Result<Put, Failed>) -> Done
     }
 }
 
+// Whether a read that had room for `len` bytes took all that had come.
+fn has_emptied(got: Result<Got, Failed>, len: usize) -> bool {
+    match got {
+        Ok(Got::Bytes(count)) => count < len,
+        Ok(Got::End | Got::NotYet) | Err(Failed) => false,
+    }
+}
+
 // How many of `len` bytes a job is for; at least one.
 fn part(job: &Job, len: usize) -> usize
     requires { 1 ≤ len }
@@ -208,15 +197,10 @@ impl<N: Net, E: Exchange + Drop> Way<JobNet<N>> for ByJobs<E> {
 
     ghost accepted = { N.accepted };
 
-    // A link is watched for what there is a job for; and for what there will be one for once a call for the other link
-    // of its connection has been made, if jobs are handed out at once: so bytes may be read and written in one turn.
+    // A channel is watched for what there has been a job for: from the first one on there is one whenever the proxy
+    // wants it, or there will be as soon as what calls came to is reported.
     fn permits(&self, chan: ChanNo) -> Ops {
-        let now = self.jobs.permits(chan);
-        if self.is_early {
-            now.union(following(self.jobs.permits(peer_of(chan))))
-        } else {
-            now
-        }
+        self.jobs.had(chan)
     }
 
     fn permitted(&mut self) -> Option<ChanNo> {
@@ -227,10 +211,10 @@ impl<N: Net, E: Exchange + Drop> Way<JobNet<N>> for ByJobs<E> {
     }
 
     fn begin_turn<R: Wait>(&mut self, rt: &R) {
-        let exchanged = self
-            .exchange
-            .exchange(rt, &mut self.done, &mut self.arrived);
+        let exchanged = self.exchange.exchange(rt, &mut self.done, &mut self.fresh);
         self.is_refused = self.is_refused || exchanged.is_err();
+        self.take_in_all(None);
+        self.emptied = None;
     }
 
     fn poll<R: Wait>(
@@ -269,7 +253,7 @@ impl<N: Net, E: Exchange + Drop> Way<JobNet<N>> for ByJobs<E> {
         let op = job.op();
         let accepted = net.try_accept(job, listener, chan);
         let done = done_of_made(op, listener, OpKind::Accept, Outcome::Accepted, accepted);
-        self.conclude(chan, done);
+        self.note(done);
         accepted
     }
 
@@ -283,7 +267,7 @@ impl<N: Net, E: Exchange + Drop> Way<JobNet<N>> for ByJobs<E> {
         let op = job.op();
         let made = net.try_connect(job, chan, to);
         let done = done_of_made(op, chan, OpKind::Connect, Outcome::Connected, made);
-        self.conclude(chan, done);
+        self.note(done);
         Some(made)
     }
 
@@ -294,18 +278,24 @@ impl<N: Net, E: Exchange + Drop> Way<JobNet<N>> for ByJobs<E> {
         let op = job.op();
         let made = net.try_finish(job, chan);
         let done = done_of_made(op, chan, OpKind::Connect, Outcome::Connected, made);
-        self.conclude(chan, done);
+        self.note(done);
         made
     }
 
     fn read(&mut self, net: &mut JobNet<N>, chan: ChanNo, into: &mut [u8]) -> Result<Got, Failed> {
+        if self.emptied == Some(chan) {
+            return Ok(Got::NotYet);
+        }
         let Some(job) = self.take(chan, OpKind::Read) else {
             return Ok(Got::NotYet);
         };
         let op = job.op();
         let len = part(&job, into.len());
         let got = net.try_read(job, chan, &mut into[..len]);
-        self.conclude(chan, done_of_read(op, chan, got));
+        self.note(done_of_read(op, chan, got));
+        if has_emptied(got, len) {
+            self.emptied = Some(chan);
+        }
         got
     }
 
@@ -316,7 +306,7 @@ impl<N: Net, E: Exchange + Drop> Way<JobNet<N>> for ByJobs<E> {
         let op = job.op();
         let len = part(&job, from.len());
         let put = net.try_write(job, chan, &from[..len]);
-        self.conclude(chan, done_of_written(op, chan, put));
+        self.note(done_of_written(op, chan, put));
         put
     }
 
@@ -326,7 +316,7 @@ impl<N: Net, E: Exchange + Drop> Way<JobNet<N>> for ByJobs<E> {
 
     fn close(&mut self, net: &mut JobNet<N>, chan: ChanNo) {
         net.close(chan);
-        self.conclude(chan, Done::Closed(chan));
+        self.note(Done::Closed(chan));
     }
 
     ghost kept_same = { N.kept_same };

@@ -1,4 +1,5 @@
 //! What a way by jobs and those who start the operations tell each other.
+ghost use mathlib.Core.List.{IsPrefix};
 ghost use Rattle.std.specs.Prelude.{◌≡◌, ◌⊎◌, []};
 
 use nio_base::{ChanNo, OpKind, OpNo, Outcome};
@@ -21,18 +22,21 @@ pub enum Done {
 /// are polled.
 pub trait Exchange {
     /// Should report what the calls came to, in their order, and add the jobs that have been handed out since to the
-    /// others. It waits for none. The clause says only that nothing is left to report. An error says that no jobs will be
-    /// handed out any more, for want of memory.
+    /// others. It waits for none. The clauses say that nothing is left to report, and that no job is lost that was
+    /// there; not that each job that was handed out is added. An error says that no jobs will be handed out any more,
+    /// for want of memory.
     fn exchange<R: Wait>(
         &mut self,
         rt: &R,
         done: &mut Vec<Done>,
         arrived: &mut Vec<Job>,
     ) -> Result<(), AllocError>
-        ensures { done.new.items ≡ [] };
+        ensures reported { done.new.items ≡ [] }
+        ensures kept { IsPrefix arrived.old.items arrived.new.items };
 
-    /// May do the same within a turn, once a call was made, so that what is due next can be done in this turn. It may
-    /// wait only for a lock. The clause says only that all is taken off `done`, or nothing.
+    /// May do the same within a turn, where a call lacks its job, so that it can be made in this turn. It may wait only
+    /// for a lock. All is taken off `done`, or nothing.
     fn exchange_early(&mut self, done: &mut Vec<Done>, arrived: &mut Vec<Job>)
-        ensures { (done.new.items ≡ []) ⊎ (done.new.items ≡ done.old.items) };
+        ensures reported { (done.new.items ≡ []) ⊎ (done.new.items ≡ done.old.items) }
+        ensures kept { IsPrefix arrived.old.items arrived.new.items };
 }

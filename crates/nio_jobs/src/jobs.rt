@@ -5,13 +5,24 @@ use nio_base::{ChanNo, OpKind, Ops};
 use nio_group::Job;
 use std::alloc::{AllocError, Global};
 
-/// The jobs of a channel, one of a kind at most.
+/// The jobs of a channel, one of a kind at most, and for which operations there has been one.
 #[derive(Drop)]
 struct OfChannel {
     accept: Option<Job>,
     connect: Option<Job>,
     read: Option<Job>,
     write: Option<Job>,
+    had: Ops,
+}
+
+// The operation of this kind.
+fn operation(kind: OpKind) -> Ops {
+    match kind {
+        OpKind::Accept => Ops::ACCEPT,
+        OpKind::Connect => Ops::CONNECT,
+        OpKind::Read => Ops::READ,
+        OpKind::Write => Ops::WRITE,
+    }
 }
 
 impl OfChannel {
@@ -21,12 +32,15 @@ impl OfChannel {
             connect: None,
             read: None,
             write: None,
+            had: Ops::NONE,
         }
     }
 
     // Keeps a job, in the place of an earlier one of its kind.
     fn put(&mut self, job: Job) {
-        match job.kind() {
+        let kind = job.kind();
+        self.had = self.had.union(operation(kind));
+        match kind {
             OpKind::Accept => self.accept = Some(job),
             OpKind::Connect => self.connect = Some(job),
             OpKind::Read => self.read = Some(job),
@@ -42,19 +56,6 @@ impl OfChannel {
             OpKind::Write => self.write.take(),
         }
     }
-
-    // For which operations there is a job.
-    fn permits(&self) -> Ops {
-        permit(&self.accept, Ops::ACCEPT)
-            .union(permit(&self.connect, Ops::CONNECT))
-            .union(permit(&self.read, Ops::READ))
-            .union(permit(&self.write, Ops::WRITE))
-    }
-}
-
-// The operation, where there is a job for it.
-fn permit(job: &Option<Job>, operation: Ops) -> Ops {
-    if job.is_some() { operation } else { Ops::NONE }
 }
 
 /// The jobs that were handed out and not yet used up.
@@ -94,11 +95,16 @@ impl Jobs {
         }
     }
 
-    /// For which operations there is a job for this channel.
-    pub(crate) fn permits(&self, chan: ChanNo) -> Ops {
+    /// For which operations there has been a job for this channel.
+    pub(crate) fn had(&self, chan: ChanNo) -> Ops {
         match self.channels.get(chan.0 as usize) {
-            Some(channel) => channel.permits(),
+            Some(channel) => channel.had,
             None => Ops::NONE,
         }
+    }
+
+    /// Whether there has been a job of the same kind for the same channel.
+    pub(crate) fn had_like(&self, job: &Job) -> bool {
+        operation(job.kind()).within(self.had(ChanNo(job.chan().0)))
     }
 }

@@ -1,9 +1,10 @@
 //! The dispatcher of a group: the thread that makes the calls on the net.
+ghost use mathlib.Core.List.{IsPrefix};
 ghost use Rattle.std.specs.Prelude.{◌≡◌, []};
 ghost use Rattle.nio_operations.specs.Reports.{after_done, after_turn};
 ghost use Rattle.nio_pool.specs.Queues.{IsPassOf};
 
-use crate::relaying::{Relaying, handle};
+use crate::handlers::{SharedStreams, handle};
 use crate::streams::{Streams, job};
 use nio_base::{GChan, OpKind};
 use nio_group::{Completion, GroupCore, Job};
@@ -39,7 +40,7 @@ impl<'a> Outbox<'a> {
 pub(crate) struct Dispatcher<'a, R> {
     pub rt: &'a R,
     pub group: &'a Group,
-    pub relaying: &'a Relaying,
+    pub streams: &'a SharedStreams,
     pub outbox: Outbox<'a>,
 }
 
@@ -50,25 +51,26 @@ impl<'a, R: Wait> Exchange for Dispatcher<'a, R> {
         done: &mut Vec<Done>,
         arrived: &mut Vec<Job>,
     ) -> Result<(), AllocError> {
-        self.settle(done, arrived);
+        self.report_and_handle(done, arrived);
         Ok(())
     }
 
     fn exchange_early(&mut self, done: &mut Vec<Done>, arrived: &mut Vec<Job>) {
-        self.settle(done, arrived);
+        self.report_and_handle(done, arrived);
     }
 }
 
 impl<'a, R: Wait> Dispatcher<'a, R> {
     // Reports all, handles what that completes, and takes the jobs that were handed out. It gets the lock of the
     // streams once, and the group's where there is something to report.
-    fn settle(&mut self, done: &mut Vec<Done>, arrived: &mut Vec<Job>)
-        ensures { done.new.items ≡ [] }
+    fn report_and_handle(&mut self, done: &mut Vec<Done>, arrived: &mut Vec<Job>)
+        ensures reported { done.new.items ≡ [] }
+        ensures kept { IsPrefix arrived.old.items arrived.new.items }
     {
-        let mut streams = self.relaying.lock(self.rt);
+        let mut streams = self.streams.lock(self.rt);
         let is_for_workers = !done.is_empty() && self.report(&mut streams, done, arrived);
         done.clear();
-        streams.give(arrived);
+        streams.move_started_to(arrived);
         drop(streams);
         if is_for_workers {
             self.group.wake(self.rt);
@@ -76,7 +78,9 @@ impl<'a, R: Wait> Dispatcher<'a, R> {
     }
 
     // Says whether there is a completion for the workers.
-    fn report(&mut self, streams: &mut Streams, done: &[Done], arrived: &mut Vec<Job>) -> bool {
+    fn report(&mut self, streams: &mut Streams, done: &[Done], arrived: &mut Vec<Job>) -> bool
+        ensures kept { IsPrefix arrived.old.items arrived.new.items }
+    {
         let mut core = self.group.lock(self.rt);
         report_all(&mut core, done, arrived);
         self.handle_all(streams, &mut core)
@@ -100,7 +104,7 @@ impl<'a, R: Wait> Dispatcher<'a, R> {
 
     // Gives a completion to the workers, if it is one of theirs. It comes back where it is the dispatcher's own.
     fn hand_over(&mut self, done: Completion) -> Option<Completion> {
-        if done.kind() == OpKind::Connect && self.relaying.has_worker() {
+        if done.kind() == OpKind::Connect && self.streams.has_worker() {
             self.outbox.put(self.rt, done).err()
         } else {
             Some(done)
@@ -110,7 +114,8 @@ impl<'a, R: Wait> Dispatcher<'a, R> {
 
 // Reports what calls came to, and takes the next job of each operation that is still pending.
 fn report_all(core: &mut GroupCore, done: &[Done], arrived: &mut Vec<Job>)
-    ensures { core.new ≡ after_turn core.old done.now }
+    ensures core { core.new ≡ after_turn core.old done.now }
+    ensures kept { IsPrefix arrived.old.items arrived.new.items }
 {
     for one in done {
         report(core, *one, arrived);
@@ -118,7 +123,8 @@ fn report_all(core: &mut GroupCore, done: &[Done], arrived: &mut Vec<Job>)
 }
 
 fn report(core: &mut GroupCore, done: Done, arrived: &mut Vec<Job>)
-    ensures { core.new ≡ after_done core.old done }
+    ensures core { core.new ≡ after_done core.old done }
+    ensures kept { IsPrefix arrived.old.items arrived.new.items }
 {
     match done {
         Done::Outcome(op, outcome) => {

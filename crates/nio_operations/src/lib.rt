@@ -5,6 +5,6 @@
 pub use serving::serve_group;
 
 mod dispatcher;
-mod relaying;
+mod handlers;
 mod serving;
 mod streams;

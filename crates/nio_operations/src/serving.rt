@@ -9,7 +9,7 @@ ghost use Rattle.nio_relay.specs.Plan.{IsServable};
 ghost use Rattle.nio_serve.specs.Serving.{AreNumbered, LeavesNothing, NoneRose, RelaysBytes, Serves, ServesAllOr};
 
 use crate::dispatcher::{Dispatcher, Outbox};
-use crate::relaying::{Relaying, Ringing};
+use crate::handlers::{SharedStreams, WorkerHandler};
 use crate::streams::Streams;
 use nio_base::Gate;
 use nio_group::GroupLimits;
@@ -43,19 +43,19 @@ fn flight_of(plan: ProxyPlan) -> u32
 
 // What the dispatcher and the workers share.
 #[derive(Drop)]
-struct Staff {
+struct SharedGroup {
     group: Group,
     queue: CompletionQueue,
-    relaying: Relaying,
+    streams: SharedStreams,
 }
 
-impl Staff {
+impl SharedGroup {
     // With a pass of the queue for the dispatcher, and one for each worker.
     fn make(
         alloc: Global,
         plan: ProxyPlan,
         workers: u32,
-    ) -> Result<(Staff, Option<QueuePass>, Vec<QueuePass>), AllocError>
+    ) -> Result<(SharedGroup, Option<QueuePass>, Vec<QueuePass>), AllocError>
         requires plan { IsServable plan }
         requires workers { (1 ≤ workers) × (workers ≤ 64) }
         ensures own { IfOk result (λ made. IfSome made.1 (IsPassOf made.0.queue)) }
@@ -74,34 +74,34 @@ impl Staff {
         };
         let streams = Streams::make(alloc, channels, flight)?;
         let (queue, passes) = CompletionQueue::make(alloc, workers + 1, flight)?;
-        let staff = Staff {
+        let shared = SharedGroup {
             group,
             queue,
-            relaying: Relaying::over(streams),
+            streams: SharedStreams::over(streams),
         };
         let mut passes = passes;
         let own = passes.pop();
-        Ok((staff, own, passes))
+        Ok((shared, own, passes))
     }
 }
 
 // Works with each pass in a thread of its own, as the worker with the pass's place, until the group has terminated.
 fn work_all<R: Threads + Wait + Sync, B: Bell + Sync, G: Gate + Sync>(
     rt: &R,
-    staff: &Staff,
+    shared: &SharedGroup,
     passes: &mut [QueuePass],
     bell: &B,
     gate: &G,
 )
-    requires passes { All (IsPassOf staff.now.queue) passes.old }
+    requires passes { All (IsPassOf shared.now.queue) passes.old }
     requires few { length passes.old ≤ 64 }
 {
     let threads = passes.len().max(1);
-    let Staff {
+    let SharedGroup {
         group,
         queue,
-        relaying,
-    } = staff;
+        streams,
+    } = shared;
     thread::for_each_mut(
         rt,
         passes,
@@ -109,8 +109,8 @@ fn work_all<R: Threads + Wait + Sync, B: Bell + Sync, G: Gate + Sync>(
         &|me, pass|
             requires { (me < 64) × IsPassOf queue.now pass.old }
         {
-            relaying.join_in();
-            let handler = Ringing { relaying, bell };
+            streams.join_in();
+            let handler = WorkerHandler { streams, bell };
             work(rt, group, queue, pass, &handler, gate, me as u32)
         },
     );
@@ -136,12 +136,12 @@ fn serve_by_jobs<R: Wait, N: Net>(
     rt: &R,
     alloc: Global,
     net: &mut JobNet<N>,
-    staff: &Staff,
+    shared: &SharedGroup,
     own: QueuePass,
     plan: ProxyPlan,
 ) -> Result<Served, ServeError>
     requires plan { IsServable plan }
-    requires pass { IsPassOf staff.now.queue own }
+    requires pass { IsPassOf shared.now.queue own }
     requires fresh { (c : ChanNo) → IsUnused (N.link net.old c) }
     requires unasked { (c : ChanNo) → N.place net.old c ≡ unused }
     ensures serves { Serves plan (N.link net.new) (N.place net.new) (N.faults net.old) (N.faults net.new)
@@ -152,16 +152,16 @@ fn serve_by_jobs<R: Wait, N: Net>(
     ensures complete { NoneRose (N.faults net.old) (N.faults net.new) (N.poll_faults net.old) (N.poll_faults net.new)
         → ServesAllOr plan.conns (N.link net.new) result }
 {
-    let Staff {
+    let SharedGroup {
         group,
         queue,
-        relaying,
-    } = staff;
-    relaying.listen(rt, group);
+        streams,
+    } = shared;
+    streams.listen(rt, group);
     let dispatcher = Dispatcher {
         rt,
         group,
-        relaying,
+        streams,
         outbox: Outbox::over(queue, own),
     };
     match ByJobs::make(alloc, dispatcher, channels_of(plan), flight_of(plan)) {
@@ -182,13 +182,13 @@ fn dispatch<R: Wait, N: Net>(
     rt: &R,
     alloc: Global,
     net: &mut JobNet<N>,
-    staff: &Staff,
+    shared: &SharedGroup,
     own: &mut Option<QueuePass>,
     has_threads: bool,
     plan: ProxyPlan,
 ) -> Result<Served, ServeError>
     requires plan { IsServable plan }
-    requires pass { IfSome own.old (IsPassOf staff.now.queue) }
+    requires pass { IfSome own.old (IsPassOf shared.now.queue) }
     requires fresh { (c : ChanNo) → IsUnused (N.link net.old c) }
     requires unasked { (c : ChanNo) → N.place net.old c ≡ unused }
     ensures serves { Serves plan (N.link net.new) (N.place net.new) (N.faults net.old) (N.faults net.new)
@@ -200,13 +200,13 @@ fn dispatch<R: Wait, N: Net>(
         → ServesAllOr plan.conns (N.link net.new) result }
 {
     if has_threads {
-        staff.relaying.await_worker();
+        shared.streams.await_worker();
     }
     let served = match own.take() {
-        Some(own) => serve_by_jobs(rt, alloc, net, staff, own, plan),
+        Some(own) => serve_by_jobs(rt, alloc, net, shared, own, plan),
         None => no_memory(net, plan),
     };
-    close_group(rt, &staff.group);
+    close_group(rt, &shared.group);
     served
 }
 
@@ -254,7 +254,7 @@ pub fn serve_group<R: Threads + Wait + Sync, N: Net, B: Bell + Sync, G: Gate + S
     ensures complete { NoneRose (N.faults net.old) (N.faults net.new) (N.poll_faults net.old) (N.poll_faults net.new)
         → ServesAllOr plan.conns (N.link net.new) result }
 {
-    let Ok((staff, own, passes)) = Staff::make(alloc, plan, workers) else {
+    let Ok((shared, own, passes)) = SharedGroup::make(alloc, plan, workers) else {
         return no_memory(net, plan);
     };
     let mut own = own;
@@ -264,10 +264,10 @@ pub fn serve_group<R: Threads + Wait + Sync, N: Net, B: Bell + Sync, G: Gate + S
     thread::join_mut(
         rt,
         &mut ||
-            requires { IsSync R.row × IsSync B.row × IsSync G.row × All (IsPassOf staff.queue) passes.items
+            requires { IsSync R.row × IsSync B.row × IsSync G.row × All (IsPassOf shared.queue) passes.items
                 × (length passes.items ≤ 64) }
-        { work_all(rt, &staff, passes.as_mut_slice(), bell, gate) },
-        &mut || served = dispatch(rt, alloc, net, &staff, &mut own, has_threads, plan),
+        { work_all(rt, &shared, passes.as_mut_slice(), bell, gate) },
+        &mut || served = dispatch(rt, alloc, net, &shared, &mut own, has_threads, plan),
     );
     served
 }

@@ -1,5 +1,6 @@
 //! Which operations are due next on the streams of the connections.
-ghost use Rattle.std.specs.Prelude.{◌≡◌, ◌<◌, length};
+ghost use mathlib.Core.List.{IsPrefix};
+ghost use Rattle.std.specs.Prelude.{◌≡◌, ◌<◌, ◌++◌, length};
 ghost use Rattle.nio_group.specs.Steps.{after_start};
 ghost use Rattle.nio_jobs.specs.Next.{held_after_finished};
 ghost use Rattle.nio_operations.specs.Handling.{after_accepted, after_handling, after_next, starting, starting_some};
@@ -34,8 +35,13 @@ impl Streams {
         !self.started.is_empty()
     }
 
-    /// Adds the jobs that the dispatcher hasn't taken yet to those that it has. Where there is no memory they stay.
-    pub(crate) fn give(&mut self, arrived: &mut Vec<Job>) {
+    /// Moves the jobs that the dispatcher hasn't taken yet to the end of those that it has. Where there is no memory they
+    /// stay.
+    pub(crate) fn move_started_to(&mut self, arrived: &mut Vec<Job>)
+        ensures none_lost { arrived.new.items ++ self.new.started.items ≡ arrived.old.items ++ self.old.started.items }
+        ensures kept { IsPrefix arrived.old.items arrived.new.items }
+        ensures directions { self.new.directions ≡ self.old.directions }
+    {
         let _ = arrived.append(&mut self.started);
     }
 

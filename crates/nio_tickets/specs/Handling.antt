@@ -1,5 +1,5 @@
 -- What is started at a desk once a ticket was handed its result.
-use Rattle.std.specs.Prelude.{ℕ, ◌==◌, if◌then◌else◌, nat_lt, Result, Ok, Err, List, [], ◌∷◌, ◌++◌, length}
+use Rattle.std.specs.Prelude.{ℕ, ◌==◌, if◌then◌else◌, nat_lt, Result, Ok, Err, Option, Some, None, List, length, slice_index_or}
 use Rattle.nio_base.specs.declared.numbers.GChan.{GChan}
 use Rattle.nio_base.specs.declared.group.Finished.{Finished}
 use Rattle.nio_base.specs.declared.group.GKind.TheVariants.{Stream}
@@ -7,14 +7,18 @@ use Rattle.nio_base.specs.declared.group.OpKind.{OpKind}
 use Rattle.nio_base.specs.declared.group.OpKind.TheVariants.{Accept, Connect}
 use Rattle.nio_group.specs.Run as group
 use Rattle.nio_group.specs.Steps.{answer_to_open}
+use Rattle.nio_group.specs.declared.operation.Operation.{Operation}
 use Rattle.nio_group.specs.declared.refusal.StartError.{StartError}
 use Rattle.nio_future.specs.Desk.{DeskState}
-use Rattle.nio_future.specs.Steps.{after_start, by_group}
+use Rattle.nio_future.specs.Steps.{after_poll, after_start, answer_to_poll, by_group}
 use Rattle.nio_future.specs.Ticket.{Ticket}
+use Rattle.nio_future.specs.declared.ticket.Polled.{Polled}
+use Rattle.nio_future.specs.declared.ticket.Polled.TheVariants.{Ready, NotYet}
 use Rattle.nio_jobs.specs.Next.{next_after, start_of}
 use Rattle.nio_jobs.specs.declared.next.Next.{Next}
 use Rattle.nio_jobs.specs.declared.next.Next.TheVariants as next
 use Rattle.nio_jobs.specs.declared.next.Start.{Start}
+use Rattle.nio_tickets.specs.Seats.{place_of}
 
 abbrev pub listener : GChan
 listener = record { 0 = 0 }
@@ -48,6 +52,23 @@ after_next d (next.Both first second) = starting_some (starting_some d first) se
 abbrev pub after_result : List ℕ → DeskState → GChan → OpKind → Finished → DeskState
 after_result held d chan kind finished = after_next d (next_after held chan kind finished)
 
--- a ticket is kept, where there is room for one more
-abbrev pub with_kept : ℕ → List Ticket → Ticket → List Ticket
-with_kept room tickets ticket = if nat_lt (length tickets) room then tickets ++ ticket ∷ [] else tickets
+-- what polling the ticket of this kind for this channel gave
+abbrev pub after_polled : List ℕ → DeskState → GChan → OpKind → Polled → DeskState
+after_polled held d chan kind (Ready finished) = after_result held d chan kind finished
+after_polled held d chan kind (NotYet ticket) = d
+
+abbrev pub polling_one : List ℕ → DeskState → GChan → OpKind → Option Ticket → DeskState
+polling_one held d chan kind None = d
+polling_one held d chan kind (Some t) =
+    after_polled held (after_poll d t.op.0) chan kind (answer_to_poll d t)
+
+-- the ticket of this kind for this channel is polled, if it is out
+abbrev pub polling : List ℕ → DeskState → List (Option Ticket) → GChan → OpKind → DeskState
+polling held d seats chan kind =
+    if nat_lt chan.0 (length d.group.channels)
+    then polling_one held d chan kind (slice_index_or seats (place_of chan kind) None) else d
+
+-- the ticket of this operation is polled, if it is out
+abbrev pub polling_held : List ℕ → DeskState → List (Option Ticket) → Option Operation → DeskState
+polling_held held d seats None = d
+polling_held held d seats (Some operation) = polling held d seats operation.chan operation.kind

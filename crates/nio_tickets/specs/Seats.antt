@@ -1,16 +1,30 @@
--- A desk between two turns of a proxy.
-use Rattle.std.specs.Prelude.{◌≡◌, Option, Some, None}
-use Rattle.std.specs.Vec.{vec_capacity}
-use Rattle.nio_future.specs.Round.{IsHand}
-use Rattle.nio_future.specs.declared.round.Hand.{Hand}
+-- Which tickets are out.
+use Rattle.std.specs.Prelude.{ℕ, ◌+◌, ◌*◌, List, [], ◌∷◌, Option, Some, None}
+use Rattle.nio_base.specs.declared.numbers.GChan.{GChan}
+use Rattle.nio_base.specs.declared.group.OpKind.{OpKind}
+use Rattle.nio_base.specs.declared.group.OpKind.TheVariants.{Accept, Connect, Read, Write}
+use Rattle.nio_future.specs.Desk.{DeskState}
+use Rattle.nio_future.specs.Ticket.{Ticket}
+use Rattle.nio_future.specs.Tickets.{AreTicketsOf}
 
--- a hand whose lists have the same room
-pub record IsReady (h : Hand) : Type 0 where
-  pub hand : IsHand h
-  pub still : vec_capacity h.still ≡ vec_capacity h.tickets
-  pub ready : vec_capacity h.ready ≡ vec_capacity h.tickets
+-- each channel has a seat for a ticket of each kind
+abbrev pub place_of : GChan → OpKind → ℕ
+place_of chan Accept = 4 * chan.0
+place_of chan Connect = 4 * chan.0 + 1
+place_of chan Read = 4 * chan.0 + 2
+place_of chan Write = 4 * chan.0 + 3
 
--- none where a round was refused
-abbrev pub IsSeat : Option Hand → Type 0
-IsSeat None = Unit {0}
-IsSeat (Some h) = IsReady h
+-- the tickets in these seats
+abbrev pub seated : List (Option Ticket) → List Ticket
+seated [] = []
+seated (None ∷ seats) = seated seats
+seated (Some ticket ∷ seats) = ticket ∷ seated seats
+
+-- the tickets in these seats are the desk's
+abbrev pub AreSeated : DeskState → List (Option Ticket) → Type 0
+AreSeated d seats = AreTicketsOf d (seated seats)
+
+-- a desk, and the seats of its tickets
+pub record Office : Type 0 where
+  pub desk : DeskState
+  pub seats : List (Option Ticket)

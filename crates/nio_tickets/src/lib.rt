@@ -6,6 +6,6 @@ pub use serving::serve_future;
 
 mod clerk;
 mod reporting;
-mod seat;
+mod seats;
 mod serving;
 mod streams;

@@ -1,4 +1,5 @@
 //! Reporting to a desk what the calls on the net came to.
+ghost use mathlib.Core.List.{IsPrefix};
 ghost use Rattle.std.specs.Prelude.{◌≡◌};
 ghost use Rattle.nio_jobs.specs.declared.exchange.Done.TheVariants as done;
 ghost use Rattle.nio_future.specs.Tickets.{KeepsTickets};
@@ -13,6 +14,7 @@ use nio_jobs::Done;
 pub(crate) fn report_all(desk: &mut Desk, done: &[Done], arrived: &mut Vec<Job>)
     ensures desk { desk.new ≡ after_turn desk.old done.now }
     ensures tickets { KeepsTickets desk.old desk.new }
+    ensures kept { IsPrefix arrived.old.items arrived.new.items }
 {
     for one in done {
         report(desk, *one, arrived);
@@ -22,6 +24,7 @@ pub(crate) fn report_all(desk: &mut Desk, done: &[Done], arrived: &mut Vec<Job>)
 fn report(desk: &mut Desk, done: Done, arrived: &mut Vec<Job>)
     ensures desk { desk.new ≡ after_done desk.old done }
     ensures tickets { KeepsTickets desk.old desk.new }
+    ensures kept { IsPrefix arrived.old.items arrived.new.items }
 {
     match done {
         Done::Outcome(op, outcome) => {

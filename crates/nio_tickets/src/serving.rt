@@ -7,6 +7,7 @@ ghost use Rattle.nio_relay.specs.Plan.{IsServable};
 ghost use Rattle.nio_serve.specs.Serving.{AreNumbered, LeavesNothing, NoneRose, RelaysBytes, Serves, ServesAllOr};
 
 use crate::clerk::Clerk;
+use futures::task::{Doorbell, Solo};
 use nio_jobs::ByJobs;
 use nio_link::{JobNet, Net};
 use nio_relay::{ProxyPlan, Served};
@@ -31,27 +32,28 @@ fn flight_of(plan: ProxyPlan) -> u32
     4 * plan.conns + 1
 }
 
-// The way by jobs of a new desk.
-fn open_way<'a, R>(
-    rt: &'a R,
+// The way by jobs of a new desk, whose tickets are polled by the task of this executor.
+fn open_way(
+    executor: &Solo,
     alloc: Global,
     plan: ProxyPlan,
-) -> Result<ByJobs<Clerk<'a, R>>, AllocError>
+) -> Result<ByJobs<Clerk<'_>>, AllocError>
     requires { IsServable plan }
 {
     let channels = channels_of(plan);
     let flight = flight_of(plan);
-    let clerk = Clerk::open(rt, alloc, channels, flight)?;
+    let clerk = Clerk::open(executor, alloc, channels, flight)?;
     ByJobs::make(alloc, clerk, channels, flight)
 }
 
 /// Relays as many connections as the plan says, and then ends, by the operations of a desk. The calling thread makes each
-/// call on the net for a job of a pending operation. As each turn begins it reports what its calls came to, runs one round
-/// of polls over the tickets that are out, and starts what is due after each result.
+/// call on the net for a job of a pending operation. It reports at once what the call came to, polls the tickets of the
+/// operations that this ended, and starts what is due after each result. All these polls are made in one task of an
+/// executor, whose context is made once, before the first turn; neither they nor the calls of the desk take memory.
 ///
 /// A connection ends when both of its directions are shut, or at the first fault of one of its links, which closes both
 /// and is counted. At every end the links, the listener and the desk are closed. `Memory` is also answered where the
-/// proxy's own table refuses a call, or where a round is refused.
+/// proxy's own table refuses a call, or where the executor lacks the random number that it needs.
 pub fn serve_future<R, N: Net>(
     rt: &R,
     alloc: Global,
@@ -71,7 +73,11 @@ where
     ensures complete { NoneRose (N.faults net.old) (N.faults net.new) (N.poll_faults net.old) (N.poll_faults net.new)
         → ServesAllOr plan.conns (N.link net.new) result }
 {
-    let Ok(mut way) = open_way(rt, alloc, plan) else {
+    // No thread waits for a task there, so none sleeps at the doorbell.
+    let Ok(executor) = Solo::new(rt, Doorbell::spinning()) else {
+        return Err(ServeError::Memory);
+    };
+    let Ok(mut way) = open_way(&executor, alloc, plan) else {
         return Err(ServeError::Memory);
     };
     let served = serve(rt, alloc, &mut way, net, plan);

@@ -13,7 +13,7 @@ const YIELDS: u32 = 500_000;
 
 /// What the handlers share. Who holds the lock of the streams may take the group's lock.
 #[derive(Drop)]
-pub(crate) struct Relaying {
+pub(crate) struct SharedStreams {
     streams: Mutex<Streams>,
     // how many workers have begun
     workers: AtomicU64,
@@ -21,23 +21,23 @@ pub(crate) struct Relaying {
 
 /// The handler of the workers: starts what is due, and rings for the dispatcher.
 #[derive(Drop)]
-pub(crate) struct Ringing<'a, B> {
-    pub relaying: &'a Relaying,
+pub(crate) struct WorkerHandler<'a, B> {
+    pub streams: &'a SharedStreams,
     pub bell: &'a B,
 }
 
-impl<'a, B: Bell> Handler for Ringing<'a, B> {
+impl<'a, B: Bell> Handler for WorkerHandler<'a, B> {
     // Rings if the list of jobs was empty before: the dispatcher, which takes the whole list before it polls, may wait.
     fn completed<R: Wait>(&self, rt: &R, group: &Group, done: Handed) {
-        if self.relaying.go_on(rt, group, done.done()) {
+        if self.streams.go_on(rt, group, done.done()) {
             self.bell.ring();
         }
     }
 }
 
-impl Relaying {
-    pub(crate) fn over(streams: Streams) -> Relaying {
-        Relaying {
+impl SharedStreams {
+    pub(crate) fn over(streams: Streams) -> SharedStreams {
+        SharedStreams {
             streams: Mutex::new(streams),
             workers: AtomicU64::new(0),
         }
