@@ -6,3 +6,4 @@ pub mod RelayLaws
 pub mod Drawn
 pub mod ServeLaws
 pub mod PromiseLaws
+mod Told

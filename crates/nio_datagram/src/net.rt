@@ -99,8 +99,10 @@ pub trait PacketNet: Poller {
         ensures places { (c : ChanNo) → place self.new c ≡ place self.old c }
         ensures polls { Self.poll_faults self.new ≡ Self.poll_faults self.old };
 
-    /// Tells the net that this channel is to send to no other address than this one, and to hear of no other. It may
-    /// then drop what others send, and find later that the address refuses packets: calls on the channel then fail.
+    /// The system's `connect` of the channel's socket. It is there for what the system does with a connected socket: it
+    /// finds the route once and not for each send, drops packets from other addresses, and reports that the address
+    /// refuses packets, so that a later call on the channel fails. Nothing that the net shows changes, whether the
+    /// system connects the socket or refuses to: a link drops strangers' packets itself.
     fn connect_packets(&mut self, chan: ChanNo, to: Addr)
         ensures faults { (c : ChanNo) → packet_faults self.new c ≡ packet_faults self.old c }
         ensures traffic { (c : ChanNo) → traffic self.new c ≡ traffic self.old c }

@@ -1,7 +1,9 @@
 //! Relaying packets.
-ghost use Rattle.std.specs.Prelude.{◌≡◌, ◌<◌, ◌≤◌, ◌⊎◌, Err, OnOk};
+ghost use Rattle.std.specs.Prelude.{◌≡◌, ◌<◌, ◌≤◌, ◌⊎◌, Err, IfOk, IsTrue, OnOk};
 ghost use Rattle.nio_bytes.specs.Cause.{Rose};
-ghost use Rattle.nio_serve.specs.Board.{AreReady};
+ghost use Rattle.nio_poller.specs.Polls.{CountsFaults};
+ghost use Rattle.nio_poller.specs.declared.poller.PollError.TheVariants.{Fault};
+ghost use Rattle.nio_steps.specs.KeyCalls.{is_within};
 ghost use Rattle.nio_words.specs.Passes.{IsFirstPass};
 ghost use Rattle.nio_datagram.specs.Nets.{view_by, NoneFailed};
 ghost use Rattle.nio_datagram.specs.Packets.{no_traffic};
@@ -13,12 +15,12 @@ ghost use Rattle.nio_datagram.specs.declared.serving.PacketServeError.TheVariant
 
 use crate::net::PacketNet;
 use crate::relay::Relay;
-use crate::watching::{Watched, select, set, told_of, watch};
+use crate::watching::{Watched, set, told_of, watch};
 use nio_base::{Addr, CallerNo, ChanNo, Limits, Ops};
 use nio_poller::PollError;
 use nio_serve::{Board, Refused};
 use nio_words::{Pass, Words};
-use std::alloc::Global;
+use std::alloc::{AllocError, Global};
 use std::sync::Wait;
 use thiserror::Error;
 
@@ -66,20 +68,16 @@ const LIMITS: Limits = Limits {
 const ME: CallerNo = CallerNo(0);
 
 /// The channel to which the client sends.
-pub(crate) const FRONT: ChanNo = ChanNo(0);
+const FRONT: ChanNo = ChanNo(0);
 
 /// The channel to which the target answers.
 pub(crate) const BACK: ChanNo = ChanNo(1);
 
-// The board of the first caller of a new table. Nothing refuses it, since the limits have a caller and a selector.
-fn open_board<'a>(words: &'a Words, pass: Pass) -> Result<Board<'a>, Refused>
-    requires { IsFirstPass words.now pass }
-{
-    let mut pass = pass;
-    match words.draw(&mut pass, ME) {
-        Ok(()) => Board::open(words, pass, ME),
-        Err(_error) => Err(Refused),
-    }
+/// What a poll told of both channels.
+#[derive(Clone, Copy, Debug, PartialEq, Eq)]
+struct Ready {
+    front: Ops,
+    back: Ops,
 }
 
 /// What a relay serves by: a board on which both of its channels are watched.
@@ -91,8 +89,16 @@ struct Server<'a> {
 }
 
 impl<'a> Server<'a> {
-    fn open<R: Wait>(rt: &R, board: Board<'a>) -> Result<Server<'a>, Refused> {
-        let mut board = board;
+    // The first caller of a new table opens a board and both channels there. The limits have room for all of it.
+    #[tactic(auto, using(crate::proofs::Drawn::drawn_unpinned))]
+    fn open<R: Wait>(rt: &R, words: &'a Words, pass: Pass) -> Result<Server<'a>, Refused>
+        requires { IsFirstPass words.now pass }
+    {
+        let mut pass = pass;
+        if words.draw(&mut pass, ME).is_err() {
+            return Err(Refused);
+        }
+        let mut board = Board::open(words, pass, ME)?;
         let front = watch(&mut board, rt, FRONT)?;
         let back = watch(&mut board, rt, BACK)?;
         Ok(Server { board, front, back })
@@ -104,14 +110,48 @@ impl<'a> Server<'a> {
         set(&mut self.board, &mut self.back, relay.back_interest())
     }
 
-    // One turn: one selection, and both directions as far as it told them ready.
+    // One selection, with one poll. Answers what that told of both channels, which may be more than they are watched
+    // for. `selected` is memory for the selection.
+    fn select<R: Wait, N: PacketNet>(
+        &mut self,
+        rt: &R,
+        alloc: Global,
+        net: &mut N,
+        selected: &mut Vec<(ChanNo, Ops)>,
+    ) -> Result<Ready, PollError>
+        ensures kept { N.kept net.old net.new }
+        ensures cause { CountsFaults Fault (N.poll_faults net.old) (N.poll_faults net.new) result }
+        ensures front { IfOk result (λ ready. ready.front ≡ N.ready net.new front) }
+        ensures back { IfOk result (λ ready. ready.back ≡ N.ready net.new back) }
+    {
+        let Ok(selection) = self.board.begin(alloc) else {
+            return Err(PollError::Memory);
+        };
+        let answer = match net.poll(rt, alloc, selection.asked(), selection.mode()) {
+            Ok(answer) => answer,
+            Err(error) => {
+                self.board.leave(selection);
+                return Err(error);
+            }
+        };
+        let ready = Ready {
+            front: told_of(selection.asked(), &answer, FRONT),
+            back: told_of(selection.asked(), &answer, BACK),
+        };
+        match self.board.end(selection, &answer, selected) {
+            Ok(()) => Ok(ready),
+            Err(AllocError) => Err(PollError::Memory),
+        }
+    }
+
+    // One turn: one selection, and both directions as far as its poll told them ready.
     fn turn<R: Wait, N: PacketNet>(
         &mut self,
         rt: &R,
         alloc: Global,
         net: &mut N,
         relay: &mut Relay,
-        told: &mut Vec<(ChanNo, Ops)>,
+        selected: &mut Vec<(ChanNo, Ops)>,
         count: u32,
     ) -> Result<(), PacketServeError>
         requires relaying { IsRelaying relay.old
@@ -130,8 +170,8 @@ impl<'a> Server<'a> {
         if self.watch(relay).is_err() {
             return Err(PacketServeError::Memory);
         }
-        match select(&mut self.board, rt, alloc, net, told) {
-            Ok(()) => pass_told(net, relay, told, count),
+        match self.select(rt, alloc, net, selected) {
+            Ok(ready) => pass_ready(net, relay, ready, count),
             Err(PollError::Fault) => Err(PacketServeError::NetFault),
             Err(PollError::Memory) => Err(PacketServeError::Memory),
         }
@@ -191,12 +231,12 @@ impl<'a> Server<'a> {
         ensures cause { result ≡ Err NetFault → OneRose (N.packet_faults net.old) (N.packet_faults net.new)
             (N.poll_faults net.old) (N.poll_faults net.new) }
     {
-        let mut told = Vec::new(alloc);
+        let mut selected = Vec::new(alloc);
         for _ in rt.forever() {
             if relay.forth.sent() == count {
                 return Ok(());
             }
-            let turned = self.turn(rt, alloc, net, relay, &mut told, count);
+            let turned = self.turn(rt, alloc, net, relay, &mut selected, count);
             if turned.is_err() {
                 return turned;
             }
@@ -205,14 +245,15 @@ impl<'a> Server<'a> {
     }
 }
 
-// Passes packets on, as far as a selection told the channels ready.
-fn pass_told<N: PacketNet>(
+// Passes packets on, as far as a poll told the channels ready.
+fn pass_ready<N: PacketNet>(
     net: &mut N,
     relay: &mut Relay,
-    told: &[(ChanNo, Ops)],
+    ready: Ready,
     count: u32,
 ) -> Result<(), PacketServeError>
-    requires ready { AreReady (N.ready net.old) told.now }
+    requires ready_front { IsTrue (is_within ready.front (N.ready net.old front)) }
+    requires ready_back { IsTrue (is_within ready.back (N.ready net.old back)) }
     requires relaying { IsRelaying relay.old
         (view_by N.traffic N.packet_faults N.place N.ready N.poll_faults net.old) }
     ensures relaying { IsRelaying relay.new
@@ -226,7 +267,7 @@ fn pass_told<N: PacketNet>(
     ensures cause { result ≡ Err NetFault → Rose (N.packet_faults net.old front) (N.packet_faults net.new front)
         ⊎ Rose (N.packet_faults net.old back) (N.packet_faults net.new back) }
 {
-    match relay.pass_both(net, told_of(told, FRONT), told_of(told, BACK), count) {
+    match relay.pass_both(net, ready.front, ready.back, count) {
         Ok(()) => Ok(()),
         Err(_error) => Err(PacketServeError::NetFault),
     }
@@ -258,10 +299,7 @@ pub fn serve_packets<R: Wait, N: PacketNet>(
     let Ok((words, pass)) = Words::make(alloc, LIMITS) else {
         return Err(PacketServeError::Memory);
     };
-    let Ok(board) = open_board(&words, pass) else {
-        return Err(PacketServeError::Memory);
-    };
-    let Ok(mut server) = Server::open(rt, board) else {
+    let Ok(mut server) = Server::open(rt, &words, pass) else {
         return Err(PacketServeError::Memory);
     };
     let Ok(mut relay) = Relay::make(alloc, FRONT, BACK) else {

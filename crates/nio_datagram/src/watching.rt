@@ -1,16 +1,11 @@
 //! Watching the two channels of a relay.
-ghost use Rattle.std.specs.Prelude.{ℕ, IfOk, IsTrue};
-ghost use Rattle.nio_base.specs.declared.numbers.ChanNo.{ChanNo as Channel};
-ghost use Rattle.nio_poller.specs.Polls.{CountsFaults};
-ghost use Rattle.nio_poller.specs.declared.poller.PollError.TheVariants.{Fault};
-ghost use Rattle.nio_serve.specs.Board.{AreReady};
-ghost use Rattle.nio_steps.specs.KeyCalls.{is_within};
+ghost use Rattle.std.specs.Prelude.{◌≡◌};
+ghost use Rattle.nio_poller.specs.Polls.{told_of_channel};
+ghost use Rattle.nio_steps.specs.SelectCalls.{told_of};
 
-use crate::net::PacketNet;
 use nio_base::{ChanNo, Kind, Ops};
-use nio_poller::PollError;
+use nio_select::{Asked, Told};
 use nio_serve::{Board, Port, Refused};
-use std::alloc::{AllocError, Global};
 use std::sync::Wait;
 
 /// A channel that is watched, and for what.
@@ -46,41 +41,31 @@ pub(crate) fn set(
     Ok(())
 }
 
-/// One selection, with one poll. `told` then lists which channels are ready for what.
-pub(crate) fn select<R: Wait, N: PacketNet>(
-    board: &mut Board<'_>,
-    rt: &R,
-    alloc: Global,
-    net: &mut N,
-    told: &mut Vec<(ChanNo, Ops)>,
-) -> Result<(), PollError>
-    ensures kept { N.kept net.old net.new }
-    ensures cause { CountsFaults Fault (N.poll_faults net.old) (N.poll_faults net.new) result }
-    ensures ready { IfOk result (λ _. AreReady (N.ready net.new) told.new.items) }
+/// What was told of a channel: of the keys that were asked for, what was told of those of this channel.
+#[tactic(auto, using(crate::proofs::Told::key_more))]
+pub(crate) fn told_of(asked: &Asked, told: &Told, chan: ChanNo) -> Ops
+    ensures { result ≡ told_of_channel asked.now told.now.pairs.items chan }
 {
-    let Ok(selection) = board.begin(alloc) else {
-        return Err(PollError::Memory);
-    };
-    match net.poll(rt, alloc, selection.asked(), selection.mode()) {
-        Ok(answer) => match board.end(selection, &answer, told) {
-            Ok(()) => Ok(()),
-            Err(AllocError) => Err(PollError::Memory),
-        },
-        Err(error) => {
-            board.leave(selection);
-            Err(error)
+    let mut ops = Ops::NONE;
+    for at in 0..asked.len() {
+        let (index, its, _interest) = asked.entry(at);
+        if its == chan {
+            ops = ops.union(told_of_key(&told.pairs, index));
         }
     }
+    ops
 }
 
-/// What was told first of a channel.
-pub(crate) fn told_of(told: &[(ChanNo, Ops)], chan: ChanNo) -> Ops
-    ensures { (ready : Channel → ℕ) → AreReady ready told.now → IsTrue (is_within result (ready chan)) }
+// What was told of a key.
+#[tactic(auto, using(crate::proofs::Told::pair_more))]
+fn told_of_key(pairs: &[(u32, Ops)], index: u32) -> Ops
+    ensures { result ≡ told_of pairs.now index }
 {
-    for &(one, ops) in told {
-        if one == chan {
-            return ops;
+    let mut ops = Ops::NONE;
+    for &(one, told) in pairs {
+        if one == index {
+            ops = ops.union(told);
         }
     }
-    Ops::NONE
+    ops
 }

@@ -20,22 +20,22 @@ use std::time::{Clock, Duration, Instant};
 /// How many events one poll takes from the system.
 const EVENTS: usize = 64;
 
-/// A socket, and to whom it is connected in the system.
+/// A socket, to whom it is connected in the system, and whether the system is to tell of room for a send.
 #[derive(Drop)]
 struct Socket {
     socket: UdpSocket,
     peer: Option<Addr>,
+    awaits_room: bool,
 }
 
-/// The sockets. A bit is kept for an operation of a channel from an event until a call finds it not ready.
+/// The sockets. A bit is kept for an operation of a channel from an event until a call finds it not ready; that for
+/// writing from the bind on, since a new socket has room.
 #[derive(Drop)]
 pub(crate) struct Sockets {
     poll: Option<Poll>,
     events: Events,
     sockets: Vec<Option<Socket>>,
     kept: Vec<Ops>,
-    /// Whether the last poll asked the system.
-    has_asked: bool,
 }
 
 fn no_socket() -> Option<Socket> {
@@ -56,7 +56,6 @@ impl Sockets {
             events: Events::with_capacity(alloc, EVENTS)?,
             sockets,
             kept: vec![in alloc; Ops::NONE; places]?,
-            has_asked: false,
         })
     }
 
@@ -75,7 +74,7 @@ impl Sockets {
                 Ok(true)
             }
             Mode::For(_) | Mode::Wait if is_ready => {
-                self.look()?;
+                self.poll_for(Some(Duration::ZERO))?;
                 Ok(false)
             }
             Mode::For(ms) => self.wait_at_most(rt, clock, asked, Duration::from_millis(ms.get())),
@@ -84,16 +83,6 @@ impl Sockets {
                 Ok(false)
             }
         }
-    }
-
-    // A poll that needn't wait. It saves the system call where the last poll made one, and never twice in a row: so
-    // what comes for other channels is told too.
-    fn look(&mut self) -> Result<(), Failed> {
-        if self.has_asked {
-            self.has_asked = false;
-            return Ok(());
-        }
-        self.poll_for(Some(Duration::ZERO))
     }
 
     // Waits until a bit that is asked for is kept. What comes for other channels is kept meanwhile, and a signal ends no
@@ -135,7 +124,6 @@ impl Sockets {
         let Some(poll) = &mut self.poll else {
             return Err(Failed);
         };
-        self.has_asked = true;
         match poll.poll(&mut self.events, timeout) {
             Ok(()) => {
                 keep_all(&mut self.kept, &self.events);
@@ -145,17 +133,18 @@ impl Sockets {
         }
     }
 
-    /// What is kept of the channels that are asked for.
+    /// All that is kept of the channels that are asked for, also for what they aren't asked: who finds a packet then
+    /// knows at once where it can be sent.
     pub(crate) fn tell(
         &self,
         alloc: Global,
         asked: &Asked,
         elapsed: bool,
     ) -> Result<Told, AllocError> {
-        let mut pairs = Vec::new(alloc);
+        let mut pairs = Vec::with_capacity(alloc, asked.len())?;
         for at in 0..asked.len() {
-            let (index, chan, interest) = asked.entry(at);
-            let bits = kept_of(&self.kept, chan).meet(interest);
+            let (index, chan, _interest) = asked.entry(at);
+            let bits = kept_of(&self.kept, chan);
             if bits != Ops::NONE {
                 pairs.push((index, bits))?;
             }
@@ -171,13 +160,16 @@ impl Sockets {
     }
 
     fn put(&mut self, chan: ChanNo, socket: UdpSocket) -> Result<(), Failed> {
-        match self.sockets.get_mut(chan.0 as usize) {
-            Some(place) => {
-                *place = Some(Socket { socket, peer: None });
-                Ok(())
-            }
-            None => Err(Failed),
-        }
+        let Some(place) = self.sockets.get_mut(chan.0 as usize) else {
+            return Err(Failed);
+        };
+        *place = Some(Socket {
+            socket,
+            peer: None,
+            awaits_room: false,
+        });
+        keep(&mut self.kept, chan, Ops::WRITE);
+        Ok(())
     }
 
     /// Connects a socket in the system, which then looks no route up for each packet. Where the system refuses, the
@@ -204,10 +196,15 @@ impl Sockets {
 
     pub(crate) fn send(&mut self, chan: ChanNo, bytes: &[u8], to: Addr) -> Result<bool, Failed> {
         match sent(&self.sockets, chan, bytes, to) {
-            Ok(count) if count == bytes.len() => Ok(true),
+            Ok(count) if count == bytes.len() => {
+                // Where the system refuses, it goes on telling of room, which does no harm.
+                let _watched = self.watch_room(chan);
+                Ok(true)
+            }
             Ok(_count) => Err(Failed),
             Err(error) => {
                 self.not_moved(chan, Ops::WRITE, &error)?;
+                self.watch_room(chan)?;
                 Ok(false)
             }
         }
@@ -225,6 +222,19 @@ impl Sockets {
         }
     }
 
+    // Has the system tell of room exactly while none is known: else each packet that leaves would end a wait for
+    // packets.
+    fn watch_room(&mut self, chan: ChanNo) -> Result<(), Failed> {
+        let awaits = kept_of(&self.kept, chan).meet(Ops::WRITE) == Ops::NONE;
+        let Some(poll) = &self.poll else {
+            return Err(Failed);
+        };
+        match self.sockets.get_mut(chan.0 as usize) {
+            Some(Some(socket)) => await_room(poll, chan, socket, awaits),
+            _ => Err(Failed),
+        }
+    }
+
     pub(crate) fn close(&mut self, chan: ChanNo) {
         if let Some(place) = self.sockets.get_mut(chan.0 as usize) {
             *place = None;
@@ -233,17 +243,41 @@ impl Sockets {
     }
 }
 
-// A socket that is bound to the address, and registered for both directions.
+// Has the system tell of room for a socket, or no longer.
+fn await_room(poll: &Poll, chan: ChanNo, socket: &mut Socket, awaits: bool) -> Result<(), Failed> {
+    if socket.awaits_room == awaits {
+        return Ok(());
+    }
+    let token = Token(chan.0 as usize);
+    match poll
+        .registry()
+        .reregister(&mut socket.socket, token, interest(awaits))
+    {
+        Ok(()) => {
+            socket.awaits_room = awaits;
+            Ok(())
+        }
+        Err(_error) => Err(Failed),
+    }
+}
+
+// For what a socket is registered.
+fn interest(awaits_room: bool) -> Interest {
+    if awaits_room {
+        Interest::READABLE | Interest::WRITABLE
+    } else {
+        Interest::READABLE
+    }
+}
+
+// A socket that is bound to the address, and registered for packets.
 fn bound<R: Net>(rt: &R, poll: &Option<Poll>, chan: ChanNo, at: Addr) -> io::Result<UdpSocket> {
     let Some(poll) = poll else {
         return Err(missing());
     };
     let mut socket = UdpSocket::bind(rt, socket_addr(at))?;
-    poll.registry().register(
-        &mut socket,
-        Token(chan.0 as usize),
-        Interest::READABLE | Interest::WRITABLE,
-    )?;
+    poll.registry()
+        .register(&mut socket, Token(chan.0 as usize), interest(false))?;
     Ok(socket)
 }
 
@@ -329,6 +363,13 @@ fn kept_of(kept: &[Ops], chan: ChanNo) -> Ops {
 fn take(kept: &mut [Ops], chan: ChanNo, ops: Ops) {
     if let Some(bits) = kept.get_mut(chan.0 as usize) {
         *bits = bits.meet(Ops::of(!ops.bits()));
+    }
+}
+
+// Keeps operations of a channel.
+fn keep(kept: &mut [Ops], chan: ChanNo, ops: Ops) {
+    if let Some(bits) = kept.get_mut(chan.0 as usize) {
+        *bits = bits.union(ops);
     }
 }
 
