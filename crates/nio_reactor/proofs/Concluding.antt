@@ -44,7 +44,7 @@ to_map net [] v b at = absurd (cc)
 to_map net (a ∷ lanes) zero b at = ap (λ o. option_map net o) at
 to_map net (a ∷ lanes) (suc v) b at = to_map net lanes v b at
 
-element : {X : Type 0} (xs : List X) (v : ℕ) → v < length xs → (b : X) × (slice_get xs v ≡ Some b)
+pub element : {X : Type 0} (xs : List X) (v : ℕ) → v < length xs → (b : X) × (slice_get xs v ≡ Some b)
 element [] v few = absurd (omega (arith, few))
 element (b ∷ xs) zero few = (b, refl)
 element (b ∷ xs) (suc v) few = element xs v (omega (arith, few))
@@ -277,7 +277,7 @@ module _ {N : Type 0} (m : Meanings N) (plan : ProxyPlan) where
 
 -- ---- back from a slice of lanes
 
-take_back : {A : Type 0} (new old : List A) → length new ≡ length old
+pub take_back : {A : Type 0} (new old : List A) → length new ≡ length old
     → take (length old) (new ++ drop (length new) old) ≡ new
 take_back [] [] same = refl
 take_back [] (o ∷ os) same = absurd (omega (arith, same))

@@ -44,7 +44,7 @@ deals_then {L} k n o a b c first second = record {
 }
 
 -- a message with this connection was sent on the line of its worker
-pub deals_one : {L : Type 0} (lines : List (LineEnd (Message L))) (k : ℕ) (d new : LineEnd (Message L))
+deals_one : {L : Type 0} (lines : List (LineEnd (Message L))) (k : ℕ) (d new : LineEnd (Message L))
     (message : Message L) → 0 < length lines
     → new ≡ record (get_or lines (k % length lines) d) {
       carried = (get_or lines (k % length lines) d).carried ++ message ∷ [];
@@ -81,6 +81,16 @@ deals_one {L} lines k d new message some new_is number =
             ∙ ap (λ l. start ++ l) (sym (dealt_others w v k (λ is. not_at (sym is ∙ ap (λ m. k % m) (sym len)))))
       ];
     }
+
+-- the same, where the number was read off the message
+pub deals_at : {L : Type 0} (lines : List (LineEnd (Message L))) (k n : ℕ) (d new : LineEnd (Message L))
+    (message : Message L) → 0 < length lines
+    → new ≡ record (get_or lines (k % length lines) d) {
+      carried = (get_or lines (k % length lines) d).carried ++ message ∷ [];
+    } → number_of message ≡ Some n → k ≡ n → Deals n (n + 1) lines (slice_set lines (k % length lines) new)
+deals_at lines k n d new message some new_is number same =
+    subst (λ m. Deals m (m + 1) lines (slice_set lines (k % length lines) new)) same
+    (deals_one lines k d new message some new_is (number ∙ ap Some (sym same)))
 
 -- ---- how many they are
 

@@ -3,5 +3,7 @@ pub mod Asked
 pub mod Channels
 pub mod Concluding
 pub mod Dealing
+pub mod Ending
+pub mod Handing
 pub mod Seen
 pub mod Worked

@@ -12,7 +12,7 @@ use Rattle.nio_link.specs.declared.place.Standing.{Standing}
 use Rattle.nio_link.specs.declared.place.Standing.TheVariants as standing
 use Rattle.nio_serve.specs.Serving.{listener}
 use Rattle.nio_reactor.specs.Lanes.{door_place, seen_role, seen, place_over, faults_over}
-use Rattle.nio_reactor.specs.declared.lane.Door.{Door}
+use Rattle.nio_reactor.specs.declared.door.Door.{Door}
 
 -- ---- by channels
 

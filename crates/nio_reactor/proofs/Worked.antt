@@ -19,7 +19,7 @@ use Rattle.nio_reactor.proofs.Seen.{seen_nothing, seen_accepted, seen_connected}
 use Rattle.nio_reactor.specs.Lanes.{place_over, faults_over, polls_over, seen_role}
 use Rattle.nio_reactor.specs.Many.{Meanings, HasServedPart, LeavesWorker, WasPutIn}
 use Rattle.nio_reactor.specs.Working.{HasWorked, IsCleanPart, IsFresh}
-use Rattle.nio_reactor.specs.declared.lane.Door.{Door}
+use Rattle.nio_reactor.specs.declared.door.Door.{Door}
 
 client_apart : (k : ℕ) → (client_of k).0 ≢ 0
 client_apart k at = absurd (omega (arith, at))

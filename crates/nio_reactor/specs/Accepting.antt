@@ -1,6 +1,6 @@
 -- The net of the selector that accepts, at work.
 use Rattle.std.specs.Prelude.{◌≡◌, ◌≢◌, ℕ, ◌<◌, ◌≤◌, ◌⊎◌, OnOk, Result, Err, List, ◌++◌, map, length, slice_get}
-use Rattle.std.specs.Prelude.{Option, Some}
+use Rattle.std.specs.Prelude.{Option, Some, None, [], ◌∷◌}
 use Rattle.nio_base.specs.declared.numbers.ChanNo.{ChanNo}
 use Rattle.nio_line.specs.Lines.{End as LineEnd}
 use Rattle.nio_link.specs.Links.{IsUnused}
@@ -15,6 +15,7 @@ use Rattle.nio_relay.specs.Plan.{IsServable}
 use Rattle.nio_relay.specs.declared.plan.ProxyPlan.{ProxyPlan}
 use Rattle.nio_bytes.specs.Cause.{Rose}
 use Rattle.nio_reactor.specs.declared.message.Message.{Message}
+use Rattle.nio_reactor.specs.declared.message.Message.TheVariants.{End}
 
 -- So many links were asked for, in the order of their numbers. None of them stands there any more, and none has carried
 -- anything.
@@ -37,6 +38,30 @@ pub record Deals {L : Type 0} (k n : ℕ) (before now : List (LineEnd (Message L
   pub dealt : (w v : ℕ) (x y : LineEnd (Message L)) (start : List (Option ℕ)) → length before ≡ w
       → slice_get before v ≡ Some x → slice_get now v ≡ Some y → map number_of x.carried ≡ start ++ dealt w v k
       → map number_of y.carried ≡ start ++ dealt w v n
+
+-- `End` was sent on each line
+pub record AreEnded {L : Type 0} (before now : List (LineEnd (Message L))) : Type 0 where
+  pub count : length now ≡ length before
+  pub ended : (v : ℕ) (x y : LineEnd (Message L)) → slice_get before v ≡ Some x → slice_get now v ≡ Some y
+      → y.carried ≡ x.carried ++ End ∷ []
+
+-- the same of the first k lines; the others are as they were
+pub record EndedBelow {L : Type 0} (k : ℕ) (before now : List (LineEnd (Message L))) : Type 0 where
+  pub count : length now ≡ length before
+  pub ended : (v : ℕ) (x y : LineEnd (Message L)) → v < k → slice_get before v ≡ Some x → slice_get now v ≡ Some y
+      → y.carried ≡ x.carried ++ End ∷ []
+  pub rest : (v : ℕ) (x y : LineEnd (Message L)) → k ≤ v → slice_get before v ≡ Some x → slice_get now v ≡ Some y
+      → y ≡ x
+
+-- Each connection that was accepted was sent to its worker, and then `End` to all: the line of worker v carries its
+-- connections in their order, and `End` as the last message.
+pub record HasSent {L : Type 0} (accepted_before accepted_now : List ChanNo) (before now : List (LineEnd (Message L)))
+    : Type 0 where
+  pub count : ℕ
+  pub accepted : accepted_now ≡ accepted_before ++ clients_below count
+  pub lines : length now ≡ length before
+  pub sent : (v : ℕ) (x y : LineEnd (Message L)) → slice_get before v ≡ Some x → slice_get now v ≡ Some y
+      → map number_of y.carried ≡ map number_of x.carried ++ dealt (length before) v count ++ None ∷ []
 
 -- a fresh net, with so many lines
 pub record CanAccept {N : Type 0} (m : Meanings N) (plan : ProxyPlan) (lines : ℕ) (net : N) : Type 0 where

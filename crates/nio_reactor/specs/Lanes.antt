@@ -9,8 +9,8 @@ use Rattle.nio_link.specs.declared.place.Standing.TheVariants as standing
 use Rattle.nio_poller.specs.Polls.{told_of_channel}
 use Rattle.nio_serve.specs.Serving.{listener}
 use Rattle.nio_steps.specs.declared.looked.LookedKey.{LookedKey}
-use Rattle.nio_reactor.specs.declared.lane.Door.{Door}
-use Rattle.nio_reactor.specs.declared.lane.Door.TheVariants as door
+use Rattle.nio_reactor.specs.declared.door.Door.{Door}
+use Rattle.nio_reactor.specs.declared.door.Door.TheVariants as door
 
 abbrev pub door_place : Door → Place
 door_place door.Unasked = unused

@@ -28,8 +28,8 @@ abbrev pub meanings : {N : Type 0} → (N → ChanNo → Link) → (N → ChanNo
     → Meanings N
 meanings link place faults polls = record { link = link; place = place; faults = faults; polls = polls }
 
--- Of W workers, worker v has as many connections as there are k below conns with k modulo W equal to v. In its net they
--- are numbered from 0. No clause says which of the accepted links they are.
+-- Of W workers, worker v has the connections k below conns with k modulo W equal to v. In its net they are numbered
+-- from 0, in their order.
 
 -- the client of this connection was put in, and is closed; its link to this target was asked for
 pub record WasPutIn (target : Addr) (place : ChanNo → Place) (k : ℕ) : Type 0 where

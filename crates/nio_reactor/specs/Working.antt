@@ -14,8 +14,8 @@ use Rattle.nio_serve.specs.declared.serving.ServeError.{ServeError}
 use Rattle.nio_serve.specs.declared.serving.ServeError.TheVariants.{NetFault}
 use Rattle.nio_reactor.specs.Dealing.{share}
 use Rattle.nio_reactor.specs.Many.{Meanings, HasServedPart, LeavesWorker, sum_below}
-use Rattle.nio_reactor.specs.declared.lane.Door.{Door}
-use Rattle.nio_reactor.specs.declared.lane.Door.TheVariants.{Unasked}
+use Rattle.nio_reactor.specs.declared.door.Door.{Door}
+use Rattle.nio_reactor.specs.declared.door.Door.TheVariants.{Unasked}
 use Rattle.nio_reactor.specs.declared.many.ManyError.{ManyError}
 use Rattle.nio_reactor.specs.declared.many.ManyError.TheVariants as many
 

@@ -10,12 +10,13 @@ ghost use Rattle.nio_serve.specs.Board.{AreReady};
 ghost use Rattle.nio_serve.specs.Serving.{client_of, clients_below, listener};
 ghost use Rattle.nio_steps.specs.KeyCalls.{is_within};
 ghost use Rattle.nio_words.specs.Passes.{IsFirstPass};
-ghost use Rattle.nio_reactor.specs.Accepting.{Accepts, Deals, HasAccepted, IsAccepting};
+ghost use Rattle.nio_reactor.specs.Accepting.{Accepts, AreEnded, Deals, HasAccepted, HasSent, IsAccepting};
 ghost use Rattle.nio_reactor.specs.Many.{meanings, LeavesAcceptor};
 ghost use Rattle.nio_reactor.specs.declared.many.ManyError.TheVariants.{NetFault};
 
+use crate::handed::{Handed, LISTENER, accept_link};
 use crate::many::ManyError;
-use crate::message::{Handed, Message, Outgoing};
+use crate::message::{Message, Outgoing};
 use nio_base::{CallerNo, ChanNo, Kind, Limits, Ops};
 use nio_line::LineIn;
 use nio_link::{Failed, Net, Passable};
@@ -36,9 +37,6 @@ const LIMITS: Limits = Limits {
 
 /// The caller that makes the calls.
 const ME: CallerNo = CallerNo(0);
-
-/// The channel of the listener.
-const LISTENER: ChanNo = ChanNo(0);
 
 // A board of the first caller of a new table on which the listener is watched.
 fn watch_listener<'a, R: Wait>(rt: &R, words: &'a Words, pass: Pass) -> Result<Board<'a>, Refused>
@@ -65,14 +63,13 @@ fn deal<R: Wait, L: Drop, B: Bell>(
     rt: &R,
     lines: &mut [LineIn<Message<L>>],
     bells: &[B],
-    number: u32,
-    link: L,
+    handed: Handed<L>,
 )
     requires some { 0 < length lines.old }
-    ensures { Deals number (number + 1) lines.old lines.new }
+    ensures { Deals handed.number (handed.number + 1) lines.old lines.new }
 {
-    let worker = number as usize % lines.len();
-    lines[worker].send(rt, Message::Work(Handed { number, link }));
+    let worker = handed.number() as usize % lines.len();
+    lines[worker].send(rt, Message::Work(handed));
     ring(bells, worker);
 }
 
@@ -105,14 +102,10 @@ fn accept_one<R: Wait, N: Passable, B: Bell>(
     ensures cause { OnErr result (Rose (N.faults net.old listener) (N.faults net.new listener)) }
     ensures more { IfOk result (λ more. IsTrue more → N.ready net.new listener ≡ N.ready net.old listener) }
 {
-    let client = ChanNo(2 * number + 1);
-    if !net.accept(LISTENER, client)? {
+    let Some(handed) = accept_link(net, number)? else {
         return Ok(false);
-    }
-    let Some(link) = net.take_out(client) else {
-        unreachable!();
     };
-    deal(rt, lines, bells, number, link);
+    deal(rt, lines, bells, handed);
     Ok(true)
 }
 
@@ -280,11 +273,36 @@ fn accept_plan<R: Wait, N: Passable, B: Bell>(
 }
 
 // Sends to each worker that no more links come.
-fn end_all<R: Wait, L: Drop, B: Bell>(rt: &R, lines: &mut [LineIn<Message<L>>], bells: &[B]) {
+fn end_all<R: Wait, L: Drop, B: Bell>(rt: &R, lines: &mut [LineIn<Message<L>>], bells: &[B])
+    ensures { AreEnded lines.old lines.new }
+{
     for worker in 0..lines.len() {
         lines[worker].send(rt, Message::End);
         ring(bells, worker);
     }
+}
+
+// Accepts all connections of the plan, sends each to its worker, and then ends all lines.
+fn deal_plan<R: Wait, N: Passable, B: Bell>(
+    rt: &R,
+    alloc: Global,
+    net: &mut N,
+    lines: &mut [LineIn<Message<N::Link>>],
+    bells: &[B],
+    plan: ProxyPlan,
+) -> Result<(), ManyError>
+    requires plan { IsServable plan }
+    requires fresh { (c : Channel) → IsUnused (N.link net.old c) }
+    requires unasked { (c : Channel) → N.place net.old c ≡ unused }
+    requires some { 0 < length lines.old }
+    ensures accepted { HasAccepted (meanings N.link N.place N.faults N.poll_faults) N.accepted plan net.old net.new
+        result }
+    ensures sent { HasSent (N.accepted net.old) (N.accepted net.new) lines.old lines.new }
+{
+    let mut number = 0;
+    let outcome = accept_plan(rt, alloc, net, lines, bells, plan, &mut number);
+    end_all(rt, lines, bells);
+    outcome
 }
 
 /// Accepts all connections of the plan, and sends each to its worker. At every end, the end of the lines is sent too.
@@ -297,8 +315,10 @@ pub(crate) fn accept_all<R: Wait, N: Passable, B: Bell + Drop>(
     requires fresh { (c : Channel) → IsUnused (N.link net.old c) }
     requires unasked { (c : Channel) → N.place net.old c ≡ unused }
     requires some { 0 < length outgoing.old.lines.items }
-    ensures { HasAccepted (meanings N.link N.place N.faults N.poll_faults) N.accepted outgoing.old.plan net.old
+    ensures accepted { HasAccepted (meanings N.link N.place N.faults N.poll_faults) N.accepted outgoing.old.plan net.old
         net.new result }
+    ensures sent { HasSent (N.accepted net.old) (N.accepted net.new) outgoing.old.lines.items
+        outgoing.new.lines.items }
 {
     let Outgoing {
         alloc,
@@ -306,9 +326,5 @@ pub(crate) fn accept_all<R: Wait, N: Passable, B: Bell + Drop>(
         bells,
         plan,
     } = outgoing;
-    let lines = lines.as_mut_slice();
-    let mut number = 0;
-    let outcome = accept_plan(rt, *alloc, net, lines, bells, *plan, &mut number);
-    end_all(rt, lines, bells);
-    outcome
+    deal_plan(rt, *alloc, net, lines.as_mut_slice(), bells, *plan)
 }

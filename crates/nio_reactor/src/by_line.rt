@@ -1,7 +1,10 @@
 //! The way of a worker: its links come on a line.
 
-use crate::lane::{Door, Lane};
-use crate::message::{Handed, Message};
+use crate::door::{Door, worker_at, workers_at};
+use crate::handed::Handed;
+use crate::handover::Handover;
+use crate::lane::{Heard, Lane};
+use crate::message::Message;
 use nio_base::{Addr, ChanNo, Gate, Ops};
 use nio_event::{Milliseconds, Mode};
 use nio_line::LineOut;
@@ -12,6 +15,7 @@ use nio_serve::Way;
 use nio_steps::LookedKey;
 use nio_trace::{Reading, Trace};
 use std::alloc::Global;
+use std::mem;
 use std::sync::Wait;
 
 /// How long a worker's poll waits at most, while further links may come, where no bell rings for them: 4 ms.
@@ -22,13 +26,28 @@ const LONG_WAIT: Mode = Mode::For(Milliseconds {
     after_the_first: 99,
 });
 
-/// Puts the links into the net that come on the worker's line, and makes each other call on the net at once.
+/// Puts the links into the net that come on the worker's line, all that have come at a time, and makes each other call
+/// on the net at once.
 #[derive(Clone, Copy)]
-pub(crate) struct ByLine<'a, G> {
-    pub gate: &'a G,
-    pub worker: u32,
-    /// A bell rings where a link was sent.
-    pub has_bell: bool,
+pub(crate) struct ByLine<'a, H, G> {
+    rt: &'a H,
+    gate: &'a G,
+    worker: u32,
+    /// How long a poll waits, while further links may come.
+    wait: Mode,
+}
+
+impl<'a, H, G> ByLine<'a, H, G> {
+    /// The way of this worker. `has_bell` says that a bell rings where a link was sent.
+    pub(crate) fn over(rt: &'a H, gate: &'a G, worker: u32, has_bell: bool) -> ByLine<'a, H, G> {
+        let wait = if has_bell { LONG_WAIT } else { SHORT_WAIT };
+        ByLine {
+            rt,
+            gate,
+            worker,
+            wait,
+        }
+    }
 }
 
 /// What a poll was asked.
@@ -62,34 +81,43 @@ fn next_message<R: Wait, L: Drop>(
     }
 }
 
-// What has come on a line.
-#[derive(Drop)]
-enum Heard<L> {
-    Nothing,
-    Link(L),
-    End,
-}
-
-// Takes what has come on the line of this worker; the link of a connection passes the test gate.
+// Takes the next message of the line, unless one was taken that wasn't used yet. The link of a connection passes the
+// test gate.
 fn hear<R: Wait, G: Gate, L: Drop>(
     rt: &R,
     gate: &G,
     worker: u32,
     line: &mut LineOut<Message<L>>,
+    heard: &mut Heard<L>,
     waits: bool,
-) -> Heard<L> {
+) {
+    if !matches!(heard, Heard::Nothing) {
+        return;
+    }
     match next_message(rt, line, waits) {
-        Some(Message::Work(Handed { number, link })) => {
-            gate.pass(rt, worker, u64::from(number));
-            Heard::Link(link)
+        Some(Message::Work(handed)) => {
+            gate.pass(rt, worker, u64::from(handed.number()));
+            *heard = Heard::Link(handed);
         }
-        Some(Message::End) => Heard::End,
-        None => Heard::Nothing,
+        Some(Message::End) => *heard = Heard::End,
+        None => {}
     }
 }
 
-impl<'a, N: Passable, G: Gate> Way<Lane<N>> for ByLine<'a, G> {
-    ghost use Rattle.std.proofs.Common.{refl, ap, ◌∙◌, ◌==◌, if◌then◌else◌};
+// The next link, if it has come.
+fn take_link<L: Drop>(heard: &mut Heard<L>) -> Option<Handed<L>> {
+    match mem::replace(heard, Heard::Nothing) {
+        Heard::Link(handed) => Some(handed),
+        Heard::Nothing => None,
+        Heard::End => {
+            *heard = Heard::End;
+            None
+        }
+    }
+}
+
+impl<'a, H: Wait, N: Passable, G: Gate> Way<Lane<N>> for ByLine<'a, H, G> {
+    ghost use Rattle.std.proofs.Common.{refl, ap, ◌∙◌, ◌==◌, if◌then◌else◌, map};
     ghost use Rattle.nio_reactor.specs.Lanes.{door_place, seen, place_over, faults_over, ready_over, polls_over};
     ghost use Rattle.nio_reactor.specs.Lanes.{IsKept};
 
@@ -97,7 +125,8 @@ impl<'a, N: Passable, G: Gate> Way<Lane<N>> for ByLine<'a, G> {
 
     ghost ready = { λ l. ready_over l.told_line l.asked (N.ready l.net) };
 
-    ghost kept = { λ x y. IsKept (N.kept x.net y.net) x.door y.door x.accepted y.accepted };
+    ghost kept = { λ x y. IsKept (N.kept x.net y.net) x.door y.door (map (λ h. h.client) x.put)
+        (map (λ h. h.client) y.put) };
 
     ghost link = { λ l. N.link l.net };
 
@@ -105,7 +134,7 @@ impl<'a, N: Passable, G: Gate> Way<Lane<N>> for ByLine<'a, G> {
 
     ghost place = { λ l. place_over l.door (N.place l.net) };
 
-    ghost accepted = { λ l. l.accepted };
+    ghost accepted = { λ l. map (λ h. h.client) l.put };
 
     fn permits(&self, _chan: ChanNo) -> Ops {
         Ops::of(u8::MAX)
@@ -125,27 +154,37 @@ impl<'a, N: Passable, G: Gate> Way<Lane<N>> for ByLine<'a, G> {
         asked: &Asked,
         mode: Mode,
     ) -> Result<Told, PollError> {
-        if lane.is_full || lane.is_early {
+        if lane.is_stuck || lane.is_early {
             return Err(PollError::Memory);
         }
         let Some(index) = listener_key(asked) else {
             lane.told_line = None;
             return lane.net.poll(rt, alloc, asked, mode);
         };
-        if lane.heard.is_none() {
-            match hear(rt, self.gate, self.worker, &mut lane.line, asked.len() == 1) {
-                Heard::Nothing => {}
-                Heard::Link(link) => lane.heard = Some(link),
-                Heard::End => {
-                    lane.is_early = true;
-                    return Err(PollError::Fault);
-                }
+        let is_idle = asked.len() == 1;
+        hear(
+            rt,
+            self.gate,
+            self.worker,
+            &mut lane.line,
+            &mut lane.heard,
+            is_idle,
+        );
+        match lane.heard {
+            Heard::End if is_idle => {
+                lane.is_early = true;
+                return Err(PollError::Fault);
             }
-        }
-        if lane.heard.is_none() {
-            lane.told_line = None;
-            let wait = if self.has_bell { LONG_WAIT } else { SHORT_WAIT };
-            return lane.net.poll(rt, alloc, asked, wait);
+            // the connections that are live go on
+            Heard::End => {
+                lane.told_line = None;
+                return lane.net.poll(rt, alloc, asked, mode);
+            }
+            Heard::Nothing => {
+                lane.told_line = None;
+                return lane.net.poll(rt, alloc, asked, self.wait);
+            }
+            Heard::Link(_) => {}
         }
         if lane.told_line.is_some() {
             // after a turn for the line one for the net
@@ -168,6 +207,7 @@ impl<'a, N: Passable, G: Gate> Way<Lane<N>> for ByLine<'a, G> {
     fn listen(&mut self, lane: &mut Lane<N>, chan: ChanNo, at: Addr) -> Result<(), Failed> {
         if chan.0 == 0 {
             lane.door = Door::Open(at);
+            lane.next = u64::from(worker_at(at));
             return Ok(());
         }
         lane.net.listen(chan, at)
@@ -179,23 +219,39 @@ impl<'a, N: Passable, G: Gate> Way<Lane<N>> for ByLine<'a, G> {
         listener: ChanNo,
         chan: ChanNo,
     ) -> Result<bool, Failed> {
+        let Door::Open(at) = lane.door else {
+            return Ok(false);
+        };
         if listener.0 != 0 {
             return Ok(false);
         }
-        let Some(link) = lane.heard.take() else {
+        hear(
+            self.rt,
+            self.gate,
+            self.worker,
+            &mut lane.line,
+            &mut lane.heard,
+            false,
+        );
+        let Some(handed) = take_link(&mut lane.heard) else {
             return Ok(false);
         };
-        match lane.net.put_in(chan, link) {
-            Ok(()) => {
-                lane.accepted.push(&chan);
-                Ok(true)
-            }
-            Err(link) => {
-                lane.heard = Some(link);
-                lane.is_full = true;
-                Ok(false)
-            }
+        let (connection, link) = handed.into_parts();
+        if u64::from(connection) != lane.next {
+            lane.is_stuck = true;
+            return Ok(false);
         }
+        if lane.net.put_in(chan, link).is_err() {
+            lane.is_stuck = true;
+            return Ok(false);
+        }
+        lane.next = u64::from(connection) + u64::from(workers_at(at));
+        lane.put.push(&Handover {
+            connection,
+            worker: worker_at(at),
+            client: chan,
+        });
+        Ok(true)
     }
 
     fn connect(

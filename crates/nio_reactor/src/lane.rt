@@ -1,10 +1,13 @@
 //! What a worker works on.
-ghost use Rattle.std.specs.Prelude.{◌≡◌};
+ghost use Rattle.std.specs.Prelude.{◌≡◌, length, map};
 ghost use Rattle.nio_link.specs.Places.{unused};
 ghost use Rattle.nio_serve.specs.Serving.{listener};
+ghost use Rattle.nio_reactor.specs.Turns.{next_of, turn_of, turns_of};
 
+use crate::door::Door;
+use crate::handed::Handed;
+use crate::handover::Handover;
 use crate::message::Message;
-use nio_base::{Addr, ChanNo};
 use nio_line::LineOut;
 use nio_link::Passable;
 use nio_relay::Served;
@@ -13,12 +16,12 @@ use nio_steps::LookedKey;
 use nio_trace::Trace;
 use std::alloc::Global;
 
-/// The place of the channel 0, under which a serving loop listens: a worker's listener is its line.
-#[derive(Clone, Copy, Debug, PartialEq, Eq)]
-pub(crate) enum Door {
-    Unasked,
-    Open(Addr),
-    Closed(Addr),
+/// What came last on a line, and wasn't used yet.
+#[derive(Drop)]
+pub(crate) enum Heard<L> {
+    Nothing,
+    Link(Handed<L>),
+    End,
 }
 
 /// A worker's net, with the line on which its links come. The net itself has no listener.
@@ -30,26 +33,30 @@ pub(crate) struct Lane<N: Passable> {
     pub line: LineOut<Message<N::Link>>,
     /// A bell rings where a link was sent.
     pub has_bell: bool,
-    /// A link that came, and isn't in the net yet.
-    pub heard: Option<N::Link>,
+    pub heard: Heard<N::Link>,
     pub door: Door,
-    /// The line ended before all links had come.
+    /// The number of the connection whose link comes next.
+    pub next: u64,
+    /// The line ended before all links had come, and no connection was live then.
     pub is_early: bool,
-    /// The net had no memory for a link.
-    pub is_full: bool,
+    /// The net had no memory for a link, or a link came out of turn: no more can be put in.
+    pub is_stuck: bool,
     /// The last poll told of the line alone: of the key with this index.
     pub told_line: Option<u32>,
     /// What that poll was asked.
     pub asked: Trace<LookedKey>,
-    pub accepted: Trace<ChanNo>,
+    /// The links that were put in, in their order.
+    pub put: Trace<Handover>,
     /// What the worker came to.
     pub outcome: Result<Served, ServeError>,
     ghost spare: { N.place net listener ≡ unused },
+    ghost order: { map turn_of put ≡ turns_of door (length put) },
+    ghost turn: { next ≡ next_of door (length put) },
 }
 
 impl<N: Passable> Lane<N> {
     ghost use Rattle.std.specs.Prelude.{[], None, false};
-    ghost use Rattle.nio_reactor.specs.declared.lane.Door.TheVariants.{Unasked};
+    ghost use Rattle.nio_reactor.specs.declared.door.Door.TheVariants.{Unasked};
 
     /// A worker that has done nothing yet.
     pub(crate) fn over(
@@ -68,13 +75,14 @@ impl<N: Passable> Lane<N> {
             net,
             line,
             has_bell,
-            heard: None,
+            heard: Heard::Nothing,
             door: Door::Unasked,
+            next: 0,
             is_early: false,
-            is_full: false,
+            is_stuck: false,
             told_line: None,
             asked: Trace::new(),
-            accepted: Trace::new(),
+            put: Trace::new(),
             outcome: Err(ServeError::Memory),
         }
     }

@@ -2,10 +2,14 @@
 //! in a thread of its own, with a net and a selector of its own.
 #![tactic(auto)]
 
+pub use handover::Handover;
 pub use many::{ManyError, serve_many};
 
 mod accepting;
 mod by_line;
+mod door;
+mod handed;
+mod handover;
 mod lane;
 mod many;
 mod message;

@@ -1,5 +1,5 @@
 //! Serving a plan with one selector that accepts and others that work.
-ghost use Rattle.std.specs.Prelude.{◌≡◌, ◌<◌, ◌≤◌, ◌+◌, [], false, All, IfOk, OnErr, OnOk, length, map, vec_capacity};
+ghost use Rattle.std.specs.Prelude.{◌≡◌, ◌<◌, ◌≤◌, ◌+◌, ◌++◌, [], false, All, IfOk, OnErr, OnOk, length, map, vec_capacity};
 ghost use Rattle.std.specs.Thread.{IsSend, IsSync};
 ghost use Rattle.nio_base.specs.declared.numbers.ChanNo.{ChanNo as Channel};
 ghost use Rattle.nio_link.specs.Links.{IsUnused};
@@ -7,12 +7,14 @@ ghost use Rattle.nio_link.specs.Places.{unused};
 ghost use Rattle.nio_relay.specs.Plan.{IsServable};
 ghost use Rattle.nio_serve.specs.Serving.{listener};
 ghost use Rattle.nio_reactor.specs.Accepting.{CanAccept, HasAccepted};
+ghost use Rattle.nio_reactor.specs.Handing.{AreHanded, HaveHanded, put_below};
 ghost use Rattle.nio_reactor.specs.Many.{meanings, AreAccepted, LeavesAcceptor, LeavesWorkers, NoneRoseOfAll};
 ghost use Rattle.nio_reactor.specs.Many.{RelayBytes, ServesAllCleanOr, ServesMany};
 ghost use Rattle.nio_reactor.specs.Working.{AddsUp, CanWork, Concludes, HaveWorked, IsFresh};
-ghost use Rattle.nio_reactor.specs.declared.lane.Door.TheVariants.{Unasked};
+ghost use Rattle.nio_reactor.specs.declared.door.Door.TheVariants.{Unasked};
 
 use crate::accepting::accept_all;
+use crate::handover::{Handover, PutIn};
 use crate::lane::Lane;
 use crate::message::{Message, Outgoing};
 use crate::working::work_all;
@@ -22,6 +24,7 @@ use nio_link::Passable;
 use nio_poller::Bell;
 use nio_relay::{ProxyPlan, Served};
 use nio_serve::ServeError;
+use nio_trace::Trace;
 use std::alloc::{AllocError, Global};
 use std::sync::Wait;
 use std::thread;
@@ -100,6 +103,15 @@ fn give_back<N: Passable + Drop>(more: &mut Vec<N>, lanes: Vec<Lane<N>>)
     }
 }
 
+// Adds what the workers have put in, one worker after the other.
+fn list_handovers<N: Passable>(lanes: &Vec<Lane<N>>, handed: &mut Trace<Handover>)
+    ensures { handed.new ≡ handed.old ++ put_below (λ l. l.put) lanes.now.items (length lanes.now.items) }
+{
+    for lane in lanes {
+        handed.extend_from::<Lane<N>, PutIn>(lane);
+    }
+}
+
 // What the workers came to, together.
 fn add_up<N: Passable>(lanes: &[Lane<N>], conns: u32) -> Result<Served, ManyError>
     ensures { AddsUp (λ l. l.is_early) (λ l. l.outcome) conns lanes.now result }
@@ -149,6 +161,7 @@ fn work_lanes<R: Threads + Wait + Sync, N: Passable + Send + Drop, G: Gate + Syn
     requires on_time { All (λ l. l.is_early ≡ false) lanes.old.items }
     ensures worked { HaveWorked (meanings N.link N.place N.faults N.poll_faults) plan (λ l. l.net) (λ l. l.is_early)
         (λ l. l.outcome) lanes.old.items lanes.new.items }
+    ensures handed { HaveHanded plan (λ l. l.put) (λ l. l.outcome) lanes.old.items lanes.new.items }
     ensures count { length lanes.new.items ≡ length lanes.old.items }
 {
     work_all(rt, gate, plan, lanes.as_mut_slice())
@@ -176,6 +189,7 @@ fn work_beside<
     ensures accepted { A.step accept.old result accept.new }
     ensures worked { HaveWorked (meanings N.link N.place N.faults N.poll_faults) plan (λ l. l.net) (λ l. l.is_early)
         (λ l. l.outcome) lanes.old.items lanes.new.items }
+    ensures handed { HaveHanded plan (λ l. l.put) (λ l. l.outcome) lanes.old.items lanes.new.items }
     ensures count { length lanes.new.items ≡ length lanes.old.items }
 {
     let ((), accepted) = thread::join_mut(
@@ -186,6 +200,7 @@ fn work_beside<
                 (λ l. l.is_early) lanes.now.items }
             ensures { HaveWorked (meanings N.link N.place N.faults N.poll_faults) plan (λ l. l.net)
                 (λ l. l.is_early) (λ l. l.outcome) lanes.entry.now.items lanes.exit.now.items
+                × HaveHanded plan (λ l. l.put) (λ l. l.outcome) lanes.entry.now.items lanes.exit.now.items
                 × (length lanes.exit.now.items ≡ length lanes.entry.now.items) }
         { work_lanes(rt, lanes, gate, plan) },
         accept,
@@ -215,6 +230,7 @@ fn serve_lanes<R: Threads + Wait + Sync, N: Passable + Send + Drop, B: Bell + Dr
         result }
     ensures worked { HaveWorked (meanings N.link N.place N.faults N.poll_faults) plan (λ l. l.net) (λ l. l.is_early)
         (λ l. l.outcome) lanes.old.items lanes.new.items }
+    ensures handed { HaveHanded plan (λ l. l.put) (λ l. l.outcome) lanes.old.items lanes.new.items }
     ensures count { length lanes.new.items ≡ length lanes.old.items }
 {
     work_beside(
@@ -245,11 +261,11 @@ fn serve_lanes<R: Threads + Wait + Sync, N: Passable + Send + Drop, B: Bell + Dr
 ///
 /// A connection ends when both of its directions are shut, or at the first fault of one of its links, which closes both
 /// and is counted. A worker that fails ends alone: the call returns once all connections were accepted and the other
-/// workers have ended. Where no descriptor is left for a further link, the listener fails, and with it the call.
-/// `Memory` is also answered where a table refuses a call.
+/// workers have ended. Where no descriptor is left for a further link, the listener fails, and with it the call; the
+/// connections that were accepted before are served first. `Memory` is also answered where a table refuses a call.
 ///
 /// At every end no link stands in any of the nets, and the listener is closed. A link that was accepted and not put in
-/// yet is let go.
+/// yet is let go. `handed` gets the links that were put in, one worker after the other.
 pub fn serve_many<
     R: Threads + Wait + Sync,
     N: Passable + Send + Drop,
@@ -263,6 +279,7 @@ pub fn serve_many<
     bells: Vec<B>,
     gate: &G,
     plan: ProxyPlan,
+    handed: &mut Trace<Handover>,
 ) -> Result<Served, ManyError>
     requires plan { IsServable plan }
     requires workers { (1 ≤ length more.old.items) × (length more.old.items ≤ 15) }
@@ -276,6 +293,7 @@ pub fn serve_many<
     ensures workers { LeavesWorkers (meanings N.link N.place N.faults N.poll_faults) plan more.new.items }
     ensures accepts { AreAccepted plan.conns (N.accepted net.old) (N.accepted net.new) result }
     ensures count { length more.new.items ≡ length more.old.items }
+    ensures handed { AreHanded plan.conns (length more.old.items) handed.old handed.new result }
     ensures complete { NoneRoseOfAll (meanings N.link N.place N.faults N.poll_faults) net.old net.new more.old.items
         more.new.items → ServesAllCleanOr (meanings N.link N.place N.faults N.poll_faults) plan more.new.items result }
 {
@@ -294,6 +312,7 @@ pub fn serve_many<
     let (mut lanes, mut outgoing) = (lanes, outgoing);
     let accepted = serve_lanes(rt, net, &mut lanes, &mut outgoing, gate, plan);
     let outcome = conclude(accepted, &lanes, plan.conns);
+    list_handovers(&lanes, handed);
     give_back(more, lanes);
     outcome
 }

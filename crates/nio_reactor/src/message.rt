@@ -1,14 +1,8 @@
-//! What is handed to a worker.
+//! What is sent to a worker.
+use crate::handed::Handed;
 use nio_line::LineIn;
 use nio_relay::ProxyPlan;
 use std::alloc::Global;
-
-/// A link that was accepted, with the number of its connection, counted from 0.
-#[derive(Drop)]
-pub(crate) struct Handed<L> {
-    pub number: u32,
-    pub link: L,
-}
 
 /// A message to a worker. `End` is the last one.
 #[derive(Drop)]

@@ -1,5 +1,5 @@
 //! The workers of a proxy run beside each other.
-use crate::nets::{SENDER, serves};
+use crate::nets::{NO_FAILURES, SENDER, serves};
 use nio_base::Gate;
 use nio_relay::Served;
 use std::sync::Wait;
@@ -48,7 +48,7 @@ fn two_workers_meet(rt: HostRuntime) -> Result<(), Fail> {
         second_came: AtomicBool::new(false),
         given_up: AtomicBool::new(false),
     };
-    let relayed = serves(&rt, rt.alloc(), &[SENDER; 2], None, 2, &gate)?;
+    let relayed = serves(&rt, rt.alloc(), &[SENDER; 2], NO_FAILURES, 2, &gate)?;
     let all = Served {
         connections: 2,
         faults: 0,

@@ -8,4 +8,6 @@ mod loopback;
 #[cfg(test)]
 mod nets;
 #[cfg(test)]
+mod no_room;
+#[cfg(test)]
 mod relays;

@@ -6,11 +6,13 @@ ghost use Rattle.nio_link.specs.Places.{places_after, unused};
 ghost use Rattle.nio_link.specs.Slots.{carried_at};
 ghost use Rattle.nio_relay.specs.Plan.{IsServable};
 
+use crate::no_room::Roomy;
 use nio_base::{Addr, Gate};
 use nio_link::{MemoryNet, NetPlan, Passable, PeerPlan};
 use nio_poller::{Bell, NoBell};
 use nio_reactor::{ManyError, serve_many};
 use nio_relay::{ProxyPlan, Served};
+use nio_trace::Trace;
 use std::alloc::{AllocError, Global};
 use std::sync::Wait;
 use std::thread::Threads;
@@ -38,14 +40,30 @@ pub(crate) fn bytes(alloc: Global, length: usize) -> Result<Vec<u8>, AllocError>
     Ok(bytes)
 }
 
+/// What is to fail: a call of `accept`, a poll of the net of one of the workers, each counted from 0; and which worker's
+/// net is to have no memory for links.
+#[derive(Clone, Copy)]
+pub(crate) struct Failures {
+    pub accept: Option<u64>,
+    pub poll: Option<(usize, u64)>,
+    pub room: Option<usize>,
+}
+
+pub(crate) const NO_FAILURES: Failures = Failures {
+    accept: None,
+    poll: None,
+    room: None,
+};
+
 /// A net that was just made, for these connections.
 pub(crate) fn net_of(
     alloc: Global,
     peers: &[Peer],
     fail_accept: Option<u64>,
-) -> Result<MemoryNet, AllocError>
-    ensures fresh { IfOk result (λ net. (c : Channel) → IsUnused (carried_at net.slots c)) }
-    ensures unasked { IfOk result (λ net. (c : Channel) → places_after net.changes c ≡ unused) }
+    fail_poll: Option<u64>,
+) -> Result<Roomy<MemoryNet>, AllocError>
+    ensures fresh { IfOk result (λ made. (c : Channel) → IsUnused (carried_at made.net.slots c)) }
+    ensures unasked { IfOk result (λ made. (c : Channel) → places_after made.net.changes c ≡ unused) }
 {
     let mut plans = Vec::new(alloc);
     for peer in peers {
@@ -57,27 +75,60 @@ pub(crate) fn net_of(
             fail_write_after: None,
         })?;
     }
-    MemoryNet::make(
+    let net = MemoryNet::make(
         alloc,
         NetPlan {
             peers: plans,
-            fail_poll: None,
+            fail_poll,
             fail_accept,
         },
-    )
+    )?;
+    Ok(Roomy {
+        net,
+        has_room: true,
+    })
+}
+
+/// The poll of this worker's net that is to fail.
+fn poll_of(failures: Failures, worker: usize) -> Option<u64> {
+    match failures.poll {
+        Some((one, poll)) if one == worker => Some(poll),
+        _ => None,
+    }
+}
+
+/// The net of this worker, which was just made.
+fn net_of_worker(
+    alloc: Global,
+    failures: Failures,
+    worker: usize,
+) -> Result<Roomy<MemoryNet>, AllocError>
+    ensures fresh { IfOk result (λ made. (c : Channel) → IsUnused (carried_at made.net.slots c)) }
+    ensures unasked { IfOk result (λ made. (c : Channel) → places_after made.net.changes c ≡ unused) }
+{
+    let made = net_of(alloc, &[], None, poll_of(failures, worker))?;
+    Ok(Roomy {
+        net: made.net,
+        has_room: failures.room != Some(worker),
+    })
 }
 
 /// The nets of so many workers, which were just made.
-fn nets_of(alloc: Global, workers: usize) -> Result<Vec<MemoryNet>, AllocError>
+fn nets_of(
+    alloc: Global,
+    workers: usize,
+    failures: Failures,
+) -> Result<Vec<Roomy<MemoryNet>>, AllocError>
     ensures some { IfOk result (λ nets. 1 ≤ length nets.items) }
     ensures few { IfOk result (λ nets. length nets.items ≤ 15) }
-    ensures unused { IfOk result (λ nets. All (λ net. (c : Channel) → IsUnused (carried_at net.slots c)) nets.items) }
-    ensures unasked { IfOk result (λ nets. All (λ net. (c : Channel) → places_after net.changes c ≡ unused)
+    ensures unused { IfOk result (λ nets. All (λ made. (c : Channel) → IsUnused (carried_at made.net.slots c))
+        nets.items) }
+    ensures unasked { IfOk result (λ nets. All (λ made. (c : Channel) → places_after made.net.changes c ≡ unused)
         nets.items) }
 {
     let mut nets = Vec::new(alloc);
     for _ in 0..workers.clamp(1, 15) {
-        let net = net_of(alloc, &[], None)?;
+        let net = net_of_worker(alloc, failures, nets.len())?;
         nets.push(net)?;
     }
     Ok(nets)
@@ -106,7 +157,7 @@ pub(crate) fn serve_fresh<
     requires unused_each { All (λ x. (c : Channel) → IsUnused (N.link x c)) more.old.items }
     requires unasked_each { All (λ x. (c : Channel) → N.place x c ≡ unused) more.old.items }
 {
-    serve_many(rt, alloc, net, more, bells, gate, plan)
+    serve_many(rt, alloc, net, more, bells, gate, plan, &mut Trace::new())
 }
 
 const ANYWHERE: Addr = Addr {
@@ -118,7 +169,7 @@ const ANYWHERE: Addr = Addr {
 #[derive(Drop)]
 pub(crate) struct Relayed {
     pub served: Result<Served, ManyError>,
-    pub more: Vec<MemoryNet>,
+    pub more: Vec<Roomy<MemoryNet>>,
 }
 
 /// Serves these connections by so many workers.
@@ -126,7 +177,7 @@ pub(crate) fn serves<R: Threads + Wait + Sync, G: Gate + Sync>(
     rt: &R,
     alloc: Global,
     peers: &[Peer],
-    fail_accept: Option<u64>,
+    failures: Failures,
     workers: usize,
     gate: &G,
 ) -> Result<Relayed, AllocError> {
@@ -135,8 +186,8 @@ pub(crate) fn serves<R: Threads + Wait + Sync, G: Gate + Sync>(
         target: ANYWHERE,
         conns: peers.len().clamp(1, 16) as u32,
     };
-    let mut net = net_of(alloc, peers, fail_accept)?;
-    let mut more = nets_of(alloc, workers)?;
+    let mut net = net_of(alloc, peers, failures.accept, None)?;
+    let mut more = nets_of(alloc, workers, failures)?;
     let bells: Vec<NoBell> = Vec::new(alloc);
     let served = serve_fresh(rt, alloc, &mut net, &mut more, bells, gate, plan);
     Ok(Relayed { served, more })

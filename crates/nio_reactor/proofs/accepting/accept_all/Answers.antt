@@ -1,11 +1,12 @@
-use Rattle.nio_reactor.proofs.Asked.{has_accepted}
-use Rattle.nio_reactor.specs.Many.{meanings}
+use Rattle.std.proofs.Common.{◌≡◌, length, arith}
+use Rattle.std.proofs.lemmas.Grind.{common_steps}
+use Rattle.nio_reactor.proofs.Ending.{sent_back}
 use Rattle.nio_reactor.proofs.accepting.accept_all.Goals as goal
 
-pub returns : goal.returns
-returns g c =
-    has_accepted (meanings g.N.Net.link g.N.Net.place g.N.Net.faults g.N.Poller.poll_faults) g.N.Net.accepted
-    c.args.outgoing.now.plan
-    c.args.net.now c.accept_plan-outcome.new.net c.accept_plan-outcome.new.number c.accept_plan-outcome.ensures.within
-    c.accept_plan-outcome.ensures.accepted c.accept_plan-outcome.ensures.leaves c.accept_plan-outcome.result
-    c.accept_plan-outcome.ensures.all c.accept_plan-outcome.ensures.cause
+pub returns-clause-sent : goal.returns-clause-sent
+returns-clause-sent g c =
+    let len_is : c.args.outgoing.now.lines.len ≡ length c.args.outgoing.now.lines.items
+    = grind (arith, common_steps, c.as_mut_slice.ensures.len, c.as_mut_slice.ensures.value) in
+    sent_back (g.N.Net.accepted c.args.net.now) (g.N.Net.accepted c.deal_plan.new.net)
+    c.args.outgoing.now.lines.items _ c.deal_plan.new.lines c.args.outgoing.now.lines.len c.as_mut_slice.ensures.value
+    len_is c.deal_plan.ensures.sent

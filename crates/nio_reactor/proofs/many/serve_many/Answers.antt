@@ -1,7 +1,9 @@
 use Rattle.std.proofs.Common.{refl}
-use Rattle.nio_reactor.proofs.Concluding.{complete_of, fresh_lanes, none_relay, none_workers, relays_of, serves_of}
+use Rattle.nio_reactor.proofs.Concluding.{accepts_of, complete_of, fresh_lanes, none_relay, none_workers, relays_of, serves_of}
 use Rattle.nio_reactor.proofs.Concluding.{workers_of}
+use Rattle.nio_reactor.proofs.Handing.{handed_of, none_handed}
 use Rattle.nio_reactor.specs.Many.{meanings}
+use Rattle.nio_reactor.specs.declared.many.ManyError.TheVariants.{Memory}
 use Rattle.nio_reactor.proofs.many.serve_many.Goals as goal
 
 pub returns-in_default-clause-relays : goal.returns-in_default-clause-relays
@@ -58,3 +60,21 @@ returns-clause-complete g c =
     c.serve_lanes-accepted.ensures.count
     c.serve_lanes-accepted.ensures.worked _ _ g.N.Net.accepted _ _ c.serve_lanes-accepted.ensures.accepted
     c.conclude-outcome.ensures
+
+pub returns-in_default-clause-handed : goal.returns-in_default-clause-handed
+returns-in_default-clause-handed g c = none_handed c.args.plan.conns _ c.args.handed.now Memory
+
+pub returns-in_default-staff-clause-handed : goal.returns-in_default-staff-clause-handed
+returns-in_default-staff-clause-handed g c = none_handed c.args.plan.conns _ c.args.handed.now Memory
+
+pub returns-clause-handed : goal.returns-clause-handed
+returns-clause-handed g c =
+    handed_of c.args.plan (λ l. l.put) (λ l. l.is_early) (λ l. l.outcome) (λ l. l.net) _ _ _
+    c.in-Ok-staff.ensures.nets c.serve_lanes-accepted.ensures.count c.serve_lanes-accepted.ensures.handed
+    c.args.handed.now c.list_handovers.new.handed c.list_handovers.ensures _ _ c.conclude-outcome.ensures
+
+pub returns-clause-accepts : goal.returns-clause-accepts
+returns-clause-accepts g c =
+    accepts_of (meanings g.N.Net.link g.N.Net.place g.N.Net.faults g.N.Poller.poll_faults) c.args.plan
+    (λ l. l.is_early) (λ l. l.outcome) _ c.args.net.now _ g.N.Net.accepted _ _
+    c.serve_lanes-accepted.ensures.accepted c.conclude-outcome.ensures

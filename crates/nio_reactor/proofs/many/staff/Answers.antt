@@ -2,7 +2,7 @@ use Rattle.std.proofs.Common.{◌≡◌, ◌<◌, false, length, ◌∙◌, arit
 use Rattle.nio_link.specs.Places.{unused}
 use Rattle.nio_serve.specs.Serving.{listener}
 use Rattle.nio_reactor.proofs.Adding.{moved, one_less, one_more, all_less, all_more, nets_end}
-use Rattle.nio_reactor.specs.declared.lane.Door.TheVariants.{Unasked}
+use Rattle.nio_reactor.specs.declared.door.Door.TheVariants.{Unasked}
 use Rattle.nio_reactor.proofs.many.staff.Goals as goal
 
 pub loop-preserved : goal.loop-preserved

@@ -1,7 +1,7 @@
 use Rattle.std.proofs.Common.{◌≡◌, ◌+◌, ◌++◌, false, All, length, map, vec_capacity}
 use Rattle.nio_link.specs.Places.{unused}
 use Rattle.nio_serve.specs.Serving.{listener}
-use Rattle.nio_reactor.specs.declared.lane.Door.TheVariants.{Unasked}
+use Rattle.nio_reactor.specs.declared.door.Door.TheVariants.{Unasked}
 use Rattle.nio_reactor.proofs.many.staff.Given as goal
 
 abbrev pub invariant-loop : goal.invariant-loop

@@ -13,10 +13,10 @@ loop-preserved c =
     record {
       count = ap length is
           ∙ (length-append c.loop.nets.items (c.in_ok-net.net ∷ []) ∙ ap (λ n. n + 1) c.loop.invariant.count);
-      links = subst (All (λ net. (chan : ChanNo) → IsUnused (carried_at net.slots chan))) (sym is)
-          (All-push (λ net. (chan : ChanNo) → IsUnused (carried_at net.slots chan)) c.loop.nets.items c.in_ok-net.net
+      links = subst (All (λ net. (chan : ChanNo) → IsUnused (carried_at net.net.slots chan))) (sym is)
+          (All-push (λ net. (chan : ChanNo) → IsUnused (carried_at net.net.slots chan)) c.loop.nets.items c.in_ok-net.net
           c.loop.invariant.links c.in_ok-net.ensures.fresh);
-      places = subst (All (λ net. (chan : ChanNo) → places_after net.changes chan ≡ unused)) (sym is)
-          (All-push (λ net. (chan : ChanNo) → places_after net.changes chan ≡ unused) c.loop.nets.items
+      places = subst (All (λ net. (chan : ChanNo) → places_after net.net.changes chan ≡ unused)) (sym is)
+          (All-push (λ net. (chan : ChanNo) → places_after net.net.changes chan ≡ unused) c.loop.nets.items
           c.in_ok-net.net c.loop.invariant.places c.in_ok-net.ensures.unasked);
     }

@@ -4,7 +4,7 @@ use Rattle.nio_link.specs.declared.place.Standing.TheVariants as standing
 use Rattle.nio_reactor.proofs.Channels.{same_all}
 use Rattle.nio_reactor.proofs.Asked.{asked_one, asked_none, asked_more, not_come, came}
 use Rattle.nio_reactor.specs.Many.{meanings}
-use Rattle.nio_reactor.proofs.accepting.accept_one.Goals as goal
+use Rattle.nio_reactor.proofs.handed.accept_link.Goals as goal
 
 pub returns-in_err-accept-clause-asked : goal.returns-in_err-accept-clause-asked
 returns-in_err-accept-clause-asked g c =
