@@ -1,20 +1,20 @@
 //! The program nio: the selectors of `java.nio.channels`, driven by scripts.
 #![tactic(auto)]
 
+ghost use Rattle.std.specs.Prelude.{All, IfOk};
+ghost use Rattle.nio_mio.specs.Unasked.{IsUnasked};
+
 use nio_base::NoGate;
 use nio_bytes::{StdSink, StdSource};
-use nio_mio::MioNet;
+use nio_mio::{MioBell, MioNet};
 use nio_mio_packets::MioPackets;
-use nio_run::{PROGRAM_LIMITS, run};
+use nio_run::{PROGRAM_LIMITS, run, workers_of};
 use nio_script::Status;
 use nio_words::Words;
 use std::alloc::{AllocError, Global};
 use std::net::Net;
 use std::process::ExitCode;
-use std::random::RandomSource;
 use std::rt::Env;
-use std::sync::Wait;
-use std::thread::Threads;
 use std::time::Clock;
 use std::{env, io};
 
@@ -31,36 +31,62 @@ fn arguments(rt: &(impl Env + AllocGlobal)) -> Result<Vec<String>, AllocError> {
     }
 }
 
-fn status<R>(rt: &R, alloc: Global) -> Status
-where
-    R: Env
-        + Input
-        + Print
-        + AllocGlobal
-        + Net
-        + Clock
-        + RandomSource
-        + Threads
-        + Wait
-        + Copy
-        + Sync,
+/// So many nets without sockets, and their bells.
+fn nets_of<S: Net + Clock + Copy>(
+    system: S,
+    alloc: Global,
+    count: usize,
+) -> Result<(Vec<MioNet<S>>, Vec<MioBell>), AllocError>
+    ensures { IfOk result (λ made. All IsUnasked made.0.items) }
 {
-    let Ok(words) = arguments(rt) else {
-        return Status::Memory;
+    let mut nets = Vec::new(alloc);
+    let mut bells = Vec::new(alloc);
+    for _ in 0..count {
+        let (net, bell) = MioNet::make(system, alloc)?;
+        nets.push(net)?;
+        bells.push(bell)?;
+    }
+    Ok((nets, bells))
+}
+
+/// The nets that `proxy --way many` needs beside the first, and their bells; none for other words.
+fn nets_for<S: Net + Clock + Copy>(
+    system: S,
+    alloc: Global,
+    words: &[String],
+) -> Result<(Vec<MioNet<S>>, Vec<MioBell>), AllocError>
+    ensures { IfOk result (λ made. All IsUnasked made.0.items) }
+{
+    let workers = workers_of(alloc, words)?;
+    nets_of(system, alloc, workers)
+}
+
+// What a run ends with for which there is no memory.
+fn out_of_memory() -> ExitCode {
+    ExitCode::from(Status::Memory.code())
+}
+
+fn main(rt: HostRuntime) -> ExitCode {
+    let alloc = rt.alloc();
+    let Ok(words) = arguments(&rt) else {
+        return out_of_memory();
     };
     let Ok((table, mut pass)) = Words::make(alloc, PROGRAM_LIMITS) else {
-        return Status::Memory;
+        return out_of_memory();
     };
-    let Ok((net, bell)) = MioNet::make(*rt, alloc) else {
-        return Status::Memory;
+    let Ok((net, bell)) = MioNet::make(rt, alloc) else {
+        return out_of_memory();
     };
-    let Ok(mut packets) = MioPackets::make(*rt, alloc, PACKET_CHANNELS) else {
-        return Status::Memory;
+    let Ok((mut more, bells)) = nets_for(rt, alloc, &words) else {
+        return out_of_memory();
+    };
+    let Ok(mut packets) = MioPackets::make(rt, alloc, PACKET_CHANNELS) else {
+        return out_of_memory();
     };
     let mut input = StdSource::over(rt.reader());
-    let mut output = StdSink::over(io::writer(rt));
+    let mut output = StdSink::over(io::writer(&rt));
     let ended = run(
-        rt,
+        &rt,
         alloc,
         &words,
         &mut input,
@@ -68,13 +94,11 @@ where
         &table,
         &mut pass,
         net,
+        &mut more,
         &mut packets,
         &bell,
+        bells,
         &NoGate,
     );
-    ended.status
-}
-
-fn main(rt: HostRuntime) -> ExitCode {
-    ExitCode::from(status(&rt, rt.alloc()).code())
+    ExitCode::from(ended.status.code())
 }

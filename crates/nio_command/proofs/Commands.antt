@@ -22,7 +22,7 @@ use Rattle.std.specs.Str.{bytes_eq}
 use Rattle.std.proofs.lemmas.Slice.Eq.{bytes_eq-Decides}
 use Rattle.nio_command.specs.declared.command.Command.{Command}
 use Rattle.nio_command.specs.declared.way.ProxyWay.{ProxyWay}
-use Rattle.nio_command.specs.declared.way.ProxyWay.TheVariants.{Select, Group, Future}
+use Rattle.nio_command.specs.declared.way.ProxyWay.TheVariants.{Select, Group, Future, Many}
 use Rattle.nio_command.specs.declared.command.Command.TheVariants.{Script, Check, CheckFirst, Race, Timed, Load, Proxy}
 use Rattle.nio_command.specs.declared.command.Command.TheVariants.{Packets}
 use Rattle.nio_command.specs.declared.command.WordsError.{WordsError}
@@ -108,17 +108,20 @@ plain_way : (text : Text) (workers : Option Text) (way : ProxyWay) → AsksForWa
 plain_way text workers Select h = subst IsNoOption (sym h.0) (λ e. omega arith)
 plain_way text workers (Group count) h = subst IsNoOption (sym h.0) (λ e. omega arith)
 plain_way text workers Future h = subst IsNoOption (sym h.0) (λ e. omega arith)
+plain_way text workers (Many count) h = subst IsNoOption (sym h.0) (λ e. omega arith)
 
-plain_count : (workers : Option Text) (count : ℕ) → AsksForWorkers workers count → IfSome workers IsNoOption
-plain_count None count h = tt
-plain_count (Some text) count h =
-    subst IsNoOption (sym h.2) (decimal_plain count (let few = h.1 in omega arith))
+plain_count : (most : ℕ) (workers : Option Text) (count : ℕ) → most ≤ 64 → AsksForWorkers most workers count
+    → IfSome workers IsNoOption
+plain_count most None count few h = tt
+plain_count most (Some text) count few h =
+    subst IsNoOption (sym h.2) (decimal_plain count (omega (arith, few, h.1)))
 
 plain_workers : (text : Text) (workers : Option Text) (way : ProxyWay) → AsksForWay text workers way
     → IfSome workers IsNoOption
 plain_workers text workers Select h = subst (λ (o : Option Text). IfSome o IsNoOption) (sym h.1) tt
-plain_workers text workers (Group count) h = plain_count workers count h.1
+plain_workers text workers (Group count) h = plain_count 64 workers count (omega arith) h.1
 plain_workers text workers Future h = subst (λ (o : Option Text). IfSome o IsNoOption) (sym h.1) tt
+plain_workers text workers (Many count) h = plain_count 15 workers count (omega arith) h.1
 
 -- no value that asks for a plan begins with a hyphen
 pub plain_values : (v : ProxyValues) (plan : ProxyPlan) (way : ProxyWay) → AsksFor v plan way → AreNoOptions v

@@ -9,7 +9,7 @@ use Rattle.nio_command.specs.Options.{Text, AreOptions}
 use Rattle.nio_command.specs.Values.{IsAddress, PacketValues, ProxyValues, address_text, packet_options, proxy_options}
 use Rattle.nio_command.specs.declared.command.Command.{Command}
 use Rattle.nio_command.specs.declared.way.ProxyWay.{ProxyWay}
-use Rattle.nio_command.specs.declared.way.ProxyWay.TheVariants.{Select, Group, Future}
+use Rattle.nio_command.specs.declared.way.ProxyWay.TheVariants.{Select, Group, Future, Many}
 use Rattle.nio_command.specs.declared.command.Command.TheVariants.{Script, Check, CheckFirst, Race, Timed, Load, Proxy}
 use Rattle.nio_command.specs.declared.command.Command.TheVariants.{Packets}
 
@@ -45,16 +45,19 @@ pub record IsInRange (plan : ProxyPlan) : Type 0 where
   pub target : IsAddress plan.target
   pub connections : IsServable plan
 
--- The value of `--workers` asks for so many workers, from 1 to 64; where it isn't given there are 4.
-abbrev pub AsksForWorkers : Option Text → ℕ → Type 0
-AsksForWorkers None count = count ≡ 4
-AsksForWorkers (Some workers) count = (1 ≤ count) × (count ≤ 64) × (workers ≡ decimal count)
+-- The value of `--workers` asks for so many workers, from 1 to the most that there may be; where it isn't given there
+-- are 4.
+abbrev pub AsksForWorkers : ℕ → Option Text → ℕ → Type 0
+AsksForWorkers most None count = count ≡ 4
+AsksForWorkers most (Some workers) count = (1 ≤ count) × (count ≤ most) × (workers ≡ decimal count)
 
--- The values of `--way` and `--workers` ask for this way. With `select` and with `future` there is no `--workers`.
+-- The values of `--way` and `--workers` ask for this way. With `select` and with `future` there is no `--workers`; a
+-- group has 64 workers at most, and `many` 15.
 abbrev pub AsksForWay : Text → Option Text → ProxyWay → Type 0
 AsksForWay way workers Select = (way ≡ codes "select") × (workers ≡ None)
-AsksForWay way workers (Group count) = (way ≡ codes "group") × AsksForWorkers workers count
+AsksForWay way workers (Group count) = (way ≡ codes "group") × AsksForWorkers 64 workers count
 AsksForWay way workers Future = (way ≡ codes "future") × (workers ≡ None)
+AsksForWay way workers (Many count) = (way ≡ codes "many") × AsksForWorkers 15 workers count
 
 -- the values of the options ask for this plan and this way
 pub record AsksFor (v : ProxyValues) (plan : ProxyPlan) (way : ProxyWay) : Type 0 where

@@ -2,12 +2,18 @@
 //! addresses name nothing. Two clients connect, and the first connection fails once its target has taken ten bytes.
 #![tactic(auto)]
 
+ghost use Rattle.std.specs.Prelude.{◌≡◌, All, IfOk};
+ghost use Rattle.nio_base.specs.declared.numbers.ChanNo.{ChanNo};
+ghost use Rattle.nio_link.specs.Links.{IsUnused};
+ghost use Rattle.nio_link.specs.Places.{places_after, unused};
+ghost use Rattle.nio_link.specs.Slots.{carried_at};
+
 use nio_base::NoGate;
 use nio_bytes::{StdSink, SteadySource};
 use nio_datagram::MemoryPackets;
 use nio_link::{MemoryNet, NetPlan, PeerPlan};
 use nio_poller::NoBell;
-use nio_run::{PROGRAM_LIMITS, run};
+use nio_run::{PROGRAM_LIMITS, run, workers_of};
 use nio_script::Status;
 use nio_words::Words;
 use std::alloc::{AllocError, Global};
@@ -48,6 +54,25 @@ fn plan(alloc: Global) -> Result<NetPlan, AllocError> {
     })
 }
 
+/// So many nets to which nobody connects.
+fn nets_of(alloc: Global, count: usize) -> Result<Vec<MemoryNet>, AllocError>
+    ensures fresh { IfOk result (λ nets. All (λ net. (c : ChanNo) → IsUnused (carried_at net.slots c)) nets.items) }
+    ensures unasked { IfOk result (λ nets. All (λ net. (c : ChanNo) → places_after net.changes c ≡ unused)
+        nets.items) }
+{
+    let mut nets = Vec::new(alloc);
+    for _ in 0..count {
+        let nobody = NetPlan {
+            peers: Vec::new(alloc),
+            fail_poll: None,
+            fail_accept: None,
+        };
+        let net = MemoryNet::make(alloc, nobody)?;
+        nets.push(net)?;
+    }
+    Ok(nets)
+}
+
 /// The words of the command line, after the program's name. Where one isn't text there are none,
 /// which is no command.
 fn arguments(rt: &(impl Env + AllocGlobal)) -> Result<Vec<String>, AllocError> {
@@ -65,6 +90,7 @@ where
     let words = arguments(rt)?;
     let (table, mut pass) = Words::make(alloc, PROGRAM_LIMITS)?;
     let net = MemoryNet::make(alloc, plan(alloc)?)?;
+    let mut more = nets_of(alloc, workers_of(alloc, &words)?)?;
     let mut packets = MemoryPackets::make(alloc, Vec::new(alloc), Vec::new(alloc), None)?;
     let mut input = SteadySource::make(Vec::new(alloc));
     let mut output = StdSink::over(io::writer(rt));
@@ -77,8 +103,10 @@ where
         &table,
         &mut pass,
         net,
+        &mut more,
         &mut packets,
         &NoBell,
+        Vec::new(alloc),
         &NoGate,
     );
     Ok(ended.status)

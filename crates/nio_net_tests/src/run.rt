@@ -1,5 +1,5 @@
 //! The program as a whole, over sources and sinks in memory.
-ghost use Rattle.std.specs.Prelude.{◌≡◌};
+ghost use Rattle.std.specs.Prelude.{◌≡◌, All};
 ghost use Rattle.nio_base.specs.declared.numbers.ChanNo.{ChanNo};
 ghost use Rattle.nio_datagram.specs.Packets.{no_traffic};
 ghost use Rattle.nio_datagram.specs.Serving.{back, front};
@@ -10,7 +10,7 @@ ghost use Rattle.nio_link.specs.Places.{unused};
 use nio_base::NoGate;
 use nio_bytes::{MemorySink, MemorySource, Sink, Source};
 use nio_datagram::{MemoryPackets, PacketNet};
-use nio_link::Net;
+use nio_link::Passable;
 use nio_poller::{Bell, NoBell};
 use nio_run::{PROGRAM_LIMITS, run};
 use nio_words::Words;
@@ -22,6 +22,7 @@ use std::test::Fail;
 use std::thread::Threads;
 
 mod loopback;
+mod many;
 mod packets;
 mod refusals;
 mod relays;
@@ -54,7 +55,7 @@ const SIGNED_SET: &str =
     "t1 selector\nt1 channel source\nt1 blocking c0 off\nt1 register s0 c0 1\nt1 iand s0 k0 -5\n";
 
 const USAGE: &str =
-    "usage: nio script | check | check-1 | race | proxy --way select|group|future --listen ADDR --target ADDR \
+    "usage: nio script | check | check-1 | race | proxy --way select|group|future|many --listen ADDR --target ADDR \
         --conns N [--workers W] | load N | packets --listen ADDR --local ADDR --target ADDR --count N | timed\n";
 
 /// Which call of the source fails and which of the sink, counted from 0.
@@ -301,6 +302,17 @@ const OTHER_COMMANDS: &[Row] = &[
         ..IS_USAGE
     },
     Row {
+        words: &[
+            "proxy",
+            "--way=many",
+            "--workers=16",
+            "--listen=127.0.0.1:1",
+            "--target=127.0.0.1:2",
+            "--conns=1",
+        ],
+        ..IS_USAGE
+    },
+    Row {
         words: &["packets"],
         ..IS_USAGE
     },
@@ -314,8 +326,9 @@ const OTHER_COMMANDS: &[Row] = &[
     },
 ];
 
-/// Runs these words on a new table, without packets. Gives the status, and the net that is left.
-fn runs<R, S: Source, K: Sink, N: Net + Drop, B: Bell + Sync>(
+/// Runs these words on a new table, without packets, and with no nets for workers. Gives the status, and the net that
+/// is left.
+fn runs<R, S: Source, K: Sink, N: Passable + Send + Drop, B: Bell + Sync + Drop>(
     rt: &R,
     alloc: Global,
     words: &[&str],
@@ -329,25 +342,75 @@ where
     requires fresh { (c : ChanNo) → IsUnused (N.link net c) }
     requires unasked { (c : ChanNo) → N.place net c ≡ unused }
 {
-    let mut packets = MemoryPackets::make(alloc, Vec::new(alloc), Vec::new(alloc), None)?;
-    runs_over(rt, alloc, words, input, output, net, &mut packets, bell)
+    let mut more = Vec::new(alloc);
+    runs_with(
+        rt,
+        alloc,
+        words,
+        input,
+        output,
+        net,
+        &mut more,
+        bell,
+        Vec::new(alloc),
+    )
 }
 
-/// Runs these words on a new table, over these nets.
-fn runs_over<R, S: Source, K: Sink, N: Net + Drop, D: PacketNet, B: Bell + Sync>(
+/// Runs these words on a new table, without packets. The workers have the nets `more`, with these bells. Gives the
+/// status, and the net that is left.
+fn runs_with<R, S: Source, K: Sink, N: Passable + Send + Drop, B: Bell + Sync + Drop>(
     rt: &R,
     alloc: Global,
     words: &[&str],
     input: &mut S,
     output: &mut K,
     net: N,
-    packets: &mut D,
+    more: &mut Vec<N>,
     bell: &B,
+    bells: Vec<B>,
 ) -> Result<(u8, N), AllocError>
 where
     R: Threads + Wait + RandomSource + AllocGlobal + Sync,
     requires fresh { (c : ChanNo) → IsUnused (N.link net c) }
     requires unasked { (c : ChanNo) → N.place net c ≡ unused }
+    requires more_fresh { All (λ x. (c : ChanNo) → IsUnused (N.link x c)) more.old.items }
+    requires more_unasked { All (λ x. (c : ChanNo) → N.place x c ≡ unused) more.old.items }
+{
+    let mut packets = MemoryPackets::make(alloc, Vec::new(alloc), Vec::new(alloc), None)?;
+    runs_over(
+        rt,
+        alloc,
+        words,
+        input,
+        output,
+        net,
+        more,
+        &mut packets,
+        bell,
+        bells,
+    )
+}
+
+/// Runs these words on a new table, over these nets.
+fn runs_over<R, S: Source, K: Sink, N, D: PacketNet, B: Bell + Sync + Drop>(
+    rt: &R,
+    alloc: Global,
+    words: &[&str],
+    input: &mut S,
+    output: &mut K,
+    net: N,
+    more: &mut Vec<N>,
+    packets: &mut D,
+    bell: &B,
+    bells: Vec<B>,
+) -> Result<(u8, N), AllocError>
+where
+    R: Threads + Wait + RandomSource + AllocGlobal + Sync,
+    N: Passable + Send + Drop,
+    requires fresh { (c : ChanNo) → IsUnused (N.link net c) }
+    requires unasked { (c : ChanNo) → N.place net c ≡ unused }
+    requires more_fresh { All (λ x. (c : ChanNo) → IsUnused (N.link x c)) more.old.items }
+    requires more_unasked { All (λ x. (c : ChanNo) → N.place x c ≡ unused) more.old.items }
     requires front_unused { D.traffic packets.old front ≡ no_traffic }
     requires back_unused { D.traffic packets.old back ≡ no_traffic }
     requires front_unbound { D.place packets.old front ≡ place_is.Unbound }
@@ -359,7 +422,8 @@ where
     }
     let (table, mut pass) = Words::make(alloc, PROGRAM_LIMITS)?;
     let ended = run(
-        rt, alloc, &given, input, output, &table, &mut pass, net, packets, bell, &NoGate,
+        rt, alloc, &given, input, output, &table, &mut pass, net, more, packets, bell, bells,
+        &NoGate,
     );
     Ok((ended.status.code(), ended.net))
 }

@@ -1,5 +1,7 @@
+mod ByWorkers
 mod Leaving
 pub mod Legal
 mod Named
+mod Serves
 mod Unsent
 mod Unserved

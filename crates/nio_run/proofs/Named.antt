@@ -11,7 +11,7 @@ use Rattle.nio_command.specs.declared.command.Command.TheVariants.{Load, Packets
 use Rattle.nio_command.specs.declared.command.WordsError.{WordsError}
 use Rattle.nio_command.specs.declared.command.WordsError.TheVariants.{Usage, Memory}
 use Rattle.nio_command.specs.declared.way.ProxyWay.{ProxyWay}
-use Rattle.nio_command.specs.declared.way.ProxyWay.TheVariants.{Select, Group, Future}
+use Rattle.nio_command.specs.declared.way.ProxyWay.TheVariants.{Select, Group, Future, Many}
 use Rattle.nio_bytes.specs.declared.source.Source as source
 use Rattle.nio_relay.specs.Plan.{IsServable}
 use Rattle.nio_relay.specs.declared.plan.ProxyPlan.{ProxyPlan}
@@ -19,7 +19,7 @@ use Rattle.nio_script.specs.Input.{StopsPastLongest}
 use Rattle.nio_script.specs.declared.status.Status.{Status}
 use Rattle.nio_script.specs.declared.status.Status.TheVariants.{TooLong}
 use Rattle.std.specs.Io.KnownBytes.{prepend_known}
-use Rattle.nio_run.specs.Proxy.{HasWorkers}
+use Rattle.nio_run.specs.Proxy.{HasOneNet, HasWorkers}
 
 abbrev first_byte : List (List ℕ) → ℕ
 first_byte words = slice_index_or (slice_index_or words 0 []) 0 0
@@ -44,19 +44,46 @@ its_plan x p p' w w' is (inl same) = let e : ◌≡◌ {A = Result Command Words
     ap (λ (y : Command). Ok y) (sym is) ∙ same in cc e
 its_plan x p p' w w' is (inr clash) = absurd (cc clash)
 
+pub its_command : (x y : Command)
+    → (◌≡◌ {A = Result Command WordsError} (Ok x) (Ok y)) ⊎ (◌≡◌ {A = Result Command WordsError} (Ok x) (Err Memory))
+    → x ≡ y
+its_command x y (inl same) = cc same
+its_command x y (inr clash) = absurd (cc clash)
+
+-- and so is its way
+pub its_way : (x : Command) (p p' : ProxyPlan) (w w' : ProxyWay) → x ≡ Proxy p w
+    → (◌≡◌ {A = Result Command WordsError} (Ok x) (Ok (Proxy p' w')))
+    ⊎ (◌≡◌ {A = Result Command WordsError} (Ok x) (Err Memory)) → w ≡ w'
+its_way x p p' w w' is (inl same) = let e : ◌≡◌ {A = Result Command WordsError} (Ok (Proxy p w)) (Ok (Proxy p' w')) =
+    ap (λ (y : Command). Ok y) (sym is) ∙ same in cc e
+its_way x p p' w w' is (inr clash) = absurd (cc clash)
+
+-- where the words don't ask for a net for each worker, the way has one net
+pub not_many : (words : List (List ℕ)) (x : Command) (p : ProxyPlan) (w : ProxyWay) → x ≡ Proxy p w
+    → ((q : ProxyPlan) (v : ProxyWay) → ◌≡◌ {A = Result Command WordsError} (Ok x) (Ok (Proxy q v))
+    → IsProxyCommand words q v)
+    → ((q : ProxyPlan) (workers : ℕ) → IsProxyCommand words q (Many workers) → ⊥) → HasOneNet w
+not_many words x p Select is says none = tt
+not_many words x p (Group count) is says none = tt
+not_many words x p Future is says none = tt
+not_many words x p (Many workers) is says none =
+    none p workers (says p (Many workers) (ap (λ (y : Command). Ok y) is))
+
 -- the plan that the words say can be served
 pub its_servable : (words : List (List ℕ)) (p : ProxyPlan) (w : ProxyWay) → IsProxyCommand words p w
     → IsServable p × HasWorkers w
 its_servable words p w says = (says.asks.in_range.connections, by_way w says.asks.by_way)
   where
-    by_workers : (o : Option Text) (count : ℕ) → AsksForWorkers o count → (1 ≤ count) × (count ≤ 64)
-    by_workers None count h = (omega (arith, h), omega (arith, h))
-    by_workers (Some text) count h = (h.0, h.1)
+    by_workers : (most : ℕ) (o : Option Text) (count : ℕ) → 4 ≤ most → AsksForWorkers most o count
+        → (1 ≤ count) × (count ≤ most)
+    by_workers most None count four h = (omega (arith, h), omega (arith, h, four))
+    by_workers most (Some text) count four h = (h.0, h.1)
 
     by_way : (w : ProxyWay) → AsksForWay says.values.way says.values.workers w → HasWorkers w
     by_way Select h = tt
-    by_way (Group count) h = by_workers says.values.workers count h.1
+    by_way (Group count) h = by_workers 64 says.values.workers count (omega arith) h.1
     by_way Future h = tt
+    by_way (Many count) h = by_workers 15 says.values.workers count (omega arith) h.1
 
 -- the rounds of a command are those that the words say
 pub its_rounds : (x : Command) (n m : ℕ) → x ≡ Load n → ◌≡◌ {A = Result Command WordsError} (Ok x) (Ok (Load m)) → n ≡ m

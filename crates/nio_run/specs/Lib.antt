@@ -1,5 +1,6 @@
 pub mod Commands
 pub mod Load
+pub mod Many
 pub mod Packets
 pub mod Proxy
 pub mod Relays

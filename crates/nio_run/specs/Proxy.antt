@@ -1,30 +1,46 @@
 -- What `proxy` does.
-use Rattle.std.specs.Prelude.{◌≡◌, ◌≤◌, ◌⊎◌, ℕ, ◌++◌, List, [], ◌∷◌, codes}
+use Rattle.std.specs.Prelude.{◌≡◌, ◌≤◌, ◌⊎◌, ℕ, ◌++◌, List, [], ◌∷◌, Result, Ok, Err, codes}
 use Rattle.std.specs.Fmt.{decimal}
 use Rattle.nio_base.specs.declared.numbers.ChanNo.{ChanNo}
 use Rattle.nio_bytes.specs.Cause.{Rose}
 use Rattle.nio_bytes.specs.declared.sink.Sink as sink
 use Rattle.nio_command.specs.declared.way.ProxyWay.{ProxyWay}
-use Rattle.nio_command.specs.declared.way.ProxyWay.TheVariants.{Select, Group, Future}
+use Rattle.nio_command.specs.declared.way.ProxyWay.TheVariants.{Select, Group, Future, Many}
 use Rattle.nio_link.specs.Links.{Link}
 use Rattle.nio_link.specs.declared.place.Place.{Place}
 use Rattle.nio_serve.specs.Serving.{HasServed, LeavesNothing, NoneRose, RelaysBytes, ServesCleanly, listener}
 use Rattle.nio_relay.specs.declared.plan.ProxyPlan.{ProxyPlan}
 use Rattle.nio_relay.specs.declared.plan.Served.{Served}
+use Rattle.nio_serve.specs.declared.serving.ServeError.{ServeError}
+use Rattle.nio_serve.specs.declared.serving.ServeError.TheVariants as error
 use Rattle.nio_script.specs.Output.{IsWritten, WritesPrefix}
 use Rattle.nio_script.specs.declared.status.Status.{Status}
 use Rattle.nio_script.specs.declared.status.Status.TheVariants.{Done, WriteFault, Memory, NetFault}
-use Rattle.nio_run.specs.Relays.{EndsRelay}
+use Rattle.nio_run.specs.Relays.{EndsRelay, SaysLine}
 
--- a group has from 1 to 64 workers
+-- a group has from 1 to 64 workers, and `many` from 1 to 15
 abbrev pub HasWorkers : ProxyWay → Type 0
 HasWorkers Select = Unit {0}
 HasWorkers (Group count) = (1 ≤ count) × (count ≤ 64)
 HasWorkers Future = Unit {0}
+HasWorkers (Many count) = (1 ≤ count) × (count ≤ 15)
+
+-- the way has one net alone
+abbrev pub HasOneNet : ProxyWay → Type 0
+HasOneNet Select = Unit {0}
+HasOneNet (Group count) = Unit {0}
+HasOneNet Future = Unit {0}
+HasOneNet (Many count) = ⊥
 
 -- what is said of the connections that were served, and of those that ended by a fault
 abbrev pub served_line : Served → List ℕ
 served_line s = codes "served " ++ decimal s.connections ++ codes " faults " ++ decimal s.faults ++ 10 ∷ []
+
+-- what is said where the connections were served, and that nothing is written where they weren't
+abbrev pub SaysOutcome : {K : Type 0} → sink.Ghosts K → Result Served ServeError → K → K → Status → Type 0
+SaysOutcome k (Ok served) output output' status = SaysLine k (served_line served) output output' status
+SaysOutcome k (Err error.NetFault) output output' status = (status ≡ NetFault) × (output' ≡ output)
+SaysOutcome k (Err error.Memory) output output' status = (status ≡ Memory) × (output' ≡ output)
 
 -- All connections were served, and that was written and flushed.
 pub record IsServed {K : Type 0} (k : sink.Ghosts K) (plan : ProxyPlan) (link : ChanNo → Link) (place : ChanNo → Place)
@@ -49,7 +65,7 @@ pub record IsServedCleanly {K : Type 0} (k : sink.Ghosts K) (conns : ℕ) (link 
   pub cleanly : ServesCleanly conns link served
   pub written : IsWritten k output output' (served_line served)
 
--- What `proxy` does by this plan where it ends with this status. Links and places are those after it; counts of
+-- What `proxy` does with one net by this plan where it ends with this status. Links and places are those after it; counts of
 -- faults, of links and of polls, are those before it and after it.
 pub record DoesProxy {K : Type 0} (k : sink.Ghosts K) (plan : ProxyPlan) (link : ChanNo → Link) (place : ChanNo → Place)
     (before now : ChanNo → ℕ) (polls_before polls_now : ℕ) (output output' : K) (status : Status) : Type 0 where

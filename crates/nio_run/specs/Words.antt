@@ -7,8 +7,9 @@ use Rattle.nio_words.specs.declared.words.Pass.{Pass}
 -- the usage line, which is written where the words are no command
 abbrev pub usage_line : List ℕ
 usage_line =
-    codes "usage: nio script | check | check-1 | race | proxy --way select|group|future --listen ADDR --target ADDR "
-    ++ codes "--conns N [--workers W] | load N | packets --listen ADDR --local ADDR --target ADDR --count N | timed"
+    codes "usage: nio script | check | check-1 | race | proxy --way select|group|future|many --listen ADDR "
+    ++ codes "--target ADDR --conns N [--workers W] | load N | packets --listen ADDR --local ADDR --target ADDR "
+    ++ codes "--count N | timed"
     ++ 10 ∷ []
 
 -- The usage was said, nothing was read, and no step was made.

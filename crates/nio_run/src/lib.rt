@@ -4,8 +4,11 @@
 
 pub use ended::Ended;
 pub use program::{PROGRAM_LIMITS, run};
+pub use words::workers_of;
 
 mod ended;
+mod lending;
+mod many;
 mod packets;
 mod program;
 mod proxy;

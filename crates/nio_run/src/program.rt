@@ -1,5 +1,5 @@
 //! All that the program does, from its words and its input to its output and its status.
-ghost use Rattle.std.specs.Prelude.{◌≡◌, ◌≤◌, ◌⊎◌, ℕ, map};
+ghost use Rattle.std.specs.Prelude.{◌≡◌, ◌≤◌, ◌⊎◌, ℕ, All, map};
 ghost use Rattle.std.specs.String.{string_bytes};
 ghost use Rattle.nio_bytes.specs.Cause.{Rose};
 ghost use Rattle.nio_script.specs.Input.{CausesFault, StopsPastLongest};
@@ -7,8 +7,9 @@ ghost use Rattle.nio_script.specs.Run.{ReadsText};
 ghost use Rattle.nio_words.specs.Passes.{IsFirstPass, limits_of};
 ghost use Rattle.nio_run.specs.Commands.{DoesScript, DoesCheck, WritesLegal};
 ghost use Rattle.nio_run.specs.Load.{DoesLoad};
+ghost use Rattle.nio_run.specs.Many.{DoesMany};
 ghost use Rattle.nio_run.specs.Packets.{DoesPackets};
-ghost use Rattle.nio_run.specs.Proxy.{DoesProxy};
+ghost use Rattle.nio_run.specs.Proxy.{DoesProxy, HasOneNet};
 ghost use Rattle.nio_run.specs.Words.{IsUsage};
 ghost use Rattle.nio_base.specs.declared.numbers.ChanNo.{ChanNo};
 ghost use Rattle.nio_command.specs.Words.{IsScriptCommand, IsCheckCommand, IsCheckFirstCommand, IsRaceCommand};
@@ -21,7 +22,9 @@ ghost use Rattle.nio_datagram.specs.declared.serving.PacketPlan.{PacketPlan};
 ghost use Rattle.nio_link.specs.Links.{IsUnused};
 ghost use Rattle.nio_link.specs.Places.{unused};
 ghost use Rattle.nio_race.specs.Does.{DoesRace};
+ghost use Rattle.nio_reactor.specs.Many.{meanings};
 ghost use Rattle.nio_command.specs.declared.way.ProxyWay.{ProxyWay};
+ghost use Rattle.nio_command.specs.declared.way.ProxyWay.TheVariants.{Many};
 ghost use Rattle.nio_relay.specs.declared.plan.ProxyPlan.{ProxyPlan};
 ghost use Rattle.nio_run.specs.Timed.{DoesTimed};
 
@@ -33,7 +36,7 @@ use nio_base::{Gate, Limits};
 use nio_bytes::{Sink, Source};
 use nio_command::{Command, WordsError};
 use nio_datagram::PacketNet;
-use nio_link::Net;
+use nio_link::Passable;
 use nio_load::run_load;
 use nio_plain::Rules;
 use nio_poller::Bell;
@@ -57,14 +60,16 @@ pub const PROGRAM_LIMITS: Limits = Limits {
 
 /// The usage line, which is written where the words are no command.
 const USAGE: &str =
-    "usage: nio script | check | check-1 | race | proxy --way select|group|future --listen ADDR --target ADDR \
+    "usage: nio script | check | check-1 | race | proxy --way select|group|future|many --listen ADDR --target ADDR \
         --conns N [--workers W] | load N | packets --listen ADDR --local ADDR --target ADDR --count N | timed\n";
 
 /// Does what the words say: all that the program does. `script`, `race` and `load` make their calls on this table, by
 /// the rules of now; `check` and `check-1` make theirs on a system of their own with the same limits; `timed` makes its
 /// calls on a group of its own; `proxy` relays over the net, in the way that the words say, with a table of its own;
-/// the bell makes the net's poll return. `packets` relays over the net of packets, with a table of its own.
-pub fn run<R, S: Source, K: Sink, N: Net, D: PacketNet, B: Bell + Sync, G: Gate + Sync>(
+/// the bell makes the net's poll return. `proxy --way many` also uses the first of the nets `more`, one for each worker
+/// (`workers_of` says how many); the first of them have the bells `bells`, in their order. `packets` relays over the net
+/// of packets, with a table of its own.
+pub fn run<R, S: Source, K: Sink, N, D: PacketNet, B, G: Gate + Sync>(
     rt: &R,
     alloc: Global,
     words: &[String],
@@ -73,16 +78,22 @@ pub fn run<R, S: Source, K: Sink, N: Net, D: PacketNet, B: Bell + Sync, G: Gate 
     table: &Words,
     pass: &mut Pass,
     net: N,
+    more: &mut Vec<N>,
     packets: &mut D,
     bell: &B,
+    bells: Vec<B>,
     gate: &G,
 ) -> Ended<N>
 where
     R: Threads + Wait + RandomSource + AllocGlobal + Sync,
+    N: Passable + Send + Drop,
+    B: Bell + Sync + Drop,
     requires first { IsFirstPass table.now pass.old }
     requires limits { limits_of table.now ≡ PROGRAM_LIMITS }
     requires fresh { (c : ChanNo) → IsUnused (N.link net c) }
     requires unasked { (c : ChanNo) → N.place net c ≡ unused }
+    requires more_fresh { All (λ x. (c : ChanNo) → IsUnused (N.link x c)) more.old.items }
+    requires more_unasked { All (λ x. (c : ChanNo) → N.place x c ≡ unused) more.old.items }
     requires front_unused { D.traffic packets.old front ≡ no_traffic }
     requires back_unused { D.traffic packets.old back ≡ no_traffic }
     requires front_unbound { D.place packets.old front ≡ place_is.Unbound }
@@ -121,11 +132,18 @@ where
     ensures load_alone { (rounds : ℕ) → IsLoadCommand (map string_bytes words.now) rounds →
         input.new ≡ input.old }
     ensures proxy { (plan : ProxyPlan) (way : ProxyWay) → IsProxyCommand (map string_bytes words.now) plan way →
-        DoesProxy K.Sink plan (N.link result.net) (N.place result.net)
+        HasOneNet way → DoesProxy K.Sink plan (N.link result.net) (N.place result.net)
         (N.faults net) (N.faults result.net) (N.poll_faults net) (N.poll_faults result.net) output.old output.new
         result.status }
     ensures proxy_alone { BeginsProxy (map string_bytes words.now) →
         (input.new ≡ input.old) × (pass.new ≡ pass.old) }
+    ensures many { (plan : ProxyPlan) (workers : ℕ)
+        → IsProxyCommand (map string_bytes words.now) plan (Many workers)
+        → DoesMany K.Sink (meanings N.link N.place N.faults N.poll_faults) plan workers net result.net
+        more.old.items more.new.items output.old output.new result.status }
+    ensures no_workers { ((plan : ProxyPlan) (workers : ℕ)
+        → IsProxyCommand (map string_bytes words.now) plan (Many workers) → ⊥)
+        → more.new ≡ more.old }
     ensures no_net { (BeginsProxy (map string_bytes words.now) → ⊥) → result.net ≡ net }
     ensures packets { (plan : PacketPlan) → IsPacketsCommand (map string_bytes words.now) plan →
         DoesPackets K.Sink plan (D.traffic packets.old) (D.traffic packets.new) (D.place packets.old)
@@ -172,7 +190,9 @@ where
             status: load_on_table(alloc, rounds, output, table, pass),
             net,
         },
-        Ok(Command::Proxy(plan, way)) => serve(rt, alloc, output, net, bell, gate, plan, way),
+        Ok(Command::Proxy(plan, way)) => {
+            serve(rt, alloc, output, net, more, bell, bells, gate, plan, way)
+        }
         Ok(Command::Packets(plan)) => Ended {
             status: relay_packets(rt, alloc, output, packets, plan),
             net,

@@ -1,18 +1,21 @@
 //! The command `proxy`.
-ghost use Rattle.std.specs.Prelude.{◌≡◌, ◌≤◌};
+ghost use Rattle.std.specs.Prelude.{◌≡◌, ◌≤◌, ℕ, All};
 ghost use Rattle.nio_base.specs.declared.numbers.ChanNo.{ChanNo};
+ghost use Rattle.nio_bytes.specs.Cause.{Rose};
 ghost use Rattle.nio_link.specs.Links.{IsUnused};
 ghost use Rattle.nio_link.specs.Places.{unused};
+ghost use Rattle.nio_reactor.specs.Many.{meanings};
 ghost use Rattle.nio_relay.specs.Plan.{IsServable};
-ghost use Rattle.nio_run.specs.Proxy.{DoesProxy, HasWorkers, served_line};
-ghost use Rattle.nio_run.specs.Relays.{SaysLine};
-ghost use Rattle.nio_serve.specs.Serving.{LeavesNothing, NoneRose, RelaysBytes, Serves, ServesAllOr};
+ghost use Rattle.nio_run.specs.Many.{DoesMany};
+ghost use Rattle.nio_run.specs.Proxy.{DoesProxy, HasOneNet, HasWorkers, SaysOutcome, served_line};
+ghost use Rattle.nio_run.specs.Relays.{EndsRelay, SaysLine};
 
 use crate::ended::Ended;
+use crate::many::serve_by_workers;
 use nio_base::Gate;
 use nio_bytes::Sink;
 use nio_command::ProxyWay;
-use nio_link::{JobNet, Net};
+use nio_link::{JobNet, Passable};
 use nio_operations::serve_group;
 use nio_poller::Bell;
 use nio_proxy::serve_select;
@@ -25,20 +28,16 @@ use std::random::RandomSource;
 use std::sync::Wait;
 use std::thread::Threads;
 
-// What a relay answers, and the net that it was given.
-#[derive(Drop)]
-struct Relayed<N> {
-    served: Result<Served, ServeError>,
-    net: N,
-}
-
-/// Relays the connections of a plan in this way, and says how many there were.
-pub fn serve<R, K: Sink, N: Net, B: Bell + Sync, G: Gate + Sync>(
+/// Relays the connections of a plan in this way, and says how many there were: by a selector, by the operations of a
+/// group, by operations with tickets, or by a selector that accepts and others that work over the nets `more`.
+pub fn serve<R, K: Sink, N: Passable + Send + Drop, B: Bell + Sync + Drop, G: Gate + Sync>(
     rt: &R,
     alloc: Global,
     output: &mut K,
     net: N,
+    more: &mut Vec<N>,
     bell: &B,
+    bells: Vec<B>,
     gate: &G,
     plan: ProxyPlan,
     way: ProxyWay,
@@ -49,76 +48,67 @@ where
     requires way { HasWorkers way }
     requires fresh { (c : ChanNo) → IsUnused (N.link net c) }
     requires unasked { (c : ChanNo) → N.place net c ≡ unused }
-    ensures proxy { DoesProxy K.Sink plan (N.link result.net) (N.place result.net) (N.faults net) (N.faults result.net)
-        (N.poll_faults net) (N.poll_faults result.net) output.old output.new result.status }
+    requires more_fresh { All (λ x. (c : ChanNo) → IsUnused (N.link x c)) more.old.items }
+    requires more_unasked { All (λ x. (c : ChanNo) → N.place x c ≡ unused) more.old.items }
+    ensures proxy { HasOneNet way → DoesProxy K.Sink plan (N.link result.net) (N.place result.net) (N.faults net)
+        (N.faults result.net) (N.poll_faults net) (N.poll_faults result.net) output.old output.new result.status }
+    ensures alone { HasOneNet way → more.new ≡ more.old }
+    ensures many { (workers : ℕ) → way ≡ ProxyWay.Many workers
+        → DoesMany K.Sink (meanings N.link N.place N.faults N.poll_faults) plan workers net result.net more.old.items
+        more.new.items output.old output.new result.status }
+    ensures ends { EndsRelay result.status }
+    ensures rose { result.status ≡ Status.WriteFault → Rose (K.faults output.old) (K.faults output.new) }
     ensures later { K.faults output.old ≤ K.faults output.new }
-{
-    let Relayed { served, net } = relay(rt, alloc, net, bell, gate, plan, way);
-    match served {
-        Ok(served) => Ended {
-            status: say_served(alloc, output, served),
-            net,
-        },
-        Err(ServeError::NetFault) => Ended {
-            status: Status::NetFault,
-            net,
-        },
-        Err(ServeError::Memory) => Ended {
-            status: Status::Memory,
-            net,
-        },
-    }
-}
-
-// Relays the connections of a plan: by a selector, by the operations of a group, or by operations with tickets.
-fn relay<R, N: Net, B: Bell + Sync, G: Gate + Sync>(
-    rt: &R,
-    alloc: Global,
-    net: N,
-    bell: &B,
-    gate: &G,
-    plan: ProxyPlan,
-    way: ProxyWay,
-) -> Relayed<N>
-where
-    R: Threads + Wait + RandomSource + AllocGlobal + Sync,
-    requires plan { IsServable plan }
-    requires way { HasWorkers way }
-    requires fresh { (c : ChanNo) → IsUnused (N.link net c) }
-    requires unasked { (c : ChanNo) → N.place net c ≡ unused }
-    ensures serves { Serves plan (N.link result.net) (N.place result.net) (N.faults net) (N.faults result.net)
-        (N.poll_faults net) (N.poll_faults result.net) result.served }
-    ensures relays { RelaysBytes (N.link result.net) }
-    ensures leaves { LeavesNothing plan (N.link result.net) (N.place result.net) }
-    ensures complete { NoneRose (N.faults net) (N.faults result.net) (N.poll_faults net) (N.poll_faults result.net)
-        → ServesAllOr plan.conns (N.link result.net) result.served }
 {
     match way {
         ProxyWay::Select => {
             let mut net = net;
             let served = serve_select(rt, alloc, &mut net, plan);
-            Relayed { served, net }
+            Ended {
+                status: say(alloc, output, served),
+                net,
+            }
         }
         ProxyWay::Group(workers) => {
             let mut jobs = JobNet::over(net);
             let served = serve_group(rt, alloc, &mut jobs, bell, gate, plan, workers);
-            Relayed {
-                served,
+            Ended {
+                status: say(alloc, output, served),
                 net: jobs.into_net(),
             }
         }
         ProxyWay::Future => {
             let mut jobs = JobNet::over(net);
             let served = serve_future(rt, alloc, &mut jobs, plan);
-            Relayed {
-                served,
+            Ended {
+                status: say(alloc, output, served),
                 net: jobs.into_net(),
             }
+        }
+        ProxyWay::Many(workers) => {
+            let mut net = net;
+            let status = serve_by_workers(
+                rt, alloc, output, &mut net, more, bells, gate, plan, workers,
+            );
+            Ended { status, net }
         }
     }
 }
 
-fn say_served<K: Sink>(alloc: Global, output: &mut K, served: Served) -> Status
+// Says how many connections were served, where they were.
+fn say<K: Sink>(alloc: Global, output: &mut K, served: Result<Served, ServeError>) -> Status
+    ensures said { SaysOutcome K.Sink served output.old output.new result }
+    ensures later { K.faults output.old ≤ K.faults output.new }
+{
+    match served {
+        Ok(served) => say_served(alloc, output, served),
+        Err(ServeError::NetFault) => Status::NetFault,
+        Err(ServeError::Memory) => Status::Memory,
+    }
+}
+
+/// Says how many connections were served.
+pub fn say_served<K: Sink>(alloc: Global, output: &mut K, served: Served) -> Status
     ensures said { SaysLine K.Sink (served_line served) output.old output.new result }
     ensures later { K.faults output.old ≤ K.faults output.new }
 {

@@ -1,18 +1,17 @@
 //! The command that the words of the command line say.
-ghost use Rattle.std.specs.Prelude.{◌≡◌, ◌≢◌, ◌⊎◌, ◌↔◌, ℕ, map};
+ghost use Rattle.std.specs.Prelude.{◌≡◌, ◌≢◌, ◌≤◌, ◌⊎◌, ◌↔◌, ℕ, IfOk, map};
 ghost use Rattle.std.specs.String.{string_bytes};
 ghost use Rattle.nio_command.specs.Words.{IsScriptCommand, IsCheckCommand, IsCheckFirstCommand, IsRaceCommand};
 ghost use Rattle.nio_command.specs.Words.{HasOptions, IsLoadCommand, IsPacketsCommand, IsProxyCommand, IsTimedCommand};
 ghost use Rattle.nio_command.specs.Words.{SaysNothing};
-ghost use Rattle.nio_command.specs.declared.way.ProxyWay.{ProxyWay};
 ghost use Rattle.nio_datagram.specs.Serving.{IsRelayable};
 ghost use Rattle.nio_datagram.specs.declared.serving.PacketPlan.{PacketPlan};
 ghost use Rattle.nio_relay.specs.Plan.{IsServable};
 ghost use Rattle.nio_relay.specs.declared.plan.ProxyPlan.{ProxyPlan};
 ghost use Rattle.nio_run.specs.Proxy.{HasWorkers};
 
-use nio_command::{Command, WordsError, command_of};
-use std::alloc::Global;
+use nio_command::{Command, ProxyWay, WordsError, command_of};
+use std::alloc::{AllocError, Global};
 
 /// The command that the words are, by each command.
 pub fn named(alloc: Global, words: &[String]) -> Result<Command, WordsError>
@@ -40,4 +39,44 @@ pub fn named(alloc: Global, words: &[String]) -> Result<Command, WordsError>
     ensures memory { result ≡ Err WordsError.Memory → HasOptions (map string_bytes words.now) }
 {
     command_of(alloc, words)
+}
+
+/// How many nets `run` needs in `more`: as many as `proxy --way many` has workers, and none for other words.
+pub fn workers_of(alloc: Global, words: &[String]) -> Result<usize, AllocError>
+    ensures many { (plan : ProxyPlan) (workers : ℕ)
+        → IsProxyCommand (map string_bytes words.now) plan (ProxyWay.Many workers)
+        → IfOk result (λ count. count ≡ workers) }
+    ensures others { ((plan : ProxyPlan) (workers : ℕ)
+        → IsProxyCommand (map string_bytes words.now) plan (ProxyWay.Many workers) → ⊥)
+        → IfOk result (λ count. count ≡ 0) }
+    ensures few { IfOk result (λ count. count ≤ 15) }
+{
+    match named(alloc, words) {
+        Ok(command) => Ok(workers_in(command)),
+        Err(WordsError::Usage) => Ok(0),
+        Err(WordsError::Memory) => Err(AllocError),
+    }
+}
+
+// How many workers this command has that need a net each.
+fn workers_in(command: Command) -> usize
+    ensures many { (plan : ProxyPlan) (workers : ℕ) → command ≡ Command.Proxy plan (ProxyWay.Many workers)
+        → result ≡ workers }
+    ensures others { ((plan : ProxyPlan) (workers : ℕ) → command ≡ Command.Proxy plan (ProxyWay.Many workers) → ⊥) → result ≡ 0 }
+{
+    match command {
+        Command::Proxy(_, way) => workers_by(way),
+        _ => 0,
+    }
+}
+
+// The same of a way.
+fn workers_by(way: ProxyWay) -> usize
+    ensures many { (workers : ℕ) → way ≡ ProxyWay.Many workers → result ≡ workers }
+    ensures others { ((workers : ℕ) → way ≡ ProxyWay.Many workers → ⊥) → result ≡ 0 }
+{
+    match way {
+        ProxyWay::Many(workers) => workers as usize,
+        ProxyWay::Select | ProxyWay::Group(_) | ProxyWay::Future => 0,
+    }
 }

@@ -102,6 +102,18 @@ const COMMANDS: &[(&str, Command)] = &[
         Command::Proxy(PLAN, ProxyWay::Future),
     ),
     (
+        "proxy --way many --listen 127.0.0.1:8080 --target 10.0.0.2:80 --conns 3",
+        Command::Proxy(PLAN, ProxyWay::Many(4)),
+    ),
+    (
+        "proxy --way many --workers 1 --listen 127.0.0.1:8080 --target 10.0.0.2:80 --conns 3",
+        Command::Proxy(PLAN, ProxyWay::Many(1)),
+    ),
+    (
+        "proxy --workers=15 --conns=3 --listen 127.0.0.1:8080 --target 10.0.0.2:80 --way=many",
+        Command::Proxy(PLAN, ProxyWay::Many(15)),
+    ),
+    (
         "packets --listen 127.0.0.1:7000 --local 127.0.0.1:7001 --target 10.0.0.2:9000 --count 1000000",
         Command::Packets(PACKETS),
     ),
@@ -157,6 +169,9 @@ const OTHER_LINES: &[&str] = &[
     "proxy --way group --listen 127.0.0.1:1 --target 127.0.0.1:2 --conns 1 --workers 65",
     "proxy --way group --listen 127.0.0.1:1 --target 127.0.0.1:2 --conns 1 --workers 4 --workers 4",
     "proxy --way future --listen 127.0.0.1:1 --target 127.0.0.1:2 --conns 1 --workers 4",
+    "proxy --way many --listen 127.0.0.1:1 --target 127.0.0.1:2 --conns 1 --workers 0",
+    "proxy --way many --listen 127.0.0.1:1 --target 127.0.0.1:2 --conns 1 --workers 16",
+    "proxy --way many --listen 127.0.0.1:1 --target 127.0.0.1:2 --conns 1 --workers 04",
     "packets",
     "packets --help",
     "packets --listen 127.0.0.1:1 --target 127.0.0.1:2 --count 1",

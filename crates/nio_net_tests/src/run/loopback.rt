@@ -1,7 +1,10 @@
 //! The proxy over sockets: a client, the proxy and a target, each in a thread.
-use super::runs;
+ghost use Rattle.std.specs.Prelude.{All, IfOk};
+ghost use Rattle.nio_mio.specs.Unasked.{IsUnasked};
+
+use super::runs_with;
 use nio_bytes::{MemorySink, MemorySource};
-use nio_mio::MioNet;
+use nio_mio::{MioBell, MioNet};
 use std::alloc::{AllocError, AllocGlobal, Global};
 use std::io;
 use std::io::{Read, Write};
@@ -13,6 +16,9 @@ use std::thread::{Threads, join, sleep};
 use std::time::{Clock, Duration};
 
 const COUNT: usize = 20_000;
+
+/// As many as the program has by default.
+const WORKERS: usize = 4;
 
 /// An address that nobody listens at.
 fn free_address(rt: &HostRuntime) -> Result<String, Fail> {
@@ -30,24 +36,53 @@ fn bytes(alloc: Global, period: usize) -> Result<Vec<u8>, AllocError> {
     Ok(bytes)
 }
 
+/// The nets of the workers, which were just made, and their bells.
+fn nets_of<S: Net + Clock + Copy>(
+    system: S,
+    alloc: Global,
+) -> Result<(Vec<MioNet<S>>, Vec<MioBell>), AllocError>
+    ensures { IfOk result (λ made. All IsUnasked made.0.items) }
+{
+    let mut nets = Vec::new(alloc);
+    let mut bells = Vec::new(alloc);
+    for _ in 0..WORKERS {
+        let (net, bell) = MioNet::make(system, alloc)?;
+        nets.push(net)?;
+        bells.push(bell)?;
+    }
+    Ok((nets, bells))
+}
+
 /// The status of the program that relays one connection, and what it wrote.
 fn relay<R>(
     rt: &R,
+    system: HostRuntime,
     alloc: Global,
     way: &str,
     listen: &str,
     target: &str,
 ) -> Result<(u8, Vec<u8>), AllocError>
 where
-    R: Threads + Wait + RandomSource + AllocGlobal + Net + Clock + Copy + Sync,
+    R: Threads + Wait + RandomSource + AllocGlobal + Sync,
 {
     let words = [
         "proxy", "--way", way, "--listen", listen, "--target", target, "--conns", "1",
     ];
     let mut source = MemorySource::make(Vec::new(alloc), 1, Vec::new(alloc));
     let mut sink = MemorySink::make(alloc, 8, Vec::new(alloc), 64)?;
-    let (net, bell) = MioNet::make(*rt, alloc)?;
-    let (status, _net) = runs(rt, alloc, &words, &mut source, &mut sink, net, &bell)?;
+    let (net, bell) = MioNet::make(system, alloc)?;
+    let (mut more, bells) = nets_of(system, alloc)?;
+    let (status, _net) = runs_with(
+        rt,
+        alloc,
+        &words,
+        &mut source,
+        &mut sink,
+        net,
+        &mut more,
+        &bell,
+        bells,
+    )?;
     Ok((status, sink.bytes().to_vec(alloc)?))
 }
 
@@ -85,7 +120,7 @@ fn answer(rt: &HostRuntime, listener: &TcpListener, sent: &[u8]) -> io::Result<V
 fn relays_over_loopback(rt: HostRuntime) -> Result<(), Fail> {
     let question = bytes(rt.alloc(), 251)?;
     let reply = bytes(rt.alloc(), 241)?;
-    for way in ["select", "group", "future"] {
+    for way in ["select", "group", "future", "many"] {
         let listener = TcpListener::bind(&rt, "127.0.0.1:0")?;
         let port = listener.local_addr()?.port();
         let target = format!(in rt.alloc(); "127.0.0.1:{port}")?;
@@ -93,7 +128,7 @@ fn relays_over_loopback(rt: HostRuntime) -> Result<(), Fail> {
         let (relayed, (asked, answered)) = join(
             &rt,
             || -> Result<(u8, Vec<u8>), AllocError> {
-                relay(&rt, rt.alloc(), way, &listen, &target)
+                relay(&rt, rt, rt.alloc(), way, &listen, &target)
             },
             || -> (io::Result<Vec<u8>>, io::Result<Vec<u8>>) {
                 join(

@@ -73,6 +73,7 @@ where
 {
     let mut source = MemorySource::make(Vec::new(alloc), 1, Vec::new(alloc));
     let links = relays::net_of(alloc, &[], None, None)?;
+    let mut more = Vec::new(alloc);
     let mut net = packets(alloc, fail_send)?;
     let (status, _links) = runs_over(
         rt,
@@ -81,8 +82,10 @@ where
         &mut source,
         output,
         links,
+        &mut more,
         &mut net,
         &NoBell,
+        Vec::new(alloc),
     )?;
     Ok((status, net))
 }

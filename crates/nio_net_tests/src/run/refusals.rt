@@ -133,7 +133,12 @@ fn each_read_and_write_fails(rt: HostRuntime) -> Result<(), Fail> {
             "each_read_and_write_fails: write {at}"
         );
     }
-    let (status, sink) = outcome(&rt, alloc, SCRIPT, CANCELLING.as_bytes(), NOTHING_FAILS)?;
+    // One more of either isn't made, so none was left out.
+    let later = Fails {
+        read: Some(reads),
+        write: Some(writes),
+    };
+    let (status, sink) = outcome(&rt, alloc, SCRIPT, CANCELLING.as_bytes(), later)?;
     assert!(rt;
         status == 0 && sink.bytes() == ITS_HISTORY.as_bytes(),
         "each_read_and_write_fails"

@@ -432,7 +432,7 @@ fn failing_nets(rt: HostRuntime) -> Result<(), Fail> {
     Ok(())
 }
 
-/// A runtime that has no random bytes, so that no round of polls is run.
+/// A runtime that has no random bytes, so that no executor can be made for the polls of tickets.
 #[derive(Drop)]
 struct NoRandom<R> {
     rt: R,
@@ -457,7 +457,7 @@ impl<R> RandomSource for NoRandom<R> {
 }
 
 #[test]
-fn a_refused_round_counts_as_want_of_memory(rt: HostRuntime) -> Result<(), Fail> {
+fn a_refused_executor_counts_as_want_of_memory(rt: HostRuntime) -> Result<(), Fail> {
     let net = net_of(rt.alloc(), &[SHORT], None, None)?;
     let refusing = NoRandom { rt: &rt };
     let (status, sink, _net) = relays(&refusing, rt.alloc(), net, "future", "1")?;

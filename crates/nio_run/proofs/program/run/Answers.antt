@@ -1,18 +1,22 @@
-use Rattle.std.proofs.Common.{ℕ, map, refl, subst}
+use Rattle.std.proofs.Common.{ℕ, map, refl, subst, sym}
 use Rattle.std.specs.String.{string_bytes}
 use Rattle.nio_script.specs.Output.{WritesOrFails}
 use Rattle.nio_script.specs.declared.status.Status.TheVariants as status
 use Rattle.nio_run.specs.declared.program.TheConstants.{PROGRAM_LIMITS}
 use Rattle.nio_relay.specs.declared.plan.ProxyPlan.{ProxyPlan}
+use Rattle.nio_command.specs.declared.way.ProxyWay.TheVariants.{Many}
+use Rattle.nio_reactor.specs.Many.{meanings}
 use Rattle.nio_run.specs.Load.{DoesLoad}
+use Rattle.nio_run.specs.Many.{DoesMany}
 use Rattle.nio_datagram.specs.declared.serving.PacketPlan.{PacketPlan}
 use Rattle.nio_run.specs.Packets.{DoesPackets}
-use Rattle.nio_run.specs.Proxy.{DoesProxy}
+use Rattle.nio_run.specs.Proxy.{DoesProxy, HasOneNet}
 use Rattle.nio_run.specs.Relays.{EndsRelay}
 use Rattle.nio_load.specs.Load.{EndsLoad}
 use Rattle.nio_run.proofs.Legal.{writes_legal}
-use Rattle.nio_run.proofs.Named.{begins_packets, begins_proxy, its_packets, its_plan, its_rounds}
-use Rattle.nio_run.proofs.Named.{its_workers, no_packets, no_plan, packets_no_proxy, proxy_no_packets, takes_none}
+use Rattle.nio_run.proofs.ByWorkers.{unserved_many}
+use Rattle.nio_run.proofs.Named.{begins_packets, begins_proxy, its_packets, its_plan, its_rounds, its_way, its_workers}
+use Rattle.nio_run.proofs.Named.{no_packets, no_plan, not_many, packets_no_proxy, proxy_no_packets, takes_none}
 use Rattle.nio_run.proofs.Unsent.{unsent}
 use Rattle.nio_run.proofs.Unserved.{unserved}
 use Rattle.nio_run.proofs.program.run.Goals as goal
@@ -39,17 +43,38 @@ returns-in-Err-Usage-clause-too_long g c =
     takes_none g.S.Source c.args.input.now status.Usage (λ long. absurd (cc long))
 
 pub returns-in-Ok-Proxy-clause-proxy : goal.returns-in-Ok-Proxy-clause-proxy
-returns-in-Ok-Proxy-clause-proxy g c = λ plan way says.
+returns-in-Ok-Proxy-clause-proxy g c = λ plan way says one.
     subst (λ (p : ProxyPlan). DoesProxy g.K.Sink p (g.N.Net.link c.serve.result.net)
     (g.N.Net.place c.serve.result.net)
     (g.N.Net.faults c.args.net) (g.N.Net.faults c.serve.result.net) (g.N.Poller.poll_faults c.args.net)
     (g.N.Poller.poll_faults c.serve.result.net) c.args.output.now c.serve.new.output c.serve.result.status)
     (its_plan c.in-Ok-Proxy.field-0 c.in-Ok-Proxy.plan plan c.in-Ok-Proxy.way way c.in-Ok-Proxy.field-0-is
-    (c.in-Ok-Proxy.ensures.proxy_only plan way says)) c.serve.ensures.proxy
+    (c.in-Ok-Proxy.ensures.proxy_only plan way says))
+    (c.serve.ensures.proxy (subst HasOneNet (sym
+    (its_way c.in-Ok-Proxy.field-0 c.in-Ok-Proxy.plan plan c.in-Ok-Proxy.way way c.in-Ok-Proxy.field-0-is
+    (c.in-Ok-Proxy.ensures.proxy_only plan way says))) one))
+
+pub returns-in-Ok-Proxy-clause-many : goal.returns-in-Ok-Proxy-clause-many
+returns-in-Ok-Proxy-clause-many g c = λ plan workers says.
+    subst (λ (p : ProxyPlan). DoesMany g.K.Sink
+    (meanings g.N.Net.link g.N.Net.place g.N.Net.faults g.N.Poller.poll_faults) p workers c.args.net
+    c.serve.result.net c.args.more.now.items c.serve.new.more.items c.args.output.now c.serve.new.output
+    c.serve.result.status)
+    (its_plan c.in-Ok-Proxy.field-0 c.in-Ok-Proxy.plan plan c.in-Ok-Proxy.way (Many workers) c.in-Ok-Proxy.field-0-is
+    (c.in-Ok-Proxy.ensures.proxy_only plan (Many workers) says))
+    (c.serve.ensures.many workers
+    (its_way c.in-Ok-Proxy.field-0 c.in-Ok-Proxy.plan plan c.in-Ok-Proxy.way (Many workers) c.in-Ok-Proxy.field-0-is
+    (c.in-Ok-Proxy.ensures.proxy_only plan (Many workers) says)))
+
+pub returns-in-Ok-Proxy-clause-no_workers : goal.returns-in-Ok-Proxy-clause-no_workers
+returns-in-Ok-Proxy-clause-no_workers g c = λ none.
+    c.serve.ensures.alone
+    (not_many (map string_bytes c.args.words.now) c.in-Ok-Proxy.field-0 c.in-Ok-Proxy.plan c.in-Ok-Proxy.way
+    c.in-Ok-Proxy.field-0-is c.in-Ok-Proxy.ensures.proxy none)
 
 pub returns-in-Ok-Proxy-clause-too_long : goal.returns-in-Ok-Proxy-clause-too_long
 returns-in-Ok-Proxy-clause-too_long g c = takes_none g.S.Source c.args.input.now c.serve.result.status
-    (λ long. subst EndsRelay long c.serve.ensures.proxy.ends)
+    (λ long. subst EndsRelay long c.serve.ensures.ends)
 
 pub returns-in-Ok-Proxy-clause-no_net : goal.returns-in-Ok-Proxy-clause-no_net
 returns-in-Ok-Proxy-clause-no_net g c = λ other. absurd (other
@@ -70,14 +95,26 @@ returns-in-Ok-Load-clause-too_long g c =
 
 pub returns-in-Err-Usage-clause-proxy : goal.returns-in-Err-Usage-clause-proxy
 returns-in-Err-Usage-clause-proxy g c =
-    λ plan way says. absurd
+    λ plan way says one. absurd
     (no_plan c.in-Err-Usage.field-0 plan way c.in-Err-Usage.field-0-is
     (c.in-Err-Usage.ensures.proxy_only plan way says))
 
-pub returns-in-Err-Memory-clause-proxy : goal.returns-in-Err-Memory-clause-proxy
-returns-in-Err-Memory-clause-proxy g c = λ plan way says.
+pub returns-in-Err-Usage-clause-many : goal.returns-in-Err-Usage-clause-many
+returns-in-Err-Usage-clause-many g c =
+    λ plan workers says. absurd
+    (no_plan c.in-Err-Usage.field-0 plan (Many workers) c.in-Err-Usage.field-0-is
+    (c.in-Err-Usage.ensures.proxy_only plan (Many workers) says))
+
+pub returns-clause-proxy : goal.returns-clause-proxy
+returns-clause-proxy g c = λ plan way says one.
     unserved g.K.Sink plan (g.N.Net.link c.args.net) (g.N.Net.place c.args.net) (g.N.Net.faults c.args.net)
     (g.N.Poller.poll_faults c.args.net) c.args.output.now c.requires.fresh c.requires.unasked
+
+pub returns-clause-many : goal.returns-clause-many
+returns-clause-many g c = λ plan workers says.
+    unserved_many (meanings g.N.Net.link g.N.Net.place g.N.Net.faults g.N.Poller.poll_faults) c.args.more.now.items
+    c.requires.more_fresh c.requires.more_unasked g.K.Sink plan workers c.args.net c.args.output.now c.requires.fresh
+    c.requires.unasked
 
 pub returns-in-Ok-Timed-clause-timed : goal.returns-in-Ok-Timed-clause-timed
 returns-in-Ok-Timed-clause-timed g c = λ words.
@@ -106,12 +143,17 @@ returns-in-Ok-Proxy-clause-packets g c = λ plan says. absurd
     (c.in-Ok-Proxy.ensures.packets_only plan says))
 
 pub returns-in-Ok-Packets-clause-proxy : goal.returns-in-Ok-Packets-clause-proxy
-returns-in-Ok-Packets-clause-proxy g c = λ plan way says. absurd
+returns-in-Ok-Packets-clause-proxy g c = λ plan way says one. absurd
     (packets_no_proxy c.in-Ok-Packets.field-0 c.in-Ok-Packets.plan plan way c.in-Ok-Packets.field-0-is
     (c.in-Ok-Packets.ensures.proxy_only plan way says))
 
-pub returns-in-Err-Memory-clause-too_long : goal.returns-in-Err-Memory-clause-too_long
-returns-in-Err-Memory-clause-too_long g c =
+pub returns-in-Ok-Packets-clause-many : goal.returns-in-Ok-Packets-clause-many
+returns-in-Ok-Packets-clause-many g c = λ plan workers says. absurd
+    (packets_no_proxy c.in-Ok-Packets.field-0 c.in-Ok-Packets.plan plan (Many workers) c.in-Ok-Packets.field-0-is
+    (c.in-Ok-Packets.ensures.proxy_only plan (Many workers) says))
+
+pub returns-clause-too_long : goal.returns-clause-too_long
+returns-clause-too_long g c =
     takes_none g.S.Source c.args.input.now status.Memory (λ long. absurd (cc long))
 
 pub returns-in-Ok-Packets-clause-packets : goal.returns-in-Ok-Packets-clause-packets
@@ -140,8 +182,8 @@ returns-in-Err-Usage-clause-packets g c =
     (no_packets c.in-Err-Usage.field-0 plan c.in-Err-Usage.field-0-is
     (c.in-Err-Usage.ensures.packets_only plan says))
 
-pub returns-in-Err-Memory-clause-packets : goal.returns-in-Err-Memory-clause-packets
-returns-in-Err-Memory-clause-packets g c = λ plan says.
+pub returns-clause-packets : goal.returns-clause-packets
+returns-clause-packets g c = λ plan says.
     unsent g.K.Sink plan (g.D.PacketNet.traffic c.args.packets.now) (g.D.PacketNet.place c.args.packets.now)
     (g.D.PacketNet.packet_faults c.args.packets.now) (g.D.Poller.poll_faults c.args.packets.now) c.args.output.now
     c.requires.front_unused c.requires.back_unused c.requires.front_unbound c.requires.back_unbound

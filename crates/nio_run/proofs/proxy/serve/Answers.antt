@@ -1,0 +1,48 @@
+use Rattle.nio_run.proofs.Serves.{does_over, does_proxy, outcome_ends, outcome_rose}
+use Rattle.nio_run.proofs.proxy.serve.Goals as goal
+
+pub returns-in-Select-clause-proxy : goal.returns-in-Select-clause-proxy
+returns-in-Select-clause-proxy g c = λ one.
+    let its = c.serve_select-served.ensures in
+    does_proxy g.K.Sink c.args.output.now c.say.new.output c.say.result c.args.plan _ _ _ _ _ _ its.relays its.leaves
+    c.serve_select-served.result its.serves its.complete c.say.ensures.said
+
+pub returns-in-Group-clause-proxy : goal.returns-in-Group-clause-proxy
+returns-in-Group-clause-proxy g c = λ one.
+    let its = c.serve_group-served.ensures in
+    does_over g.K.Sink c.args.output.now c.say-in-Group.new.output c.say-in-Group.result c.args.plan g.N.Net.link
+    g.N.Net.place g.N.Net.faults g.N.Poller.poll_faults c.args.net _ _ c.into_net.result c.over-jobs.ensures
+    c.into_net.ensures its.relays its.leaves c.serve_group-served.result its.serves its.complete
+    c.say-in-Group.ensures.said
+
+pub returns-in-Future-clause-proxy : goal.returns-in-Future-clause-proxy
+returns-in-Future-clause-proxy g c = λ one.
+    let its = c.serve_future-served.ensures in
+    does_over g.K.Sink c.args.output.now c.say-in-Future.new.output c.say-in-Future.result c.args.plan g.N.Net.link
+    g.N.Net.place g.N.Net.faults g.N.Poller.poll_faults c.args.net _ _ c.into_net-in-Future.result
+    c.over-jobs-in-Future.ensures c.into_net-in-Future.ensures its.relays its.leaves c.serve_future-served.result
+    its.serves its.complete c.say-in-Future.ensures.said
+
+pub returns-in-Select-clause-ends : goal.returns-in-Select-clause-ends
+returns-in-Select-clause-ends g c =
+    outcome_ends g.K.Sink c.args.output.now c.say.new.output c.say.result c.serve_select-served.result c.say.ensures.said
+
+pub returns-in-Select-clause-rose : goal.returns-in-Select-clause-rose
+returns-in-Select-clause-rose g c =
+    outcome_rose g.K.Sink c.args.output.now c.say.new.output c.say.result c.serve_select-served.result c.say.ensures.said
+
+pub returns-in-Group-clause-ends : goal.returns-in-Group-clause-ends
+returns-in-Group-clause-ends g c =
+    outcome_ends g.K.Sink c.args.output.now c.say-in-Group.new.output c.say-in-Group.result c.serve_group-served.result c.say-in-Group.ensures.said
+
+pub returns-in-Group-clause-rose : goal.returns-in-Group-clause-rose
+returns-in-Group-clause-rose g c =
+    outcome_rose g.K.Sink c.args.output.now c.say-in-Group.new.output c.say-in-Group.result c.serve_group-served.result c.say-in-Group.ensures.said
+
+pub returns-in-Future-clause-ends : goal.returns-in-Future-clause-ends
+returns-in-Future-clause-ends g c =
+    outcome_ends g.K.Sink c.args.output.now c.say-in-Future.new.output c.say-in-Future.result c.serve_future-served.result c.say-in-Future.ensures.said
+
+pub returns-in-Future-clause-rose : goal.returns-in-Future-clause-rose
+returns-in-Future-clause-rose g c =
+    outcome_rose g.K.Sink c.args.output.now c.say-in-Future.new.output c.say-in-Future.result c.serve_future-served.result c.say-in-Future.ensures.said
