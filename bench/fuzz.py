@@ -10,16 +10,22 @@ import tempfile
 import threading
 import time
 
-PROGRAM = "crates/nio_cli/out/nio_cli"
+PROGRAM = os.environ.get("NIO") or "crates/nio_cli/out/nio_cli"
 # the statuses of each command on an input that can be read and an output that takes all
 STATUSES = {"script": {0, 3, 9}, "check": {0, 3, 8, 9}, "check-1": {0, 3, 8, 9}, "race": {0, 3, 9}, "timed": {0, 3, 9},
             "words": {0, 2}}
 # replies of a line behind `go` that waits for nobody: the calls that such a race text is made of
 QUICK = ("keys", "selected", "valid", "interest", "ready", "iset", "ior", "iand", "cancel", "unselect", "attach", "wakeup")
 WORDS = ("script", "check", "check-1", "race", "load", "proxy", "timed", "packets", "--way", "select", "group", "future",
-         "--listen", "--target", "--conns", "--workers", "192.0.2.1:9", "[::1]:9", "0", "1", "3", "-1",
+         "many", "--listen", "--target", "--conns", "--workers", "192.0.2.1:9", "[::1]:9", "0", "1", "3", "-1",
          "99999999999999999999", "--help", "-h", "", "é", "--", "--way=select", "--way=group", "--way=future",
-         "--workers=2", "--local", "--count", "--count=2")
+         "--way=many", "--workers=2", "--local", "--count", "--count=2")
+# whole commands, of addresses that the machine doesn't have
+AT = "192.0.2.1:9"
+COMMANDS = (["proxy", "--way", "select", "--listen", AT, "--target", AT, "--conns", "3"],
+            ["proxy", "--way", "future", "--listen", AT, "--target", AT, "--conns", "1"],
+            ["proxy", "--way", "group", "--listen", AT, "--target", AT, "--conns", "3", "--workers", "2"],
+            ["packets", "--listen", AT, "--local", AT, "--target", AT, "--count", "3"], ["load", "3"])
 SECONDS = 10
 
 
@@ -165,14 +171,24 @@ class Fuzz:
             lines.append(f"t{self.random.randrange(4)} {word} {end}".encode())
         return self.changed(setup) if self.random.randrange(8) == 0 else setup + b"\n".join(lines)
 
+    def some_words(self):
+        """Words at random, or a whole command with up to two of its words changed, doubled or dropped."""
+        if self.random.randrange(2) == 0:
+            return [self.random.choice(WORDS) for _ in range(self.random.randrange(7))]
+        words = list(self.random.choice(COMMANDS))
+        for _ in range(self.random.randrange(3)):
+            at, kind = self.random.randrange(len(words)), self.random.randrange(3)
+            other = [[self.random.choice(WORDS)], [words[at], words[at]], []][kind]
+            words[at : at + 1] = other
+        return words
+
     def case(self):
         """A command, its words and its input."""
         kind = self.random.choice(["script", "script", "check", "check-1", "race", "timed", "words", "packets"])
         if kind == "packets":
             return kind, [kind], b""
         if kind == "words":
-            count = self.random.randrange(7)
-            return kind, [self.random.choice(WORDS) for _ in range(count)], b""
+            return kind, self.some_words(), b""
         if self.random.randrange(6) == 0:
             return kind, [kind], self.some_bytes()
         if kind == "race":

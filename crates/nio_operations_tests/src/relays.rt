@@ -16,7 +16,7 @@ struct Row {
 }
 
 /// A client that sends 20,000 bytes in three pieces, to a target that takes 7 bytes a write and answers nothing.
-const SENDER: Peer = Peer {
+pub(crate) const SENDER: Peer = Peer {
     sends: &[1, 16_384, 3_615],
     answers: &[],
     most: 7,
@@ -26,7 +26,7 @@ const SENDER: Peer = Peer {
 };
 
 /// Two such connections, of which the first target takes 10 bytes.
-const ONE_OF_TWO_FAILS: &[Peer] = &[
+pub(crate) const ONE_OF_TWO_FAILS: &[Peer] = &[
     Peer {
         fail_write_after: Some(10),
         at_target: 10,
@@ -181,23 +181,6 @@ fn relays_end_as_written_down(rt: HostRuntime) -> Result<(), Fail> {
             assert!(rt; arrived, "{}: {client}", row.name);
             client = client.wrapping_add(2);
         }
-    }
-    Ok(())
-}
-
-/// How many of the first polls fail in turn.
-const POLLS: u64 = 8;
-
-#[test]
-fn each_of_the_first_polls_fails(rt: HostRuntime) -> Result<(), Fail> {
-    let (client, target) = (ChanNo(1), ChanNo(2));
-    for poll in 0..POLLS {
-        let net = net_of(rt.alloc(), &[SENDER], Some(poll), None)?;
-        let (served, net) = serves(&rt, rt.alloc(), net, 1, &NoGate);
-        assert_eq!(rt; served, Err(ServeError::NetFault), "poll {poll}");
-        let arrived = net.put_bytes(target);
-        assert!(rt; net.got_bytes(client).starts_with(arrived), "poll {poll}");
-        assert!(rt; net.put_bytes(client).is_empty(), "poll {poll}");
     }
     Ok(())
 }
