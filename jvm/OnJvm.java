@@ -1078,6 +1078,13 @@ class Run {
         if (selection.hasBegun && !told.isEmpty() && caller.hasEnded(isOver ? 10_000 : 0)) {
             throw new Stop("the real selection ended before its line");
         }
+        int things = 0;
+        for (Map.Entry<Key, Integer> entry : told.entrySet()) {
+            things += Integer.bitCount(entry.getValue() & selection.looked.get(entry.getKey()));
+        }
+        if (selection.hasBegun && things > 1) {
+            throw new Stop("a selection that waits already ends with the first thing that is made ready");
+        }
         for (Map.Entry<Key, Integer> entry : told.entrySet()) {
             int looked = entry.getValue() & selection.looked.get(entry.getKey());
             int fed = looked & ~entry.getKey().channel.always();

@@ -1,5 +1,6 @@
 pub use Rattle.nio_base.specs.Limits
 pub use Rattle.nio_caller.specs.Callers
+pub use Rattle.nio_caller.specs.Several
 pub use Rattle.nio_event.specs.Conditions
 pub use Rattle.nio_event.specs.PassViews
 pub use Rattle.nio_pool.specs.Queues

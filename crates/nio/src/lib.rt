@@ -8,6 +8,15 @@ pub use nio_base::{Addr, CallerNo, ChanNo, KeyId, KeyNo, Kind, Limits, Ops, SelN
 pub use nio_caller::{Caller, NotHeld};
 pub use nio_words::{DrawError, Pass, Words};
 
+/// Limits for a program with a few threads: 8 callers, 4 selectors, 1,024 channels, and 1,024 indexes of keys in each
+/// selector. The table takes about 180 kilobytes then.
+pub const USUAL_LIMITS: Limits = Limits {
+    callers: 8,
+    selectors: 4,
+    channels: 1_024,
+    keys: 1_024,
+};
+
 pub mod channel;
 pub mod group;
 pub mod keys;

@@ -1,9 +1,11 @@
 //! The calls of a checked net, on the net and what is kept of it.
 ghost use Rattle.std.specs.Prelude.{◌≡◌, ◌≢◌, ◌↔◌, ◌<◌, ℕ, false, [], Some, None, Ok, Err, IfOk, IsSomeAnd, IsTrue};
 ghost use Rattle.std.specs.Prelude.{length, slice_set};
-ghost use Rattle.nio_link.specs.Links.{IsGot, IsPut, after_read, after_write};
+ghost use Rattle.nio_base.specs.declared.numbers.ChanNo.{ChanNo as Channel};
+ghost use Rattle.nio_link.specs.Links.{IsGot, IsPut, IsSameBut, after_read, after_write};
 ghost use Rattle.nio_link.specs.Places.{IsLinked, closed as left_of, place_after_accept, place_after_close};
 ghost use Rattle.nio_link.specs.Places.{place_after_listen, unused};
+ghost use Rattle.nio_link.specs.Readiness.{ready_after_read, ready_after_write};
 ghost use Rattle.nio_link.specs.declared.net.Got.TheVariants as got;
 ghost use Rattle.nio_link.specs.declared.net.Put.TheVariants as put;
 ghost use Rattle.nio_link.specs.declared.place.Standing.TheVariants as standing;
@@ -65,7 +67,7 @@ fn is_listening(kept: Option<Standing>) -> bool
 }
 
 // Whether a link that can be written stands there.
-fn is_whole(kept: Option<Standing>) -> bool
+pub(crate) fn is_whole(kept: Option<Standing>) -> bool
     ensures { IsTrue result ↔ (kept ≡ Some standing.Linked) }
 {
     match kept {
@@ -75,7 +77,7 @@ fn is_whole(kept: Option<Standing>) -> bool
 }
 
 // Whether a link that can be read stands there.
-fn is_linked(kept: Option<Standing>) -> bool
+pub(crate) fn is_linked(kept: Option<Standing>) -> bool
     ensures { IsTrue result ↔ IsSomeAnd kept IsLinked }
 {
     match kept {
@@ -184,6 +186,10 @@ pub(crate) fn read<N: Net>(
         → (result ≡ Ok got.NotYet) × (net.new ≡ net.old) }
     ensures got { IfOk result (IsGot into.old) }
     ensures link { N.link net.new chan ≡ after_read (as_failed result) into.new (N.link net.old chan) }
+    ensures links { IsSameBut chan (N.link net.old) (N.link net.new) }
+    ensures places { (c : Channel) → N.place net.new c ≡ N.place net.old c }
+    ensures asked { result ≢ Err NotAllowed → IsTold told.old chan 1
+        → N.ready net.new chan ≡ ready_after_read (as_failed result) (N.ready net.old chan) }
 {
     if !is_linked(kept_of(standings, chan)) {
         return Err(NetError::NotAllowed);
@@ -217,6 +223,10 @@ pub(crate) fn write<N: Net>(
         → (result ≡ Ok put.NotYet) × (net.new ≡ net.old) }
     ensures put { IfOk result (IsPut from.now) }
     ensures link { N.link net.new chan ≡ after_write (as_failed result) from.now (N.link net.old chan) }
+    ensures links { IsSameBut chan (N.link net.old) (N.link net.new) }
+    ensures places { (c : Channel) → N.place net.new c ≡ N.place net.old c }
+    ensures asked { result ≢ Err NotAllowed → IsTold told.old chan 4
+        → N.ready net.new chan ≡ ready_after_write (as_failed result) (N.ready net.old chan) }
 {
     if !is_whole(kept_of(standings, chan)) {
         return Err(NetError::NotAllowed);

@@ -1,9 +1,10 @@
 //! The checked net.
-ghost use Rattle.std.specs.Prelude.{◌≡◌, ◌≢◌, ◌↔◌, ◌+◌, ◌<◌, [], Err, IfNone, IfOk, IfSome, Ok, OnErr, false};
+ghost use Rattle.std.specs.Prelude.{◌≡◌, ◌≢◌, ◌↔◌, ◌+◌, ◌<◌, [], Err, IfNone, IfOk, IfSome, IsTrue, Ok, OnErr, false};
 ghost use Rattle.std.specs.Prelude.{slice_get};
 ghost use Rattle.nio_base.specs.declared.numbers.ChanNo.{ChanNo as Channel};
-ghost use Rattle.nio_link.specs.Links.{IsGot, IsPut, after_read, after_write};
+ghost use Rattle.nio_link.specs.Links.{IsGot, IsPut, IsSameBut, after_read, after_write};
 ghost use Rattle.nio_link.specs.Places.{IsLinked, place_after_accept, place_after_close, place_after_listen, unused};
+ghost use Rattle.nio_link.specs.Readiness.{ready_after_read, ready_after_write};
 ghost use Rattle.nio_link.specs.declared.net.Got.TheVariants as got;
 ghost use Rattle.nio_link.specs.declared.net.Put.TheVariants as put;
 ghost use Rattle.nio_link.specs.declared.place.Standing.TheVariants as standing;
@@ -69,6 +70,13 @@ impl<N: Net + Drop> CheckedNet<N> {
         })
     }
 
+    /// The net.
+    pub fn net(&self) -> &N
+        ensures { result.now ≡ self.now.net }
+    {
+        &self.net
+    }
+
     /// What the last poll told, one channel after the other, with what it is ready for.
     pub fn next_told(&mut self) -> Option<(ChanNo, Ops)>
         ensures next { result ≡ slice_get self.old.told self.old.given }
@@ -124,6 +132,10 @@ impl<N: Net + Drop> CheckedNet<N> {
             → (result ≡ Ok got.NotYet) × (self.new.net ≡ self.old.net) }
         ensures got { IfOk result (IsGot into.old) }
         ensures link { N.link self.new.net chan ≡ after_read (as_failed result) into.new (N.link self.old.net chan) }
+        ensures links { IsSameBut chan (N.link self.old.net) (N.link self.new.net) }
+        ensures places { (c : Channel) → N.place self.new.net c ≡ N.place self.old.net c }
+        ensures asked { result ≢ Err NotAllowed → IsTold self.old.told chan 1
+            → N.ready self.new.net chan ≡ ready_after_read (as_failed result) (N.ready self.old.net chan) }
     {
         calls::read(&mut self.net, &self.standings, &mut self.told, chan, into)
     }
@@ -138,8 +150,26 @@ impl<N: Net + Drop> CheckedNet<N> {
             → (result ≡ Ok put.NotYet) × (self.new.net ≡ self.old.net) }
         ensures put { IfOk result (IsPut from.now) }
         ensures link { N.link self.new.net chan ≡ after_write (as_failed result) from.now (N.link self.old.net chan) }
+        ensures links { IsSameBut chan (N.link self.old.net) (N.link self.new.net) }
+        ensures places { (c : Channel) → N.place self.new.net c ≡ N.place self.old.net c }
+        ensures asked { result ≢ Err NotAllowed → IsTold self.old.told chan 4
+            → N.ready self.new.net chan ≡ ready_after_write (as_failed result) (N.ready self.old.net chan) }
     {
         calls::write(&mut self.net, &self.standings, &mut self.told, chan, from)
+    }
+
+    // Whether the channel has a link that can be read.
+    pub(crate) fn may_read(&self, chan: ChanNo) -> bool
+        ensures { IsTrue result ↔ IsLinked (N.place self.now.net chan).standing }
+    {
+        calls::is_linked(calls::kept_of(&self.standings, chan))
+    }
+
+    // Whether the channel has a link that can be written.
+    pub(crate) fn may_write(&self, chan: ChanNo) -> bool
+        ensures { IsTrue result ↔ ((N.place self.now.net chan).standing ≡ standing.Linked) }
+    {
+        calls::is_whole(calls::kept_of(&self.standings, chan))
     }
 
     /// Closes what stands under the channel, if anything does.

@@ -2,9 +2,12 @@
 //! poll told of it.
 #![tactic(auto)]
 
+pub use buffer::ByteBuffer;
 pub use calls::NetError;
 pub use checked::CheckedNet;
 
+mod buffer;
+mod buffered;
 mod calls;
 mod checked;
 mod told;

@@ -6,26 +6,18 @@ ghost use Rattle.nio.specs.Callers.{sees};
 ghost use Rattle.nio.specs.PassViews.{HasSelector};
 
 use nio::select::{Scripted, SelectError, Selected, Sleeper, SleeperBell, Told};
-use nio::{Caller, CallerNo, Kind, Limits, Ops, SelNo, Words};
+use nio::{Caller, CallerNo, Kind, Ops, SelNo, USUAL_LIMITS, Words};
 use std::alloc::Global;
 use std::sync::Wait;
 use std::thread::join;
 
-const LIMITS: Limits = Limits {
-    callers: 2,
-    selectors: 1,
-    channels: 1,
-    keys: 64,
-};
-
 fn main(rt: HostRuntime) -> anyhow::Result<()> {
     // The table, and a caller for each thread.
-    let (words, pass) = Words::make(rt.alloc(), LIMITS)?;
+    let (words, pass) = Words::make(rt.alloc(), USUAL_LIMITS)?;
     let mut first = Caller::first(&words, pass);
     let sel = first.open_selector()?;
     let chan = first.open_channel(Kind::Source)?;
-    first.set_blocking(&rt, chan, false)?;
-    let key = first.register(&rt, sel, chan, Ops::READ, 0)?;
+    let key = first.register_non_blocking(&rt, sel, chan, Ops::READ, 0)?;
     println!(rt; "registered: key {} with serial {}", key.index, key.serial)?;
 
     // A poller says which channels are ready. This one says it of the key just made, and then of none.

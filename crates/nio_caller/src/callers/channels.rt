@@ -10,6 +10,7 @@ ghost use Rattle.nio_steps.specs.declared.refusal.ChannelError.TheVariants.{Busy
 ghost use Rattle.nio_channel.specs.Registered.{IsKeyOf, IsCancelledWhereClosed};
 ghost use Rattle.nio_words.specs.Passes.{limits_of};
 ghost use Rattle.nio_caller.specs.Callers.{IsSameCaller, StillHas, sees};
+ghost use Rattle.nio_caller.specs.Several.{RegistersNonBlocking};
 
 use super::Caller;
 use nio_base::{ChanNo, KeyNo, Kind, Ops, SelNo};
@@ -135,6 +136,32 @@ impl<'a> Caller<'a> {
         ensures cancelled { IfOk result (IsCancelledWhereClosed (sees self.new) self.old.number chan) }
     {
         nio_channel::try_register(self.words, &mut self.pass, self.number, sel, chan, ops, att)
+    }
+
+    /// Makes the channel non-blocking and registers it: Java's `configureBlocking(false)`, then `register`. It waits where
+    /// one of these waits. Where the first is refused, nothing is registered.
+    pub fn register_non_blocking<R: Wait>(
+        &mut self,
+        rt: &R,
+        sel: SelNo,
+        chan: ChanNo,
+        ops: Ops,
+        att: u64,
+    ) -> Result<KeyNo, ChannelError>
+        requires selector { HasSelector (sees self.old) sel }
+        requires channel { HasChannel (sees self.old) chan }
+        ensures call { CallClause self.old.number (RegistersNonBlocking (limits_of self.old.table) sel chan ops att)
+            (sees self.old) (sees self.new) result }
+        ensures same { IsSameCaller self.old self.new }
+        ensures still { StillHas (sees self.old) (sees self.new) }
+        ensures waits { result ≢ Err Busy }
+        ensures in_selector { IfOk result (λ k. k.sel ≡ sel) }
+        ensures key { IfOk result (HasKey (sees self.new)) }
+        ensures its { IfOk result (IsKeyOf (sees self.new) chan) }
+        ensures cancelled { IfOk result (IsCancelledWhereClosed (sees self.new) self.old.number chan) }
+    {
+        self.set_blocking(rt, chan, false)?;
+        self.register(rt, sel, chan, ops, att)
     }
 
     /// The channel's key in the selector, where it has one: Java's `keyFor`.

@@ -9,6 +9,7 @@ ghost use Rattle.nio_steps.specs.KeyCalls.{ready_plan, unselect_plan, attach_pla
 ghost use Rattle.nio_steps.specs.Runs.{Completes};
 ghost use Rattle.nio_words.specs.Passes.{limits_of};
 ghost use Rattle.nio_caller.specs.Callers.{IsSameCaller, StillHas, sees};
+ghost use Rattle.nio_caller.specs.Several.{TakesSelected};
 
 use super::Caller;
 use nio_base::{ChanNo, KeyNo, Ops, SelNo};
@@ -136,6 +137,23 @@ impl<'a> Caller<'a> {
         ensures still { StillHas (sees self.old) (sees self.new) }
     {
         nio_keys::unselect(self.words, &mut self.pass, self.number, key)
+    }
+
+    /// Takes the channel's key in the selector out of the selected set, and answers it: as a Java program does by `next`
+    /// and `remove` on the iterator of `selectedKeys`. None where there is no such channel, or it has no key there.
+    pub fn take_selected(&mut self, chan: ChanNo, sel: SelNo) -> Option<KeyNo>
+        requires { HasSelector (sees self.old) sel }
+        ensures call { CallClause self.old.number (TakesSelected (limits_of self.old.table) chan sel)
+            (sees self.old) (sees self.new) result }
+        ensures same { IsSameCaller self.old self.new }
+        ensures still { StillHas (sees self.old) (sees self.new) }
+        ensures channel { IfSome result (λ _. HasChannel (sees self.new) chan) }
+        ensures key { IfSome result (HasKey (sees self.new)) }
+    {
+        let found = self.find_channel(chan.0)?;
+        let key = self.key_for(found, sel)?;
+        self.unselect(key);
+        Some(key)
     }
 
     /// Gives the key an attachment, 0 for none. Answers the one before: Java's `attach`. Where the key's index was

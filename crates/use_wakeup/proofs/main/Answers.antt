@@ -3,15 +3,13 @@ use Rattle.use_wakeup.proofs.main.Goals as goal
 pub select-requires : goal.select-requires
 select-requires g c =
     c.in_ok-key.ensures.still.selectors c.in_ok-sel.sel
-    (c.in_ok-set_blocking.ensures.still.selectors c.in_ok-sel.sel
-    (c.in_ok-chan.ensures.still.selectors c.in_ok-sel.sel c.in_ok-sel.ensures.made))
+    (c.in_ok-chan.ensures.still.selectors c.in_ok-sel.sel c.in_ok-sel.ensures.made)
 
 pub join-answer-requires-after_bounds : goal.join-answer-requires-after_bounds
 join-answer-requires-after_bounds g c κs within =
     let has = c.in_ok-selected.ensures.still.selectors c.in_ok-sel.sel
     (c.in_ok-key.ensures.still.selectors c.in_ok-sel.sel
-    (c.in_ok-set_blocking.ensures.still.selectors c.in_ok-sel.sel
-    (c.in_ok-chan.ensures.still.selectors c.in_ok-sel.sel c.in_ok-sel.ensures.made))) in (
+    (c.in_ok-chan.ensures.still.selectors c.in_ok-sel.sel c.in_ok-sel.ensures.made)) in (
       c.in_ok-second.ensures.still.selectors c.in_ok-sel.sel has,
       c.in_ok-second.ensures.given.selectors c.in_ok-sel.sel has,
     )

@@ -1,0 +1,101 @@
+-- Calls that are made one after the other are one call.
+use Rattle.std.proofs.Common.{◌≡◌, ℕ, Bool, true, false, if◌then◌else◌, Option, Some, None, List, [], ◌∷◌}
+use Rattle.std.proofs.Common.{not, nat_lt, refl, sym, ◌∙◌, subst}
+use Rattle.std.proofs.lemmas.List.{append-nil}
+use Rattle.nio_base.specs.declared.limits.Limits.{Limits}
+use Rattle.nio_base.specs.declared.numbers.CallerNo.{CallerNo}
+use Rattle.nio_base.specs.declared.numbers.ChanNo.{ChanNo}
+use Rattle.nio_event.specs.PassViews.{PassView}
+use Rattle.nio_event.specs.Questions.{answer_of}
+use Rattle.nio_event.specs.declared.act.Act.{Act}
+use Rattle.nio_steps.proofs.CallLaws.{call_as, calls_then}
+use Rattle.nio_steps.specs.Calls.{CallClause}
+use Rattle.nio_steps.specs.KeyCalls.{find_channel_plan}
+use Rattle.nio_steps.specs.Plan.{Plan, reply, ◌>>=◌}
+use Rattle.nio_steps.specs.Runs.{Completes, Follows}
+use Rattle.nio_steps.specs.Steps.{look_channel, channel_in}
+use Rattle.nio_steps.specs.Waiting.{Then}
+use Rattle.nio_words.specs.Passes.{limits_of}
+use Rattle.nio_words.specs.declared.words.Words.{Words}
+use Rattle.nio_caller.specs.Callers.{Acting, IsSameCaller, StillHas}
+
+module _ {A R : Type 0} {me : CallerNo} {First : List Act → A → Type 0} (Second : A → List Act → R → Type 0)
+    {a : A} (answer : R) where
+  -- the second call does nothing
+  pub then_nothing : {v0 v1 : PassView} → CallClause me First v0 v1 a → Second a [] answer
+      → CallClause me (Then First Second) v0 v1 answer
+  then_nothing first second =
+      call_as (Then First Second) answer
+      (λ xs runs. record {
+        first = xs;
+        middle = a;
+        second = [];
+        parts = sym (append-nil xs);
+        runs_first = runs;
+        runs_second = second;
+      })
+      first
+
+  pub then_call : {v0 v1 v2 : PassView} → CallClause me First v0 v1 a → CallClause me (Second a) v1 v2 answer
+      → CallClause me (Then First Second) v0 v2 answer
+  then_call first second =
+      calls_then (Then First Second) answer
+      (λ xs ys runs later. record {
+        first = xs;
+        middle = a;
+        second = ys;
+        parts = refl;
+        runs_first = runs;
+        runs_second = later;
+      })
+      first second
+
+-- a call of the same caller, at its table
+pub call_moved : {R : Type 0} {c0 c1 : Acting} {v1 v2 : PassView} (Shape : Limits → List Act → R → Type 0) (answer : R)
+    → IsSameCaller c0 c1 → CallClause c1.number (Shape (limits_of c1.table)) v1 v2 answer
+    → CallClause c0.number (Shape (limits_of c0.table)) v1 v2 answer
+call_moved {c0 = c0} {c1 = c1} {v1 = v1} {v2 = v2} Shape answer same call =
+    subst (λ (n : CallerNo). CallClause n (Shape (limits_of c0.table)) v1 v2 answer) same.number
+    (subst (λ (w : Words). CallClause c1.number (Shape (limits_of w)) v1 v2 answer) same.table call)
+
+pub still_then : {v0 v1 v2 : PassView} → StillHas v0 v1 → StillHas v1 v2 → StillHas v0 v2
+still_then first second = record {
+  selectors = λ s has. second.selectors s (first.selectors s has);
+  channels = λ c has. second.channels c (first.channels c has);
+  keys = λ k has. second.keys k (first.keys k has);
+}
+
+pub same_then : {c0 c1 c2 : Acting} → IsSameCaller c0 c1 → IsSameCaller c1 c2 → IsSameCaller c0 c2
+same_then first second =
+    record { table = second.table ∙ first.table; number = second.number ∙ first.number }
+
+-- ---- the channel that is found is the one that was looked for
+
+module _ (n : ℕ) (c : ChanNo) where
+  abbrev numbered : ChanNo
+  numbered = record { 0 = n }
+
+  made_is : (made : Bool) → reply (if made then Some numbered else None) ≡ reply (Some c) → c ≡ numbered
+  made_is true same = cc
+  made_is false same = absurd (cc same)
+
+  none_found : (acts : List Act) → Follows (reply None) acts (reply (Some c)) → c ≡ numbered
+  none_found [] same = absurd (cc same)
+  none_found (act ∷ acts) run = absurd run
+
+  abbrev look : Plan (Option ChanNo)
+  look = look_channel numbered >>= λ found. reply (if found.made then Some numbered else None)
+
+  one_found : (acts : List Act) → Follows look acts (reply (Some c)) → c ≡ numbered
+  one_found [] same = absurd (cc same)
+  one_found (act ∷ []) run = made_is (channel_in (answer_of act)).made run.1
+  one_found (act ∷ other ∷ acts) run = absurd run.1
+
+  by_test : (past : Bool) (acts : List Act) → Follows (if past then reply None else look) acts (reply (Some c))
+      → c ≡ numbered
+  by_test true acts run = none_found acts run
+  by_test false acts run = one_found acts run
+
+  pub found_is : (l : Limits) (acts : List Act) → Completes (find_channel_plan l n) acts (Some c) → c ≡ numbered
+  unfolding find_channel_plan
+  found_is l acts run = by_test (not (nat_lt n l.channels)) acts run

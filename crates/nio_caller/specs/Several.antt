@@ -1,0 +1,41 @@
+-- Calls that are several calls, one after the other.
+use Rattle.std.specs.Prelude.{◌≡◌, ℕ, false, Option, Some, None, Result, Ok, Err, List, []}
+use Rattle.nio_base.specs.declared.limits.Limits.{Limits}
+use Rattle.nio_base.specs.declared.numbers.ChanNo.{ChanNo}
+use Rattle.nio_base.specs.declared.numbers.KeyNo.{KeyNo}
+use Rattle.nio_base.specs.declared.numbers.SelNo.{SelNo}
+use Rattle.nio_event.specs.declared.act.Act.{Act}
+use Rattle.nio_steps.specs.ChannelCalls.{SetsBlocking, Registers, key_for_plan}
+use Rattle.nio_steps.specs.KeyCalls.{find_channel_plan, unselect_plan}
+use Rattle.nio_steps.specs.Runs.{Completes}
+use Rattle.nio_steps.specs.Waiting.{Then}
+use Rattle.nio_steps.specs.declared.refusal.ChannelError.{ChannelError}
+
+-- nothing more is done, and this is the answer
+abbrev pub Answers : {R : Type 0} → R → List Act → R → Type 0
+Answers given acts answer = (acts ≡ []) × (answer ≡ given)
+
+-- ---- registering
+
+abbrev pub RegistersAfter : Limits → SelNo → ChanNo → ℕ → ℕ → Result (Unit {0}) ChannelError → List Act
+    → Result KeyNo ChannelError → Type 0
+RegistersAfter l s c ops att (Ok done) = Registers l s c ops att
+RegistersAfter l s c ops att (Err error) = Answers (Err error)
+
+-- the channel is made non-blocking; where that isn't refused, it is registered
+abbrev pub RegistersNonBlocking : Limits → SelNo → ChanNo → ℕ → ℕ → List Act → Result KeyNo ChannelError → Type 0
+RegistersNonBlocking l s c ops att = Then (SetsBlocking l c false) (RegistersAfter l s c ops att)
+
+-- ---- taking out of the selected set
+
+abbrev pub UnselectsFound : Option KeyNo → List Act → Option KeyNo → Type 0
+UnselectsFound (Some key) = Then (Completes (unselect_plan key)) (λ out. Answers (Some key))
+UnselectsFound None = Answers None
+
+abbrev pub LooksForKey : SelNo → Option ChanNo → List Act → Option KeyNo → Type 0
+LooksForKey s (Some c) = Then (Completes (key_for_plan c s)) UnselectsFound
+LooksForKey s None = Answers None
+
+-- the channel is looked for, and then its key in the selector; where there is one, it is taken out of the selected set
+abbrev pub TakesSelected : Limits → ChanNo → SelNo → List Act → Option KeyNo → Type 0
+TakesSelected l c s = Then (Completes (find_channel_plan l c.0)) (LooksForKey s)

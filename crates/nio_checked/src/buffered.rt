@@ -1,0 +1,129 @@
+//! The calls of a checked net that take a buffer.
+ghost use Rattle.std.specs.Prelude.{◌≡◌, ◌≢◌, ◌↔◌, ◌-◌, ◌<◌, ◌≤◌, [], Err, IfOk, IsTrue, Ok, OnErr, length};
+ghost use Rattle.nio_base.specs.declared.numbers.ChanNo.{ChanNo as Channel};
+ghost use Rattle.nio_link.specs.Links.{IsPut, IsSameBut, after_read, after_write};
+ghost use Rattle.nio_link.specs.Places.{IsLinked};
+ghost use Rattle.nio_link.specs.Readiness.{ready_after_read, ready_after_write};
+ghost use Rattle.nio_link.specs.declared.net.Got.TheVariants as got;
+ghost use Rattle.nio_link.specs.declared.net.Put.TheVariants as put;
+ghost use Rattle.nio_link.specs.declared.place.Standing.TheVariants as standing;
+ghost use Rattle.nio_checked.specs.Buffered.{Gains, IsGotBy, Loses, came_to, count_got, count_put};
+ghost use Rattle.nio_checked.specs.Checked.{as_failed};
+ghost use Rattle.nio_checked.specs.Listed.{IsTold};
+ghost use Rattle.nio_checked.specs.declared.calls.NetError.TheVariants.{NotAllowed};
+
+use crate::buffer::ByteBuffer;
+use crate::calls::NetError;
+use crate::checked::CheckedNet;
+use nio_base::ChanNo;
+use nio_link::{Got, Net, Put};
+
+// How many bytes one read takes at most.
+const BLOCK: usize = 4_096;
+
+impl<N: Net + Drop> CheckedNet<N> {
+    /// Reads what has come on a link into the buffer, as far as it has room: Java's `read`. `NotYet` where `read` says
+    /// it, and where the buffer is full. One call reads at most 4,096 bytes.
+    pub fn read_buf(&mut self, chan: ChanNo, buffer: &mut ByteBuffer) -> Result<Got, NetError>
+        ensures allowed { result ≢ Err NotAllowed ↔ IsLinked (N.place self.old.net chan).standing }
+        ensures refused { result ≡ Err NotAllowed → self.new.net ≡ self.old.net }
+        ensures untold { result ≢ Err NotAllowed → ¬ IsTold self.old.told chan 1
+            → (result ≡ Ok got.NotYet) × (self.new.net ≡ self.old.net) }
+        ensures full { result ≢ Err NotAllowed → buffer.old.capacity ≤ length buffer.old.items
+            → (result ≡ Ok got.NotYet) × (self.new.net ≡ self.old.net) }
+        ensures asked { result ≢ Err NotAllowed → IsTold self.old.told chan 1
+            → length buffer.old.items < buffer.old.capacity
+            → N.ready self.new.net chan ≡ ready_after_read (as_failed result) (N.ready self.old.net chan) }
+        ensures gains { IfOk result (λ got. Gains buffer.old buffer.new (count_got got)) }
+        ensures got { IfOk result (IsGotBy (buffer.old.capacity - length buffer.old.items)) }
+        ensures err { OnErr result (buffer.new ≡ buffer.old) }
+        ensures link { N.link self.new.net chan
+            ≡ after_read (as_failed result) (came_to buffer.old buffer.new) (N.link self.old.net chan) }
+        ensures links { IsSameBut chan (N.link self.old.net) (N.link self.new.net) }
+        ensures places { (c : Channel) → N.place self.new.net c ≡ N.place self.old.net c }
+    {
+        let size = buffer.room().min(BLOCK);
+        if size == 0 {
+            return nothing_got(self.may_read(chan));
+        }
+        let mut block = [0; BLOCK];
+        let got = self.read_front(chan, &mut block, size)?;
+        if let Got::Bytes(count) = got {
+            buffer.put(&block[..count]);
+        }
+        Ok(got)
+    }
+
+    // Reads into the front of the block.
+    fn read_front(&mut self, chan: ChanNo, block: &mut [u8], size: usize) -> Result<Got, NetError>
+        requires some { 1 ≤ size }
+        requires fits { size ≤ length block.old }
+        ensures allowed { result ≢ Err NotAllowed ↔ IsLinked (N.place self.old.net chan).standing }
+        ensures refused { result ≡ Err NotAllowed → self.new.net ≡ self.old.net }
+        ensures untold { result ≢ Err NotAllowed → ¬ IsTold self.old.told chan 1
+            → (result ≡ Ok got.NotYet) × (self.new.net ≡ self.old.net) }
+        ensures asked { result ≢ Err NotAllowed → IsTold self.old.told chan 1
+            → N.ready self.new.net chan ≡ ready_after_read (as_failed result) (N.ready self.old.net chan) }
+        ensures got { IfOk result (IsGotBy size) }
+        ensures link { N.link self.new.net chan ≡ after_read (as_failed result) block.new (N.link self.old.net chan) }
+        ensures links { IsSameBut chan (N.link self.old.net) (N.link self.new.net) }
+        ensures places { (c : Channel) → N.place self.new.net c ≡ N.place self.old.net c }
+    {
+        self.read(chan, &mut block[..size])
+    }
+
+    /// Writes bytes of the buffer on a link, from the first on, as many as it takes: Java's `write`. They leave the
+    /// buffer. `NotYet` where `write` says it, and where the buffer is empty.
+    pub fn write_buf(&mut self, chan: ChanNo, buffer: &mut ByteBuffer) -> Result<Put, NetError>
+        ensures allowed { result ≢ Err NotAllowed ↔ ((N.place self.old.net chan).standing ≡ standing.Linked) }
+        ensures refused { result ≡ Err NotAllowed → self.new.net ≡ self.old.net }
+        ensures untold { result ≢ Err NotAllowed → ¬ IsTold self.old.told chan 4
+            → (result ≡ Ok put.NotYet) × (self.new.net ≡ self.old.net) }
+        ensures empty { result ≢ Err NotAllowed → buffer.old.items ≡ []
+            → (result ≡ Ok put.NotYet) × (self.new.net ≡ self.old.net) }
+        ensures asked { result ≢ Err NotAllowed → IsTold self.old.told chan 4 → buffer.old.items ≢ []
+            → N.ready self.new.net chan ≡ ready_after_write (as_failed result) (N.ready self.old.net chan) }
+        ensures loses { IfOk result (λ put. Loses buffer.old buffer.new (count_put put)) }
+        ensures put { IfOk result (IsPut buffer.old.items) }
+        ensures err { OnErr result (buffer.new ≡ buffer.old) }
+        ensures link { N.link self.new.net chan
+            ≡ after_write (as_failed result) buffer.old.items (N.link self.old.net chan) }
+        ensures links { IsSameBut chan (N.link self.old.net) (N.link self.new.net) }
+        ensures places { (c : Channel) → N.place self.new.net c ≡ N.place self.old.net c }
+    {
+        if buffer.is_empty() {
+            return nothing_put(self.may_write(chan));
+        }
+        let put = self.write(chan, buffer.front())?;
+        if let Put::Bytes(count) = put {
+            buffer.advance(count);
+        }
+        Ok(put)
+    }
+}
+
+// The answer of a read that takes nothing.
+fn nothing_got(allowed: bool) -> Result<Got, NetError>
+    ensures allowed { result ≢ Err NotAllowed ↔ IsTrue allowed }
+    ensures nothing { result ≢ Err NotAllowed → result ≡ Ok got.NotYet }
+    ensures refused { OnErr result (result ≡ Err NotAllowed) }
+{
+    if allowed {
+        Ok(Got::NotYet)
+    } else {
+        Err(NetError::NotAllowed)
+    }
+}
+
+// The answer of a write that gives nothing.
+fn nothing_put(allowed: bool) -> Result<Put, NetError>
+    ensures allowed { result ≢ Err NotAllowed ↔ IsTrue allowed }
+    ensures nothing { result ≢ Err NotAllowed → result ≡ Ok put.NotYet }
+    ensures refused { OnErr result (result ≡ Err NotAllowed) }
+{
+    if allowed {
+        Ok(Put::NotYet)
+    } else {
+        Err(NetError::NotAllowed)
+    }
+}
