@@ -6,9 +6,12 @@ import random
 import socket
 import subprocess
 import sys
+import struct
 import tempfile
 import threading
 import time
+
+import loopback
 
 PROGRAM = os.environ.get("NIO") or "crates/nio_cli/out/nio_cli"
 # the statuses of each command on an input that can be read and an output that takes all
@@ -25,7 +28,10 @@ AT = "192.0.2.1:9"
 COMMANDS = (["proxy", "--way", "select", "--listen", AT, "--target", AT, "--conns", "3"],
             ["proxy", "--way", "future", "--listen", AT, "--target", AT, "--conns", "1"],
             ["proxy", "--way", "group", "--listen", AT, "--target", AT, "--conns", "3", "--workers", "2"],
+            ["proxy", "--way", "many", "--listen", AT, "--target", AT, "--conns", "3", "--workers", "2"],
             ["packets", "--listen", AT, "--local", AT, "--target", AT, "--count", "3"], ["load", "3"])
+# the ways of a proxy over loopback
+WAYS = (["select"], ["future"], ["group", "--workers", "3"], ["many", "--workers", "3"])
 SECONDS = 10
 
 
@@ -123,6 +129,75 @@ class Ends:
         return "other packets came, or came back"
 
 
+def parts(text, count):
+    """The bytes in so many parts of about one length."""
+    size = len(text) // count + 1
+    return [text[at * size : (at + 1) * size] for at in range(count)]
+
+
+class Clients:
+    """The clients of a proxy, and its target, which sends back what it reads. Each client sends one of these texts. One
+    whose text begins with a byte below 64 breaks off then; each other one reads until the end."""
+
+    def __init__(self, sent):
+        self.sent, self.ended = sent, False
+        self.back = [b""] * len(sent)
+        self.target = socket.create_server((loopback.HOST, 0))
+        self.target.settimeout(0.05)
+        with socket.create_server((loopback.HOST, 0)) as free:
+            self.listen = port(free)
+        self.threads = [threading.Thread(target=self.send, args=(who,)) for who in range(len(sent))]
+        self.threads.append(threading.Thread(target=self.answer))
+        for thread in self.threads:
+            thread.start()
+
+    def options(self):
+        return ["--listen", f"127.0.0.1:{self.listen}", "--target", f"127.0.0.1:{port(self.target)}"]
+
+    def breaks_off(self, who):
+        return self.sent[who][:1] != b"" and self.sent[who][0] < 64
+
+    def send(self, who):
+        link = loopback.connected(self.listen)
+        if link is None:
+            return
+        with link:
+            try:
+                link.sendall(self.sent[who])
+                if self.breaks_off(who):
+                    link.setsockopt(socket.SOL_SOCKET, socket.SO_LINGER, struct.pack("ii", 1, 0))
+                    return
+                link.shutdown(socket.SHUT_WR)
+                while some := link.recv(65536):
+                    self.back[who] += some
+            except OSError:
+                pass
+
+    def answer(self):
+        while not self.ended:
+            try:
+                link, _ = self.target.accept()
+            except TimeoutError:
+                continue
+            threading.Thread(target=loopback.answer, args=(link,), daemon=True).start()
+
+    def end(self):
+        self.ended = True
+        for thread in self.threads:
+            thread.join()
+        self.target.close()
+
+    def fault(self, output):
+        """What is wrong with what the proxy wrote and carried, or nothing."""
+        broken = sum(map(self.breaks_off, range(len(self.sent))))
+        if output not in [b"served %d faults %d\n" % (len(self.sent), faults) for faults in range(broken + 1)]:
+            return f"{output!r} where {broken} clients of {len(self.sent)} broke off"
+        for who, sent in enumerate(self.sent):
+            if not self.breaks_off(who) and self.back[who] != sent:
+                return f"client {who} got other bytes back"
+        return None
+
+
 class Fuzz:
     def __init__(self, seed):
         self.random = random.Random(seed)
@@ -184,9 +259,13 @@ class Fuzz:
 
     def case(self):
         """A command, its words and its input."""
-        kind = self.random.choice(["script", "script", "check", "check-1", "race", "timed", "words", "packets"])
+        kind = self.random.choice(["script", "script", "check", "check-1", "race", "timed", "words", "packets", "proxy"])
         if kind == "packets":
             return kind, [kind], b""
+        if kind == "proxy":
+            way, conns = self.random.choice(WAYS), self.random.randrange(1, 6)
+            words = ["proxy", "--way", *way, "--conns", str(conns)]
+            return kind, words, self.random.randbytes(self.random.choice([0, 10, 5_000, 200_000]))
         if kind == "words":
             return kind, self.some_words(), b""
         if self.random.randrange(6) == 0:
@@ -216,12 +295,23 @@ class Fuzz:
             return f"status {done.returncode}, to standard error {done.stderr!r}"
         return ends.fault(count, done.stdout)
 
+    def proxy_fault(self, words, text):
+        """What is wrong with a run of a proxy, or nothing. Its clients share the text."""
+        clients = Clients(parts(text, int(words[-1])))
+        try:
+            done = self.ran([*words, *clients.options()], b"")
+        finally:
+            clients.end()
+        if done.stderr or done.returncode != 0:
+            return f"status {done.returncode}, to standard error {done.stderr!r}"
+        return clients.fault(done.stdout)
+
     def fault(self, kind, words, text):
         """What is wrong with a run, or nothing."""
         self.runs += 1
-        if kind == "packets":
+        if kind in {"packets", "proxy"}:
             try:
-                return self.relay_fault()
+                return self.relay_fault() if kind == "packets" else self.proxy_fault(words, text)
             except subprocess.TimeoutExpired:
                 return "it didn't end"
         try:

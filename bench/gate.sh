@@ -8,7 +8,8 @@ set -euo pipefail
 cd "$(dirname "$0")/.."
 if [ $# -eq 0 ]; then
     set -- rt ci
-    # an older kit keeps nothing from run to run, and knows no --anew
-    if rt help | grep -q -- --anew; then set -- "$@" --anew; fi
+    # an older kit keeps nothing from run to run, and knows no --anew. The help goes to standard error, with status 2.
+    help=$(rt help 2>&1 || true)
+    if [[ $help == *--anew* ]]; then set -- "$@" --anew; fi
 fi
 exec python3 bench/gate_times.py "$@"

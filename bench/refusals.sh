@@ -7,10 +7,17 @@
 # where it didn't end. Of an input with more than 4,000 allocations each of the first 2,000 is refused, then every 20th
 # and the last, and its line says so.
 #
-# `bench/refusals.sh WORD` tries only the inputs whose name has that word. With NIO=PROGRAM and NIO_IN_MEMORY=PROGRAM these
-# programs are tried, and none is built.
+# `bench/refusals.sh WORD` tries only the inputs whose name has that word: `proxy`, say, or `--way many`. The names stand at
+# the beginning of the lines that it writes. With NIO=PROGRAM and NIO_IN_MEMORY=PROGRAM these programs are tried, and none
+# is built. It needs gcc and python3, and for each input a minute or more.
 set -euo pipefail
 only=${1-}
+case "$only" in
+-h | --help)
+    sed -n '2,/^set/s/^# \{0,1\}//p' "$0"
+    exit
+    ;;
+esac
 program=${NIO:+$(realpath "$NIO")}
 in_memory=${NIO_IN_MEMORY:+$(realpath "$NIO_IN_MEMORY")}
 cd "$(dirname "$0")/.."
@@ -20,12 +27,16 @@ if [ -z "$program" ]; then
     ./nio script </dev/null >/dev/null
     program=$PWD/crates/nio_cli/out/nio_cli
 fi
-if [ -z "$in_memory" ]; then
-    (cd crates/nio_memory_proxy && rt run -- proxy --way select "${addresses[@]}" --conns 2 </dev/null) >/dev/null 2>&1
-    in_memory=$PWD/crates/nio_memory_proxy/out/nio_memory_proxy
-fi
 work=$(mktemp -d)
 trap 'rm -rf "$work"; kill $(jobs -p) 2>/dev/null || true' EXIT
+if [ -z "$in_memory" ]; then
+    if ! (cd crates/nio_memory_proxy && rt run -- proxy --way select "${addresses[@]}" --conns 2) </dev/null \
+        >"$work/said" 2>&1; then
+        cat "$work/said" >&2
+        exit 1
+    fi
+    in_memory=$PWD/crates/nio_memory_proxy/out/nio_memory_proxy
+fi
 gcc -O2 -Wall -shared -fPIC -o "$work/refuse.so" bench/refuse.c -ldl
 wrong=0 runs=0
 
@@ -196,4 +207,5 @@ each "packets" 0 0 /dev/null "$program" packets --listen "127.0.0.1:$((port + 3)
     --target "127.0.0.1:$((port + 2))" --count 3
 
 echo "$runs runs, $wrong wrong"
-[ "$wrong" = 0 ]
+[ "$runs" != 0 ] || echo "no input's name has '$only'"
+[ "$runs" != 0 ] && [ "$wrong" = 0 ]
