@@ -17,42 +17,73 @@ use std::alloc::{AllocError, Global};
 use std::sync::Wait;
 use std::thread::Threads;
 
-/// A client that sends so many bytes, and its target, which takes so many a write, and to which connecting may fail.
+/// A client and its target: the lengths of the pieces that each sends, how many bytes the target takes a write at most,
+/// and what of the target fails.
 #[derive(Clone, Copy)]
 pub(crate) struct Peer {
-    pub sends: usize,
+    pub sends: &'static [usize],
+    pub answers: &'static [usize],
     pub most: usize,
     pub fail_connect: bool,
+    pub fail_write_after: Option<u64>,
 }
 
+/// A client that sends 20,000 bytes in three pieces, to a target that takes 7 bytes a write and answers 9.
 pub(crate) const SENDER: Peer = Peer {
-    sends: 5_000,
-    most: 700,
+    sends: &[1, 16_384, 3_615],
+    answers: &[9],
+    most: 7,
     fail_connect: false,
+    fail_write_after: None,
 };
 
-/// Bytes that repeat after 251.
-pub(crate) fn bytes(alloc: Global, length: usize) -> Result<Vec<u8>, AllocError> {
-    let mut bytes = Vec::with_capacity(alloc, length)?;
-    for i in 0..length {
-        bytes.push((i % 251) as u8)?;
+/// So many bytes, from this place on, of those that repeat after 251.
+pub(crate) fn bytes(alloc: Global, from: usize, count: usize) -> Result<Vec<u8>, AllocError> {
+    let mut bytes = Vec::with_capacity(alloc, count)?;
+    for i in 0..count {
+        bytes.push((from.wrapping_add(i) % 251) as u8)?;
     }
     Ok(bytes)
 }
 
-/// What is to fail: a call of `accept`, a poll of the net of one of the workers, each counted from 0; and which worker's
-/// net is to have no memory for links.
+/// The same bytes in pieces of these lengths.
+fn pieces(alloc: Global, from: usize, lengths: &[usize]) -> Result<Vec<Vec<u8>>, AllocError> {
+    let mut pieces = Vec::new(alloc);
+    let mut from = from;
+    for length in lengths {
+        pieces.push(bytes(alloc, from, *length)?)?;
+        from = from.wrapping_add(*length);
+    }
+    Ok(pieces)
+}
+
+/// Where the bytes of a client begin, and those of a target.
+pub(crate) const OF_CLIENT: usize = 0;
+
+const OF_TARGET: usize = 100;
+
+/// The acceptor, or the worker with this number.
+#[derive(Clone, Copy, PartialEq, Eq)]
+pub(crate) enum Part {
+    Acceptor,
+    Worker(usize),
+}
+
+/// What is to fail: a call of `accept`, a poll of the net of this part, each counted from 0; which worker's net is to have
+/// no memory for links; and how many more clients are awaited than come.
 #[derive(Clone, Copy)]
 pub(crate) struct Failures {
     pub accept: Option<u64>,
-    pub poll: Option<(usize, u64)>,
+    pub poll: Option<(Part, u64)>,
     pub room: Option<usize>,
+    pub absent: usize,
 }
 
 pub(crate) const NO_FAILURES: Failures = Failures {
     accept: None,
     poll: None,
     room: None,
+    absent: 0,
 };
 
 /// A net that was just made, for these connections.
@@ -68,11 +99,11 @@ pub(crate) fn net_of(
     let mut plans = Vec::new(alloc);
     for peer in peers {
         plans.push(PeerPlan {
-            sends: vec![in alloc; bytes(alloc, peer.sends)?]?,
-            answers: Vec::new(alloc),
+            sends: pieces(alloc, OF_CLIENT, peer.sends)?,
+            answers: pieces(alloc, OF_TARGET, peer.answers)?,
             most: peer.most,
             fail_connect: peer.fail_connect,
-            fail_write_after: None,
+            fail_write_after: peer.fail_write_after,
         })?;
     }
     let net = MemoryNet::make(
@@ -89,10 +120,10 @@ pub(crate) fn net_of(
     })
 }
 
-/// The poll of this worker's net that is to fail.
-fn poll_of(failures: Failures, worker: usize) -> Option<u64> {
+/// The poll of this part's net that is to fail.
+fn poll_of(failures: Failures, part: Part) -> Option<u64> {
     match failures.poll {
-        Some((one, poll)) if one == worker => Some(poll),
+        Some((one, poll)) if one == part => Some(poll),
         _ => None,
     }
 }
@@ -106,7 +137,7 @@ fn net_of_worker(
     ensures fresh { IfOk result (λ made. (c : Channel) → IsUnused (carried_at made.net.slots c)) }
     ensures unasked { IfOk result (λ made. (c : Channel) → places_after made.net.changes c ≡ unused) }
 {
-    let made = net_of(alloc, &[], None, poll_of(failures, worker))?;
+    let made = net_of(alloc, &[], None, poll_of(failures, Part::Worker(worker)))?;
     Ok(Roomy {
         net: made.net,
         has_room: failures.room != Some(worker),
@@ -160,15 +191,16 @@ pub(crate) fn serve_fresh<
     serve_many(rt, alloc, net, more, bells, gate, plan, &mut Trace::new())
 }
 
-const ANYWHERE: Addr = Addr {
+pub(crate) const ANYWHERE: Addr = Addr {
     ip: [127, 0, 0, 1],
     port: 8080,
 };
 
-/// What a proxy with workers came to, and their nets.
+/// What a proxy with workers came to, its net, and those of the workers.
 #[derive(Drop)]
 pub(crate) struct Relayed {
     pub served: Result<Served, ManyError>,
+    pub net: Roomy<MemoryNet>,
     pub more: Vec<Roomy<MemoryNet>>,
 }
 
@@ -184,11 +216,16 @@ pub(crate) fn serves<R: Threads + Wait + Sync, G: Gate + Sync>(
     let plan = ProxyPlan {
         listen: ANYWHERE,
         target: ANYWHERE,
-        conns: peers.len().clamp(1, 16) as u32,
+        conns: peers.len().saturating_add(failures.absent).clamp(1, 16) as u32,
     };
-    let mut net = net_of(alloc, peers, failures.accept, None)?;
+    let mut net = net_of(
+        alloc,
+        peers,
+        failures.accept,
+        poll_of(failures, Part::Acceptor),
+    )?;
     let mut more = nets_of(alloc, workers, failures)?;
     let bells: Vec<NoBell> = Vec::new(alloc);
     let served = serve_fresh(rt, alloc, &mut net, &mut more, bells, gate, plan);
-    Ok(Relayed { served, more })
+    Ok(Relayed { served, net, more })
 }

@@ -263,7 +263,7 @@ fn registered_beside_pin(
 }
 
 /// How many keys there are in a list, and the last of them.
-fn listed(list: Result<Vec<KeyNo>, ListError>) -> Reply {
+pub(crate) fn listed(list: Result<Vec<KeyNo>, ListError>) -> Reply {
     match list {
         Ok(keys) => Reply::Listed(Ok((keys.len(), keys.last().copied()))),
         Err(error) => Reply::Listed(Err(error)),

@@ -21,6 +21,8 @@ mod recorder;
 #[cfg(test)]
 mod select;
 #[cfg(test)]
+mod several;
+#[cfg(test)]
 mod tables;
 #[cfg(test)]
 mod words;
