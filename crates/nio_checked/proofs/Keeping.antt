@@ -1,18 +1,20 @@
 -- What is kept of a net stands after each call.
 use Rattle.std.proofs.Common.{◌≡◌, ◌≢◌, ℕ, ◌<◌, ◌≤◌, ◌==◌, Bool, true, false, if◌then◌else◌, Option, Some, None, IsTrue}
-use Rattle.std.proofs.Common.{List, length, get_or, set, map, bit_and, refl, ap, sym, ◌∙◌, subst, arith}
+use Rattle.std.proofs.Common.{List, length, get_or, set, ◌-◌, bit_and, refl, ap, sym, ◌∙◌, subst, arith}
 use Rattle.std.proofs.Common.{eqb-true, eq-eqb}
 use Rattle.std.proofs.lemmas.List.Elements.{All-map}
 use Rattle.std.proofs.lemmas.Nat.Bits.{bit_at_and, same_from_bits}
 use Rattle.std.proofs.lemmas.List.{get_or-set_other, get_or-set_same, get_or_past}
+use Rattle.std.proofs.lemmas.List.Folds.{map_fixed}
 use Rattle.nio_base.specs.declared.numbers.ChanNo.{ChanNo}
 use Rattle.nio_link.specs.Links.{IsSameBut}
 use Rattle.nio_link.specs.Places.{closed, place_after_close}
+use Rattle.nio_link.specs.Readiness.{without}
 use Rattle.nio_link.specs.declared.place.Place.{Place}
 use Rattle.nio_link.specs.declared.place.Standing.{Standing}
 use Rattle.nio_steps.specs.KeyCalls.{is_within}
 use Rattle.nio_checked.specs.Checked.{IsKept, kept_at}
-use Rattle.nio_checked.specs.Listed.{AreReady, IsTold, untold}
+use Rattle.nio_checked.specs.Listed.{AreReady, IsTold, changed_at, told_after}
 
 abbrev numbered : ℕ → ChanNo
 numbered k = record { 0 = k }
@@ -100,20 +102,43 @@ told_ready ready told c op all (k, x, below, there, is) =
     (λ (y : ChanNo × ℕ). IsTrue (is_within y.1 (ready y.0))) there (all k x below) in
     subst (λ (y : ChanNo). IsTrue (is_within op (ready y))) is.0 (part_then op x.1 (ready x.0) is.1 listed)
 
--- once nothing is told of a channel, its readiness doesn't matter
-pub untold_ready : (ready ready' : ChanNo → ℕ) (told : List (ChanNo × ℕ)) (chan : ChanNo)
-    → IsSameBut chan ready ready' → AreReady ready told → AreReady ready' (map (untold chan) told)
-untold_ready ready ready' told chan others all =
-    All-map (λ (x : ChanNo × ℕ). IsTrue (is_within x.1 (ready' x.0))) (untold chan) told
+part_without : (op a b : ℕ) → IsPart a b → IsPart (without op a) (without op b)
+part_without op a b part =
+    let p : bit_and a b ≡ a = eqb-true (bit_and a b) a part in
+    let m : ℕ = 255 - op in
+    eq-eqb (bit_and (bit_and a m) (bit_and b m)) (bit_and a m)
+    (same_from_bits (bit_and (bit_and a m) (bit_and b m)) (bit_and (bit_and a b) m) (λ i. simp bit_at_and (omega arith))
+    ∙ ap (λ n. bit_and n m) p)
+
+-- what is listed with a channel goes as its readiness does
+pub ready_after : (ready ready' : ChanNo → ℕ) (told : List (ChanNo × ℕ)) (chan : ChanNo) (op : ℕ)
+    → ready' chan ≡ without op (ready chan) → IsSameBut chan ready ready' → AreReady ready told
+    → AreReady ready' (told_after chan (without op) told)
+ready_after ready ready' told chan op here others all =
+    All-map (λ (x : ChanNo × ℕ). IsTrue (is_within x.1 (ready' x.0))) (changed_at chan (without op)) told
     (λ k d below. by_test (get_or told k d) ((get_or told k d).0.0 == chan.0) refl (all k d below))
   where
     by_test : (x : ChanNo × ℕ) (b : Bool) → (x.0.0 == chan.0) ≡ b → IsTrue (is_within x.1 (ready x.0))
-        → IsTrue (is_within (if x.0.0 == chan.0 then 0 else x.1) (ready' x.0))
+        → IsTrue (is_within (if x.0.0 == chan.0 then without op x.1 else x.1) (ready' x.0))
     by_test x true is part =
-        ap (λ (b : Bool). is_within (if b then 0 else x.1) (ready' x.0)) is ∙ part_none (ready' x.0)
+        let same : chan ≡ x.0 = sym (ap numbered (eqb-true x.0.0 chan.0 is)) in
+        let now : ready' x.0 ≡ without op (ready x.0) = subst (λ (c : ChanNo). ready' c ≡ without op (ready c)) same
+        here in
+        ap (λ (b : Bool). is_within (if b then without op x.1 else x.1) (ready' x.0)) is
+        ∙ subst (λ ops. IsTrue (is_within (without op x.1) ops)) (sym now) (part_without op x.1 (ready x.0) part)
     by_test x false is part =
         let apart : x.0 ≢ chan = λ same.
         let clash : false ≡ true = sym is ∙ eq-eqb x.0.0 chan.0 (ap (λ (y : ChanNo). y.0) same) in absurd cc
         in
-        ap (λ (b : Bool). is_within (if b then 0 else x.1) (ready' x.0)) is
+        ap (λ (b : Bool). is_within (if b then without op x.1 else x.1) (ready' x.0)) is
         ∙ subst (λ ops. IsTrue (is_within x.1 ops)) (sym (others x.0 apart)) part
+
+-- a call that leaves the readiness of its channel leaves the list
+pub told_still : (chan : ChanNo) (told : List (ChanNo × ℕ)) → told ≡ told_after chan (λ ops. ops) told
+told_still chan told =
+    sym (map_fixed (changed_at chan (λ ops. ops)) told (λ k d below. by_test (get_or told k d)
+    ((get_or told k d).0.0 == chan.0)))
+  where
+    by_test : (x : ChanNo × ℕ) (b : Bool) → (x.0, if b then x.1 else x.1) ≡ x
+    by_test x true = refl
+    by_test x false = refl

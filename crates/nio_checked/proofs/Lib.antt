@@ -1,3 +1,4 @@
 pub mod Keeping
 pub mod Polling
 pub mod Giving
+pub mod Leaving

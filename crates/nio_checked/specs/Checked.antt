@@ -14,7 +14,7 @@ pub record Checked (N : Type 0) : Type 0 where
   pub net : N
   -- for how many channels it is, from 0 on
   pub channels : ℕ
-  -- what the last poll told, of channels of which no call since has found that they aren't ready
+  -- what the last poll told, as far as no call since has found that the channel isn't ready for it
   pub told : List (ChanNo × ℕ)
   -- how much of that list was given out
   pub given : ℕ

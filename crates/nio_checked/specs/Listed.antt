@@ -1,5 +1,5 @@
 -- What a poll told, by channels.
-use Rattle.std.specs.Prelude.{◌≡◌, ℕ, ◌==◌, if◌then◌else◌, IsTrue, List, [], ◌∷◌}
+use Rattle.std.specs.Prelude.{◌≡◌, ℕ, ◌==◌, if◌then◌else◌, IsTrue, List, [], ◌∷◌, map}
 use Rattle.std.specs.List.{All, Any}
 use Rattle.nio_base.specs.declared.numbers.ChanNo.{ChanNo}
 use Rattle.nio_steps.specs.KeyCalls.{is_within}
@@ -15,9 +15,13 @@ listed pairs (key ∷ later) = (key.channel, told_bits pairs key) ∷ listed pai
 abbrev pub IsTold : List (ChanNo × ℕ) → ChanNo → ℕ → Type 0
 IsTold told c op = Any (λ x. (x.0 ≡ c) × IsTrue (is_within op x.1)) told
 
--- nothing is told of the channel any more
-abbrev pub untold : ChanNo → ChanNo × ℕ → ChanNo × ℕ
-untold c (chan, ops) = (chan, if chan.0 == c.0 then 0 else ops)
+-- what is listed with a channel, after a change of what the channel c is ready for
+abbrev pub changed_at : ChanNo → (ℕ → ℕ) → ChanNo × ℕ → ChanNo × ℕ
+changed_at c change (chan, ops) = (chan, if chan.0 == c.0 then change ops else ops)
+
+-- the list after a call that changes what the channel c is ready for
+abbrev pub told_after : ChanNo → (ℕ → ℕ) → List (ChanNo × ℕ) → List (ChanNo × ℕ)
+told_after c change told = map (changed_at c change) told
 
 -- each listed channel is ready for all that is listed with it
 abbrev pub AreReady : (ChanNo → ℕ) → List (ChanNo × ℕ) → Type 0

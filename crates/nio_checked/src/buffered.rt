@@ -7,10 +7,11 @@ ghost use Rattle.nio_link.specs.Readiness.{ready_after_read, ready_after_write};
 ghost use Rattle.nio_link.specs.declared.net.Got.TheVariants as got;
 ghost use Rattle.nio_link.specs.declared.net.Put.TheVariants as put;
 ghost use Rattle.nio_link.specs.declared.place.Standing.TheVariants as standing;
+ghost use Rattle.nio_poller.specs.Polls.{CountsFaults};
 ghost use Rattle.nio_checked.specs.Buffered.{Gains, IsGotBy, Loses, came_to, count_got, count_put};
 ghost use Rattle.nio_checked.specs.Checked.{as_failed};
-ghost use Rattle.nio_checked.specs.Listed.{IsTold};
-ghost use Rattle.nio_checked.specs.declared.calls.NetError.TheVariants.{NotAllowed};
+ghost use Rattle.nio_checked.specs.Listed.{IsTold, told_after};
+ghost use Rattle.nio_checked.specs.declared.calls.NetError.TheVariants.{Fault, NotAllowed};
 
 use crate::buffer::ByteBuffer;
 use crate::calls::NetError;
@@ -26,21 +27,36 @@ impl<N: Net + Drop> CheckedNet<N> {
     /// it, and where the buffer is full. One call reads at most 4,096 bytes.
     pub fn read_buf(&mut self, chan: ChanNo, buffer: &mut ByteBuffer) -> Result<Got, NetError>
         ensures allowed { result ≢ Err NotAllowed ↔ IsLinked (N.place self.old.net chan).standing }
-        ensures refused { result ≡ Err NotAllowed → self.new.net ≡ self.old.net }
+        ensures refused { result ≡ Err NotAllowed → self.new ≡ self.old }
         ensures untold { result ≢ Err NotAllowed → ¬ IsTold self.old.told chan 1
-            → (result ≡ Ok got.NotYet) × (self.new.net ≡ self.old.net) }
+            → (result ≡ Ok got.NotYet) × (self.new ≡ self.old) }
         ensures full { result ≢ Err NotAllowed → buffer.old.capacity ≤ length buffer.old.items
-            → (result ≡ Ok got.NotYet) × (self.new.net ≡ self.old.net) }
-        ensures asked { result ≢ Err NotAllowed → IsTold self.old.told chan 1
-            → length buffer.old.items < buffer.old.capacity
-            → N.ready self.new.net chan ≡ ready_after_read (as_failed result) (N.ready self.old.net chan) }
+            → (result ≡ Ok got.NotYet) × (self.new ≡ self.old) }
+
+        // What comes to the buffer, or goes from it.
         ensures gains { IfOk result (λ got. Gains buffer.old buffer.new (count_got got)) }
-        ensures got { IfOk result (IsGotBy (buffer.old.capacity - length buffer.old.items)) }
         ensures err { OnErr result (buffer.new ≡ buffer.old) }
+
+        // As every net.
+        ensures cause { CountsFaults Fault (N.faults self.old.net chan) (N.faults self.new.net chan) result }
+        ensures others { IsSameBut chan (N.faults self.old.net) (N.faults self.new.net) }
+        ensures got { IfOk result (IsGotBy (buffer.old.capacity - length buffer.old.items)) }
         ensures link { N.link self.new.net chan
             ≡ after_read (as_failed result) (came_to buffer.old buffer.new) (N.link self.old.net chan) }
         ensures links { IsSameBut chan (N.link self.old.net) (N.link self.new.net) }
+        ensures asked { result ≢ Err NotAllowed → IsTold self.old.told chan 1
+            → length buffer.old.items < buffer.old.capacity
+            → N.ready self.new.net chan ≡ ready_after_read (as_failed result) (N.ready self.old.net chan) }
+        ensures ready_else { IsSameBut chan (N.ready self.old.net) (N.ready self.new.net) }
         ensures places { (c : Channel) → N.place self.new.net c ≡ N.place self.old.net c }
+        ensures accepted { N.accepted self.new.net ≡ N.accepted self.old.net }
+        ensures polls { N.poll_faults self.new.net ≡ N.poll_faults self.old.net }
+
+        // What is told from then on.
+        ensures told { result ≢ Err NotAllowed → IsTold self.old.told chan 1
+            → length buffer.old.items < buffer.old.capacity
+            → self.new.told ≡ told_after chan (ready_after_read (as_failed result)) self.old.told }
+        ensures rest { self.new ≡ record self.old { net = self.new.net; told = self.new.told } }
     {
         let size = buffer.room().min(BLOCK);
         if size == 0 {
@@ -48,10 +64,14 @@ impl<N: Net + Drop> CheckedNet<N> {
         }
         let mut block = [0; BLOCK];
         let got = self.read_front(chan, &mut block, size)?;
-        if let Got::Bytes(count) = got {
-            buffer.put(&block[..count]);
+        match got {
+            Got::Bytes(count) => {
+                buffer.put(&block[..count]);
+                Ok(Got::Bytes(count))
+            }
+            Got::End => Ok(Got::End),
+            Got::NotYet => Ok(Got::NotYet),
         }
-        Ok(got)
     }
 
     // Reads into the front of the block.
@@ -59,15 +79,23 @@ impl<N: Net + Drop> CheckedNet<N> {
         requires some { 1 ≤ size }
         requires fits { size ≤ length block.old }
         ensures allowed { result ≢ Err NotAllowed ↔ IsLinked (N.place self.old.net chan).standing }
-        ensures refused { result ≡ Err NotAllowed → self.new.net ≡ self.old.net }
+        ensures refused { result ≡ Err NotAllowed → self.new ≡ self.old }
         ensures untold { result ≢ Err NotAllowed → ¬ IsTold self.old.told chan 1
-            → (result ≡ Ok got.NotYet) × (self.new.net ≡ self.old.net) }
-        ensures asked { result ≢ Err NotAllowed → IsTold self.old.told chan 1
-            → N.ready self.new.net chan ≡ ready_after_read (as_failed result) (N.ready self.old.net chan) }
+            → (result ≡ Ok got.NotYet) × (self.new ≡ self.old) }
+        ensures cause { CountsFaults Fault (N.faults self.old.net chan) (N.faults self.new.net chan) result }
+        ensures others { IsSameBut chan (N.faults self.old.net) (N.faults self.new.net) }
         ensures got { IfOk result (IsGotBy size) }
         ensures link { N.link self.new.net chan ≡ after_read (as_failed result) block.new (N.link self.old.net chan) }
         ensures links { IsSameBut chan (N.link self.old.net) (N.link self.new.net) }
+        ensures asked { result ≢ Err NotAllowed → IsTold self.old.told chan 1
+            → N.ready self.new.net chan ≡ ready_after_read (as_failed result) (N.ready self.old.net chan) }
+        ensures ready_else { IsSameBut chan (N.ready self.old.net) (N.ready self.new.net) }
         ensures places { (c : Channel) → N.place self.new.net c ≡ N.place self.old.net c }
+        ensures accepted { N.accepted self.new.net ≡ N.accepted self.old.net }
+        ensures polls { N.poll_faults self.new.net ≡ N.poll_faults self.old.net }
+        ensures told { result ≢ Err NotAllowed → IsTold self.old.told chan 1
+            → self.new.told ≡ told_after chan (ready_after_read (as_failed result)) self.old.told }
+        ensures rest { self.new ≡ record self.old { net = self.new.net; told = self.new.told } }
     {
         self.read(chan, &mut block[..size])
     }
@@ -76,20 +104,34 @@ impl<N: Net + Drop> CheckedNet<N> {
     /// buffer. `NotYet` where `write` says it, and where the buffer is empty.
     pub fn write_buf(&mut self, chan: ChanNo, buffer: &mut ByteBuffer) -> Result<Put, NetError>
         ensures allowed { result ≢ Err NotAllowed ↔ ((N.place self.old.net chan).standing ≡ standing.Linked) }
-        ensures refused { result ≡ Err NotAllowed → self.new.net ≡ self.old.net }
+        ensures refused { result ≡ Err NotAllowed → self.new ≡ self.old }
         ensures untold { result ≢ Err NotAllowed → ¬ IsTold self.old.told chan 4
-            → (result ≡ Ok put.NotYet) × (self.new.net ≡ self.old.net) }
+            → (result ≡ Ok put.NotYet) × (self.new ≡ self.old) }
         ensures empty { result ≢ Err NotAllowed → buffer.old.items ≡ []
-            → (result ≡ Ok put.NotYet) × (self.new.net ≡ self.old.net) }
-        ensures asked { result ≢ Err NotAllowed → IsTold self.old.told chan 4 → buffer.old.items ≢ []
-            → N.ready self.new.net chan ≡ ready_after_write (as_failed result) (N.ready self.old.net chan) }
+            → (result ≡ Ok put.NotYet) × (self.new ≡ self.old) }
+
+        // What comes to the buffer, or goes from it.
         ensures loses { IfOk result (λ put. Loses buffer.old buffer.new (count_put put)) }
-        ensures put { IfOk result (IsPut buffer.old.items) }
         ensures err { OnErr result (buffer.new ≡ buffer.old) }
+
+        // As every net.
+        ensures cause { CountsFaults Fault (N.faults self.old.net chan) (N.faults self.new.net chan) result }
+        ensures others { IsSameBut chan (N.faults self.old.net) (N.faults self.new.net) }
+        ensures put { IfOk result (IsPut buffer.old.items) }
         ensures link { N.link self.new.net chan
             ≡ after_write (as_failed result) buffer.old.items (N.link self.old.net chan) }
         ensures links { IsSameBut chan (N.link self.old.net) (N.link self.new.net) }
+        ensures asked { result ≢ Err NotAllowed → IsTold self.old.told chan 4 → buffer.old.items ≢ []
+            → N.ready self.new.net chan ≡ ready_after_write (as_failed result) (N.ready self.old.net chan) }
+        ensures ready_else { IsSameBut chan (N.ready self.old.net) (N.ready self.new.net) }
         ensures places { (c : Channel) → N.place self.new.net c ≡ N.place self.old.net c }
+        ensures accepted { N.accepted self.new.net ≡ N.accepted self.old.net }
+        ensures polls { N.poll_faults self.new.net ≡ N.poll_faults self.old.net }
+
+        // What is told from then on.
+        ensures told { result ≢ Err NotAllowed → IsTold self.old.told chan 4 → buffer.old.items ≢ []
+            → self.new.told ≡ told_after chan (ready_after_write (as_failed result)) self.old.told }
+        ensures rest { self.new ≡ record self.old { net = self.new.net; told = self.new.told } }
     {
         if buffer.is_empty() {
             return nothing_put(self.may_write(chan));

@@ -2,16 +2,18 @@
 ghost use Rattle.std.specs.Prelude.{◌≡◌, ◌≢◌, ◌↔◌, ◌<◌, ℕ, false, [], Some, None, Ok, Err, IfOk, IsSomeAnd, IsTrue};
 ghost use Rattle.std.specs.Prelude.{length, slice_set};
 ghost use Rattle.nio_base.specs.declared.numbers.ChanNo.{ChanNo as Channel};
+ghost use Rattle.nio_link.specs.Accepts.{accepted_after};
 ghost use Rattle.nio_link.specs.Links.{IsGot, IsPut, IsSameBut, after_read, after_write};
 ghost use Rattle.nio_link.specs.Places.{IsLinked, closed as left_of, place_after_accept, place_after_close};
 ghost use Rattle.nio_link.specs.Places.{place_after_listen, unused};
-ghost use Rattle.nio_link.specs.Readiness.{ready_after_read, ready_after_write};
+ghost use Rattle.nio_link.specs.Readiness.{ready_after_accept, ready_after_read, ready_after_write};
 ghost use Rattle.nio_link.specs.declared.net.Got.TheVariants as got;
 ghost use Rattle.nio_link.specs.declared.net.Put.TheVariants as put;
 ghost use Rattle.nio_link.specs.declared.place.Standing.TheVariants as standing;
+ghost use Rattle.nio_poller.specs.Polls.{CountsFaults};
 ghost use Rattle.nio_checked.specs.Checked.{IsChecked, as_failed, kept_at};
-ghost use Rattle.nio_checked.specs.Listed.{IsTold};
-ghost use Rattle.nio_checked.specs.declared.calls.NetError.TheVariants.{NotAllowed};
+ghost use Rattle.nio_checked.specs.Listed.{IsTold, told_after};
+ghost use Rattle.nio_checked.specs.declared.calls.NetError.TheVariants.{Fault, NotAllowed};
 
 use crate::told::{is_told, untell};
 use nio_base::{Addr, ChanNo, Ops};
@@ -113,7 +115,14 @@ pub(crate) fn listen<N: Net>(
     ensures allowed { result ≢ Err NotAllowed
         ↔ ((chan.0 < length standings.old) × (N.place net.old chan ≡ unused)) }
     ensures refused { result ≡ Err NotAllowed → net.new ≡ net.old }
+    ensures cause { CountsFaults Fault (N.faults net.old chan) (N.faults net.new chan) result }
+    ensures others { IsSameBut chan (N.faults net.old) (N.faults net.new) }
+    ensures links { (c : Channel) → N.link net.new c ≡ N.link net.old c }
+    ensures ready { (c : Channel) → N.ready net.new c ≡ N.ready net.old c }
     ensures made { result ≢ Err NotAllowed → N.place net.new chan ≡ place_after_listen (as_failed result) at }
+    ensures places { IsSameBut chan (N.place net.old) (N.place net.new) }
+    ensures accepted { N.accepted net.new ≡ N.accepted net.old }
+    ensures polls { N.poll_faults net.new ≡ N.poll_faults net.old }
 {
     if !is_free(standings, chan) {
         return Err(NetError::NotAllowed);
@@ -142,11 +151,22 @@ pub(crate) fn accept<N: Net>(
     ensures checked { IsChecked (N.ready net.new) (N.place net.new) standings.new told.new }
     ensures allowed { result ≢ Err NotAllowed ↔ ((N.place net.old listener).standing ≡ standing.Listening)
         × ((chan.0 < length standings.old) × (N.place net.old chan ≡ unused)) }
-    ensures refused { result ≡ Err NotAllowed → net.new ≡ net.old }
+    ensures refused { result ≡ Err NotAllowed → (net.new ≡ net.old) × (told.new ≡ told.old) }
     ensures untold { result ≢ Err NotAllowed → ¬ IsTold told.old listener 16
-        → (result ≡ Ok false) × (net.new ≡ net.old) }
+        → (result ≡ Ok false) × (net.new ≡ net.old) × (told.new ≡ told.old) }
+    ensures cause { CountsFaults Fault (N.faults net.old listener) (N.faults net.new listener) result }
+    ensures others { IsSameBut listener (N.faults net.old) (N.faults net.new) }
+    ensures links { (c : Channel) → N.link net.new c ≡ N.link net.old c }
+    ensures asked { result ≢ Err NotAllowed → IsTold told.old listener 16
+        → N.ready net.new listener ≡ ready_after_accept (as_failed result) (N.ready net.old listener) }
+    ensures ready_else { IsSameBut listener (N.ready net.old) (N.ready net.new) }
     ensures made { result ≢ Err NotAllowed
         → N.place net.new chan ≡ place_after_accept (as_failed result) listener (N.place net.old chan) }
+    ensures places { IsSameBut chan (N.place net.old) (N.place net.new) }
+    ensures accepted { N.accepted net.new ≡ accepted_after (as_failed result) chan (N.accepted net.old) }
+    ensures polls { N.poll_faults net.new ≡ N.poll_faults net.old }
+    ensures told { result ≢ Err NotAllowed → IsTold told.old listener 16
+        → told.new ≡ told_after listener (ready_after_accept (as_failed result)) told.old }
 {
     if !is_listening(kept_of(standings, listener)) || !is_free(standings, chan) {
         return Err(NetError::NotAllowed);
@@ -160,7 +180,7 @@ pub(crate) fn accept<N: Net>(
             Ok(true)
         }
         Ok(false) => {
-            untell(told, listener);
+            untell(told, listener, Ops::ACCEPT);
             Ok(false)
         }
         Err(Failed) => {
@@ -181,15 +201,23 @@ pub(crate) fn read<N: Net>(
     requires checked { IsChecked (N.ready net.old) (N.place net.old) standings.now told.old }
     ensures checked { IsChecked (N.ready net.new) (N.place net.new) standings.now told.new }
     ensures allowed { result ≢ Err NotAllowed ↔ IsLinked (N.place net.old chan).standing }
-    ensures refused { result ≡ Err NotAllowed → net.new ≡ net.old }
+    ensures refused { result ≡ Err NotAllowed
+        → (net.new ≡ net.old) × (told.new ≡ told.old) × (into.new ≡ into.old) }
     ensures untold { result ≢ Err NotAllowed → ¬ IsTold told.old chan 1
-        → (result ≡ Ok got.NotYet) × (net.new ≡ net.old) }
+        → (result ≡ Ok got.NotYet) × (net.new ≡ net.old) × (told.new ≡ told.old) × (into.new ≡ into.old) }
+    ensures cause { CountsFaults Fault (N.faults net.old chan) (N.faults net.new chan) result }
+    ensures others { IsSameBut chan (N.faults net.old) (N.faults net.new) }
     ensures got { IfOk result (IsGot into.old) }
     ensures link { N.link net.new chan ≡ after_read (as_failed result) into.new (N.link net.old chan) }
     ensures links { IsSameBut chan (N.link net.old) (N.link net.new) }
-    ensures places { (c : Channel) → N.place net.new c ≡ N.place net.old c }
     ensures asked { result ≢ Err NotAllowed → IsTold told.old chan 1
         → N.ready net.new chan ≡ ready_after_read (as_failed result) (N.ready net.old chan) }
+    ensures ready_else { IsSameBut chan (N.ready net.old) (N.ready net.new) }
+    ensures places { (c : Channel) → N.place net.new c ≡ N.place net.old c }
+    ensures accepted { N.accepted net.new ≡ N.accepted net.old }
+    ensures polls { N.poll_faults net.new ≡ N.poll_faults net.old }
+    ensures told { result ≢ Err NotAllowed → IsTold told.old chan 1
+        → told.new ≡ told_after chan (ready_after_read (as_failed result)) told.old }
 {
     if !is_linked(kept_of(standings, chan)) {
         return Err(NetError::NotAllowed);
@@ -199,10 +227,11 @@ pub(crate) fn read<N: Net>(
     }
     match net.read(chan, into) {
         Ok(Got::NotYet) => {
-            untell(told, chan);
+            untell(told, chan, Ops::READ);
             Ok(Got::NotYet)
         }
-        Ok(got) => Ok(got),
+        Ok(Got::Bytes(count)) => Ok(Got::Bytes(count)),
+        Ok(Got::End) => Ok(Got::End),
         Err(Failed) => Err(NetError::Fault),
     }
 }
@@ -218,15 +247,22 @@ pub(crate) fn write<N: Net>(
     requires checked { IsChecked (N.ready net.old) (N.place net.old) standings.now told.old }
     ensures checked { IsChecked (N.ready net.new) (N.place net.new) standings.now told.new }
     ensures allowed { result ≢ Err NotAllowed ↔ ((N.place net.old chan).standing ≡ standing.Linked) }
-    ensures refused { result ≡ Err NotAllowed → net.new ≡ net.old }
+    ensures refused { result ≡ Err NotAllowed → (net.new ≡ net.old) × (told.new ≡ told.old) }
     ensures untold { result ≢ Err NotAllowed → ¬ IsTold told.old chan 4
-        → (result ≡ Ok put.NotYet) × (net.new ≡ net.old) }
+        → (result ≡ Ok put.NotYet) × (net.new ≡ net.old) × (told.new ≡ told.old) }
+    ensures cause { CountsFaults Fault (N.faults net.old chan) (N.faults net.new chan) result }
+    ensures others { IsSameBut chan (N.faults net.old) (N.faults net.new) }
     ensures put { IfOk result (IsPut from.now) }
     ensures link { N.link net.new chan ≡ after_write (as_failed result) from.now (N.link net.old chan) }
     ensures links { IsSameBut chan (N.link net.old) (N.link net.new) }
-    ensures places { (c : Channel) → N.place net.new c ≡ N.place net.old c }
     ensures asked { result ≢ Err NotAllowed → IsTold told.old chan 4
         → N.ready net.new chan ≡ ready_after_write (as_failed result) (N.ready net.old chan) }
+    ensures ready_else { IsSameBut chan (N.ready net.old) (N.ready net.new) }
+    ensures places { (c : Channel) → N.place net.new c ≡ N.place net.old c }
+    ensures accepted { N.accepted net.new ≡ N.accepted net.old }
+    ensures polls { N.poll_faults net.new ≡ N.poll_faults net.old }
+    ensures told { result ≢ Err NotAllowed → IsTold told.old chan 4
+        → told.new ≡ told_after chan (ready_after_write (as_failed result)) told.old }
 {
     if !is_whole(kept_of(standings, chan)) {
         return Err(NetError::NotAllowed);
@@ -236,10 +272,10 @@ pub(crate) fn write<N: Net>(
     }
     match net.write(chan, from) {
         Ok(Put::NotYet) => {
-            untell(told, chan);
+            untell(told, chan, Ops::WRITE);
             Ok(Put::NotYet)
         }
-        Ok(put) => Ok(put),
+        Ok(Put::Bytes(count)) => Ok(Put::Bytes(count)),
         Err(Failed) => Err(NetError::Fault),
     }
 }
@@ -253,8 +289,13 @@ pub(crate) fn close<N: Net>(
 )
     requires { IsChecked (N.ready net.old) (N.place net.old) standings.old told.now }
     ensures checked { IsChecked (N.ready net.new) (N.place net.new) standings.new told.now }
+    ensures faults { (c : Channel) → N.faults net.new c ≡ N.faults net.old c }
+    ensures links { (c : Channel) → N.link net.new c ≡ N.link net.old c }
+    ensures ready { (c : Channel) → N.ready net.new c ≡ N.ready net.old c }
     ensures closed { N.place net.new chan ≡ place_after_close (N.place net.old chan) }
-    ensures link { N.link net.new chan ≡ N.link net.old chan }
+    ensures places { IsSameBut chan (N.place net.old) (N.place net.new) }
+    ensures accepted { N.accepted net.new ≡ N.accepted net.old }
+    ensures polls { N.poll_faults net.new ≡ N.poll_faults net.old }
 {
     net.close(chan);
     if let Some(kept) = kept_of(standings, chan) {

@@ -1,7 +1,8 @@
 //! What a poll told, by channels.
 ghost use Rattle.std.specs.Prelude.{◌≡◌, ◌↔◌, ◌==◌, if◌then◌else◌, ◌≤◌, [], IsTrue, bit_or, length, map, vec_capacity};
+ghost use Rattle.nio_link.specs.Readiness.{without as without_op};
 ghost use Rattle.nio_steps.specs.SelectCalls.{told_of as told_of_index};
-ghost use Rattle.nio_checked.specs.Listed.{IsTold, listed, untold};
+ghost use Rattle.nio_checked.specs.Listed.{IsTold, changed_at, listed, told_after};
 
 use nio_base::{ChanNo, Ops};
 use nio_select::Asked;
@@ -47,22 +48,22 @@ pub(crate) fn is_told(told: &[(ChanNo, Ops)], chan: ChanNo, op: Ops) -> bool
         .any(|&(ready, ops)| ready.0 == chan.0 && op.within(ops))
 }
 
-/// Takes away what the list tells of the channel.
-pub(crate) fn untell(told: &mut [(ChanNo, Ops)], chan: ChanNo)
-    ensures { told.new ≡ map (untold chan) told.old }
+/// Lists the channel as not ready for this operation.
+pub(crate) fn untell(told: &mut [(ChanNo, Ops)], chan: ChanNo, op: Ops)
+    ensures { told.new ≡ told_after chan (without_op op) told.old }
 {
     for one in told.iter_mut() {
-        *one = without(*one, chan);
+        *one = without(*one, chan, op);
     }
 }
 
-// The same, but nothing where it is of the channel.
-fn without(one: (ChanNo, Ops), chan: ChanNo) -> (ChanNo, Ops)
-    ensures { result ≡ untold chan one }
+// The same, but without the operation where it is of the channel.
+fn without(one: (ChanNo, Ops), chan: ChanNo, op: Ops) -> (ChanNo, Ops)
+    ensures { result ≡ changed_at chan (without_op op) one }
 {
     let (ready, ops) = one;
     if ready.0 == chan.0 {
-        (ready, Ops::NONE)
+        (ready, ops.meet(Ops::of(!op.bits())))
     } else {
         (ready, ops)
     }

@@ -1,12 +1,13 @@
 -- What each call of a timed script replies, and the group that it leaves; and the answer to a whole script. Each call
 -- but those that only ask is one timed step. `start` is a `start-timed` at the moment 0 with the limit 0, which is none.
-use Rattle.std.specs.Prelude.{ℕ, ◌+◌, List, [], ◌∷◌, ◌++◌, length, nat_lt, if◌then◌else◌, Option, Some, None, Ok, Err}
+use Rattle.std.specs.Prelude.{◌≡◌, ◌≢◌, ℕ, ◌+◌, ◌<◌, List, [], ◌∷◌, ◌++◌, length, nat_lt, if◌then◌else◌, Option}
+use Rattle.std.specs.Prelude.{Some, None, Ok, Err, IsTrue}
 use Rattle.nio_base.specs.declared.numbers.GChan.{GChan}
 use Rattle.nio_event.specs.declared.group_call.GroupCall.TheVariants as group
 use Rattle.nio_event.specs.declared.group_reply.GroupReply.TheVariants as of_group
 use Rattle.nio_event.specs.declared.reply.Reply.{Reply}
 use Rattle.nio_event.specs.declared.reply.Reply.TheVariants as plain
-use Rattle.nio_group.specs.Group.{is_terminated}
+use Rattle.nio_group.specs.Group.{channel_at, is_terminated}
 use Rattle.nio_group.specs.Run as group_step
 use Rattle.nio_plain.specs.ScriptState.{group_limits}
 use Rattle.nio_plain.specs.Seq.Grouping.{line_reply, start_refused}
@@ -14,7 +15,7 @@ use Rattle.nio_plain.specs.Seq.Replies.{yes_or_no}
 use Rattle.nio_deadline.specs.Deadlines.{first_moment}
 use Rattle.nio_deadline.specs.Run as step
 use Rattle.nio_deadline.specs.Run.{after, reply_to}
-use Rattle.nio_deadline.specs.Timed.{Timed, empty_timed}
+use Rattle.nio_deadline.specs.Timed.{Timed, empty_timed, may_have_limit, own_refusal}
 use Rattle.nio_deadline.specs.declared.done.TimedDone.{TimedDone}
 use Rattle.nio_deadline.specs.declared.done.TimedResult.{TimedResult}
 use Rattle.nio_deadline.specs.declared.done.TimedResult.TheVariants.{Core, InterruptedByTimeout}
@@ -24,6 +25,7 @@ use Rattle.nio_timed.specs.Replies.{timed_history_line}
 use Rattle.nio_timed.specs.declared.call.TimedCall.{TimedCall}
 use Rattle.nio_timed.specs.declared.call.TimedCall.TheVariants.{Group, StartTimed, Expire, Next}
 use Rattle.nio_timed.specs.declared.call.TimedLine.{TimedLine}
+use Rattle.nio_timed.specs.declared.call.TimedStart.{TimedStart}
 use Rattle.nio_timed.specs.declared.reply.TimedReply.{TimedReply}
 use Rattle.nio_timed.specs.declared.reply.TimedReply.TheVariants.{Script, NoLimitHere, LimitTooLong, TimedOut, Timeout}
 
@@ -104,6 +106,25 @@ timed_reply t call = (timed_replied t call).reply
 
 abbrev pub timed_left : Timed → TimedCall → Timed
 timed_left t call = (timed_replied t call).left
+
+-- ---- want of memory
+
+-- a start that keeps a deadline: of a read or write of some bytes, with a limit, on an open channel, where no rule of
+-- deadlines refuses it
+pub record KeepsDeadline (t : Timed) (s : TimedStart) : Type 0 where
+  pub made : s.chan.0 < length t.group.channels
+  pub limited : s.limit ≢ 0
+  pub some : s.len ≢ 0
+  pub kind : IsTrue (may_have_limit s.kind)
+  pub is_open : IsTrue (channel_at t.group s.chan.0).is_open
+  pub allowed : own_refusal t s.chan.0 s.kind s.now s.limit ≡ None
+
+-- the call takes memory
+abbrev pub TakesMemory : Timed → TimedCall → Type 0
+TakesMemory t (Group call) = ⊥
+TakesMemory t (StartTimed start) = KeepsDeadline t start
+TakesMemory t (Expire now) = ⊥
+TakesMemory t Next = ⊥
 
 -- ---- a script
 

@@ -1,7 +1,8 @@
 //! Making the calls of a timed script.
-ghost use Rattle.std.specs.Prelude.{◌≡◌, IfOk, OnOk, OnErr};
+ghost use Rattle.std.specs.Prelude.{◌≡◌, IfOk, IsOk, OnOk, OnErr};
 ghost use Rattle.nio_deadline.specs.Run as step;
-ghost use Rattle.nio_timed.specs.Called.{stepped, timed_left, timed_reply, with_named_channel};
+ghost use Rattle.nio_timed.specs.Called.{KeepsDeadline, TakesMemory, stepped, timed_left, timed_reply};
+ghost use Rattle.nio_timed.specs.Called.{with_named_channel};
 ghost use Rattle.nio_timed.specs.declared.call.TimedCall.TheVariants.{Group, StartTimed};
 
 use crate::call::{TimedCall, TimedStart};
@@ -18,6 +19,7 @@ pub fn call_timed(timed: &mut TimedCore, call: TimedCall) -> Result<TimedReply, 
     ensures reply { IfOk result (λ reply. reply ≡ timed_reply timed.old call) }
     ensures left { OnOk result (timed.new ≡ timed_left timed.old call) }
     ensures memory { OnErr result (timed.new ≡ timed.old) }
+    ensures wanted { OnErr result (TakesMemory timed.old call) }
 {
     match call {
         TimedCall::Group(call) => call_group(timed, call),
@@ -33,7 +35,7 @@ pub fn call_timed(timed: &mut TimedCore, call: TimedCall) -> Result<TimedReply, 
 fn call_group(timed: &mut TimedCore, call: GroupCall) -> Result<TimedReply, AllocError>
     ensures reply { IfOk result (λ reply. reply ≡ timed_reply timed.old (Group call)) }
     ensures left { OnOk result (timed.new ≡ timed_left timed.old (Group call)) }
-    ensures memory { OnErr result (timed.new ≡ timed.old) }
+    ensures some { IsOk result }
 {
     match call {
         GroupCall::Gopen(kind) => Ok(opened(timed.open_channel(kind))),
@@ -72,6 +74,7 @@ fn start(timed: &mut TimedCore, wanted: TimedStart) -> Result<TimedReply, AllocE
     ensures reply { IfOk result (λ reply. reply ≡ timed_reply timed.old (StartTimed wanted)) }
     ensures left { OnOk result (timed.new ≡ timed_left timed.old (StartTimed wanted)) }
     ensures memory { OnErr result (timed.new ≡ timed.old) }
+    ensures wanted { OnErr result (KeepsDeadline timed.old wanted) }
 {
     let TimedStart {
         chan,

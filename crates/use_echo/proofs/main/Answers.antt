@@ -1,5 +1,17 @@
 use Rattle.use_echo.proofs.main.Goals as goal
 
+pub loop-init : goal.loop-init
+loop-init g c =
+    let s1 = c.in_ok-listener.ensures.still.selectors _ c.in_ok-sel.ensures.made in
+    let s2 = c.in_ok-register_non_blocking.ensures.still.selectors _ s1 in
+    (c.in_ok-link.ensures.still.selectors _ s2, c.in_ok-link.ensures.made)
+
+pub loop-preserved-in_default-take_selected : goal.loop-preserved-in_default-take_selected
+loop-preserved-in_default-take_selected g c =
+    let s1 = c.in_default-take_selected.ensures.still.selectors _ c.loop.invariant.0 in
+    let l1 = c.in_default-take_selected.ensures.still.channels _ c.loop.invariant.1 in
+    (s1, l1)
+
 pub register_non_blocking-requires-then-branch-clause-selector :
     goal.register_non_blocking-requires-then-branch-clause-selector
 register_non_blocking-requires-then-branch-clause-selector g c =
