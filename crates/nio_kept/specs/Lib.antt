@@ -1,1 +1,3 @@
 pub mod News
+pub mod Counts
+pub mod Readiness

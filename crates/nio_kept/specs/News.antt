@@ -1,5 +1,5 @@
 -- What is kept of the channels, as a list of bits by the numbers of channels, and which keys of a list are ready by it.
-use Rattle.std.specs.Prelude.{◌≡◌, ◌≢◌, ℕ, ◌<◌, ◌==◌, Bool, not, List, length, map, bit_and, slice_index}
+use Rattle.std.specs.Prelude.{◌≢◌, ℕ, ◌<◌, ◌==◌, Bool, not, List, length, map, bit_and, slice_index}
 use Rattle.std.specs.List.{AllPairs, Contains, filter}
 use Rattle.nio_steps.specs.declared.looked.LookedKey.{LookedKey}
 use Rattle.nio_select.specs.Asked.{key_at}

@@ -2,7 +2,7 @@
 use Rattle.std.specs.Prelude.{◌≡◌}
 use Rattle.nio_base.specs.declared.numbers.ChanNo.{ChanNo}
 use Rattle.nio_link.specs.Places.{places_after, unused}
-use Rattle.nio_mio.specs.Counts.{count_of}
+use Rattle.nio_kept.specs.Counts.{count_of}
 use Rattle.nio_mio.specs.declared.net.MioNet.{MioNet}
 
 -- no channel was asked to be anything

@@ -11,9 +11,7 @@ pub use net::MioNet;
 
 mod bell;
 mod causes;
-mod counts;
 mod loose;
 mod net;
-mod readiness;
 mod socket;
 mod sockets;

@@ -2,12 +2,11 @@
 ghost use Rattle.std.specs.Prelude.{◌≡◌, ◌<◌, IfOk, OnOk};
 
 use crate::bell::MioBell;
-use crate::counts::{Counts, raise};
 use crate::loose::LooseSocket;
-use crate::readiness::Readiness;
 use crate::sockets::{PLACES, Sockets};
 use nio_base::{Addr, ChanNo, Ops};
 use nio_event::Mode;
+use nio_kept::{Counts, Readiness, raise};
 use nio_link::{Change, Failed, Got, Net, Passable, PlaceLog, Put};
 use nio_poller::{PollError, Poller};
 use nio_select::{Asked, Told};
@@ -68,13 +67,13 @@ impl<S> MioNet<S> {
 impl<S: System + Clock + Copy> Poller for MioNet<S> {
     ghost use Rattle.std.specs.Prelude.{Some, refl};
     ghost use Rattle.std.proofs.Common.{◌∙◌};
-    ghost use Rattle.nio_mio.specs.Readiness.{ready_of};
+    ghost use Rattle.nio_kept.specs.Readiness.{polls_of, ready_of};
 
     ghost poll_faults = { λ m. m.poll_faults };
 
     ghost ready = { λ m. ready_of m.readiness };
 
-    ghost polls = { λ m. Some m.readiness.polls };
+    ghost polls = { λ m. Some (polls_of m.readiness) };
 
     // The counts stay, and what stands.
     ghost kept = { λ x y. (y.counts ≡ x.counts) × (y.log.changes ≡ x.log.changes) };
@@ -114,7 +113,7 @@ impl<S: System + Clock + Copy> Net for MioNet<S> {
     ghost use Rattle.std.specs.Prelude.{None, refl};
     ghost use Rattle.nio_link.specs.Accepts.{accepted_by};
     ghost use Rattle.nio_link.specs.Places.{places_after};
-    ghost use Rattle.nio_mio.specs.Counts.{count_of};
+    ghost use Rattle.nio_kept.specs.Counts.{count_of};
 
     ghost link = { λ m c. record { got = None; ended = None; put = None; shut = None } };
 

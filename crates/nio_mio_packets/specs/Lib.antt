@@ -1,3 +1,2 @@
-pub mod Counts
-pub mod Readiness
+pub mod Faultless
 pub mod Sides

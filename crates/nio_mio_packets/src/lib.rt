@@ -8,8 +8,6 @@
 
 pub use net::MioPackets;
 
-mod counts;
 mod net;
-mod readiness;
 mod side;
 mod sockets;

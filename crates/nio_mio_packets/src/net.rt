@@ -1,13 +1,12 @@
 //! The net over sockets.
 ghost use Rattle.std.specs.Prelude.{◌≡◌, IfOk};
 
-use crate::counts::{Counts, raise};
-use crate::readiness::Readiness;
 use crate::side::{Side, add, new_sides};
 use crate::sockets::Sockets;
 use nio_base::{Addr, ChanNo, Ops};
 use nio_datagram::{Came, PacketNet, Place};
 use nio_event::Mode;
+use nio_kept::{Counts, Readiness, raise};
 use nio_link::Failed;
 use nio_poller::{PollError, Poller};
 use nio_select::{Asked, Told};
@@ -29,7 +28,7 @@ pub struct MioPackets<S> {
 }
 
 impl<S: System + Clock + Copy> MioPackets<S> {
-    ghost use Rattle.nio_mio_packets.specs.Counts.{IsFaultless};
+    ghost use Rattle.nio_mio_packets.specs.Faultless.{IsFaultless};
     ghost use Rattle.nio_mio_packets.specs.Sides.{IsFresh};
 
     /// A net without sockets. Where the system refuses a poll object, each call of the net that can fail fails.
@@ -54,13 +53,13 @@ impl<S: System + Clock + Copy> MioPackets<S> {
 impl<S: System + Clock + Copy> Poller for MioPackets<S> {
     ghost use Rattle.std.specs.Prelude.{Some, refl};
     ghost use Rattle.std.proofs.Common.{◌∙◌};
-    ghost use Rattle.nio_mio_packets.specs.Readiness.{ready_of};
+    ghost use Rattle.nio_kept.specs.Readiness.{polls_of, ready_of};
 
     ghost poll_faults = { λ m. m.poll_faults };
 
     ghost ready = { λ m. ready_of m.readiness };
 
-    ghost polls = { λ m. Some m.readiness.polls };
+    ghost polls = { λ m. Some (polls_of m.readiness) };
 
     // The counts stay, and what was carried and stands.
     ghost kept = { λ x y. (y.counts ≡ x.counts) × (y.sides ≡ x.sides) };
@@ -98,7 +97,7 @@ impl<S: System + Clock + Copy> Poller for MioPackets<S> {
 
 impl<S: System + Clock + Copy> PacketNet for MioPackets<S> {
     ghost use Rattle.std.proofs.Common.{ap};
-    ghost use Rattle.nio_mio_packets.specs.Counts.{count_of};
+    ghost use Rattle.nio_kept.specs.Counts.{count_of};
     ghost use Rattle.nio_mio_packets.specs.Sides.{traffic_at as traffic_there, place_at as place_there};
 
     ghost traffic = { λ m. traffic_there m.sides.items };

@@ -1,19 +1,17 @@
 //! A net in memory of which each other send finds no room.
-ghost use Rattle.std.specs.Prelude.{◌≡◌, ◌≢◌, ℕ, IfOk, OnErr};
+ghost use Rattle.std.specs.Prelude.{◌≡◌, IfOk, OnErr};
 ghost use Rattle.nio_poller.specs.Polls.{CountsFaults, AddsPoll, told_of_channel};
-ghost use Rattle.nio_poller.specs.Scripts.{last_told};
 ghost use Rattle.nio_poller.specs.declared.poller.PollError.TheVariants.{Fault};
-ghost use Rattle.nio_link.specs.Readiness.{without};
-ghost use Rattle.nio_mio_packets.specs.Readiness.{left_of};
+ghost use Rattle.nio_kept.specs.Readiness.{ready_of};
 ghost use Rattle.nio_base.specs.declared.numbers.ChanNo.{ChanNo as Channel};
 ghost use Rattle.nio_datagram.specs.MemoryPackets.{KeepsPackets};
 
 use nio_base::{Addr, ChanNo, Ops};
 use nio_datagram::{Came, Failed, MemoryPackets, PacketNet};
 use nio_event::Mode;
-use nio_poller::{PollError, Poller, ToldPoll};
+use nio_kept::Readiness;
+use nio_poller::{PollError, Poller};
 use nio_select::{Asked, Told};
-use nio_trace::{Reading, Trace};
 use std::alloc::Global;
 use std::sync::Wait;
 
@@ -22,16 +20,7 @@ use std::sync::Wait;
 pub(crate) struct Reluctant {
     pub net: MemoryPackets,
     is_full: bool,
-    last: Trace<ToldPoll>,
-    taken: Trace<(ChanNo, Ops)>,
-}
-
-// A call found the channel not ready for the operation.
-fn take(taken: &mut Trace<(ChanNo, Ops)>, chan: ChanNo, op: Ops)
-    ensures its { (told : ℕ) → left_of chan told taken.new ≡ without op (left_of chan told taken.old) }
-    ensures others { (c : Channel) → c ≢ chan → (told : ℕ) → left_of c told taken.new ≡ left_of c told taken.old }
-{
-    taken.push(&(chan, op));
+    readiness: Readiness,
 }
 
 impl Reluctant {
@@ -41,31 +30,9 @@ impl Reluctant {
         Reluctant {
             net,
             is_full: true,
-            last: Trace::new(),
-            taken: Trace::new(),
+            readiness: Readiness::new(),
         }
     }
-}
-
-#[derive(Clone, Copy)]
-struct Answer<'a> {
-    asked: &'a Asked,
-    mode: Mode,
-    told: &'a Told,
-}
-
-/// Reads a poll off its answer.
-struct OnePoll;
-
-impl<'a> Reading<Answer<'a>, ToldPoll> for OnePoll {
-    ghost use Rattle.std.specs.Prelude.{[], ◌∷◌};
-    ghost use Rattle.nio_select.specs.InProgress.{poll_of};
-
-    ghost items = { λ answer. record {
-      asked = answer.asked.now;
-      mode = answer.mode;
-      answer = poll_of answer.told.now;
-    } ∷ [] };
 }
 
 impl Poller for Reluctant {
@@ -74,7 +41,7 @@ impl Poller for Reluctant {
 
     ghost poll_faults = { λ _. 0 };
 
-    ghost ready = { λ s c. left_of c (last_told s.last c) s.taken };
+    ghost ready = { λ s. ready_of s.readiness };
 
     ghost polls = { λ _. None };
 
@@ -89,24 +56,20 @@ impl Poller for Reluctant {
     ) -> Result<Told, PollError>
         ensures cause { CountsFaults Fault 0 0 result }
         ensures ready { IfOk result (λ told. (c : Channel)
-            → left_of c (last_told self.new.last c) self.new.taken ≡ told_of_channel asked.now told.pairs.items c) }
-        ensures unready { OnErr result ((c : Channel) → left_of c (last_told self.new.last c) self.new.taken ≡ 0) }
+            → ready_of self.new.readiness c ≡ told_of_channel asked.now told.pairs.items c) }
+        ensures unready { OnErr result ((c : Channel) → ready_of self.new.readiness c ≡ 0) }
         ensures polls { AddsPoll None None asked.now mode result }
         ensures kept { KeepsPackets self.old.net self.new.net }
     {
-        self.last = Trace::new();
-        self.taken = Trace::new();
         match self.net.poll(rt, alloc, asked, mode) {
             Ok(told) => {
-                let answer = Answer {
-                    asked,
-                    mode,
-                    told: &told,
-                };
-                self.last.extend_from::<Answer, OnePoll>(&answer);
+                self.readiness.answered(asked, mode, &told);
                 Ok(told)
             }
-            Err(error) => Err(error),
+            Err(error) => {
+                self.readiness.failed();
+                Err(error)
+            }
         }
     }
 
@@ -120,7 +83,8 @@ impl Poller for Reluctant {
 
 impl PacketNet for Reluctant {
     ghost use Rattle.std.proofs.Common.{ap};
-    ghost use Rattle.nio_datagram.specs.MemoryPackets.{traffic_at, place_at, times};
+    ghost use Rattle.nio_datagram.specs.MemoryPackets.{traffic_at, place_at};
+    ghost use Rattle.nio_link.specs.MemoryNet.{times};
 
     ghost traffic = { λ s. traffic_at s.net.sides };
 
@@ -135,7 +99,7 @@ impl PacketNet for Reluctant {
     fn receive(&mut self, chan: ChanNo, into: &mut [u8]) -> Result<Came, Failed> {
         let came = self.net.receive_packet(chan, into);
         if let Ok(Came::NotYet) = &came {
-            take(&mut self.taken, chan, Ops::READ);
+            self.readiness.take(chan, Ops::READ);
         }
         came
     }
@@ -144,7 +108,7 @@ impl PacketNet for Reluctant {
         let is_full = self.is_full;
         self.is_full = !is_full;
         if is_full {
-            take(&mut self.taken, chan, Ops::WRITE);
+            self.readiness.take(chan, Ops::WRITE);
             return Ok(false);
         }
         match self.net.send_packet(chan, bytes, to) {

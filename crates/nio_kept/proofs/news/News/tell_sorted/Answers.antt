@@ -1,4 +1,4 @@
-use Rattle.std.proofs.Common.{◌≡◌, ℕ, slice_index_or, arith}
+use Rattle.std.proofs.Common.{ℕ, slice_index_or, arith}
 use Rattle.std.proofs.lemmas.List.{get_or_default}
 use Rattle.nio_kept.proofs.Found.{told_here, told_all}
 use Rattle.nio_kept.proofs.news.News.tell_sorted.Goals as goal

@@ -1,9 +1,15 @@
--- What the last poll told, as far as no call has found otherwise since.
+-- The polls that a net answered, and what its channels are ready for: what the last poll told, as far as no call has
+-- found otherwise since.
 use Rattle.std.specs.Prelude.{ℕ, ◌==◌, if◌then◌else◌, List, fold}
 use Rattle.nio_base.specs.declared.numbers.ChanNo.{ChanNo}
+use Rattle.nio_kept.specs.declared.readiness.Readiness.{Readiness}
 use Rattle.nio_link.specs.Readiness.{without}
-use Rattle.nio_mio_packets.specs.declared.readiness.Readiness.{Readiness}
+use Rattle.nio_poller.specs.Polled.{Polled}
 use Rattle.nio_poller.specs.Scripts.{last_told}
+
+-- those that answered, the oldest first
+abbrev pub polls_of : Readiness → List Polled
+polls_of r = r.polls
 
 -- without what was taken of this channel
 abbrev pub left_of : ChanNo → ℕ → List (ChanNo × ℕ) → ℕ

@@ -2,7 +2,7 @@
 use Rattle.std.specs.Prelude.{ℕ, ◌==◌, count_by}
 use Rattle.std.specs.List.{slice_index_or}
 use Rattle.nio_base.specs.declared.numbers.ChanNo.{ChanNo}
-use Rattle.nio_mio.specs.declared.counts.Counts.{Counts}
+use Rattle.nio_kept.specs.declared.counts.Counts.{Counts}
 
 -- by the count at its place, or, where it has none, by the list of the faults of such numbers
 abbrev pub count_of : Counts → ChanNo → ℕ

@@ -12,16 +12,16 @@ use std::alloc::{AllocError, Global};
 /// A count for each channel below the number of places, which stops at the greatest `u64`. The faults of calls on other
 /// numbers are a list that exists in proofs alone.
 #[derive(Drop)]
-pub(crate) struct Counts {
+pub struct Counts {
     own: Vec<u64>,
     beyond: Trace<ChanNo>,
 }
 
 impl Counts {
-    ghost use Rattle.nio_mio.specs.Counts.{count_of};
+    ghost use Rattle.nio_kept.specs.Counts.{count_of};
 
     /// No call has failed.
-    pub(crate) fn make(alloc: Global, places: usize) -> Result<Counts, AllocError>
+    pub fn make(alloc: Global, places: usize) -> Result<Counts, AllocError>
         ensures { IfOk result (λ counts. (c : Channel) → count_of counts c ≡ 0) }
     {
         Ok(Counts {
@@ -31,7 +31,7 @@ impl Counts {
     }
 
     /// Counts a fault of a call on the channel.
-    pub(crate) fn fail(&mut self, chan: ChanNo) -> Failed
+    pub fn fail(&mut self, chan: ChanNo) -> Failed
         ensures later { count_of self.old chan ≤ count_of self.new chan }
         ensures rose { Rose (count_of self.old chan) (count_of self.new chan) }
         ensures others { IsSameBut chan (count_of self.old) (count_of self.new) }
@@ -47,7 +47,7 @@ impl Counts {
 }
 
 /// Counts a fault. The count stops at the greatest `u64`.
-pub(crate) fn raise(count: &mut u64)
+pub fn raise(count: &mut u64)
     ensures later { count.old ≤ count.new }
     ensures rose { Rose count.old count.new }
 {

@@ -13,7 +13,7 @@ use nio_trace::{Reading, Trace};
 
 /// The polls that answered; the last poll, where it answered; and which operations calls have found not ready since.
 #[derive(Drop)]
-pub(crate) struct Readiness {
+pub struct Readiness {
     polls: Trace<ToldPoll>,
     last: Trace<ToldPoll>,
     taken: Trace<(ChanNo, Ops)>,
@@ -22,9 +22,13 @@ pub(crate) struct Readiness {
 impl Readiness {
     ghost use Rattle.std.specs.Prelude.{◌++◌, [], ◌∷◌};
     ghost use Rattle.nio_select.specs.InProgress.{poll_of};
-    ghost use Rattle.nio_mio_packets.specs.Readiness.{ready_of};
+    ghost use Rattle.nio_kept.specs.Readiness.{polls_of, ready_of};
 
-    pub(crate) fn new() -> Readiness {
+    /// No poll has answered.
+    pub fn new() -> Readiness
+        ensures polls { polls_of result ≡ [] }
+        ensures unready { (c : Channel) → ready_of result c ≡ 0 }
+    {
         Readiness {
             polls: Trace::new(),
             last: Trace::new(),
@@ -33,9 +37,9 @@ impl Readiness {
     }
 
     /// A poll answered.
-    pub(crate) fn answered(&mut self, asked: &Asked, mode: Mode, told: &Told)
-        ensures polls { self.new.polls
-            ≡ self.old.polls ++ record { asked = asked.now; mode = mode; answer = poll_of told.now } ∷ [] }
+    pub fn answered(&mut self, asked: &Asked, mode: Mode, told: &Told)
+        ensures polls { polls_of self.new
+            ≡ polls_of self.old ++ record { asked = asked.now; mode = mode; answer = poll_of told.now } ∷ [] }
         ensures ready { (c : Channel) → ready_of self.new c ≡ told_of_channel asked.now told.now.pairs.items c }
     {
         let answer = Answer { asked, mode, told };
@@ -46,8 +50,8 @@ impl Readiness {
     }
 
     /// A poll failed.
-    pub(crate) fn failed(&mut self)
-        ensures polls { self.new.polls ≡ self.old.polls }
+    pub fn failed(&mut self)
+        ensures polls { polls_of self.new ≡ polls_of self.old }
         ensures unready { (c : Channel) → ready_of self.new c ≡ 0 }
     {
         self.last = Trace::new();
@@ -55,8 +59,8 @@ impl Readiness {
     }
 
     /// A call found the channel not ready for the operation.
-    pub(crate) fn take(&mut self, chan: ChanNo, op: Ops)
-        ensures polls { self.new.polls ≡ self.old.polls }
+    pub fn take(&mut self, chan: ChanNo, op: Ops)
+        ensures polls { polls_of self.new ≡ polls_of self.old }
         ensures taken { ready_of self.new chan ≡ without op (ready_of self.old chan) }
         ensures others { IsSameBut chan (ready_of self.old) (ready_of self.new) }
     {
