@@ -11,9 +11,6 @@ use Rattle.clap.proofs.LexerLemmas.{name_and_value-at, name_and_value-without}
 use Rattle.clap.specs.Lexer.{long_of, long_of_rest, name_and_value, short_of, short_of_rest, strip_byte}
 use Rattle.clap.specs.Walk.{Text}
 
-strip_same : (c : ℕ) (rest : Text) → strip_byte c (c ∷ rest) ≡ Some rest
-strip_same c rest = rw (eq-eqb c c refl) refl
-
 pub stripped : (c : ℕ) (text rest : Text) → strip_byte c text ≡ Some rest → text ≡ c ∷ rest
 stripped c [] rest e = absurd (cc)
 stripped c (x ∷ xs) rest e = go (x == c) refl

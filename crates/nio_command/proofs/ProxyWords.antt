@@ -45,14 +45,6 @@ proxy_distinct v =
 
 -- ---- what `clap` finds
 
--- each value is found, and that of `--workers` only where it is given
-pub record FindsFive (rows : List Row) (v : ProxyValues) : Type 0 where
-  pub way : first_of (codes "way") rows ≡ Some v.way
-  pub listen : first_of (codes "listen") rows ≡ Some v.listen
-  pub target : first_of (codes "target") rows ≡ Some v.target
-  pub conns : first_of (codes "conns") rows ≡ Some v.conns
-  pub workers : first_of (codes "workers") rows ≡ v.workers
-
 last_found : (w : Option Text) (rows : List Row) → first_of (codes "workers") rows ≡ w
     → Each (IsFound rows) (workers_option w)
 last_found None rows found = tt

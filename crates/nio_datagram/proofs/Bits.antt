@@ -1,5 +1,5 @@
 -- What a channel stays ready for.
-use Rattle.std.proofs.Common.{ℕ, Bool, true, false, Result, Ok, Err, IsTrue, bit_and, sym, ap, ◌∙◌, eq-eqb, eqb-true}
+use Rattle.std.proofs.Common.{◌≡◌, ℕ, Bool, true, false, Result, Ok, Err, IsTrue, bit_and, sym, ap, ◌∙◌, eq-eqb, eqb-true}
 use Rattle.std.proofs.lemmas.Nat.{and_assoc, and_comm}
 use Rattle.nio_link.specs.Readiness.{without}
 use Rattle.nio_link.specs.declared.net.Failed.{Failed}
@@ -31,3 +31,7 @@ pub send_keeps_read : (result : Result Bool Failed) (r : ℕ) → IsTrue (is_wit
 send_keeps_read (Ok true) r within = within
 send_keeps_read (Ok false) r within = keeps_read r within
 send_keeps_read (Err failed) r within = within
+
+pub within_trans : (a b c : ℕ) → bit_and a b ≡ a → IsTrue (is_within b c) → IsTrue (is_within a c)
+within_trans a b c first second = eq-eqb (bit_and a c) a
+    (ap (λ x. bit_and x c) (sym first) ∙ and_assoc c a b ∙ ap (bit_and a) (eqb-true (bit_and b c) b second) ∙ first)

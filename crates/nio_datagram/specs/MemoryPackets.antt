@@ -1,16 +1,17 @@
 -- A net of packets in memory, as its callers see it.
-use Rattle.std.specs.Prelude.{◌≡◌, ℕ, ◌==◌, nat_lt, Bool, true, false, not, if◌then◌else◌, Option, Some, None, Result, Ok, Err}
-use Rattle.std.specs.Prelude.{List, [], ◌∷◌, ◌++◌, length, map, filter, fold, count_by, slice_set, bit_and, Vec}
+use Rattle.std.specs.Prelude.{◌≡◌, ℕ, ◌==◌, nat_lt, Bool, true, false, not, if◌then◌else◌, Option, Result, Ok, Err}
+use Rattle.std.specs.Prelude.{List, [], ◌∷◌, ◌++◌, length, map, filter, fold, slice_set, bit_and, Vec}
 use Rattle.std.specs.List.{slice_index_or}
 use Rattle.std.specs.declared.alloc.Global.{Global}
 use Rattle.nio_base.specs.declared.numbers.Addr.{Addr}
 use Rattle.nio_base.specs.declared.numbers.ChanNo.{ChanNo}
 use Rattle.nio_bytes.specs.Calls.{Calls, no_calls, after_success, after_failure}
+use Rattle.nio_link.specs.MemoryNet.{faulted_after}
+use Rattle.nio_link.specs.NetPlans.{numbers_of}
 use Rattle.nio_link.specs.Readiness.{without}
 use Rattle.nio_link.specs.declared.net.Failed.{Failed}
 use Rattle.nio_poller.specs.Polled.{Polled}
 use Rattle.nio_poller.specs.Polls.{told_of_channel}
-use Rattle.nio_steps.specs.SelectCalls.{Poll}
 use Rattle.nio_steps.specs.declared.looked.LookedKey.{LookedKey}
 use Rattle.nio_datagram.specs.Packets.{Packet, Traffic}
 use Rattle.nio_datagram.specs.Sides.{SideState, planned_side, traffic_of, bind_answer, side_after_bind}
@@ -45,11 +46,6 @@ traffic_at sides c = traffic_of (side_at sides c)
 abbrev pub place_at : List SideState → ChanNo → Place
 place_at sides c = (side_at sides c).place
 
--- which sends fail
-abbrev pub numbers_of : Option ℕ → List ℕ
-numbers_of None = []
-numbers_of (Some n) = n ∷ []
-
 abbrev pub planned : List (Addr × Vec ℕ Global) → List (Addr × Vec ℕ Global) → Option ℕ → PacketsState
 planned front back fail_send = record {
   sides = planned_side front ∷ planned_side back ∷ [];
@@ -74,26 +70,11 @@ ready_told findings = fold heed (λ _. 0) findings
 abbrev pub told_pair : List SideState → LookedKey → ℕ × ℕ
 told_pair sides entry = (entry.index, bit_and (side_ready (side_at sides entry.channel)) entry.interest)
 
-abbrev pub if_some : ℕ × ℕ → List (ℕ × ℕ)
-if_some pair = filter (λ told. not (told.1 == 0)) (pair ∷ [])
-
 -- the keys of which it tells something
 abbrev pub told_pairs : List SideState → List LookedKey → List (ℕ × ℕ)
 told_pairs sides asked = filter (λ pair. not (pair.1 == 0)) (map (told_pair sides) asked)
 
--- a net in memory never waits, so the time is over where nothing is ready
-abbrev pub answer_of : List (ℕ × ℕ) → Poll
-answer_of pairs = record { pairs = pairs; elapsed = length pairs == 0 }
-
 -- ---- failures
-
-abbrev pub times : List ChanNo → ChanNo → ℕ
-times chans c = count_by (λ chan. chan.0 == c.0) chans
-
--- the channels on which calls failed, after a call on this one
-abbrev pub faulted_after : {T : Type 0} → Result T Failed → ChanNo → List ChanNo → List ChanNo
-faulted_after (Ok value) c before = before
-faulted_after (Err failed) c before = before ++ c ∷ []
 
 -- what was found, after a call that found the channel not ready for this, or not
 abbrev pub findings_after : Bool → ChanNo → ℕ → List Finding → List Finding

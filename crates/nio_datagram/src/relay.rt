@@ -25,6 +25,13 @@ pub(crate) struct Relay {
     pub backward: Direction,
 }
 
+/// Operations of both links.
+#[derive(Clone, Copy, Debug, PartialEq, Eq)]
+pub(crate) struct BothOps {
+    pub front: Ops,
+    pub back: Ops,
+}
+
 // What is known of a direction's readiness, by what its source and its sink were told ready for.
 fn known(source: Ops, sink: Ops) -> Readiness
     ensures read { (ready : ℕ) → IsTrue (is_within source ready) → IsTrue result.read → IsTrue (is_within 1 ready) }
@@ -94,16 +101,14 @@ impl Relay {
         let _back = self.back.close(net);
     }
 
-    /// For what the front link is watched: for reading unless a packet from it waits, and for writing where one is to go
-    /// to the client.
-    pub(crate) fn front_interest(&self) -> Ops {
-        let writes = self.backward.is_holding() && self.front.peer().is_some();
-        interest(self.forth.is_reading(), writes)
-    }
-
-    /// For what the back link is watched.
-    pub(crate) fn back_interest(&self) -> Ops {
-        interest(self.backward.is_reading(), self.forth.is_holding())
+    /// For what both links are watched: for reading unless a packet from there waits, and for writing where one is to go
+    /// there.
+    pub(crate) fn interests(&self) -> BothOps {
+        let to_client = self.backward.is_holding() && self.front.peer().is_some();
+        BothOps {
+            front: interest(self.forth.is_reading(), to_client),
+            back: interest(self.backward.is_reading(), self.forth.is_holding()),
+        }
     }
 
     /// Passes packets on in both directions, as far as the links were told ready, until `count` have gone to the target.

@@ -1,8 +1,7 @@
 //! Relaying packets.
 ghost use Rattle.std.specs.Prelude.{◌≡◌, ◌<◌, ◌≤◌, ◌⊎◌, Err, IfOk, IsTrue, OnOk};
 ghost use Rattle.nio_bytes.specs.Cause.{Rose};
-ghost use Rattle.nio_poller.specs.Polls.{CountsFaults};
-ghost use Rattle.nio_poller.specs.declared.poller.PollError.TheVariants.{Fault};
+ghost use Rattle.nio_poller.specs.Polls.{told_of_channel};
 ghost use Rattle.nio_steps.specs.KeyCalls.{is_within};
 ghost use Rattle.nio_words.specs.Passes.{IsFirstPass};
 ghost use Rattle.nio_datagram.specs.Nets.{view_by, NoneFailed};
@@ -14,10 +13,11 @@ ghost use Rattle.nio_datagram.specs.declared.net.Place.TheVariants as place_is;
 ghost use Rattle.nio_datagram.specs.declared.serving.PacketServeError.TheVariants.{NetFault};
 
 use crate::net::PacketNet;
-use crate::relay::Relay;
+use crate::relay::{BothOps, Relay};
 use crate::watching::{Watched, set, told_of, watch};
 use nio_base::{Addr, CallerNo, ChanNo, Limits, Ops};
 use nio_poller::PollError;
+use nio_select::{Asked, Selecting, Told};
 use nio_serve::{Board, Refused};
 use nio_words::{Pass, Words};
 use std::alloc::{AllocError, Global};
@@ -73,13 +73,6 @@ const FRONT: ChanNo = ChanNo(0);
 /// The channel to which the target answers.
 pub(crate) const BACK: ChanNo = ChanNo(1);
 
-/// What a poll told of both channels.
-#[derive(Clone, Copy, Debug, PartialEq, Eq)]
-struct Ready {
-    front: Ops,
-    back: Ops,
-}
-
 /// What a relay serves by: a board on which both of its channels are watched.
 #[derive(Drop)]
 struct Server<'a> {
@@ -106,46 +99,14 @@ impl<'a> Server<'a> {
 
     // Watches both channels for what the relay can use.
     fn watch(&mut self, relay: &Relay) -> Result<(), Refused> {
-        set(&mut self.board, &mut self.front, relay.front_interest())?;
-        set(&mut self.board, &mut self.back, relay.back_interest())
+        let interests = relay.interests();
+        set(&mut self.board, &mut self.front, interests.front)?;
+        set(&mut self.board, &mut self.back, interests.back)
     }
 
-    // One selection, with one poll. Answers what that told of both channels, which may be more than they are watched
-    // for. `selected` is memory for the selection.
+    // One selection. It goes on, poll by poll, while the relay can use the operations that both channels are watched
+    // for. `selected` is memory for its end.
     fn select<R: Wait, N: PacketNet>(
-        &mut self,
-        rt: &R,
-        alloc: Global,
-        net: &mut N,
-        selected: &mut Vec<(ChanNo, Ops)>,
-    ) -> Result<Ready, PollError>
-        ensures kept { N.kept net.old net.new }
-        ensures cause { CountsFaults Fault (N.poll_faults net.old) (N.poll_faults net.new) result }
-        ensures front { IfOk result (λ ready. ready.front ≡ N.ready net.new front) }
-        ensures back { IfOk result (λ ready. ready.back ≡ N.ready net.new back) }
-    {
-        let Ok(selection) = self.board.begin(alloc) else {
-            return Err(PollError::Memory);
-        };
-        let answer = match net.poll(rt, alloc, selection.asked(), selection.mode()) {
-            Ok(answer) => answer,
-            Err(error) => {
-                self.board.leave(selection);
-                return Err(error);
-            }
-        };
-        let ready = Ready {
-            front: told_of(selection.asked(), &answer, FRONT),
-            back: told_of(selection.asked(), &answer, BACK),
-        };
-        match self.board.end(selection, &answer, selected) {
-            Ok(()) => Ok(ready),
-            Err(AllocError) => Err(PollError::Memory),
-        }
-    }
-
-    // One turn: one selection, and both directions as far as its poll told them ready.
-    fn turn<R: Wait, N: PacketNet>(
         &mut self,
         rt: &R,
         alloc: Global,
@@ -156,12 +117,13 @@ impl<'a> Server<'a> {
     ) -> Result<(), PacketServeError>
         requires relaying { IsRelaying relay.old
             (view_by N.traffic N.packet_faults N.place N.ready N.poll_faults net.old) }
+        requires count { relay.old.forth.sent < count }
         ensures relaying { IsRelaying relay.new
             (view_by N.traffic N.packet_faults N.place N.ready N.poll_faults net.new) }
         ensures server { relay.new.back.peer ≡ relay.old.back.peer }
         ensures moves { Moves (view_by N.traffic N.packet_faults N.place N.ready N.poll_faults net.old)
             (view_by N.traffic N.packet_faults N.place N.ready N.poll_faults net.new) }
-        ensures count { relay.old.forth.sent < count → relay.new.forth.sent ≤ count }
+        ensures count { relay.new.forth.sent ≤ count }
         ensures still { OnOk result (NoneFailed (N.packet_faults net.old) (N.packet_faults net.new)
             (N.poll_faults net.old) (N.poll_faults net.new)) }
         ensures cause { result ≡ Err NetFault → OneRose (N.packet_faults net.old) (N.packet_faults net.new)
@@ -170,10 +132,18 @@ impl<'a> Server<'a> {
         if self.watch(relay).is_err() {
             return Err(PacketServeError::Memory);
         }
-        match self.select(rt, alloc, net, selected) {
-            Ok(ready) => pass_ready(net, relay, ready, count),
-            Err(PollError::Fault) => Err(PacketServeError::NetFault),
-            Err(PollError::Memory) => Err(PacketServeError::Memory),
+        let Ok(selection) = self.board.begin(alloc) else {
+            return Err(PacketServeError::Memory);
+        };
+        match poll_on(rt, alloc, net, relay, &selection, count) {
+            Ok(answer) => match self.board.end(selection, &answer, selected) {
+                Ok(()) => Ok(()),
+                Err(AllocError) => Err(PacketServeError::Memory),
+            },
+            Err(error) => {
+                self.board.leave(selection);
+                Err(error)
+            }
         }
     }
 
@@ -236,12 +206,89 @@ impl<'a> Server<'a> {
             if relay.forth.sent() == count {
                 return Ok(());
             }
-            let turned = self.turn(rt, alloc, net, relay, &mut selected, count);
-            if turned.is_err() {
-                return turned;
+            let ended = self.select(rt, alloc, net, relay, &mut selected, count);
+            if ended.is_err() {
+                return ended;
             }
         }
         unreachable!()
+    }
+}
+
+// Polls for a selection, and passes packets on after each poll, until all have gone to the target or the relay can use
+// other operations. Answers what the last poll told.
+fn poll_on<R: Wait, N: PacketNet>(
+    rt: &R,
+    alloc: Global,
+    net: &mut N,
+    relay: &mut Relay,
+    selection: &Selecting,
+    count: u32,
+) -> Result<Told, PacketServeError>
+    requires relaying { IsRelaying relay.old
+        (view_by N.traffic N.packet_faults N.place N.ready N.poll_faults net.old) }
+    requires count { relay.old.forth.sent < count }
+    ensures relaying { IsRelaying relay.new
+        (view_by N.traffic N.packet_faults N.place N.ready N.poll_faults net.new) }
+    ensures server { relay.new.back.peer ≡ relay.old.back.peer }
+    ensures moves { Moves (view_by N.traffic N.packet_faults N.place N.ready N.poll_faults net.old)
+        (view_by N.traffic N.packet_faults N.place N.ready N.poll_faults net.new) }
+    ensures count { relay.new.forth.sent ≤ count }
+    ensures still { OnOk result (NoneFailed (N.packet_faults net.old) (N.packet_faults net.new)
+        (N.poll_faults net.old) (N.poll_faults net.new)) }
+    ensures cause { result ≡ Err NetFault → OneRose (N.packet_faults net.old) (N.packet_faults net.new)
+        (N.poll_faults net.old) (N.poll_faults net.new) }
+{
+    let watched = relay.interests();
+    for _ in rt.forever() {
+        let told = turn(rt, alloc, net, relay, selection, count);
+        if told.is_err() || relay.forth.sent() == count || relay.interests() != watched {
+            return told;
+        }
+    }
+    unreachable!()
+}
+
+// One turn: one poll, and both directions as far as it told them ready. Answers what it told.
+fn turn<R: Wait, N: PacketNet>(
+    rt: &R,
+    alloc: Global,
+    net: &mut N,
+    relay: &mut Relay,
+    selection: &Selecting,
+    count: u32,
+) -> Result<Told, PacketServeError>
+    requires relaying { IsRelaying relay.old
+        (view_by N.traffic N.packet_faults N.place N.ready N.poll_faults net.old) }
+    ensures relaying { IsRelaying relay.new
+        (view_by N.traffic N.packet_faults N.place N.ready N.poll_faults net.new) }
+    ensures server { relay.new.back.peer ≡ relay.old.back.peer }
+    ensures moves { Moves (view_by N.traffic N.packet_faults N.place N.ready N.poll_faults net.old)
+        (view_by N.traffic N.packet_faults N.place N.ready N.poll_faults net.new) }
+    ensures count { relay.old.forth.sent < count → relay.new.forth.sent ≤ count }
+    ensures still { OnOk result (NoneFailed (N.packet_faults net.old) (N.packet_faults net.new)
+        (N.poll_faults net.old) (N.poll_faults net.new)) }
+    ensures cause { result ≡ Err NetFault → OneRose (N.packet_faults net.old) (N.packet_faults net.new)
+        (N.poll_faults net.old) (N.poll_faults net.new) }
+{
+    match net.poll(rt, alloc, selection.asked(), selection.mode()) {
+        Ok(told) => match pass_ready(net, relay, ready_of(selection.asked(), &told), count) {
+            Ok(()) => Ok(told),
+            Err(error) => Err(error),
+        },
+        Err(PollError::Fault) => Err(PacketServeError::NetFault),
+        Err(PollError::Memory) => Err(PacketServeError::Memory),
+    }
+}
+
+// What a poll told of both channels, which may be more than they are watched for.
+fn ready_of(asked: &Asked, told: &Told) -> BothOps
+    ensures front { result.front ≡ told_of_channel asked.now told.now.pairs.items front }
+    ensures back { result.back ≡ told_of_channel asked.now told.now.pairs.items back }
+{
+    BothOps {
+        front: told_of(asked, told, FRONT),
+        back: told_of(asked, told, BACK),
     }
 }
 
@@ -249,7 +296,7 @@ impl<'a> Server<'a> {
 fn pass_ready<N: PacketNet>(
     net: &mut N,
     relay: &mut Relay,
-    ready: Ready,
+    ready: BothOps,
     count: u32,
 ) -> Result<(), PacketServeError>
     requires ready_front { IsTrue (is_within ready.front (N.ready net.old front)) }

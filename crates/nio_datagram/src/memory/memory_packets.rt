@@ -4,13 +4,15 @@ ghost use Rattle.std.specs.Prelude.{OnErr, OnOk, IsOk, IsTrue, Some, length, opt
 ghost use Rattle.std.specs.List.{slice_get};
 ghost use Rattle.nio_base.specs.declared.numbers.ChanNo.{ChanNo};
 ghost use Rattle.nio_bytes.specs.Calls.{FailsNext};
+ghost use Rattle.nio_link.specs.MemoryNet.{answer_of, faulted_after, if_some, times};
+ghost use Rattle.nio_link.specs.NetPlans.{numbers_of};
 ghost use Rattle.nio_poller.specs.Polls.{CountsFaults, AddsPoll, told_of_channel};
 ghost use Rattle.nio_poller.specs.declared.poller.PollError.TheVariants.{Fault, Memory};
 ghost use Rattle.nio_select.specs.InProgress.{poll_of};
 ghost use Rattle.nio_datagram.specs.Packets.{no_traffic, IsCame};
 ghost use Rattle.nio_datagram.specs.Sides.{is_bound, receive_answer, receive_buffer, side_ready};
-ghost use Rattle.nio_datagram.specs.MemoryPackets.{side_at, planned, numbers_of, traffic_at, place_at, times, ready_told};
-ghost use Rattle.nio_datagram.specs.MemoryPackets.{told_pairs, if_some, faulted_after, findings_after, answer_of};
+ghost use Rattle.nio_datagram.specs.MemoryPackets.{side_at, planned, traffic_at, place_at, ready_told};
+ghost use Rattle.nio_datagram.specs.MemoryPackets.{told_pairs, findings_after};
 ghost use Rattle.nio_datagram.specs.MemoryPackets.{sides_after_bind, sides_after_receive, sides_after_send};
 ghost use Rattle.nio_datagram.specs.MemoryPackets.{sides_after_close, bind_answer_at, after_bind, after_receive};
 ghost use Rattle.nio_datagram.specs.MemoryPackets.{after_sent, after_planned_send, after_lost_send, after_close};

@@ -1,17 +1,17 @@
-use Rattle.std.proofs.Common.{◌∙◌, refl, sym, arith}
+use Rattle.std.proofs.Common.{◌∙◌, refl, sym}
 use Rattle.nio_datagram.proofs.PassLaws.{none_failed, none_failed_then, on_ok}
 use Rattle.nio_datagram.proofs.ServeLaws.{moves_none, moves_then, one_rose_from}
 use Rattle.nio_datagram.proofs.serving.Server.run.Goals as goal
 
 pub returns-then-is_err-clause-moves : goal.returns-then-is_err-clause-moves
-returns-then-is_err-clause-moves g c = moves_then _ _ _ c.loop.invariant.moves c.turn-turned.ensures.moves
+returns-then-is_err-clause-moves g c = moves_then _ _ _ c.loop.invariant.moves c.select-ended.ensures.moves
 
 pub returns-then-is_err-clause-cause : goal.returns-then-is_err-clause-cause
 returns-then-is_err-clause-cause g c failed =
     one_rose_from (g.N.PacketNet.packet_faults c.args.net.now) (g.N.PacketNet.packet_faults c.loop.net)
-    (g.N.PacketNet.packet_faults c.turn-turned.new.net) (g.N.Poller.poll_faults c.args.net.now)
-    (g.N.Poller.poll_faults c.loop.net) (g.N.Poller.poll_faults c.turn-turned.new.net) c.loop.invariant.moves.later c.loop.invariant.moves.polls
-    (c.turn-turned.ensures.cause failed)
+    (g.N.PacketNet.packet_faults c.select-ended.new.net) (g.N.Poller.poll_faults c.args.net.now)
+    (g.N.Poller.poll_faults c.loop.net) (g.N.Poller.poll_faults c.select-ended.new.net) c.loop.invariant.moves.later c.loop.invariant.moves.polls
+    (c.select-ended.ensures.cause failed)
 
 pub loop-init : goal.loop-init
 loop-init g c = record {
@@ -24,9 +24,9 @@ loop-init g c = record {
 
 pub loop-preserved : goal.loop-preserved
 loop-preserved g c = record {
-  relaying = c.turn-turned.ensures.relaying;
-  server = c.turn-turned.ensures.server ∙ c.loop.invariant.server;
-  moves = moves_then _ _ _ c.loop.invariant.moves c.turn-turned.ensures.moves;
-  still = none_failed_then _ _ _ _ _ _ c.loop.invariant.still (on_ok c.turn-turned.result _ (sym c.is_err.ensures.value ∙ c.if-is_err.false) c.turn-turned.ensures.still);
-  count = c.turn-turned.ensures.count (omega (arith, c.loop.invariant.count, c.sent.ensures, c.if-sent-count.false));
+  relaying = c.select-ended.ensures.relaying;
+  server = c.select-ended.ensures.server ∙ c.loop.invariant.server;
+  moves = moves_then _ _ _ c.loop.invariant.moves c.select-ended.ensures.moves;
+  still = none_failed_then _ _ _ _ _ _ c.loop.invariant.still (on_ok c.select-ended.result _ (sym c.is_err.ensures.value ∙ c.if-is_err.false) c.select-ended.ensures.still);
+  count = c.select-ended.ensures.count;
 }

@@ -1,0 +1,18 @@
+use Rattle.std.proofs.Common.{◌≡◌, ◌<◌}
+use Rattle.nio_datagram.specs.Nets.{PacketView, view_by, NoneFailed}
+use Rattle.nio_datagram.specs.Relaying.{IsRelaying, Moves}
+use Rattle.nio_datagram.proofs.serving.poll_on.Given as goal
+
+abbrev pub invariant-loop : goal.invariant-loop
+invariant-loop g l =
+    let first : PacketView = view_by g.N.PacketNet.traffic g.N.PacketNet.packet_faults g.N.PacketNet.place
+    g.N.Poller.ready g.N.Poller.poll_faults l.fn.net in
+    let here : PacketView = view_by g.N.PacketNet.traffic g.N.PacketNet.packet_faults g.N.PacketNet.place
+    g.N.Poller.ready g.N.Poller.poll_faults l.net in
+    record {
+      relaying : IsRelaying l.relay here;
+      server : l.relay.back.peer ≡ l.fn.relay.back.peer;
+      moves : Moves first here;
+      still : NoneFailed first.faults here.faults first.poll_faults here.poll_faults;
+      count : l.relay.forth.sent < l.count;
+    }
