@@ -1,3 +1,4 @@
+pub mod ByJobs
 pub mod Directions
 pub mod Next
 pub mod Reports

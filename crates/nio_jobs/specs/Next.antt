@@ -11,6 +11,10 @@ use Rattle.nio_jobs.specs.declared.next.Next.{Next}
 use Rattle.nio_jobs.specs.declared.next.Next.TheVariants as next
 use Rattle.nio_jobs.specs.declared.next.Start.{Start}
 
+-- the listener's channel
+abbrev pub listener : GChan
+listener = record { 0 = 0 }
+
 -- the other stream of a connection: clients have odd numbers, and the target of each has the next one
 abbrev pub peer : GChan → GChan
 peer chan = record { 0 = if chan.0 % 2 == 1 then chan.0 + 1 else chan.0 - 1 }

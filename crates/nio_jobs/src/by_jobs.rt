@@ -1,5 +1,5 @@
 //! The way that makes each call on the net for a job.
-ghost use Rattle.std.specs.Prelude.{◌≡◌, ◌+◌, ◌<◌, ◌≤◌, [], ◌∷◌, ◌++◌, IfSome, max, min, vec_capacity, vec_len};
+ghost use Rattle.std.specs.Prelude.{◌≡◌, ◌+◌, ◌<◌, ◌≤◌, [], ◌∷◌, ◌++◌, IfOk, IfSome, max, min, vec_capacity, vec_len};
 ghost use Rattle.nio_jobs.specs.Reports.{done_of_made, done_of_read, done_of_written};
 
 use crate::exchange::{Done, Exchange};
@@ -35,6 +35,8 @@ pub struct ByJobs<E> {
 }
 
 impl<E: Drop> ByJobs<E> {
+    ghost use Rattle.nio_jobs.specs.ByJobs.{IsNew, exchange_of};
+
     /// With no job yet, and with room for this many channels, and for the jobs of this many operations.
     pub fn make(
         alloc: Global,
@@ -43,6 +45,7 @@ impl<E: Drop> ByJobs<E> {
         flight: u32,
     ) -> Result<ByJobs<E>, AllocError>
         requires few { channels + flight ≤ 131072 }
+        ensures { IfOk result (IsNew exchange channels flight) }
     {
         Ok(ByJobs {
             exchange,
@@ -56,7 +59,9 @@ impl<E: Drop> ByJobs<E> {
     }
 
     /// With whom jobs were exchanged.
-    pub fn into_exchange(self) -> E {
+    pub fn into_exchange(self) -> E
+        ensures { result ≡ exchange_of self }
+    {
         self.exchange
     }
 

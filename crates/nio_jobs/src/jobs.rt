@@ -1,5 +1,5 @@
 //! Jobs by channel and kind.
-ghost use Rattle.std.specs.Prelude.{◌≡◌, IfSome};
+ghost use Rattle.std.specs.Prelude.{◌≡◌, IfOk, IfSome, replicate};
 
 use nio_base::{ChanNo, OpKind, Ops};
 use nio_group::Job;
@@ -26,7 +26,11 @@ fn operation(kind: OpKind) -> Ops {
 }
 
 impl OfChannel {
-    fn none() -> OfChannel {
+    ghost use Rattle.nio_jobs.specs.ByJobs.{no_jobs};
+
+    fn none() -> OfChannel
+        ensures { result ≡ no_jobs }
+    {
         OfChannel {
             accept: None,
             connect: None,
@@ -65,8 +69,12 @@ pub(crate) struct Jobs {
 }
 
 impl Jobs {
+    ghost use Rattle.nio_jobs.specs.ByJobs.{no_jobs};
+
     /// None yet, with room for those of so many channels.
-    pub(crate) fn make(alloc: Global, channels: u32) -> Result<Jobs, AllocError> {
+    pub(crate) fn make(alloc: Global, channels: u32) -> Result<Jobs, AllocError>
+        ensures { IfOk result (λ jobs. jobs.channels.items ≡ replicate channels no_jobs) }
+    {
         let mut all = Vec::with_capacity(alloc, channels as usize)?;
         for _ in 0..channels {
             all.push(OfChannel::none())?;

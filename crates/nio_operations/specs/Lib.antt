@@ -1,2 +1,3 @@
 pub mod Handling
 pub mod Reports
+pub mod Taking

@@ -1,4 +1,7 @@
 //! The handlers of a proxy's completions.
+ghost use Rattle.std.specs.Prelude.{◌≡◌};
+ghost use Rattle.nio_operations.specs.Handling.{after_due, after_handled, held_after_due};
+
 use crate::streams::Streams;
 use nio_group::{Completion, GroupCore};
 use nio_poller::Bell;
@@ -27,7 +30,7 @@ pub(crate) struct WorkerHandler<'a, B> {
 }
 
 impl<'a, B: Bell> Handler for WorkerHandler<'a, B> {
-    // Rings if the list of jobs was empty before: the dispatcher, which takes the whole list before it polls, may wait.
+    // Rings where the dispatcher may wait for what was started, once for each of its polls at most.
     fn completed<R: Wait>(&self, rt: &R, group: &Group, done: Handed) {
         if self.streams.go_on(rt, group, done.done()) {
             self.bell.ring();
@@ -75,25 +78,30 @@ impl SharedStreams {
         streams.listen(&mut core);
     }
 
-    // Starts what is due. Says whether there was no job for the dispatcher before, and is now.
+    // Starts what is due. Says whether the dispatcher is to be told of it.
     fn go_on<R: Wait>(&self, rt: &R, group: &Group, done: &Completion) -> bool {
         let mut streams = self.lock(rt);
-        let had_started = streams.has_started();
         let mut core = group.lock(rt);
         start_due(&mut streams, &mut core, done);
         drop(core);
-        !had_started && streams.has_started()
+        streams.tells_started()
     }
 }
 
 /// Starts what is due once an operation has completed, and ends the operation.
-pub(crate) fn handle(streams: &mut Streams, core: &mut GroupCore, done: &Completion) {
+pub(crate) fn handle(streams: &mut Streams, core: &mut GroupCore, done: &Completion)
+    ensures core { core.new ≡ after_handled streams.old.directions core.old done.now }
+    ensures held { streams.new.directions ≡ held_after_due streams.old.directions core.old done.now }
+{
     start_due(streams, core, done);
     // it runs, since its completion was taken
     let _ = core.finish(done.op());
 }
 
-fn start_due(streams: &mut Streams, core: &mut GroupCore, done: &Completion) {
+fn start_due(streams: &mut Streams, core: &mut GroupCore, done: &Completion)
+    ensures core { core.new ≡ after_due streams.old.directions core.old done.now }
+    ensures held { streams.new.directions ≡ held_after_due streams.old.directions core.old done.now }
+{
     if done.chan().0 < core.channels() {
         streams.go_on(core, done);
     }

@@ -1,9 +1,10 @@
 //! Serving a plan by the operations of a group.
-ghost use Rattle.std.specs.Prelude.{◌≡◌, ◌+◌, ◌*◌, ◌<◌, ◌≤◌, All, IfOk, IfSome, length};
+ghost use Rattle.std.specs.Prelude.{◌≡◌, ◌+◌, ◌*◌, ◌<◌, ◌≤◌, All, IfOk, IfSome, IsSomeAnd, length};
 ghost use Rattle.std.specs.Thread.{IsSync};
 ghost use Rattle.nio_base.specs.declared.numbers.ChanNo.{ChanNo};
 ghost use Rattle.nio_link.specs.Links.{IsUnused};
 ghost use Rattle.nio_link.specs.Places.{unused};
+ghost use Rattle.nio_jobs.specs.ByJobs.{IsNew, exchange_of};
 ghost use Rattle.nio_pool.specs.Queues.{IsPassOf};
 ghost use Rattle.nio_relay.specs.Plan.{IsServable};
 ghost use Rattle.nio_serve.specs.Serving.{AreNumbered, LeavesNothing, NoneRose, RelaysBytes, Serves, ServesAllOr};
@@ -58,9 +59,9 @@ impl SharedGroup {
     ) -> Result<(SharedGroup, Option<QueuePass>, Vec<QueuePass>), AllocError>
         requires plan { IsServable plan }
         requires workers { (1 ≤ workers) × (workers ≤ 64) }
-        ensures own { IfOk result (λ made. IfSome made.1 (IsPassOf made.0.queue)) }
+        ensures own { IfOk result (λ made. IsSomeAnd made.1 (IsPassOf made.0.queue)) }
         ensures passes { IfOk result (λ made. All (IsPassOf made.0.queue) made.2.items) }
-        ensures count { IfOk result (λ made. length made.2.items ≤ 64) }
+        ensures count { IfOk result (λ made. length made.2.items ≡ workers) }
     {
         let channels = channels_of(plan);
         let flight = flight_of(plan);
@@ -131,6 +132,35 @@ fn no_memory<N: Net>(net: &JobNet<N>, plan: ProxyPlan) -> Result<Served, ServeEr
     Err(ServeError::Memory)
 }
 
+// The way by jobs of the group, in which the listener accepts; `own` is the dispatcher's pass.
+fn open_way<'a, R: Wait>(
+    rt: &'a R,
+    alloc: Global,
+    shared: &'a SharedGroup,
+    own: QueuePass,
+    plan: ProxyPlan,
+) -> Result<ByJobs<Dispatcher<'a, R>>, AllocError>
+    requires plan { IsServable plan }
+    requires pass { IsPassOf shared.now.queue own }
+    ensures new { IfOk result (λ way. IsNew (exchange_of way) (2 * plan.conns + 1) (4 * plan.conns + 66) way) }
+    ensures queue { IfOk result (λ way. (exchange_of way).outbox.queue.now ≡ shared.now.queue) }
+    ensures pass { IfOk result (λ way. (exchange_of way).outbox.pass ≡ own) }
+{
+    let SharedGroup {
+        group,
+        queue,
+        streams,
+    } = shared;
+    streams.listen(rt, group);
+    let dispatcher = Dispatcher {
+        rt,
+        group,
+        streams,
+        outbox: Outbox::over(queue, own),
+    };
+    ByJobs::make(alloc, dispatcher, channels_of(plan), flight_of(plan))
+}
+
 // Serves the plan with the jobs that the group hands out.
 fn serve_by_jobs<R: Wait, N: Net>(
     rt: &R,
@@ -152,19 +182,7 @@ fn serve_by_jobs<R: Wait, N: Net>(
     ensures complete { NoneRose (N.faults net.old) (N.faults net.new) (N.poll_faults net.old) (N.poll_faults net.new)
         → ServesAllOr plan.conns (N.link net.new) result }
 {
-    let SharedGroup {
-        group,
-        queue,
-        streams,
-    } = shared;
-    streams.listen(rt, group);
-    let dispatcher = Dispatcher {
-        rt,
-        group,
-        streams,
-        outbox: Outbox::over(queue, own),
-    };
-    match ByJobs::make(alloc, dispatcher, channels_of(plan), flight_of(plan)) {
+    match open_way(rt, alloc, shared, own, plan) {
         Ok(mut way) => serve(rt, alloc, &mut way, net, plan),
         Err(AllocError) => no_memory(net, plan),
     }

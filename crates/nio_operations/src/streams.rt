@@ -1,9 +1,11 @@
 //! Which operations are due next on the streams of the connections.
 ghost use mathlib.Core.List.{IsPrefix};
-ghost use Rattle.std.specs.Prelude.{◌≡◌, ◌<◌, ◌++◌, length};
-ghost use Rattle.nio_group.specs.Steps.{after_start};
+ghost use Rattle.std.specs.Prelude.{◌≡◌, ◌≢◌, ◌↔◌, ◌<◌, ◌++◌, [], ℕ, IfOk, IfSome, IsFalse, IsNone, IsTrue, length, replicate};
+ghost use Rattle.nio_group.specs.Flight.{IsPendingAs};
+ghost use Rattle.nio_group.specs.Steps.{after_start, IsJobOf};
 ghost use Rattle.nio_jobs.specs.Next.{held_after_finished};
-ghost use Rattle.nio_operations.specs.Handling.{after_accepted, after_handling, after_next, starting, starting_some};
+ghost use Rattle.nio_operations.specs.Handling.{after_accepted, after_handling, after_listening, after_next, binding};
+ghost use Rattle.nio_operations.specs.Handling.{starting, starting_some};
 
 use nio_base::{GChan, GKind, OpKind};
 use nio_group::{Completion, GroupCore, Job};
@@ -19,20 +21,44 @@ const LISTENER: GChan = GChan(0);
 pub(crate) struct Streams {
     directions: Directions,
     started: Vec<Job>,
+    // whether the dispatcher may wait until it is told that there is a job
+    is_awaited: bool,
 }
 
 impl Streams {
     /// With room for so many channels, and for the jobs of so many operations.
-    pub(crate) fn make(alloc: Global, channels: u32, flight: u32) -> Result<Streams, AllocError> {
+    pub(crate) fn make(alloc: Global, channels: u32, flight: u32) -> Result<Streams, AllocError>
+        ensures directions { IfOk result (λ streams. streams.directions ≡ replicate channels 0) }
+        ensures none_started { IfOk result (λ streams. streams.started.items ≡ []) }
+    {
         Ok(Streams {
             directions: Directions::make(alloc, channels)?,
             started: Vec::with_capacity(alloc, flight as usize)?,
+            is_awaited: false,
         })
     }
 
-    /// Whether there is a job that the dispatcher hasn't taken yet.
-    pub(crate) fn has_started(&self) -> bool {
-        !self.started.is_empty()
+    /// From here on the dispatcher may wait for a job. It has taken all that there were.
+    pub(crate) fn await_started(&mut self)
+        ensures awaited { IsTrue self.new.is_awaited }
+        ensures started { self.new.started ≡ self.old.started }
+        ensures directions { self.new.directions ≡ self.old.directions }
+    {
+        self.is_awaited = true;
+    }
+
+    /// Whether the dispatcher is to be told now that there is a job: it may wait for one, and wasn't told yet.
+    pub(crate) fn tells_started(&mut self) -> bool
+        ensures tells { IsTrue result ↔ IsTrue self.old.is_awaited × (self.old.started.items ≢ []) }
+        ensures once { IsTrue result → IsFalse self.new.is_awaited }
+        ensures started { self.new.started ≡ self.old.started }
+        ensures directions { self.new.directions ≡ self.old.directions }
+    {
+        let tells = self.is_awaited && !self.started.is_empty();
+        if tells {
+            self.is_awaited = false;
+        }
+        tells
     }
 
     /// Moves the jobs that the dispatcher hasn't taken yet to the end of those that it has. Where there is no memory they
@@ -46,7 +72,10 @@ impl Streams {
     }
 
     /// Opens the listener's channel, and starts its first accept.
-    pub(crate) fn listen(&mut self, core: &mut GroupCore) {
+    pub(crate) fn listen(&mut self, core: &mut GroupCore)
+        ensures core { core.new ≡ after_listening core.old }
+        ensures held { self.new.directions ≡ self.old.directions }
+    {
         if let Ok(listener) = core.open_channel(GKind::Listener) {
             bind(core, listener);
             self.start(core, listener, OpKind::Accept, 0);
@@ -116,7 +145,9 @@ impl Streams {
 }
 
 // Binds a listener.
-fn bind(core: &mut GroupCore, listener: GChan) {
+fn bind(core: &mut GroupCore, listener: GChan)
+    ensures { core.new ≡ binding core.old listener }
+{
     if listener.0 < core.channels() {
         let _ = core.bind(listener);
     }
@@ -124,7 +155,8 @@ fn bind(core: &mut GroupCore, listener: GChan) {
 
 // Starts an operation, if there is such a channel, and takes its job where it is pending.
 fn started(core: &mut GroupCore, chan: GChan, kind: OpKind, len: u64) -> Option<Job>
-    ensures { core.new ≡ starting core.old chan kind len }
+    ensures core { core.new ≡ starting core.old chan kind len }
+    ensures job { IfSome result (IsJobOf core.new chan.0 kind) }
 {
     if chan.0 < core.channels() {
         started_on(core, chan, kind, len)
@@ -135,14 +167,19 @@ fn started(core: &mut GroupCore, chan: GChan, kind: OpKind, len: u64) -> Option<
 
 fn started_on(core: &mut GroupCore, chan: GChan, kind: OpKind, len: u64) -> Option<Job>
     requires { chan.0 < length core.old.channels }
-    ensures { core.new ≡ after_start core.old chan kind len }
+    ensures core { core.new ≡ after_start core.old chan kind len }
+    ensures job { IfSome result (IsJobOf core.new chan.0 kind) }
 {
     core.start(chan, kind, len).ok()?;
     job(core, chan, kind)
 }
 
 /// The job of the pending operation of this kind on this channel, if there is one.
-pub(crate) fn job(core: &GroupCore, chan: GChan, kind: OpKind) -> Option<Job> {
+pub(crate) fn job(core: &GroupCore, chan: GChan, kind: OpKind) -> Option<Job>
+    ensures some { IfSome result (IsJobOf core.now chan.0 kind) }
+    ensures none { IsNone result → chan.0 < length core.now.channels
+        → (n : ℕ) → IsPendingAs core.now.flight chan.0 kind n → ⊥ }
+{
     if chan.0 < core.channels() {
         core.job(chan, kind)
     } else {

@@ -1,74 +1,142 @@
 -- What is started at a desk once a ticket was handed its result.
-use Rattle.std.specs.Prelude.{ℕ, ◌==◌, if◌then◌else◌, nat_lt, Result, Ok, Err, Option, Some, None, List, length, slice_index_or}
+use Rattle.std.specs.Prelude.{ℕ, ◌==◌, ◌*◌, ◌^◌, if◌then◌else◌, nat_lt, Result, Ok, Err, Option, Some, None, List, [], ◌∷◌}
+use Rattle.std.specs.Prelude.{length, replicate, slice_index_or, slice_set}
 use Rattle.nio_base.specs.declared.numbers.GChan.{GChan}
 use Rattle.nio_base.specs.declared.group.Finished.{Finished}
-use Rattle.nio_base.specs.declared.group.GKind.TheVariants.{Stream}
+use Rattle.nio_base.specs.declared.group.GKind.TheVariants.{Stream, Listener}
 use Rattle.nio_base.specs.declared.group.OpKind.{OpKind}
-use Rattle.nio_base.specs.declared.group.OpKind.TheVariants.{Accept, Connect}
+use Rattle.nio_base.specs.declared.group.OpKind.TheVariants.{Accept, Connect, Read, Write}
 use Rattle.nio_group.specs.Run as group
 use Rattle.nio_group.specs.Steps.{answer_to_open}
+use Rattle.nio_group.specs.declared.limits.GroupLimits.{GroupLimits}
 use Rattle.nio_group.specs.declared.operation.Operation.{Operation}
 use Rattle.nio_group.specs.declared.refusal.StartError.{StartError}
-use Rattle.nio_future.specs.Desk.{DeskState}
-use Rattle.nio_future.specs.Steps.{after_poll, after_start, answer_to_poll, by_group}
+use Rattle.nio_future.specs.Desk.{empty_desk, held_at}
+use Rattle.nio_future.specs.Steps.{after_poll, after_start, answer_to_poll, answer_to_start, by_group}
 use Rattle.nio_future.specs.Ticket.{Ticket}
 use Rattle.nio_future.specs.declared.ticket.Polled.{Polled}
 use Rattle.nio_future.specs.declared.ticket.Polled.TheVariants.{Ready, NotYet}
-use Rattle.nio_jobs.specs.Next.{next_after, start_of}
+use Rattle.nio_jobs.specs.Next.{held_after_finished, listener, next_after, start_of}
+use Rattle.nio_jobs.specs.declared.exchange.Done.{Done}
+use Rattle.nio_jobs.specs.declared.exchange.Done.TheVariants as done
 use Rattle.nio_jobs.specs.declared.next.Next.{Next}
 use Rattle.nio_jobs.specs.declared.next.Next.TheVariants as next
 use Rattle.nio_jobs.specs.declared.next.Start.{Start}
-use Rattle.nio_tickets.specs.Seats.{place_of}
+use Rattle.nio_tickets.specs.Reports.{after_turn}
+use Rattle.nio_tickets.specs.Seats.{Office, place_of}
 
-abbrev pub listener : GChan
-listener = record { 0 = 0 }
+-- ---- what is started
+
+-- the ticket of an operation that was started takes its seat
+abbrev pub with_ticket : Result Ticket StartError → List (Option Ticket) → GChan → OpKind → List (Option Ticket)
+with_ticket (Ok ticket) seats chan kind = slice_set seats (place_of chan kind) (Some ticket)
+with_ticket (Err refused) seats chan kind = seats
+
+abbrev pub starting_on : Office → Start → Office
+starting_on o start = record o {
+  desk = after_start o.desk start.chan start.kind start.len;
+  seats = with_ticket (answer_to_start o.desk start.chan start.kind) o.seats start.chan start.kind;
+}
 
 -- an operation is started on a channel, if there is one with this number
-abbrev pub starting : DeskState → Start → DeskState
-starting d start =
-    if nat_lt start.chan.0 (length d.group.channels) then after_start d start.chan start.kind start.len else d
+abbrev pub starting : Office → Start → Office
+starting o start = if nat_lt start.chan.0 (length o.desk.group.channels) then starting_on o start else o
 
 -- a read or a write is started, if it is for any bytes
-abbrev pub starting_some : DeskState → Start → DeskState
-starting_some d start = if start.len == 0 then d else starting d start
+abbrev pub starting_some : Office → Start → Office
+starting_some o start = if start.len == 0 then o else starting o start
+
+-- The listener's channel is opened and bound, and its first accept is started. Where it can't be opened, nothing is
+-- started.
+abbrev pub after_listening_as : Office → Result GChan StartError → Office
+after_listening_as o (Ok chan) =
+    starting
+    (record o { desk = by_group (by_group o.desk (group.open_channel Listener)) (group.bind chan) })
+    (start_of chan Accept 0)
+after_listening_as o (Err refused) = o
+
+abbrev pub after_listening : Office → Office
+after_listening o = after_listening_as o (answer_to_open o.desk.group)
 
 -- A client was accepted: its target's channel is opened and connected, and then the next client is accepted. Where no
 -- channel can be opened, nothing is started.
-abbrev pub after_accepted_as : DeskState → Result GChan StartError → DeskState
-after_accepted_as d (Ok target) =
-    starting (starting (by_group d (group.open_channel Stream)) (start_of target Connect 0)) (start_of listener Accept 0)
-after_accepted_as d (Err refused) = d
+abbrev pub after_accepted_as : Office → Result GChan StartError → Office
+after_accepted_as o (Ok target) =
+    starting
+    (starting (record o { desk = by_group o.desk (group.open_channel Stream) }) (start_of target Connect 0))
+    (start_of listener Accept 0)
+after_accepted_as o (Err refused) = o
 
-abbrev pub after_accepted : DeskState → DeskState
-after_accepted d = after_accepted_as d (answer_to_open d.group)
+abbrev pub after_accepted : Office → Office
+after_accepted o = after_accepted_as o (answer_to_open o.desk.group)
 
 -- what is due is done
-abbrev pub after_next : DeskState → Next → DeskState
-after_next d next.Nothing = d
-after_next d next.Accepted = after_accepted d
-after_next d (next.Both first second) = starting_some (starting_some d first) second
+abbrev pub after_next : Office → Next → Office
+after_next o next.Nothing = o
+after_next o next.Accepted = after_accepted o
+after_next o (next.Both first second) = starting_some (starting_some o first) second
 
 -- an operation of this kind on this channel has this result
-abbrev pub after_result : List ℕ → DeskState → GChan → OpKind → Finished → DeskState
-after_result held d chan kind finished = after_next d (next_after held chan kind finished)
+abbrev pub after_result : Office → GChan → OpKind → Finished → Office
+after_result o chan kind finished =
+    after_next (record o { held = held_after_finished o.held chan kind finished }) (next_after o.held chan kind finished)
 
--- what polling the ticket of this kind for this channel gave
-abbrev pub after_polled : List ℕ → DeskState → GChan → OpKind → Polled → DeskState
-after_polled held d chan kind (Ready finished) = after_result held d chan kind finished
-after_polled held d chan kind (NotYet ticket) = d
+-- ---- what is polled
 
-abbrev pub polling_one : List ℕ → DeskState → GChan → OpKind → Option Ticket → DeskState
-polling_one held d chan kind None = d
-polling_one held d chan kind (Some t) =
-    after_polled held (after_poll d t.op.0) chan kind (answer_to_poll d t)
+-- the ticket was polled: the result is gone on from, or the ticket takes its seat again
+abbrev pub after_polled : Office → GChan → OpKind → Polled → Office
+after_polled o chan kind (Ready finished) = after_result o chan kind finished
+after_polled o chan kind (NotYet ticket) = record o { seats = slice_set o.seats (place_of chan kind) (Some ticket) }
+
+-- a ticket that was taken from its seat is polled, if there was one
+abbrev pub polling_taken : Office → GChan → OpKind → Option Ticket → Office
+polling_taken o chan kind None = o
+polling_taken o chan kind (Some t) =
+    after_polled (record o { desk = after_poll o.desk t.op.0 }) chan kind (answer_to_poll o.desk t)
 
 -- the ticket of this kind for this channel is polled, if it is out
-abbrev pub polling : List ℕ → DeskState → List (Option Ticket) → GChan → OpKind → DeskState
-polling held d seats chan kind =
-    if nat_lt chan.0 (length d.group.channels)
-    then polling_one held d chan kind (slice_index_or seats (place_of chan kind) None) else d
+abbrev pub polling : Office → GChan → OpKind → Office
+polling o chan kind =
+    if nat_lt chan.0 (length o.desk.group.channels)
+    then polling_taken (record o { seats = slice_set o.seats (place_of chan kind) None }) chan kind
+    (slice_index_or o.seats (place_of chan kind) None)
+    else o
+
+-- so the tickets for this channel
+abbrev pub polling_channel : Office → GChan → Office
+polling_channel o chan = polling (polling (polling (polling o chan Accept) chan Connect) chan Read) chan Write
 
 -- the ticket of this operation is polled, if it is out
-abbrev pub polling_held : List ℕ → DeskState → List (Option Ticket) → Option Operation → DeskState
-polling_held held d seats None = d
-polling_held held d seats (Some operation) = polling held d seats operation.chan operation.kind
+abbrev pub polling_held : Office → Option Operation → Office
+polling_held o None = o
+polling_held o (Some operation) = polling o operation.chan operation.kind
+
+-- ---- what a turn comes to
+
+-- the tickets of what this report has ended are polled
+abbrev pub polling_reported : Office → Done → Office
+polling_reported o (done.Outcome op outcome) = polling_held o (held_at o.desk op.0)
+polling_reported o (done.Again chan kind) = o
+polling_reported o (done.Closed chan) = polling_channel o (record { 0 = chan.0 })
+
+-- so of each report, in their order
+abbrev pub polling_all : Office → List Done → Office
+polling_all o [] = o
+polling_all o (one ∷ rest) = polling_all (polling_reported o one) rest
+
+-- all is reported to the desk, and then the tickets are polled
+abbrev pub after_settling : Office → List Done → Office
+after_settling o reports = polling_all (record o { desk = after_turn o.desk reports }) reports
+
+-- ---- the opening
+
+abbrev pub limits_of : ℕ → ℕ → GroupLimits
+limits_of channels flight = record { channels = channels; flight = flight; ops = 2 ^ 62 }
+
+-- a new desk, at which the listener accepts
+abbrev pub opened_office : ℕ → ℕ → ℕ → Office
+opened_office channels flight source = after_listening (record {
+  desk = empty_desk (limits_of channels flight) source;
+  seats = replicate (4 * channels) None;
+  held = replicate channels 0;
+})

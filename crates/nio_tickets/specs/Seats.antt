@@ -6,6 +6,7 @@ use Rattle.nio_base.specs.declared.group.OpKind.TheVariants.{Accept, Connect, Re
 use Rattle.nio_future.specs.Desk.{DeskState}
 use Rattle.nio_future.specs.Ticket.{Ticket}
 use Rattle.nio_future.specs.Tickets.{AreTicketsOf}
+use Rattle.nio_tickets.specs.declared.streams.Streams.{Streams}
 
 -- each channel has a seat for a ticket of each kind
 abbrev pub place_of : GChan → OpKind → ℕ
@@ -24,7 +25,11 @@ seated (Some ticket ∷ seats) = ticket ∷ seated seats
 abbrev pub AreSeated : DeskState → List (Option Ticket) → Type 0
 AreSeated d seats = AreTicketsOf d (seated seats)
 
--- a desk, and the seats of its tickets
+-- a desk, the seats of its tickets, and how many bytes the directions hold
 pub record Office : Type 0 where
   pub desk : DeskState
   pub seats : List (Option Ticket)
+  pub held : List ℕ
+
+abbrev pub office_of : DeskState → Streams → Office
+office_of desk streams = record { desk = desk; seats = streams.seats; held = streams.directions }

@@ -1,6 +1,7 @@
 //! Who exchanges jobs with a desk.
 ghost use mathlib.Core.List.{IsPrefix};
-ghost use Rattle.std.specs.Prelude.{◌≡◌, ◌≤◌, []};
+ghost use Rattle.std.specs.Prelude.{◌≡◌, ◌⊎◌, ◌≤◌, [], IfOk, IsOk};
+ghost use Rattle.nio_tickets.specs.Handling.{after_settling, opened_office};
 
 use crate::reporting::report_all;
 use crate::streams::Streams;
@@ -34,11 +35,11 @@ impl Drop for Task<'_> {
 }
 
 impl<'a> Model for Clerk<'a> {
-    ghost use Rattle.nio_tickets.specs.Seats.{AreSeated, Office};
+    ghost use Rattle.nio_tickets.specs.Seats.{AreSeated, Office, office_of};
 
     ghost Value = { Office };
 
-    ghost view = { λ clerk. record { desk = clerk.desk; seats = clerk.streams.seats } };
+    ghost view = { λ clerk. office_of clerk.desk clerk.streams };
 
     ghost invariant = { λ clerk. AreSeated clerk.desk clerk.streams.seats };
 }
@@ -54,6 +55,7 @@ impl<'a> Clerk<'a> {
     ) -> Result<Clerk<'a>, AllocError>
         requires channels { (1 ≤ channels) × (channels ≤ 65536) }
         requires flight { (1 ≤ flight) × (flight ≤ 65536) }
+        ensures { IfOk result (λ clerk. clerk ≡ opened_office channels flight clerk.desk.source) }
     {
         let limits = GroupLimits {
             channels,
@@ -81,6 +83,7 @@ impl<'a> Clerk<'a> {
 
     // Reports all, goes on from what that ended, and takes the jobs of what was started.
     fn settle(&mut self, done: &mut Vec<Done>, arrived: &mut Vec<Job>)
+        ensures settled { self.new ≡ after_settling self.old done.old.items }
         ensures reported { done.new.items ≡ [] }
         ensures kept { IsPrefix arrived.old.items arrived.new.items }
     {
@@ -98,12 +101,22 @@ impl Exchange for Clerk<'_> {
         _rt: &W,
         done: &mut Vec<Done>,
         arrived: &mut Vec<Job>,
-    ) -> Result<(), AllocError> {
+    ) -> Result<(), AllocError>
+        ensures settled { self.new ≡ after_settling self.old done.old.items }
+        ensures always { IsOk result }
+        ensures reported { done.new.items ≡ [] }
+        ensures kept { IsPrefix arrived.old.items arrived.new.items }
+    {
         self.settle(done, arrived);
         Ok(())
     }
 
-    fn exchange_early(&mut self, done: &mut Vec<Done>, arrived: &mut Vec<Job>) {
+    fn exchange_early(&mut self, done: &mut Vec<Done>, arrived: &mut Vec<Job>)
+        ensures settled { self.new ≡ after_settling self.old done.old.items }
+        ensures all { done.new.items ≡ [] }
+        ensures reported { (done.new.items ≡ []) ⊎ (done.new.items ≡ done.old.items) }
+        ensures kept { IsPrefix arrived.old.items arrived.new.items }
+    {
         self.settle(done, arrived);
     }
 }

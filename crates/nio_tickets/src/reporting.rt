@@ -1,6 +1,8 @@
 //! Reporting to a desk what the calls on the net came to.
 ghost use mathlib.Core.List.{IsPrefix};
-ghost use Rattle.std.specs.Prelude.{◌≡◌};
+ghost use Rattle.std.specs.Prelude.{◌≡◌, ◌<◌, ℕ, IfSome, IsNone, length};
+ghost use Rattle.nio_group.specs.Flight.{IsPendingAs};
+ghost use Rattle.nio_group.specs.Steps.{IsJobOf};
 ghost use Rattle.nio_jobs.specs.declared.exchange.Done.TheVariants as done;
 ghost use Rattle.nio_future.specs.Tickets.{KeepsTickets};
 ghost use Rattle.nio_tickets.specs.Reports.{after_done, after_turn};
@@ -51,7 +53,11 @@ fn close(desk: &mut Desk, chan: GChan)
 }
 
 /// The job of the pending operation of this kind on this channel, if there is one.
-pub(crate) fn job(desk: &Desk, chan: GChan, kind: OpKind) -> Option<Job> {
+pub(crate) fn job(desk: &Desk, chan: GChan, kind: OpKind) -> Option<Job>
+    ensures some { IfSome result (IsJobOf desk.now.group chan.0 kind) }
+    ensures none { IsNone result → chan.0 < length desk.now.group.channels
+        → (n : ℕ) → IsPendingAs desk.now.group.flight chan.0 kind n → ⊥ }
+{
     if chan.0 < desk.channels() {
         desk.job(chan, kind)
     } else {

@@ -1,9 +1,11 @@
 //! Serving a plan by operations that have tickets.
-ghost use Rattle.std.specs.Prelude.{◌≡◌, ◌+◌, ◌*◌};
+ghost use Rattle.std.specs.Prelude.{◌≡◌, ◌+◌, ◌*◌, IfOk};
 ghost use Rattle.nio_base.specs.declared.numbers.ChanNo.{ChanNo};
 ghost use Rattle.nio_link.specs.Links.{IsUnused};
 ghost use Rattle.nio_link.specs.Places.{unused};
+ghost use Rattle.nio_jobs.specs.ByJobs.{IsNew, exchange_of};
 ghost use Rattle.nio_relay.specs.Plan.{IsServable};
+ghost use Rattle.nio_tickets.specs.Handling.{opened_office};
 ghost use Rattle.nio_serve.specs.Serving.{AreNumbered, LeavesNothing, NoneRose, RelaysBytes, Serves, ServesAllOr};
 
 use crate::clerk::Clerk;
@@ -39,6 +41,9 @@ fn open_way(
     plan: ProxyPlan,
 ) -> Result<ByJobs<Clerk<'_>>, AllocError>
     requires { IsServable plan }
+    ensures new { IfOk result (λ way. IsNew (exchange_of way) (2 * plan.conns + 1) (4 * plan.conns + 1) way) }
+    ensures clerk { IfOk result (λ way. exchange_of way
+        ≡ opened_office (2 * plan.conns + 1) (4 * plan.conns + 1) (exchange_of way).desk.source) }
 {
     let channels = channels_of(plan);
     let flight = flight_of(plan);

@@ -1,10 +1,10 @@
 //! Which operations are started at a desk.
 ghost use mathlib.Core.List.{IsPrefix};
-ghost use Rattle.std.specs.Prelude.{◌≡◌, ◌<◌, [], ◌++◌, IfOk, length};
+ghost use Rattle.std.specs.Prelude.{◌≡◌, ◌<◌, ◌*◌, [], ◌++◌, IfOk, None, length, replicate};
 ghost use Rattle.nio_future.specs.Desk.{held_at};
-ghost use Rattle.nio_future.specs.Steps.{after_start};
-ghost use Rattle.nio_jobs.specs.Next.{held_after_finished};
-ghost use Rattle.nio_tickets.specs.Handling.{after_accepted, after_next, after_result, polling, polling_held, starting, starting_some};
+ghost use Rattle.nio_tickets.specs.Handling.{after_accepted, after_listening, after_next, after_result, polling};
+ghost use Rattle.nio_tickets.specs.Handling.{polling_all, polling_channel, polling_held, starting, starting_on};
+ghost use Rattle.nio_tickets.specs.Handling.{starting_some};
 ghost use Rattle.nio_tickets.specs.Seats.{seated, AreSeated};
 
 use crate::reporting::job;
@@ -15,9 +15,6 @@ use nio_future::{Desk, Polled};
 use nio_group::Job;
 use nio_jobs::{Directions, Done, Next, Start};
 use std::alloc::{AllocError, Global};
-
-/// The kinds of operations.
-const KINDS: [OpKind; 4] = [OpKind::Accept, OpKind::Connect, OpKind::Read, OpKind::Write];
 
 /// The desk's channel of the listener.
 const LISTENER: GChan = GChan(0);
@@ -31,10 +28,15 @@ pub(crate) struct Streams {
 }
 
 impl Streams {
+    ghost use Rattle.nio_tickets.specs.Seats.{office_of};
+
     /// With room for so many channels and so many operations.
     #[tactic(auto, using(crate::proofs::Keeping::none_seated))]
     pub(crate) fn make(alloc: Global, channels: u32, flight: u32) -> Result<Streams, AllocError>
-        ensures { IfOk result (λ streams. seated streams.seats ≡ []) }
+        ensures directions { IfOk result (λ streams. streams.directions ≡ replicate channels 0) }
+        ensures seats { IfOk result (λ streams. streams.seats ≡ replicate (4 * channels) None) }
+        ensures none_seated { IfOk result (λ streams. seated streams.seats ≡ []) }
+        ensures none_started { IfOk result (λ streams. streams.started.items ≡ []) }
     {
         Ok(Streams {
             directions: Directions::make(alloc, channels)?,
@@ -55,6 +57,7 @@ impl Streams {
     /// Opens the listener's channel, and starts its first accept.
     pub(crate) fn listen(&mut self, desk: &mut Desk)
         requires tickets { AreSeated desk.old self.old.seats }
+        ensures office { office_of desk.new self.new ≡ after_listening (office_of desk.old self.old) }
         ensures tickets { AreSeated desk.new self.new.seats }
     {
         if let Ok(listener) = desk.open_channel(GKind::Listener) {
@@ -71,6 +74,7 @@ impl Streams {
     /// Polls the tickets of what these reports have ended, and starts what is due after each result.
     pub(crate) fn poll_all(&mut self, desk: &mut Desk, cx: &mut Context<'_>, done: &[Done])
         requires tickets { AreSeated desk.old self.old.seats }
+        ensures office { office_of desk.new self.new ≡ polling_all (office_of desk.old self.old) done.now }
         ensures tickets { AreSeated desk.new self.new.seats }
     {
         for one in done {
@@ -85,7 +89,7 @@ impl Streams {
     // Polls the ticket of this operation, if it is out.
     fn poll_operation(&mut self, desk: &mut Desk, cx: &mut Context<'_>, op: OpNo)
         requires tickets { AreSeated desk.old self.old.seats }
-        ensures desk { desk.new ≡ polling_held self.old.directions desk.old self.old.seats (held_at desk.old op.0) }
+        ensures office { office_of desk.new self.new ≡ polling_held (office_of desk.old self.old) (held_at desk.old op.0) }
         ensures tickets { AreSeated desk.new self.new.seats }
     {
         if let Some(held) = desk.operation(op) {
@@ -96,17 +100,19 @@ impl Streams {
     // Polls the tickets for this channel that are out.
     fn poll_channel(&mut self, desk: &mut Desk, cx: &mut Context<'_>, chan: GChan)
         requires tickets { AreSeated desk.old self.old.seats }
+        ensures office { office_of desk.new self.new ≡ polling_channel (office_of desk.old self.old) chan }
         ensures tickets { AreSeated desk.new self.new.seats }
     {
-        for kind in KINDS {
-            self.poll(desk, cx, chan, kind);
-        }
+        self.poll(desk, cx, chan, OpKind::Accept);
+        self.poll(desk, cx, chan, OpKind::Connect);
+        self.poll(desk, cx, chan, OpKind::Read);
+        self.poll(desk, cx, chan, OpKind::Write);
     }
 
     // Polls the ticket of this kind for this channel, if it is out, and starts what is due after its result.
     fn poll(&mut self, desk: &mut Desk, cx: &mut Context<'_>, chan: GChan, kind: OpKind)
         requires tickets { AreSeated desk.old self.old.seats }
-        ensures desk { desk.new ≡ polling self.old.directions desk.old self.old.seats chan kind }
+        ensures office { office_of desk.new self.new ≡ polling (office_of desk.old self.old) chan kind }
         ensures tickets { AreSeated desk.new self.new.seats }
     {
         if chan.0 >= desk.channels() {
@@ -125,8 +131,7 @@ impl Streams {
     fn go_on(&mut self, desk: &mut Desk, chan: GChan, kind: OpKind, finished: Finished)
         requires tickets { AreSeated desk.old self.old.seats }
         requires few { chan.0 < 4294967295 }
-        ensures desk { desk.new ≡ after_result self.old.directions desk.old chan kind finished }
-        ensures held { self.new.directions ≡ held_after_finished self.old.directions chan kind finished }
+        ensures office { office_of desk.new self.new ≡ after_result (office_of desk.old self.old) chan kind finished }
         ensures tickets { AreSeated desk.new self.new.seats }
     {
         let next = self.directions.next(chan, kind, finished);
@@ -135,8 +140,7 @@ impl Streams {
 
     fn do_next(&mut self, desk: &mut Desk, next: Next)
         requires tickets { AreSeated desk.old self.old.seats }
-        ensures desk { desk.new ≡ after_next desk.old next }
-        ensures directions { self.new.directions ≡ self.old.directions }
+        ensures office { office_of desk.new self.new ≡ after_next (office_of desk.old self.old) next }
         ensures tickets { AreSeated desk.new self.new.seats }
     {
         match next {
@@ -153,8 +157,7 @@ impl Streams {
     // has the number of the net's.
     fn accepted(&mut self, desk: &mut Desk)
         requires tickets { AreSeated desk.old self.old.seats }
-        ensures desk { desk.new ≡ after_accepted desk.old }
-        ensures directions { self.new.directions ≡ self.old.directions }
+        ensures office { office_of desk.new self.new ≡ after_accepted (office_of desk.old self.old) }
         ensures tickets { AreSeated desk.new self.new.seats }
     {
         if let Ok(target) = desk.open_channel(GKind::Stream) {
@@ -176,8 +179,7 @@ impl Streams {
     // Starts a read or a write, if it is for any bytes.
     fn start_some(&mut self, desk: &mut Desk, start: Start)
         requires tickets { AreSeated desk.old self.old.seats }
-        ensures desk { desk.new ≡ starting_some desk.old start }
-        ensures directions { self.new.directions ≡ self.old.directions }
+        ensures office { office_of desk.new self.new ≡ starting_some (office_of desk.old self.old) start }
         ensures tickets { AreSeated desk.new self.new.seats }
     {
         if start.len != 0 {
@@ -188,8 +190,7 @@ impl Streams {
     // Starts an operation, if there is such a channel.
     fn start(&mut self, desk: &mut Desk, start: Start)
         requires tickets { AreSeated desk.old self.old.seats }
-        ensures desk { desk.new ≡ starting desk.old start }
-        ensures directions { self.new.directions ≡ self.old.directions }
+        ensures office { office_of desk.new self.new ≡ starting (office_of desk.old self.old) start }
         ensures tickets { AreSeated desk.new self.new.seats }
     {
         if start.chan.0 < desk.channels() {
@@ -202,8 +203,7 @@ impl Streams {
     fn start_on(&mut self, desk: &mut Desk, start: Start)
         requires made { start.chan.0 < length desk.old.group.channels }
         requires tickets { AreSeated desk.old self.old.seats }
-        ensures desk { desk.new ≡ after_start desk.old start.chan start.kind start.len }
-        ensures directions { self.new.directions ≡ self.old.directions }
+        ensures office { office_of desk.new self.new ≡ starting_on (office_of desk.old self.old) start }
         ensures tickets { AreSeated desk.new self.new.seats }
     {
         let Ok(ticket) = desk.start(start.chan, start.kind, start.len) else {
