@@ -1,5 +1,6 @@
--- What the proxy does with one net, by what its way came to and what was said of it.
-use Rattle.std.proofs.Common.{◌≡◌, ◌⊎◌, ℕ, inl, inr, Result, Ok, Err, sym, subst, ◌∙◌}
+-- What the proxy does with the net that accepts, by what its way came to and what was said of it.
+use Rattle.std.proofs.Common.{◌≡◌, ◌⊎◌, ℕ, ◌≤◌, ◌++◌, inl, inr, Result, Ok, Err, List, refl, sym, subst, ◌∙◌, arith}
+use Rattle.std.proofs.lemmas.List.{append-nil}
 use Rattle.nio_base.specs.declared.numbers.ChanNo.{ChanNo}
 use Rattle.nio_bytes.specs.Cause.{Rose}
 use Rattle.nio_bytes.specs.declared.sink.Sink as sink
@@ -9,22 +10,23 @@ use Rattle.nio_relay.specs.declared.plan.ProxyPlan.{ProxyPlan}
 use Rattle.nio_relay.specs.declared.plan.Served.{Served}
 use Rattle.nio_script.specs.declared.status.Status.{Status}
 use Rattle.nio_script.specs.declared.status.Status.TheVariants.{Done, WriteFault, Memory, NetFault}
-use Rattle.nio_serve.specs.Serving.{HasServed, LeavesNothing, NoneRose, RelaysBytes, Serves, ServesAllOr, ServesCleanly}
+use Rattle.nio_serve.specs.Serving.{AreNumbered, LeavesNothing, NoneRose, RelaysBytes, Serves, ServesAllOr}
+use Rattle.nio_serve.specs.Serving.{clients_below}
 use Rattle.nio_serve.specs.declared.serving.ServeError.{ServeError}
 use Rattle.nio_serve.specs.declared.serving.ServeError.TheVariants as error
-use Rattle.nio_run.specs.Proxy.{DoesProxy, IsServedCleanly, SaysOutcome, served_line}
+use Rattle.nio_run.specs.Proxy.{AcceptsInOrder, DoesProxy, SaysOutcome, served_line}
 use Rattle.nio_run.specs.Relays.{EndsRelay, SaysLine}
 
 module _ {K : Type 0} (k : sink.Ghosts K) (output output' : K) (status : Status) where
   -- a line that is said ends as relays do, and by no fault of the net
-  pub line_ends : (served : Served) → SaysLine k (served_line served) output output' status → EndsRelay status
+  line_ends : (served : Served) → SaysLine k (served_line served) output output' status → EndsRelay status
   line_ends served says = elim says.ends [
     | inl done ↦ subst EndsRelay (sym done) tt
     | inr (inl write) ↦ subst EndsRelay (sym write) tt
     | inr (inr memory) ↦ subst EndsRelay (sym memory) tt
   ]
 
-  pub no_net_fault : (served : Served) → SaysLine k (served_line served) output output' status → status ≡ NetFault → ⊥
+  no_net_fault : (served : Served) → SaysLine k (served_line served) output output' status → status ≡ NetFault → ⊥
   no_net_fault served says is = elim says.ends [
     | inl done ↦ let bad : NetFault ≡ Done = sym is ∙ done in cc bad
     | inr (inl write) ↦ let bad : NetFault ≡ WriteFault = sym is ∙ write in cc bad
@@ -32,7 +34,7 @@ module _ {K : Type 0} (k : sink.Ghosts K) (output output' : K) (status : Status)
   ]
 
   -- where the sink's count doesn't rise, the line is written, or memory lacks
-  pub line_written : (served : Served) → SaysLine k (served_line served) output output' status
+  line_written : (served : Served) → SaysLine k (served_line served) output output' status
       → ¬ Rose (k.faults output) (k.faults output') → (status ≡ Done) ⊎ (status ≡ Memory)
   line_written served says quiet = elim says.ends [
     | inl done ↦ inl done
@@ -40,7 +42,7 @@ module _ {K : Type 0} (k : sink.Ghosts K) (output output' : K) (status : Status)
     | inr (inr memory) ↦ inr memory
   ]
 
-  pub unwritten_line : (served : Served) → SaysLine k (served_line served) output output' status
+  unwritten_line : (served : Served) → SaysLine k (served_line served) output output' status
       → (status ≡ NetFault) ⊎ (status ≡ Memory) → output' ≡ output
   unwritten_line served says (inl net) = absurd (no_net_fault served says net)
   unwritten_line served says (inr memory) = says.memory memory
@@ -130,3 +132,51 @@ module _ {K : Type 0} (k : sink.Ghosts K) (output output' : K) (status : Status)
       status) (sym last_is)
       (does_proxy plan (link last) (place last) (faults first) (faults last) (polls first) (polls last) relays leaves
       served serves complete says))
+
+-- ---- which links were accepted
+
+-- where the connections weren't served
+pub some_accepted : (conns count : ℕ) (before now : List ChanNo) (status : Status) → count ≤ conns
+    → now ≡ before ++ clients_below count → (status ≡ NetFault) ⊎ (status ≡ Memory)
+    → AcceptsInOrder conns before now status
+some_accepted conns count before now status within order unserved = record {
+  count = count;
+  within = within;
+  order = order;
+  all = λ served. absurd (no_both served unserved);
+}
+  where
+    no_both : (status ≡ Done) ⊎ (status ≡ WriteFault) → (status ≡ NetFault) ⊎ (status ≡ Memory) → ⊥
+    no_both (inl done) (inl fault) = let bad : Done ≡ NetFault = sym done ∙ fault in cc bad
+    no_both (inl done) (inr memory) = let bad : Done ≡ Memory = sym done ∙ memory in cc bad
+    no_both (inr write) (inl fault) = let bad : WriteFault ≡ NetFault = sym write ∙ fault in cc bad
+    no_both (inr write) (inr memory) = let bad : WriteFault ≡ Memory = sym write ∙ memory in cc bad
+
+pub none_accepted : (conns : ℕ) (accepted : List ChanNo) → AcceptsInOrder conns accepted accepted Memory
+none_accepted conns accepted = some_accepted conns 0 accepted accepted Memory (omega arith) (sym (append-nil accepted))
+    (inr refl)
+
+pub all_accepted : (conns : ℕ) (before now : List ChanNo) (status : Status) → now ≡ before ++ clients_below conns
+    → AcceptsInOrder conns before now status
+all_accepted conns before now status order =
+    record { count = conns; within = omega arith; order = order; all = λ served. refl }
+
+accepts_in_order : {K : Type 0} (k : sink.Ghosts K) (output output' : K) (status : Status) (conns : ℕ)
+    (before now : List ChanNo) (served : Result Served ServeError) → AreNumbered conns before now served
+    → SaysOutcome k served output output' status → AcceptsInOrder conns before now status
+accepts_in_order k output output' status conns before now (Ok served) numbered says =
+    all_accepted conns before now status numbered
+accepts_in_order k output output' status conns before now (Err error.NetFault) numbered says =
+    some_accepted conns numbered.0 before now status numbered.1 numbered.2 (inl says.0)
+accepts_in_order k output output' status conns before now (Err error.Memory) numbered says =
+    some_accepted conns numbered.0 before now status numbered.1 numbered.2 (inr says.0)
+
+-- over names for the net before and after
+pub accepts_over : {K N : Type 0} (k : sink.Ghosts K) (output output' : K) (status : Status) (conns : ℕ)
+    (accepted : N → List ChanNo) (net first last net' : N) → first ≡ net → net' ≡ last
+    → (served : Result Served ServeError) → AreNumbered conns (accepted first) (accepted last) served
+    → SaysOutcome k served output output' status → AcceptsInOrder conns (accepted net) (accepted net') status
+accepts_over k output output' status conns accepted net first last net' first_is last_is served numbered says =
+    subst (λ x. AcceptsInOrder conns (accepted x) (accepted net') status) first_is
+    (subst (λ y. AcceptsInOrder conns (accepted first) (accepted y) status) (sym last_is)
+    (accepts_in_order k output output' status conns (accepted first) (accepted last) served numbered says))

@@ -8,7 +8,8 @@ use Rattle.nio_command.specs.declared.way.ProxyWay.{ProxyWay}
 use Rattle.nio_command.specs.declared.way.ProxyWay.TheVariants.{Select, Group, Future, Many}
 use Rattle.nio_link.specs.Links.{Link}
 use Rattle.nio_link.specs.declared.place.Place.{Place}
-use Rattle.nio_serve.specs.Serving.{HasServed, LeavesNothing, NoneRose, RelaysBytes, ServesCleanly, listener}
+use Rattle.nio_serve.specs.Serving.{HasServed, LeavesNothing, NoneRose, RelaysBytes, ServesCleanly}
+use Rattle.nio_serve.specs.Serving.{clients_below, listener}
 use Rattle.nio_relay.specs.declared.plan.ProxyPlan.{ProxyPlan}
 use Rattle.nio_relay.specs.declared.plan.Served.{Served}
 use Rattle.nio_serve.specs.declared.serving.ServeError.{ServeError}
@@ -64,6 +65,15 @@ pub record IsServedCleanly {K : Type 0} (k : sink.Ghosts K) (conns : ℕ) (link 
   pub served : Served
   pub cleanly : ServesCleanly conns link served
   pub written : IsWritten k output output' (served_line served)
+
+-- Connection k is the one whose accept was the k-th in this call that answered true, counted from 0: the links that were
+-- accepted are those of the clients of the first connections, in their order. Where the connections were served they are
+-- those of all.
+pub record AcceptsInOrder (conns : ℕ) (before now : List ChanNo) (status : Status) : Type 0 where
+  pub count : ℕ
+  pub within : count ≤ conns
+  pub order : now ≡ before ++ clients_below count
+  pub all : (status ≡ Done) ⊎ (status ≡ WriteFault) → count ≡ conns
 
 -- What `proxy` does with one net by this plan where it ends with this status. Links and places are those after it; counts of
 -- faults, of links and of polls, are those before it and after it.

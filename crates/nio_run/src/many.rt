@@ -3,11 +3,12 @@ ghost use Rattle.std.specs.Prelude.{◌≡◌, ◌<◌, ◌≤◌, All, Err, dro
 ghost use Rattle.nio_base.specs.declared.numbers.ChanNo.{ChanNo};
 ghost use Rattle.nio_link.specs.Links.{IsUnused};
 ghost use Rattle.nio_link.specs.Places.{unused};
-ghost use Rattle.nio_reactor.specs.Many.{LeavesAcceptor, LeavesWorkers, NoneRoseOfAll, RelayBytes, ServesAllCleanOr};
-ghost use Rattle.nio_reactor.specs.Many.{ServesMany, meanings};
+ghost use Rattle.nio_reactor.specs.Many.{AreAccepted, LeavesAcceptor, LeavesWorkers, NoneRoseOfAll, RelayBytes};
+ghost use Rattle.nio_reactor.specs.Many.{ServesAllCleanOr, ServesMany, meanings};
 ghost use Rattle.nio_reactor.specs.declared.many.ManyError.TheVariants.{Memory};
 ghost use Rattle.nio_relay.specs.Plan.{IsServable};
 ghost use Rattle.nio_run.specs.Many.{DoesMany};
+ghost use Rattle.nio_run.specs.Proxy.{AcceptsInOrder};
 
 use crate::lending::{give_back, lend};
 use crate::proxy::say_served;
@@ -46,6 +47,7 @@ where
     requires more_unasked { All (λ x. (c : ChanNo) → N.place x c ≡ unused) more.old.items }
     ensures many { DoesMany K.Sink (meanings N.link N.place N.faults N.poll_faults) plan workers net.old net.new
         more.old.items more.new.items output.old output.new result }
+    ensures accepts { AcceptsInOrder plan.conns (N.accepted net.old) (N.accepted net.new) result }
     ensures later { K.faults output.old ≤ K.faults output.new }
 {
     match serve_over_first(rt, alloc, net, more, bells, gate, plan, workers) {
@@ -80,6 +82,7 @@ where
     ensures leaves { LeavesAcceptor (meanings N.link N.place N.faults N.poll_faults) plan net.old net.new }
     ensures workers { LeavesWorkers (meanings N.link N.place N.faults N.poll_faults) plan
         (take workers more.new.items) }
+    ensures accepts { AreAccepted plan.conns (N.accepted net.old) (N.accepted net.new) result }
     ensures complete { NoneRoseOfAll (meanings N.link N.place N.faults N.poll_faults) net.old net.new
         (take workers more.old.items) (take workers more.new.items)
         → ServesAllCleanOr (meanings N.link N.place N.faults N.poll_faults) plan (take workers more.new.items) result }

@@ -9,7 +9,7 @@ ghost use Rattle.nio_run.specs.Commands.{DoesScript, DoesCheck, WritesLegal};
 ghost use Rattle.nio_run.specs.Load.{DoesLoad};
 ghost use Rattle.nio_run.specs.Many.{DoesMany};
 ghost use Rattle.nio_run.specs.Packets.{DoesPackets};
-ghost use Rattle.nio_run.specs.Proxy.{DoesProxy, HasOneNet};
+ghost use Rattle.nio_run.specs.Proxy.{AcceptsInOrder, DoesProxy, HasOneNet};
 ghost use Rattle.nio_run.specs.Words.{IsUsage};
 ghost use Rattle.nio_base.specs.declared.numbers.ChanNo.{ChanNo};
 ghost use Rattle.nio_command.specs.Words.{IsScriptCommand, IsCheckCommand, IsCheckFirstCommand, IsRaceCommand};
@@ -135,6 +135,8 @@ where
         HasOneNet way → DoesProxy K.Sink plan (N.link result.net) (N.place result.net)
         (N.faults net) (N.faults result.net) (N.poll_faults net) (N.poll_faults result.net) output.old output.new
         result.status }
+    ensures accepts { (plan : ProxyPlan) (way : ProxyWay) → IsProxyCommand (map string_bytes words.now) plan way →
+        AcceptsInOrder plan.conns (N.accepted net) (N.accepted result.net) result.status }
     ensures proxy_alone { BeginsProxy (map string_bytes words.now) →
         (input.new ≡ input.old) × (pass.new ≡ pass.old) }
     ensures many { (plan : ProxyPlan) (workers : ℕ)

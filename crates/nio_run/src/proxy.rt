@@ -7,7 +7,7 @@ ghost use Rattle.nio_link.specs.Places.{unused};
 ghost use Rattle.nio_reactor.specs.Many.{meanings};
 ghost use Rattle.nio_relay.specs.Plan.{IsServable};
 ghost use Rattle.nio_run.specs.Many.{DoesMany};
-ghost use Rattle.nio_run.specs.Proxy.{DoesProxy, HasOneNet, HasWorkers, SaysOutcome, served_line};
+ghost use Rattle.nio_run.specs.Proxy.{AcceptsInOrder, DoesProxy, HasOneNet, HasWorkers, SaysOutcome, served_line};
 ghost use Rattle.nio_run.specs.Relays.{EndsRelay, SaysLine};
 
 use crate::ended::Ended;
@@ -56,6 +56,7 @@ where
     ensures many { (workers : ℕ) → way ≡ ProxyWay.Many workers
         → DoesMany K.Sink (meanings N.link N.place N.faults N.poll_faults) plan workers net result.net more.old.items
         more.new.items output.old output.new result.status }
+    ensures accepts { AcceptsInOrder plan.conns (N.accepted net) (N.accepted result.net) result.status }
     ensures ends { EndsRelay result.status }
     ensures rose { result.status ≡ Status.WriteFault → Rose (K.faults output.old) (K.faults output.new) }
     ensures later { K.faults output.old ≤ K.faults output.new }

@@ -38,5 +38,5 @@ returns-clause-workers g c =
     = grind (arith, common_steps, c.if-len-count.false, c.len.ensures) in
     subst (LeavesWorkers m c.args.plan) (sym
     (first_back c.args.workers c.args.more.now.items c.in-Ok.lent.items c.serve_many-served.new.more.items
-    c.lend.new.nets.items c.give_back.new.nets.items enough c.in-Ok.ensures.lent c.in-Ok.ensures.kept
+    c.lend.new.nets.items c.give_back.new.nets.items enough c.in-Ok.ensures.lent
     c.serve_many-served.ensures.count c.give_back.ensures)) c.serve_many-served.ensures.workers

@@ -10,13 +10,14 @@ use Rattle.nio_run.specs.Load.{DoesLoad}
 use Rattle.nio_run.specs.Many.{DoesMany}
 use Rattle.nio_datagram.specs.declared.serving.PacketPlan.{PacketPlan}
 use Rattle.nio_run.specs.Packets.{DoesPackets}
-use Rattle.nio_run.specs.Proxy.{DoesProxy, HasOneNet}
+use Rattle.nio_run.specs.Proxy.{AcceptsInOrder, DoesProxy, HasOneNet}
 use Rattle.nio_run.specs.Relays.{EndsRelay}
 use Rattle.nio_load.specs.Load.{EndsLoad}
 use Rattle.nio_run.proofs.Legal.{writes_legal}
 use Rattle.nio_run.proofs.ByWorkers.{unserved_many}
 use Rattle.nio_run.proofs.Named.{begins_packets, begins_proxy, its_packets, its_plan, its_rounds, its_way, its_workers}
 use Rattle.nio_run.proofs.Named.{no_packets, no_plan, not_many, packets_no_proxy, proxy_no_packets, takes_none}
+use Rattle.nio_run.proofs.Serves.{none_accepted}
 use Rattle.nio_run.proofs.Unsent.{unsent}
 use Rattle.nio_run.proofs.Unserved.{unserved}
 use Rattle.nio_run.proofs.program.run.Goals as goal
@@ -187,3 +188,23 @@ returns-clause-packets g c = λ plan says.
     unsent g.K.Sink plan (g.D.PacketNet.traffic c.args.packets.now) (g.D.PacketNet.place c.args.packets.now)
     (g.D.PacketNet.packet_faults c.args.packets.now) (g.D.Poller.poll_faults c.args.packets.now) c.args.output.now
     c.requires.front_unused c.requires.back_unused c.requires.front_unbound c.requires.back_unbound
+
+pub returns-in-Ok-Proxy-clause-accepts : goal.returns-in-Ok-Proxy-clause-accepts
+returns-in-Ok-Proxy-clause-accepts g c = λ plan way says.
+    subst (λ (p : ProxyPlan). AcceptsInOrder p.conns (g.N.Net.accepted c.args.net)
+    (g.N.Net.accepted c.serve.result.net) c.serve.result.status)
+    (its_plan c.in-Ok-Proxy.field-0 c.in-Ok-Proxy.plan plan c.in-Ok-Proxy.way way c.in-Ok-Proxy.field-0-is
+    (c.in-Ok-Proxy.ensures.proxy_only plan way says)) c.serve.ensures.accepts
+
+pub returns-in-Err-Usage-clause-accepts : goal.returns-in-Err-Usage-clause-accepts
+returns-in-Err-Usage-clause-accepts g c = λ plan way says. absurd
+    (no_plan c.in-Err-Usage.field-0 plan way c.in-Err-Usage.field-0-is
+    (c.in-Err-Usage.ensures.proxy_only plan way says))
+
+pub returns-in-Ok-Packets-clause-accepts : goal.returns-in-Ok-Packets-clause-accepts
+returns-in-Ok-Packets-clause-accepts g c = λ plan way says. absurd
+    (packets_no_proxy c.in-Ok-Packets.field-0 c.in-Ok-Packets.plan plan way c.in-Ok-Packets.field-0-is
+    (c.in-Ok-Packets.ensures.proxy_only plan way says))
+
+pub returns-clause-accepts : goal.returns-clause-accepts
+returns-clause-accepts g c = λ plan way says. none_accepted plan.conns (g.N.Net.accepted c.args.net)

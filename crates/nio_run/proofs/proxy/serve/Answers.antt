@@ -1,4 +1,5 @@
-use Rattle.nio_run.proofs.Serves.{does_over, does_proxy, outcome_ends, outcome_rose}
+use Rattle.std.proofs.Common.{refl}
+use Rattle.nio_run.proofs.Serves.{accepts_over, does_over, does_proxy, outcome_ends, outcome_rose}
 use Rattle.nio_run.proofs.proxy.serve.Goals as goal
 
 pub returns-in-Select-clause-proxy : goal.returns-in-Select-clause-proxy
@@ -46,3 +47,23 @@ returns-in-Future-clause-ends g c =
 pub returns-in-Future-clause-rose : goal.returns-in-Future-clause-rose
 returns-in-Future-clause-rose g c =
     outcome_rose g.K.Sink c.args.output.now c.say-in-Future.new.output c.say-in-Future.result c.serve_future-served.result c.say-in-Future.ensures.said
+
+pub returns-in-Select-clause-accepts : goal.returns-in-Select-clause-accepts
+returns-in-Select-clause-accepts g c =
+    let its = c.serve_select-served.ensures in
+    accepts_over g.K.Sink c.args.output.now c.say.new.output c.say.result c.args.plan.conns g.N.Net.accepted _ _ _ _ refl
+    refl c.serve_select-served.result its.accepts c.say.ensures.said
+
+pub returns-in-Group-clause-accepts : goal.returns-in-Group-clause-accepts
+returns-in-Group-clause-accepts g c =
+    let its = c.serve_group-served.ensures in
+    accepts_over g.K.Sink c.args.output.now c.say-in-Group.new.output c.say-in-Group.result c.args.plan.conns
+    g.N.Net.accepted c.args.net _ _ c.into_net.result c.over-jobs.ensures c.into_net.ensures
+    c.serve_group-served.result its.accepts c.say-in-Group.ensures.said
+
+pub returns-in-Future-clause-accepts : goal.returns-in-Future-clause-accepts
+returns-in-Future-clause-accepts g c =
+    let its = c.serve_future-served.ensures in
+    accepts_over g.K.Sink c.args.output.now c.say-in-Future.new.output c.say-in-Future.result c.args.plan.conns
+    g.N.Net.accepted c.args.net _ _ c.into_net-in-Future.result c.over-jobs-in-Future.ensures
+    c.into_net-in-Future.ensures c.serve_future-served.result its.accepts c.say-in-Future.ensures.said
