@@ -9,6 +9,7 @@ pub mod Again
 pub mod Begun
 pub mod FreeBits
 pub mod Listed
+pub mod Renumbered
 pub mod Progress
 pub mod GoneOn
 pub mod Steps

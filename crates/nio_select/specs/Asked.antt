@@ -16,3 +16,7 @@ entry_of asked at = ((key_at asked at).index, (key_at asked at).channel, (key_at
 
 abbrev pub serial_of : List LookedKey → ℕ → ℕ
 serial_of asked at = (key_at asked at).serial
+
+-- the key, whose channel has the number that it is given
+abbrev pub renumbered_key : (ChanNo → ChanNo) → LookedKey → LookedKey
+renumbered_key by k = record k { channel = by k.channel }

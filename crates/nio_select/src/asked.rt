@@ -1,11 +1,12 @@
 //! The keys that a selection looked at.
-ghost use Rattle.std.specs.Prelude.{◌≡◌, ◌<◌, ◌==◌, List, length, map};
+ghost use Rattle.std.specs.Prelude.{◌≡◌, ◌<◌, ◌==◌, IfOk, List, length, map};
 ghost use Rattle.std.specs.List.{AllPairs};
 ghost use Rattle.nio_steps.specs.declared.looked.LookedKey.{LookedKey as Entry};
-ghost use Rattle.nio_select.specs.Asked.{entry_of, serial_of};
+ghost use Rattle.nio_select.specs.Asked.{entry_of, renumbered_key, serial_of};
 
 use nio_base::{ChanNo, Ops};
 use nio_steps::LookedKey;
+use std::alloc::{AllocError, Global};
 use std::marker::Model;
 
 // A key that the selection looked at, and what a poller told of it.
@@ -13,6 +14,31 @@ use std::marker::Model;
 pub(crate) struct Slot {
     pub(crate) key: LookedKey,
     pub(crate) told: Ops,
+}
+
+impl Slot {
+    // The slot, whose channel has the number that it is given.
+    fn renumbered<B: Renumber>(&self, by: &B) -> Slot
+        ensures { result.key ≡ renumbered_key (B.renumbered by.now) self.now.key }
+    {
+        let key = LookedKey {
+            channel: by.renumber(self.key.channel),
+            ..self.key
+        };
+        Slot { key, ..*self }
+    }
+}
+
+/// Gives each channel another number.
+pub trait Renumber {
+    ghost use Rattle.nio_base.specs.declared.numbers.ChanNo.{ChanNo};
+
+    // The number that a channel is given.
+    ghost renumbered: { Self → ChanNo → ChanNo };
+
+    /// The number that this channel is given.
+    fn renumber(&self, chan: ChanNo) -> ChanNo
+        ensures { result ≡ renumbered self.now chan };
 }
 
 /// The keys that a selection looked at, in rising order of their indexes. Contracts see the list of them.
@@ -51,6 +77,17 @@ impl Asked {
     {
         let key = self.slots[at].key;
         (key.index, key.channel, key.interest)
+    }
+
+    /// The same list, in which each channel has the number that it is given.
+    pub fn renumbered<B: Renumber>(&self, alloc: Global, by: &B) -> Result<Asked, AllocError>
+        ensures { IfOk result (λ asked. asked ≡ map (renumbered_key (B.renumbered by.now)) self.now) }
+    {
+        let mut slots = Vec::with_capacity(alloc, self.slots.len())?;
+        for slot in &self.slots {
+            slots.push(slot.renumbered(by))?;
+        }
+        Ok(Asked { slots })
     }
 
     /// The serial of a key.

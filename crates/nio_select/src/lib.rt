@@ -10,7 +10,7 @@
 //! `selected_keys` take memory; where it lacks they answer `Memory`, and the selector is as it was.
 #![tactic(auto)]
 
-pub use asked::Asked;
+pub use asked::{Asked, Renumber};
 pub use beginning::try_begin;
 pub use closing::{Closing, Finish, Shutting, shut};
 pub use laws::{alone_law, closed_law, gone_law, steps_law, turn_law};
