@@ -1,22 +1,18 @@
--- A caller that gives a number away, and two callers that become one.
-use Rattle.std.proofs.Common.{◌≡◌, ◌≢◌, ◌⊎◌, List, ap, sym, ◌∙◌, subst, eqb-true, eq-eqb, inl, inr, refl}
+-- Two callers that become one.
+use Rattle.std.proofs.Common.{◌⊎◌, eqb-true, eq-eqb, inl, inr}
 use Rattle.std.specs.Int.{bit_at}
 use mathlib.Core.List.{IsPrefix}
 use Rattle.nio_base.specs.declared.numbers.CallerNo.{CallerNo}
 use Rattle.nio_event.proofs.Stays.{facts_are_permanent}
-use Rattle.nio_event.specs.Conditions.{has_pin}
-use Rattle.nio_event.specs.Histories.{state_after}
 use Rattle.nio_event.specs.Permanent.{selector_made, channel_made, key_published}
 use Rattle.nio_event.specs.PassViews.{Holds, HasNoPin}
-use Rattle.nio_event.specs.declared.event.Event.{Event}
-use Rattle.nio_words.proofs.Beginnings.{prefix_self}
 use Rattle.nio_words.specs.Passes.{Holds as HoldsNumber, IsPassOf, limits_of, numbers_of, seen}
-use Rattle.nio_words.specs.Sharing.{HandsOver, Joins as JoinsPasses, StandsAfter}
+use Rattle.nio_words.specs.Sharing.{Joins as JoinsPasses, StandsAfter}
 use Rattle.nio_words.specs.Views.{view}
 use Rattle.nio_words.specs.declared.words.Pass.{Pass}
 use Rattle.nio_words.specs.declared.words.Words.{Words}
 use Rattle.nio_caller.proofs.Calls.{same_pins}
-use Rattle.nio_caller.specs.Callers.{GivesNumber, HasNoPins, Joins, MayCall, StandsIn, StillHas}
+use Rattle.nio_caller.specs.Callers.{HasNoPins, Joins, MayCall, StandsIn, StillHas}
 
 -- the numbers that a pass holds, as contracts of callers see them
 pub shows : (w : Words) (p : Pass) (n : CallerNo) → HoldsNumber p n → Holds (view w p) n
@@ -42,55 +38,6 @@ later_has w p q pass begins = record {
         (key_published k.sel.0 k.index k.serial) has.published;
   };
 }
-
-pub same_seen_has : (w : Words) (p q : Pass) → IsPassOf w q → seen q ≡ seen p → StillHas (view w p) (view w q)
-same_seen_has w p q pass same =
-    later_has w p q pass (subst (λ (es : List Event). IsPrefix (seen p) es) (sym same) (prefix_self (seen p)))
-
-same_seen_pins : (w : Words) (p q : Pass) (n : CallerNo) → seen q ≡ seen p → HasNoPin (view w p) n
-    → HasNoPin (view w q) n
-same_seen_pins w p q n same none s i =
-    ap (λ (es : List Event). has_pin (state_after es) n s i) same ∙ none s i
-
--- ---- giving a number away
-
-module _ (w : Words) (p q given : Pass) (me n : CallerNo) (may : MayCall w p me) (held : HoldsNumber p n)
-    (other : n ≢ me) (over : HandsOver w n p q given) where
-  pub giver_may_call : MayCall w q me
-  giver_may_call = record {
-    ready = record {
-      pass = over.sees.pass;
-      number = (over.numbers me).1 (may.ready.number, λ same. other (sym same));
-    };
-    unpinned = λ m held'. same_seen_pins w p q m over.sees.sight
-        (may.unpinned m (shows w p m ((over.numbers m).0 (shown w q m held')).0));
-  }
-
-  pub given_may_call : MayCall w given n
-  given_may_call = record {
-    ready = record { pass = over.sees.given_pass; number = (over.given_number n).1 refl };
-    unpinned = λ m held'.
-        let is : n ≡ m = sym ((over.given_number m).0 (shown w given m held')) in
-        same_seen_pins w p given m over.sees.given_sight
-        (may.unpinned m (shows w p m (subst (λ (x : CallerNo). HoldsNumber p x) is held)));
-  }
-
-  pub gives_number : GivesNumber n (record { table = w; pass = p; number = me })
-      (record { table = w; pass = q; number = me }) (record { table = w; pass = given; number = n })
-  gives_number = record {
-    table = refl;
-    number = refl;
-    sight = over.sees.sight;
-    given_sight = over.sees.given_sight;
-    holds = λ m. (
-      λ h. let was = (over.numbers m).0 (shown w q m h) in (shows w p m was.0, was.1),
-      λ h. shows w q m ((over.numbers m).1 (shown w p m h.0, h.1)),
-    );
-    given_holds = λ m. (
-      λ h. (over.given_number m).0 (shown w given m h),
-      λ is. shows w given m ((over.given_number m).1 is),
-    );
-  }
 
 -- ---- joining
 

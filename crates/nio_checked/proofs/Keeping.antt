@@ -75,9 +75,6 @@ closed_kept s p p' kept is = subst (λ (x : Place). IsKept (Some (closed s)) x) 
 abbrev IsPart : ℕ → ℕ → Type 0
 IsPart a b = IsTrue (is_within a b)
 
-part_none : (b : ℕ) → IsPart 0 b
-part_none b = refl
-
 pub ready_same : (ready ready' : ChanNo → ℕ) (told : List (ChanNo × ℕ)) → ((c : ChanNo) → ready' c ≡ ready c)
     → AreReady ready told → AreReady ready' told
 ready_same ready ready' told same all k d below =

@@ -3,22 +3,20 @@ use Rattle.std.proofs.Common.{◌≡◌, ℕ, ◌-◌, ◌<◌, ◌≤◌, ◌�
 use Rattle.std.proofs.Common.{arith}
 use Rattle.std.proofs.Math.ListN.{get_or-append}
 use Rattle.std.proofs.Math.Seq.{get_or-append_right}
+use Rattle.std.proofs.lemmas.Bool.{cases_lt}
 use Rattle.std.proofs.lemmas.Grind.{common_steps}
 use Rattle.std.proofs.lemmas.List.{get_or-replicate}
 
-in_order : (m n : ℕ) → (m < n) ⊎ (n ≤ m)
-in_order m n = grind arith
-
 module _ {A : Type 0} (d : A) where
   default_there : (m i : ℕ) → get_or (replicate m d) i d ≡ d
-  default_there m i = by_place (in_order i m)
+  default_there m i = by_place (cases_lt i m)
     where
       by_place : (i < m) ⊎ (m ≤ i) → get_or (replicate m d) i d ≡ d
       by_place (inl within) = get_or-replicate m i d d within
       by_place (inr past) = grind (arith, common_steps)
 
   pub goes_on : (xs : List A) (m i : ℕ) → get_or (xs ++ replicate m d) i d ≡ get_or xs i d
-  goes_on xs m i = by_place (in_order i (length xs))
+  goes_on xs m i = by_place (cases_lt i (length xs))
     where
       by_place : (i < length xs) ⊎ (length xs ≤ i) → get_or (xs ++ replicate m d) i d ≡ get_or xs i d
       by_place (inl within) = get_or-append xs (replicate m d) d i within

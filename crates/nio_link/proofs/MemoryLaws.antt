@@ -5,17 +5,16 @@ use Rattle.std.proofs.Common.{List}
 use Rattle.std.proofs.Common.{[], ◌∷◌, ◌++◌, length, replicate, ◌*◌, slice_set, refl, ap, sym, ◌∙◌, arith, eq-eqb}
 use Rattle.std.proofs.Common.{length-append}
 use Rattle.std.proofs.Common.{eqb-true, ltb-true, get_or-set_other, get_or-set_same}
-use Rattle.std.proofs.lemmas.Bool.{eqb-false, lt-ltb}
+use Rattle.std.proofs.lemmas.Bool.{eqb-false, lt-ltb, and_from, cases_lt}
 use Rattle.std.proofs.lemmas.Grind.{common_steps}
 use Rattle.std.proofs.lemmas.List.{set_past, length-replicate}
 use Rattle.std.proofs.lemmas.List.Sums.{fold-append}
 use Rattle.nio_base.specs.declared.numbers.ChanNo.{ChanNo}
 use Rattle.nio_bytes.specs.Calls.{after_success}
 use Rattle.nio_bytes.specs.Cause.{HasCause}
+use Rattle.nio_group.proofs.PendingLemmas.{and-left, and-right}
 use Rattle.nio_link.proofs.Growing.{goes_on}
 use Rattle.nio_link.proofs.Pieces.{is_got}
-use Rattle.nio_poller.specs.Polled.{Polled}
-use Rattle.nio_poller.specs.Polls.{told_of_channel}
 use Rattle.nio_link.specs.Links.{IsSameBut, IsUnused, IsGot, after_read, after_write, after_shut}
 use Rattle.nio_link.specs.MemoryLinks.{LinkState, IsFresh, carried, is_connected, is_connecting, link_after_read}
 use Rattle.nio_link.specs.MemoryLinks.{link_after_write, got_after, ended_after, put_of, put_after, stage_after_connect}
@@ -34,7 +33,7 @@ use Rattle.nio_link.specs.Slots.{read_buffer, slots_after_read, write_answer, sl
 use Rattle.nio_link.specs.Slots.{slots_after_shut, finish_answer, slots_after_finish, slots_after_close, closed}
 use Rattle.nio_link.specs.Slots.{holds_nothing, without_link, slots_after_take, grown}
 use Rattle.nio_link.specs.declared.memory.finding.Finding.{Finding}
-use Rattle.nio_link.specs.declared.memory.finding.Finding.TheVariants.{Told as WasTold, NotReady}
+use Rattle.nio_link.specs.declared.memory.finding.Finding.TheVariants.{NotReady}
 use Rattle.nio_link.specs.declared.memory.slot.Slot.{Slot}
 use Rattle.nio_link.specs.declared.memory.slot.Slot.TheVariants as slot
 use Rattle.nio_link.specs.declared.net.Failed.{Failed}
@@ -63,13 +62,10 @@ slot_else slots c k x differ = get_or-set_other slots c.0 k.0 x slot.Free (numbe
 slot_past : (slots : List Slot) (c : ChanNo) → length slots ≤ c.0 → slot_at slots c ≡ slot.Free
 slot_past slots c past = grind (arith, common_steps)
 
-in_order : (m n : ℕ) → (m < n) ⊎ (n ≤ m)
-in_order m n = grind arith
-
 -- a channel under which something stands is one of the net's
 in_net : (slots : List Slot) (c : ChanNo) → slot_at slots c ≢ slot.Free → c.0 < length slots
 in_net slots c some =
-    elim (in_order c.0 (length slots)) [ inl within ↦ within | inr past ↦ absurd (some (slot_past slots c past)) ]
+    elim (cases_lt c.0 (length slots)) [ inl within ↦ within | inr past ↦ absurd (some (slot_past slots c past)) ]
 
 slot_here : (slots : List Slot) (c : ChanNo) (x : Slot) → slot_at slots c ≢ slot.Free
     → slot_at (slice_set slots c.0 x) c ≡ x
@@ -237,16 +233,12 @@ ready_else findings c op k differ =
     ∙ ap (λ (b : Bool). if b then without op (ready_told findings k) else ready_told findings k)
     (is_another (c.0 == k.0) c k refl (λ same. differ (sym same)))
 
-read_ready_by : (r : Result Got Failed) (findings : List Finding) (c : ChanNo)
-    → ready_told (findings_after (is_early r) c 1 findings) c ≡ ready_after_read r (ready_told findings c)
-read_ready_by (Ok (got.Bytes n)) findings c = refl
-read_ready_by (Ok got.End) findings c = refl
-read_ready_by (Ok got.NotYet) findings c = ready_here findings c 1
-read_ready_by (Err failed) findings c = refl
-
 pub read_ready : (r : Result Got Failed) (findings : List Finding) (c : ChanNo)
     → ready_told (findings_after (is_early r) c 1 findings) c ≡ ready_after_read r (ready_told findings c)
-read_ready = read_ready_by
+read_ready (Ok (got.Bytes n)) findings c = refl
+read_ready (Ok got.End) findings c = refl
+read_ready (Ok got.NotYet) findings c = ready_here findings c 1
+read_ready (Err failed) findings c = refl
 
 by_early : (b : Bool) (findings : List Finding) (c : ChanNo) (op : ℕ)
     → IsSameBut c (ready_told findings) (ready_told (findings_after b c op findings))
@@ -256,12 +248,6 @@ by_early false findings c op = λ k differ. refl
 pub read_ready_else : (r : Result Got Failed) (findings : List Finding) (c : ChanNo)
     → IsSameBut c (ready_told findings) (ready_told (findings_after (is_early r) c 1 findings))
 read_ready_else r findings c = by_early (is_early r) findings c 1
-
--- after a poll
-pub ready_polled : (findings now : List Finding) (polled : Polled) (c : ChanNo) → now ≡ findings ++ WasTold polled ∷ []
-    → ready_told now c ≡ told_of_channel polled.asked polled.answer.pairs c
-ready_polled findings now polled c is =
-    ap (λ (xs : List Finding). ready_told xs c) is ∙ ready_more findings (WasTold polled) c
 
 -- ---- links that are made, connected and closed
 
@@ -273,22 +259,14 @@ nothing_there slot.Free is = refl
 nothing_there slot.Listener is = absurd (cc)
 nothing_there (slot.Link l) is = absurd (cc)
 
-left_of : (a b : Bool) → a && b ≡ true → a ≡ true
-left_of true b is = refl
-left_of false b is = is
-
-right_of : (a b : Bool) → a && b ≡ true → b ≡ true
-right_of true b is = is
-right_of false b is = absurd (cc)
-
 -- where a link with nothing carried is put under a free channel, no channel has carried anything else
 module _ (slots : List Slot) (c : ChanNo) (free : is_free slots c ≡ true) where
   was_free : slot_at slots c ≡ slot.Free
   was_free = nothing_there (slot_at slots c)
-      (right_of (nat_lt c.0 (length slots)) (holds_nothing (slot_at slots c)) free)
+      (and-right (nat_lt c.0 (length slots)) (holds_nothing (slot_at slots c)) free)
 
   within_net : c.0 < length slots
-  within_net = ltb-true c.0 (length slots) (left_of (nat_lt c.0 (length slots)) (holds_nothing (slot_at slots c)) free)
+  within_net = ltb-true c.0 (length slots) (and-left (nat_lt c.0 (length slots)) (holds_nothing (slot_at slots c)) free)
 
   pub put_free : (x : Slot) → carried_by x ≡ carried_by slot.Free → (k : ChanNo)
       → carried_at (slice_set slots c.0 x) k ≡ carried_at slots k
@@ -348,7 +326,7 @@ module _ (slots : List Slot) (c : ChanNo) where
 
   close_by : (s : Slot) → slot_at slots c ≡ s → (k : ChanNo)
       → carried_at (slice_set slots c.0 (closed s)) k ≡ carried_at slots k
-  close_by slot.Free is k = by_place (in_order c.0 (length slots))
+  close_by slot.Free is k = by_place (cases_lt c.0 (length slots))
     where
       by_place : (c.0 < length slots) ⊎ (length slots ≤ c.0)
           → carried_at (slice_set slots c.0 slot.Free) k ≡ carried_at slots k
@@ -379,10 +357,6 @@ module _ (slots : List Slot) (c : ChanNo) where
   grown_carried : (n : ℕ) (k : ChanNo) → carried_at (grown slots n) k ≡ carried_at slots k
   grown_carried n k = ap carried_by (goes_on slot.Free slots (n - length slots) k.0)
 
-  both_true : (a b : Bool) → a ≡ true → b ≡ true → a && b ≡ true
-  both_true true b left right = right
-  both_true false b left right = left
-
   -- putting in one that has carried nothing
   pub put_carried : (n : ℕ) (link : Option LinkState) → holds_nothing (slot_at slots c) ≡ true → c.0 < n
       → IfSome link IsFresh → (k : ChanNo)
@@ -394,7 +368,7 @@ module _ (slots : List Slot) (c : ChanNo) where
       ∙ ap (λ (m : ℕ). length slots + m) (length-replicate (n - length slots) slot.Free) in
       let inside : nat_lt c.0 (length (grown slots n)) ≡ true = lt-ltb c.0 (length (grown slots n)) (omega arith) in
       let free : is_free (grown slots n) c ≡ true =
-      both_true (nat_lt c.0 (length (grown slots n))) (holds_nothing (slot_at (grown slots n) c)) inside
+      and_from (nat_lt c.0 (length (grown slots n))) (holds_nothing (slot_at (grown slots n) c)) inside
       (ap holds_nothing (goes_on slot.Free slots (n - length slots) c.0) ∙ vacant) in
       put_fresh (grown slots n) c free (end_under c l)
       (record { got = fresh.got; ended = fresh.ended; put = fresh.put; shut = fresh.shut }) k
@@ -476,7 +450,7 @@ accepts s listener c fresh able = by_clients s.clients fresh
       ready_else = ready_else s.findings listener 16;
     }
     by_clients (l ∷ later) all = record {
-      carried = put_fresh s.slots c (right_of (is_listener s.slots listener) (is_free s.slots c) able) l all.0;
+      carried = put_fresh s.slots c (and-right (is_listener s.slots listener) (is_free s.slots c) able) l all.0;
       faulted = refl;
       polls = refl;
       ready = refl;

@@ -1,6 +1,6 @@
 mod Trying
 pub mod Ready
-mod Marks
+pub mod Marks
 pub mod Quiet
 mod Scripts
 mod Telling

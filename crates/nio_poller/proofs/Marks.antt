@@ -9,6 +9,7 @@ use Rattle.std.proofs.lemmas.Bool.{or_left, or_right}
 use Rattle.std.proofs.lemmas.Nat.Bits.{bit_at_or, bit_at_and, same_from_bits}
 use Rattle.nio_base.specs.declared.numbers.ChanNo.{ChanNo}
 use Rattle.nio_base.specs.declared.numbers.SelNo.{SelNo}
+use Rattle.nio_event.proofs.Soundness.{both_ways}
 use Rattle.nio_event.specs.OwnEvents.{has}
 use Rattle.nio_event.specs.declared.act.Act.{Act}
 use Rattle.nio_event.specs.declared.act.Act.TheVariants.{Mark}
@@ -30,19 +31,19 @@ use Rattle.nio_poller.specs.Selecting.{MarksReady}
 -- ---- sets of bits
 
 -- a is a part of b
-abbrev IsPart : ℕ → ℕ → Type 0
+abbrev pub IsPart : ℕ → ℕ → Type 0
 IsPart a b = bit_and a b ≡ a
 
-part_left : (a b c : ℕ) → IsPart a b → IsPart a (bit_or b c)
+pub part_left : (a b c : ℕ) → IsPart a b → IsPart a (bit_or b c)
 part_left a b c part =
     ap (λ n. bit_and n (bit_or b c)) (sym part)
     ∙ (same_from_bits (bit_and (bit_and a b) (bit_or b c)) (bit_and a b)
     (λ i. simp (bit_at_or, bit_at_and) (omega arith)) ∙ part)
 
-part_right : (b c : ℕ) → IsPart c (bit_or b c)
+pub part_right : (b c : ℕ) → IsPart c (bit_or b c)
 part_right b c = same_from_bits (bit_and c (bit_or b c)) c (λ i. simp (bit_at_or, bit_at_and) (omega arith))
 
-part_met : (a b c : ℕ) → IsPart a c → IsPart (bit_and a b) c
+pub part_met : (a b c : ℕ) → IsPart a c → IsPart (bit_and a b) c
 part_met a b c part =
     ap (λ n. bit_and (bit_and n b) c) (sym part)
     ∙ (same_from_bits (bit_and (bit_and (bit_and a c) b) c) (bit_and (bit_and a c) b)
@@ -64,7 +65,7 @@ module _ (pairs : List (ℕ × ℕ)) (c : ChanNo) where
       by_test false = part
 
 -- what was told of a key that was asked for was told of its channel
-told_in_channel : (asked : List LookedKey) (pairs : List (ℕ × ℕ)) (entry : LookedKey) → Contains asked entry
+pub told_in_channel : (asked : List LookedKey) (pairs : List (ℕ × ℕ)) (entry : LookedKey) → Contains asked entry
     → IsPart (told_of pairs entry.index) (told_of_channel asked pairs entry.channel)
 told_in_channel asked pairs entry there =
     let f = with_entry pairs entry.channel in
@@ -80,6 +81,14 @@ told_in_channel asked pairs entry there =
     subst (IsPart (told_of pairs entry.index)) (sym whole)
     (stays pairs entry.channel (told_of pairs entry.index) (f before entry) cut.later part)
 
+-- what was told of a key and asked for was told of its channel
+pub bits_in_channel : (asked : List LookedKey) (pairs : List (ℕ × ℕ)) (entry : LookedKey) → Contains asked entry
+    → IsTrue (is_within (told_bits pairs entry) (told_of_channel asked pairs entry.channel))
+bits_in_channel asked pairs entry there =
+    eq-eqb (bit_and (told_bits pairs entry) (told_of_channel asked pairs entry.channel)) (told_bits pairs entry)
+    (part_met (told_of pairs entry.index) entry.interest (told_of_channel asked pairs entry.channel)
+    (told_in_channel asked pairs entry there))
+
 -- a `told` marks keys only with operations that their channels are ready for
 pub marks_ready : (ready : ChanNo → ℕ) (selection : Selection) (poll : Poll) (acts : List Act) (answer : ToldReply)
     → ((c : ChanNo) → ready c ≡ told_of_channel selection.looked poll.pairs c)
@@ -88,15 +97,13 @@ pub marks_ready : (ready : ChanNo → ℕ) (selection : Selection) (poll : Poll)
 marks_ready ready selection poll acts answer is run s i told from there =
     let fits = marks_only_as_told selection poll acts answer run s i told from (Ok tt) there in
     let entry = fits.entry in
-    let part = part_met (told_of poll.pairs entry.index) entry.interest (ready entry.channel)
-    (subst (IsPart (told_of poll.pairs entry.index)) (sym (is entry.channel))
-    (told_in_channel selection.looked poll.pairs entry fits.looked)) in
     record {
       entry = entry;
       is_looked = fits.looked;
       at_index = fits.at_index;
       bits = subst (λ n. IsTrue (is_within n (ready entry.channel))) (sym fits.bits)
-          (eq-eqb (bit_and (told_bits poll.pairs entry) (ready entry.channel)) (told_bits poll.pairs entry) part);
+          (subst (λ n. IsTrue (is_within (told_bits poll.pairs entry) n)) (sym (is entry.channel))
+          (bits_in_channel selection.looked poll.pairs entry fits.looked));
       some = fits.some;
     }
 
@@ -112,10 +119,6 @@ any_there p acts act there is =
     ap (has p) cut.parts
     ∙ (list_any-append p cut.past (act ∷ cut.later)
     ∙ or_right (has p cut.past) (has p (act ∷ cut.later)) (or_left (p act) (has p cut.later) is))
-
-both_ways : (b : Bool) → b ≡ true → b ≡ false → ⊥
-both_ways true is is_not = cc is_not
-both_ways false is is_not = cc is
 
 pub unmarked_on : (acts : List Act) (s : SelNo) (i told : ℕ) (from : KeyMark) → has (marks_on s.0) acts ≡ false
     → Contains acts (Mark s i from told (Ok tt)) → ⊥

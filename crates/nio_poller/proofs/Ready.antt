@@ -1,35 +1,22 @@
--- What a caller's pass has after a call, and what the passes have that a pass is parted into.
-use Rattle.std.proofs.Common.{◌≡◌, ℕ, ℤ, Bool, Option, Result, Ok, Err, List, ap, sym, ◌∙◌, subst, eqb-true}
-use Rattle.std.proofs.Common.{eq-eqb}
-use Rattle.std.specs.Int.{bit_at}
+-- The selectors that a caller's pass has after a call.
+use Rattle.std.proofs.Common.{◌≡◌, ℕ, ℤ, Option, Result, Ok, Err, List, ap, sym, ◌∙◌, subst}
 use Rattle.nio_base.specs.declared.numbers.CallerNo.{CallerNo}
 use Rattle.nio_base.specs.declared.numbers.ChanNo.{ChanNo}
 use Rattle.nio_base.specs.declared.numbers.SelNo.{SelNo}
 use Rattle.nio_event.proofs.PassViews.{selector_after}
 use Rattle.nio_event.specs.Histories.{state_after}
-use Rattle.nio_event.specs.PassViews.{PassView, ActsClause, HasSelector}
+use Rattle.nio_event.specs.PassViews.{PassView, HasSelector}
 use Rattle.nio_event.specs.Timeout.{mode_for}
-use Rattle.nio_event.specs.declared.act.Act.{Act}
 use Rattle.nio_event.specs.declared.found.Mode.{Mode}
 use Rattle.nio_event.specs.declared.timeout.NegativeTimeout.{NegativeTimeout}
 use Rattle.nio_steps.specs.declared.selected.Selected.{Selected}
-use Rattle.nio_words.specs.Passes.{IsPassOf, IsReady, numbers_of, seen}
+use Rattle.nio_words.specs.Passes.{seen}
 use Rattle.nio_words.specs.Views.{view}
 use Rattle.nio_words.specs.declared.words.Pass.{Pass}
 use Rattle.nio_words.specs.declared.words.Words.{Words}
 use Rattle.nio_poller.specs.Polled.{Polled}
 use Rattle.nio_poller.specs.Selecting.{TimedBy, TimedClause}
 use Rattle.nio_poller.specs.declared.selecting.SelectError.{SelectError}
-
--- a pass holds the same numbers after the acts of a call
-pub ready_after : {w : Words} {p q : Pass} {me : CallerNo} {acts : List Act} (n : CallerNo)
-    → ActsClause me acts (view w p) (view w q) → IsPassOf w q → IsReady w p n → IsReady w q n
-ready_after {w = w} {p = p} {q = q} n clause pass ready = record {
-  pass = pass;
-  number = eqb-true (bit_at (numbers_of q) n.0) 1
-      (ap {B = Bool} (λ (held : CallerNo → Bool). held n) clause.held
-      ∙ eq-eqb (bit_at (numbers_of p) n.0) 1 ready.number);
-}
 
 -- a pass that has seen the same has the same selectors
 pub selector_same : (w : Words) (p q : Pass) (s : SelNo) → seen q ≡ seen p → HasSelector (view w p) s

@@ -1,29 +1,19 @@
 -- Calls that are made again while another caller is in the way.
-use Rattle.std.proofs.Common.{◌≡◌, Bool, true, false, Result, List, [], refl, sym, subst}
+use Rattle.std.proofs.Common.{◌≡◌, true, false, Result, [], refl, sym, subst}
 use Rattle.std.proofs.lemmas.List.{append-nil}
 use Rattle.nio_base.specs.declared.numbers.CallerNo.{CallerNo}
 use Rattle.nio_base.specs.declared.numbers.SelNo.{SelNo}
-use Rattle.nio_event.proofs.PassViews.{acts_nothing}
-use Rattle.nio_event.specs.Histories.{IsLegal}
 use Rattle.nio_event.specs.PassViews.{PassView}
-use Rattle.nio_event.specs.declared.act.Act.{Act}
 use Rattle.nio_event.specs.declared.found.Mode.{Mode}
-use Rattle.nio_steps.proofs.CallLaws.{call_of_acts, call_as}
-use Rattle.nio_steps.proofs.WaitingLaws.{TryingClause, tries_none, try_more, try_last, then_call}
+use Rattle.nio_steps.proofs.CallLaws.{call_as}
+use Rattle.nio_steps.proofs.WaitingLaws.{TryingClause, try_more, try_last, then_call}
 use Rattle.nio_steps.specs.Calls.{CallClause}
 use Rattle.nio_steps.specs.Runs.{Completes}
 use Rattle.nio_steps.specs.SelectCalls.{Selection, Begins, begin_finds_busy, FinishReply, closed, closing}
 use Rattle.nio_steps.specs.SelectCalls.{already_closed, shut_plan, try_finish_plan, finish_finds_busy, Closes}
 use Rattle.nio_steps.specs.SelectCalls.{ClosesRest}
-use Rattle.nio_steps.specs.Waiting.{Tries, Retries}
+use Rattle.nio_steps.specs.Waiting.{Retries}
 use Rattle.nio_steps.specs.declared.refusal.BeginError.{BeginError}
-
--- no run was made yet
-pub trying_none : {X R : Type 0} (me : CallerNo) (Shape : X → List Act → R → Type 0) (goes_on : X → R → Bool)
-    (pass : PassView) → IsLegal pass.limits pass.seen → TryingClause me Shape goes_on pass pass
-trying_none me Shape goes_on pass legal =
-    call_of_acts (λ acts (_ : Unit {0}). Tries Shape goes_on acts) [] tt (acts_nothing me pass legal)
-    (tries_none Shape goes_on)
 
 -- ---- beginning a selection
 

@@ -6,6 +6,7 @@ use Rattle.std.proofs.Math.Logic.{∥∥₁_map}
 use Rattle.std.proofs.lemmas.List.{append-nil}
 use Rattle.std.proofs.lemmas.List.Elements.{All-cons, All-head, All-nil, All-tail}
 use Rattle.std.proofs.lemmas.Nat.Bits.{bit_at_and, same_from_bits}
+use Rattle.std.proofs.lemmas.Option.{same_Some}
 use Rattle.std.specs.List.{Contains}
 use Rattle.std.specs.declared.alloc.AllocError.{AllocError}
 use Rattle.nio_base.specs.declared.numbers.CallerNo.{CallerNo}
@@ -40,6 +41,7 @@ use Rattle.nio_steps.specs.declared.selected.Selected.{Selected}
 use Rattle.nio_words.specs.Passes.{IsReady, acts_seen, limits_of}
 use Rattle.nio_words.specs.Views.{view}
 use Rattle.nio_words.specs.declared.words.Words.{Words}
+use Rattle.nio_race.proofs.PartKept.{all_of_map}
 use Rattle.nio_race.proofs.Standing.{stands_made}
 use Rattle.nio_race.specs.Racers.{BlocksOn, LooksAndBlocksOn, StandsFor}
 use Rattle.nio_race.specs.Quiet.{AreStillUntold, AreUntold}
@@ -61,14 +63,6 @@ unmarked clause x i told from there =
     let clash : false ≡ true = ap not (sym (eq-eqb told 0 none)) ∙ some in
     absurd cc
 
-all_back : {A B : Type 0} (P : B → Type 0) (f : A → B) (xs : List A) → All P (map f xs) → All (λ x. P (f x)) xs
-all_back P f [] each = All-nil (λ x. P (f x))
-all_back P f (x ∷ xs) each =
-    All-cons (λ y. P (f y)) x xs (All-head P (f x) (map f xs) each) (all_back P f xs (All-tail P (f x) (map f xs) each))
-
-same_item : {A : Type 0} {x y : A} → Some x ≡ Some y → x ≡ y
-same_item e = cc
-
 abbrev polled : List LookedKey → Poll → Polled
 polled asked poll = record { asked = asked; mode = Wait; answer = poll }
 
@@ -80,7 +74,7 @@ untold_from looked (first ∷ later) each =
     let P : Polled → Type 0 = λ poll. TellsNothing poll.answer in
     let at_once : Polled = record { asked = looked; mode = WithoutWaiting; answer = first } in
     All-cons TellsNothing (record first { elapsed = false }) later (All-head P at_once (map (polled looked) later) each)
-    (all_back P (polled looked) later (All-tail P at_once (map (polled looked) later) each))
+    (all_of_map P (polled looked) later (All-tail P at_once (map (polled looked) later) each))
 
 -- the same of a poller that told nothing before the selection
 untold : {before after : List Polled} {me : CallerNo} {s : SelNo} {v0 v1 : PassView}
@@ -89,7 +83,7 @@ untold : {before after : List Polled} {me : CallerNo} {s : SelNo} {v0 v1 : PassV
     → before ≡ [] → AreStillUntold before after → All TellsNothing (told_from clause.polls)
 untold {before} {after} clause none still =
     let polls = polls_of (looked_by clause.call.shape.middle) Wait clause.polls in
-    let added : after ≡ polls = same_item clause.adds ∙ ap (λ (earlier : List Polled). earlier ++ polls) none in
+    let added : after ≡ polls = same_Some _ _ clause.adds ∙ ap (λ (earlier : List Polled). earlier ++ polls) none in
     untold_from (looked_by clause.call.shape.middle) clause.polls
     (subst AreUntold added (still (subst AreUntold (sym none) (All-nil (λ (poll : Polled). TellsNothing poll.answer)))))
 

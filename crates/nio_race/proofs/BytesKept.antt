@@ -19,7 +19,7 @@ use Rattle.nio_race_text.specs.declared.call.RaceCall.{RaceCall}
 use Rattle.nio_race_text.specs.declared.call.RaceCall.TheVariants.{Script}
 use Rattle.nio_race_text.specs.declared.call.RaceLine.{RaceLine}
 use Rattle.nio_race.proofs.EndLines.{no_front}
-use Rattle.nio_race.proofs.LineEnds.{leave_seal-append}
+use Rattle.nio_race.proofs.SetupLines.{leave_seal-append}
 use Rattle.nio_race.proofs.PairsLists.{all-at, at_itself, standing}
 use Rattle.nio_race.proofs.PairsRaced.{PipeGoesOn}
 use Rattle.nio_race.specs.Ends.{AreEach, HasMet, IsPartedAs, PartedPipe}

@@ -3,8 +3,9 @@ use Rattle.std.proofs.Common.{◌≡◌, ◌≢◌, ℕ, zero, suc, ◌+◌, ◌
 use Rattle.std.proofs.Common.{if◌then◌else◌, IsTrue, IsFalse, Result, Ok, Err, List, [], ◌∷◌, ◌++◌, length, get_or, set}
 use Rattle.std.proofs.Common.{take, drop, position, None, refl, sym, ap, ◌∙◌, subst, eqb-true, eq-eqb, arith, ⊎_elim}
 use Rattle.std.proofs.Common.{length-append}
+use Rattle.std.proofs.Math.Bool.{or-false}
 use Rattle.std.proofs.Math.Nat.{le_refl, le_trans}
-use Rattle.std.proofs.lemmas.Bool.{cases_lt, cond-false, cond-true, ne_eqb}
+use Rattle.std.proofs.lemmas.Bool.{cases_lt, cond-false, cond-true, ne_eqb, false_from_ne_true}
 use Rattle.std.proofs.lemmas.List.{append-nil, length-take-le}
 use Rattle.std.specs.List.{AllPairs}
 use Rattle.std.specs.Prelude.{OnOk, Vec}
@@ -30,10 +31,10 @@ use Rattle.nio_steps.specs.declared.refusal.PipeError.{PipeError}
 use Rattle.nio_steps.specs.declared.refusal.PipeError.TheVariants.{AsynchronousClose}
 use Rattle.nio_words.proofs.Beginnings.{prefix_length, prefix_trans}
 use Rattle.nio_race.proofs.EndLists.{each_itself, each_set, none_passes, other_number}
-use Rattle.nio_race.proofs.FindLines.{KeepsRoom, close_keeps_room, close_takes_here, is_false, one_finds, one_takes}
+use Rattle.nio_race.proofs.FindLines.{KeepsRoom, close_keeps_room, close_takes_here, one_finds, one_takes}
 use Rattle.nio_race.proofs.FindLines.{prefix_drop, prefix_none, read_finds_elsewhere, read_finds_here}
 use Rattle.nio_race.proofs.FindLines.{write_keeps_room, write_takes_elsewhere, write_takes_here}
-use Rattle.nio_race.proofs.LineEnds.{or-false, same_sink_self, same_source_self, told_alone}
+use Rattle.nio_race.proofs.LineEnds.{same_sink_self, same_source_self, told_alone}
 use Rattle.nio_race.specs.Ends.{AreEach, EndsGoOn, KnowsAwaited, SinkGoesOn, SourceGoesOn}
 use Rattle.nio_race.specs.PipeBytes.{TellsEnd, bytes_of, seals_in, number_of, read_in, says_closed, written_in}
 use Rattle.nio_race.specs.PipeFinds.{Awaited, HasToWait, LineFinds, ReadFinds, WriteFinds}
@@ -45,10 +46,6 @@ the_line word r = (Script word, r) ∷ []
 or_true : (b : Bool) → true ≡ (b || true)
 or_true true = refl
 or_true false = refl
-
-same_channel : (a b : ChanNo) → (a.0 == b.0) ≡ false → a ≡ b → ⊥
-same_channel a b other same =
-    let alike : true ≡ false = sym (eq-eqb a.0 b.0 (ap (λ (c : ChanNo). c.0) same)) ∙ other in absurd (cc alike)
 
 -- ---- ends that a line leaves as they are
 
@@ -69,7 +66,7 @@ pub sink_stays : (word : Call) (r : Reply) (x : PipeSink) → written_in (sink_c
 sink_stays word r x unwritten unsealed keeps = record {
   same = same_sink_self x;
   sent = sym (ap (λ (bytes : List ℕ). sent x ++ (bytes ++ [])) unwritten ∙ append-nil (sent x));
-  seal = or-false (is_sealed x) ∙ ap (λ (b : Bool). is_sealed x || (b || false)) (sym unsealed);
+  seal = sym (or-false (is_sealed x)) ∙ ap (λ (b : Bool). is_sealed x || (b || false)) (sym unsealed);
   ended = λ _. ap (λ (bytes : List ℕ). bytes ++ []) unwritten;
   takes = λ room few.
       let kept = keeps room in
@@ -271,7 +268,7 @@ module _ (n : ℕ) (old new : PipeSource) (before after : List ℕ) (x : Awaited
       let y : Awaited = record x { bytes = drop (length given) x.bytes } in (
         y,
         (
-          subst (λ (r : Reply). ReadFinds n x r y) says (ReadFinds.gives given (is_false x.ended goes) enough),
+          subst (λ (r : Reply). ReadFinds n x r y) says (ReadFinds.gives given (false_from_ne_true x.ended goes) enough),
           record {
             bytes = prefix_drop x.bytes given (known new) ahead;
             sealed = λ sealed. gives.end_stays (knows.sealed sealed);
@@ -286,7 +283,7 @@ module _ (n : ℕ) (old new : PipeSource) (before after : List ℕ) (x : Awaited
 
   no_seal_known : KnowsNothing old → IsFalse x.sealed
   no_seal_known nothing =
-      is_false x.sealed
+      false_from_ne_true x.sealed
       (λ sealed. let clash : true ≡ false = sym (knows.sealed sealed) ∙ nothing.no_seal in absurd (cc clash))
 
   read_finds : (answer : Result PipeRead PipeError) → GivesBytes old new before after (bytes_read answer)
@@ -493,7 +490,7 @@ sink_written c bytes old new answer its same takes seals finds =
       seal = seals
           ∙ ap (λ (b : Bool). is_sealed old || b)
           (seal_said answer ∙ (sym (seal_here c bytes r (sink_chan old) (sym its))
-          ∙ or-false (seals_in (sink_chan old) (Script (call.Pwrite c bytes)) r)));
+          ∙ sym (or-false (seals_in (sink_chan old) (Script (call.Pwrite c bytes)) r))));
       ended = λ was.
           ap (λ (xs : List ℕ). xs ++ []) here ∙ ap (λ (k : ℕ). take k bytes ++ []) (takes.ended was);
       takes = λ room few.

@@ -1,7 +1,7 @@
 -- A line on the bytes of a pipe: its look-up, its call, and what stands after it.
 use Rattle.std.proofs.Common.{◌≡◌, ◌≢◌, ℕ, ◌<◌, ◌==◌, Bool, true, false, ◌||◌, Option, Some, None, Result, Ok, Err}
 use Rattle.std.proofs.Common.{IfOk, List, [], length, get_or, min, set, position, All, refl, sym, ap, ◌∙◌}
-use Rattle.std.proofs.Common.{eqb-true, not, subst, arith, ◌+◌, ◌≤◌}
+use Rattle.std.proofs.Common.{not, subst, arith, ◌+◌, ◌≤◌}
 use Rattle.std.specs.Option.{is_some}
 use Rattle.std.proofs.Math.Logic.{∥∥₁_map}
 use Rattle.std.proofs.lemmas.List.{append-nil}
@@ -30,6 +30,7 @@ use Rattle.nio_pipe.specs.declared.sink.PipeSink.{PipeSink}
 use Rattle.nio_pipe.specs.declared.source.PipeSource.{PipeSource}
 use Rattle.nio_sole.proofs.Calls.{made_more}
 use Rattle.nio_sole.proofs.Desks.{places_same}
+use Rattle.nio_sole.proofs.PipeLines.{channel_is}
 use Rattle.nio_sole.specs.Made.{HasMade, IsOngoing}
 use Rattle.nio_sole.specs.Stands.{progress_of}
 use Rattle.nio_sole.specs.declared.desk.Desk.{Desk}
@@ -70,9 +71,6 @@ IsSourcePlace ends c place = place ≡ position (λ s. (source_chan s).0 == c.0)
 
 abbrev pub IsSinkPlace : OwnEnds → ChanNo → Option ℕ → Type 0
 IsSinkPlace ends c place = place ≡ position (λ s. (sink_chan s).0 == c.0) ends.sinks.items
-
-channel_is : (a b : ChanNo) → (a.0 == b.0) ≡ true → a ≡ b
-channel_is a b same = ap {B = ChanNo} (λ (n : ℕ). record { 0 = n }) (eqb-true a.0 b.0 same)
 
 pub source_inside : (ends : OwnEnds) (c : ChanNo) (place : ℕ) → IsSourcePlace ends c (Some place)
     → (old : PipeSource) → place < length ends.sources.items

@@ -3,7 +3,7 @@ use Rattle.std.proofs.Common.{◌≡◌, ℕ, zero, suc, ◌<◌, ◌≤◌, ◌
 use Rattle.std.proofs.Common.{IsFalse, Result, Ok, Err, IfOk, List, [], ◌∷◌, length, min, take, arith, refl, sym, ◌∙◌}
 use Rattle.std.proofs.Common.{eqb-true, subst}
 use Rattle.std.proofs.lemmas.Bool.{cond-false, ne_eqb}
-use Rattle.std.proofs.lemmas.List.{length-take-le}
+use Rattle.std.proofs.lemmas.List.{length-take-le, nil_from_length}
 use Rattle.nio_base.specs.declared.limits.Limits.{Limits}
 use Rattle.nio_base.specs.declared.numbers.ChanNo.{ChanNo}
 use Rattle.nio_event.specs.declared.act.Act.{Act}
@@ -142,10 +142,6 @@ write_zero size is = by_test (size == 0) refl
         ∙ cond-false (size == 0) (PipeWrite.Bytes 0) PipeWrite.NotYet some in
         absurd (cc clash)
 
-no_items : {A : Type 0} (xs : List A) → length xs ≡ 0 → xs ≡ []
-no_items [] none = refl
-no_items (x ∷ xs) none = absurd (omega (arith, none))
-
 module _ (l : Limits) (ends : PipeEnds) (bytes : List ℕ) (acts : List Act)
     (Had : Result PipeWrite PipeError → Type 0)
     (offers : (answer : Result PipeWrite PipeError) → Had answer → 0 < length bytes) where
@@ -153,7 +149,7 @@ module _ (l : Limits) (ends : PipeEnds) (bytes : List ℕ) (acts : List Act)
       → WaitsToWrite l ends.source ends.sink Had acts (Ok (PipeWrite.Bytes k))
       → WritesTo l ends bytes acts (write_said (Ok (PipeWrite.Bytes k)))
   writes_count zero few is waits =
-      let none : bytes ≡ [] = no_items bytes (write_zero (length bytes) is) in
+      let none : bytes ≡ [] = nil_from_length bytes (write_zero (length bytes) is) in
       record {
         none = false;
         answer = Ok waits.0;

@@ -1,5 +1,5 @@
 -- What lines find in a pipe: lemmas of lines one after the other, and of lines that leave what is known.
-use Rattle.std.proofs.Common.{◌≡◌, ℕ, ◌≤◌, Bool, true, false, IsTrue, IsFalse, List, [], ◌∷◌, ◌++◌, length, drop}
+use Rattle.std.proofs.Common.{◌≡◌, ℕ, ◌≤◌, List, [], ◌∷◌, ◌++◌, length, drop}
 use Rattle.std.proofs.Common.{refl, sym, ap, subst, arith, ⊎_elim}
 use Rattle.std.proofs.lemmas.Bool.{cases_eq}
 use mathlib.Core.List.{IsPrefix}
@@ -23,10 +23,6 @@ prefix_drop (x ∷ xs) (y ∷ ys) zs begins = prefix_drop xs ys zs (begins.0, cc
 pub prefix_none : (xs : List ℕ) → IsPrefix xs [] → xs ≡ []
 prefix_none [] begins = refl
 prefix_none (x ∷ xs) begins = absurd (cc (begins.1))
-
-pub is_false : (b : Bool) → (IsTrue b → ⊥) → IsFalse b
-is_false true other = absurd (other refl)
-is_false false other = refl
 
 -- ---- lines and later ones
 

@@ -1,20 +1,17 @@
 -- The passes of a race are joined one after the other.
-use Rattle.std.proofs.Common.{◌≡◌, ℕ, ◌<◌, length, List, [], ◌∷◌, ◌++◌, All, inl, inr, refl, sym, ap, ◌∙◌, subst}
+use Rattle.std.proofs.Common.{◌≡◌, ℕ, ◌<◌, length, List, [], ◌∷◌, ◌++◌, All, inl, sym, ap, ◌∙◌, subst}
 use Rattle.std.proofs.Common.{append_assoc, arith}
 use Rattle.std.proofs.Math.Seq.{get_or-append_seam}
-use Rattle.std.proofs.lemmas.List.{append-nil, get_or_append_left, length-append}
+use Rattle.std.proofs.lemmas.List.{get_or_append_left, length-append, nil_from_length}
 use Rattle.std.proofs.lemmas.List.Elements.{All-cons, All-weaker}
-use Rattle.nio_words.proofs.Beginnings.{prefix_self, prefix_trans}
-use Rattle.nio_words.specs.Passes.{IsPassOf, seen}
+use Rattle.nio_words.proofs.Beginnings.{prefix_trans}
+use Rattle.nio_words.specs.Passes.{IsPassOf}
 use Rattle.nio_words.specs.Sharing.{Joins}
 use Rattle.nio_words.specs.declared.words.Pass.{Pass}
 use Rattle.nio_words.specs.declared.words.Words.{Words}
 use Rattle.nio_race.specs.Gathering.{StandsIn}
 use Rattle.nio_race.specs.SetOff.{AreRacers}
 use Rattle.nio_race.specs.declared.racer.Racer.{Racer}
-
-pub stands_self : (p : Pass) → StandsIn p p
-stands_self p = record { begins = prefix_self (seen p); holds = λ n held. held; own = λ n held. refl }
 
 pub stands_on : (a b c : Pass) → StandsIn a b → StandsIn b c → StandsIn a c
 stands_on a b c first later = record {
@@ -27,14 +24,6 @@ pub joined_own : (w : Words) (before other after : Pass) → Joins w before othe
 joined_own w before other after joins =
     record { begins = joins.stands.begins; holds = λ n held. (joins.numbers n).1 (inl held); own = joins.stands.own }
 
-pub joined_other : (w : Words) (before other after : Pass) → Joins w before other after → StandsIn other after
-joined_other w before other after joins =
-    record {
-      begins = joins.other_stands.begins;
-      holds = λ n held. (joins.numbers n).1 (inr held);
-      own = joins.other_stands.own;
-    }
-
 -- some are joined, the last ones, and the others are still there
 pub record IsGathering (w : Words) (before now : Pass) (racers left : List Racer) : Type 0 where
   pub pass : IsPassOf w now
@@ -43,17 +32,6 @@ pub record IsGathering (w : Words) (before now : Pass) (racers left : List Racer
   pub parts : racers ≡ left ++ joined
   pub each : All (λ r. StandsIn r.desk.pass now) joined
   pub passes : AreRacers w left
-
-pub begins : (w : Words) (p : Pass) (racers : List Racer) → IsPassOf w p → AreRacers w racers
-    → IsGathering w p p racers racers
-begins w p racers pass passes = record {
-  pass = pass;
-  own = stands_self p;
-  joined = [];
-  parts = sym (append-nil racers);
-  each = λ k r below. absurd (omega (arith, below));
-  passes = passes;
-}
 
 -- a racer more was joined, the last of those that were left
 pub goes_on : (w : Words) (before now now' : Pass) (racers left left' : List Racer) (r : Racer)
@@ -83,13 +61,9 @@ last_passes w left left' r passes is =
     subst (λ (y : Racer). IsPassOf w y.desk.pass) (get_or-append_seam left' r [] r)
     (subst (AreRacers w) is passes (length left') r below)
 
-nothing_in : {A : Type 0} (xs : List A) → length xs ≡ 0 → xs ≡ []
-nothing_in [] none = refl
-nothing_in (x ∷ xs) none = absurd (omega (arith, none))
-
 -- once none is left, all are joined
 pub all_joined : (w : Words) (before now : Pass) (racers left : List Racer) → IsGathering w before now racers left
     → length left ≡ 0 → All (λ r. StandsIn r.desk.pass now) racers
 all_joined w before now racers left at none =
     subst (All (λ (r : Racer). StandsIn r.desk.pass now))
-    (sym (at.parts ∙ ap (λ (rs : List Racer). rs ++ at.joined) (nothing_in left none))) at.each
+    (sym (at.parts ∙ ap (λ (rs : List Racer). rs ++ at.joined) (nil_from_length left none))) at.each

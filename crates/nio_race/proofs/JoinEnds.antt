@@ -84,13 +84,6 @@ writer_races racers owners at =
     (owner_races (λ (r : Racer). r.ends.sinks.items) racers at.last.owners.writer.0 _ at.last.sink
     (last_sink racers at.earlier at.last at.has_ends))
 
-pub source_there : (racers : List Racer) (owners : Owners) → HaveLast racers owners
-    → sources_at racers owners.reader ≡ [] → ⊥
-source_there racers owners at none =
-    not_empty _ at.last.source
-    (sym (subst (λ (o : Owners). sources_at racers o.reader ≡ []) at.owners_are none)
-    ∙ last_source racers at.earlier at.last at.has_ends)
-
 pub sink_there : (racers : List Racer) (owners : Owners) → HaveLast racers owners
     → sinks_at racers owners.writer ≡ [] → ⊥
 sink_there racers owners at none =

@@ -1,6 +1,7 @@
 -- What lines do to the ends of pipes that their caller owns: nothing, or the one after the other.
-use Rattle.std.proofs.Common.{◌≡◌, ℕ, suc, ◌<◌, ◌++◌, Bool, true, false, ◌||◌, List, [], ◌∷◌, length, map}
+use Rattle.std.proofs.Common.{◌≡◌, ℕ, suc, ◌<◌, ◌++◌, true, false, ◌||◌, List, [], ◌∷◌, length, map}
 use Rattle.std.proofs.Common.{inl, inr, ⊎_elim, arith, refl, sym, ap, ◌∙◌, subst, append_assoc}
+use Rattle.std.proofs.Math.Bool.{or-false, or_assoc}
 use Rattle.std.specs.Prelude.{◌⊎◌, zip}
 use Rattle.std.specs.List.{slice_index_or}
 use Rattle.std.proofs.lemmas.Grind.{flat_map-append}
@@ -30,6 +31,7 @@ use Rattle.nio_steps.specs.PipeCalls.{PipeEnds}
 use Rattle.nio_words.specs.Views.{view}
 use Rattle.nio_words.specs.declared.words.Words.{Words}
 use Rattle.nio_race.proofs.FindLines.{find_append, finds_none, one_finds, one_takes, take_append, takes_none, use_in}
+use Rattle.nio_race.proofs.SetupLines.{leave_seal-append}
 use Rattle.nio_race.specs.Ends.{AreEach, EndsGoOn, HasMadeEnds, SinkGoesOn, SourceGoesOn, ends_of, ends_of_sink}
 use Rattle.nio_race.specs.PipeBytes.{TellsEnd, all_read, all_written, seals_by, seals_in, leave_seal, read_by, read_in}
 use Rattle.nio_race.specs.PipeBytes.{written_by, written_in}
@@ -163,14 +165,6 @@ same_names lines old new on =
 
 -- ---- lines that leave them as they are
 
-pub or-false : (b : Bool) → b ≡ (b || false)
-or-false true = refl
-or-false false = refl
-
-or-assoc : (a b c : Bool) → ((a || b) || c) ≡ (a || (b || c))
-or-assoc true b c = refl
-or-assoc false b c = refl
-
 -- the lines read and write nothing, leave no seal, and leave what is known of the pipes
 pub ends_stay : (lines : List (RaceCall × Reply)) (ends : OwnEnds)
     → ((c : ChanNo) → all_read c lines ≡ []) → ((c : ChanNo) → all_written c lines ≡ [])
@@ -195,15 +189,10 @@ ends_stay lines ends unread unwritten unsealed untold unfound untaken = record {
     sink_stays s = record {
       same = same_sink_self s;
       sent = sym (ap (λ xs. sent s ++ xs) (unwritten (sink_chan s)) ∙ append-nil (sent s));
-      seal = or-false (is_sealed s) ∙ ap (λ b. is_sealed s || b) (sym (unsealed (sink_chan s)));
+      seal = sym (or-false (is_sealed s)) ∙ ap (λ b. is_sealed s || b) (sym (unsealed (sink_chan s)));
       ended = λ _. unwritten (sink_chan s);
       takes = λ room few. (room, (untaken (sink_chan s) room, few));
     }
-
-pub no_lines : (ends : OwnEnds) → EndsGoOn [] ends ends
-no_lines ends =
-    ends_stay [] ends (λ c. refl) (λ c. refl) (λ c. refl) (λ c told. absurd (omega (arith, told.1.1))) (λ c x. refl)
-    (λ c room. refl)
 
 reads-none : (c : ChanNo) (line : RaceCall) (r : Reply) → use_in line ≡ neither → read_in c line r ≡ []
 reads-none c (Script word) r is = ap (λ (u : PipeUse). read_by c u r) is
@@ -236,13 +225,6 @@ neither_stays line r ends is =
     (λ c room. one_takes c line r room room (takes_none c line r room is))
 
 -- ---- lines and one more
-
-pub leave_seal-append : (c : ChanNo) (xs ys : List (RaceCall × Reply))
-    → leave_seal c (xs ++ ys) ≡ (leave_seal c xs || leave_seal c ys)
-leave_seal-append c [] ys = refl
-leave_seal-append c (x ∷ xs) ys =
-    ap (λ b. seals_in c x.0 x.1 || b) (leave_seal-append c xs ys)
-    ∙ sym (or-assoc (seals_in c x.0 x.1) (leave_seal c xs) (leave_seal c ys))
 
 all_read-append : (c : ChanNo) (xs ys : List (RaceCall × Reply))
     → all_read c (xs ++ ys) ≡ all_read c xs ++ all_read c ys
@@ -300,7 +282,7 @@ sink_more xs ys a b c p q =
           q.seal
           ∙ (ap (λ (k : ChanNo). is_sealed b || leave_seal k ys) chan
           ∙ (ap (λ m. m || leave_seal (sink_chan a) ys) p.seal
-          ∙ (or-assoc (is_sealed a) (leave_seal (sink_chan a) xs) (leave_seal (sink_chan a) ys)
+          ∙ (or_assoc (is_sealed a) (leave_seal (sink_chan a) xs) (leave_seal (sink_chan a) ys)
           ∙ ap (λ m. is_sealed a || m) (sym (leave_seal-append (sink_chan a) xs ys)))));
       ended = λ sealed.
           let later : is_sealed b ≡ true = p.seal ∙ ap (λ m. m || leave_seal (sink_chan a) xs) sealed in
@@ -345,7 +327,7 @@ as_many_replies l ends me now last (first ∷ calls) acts replies are =
 
 -- ---- what stands after a line
 
-map-none : {A B : Type 0} (f : A → B) (xs : List A) → map f xs ≡ [] → xs ≡ []
+pub map-none : {A B : Type 0} (f : A → B) (xs : List A) → map f xs ≡ [] → xs ≡ []
 map-none f [] none = refl
 map-none f (x ∷ xs) none = absurd (cc none)
 

@@ -1,7 +1,7 @@
 -- What is known of each caller's racer before its thread and after it, and of the ends of pipes that it has.
 use Rattle.std.proofs.Common.{◌≡◌, ℕ, ◌<◌, ◌≤◌, IsFalse, List, [], length, map, All, sym, ◌∙◌, subst, ⊎_elim}
 use Rattle.std.proofs.lemmas.Bool.{cases_lt}
-use Rattle.std.proofs.lemmas.List.{get_or_past}
+use Rattle.std.proofs.lemmas.List.{get_or_past, length-map}
 use Rattle.std.specs.List.{slice_index_or}
 use Rattle.std.specs.Prelude.{zip}
 use Rattle.nio_base.specs.declared.numbers.CallerNo.{CallerNo}
@@ -13,7 +13,7 @@ use Rattle.nio_race_text.specs.declared.call.RaceCall.{RaceCall}
 use Rattle.nio_race_text.specs.declared.call.RaceLine.{RaceLine}
 use Rattle.nio_serial.specs.Documented.{Progress}
 use Rattle.nio_words.specs.declared.words.Words.{Words}
-use Rattle.nio_race.proofs.PairsLists.{all-at, each-nil, length-map, map-at, standing}
+use Rattle.nio_race.proofs.PairsLists.{all-at, each-nil, map-at, standing}
 use Rattle.nio_race.proofs.PairsRaced.{HaveGoneOn, have_gone_on, same_owners, still_pairs}
 use Rattle.nio_race.specs.Ends.{AreEach, ArePartedAmong, EndsGoOn, HasMet, HaveMet, HaveEnds, PartedPipe, SinkGoesOn}
 use Rattle.nio_race.specs.Ends.{SourceGoesOn, sinks_at, sources_at}
@@ -29,9 +29,9 @@ related-past : {A B C D : Type 0} (R : C → D → Type 0) (f : A → List C) (g
     → AreEach R (slice_index_or (map f xs) n []) (slice_index_or (map g ys) n [])
 related-past {C = C} {D = D} R f g xs ys n past past' =
     subst (λ (cs : List C). AreEach R cs (slice_index_or (map g ys) n []))
-    (sym (get_or_past (map f xs) n [] (subst (λ (k : ℕ). k ≤ n) (sym (length-map f xs)) past)))
+    (sym (get_or_past (map f xs) n [] (subst (λ (k : ℕ). k ≤ n) (sym (length-map xs f)) past)))
     (subst (λ (ds : List D). AreEach R [] ds)
-    (sym (get_or_past (map g ys) n [] (subst (λ (k : ℕ). k ≤ n) (sym (length-map g ys)) past'))) (each-nil R))
+    (sym (get_or_past (map g ys) n [] (subst (λ (k : ℕ). k ≤ n) (sym (length-map ys g)) past'))) (each-nil R))
 
 module _ (w : Words) (race : List RaceLine) (go : List Event) (now : Progress) (count : ℕ) (racers racers' : List Racer)
     (set_off : AreSetOff w go now count racers) (raced : HaveRaced w race racers racers')

@@ -30,10 +30,6 @@ map-at f [] k x d below is = absurd (omega (arith, below))
 map-at f (y ∷ ys) zero x d below is = ap f is
 map-at f (y ∷ ys) (suc k) x d below is = map-at f ys k x d (omega (arith, below)) is
 
-pub length-map : {A B : Type 0} (f : A → B) (xs : List A) → length (map f xs) ≡ length xs
-length-map f [] = refl
-length-map f (x ∷ xs) = ap suc (length-map f xs)
-
 -- ---- two lists, place by place
 
 pub each-nil : {A B : Type 0} (R : A → B → Type 0) → AreEach R [] []

@@ -9,6 +9,7 @@ use Rattle.nio_base.specs.declared.numbers.CallerNo.{CallerNo}
 use Rattle.nio_base.specs.declared.numbers.ChanNo.{ChanNo}
 use Rattle.nio_pipe.specs.Ends.{AreEnds, sink_chan, source_chan}
 use Rattle.nio_plain.specs.ScriptState.{Pipe}
+use Rattle.nio_steps.proofs.Lists.{pairs-head, pairs-none, pairs-tail}
 use Rattle.nio_steps.specs.PipeCalls.{PipeEnds}
 use Rattle.nio_race.specs.Ends.{AreEach, IsPartedAs, PartedPipe, ends_of_sink}
 use Rattle.nio_race.specs.Piping.{ends_of_pipe}
@@ -45,12 +46,6 @@ pairs_cons R x xs first later zero (suc j) d before below = first j d (omega (ar
 pairs_cons R x xs first later (suc i) (suc j) d before below =
     later i j d (omega (arith, before)) (omega (arith, below))
 
-pairs_first : {X : Type 0} (R : X → X → Type 0) (x : X) (xs : List X) → AllPairs R (x ∷ xs) → All (R x) xs
-pairs_first R x xs all k d below = all 0 (suc k) d (omega arith) (omega (arith, below))
-
-pairs_later : {X : Type 0} (R : X → X → Type 0) (x : X) (xs : List X) → AllPairs R (x ∷ xs) → AllPairs R xs
-pairs_later R x xs all i j d before below = all (suc i) (suc j) d (omega (arith, before)) (omega (arith, below))
-
 filter_one : {X : Type 0} (R : X → X → Type 0) (x : X) (kept : List X) (b : Bool) → All (R x) kept
     → AllPairs R kept → AllPairs R (if b then x ∷ kept else kept)
 filter_one R x kept true first later = pairs_cons R x kept first later
@@ -60,18 +55,15 @@ pub pairs_filter : {X : Type 0} (R : X → X → Type 0) (test : X → Bool) (xs
     → AllPairs R (filter test xs)
 pairs_filter R test [] all = all
 pairs_filter R test (x ∷ xs) all =
-    filter_one R x (filter test xs) (test x) (All-filter test (R x) xs (pairs_first R x xs all))
-    (pairs_filter R test xs (pairs_later R x xs all))
-
-pairs_none : {X : Type 0} (R : X → X → Type 0) → AllPairs R []
-pairs_none R i j d before below = absurd (omega (arith, below))
+    filter_one R x (filter test xs) (test x) (All-filter test (R x) xs (pairs-head R x xs all))
+    (pairs_filter R test xs (pairs-tail R x xs all))
 
 pub pairs_map : {X Y : Type 0} (R : Y → Y → Type 0) (f : X → Y) (xs : List X) → AllPairs (λ a b. R (f a) (f b)) xs
     → AllPairs R (map f xs)
-pairs_map R f [] all = pairs_none R
+pairs_map R f [] all = pairs-none R
 pairs_map {X = X} R f (x ∷ xs) all =
-    pairs_cons R (f x) (map f xs) (All-map (R (f x)) f xs (pairs_first (λ (a b : X). R (f a) (f b)) x xs all))
-    (pairs_map R f xs (pairs_later (λ (a b : X). R (f a) (f b)) x xs all))
+    pairs_cons R (f x) (map f xs) (All-map (R (f x)) f xs (pairs-head (λ (a b : X). R (f a) (f b)) x xs all))
+    (pairs_map R f xs (pairs-tail (λ (a b : X). R (f a) (f b)) x xs all))
 
 -- ---- which ends are kept
 

@@ -1,5 +1,5 @@
 -- What `go` leaves, once the racers have their ends of pipes.
-use Rattle.std.proofs.Common.{◌≡◌, ◌≢◌, ℕ, ◌<◌, ◌==◌, List, [], ◌∷◌, length, All, get_or, map, refl}
+use Rattle.std.proofs.Common.{◌≡◌, ◌≢◌, ℕ, ◌<◌, ◌==◌, List, length, All, get_or, map}
 use Rattle.std.proofs.Common.{sym, ap, ◌∙◌, subst}
 use Rattle.std.specs.Prelude.{AllPairs, filter}
 use Rattle.std.specs.List.{AllZip}
@@ -23,6 +23,7 @@ use Rattle.nio_words.specs.Passes.{IsPassOf, limits_of, seen}
 use Rattle.nio_words.specs.Views.{view}
 use Rattle.nio_words.specs.declared.words.Words.{Words}
 use Rattle.nio_race.proofs.HaveEach.{had_by}
+use Rattle.nio_race.proofs.LineEnds.{map-none}
 use Rattle.nio_race.proofs.PartKept.{all_of_map, each_to_zip, pairs_filter, pairs_map, pairs_of_map, sinks_kept}
 use Rattle.nio_race.proofs.PartKept.{sources_kept, zip_whole}
 use Rattle.nio_race.specs.Ends.{ArePipes, AreSameButEnds, HasMadeEnds, HasNoEnds, HasRacers, HaveParted, HaveEnds}
@@ -114,10 +115,6 @@ module _ (n : CallerNo) (ends : OwnEnds) (pipes : List Pipe) (parted : List Part
 
 -- ---- once they are parted
 
-nothing_mapped : {X Y : Type 0} (f : X → Y) (xs : List X) → map f xs ≡ [] → xs ≡ []
-nothing_mapped f [] is = refl
-nothing_mapped f (x ∷ xs) is = absurd cc
-
 set_off_with : (w : Words) (go : List Event) (now : Progress) (k : ℕ) (r : Racer) (ends : OwnEnds)
     → IsSetOffWithout w go now k r → HasMadeEnds w r.desk ends
     → ends_of ends ≡ own_ends (record { 0 = k }) now.pipes → IsSetOffAt w go now k (record r { ends = ends })
@@ -127,7 +124,7 @@ set_off_with w go now k r ends at made are = record {
     stands = record {
       stands = at.stands;
       made_ends = made;
-      pipeless = nothing_mapped pipe_of r.desk.pipes.items (ap (λ (p : Progress). p.pipes) at.progress);
+      pipeless = map-none pipe_of r.desk.pipes.items (ap (λ (p : Progress). p.pipes) at.progress);
     };
     unanswered = at.unanswered;
     in_memory = at.in_memory;
@@ -169,9 +166,9 @@ all_set_off_with w d racers racers' owners stands are set_off same parted = reco
 }
 
 -- their passes are as they were
-pub parted_racers : (w : Words) (racers racers' : List Racer) → AreSameButEnds racers racers' → AreRacers w racers
+pub passes_stay : (w : Words) (racers racers' : List Racer) → AreSameButEnds racers racers' → AreRacers w racers
     → AreRacers w racers'
-parted_racers w racers racers' same are k d below =
+passes_stay w racers racers' same are k d below =
     let first : k < length racers = subst (λ (m : ℕ). k < m) same.count below in
     let r : Racer = get_or racers k d in
     let r' : Racer = get_or racers' k d in

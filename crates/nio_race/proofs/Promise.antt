@@ -4,7 +4,7 @@ use Rattle.std.proofs.Common.{◌∷◌, ◌++◌, map, All, refl, sym, ap, ◌�
 use Rattle.std.proofs.Math.Logic.{∥∥₁_map, ∥∥₁_map₂}
 use Rattle.std.proofs.lemmas.Bool.{cases_lt}
 use Rattle.std.proofs.lemmas.Grind.{merely}
-use Rattle.std.proofs.lemmas.List.{get_or_past}
+use Rattle.std.proofs.lemmas.List.{get_or_past, length-map}
 use Rattle.std.specs.Prelude.{filter}
 use mathlib.Core.List.{IsPrefix}
 use Rattle.nio_base.specs.Limits.{IsFit}
@@ -30,7 +30,7 @@ use Rattle.nio_words.specs.declared.words.Pass.{Pass}
 use Rattle.nio_words.specs.declared.words.Words.{Words}
 use Rattle.nio_race.proofs.BytesKept.{find_in_pipes, keep_pipes}
 use Rattle.nio_race.proofs.PairsKnown.{Known, all_met, known, pairs_after}
-use Rattle.nio_race.proofs.PairsLists.{all-at, length-map}
+use Rattle.nio_race.proofs.PairsLists.{all-at}
 use Rattle.nio_race.specs.Ends.{HaveMet, HaveParted, ends_of}
 use Rattle.nio_race.specs.Gathering.{StandsIn}
 use Rattle.nio_race.specs.Piping.{OwnedEnds, own_ends}
@@ -189,7 +189,7 @@ module _ (w : Words) (setup : List ScriptCall) (race : List RaceLine) (d : Desk)
         strangers =
             λ n past. get_or_past (map (λ (r : Racer). r.replies.items) racers') n.0 (strange_replies (calls_by n race))
             (subst (λ (k : ℕ). k ≤ n.0)
-            (sym (length-map (λ (r : Racer). r.replies.items) racers' ∙ raced.count ∙ set_off.count_is)) past);
+            (sym (length-map racers' (λ (r : Racer). r.replies.items) ∙ raced.count ∙ set_off.count_is)) past);
         bytes = bytes;
         finds = finds;
         legal = pass.legal;

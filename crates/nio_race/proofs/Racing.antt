@@ -16,11 +16,11 @@ use Rattle.nio_serial.specs.Documented.{Progress}
 use Rattle.nio_serial.specs.Lines.{Said}
 use Rattle.nio_sole.specs.Stands.{progress_of}
 use Rattle.nio_sole.specs.declared.desk.Desk.{Desk}
-use Rattle.nio_words.proofs.Beginnings.{prefix_self, prefix_trans}
+use Rattle.nio_words.proofs.Beginnings.{prefix_trans}
 use Rattle.nio_words.specs.Passes.{acts_seen, limits_of, seen}
 use Rattle.nio_words.specs.Views.{view}
 use Rattle.nio_words.specs.declared.words.Words.{Words}
-use Rattle.nio_race.proofs.LineEnds.{as_many_replies, ends_more, no_lines, same_names, zip_more}
+use Rattle.nio_race.proofs.LineEnds.{as_many_replies, ends_more, same_names, zip_more}
 use Rattle.nio_race.specs.Ends.{EndsGoOn, ends_of}
 use Rattle.nio_race.specs.Piping.{OwnedEnds}
 use Rattle.nio_race.specs.Race.{calls_by}
@@ -83,19 +83,6 @@ pub record IsRacing (w : Words) (race : List RaceLine) (me : CallerNo) (first d 
   pub made : MadeLines w race me first d ends ends' replies
   pub stands : StandsWith w d ends' me
   pub later : IsPrefix (seen first.pass) (seen d.pass)
-
-pub begins : (w : Words) (me : CallerNo) (d : Desk) (ends : OwnEnds) (replies : List Reply) → StandsWith w d ends me
-    → replies ≡ [] → IsRacing w [] me d d ends ends replies
-begins w me d ends replies stands none = record {
-  made = record {
-    acts = [];
-    grew = sym (append-nil (acts_seen d.pass me));
-    lines = (refl, none, refl);
-    went_on = no_lines ends;
-  };
-  stands = stands;
-  later = prefix_self (seen d.pass);
-}
 
 -- a line of another caller
 pub passes_by : (w : Words) (race : List RaceLine) (line : RaceLine) (me : CallerNo) (first d : Desk)

@@ -1,5 +1,5 @@
 -- A line that is made again while its channel is held.
-use Rattle.std.proofs.Common.{◌≡◌, true, false, [], refl, subst}
+use Rattle.std.proofs.Common.{◌≡◌, true, false, subst}
 use Rattle.nio_base.specs.declared.numbers.CallerNo.{CallerNo}
 use Rattle.nio_event.specs.declared.call.Call.{Call}
 use Rattle.nio_event.specs.declared.reply.Reply.{Reply}
@@ -7,17 +7,14 @@ use Rattle.nio_serial.specs.Documented.{Progress}
 use Rattle.nio_serial.specs.Lines.{line_plan}
 use Rattle.nio_sole.specs.Stands.{progress_of}
 use Rattle.nio_sole.specs.declared.desk.Desk.{Desk}
-use Rattle.nio_event.proofs.PassViews.{acts_nothing}
-use Rattle.nio_steps.proofs.CallLaws.{call_of_acts}
-use Rattle.nio_steps.proofs.WaitingLaws.{TryingClause, tries_none, try_more, try_last}
-use Rattle.nio_steps.specs.Waiting.{Tries}
+use Rattle.nio_steps.proofs.WaitingLaws.{TryingClause, try_more, try_last}
 use Rattle.nio_steps.specs.Calls.{CallClause}
 use Rattle.nio_steps.specs.Runs.{Completes}
 use Rattle.nio_words.specs.Passes.{limits_of, seen}
 use Rattle.nio_words.specs.Views.{view}
 use Rattle.nio_words.specs.declared.words.Words.{Words}
 use mathlib.Core.List.{IsPrefix}
-use Rattle.nio_words.proofs.Beginnings.{prefix_self, prefix_trans}
+use Rattle.nio_words.proofs.Beginnings.{prefix_trans}
 use Rattle.nio_race.proofs.Waiting.{line_stays}
 use Rattle.nio_race.specs.Racers.{MakesAsScript, MakesOnce, StandsFor}
 use Rattle.nio_race.specs.Runs.{is_made_again, waits_for_hold}
@@ -29,17 +26,6 @@ pub record IsTrying (w : Words) (first d : Desk) (me : CallerNo) (word : Call) :
   pub same : progress_of d ≡ progress_of first
   pub tries : TryingClause me (λ (_ : Unit {0}). Completes (line_plan (limits_of w) (progress_of first) me word))
       (λ _. is_made_again word) (view w first.pass) (view w d.pass)
-
-pub begins : (w : Words) (d : Desk) (me : CallerNo) (word : Call) → StandsFor w d me → IsTrying w d d me word
-begins w d me word stands = record {
-  stands = stands;
-  later = prefix_self (seen d.pass);
-  same = refl;
-  tries =
-      let shape = λ (_ : Unit {0}). Completes (line_plan (limits_of w) (progress_of d) me word) in
-      call_of_acts (λ acts (_ : Unit {0}). Tries shape (λ _. is_made_again word) acts) [] tt
-      (acts_nothing me (view w d.pass) stands.ready.pass.legal) (tries_none shape (λ _. is_made_again word));
-}
 
 module _ (w : Words) (first d d' : Desk) (me : CallerNo) (word : Call) (r : Reply) (at : IsTrying w first d me word)
     (once : MakesOnce w d d' me word r) where

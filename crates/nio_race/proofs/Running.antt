@@ -1,10 +1,9 @@
 -- What a race leaves behind, from what its parts do.
-use Rattle.std.proofs.Common.{◌≡◌, ℕ, ◌<◌, List, [], ◌++◌, All, IsFalse, Result, Ok, Err, IfOk, sym, ap, ◌∙◌, subst}
+use Rattle.std.proofs.Common.{◌≡◌, ℕ, ◌<◌, List, [], ◌++◌, All, IsFalse, Result, Ok, Err, IfOk, ap, ◌∙◌, subst}
 use Rattle.std.proofs.lemmas.List.Elements.{All-cons, All-nil, All-weaker}
 use Rattle.std.specs.List.{slice_index_or}
 use Rattle.nio_base.specs.declared.numbers.CallerNo.{CallerNo}
 use Rattle.nio_event.specs.declared.call.ScriptCall.{ScriptCall}
-use Rattle.nio_event.specs.declared.event.Event.{Event}
 use Rattle.nio_event.specs.declared.reply.Reply.{Reply}
 use Rattle.nio_plain.specs.Answer.{answer_to}
 use Rattle.nio_plain.specs.declared.rules.Rules.TheVariants.{Now}
@@ -13,19 +12,18 @@ use Rattle.nio_race_text.specs.RaceLines.{script_line}
 use Rattle.nio_race_text.specs.RaceText.{AreRaceText, setup_alone, with_go}
 use Rattle.nio_race_text.specs.declared.call.RaceCall.{RaceCall}
 use Rattle.nio_race_text.specs.declared.call.RaceLine.{RaceLine}
-use Rattle.nio_serial.specs.Documented.{Progress}
 use Rattle.nio_sole.specs.Stands.{progress_of}
 use Rattle.nio_sole.specs.declared.desk.Desk.{Desk}
 use Rattle.nio_words.specs.Passes.{IsPassOf, limits_of, seen}
 use Rattle.nio_words.specs.declared.words.Pass.{Pass}
 use Rattle.nio_words.specs.declared.words.Words.{Words}
 use Rattle.nio_race.proofs.Gathering.{stands_on}
-use Rattle.nio_race.proofs.PairsLists.{at_itself, each-all, each-back, each-same, standing}
+use Rattle.nio_race.proofs.PairsLists.{at_itself, each-back, each-same, standing}
 use Rattle.nio_race.proofs.Promise.{is_race, ready_each}
 use Rattle.nio_race.specs.Ends.{AreSameButEnds, HaveMet, HaveParted}
 use Rattle.nio_race.specs.Gathering.{StandsIn}
 use Rattle.nio_race.specs.Race.{callers_text, calls_by, strange_replies}
-use Rattle.nio_race.specs.Racers.{HaveRaced, IsSetOff, replies_by}
+use Rattle.nio_race.specs.Racers.{HaveRaced, replies_by}
 use Rattle.nio_race.specs.Running.{HaveRun, RunsTo}
 use Rattle.nio_race.specs.Runs.{MayRaceLine, MayRaceLines}
 use Rattle.nio_race.specs.SetOff.{AreRacers, AreSetOff}
@@ -53,13 +51,6 @@ may_race_text (with_go calls lines) = may_race_lines lines
 
 -- ---- the racers
 
--- each racer that was set off has made no line
-pub all_set_off : (w : Words) (go : List Event) (now : Progress) (count : ℕ) (racers : List Racer)
-    → AreSetOff w go now count racers → All (IsSetOff w) racers
-all_set_off w go now count racers set_off k d below =
-    (set_off.each k (slice_index_or racers k d) (subst (λ (m : ℕ). k < m) set_off.count_is below)
-    (at_itself racers k d below)).set_off
-
 -- the racers' passes are still of the table once they have raced
 pub still_racers : (w : Words) (race : List RaceLine) (before after : List Racer) → HaveRaced w race before after
     → AreRacers w after
@@ -70,14 +61,6 @@ still_racers w race before after raced k d below =
 
 abbrev IsSameButEnds : Racer → Racer → Type 0
 IsSameButEnds r r' = r' ≡ record r { ends = r'.ends }
-
--- and once the ends of the pipes met
-pub still_racers_met : (w : Words) (raced racers : List Racer) → AreSameButEnds raced racers → AreRacers w raced
-    → AreRacers w racers
-still_racers_met w raced racers same passes =
-    each-all IsSameButEnds (λ (r : Racer). IsPassOf w r.desk.pass)
-    (λ (r : Racer). IsPassOf w r.desk.pass) raced racers
-    (λ r r' pass is. subst (λ (x : Racer). IsPassOf w x.desk.pass) (sym is) pass) same passes
 
 -- the racers' replies stay where the ends of the pipes meet
 same_replies : (race : List RaceLine) (raced racers : List Racer) → AreSameButEnds raced racers

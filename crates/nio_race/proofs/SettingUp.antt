@@ -11,7 +11,7 @@ use Rattle.nio_event.specs.declared.act.Act.TheVariants.{DrawBit}
 use Rattle.nio_event.specs.declared.call.ScriptCall.{ScriptCall}
 use Rattle.nio_event.specs.declared.event.Event.{Event}
 use Rattle.nio_plain.specs.Answer.{answer_from, answer_to}
-use Rattle.nio_plain.specs.ScriptState.{ScriptState, script_opening}
+use Rattle.nio_plain.specs.ScriptState.{ScriptState}
 use Rattle.nio_plain.specs.Seq.{seq}
 use Rattle.nio_plain.specs.declared.rules.Rules.TheVariants.{Now}
 use Rattle.nio_serial.specs.Documented.{Progress, nothing_yet}
@@ -119,13 +119,6 @@ pub record IsSettingUp (w : Words) (d : Desk) (setup : List ScriptCall) (index :
   pub set_up : HasSetUp w d (take index setup)
   pub text : now ++ answer_from Now (limits_of w) (state_at d) (index + 1) (drop index setup) ≡ before
       ++ answer_to Now (limits_of w) setup
-
-pub begins : (w : Words) (d : Desk) (setup : List ScriptCall) (before : List ℕ) → HasSetUp w d []
-    → state_at d ≡ script_opening → IsSettingUp w d setup 0 before before
-begins w d setup before set_up opening = record {
-  set_up = set_up;
-  text = ap (λ (st : ScriptState). before ++ answer_from Now (limits_of w) st 1 setup) opening;
-}
 
 pub goes_on : (w : Words) (d d' : Desk) (setup : List ScriptCall) (index : ℕ) (before now now' : List ℕ)
     (c : ScriptCall)

@@ -34,12 +34,13 @@ use Rattle.nio_plain.specs.Seq.Pipes.{sealing, no_pipe, own_sink, own_source, ow
 use Rattle.nio_plain.specs.Seq.Piping.{finds_interrupt, pipe_call, pread_call, pwrite_call, read_first}
 use Rattle.nio_plain.specs.Seq.Piping.{read_from, room_for, with_sink, with_source, write_first, write_to}
 use Rattle.nio_plain.specs.declared.rules.Rules.TheVariants.{Now}
+use Rattle.nio_race.proofs.EndLists.{none_passes}
 use Rattle.nio_race.proofs.SetupKept.{AllStay, AreKept, Stays, beside-more}
 use Rattle.nio_race.proofs.SetupKept.{pipe-behind, place-more, silent-more}
 use Rattle.nio_race.proofs.SetupLines.{end_of}
 use Rattle.nio_race.proofs.SetupSilent.{IsQuiet, broken-pipe, close-beside, close-elsewhere, close-ends}
 use Rattle.nio_race.proofs.SetupSilent.{line, neither-silent, no-caller, no-channel, not-now, not-owner, number-none}
-use Rattle.nio_race.proofs.SetupSilent.{of-same, own-sink-is, position-none, quiet-silent, read-beside, read-elsewhere}
+use Rattle.nio_race.proofs.SetupSilent.{of-same, own-sink-is, quiet-silent, read-beside, read-elsewhere}
 use Rattle.nio_race.proofs.SetupSilent.{read-own, read-silent, write-beside, write-elsewhere, write-ends, write-own}
 use Rattle.nio_race.specs.PipeBytes.{bytes_of, number_of, says_closed}
 use Rattle.nio_race.specs.Piping.{neither, use_of}
@@ -438,7 +439,7 @@ module _ (l : Limits) (log : List (ScriptCall × Reply)) (st : ScriptState) (kep
       → Goes me (call.Closec c) (sealing place a)
   closes-there me c a made stay closed same says None e =
       beside-more l log (line me (call.Closec c) a.reply) st a.left kept stay same
-      (λ k h. close-beside me c a.reply (pipe_at st.pipes k) (position-none (owns_sink me c) st.pipes k no_pipe e h))
+      (λ k h. close-beside me c a.reply (pipe_at st.pipes k) (none_passes (owns_sink me c) st.pipes e k no_pipe h))
       (λ k unmade. close-elsewhere me c a.reply k (elsewhere c a.left.shared.chan made stay k unmade))
   closes-there me c a made stay closed same says (Some i) e =
       let found = position-Some (owns_sink me c) st.pipes i no_pipe e in

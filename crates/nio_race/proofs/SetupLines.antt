@@ -1,6 +1,6 @@
 -- What a caller's lines of the setup say of a channel, and what one line more adds to that.
 use Rattle.std.proofs.Common.{◌≡◌, ℕ, ◌==◌, Bool, true, false, cond, ◌||◌, ◌⊎◌, ⊎_elim, inl, inr, List, [], ◌∷◌, ◌++◌}
-use Rattle.std.proofs.Common.{map, filter, flat_map, Contains, refl, sym, ap, ◌∙◌, subst, arith}
+use Rattle.std.proofs.Common.{map, filter, flat_map, Contains, refl, sym, ap, ◌∙◌, subst}
 use Rattle.std.proofs.Math.Bool.{or-false, or_assoc}
 use Rattle.std.proofs.lemmas.Grind.{flat_map-append}
 use Rattle.std.proofs.lemmas.List.{append-nil, map-append}
@@ -16,6 +16,7 @@ use Rattle.nio_race_text.specs.declared.call.RaceCall.TheVariants.{Script}
 use Rattle.nio_race.specs.PipeBytes.{TellsEnd, all_read, all_written, seals_by, seals_in, leave_seal, read_by, read_in}
 use Rattle.nio_race.specs.PipeBytes.{written_by, written_in}
 use Rattle.nio_race.specs.Piping.{use_of}
+use Rattle.nio_steps.proofs.Lists.{contains-none}
 
 pub of-none : {A : Type 0} (b : Bool) (x none : A) → x ≡ none → cond b x none ≡ none
 of-none true x none e = e
@@ -93,11 +94,11 @@ pub written-more : (n : CallerNo) (c : ChanNo) (log : List (ScriptCall × Reply)
     → all_written c (lines_of n (log ++ x ∷ [])) ≡ all_written c (lines_of n log) ++ written_of n c x
 written-more n c log x = gathered-more (λ y. written_in c y.0 y.1) n log x
 
-leave-append : (c : ChanNo) (xs ys : List (RaceCall × Reply))
+pub leave_seal-append : (c : ChanNo) (xs ys : List (RaceCall × Reply))
     → leave_seal c (xs ++ ys) ≡ (leave_seal c xs || leave_seal c ys)
-leave-append c [] ys = refl
-leave-append c (x ∷ xs) ys =
-    ap (λ (b : Bool). seals_in c x.0 x.1 || b) (leave-append c xs ys)
+leave_seal-append c [] ys = refl
+leave_seal-append c (x ∷ xs) ys =
+    ap (λ (b : Bool). seals_in c x.0 x.1 || b) (leave_seal-append c xs ys)
     ∙ sym (or_assoc (seals_in c x.0 x.1) (leave_seal c xs) (leave_seal c ys))
 
 end-of-one : (c : ChanNo) (b : Bool) (x : RaceCall × Reply)
@@ -109,16 +110,13 @@ pub end-more : (n : CallerNo) (c : ChanNo) (log : List (ScriptCall × Reply)) (x
     → leave_seal c (lines_of n (log ++ x ∷ [])) ≡ (leave_seal c (lines_of n log) || end_of n c x)
 end-more n c log x =
     ap (leave_seal c) (lines-more n log x)
-    ∙ (leave-append c (lines_of n log) (one_of n x)
+    ∙ (leave_seal-append c (lines_of n log) (one_of n x)
     ∙ ap (λ (b : Bool). leave_seal c (lines_of n log) || b) (end-of-one c (is_by n x) (line_of x)))
-
-in-none : {X : Type 0} (x : X) → Contains [] x → ⊥
-in-none x h = omega arith
 
 is-one : (n : CallerNo) (c : ChanNo) (k : ℕ) (x : ScriptCall × Reply) (b : Bool) → is_by n x ≡ b
     → Contains (cond b (line_of x ∷ []) []) (Script (call.Pread c k), reply.End) → EndsRead n c x
 is-one n c k x true by h =
-    ⊎_elim (λ none. absurd (in-none _ none))
+    ⊎_elim (λ none. absurd (contains-none _ none))
     (λ (same : line_of x ≡ (Script (call.Pread c k), reply.End)).
     let word : ◌≡◌ {A = RaceCall} (Script x.0.call) (Script (call.Pread c k)) =
     ap (λ (y : RaceCall × Reply). y.0) same in
@@ -127,7 +125,7 @@ is-one n c k x true by h =
       reads = record { limit = k; call = cc word; reply = ap (λ (y : RaceCall × Reply). y.1) same };
     })
     (Contains-push_cases [] (line_of x) (Script (call.Pread c k), reply.End) h)
-is-one n c k x false by h = absurd (in-none _ h)
+is-one n c k x false by h = absurd (contains-none _ h)
 
 -- a read that told the end is among the earlier lines, or is the last
 pub tells-more : (n : CallerNo) (c : ChanNo) (log : List (ScriptCall × Reply)) (x : ScriptCall × Reply)

@@ -1,11 +1,9 @@
 -- What lines say of channels and of pipes: which say nothing, and what those of an owner say.
-use Rattle.std.proofs.Common.{◌≡◌, ℕ, ◌<◌, ◌≤◌, ◌==◌, nat_lt, Bool, true, false, cond, ◌&&◌, ⊎_elim, Some}
-use Rattle.std.proofs.Common.{None, List, [], length, get_or, take, position, refl, ap, sym, ◌∙◌}
-use Rattle.std.proofs.Common.{arith, eq-eqb, eqb-true}
-use Rattle.std.specs.List.{position_or_len}
-use Rattle.std.proofs.lemmas.Bool.{and_from, and_left, and_parts, and_right, both_ways, cases_lt, cond-true}
-use Rattle.std.proofs.lemmas.Bool.{false_from_ne_true, lt-ltb}
-use Rattle.std.proofs.lemmas.List.Sums.{fails_before_first}
+use Rattle.std.proofs.Common.{◌≡◌, ℕ, ◌==◌, Bool, true, false, cond, ◌&&◌}
+use Rattle.std.proofs.Common.{List, [], take, refl, ap, sym, ◌∙◌}
+use Rattle.std.proofs.Common.{eq-eqb, eqb-true}
+use Rattle.std.proofs.lemmas.Bool.{and_from, and_left, and_parts, and_right, both_ways, cond-true}
+use Rattle.std.proofs.lemmas.Bool.{false_from_ne_true, cond-false, cond-true}
 use Rattle.nio_base.specs.declared.numbers.CallerNo.{CallerNo}
 use Rattle.nio_base.specs.declared.numbers.ChanNo.{ChanNo}
 use Rattle.nio_event.specs.declared.call.Call.{Call}
@@ -27,12 +25,6 @@ line me word r = (record { caller = me; call = word }, r)
 pub of-same : {A : Type 0} (b : Bool) (x : A) → cond b x x ≡ x
 of-same true x = refl
 of-same false x = refl
-
-of-true : {A : Type 0} (b : Bool) (x none : A) → b ≡ true → cond b x none ≡ x
-of-true b x none e = ap (λ (t : Bool). cond t x none) e
-
-of-false : {A : Type 0} (b : Bool) (x none : A) → b ≡ false → cond b x none ≡ none
-of-false b x none e = ap (λ (t : Bool). cond t x none) e
 
 -- ---- lines that are on no pipe, and quiet replies
 
@@ -118,7 +110,7 @@ read-silent me c n r none no_end k = record {
 pub read-elsewhere : (me : CallerNo) (c : ChanNo) (n : ℕ) (r : Reply) (k : ChanNo) → (c.0 == k.0) ≡ false
     → IsSilent k (line me (call.Pread c n) r)
 read-elsewhere me c n r k other = record {
-  read = of-false (c.0 == k.0) (bytes_of r) [] other;
+  read = cond-false (c.0 == k.0) (bytes_of r) [] other;
   written = refl;
   end = refl;
   untold = λ (ends : ReadsEnd k (line me (call.Pread c n) r)).
@@ -151,7 +143,7 @@ read-beside me c n r p other = record {
     by_reader : (b : Bool) → (me.0 == p.reader.0) ≡ b
         → cond {A = List ℕ} b (cond (c.0 == p.source.0) (bytes_of r) []) [] ≡ []
     by_reader true e =
-        of-false (c.0 == p.source.0) (bytes_of r) []
+        cond-false (c.0 == p.source.0) (bytes_of r) []
         (false_from_ne_true (c.0 == p.source.0) (λ at. both_ways (owns_source me c p) other (source-owned me c p e at)))
     by_reader false e = refl
 
@@ -160,9 +152,9 @@ pub read-own : (me : CallerNo) (c : ChanNo) (n : ℕ) (r : Reply) (p : Pipe) →
     → read_of p.reader p.source (line me (call.Pread c n) r) ≡ bytes_of r
 read-own me c n r p own =
     let both = and_parts (p.source.0 == c.0) (p.reader.0 == me.0) own in
-    of-true (me.0 == p.reader.0) (cond (c.0 == p.source.0) (bytes_of r) []) []
+    cond-true (me.0 == p.reader.0) (cond (c.0 == p.source.0) (bytes_of r) []) []
     (eq-eqb me.0 p.reader.0 (sym (eqb-true p.reader.0 me.0 both.1)))
-    ∙ of-true (c.0 == p.source.0) (bytes_of r) [] (eq-eqb c.0 p.source.0 (sym (eqb-true p.source.0 c.0 both.0)))
+    ∙ cond-true (c.0 == p.source.0) (bytes_of r) [] (eq-eqb c.0 p.source.0 (sym (eqb-true p.source.0 c.0 both.0)))
 
 -- ---- writes and closings
 
@@ -185,7 +177,7 @@ pub write-elsewhere : (me : CallerNo) (c : ChanNo) (bytes : List ℕ) (r : Reply
     → IsSilent k (line me (call.Pwrite c bytes) r)
 write-elsewhere me c bytes r k other = record {
   read = refl;
-  written = of-false (c.0 == k.0) (take (number_of r) bytes) [] other;
+  written = cond-false (c.0 == k.0) (take (number_of r) bytes) [] other;
   end = and_left (c.0 == k.0) (says_closed r) other;
   untold = λ (ends : ReadsEnd k (line me (call.Pwrite c bytes) r)). let it = ends.call in absurd (cc it);
 }
@@ -205,7 +197,7 @@ write-beside me c bytes r p other = record {
 
     by_writer : (b : Bool) → (me.0 == p.writer.0) ≡ b
         → cond {A = List ℕ} b (cond (c.0 == p.sink.0) (take (number_of r) bytes) []) [] ≡ []
-    by_writer true e = of-false (c.0 == p.sink.0) (take (number_of r) bytes) [] (elsewhere e)
+    by_writer true e = cond-false (c.0 == p.sink.0) (take (number_of r) bytes) [] (elsewhere e)
     by_writer false e = refl
 
     by_end : (b : Bool) → (me.0 == p.writer.0) ≡ b → cond b ((c.0 == p.sink.0) && says_closed r) false ≡ false
@@ -217,14 +209,14 @@ pub write-own : (me : CallerNo) (c : ChanNo) (bytes : List ℕ) (r : Reply) (p :
     → written_of p.writer p.sink (line me (call.Pwrite c bytes) r) ≡ take (number_of r) bytes
 write-own me c bytes r p own =
     let is = own-sink-is me c p own in
-    of-true (me.0 == p.writer.0) (cond (c.0 == p.sink.0) (take (number_of r) bytes) []) [] is.0
-    ∙ of-true (c.0 == p.sink.0) (take (number_of r) bytes) [] is.1
+    cond-true (me.0 == p.writer.0) (cond (c.0 == p.sink.0) (take (number_of r) bytes) []) [] is.0
+    ∙ cond-true (c.0 == p.sink.0) (take (number_of r) bytes) [] is.1
 
 pub write-ends : (me : CallerNo) (c : ChanNo) (bytes : List ℕ) (r : Reply) (p : Pipe) → owns_sink me c p ≡ true
     → end_of p.writer p.sink (line me (call.Pwrite c bytes) r) ≡ says_closed r
 write-ends me c bytes r p own =
     let is = own-sink-is me c p own in
-    of-true (me.0 == p.writer.0) ((c.0 == p.sink.0) && says_closed r) false is.0
+    cond-true (me.0 == p.writer.0) ((c.0 == p.sink.0) && says_closed r) false is.0
     ∙ ap (λ (b : Bool). b && says_closed r) is.1
 
 pub close-elsewhere : (me : CallerNo) (c : ChanNo) (r : Reply) (k : ChanNo) → (c.0 == k.0) ≡ false
@@ -255,19 +247,7 @@ pub close-ends : (me : CallerNo) (c : ChanNo) (r : Reply) (p : Pipe) → owns_si
     → end_of p.writer p.sink (line me (call.Closec c) r) ≡ says_closed r
 close-ends me c r p own =
     let is = own-sink-is me c p own in
-    of-true (me.0 == p.writer.0) ((c.0 == p.sink.0) && says_closed r) false is.0
+    cond-true (me.0 == p.writer.0) ((c.0 == p.sink.0) && says_closed r) false is.0
     ∙ ap (λ (b : Bool). b && says_closed r) is.1
 
 -- ---- places
-
--- where no place is found, no element passes
-pub position-none : {X : Type 0} (p : X → Bool) (xs : List X) (k : ℕ) (d : X) → position p xs ≡ None → k < length xs
-    → p (get_or xs k d) ≡ false
-position-none p xs k d e within =
-    ⊎_elim
-    (λ (found : position_or_len p xs < length xs).
-    let is = cond-true (nat_lt (position_or_len p xs) (length xs)) (Some (position_or_len p xs)) None
-    (lt-ltb (position_or_len p xs) (length xs) found) in
-    absurd (cc (is, e)))
-    (λ (past : length xs ≤ position_or_len p xs). fails_before_first p xs k d (omega arith))
-    (cases_lt (position_or_len p xs) (length xs))

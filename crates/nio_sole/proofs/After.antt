@@ -1,18 +1,17 @@
 -- What a line leaves between two lines.
-use Rattle.std.proofs.Common.{◌≡◌, ℕ, ◌<◌, ◌≤◌, nat_lt, Bool, true, false, if◌then◌else◌, Option, List, [], Result, Ok}
-use Rattle.std.proofs.Common.{Err, refl, sym, ap, ◌∙◌, subst, eqb-true, eq-eqb}
+use Rattle.std.proofs.Common.{◌≡◌, ℕ, ◌<◌, ◌≤◌, nat_lt, Bool, true, false, if◌then◌else◌, [], Result, Ok}
+use Rattle.std.proofs.Common.{Err, refl, sym, ap, ◌∙◌, subst}
 use Rattle.std.proofs.Math.Bool.{Bool-set}
 use Rattle.std.proofs.Math.Logic.{∥∥₁_elim, ∥∥₁_map, ∥∥₁_map₂}
 use Rattle.std.proofs.lemmas.Bool.{lt-ltb, le-ltb}
 use Rattle.std.proofs.lemmas.List.{append-nil}
-use Rattle.std.specs.Int.{bit_at}
 use Rattle.std.specs.declared.alloc.AllocError.{AllocError}
 use Rattle.nio_base.specs.Limits.{IsFit}
 use Rattle.nio_base.specs.declared.limits.Limits.{Limits}
 use Rattle.nio_base.specs.declared.numbers.CallerNo.{CallerNo}
+use Rattle.nio_channel.proofs.Idle.{ready_after}
 use Rattle.nio_event.specs.Histories.{mine}
-use Rattle.nio_event.specs.PassViews.{PassView, ActsClause, HasNoPin, done_between, known}
-use Rattle.nio_event.specs.declared.act.Act.{Act}
+use Rattle.nio_event.specs.PassViews.{PassView, HasNoPin, done_between, known}
 use Rattle.nio_event.specs.declared.call.Call.{Call}
 use Rattle.nio_event.specs.declared.call.Call.TheVariants as call
 use Rattle.nio_event.specs.declared.reply.Reply.{Reply}
@@ -42,9 +41,8 @@ use Rattle.nio_sole.specs.declared.desk.Desk.{Desk}
 use Rattle.nio_steps.specs.Calls.{CallClause}
 use Rattle.nio_steps.specs.Plan.{Plan}
 use Rattle.nio_steps.specs.Runs.{Completes}
-use Rattle.nio_words.specs.Passes.{IsPassOf, IsReady, limits_of, numbers_of, seen, state_seen, acts_seen}
+use Rattle.nio_words.specs.Passes.{limits_of, seen, state_seen, acts_seen}
 use Rattle.nio_words.specs.Views.{view}
-use Rattle.nio_words.specs.declared.words.Pass.{Pass}
 use Rattle.nio_words.specs.declared.words.Words.{Words}
 
 -- ---- before a line
@@ -89,21 +87,12 @@ no_caller w d me word stands past =
 
 -- ---- after a line
 
-ready_after : (w : Words) (p q : Pass) (me n : CallerNo) (acts : List Act) → ActsClause me acts (view w p) (view w q)
-    → IsPassOf w q → IsReady w p n → IsReady w q n
-ready_after w p q me n acts clause pass ready = record {
-  pass = pass;
-  number = eqb-true (bit_at (numbers_of q) n.0) 1
-      (ap {B = Bool} (λ (held : CallerNo → Bool). held n) clause.held
-      ∙ eq-eqb (bit_at (numbers_of p) n.0) 1 ready.number);
-}
-
 pub stands_after : (w : Words) (d d' : Desk) (me : CallerNo) (plan : Plan Said) (r : Reply) → Stands w d
     → Makes w d d' me plan r
     → ∥ AreBetween (limits_of w) (sole_view w d'.pass) (progress_of d') ∥₁ → Stands w d'
 stands_after w d d' me plan r stands made after = record {
   fit = stands.fit;
-  ready = λ n below. ready_after w d.pass d'.pass me n _ made.call.acts made.ready.pass (stands.ready n below);
+  ready = λ n below. ready_after n made.call.acts made.ready.pass (stands.ready n below);
   places = made.places;
   between = ∥∥₁_map after (λ are. are.between);
   made = ∥∥₁_map after (λ are. are.made);

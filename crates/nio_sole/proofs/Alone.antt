@@ -1,8 +1,7 @@
 -- While a pass acts for each caller, nothing but its own acts happens.
 use Rattle.std.proofs.Common.{◌≡◌, ◌≢◌, ℕ, ◌<◌, ◌==◌, Bool, true, false, List, [], ◌∷◌, ◌++◌, map, cond, refl, ap, sym}
 use Rattle.std.proofs.Common.{◌∙◌, eqb-true, eq-eqb, append_assoc}
-use Rattle.std.proofs.lemmas.List.{append_cancel_left, append-nil, map-append}
-use Rattle.std.proofs.lemmas.List.Elements.{filter-append}
+use Rattle.std.proofs.lemmas.List.{append_cancel_left, append-nil}
 use Rattle.std.specs.Int.{bit_at}
 use Rattle.std.specs.Prelude.{filter}
 use Rattle.nio_base.specs.declared.limits.Limits.{Limits}
@@ -12,16 +11,12 @@ use Rattle.nio_event.specs.Histories.{mine, is_by, event_of, HistoryClause}
 use Rattle.nio_event.specs.PassViews.{PassView, done_between}
 use Rattle.nio_event.specs.declared.act.Act.{Act}
 use Rattle.nio_event.specs.declared.event.Event.{Event}
+use Rattle.nio_steps.proofs.OwnActs.{mine-append}
 use Rattle.nio_steps.specs.Calls.{CallClause}
 use Rattle.nio_words.specs.Passes.{IsReady, limits_of, numbers_of, seen}
 use Rattle.nio_words.specs.Views.{view}
 use Rattle.nio_words.specs.declared.words.Pass.{Pass}
 use Rattle.nio_words.specs.declared.words.Words.{Words}
-
-mine-both : (n : CallerNo) (xs ys : List Event) → mine n (xs ++ ys) ≡ mine n xs ++ mine n ys
-mine-both n xs ys =
-    ap (map (λ x. x.act)) (filter-append (is_by n) xs ys)
-    ∙ map-append (λ x. x.act) (filter (is_by n) xs) (filter (is_by n) ys)
 
 -- an event is of `me`, or of another caller that then has an act
 by_me : (me : CallerNo) (e : Event) → ((e.caller ≢ me) → ⊥) → (e.caller.0 == me.0) ≡ true
@@ -42,7 +37,7 @@ some_act : (n : CallerNo) (before : List Event) (e : Event) (rest : List Event) 
     → mine n (before ++ e ∷ rest) ≡ [] → ⊥
 some_act n before e rest by none =
     let parts = sym
-    (mine-both n before (e ∷ rest)
+    (mine-append n before (e ∷ rest)
     ∙ ap (λ (xs : List Act). mine n before ++ xs)
     (mine-first n e rest (eq-eqb e.caller.0 n.0 (ap (λ (m : CallerNo). m.0) by)))) ∙ none in
     not_nothing (mine n before) parts
@@ -73,14 +68,14 @@ grown l held me acts before after all clause =
     let later = clause.goes_on.0 in
     let joined : before ++ later ≡ after = clause.goes_on.1 in
     let own : mine me later ≡ acts = append_cancel_left (mine me before) (mine me later) acts
-    (sym (mine-both me before later) ∙ (ap (mine me) joined ∙ clause.own)) in
+    (sym (mine-append me before later) ∙ (ap (mine me) joined ∙ clause.own)) in
     sym joined
     ∙ (ap (λ (es : List Event). before ++ es)
     (all_mine me later (λ past e rest parts. by_me me e (λ other.
     let step = clause.legal.steps (before ++ past) e rest
     (sym joined ∙ (ap (λ (es : List Event). before ++ es) parts ∙ sym (append_assoc before past (e ∷ rest)))) in
     let none : mine e.caller later ≡ [] = append_cancel_left (mine e.caller before) (mine e.caller later) []
-    (sym (mine-both e.caller before later)
+    (sym (mine-append e.caller before later)
     ∙ (ap (mine e.caller) joined
     ∙ (clause.others e.caller (all e.caller step.by_caller) other
     ∙ sym (append-nil (mine e.caller before))))) in

@@ -1,5 +1,5 @@
 -- What a desk has in progress, once something was put into a place of it.
-use Rattle.std.proofs.Common.{◌≡◌, ℕ, zero, suc, ◌+◌, ◌<◌, [], ◌∷◌, ◌++◌, Option, Some, None, List, length, set, refl}
+use Rattle.std.proofs.Common.{◌≡◌, ℕ, ◌<◌, [], Option, Some, None, List, length, set, refl}
 use Rattle.std.proofs.Common.{sym, ap, ◌∙◌, subst, ⊎_elim, arith, vec_len, true, false, Bool, ◌==◌, if◌then◌else◌}
 use Rattle.std.proofs.Common.{eq-eqb, eqb-true}
 use Rattle.std.proofs.lemmas.Bool.{cases_eq}
@@ -16,11 +16,11 @@ use Rattle.nio_event.specs.declared.reply.Reply.{Reply}
 use Rattle.nio_pipe.specs.Calls.{HasEnds}
 use Rattle.nio_base.specs.declared.numbers.CallerNo.{CallerNo}
 use Rattle.nio_base.specs.declared.numbers.SelNo.{SelNo}
-use Rattle.nio_plain.proofs.Places.{put_is, put-elsewhere}
+use Rattle.nio_plain.proofs.Places.{put_is}
 use Rattle.nio_plain.specs.Seq.Selections.{is_caller}
+use Rattle.nio_serial.proofs.Base.{put-back}
 use Rattle.nio_serial.specs.Documented.{Progress, Selecting}
 use Rattle.nio_serial.specs.Lines.{Said, if_own, with_closing, with_selection}
-use Rattle.nio_sole.specs.Drawn.{AreEmpty}
 use Rattle.nio_sole.specs.Stands.{slot, selecting_of, selections_of, closings_of, progress_of, AreMade, HasPlaces}
 use Rattle.nio_sole.specs.declared.desk.Begun.{Begun}
 use Rattle.nio_sole.specs.declared.desk.Desk.{Desk}
@@ -42,10 +42,6 @@ pub part_put : {A B : Type 0} (f : Option A → B) (xs : List (Option A)) (s : �
 part_put f xs s x below =
     put_is (λ n. f (slot (set xs s x) n)) (λ n. f (slot xs n)) s (f x) (ap f (get_or-set_same xs s x None below))
     (λ n other. ap f (get_or-set_other xs s n x None other))
-
--- what stood there is put back
-pub put_back : {B : Type 0} (f : ℕ → B) (s : ℕ) (a b : B) → f s ≡ b → put (put f s a) s b ≡ f
-put_back f s a b here = sym (put_is f (put f s a) s b here (λ n other. sym (put-elsewhere f s n a other)))
 
 -- what stands in each place has this number
 pub places_put : {A : Type 0} (at : A → ℕ) (xs : List (Option A)) (s : ℕ) (y : Option A) → s < length xs
@@ -201,7 +197,7 @@ progress_put_back w d p s taken after x y places inside items len items' was sam
     (omega (arith, places.closings, length-set d.closings.items s.0 none))
     ∙ (ap (λ (f : ℕ → Option CallerNo). put f s.0 (Some y.caller))
     (part_put (option_map (λ z. z.caller)) d.closings.items s.0 None (omega (arith, places.closings)))
-    ∙ put_back (closings_of d.closings.items) s.0 None (Some y.caller)
+    ∙ put-back (closings_of d.closings.items) s.0 None (Some y.caller)
     (ap (option_map (λ z. z.caller)) was ∙ ap Some (sym same)))))
 
 pub nothing_there : {A B : Type 0} {x : A} → None ≡ Some x → B
@@ -246,7 +242,7 @@ progress_selection_back w d p me s taken after y places inside items len items' 
     (omega (arith, places.selections, length-set d.selections.items s.0 none))
     ∙ (ap (λ (f : ℕ → Option Selecting). put f s.0 (Some (selecting_of y)))
     (part_put (option_map selecting_of) d.selections.items s.0 None (omega (arith, places.selections)))
-    ∙ put_back (selections_of d.selections.items) s.0 None (Some (selecting_of y))
+    ∙ put-back (selections_of d.selections.items) s.0 None (Some (selecting_of y))
     (own_is (selections_of d.selections.items s.0) own))))
   where
     own_is : (o : Option Selecting) → if_own me o ≡ Some y.selection → o ≡ Some (selecting_of y)
@@ -286,23 +282,3 @@ own_on w d me s x places own = ap (λ (n : ℕ). record { 0 = n }) (by_place (sl
         by_test : (b : Bool) → (if b then Some z.selection else None) ≡ Some x → x.selector.0 ≡ s.0
         by_test true is' = ap (λ (y : Selection). y.selector.0) (some_is is') ∙ places.selects s.0 z at
         by_test false is' = nothing_there is'
-
--- ---- places in which nothing stands
-
-none_more : {A : Type 0} (xs : List (Option A)) → ((s : ℕ) → slot xs s ≡ None) → (s : ℕ)
-    → slot (xs ++ None ∷ []) s ≡ None
-none_more [] none zero = refl
-none_more [] none (suc s) = refl
-none_more (x ∷ xs) none zero = none zero
-none_more (x ∷ xs) none (suc s) = none_more xs (λ n. none (suc n)) s
-
-pub empty_more : {A : Type 0} {places after : Vec (Option A) Global} {count : ℕ} → AreEmpty places count
-    → after.items ≡ places.items ++ None ∷ [] → vec_len after ≡ vec_len places + 1 → AreEmpty after (count + 1)
-empty_more {places = places} empty items len = record {
-  len = len ∙ ap (λ (n : ℕ). n + 1) empty.len;
-  none = λ s. ap (λ xs. slot xs s) items ∙ none_more places.items empty.none s;
-}
-
-pub empty_none : {A : Type 0} {places : Vec (Option A) Global} → places.items ≡ [] → vec_len places ≡ 0
-    → AreEmpty places 0
-empty_none items len = record { len = len; none = λ s. ap (λ xs. slot xs s) items }

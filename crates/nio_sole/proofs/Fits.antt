@@ -10,24 +10,18 @@ use Rattle.nio_event.proofs.Legal.{legal_beginning, legal_next}
 use Rattle.nio_event.proofs.Within.{legal-within}
 use Rattle.nio_event.specs.Histories.{state_after, mine, event_of, IsLegal}
 use Rattle.nio_event.specs.PassViews.{PassView, done_between}
-use Rattle.nio_event.specs.Questions.{Question, question_of, answer_of}
 use Rattle.nio_event.specs.declared.act.Act.{Act}
 use Rattle.nio_event.specs.declared.act.Act.TheVariants.{LookKeys}
 use Rattle.nio_event.specs.declared.event.Event.{Event}
 use Rattle.nio_event.specs.declared.found.Mode.{Mode}
+use Rattle.nio_select.proofs.Inside.{keys-act}
 use Rattle.nio_steps.proofs.BeginLaws.{begin-parts}
 use Rattle.nio_steps.proofs.Lists.{pairs-head, pairs-tail}
 use Rattle.nio_steps.proofs.OrderLaws.{lists_in_order}
 use Rattle.nio_steps.proofs.OwnActs.{cut_at}
 use Rattle.nio_steps.specs.Calls.{CallClause}
 use Rattle.nio_steps.specs.SelectCalls.{Selection, Begins}
-use Rattle.nio_steps.specs.Steps.{number_in}
 use Rattle.nio_steps.specs.declared.looked.LookedKey.{LookedKey}
-
-keys-act : (s : SelNo) (act : Act) → question_of act ≡ Question.look_keys s
-    → act ≡ LookKeys s (number_in (answer_of act))
-keys-act s (LookKeys s' found) asks = cc asks
-keys-act s _ asks = absurd (cc asks)
 
 -- the bound is a keys' high-water mark that the caller found
 bound_fits : (l : Limits) (n : CallerNo) (events : List Event) (own acts : List Act) (s : SelNo) (mode : Mode)

@@ -26,9 +26,8 @@ use Rattle.nio_serial.specs.Documented.{Progress, documented}
 use Rattle.nio_serial.proofs.Histories.{pass-lines-amount}
 use Rattle.nio_serial.specs.Lines.{Said, refused, call_plan, if_found, if_selector, if_channel, if_key, if_named}
 use Rattle.nio_serial.specs.Lines.{line_plan}
-use Rattle.nio_sole.proofs.Calls.{Leads}
-use Rattle.nio_sole.proofs.Memory.{Rests, rests_then, selector-rests, stays_along}
-use Rattle.nio_sole.proofs.Others.{call_made, line_made}
+use Rattle.nio_sole.proofs.Memory.{Rests, rests_then, selector-rests}
+use Rattle.nio_sole.proofs.Others.{line_made}
 use Rattle.nio_sole.specs.Made.{HasMade}
 use Rattle.nio_steps.specs.Calls.{CallClause}
 use Rattle.nio_steps.specs.KeyCalls.{find_channel_plan, find_plan}
@@ -158,21 +157,6 @@ line_stands me now word v0 v1 said fit only before call =
     )
 
 -- ---- want of memory
-
--- a call that is made of calls, and leaves the state and what is in progress
-pub rest_stands : (me : CallerNo) (now : Progress) (plan : Plan Said) (v0 v1 : PassView) (r : Reply)
-    → Leads v0.limits me now plan → Rests me plan (known v0) → v0.only ≡ true → AreBetween v0.limits v0 now
-    → CallClause me (Completes plan) v0 v1 (record { reply = r; left = now })
-    → AreBetween v0.limits v1 now × (known v1 ≡ known v0)
-rest_stands me now plan v0 v1 r leads rests only before call =
-    let same = stays_along me plan v0 v1 (record { reply = r; left = now }) only rests call in (
-      record {
-        between = subst (λ st. IsBetween v0.limits st now) (sym same) before.between;
-        made = call_made me now plan v0 v1 (record { reply = r; left = now }) leads only before.between call
-            before.made;
-      },
-      same,
-    )
 
 -- listing the keys leaves the documented state
 listed-same : (ds : ScriptState) (s : SelNo) (in_set : ℕ → Bool) → (listed ds s in_set).left ≡ ds

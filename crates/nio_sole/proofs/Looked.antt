@@ -1,6 +1,7 @@
 -- Keys that stand in a looked list, whose indexes rise.
-use Rattle.std.proofs.Common.{◌≡◌, ℕ, zero, suc, ◌<◌, ◌≤◌, ◌==◌, Bool, true, false, ◌&&◌, ◌||◌, All, List, [], ◌∷◌}
+use Rattle.std.proofs.Common.{◌≡◌, ℕ, zero, suc, ◌<◌, ◌≤◌, ◌==◌, Bool, false, ◌&&◌, ◌||◌, All, List, [], ◌∷◌}
 use Rattle.std.proofs.Common.{drop, length, map, take, refl, ap, ◌∙◌, arith}
+use Rattle.std.proofs.Math.Bool.{or-false}
 use Rattle.std.specs.List.{AllPairs}
 use Rattle.std.proofs.lemmas.Bool.{ne_eqb}
 use Rattle.std.proofs.lemmas.List.Elements.{All-nil, All-cons, All-head, All-tail, All-weaker}
@@ -76,10 +77,6 @@ none_above (x ∷ looked) k above =
     ap (λ (b : Bool). b || is_looked (map looked_pair looked) k) (other_index x k (λ same. omega (arith, great, same)))
     ∙ none_above looked k (All-tail (λ y. k.index < y.index) x looked above)
 
-or_false : (b : Bool) → (b || false) ≡ b
-or_false true = refl
-or_false false = refl
-
 -- Where those before have smaller indexes and the others don't, only the key that stands there can be the key.
 pub looked_there : (looked : List LookedKey) (at : ℕ) (k : KeyId) → Rise looked → at < length looked
     → AreBelow k.index (take at looked) → AreFrom k.index (drop at looked)
@@ -91,7 +88,7 @@ looked_there (x ∷ looked) zero k rise within before behind =
     let none = none_above looked k
     (All-weaker (λ y. x.index < y.index) (λ y. k.index < y.index) (λ y greater. omega (arith, greater, great))
     looked (later x looked rise)) in
-    ap (λ (b : Bool). is_same_key (looked_pair x).0 k || b) none ∙ or_false (is_same_key (looked_pair x).0 k)
+    ap (λ (b : Bool). is_same_key (looked_pair x).0 k || b) none ∙ or-false (is_same_key (looked_pair x).0 k)
 looked_there (x ∷ looked) (suc at) k rise within before behind =
     let small = All-head (λ y. y.index < k.index) x (take at looked) before in
     ap (λ (b : Bool). b || is_looked (map looked_pair looked) k) (other_index x k (λ same. omega (arith, small, same)))

@@ -1,12 +1,11 @@
 -- A desk at which nothing was done yet.
-use Rattle.std.proofs.Common.{◌≡◌, ℕ, ◌<◌, Option, Some, None, List, [], option_map, refl, ap, sym, subst, ◌∙◌}
+use Rattle.std.proofs.Common.{◌≡◌, ℕ, Option, None, List, [], option_map, refl, ap, sym, subst, ◌∙◌}
 use mathlib.Core.Path.{fun_ext}
 use Rattle.nio_base.specs.Limits.{IsFit}
 use Rattle.nio_base.specs.declared.numbers.CallerNo.{CallerNo}
 use Rattle.nio_event.specs.Histories.{state_after, mine}
 use Rattle.nio_event.specs.declared.event.Event.{Event}
-use Rattle.nio_group.specs.Group.{Group, empty_group}
-use Rattle.nio_plain.specs.ScriptState.{group_limits, script_opening}
+use Rattle.nio_plain.specs.ScriptState.{script_opening}
 use Rattle.nio_serial.specs.Between.{IsBetween}
 use Rattle.nio_serial.specs.Documented.{Progress, Selecting, documented, nothing_yet}
 use Rattle.nio_sole.proofs.Desks.{none_made, nothing_there}

@@ -1,7 +1,6 @@
 -- From the calls on a desk's group and pipes to the lines.
-use Rattle.std.proofs.Common.{◌≡◌, ℕ, ◌<◌, ◌==◌, ◌&&◌, true, false, Bool, Option, Some, None, Result, Ok, Err, List, []}
-use Rattle.std.proofs.Common.{◌∷◌, ◌++◌, ◌-◌, length, get_or, map, min, set, take, position, refl, sym, ap, ◌∙◌, subst}
-use Rattle.std.proofs.Common.{All}
+use Rattle.std.proofs.Common.{◌≡◌, ℕ, ◌<◌, ◌==◌, ◌&&◌, true, Bool, Option, Some, None, Result, Ok, Err, List, []}
+use Rattle.std.proofs.Common.{◌∷◌, ◌++◌, ◌-◌, length, get_or, min, set, take, position, refl, sym, ap, ◌∙◌, subst}
 use Rattle.std.proofs.lemmas.Bool.{and_parts, eqb-true}
 use Rattle.std.proofs.lemmas.List.{map-append}
 use Rattle.std.proofs.lemmas.List.Elements.{All-append, All-cons, All-get_or, All-nil, All-set}
@@ -13,7 +12,6 @@ use Rattle.nio_base.specs.declared.limits.Limits.{Limits}
 use Rattle.nio_base.specs.declared.numbers.CallerNo.{CallerNo}
 use Rattle.nio_base.specs.declared.numbers.ChanNo.{ChanNo}
 use Rattle.nio_event.specs.PassViews.{PassView}
-use Rattle.nio_event.specs.declared.call.Call.{Call}
 use Rattle.nio_event.specs.declared.call.Call.TheVariants as call
 use Rattle.nio_event.specs.declared.group_call.GroupCall.{GroupCall}
 use Rattle.nio_event.specs.declared.reply.Reply.{Reply}
@@ -28,9 +26,9 @@ use Rattle.nio_pipe.specs.declared.answers.PipeWrite.{PipeWrite}
 use Rattle.nio_plain.proofs.Piping.{position-map}
 use Rattle.nio_plain.specs.ScriptState.{Pipe}
 use Rattle.nio_plain.specs.Seq.Grouping.{group_left, group_reply}
-use Rattle.nio_plain.specs.Seq.Pipes.{sealed_pipes, no_pipe, owns_sink, owns_source, own_sink, own_source, pipe_at}
+use Rattle.nio_plain.specs.Seq.Pipes.{owns_sink, owns_source, own_sink, own_source, pipe_at}
 use Rattle.nio_serial.specs.Documented.{Progress}
-use Rattle.nio_serial.specs.Lines.{Said, call_plan, makes, read_line, refused, write_line}
+use Rattle.nio_serial.specs.Lines.{Said, call_plan, makes, read_line, write_line}
 use Rattle.nio_serial.specs.PipeLines.{Piped, after_pipe, read_gives, with_seal}
 use Rattle.nio_serial.specs.PipeLines.{with_pipe, write_gives}
 use Rattle.nio_serial.specs.Replies.{closed_reply, ends_reply}
@@ -148,7 +146,7 @@ own_sink_is : (d : Desk) (me : CallerNo) (c : ChanNo) (place : Option ℕ) → I
     → own_sink (progress_of d).pipes me c ≡ place
 own_sink_is d me c place is = position-map (owns_sink me c) pipe_of d.pipes.items ∙ sym is
 
-channel_is : (a b : ChanNo) → (a.0 == b.0) ≡ true → a ≡ b
+pub channel_is : (a b : ChanNo) → (a.0 == b.0) ≡ true → a ≡ b
 channel_is a b same = ap {B = ChanNo} (λ (n : ℕ). record { 0 = n }) (eqb-true a.0 b.0 same)
 
 -- it stands within the list, and its source is the channel

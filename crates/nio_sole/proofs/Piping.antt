@@ -1,7 +1,8 @@
 -- The pipes that a desk shows, and what a read or a write leaves of them.
 use Rattle.std.proofs.Common.{◌≡◌, ℕ, zero, suc, ◌+◌, ◌-◌, ◌<◌, ◌≤◌, ◌==◌, nat_lt, Bool, true, false, ◌||◌, cond, min}
-use Rattle.std.proofs.Common.{List, [], ◌∷◌, ◌++◌, length, get_or, map, set, take, drop, Result, Ok, Err, refl, sym, ap}
+use Rattle.std.proofs.Common.{List, [], ◌∷◌, ◌++◌, length, get_or, set, take, drop, Result, Ok, Err, refl, sym, ap}
 use Rattle.std.proofs.Common.{◌∙◌, subst, arith}
+use Rattle.std.proofs.Math.Bool.{or-false, or-true}
 use Rattle.std.proofs.lemmas.Bool.{cond-false, cond-true, eq-eqb, eqb-true, le-ltb, lt-ltb, ne_eqb}
 use Rattle.std.proofs.lemmas.List.{append-nil, drop-append-le, drop_min, get_or-map, length-append, length-take}
 use Rattle.std.proofs.lemmas.List.{length-take-le, map-set, take_min}
@@ -14,7 +15,7 @@ use Rattle.nio_pipe.specs.declared.answers.PipeRead.{PipeRead}
 use Rattle.nio_pipe.specs.declared.answers.PipeWrite.{PipeWrite}
 use Rattle.nio_plain.specs.ScriptState.{Pipe}
 use Rattle.nio_plain.specs.Seq.Pipes.{no_pipe}
-use Rattle.nio_plain.specs.Seq.Piping.{not_now, room_for}
+use Rattle.nio_plain.specs.Seq.Piping.{not_now}
 use Rattle.nio_serial.specs.PipeLines.{Piped, only_says, puts, read_gives, takes, write_gives}
 use Rattle.nio_serial.specs.Replies.{pipe_refusal}
 use Rattle.nio_sole.specs.PipeReplies.{read_says, write_says}
@@ -250,22 +251,14 @@ module _ (x : OwnedPipe) (lawful : IsLawful x.pipe) where
 
   -- ---- writing
 
-  not_sealed : (b : Bool) → b || false ≡ b
-  not_sealed true = refl
-  not_sealed false = refl
-
-  now_sealed : (b : Bool) → b || true ≡ true
-  now_sealed true = refl
-  now_sealed false = refl
-
   write_leaves : (bytes : List ℕ) (answer : PipeWrite)
       → pipe_of (with_held x (after_write x.pipe bytes (Ok answer))) ≡ record shown {
         waiting = waiting x.pipe ++ take (bytes_written (Ok answer)) bytes;
       }
   write_leaves bytes (PipeWrite.Bytes n) =
-      λ j. record shown { waiting = more_waiting x.pipe (take n bytes) lawful j; sealed = not_sealed x.pipe.sealed j }
+      λ j. record shown { waiting = more_waiting x.pipe (take n bytes) lawful j; sealed = or-false x.pipe.sealed j }
   write_leaves bytes PipeWrite.NotYet =
-      λ j. record shown { waiting = more_waiting x.pipe [] lawful j; sealed = not_sealed x.pipe.sealed j }
+      λ j. record shown { waiting = more_waiting x.pipe [] lawful j; sealed = or-false x.pipe.sealed j }
 
   abbrev pub write_comes_to : List ℕ → PipeWrite → Bool → Piped
   write_comes_to bytes answer blocking = record {
@@ -328,7 +321,7 @@ module _ (x : OwnedPipe) (lawful : IsLawful x.pipe) where
         reply = r;
         left = record shown {
           waiting = (sym (more_waiting x.pipe [] lawful ∙ append-nil (waiting x.pipe))) j;
-          sealed = (sym (now_sealed x.pipe.sealed)) j;
+          sealed = (sym (or-true x.pipe.sealed)) j;
         };
       }
 
@@ -346,6 +339,6 @@ module _ (x : OwnedPipe) (lawful : IsLawful x.pipe) where
         reply = reply.BrokenPipe;
         left = record shown {
           waiting = (sym (more_waiting x.pipe [] lawful ∙ append-nil (waiting x.pipe))) j;
-          sealed = (sym (not_sealed x.pipe.sealed)) j;
+          sealed = (sym (or-false x.pipe.sealed)) j;
         };
       }

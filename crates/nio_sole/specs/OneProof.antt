@@ -1,5 +1,5 @@
 -- What stands between two lines is a fact: there is at most one proof of it.
-use Rattle.std.proofs.Common.{Option, List}
+use Rattle.std.proofs.Common.{List}
 use Rattle.std.proofs.Math.Bool.{Bool-set}
 use Rattle.std.proofs.Math.Nat.{ℕ_set}
 use Rattle.std.proofs.Props.{props}
@@ -42,104 +42,101 @@ stage_set = hlevel (ℕ_set, Bool-set)
 claim_set : IsSet OwnClaim
 claim_set = hlevel ℕ_set
 
-option_set : {A : Type 0} → IsSet A → IsSet (Option A)
-option_set set = hlevel (set, ⊎_set)
-
 answer_set : IsSet Answer
 answer_set = hlevel (ℕ_set, Bool-set, ⊎_set)
 
 condition_prop : (l : Limits) (own : List Act) (st : State) (me : CallerNo) (act : Act)
     → IsProp (Condition l own st me act)
 condition_prop l own st me (DrawBit n found) =
-    hlevel (props, ℕ_set, Bool-set, caller_set, stage_set, claim_set, option_set)
+    hlevel (props, ℕ_set, Bool-set, caller_set, stage_set, claim_set)
 condition_prop l own st me (MakeSelector s found) =
-    hlevel (props, ℕ_set, Bool-set, caller_set, stage_set, claim_set, option_set)
+    hlevel (props, ℕ_set, Bool-set, caller_set, stage_set, claim_set)
 condition_prop l own st me (LookSelectors found) =
-    hlevel (props, ℕ_set, Bool-set, caller_set, stage_set, claim_set, option_set)
+    hlevel (props, ℕ_set, Bool-set, caller_set, stage_set, claim_set)
 condition_prop l own st me (Wake s found) =
-    hlevel (props, ℕ_set, Bool-set, caller_set, stage_set, claim_set, option_set)
+    hlevel (props, ℕ_set, Bool-set, caller_set, stage_set, claim_set)
 condition_prop l own st me (LookGate s found) =
-    hlevel (props, ℕ_set, Bool-set, caller_set, stage_set, claim_set, option_set)
+    hlevel (props, ℕ_set, Bool-set, caller_set, stage_set, claim_set)
 condition_prop l own st me (SetInterrupt n found) =
-    hlevel (props, ℕ_set, Bool-set, caller_set, stage_set, claim_set, option_set)
+    hlevel (props, ℕ_set, Bool-set, caller_set, stage_set, claim_set)
 condition_prop l own st me (TakeInterrupt found) =
-    hlevel (props, ℕ_set, Bool-set, caller_set, stage_set, claim_set, option_set)
+    hlevel (props, ℕ_set, Bool-set, caller_set, stage_set, claim_set)
 condition_prop l own st me (LookInterrupt found) =
-    hlevel (props, ℕ_set, Bool-set, caller_set, stage_set, claim_set, option_set)
+    hlevel (props, ℕ_set, Bool-set, caller_set, stage_set, claim_set)
 condition_prop l own st me (LookKey s i found) =
-    hlevel (props, ℕ_set, Bool-set, caller_set, stage_set, claim_set, option_set)
+    hlevel (props, ℕ_set, Bool-set, caller_set, stage_set, claim_set)
 condition_prop l own st me (CancelKey s i found) =
-    hlevel (props, ℕ_set, Bool-set, caller_set, stage_set, claim_set, option_set)
+    hlevel (props, ℕ_set, Bool-set, caller_set, stage_set, claim_set)
 condition_prop l own st me (LookInterest s i found) =
-    hlevel (props, ℕ_set, Bool-set, caller_set, stage_set, claim_set, option_set)
+    hlevel (props, ℕ_set, Bool-set, caller_set, stage_set, claim_set)
 condition_prop l own st me (SwapInterest s i ops found) =
-    hlevel (props, ℕ_set, Bool-set, caller_set, stage_set, claim_set, option_set)
+    hlevel (props, ℕ_set, Bool-set, caller_set, stage_set, claim_set)
 condition_prop l own st me (OrInterest s i ops found) =
-    hlevel (props, ℕ_set, Bool-set, caller_set, stage_set, claim_set, option_set)
+    hlevel (props, ℕ_set, Bool-set, caller_set, stage_set, claim_set)
 condition_prop l own st me (AndInterest s i ops found) =
-    hlevel (props, ℕ_set, Bool-set, caller_set, stage_set, claim_set, option_set)
+    hlevel (props, ℕ_set, Bool-set, caller_set, stage_set, claim_set)
 condition_prop l own st me (SwapNote s i att found) =
-    hlevel (props, ℕ_set, Bool-set, caller_set, stage_set, claim_set, option_set)
+    hlevel (props, ℕ_set, Bool-set, caller_set, stage_set, claim_set)
 condition_prop l own st me (LookNote s i found) =
-    hlevel (props, ℕ_set, Bool-set, caller_set, stage_set, claim_set, option_set)
+    hlevel (props, ℕ_set, Bool-set, caller_set, stage_set, claim_set)
 condition_prop l own st me (MakeChannel c kind found) =
-    hlevel (props, ℕ_set, Bool-set, caller_set, stage_set, claim_set, option_set)
+    hlevel (props, ℕ_set, Bool-set, caller_set, stage_set, claim_set)
 condition_prop l own st me (LookChannel c found) =
-    hlevel (props, ℕ_set, Bool-set, caller_set, stage_set, claim_set, option_set)
+    hlevel (props, ℕ_set, Bool-set, caller_set, stage_set, claim_set)
 condition_prop l own st me (Claim s i c found) =
-    hlevel (props, ℕ_set, Bool-set, caller_set, stage_set, claim_set, option_set)
+    hlevel (props, ℕ_set, Bool-set, caller_set, stage_set, claim_set)
 condition_prop l own st me (RaiseKeys s n found) =
-    hlevel (props, ℕ_set, Bool-set, caller_set, stage_set, claim_set, option_set)
+    hlevel (props, ℕ_set, Bool-set, caller_set, stage_set, claim_set)
 condition_prop l own st me (LookKeys s found) =
-    hlevel (props, ℕ_set, Bool-set, caller_set, stage_set, claim_set, option_set)
+    hlevel (props, ℕ_set, Bool-set, caller_set, stage_set, claim_set)
 condition_prop l own st me (Publish s i found) =
-    hlevel (props, ℕ_set, Bool-set, caller_set, stage_set, claim_set, option_set)
+    hlevel (props, ℕ_set, Bool-set, caller_set, stage_set, claim_set)
 condition_prop l own st me (LookReg c s found) =
-    hlevel (props, ℕ_set, Bool-set, caller_set, stage_set, claim_set, option_set)
+    hlevel (props, ℕ_set, Bool-set, caller_set, stage_set, claim_set)
 condition_prop l own st me (Enrol c s i serial found) =
-    hlevel (props, ℕ_set, Bool-set, caller_set, stage_set, claim_set, option_set)
+    hlevel (props, ℕ_set, Bool-set, caller_set, stage_set, claim_set)
 condition_prop l own st me (TakeTurn s found) =
-    hlevel (props, ℕ_set, Bool-set, caller_set, stage_set, claim_set, option_set)
+    hlevel (props, ℕ_set, Bool-set, caller_set, stage_set, claim_set)
 condition_prop l own st me (BeginLook s found) =
-    hlevel (props, ℕ_set, Bool-set, caller_set, stage_set, claim_set, option_set)
-condition_prop l own st me (GiveTurn s) = hlevel (props, ℕ_set, Bool-set, caller_set, stage_set, claim_set, option_set)
+    hlevel (props, ℕ_set, Bool-set, caller_set, stage_set, claim_set)
+condition_prop l own st me (GiveTurn s) = hlevel (props, ℕ_set, Bool-set, caller_set, stage_set, claim_set)
 condition_prop l own st me (Remove s i found) =
-    hlevel (props, ℕ_set, Bool-set, caller_set, stage_set, claim_set, option_set)
+    hlevel (props, ℕ_set, Bool-set, caller_set, stage_set, claim_set)
 condition_prop l own st me (LookMark s i found) =
-    hlevel (props, ℕ_set, Bool-set, caller_set, stage_set, claim_set, option_set)
+    hlevel (props, ℕ_set, Bool-set, caller_set, stage_set, claim_set)
 condition_prop l own st me (Mark s i from told found) =
-    hlevel (props, ℕ_set, Bool-set, caller_set, stage_set, claim_set, option_set)
+    hlevel (props, ℕ_set, Bool-set, caller_set, stage_set, claim_set)
 condition_prop l own st me (UnselectBit s i found) =
-    hlevel (props, ℕ_set, Bool-set, caller_set, stage_set, claim_set, option_set)
+    hlevel (props, ℕ_set, Bool-set, caller_set, stage_set, claim_set)
 condition_prop l own st me (EndWake s found) =
-    hlevel (props, ℕ_set, Bool-set, caller_set, stage_set, claim_set, option_set)
+    hlevel (props, ℕ_set, Bool-set, caller_set, stage_set, claim_set)
 condition_prop l own st me (LookChannels found) =
-    hlevel (props, ℕ_set, Bool-set, caller_set, stage_set, claim_set, option_set)
+    hlevel (props, ℕ_set, Bool-set, caller_set, stage_set, claim_set)
 condition_prop l own st me (RaiseChannels n found) =
-    hlevel (props, ℕ_set, Bool-set, caller_set, stage_set, claim_set, option_set)
+    hlevel (props, ℕ_set, Bool-set, caller_set, stage_set, claim_set)
 condition_prop l own st me (TryHoldBit c found) =
-    hlevel (props, ℕ_set, Bool-set, caller_set, stage_set, claim_set, option_set)
-condition_prop l own st me (Release c) = hlevel (props, ℕ_set, Bool-set, caller_set, stage_set, claim_set, option_set)
+    hlevel (props, ℕ_set, Bool-set, caller_set, stage_set, claim_set)
+condition_prop l own st me (Release c) = hlevel (props, ℕ_set, Bool-set, caller_set, stage_set, claim_set)
 condition_prop l own st me (SetMode c blocking found) =
-    hlevel (props, ℕ_set, Bool-set, caller_set, stage_set, claim_set, option_set)
+    hlevel (props, ℕ_set, Bool-set, caller_set, stage_set, claim_set)
 condition_prop l own st me (CloseBit c found) =
-    hlevel (props, ℕ_set, Bool-set, caller_set, stage_set, claim_set, option_set)
+    hlevel (props, ℕ_set, Bool-set, caller_set, stage_set, claim_set)
 condition_prop l own st me (ShutBit s found) =
-    hlevel (props, ℕ_set, Bool-set, caller_set, stage_set, claim_set, option_set)
+    hlevel (props, ℕ_set, Bool-set, caller_set, stage_set, claim_set)
 condition_prop l own st me (Enter s found) =
-    hlevel (props, ℕ_set, Bool-set, caller_set, stage_set, claim_set, option_set)
+    hlevel (props, ℕ_set, Bool-set, caller_set, stage_set, claim_set)
 condition_prop l own st me (Pin s i found) =
-    hlevel (props, ℕ_set, Bool-set, caller_set, stage_set, claim_set, option_set)
-condition_prop l own st me (Unpin s i) = hlevel (props, ℕ_set, Bool-set, caller_set, stage_set, claim_set, option_set)
+    hlevel (props, ℕ_set, Bool-set, caller_set, stage_set, claim_set)
+condition_prop l own st me (Unpin s i) = hlevel (props, ℕ_set, Bool-set, caller_set, stage_set, claim_set)
 condition_prop l own st me (ClearMark s i found) =
-    hlevel (props, ℕ_set, Bool-set, caller_set, stage_set, claim_set, option_set)
+    hlevel (props, ℕ_set, Bool-set, caller_set, stage_set, claim_set)
 condition_prop l own st me (ClaimAgain s i c from found) =
-    hlevel (props, ℕ_set, Bool-set, caller_set, stage_set, claim_set, option_set)
+    hlevel (props, ℕ_set, Bool-set, caller_set, stage_set, claim_set)
 condition_prop l own st me (LookFree s j found) =
-    hlevel (props, ℕ_set, Bool-set, caller_set, stage_set, claim_set, option_set)
-condition_prop l own st me (PutFree s i) = hlevel (props, ℕ_set, Bool-set, caller_set, stage_set, claim_set, option_set)
+    hlevel (props, ℕ_set, Bool-set, caller_set, stage_set, claim_set)
+condition_prop l own st me (PutFree s i) = hlevel (props, ℕ_set, Bool-set, caller_set, stage_set, claim_set)
 condition_prop l own st me (TakeFree s i found) =
-    hlevel (props, ℕ_set, Bool-set, caller_set, stage_set, claim_set, option_set)
+    hlevel (props, ℕ_set, Bool-set, caller_set, stage_set, claim_set)
 
 answers_prop : (st : State) (me : CallerNo) (act : Act) → IsProp (Answers st me act)
 answers_prop st me act = hlevel answer_set

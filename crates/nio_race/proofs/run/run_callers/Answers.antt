@@ -2,7 +2,8 @@ use Rattle.std.proofs.Common.{All, IsFalse, List, rules, subst}
 use Rattle.nio_sole.specs.Stands.{progress_of}
 use Rattle.nio_words.specs.Passes.{limits_of, seen}
 use Rattle.nio_race.proofs.PairsKnown.{parted_after}
-use Rattle.nio_race.proofs.Running.{have_run, still_racers, still_racers_met}
+use Rattle.nio_race.proofs.PartOff.{passes_stay}
+use Rattle.nio_race.proofs.Running.{have_run, still_racers}
 use Rattle.nio_race.specs.declared.racer.Racer.{Racer}
 use Rattle.nio_race.proofs.run.run_callers.Goals as goal
 
@@ -31,6 +32,6 @@ returns-clause-run g c =
 
 pub returns-clause-racers : goal.returns-clause-racers
 returns-clause-racers g c =
-    still_racers_met c.args.w.now c.run_threads.new.racers.items c.join_ends.new.racers.items c.join_ends.ensures.rest
+    passes_stay c.args.w.now c.run_threads.new.racers.items c.join_ends.new.racers.items c.join_ends.ensures.rest
     (still_racers c.args.w.now c.args.lines.now c.set_off.new.racers.items c.run_threads.new.racers.items
     c.run_threads.ensures)

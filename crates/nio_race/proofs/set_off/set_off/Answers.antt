@@ -5,7 +5,7 @@ use Rattle.std.proofs.lemmas.Result.{IfOk-weaker}
 use Rattle.nio_sole.specs.Stands.{pipes_of, progress_of}
 use Rattle.nio_sole.specs.declared.desk.OwnedPipe.{OwnedPipe}
 use Rattle.nio_words.specs.Passes.{limits_of, seen}
-use Rattle.nio_race.proofs.PartOff.{all_endless, all_have_racers, all_set_off_with, parted_racers}
+use Rattle.nio_race.proofs.PartOff.{all_endless, all_have_racers, all_set_off_with, passes_stay}
 use Rattle.nio_race.specs.Ends.{HasRacers, HaveParted}
 use Rattle.nio_race.specs.SetOff.{AreSetOff}
 use Rattle.nio_race.specs.declared.ends.Owners.{Owners}
@@ -45,5 +45,5 @@ returns-clause-set_off c =
 
 pub returns-clause-racers : goal.returns-clause-racers
 returns-clause-racers c =
-    parted_racers c.args.w.now c.set_off_all.new.racers.items c.part_pipes.new.racers.items c.part_pipes.ensures.rest
+    passes_stay c.args.w.now c.set_off_all.new.racers.items c.part_pipes.new.racers.items c.part_pipes.ensures.rest
     c.set_off_all.ensures.racers
