@@ -59,6 +59,20 @@ moved net lanes after (y ∷ ys) rest all lane n was some n_is rest_is lane_is a
     ∙ (ap (λ r. map net lanes ++ net lane ∷ r) rest_is
     ∙ (ap (λ a. map net lanes ++ a ∷ ys) (lane_is ∙ n_is) ∙ was))))
 
+-- and out of them again
+pub none_back : {X N : Type 0} (net : X → N) (front : List N) (lanes : List X) → front ≡ []
+    → front ++ map net lanes ≡ map net lanes
+none_back net front lanes none = ap (λ l. l ++ map net lanes) none
+
+pub moved_back : {X N : Type 0} (net : X → N) (more after : List N) (lanes rest : List X) (all : List N) (lane : X)
+    → more ++ map net lanes ≡ all → 0 < length lanes → lane ≡ get_or lanes 0 lane
+    → rest ≡ take 0 lanes ++ drop (0 + 1) lanes → after ≡ more ++ net lane ∷ [] → after ++ map net rest ≡ all
+moved_back net more after [] rest all lane was some lane_is rest_is after_is = absurd (omega (arith, some))
+moved_back net more after (y ∷ ys) rest all lane was some lane_is rest_is after_is =
+    ap (λ l. l ++ map net rest) after_is
+    ∙ (append_assoc more (net lane ∷ []) (map net rest)
+    ∙ (ap (λ r. more ++ net lane ∷ map net r) rest_is ∙ (ap (λ z. more ++ net z ∷ map net ys) lane_is ∙ was)))
+
 pub one_less : {A : Type 0} (more rest : List A) → 0 < length more → rest ≡ take 0 more ++ drop (0 + 1) more
     → length rest + 1 ≡ length more
 one_less [] rest some rest_is = absurd (omega (arith, some))
@@ -82,6 +96,17 @@ pub nets_end : {A : Type 0} (front more all : List A) → front ++ more ≡ all 
 nets_end front [] all was none = sym (append-nil front) ∙ was
 nets_end front (y ∷ ys) all was none = absurd (omega (arith, none))
 
+pub nets_back : {X N : Type 0} (net : X → N) (front : List N) (lanes : List X) (all : List N)
+    → front ++ map net lanes ≡ all → length lanes ≡ 0 → front ≡ all
+nets_back net front [] all was none = sym (append-nil front) ∙ was
+nets_back net front (y ∷ ys) all was none = absurd (omega (arith, none))
+
 pub at_each : {A : Type 0} (P : A → Type 0) (xs : List A) (i : ℕ) (x : A) → All P xs → i < length xs
     → x ≡ slice_index_or xs i x → P x
 at_each P xs i x all few is = subst P (sym is) (all i x few)
+
+-- what was said of two elements, by a number, is said of those that stand at a place of two lists
+pub of_each : {A : Type 0} (P : ℕ → A → A → Type 0) (m n : ℕ) (x y a b : A) → m ≡ n → x ≡ a → y ≡ b → P m x y
+    → P n a b
+of_each P m n x y a b number before after has =
+    subst (λ k. P k a b) number (subst (λ z. P m z b) before (subst (λ z. P m x z) after has))

@@ -160,6 +160,13 @@ module _ (at : Addr) where
       none_mapped turn_of put (order ∙ ap (λ x. turns_of x (length put)) unasked)
       ∙ ap (λ n. handovers (workers_at at) (worker_at at) n) (sym none)
 
+  -- where nothing was done
+  pub handed_not : (conns : ℕ) (d : Door) (put : List Handover) (error : ServeError) → d ≡ door.Unasked
+      → map turn_of put ≡ turns_of d (length put)
+      → HasHanded (workers_at at) (worker_at at) conns put (Err error)
+  handed_not conns d put error unasked order =
+      (0, omega arith, none_mapped turn_of put (order ∙ ap (λ x. turns_of x (length put)) unasked))
+
 pub handed_at : (at : Addr) (w v conns : ℕ) (put : List Handover) (result : Result Served ServeError)
     → workers_at at ≡ w → worker_at at ≡ v → HasHanded (workers_at at) (worker_at at) conns put result
     → HasHanded w v conns put result

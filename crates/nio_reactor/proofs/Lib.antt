@@ -4,6 +4,9 @@ pub mod Channels
 pub mod Concluding
 pub mod Dealing
 pub mod Ending
+pub mod Gathered
 pub mod Handing
+pub mod Placed
+pub mod Seating
 pub mod Seen
 pub mod Worked

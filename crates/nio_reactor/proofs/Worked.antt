@@ -191,3 +191,14 @@ worked_none {N} m plan x early served no_conns no_faults is = record {
     clean = λ k few. absurd (omega (arith, few, no_conns));
   };
 }
+
+-- where nothing was done
+pub worked_not : {N : Type 0} (m : Meanings N) (plan : ProxyPlan) (x : N) (early : Bool) → IsFresh m x
+    → HasWorked m plan.target plan.conns x x early (Err Memory)
+worked_not {N} m plan x early is = record {
+  serves = tt;
+  fault = λ is. absurd (cc);
+  leaves = fresh_leaves m plan plan.conns x is;
+  relays = unbegun (m.link x) is.fresh;
+  complete = λ none. tt;
+}

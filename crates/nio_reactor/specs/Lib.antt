@@ -4,5 +4,7 @@ pub mod Doors
 pub mod Handing
 pub mod Lanes
 pub mod Many
+pub mod Placing
+pub mod Seats
 pub mod Turns
 pub mod Working

@@ -6,50 +6,28 @@ ghost use Rattle.nio_link.specs.Links.{IsUnused};
 ghost use Rattle.nio_link.specs.Places.{unused};
 ghost use Rattle.nio_link.specs.declared.place.Standing.TheVariants.{Listening};
 ghost use Rattle.nio_relay.specs.Plan.{IsServable};
-ghost use Rattle.nio_serve.specs.Board.{AreReady};
+ghost use Rattle.nio_serve.specs.Board.{AreReady, IsSameBoard, IsSameSeat};
 ghost use Rattle.nio_serve.specs.Serving.{client_of, clients_below, listener};
 ghost use Rattle.nio_steps.specs.KeyCalls.{is_within};
-ghost use Rattle.nio_words.specs.Passes.{IsFirstPass};
 ghost use Rattle.nio_reactor.specs.Accepting.{Accepts, AreEnded, Deals, HasAccepted, HasSent, IsAccepting};
 ghost use Rattle.nio_reactor.specs.Many.{meanings, LeavesAcceptor};
+ghost use Rattle.nio_reactor.specs.Placing.{caller};
+ghost use Rattle.nio_reactor.specs.Seats.{IsNewcomer, LeavesSeat, acceptor_deal};
 ghost use Rattle.nio_reactor.specs.declared.many.ManyError.TheVariants.{NetFault};
 
 use crate::handed::{Handed, LISTENER, accept_link};
 use crate::many::ManyError;
 use crate::message::{Message, Outgoing};
-use nio_base::{CallerNo, ChanNo, Kind, Limits, Ops};
+use crate::table::{ACCEPTOR, acceptor_share, leave_seat, take_seat};
+use nio_base::{ChanNo, Kind, Ops};
 use nio_line::LineIn;
 use nio_link::{Failed, Net, Passable};
 use nio_poller::{Bell, PollError};
 use nio_relay::ProxyPlan;
-use nio_serve::{Board, Direct, Refused};
+use nio_serve::{Board, Direct};
 use nio_words::{Pass, Words};
 use std::alloc::Global;
 use std::sync::Wait;
-
-/// The caller that accepts, a selector and a channel for the listener.
-const LIMITS: Limits = Limits {
-    callers: 1,
-    selectors: 1,
-    channels: 1,
-    keys: 1,
-};
-
-/// The caller that makes the calls.
-const ME: CallerNo = CallerNo(0);
-
-// A board of the first caller of a new table on which the listener is watched.
-fn watch_listener<'a, R: Wait>(rt: &R, words: &'a Words, pass: Pass) -> Result<Board<'a>, Refused>
-    requires { IsFirstPass words.now pass }
-{
-    let mut pass = pass;
-    if words.draw(&mut pass, ME).is_err() {
-        return Err(Refused);
-    }
-    let mut board = Board::open(words, pass, ME)?;
-    board.watch(rt, LISTENER, Kind::Listener, Ops::ACCEPT)?;
-    Ok(board)
-}
 
 // Rings for the worker, where its net has a bell.
 fn ring<B: Bell>(bells: &[B], worker: usize) {
@@ -181,6 +159,7 @@ fn turn<R: Wait, N: Passable, B: Bell>(
     ensures dealt { Deals number.old number.new lines.old lines.new }
     ensures cause { result ≡ Err NetFault → Rose (N.poll_faults net.old) (N.poll_faults net.new)
         ⊎ Rose (N.faults net.old listener) (N.faults net.new listener) }
+    ensures board { IsSameBoard board.old board.new }
 {
     match board.select(rt, alloc, &mut Direct, net, told) {
         Ok(()) => {}
@@ -218,6 +197,7 @@ fn deal_all<R: Wait, N: Passable, B: Bell>(
     ensures dealt { Deals number.old number.new lines.old lines.new }
     ensures cause { result ≡ Err NetFault → Rose (N.poll_faults net.old) (N.poll_faults net.new)
         ⊎ Rose (N.faults net.old listener) (N.faults net.new listener) }
+    ensures board { IsSameBoard board.old board.new }
 {
     let mut told = Vec::new(alloc);
     for _ in rt.forever() {
@@ -234,10 +214,12 @@ fn deal_all<R: Wait, N: Passable, B: Bell>(
     unreachable!()
 }
 
-// Listens, and accepts all connections of the plan; at the end the listener is closed.
+// Listens, and accepts all connections of the plan; at the end the listener is closed. It alone is registered on the
+// board.
 fn accept_plan<R: Wait, N: Passable, B: Bell>(
     rt: &R,
     alloc: Global,
+    board: &mut Board<'_>,
     net: &mut N,
     lines: &mut [LineIn<Message<N::Link>>],
     bells: &[B],
@@ -249,6 +231,7 @@ fn accept_plan<R: Wait, N: Passable, B: Bell>(
     requires unasked { (c : Channel) → N.place net.old c ≡ unused }
     requires some { 0 < length lines.old }
     requires none { number.old ≡ 0 }
+    requires unregistered { board.old.registered ≡ 0 }
     ensures within { number.new ≤ plan.conns }
     ensures all { OnOk result (number.new ≡ plan.conns) }
     ensures accepted { Accepts (meanings N.link N.place N.faults N.poll_faults) N.accepted number.old number.new
@@ -257,18 +240,54 @@ fn accept_plan<R: Wait, N: Passable, B: Bell>(
     ensures cause { result ≡ Err NetFault → Rose (N.poll_faults net.old) (N.poll_faults net.new)
         ⊎ Rose (N.faults net.old listener) (N.faults net.new listener) }
     ensures leaves { LeavesAcceptor (meanings N.link N.place N.faults N.poll_faults) plan net.old net.new }
+    ensures seat { IsSameSeat board.old board.new }
+    ensures registered { OnOk result (board.new.registered ≡ 1) }
 {
-    let Ok((words, pass)) = Words::make(alloc, LIMITS) else {
-        return Err(ManyError::Memory);
-    };
-    let Ok(mut board) = watch_listener(rt, &words, pass) else {
+    let Ok(_port) = board.watch(rt, LISTENER, Kind::Listener, Ops::ACCEPT) else {
         return Err(ManyError::Memory);
     };
     if net.listen(LISTENER, plan.listen).is_err() {
         return Err(ManyError::NetFault);
     }
-    let outcome = deal_all(rt, alloc, &mut board, net, lines, bells, number, plan.conns);
+    let outcome = deal_all(rt, alloc, board, net, lines, bells, number, plan.conns);
     net.close(LISTENER);
+    outcome
+}
+
+// Accepts all connections of the plan, at the acceptor's seat.
+fn accept_seated<R: Wait, N: Passable, B: Bell>(
+    rt: &R,
+    alloc: Global,
+    words: &Words,
+    pass: &mut Pass,
+    net: &mut N,
+    lines: &mut [LineIn<Message<N::Link>>],
+    bells: &[B],
+    plan: ProxyPlan,
+    number: &mut u32,
+) -> Result<(), ManyError>
+    requires plan { IsServable plan }
+    requires fresh { (c : Channel) → IsUnused (N.link net.old c) }
+    requires unasked { (c : Channel) → N.place net.old c ≡ unused }
+    requires some { 0 < length lines.old }
+    requires none { number.old ≡ 0 }
+    requires newcomer { IsNewcomer words.now pass.old (caller 0) }
+    ensures within { number.new ≤ plan.conns }
+    ensures all { OnOk result (number.new ≡ plan.conns) }
+    ensures accepted { Accepts (meanings N.link N.place N.faults N.poll_faults) N.accepted number.old number.new
+        net.old net.new }
+    ensures dealt { Deals number.old number.new lines.old lines.new }
+    ensures cause { result ≡ Err NetFault → Rose (N.poll_faults net.old) (N.poll_faults net.new)
+        ⊎ Rose (N.faults net.old listener) (N.faults net.new listener) }
+    ensures leaves { LeavesAcceptor (meanings N.link N.place N.faults N.poll_faults) plan net.old net.new }
+    ensures seat { LeavesSeat words.now 0 acceptor_deal 1 pass.new result }
+{
+    let Some(board) = take_seat(words, pass, ACCEPTOR, acceptor_share()) else {
+        return Err(ManyError::Memory);
+    };
+    let mut board = board;
+    let outcome = accept_plan(rt, alloc, &mut board, net, lines, bells, plan, number);
+    leave_seat(words, pass, board);
     outcome
 }
 
@@ -286,6 +305,8 @@ fn end_all<R: Wait, L: Drop, B: Bell>(rt: &R, lines: &mut [LineIn<Message<L>>], 
 fn deal_plan<R: Wait, N: Passable, B: Bell>(
     rt: &R,
     alloc: Global,
+    words: &Words,
+    pass: &mut Pass,
     net: &mut N,
     lines: &mut [LineIn<Message<N::Link>>],
     bells: &[B],
@@ -295,12 +316,14 @@ fn deal_plan<R: Wait, N: Passable, B: Bell>(
     requires fresh { (c : Channel) → IsUnused (N.link net.old c) }
     requires unasked { (c : Channel) → N.place net.old c ≡ unused }
     requires some { 0 < length lines.old }
+    requires newcomer { IsNewcomer words.now pass.old (caller 0) }
     ensures accepted { HasAccepted (meanings N.link N.place N.faults N.poll_faults) N.accepted plan net.old net.new
         result }
     ensures sent { HasSent (N.accepted net.old) (N.accepted net.new) lines.old lines.new }
+    ensures seat { LeavesSeat words.now 0 acceptor_deal 1 pass.new result }
 {
     let mut number = 0;
-    let outcome = accept_plan(rt, alloc, net, lines, bells, plan, &mut number);
+    let outcome = accept_seated(rt, alloc, words, pass, net, lines, bells, plan, &mut number);
     end_all(rt, lines, bells);
     outcome
 }
@@ -308,6 +331,7 @@ fn deal_plan<R: Wait, N: Passable, B: Bell>(
 /// Accepts all connections of the plan, and sends each to its worker. At every end, the end of the lines is sent too.
 pub(crate) fn accept_all<R: Wait, N: Passable, B: Bell + Drop>(
     rt: &R,
+    words: &Words,
     net: &mut N,
     outgoing: &mut Outgoing<N::Link, B>,
 ) -> Result<(), ManyError>
@@ -315,16 +339,28 @@ pub(crate) fn accept_all<R: Wait, N: Passable, B: Bell + Drop>(
     requires fresh { (c : Channel) → IsUnused (N.link net.old c) }
     requires unasked { (c : Channel) → N.place net.old c ≡ unused }
     requires some { 0 < length outgoing.old.lines.items }
+    requires newcomer { IsNewcomer words.now outgoing.old.pass (caller 0) }
     ensures accepted { HasAccepted (meanings N.link N.place N.faults N.poll_faults) N.accepted outgoing.old.plan net.old
         net.new result }
     ensures sent { HasSent (N.accepted net.old) (N.accepted net.new) outgoing.old.lines.items
         outgoing.new.lines.items }
+    ensures seat { LeavesSeat words.now 0 acceptor_deal 1 outgoing.new.pass result }
 {
     let Outgoing {
         alloc,
+        pass,
         lines,
         bells,
         plan,
     } = outgoing;
-    deal_plan(rt, *alloc, net, lines.as_mut_slice(), bells, *plan)
+    deal_plan(
+        rt,
+        *alloc,
+        words,
+        pass,
+        net,
+        lines.as_mut_slice(),
+        bells,
+        *plan,
+    )
 }

@@ -57,15 +57,13 @@ impl<'a> Reading<&'a Asked, LookedKey> for Keys {
     ghost items = { λ asked. asked.now };
 }
 
-// The index of the listener's key, where it is watched.
+// The index of the listener's key, where it is watched: it was registered first, so it is the first of the list.
 fn listener_key(asked: &Asked) -> Option<u32> {
-    for at in 0..asked.len() {
-        let (index, chan, _ops) = asked.entry(at);
-        if chan.0 == 0 {
-            return Some(index);
-        }
+    if asked.len() == 0 {
+        return None;
     }
-    None
+    let (index, chan, _ops) = asked.entry(0);
+    if chan.0 == 0 { Some(index) } else { None }
 }
 
 // The next message of a line: waits for it, or takes one that has come.

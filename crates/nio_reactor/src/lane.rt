@@ -14,6 +14,7 @@ use nio_relay::Served;
 use nio_serve::ServeError;
 use nio_steps::LookedKey;
 use nio_trace::Trace;
+use nio_words::Pass;
 use std::alloc::Global;
 
 /// What came last on a line, and wasn't used yet.
@@ -27,7 +28,7 @@ pub(crate) enum Heard<L> {
 /// A worker's net, with the line on which its links come. The net itself has no listener.
 #[derive(Drop)]
 pub(crate) struct Lane<N: Passable> {
-    /// Where the worker's table and its buffers are allocated.
+    /// Where the worker's selections and its buffers are allocated.
     pub alloc: Global,
     pub net: N,
     pub line: LineOut<Message<N::Link>>,
@@ -52,6 +53,13 @@ pub(crate) struct Lane<N: Passable> {
     ghost spare: { N.place net listener ≡ unused },
     ghost order: { map turn_of put ≡ turns_of door (length put) },
     ghost turn: { next ≡ next_of door (length put) },
+}
+
+/// A worker: its lane, and the pass that has its number at the shared table.
+#[derive(Drop)]
+pub(crate) struct Worker<N: Passable> {
+    pub lane: Lane<N>,
+    pub pass: Pass,
 }
 
 impl<N: Passable> Lane<N> {

@@ -13,4 +13,5 @@ mod handover;
 mod lane;
 mod many;
 mod message;
+mod table;
 mod working;

@@ -1,20 +1,23 @@
 //! The workers.
-ghost use Rattle.std.specs.Prelude.{◌≡◌, ◌≢◌, ◌<◌, ◌≤◌, false, All, length};
-ghost use Rattle.nio_relay.specs.Plan.{IsServable};
+ghost use Rattle.std.specs.Prelude.{◌≡◌, ◌≢◌, ◌+◌, ◌<◌, ◌≤◌, false, All, length};
 ghost use Rattle.nio_reactor.specs.Dealing.{share};
 ghost use Rattle.nio_reactor.specs.Doors.{worker_at, workers_at};
 ghost use Rattle.nio_reactor.specs.Handing.{HasHanded, HaveHanded};
 ghost use Rattle.nio_reactor.specs.Many.{meanings};
+ghost use Rattle.nio_reactor.specs.Placing.{caller};
+ghost use Rattle.nio_reactor.specs.Seats.{HaveSeats, IsNewcomer, LeaveSeats, LeavesSeat, channels_for, deal_of};
 ghost use Rattle.nio_reactor.specs.Working.{HasWorked, HaveWorked, IsFresh};
 ghost use Rattle.nio_reactor.specs.declared.door.Door.TheVariants.{Unasked};
 
 use crate::by_line::ByLine;
 use crate::door::address_of;
-use crate::lane::Lane;
+use crate::lane::Worker;
+use crate::table::{leave_seat, share_for, take_seat};
 use nio_base::Gate;
 use nio_link::Passable;
 use nio_relay::{ProxyPlan, Served};
-use nio_serve::{ServeError, serve};
+use nio_serve::{Deal, ServeError, serve_on};
+use nio_words::Words;
 use std::alloc::Global;
 use std::sync::Wait;
 use std::thread;
@@ -36,21 +39,25 @@ fn share_of(workers: u32, worker: u32, conns: u32) -> u32
     count
 }
 
-// Serves the connections that come on the line, so many. The plan listens at the line's address.
+// Serves the connections that come on the line, so many, at the worker's seat. The plan listens at the line's address.
 fn work_share<R: Wait, H: Wait, N: Passable, G: Gate>(
     rt: &R,
-    alloc: Global,
+    words: &Words,
     way: &mut ByLine<'_, H, G>,
-    lane: &mut Lane<N>,
+    worker: &mut Worker<N>,
     plan: ProxyPlan,
+    deal: Deal,
 ) -> Result<Served, ServeError>
     requires conns { plan.conns ≤ 16000 }
-    requires fresh { IsFresh (meanings N.link N.place N.faults N.poll_faults) lane.old.net }
-    requires door { lane.old.door ≡ Unasked }
-    requires on_time { lane.old.is_early ≡ false }
-    ensures worked { HasWorked (meanings N.link N.place N.faults N.poll_faults) plan.target plan.conns lane.old.net
-        lane.new.net lane.new.is_early result }
-    ensures handed { HasHanded (workers_at plan.listen) (worker_at plan.listen) plan.conns lane.new.put result }
+    requires one { deal.worker < 16 }
+    requires fresh { IsFresh (meanings N.link N.place N.faults N.poll_faults) worker.old.lane.net }
+    requires door { worker.old.lane.door ≡ Unasked }
+    requires on_time { worker.old.lane.is_early ≡ false }
+    requires newcomer { IsNewcomer words.now worker.old.pass (caller (deal.worker + 1)) }
+    ensures worked { HasWorked (meanings N.link N.place N.faults N.poll_faults) plan.target plan.conns
+        worker.old.lane.net worker.new.lane.net worker.new.lane.is_early result }
+    ensures handed { HasHanded (workers_at plan.listen) (worker_at plan.listen) plan.conns worker.new.lane.put result }
+    ensures leaves { LeavesSeat words.now (deal.worker + 1) deal (channels_for plan.conns) worker.new.pass result }
 {
     if plan.conns == 0 {
         return Ok(Served {
@@ -58,66 +65,91 @@ fn work_share<R: Wait, H: Wait, N: Passable, G: Gate>(
             faults: 0,
         });
     }
-    serve(rt, alloc, way, lane, plan)
+    let Worker { lane, pass } = worker;
+    let Some(board) = take_seat(words, pass, deal.worker + 1, deal) else {
+        return Err(ServeError::Memory);
+    };
+    let (outcome, board) = serve_on(rt, lane.alloc, way, lane, board, plan);
+    leave_seat(words, pass, board);
+    outcome
 }
 
 // Is this worker, of so many: serves its share of the plan.
 fn work<R: Wait, N: Passable, G: Gate>(
     rt: &R,
+    words: &Words,
     gate: &G,
     plan: ProxyPlan,
     workers: u32,
-    worker: u32,
-    lane: &mut Lane<N>,
+    number: u32,
+    worker: &mut Worker<N>,
 )
     requires workers { workers ≢ 0 }
     requires few { workers < 16 }
-    requires one { worker < 16 }
+    requires one { number < 16 }
     requires conns { plan.conns ≤ 16000 }
-    requires fresh { IsFresh (meanings N.link N.place N.faults N.poll_faults) lane.old.net }
-    requires door { lane.old.door ≡ Unasked }
-    requires on_time { lane.old.is_early ≡ false }
+    requires fresh { IsFresh (meanings N.link N.place N.faults N.poll_faults) worker.old.lane.net }
+    requires door { worker.old.lane.door ≡ Unasked }
+    requires on_time { worker.old.lane.is_early ≡ false }
+    requires newcomer { IsNewcomer words.now worker.old.pass (caller (number + 1)) }
     ensures worked { HasWorked (meanings N.link N.place N.faults N.poll_faults) plan.target
-        (share workers worker plan.conns) lane.old.net lane.new.net lane.new.is_early lane.new.outcome }
-    ensures handed { HasHanded workers worker (share workers worker plan.conns) lane.new.put lane.new.outcome }
+        (share workers number plan.conns) worker.old.lane.net worker.new.lane.net worker.new.lane.is_early
+        worker.new.lane.outcome }
+    ensures handed { HasHanded workers number (share workers number plan.conns) worker.new.lane.put
+        worker.new.lane.outcome }
+    ensures leaves { LeavesSeat words.now (number + 1) (deal_of workers number plan.conns)
+        (channels_for (share workers number plan.conns)) worker.new.pass worker.new.lane.outcome }
 {
-    let mut way = ByLine::over(rt, gate, worker, lane.has_bell);
+    let mut way = ByLine::over(rt, gate, number, worker.lane.has_bell);
     let mine = ProxyPlan {
-        listen: address_of(workers, worker),
+        listen: address_of(workers, number),
         target: plan.target,
-        conns: share_of(workers, worker, plan.conns),
+        conns: share_of(workers, number, plan.conns),
     };
-    let outcome = work_share(rt, lane.alloc, &mut way, lane, mine);
-    lane.outcome = outcome;
+    let deal = share_for(workers, number, plan.conns);
+    let outcome = work_share(rt, words, &mut way, worker, mine, deal);
+    worker.lane.outcome = outcome;
 }
 
 /// Lets every worker serve its share of the plan, each in a thread of its own. All have returned at the end.
 pub(crate) fn work_all<R: Threads + Wait + Sync, N: Passable + Send, G: Gate + Sync>(
     rt: &R,
+    words: &Words,
     gate: &G,
     plan: ProxyPlan,
-    lanes: &mut [Lane<N>],
+    workers: &mut [Worker<N>],
 )
-    requires few { length lanes.old ≤ 15 }
+    requires few { length workers.old ≤ 15 }
     requires conns { plan.conns ≤ 16000 }
-    requires fresh { All (λ l. IsFresh (meanings N.link N.place N.faults N.poll_faults) l.net) lanes.old }
-    requires doors { All (λ l. l.door ≡ Unasked) lanes.old }
-    requires on_time { All (λ l. l.is_early ≡ false) lanes.old }
-    ensures worked { HaveWorked (meanings N.link N.place N.faults N.poll_faults) plan (λ l. l.net) (λ l. l.is_early)
-        (λ l. l.outcome) lanes.old lanes.new }
-    ensures handed { HaveHanded plan (λ l. l.put) (λ l. l.outcome) lanes.old lanes.new }
-    ensures count { length lanes.new ≡ length lanes.old }
+    requires fresh { All (λ x. IsFresh (meanings N.link N.place N.faults N.poll_faults) x.lane.net) workers.old }
+    requires doors { All (λ x. x.lane.door ≡ Unasked) workers.old }
+    requires on_time { All (λ x. x.lane.is_early ≡ false) workers.old }
+    requires seats { HaveSeats words.now (λ x. x.pass) workers.old }
+    ensures worked { HaveWorked (meanings N.link N.place N.faults N.poll_faults) plan (λ x. x.lane.net)
+        (λ x. x.lane.is_early) (λ x. x.lane.outcome) workers.old workers.new }
+    ensures handed { HaveHanded plan (λ x. x.lane.put) (λ x. x.lane.outcome) workers.old workers.new }
+    ensures leaves { LeaveSeats words.now plan (λ x. x.pass) (λ x. x.lane.outcome) workers.old workers.new }
+    ensures count { length workers.new ≡ length workers.old }
 {
-    let threads = lanes.len().max(1);
-    let workers = threads as u32;
+    let threads = workers.len().max(1);
+    let count = threads as u32;
     thread::for_each_mut(
         rt,
-        lanes,
+        workers,
         threads,
-        &|worker, lane|
-            requires { (worker < 16) × (workers ≢ 0) × (workers < 16) × (plan.conns ≤ 16000)
-                × IsFresh (meanings N.link N.place N.faults N.poll_faults) lane.old.net
-                × (lane.old.door ≡ Unasked) × (lane.old.is_early ≡ false) }
-        { work(rt, gate, plan, workers, worker as u32, lane) },
+        &|number, worker|
+            requires { (number < 16) × (count ≢ 0) × (count < 16) × (plan.conns ≤ 16000)
+                × IsFresh (meanings N.link N.place N.faults N.poll_faults) worker.old.lane.net
+                × (worker.old.lane.door ≡ Unasked) × (worker.old.lane.is_early ≡ false)
+                × IsNewcomer words.now worker.old.pass (caller (number + 1)) }
+            ensures { HasWorked (meanings N.link N.place N.faults N.poll_faults) plan.target
+                (share count number plan.conns) worker.old.lane.net worker.new.lane.net
+                worker.new.lane.is_early worker.new.lane.outcome
+                × HasHanded count number (share count number plan.conns) worker.new.lane.put
+                worker.new.lane.outcome
+                × LeavesSeat words.entry.now (number + 1) (deal_of count number plan.conns)
+                (channels_for (share count number plan.conns)) worker.new.pass
+                worker.new.lane.outcome }
+        { work(rt, words, gate, plan, count, number as u32, worker) },
     );
 }

@@ -3,7 +3,7 @@
 ghost use Rattle.std.specs.Prelude.{◌≤◌, All, IfOk, length};
 ghost use Rattle.nio_mio.specs.Unasked.{IsUnasked};
 
-use crate::nets::serve_fresh;
+use crate::nets::{parts_of, serve_fresh};
 use nio_base::{Addr, NoGate};
 use nio_mio::{MioBell, MioNet};
 use nio_reactor::ManyError;
@@ -80,7 +80,9 @@ fn relay<R: Threads + Wait + Sync>(
     };
     let (mut net, _bell) = MioNet::make(system, alloc)?;
     let (mut more, bells) = nets_of(system, alloc)?;
-    Ok(serve_fresh(rt, alloc, &mut net, &mut more, bells, &NoGate, plan))
+    let done = serve_fresh(rt, alloc, &mut net, &mut more, bells, &NoGate, plan);
+    let (served, _pass) = parts_of(done);
+    Ok(served)
 }
 
 /// Connects once somebody listens.

@@ -13,6 +13,7 @@ use nio_poller::{Bell, NoBell};
 use nio_reactor::{ManyError, serve_many};
 use nio_relay::{ProxyPlan, Served};
 use nio_trace::Trace;
+use nio_words::Pass;
 use std::alloc::{AllocError, Global};
 use std::sync::Wait;
 use std::thread::Threads;
@@ -179,7 +180,7 @@ pub(crate) fn serve_fresh<
     bells: Vec<B>,
     gate: &G,
     plan: ProxyPlan,
-) -> Result<Served, ManyError>
+) -> Result<(Served, Pass), ManyError>
     requires plan { IsServable plan }
     requires some { 1 ≤ length more.old.items }
     requires few { length more.old.items ≤ 15 }
@@ -191,15 +192,26 @@ pub(crate) fn serve_fresh<
     serve_many(rt, alloc, net, more, bells, gate, plan, &mut Trace::new())
 }
 
+/// What was answered, and the pass, where there is one.
+pub(crate) fn parts_of(
+    done: Result<(Served, Pass), ManyError>,
+) -> (Result<Served, ManyError>, Option<Pass>) {
+    match done {
+        Ok((served, pass)) => (Ok(served), Some(pass)),
+        Err(error) => (Err(error), None),
+    }
+}
+
 pub(crate) const ANYWHERE: Addr = Addr {
     ip: [127, 0, 0, 1],
     port: 8080,
 };
 
-/// What a proxy with workers came to, its net, and those of the workers.
+/// What a proxy with workers came to, its pass, its net, and those of the workers.
 #[derive(Drop)]
 pub(crate) struct Relayed {
     pub served: Result<Served, ManyError>,
+    pub pass: Option<Pass>,
     pub net: Roomy<MemoryNet>,
     pub more: Vec<Roomy<MemoryNet>>,
 }
@@ -226,6 +238,12 @@ pub(crate) fn serves<R: Threads + Wait + Sync, G: Gate + Sync>(
     )?;
     let mut more = nets_of(alloc, workers, failures)?;
     let bells: Vec<NoBell> = Vec::new(alloc);
-    let served = serve_fresh(rt, alloc, &mut net, &mut more, bells, gate, plan);
-    Ok(Relayed { served, net, more })
+    let done = serve_fresh(rt, alloc, &mut net, &mut more, bells, gate, plan);
+    let (served, pass) = parts_of(done);
+    Ok(Relayed {
+        served,
+        pass,
+        net,
+        more,
+    })
 }

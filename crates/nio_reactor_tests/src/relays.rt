@@ -1,8 +1,9 @@
 //! Which bytes arrive in which net, and how the proxy ends.
 use crate::nets::{Failures, NO_FAILURES, OF_CLIENT, SENDER, bytes, serves};
-use nio_base::{ChanNo, NoGate};
+use nio_base::{CallerNo, ChanNo, NoGate};
 use nio_reactor::ManyError;
 use nio_relay::Served;
+use nio_words::Pass;
 use std::test::Fail;
 
 /// How many workers serve three connections, what fails, the answer, and for each worker how many bytes arrive at the
@@ -58,6 +59,16 @@ fn first_of(bytes: &[u8], count: usize) -> &[u8] {
     &bytes[..count.min(bytes.len())]
 }
 
+/// Whether the pass has the numbers of the acceptor and of so many workers, and no other.
+fn has_numbers(pass: &Pass, workers: usize) -> bool {
+    for number in 0..64 {
+        if pass.holds(CallerNo(number)) != (number as usize <= workers) {
+            return false;
+        }
+    }
+    true
+}
+
 #[test]
 fn bytes_arrive_at_the_targets(rt: HostRuntime) -> Result<(), Fail> {
     let sent = bytes(rt.alloc(), OF_CLIENT, 20_000)?;
@@ -71,6 +82,9 @@ fn bytes_arrive_at_the_targets(rt: HostRuntime) -> Result<(), Fail> {
             &NoGate,
         )?;
         assert!(rt; relayed.served == row.served, "{}", row.name);
+        if let Some(pass) = &relayed.pass {
+            assert!(rt; has_numbers(pass, row.workers), "{}", row.name);
+        }
         for (roomy, &(first, second)) in relayed.more.iter().zip(row.arrived) {
             let first_arrived = roomy.net.put_bytes(ChanNo(2)) == first_of(&sent, first);
             let second_arrived = roomy.net.put_bytes(ChanNo(4)) == first_of(&sent, second);

@@ -5,18 +5,14 @@ use Rattle.std.proofs.Math.Logic.{∥∥₁_map}
 use Rattle.std.proofs.lemmas.List.{append-nil, length-append}
 use mathlib.Core.List.{IsPrefix}
 use Rattle.nio_base.specs.Limits.{IsFit}
-use Rattle.nio_base.specs.declared.limits.Limits.{Limits}
 use Rattle.nio_base.specs.declared.numbers.CallerNo.{CallerNo}
-use Rattle.nio_event.proofs.Legal.{legal_beginning}
 use Rattle.nio_event.proofs.Stays.{facts_are_permanent}
 use Rattle.nio_event.specs.Histories.{state_after, IsLegal}
 use Rattle.nio_event.specs.Permanent.{caller_drawn}
 use Rattle.nio_event.specs.declared.event.Event.{Event}
-use Rattle.nio_orderly.proofs.CallLists.{beginnings_are_orderly, whole_is_orderly}
-use Rattle.nio_orderly.proofs.OrderlyClosings.{orderly_owes}
-use Rattle.nio_orderly.specs.Orderly.{IsWhole, IsOrderly}
-use Rattle.nio_orderly.specs.Owed.{Owed}
+use Rattle.nio_orderly.specs.Orderly.{IsWhole}
 use Rattle.nio_plain.specs.ScriptState.{ScriptState}
+use Rattle.nio_race.proofs.Promise.{owed_before}
 use Rattle.nio_serial.specs.Documented.{documented}
 use Rattle.nio_sole.specs.Drawn.{AreAllDrawn}
 use Rattle.nio_sole.specs.Sole.{Kept, limits_of, pass_of, state_of, words_of}
@@ -46,14 +42,6 @@ longer_is xs ys begins = by_rest begins.0 begins.1
         let less : length xs < length ys = omega (arith, more) in
         let is_less : nat_lt (length xs) (length ys) ≡ true = search rules in
         ap (λ b. if b then ys else xs) is_less
-
--- an orderly history owes nothing that nobody has still to do, and neither does a beginning of a whole one
-owed_before : (l : Limits) (events before : List Event) → IsFit l → IsLegal l events → IsPrefix before events
-    → IsWhole l events → Owed before
-owed_before l events before fit legal begins whole =
-    let rest = begins.0 in
-    orderly_owes l before fit (legal_beginning l before rest (subst (IsLegal l) (sym begins.1) legal))
-    (beginnings_are_orderly l before rest (subst (IsOrderly l) (sym begins.1) (whole_is_orderly l events whole)))
 
 -- either way
 pub either_way : {A B C D : Type 0} → (A → C) → (B → D) → A ⊎ B → C ⊎ D

@@ -5,6 +5,7 @@ ghost use Rattle.nio_link.specs.Links.{IsUnused};
 ghost use Rattle.nio_link.specs.Places.{unused};
 ghost use Rattle.nio_reactor.specs.Many.{AreAccepted, LeavesAcceptor, LeavesWorkers, NoneRoseOfAll, RelayBytes};
 ghost use Rattle.nio_reactor.specs.Many.{ServesAllCleanOr, ServesMany, meanings};
+ghost use Rattle.nio_reactor.specs.Placing.{served_of};
 ghost use Rattle.nio_reactor.specs.declared.many.ManyError.TheVariants.{Memory};
 ghost use Rattle.nio_relay.specs.Plan.{IsServable};
 ghost use Rattle.nio_run.specs.Many.{DoesMany};
@@ -20,6 +21,7 @@ use nio_reactor::{ManyError, serve_many};
 use nio_relay::{ProxyPlan, Served};
 use nio_script::Status;
 use nio_trace::Trace;
+use nio_words::Pass;
 use std::alloc::Global;
 use std::sync::Wait;
 use std::thread::Threads;
@@ -109,5 +111,15 @@ where
         &mut Trace::new(),
     );
     give_back(more, lent);
-    served
+    without_pass(served)
+}
+
+// What was answered, without the pass, which is let go.
+fn without_pass(served: Result<(Served, Pass), ManyError>) -> Result<Served, ManyError>
+    ensures { result ≡ served_of served }
+{
+    match served {
+        Ok((served, _pass)) => Ok(served),
+        Err(error) => Err(error),
+    }
 }

@@ -1,7 +1,10 @@
 pub mod Board
+pub mod BoardLaws
+pub mod Called
 pub mod Nets
 pub mod Passing
 pub mod Relaying
 pub mod Serving
 pub mod Slots
+pub mod Watching
 pub mod Ways

@@ -1,14 +1,15 @@
-//! The table of one serving caller.
-ghost use Rattle.std.specs.Prelude.{◌≡◌, IfOk};
+//! What one caller of a table serves by.
+ghost use Rattle.std.specs.Prelude.{◌≡◌, ◌+◌, None, IfOk, OnErr};
 ghost use Rattle.nio_event.specs.PassViews.{HasNoPin};
 ghost use Rattle.nio_poller.specs.Polls.{CountsFaults, told_of_channel};
 ghost use Rattle.nio_poller.specs.declared.poller.PollError.TheVariants.{Fault};
-ghost use Rattle.nio_select.specs.InProgress.{Selects};
-ghost use Rattle.nio_words.specs.Passes.{IsReady};
+ghost use Rattle.nio_words.specs.Passes.{IsReady, acts_seen, limits_of};
 ghost use Rattle.nio_words.specs.Views.{view};
+ghost use Rattle.nio_serve.specs.Called.{HasCalled, IsUnregistered};
 
-use self::selection::{begin, end, leave};
-use self::table::{open_next, register_channel, set_interest_of, unwatch_port, watch_channel};
+use self::selection::{begin, end, leave, poll, tell};
+use self::table::{set_interest_of, unwatch_port, watch_next};
+use crate::deal::Deal;
 use crate::way::Way;
 use nio_base::{CallerNo, ChanNo, KeyNo, Kind, Ops, SelNo};
 use nio_poller::PollError;
@@ -21,24 +22,36 @@ use std::sync::Wait;
 mod selection;
 mod table;
 
+/// The caller of a board, its selector, its deal, and how many channels it has registered.
+#[derive(Clone, Copy)]
+pub(crate) struct Station {
+    caller: CallerNo,
+    selector: SelNo,
+    deal: Option<Deal>,
+    registered: u32,
+}
+
 /// A table, on which other callers may make calls too, with what one of its callers serves by: a pass that has the
 /// caller's number, and a selector. Between two calls the caller has no pin, and no selection in progress.
+///
+/// The board's channels are numbered from 0 on, and are registered in this order, each once. Without a deal the board
+/// opens each as the table's next channel, so the table has to number them so too. With a deal another caller has
+/// opened them, and the deal says which channels of the table they are.
 #[derive(Drop)]
 pub struct Board<'a> {
     words: &'a Words,
     pass: Pass,
-    caller: CallerNo,
-    selector: SelNo,
+    station: Station,
 }
 
 impl<'a> Model for Board<'a> {
-    ghost use Rattle.nio_serve.specs.Board.{BoardView, IsIdle};
+    ghost use Rattle.nio_serve.specs.Board.{BoardView, IsAtRest, board_of};
 
     ghost Value = { BoardView };
 
-    ghost view = { λ b. record { words = b.words.now; pass = b.pass; caller = b.caller; selector = b.selector } };
+    ghost view = { λ b. board_of b.words.now b.pass b.station };
 
-    ghost invariant = { λ b. IsIdle b.words.now b.pass b.caller b.selector };
+    ghost invariant = { λ b. IsAtRest (board_of b.words.now b.pass b.station) };
 }
 
 /// A channel that is watched, and its key.
@@ -55,81 +68,72 @@ pub struct Port {
 pub struct Refused;
 
 impl<'a> Board<'a> {
-    ghost use Rattle.nio_serve.specs.Board.{AreOrdered, AreReady, IsIdle, IsSameSeat};
+    ghost use Rattle.nio_serve.specs.Board.{AreOrdered, AreReady, IsIdle, IsSameBoard, IsSameSeat, IsSelecting};
 
-    /// A board with a selector that was opened before.
-    pub fn over(words: &'a Words, pass: Pass, caller: CallerNo, selector: SelNo) -> Board<'a>
-        requires { IsIdle words.now pass caller selector }
-        ensures { result ≡ record { words = words.now; pass = pass; caller = caller; selector = selector } }
+    /// A board with a selector that was opened before, by a caller that has registered nothing.
+    pub fn over(
+        words: &'a Words,
+        pass: Pass,
+        caller: CallerNo,
+        selector: SelNo,
+        deal: Option<Deal>,
+    ) -> Board<'a>
+        requires idle { IsIdle words.now pass caller selector }
+        requires called { IsUnregistered (limits_of words.now) (acts_seen pass caller) }
+        ensures { result ≡ record {
+          words = words.now;
+          pass = pass;
+          caller = caller;
+          selector = selector;
+          deal = deal;
+          registered = 0;
+        } }
     {
         Board {
             words,
             pass,
-            caller,
-            selector,
+            station: Station {
+                caller,
+                selector,
+                deal,
+                registered: 0,
+            },
         }
     }
 
-    /// A board with the next selector of the table, which it opens. Refused where the table has none left.
+    /// A board without a deal, with the next selector of the table, which it opens. Refused where the table has none
+    /// left.
     pub fn open(words: &'a Words, pass: Pass, caller: CallerNo) -> Result<Board<'a>, Refused>
         requires ready { IsReady words.now pass caller }
         requires unpinned { HasNoPin (view words.now pass) caller }
+        requires called { IsUnregistered (limits_of words.now) (acts_seen pass caller) }
         ensures words { IfOk result (λ board. board.words ≡ words.now) }
         ensures caller { IfOk result (λ board. board.caller ≡ caller) }
+        ensures deal { IfOk result (λ board. board.deal ≡ None) }
+        ensures registered { IfOk result (λ board. board.registered ≡ 0) }
     {
         let mut pass = pass;
         match open_selector(words, &mut pass, caller) {
-            Ok(selector) => Ok(Board {
-                words,
-                pass,
-                caller,
-                selector,
-            }),
+            Ok(selector) => Ok(Board::over(words, pass, caller, selector, None)),
             Err(_spent) => Err(Refused),
         }
     }
 
-    /// Gives the pass back.
-    pub fn into_pass(self) -> Pass
-        ensures pass { result ≡ self.entry.pass }
-        ensures idle { IsIdle self.entry.words result self.entry.caller self.entry.selector }
+    /// Gives the pass back, and says how many channels were registered.
+    pub fn into_pass(self) -> (Pass, u32)
+        ensures pass { result.0 ≡ self.entry.pass }
+        ensures registered { result.1 ≡ self.entry.registered }
+        ensures idle { IsIdle self.entry.words result.0 self.entry.caller self.entry.selector }
+        ensures called { HasCalled (limits_of self.entry.words) (acts_seen result.0 self.entry.caller) self.entry.deal
+            self.entry.selector result.1 }
     {
-        self.pass
+        (self.pass, self.station.registered)
     }
 
-    /// Opens a channel of this kind. The channels of a table are numbered in the order in which they are opened, from 0
-    /// on: another number than the next is refused.
-    pub fn open_channel(&mut self, chan: ChanNo, kind: Kind) -> Result<(), Refused>
-        ensures { IsSameSeat self.old self.new }
-    {
-        open_next(
-            self.words,
-            &mut self.pass,
-            self.caller,
-            self.selector,
-            chan,
-            kind,
-        )
-    }
-
-    /// Registers a channel for these operations. Refused where the table has no such channel, where it is closed, or
-    /// where the selector has no key left.
-    pub fn register<R: Wait>(&mut self, rt: &R, chan: ChanNo, ops: Ops) -> Result<Port, Refused>
-        ensures seat { IsSameSeat self.old self.new }
-        ensures its { IfOk result (λ port. port.chan ≡ chan) }
-    {
-        register_channel(
-            rt,
-            self.words,
-            &mut self.pass,
-            self.caller,
-            self.selector,
-            chan,
-            ops,
-        )
-    }
-
-    /// Opens a channel of this kind, as `open_channel` does, and registers it for these operations.
+    /// Registers the board's next channel for these operations: without a deal it opens one of this kind, with a deal
+    /// it takes the channel that another caller has opened. Refused where `chan` isn't the next one, where the table
+    /// hasn't such a channel, or numbers the one that it opens otherwise, where the channel is closed, or where the
+    /// selector has no key left.
     pub fn watch<R: Wait>(
         &mut self,
         rt: &R,
@@ -139,68 +143,54 @@ impl<'a> Board<'a> {
     ) -> Result<Port, Refused>
         ensures seat { IsSameSeat self.old self.new }
         ensures its { IfOk result (λ port. port.chan ≡ chan) }
+        ensures next { IfOk result (λ _. chan.0 ≡ self.old.registered) }
+        ensures more { IfOk result (λ _. self.new.registered ≡ self.old.registered + 1) }
+        ensures same { OnErr result (self.new.registered ≡ self.old.registered) }
     {
-        watch_channel(
-            rt,
-            self.words,
-            &mut self.pass,
-            self.caller,
-            self.selector,
-            chan,
-            kind,
-            ops,
-        )
+        if chan.0 != self.station.registered || chan.0 == u32::MAX {
+            return Err(Refused);
+        }
+        let key = watch_next(rt, self.words, &mut self.pass, self.station, kind, ops)?;
+        self.station.registered += 1;
+        Ok(Port { key, chan })
     }
 
     /// Sets for which operations the channel is watched. Refused where the table has no such key, or the key isn't
     /// valid any more.
     pub fn set(&mut self, port: Port, ops: Ops) -> Result<(), Refused>
-        ensures { IsSameSeat self.old self.new }
+        ensures { IsSameBoard self.old self.new }
     {
-        set_interest_of(
-            self.words,
-            &mut self.pass,
-            self.caller,
-            self.selector,
-            port,
-            ops,
-        )
+        set_interest_of(self.words, &mut self.pass, self.station, port.key, ops)
     }
 
     /// Cancels the key, and closes the channel. Does nothing where the table has no such key or channel.
     pub fn unwatch(&mut self, port: Port)
-        ensures { IsSameSeat self.old self.new }
+        ensures { IsSameBoard self.old self.new }
     {
-        unwatch_port(self.words, &mut self.pass, self.caller, self.selector, port)
+        unwatch_port(self.words, &mut self.pass, self.station, port)
     }
 
     /// Begins a selection that waits until a watched channel is ready. Who begins one polls for it, and then ends it,
     /// or leaves it where the poll had no answer. A refusal of the table is answered as want of memory.
     pub fn begin(&mut self, alloc: Global) -> Result<Selecting, AllocError>
-        ensures seat { IsSameSeat self.old self.new }
-        ensures begun { IfOk result (Selects (view self.new.words self.new.pass) self.new.caller) }
+        ensures same { IsSameBoard self.old self.new }
+        ensures begun { IfOk result (IsSelecting self.new) }
     {
-        begin(
-            alloc,
-            self.words,
-            &mut self.pass,
-            self.caller,
-            self.selector,
-        )
+        begin(alloc, self.words, &mut self.pass, self.station)
     }
 
     /// Ends a selection with what a poller answered for it. `told` then lists which channels are ready for what, as far
     /// as they are watched for it, in the order of their numbers; it can be empty, and a channel can stand there twice.
-    /// Its memory is used again. Nothing but the selection's own steps goes with the channels of which nothing was
-    /// told.
+    /// They are numbered as the table numbers them. Its memory is used again. Nothing but the selection's own steps
+    /// goes with the channels of which nothing was told.
     pub fn end(
         &mut self,
         selection: Selecting,
         answer: &Told,
         told: &mut Vec<(ChanNo, Ops)>,
     ) -> Result<(), AllocError>
-        requires { Selects (view self.old.words self.old.pass) self.old.caller selection }
-        ensures seat { IsSameSeat self.old self.new }
+        requires { IsSelecting self.old selection }
+        ensures same { IsSameBoard self.old self.new }
         ensures ready { IfOk result (λ _. AreReady (told_of_channel selection.looked answer.now.pairs.items)
             told.new.items) }
         ensures ordered { IfOk result (λ _. AreOrdered told.new.items) }
@@ -208,8 +198,7 @@ impl<'a> Board<'a> {
         end(
             self.words,
             &mut self.pass,
-            self.caller,
-            self.selector,
+            self.station,
             selection,
             answer,
             told,
@@ -218,20 +207,14 @@ impl<'a> Board<'a> {
 
     /// Leaves a selection.
     pub fn leave(&mut self, selection: Selecting)
-        requires { Selects (view self.old.words self.old.pass) self.old.caller selection }
-        ensures { IsSameSeat self.old self.new }
+        requires { IsSelecting self.old selection }
+        ensures { IsSameBoard self.old self.new }
     {
-        leave(
-            self.words,
-            &mut self.pass,
-            self.caller,
-            self.selector,
-            selection,
-        )
+        leave(self.words, &mut self.pass, self.station, selection)
     }
 
     /// One selection, with one poll, which the way makes: waits until a watched channel is ready, or until the poll
-    /// returns early. `told` then lists what `end` says.
+    /// returns early. `told` then lists what `end` says, as the board numbers its channels; so the poll is asked too.
     pub fn select<R: Wait, N, W: Way<N>>(
         &mut self,
         rt: &R,
@@ -240,7 +223,7 @@ impl<'a> Board<'a> {
         net: &mut N,
         told: &mut Vec<(ChanNo, Ops)>,
     ) -> Result<(), PollError>
-        ensures seat { IsSameSeat self.old self.new }
+        ensures same { IsSameBoard self.old self.new }
         ensures kept { W.kept net.old net.new }
         ensures cause { CountsFaults Fault (W.poll_faults net.old) (W.poll_faults net.new) result }
         ensures ready { IfOk result (λ _. AreReady (W.ready net.new) told.new.items) }
@@ -249,15 +232,24 @@ impl<'a> Board<'a> {
         let Ok(selection) = self.begin(alloc) else {
             return Err(PollError::Memory);
         };
-        match way.poll(net, rt, alloc, selection.asked(), selection.mode()) {
-            Ok(answer) => match self.end(selection, &answer, told) {
-                Ok(()) => Ok(()),
-                Err(AllocError) => Err(PollError::Memory),
-            },
+        let deal = self.station.deal;
+        match poll(rt, alloc, way, net, &selection, deal, told) {
+            Ok(answer) => {
+                self.tell(selection, &answer);
+                Ok(())
+            }
             Err(error) => {
                 self.leave(selection);
                 Err(error)
             }
         }
+    }
+
+    // Tells a selection what a poller answered, which ends it.
+    fn tell(&mut self, selection: Selecting, answer: &Told)
+        requires { IsSelecting self.old selection }
+        ensures { IsSameBoard self.old self.new }
+    {
+        tell(self.words, &mut self.pass, self.station, selection, answer)
     }
 }

@@ -8,11 +8,13 @@ ghost use Rattle.nio_link.specs.Places.{unused, IsVacant};
 ghost use Rattle.nio_link.specs.declared.place.Role.TheVariants as role;
 ghost use Rattle.nio_link.specs.declared.place.Standing.TheVariants.{Linked, Listening, Nothing};
 ghost use Rattle.nio_steps.specs.KeyCalls.{is_within};
+ghost use Rattle.nio_serve.specs.Board.{IsSameBoard};
 ghost use Rattle.nio_serve.specs.Nets.{Accepts, FailsToAccept, IsQuiet, IsStill};
 ghost use Rattle.nio_serve.specs.Serving.{client_of, listener, target_of};
 ghost use Rattle.nio_serve.specs.declared.serving.ServeError.TheVariants.{NetFault};
 ghost use Rattle.nio_serve.specs.declared.slot.Slot.TheVariants.{Live, Unaccepted};
 ghost use Rattle.nio_serve.specs.Slots.{AreServed, IsSameButOne, Serving, has_ended, has_faulted};
+ghost use Rattle.nio_serve.specs.Watching.{Watching, WatchesAll};
 
 use crate::board::{Board, Refused};
 use crate::proxy::LISTENER;
@@ -184,6 +186,8 @@ impl Connections {
         ensures ready { (c : ChanNo) → c ≢ client_of number → c ≢ target_of number → W.ready net.new c
             ≡ W.ready net.old c }
         ensures listens { W.place net.new listener ≡ W.place net.old listener }
+        ensures count { length self.new.slots.items ≡ length self.old.slots.items }
+        ensures board { IsSameBoard board.old board.new }
     {
         let Some(relay) = self.take(number) else {
             return Ok(());
@@ -218,6 +222,8 @@ impl Connections {
         ensures serving { Serving W.Way net.old net.new self.old self.new }
         ensures ready { (c : ChanNo) → W.ready net.new c ≡ W.ready net.old c }
         ensures listens { W.place net.new listener ≡ W.place net.old listener }
+        ensures count { length self.new.slots.items ≡ length self.old.slots.items }
+        ensures board { IsSameBoard board.old board.new }
     {
         let Some(relay) = self.take(number) else {
             return Ok(());
@@ -252,11 +258,13 @@ impl Connections {
         requires served { AreServed (W.link net.old) (W.place net.old) self.old }
         requires few { length self.old.slots.items < self.old.conns }
         requires listening { IsTrue self.old.is_listening }
+        requires watched { WatchesAll board.old self.old }
         ensures serving { Serving W.Way net.old net.new self.old self.new }
         ensures ready { IsSameBut listener (W.ready net.old) (W.ready net.new) }
         ensures listens { W.place net.new listener ≡ W.place net.old listener }
         ensures cause { result ≡ Err NetFault → Rose (W.faults net.old listener) (W.faults net.new listener) }
         ensures more { IfOk result (λ more. IsTrue more → W.ready net.new listener ≡ W.ready net.old listener) }
+        ensures watching { Watching board.old board.new self.new result }
     {
         let (client, target) = links_of(self.slots.len());
         match accept(way, net, client) {
@@ -300,11 +308,13 @@ impl Connections {
         requires served { AreServed (W.link net.old) (W.place net.old) self.old }
         requires few { length self.old.slots.items < self.old.conns }
         requires listening { IsTrue self.old.is_listening }
+        requires watched { WatchesAll board.old self.old }
         ensures serving { Serving W.Way net.old net.new self.old self.new }
         ensures ready { IsSameBut listener (W.ready net.old) (W.ready net.new) }
         ensures listens { W.place net.new listener ≡ W.place net.old listener }
         ensures cause { result ≡ Err NetFault → Rose (W.faults net.old listener) (W.faults net.new listener) }
         ensures more { IfOk result (λ more. IsTrue more → W.ready net.new listener ≡ W.ready net.old listener) }
+        ensures watching { Watching board.old board.new self.new result }
     {
         let number = self.slots.len();
         if !self.accept_next(rt, alloc, way, net, board)? {

@@ -2,13 +2,17 @@
 #![tactic(auto)]
 
 pub use board::{Board, Port, Refused};
+pub use deal::Deal;
 pub use direct::Direct;
-pub use serving::{ServeError, serve};
+pub use laws::{board_law, deal_law};
+pub use serving::{ServeError, serve, serve_on};
 pub use way::Way;
 
 mod board;
 mod connections;
+mod deal;
 mod direct;
+mod laws;
 mod link;
 mod proxy;
 mod serving;

@@ -1,5 +1,5 @@
 //! The proxy at work: accepting, and serving what a selection tells.
-ghost use Rattle.std.specs.Prelude.{◌≡◌, ◌≢◌, ◌-◌, ◌/◌, ◌≤◌, ◌⊎◌, [], Err, IfOk, IsSome, IsTrue, OnOk};
+ghost use Rattle.std.specs.Prelude.{◌≡◌, ◌≢◌, ◌-◌, ◌/◌, ◌≤◌, ◌⊎◌, [], Err, IfErr, IfOk, IsSome, IsTrue, OnOk};
 ghost use Rattle.std.specs.Prelude.{length, vec_capacity};
 ghost use Rattle.nio_base.specs.declared.numbers.ChanNo.{ChanNo};
 ghost use Rattle.nio_bytes.specs.Cause.{Rose};
@@ -7,11 +7,12 @@ ghost use Rattle.nio_link.specs.Links.{IsSameBut};
 ghost use Rattle.nio_link.specs.Places.{IsVacant};
 ghost use Rattle.nio_link.specs.declared.place.Standing.TheVariants.{Listening};
 ghost use Rattle.nio_steps.specs.KeyCalls.{is_within};
-ghost use Rattle.nio_serve.specs.Board.{AreOrdered, AreReady};
+ghost use Rattle.nio_serve.specs.Board.{AreOrdered, AreReady, IsSameBoard, IsSameSeat};
 ghost use Rattle.nio_serve.specs.Nets.{IsQuiet};
 ghost use Rattle.nio_serve.specs.Passing.{channel_after};
 ghost use Rattle.nio_serve.specs.Serving.{client_of, listener, target_of};
 ghost use Rattle.nio_serve.specs.Slots.{AreServed, ListensAt, Serving};
+ghost use Rattle.nio_serve.specs.Watching.{Watching, WatchesAll};
 ghost use Rattle.nio_serve.specs.declared.serving.ServeError.TheVariants.{NetFault};
 
 use crate::board::{Board, Port, Refused};
@@ -45,20 +46,21 @@ fn number_of(chan: ChanNo) -> usize
 /// What a proxy works with. The listener is watched at its port, for `interest`, until all connections were accepted.
 #[derive(Drop)]
 pub(crate) struct Proxy<'a> {
-    board: Board<'a>,
+    pub board: Board<'a>,
     pub port: Option<Port>,
     interest: Ops,
     pub connections: Connections,
 }
 
 impl<'a> Proxy<'a> {
-    /// A proxy that hasn't begun to listen.
+    /// A proxy that hasn't begun to listen. Gives the board back where it can't be made.
     pub(crate) fn open<R: Wait>(
         rt: &R,
         alloc: Global,
         board: Board<'a>,
         plan: ProxyPlan,
-    ) -> Result<Proxy<'a>, Refused>
+    ) -> Result<Proxy<'a>, Board<'a>>
+        requires unregistered { board.registered ≡ 0 }
         ensures slots { IfOk result (λ proxy. proxy.connections.slots.items ≡ []) }
         ensures room { IfOk result (λ proxy. plan.conns ≤ vec_capacity proxy.connections.slots) }
         ensures target { IfOk result (λ proxy. proxy.connections.target ≡ plan.target) }
@@ -68,18 +70,30 @@ impl<'a> Proxy<'a> {
         ensures accepted { IfOk result (λ proxy. proxy.connections.accepted ≡ 0) }
         ensures ended { IfOk result (λ proxy. proxy.connections.ended ≡ 0) }
         ensures faulted { IfOk result (λ proxy. proxy.connections.faulted ≡ 0) }
+        ensures seat { IfOk result (λ proxy. IsSameSeat board.entry proxy.board) }
+        ensures registered { IfOk result (λ proxy. WatchesAll proxy.board proxy.connections) }
+        ensures refused { IfErr result (IsSameBoard board.entry) }
     {
         let Ok(connections) = Connections::make(alloc, plan.conns, plan.target) else {
-            return Err(Refused);
+            return Err(board);
         };
         let mut board = board;
-        let port = board.watch(rt, LISTENER, Kind::Listener, Ops::ACCEPT)?;
-        Ok(Proxy {
-            board,
-            port: Some(port),
-            interest: Ops::ACCEPT,
-            connections,
-        })
+        match board.watch(rt, LISTENER, Kind::Listener, Ops::ACCEPT) {
+            Ok(port) => Ok(Proxy {
+                board,
+                port: Some(port),
+                interest: Ops::ACCEPT,
+                connections,
+            }),
+            Err(Refused) => Err(board),
+        }
+    }
+
+    /// Gives the board back.
+    pub(crate) fn into_board(self) -> Board<'a>
+        ensures { result ≡ self.entry.board }
+    {
+        self.board
     }
 
     // Accepts the next connection, if the plan has one and it has come. Says whether another one may have come.
@@ -93,12 +107,14 @@ impl<'a> Proxy<'a> {
         requires ready { IsTrue (is_within 16 (W.ready net.old listener)) }
         requires listens { (W.place net.old listener).standing ≡ Listening }
         requires served { AreServed (W.link net.old) (W.place net.old) self.old.connections }
+        requires watched { WatchesAll self.old.board self.old.connections }
         ensures serving { Serving W.Way net.old net.new self.old.connections self.new.connections }
         ensures ready { IsSameBut listener (W.ready net.old) (W.ready net.new) }
         ensures listens { W.place net.new listener ≡ W.place net.old listener }
         ensures port { self.new.port ≡ self.old.port }
         ensures cause { result ≡ Err NetFault → Rose (W.faults net.old listener) (W.faults net.new listener) }
         ensures more { IfOk result (λ more. IsTrue more → W.ready net.new listener ≡ W.ready net.old listener) }
+        ensures watching { Watching self.old.board self.new.board self.new.connections result }
     {
         let has_next = self.connections.slots.len() < self.connections.conns as usize;
         if has_next && self.connections.is_listening {
@@ -120,11 +136,13 @@ impl<'a> Proxy<'a> {
         requires ready { IsTrue (is_within 16 (W.ready net.old listener)) }
         requires listens { (W.place net.old listener).standing ≡ Listening }
         requires served { AreServed (W.link net.old) (W.place net.old) self.old.connections }
+        requires watched { WatchesAll self.old.board self.old.connections }
         ensures serving { Serving W.Way net.old net.new self.old.connections self.new.connections }
         ensures listens { W.place net.new listener ≡ W.place net.old listener }
         ensures port { self.new.port ≡ self.old.port }
         ensures ready { IsSameBut listener (W.ready net.old) (W.ready net.new) }
         ensures cause { result ≡ Err NetFault → Rose (W.faults net.old listener) (W.faults net.new listener) }
+        ensures watching { Watching self.old.board self.new.board self.new.connections result }
     {
         for _ in 0..=self.connections.conns {
             if !self.accept_one(rt, alloc, way, net)? {
@@ -146,11 +164,13 @@ impl<'a> Proxy<'a> {
         requires ready { IsTrue (is_within ops (W.ready net.old listener)) }
         requires listens { ListensAt self.old.port (W.place net.old listener).standing }
         requires served { AreServed (W.link net.old) (W.place net.old) self.old.connections }
+        requires watched { WatchesAll self.old.board self.old.connections }
         ensures serving { Serving W.Way net.old net.new self.old.connections self.new.connections }
         ensures listens { W.place net.new listener ≡ W.place net.old listener }
         ensures port { self.new.port ≡ self.old.port }
         ensures ready { IsSameBut listener (W.ready net.old) (W.ready net.new) }
         ensures cause { result ≡ Err NetFault → Rose (W.faults net.old listener) (W.faults net.new listener) }
+        ensures watching { Watching self.old.board self.new.board self.new.connections result }
     {
         if self.port.is_some() && Ops::ACCEPT.within(ops) {
             self.accept_all(rt, alloc, way, net)
@@ -173,12 +193,14 @@ impl<'a> Proxy<'a> {
         requires ready_client { IsTrue (is_within at_client (W.ready net.old (client_of number))) }
         requires ready_target { IsTrue (is_within at_target (W.ready net.old (target_of number))) }
         requires served { AreServed (W.link net.old) (W.place net.old) self.old.connections }
+        requires watched { WatchesAll self.old.board self.old.connections }
         ensures serving { Serving W.Way net.old net.new self.old.connections self.new.connections }
         ensures listens { W.place net.new listener ≡ W.place net.old listener }
         ensures port { self.new.port ≡ self.old.port }
         ensures ready { (c : ChanNo) → c ≢ client_of number → c ≢ target_of number → W.ready net.new c
             ≡ W.ready net.old c }
         ensures cause { result ≢ Err NetFault }
+        ensures watching { Watching self.old.board self.new.board self.new.connections result }
     {
         match self.connections.serve(
             way,
@@ -211,11 +233,13 @@ impl<'a> Proxy<'a> {
         requires ready_next { IsTrue (is_within next.1 (W.ready net.old next.0)) }
         requires listens { ListensAt self.old.port (W.place net.old listener).standing }
         requires served { AreServed (W.link net.old) (W.place net.old) self.old.connections }
+        requires watched { WatchesAll self.old.board self.old.connections }
         ensures serving { Serving W.Way net.old net.new self.old.connections self.new.connections }
         ensures listens { W.place net.new listener ≡ W.place net.old listener }
         ensures port { self.new.port ≡ self.old.port }
         ensures ready { (c : ChanNo) → channel_after told.0 ≤ c.0 → W.ready net.new c ≡ W.ready net.old c }
         ensures cause { result ≡ Err NetFault → Rose (W.faults net.old listener) (W.faults net.new listener) }
+        ensures watching { Watching self.old.board self.new.board self.new.connections result }
     {
         let (chan, ops) = told;
         if chan.0 == 0 {
@@ -247,10 +271,12 @@ impl<'a> Proxy<'a> {
         requires ordered { AreOrdered told.now }
         requires listens { ListensAt self.old.port (W.place net.old listener).standing }
         requires served { AreServed (W.link net.old) (W.place net.old) self.old.connections }
+        requires watched { WatchesAll self.old.board self.old.connections }
         ensures serving { Serving W.Way net.old net.new self.old.connections self.new.connections }
         ensures listens { W.place net.new listener ≡ W.place net.old listener }
         ensures port { self.new.port ≡ self.old.port }
         ensures cause { result ≡ Err NetFault → Rose (W.faults net.old listener) (W.faults net.new listener) }
+        ensures watching { Watching self.old.board self.new.board self.new.connections result }
     {
         let mut unserved = 0;
         for index in 0..told.len() {
@@ -278,12 +304,14 @@ impl<'a> Proxy<'a> {
         told: &mut Vec<(ChanNo, Ops)>,
     ) -> Result<(), ServeError>
         requires served { AreServed (W.link net.old) (W.place net.old) self.old.connections }
+        requires watched { WatchesAll self.old.board self.old.connections }
         ensures serving { Serving W.Way net.old net.new self.old.connections self.new.connections }
         ensures listens { W.place net.new listener ≡ W.place net.old listener }
         ensures port { self.new.port ≡ self.old.port }
         ensures ready { IfOk result (λ _. AreReady (W.ready net.new) told.new.items) }
         ensures ordered { IfOk result (λ _. AreOrdered told.new.items) }
         ensures cause { result ≡ Err NetFault → Rose (W.poll_faults net.old) (W.poll_faults net.new) }
+        ensures watching { Watching self.old.board self.new.board self.new.connections result }
     {
         match self.board.select(rt, alloc, way, net, told) {
             Ok(()) => Ok(()),
@@ -303,10 +331,12 @@ impl<'a> Proxy<'a> {
     ) -> Result<(), ServeError>
         requires scratch { length scratch.old ≡ CAPACITY }
         requires served { AreServed (W.link net.old) (W.place net.old) self.old.connections }
+        requires watched { WatchesAll self.old.board self.old.connections }
         ensures serving { Serving W.Way net.old net.new self.old.connections self.new.connections }
         ensures listens { W.place net.new listener ≡ W.place net.old listener }
         ensures port { self.new.port ≡ self.old.port }
         ensures cause { result ≢ Err NetFault }
+        ensures watching { Watching self.old.board self.new.board self.new.connections result }
     {
         if chan.0 == 0 {
             return Ok(());
@@ -327,10 +357,12 @@ impl<'a> Proxy<'a> {
     ) -> Result<(), ServeError>
         requires scratch { length scratch.old ≡ CAPACITY }
         requires served { AreServed (W.link net.old) (W.place net.old) self.old.connections }
+        requires watched { WatchesAll self.old.board self.old.connections }
         ensures serving { Serving W.Way net.old net.new self.old.connections self.new.connections }
         ensures listens { W.place net.new listener ≡ W.place net.old listener }
         ensures port { self.new.port ≡ self.old.port }
         ensures cause { result ≢ Err NetFault }
+        ensures watching { Watching self.old.board self.new.board self.new.connections result }
     {
         for _ in 0..u64::MAX {
             let Some(chan) = way.permitted() else {
@@ -346,6 +378,7 @@ impl<'a> Proxy<'a> {
         ensures connections { self.new.connections ≡ self.old.connections }
         ensures port { self.new.port ≡ self.old.port }
         ensures cause { result ≢ Err NetFault }
+        ensures board { IsSameBoard self.old.board self.new.board }
     {
         let Some(port) = self.port else {
             return Ok(());
@@ -370,10 +403,12 @@ impl<'a> Proxy<'a> {
     ) -> Result<(), ServeError>
         requires scratch { length scratch.old ≡ CAPACITY }
         requires served { AreServed (W.link net.old) (W.place net.old) self.old.connections }
+        requires watched { WatchesAll self.old.board self.old.connections }
         ensures serving { Serving W.Way net.old net.new self.old.connections self.new.connections }
         ensures listens { W.place net.new listener ≡ W.place net.old listener }
         ensures port { self.new.port ≡ self.old.port }
         ensures cause { result ≢ Err NetFault }
+        ensures watching { Watching self.old.board self.new.board self.new.connections result }
     {
         way.begin_turn(rt);
         self.serve_all_permitted(way, net, scratch)?;
@@ -393,11 +428,13 @@ impl<'a> Proxy<'a> {
         requires scratch { length scratch.old ≡ CAPACITY }
         requires listens { ListensAt self.old.port (W.place net.old listener).standing }
         requires served { AreServed (W.link net.old) (W.place net.old) self.old.connections }
+        requires watched { WatchesAll self.old.board self.old.connections }
         ensures serving { Serving W.Way net.old net.new self.old.connections self.new.connections }
         ensures listens { W.place net.new listener ≡ W.place net.old listener }
         ensures port { self.new.port ≡ self.old.port }
         ensures cause { result ≡ Err NetFault → Rose (W.poll_faults net.old) (W.poll_faults net.new)
             ⊎ Rose (W.faults net.old listener) (W.faults net.new listener) }
+        ensures watching { Watching self.old.board self.new.board self.new.connections result }
     {
         let prepared = self.prepare(rt, way, net, scratch);
         if prepared.is_err() {
@@ -417,6 +454,7 @@ impl<'a> Proxy<'a> {
         ensures places { IsSameBut listener (W.place net.old) (W.place net.new) }
         ensures listens { ListensAt self.new.port (W.place net.new listener).standing }
         ensures connections { self.new.connections ≡ self.old.connections }
+        ensures board { IsSameBoard self.old.board self.new.board }
     {
         if self.connections.slots.len() >= self.connections.conns as usize {
             if let Some(port) = self.port {
@@ -439,12 +477,14 @@ impl<'a> Proxy<'a> {
         requires scratch { length scratch.old ≡ CAPACITY }
         requires listens { ListensAt self.old.port (W.place net.old listener).standing }
         requires served { AreServed (W.link net.old) (W.place net.old) self.old.connections }
+        requires watched { WatchesAll self.old.board self.old.connections }
         ensures serving { Serving W.Way net.old net.new self.old.connections self.new.connections }
         ensures listens { ListensAt self.new.port (W.place net.new listener).standing }
         ensures role { (W.place net.new listener).role ≡ (W.place net.old listener).role }
         ensures cause { result ≡ Err NetFault → Rose (W.poll_faults net.old) (W.poll_faults net.new)
             ⊎ Rose (W.faults net.old listener) (W.faults net.new listener) }
         ensures ended { OnOk result (self.new.connections.ended ≡ self.new.connections.conns) }
+        ensures watching { Watching self.old.board self.new.board self.new.connections result }
     {
         let mut told = Vec::new(alloc);
         for _ in rt.forever() {
@@ -470,12 +510,14 @@ impl<'a> Proxy<'a> {
     ) -> Result<(), ServeError>
         requires listens { ListensAt self.old.port (W.place net.old listener).standing }
         requires served { AreServed (W.link net.old) (W.place net.old) self.old.connections }
+        requires watched { WatchesAll self.old.board self.old.connections }
         ensures serving { Serving W.Way net.old net.new self.old.connections self.new.connections }
         ensures listens { ListensAt self.new.port (W.place net.new listener).standing }
         ensures role { (W.place net.new listener).role ≡ (W.place net.old listener).role }
         ensures cause { result ≡ Err NetFault → Rose (W.poll_faults net.old) (W.poll_faults net.new)
             ⊎ Rose (W.faults net.old listener) (W.faults net.new listener) }
         ensures ended { OnOk result (self.new.connections.ended ≡ self.new.connections.conns) }
+        ensures watching { Watching self.old.board self.new.board self.new.connections result }
     {
         match vec![in alloc; 0; CAPACITY] {
             Ok(mut scratch) => self.serve(rt, alloc, way, net, &mut scratch),

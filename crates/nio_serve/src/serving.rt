@@ -1,10 +1,11 @@
 //! Serving a plan.
-ghost use Rattle.std.specs.Prelude.{◌≡◌};
+ghost use Rattle.std.specs.Prelude.{◌≡◌, ◌+◌, ◌*◌, ◌≤◌, IfOk, OnOk};
 ghost use Rattle.nio_base.specs.declared.numbers.ChanNo.{ChanNo};
 ghost use Rattle.nio_link.specs.Links.{IsUnused};
 ghost use Rattle.nio_link.specs.Places.{unused};
 ghost use Rattle.nio_relay.specs.Plan.{IsServable};
 ghost use Rattle.nio_words.specs.Passes.{IsFirstPass};
+ghost use Rattle.nio_serve.specs.Board.{IsSameSeat};
 ghost use Rattle.nio_serve.specs.Serving.{AreNumbered, LeavesNothing, NoneRose, RelaysBytes, Serves, ServesAllOr};
 
 use crate::board::{Board, Refused};
@@ -43,6 +44,7 @@ const ME: CallerNo = CallerNo(0);
 // The board of the first caller of a new table. Nothing refuses it, since the limits have a caller and a selector.
 fn open_board<'a>(words: &'a Words, pass: Pass) -> Result<Board<'a>, Refused>
     requires { IsFirstPass words.now pass }
+    ensures { IfOk result (λ board. board.registered ≡ 0) }
 {
     let mut pass = pass;
     match words.draw(&mut pass, ME) {
@@ -78,19 +80,55 @@ pub fn serve<R: Wait, N, W: Way<N>>(
     let Ok(board) = open_board(&words, pass) else {
         return Err(ServeError::Memory);
     };
-    let Ok(mut proxy) = Proxy::open(rt, alloc, board, plan) else {
-        return Err(ServeError::Memory);
+    let (served, _board) = serve_on(rt, alloc, way, net, board, plan);
+    served
+}
+
+/// `serve` over a board on which no channel is registered yet, which it gives back. The board's channels are numbered
+/// as the net's: 0 is the listener, and 2k + 1 and 2k + 2 are the links of connection k, counted from 0 in the order of
+/// the accepts. At every end no other channel was registered, and where the plan was served, each of these was.
+pub fn serve_on<'a, R: Wait, N, W: Way<N>>(
+    rt: &R,
+    alloc: Global,
+    way: &mut W,
+    net: &mut N,
+    board: Board<'a>,
+    plan: ProxyPlan,
+) -> (Result<Served, ServeError>, Board<'a>)
+    requires plan { IsServable plan }
+    requires fresh { (c : ChanNo) → IsUnused (W.link net.old c) }
+    requires unasked { (c : ChanNo) → W.place net.old c ≡ unused }
+    requires unregistered { board.registered ≡ 0 }
+    ensures serves { Serves plan (W.link net.new) (W.place net.new) (W.faults net.old) (W.faults net.new)
+        (W.poll_faults net.old) (W.poll_faults net.new) result.0 }
+    ensures relays { RelaysBytes (W.link net.new) }
+    ensures leaves { LeavesNothing plan (W.link net.new) (W.place net.new) }
+    ensures accepts { AreNumbered plan.conns (W.accepted net.old) (W.accepted net.new) result.0 }
+    ensures complete { NoneRose (W.faults net.old) (W.faults net.new) (W.poll_faults net.old) (W.poll_faults net.new)
+        → ServesAllOr plan.conns (W.link net.new) result.0 }
+    ensures seat { IsSameSeat board.entry result.1 }
+    ensures registered { OnOk result.0 (result.1.registered ≡ 2 * plan.conns + 1) }
+    ensures within { result.1.registered ≤ 2 * plan.conns + 1 }
+{
+    let mut proxy = match Proxy::open(rt, alloc, board, plan) {
+        Ok(proxy) => proxy,
+        Err(board) => return (Err(ServeError::Memory), board),
     };
     if way.listen(net, LISTENER, plan.listen).is_err() {
-        return Err(ServeError::NetFault);
+        return (Err(ServeError::NetFault), proxy.into_board());
     }
     let outcome = proxy.run(rt, alloc, way, net);
     proxy.close_all(way, net);
+    let faults = proxy.connections.faulted;
+    let board = proxy.into_board();
     match outcome {
-        Ok(()) => Ok(Served {
-            connections: plan.conns,
-            faults: proxy.connections.faulted,
-        }),
-        Err(error) => Err(error),
+        Ok(()) => (
+            Ok(Served {
+                connections: plan.conns,
+                faults,
+            }),
+            board,
+        ),
+        Err(error) => (Err(error), board),
     }
 }

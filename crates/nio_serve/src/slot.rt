@@ -1,6 +1,6 @@
 //! One connection: its two directions, and what the table watches of its links.
-ghost use Rattle.std.specs.Prelude.{◌≡◌, ◌≢◌, ◌⊎◌, ◌↔◌, if◌then◌else◌, Some, IfOk, IsErr, IsTrue, IsFalse, OnErr, OnOk};
-ghost use Rattle.std.specs.Prelude.{length};
+ghost use Rattle.std.specs.Prelude.{◌≡◌, ◌≢◌, ◌+◌, ◌≤◌, ◌⊎◌, ◌↔◌, if◌then◌else◌, Some, IfOk, IsErr, IsTrue, IsFalse};
+ghost use Rattle.std.specs.Prelude.{OnErr, OnOk, length};
 ghost use Rattle.nio_base.specs.declared.numbers.Addr.{Addr};
 ghost use Rattle.nio_base.specs.declared.numbers.ChanNo.{ChanNo};
 ghost use Rattle.nio_bytes.specs.Cause.{Rose};
@@ -12,6 +12,7 @@ ghost use Rattle.nio_link.specs.declared.place.Role.TheVariants as role;
 ghost use Rattle.nio_link.specs.declared.place.Standing.TheVariants.{Connecting, Linked};
 ghost use Rattle.nio_relay.specs.Flow.{fresh, IsLawful};
 ghost use Rattle.nio_steps.specs.KeyCalls.{is_within};
+ghost use Rattle.nio_serve.specs.Board.{IsSameBoard, IsSameSeat};
 ghost use Rattle.nio_serve.specs.Nets.{Begins, IsQuiet, Works};
 ghost use Rattle.nio_serve.specs.Passing.{BothSame, OneRose};
 ghost use Rattle.nio_serve.specs.Relaying.{IsAsked, stage_after, standing_after_finish, target_role};
@@ -183,6 +184,7 @@ fn hang_up<N, W: Way<N>>(
     ensures places { (c : ChanNo) → c ≢ client → c ≢ target → W.place net.new c ≡ W.place net.old c }
     ensures client { W.place net.new client ≡ place_after_close (W.place net.old client) }
     ensures target { IsVacant (W.place net.new target).standing }
+    ensures board { IsSameBoard board.old board.new }
 {
     close_links(way, net, client, target);
     board.unwatch(relay.client.port);
@@ -233,6 +235,7 @@ fn settle<N, W: Way<N>>(
     ensures faulty { IsTrue (has_faulted (Some result)) ↔ IsErr served }
     ensures quiet { IsQuiet W.Way net.old net.new }
     ensures places { (c : ChanNo) → c ≢ client → c ≢ target → W.place net.new c ≡ W.place net.old c }
+    ensures board { IsSameBoard board.old board.new }
 {
     if served.is_err() {
         hang_up(way, net, board, spare, client, target, relay);
@@ -271,6 +274,7 @@ pub(crate) fn serve_relay<N, W: Way<N>>(
     ensures faulty { IsTrue (has_faulted (Some result)) → OneRose (W.faults net.old) (W.faults net.new) client target }
     ensures calm { IsFalse (has_faulted (Some result)) → BothSame (W.faults net.old) (W.faults net.new) client target }
     ensures work { Works W.Way client target net.old net.new }
+    ensures board { IsSameBoard board.old board.new }
 {
     let mut relay = relay;
     let served = relay.advance(way, net, client, target, at_client, at_target, scratch);
@@ -311,7 +315,9 @@ impl End {
         way: &W,
         board: &mut Board<'_>,
         ops: Ops,
-    ) -> Result<(), Refused> {
+    ) -> Result<(), Refused>
+        ensures { IsSameBoard board.old board.new }
+    {
         let permitted = ops.meet(way.permits(self.port.chan));
         if self.interest != permitted {
             board.set(self.port, permitted)?;
@@ -342,6 +348,7 @@ impl Relay {
         ensures there { self.new.there ≡ self.old.there }
         ensures back { self.new.back ≡ self.old.back }
         ensures stage { self.new.stage ≡ self.old.stage }
+        ensures board { IsSameBoard board.old board.new }
     {
         let (at_client, at_target) = self.wanted();
         self.client.watch::<N, W>(way, board, at_client)?;
@@ -358,6 +365,7 @@ impl Slot {
         ensures ended { has_ended (Some self.new) ≡ has_ended (Some self.old) }
         ensures faulted { has_faulted (Some self.new) ≡ has_faulted (Some self.old) }
         ensures stands { was_accepted (Some self.new) ≡ was_accepted (Some self.old) }
+        ensures board { IsSameBoard board.old board.new }
     {
         match self {
             Slot::Live(relay) => relay.follow::<N, W>(way, board),
@@ -378,6 +386,9 @@ fn open_relay<R: Wait>(
     ensures there { IfOk result (λ relay. relay.there ≡ fresh) }
     ensures back { IfOk result (λ relay. relay.back ≡ fresh) }
     ensures stage { IfOk result (λ relay. relay.stage ≡ stage.Accepted) }
+    ensures seat { IsSameSeat board.old board.new }
+    ensures watched { OnOk result (board.new.registered ≡ target.0 + 1) }
+    ensures within { board.new.registered ≤ board.old.registered + 2 }
 {
     let Ok(there) = spare.take(alloc) else {
         return Err(Refused);
@@ -426,6 +437,7 @@ fn connect_relay<N, W: Way<N>>(
     ensures calm { IsFalse (has_faulted (Some result)) → W.faults net.new target ≡ W.faults net.old target }
     ensures begins { Begins W.Way client target net.old net.new }
     ensures accepted { W.accepted net.new ≡ W.accepted net.old }
+    ensures board { IsSameBoard board.old board.new }
 {
     let mut relay = relay;
     match way.connect(net, target, to) {
@@ -462,6 +474,7 @@ pub(crate) fn begin_relay<N, W: Way<N>>(
     ensures calm { IsFalse (has_faulted (Some result)) → W.faults net.new target ≡ W.faults net.old target }
     ensures begins { Begins W.Way client target net.old net.new }
     ensures accepted { W.accepted net.new ≡ W.accepted net.old }
+    ensures board { IsSameBoard board.old board.new }
 {
     match relay.stage {
         Stage::Accepted => connect_relay(way, net, board, spare, client, target, relay, to),
@@ -493,6 +506,9 @@ pub(crate) fn take_on<R: Wait, N, W: Way<N>>(
     ensures calm { W.faults net.new target ≡ W.faults net.old target }
     ensures begins { Begins W.Way client target net.old net.new }
     ensures accepted { W.accepted net.new ≡ W.accepted net.old }
+    ensures seat { IsSameSeat board.old board.new }
+    ensures watched { OnOk result.1 (board.new.registered ≡ target.0 + 1) }
+    ensures within { board.new.registered ≤ board.old.registered + 2 }
 {
     match open_relay(rt, alloc, board, spare, client, target) {
         Ok(relay) => (Slot::Live(relay), Ok(())),

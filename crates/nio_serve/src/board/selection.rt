@@ -1,16 +1,19 @@
 //! One selection, whose poll's answer is told by channels.
 ghost use Rattle.std.specs.Prelude.{◌≡◌, IfOk, IfSome, bit_and};
-ghost use Rattle.nio_select.specs.InProgress.{Selects};
-ghost use Rattle.nio_words.specs.Passes.{IsReady};
-ghost use Rattle.nio_words.specs.Views.{view};
-ghost use Rattle.nio_poller.specs.Polls.{told_of_channel};
-ghost use Rattle.nio_serve.specs.Board.{AreOrdered, AreReady, IsAskedFor, IsIdle};
+ghost use Rattle.nio_poller.specs.Polls.{CountsFaults, told_of_channel};
+ghost use Rattle.nio_poller.specs.declared.poller.PollError.TheVariants.{Fault};
+ghost use Rattle.nio_serve.specs.Board.{AreOrdered, AreReady, IsAskedFor, IsAtRest, IsSelecting, board_of};
 
-use nio_base::{CallerNo, ChanNo, Ops, SelNo};
+use super::Station;
+use crate::deal::Deal;
+use crate::way::Way;
+use nio_base::{ChanNo, Ops};
 use nio_event::Mode;
+use nio_poller::PollError;
 use nio_select::{After, Asked, Selecting, Told, try_begin};
 use nio_words::{Pass, Words};
 use std::alloc::{AllocError, Global};
+use std::sync::Wait;
 
 // Begins a selection that waits. A caller that has its selector alone never finds it closed or busy; this is answered
 // as want of memory.
@@ -18,66 +21,114 @@ pub(super) fn begin(
     alloc: Global,
     w: &Words,
     p: &mut Pass,
-    me: CallerNo,
-    sel: SelNo,
+    at: Station,
 ) -> Result<Selecting, AllocError>
-    requires { IsIdle w.now p.old me sel }
-    ensures idle { IsIdle w.now p.new me sel }
-    ensures begun { IfOk result (Selects (view w.now p.new) me) }
+    requires { IsAtRest (board_of w.now p.old at) }
+    ensures rest { IsAtRest (board_of w.now p.new at) }
+    ensures begun { IfOk result (IsSelecting (board_of w.now p.new at)) }
 {
-    match try_begin(alloc, w, p, me, sel, Mode::Wait) {
+    match try_begin(alloc, w, p, at.caller, at.selector, Mode::Wait) {
         Ok(selection) => Ok(selection),
         Err(_refusal) => Err(AllocError),
     }
 }
 
 // Leaves a selection for which no poll has answered.
-pub(super) fn leave(w: &Words, p: &mut Pass, me: CallerNo, sel: SelNo, selection: Selecting)
-    requires idle { IsIdle w.now p.old me sel }
-    requires begun { Selects (view w.now p.old) me selection }
-    ensures { IsIdle w.now p.new me sel }
+pub(super) fn leave(w: &Words, p: &mut Pass, at: Station, selection: Selecting)
+    requires rest { IsAtRest (board_of w.now p.old at) }
+    requires begun { IsSelecting (board_of w.now p.old at) selection }
+    ensures { IsAtRest (board_of w.now p.new at) }
 {
-    selection.leave(w, p, me);
+    selection.leave(w, p, at.caller);
 }
 
 // Ends a selection with what a poller answered for it, and lists what was told.
 pub(super) fn end(
     w: &Words,
     p: &mut Pass,
-    me: CallerNo,
-    sel: SelNo,
+    at: Station,
     selection: Selecting,
     answer: &Told,
     told: &mut Vec<(ChanNo, Ops)>,
 ) -> Result<(), AllocError>
-    requires idle { IsIdle w.now p.old me sel }
-    requires begun { Selects (view w.now p.old) me selection }
-    ensures idle { IsIdle w.now p.new me sel }
+    requires rest { IsAtRest (board_of w.now p.old at) }
+    requires begun { IsSelecting (board_of w.now p.old at) selection }
+    ensures rest { IsAtRest (board_of w.now p.new at) }
     ensures ready { IfOk result (λ _. AreReady (told_of_channel selection.looked answer.now.pairs.items)
         told.new.items) }
     ensures ordered { IfOk result (λ _. AreOrdered told.new.items) }
 {
     match resolve(selection.asked(), answer.pairs.as_slice(), told) {
         Ok(()) => {
-            tell(w, p, me, sel, selection, answer);
+            tell(w, p, at, selection, answer);
             Ok(())
         }
         Err(AllocError) => {
-            leave(w, p, me, sel, selection);
+            leave(w, p, at, selection);
             Err(AllocError)
         }
     }
 }
 
 // Tells the selection what the poller answered, and leaves it where it would go on.
-fn tell(w: &Words, p: &mut Pass, me: CallerNo, sel: SelNo, selection: Selecting, answer: &Told)
-    requires idle { IsIdle w.now p.old me sel }
-    requires begun { Selects (view w.now p.old) me selection }
-    ensures { IsIdle w.now p.new me sel }
+pub(super) fn tell(w: &Words, p: &mut Pass, at: Station, selection: Selecting, answer: &Told)
+    requires rest { IsAtRest (board_of w.now p.old at) }
+    requires begun { IsSelecting (board_of w.now p.old at) selection }
+    ensures { IsAtRest (board_of w.now p.new at) }
 {
-    match selection.told(w, p, me, answer) {
+    match selection.told(w, p, at.caller, answer) {
         After::Done(_selected) => {}
-        After::Again(next) => next.leave(w, p, me),
+        After::Again(next) => next.leave(w, p, at.caller),
+    }
+}
+
+// Polls for a selection, and lists what was told. With a deal the poll is asked for the channels as the deal numbers
+// them, and they are listed so.
+pub(super) fn poll<R: Wait, N, W: Way<N>>(
+    rt: &R,
+    alloc: Global,
+    way: &mut W,
+    net: &mut N,
+    selection: &Selecting,
+    deal: Option<Deal>,
+    told: &mut Vec<(ChanNo, Ops)>,
+) -> Result<Told, PollError>
+    ensures kept { W.kept net.old net.new }
+    ensures cause { CountsFaults Fault (W.poll_faults net.old) (W.poll_faults net.new) result }
+    ensures ready { IfOk result (λ _. AreReady (W.ready net.new) told.new.items) }
+    ensures ordered { IfOk result (λ _. AreOrdered told.new.items) }
+{
+    let mode = selection.mode();
+    let Some(deal) = deal else {
+        return poll_for(rt, alloc, way, net, selection.asked(), mode, told);
+    };
+    match selection.asked().renumbered(alloc, &deal) {
+        Ok(asked) => poll_for(rt, alloc, way, net, &asked, mode, told),
+        Err(AllocError) => Err(PollError::Memory),
+    }
+}
+
+// Polls for the keys of a list, and lists what was told of them.
+fn poll_for<R: Wait, N, W: Way<N>>(
+    rt: &R,
+    alloc: Global,
+    way: &mut W,
+    net: &mut N,
+    asked: &Asked,
+    mode: Mode,
+    told: &mut Vec<(ChanNo, Ops)>,
+) -> Result<Told, PollError>
+    ensures kept { W.kept net.old net.new }
+    ensures cause { CountsFaults Fault (W.poll_faults net.old) (W.poll_faults net.new) result }
+    ensures ready { IfOk result (λ _. AreReady (W.ready net.new) told.new.items) }
+    ensures ordered { IfOk result (λ _. AreOrdered told.new.items) }
+{
+    match way.poll(net, rt, alloc, asked, mode) {
+        Ok(answer) => match resolve(asked, answer.pairs.as_slice(), told) {
+            Ok(()) => Ok(answer),
+            Err(AllocError) => Err(PollError::Memory),
+        },
+        Err(error) => Err(error),
     }
 }
 

@@ -1,172 +1,171 @@
-//! The calls on the table: making it, watching a channel, and leaving it.
-ghost use Rattle.std.specs.Prelude.{◌≡◌, IfOk};
+//! The calls on the table: watching a channel, and leaving it.
+ghost use Rattle.std.specs.Prelude.{◌≡◌, IfOk, IfSome, OnErr, OnOk};
 ghost use Rattle.nio_event.specs.PassViews.{HasChannel};
 ghost use Rattle.nio_words.specs.Views.{view};
-ghost use Rattle.nio_serve.specs.Board.{IsIdle};
+ghost use Rattle.nio_serve.specs.Board.{IsAtRest, board_of, next_channel, one_more};
+ghost use Rattle.nio_serve.specs.Called.{channel_in};
 
-use super::{Port, Refused};
-use nio_base::{CallerNo, ChanNo, Kind, Ops, SelNo};
+use super::{Port, Refused, Station};
+use nio_base::{ChanNo, KeyNo, Kind, Ops};
 use nio_channel::{close_channel, open_channel, register, set_blocking};
 use nio_keys::{cancel, find, find_channel, set_interest};
 use nio_words::{Pass, Words};
 use std::sync::Wait;
 
-// Opens the next channel, where that is the one that is asked for.
-pub(super) fn open_next(
+impl Station {
+    // The table's channel that is a channel of the board. None where its number is too large.
+    fn table_channel(&self, chan: ChanNo) -> Option<ChanNo>
+        ensures { IfSome result (λ c. c ≡ channel_in self.now.deal chan) }
+    {
+        match self.deal {
+            None => Some(chan),
+            Some(deal) => deal.channel(chan),
+        }
+    }
+}
+
+// Registers the next channel of the board, and closes it where that is refused.
+pub(super) fn watch_next<R: Wait>(
+    rt: &R,
     w: &Words,
     p: &mut Pass,
-    me: CallerNo,
-    sel: SelNo,
+    at: Station,
+    kind: Kind,
+    ops: Ops,
+) -> Result<KeyNo, Refused>
+    requires { IsAtRest (board_of w.now p.old at) }
+    ensures watched { OnOk result (IsAtRest (board_of w.now p.new (one_more at))) }
+    ensures refused { OnErr result (IsAtRest (board_of w.now p.new at)) }
+{
+    let chan = take_next(w, p, at, kind)?;
+    if set_blocking(rt, w, p, at.caller, chan, false).is_err() {
+        close_channel(w, p, at.caller, chan);
+        return Err(Refused);
+    }
+    register_made(rt, w, p, at, chan, ops)
+}
+
+// The table's channel that is the next one of the board: it opens it, where it has no deal.
+fn take_next(w: &Words, p: &mut Pass, at: Station, kind: Kind) -> Result<ChanNo, Refused>
+    requires { IsAtRest (board_of w.now p.old at) }
+    ensures rest { IsAtRest (board_of w.now p.new at) }
+    ensures next { IfOk result (λ c. c ≡ next_channel at) }
+    ensures made { IfOk result (HasChannel (view w.now p.new)) }
+{
+    let Some(next) = at.table_channel(ChanNo(at.registered)) else {
+        return Err(Refused);
+    };
+    match at.deal {
+        None => open_next(w, p, at, next, kind),
+        Some(_) => find_made(w, p, at, next),
+    }
+}
+
+// Opens the table's next channel, where that is the one that is asked for.
+fn open_next(
+    w: &Words,
+    p: &mut Pass,
+    at: Station,
     chan: ChanNo,
     kind: Kind,
-) -> Result<(), Refused>
-    requires { IsIdle w.now p.old me sel }
-    ensures { IsIdle w.now p.new me sel }
+) -> Result<ChanNo, Refused>
+    requires { IsAtRest (board_of w.now p.old at) }
+    ensures rest { IsAtRest (board_of w.now p.new at) }
+    ensures its { IfOk result (λ c. c ≡ chan) }
+    ensures made { IfOk result (HasChannel (view w.now p.new)) }
 {
-    match open_channel(w, p, me, kind) {
-        Ok(made) if made == chan => Ok(()),
+    match open_channel(w, p, at.caller, kind) {
+        Ok(made) if made == chan => Ok(made),
         Ok(made) => {
-            close_channel(w, p, me, made);
+            close_channel(w, p, at.caller, made);
             Err(Refused)
         }
         Err(_refusal) => Err(Refused),
     }
 }
 
-// Registers a channel, where the table has it.
-pub(super) fn register_channel<R: Wait>(
-    rt: &R,
-    w: &Words,
-    p: &mut Pass,
-    me: CallerNo,
-    sel: SelNo,
-    chan: ChanNo,
-    ops: Ops,
-) -> Result<Port, Refused>
-    requires { IsIdle w.now p.old me sel }
-    ensures idle { IsIdle w.now p.new me sel }
-    ensures its { IfOk result (λ port. port.chan ≡ chan) }
+// Finds a channel that was opened.
+fn find_made(w: &Words, p: &mut Pass, at: Station, chan: ChanNo) -> Result<ChanNo, Refused>
+    requires { IsAtRest (board_of w.now p.old at) }
+    ensures rest { IsAtRest (board_of w.now p.new at) }
+    ensures its { IfOk result (λ c. c ≡ chan) }
+    ensures made { IfOk result (HasChannel (view w.now p.new)) }
 {
-    match find_channel(w, p, me, chan.0) {
-        Some(made) if made == chan => watch_made(rt, w, p, me, sel, made, ops),
+    match find_channel(w, p, at.caller, chan.0) {
+        Some(made) if made == chan => Ok(made),
         Some(_) | None => Err(Refused),
     }
 }
 
-// Opens the next channel and registers it, where that is the one that is asked for.
-pub(super) fn watch_channel<R: Wait>(
-    rt: &R,
-    w: &Words,
-    p: &mut Pass,
-    me: CallerNo,
-    sel: SelNo,
-    chan: ChanNo,
-    kind: Kind,
-    ops: Ops,
-) -> Result<Port, Refused>
-    requires { IsIdle w.now p.old me sel }
-    ensures idle { IsIdle w.now p.new me sel }
-    ensures its { IfOk result (λ port. port.chan ≡ chan) }
-{
-    match open_channel(w, p, me, kind) {
-        Ok(made) if made == chan => watch_made(rt, w, p, me, sel, made, ops),
-        Ok(made) => {
-            close_channel(w, p, me, made);
-            Err(Refused)
-        }
-        Err(_refusal) => Err(Refused),
-    }
-}
-
-// Registers a channel that was opened, and closes it where that is refused.
-fn watch_made<R: Wait>(
-    rt: &R,
-    w: &Words,
-    p: &mut Pass,
-    me: CallerNo,
-    sel: SelNo,
-    chan: ChanNo,
-    ops: Ops,
-) -> Result<Port, Refused>
-    requires idle { IsIdle w.now p.old me sel }
-    requires channel { HasChannel (view w.now p.old) chan }
-    ensures idle { IsIdle w.now p.new me sel }
-    ensures its { IfOk result (λ port. port.chan ≡ chan) }
-{
-    if set_blocking(rt, w, p, me, chan, false).is_err() {
-        close_channel(w, p, me, chan);
-        return Err(Refused);
-    }
-    register_made(rt, w, p, me, sel, chan, ops)
-}
-
+// Registers the next channel of the board, which is this one of the table, and closes it where that is refused.
 fn register_made<R: Wait>(
     rt: &R,
     w: &Words,
     p: &mut Pass,
-    me: CallerNo,
-    sel: SelNo,
+    at: Station,
     chan: ChanNo,
     ops: Ops,
-) -> Result<Port, Refused>
-    requires idle { IsIdle w.now p.old me sel }
+) -> Result<KeyNo, Refused>
+    requires rest { IsAtRest (board_of w.now p.old at) }
+    requires next { chan ≡ next_channel at }
     requires channel { HasChannel (view w.now p.old) chan }
-    ensures idle { IsIdle w.now p.new me sel }
-    ensures its { IfOk result (λ port. port.chan ≡ chan) }
+    ensures watched { OnOk result (IsAtRest (board_of w.now p.new (one_more at))) }
+    ensures refused { OnErr result (IsAtRest (board_of w.now p.new at)) }
 {
-    match register(rt, w, p, me, sel, chan, ops, 0) {
-        Ok(key) => Ok(Port { key, chan }),
+    match register(rt, w, p, at.caller, at.selector, chan, ops, 0) {
+        Ok(key) => Ok(key),
         Err(_refusal) => {
-            close_channel(w, p, me, chan);
+            close_channel(w, p, at.caller, chan);
             Err(Refused)
         }
     }
 }
 
-// Sets the interest set of the port's key, where the table has it.
+// Sets the interest set of the key, where the table has it.
 pub(super) fn set_interest_of(
     w: &Words,
     p: &mut Pass,
-    me: CallerNo,
-    sel: SelNo,
-    port: Port,
+    at: Station,
+    key: KeyNo,
     ops: Ops,
 ) -> Result<(), Refused>
-    requires { IsIdle w.now p.old me sel }
-    ensures { IsIdle w.now p.new me sel }
+    requires { IsAtRest (board_of w.now p.old at) }
+    ensures { IsAtRest (board_of w.now p.new at) }
 {
-    let Some(key) = find(w, p, me, sel, port.key.index, port.key.serial) else {
+    let Some(key) = find(w, p, at.caller, at.selector, key.index, key.serial) else {
         return Err(Refused);
     };
-    match set_interest(w, p, me, key, ops) {
+    match set_interest(w, p, at.caller, key, ops) {
         Ok(()) => Ok(()),
         Err(_refusal) => Err(Refused),
     }
 }
 
 // Cancels the port's key, and closes its channel, as far as the table has them.
-pub(super) fn unwatch_port(w: &Words, p: &mut Pass, me: CallerNo, sel: SelNo, port: Port)
-    requires { IsIdle w.now p.old me sel }
-    ensures { IsIdle w.now p.new me sel }
+pub(super) fn unwatch_port(w: &Words, p: &mut Pass, at: Station, port: Port)
+    requires { IsAtRest (board_of w.now p.old at) }
+    ensures { IsAtRest (board_of w.now p.new at) }
 {
-    cancel_key(w, p, me, sel, port);
-    close_made(w, p, me, sel, port.chan);
-}
-
-fn cancel_key(w: &Words, p: &mut Pass, me: CallerNo, sel: SelNo, port: Port)
-    requires { IsIdle w.now p.old me sel }
-    ensures { IsIdle w.now p.new me sel }
-{
-    if let Some(key) = find(w, p, me, sel, port.key.index, port.key.serial) {
-        cancel(w, p, me, key);
+    cancel_key(w, p, at, port.key);
+    if let Some(chan) = at.table_channel(port.chan) {
+        close_made(w, p, at, chan);
     }
 }
 
-fn close_made(w: &Words, p: &mut Pass, me: CallerNo, sel: SelNo, chan: ChanNo)
-    requires { IsIdle w.now p.old me sel }
-    ensures { IsIdle w.now p.new me sel }
+fn cancel_key(w: &Words, p: &mut Pass, at: Station, key: KeyNo)
+    requires { IsAtRest (board_of w.now p.old at) }
+    ensures { IsAtRest (board_of w.now p.new at) }
 {
-    if let Some(made) = find_channel(w, p, me, chan.0) {
-        close_channel(w, p, me, made);
+    if let Some(key) = find(w, p, at.caller, at.selector, key.index, key.serial) {
+        cancel(w, p, at.caller, key);
+    }
+}
+
+fn close_made(w: &Words, p: &mut Pass, at: Station, chan: ChanNo)
+    requires { IsAtRest (board_of w.now p.old at) }
+    ensures { IsAtRest (board_of w.now p.new at) }
+{
+    if let Some(made) = find_channel(w, p, at.caller, chan.0) {
+        close_channel(w, p, at.caller, made);
     }
 }

@@ -1,10 +1,11 @@
-use Rattle.std.proofs.Common.{◌≤◌, inr, refl, sym, ap, subst, ◌∙◌, arith}
+use Rattle.std.proofs.Common.{◌+◌, ◌≤◌, inr, refl, sym, ap, subst, ◌∙◌, arith}
 use Rattle.nio_link.specs.Links.{IsUnused}
 use Rattle.nio_link.specs.Places.{IsVacant}
 use Rattle.nio_link.specs.declared.place.Place.{Place}
 use Rattle.nio_serve.proofs.Promise.{listen_failed, listen_role}
 use Rattle.nio_serve.specs.Serving.{listener}
 use Rattle.nio_reactor.proofs.Asked.{accepts_none, accepts_then, asked_first, asked_more, closed_vacant, left}
+use Rattle.nio_reactor.proofs.Seating.{in_any_case, seat_then}
 use Rattle.nio_reactor.specs.Accepting.{IsAccepting}
 use Rattle.nio_reactor.specs.Many.{meanings}
 use Rattle.nio_reactor.proofs.accepting.accept_plan.Goals as goal
@@ -55,3 +56,14 @@ returns-clause-leaves g c =
     (subst (λ (p : Place). IsVacant p.standing) (sym c.close.ensures.place) (closed_vacant _))
     (inr (ap (λ (p : Place). p.role) c.close.ensures.place
     ∙ (ap (λ (p : Place). p.role) c.deal_all-outcome.ensures.listens ∙ listen_role _ _ _ c.listen.ensures.place)))
+
+pub returns-clause-seat : goal.returns-clause-seat
+returns-clause-seat g c =
+    seat_then c.args.board.now c.watch.new.self c.deal_all-outcome.new.board c.watch.ensures.seat
+    c.deal_all-outcome.ensures.board.seat
+
+pub returns-clause-registered : goal.returns-clause-registered
+returns-clause-registered g c =
+    in_any_case c.deal_all-outcome.result
+    (c.deal_all-outcome.ensures.board.registered
+    ∙ (c.in-Ok.ensures.more ∙ ap (λ n. n + 1) c.requires.unregistered))

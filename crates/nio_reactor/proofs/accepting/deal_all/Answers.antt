@@ -1,6 +1,7 @@
 use Rattle.std.proofs.Common.{refl, ◌∙◌, arith}
 use Rattle.nio_reactor.proofs.Asked.{accepts_none, accepts_then, fault_then}
 use Rattle.nio_reactor.proofs.Dealing.{deals_none, deals_then}
+use Rattle.nio_reactor.proofs.Seating.{board_same, board_then}
 use Rattle.nio_reactor.specs.Many.{meanings}
 use Rattle.nio_reactor.proofs.accepting.deal_all.Goals as goal
 
@@ -12,6 +13,7 @@ loop-init g c = record {
   accepted = accepts_none (meanings g.N.Net.link g.N.Net.place g.N.Net.faults g.N.Poller.poll_faults) g.N.Net.accepted
       c.args.number.now c.args.net.now c.args.net.now (λ k. refl) refl (omega arith) (omega arith);
   dealt = deals_none c.args.number.now c.args.lines.now;
+  board = board_same c.args.board.now;
 }
 
 pub loop-preserved : goal.loop-preserved
@@ -22,6 +24,7 @@ loop-preserved g c = record {
   accepted = accepts_then (meanings g.N.Net.link g.N.Net.place g.N.Net.faults g.N.Poller.poll_faults) g.N.Net.accepted
       _ _ _ _ _ _ c.loop.invariant.accepted c.turn.ensures.accepted;
   dealt = deals_then _ _ _ _ _ _ c.loop.invariant.dealt c.turn.ensures.dealt;
+  board = board_then c.args.board.now c.loop.board c.turn.new.board c.loop.invariant.board c.turn.ensures.board;
 }
 
 pub returns-in-Err-clause-accepted : goal.returns-in-Err-clause-accepted
@@ -40,3 +43,7 @@ returns-in-Err-clause-cause g c failed =
     fault_then (meanings g.N.Net.link g.N.Net.place g.N.Net.faults g.N.Poller.poll_faults) g.N.Net.accepted
     c.args.number.now c.loop.number c.turn.new.number c.args.net.now c.loop.net c.turn.new.net
     c.loop.invariant.accepted (c.in-Err.ensures.cause failed)
+
+pub returns-in-Err-clause-board : goal.returns-in-Err-clause-board
+returns-in-Err-clause-board g c =
+    board_then c.args.board.now c.loop.board c.turn.new.board c.loop.invariant.board c.turn.ensures.board

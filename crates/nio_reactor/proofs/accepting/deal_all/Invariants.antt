@@ -1,4 +1,5 @@
 use Rattle.std.proofs.Common.{◌≡◌, ◌≤◌}
+use Rattle.nio_serve.specs.Board.{IsSameBoard}
 use Rattle.nio_serve.specs.Serving.{listener}
 use Rattle.nio_reactor.specs.Accepting.{Accepts, Deals, IsAccepting}
 use Rattle.nio_reactor.specs.Many.{meanings}
@@ -12,4 +13,5 @@ invariant-loop g l = record {
   accepted : Accepts (meanings g.N.Net.link g.N.Net.place g.N.Net.faults g.N.Poller.poll_faults) g.N.Net.accepted
       l.fn.number l.number l.fn.net l.net;
   dealt : Deals l.fn.number l.number l.fn.lines l.lines;
+  board : IsSameBoard l.fn.board l.board;
 }

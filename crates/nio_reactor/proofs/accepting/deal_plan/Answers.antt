@@ -6,13 +6,13 @@ use Rattle.nio_reactor.proofs.accepting.deal_plan.Goals as goal
 pub returns-clause-accepted : goal.returns-clause-accepted
 returns-clause-accepted g c =
     has_accepted (meanings g.N.Net.link g.N.Net.place g.N.Net.faults g.N.Poller.poll_faults) g.N.Net.accepted
-    c.args.plan c.args.net.now c.accept_plan-outcome.new.net c.accept_plan-outcome.new.number
-    c.accept_plan-outcome.ensures.within c.accept_plan-outcome.ensures.accepted c.accept_plan-outcome.ensures.leaves
-    c.accept_plan-outcome.result c.accept_plan-outcome.ensures.all c.accept_plan-outcome.ensures.cause
+    c.args.plan c.args.net.now c.accept_seated-outcome.new.net c.accept_seated-outcome.new.number
+    c.accept_seated-outcome.ensures.within c.accept_seated-outcome.ensures.accepted c.accept_seated-outcome.ensures.leaves
+    c.accept_seated-outcome.result c.accept_seated-outcome.ensures.all c.accept_seated-outcome.ensures.cause
 
 pub returns-clause-sent : goal.returns-clause-sent
 returns-clause-sent g c =
     has_sent (meanings g.N.Net.link g.N.Net.place g.N.Net.faults g.N.Poller.poll_faults) g.N.Net.accepted
-    c.accept_plan-outcome.new.number c.args.net.now c.accept_plan-outcome.new.net c.args.lines.now
-    c.accept_plan-outcome.new.lines c.end_all.new.lines c.accept_plan-outcome.ensures.accepted
-    c.accept_plan-outcome.ensures.dealt c.end_all.ensures
+    c.accept_seated-outcome.new.number c.args.net.now c.accept_seated-outcome.new.net c.args.lines.now
+    c.accept_seated-outcome.new.lines c.end_all.new.lines c.accept_seated-outcome.ensures.accepted
+    c.accept_seated-outcome.ensures.dealt c.end_all.ensures

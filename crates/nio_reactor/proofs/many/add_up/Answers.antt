@@ -5,10 +5,10 @@ use Rattle.nio_reactor.proofs.many.add_up.Goals as goal
 
 pub returns-in-Err-NetFault : goal.returns-in-Err-NetFault
 returns-in-Err-NetFault g c = record {
-  worker = c.loop-lane.lane-index;
-  lane = c.lane-item.result;
-  is = slice_get-get_or c.args.lanes.now c.loop-lane.lane-index c.lane-item.result c.loop-lane-test.true
-      ∙ ap Some (sym c.lane-item.is);
+  worker = c.loop-worker.worker-index;
+  lane = c.worker-item.result;
+  is = slice_get-get_or c.args.workers.now c.loop-worker.worker-index c.worker-item.result c.loop-worker-test.true
+      ∙ ap Some (sym c.worker-item.is);
   fault = first_of (
     search (rules, c.in-Err-NetFault.is, c.in-Err-NetFault.field-0-is),
     grind (
@@ -17,18 +17,18 @@ returns-in-Err-NetFault g c = record {
       c.in-Err-NetFault.field-0-is,
     ),
   );
-  on_time = c.if-not-lane.true;
+  on_time = c.if-not-worker.true;
 }
 
-pub loop-lane-preserved : goal.loop-lane-preserved
-loop-lane-preserved g c =
-    adds_one _ c.args.lanes.now c.loop-lane.lane-index c.loop-lane.faults c.in-Some.sum c.lane-item.result
+pub loop-worker-preserved : goal.loop-worker-preserved
+loop-worker-preserved g c =
+    adds_one _ c.args.workers.now c.loop-worker.worker-index c.loop-worker.faults c.in-Some.sum c.worker-item.result
     c.in-Ok.served
-    c.loop-lane.invariant
-    (slice_get-get_or c.args.lanes.now c.loop-lane.lane-index c.lane-item.result c.loop-lane-test.true
-    ∙ ap Some (sym c.lane-item.is)) c.in-Ok.is c.in-Some.ensures.1
+    c.loop-worker.invariant
+    (slice_get-get_or c.args.workers.now c.loop-worker.worker-index c.worker-item.result c.loop-worker-test.true
+    ∙ ap Some (sym c.worker-item.is)) c.in-Ok.is c.in-Some.ensures.1
 
 pub returns : goal.returns
 returns g c =
-    adds_end _ c.args.lanes.now c.loop-lane.lane-index c.args.conns _ c.loop-lane.invariant
-    (omega (arith, c.loop-lane-test.false, c.loop-lane.auto.lane-index-end)) refl
+    adds_end _ c.args.workers.now c.loop-worker.worker-index c.args.conns _ c.loop-worker.invariant
+    (omega (arith, c.loop-worker-test.false, c.loop-worker.auto.worker-index-end)) refl

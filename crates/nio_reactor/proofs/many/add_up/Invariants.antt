@@ -1,5 +1,5 @@
 use Rattle.nio_reactor.specs.Working.{AddsSoFar}
 use Rattle.nio_reactor.proofs.many.add_up.Given as goal
 
-abbrev pub invariant-loop-lane : goal.invariant-loop-lane
-invariant-loop-lane g l = AddsSoFar (λ x. x.outcome) l.lanes l.lane-index l.faults
+abbrev pub invariant-loop-worker : goal.invariant-loop-worker
+invariant-loop-worker g l = AddsSoFar (λ x. x.lane.outcome) l.workers l.worker-index l.faults

@@ -6,13 +6,15 @@ use Rattle.nio_reactor.proofs.many.staff.Given as goal
 
 abbrev pub invariant-loop : goal.invariant-loop
 invariant-loop g l = record {
-  nets : map (λ x. x.net) l.lanes.items ++ l.more.items ≡ l.fn.more.items;
-  count : length l.lanes.items ≡ l.counter;
+  nets : map (λ x. x.lane.net) l.workers.items ++ l.more.items ≡ l.fn.more.items;
+  count : length l.workers.items ≡ l.counter;
   rest : length l.more.items + l.counter ≡ length l.fn.more.items;
   lines : length l.lines.items ≡ length l.more.items;
+  passes : map (λ x. x.pass) l.workers.items ++ l.passes.items ≡ l.fn.passes.items;
+  left : length l.passes.items ≡ length l.more.items;
   unasked : All (λ net. g.N.Net.place net listener ≡ unused) l.more.items;
-  doors : All (λ x. x.door ≡ Unasked) l.lanes.items;
-  on_time : All (λ x. x.is_early ≡ false) l.lanes.items;
+  doors : All (λ x. x.lane.door ≡ Unasked) l.workers.items;
+  on_time : All (λ x. x.lane.is_early ≡ false) l.workers.items;
   room : vec_capacity l.more ≡ vec_capacity l.fn.more;
-  spare : vec_capacity l.lanes ≡ vec_capacity l.initial.lanes;
+  spare : vec_capacity l.workers ≡ vec_capacity l.initial.workers;
 }

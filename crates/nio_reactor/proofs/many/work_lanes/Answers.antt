@@ -1,21 +1,37 @@
 use Rattle.std.proofs.Common.{◌≡◌, length, arith}
 use Rattle.std.proofs.lemmas.Grind.{common_steps}
 use Rattle.nio_reactor.proofs.Concluding.{worked_back}
+use Rattle.nio_reactor.proofs.Gathered.{count_back, seats_back}
 use Rattle.nio_reactor.proofs.Handing.{handed_back}
 use Rattle.nio_reactor.specs.Many.{meanings}
 use Rattle.nio_reactor.proofs.many.work_lanes.Goals as goal
 
 pub returns-clause-worked : goal.returns-clause-worked
 returns-clause-worked g c =
-    let len_is : c.args.lanes.now.len ≡ length c.args.lanes.now.items
+    let len_is : c.args.workers.now.len ≡ length c.args.workers.now.items
     = grind (arith, common_steps, c.as_mut_slice.ensures.len, c.as_mut_slice.ensures.value) in
-    worked_back (meanings g.N.Net.link g.N.Net.place g.N.Net.faults g.N.Poller.poll_faults) c.args.plan (λ l. l.net)
-    (λ l. l.is_early) (λ l. l.outcome) c.args.lanes.now.items _ c.work_all.new.lanes c.args.lanes.now.len
+    worked_back (meanings g.N.Net.link g.N.Net.place g.N.Net.faults g.N.Poller.poll_faults) c.args.plan (λ x. x.lane.net)
+    (λ x. x.lane.is_early) (λ x. x.lane.outcome) c.args.workers.now.items _ c.work_all.new.workers c.args.workers.now.len
     c.as_mut_slice.ensures.value len_is c.work_all.ensures.count c.work_all.ensures.worked
 
 pub returns-clause-handed : goal.returns-clause-handed
 returns-clause-handed g c =
-    let len_is : c.args.lanes.now.len ≡ length c.args.lanes.now.items
+    let len_is : c.args.workers.now.len ≡ length c.args.workers.now.items
     = grind (arith, common_steps, c.as_mut_slice.ensures.len, c.as_mut_slice.ensures.value) in
-    handed_back c.args.plan (λ l. l.put) (λ l. l.outcome) c.args.lanes.now.items _ c.work_all.new.lanes
-    c.args.lanes.now.len c.as_mut_slice.ensures.value len_is c.work_all.ensures.count c.work_all.ensures.handed
+    handed_back c.args.plan (λ x. x.lane.put) (λ x. x.lane.outcome) c.args.workers.now.items _ c.work_all.new.workers
+    c.args.workers.now.len c.as_mut_slice.ensures.value len_is c.work_all.ensures.count c.work_all.ensures.handed
+
+pub returns-clause-leaves : goal.returns-clause-leaves
+returns-clause-leaves g c =
+    let len_is : c.args.workers.now.len ≡ length c.args.workers.now.items
+    = grind (arith, common_steps, c.as_mut_slice.ensures.len, c.as_mut_slice.ensures.value) in
+    seats_back c.args.words.now c.args.plan (λ x. x.pass) (λ x. x.lane.outcome) c.args.workers.now.items _
+    c.work_all.new.workers c.args.workers.now.len c.as_mut_slice.ensures.value len_is c.work_all.ensures.count
+    c.work_all.ensures.leaves
+
+pub returns-clause-count : goal.returns-clause-count
+returns-clause-count g c =
+    let len_is : c.args.workers.now.len ≡ length c.args.workers.now.items
+    = grind (arith, common_steps, c.as_mut_slice.ensures.len, c.as_mut_slice.ensures.value) in
+    count_back c.args.workers.now.items _ c.work_all.new.workers c.args.workers.now.len c.as_mut_slice.ensures.value
+    len_is c.work_all.ensures.count

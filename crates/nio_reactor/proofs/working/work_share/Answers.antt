@@ -1,27 +1,56 @@
 use Rattle.std.proofs.Common.{refl}
-use Rattle.nio_reactor.proofs.Handing.{handed, handed_none}
-use Rattle.nio_reactor.proofs.Worked.{worked, worked_none}
+use Rattle.nio_reactor.proofs.Handing.{handed, handed_none, handed_not}
+use Rattle.nio_reactor.proofs.Seating.{left_idle, left_served, left_unseated}
+use Rattle.nio_reactor.proofs.Worked.{worked, worked_none, worked_not}
 use Rattle.nio_reactor.specs.Many.{meanings}
+use Rattle.nio_serve.specs.declared.serving.ServeError.TheVariants.{Memory}
 use Rattle.nio_reactor.proofs.working.work_share.Goals as goal
 
 pub returns-then-plan-eq0-clause-worked : goal.returns-then-plan-eq0-clause-worked
 returns-then-plan-eq0-clause-worked g c =
     worked_none (meanings g.N.Net.link g.N.Net.place g.N.Net.faults g.N.Poller.poll_faults) c.args.plan
-    c.args.lane.now.net c.args.lane.now.is_early _ c.if-plan-eq0.true refl c.requires.fresh
+    c.args.worker.now.lane.net c.args.worker.now.lane.is_early _ c.if-plan-eq0.true refl c.requires.fresh
 
 pub returns-then-plan-eq0-clause-handed : goal.returns-then-plan-eq0-clause-handed
 returns-then-plan-eq0-clause-handed g c =
-    handed_none c.args.plan.listen c.args.plan.conns c.args.lane.now.door c.args.lane.now.put
-    (record { connections = 0; faults = 0 }) c.if-plan-eq0.true c.requires.door c.args.lane.now.order
+    handed_none c.args.plan.listen c.args.plan.conns c.args.worker.now.lane.door c.args.worker.now.lane.put
+    (record { connections = 0; faults = 0 }) c.if-plan-eq0.true c.requires.door c.args.worker.now.lane.order
+
+pub returns-then-plan-eq0-clause-leaves : goal.returns-then-plan-eq0-clause-leaves
+returns-then-plan-eq0-clause-leaves g c =
+    left_idle c.args.words.now _ c.args.deal c.args.plan.conns c.args.worker.now.pass _ c.if-plan-eq0.true
+    c.requires.newcomer
+
+pub returns-in_default-clause-worked : goal.returns-in_default-clause-worked
+returns-in_default-clause-worked g c =
+    worked_not (meanings g.N.Net.link g.N.Net.place g.N.Net.faults g.N.Poller.poll_faults) c.args.plan
+    c.args.worker.now.lane.net c.args.worker.now.lane.is_early c.requires.fresh
+
+pub returns-in_default-clause-handed : goal.returns-in_default-clause-handed
+returns-in_default-clause-handed g c =
+    handed_not c.args.plan.listen c.args.plan.conns c.args.worker.now.lane.door c.args.worker.now.lane.put Memory
+    c.requires.door c.args.worker.now.lane.order
+
+pub returns-in_default-clause-leaves : goal.returns-in_default-clause-leaves
+returns-in_default-clause-leaves g c = left_unseated c.args.words.now _ c.args.deal _ c.take_seat.new.pass Memory
+    c.in_default.ensures.none
 
 pub returns-clause-worked : goal.returns-clause-worked
 returns-clause-worked g c =
-    worked (meanings g.N.Net.link g.N.Net.place g.N.Net.faults g.N.Poller.poll_faults) c.args.plan c.args.lane.now.net
-    c.serve.new.net.net c.serve.new.net.door c.serve.result c.args.lane.now.is_early c.serve.new.net.is_early
-    c.requires.on_time c.serve.ensures.serves c.serve.ensures.relays c.serve.ensures.leaves c.serve.new.net.spare
+    worked (meanings g.N.Net.link g.N.Net.place g.N.Net.faults g.N.Poller.poll_faults) c.args.plan
+    c.args.worker.now.lane.net c.serve_on-outcome.new.net.net c.serve_on-outcome.new.net.door c.serve_on-outcome.result.0
+    c.args.worker.now.lane.is_early c.serve_on-outcome.new.net.is_early c.requires.on_time c.serve_on-outcome.ensures.serves
+    c.serve_on-outcome.ensures.relays c.serve_on-outcome.ensures.leaves c.serve_on-outcome.new.net.spare
 
 pub returns-clause-handed : goal.returns-clause-handed
 returns-clause-handed g c =
-    handed c.args.plan.listen c.args.plan.conns c.args.lane.now.door c.serve.new.net.door c.args.lane.now.put
-    c.serve.new.net.put c.serve.result c.requires.door c.args.lane.now.order c.serve.ensures.accepts
-    c.serve.ensures.leaves.listens c.serve.new.net.order
+    handed c.args.plan.listen c.args.plan.conns c.args.worker.now.lane.door c.serve_on-outcome.new.net.door
+    c.args.worker.now.lane.put c.serve_on-outcome.new.net.put c.serve_on-outcome.result.0 c.requires.door
+    c.args.worker.now.lane.order c.serve_on-outcome.ensures.accepts c.serve_on-outcome.ensures.leaves.listens
+    c.serve_on-outcome.new.net.order
+
+pub returns-clause-leaves : goal.returns-clause-leaves
+returns-clause-leaves g c =
+    left_served c.args.words.now _ c.args.deal c.args.plan.conns c.in-Some.board c.serve_on-outcome.result.1
+    c.leave_seat.new.pass c.serve_on-outcome.result.0 c.if-plan-eq0.false c.in-Some.ensures.seat c.serve_on-outcome.ensures.seat
+    c.serve_on-outcome.ensures.registered c.leave_seat.ensures.ready c.leave_seat.ensures.called

@@ -1,10 +1,12 @@
-use Rattle.nio_serve.proofs.Idle.{begin_gives, idle_call}
+use Rattle.nio_serve.proofs.TableCalls.{rest_begun, selects_begun}
 use Rattle.nio_serve.proofs.board.selection.begin.Goals as goal
 
-pub returns-in-Ok-clause-idle : goal.returns-in-Ok-clause-idle
-returns-in-Ok-clause-idle c =
-    idle_call (begin_gives _ _) c.try_begin.ensures.call c.try_begin.ensures.ready c.requires
+pub returns-in-Ok-clause-rest : goal.returns-in-Ok-clause-rest
+returns-in-Ok-clause-rest c = rest_begun _ c.try_begin.ensures.call c.try_begin.ensures.ready c.requires
 
-pub returns-in-Err-clause-idle : goal.returns-in-Err-clause-idle
-returns-in-Err-clause-idle c =
-    idle_call (begin_gives _ _) c.try_begin.ensures.call c.try_begin.ensures.ready c.requires
+pub returns-in-Ok-clause-begun : goal.returns-in-Ok-clause-begun
+returns-in-Ok-clause-begun c =
+    selects_begun _ _ c.in-Ok.is c.try_begin.ensures.call c.try_begin.ensures.ready c.in-Ok.ensures.begun c.requires
+
+pub returns-in-Err-clause-rest : goal.returns-in-Err-clause-rest
+returns-in-Err-clause-rest c = rest_begun _ c.try_begin.ensures.call c.try_begin.ensures.ready c.requires

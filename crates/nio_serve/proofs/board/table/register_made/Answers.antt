@@ -1,15 +1,17 @@
 use Rattle.nio_event.proofs.PassViews.{channel_after}
-use Rattle.nio_serve.proofs.Idle.{idle_after}
+use Rattle.nio_serve.proofs.TableCalls.{rest_closed, rest_refused, rest_watched}
 use Rattle.nio_serve.proofs.board.table.register_made.Goals as goal
 
 pub close_channel-requires-clause-channel : goal.close_channel-requires-clause-channel
 close_channel-requires-clause-channel g c = channel_after c.register.ensures.call.acts c.requires.channel
 
-pub returns-in-Ok-clause-idle : goal.returns-in-Ok-clause-idle
-returns-in-Ok-clause-idle g c =
-    idle_after c.register.ensures.call.acts c.register.ensures.ready c.register.ensures.unpinned c.requires.idle
+pub returns-in-Ok-clause-watched : goal.returns-in-Ok-clause-watched
+returns-in-Ok-clause-watched g c =
+    rest_watched _ _ _ c.in-Ok.key c.in-Ok.is c.requires.next c.register.ensures.call c.register.ensures.ready
+    c.register.ensures.unpinned c.requires.rest
 
-pub returns-in-Err-clause-idle : goal.returns-in-Err-clause-idle
-returns-in-Err-clause-idle g c =
-    idle_after c.close_channel.ensures.call.acts c.close_channel.ensures.ready c.close_channel.ensures.unpinned
-    (idle_after c.register.ensures.call.acts c.register.ensures.ready c.register.ensures.unpinned c.requires.idle)
+pub returns-in-Err-clause-refused : goal.returns-in-Err-clause-refused
+returns-in-Err-clause-refused g c =
+    rest_closed _ c.close_channel.ensures.call c.close_channel.ensures.ready c.close_channel.ensures.unpinned
+    (rest_refused _ _ _ c.in-Err._refusal c.in-Err.is c.register.ensures.call c.register.ensures.ready
+    c.register.ensures.unpinned c.requires.rest)

@@ -1,9 +1,11 @@
-use Rattle.std.proofs.Common.{◌≡◌, Some, sym, subst, ap, ◌∙◌, arith, length, rules, slice_get}
+use Rattle.std.proofs.Common.{◌≡◌, Some, refl, sym, subst, ap, ◌∙◌, arith, length, rules, slice_get}
 use Rattle.nio_link.specs.Links.{IsUnused}
 use Rattle.nio_serve.specs.Serving.{client_of, target_of}
 use Rattle.nio_serve.specs.Slots.{has_ended, has_faulted, was_accepted}
+use Rattle.nio_serve.specs.declared.slot.Slot.TheVariants.{Unaccepted}
 use Rattle.nio_serve.proofs.Counts.{count_few}
 use Rattle.nio_serve.proofs.Slotting.{next_unbegun, not_true, serving_new, serving_unaccepted}
+use Rattle.nio_serve.proofs.Watching.{seat_none, watching_added, where_ok, watching_dropped}
 use Rattle.nio_serve.proofs.Working.{begins_then}
 use Rattle.nio_serve.proofs.connections.Connections.accept_next.Goals as goal
 
@@ -102,3 +104,20 @@ returns-in-Err-clause-serving g c =
     c.stop_at_unaccepted.ensures.target
     c.stop_at_unaccepted.ensures.ended c.stop_at_unaccepted.ensures.faulted
     c.stop_at_unaccepted.ensures.accepted c.stop_at_unaccepted.ensures.listening
+
+pub returns-in-Ok-clause-watching : goal.returns-in-Ok-clause-watching
+returns-in-Ok-clause-watching g c =
+    let at : c.len.result ≡ length c.args.self.now.slots.items = search rules in
+    watching_added _ c.args.self.now c.add.new.self c.take_on-slot.result.0 c.len.result c.links_of.result.1
+    c.take_on-slot.ensures.seat at c.links_of.ensures.target c.add.ensures.slots
+    (where_ok c.in-Ok.is c.take_on-slot.ensures.watched)
+
+pub returns-in-Err-taken-clause-watching : goal.returns-in-Err-taken-clause-watching
+returns-in-Err-taken-clause-watching g c =
+    watching_dropped _ c.args.self.now c.add.new.self c.take_on-slot.result.0 c.take_on-slot.ensures.seat
+    c.requires.watched c.add.ensures.slots c.take_on-slot.ensures.within refl
+
+pub returns-in-Err-clause-watching : goal.returns-in-Err-clause-watching
+returns-in-Err-clause-watching g c =
+    watching_dropped _ c.args.self.now c.stop_at_unaccepted.new.self Unaccepted (seat_none _) c.requires.watched
+    c.stop_at_unaccepted.ensures.slots (omega arith) refl

@@ -1,7 +1,9 @@
 use Rattle.std.proofs.Common.{◌≡◌, IsTrue}
 use Rattle.nio_link.specs.Links.{IsSameBut}
 use Rattle.nio_steps.specs.KeyCalls.{is_within}
+use Rattle.nio_serve.specs.Board.{IsSameSeat}
 use Rattle.nio_serve.specs.Serving.{listener}
+use Rattle.nio_serve.specs.Watching.{WatchesAll}
 use Rattle.nio_serve.specs.Slots.{Serving}
 use Rattle.nio_serve.proofs.proxy.Proxy.accept_all.Given as goal
 
@@ -12,4 +14,6 @@ invariant-loop g l = record {
   port : l.self.port ≡ l.fn.self.port;
   ready : IsSameBut listener (g.W.Way.ready l.fn.net) (g.W.Way.ready l.net);
   accepts : IsTrue (is_within 16 (g.W.Way.ready l.net listener));
+  seat : IsSameSeat l.fn.self.board l.self.board;
+  watched : WatchesAll l.self.board l.self.connections;
 }

@@ -1,8 +1,9 @@
-use Rattle.std.proofs.Common.{refl, ap, ◌∙◌}
+use Rattle.std.proofs.Common.{refl, ap, sym, ◌∙◌}
 use Rattle.nio_link.specs.declared.place.Place.{Place}
 use Rattle.nio_serve.specs.Serving.{listener}
 use Rattle.nio_serve.proofs.Slotting.{serving_none, serving_then, serving_quiet, cause_on, listens_on}
-use Rattle.nio_serve.proofs.Working.{role_stays}
+use Rattle.nio_serve.proofs.Watching.{seat_none, seat_then, watched_on, watching_then}
+use Rattle.nio_serve.proofs.Working.{on_ok_of, role_stays}
 use Rattle.nio_serve.proofs.proxy.Proxy.serve.Goals as goal
 
 pub loop-init : goal.loop-init
@@ -10,7 +11,12 @@ loop-init g c = record {
   serving = serving_none g.W.Way c.args.net.now c.args.self.now.connections c.requires.served;
   listens = c.requires.listens;
   role = refl;
+  seat = seat_none _;
+  watched = c.requires.watched;
 }
+
+pub returns-then-is_err-clause-watching : goal.returns-then-is_err-clause-watching
+returns-then-is_err-clause-watching g c = watching_then c.loop.invariant.seat c.turn-turned.ensures.watching
 
 pub returns-then-is_err-clause-serving : goal.returns-then-is_err-clause-serving
 returns-then-is_err-clause-serving g c =
@@ -36,6 +42,12 @@ loop-preserved g c = record {
   listens = c.stop_listening.ensures.listens;
   role = role_stays _ _ (c.stop_listening.ensures.quiet.places listener)
       ∙ (ap (λ (p : Place). p.role) c.turn-turned.ensures.listens ∙ c.loop.invariant.role);
+  seat = seat_then (seat_then c.loop.invariant.seat c.turn-turned.ensures.watching.seat)
+      c.stop_listening.ensures.board.seat;
+  watched = watched_on c.turn-turned.new.self.connections c.stop_listening.new.self.connections
+      c.stop_listening.ensures.board c.stop_listening.ensures.connections
+      (on_ok_of c.turn-turned.result (sym (sym c.is_err.ensures.value ∙ c.if-is_err.false))
+      c.turn-turned.ensures.watching.all);
 }
 
 pub stop_listening-requires : goal.stop_listening-requires

@@ -1,5 +1,6 @@
 use Rattle.std.proofs.Common.{inl, inr}
 use Rattle.nio_serve.proofs.Slotting.{serving_then}
+use Rattle.nio_serve.proofs.Watching.{seat_then, watching_then}
 use Rattle.nio_serve.proofs.Working.{rose_from}
 use Rattle.nio_serve.proofs.proxy.Proxy.turn.Goals as goal
 
@@ -22,3 +23,12 @@ returns-clause-cause g c failed =
     let before = serving_then g.W.Way _ _ _ _ _ _ c.prepare-prepared.ensures.serving
     c.select-selected.ensures.serving in
     inr (rose_from _ _ _ (before.later _) (c.serve_all.ensures.cause failed))
+
+pub returns-then-is_err-2-clause-watching : goal.returns-then-is_err-2-clause-watching
+returns-then-is_err-2-clause-watching g c =
+    watching_then c.prepare-prepared.ensures.watching.seat c.select-selected.ensures.watching
+
+pub returns-clause-watching : goal.returns-clause-watching
+returns-clause-watching g c =
+    watching_then (seat_then c.prepare-prepared.ensures.watching.seat c.select-selected.ensures.watching.seat)
+    c.serve_all.ensures.watching

@@ -1,0 +1,377 @@
+-- The passes are joined: what the one pass has seen that is left.
+use Rattle.std.proofs.Common.{◌≡◌, ℕ, ◌+◌, ◌-◌, ◌%◌, ◌<◌, ◌≤◌, ◌==◌, inl, inr, ⊎_elim, Bool, if◌then◌else◌}
+use Rattle.std.proofs.Common.{Some, Result, Ok, Err, IsOk, OnOk, IfOk, List, [], ◌∷◌, ◌++◌, length, map, filter, All}
+use Rattle.std.proofs.Common.{append_assoc, drop, get_or, take}
+use Rattle.std.proofs.Common.{slice_get, slice_index_or, refl, sym, ap, subst, ◌∙◌, arith, eqb-true, mod-lt}
+use Rattle.std.proofs.lemmas.Bool.{cases_eq, cases_lt}
+use Rattle.std.proofs.lemmas.List.{append-nil, get_or-map, length-map}
+use Rattle.std.proofs.lemmas.List.Elements.{All-append, All-cons, All-nil, All-tail, All-weaker}
+use Rattle.std.proofs.lemmas.Option.{get_or_from_slice_get}
+use Rattle.nio_base.specs.declared.limits.Limits.{Limits}
+use Rattle.nio_base.specs.declared.numbers.CallerNo.{CallerNo}
+use Rattle.nio_base.specs.declared.numbers.ChanNo.{ChanNo}
+use Rattle.nio_base.specs.declared.numbers.SelNo.{SelNo}
+use Rattle.nio_event.specs.Histories.{mine, is_by, IsLegal}
+use Rattle.nio_event.specs.declared.act.Act.{Act}
+use Rattle.nio_event.specs.declared.event.Event.{Event}
+use Rattle.nio_orderly.proofs.CallLists.{whole_is_orderly}
+use Rattle.nio_orderly.specs.Made.{Made}
+use Rattle.nio_orderly.specs.Orderly.{IsOrderly, IsWhole}
+use Rattle.nio_relay.specs.declared.plan.ProxyPlan.{ProxyPlan}
+use Rattle.nio_relay.specs.declared.plan.Served.{Served}
+use Rattle.nio_serve.specs.Called.{HasRegistered, registrations, seats}
+use Rattle.nio_serve.specs.Serving.{client_of, target_of}
+use Rattle.nio_serve.specs.declared.serving.ServeError.{ServeError}
+use Rattle.nio_steps.specs.Names.{selector}
+use Rattle.nio_words.specs.Passes.{Holds, IsPassOf, IsReady, acts_seen, limits_of, seen}
+use Rattle.nio_words.specs.Sharing.{Joins}
+use Rattle.nio_words.specs.declared.words.Pass.{Pass}
+use Rattle.nio_words.specs.declared.words.Words.{Words}
+use Rattle.nio_reactor.proofs.Concluding.{element, take_back}
+use Rattle.nio_reactor.proofs.Placed.{IsLinkOf, placed_behind, placed_elsewhere, placed_here}
+use Rattle.nio_reactor.proofs.Seen.{not_true}
+use Rattle.nio_reactor.specs.Dealing.{share}
+use Rattle.nio_reactor.specs.Placing.{ArePlaced, HoldsAll, IsRegisteredOnce, caller, selectors_with, served_of}
+use Rattle.nio_reactor.specs.Placing.{table_for}
+use Rattle.nio_reactor.specs.Seats.{HaveSeats, IsNewcomer, LeavesSeat, LeaveSeats, StandsIn, acceptor_deal, channels_for, deal_of}
+use Rattle.nio_reactor.specs.Working.{Concludes}
+use Rattle.nio_reactor.specs.declared.many.ManyError.{ManyError}
+
+-- ---- joining
+
+pub stands_self : (p : Pass) → StandsIn p p
+stands_self p = record { holds = λ n held. held; own = λ n held. refl }
+
+pub stands_on : (a b c : Pass) → StandsIn a b → StandsIn b c → StandsIn a c
+stands_on a b c first later = record {
+  holds = λ n held. later.holds n (first.holds n held);
+  own = λ n held. later.own n (first.holds n held) ∙ first.own n held;
+}
+
+pub joined_own : (w : Words) (before other after : Pass) → Joins w before other after → StandsIn before after
+joined_own w before other after joins =
+    record { holds = λ n held. (joins.numbers n).1 (inl held); own = joins.stands.own }
+
+pub joined_other : (w : Words) (before other after : Pass) → Joins w before other after → StandsIn other after
+joined_other w before other after joins =
+    record { holds = λ n held. (joins.numbers n).1 (inr held); own = joins.other_stands.own }
+
+pub ready_on : (w : Words) (a p : Pass) (n : CallerNo) → StandsIn a p → IsPassOf w p → IsReady w a n → IsReady w p n
+ready_on w a p n stands pass ready = record { pass = pass; number = stands.holds n ready.number }
+
+pub registered_on : (l : Limits) (a p : Pass) (n : CallerNo) (those : List (SelNo × ChanNo)) → StandsIn a p → Holds a n
+    → HasRegistered l (acts_seen a n) those → HasRegistered l (acts_seen p n) those
+registered_on l a p n those stands held has =
+    subst (λ (own : List Act). HasRegistered l own those) (sym (stands.own n held)) has
+
+-- some are joined, the first ones, and the others are still there
+pub record IsGathering {X : Type 0} (pass : X → Pass) (w : Words) (before now : Pass) (all left : List X) : Type 0
+  where
+    pub pass_is : IsPassOf w now
+    pub own : StandsIn before now
+    pub joined : List X
+    pub parts : all ≡ joined ++ left
+    pub each : All (λ x. StandsIn (pass x) now) joined
+    pub passes : All (λ x. IsPassOf w (pass x)) left
+
+pub begins_gathering : {X : Type 0} (pass : X → Pass) (w : Words) (p : Pass) (all : List X) → IsPassOf w p
+    → All (λ x. IsPassOf w (pass x)) all → IsGathering pass w p p all all
+begins_gathering pass w p all is passes = record {
+  pass_is = is;
+  own = stands_self p;
+  joined = [];
+  parts = refl;
+  each = All-nil (λ x. StandsIn (pass x) p);
+  passes = passes;
+}
+
+pub first_pass : {X : Type 0} (pass : X → Pass) (w : Words) (before now : Pass) (all left : List X) (x : X)
+    → IsGathering pass w before now all left → 0 < length left → x ≡ get_or left 0 x → IsPassOf w (pass x)
+first_pass pass w before now all left x at some is =
+    subst (λ y. IsPassOf w (pass y)) (sym is) (at.passes 0 x some)
+
+pub goes_on_gathering : {X : Type 0} (pass : X → Pass) (w : Words) (before now after : Pass) (all left rest : List X)
+    (x : X) → IsGathering pass w before now all left → 0 < length left → x ≡ get_or left 0 x
+    → rest ≡ take 0 left ++ drop (0 + 1) left → Joins w now (pass x) after
+    → IsGathering pass w before after all rest
+goes_on_gathering pass w before now after all [] rest x at some is rest_is joins = absurd (omega (arith, some))
+goes_on_gathering {X} pass w before now after all (y ∷ ys) rest x at some is rest_is joins =
+    let further : StandsIn now after = joined_own w now (pass x) after joins in
+    record {
+      pass_is = joins.pass;
+      own = stands_on before now after at.own further;
+      joined = at.joined ++ y ∷ [];
+      parts = at.parts ∙ (sym (append_assoc at.joined (y ∷ []) ys) ∙ ap (λ l. (at.joined ++ y ∷ []) ++ l) (sym rest_is));
+      each = All-append (λ z. StandsIn (pass z) after) at.joined (y ∷ [])
+          (All-weaker (λ z. StandsIn (pass z) now) (λ z. StandsIn (pass z) after)
+          (λ z there. stands_on (pass z) now after there further) at.joined at.each)
+          (All-cons (λ z. StandsIn (pass z) after) y []
+          (subst (λ z. StandsIn (pass z) after) is (joined_other w now (pass x) after joins))
+          (All-nil (λ z. StandsIn (pass z) after)));
+      passes = subst (All (λ z. IsPassOf w (pass z))) (sym rest_is)
+          (All-tail (λ z. IsPassOf w (pass z)) y ys at.passes);
+    }
+
+pub all_gathered : {X : Type 0} (pass : X → Pass) (w : Words) (before now : Pass) (all left : List X)
+    → IsGathering pass w before now all left → length left ≡ 0 → All (λ x. StandsIn (pass x) now) all
+all_gathered pass w before now all [] at none =
+    subst (All (λ x. StandsIn (pass x) now)) (sym (at.parts ∙ append-nil at.joined)) at.each
+all_gathered pass w before now all (y ∷ ys) at none = absurd (omega (arith, none))
+
+-- ---- callers beyond the limit
+
+done_nothing : (n : CallerNo) (k : ℕ) (events : List Event) → k ≤ n.0
+    → ((past : List Event) (e : Event) (later : List Event) → events ≡ past ++ e ∷ later → e.caller.0 < k)
+    → mine n events ≡ []
+done_nothing n k [] above below = refl
+done_nothing n k (e ∷ events) above below =
+    ap (λ (b : Bool). map (λ (x : Event). x.act) (if b then e ∷ filter (is_by n) events else filter (is_by n) events))
+    (not_true (e.caller.0 == n.0) (λ is.
+    let same : e.caller.0 ≡ n.0 = eqb-true e.caller.0 n.0 is in
+    let less : e.caller.0 < k = below [] e events refl in
+    absurd (omega (arith, same, less, above))))
+    ∙ done_nothing n k events above
+    (λ past x later is. below (e ∷ past) x later (ap (λ (l : List Event). e ∷ l) is))
+
+nobody_else : (l : Limits) (n : CallerNo) (events : List Event) → IsLegal l events → l.callers ≤ n.0
+    → mine n events ≡ []
+nobody_else l n events legal above =
+    done_nothing n l.callers events above (λ past e later is. (legal.steps past e later is).by_caller)
+
+-- ---- what each caller registered
+
+on_ok : {T E P : Type 0} (r : Result T E) → IsOk r → OnOk r P → P
+on_ok (Ok x) ok has = has
+on_ok (Err e) ok has = absurd (cc)
+
+-- of w workers and so many connections, these are the registrations of the caller of this number
+pub record AreOwn (w conns n : ℕ) (those : List (SelNo × ChanNo)) : Type 0 where
+  pub acceptor : n ≡ 0 → those ≡ seats (Some acceptor_deal) (selector 0) 1
+  pub worker : (v : ℕ) → v < w → n ≡ v + 1
+      → those ≡ seats (Some (deal_of w v conns)) (selector (v + 1)) (channels_for (share w v conns))
+  pub nobody : w < n → those ≡ []
+
+pub record HasOwn (w conns : ℕ) (p : Pass) (n : CallerNo) : Type 0 where
+  pub those : List (SelNo × ChanNo)
+  pub has : HasRegistered (table_for w) (acts_seen p n) those
+  pub own : AreOwn w conns n.0 those
+
+module _ (w conns : ℕ) (p : Pass) (own : (n : CallerNo) → HasOwn w conns p n) (some : 0 < w) where
+  abbrev calls : CallerNo → List Made
+  calls n = (own n).has.calls
+
+  made : (n : CallerNo) → registrations (calls n) ≡ (own n).those
+  made n = (own n).has.registered
+
+  not_zero : (n : ℕ) → (n ≡ 0 → ⊥) → n ≡ (n - 1) + 1
+  not_zero n other = omega (arith, other)
+
+  registered_once : (k : ℕ) (c : ChanNo) → k < conns → IsLinkOf k c → IsRegisteredOnce calls (k % w + 1) c
+  registered_once k c few link = record {
+    once = ap (selectors_with c) (made (caller (k % w + 1))
+        ∙ (own (caller (k % w + 1))).own.worker (k % w) (mod-lt k some) refl)
+        ∙ placed_here w k conns c some few link (selector (k % w + 1));
+    alone = λ n other. ap (selectors_with c) (made n) ∙ ⊎_elim
+        (λ (zero_is : n.0 ≡ 0).
+        ap (selectors_with c) ((own n).own.acceptor zero_is) ∙ placed_behind w k conns c some few link (selector 0))
+        (λ (later : n.0 ≡ 0 → ⊥).
+        let next : n.0 ≡ (n.0 - 1) + 1 = not_zero n.0 later in
+        ⊎_elim
+        (λ (less : n.0 - 1 < w).
+        ap (selectors_with c) ((own n).own.worker (n.0 - 1) less next)
+        ∙ placed_elsewhere w k conns c some few link (n.0 - 1) (selector ((n.0 - 1) + 1)) less
+        (λ same. other (next ∙ ap (λ m. m + 1) same)))
+        (λ (more : w ≤ n.0 - 1).
+        ap (selectors_with c) ((own n).own.nobody (omega (arith, more, next))))
+        (cases_lt (n.0 - 1) w))
+        (cases_eq n.0 0);
+  }
+
+  pub are_placed : ArePlaced w conns (seen p)
+  are_placed = record {
+    calls = calls;
+    are = λ n. (own n).has.are;
+    acceptor = made (caller 0) ∙ (own (caller 0)).own.acceptor refl;
+    placed = λ k few. record {
+      client = registered_once k (client_of k) few
+          (record { side = 0; one_of_two = omega arith; number = omega arith });
+      target = registered_once k (target_of k) few
+          (record { side = 1; one_of_two = omega arith; number = omega arith });
+    };
+  }
+
+  pub is_whole : IsWhole (table_for w) (seen p)
+  is_whole n = record { calls = calls n; are = (own n).has.are }
+
+  pub is_orderly : IsOrderly (table_for w) (seen p)
+  is_orderly = whole_is_orderly (table_for w) (seen p) is_whole
+
+-- ---- at the end of a call
+
+module _ {X : Type 0} (words : Words) (plan : ProxyPlan) (early : X → Bool) (outcome : X → Result Served ServeError)
+    (pass : X → Pass) (w : ℕ) (limits : limits_of words ≡ table_for w) (before now : List X) (count : length before ≡ w)
+    (same : length now ≡ length before) (leave : LeaveSeats words plan pass outcome before now)
+    (acceptor p : Pass) (is_pass : IsPassOf words p)
+    (stands : StandsIn acceptor p) (each : All (λ x. StandsIn (pass x) p) now)
+    (accepted : Result (Unit {0}) ManyError) (leaves : LeavesSeat words 0 acceptor_deal 1 acceptor accepted) where
+  module _ (accepted_ok : IsOk accepted)
+      (all_ok : (v : ℕ) (x : X) → slice_get now v ≡ Some x → IsOk (outcome x)) where
+    of_acceptor : (n : CallerNo) → n.0 ≡ 0 → HasOwn w plan.conns p n
+    of_acceptor n is = record {
+      those = seats (Some acceptor_deal) (selector 0) 1;
+      has = subst (λ (m : CallerNo). HasRegistered (table_for w) (acts_seen p m) (seats (Some acceptor_deal) (selector 0) 1))
+          (sym (ap caller is))
+          (subst (λ (l : Limits). HasRegistered l (acts_seen p (caller 0)) (seats (Some acceptor_deal) (selector 0) 1))
+          limits
+          (registered_on (limits_of words) acceptor p (caller 0) (seats (Some acceptor_deal) (selector 0) 1) stands
+          leaves.ready.number (on_ok accepted accepted_ok leaves.called)));
+      own = record {
+        acceptor = λ _. refl;
+        worker = λ v less next. absurd (omega (arith, is, next));
+        nobody = λ above. absurd (omega (arith, is, above));
+      };
+    }
+
+    of_worker : (v : ℕ) → v < w → HasOwn w plan.conns p (caller (v + 1))
+    of_worker v less =
+        let within : v < length before = omega (arith, less, count) in
+        let found = element now v (omega (arith, within, same)) in
+        let x : X = found.0 in
+        let at : slice_index_or now v x ≡ x = get_or_from_slice_get now v x x found.1 in
+        let those : List (SelNo × ChanNo)
+        = seats (Some (deal_of w v plan.conns)) (selector (v + 1)) (channels_for (share w v plan.conns)) in
+        let left : LeavesSeat words (v + 1) (deal_of w v plan.conns) (channels_for (share w v plan.conns)) (pass x)
+        (outcome x)
+        = subst (λ (y : X). LeavesSeat words (v + 1) (deal_of w v plan.conns) (channels_for (share w v plan.conns))
+        (pass y) (outcome y)) at
+        (subst (λ m. LeavesSeat words (v + 1) (deal_of m v plan.conns) (channels_for (share m v plan.conns))
+        (pass (slice_index_or now v x)) (outcome (slice_index_or now v x))) count (leave v x within)) in
+        let its : StandsIn (pass x) p
+        = subst (λ (y : X). StandsIn (pass y) p) at (each v x (omega (arith, within, same))) in
+        record {
+          those = those;
+          has = subst (λ (l : Limits). HasRegistered l (acts_seen p (caller (v + 1))) those) limits
+              (registered_on (limits_of words) (pass x) p (caller (v + 1)) those its left.ready.number
+              (on_ok (outcome x) (all_ok v x found.1) left.called));
+          own = record {
+            acceptor = λ is. absurd (omega (arith, is));
+            worker = λ u few next.
+                let here : v ≡ u = omega (arith, next) in
+                ap (λ j. seats (Some (deal_of w j plan.conns)) (selector (j + 1)) (channels_for (share w j plan.conns)))
+                here;
+            nobody = λ above. absurd (omega (arith, less, above));
+          };
+        }
+
+    of_nobody : (n : CallerNo) → w < n.0 → HasOwn w plan.conns p n
+    of_nobody n above = record {
+      those = [];
+      has = subst (λ (own : List Act). HasRegistered (table_for w) own [])
+          (sym (nobody_else (table_for w) n (seen p) (subst (λ (l : Limits). IsLegal l (seen p)) limits is_pass.legal)
+          (omega (arith, above))))
+          (record { calls = []; are = record { runs = refl; in_order = tt }; registered = refl });
+      own = record {
+        acceptor = λ is. absurd (omega (arith, is, above));
+        worker = λ v less next. absurd (omega (arith, less, next, above));
+        nobody = λ _. refl;
+      };
+    }
+
+    pub own_of : (n : CallerNo) → HasOwn w plan.conns p n
+    own_of n = ⊎_elim
+        (λ (zero_is : n.0 ≡ 0). of_acceptor n zero_is)
+        (λ (later : n.0 ≡ 0 → ⊥).
+        let next : n.0 ≡ (n.0 - 1) + 1 = omega (arith, later) in
+        ⊎_elim
+        (λ (less : n.0 - 1 < w).
+        subst (HasOwn w plan.conns p) (sym (ap caller next)) (of_worker (n.0 - 1) less))
+        (λ (more : w ≤ n.0 - 1). of_nobody n (omega (arith, more, next)))
+        (cases_lt (n.0 - 1) w))
+        (cases_eq n.0 0)
+
+  -- what the call answers at Ok, with this pass
+  module _ (result : Result Served ManyError)
+      (concludes : Concludes accepted early outcome plan.conns now result) (some : 0 < w) where
+    owned : (served : Served) → result ≡ Ok served → (n : CallerNo) → HasOwn w plan.conns p n
+    owned served is = by_accepted accepted refl
+      where
+        by_accepted : (a : Result (Unit {0}) ManyError) → accepted ≡ a → (n : CallerNo) → HasOwn w plan.conns p n
+        by_accepted (Ok done) accepted_is n =
+            let all : Concludes (Ok done) early outcome plan.conns now (Ok served)
+            = subst (λ r. Concludes (Ok done) early outcome plan.conns now r) is
+            (subst (λ a. Concludes a early outcome plan.conns now result) accepted_is concludes) in
+            own_of (subst IsOk (sym accepted_is) refl) all.all n
+        by_accepted (Err error) accepted_is n =
+            let failed : result ≡ Err error
+            = subst (λ a. Concludes a early outcome plan.conns now result) accepted_is concludes in
+            let clash : Ok served ≡ Err error = sym is ∙ failed in
+            absurd (cc)
+
+    pub placed_of : (served : Served) → result ≡ Ok served → ArePlaced w plan.conns (seen p)
+    placed_of served is = are_placed w plan.conns p (owned served is) some
+
+    pub whole_of : (served : Served) → result ≡ Ok served → IsWhole (table_for w) (seen p)
+    whole_of served is = is_whole w plan.conns p (owned served is) some
+
+    pub orderly_of : (served : Served) → result ≡ Ok served → IsOrderly (table_for w) (seen p)
+    orderly_of served is = is_orderly w plan.conns p (owned served is) some
+
+  ready_worker : (v : ℕ) → v < w → IsReady words p (caller (v + 1))
+  ready_worker v less =
+      let within : v < length before = omega (arith, less, count) in
+      let x : X = (element now v (omega (arith, within, same))).0 in
+      ready_on words (pass (slice_index_or now v x)) p (caller (v + 1)) (each v x (omega (arith, within, same))) is_pass
+      (leave v x within).ready
+
+  pub holds_all : HoldsAll (table_for w) p
+  holds_all = record {
+    legal = subst (λ (l : Limits). IsLegal l (seen p)) limits is_pass.legal;
+    holds = λ n below. ⊎_elim
+        (λ (zero_is : n.0 ≡ 0).
+        subst (Holds p) (sym (ap caller zero_is)) (stands.holds (caller 0) leaves.ready.number))
+        (λ (later : n.0 ≡ 0 → ⊥).
+        let next : n.0 ≡ (n.0 - 1) + 1 = omega (arith, later) in
+        subst (Holds p) (sym (ap caller next)) (ready_worker (n.0 - 1) (omega (arith, next, below))).number)
+        (cases_eq n.0 0);
+  }
+
+-- ---- the workers have the passes that were handed out
+
+pub seats_of : {X : Type 0} (w : Words) (pass : X → Pass) (workers : List X) (passes : List Pass)
+    → map pass workers ≡ passes → HaveSeats w (λ p. p) passes → HaveSeats w pass workers
+seats_of {X} w pass workers passes same seats v x less =
+    let within : v < length passes
+    = subst (λ n. v < n) (sym (length-map workers pass) ∙ ap length same) less in
+    subst (λ p. IsNewcomer w p (caller (v + 1))) (get_or-map pass workers v x (pass x) less)
+    (subst (λ (l : List Pass). IsNewcomer w (slice_index_or l v (pass x)) (caller (v + 1))) (sym same)
+    (seats v (pass x) within))
+
+pub passes_after : {X : Type 0} (w : Words) (plan : ProxyPlan) (pass : X → Pass)
+    (outcome : X → Result Served ServeError) (before now : List X) → length now ≡ length before
+    → LeaveSeats w plan pass outcome before now → All (λ x. IsPassOf w (pass x)) now
+passes_after w plan pass outcome before now same leave k x less =
+    (leave k x (subst (λ n. k < n) same less)).ready.pass
+
+-- back from a slice of workers
+pub seats_back : {X : Type 0} (w : Words) (plan : ProxyPlan) (pass : X → Pass)
+    (outcome : X → Result Served ServeError) (old before new : List X) (n : ℕ) → before ≡ old → n ≡ length old
+    → length new ≡ length before → LeaveSeats w plan pass outcome before new
+    → LeaveSeats w plan pass outcome old (take n (new ++ drop (length new) old))
+seats_back {X} w plan pass outcome old before new n old_is n_is count leave =
+    let back : take n (new ++ drop (length new) old) ≡ new
+    = ap (λ k. take k (new ++ drop (length new) old)) n_is ∙ take_back new old (count ∙ ap length old_is) in
+    subst (λ l. LeaveSeats w plan pass outcome old l) (sym back)
+    (subst (λ l. LeaveSeats w plan pass outcome l new) old_is leave)
+
+pub count_back : {X : Type 0} (old before new : List X) (n : ℕ) → before ≡ old → n ≡ length old
+    → length new ≡ length before → length (take n (new ++ drop (length new) old)) ≡ length old
+count_back old before new n old_is n_is count =
+    ap (λ k. length (take k (new ++ drop (length new) old))) n_is
+    ∙ (ap length (take_back new old (count ∙ ap length old_is)) ∙ (count ∙ ap length old_is))
+
+-- with the pass
+pub answered_with : (P : Pass → Type 0) (p : Pass) (outcome : Result Served ManyError)
+    (result : Result (Served × Pass) ManyError) → served_of result ≡ outcome → IfOk result (λ done. done.1 ≡ p)
+    → ((served : Served) → outcome ≡ Ok served → P p) → IfOk result (λ done. P done.1)
+answered_with P p outcome (Ok done) served_is pass_is has = subst P (sym pass_is) (has done.0 (sym served_is))
+answered_with P p outcome (Err error) served_is pass_is has = tt

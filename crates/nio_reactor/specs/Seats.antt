@@ -1,0 +1,97 @@
+-- What the callers of the shared table have to do with it: before they serve, and once they have served.
+use Rattle.std.specs.Prelude.{◌≡◌, ℕ, zero, suc, ◌+◌, ◌*◌, ◌<◌, ◌≤◌, Some, OnOk, Result, List, [], length}
+use Rattle.std.specs.Prelude.{slice_index_or}
+use Rattle.nio_base.specs.declared.numbers.CallerNo.{CallerNo}
+use Rattle.nio_event.specs.PassViews.{HasNoPin}
+use Rattle.nio_relay.specs.declared.plan.ProxyPlan.{ProxyPlan}
+use Rattle.nio_relay.specs.declared.plan.Served.{Served}
+use Rattle.nio_serve.specs.Board.{BoardView}
+use Rattle.nio_serve.specs.Called.{HasCalled, IsUnregistered}
+use Rattle.nio_serve.specs.Serving.{listener}
+use Rattle.nio_serve.specs.declared.deal.Deal.{Deal}
+use Rattle.nio_serve.specs.declared.serving.ServeError.{ServeError}
+use Rattle.nio_steps.specs.Names.{selector}
+use Rattle.nio_words.specs.Passes.{Holds, IsOnly, IsPassOf, IsReady, acts_seen, limits_of, seen}
+use Rattle.nio_words.specs.Views.{view}
+use Rattle.nio_words.specs.declared.words.Pass.{Pass}
+use Rattle.nio_words.specs.declared.words.Words.{Words}
+use Rattle.nio_event.specs.Histories.{mine}
+use Rattle.nio_reactor.specs.Dealing.{share}
+use Rattle.nio_reactor.specs.Placing.{caller}
+
+-- ---- before
+
+-- The caller may step with the pass, and has no pin. It made whole calls, and registered nothing.
+pub record IsNewcomer (w : Words) (p : Pass) (n : CallerNo) : Type 0 where
+  pub ready : IsReady w p n
+  pub unpinned : HasNoPin (view w p) n
+  pub unregistered : IsUnregistered (limits_of w) (acts_seen p n)
+
+-- so is each caller below k
+abbrev pub AreNewcomers : Words → Pass → ℕ → Type 0
+AreNewcomers w p k = (n : CallerNo) → n.0 < k → IsNewcomer w p n
+
+-- The table's only pass has drawn the numbers below k, and the other callers have done nothing.
+pub record HaveDrawn (w : Words) (p : Pass) (k : ℕ) : Type 0 where
+  pub pass : IsPassOf w p
+  pub only : IsOnly p
+  pub drawn : AreNewcomers w p k
+  pub rest : (n : CallerNo) → k ≤ n.0 → acts_seen p n ≡ []
+
+-- Worker v, which is caller v + 1, is one with its own pass: `pass` is what each of the list shows.
+abbrev pub HaveSeats : {X : Type 0} → Words → (X → Pass) → List X → Type 0
+HaveSeats {X} w pass workers =
+    (v : ℕ) (x : X) → v < length workers → IsNewcomer w (pass (slice_index_or workers v x)) (caller (v + 1))
+
+-- The numbers from k on are left to a pass, beside that of the acceptor; those below were handed out.
+pub record IsHandingOut (w : Words) (p : Pass) (passes : List Pass) (k n : ℕ) : Type 0 where
+  pub acceptor : IsNewcomer w p (caller 0)
+  pub rest : (v : ℕ) → k ≤ v → v < n → IsNewcomer w p (caller (v + 1))
+  pub seats : HaveSeats w (λ pass. pass) passes
+  pub count : length passes ≡ k
+
+-- ---- the shares
+
+-- The share of worker v of w. The channels of the lines come after those of the connections.
+abbrev pub deal_of : ℕ → ℕ → ℕ → Deal
+deal_of w v conns = record { workers = w; worker = v; listener = record { 0 = 2 * conns + 1 + v } }
+
+-- that of the acceptor: each channel has its own number
+abbrev pub acceptor_deal : Deal
+acceptor_deal = record { workers = 1; worker = 0; listener = listener }
+
+-- how many channels a worker registers for so many connections: its line, where it has any, and two for each
+abbrev pub channels_for : ℕ → ℕ
+channels_for zero = 0
+channels_for (suc n) = 2 * suc n + 1
+
+-- a board of the caller of this number, with the selector of this number, on which so many channels are registered
+pub record IsSeat (w : Words) (number : ℕ) (deal : Deal) (registered : ℕ) (board : BoardView) : Type 0 where
+  pub words : board.words ≡ w
+  pub caller_is : board.caller ≡ caller number
+  pub selector_is : board.selector ≡ selector number
+  pub deal_is : board.deal ≡ Some deal
+  pub registered_is : board.registered ≡ registered
+
+-- ---- at the end
+
+-- The caller of this number may step with the pass. Where it has served, it has registered so many channels of its
+-- share, with the selector of its number, and nothing else.
+pub record LeavesSeat {T E : Type 0} (w : Words) (number : ℕ) (deal : Deal) (registered : ℕ) (pass : Pass)
+    (result : Result T E) : Type 0 where
+  pub ready : IsReady w pass (caller number)
+  pub called : OnOk result
+      (HasCalled (limits_of w) (acts_seen pass (caller number)) (Some deal) (selector number) registered)
+
+-- so does each worker: `pass` and `outcome` are what its lane shows
+abbrev pub LeaveSeats : {X : Type 0} → Words → ProxyPlan → (X → Pass) → (X → Result Served ServeError) → List X
+    → List X → Type 0
+LeaveSeats {X} w plan pass outcome before now =
+    (v : ℕ) (x : X) → v < length before → LeavesSeat w (v + 1) (deal_of (length before) v plan.conns)
+    (channels_for (share (length before) v plan.conns)) (pass (slice_index_or now v x))
+    (outcome (slice_index_or now v x))
+
+-- the numbers of the one pass are held by the other, and have done the same there
+pub record StandsIn (before after : Pass) : Type 0 where
+  pub holds : (n : CallerNo) → Holds before n → Holds after n
+  pub own : (n : CallerNo) → Holds before n → mine n (seen after) ≡ mine n (seen before)
