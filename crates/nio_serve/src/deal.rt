@@ -1,5 +1,5 @@
 //! A worker's share of a table's channels.
-ghost use Rattle.std.specs.Prelude.{◌≡◌, ◌^◌, ◌≤◌, MatchOption};
+ghost use Rattle.std.specs.Prelude.{◌≡◌, ◌^◌, ◌≤◌, ◌/◌, max, MatchOption};
 ghost use Rattle.nio_serve.specs.Called.{dealt_channel};
 
 use nio_base::ChanNo;
@@ -50,6 +50,31 @@ impl Renumber for Deal {
             return ChanNo(0);
         }
         let before = chan.0.saturating_sub(1);
-        ChanNo(2 * (before / 2 / self.workers.max(1)) + 1 + before % 2)
+        ChanNo(2 * divided(before / 2, self.workers) + 1 + before % 2)
+    }
+}
+
+/// The number divided by `by`, by 1 where that is 0. A division by a constant is a multiplication: for each poll a
+/// worker renumbers each of its keys.
+fn divided(number: u32, by: u32) -> u32
+    ensures { result ≡ number / max by 1 }
+{
+    match by {
+        1 => number,
+        2 => number / 2,
+        3 => number / 3,
+        4 => number / 4,
+        5 => number / 5,
+        6 => number / 6,
+        7 => number / 7,
+        8 => number / 8,
+        9 => number / 9,
+        10 => number / 10,
+        11 => number / 11,
+        12 => number / 12,
+        13 => number / 13,
+        14 => number / 14,
+        15 => number / 15,
+        more => number / more.max(1),
     }
 }
