@@ -1,7 +1,7 @@
 -- The channels that are made, and the indexes of a selector that are claimed, are those below a number.
 use Rattle.std.proofs.Common.{◌≡◌, ℕ, suc, ◌+◌, ◌==◌, ◌≤◌, max, nat_lt, Bool, true, false, ◌&&◌, ◌↔◌, IsTrue}
-use Rattle.std.proofs.Common.{if◌then◌else◌, refl, ap, sym, ◌∙◌, arith, eqb-true, eq-eqb}
-use Rattle.std.proofs.lemmas.Bool.{ltb-true, ltb-false, lt-ltb, le-ltb, and_parts}
+use Rattle.std.proofs.Common.{if◌then◌else◌, refl, ap, sym, ◌∙◌, arith, eqb-true, eq-eqb, ◌<◌, inl, inr}
+use Rattle.std.proofs.lemmas.Bool.{ltb-true, ltb-false, lt-ltb, le-ltb, cases_lt}
 use Rattle.nio_audit.specs.Counting.{IsCounted, channels_after, keys_after}
 use Rattle.nio_base.specs.declared.limits.Limits.{Limits}
 use Rattle.nio_base.specs.declared.numbers.CallerNo.{CallerNo}
@@ -9,40 +9,38 @@ use Rattle.nio_base.specs.declared.numbers.SelNo.{SelNo}
 use Rattle.nio_event.proofs.Put.{put_keeps, put_at_keeps}
 use Rattle.nio_event.specs.Acts.{effect, new_key}
 use Rattle.nio_event.specs.Answers.{Answers}
-use Rattle.nio_event.specs.Conditions.{Condition, AllMade, AllClaimed, is_held_by}
+use Rattle.nio_event.specs.Conditions.{Condition, AllMade, AllClaimed}
 use Rattle.nio_event.specs.Questions.{flag}
 use Rattle.nio_event.specs.Sound.{IsSound}
-use Rattle.nio_event.specs.State.{State, put}
+use Rattle.nio_event.specs.State.{State, put, put_at}
 use Rattle.nio_event.specs.declared.act.Act.{Act}
 use Rattle.nio_event.specs.declared.act.Act.TheVariants.{CancelKey, MakeChannel, Claim, Publish, Remove, SetMode}
 use Rattle.nio_event.specs.declared.act.Act.TheVariants.{CloseBit, ClaimAgain}
-use Rattle.std.specs.Prelude.{List, Option, Some, None, is_some}
+use Rattle.nio_event.proofs.Soundness.{held_some}
+use Rattle.nio_event.proofs.KeyChanges.{back_parts}
+use Rattle.nio_event.specs.declared.found.Stage.{Stage}
+use Rattle.std.specs.Prelude.{List}
+
+-- where the numbers below one pass a test and no others, all below another pass it where that is no larger
+all_below : (test : ℕ → Bool) (count n : ℕ) → ((i : ℕ) → test i ≡ nat_lt i count)
+    → (n ≤ count) ↔ ((i : ℕ) → i < n → IsTrue (test i))
+all_below test count n is = (
+  λ le i below. is i ∙ lt-ltb i count (omega arith),
+  λ all. elim (cases_lt count n) [
+    | inl beyond ↦
+        let clash : true ≡ false = sym (all count beyond) ∙ (is count ∙ le-ltb count count (omega arith)) in
+        absurd cc
+    | inr within ↦ within
+  ],
+)
 
 module _ {st : State} {channels : ℕ} {keys : ℕ → ℕ} where
   pub all_made : IsCounted st channels keys → (n : ℕ) → (n ≤ channels) ↔ AllMade st n
   all_made h n =
-      (λ le c below. h.made c ∙ lt-ltb c channels (omega arith), λ all. by_order (nat_lt channels n) refl all)
-    where
-      by_order : (b : Bool) → nat_lt channels n ≡ b → AllMade st n → n ≤ channels
-      by_order true e all =
-          let clash : true ≡ false = sym (all channels (ltb-true channels n e))
-          ∙ (h.made channels ∙ le-ltb channels channels (omega arith)) in
-          absurd cc
-      by_order false e all = ltb-false channels n e
+      all_below (λ c. (st.chan c).made) channels n h.made
 
   pub all_claimed : IsCounted st channels keys → (s : SelNo) (n : ℕ) → (n ≤ keys s.0) ↔ AllClaimed st s n
-  all_claimed h s n = (
-    λ le i below. h.claimed s.0 i
-        ∙ lt-ltb i (keys s.0) (omega arith),
-    λ all. by_order (nat_lt (keys s.0) n) refl all,
-  )
-    where
-      by_order : (b : Bool) → nat_lt (keys s.0) n ≡ b → AllClaimed st s n → n ≤ keys s.0
-      by_order true e all =
-          let clash : true ≡ false = sym (all (keys s.0) (ltb-true (keys s.0) n e))
-          ∙ (h.claimed s.0 (keys s.0) ∙ le-ltb (keys s.0) (keys s.0) (omega arith)) in
-          absurd cc
-      by_order false e all = ltb-false (keys s.0) n e
+  all_claimed h s n = all_below (λ i. (st.key s.0 i).claimed) (keys s.0) n (h.claimed s.0)
 
 -- one more below the number, at the number or below it
 same_below : (n c count : ℕ) → c ≤ count → (n ≡ c → ⊥) → nat_lt n count ≡ nat_lt n (max count (c + 1))
@@ -72,9 +70,12 @@ made_after test false was new e is = is
 found_is : (found x : Bool) → flag found ≡ flag x → found ≡ x
 found_is found x e = cc
 
-taken_some : (me : CallerNo) (o : Option CallerNo) → IsTrue (is_held_by me o) → IsTrue (is_some o)
-taken_some me None h = cc
-taken_some me (Some n) h = refl
+-- a stage that is claimed as it was leaves the indexes counted
+claimed_put : (f : ℕ → ℕ → Stage) (keys : ℕ → ℕ) → ((s i : ℕ) → (f s i).claimed ≡ nat_lt i (keys s))
+    → (s i : ℕ) (x : Stage) → x.claimed ≡ (f s i).claimed
+    → (t j : ℕ) → (put_at f s i x t j).claimed ≡ nat_lt j (keys t)
+claimed_put f keys counted s i x same t j =
+    put_at_keeps (λ t' j' y. y.claimed ≡ nat_lt j' (keys t')) f s i x (λ e. same ∙ e) t j (counted t j)
 
 pub counted-step : (l : Limits) (own : List Act) (st : State) (me : CallerNo) (act : Act) (channels : ℕ) (keys : ℕ → ℕ)
     → IsSound st
@@ -95,34 +96,26 @@ counted-step l own st me (CloseBit c found) channels keys sound may answers h = 
 }
 counted-step l own st me (CancelKey s i found) channels keys sound may answers h = record {
   made = h.made;
-  claimed = λ t j. put_at_keeps (λ t' j' x. x.claimed ≡ nat_lt j' (keys t')) st.key s.0 i _ (λ e. e) t j
-      (h.claimed t j);
+  claimed = claimed_put st.key keys h.claimed s.0 i _ refl;
 }
 counted-step l own st me (Publish s i found) channels keys sound may answers h = record {
   made = h.made;
-  claimed = λ t j. put_at_keeps (λ t' j' x. x.claimed ≡ nat_lt j' (keys t')) st.key s.0 i _ (λ e. e) t j
-      (h.claimed t j);
+  claimed = claimed_put st.key keys h.claimed s.0 i _ refl;
 }
 counted-step l own st me (Remove s i found) channels keys sound may answers h = record {
   made = h.made;
-  claimed = λ t j. put_at_keeps (λ t' j' x. x.claimed ≡ nat_lt j' (keys t')) st.key s.0 i _ (λ e. e) t j
-      (h.claimed t j);
+  claimed = claimed_put st.key keys h.claimed s.0 i _ refl;
 }
 counted-step l own st me (ClaimAgain s i c from found) channels keys sound may answers h = record {
   made = h.made;
-  claimed = λ t j. put_at_keeps (λ t' j' x. x.claimed ≡ nat_lt j' (keys t')) st.key s.0 i _ (λ e. by_found found e) t j
-      (h.claimed t j);
+  claimed = claimed_put st.key keys h.claimed s.0 i _ (by_found found);
 }
   where
-    was_claimed : (st.key s.0 i).claimed ≡ true
-    was_claimed =
-        let back = sound.taken_back s.0 i (taken_some me (st.taker s.0 i) may.3) in
-        (and_parts _ _ (and_parts _ _ (and_parts _ _ (and_parts _ _ back).0).0).0).0
-
-    by_found : (b : Bool) → (st.key s.0 i).claimed ≡ nat_lt i (keys s.0)
-        → (if b then st.key s.0 i else new_key c (suc (st.key s.0 i).serial)).claimed ≡ nat_lt i (keys s.0)
-    by_found true e = e
-    by_found false e = sym was_claimed ∙ e
+    by_found : (b : Bool)
+        → (if b then st.key s.0 i else new_key c (suc (st.key s.0 i).serial)).claimed ≡ (st.key s.0 i).claimed
+    by_found true = refl
+    by_found false =
+        sym (back_parts (st.key s.0 i) (sound.taken_back s.0 i (held_some me (st.taker s.0 i) may.3))).claimed
 counted-step l own st me (Claim s i c found) channels keys sound may answers h = record {
   made = h.made;
   claimed = λ t j. by_test t (t == s.0) refl j;

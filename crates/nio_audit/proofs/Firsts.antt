@@ -1,7 +1,7 @@
 -- The first event that isn't a step: there is at most one, and none in a legal history.
-use Rattle.std.proofs.Common.{◌≡◌, ℕ, suc, ◌+◌, ◌<◌, nat_lt, Bool, true, false, List, [], ◌∷◌, ◌++◌, length, take, drop}
-use Rattle.std.proofs.Common.{get_or, drop-cons, refl, ap, sym, ◌∙◌, subst, arith}
-use Rattle.std.proofs.lemmas.Bool.{ltb-true, ltb-false}
+use Rattle.std.proofs.Common.{◌≡◌, ℕ, suc, ◌+◌, ◌<◌, List, [], ◌∷◌, ◌++◌, length, take, drop, get_or, drop-cons, ap}
+use Rattle.std.proofs.Common.{sym, ◌∙◌, subst, arith, inl, inr}
+use Rattle.std.proofs.lemmas.Bool.{cases_order}
 use Rattle.std.proofs.lemmas.List.{take-append-drop, length-take-le, take_more}
 use Rattle.nio_audit.specs.Following.{Follows, HasJudged}
 use Rattle.nio_audit.specs.declared.judge.Judge.{Judge}
@@ -49,12 +49,14 @@ not_before l events a b first second h =
 
 pub first-one : (l : Limits) (events : List Event) (a b : ℕ) → IsFirstNoStep l events a → IsFirstNoStep l events b
     → a ≡ b
-first-one l events a b first second = by_order (nat_lt a b) (nat_lt b a) refl refl
-  where
-    by_order : (x y : Bool) → nat_lt a b ≡ x → nat_lt b a ≡ y → a ≡ b
-    by_order true y e f = absurd (not_before l events a b first second (ltb-true a b e))
-    by_order false true e f = absurd (not_before l events b a second first (ltb-true b a f))
-    by_order false false e f = omega (arith, ltb-false a b e, ltb-false b a f)
+first-one l events a b first second =
+    elim (cases_order a b) [
+      | inl same ↦ same
+      | inr other ↦ elim other [
+        | inl below ↦ absurd (not_before l events a b first second below)
+        | inr above ↦ absurd (not_before l events b a second first above)
+      ]
+    ]
 
 -- an event at a place that isn't a step after those before it, which are steps
 pub first-here : {l : Limits} {events : List Event} {place : ℕ} (e : Event) → place < length events

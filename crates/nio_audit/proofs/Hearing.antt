@@ -1,12 +1,12 @@
 -- What callers remember, told by the words of conditions, and what one event more does to it.
-use Rattle.std.proofs.Common.{◌≡◌, ℕ, ◌+◌, ◌<◌, ◌==◌, max, nat_lt, Bool, true, false, not, cond, ◌||◌, ◌&&◌}
-use Rattle.std.proofs.Common.{if◌then◌else◌, Option, Some, None, is_some, List, [], ◌∷◌, ◌++◌, length, refl, ap, sym}
-use Rattle.std.proofs.Common.{◌∙◌, arith, eqb-true}
+use Rattle.std.proofs.Common.{◌≡◌, ℕ, ◌+◌, ◌<◌, ◌==◌, max, nat_lt, Bool, true, false, not, ◌||◌, ◌&&◌, if◌then◌else◌}
+use Rattle.std.proofs.Common.{Option, Some, None, is_some, List, [], ◌∷◌, ◌++◌, length, refl, ap, sym, ◌∙◌, arith}
+use Rattle.std.proofs.Common.{eqb-true}
 use Rattle.std.specs.Prelude.{unwrap_or, option_map}
 use Rattle.std.specs.Option.{option_or}
 use Rattle.std.proofs.lemmas.Bool.{ltb-true, ltb-false, lt-ltb, le-ltb}
+use Rattle.std.proofs.Math.Bool.{or-false}
 use Rattle.nio_audit.proofs.Latest.{latest-own, latest-other}
-use Rattle.nio_audit.proofs.Truth.{or_false}
 use Rattle.nio_audit.specs.Latest.{latest}
 use Rattle.nio_audit.specs.Remembering.{outside_at}
 use Rattle.nio_audit.specs.Remembers.{own_of, RemembersHold, RemembersEnrolled, RemembersIndex, RemembersClosing}
@@ -17,13 +17,12 @@ use Rattle.nio_audit.specs.declared.memory.IndexMemory.{IndexMemory}
 use Rattle.nio_audit.specs.declared.memory.EnrolledMemory.{EnrolledMemory}
 use Rattle.nio_base.specs.declared.numbers.CallerNo.{CallerNo}
 use Rattle.nio_base.specs.declared.numbers.KeyId.{KeyId}
-use Rattle.nio_event.proofs.OneMore.{mine-own, mine-other, has-more, last-more}
+use Rattle.nio_event.proofs.OneMore.{mine-own, mine-other, has-more, last-more, since_first-none, since_first-more}
 use Rattle.nio_event.specs.Histories.{is_by, mine}
 use Rattle.nio_event.specs.OwnEvents.{OwnClaim, has, last, since_first, since_entered, takes_hold, finds_unblocked}
 use Rattle.nio_event.specs.OwnEvents.{enrolled_found, enrols_key, publishes, stage_found, is_outside, takes_free}
-use Rattle.nio_event.specs.OwnEvents.{own_claim}
-use Rattle.nio_event.specs.OwnEvents.{claim_changed, or_none, is_unpublished, leaves_unpublished, is_yes, enters}
-use Rattle.nio_event.specs.OwnEvents.{finds_below}
+use Rattle.nio_event.specs.OwnEvents.{own_claim, claim_changed, or_none, is_unpublished, leaves_unpublished, is_yes}
+use Rattle.nio_event.specs.OwnEvents.{enters, finds_below}
 use Rattle.nio_event.specs.Sets.{is_in_key_set}
 use Rattle.nio_event.specs.declared.act.Act.{Act}
 use Rattle.nio_event.specs.declared.act.Act.TheVariants.{LookKeys}
@@ -237,35 +236,8 @@ closing-other m n s past e by h = record {
   below = λ i. ap (λ own. has (finds_below s i) (since_entered s own)) (mine-other n past e by) ∙ h.below i;
 }
 
--- nothing is in a span that wasn't opened
-since_first-none : (opens : Act → Bool) (own : List Act) → has opens own ≡ false → since_first opens own ≡ []
-since_first-none opens [] h = refl
-since_first-none opens (x ∷ own) h = by_test (opens x) h (since_first-none opens own)
-  where
-    by_test : (b : Bool) → (b || has opens own) ≡ false → (has opens own ≡ false → since_first opens own ≡ [])
-        → (if b then own else since_first opens own) ≡ []
-    by_test true e later = cc
-    by_test false e later = later e
-
--- one act more after the first that opens a span
-since_first-more : (opens : Act → Bool) (own : List Act) (act : Act)
-    → since_first opens (own ++ act ∷ []) ≡ (if has opens own then since_first opens own ++ act ∷ [] else [])
-since_first-more opens [] act = by_test (opens act)
-  where
-    by_test : (b : Bool) → cond {A = List Act} b [] [] ≡ []
-    by_test true = refl
-    by_test false = refl
-since_first-more opens (x ∷ own) act = by_test (opens x) (since_first-more opens own act)
-  where
-    by_test : (b : Bool)
-        → since_first opens (own ++ act ∷ []) ≡ (if has opens own then since_first opens own ++ act ∷ [] else [])
-        → (if b then own ++ act ∷ [] else since_first opens (own ++ act ∷ []))
-        ≡ (if b || has opens own then (if b then own else since_first opens own) ++ act ∷ [] else [])
-    by_test true more = refl
-    by_test false more = more
-
 raised_is : (i x : ℕ) (t : Option ℕ) → (nat_lt i x || is_above i t) ≡ nat_lt i (raised x t)
-raised_is i x None = or_false (nat_lt i x)
+raised_is i x None = or-false (nat_lt i x)
 raised_is i x (Some found) = by_tests (nat_lt i x) (nat_lt i found) refl refl
   where
     by_tests : (a b : Bool) → nat_lt i x ≡ a → nat_lt i found ≡ b → (a || b) ≡ nat_lt i (max x found)

@@ -1,15 +1,12 @@
 -- What callers know, after one event more.
 use Rattle.std.proofs.Common.{◌≡◌, ℕ, suc, ◌+◌, ◌==◌, max, Bool, true, false, not, ◌||◌, ◌&&◌, if◌then◌else◌, Option}
-use Rattle.std.proofs.Common.{Some, None, List, [], ◌∷◌, ◌++◌, length, refl, ap, sym, ◌∙◌, subst, eqb-true, eq-eqb}
-use Rattle.std.proofs.Common.{arith}
+use Rattle.std.proofs.Common.{Some, None, List, [], ◌∷◌, ◌++◌, length, refl, ap, sym, ◌∙◌, subst, eqb-true, arith}
 use Rattle.nio_audit.proofs.Hearing.{heard_hold, enrolled_parts, heard_enrolled, heard_parts, heard_index}
-use Rattle.nio_audit.proofs.Hearing.{heard_closing}
-use Rattle.nio_audit.proofs.Hearing.{raised, hold-own, hold-other, enrolment-own, enrolment-other, index-own}
-use Rattle.nio_audit.proofs.Hearing.{index-other}
-use Rattle.nio_audit.proofs.Hearing.{closing-own, closing-other}
+use Rattle.nio_audit.proofs.Hearing.{heard_closing, raised, hold-own, hold-other, enrolment-own, enrolment-other}
+use Rattle.nio_audit.proofs.Hearing.{index-own, index-other, closing-own, closing-other}
 use Rattle.nio_audit.proofs.Latest.{latest-none}
-use Rattle.nio_audit.proofs.Truth.{or_false}
 use Rattle.std.proofs.lemmas.Bool.{le-ltb}
+use Rattle.std.proofs.Math.Bool.{or-false}
 use Rattle.nio_base.specs.declared.numbers.KeyId.{KeyId}
 use Rattle.nio_audit.specs.Remembering.{Knowledge, learned, nothing_known, learned_enrolled, learned_index}
 use Rattle.nio_audit.specs.Remembering.{learned_closing}
@@ -26,6 +23,7 @@ use Rattle.nio_event.specs.declared.act.Act.{Act}
 use Rattle.nio_event.specs.declared.act.Act.TheVariants.{LookKey, LookChannel, Claim, LookKeys, LookReg, Enrol}
 use Rattle.nio_event.specs.declared.act.Act.TheVariants.{TryHoldBit, Enter, Publish, Pin, Unpin, ClaimAgain, TakeFree}
 use Rattle.nio_event.specs.declared.event.Event.{Event}
+use Rattle.nio_event.proofs.OwnPins.{swapped}
 
 pub same_knowledge : {h h' : ℕ → ℕ → HoldMemory} {n n' : ℕ → ℕ → ℕ → EnrolledMemory} {i i' : ℕ → ℕ → ℕ → IndexMemory}
     {c c' : ℕ → ℕ → ClosingMemory}
@@ -36,15 +34,6 @@ same_knowledge p q r s = cc
 
 -- ---- a change at a caller's key, told by the test that a key is that one
 
-other_way : (m n : ℕ) → (m == n) ≡ (n == m)
-other_way m n = by_tests (m == n) (n == m) refl refl
-  where
-    by_tests : (a b : Bool) → (m == n) ≡ a → (n == m) ≡ b → a ≡ b
-    by_tests true true e f = refl
-    by_tests true false e f = sym (eq-eqb n m (sym (eqb-true m n e))) ∙ f
-    by_tests false true e f = sym e ∙ eq-eqb m n (sym (eqb-true n m f))
-    by_tests false false e f = refl
-
 cond_same : {M : Type 0} (b : Bool) (x : M) → x ≡ (if b then x else x)
 cond_same true x = refl
 cond_same false x = refl
@@ -53,8 +42,8 @@ heard_two : {M : Type 0} (f : ℕ → ℕ → M) (me c' : ℕ) (X : M → M) (H 
     → ((m : M) → H false m ≡ m)
     → (n c : ℕ) → put_at f me c' (X (f me c')) n c ≡ (if me == n then H (c' == c) (f n c) else f n c)
 heard_two f me c' X H here there n c =
-    ap (λ b. if b && (c == c') then X (f me c') else f n c) (other_way n me)
-    ∙ (ap (λ b. if (me == n) && b then X (f me c') else f n c) (other_way c c')
+    ap (λ b. if b && (c == c') then X (f me c') else f n c) (swapped n me)
+    ∙ (ap (λ b. if (me == n) && b then X (f me c') else f n c) (swapped c c')
     ∙ by_tests (me == n) (c' == c) refl refl)
   where
     by_tests : (a b : Bool) → (me == n) ≡ a → (c' == c) ≡ b
@@ -80,10 +69,10 @@ heard_three f me c' s' X H here there n c s =
     by_tests false b d e = refl
     by_tests true false d e = sym (there (f n c s))
     by_tests true true true e =
-        ap (λ t. if t then X (f n c s') else f n c s) (other_way s s' ∙ e)
+        ap (λ t. if t then X (f n c s') else f n c s) (swapped s s' ∙ e)
         ∙ (ap (λ k. X (f n c k)) (eqb-true s' s e) ∙ sym (here (f n c s)))
     by_tests true true false e =
-        ap (λ t. if t then X (f n c s') else f n c s) (other_way s s' ∙ e) ∙ sym (there (f n c s))
+        ap (λ t. if t then X (f n c s') else f n c s) (swapped s s' ∙ e) ∙ sym (there (f n c s))
 
 -- ---- the four tables
 
@@ -158,7 +147,7 @@ indexes-heard now me _ k n s i = cond_same (me.0 == n) (k.indexes n s i)
 kept_closing : (m : ClosingMemory)
     → ◌≡◌ {A = ClosingMemory} (record { entered = m.entered || false; below = if m.entered then m.below else m.below })
     m
-kept_closing m = ap (λ b. record { entered = b; below = if m.entered then m.below else m.below }) (or_false m.entered)
+kept_closing m = ap (λ b. record { entered = b; below = if m.entered then m.below else m.below }) (or-false m.entered)
     ∙ ap (λ k. record m { below = k }) (sym (cond_same m.entered m.below))
 
 closings-heard : (now : ℕ) (me : CallerNo) (act : Act) (k : Knowledge) (n s : ℕ)
@@ -181,7 +170,7 @@ closings-heard now me (LookKeys s' found) k n s =
           if m.entered then raised m.below (if b then Some found else None) else m.below;
     })
     (λ m. ap (λ b. record { entered = b; below = if m.entered then max m.below found else m.below })
-    (or_false m.entered)) kept_closing n s
+    (or-false m.entered)) kept_closing n s
 closings-heard now me _ k n s =
     cond_same (me.0 == n) (k.closings n s)
     ∙ ap (λ m. if me.0 == n then m else k.closings n s) (sym (kept_closing (k.closings n s)))

@@ -3,10 +3,10 @@ use Rattle.std.proofs.Common.{◌≡◌, ℕ, ◌+◌, ◌≤◌, max, nat_lt, B
 use Rattle.std.proofs.Common.{None, is_some, List, [], ◌∷◌, ◌++◌, length, refl, ap, sym, ◌∙◌, subst, arith}
 use Rattle.std.proofs.Common.{append_assoc}
 use Rattle.std.specs.Option.{option_or}
-use Rattle.std.proofs.lemmas.Bool.{lt-ltb, le-ltb}
+use Rattle.std.proofs.lemmas.Bool.{lt-ltb, le-ltb, cond_both}
 use Rattle.std.proofs.lemmas.List.{append-nil, length-append}
 use Rattle.std.proofs.lemmas.List.Sums.{fold-append}
-use Rattle.nio_audit.proofs.Truth.{or_true, or_false}
+use Rattle.std.proofs.Math.Bool.{or-true, or-false}
 use Rattle.nio_audit.specs.Latest.{counted, latest}
 use Rattle.nio_base.specs.declared.numbers.CallerNo.{CallerNo}
 use Rattle.nio_event.proofs.OneMore.{mine-own, mine-other, has-more, last-more, since_from-more}
@@ -61,10 +61,6 @@ pub latest-other : (n : CallerNo) (p : Act → Bool) (past : List Event) (e : Ev
 latest-other n p past e by =
     latest-more n p past e ∙ ap (λ b. if b && p e.act then length past + 1 else latest n p past) by
 
-if_le : (b : Bool) (x y k : ℕ) → x ≤ k → y ≤ k → (if b then x else y) ≤ k
-if_le true x y k h g = h
-if_le false x y k h g = g
-
 pub latest-le : (n : CallerNo) (p : Act → Bool) (past : List Event) → latest n p past ≤ length past
 latest-le n p past = induction (λ events. latest n p events ≤ length events) (omega (arith, latest-none n p)) each past
   where
@@ -72,54 +68,68 @@ latest-le n p past = induction (λ events. latest n p events ≤ length events) 
         → latest n p (events ++ e ∷ []) ≤ length (events ++ e ∷ [])
     each events e here =
         let bound : (if is_by n e && p e.act then length events + 1 else latest n p events) ≤ length events + 1 =
-        if_le (is_by n e && p e.act) (length events + 1) (latest n p events) (length events + 1) (omega arith)
-        (omega arith) in
+        cond_both (is_by n e && p e.act) (length events + 1) (latest n p events) (λ k. k ≤ length events + 1)
+        (λ _. omega arith) (λ _. omega arith) in
         omega (arith, bound, latest-more n p events e, length_more events e)
+
+-- what holds before a caller's first act, and each act of its own keeps, holds of what it did and of the places
+own_induction : (n : CallerNo) (P : List Act → ((Act → Bool) → ℕ) → Type 0)
+    → P [] (λ _. 0)
+    → ((own : List Act) (act : Act) (now : ℕ) (at : (Act → Bool) → ℕ) → ((p : Act → Bool) → at p ≤ now) → P own at
+    → P (own ++ act ∷ []) (λ p. if p act then now + 1 else at p))
+    → (past : List Event) → P (mine n past) (λ p. latest n p past)
+own_induction n P none each past = induction (λ events. P (mine n events) (λ p. latest n p events)) first more past
+  where
+    first : P (mine n []) (λ p. latest n p [])
+    first =
+        let places : (λ p. latest n p []) ≡ (λ _. 0) = λ i p. latest-none n p i in
+        subst (P []) (sym places) none
+
+    more : (events : List Event) (e : Event) → P (mine n events) (λ p. latest n p events)
+        → P (mine n (events ++ e ∷ [])) (λ p. latest n p (events ++ e ∷ []))
+    more events e here = by_caller (is_by n e) refl
+      where
+        at : (Act → Bool) → ℕ
+        at p = latest n p events
+
+        next : (Act → Bool) → ℕ
+        next p = latest n p (events ++ e ∷ [])
+
+        by_caller : (b : Bool) → is_by n e ≡ b → P (mine n (events ++ e ∷ [])) next
+        by_caller false by =
+            let places : next ≡ at = λ i p. latest-other n p events e by i in
+            subst (λ own. P own next) (sym (mine-other n events e by)) (subst (P (mine n events)) (sym places) here)
+        by_caller true by =
+            let places : next ≡ (λ p. if p e.act then length events + 1 else at p) =
+            λ i p. latest-own n p events e by i in
+            subst (λ own. P own next) (sym (mine-own n events e by))
+            (subst (P (mine n events ++ e.act ∷ [])) (sym places)
+            (each (mine n events) e.act (length events) at (λ p. latest-le n p events) here))
 
 -- ---- what a caller did since an act that opens a span
 
 -- it did such an act
 pub has-since : (n : CallerNo) (p q : Act → Bool) (past : List Event)
     → has q (since_from p (mine n past)) ≡ nat_lt (latest n p past) (latest n q past)
-has-since n p q past =
-    induction (λ events. has q (since_from p (mine n events)) ≡ nat_lt (latest n p events) (latest n q events))
-    (sym (ap (λ k. nat_lt k (latest n q [])) (latest-none n p) ∙ ap (nat_lt 0) (latest-none n q))) each past
+has-since n p q past = own_induction n (λ own at. has q (since_from p own) ≡ nat_lt (at p) (at q)) refl each past
   where
-    each : (events : List Event) (e : Event)
-        → has q (since_from p (mine n events)) ≡ nat_lt (latest n p events) (latest n q events)
-        → has q (since_from p (mine n (events ++ e ∷ []))) ≡ nat_lt (latest n p (events ++ e ∷ []))
-        (latest n q (events ++ e ∷ []))
-    each events e here = by_caller (is_by n e) refl
+    each : (own : List Act) (act : Act) (now : ℕ) (at : (Act → Bool) → ℕ) → ((t : Act → Bool) → at t ≤ now)
+        → has q (since_from p own) ≡ nat_lt (at p) (at q)
+        → has q (since_from p (own ++ act ∷ []))
+        ≡ nat_lt (if p act then now + 1 else at p) (if q act then now + 1 else at q)
+    each own act now at bound here = ap (has q) (since_from-more p own act) ∙ by_tests (p act) (q act) refl
       where
-        by_caller : (b : Bool) → is_by n e ≡ b
-            → has q (since_from p (mine n (events ++ e ∷ []))) ≡ nat_lt (latest n p (events ++ e ∷ []))
-            (latest n q (events ++ e ∷ []))
-        by_caller false by =
-            ap (λ own. has q (since_from p own)) (mine-other n events e by)
-            ∙ (here ∙ sym (ap (λ k. nat_lt k (latest n q (events ++ e ∷ []))) (latest-other n p events e by)
-            ∙ ap (nat_lt (latest n p events)) (latest-other n q events e by)))
-        by_caller true by =
-            (ap (λ own. has q (since_from p own)) (mine-own n events e by)
-            ∙ ap (has q) (since_from-more p (mine n events) e.act))
-            ∙ (by_tests (p e.act) (q e.act) refl
-            ∙ sym (ap (λ k. nat_lt k (latest n q (events ++ e ∷ []))) (latest-own n p events e by)
-            ∙ ap (nat_lt (if p e.act then length events + 1 else latest n p events)) (latest-own n q events e by)))
-          where
-            by_tests : (b d : Bool) → q e.act ≡ d → has q (if b then [] else since_from p (mine n events) ++ e.act ∷ [])
-                ≡ nat_lt (if b then length events + 1 else latest n p events)
-                (if d then length events + 1 else latest n q events)
-            by_tests true true eq = sym (le-ltb (length events + 1) (length events + 1) (omega arith))
-            by_tests true false eq =
-                sym (le-ltb (length events + 1) (latest n q events) (omega (arith, latest-le n q events)))
-            by_tests false true eq =
-                (has-more q (since_from p (mine n events)) e.act
-                ∙ (ap (λ b. has q (since_from p (mine n events)) || b) eq
-                ∙ or_true (has q (since_from p (mine n events)))))
-                ∙ sym (lt-ltb (latest n p events) (length events + 1) (omega (arith, latest-le n p events)))
-            by_tests false false eq =
-                (has-more q (since_from p (mine n events)) e.act
-                ∙ (ap (λ b. has q (since_from p (mine n events)) || b) eq
-                ∙ or_false (has q (since_from p (mine n events))))) ∙ here
+        by_tests : (b d : Bool) → q act ≡ d → has q (if b then [] else since_from p own ++ act ∷ [])
+            ≡ nat_lt (if b then now + 1 else at p) (if d then now + 1 else at q)
+        by_tests true true eq = sym (le-ltb (now + 1) (now + 1) (omega arith))
+        by_tests true false eq = sym (le-ltb (now + 1) (at q) (omega (arith, bound q)))
+        by_tests false true eq =
+            (has-more q (since_from p own) act
+            ∙ (ap (λ b. has q (since_from p own) || b) eq ∙ or-true (has q (since_from p own))))
+            ∙ sym (lt-ltb (at p) (now + 1) (omega (arith, bound p)))
+        by_tests false false eq =
+            (has-more q (since_from p own) act
+            ∙ (ap (λ b. has q (since_from p own) || b) eq ∙ or-false (has q (since_from p own)))) ∙ here
 
 -- what the last act in the span tells that tells anything
 pub last-since : {A : Type 0} (n : CallerNo) (p : Act → Bool) (tells : Act → Option A) (past : List Event)
@@ -127,74 +137,36 @@ pub last-since : {A : Type 0} (n : CallerNo) (p : Act → Bool) (tells : Act →
     ≡ (if nat_lt (latest n p past) (latest n (λ act. is_some (tells act)) past) then last tells (mine n past)
     else None)
 last-since {A = A} n p tells past =
-    induction
-    (λ events. last tells (since_from p (mine n events))
-    ≡ (if nat_lt (latest n p events) (latest n some events) then last tells (mine n events) else None))
-    (by_bool (nat_lt (latest n p []) (latest n some []))) each past
+    own_induction n
+    (λ own at. last tells (since_from p own) ≡ (if nat_lt (at p) (at some) then last tells own else None)) refl each past
   where
     some : Act → Bool
     some = λ act. is_some (tells act)
 
-    by_bool : (b : Bool) → last tells [] ≡ (if b then last tells [] else None)
-    by_bool true = refl
-    by_bool false = refl
-
-    each : (events : List Event) (e : Event)
-        → last tells (since_from p (mine n events))
-        ≡ (if nat_lt (latest n p events) (latest n some events) then last tells (mine n events) else None)
-        → last tells (since_from p (mine n (events ++ e ∷ [])))
-        ≡ (if nat_lt (latest n p (events ++ e ∷ [])) (latest n some (events ++ e ∷ []))
-        then last tells (mine n (events ++ e ∷ [])) else None)
-    each events e here = by_caller (is_by n e) refl
+    each : (own : List Act) (act : Act) (now : ℕ) (at : (Act → Bool) → ℕ) → ((t : Act → Bool) → at t ≤ now)
+        → last tells (since_from p own) ≡ (if nat_lt (at p) (at some) then last tells own else None)
+        → last tells (since_from p (own ++ act ∷ []))
+        ≡ (if nat_lt (if p act then now + 1 else at p) (if some act then now + 1 else at some)
+        then last tells (own ++ act ∷ []) else None)
+    each own act now at bound here =
+        ap (last tells) (since_from-more p own act)
+        ∙ (by_tests (p act) (tells act) refl
+        ∙ sym (ap (λ t. if nat_lt (if p act then now + 1 else at p) (if some act then now + 1 else at some) then t
+        else None) (last-more tells own act)))
       where
-        by_caller : (b : Bool) → is_by n e ≡ b → last tells (since_from p (mine n (events ++ e ∷ [])))
-            ≡ (if nat_lt (latest n p (events ++ e ∷ [])) (latest n some (events ++ e ∷ []))
-            then last tells (mine n (events ++ e ∷ [])) else None)
-        by_caller false by =
-            ap (λ own. last tells (since_from p own)) (mine-other n events e by)
-            ∙ (here ∙ sym
-            (ap (λ k. if nat_lt k (latest n some (events ++ e ∷ [])) then last tells (mine n (events ++ e ∷ []))
-            else None) (latest-other n p events e by)
-            ∙ (ap (λ k. if nat_lt (latest n p events) k then last tells (mine n (events ++ e ∷ [])) else None)
-            (latest-other n some events e by)
-            ∙ ap (λ own. if nat_lt (latest n p events) (latest n some events) then last tells own else None)
-            (mine-other n events e by))))
-        by_caller true by =
-            (ap (λ own. last tells (since_from p own)) (mine-own n events e by)
-            ∙ ap (last tells) (since_from-more p (mine n events) e.act))
-            ∙ (by_tests (p e.act) (tells e.act) refl
-            ∙ sym (ap (λ k. if nat_lt k (latest n some (events ++ e ∷ [])) then last tells (mine n (events ++ e ∷ []))
-            else None) (latest-own n p events e by)
-            ∙ (ap (λ k. if nat_lt (if p e.act then length events + 1 else latest n p events) k
-            then last tells (mine n (events ++ e ∷ [])) else None) (latest-own n some events e by)
-            ∙ ap (λ own. if nat_lt (if p e.act then length events + 1 else latest n p events)
-            (if some e.act then length events + 1 else latest n some events) then own else None)
-            (ap (last tells) (mine-own n events e by) ∙ last-more tells (mine n events) e.act))))
-          where
-            by_tests : (b : Bool) (t : Option A) → tells e.act ≡ t
-                → last tells (if b then [] else since_from p (mine n events) ++ e.act ∷ [])
-                ≡ (if nat_lt (if b then length events + 1 else latest n p events)
-                (if is_some (tells e.act) then length events + 1 else latest n some events)
-                then option_or (tells e.act) (last tells (mine n events)) else None)
-            by_tests true t eq = sym (ap (λ b. if b then option_or (tells e.act) (last tells (mine n events)) else None)
-                (le-ltb (length events + 1) (if is_some (tells e.act) then length events + 1 else latest n some events)
-                (if_le (is_some (tells e.act)) (length events + 1) (latest n some events) (length events + 1)
-                (omega arith) (omega (arith, latest-le n some events)))))
-            by_tests false (Some x) eq =
-                (last-more tells (since_from p (mine n events)) e.act
-                ∙ ap (λ t. option_or t (last tells (since_from p (mine n events)))) eq)
-                ∙ sym (ap
-                (λ t. if nat_lt (latest n p events) (if is_some t then length events + 1 else latest n some events)
-                then option_or t (last tells (mine n events)) else None) eq
-                ∙ ap (λ b. if b then Some x else None)
-                (lt-ltb (latest n p events) (length events + 1) (omega (arith, latest-le n p events))))
-            by_tests false None eq =
-                (last-more tells (since_from p (mine n events)) e.act
-                ∙ ap (λ t. option_or t (last tells (since_from p (mine n events)))) eq)
-                ∙ (here ∙ sym
-                (ap (λ t. if nat_lt (latest n p events)
-                (if is_some t then length events + 1 else latest n some events)
-                then option_or t (last tells (mine n events)) else None) eq))
+        by_tests : (b : Bool) (t : Option A) → tells act ≡ t
+            → last tells (if b then [] else since_from p own ++ act ∷ [])
+            ≡ (if nat_lt (if b then now + 1 else at p) (if is_some t then now + 1 else at some)
+            then option_or t (last tells own) else None)
+        by_tests true t eq = sym (ap (λ b. if b then option_or t (last tells own) else None)
+            (le-ltb (now + 1) (if is_some t then now + 1 else at some)
+            (cond_both (is_some t) (now + 1) (at some) (λ k. k ≤ now + 1) (λ _. omega arith)
+            (λ _. omega (arith, bound some)))))
+        by_tests false (Some x) eq =
+            (last-more tells (since_from p own) act ∙ ap (λ t. option_or t (last tells (since_from p own))) eq)
+            ∙ sym (ap (λ b. if b then Some x else None) (lt-ltb (at p) (now + 1) (omega (arith, bound p))))
+        by_tests false None eq =
+            (last-more tells (since_from p own) act ∙ ap (λ t. option_or t (last tells (since_from p own))) eq) ∙ here
 
 -- a span in a span is the span of either
 pub since_from-twice : (p q : Act → Bool) (own : List Act)
@@ -218,27 +190,17 @@ since_from-twice p q own =
 -- the latest act that passes one of two tests
 pub latest-either : (n : CallerNo) (p q : Act → Bool) (past : List Event)
     → latest n (λ act. p act || q act) past ≡ max (latest n p past) (latest n q past)
-latest-either n p q past =
-    induction (λ events. latest n (λ act. p act || q act) events ≡ max (latest n p events) (latest n q events))
-    (omega (arith, latest-none n (λ act. p act || q act), latest-none n p, latest-none n q)) each past
+latest-either n p q past = own_induction n (λ own at. at (λ act. p act || q act) ≡ max (at p) (at q)) refl each past
   where
-    each : (events : List Event) (e : Event)
-        → latest n (λ act. p act || q act) events ≡ max (latest n p events) (latest n q events)
-        → latest n (λ act. p act || q act) (events ++ e ∷ []) ≡ max (latest n p (events ++ e ∷ []))
-        (latest n q (events ++ e ∷ []))
-    each events e here =
-        latest-more n (λ act. p act || q act) events e
-        ∙ (by_tests (is_by n e) (p e.act) (q e.act)
-        ∙ sym (ap (λ k. max k (latest n q (events ++ e ∷ []))) (latest-more n p events e)
-        ∙ ap (max (if is_by n e && p e.act then length events + 1 else latest n p events))
-        (latest-more n q events e)))
+    each : (own : List Act) (act : Act) (now : ℕ) (at : (Act → Bool) → ℕ) → ((t : Act → Bool) → at t ≤ now)
+        → at (λ a. p a || q a) ≡ max (at p) (at q)
+        → (if p act || q act then now + 1 else at (λ a. p a || q a))
+        ≡ max (if p act then now + 1 else at p) (if q act then now + 1 else at q)
+    each own act now at bound here = by_tests (p act) (q act)
       where
-        by_tests : (a b d : Bool)
-            → (if a && (b || d) then length events + 1 else latest n (λ act. p act || q act) events)
-            ≡ max (if a && b then length events + 1 else latest n p events)
-            (if a && d then length events + 1 else latest n q events)
-        by_tests false b d = here
-        by_tests true true true = omega arith
-        by_tests true true false = omega (arith, latest-le n q events)
-        by_tests true false true = omega (arith, latest-le n p events)
-        by_tests true false false = here
+        by_tests : (b d : Bool) → (if b || d then now + 1 else at (λ a. p a || q a))
+            ≡ max (if b then now + 1 else at p) (if d then now + 1 else at q)
+        by_tests true true = omega arith
+        by_tests true false = omega (arith, bound q)
+        by_tests false true = omega (arith, bound p)
+        by_tests false false = here

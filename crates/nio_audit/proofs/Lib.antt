@@ -1,4 +1,3 @@
-pub mod Truth
 pub mod TableSets
 pub mod Knowing
 pub mod Owing

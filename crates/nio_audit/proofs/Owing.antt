@@ -2,16 +2,12 @@
 use Rattle.std.proofs.Common.{◌≡◌, ℕ, ◌<◌, Bool, true, false, ◌||◌, ◌&&◌, ◌==◌, if◌then◌else◌, refl, sym, ap, ◌∙◌}
 use Rattle.std.proofs.Common.{nat_lt, eqb-true, arith}
 use Rattle.std.proofs.lemmas.Bool.{lt-ltb, le-ltb, and_parts}
+use Rattle.std.proofs.Math.Bool.{or-true, or-false}
 use mathlib.Core.Path.{fun_ext}
-use Rattle.nio_audit.proofs.Truth.{or_true, or_false}
 use Rattle.nio_audit.specs.DueIndexes.{due_of, IsBefore}
 use Rattle.nio_audit.specs.TableWords.{row, grid}
 use Rattle.nio_audit.specs.declared.dues.Dues.{Dues}
 use Rattle.nio_event.specs.State.{put, put_at}
-
-pub due_of-is : (d : Dues) (s i : ℕ) → due_of d s i ≡ nat_lt (row d.ended s) (grid d.removed s i)
-unfolding due_of
-due_of-is d s i = refl
 
 pub due_of-new : (d : Dues) → row d.ended ≡ (λ _. 0) → grid d.removed ≡ (λ _ _. 0) → due_of d ≡ (λ _ _. false)
 unfolding due_of
@@ -48,8 +44,8 @@ due_of-removed d d' s i now frees before e r =
         else nat_lt (row d.ended t) (grid d.removed t j))
     by_test false t j frees same = refl
     by_test true t j true same =
-        lt-ltb (row d.ended t) now (before.ended t) ∙ sym (or_true (nat_lt (row d.ended s) (grid d.removed s i)))
-    by_test true t j false same = same refl ∙ sym (or_false (nat_lt (row d.ended s) (grid d.removed s i)))
+        lt-ltb (row d.ended t) now (before.ended t) ∙ sym (or-true (nat_lt (row d.ended s) (grid d.removed s i)))
+    by_test true t j false same = same refl ∙ sym (or-false (nat_lt (row d.ended s) (grid d.removed s i)))
 
 pub due_of-put : (d d' : Dues) (s i : ℕ) → row d'.ended ≡ row d.ended → grid d'.removed ≡ put_at (grid d.removed) s i 0
     → due_of d' ≡ put_at (due_of d) s i false

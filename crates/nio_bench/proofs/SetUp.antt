@@ -13,13 +13,10 @@ use Rattle.nio_event.specs.PassViews.{Holds as HoldsNumber, known, ActsClause, H
 use Rattle.nio_event.specs.State.{State}
 use Rattle.nio_event.specs.declared.act.Act.{Act}
 use Rattle.nio_event.specs.declared.act.Act.TheVariants.{MakeSelector}
-use Rattle.nio_event.specs.declared.found.Mode.{Mode}
 use Rattle.nio_steps.proofs.Lists.{all-one}
 use Rattle.nio_steps.proofs.PinBack.{no_pin_after}
-use Rattle.nio_steps.proofs.PinLaws.{pins_are_given_back}
 use Rattle.nio_steps.specs.Calls.{CallClause}
 use Rattle.nio_steps.specs.PinLaws.{GivesPinsBack}
-use Rattle.nio_steps.specs.SelectCalls.{Begins}
 use Rattle.nio_words.proofs.Pins.{changes_pins, no_pin_stays}
 use Rattle.nio_words.proofs.Stepping.{still_ready}
 use Rattle.nio_words.proofs.Views.{finds_drawn, step_acts}
@@ -45,9 +42,6 @@ pub idle_call : {R : Type 0} {Shape : List Act → R → Type 0} {answer : R} {w
     → IsReady w q me → IsIdle w p me s → IsIdle w q me s
 idle_call {answer = answer} gives call ready idle =
     (stays_after call.acts ready (no_pin_after (λ acts shape. gives acts answer shape) call idle.unpinned) idle).idle
-
-pub begin_gives : (s : SelNo) (mode : Mode) → GivesPinsBack (Begins s mode)
-begin_gives s mode = λ acts answer shape. pins_are_given_back.try_begin s mode _ acts answer shape
 
 -- after a step
 pub stays_step : {w : Words} {p q : Pass} {me : CallerNo} {s : SelNo} {act : Act} → Steps w p q me act

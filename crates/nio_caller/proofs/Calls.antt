@@ -22,7 +22,7 @@ use Rattle.nio_steps.proofs.PinBack.{no_pin_after}
 use Rattle.nio_steps.proofs.PinLaws.{pins_are_given_back}
 use Rattle.nio_steps.specs.Calls.{CallClause}
 use Rattle.nio_steps.specs.PinLaws.{GivesPinsBack}
-use Rattle.nio_steps.specs.SelectCalls.{Begins, ListsKeys, ListsSelected}
+use Rattle.nio_steps.specs.SelectCalls.{ListsKeys, ListsSelected}
 use Rattle.nio_steps.specs.declared.selected.Selected.{Selected}
 use Rattle.nio_words.specs.Passes.{IsReady, numbers_of}
 use Rattle.nio_words.specs.Views.{view}
@@ -94,9 +94,6 @@ pub same_has : {v : PassView} → StillHas v v
 same_has = record { selectors = λ s has. has; channels = λ c has. has; keys = λ k has. has }
 
 -- ---- calls whose plan depends on their answer
-
-pub begin_gives : (s : SelNo) (mode : Mode) → GivesPinsBack (Begins s mode)
-begin_gives s mode = λ acts answer shape. pins_are_given_back.try_begin s mode _ acts answer shape
 
 pub keys_give : (s : SelNo) → GivesPinsBack (ListsKeys s)
 keys_give s = λ acts answer shape. pins_are_given_back.keys s _ acts answer shape

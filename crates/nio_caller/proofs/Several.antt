@@ -1,54 +1,20 @@
 -- Calls that are made one after the other are one call.
 use Rattle.std.proofs.Common.{◌≡◌, ℕ, Bool, true, false, if◌then◌else◌, Option, Some, None, List, [], ◌∷◌}
-use Rattle.std.proofs.Common.{not, nat_lt, refl, sym, ◌∙◌, subst}
-use Rattle.std.proofs.lemmas.List.{append-nil}
+use Rattle.std.proofs.Common.{not, nat_lt, ◌∙◌, subst}
 use Rattle.nio_base.specs.declared.limits.Limits.{Limits}
 use Rattle.nio_base.specs.declared.numbers.CallerNo.{CallerNo}
 use Rattle.nio_base.specs.declared.numbers.ChanNo.{ChanNo}
 use Rattle.nio_event.specs.PassViews.{PassView}
 use Rattle.nio_event.specs.Questions.{answer_of}
 use Rattle.nio_event.specs.declared.act.Act.{Act}
-use Rattle.nio_steps.proofs.CallLaws.{call_as, calls_then}
 use Rattle.nio_steps.specs.Calls.{CallClause}
 use Rattle.nio_steps.specs.KeyCalls.{find_channel_plan}
 use Rattle.nio_steps.specs.Plan.{Plan, reply, ◌>>=◌}
 use Rattle.nio_steps.specs.Runs.{Completes, Follows}
 use Rattle.nio_steps.specs.Steps.{look_channel, channel_in}
-use Rattle.nio_steps.specs.Waiting.{Then}
 use Rattle.nio_words.specs.Passes.{limits_of}
 use Rattle.nio_words.specs.declared.words.Words.{Words}
 use Rattle.nio_caller.specs.Callers.{Acting, IsSameCaller, StillHas}
-
-module _ {A R : Type 0} {me : CallerNo} {First : List Act → A → Type 0} (Second : A → List Act → R → Type 0)
-    {a : A} (answer : R) where
-  -- the second call does nothing
-  pub then_nothing : {v0 v1 : PassView} → CallClause me First v0 v1 a → Second a [] answer
-      → CallClause me (Then First Second) v0 v1 answer
-  then_nothing first second =
-      call_as (Then First Second) answer
-      (λ xs runs. record {
-        first = xs;
-        middle = a;
-        second = [];
-        parts = sym (append-nil xs);
-        runs_first = runs;
-        runs_second = second;
-      })
-      first
-
-  pub then_call : {v0 v1 v2 : PassView} → CallClause me First v0 v1 a → CallClause me (Second a) v1 v2 answer
-      → CallClause me (Then First Second) v0 v2 answer
-  then_call first second =
-      calls_then (Then First Second) answer
-      (λ xs ys runs later. record {
-        first = xs;
-        middle = a;
-        second = ys;
-        parts = refl;
-        runs_first = runs;
-        runs_second = later;
-      })
-      first second
 
 -- a call of the same caller, at its table
 pub call_moved : {R : Type 0} {c0 c1 : Acting} {v1 v2 : PassView} (Shape : Limits → List Act → R → Type 0) (answer : R)

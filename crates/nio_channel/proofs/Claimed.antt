@@ -1,7 +1,6 @@
 -- Indexes that are claimed, the caller's claim of one, and words that show no index as free.
 use Rattle.std.proofs.Common.{◌≡◌, ℕ, zero, suc, ◌+◌, ◌*◌, ◌<◌, ◌≤◌, ◌==◌, ◌&&◌, Bool, true, false, if◌then◌else◌, []}
 use Rattle.std.proofs.Common.{◌∷◌, ◌++◌, refl, ap, sym, ◌∙◌, subst, below_more, Some, None, List, add-one, eq-eqb}
-use Rattle.std.specs.Option.{option_or}
 use Rattle.std.specs.Prelude.{nat_lt}
 use Rattle.std.proofs.lemmas.Bool.{ltb-true}
 use Rattle.std.proofs.lemmas.Nat.Bits.{bit_at-zero}
@@ -11,8 +10,6 @@ use Rattle.nio_base.specs.declared.numbers.KeyId.{KeyId}
 use Rattle.nio_base.specs.declared.numbers.SelNo.{SelNo}
 use Rattle.nio_event.proofs.Finds.{step_leaves}
 use Rattle.nio_event.proofs.KeyChanges.{back_parts}
-use Rattle.nio_event.proofs.LastsAlone.{same_two}
-use Rattle.nio_event.proofs.OneMore.{last-more, since_from-more}
 use Rattle.nio_event.proofs.Put.{put_at-same}
 use Rattle.nio_event.proofs.Soundness.{legal-sound, held_some}
 use Rattle.nio_event.proofs.Within.{legal-within}
@@ -20,13 +17,14 @@ use Rattle.nio_event.specs.Acts.{new_key}
 use Rattle.nio_event.specs.Conditions.{IsKey, AllClaimed, is_claimed, is_held_by, has_taken}
 use Rattle.nio_event.specs.Histories.{state_after}
 use Rattle.nio_event.specs.Permanent.{index_claimed}
-use Rattle.nio_event.specs.OwnEvents.{last, takes_free, since_taken, stage_found, own_claim, is_unpublished}
+use Rattle.nio_event.specs.OwnEvents.{own_claim, is_unpublished}
 use Rattle.nio_event.specs.PassViews.{PassView, Holds, known, ActsClause, HasNoPin}
 use Rattle.nio_event.specs.Sets.{can_come_back}
 use Rattle.nio_event.specs.State.{State, last_serial}
 use Rattle.nio_event.specs.declared.act.Act.{Act}
 use Rattle.nio_event.specs.declared.act.Act.TheVariants.{LookKey, Claim, LookKeys, TakeFree, ClaimAgain}
 use Rattle.nio_event.specs.declared.found.Stage.{Stage}
+use Rattle.nio_event.proofs.PassViews.{lasts_over}
 use Rattle.nio_steps.specs.ChannelCalls.{claim_free, claim_at_bit}
 use Rattle.nio_steps.specs.Plan.{reply, ◌>>=◌}
 use Rattle.nio_steps.specs.Sweeps.{found_or, seek, seek_to}
@@ -39,14 +37,13 @@ use Rattle.nio_words.specs.Views.{view}
 use Rattle.nio_words.specs.declared.words.Pass.{Pass}
 use Rattle.nio_words.specs.declared.words.Words.{Words}
 use Rattle.nio_channel.proofs.Held.{own_more}
-use Rattle.nio_channel.proofs.Made.{lasts_over}
 use Rattle.nio_channel.proofs.Own.{keeps_claims, claim_stays, unpublished_stays, claim_now, unpublished_now}
 use Rattle.nio_channel.specs.Held.{HasClaimed}
 
 -- ---- claimed indexes
 
-all_claimed_after : {me : CallerNo} {act : Act} {v0 v1 : PassView} (s : SelNo) (n : ℕ) → ActsClause me (act ∷ []) v0 v1
-    → AllClaimed (known v0) s n → AllClaimed (known v1) s n
+pub all_claimed_after : {me : CallerNo} {acts : List Act} {v0 v1 : PassView} (s : SelNo) (n : ℕ)
+    → ActsClause me acts v0 v1 → AllClaimed (known v0) s n → AllClaimed (known v1) s n
 all_claimed_after s n clause here i below = lasts_over (index_claimed s.0 i) clause (here i below)
 
 -- an index that the caller just tried to claim is claimed
@@ -105,15 +102,6 @@ taken_serial {me = me} {s = s} {i = i} {stage = stage} {v0 = v0} {v1 = v1} claus
     (held_some me ((known v1).taker s.0 i) taken) in
     let back' : can_come_back stage ≡ true = ap can_come_back told ∙ back in
     ltb-true stage.serial last_serial (back_parts stage back').below_last
-
--- what the caller last found of an index since it took it is what it just found
-pub found_since_taken : (s : SelNo) (i : ℕ) (stage : Stage) (own : List Act)
-    → last (stage_found s.0 i) (since_taken s.0 i (own ++ LookKey s i stage ∷ [])) ≡ Some stage
-found_since_taken s i stage own =
-    ap (last (stage_found s.0 i)) (since_from-more (takes_free s.0 i) own (LookKey s i stage))
-    ∙ (last-more (stage_found s.0 i) (since_taken s.0 i own) (LookKey s i stage)
-    ∙ ap (λ b. option_or (if b then Some stage else None) (last (stage_found s.0 i) (since_taken s.0 i own)))
-    (same_two s.0 i))
 
 -- ---- the caller's claim
 

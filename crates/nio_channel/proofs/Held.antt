@@ -3,6 +3,7 @@ use Rattle.std.proofs.Common.{◌≡◌, ℕ, ◌==◌, Bool, true, false, ◌&&
 use Rattle.std.proofs.Common.{sym, ◌∙◌, subst, below_more, arith, ◌+◌, not, eq-eqb, if◌then◌else◌}
 use Rattle.std.specs.Prelude.{nat_lt, IfSome, IsTrue}
 use Rattle.std.proofs.lemmas.Bool.{and_parts, and_from, or_right, ne_eqb}
+use Rattle.std.proofs.Math.Bool.{and-false}
 use Rattle.nio_base.specs.declared.numbers.CallerNo.{CallerNo}
 use Rattle.nio_base.specs.declared.numbers.ChanNo.{ChanNo}
 use Rattle.nio_base.specs.declared.numbers.KeyId.{KeyId}
@@ -234,12 +235,8 @@ found_unblocked {p = p} {me = me} {c = c} {found = found} steps unclosed unblock
   unclosed =
       ap (λ own. has (λ a. finds a (channel_closed c.0)) (under c.0 own)) (own_more steps refl)
       ∙ under_never (λ a. finds a (channel_closed c.0)) c.0 (acts_seen p me) (LookChannel c found) refl
-      (ap (λ b. (c.0 == c.0) && b) unclosed ∙ and_false (c.0 == c.0)) before;
+      (ap (λ b. (c.0 == c.0) && b) unclosed ∙ and-false (c.0 == c.0)) before;
 }
-  where
-    and_false : (b : Bool) → (b && false) ≡ false
-    and_false true = refl
-    and_false false = refl
 
 -- under a hold that was just taken it hasn't
 pub unclosed_yet : {w : Words} {p q : Pass} {me : CallerNo} {c : ChanNo} {found : Option CallerNo}

@@ -1,6 +1,6 @@
 -- For the tests: what two callers have between their calls stays.
-use Rattle.std.proofs.Common.{◌≡◌, ◌≢◌, ℕ, true, false, Bool, not, ◌&&◌, ◌||◌, Option, None, List, ◌++◌, refl, ap, sym}
-use Rattle.std.proofs.Common.{◌∙◌, eqb-true, eq-eqb, arith}
+use Rattle.std.proofs.Common.{◌≡◌, ◌≢◌, ℕ, true, false, Bool, ◌&&◌, ◌||◌, Option, None, List, ◌++◌, refl, ap, sym, ◌∙◌}
+use Rattle.std.proofs.Common.{eqb-true, eq-eqb, arith}
 use Rattle.std.specs.Int.{bit_at}
 use Rattle.std.proofs.lemmas.Bool.{and_parts, and_from, or_left, or_right}
 use Rattle.nio_base.specs.declared.numbers.CallerNo.{CallerNo}
@@ -11,11 +11,11 @@ use Rattle.nio_event.proofs.OwnPins.{pins_are_own}
 use Rattle.nio_event.proofs.PassViews.{selector_after}
 use Rattle.nio_event.proofs.Put.{put-same, put_at-same}
 use Rattle.nio_event.proofs.Stays.{beginnings_are_legal}
-use Rattle.nio_event.specs.Acts.{taken_by, frees_index}
-use Rattle.nio_event.specs.Conditions.{IsSelector, is_made, is_held_by, has_pin, has_turn, has_begun, has_taken}
+use Rattle.nio_event.specs.Acts.{frees_index}
+use Rattle.nio_event.specs.Conditions.{IsSelector, is_made, has_pin, has_turn, has_begun, has_taken}
 use Rattle.nio_event.specs.Conditions.{may_remove_cancelled, may_clear_out, may_put_due}
 use Rattle.nio_event.specs.Histories.{state_after}
-use Rattle.nio_event.specs.Permanent.{the_turn, a_selection}
+use Rattle.nio_event.specs.Permanent.{a_selection}
 use Rattle.nio_event.specs.OwnEvents.{keeps_pin}
 use Rattle.nio_event.specs.PassViews.{PassView, Holds as HoldsNumber, known, ActsClause, HasNoPin, HasSelector}
 use Rattle.nio_event.specs.PassViews.{HasChannel}
@@ -27,7 +27,7 @@ use Rattle.nio_event.specs.declared.found.GateWord.{GateWord}
 use Rattle.nio_event.specs.declared.found.Stage.{Stage}
 use Rattle.nio_words.proofs.Pins.{changes_pins, no_pin_stays, only_pinned, none_unpinned}
 use Rattle.nio_words.proofs.Stepping.{still_ready}
-use Rattle.nio_words.proofs.Views.{finds_drawn, step_acts, look_tells}
+use Rattle.nio_words.proofs.Views.{finds_drawn, step_acts, look_tells, turn_taken, selection_begun}
 use Rattle.nio_words.specs.Passes.{IsPassOf, IsReady, limits_of, numbers_of, seen, state_seen, acts_seen}
 use Rattle.nio_words.specs.Steps.{Steps}
 use Rattle.nio_words.specs.Views.{view, HasOnlyPin}
@@ -175,27 +175,13 @@ idle_step steps new keeps idle =
 -- the caller just took the turn
 pub turn_now : {w : Words} {p q : Pass} {me : CallerNo} {s : SelNo} {found : Option CallerNo}
     → Steps w p q me (TakeTurn s found) → found ≡ None → has_turn (state_seen q) me s ≡ true
-turn_now {w = w} {p = p} {q = q} {me = me} {s = s} {found = found} steps free =
-    let leaves = step_leaves (limits_of w) (HoldsNumber (view w p)) me (TakeTurn s found) (seen p) (seen q)
-    (step_acts steps refl).history in
-    let before : State = state_after (seen p ++ leaves.between) in
-    ap (λ st. has_turn st me s) leaves.state
-    ∙ (ap (is_held_by me) (put-same before.turn s.0 (taken_by me found))
-    ∙ (ap (λ o. is_held_by me (taken_by me o)) free ∙ eq-eqb me.0 me.0 refl))
+turn_now steps free = turn_taken (step_acts steps refl) free
 
 -- and began
 pub begun_now : {w : Words} {p q : Pass} {me : CallerNo} {s : SelNo} {gate : GateWord}
     → Steps w p q me (BeginLook s gate) → gate.shut ≡ false → IsPassOf w p → has_turn (state_seen p) me s ≡ true
     → has_begun (state_seen q) me s ≡ true
-begun_now {w = w} {p = p} {q = q} {me = me} {s = s} {gate = gate} steps unshut pass turn =
-    let leaves = step_leaves (limits_of w) (HoldsNumber (view w p)) me (BeginLook s gate) (seen p) (seen q)
-    (step_acts steps refl).history in
-    let before : State = state_after (seen p ++ leaves.between) in
-    and_from (has_turn (state_seen q) me s) ((state_seen q).begun s.0)
-    (had_stays (the_turn s) steps refl refl pass turn)
-    (ap (λ st. st.begun s.0) leaves.state
-    ∙ (put-same before.begun s.0 (before.begun s.0 || not gate.shut)
-    ∙ or_right (before.begun s.0) (not gate.shut) (ap not unshut)))
+begun_now steps unshut pass turn = selection_begun (step_acts steps refl) unshut
 
 -- a key that was just found in the cancelled set may be removed
 pub may_remove_found : {w : Words} {p q : Pass} {me : CallerNo} {s : SelNo} {i : ℕ} {stage : Stage}

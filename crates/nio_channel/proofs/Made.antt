@@ -7,23 +7,17 @@ use Rattle.nio_base.specs.declared.numbers.ChanNo.{ChanNo}
 use Rattle.nio_event.proofs.Finds.{step_leaves}
 use Rattle.nio_event.proofs.Put.{put-same}
 use Rattle.nio_event.proofs.Soundness.{legal-sound}
-use Rattle.nio_event.proofs.Stays.{facts_are_permanent}
 use Rattle.nio_event.specs.Acts.{new_channel}
 use Rattle.nio_event.specs.Conditions.{AllMade}
 use Rattle.nio_event.specs.Histories.{state_after}
-use Rattle.nio_event.specs.Permanent.{PermanentFact, stands, channel_made}
+use Rattle.nio_event.specs.Permanent.{channel_made}
 use Rattle.nio_event.specs.PassViews.{PassView, Holds, known, ActsClause}
 use Rattle.nio_event.specs.State.{State}
 use Rattle.nio_event.specs.declared.act.Act.{Act}
 use Rattle.nio_event.specs.declared.act.Act.TheVariants.{MakeChannel, LookChannels, CloseBit}
 use Rattle.nio_event.specs.declared.found.Chan.{Chan}
+use Rattle.nio_event.proofs.PassViews.{lasts_over}
 use Rattle.nio_words.proofs.Views.{look_tells}
-
--- what is permanent stands after the acts of a call
-pub lasts_over : {me : CallerNo} {acts : List Act} {v0 v1 : PassView} (f : PermanentFact) → ActsClause me acts v0 v1
-    → stands f (known v0) ≡ true → stands f (known v1) ≡ true
-lasts_over {v0 = v0} {v1 = v1} f clause here =
-    facts_are_permanent v0.limits v0.seen v1.seen clause.history.goes_on clause.history.legal f here
 
 all_made_after : {me : CallerNo} {acts : List Act} {v0 v1 : PassView} {n : ℕ} → ActsClause me acts v0 v1
     → AllMade (known v0) n → AllMade (known v1) n

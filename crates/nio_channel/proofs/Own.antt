@@ -3,6 +3,7 @@ use Rattle.std.proofs.Common.{◌≡◌, ℕ, ◌==◌, Bool, true, false, not, 
 use Rattle.std.proofs.Common.{[], ◌∷◌, ◌++◌, refl, ap, ◌∙◌}
 use Rattle.std.specs.Option.{option_or}
 use Rattle.std.proofs.lemmas.Bool.{or_left, or_right, or_from}
+use Rattle.std.proofs.Math.Bool.{and-false}
 use Rattle.nio_base.specs.declared.numbers.ChanNo.{ChanNo}
 use Rattle.nio_base.specs.declared.numbers.KeyId.{KeyId}
 use Rattle.nio_base.specs.declared.numbers.SelNo.{SelNo}
@@ -13,13 +14,14 @@ use Rattle.nio_event.specs.Found.{finds}
 use Rattle.nio_event.specs.Permanent.{channel_closed}
 use Rattle.nio_event.specs.OwnEvents.{OwnClaim, is_yes, has, last, under, takes_hold, releases, finds_outside}
 use Rattle.nio_event.specs.OwnEvents.{is_outside, enrolled_found, enrols_key, publishes, since_key_enrolled}
-use Rattle.nio_event.specs.OwnEvents.{claim_changed}
-use Rattle.nio_event.specs.OwnEvents.{own_claim, leaves_unpublished, is_unpublished, is_clear, is_clear_by}
+use Rattle.nio_event.specs.OwnEvents.{claim_changed, own_claim, leaves_unpublished, is_unpublished, is_clear}
+use Rattle.nio_event.specs.OwnEvents.{is_clear_by}
 use Rattle.nio_event.specs.Sets.{is_in_key_set}
 use Rattle.nio_event.specs.declared.act.Act.{Act}
 use Rattle.nio_event.specs.declared.act.Act.TheVariants.{LookChannel, Claim, Publish, LookReg, Enrol, TryHoldBit}
 use Rattle.nio_event.specs.declared.act.Act.TheVariants.{Release, SetMode, Pin, Unpin, ClaimAgain, LookKey}
 use Rattle.nio_event.specs.declared.found.Stage.{Stage}
+use Rattle.nio_event.proofs.Unpublished.{is_unpublished-more}
 
 -- ---- acts of no consequence to a hold and its channel, to enrolled keys and to publishing
 
@@ -147,12 +149,8 @@ pub clear_look_else : (c : ChanNo) (s : ℕ) (s' : SelNo) (enrolled : Option Key
     → is_clear c.0 s own ≡ true → is_clear c.0 s (own ++ LookReg c s' enrolled ∷ []) ≡ true
 clear_look_else c s s' enrolled own other =
     clear_longer c.0 s own (LookReg c s' enrolled) refl
-    (ap (λ b. if b then Some enrolled else None) (ap (λ b. (c.0 == c.0) && b) other ∙ and_false (c.0 == c.0)))
+    (ap (λ b. if b then Some enrolled else None) (ap (λ b. (c.0 == c.0) && b) other ∙ and-false (c.0 == c.0)))
     (λ i. refl)
-  where
-    and_false : (b : Bool) → (b && false) ≡ false
-    and_false true = refl
-    and_false false = refl
 
 -- none was found enrolled
 pub clear_none : (c : ChanNo) (s : SelNo) (own : List Act) → is_clear c.0 s.0 (own ++ LookReg c s None ∷ []) ≡ true
@@ -214,15 +212,10 @@ pub claim_stays : (s i : ℕ) (own : List Act) (act : Act) → keeps_claims act 
 claim_stays s i own act keeps =
     own_claim-more s i own act ∙ ap (λ x. claim_after x (own_claim s i own)) (claim_silent s i act keeps)
 
-unpublished-more : (s i : ℕ) (own : List Act) (act : Act)
-    → is_unpublished s i (own ++ act ∷ [])
-    ≡ is_yes (option_or (leaves_unpublished s i act) (last (leaves_unpublished s i) own))
-unpublished-more s i own act = ap is_yes (last-more (leaves_unpublished s i) own act)
-
 pub unpublished_stays : (s i : ℕ) (own : List Act) (act : Act) → keeps_claims act ≡ true
     → is_unpublished s i (own ++ act ∷ []) ≡ is_unpublished s i own
 unpublished_stays s i own act keeps =
-    unpublished-more s i own act
+    is_unpublished-more s i own act
     ∙ ap (λ x. is_yes (option_or x (last (leaves_unpublished s i) own))) (unpublished_silent s i act keeps)
 
 pub claim_published : (s i : ℕ) (s' : SelNo) (i' : ℕ) (stage : Stage) (own : List Act)
@@ -242,6 +235,6 @@ pub unpublished_now : (s : SelNo) (i : ℕ) (act : Act) (own : List Act)
     → leaves_unpublished s.0 i act ≡ (if (s.0 == s.0) && (i == i) then Some true else None)
     → is_unpublished s.0 i (own ++ act ∷ []) ≡ true
 unpublished_now s i act own tells =
-    unpublished-more s.0 i own act
+    is_unpublished-more s.0 i own act
     ∙ ap (λ x. is_yes (option_or x (last (leaves_unpublished s.0 i) own)))
     (tells ∙ ap (λ b. if b then Some true else None) (same_two s.0 i))

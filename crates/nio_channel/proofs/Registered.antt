@@ -1,9 +1,10 @@
 -- What stands of the key that a registration answers.
-use Rattle.std.proofs.Common.{◌≡◌, ℕ, ◌==◌, Bool, true, false, ◌&&◌, ◌||◌, Option, Some, None, List, [], ◌∷◌, ◌++◌}
-use Rattle.std.proofs.Common.{refl, ap, sym, ◌∙◌, subst, append_assoc, eq-eqb}
+use Rattle.std.proofs.Common.{◌≡◌, ℕ, ◌==◌, true, false, ◌&&◌, ◌||◌, Option, Some, None, List, [], ◌∷◌, ◌++◌, refl, ap}
+use Rattle.std.proofs.Common.{sym, ◌∙◌, subst, append_assoc, eq-eqb}
 use Rattle.std.specs.Prelude.{nat_lt}
 use Rattle.std.proofs.lemmas.Bool.{and_from, or_right}
 use Rattle.std.proofs.lemmas.List.{append-nil}
+use Rattle.std.proofs.Math.Bool.{and-false, or-false}
 use Rattle.nio_base.specs.declared.numbers.CallerNo.{CallerNo}
 use Rattle.nio_base.specs.declared.numbers.ChanNo.{ChanNo}
 use Rattle.nio_base.specs.declared.numbers.KeyId.{KeyId}
@@ -13,8 +14,8 @@ use Rattle.nio_event.proofs.Finds.{step_leaves}
 use Rattle.nio_event.proofs.Holder.{held_since}
 use Rattle.nio_event.proofs.Holds.{found_enrolled_stays}
 use Rattle.nio_event.proofs.LastsAlone.{same_two}
-use Rattle.nio_event.proofs.OneMore.{has-more}
-use Rattle.nio_event.proofs.PassViews.{key_after}
+use Rattle.nio_event.proofs.OneMore.{has-more, mine-append}
+use Rattle.nio_event.proofs.PassViews.{key_after, lasts_over}
 use Rattle.nio_event.proofs.PinLaws.{own_claims_stand, enrolled_keys_are_claimed}
 use Rattle.nio_event.proofs.Put.{put_at-same}
 use Rattle.nio_event.proofs.Stays.{beginnings_are_legal}
@@ -34,7 +35,6 @@ use Rattle.nio_event.specs.declared.event.Event.{Event}
 use Rattle.nio_event.specs.declared.found.Chan.{Chan}
 use Rattle.nio_event.specs.declared.found.Stage.{Stage}
 use Rattle.nio_steps.specs.Names.{key}
-use Rattle.nio_words.proofs.Beginnings.{mine-append}
 use Rattle.nio_words.proofs.Pins.{changes_pins, stays_pinned}
 use Rattle.nio_words.proofs.Views.{finds_drawn, step_acts, found_now}
 use Rattle.nio_words.specs.Passes.{seen, state_seen, acts_seen, limits_of}
@@ -43,7 +43,6 @@ use Rattle.nio_words.specs.Views.{view}
 use Rattle.nio_words.specs.declared.words.Pass.{Pass}
 use Rattle.nio_words.specs.declared.words.Words.{Words}
 use Rattle.nio_channel.proofs.Held.{own_more, unblocked_over, unblocked_stays, in_set_published}
-use Rattle.nio_channel.proofs.Made.{lasts_over}
 use Rattle.nio_channel.proofs.Own.{is_quiet, under-more, told_quiet, told_enrol, told_over, clear_pinned}
 use Rattle.nio_channel.proofs.Own.{claim_published, claim_stays}
 use Rattle.nio_channel.specs.Held.{HoldsUnblocked, MayEnrol, KnowsEnrolled, KnowsKey, HasClaimed, HasPublished}
@@ -69,11 +68,7 @@ found_closed-same {p = p} {me = me} {act = act} c steps new takes silent =
     ∙ (ap (has (λ a. finds a (channel_closed c.0))) (under-more c.0 (acts_seen p me) act takes)
     ∙ (has-more (λ a. finds a (channel_closed c.0)) (under c.0 (acts_seen p me)) act
     ∙ (ap (λ b. has (λ a. finds a (channel_closed c.0)) (under c.0 (acts_seen p me)) || b) silent
-    ∙ or_false (has (λ a. finds a (channel_closed c.0)) (under c.0 (acts_seen p me))))))
-  where
-    or_false : (b : Bool) → (b || false) ≡ b
-    or_false true = refl
-    or_false false = refl
+    ∙ or-false (has (λ a. finds a (channel_closed c.0)) (under c.0 (acts_seen p me))))))
 
 -- ---- a key that the channel has
 
@@ -86,16 +81,6 @@ knows_key_stays {p = p} {me = me} {act = act} {c = c} {s = s} {k = k} steps new 
   enrolled = ap (λ own. last (enrolled_found c.0 s.0) (under c.0 own)) (own_more steps new)
       ∙ (told_quiet c.0 s.0 (acts_seen p me) act quiet ∙ here.enrolled);
   has = key_after (step_acts steps new) here.has;
-}
-
--- it is the answer of a registration
-pub knows_registered : {w : Words} {p : Pass} {me : CallerNo} {c : ChanNo} {s : SelNo} {k : KeyId}
-    → KnowsKey w p me c s k → HasRegistered w p me c s (key s k)
-knows_registered {w = w} {p = p} {me = me} {c = c} here = record {
-  in_selector = refl;
-  has = here.has;
-  enrolled = here.enrolled;
-  cancelled = λ closed. let clash : true ≡ false = sym closed ∙ here.unblocked.unclosed in absurd cc;
 }
 
 -- the index of the enrolled key is pinned, and its stage shows the key in the key set
@@ -199,14 +184,10 @@ settled_open {w = w} {p = p} {q = q} {me = me} {c = c} {s = s} {k = k} {found = 
   enrolled = enrolled_stays c s k steps refl refl refl here.known.enrolled;
   cancelled = λ closed.
       let clash : true ≡ false = sym closed
-      ∙ (found_closed-same {w = w} c steps refl refl (ap (λ b. (c.0 == c.0) && b) unclosed ∙ and_false (c.0 == c.0))
+      ∙ (found_closed-same {w = w} c steps refl refl (ap (λ b. (c.0 == c.0) && b) unclosed ∙ and-false (c.0 == c.0))
       ∙ here.known.unblocked.unclosed) in
       absurd cc;
 }
-  where
-    and_false : (b : Bool) → (b && false) ≡ false
-    and_false true = refl
-    and_false false = refl
 
 -- or it was found closed, and the key was cancelled
 pub settled_cancelled : {w : Words} {p q r : Pass} {me : CallerNo} {c : ChanNo} {s : SelNo} {k : KeyId} {found : Chan}

@@ -2,7 +2,6 @@ pub mod SideLaws
 pub mod PacketLaws
 pub mod Bits
 pub mod PassLaws
-pub mod Drawn
 pub mod ServeLaws
 pub mod PromiseLaws
 mod Told

@@ -1,7 +1,8 @@
 -- What a receive in memory leaves of a channel's packets.
-use Rattle.std.proofs.Common.{◌≡◌, ℕ, ◌+◌, ◌<◌, ◌≤◌, ◌⊎◌, inl, inr, Bool, true, false, Option, Some}
+use Rattle.std.proofs.Common.{◌≡◌, ℕ, ◌+◌, ◌<◌, ◌≤◌, inl, inr, Bool, true, false, Option, Some}
 use Rattle.std.proofs.Common.{None, Ok, List, [], ◌∷◌, ◌++◌, length, take, drop, slice_set, refl, ap, arith}
 use Rattle.std.proofs.Common.{get_or-set_same}
+use Rattle.std.proofs.lemmas.Bool.{cases_lt}
 use Rattle.std.proofs.lemmas.Grind.{common_steps}
 use Rattle.std.proofs.Math.Seq.{take-append_seam}
 use Rattle.std.proofs.lemmas.List.{take_more}
@@ -16,13 +17,10 @@ use Rattle.nio_datagram.specs.Sides.{receive_answer, receive_buffer, side_after_
 side_past : (sides : List SideState) (c : ChanNo) → length sides ≤ c.0 → side_at sides c ≡ no_side
 side_past sides c past = grind (arith, common_steps)
 
-in_order : (m n : ℕ) → (m < n) ⊎ (n ≤ m)
-in_order m n = grind arith
-
 -- a channel on which a socket is bound is one of the net's
 bound_inside : (sides : List SideState) (c : ChanNo) → is_bound (side_at sides c).place ≡ true → c.0 < length sides
 bound_inside sides c bound =
-    elim (in_order c.0 (length sides)) [
+    elim (cases_lt c.0 (length sides)) [
       | inl within ↦ within
       | inr past ↦
           let none : is_bound (side_at sides c).place ≡ false =

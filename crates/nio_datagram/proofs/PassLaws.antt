@@ -1,7 +1,8 @@
 -- What a receive and a send make of a direction.
-use Rattle.std.proofs.Common.{◌≡◌, ◌≢◌, ℕ, ◌≤◌, ◌==◌, if◌then◌else◌, Bool, true, false, not, IsTrue, Option, Some, None, Result, Ok, Err}
-use Rattle.std.proofs.Common.{OnOk, is_err, List, [], ◌∷◌, ◌++◌, take, refl, ap, sym, subst, ◌∙◌, arith, eqb-true}
-use Rattle.std.proofs.lemmas.Bool.{eqb-false}
+use Rattle.std.proofs.Common.{◌≡◌, ◌≢◌, ℕ, if◌then◌else◌, Bool, true, false}
+use Rattle.std.proofs.Common.{IsTrue, Option, Some, None, Result, Ok, Err}
+use Rattle.std.proofs.Common.{OnOk, List, [], ◌∷◌, ◌++◌, take, refl, ap, sym, subst, ◌∙◌}
+use Rattle.std.proofs.lemmas.Bool.{not-false, not-true}
 use Rattle.std.proofs.lemmas.List.Elements.{filter-append}
 use Rattle.std.proofs.Common.{filter, eq-eqb}
 use Rattle.std.proofs.lemmas.List.{map-append, append-nil}
@@ -10,9 +11,11 @@ use Rattle.std.specs.Option.{option_to_list}
 use Rattle.nio_base.specs.declared.numbers.Addr.{Addr}
 use Rattle.nio_base.specs.declared.numbers.ChanNo.{ChanNo}
 use Rattle.nio_bytes.specs.Cause.{HasCause}
+use Rattle.nio_link.proofs.Channels.{all_same}
 use Rattle.nio_link.specs.Links.{IsSameBut}
 use Rattle.nio_link.specs.declared.net.Failed.{Failed}
 use Rattle.nio_steps.specs.KeyCalls.{is_within}
+use Rattle.nio_serve.proofs.Working.{later_all}
 use Rattle.nio_datagram.proofs.Bits.{receive_keeps_write, send_keeps_read}
 use Rattle.nio_datagram.specs.Datagrams.{Datagram, as_fault, heard_of}
 use Rattle.nio_datagram.specs.Packets.{Packet, Traffic, after_receive, after_send, first_sender, is_stranger, bytes_of}
@@ -27,22 +30,6 @@ use Rattle.nio_datagram.specs.declared.link.PacketError.{PacketError}
 use Rattle.nio_datagram.specs.declared.net.Came.{Came}
 use Rattle.nio_datagram.specs.declared.net.Came.TheVariants as came
 
-same_number : (k c : ChanNo) → k.0 ≡ c.0 → k ≡ c
-same_number k c same = ap (λ (n : ℕ). let x : ChanNo = record { 0 = n } in x) same
-
-other_number : (k c : ChanNo) → k.0 ≢ c.0 → k ≢ c
-other_number k c differ same = differ (ap (λ (x : ChanNo). x.0) same)
-
-later_by : (b : Bool) (c : ChanNo) (f g : ChanNo → ℕ) (k : ChanNo) → (k.0 == c.0) ≡ b → f c ≤ g c → IsSameBut c f g
-    → f k ≤ g k
-later_by true c f g k is here else_ = subst (λ x. f x ≤ g x) (sym (same_number k c (eqb-true k.0 c.0 is))) here
-later_by false c f g k is here else_ =
-    let same : g k ≡ f k = else_ k (other_number k c (eqb-false k.0 c.0 is)) in omega arith
-
--- a count that rose at most here didn't fall
-pub later_all : (c : ChanNo) (f g : ChanNo → ℕ) → f c ≤ g c → IsSameBut c f g → (k : ChanNo) → f k ≤ g k
-later_all c f g here else_ k = later_by (k.0 == c.0) c f g k refl here else_
-
 -- ---- counts that stay
 
 pub none_failed : (f : ChanNo → ℕ) (p : ℕ) → NoneFailed f f p p
@@ -54,20 +41,11 @@ none_failed_then f g h p q r one two = record {
   polls = two.polls ∙ one.polls;
 }
 
-pub on_ok : {T E : Type 0} (r : Result T E) (P : Type 0) → is_err r ≡ false → OnOk r P → P
-on_ok (Ok value) P fine p = p
-on_ok (Err error) P fine p = absurd (cc)
-
-same_by : (b : Bool) (c : ChanNo) (f g : ChanNo → ℕ) (k : ChanNo) → (k.0 == c.0) ≡ b → g c ≡ f c → IsSameBut c f g
-    → g k ≡ f k
-same_by true c f g k is here else_ = subst (λ x. g x ≡ f x) (sym (same_number k c (eqb-true k.0 c.0 is))) here
-same_by false c f g k is here else_ = else_ k (other_number k c (eqb-false k.0 c.0 is))
-
 -- a call that didn't fail left every count as it was
 pub call_none_failed : {T : Type 0} (made : Result T Failed) (c : ChanNo) (f g : ChanNo → ℕ) (p q : ℕ)
     → HasCause (f c) (g c) made → IsSameBut c f g → q ≡ p → OnOk made (NoneFailed f g p q)
 call_none_failed (Ok value) c f g p q cause others polls = record {
-  calls = λ k. same_by (k.0 == c.0) c f g k refl cause.still others;
+  calls = all_same c f g cause.still others;
   polls = polls;
 }
 call_none_failed (Err failed) c f g p q cause others polls = tt
@@ -128,7 +106,7 @@ gives_advances s t to result apart gives source sink = record {
       ∙ send_came gives.made to gives.bytes (s.net.traffic s.sink.channel);
   traffic = λ c not_source not_sink. gives.net.traffic_else c not_sink;
   faults = λ c not_source not_sink. gives.net.others c not_sink;
-  later = later_all s.sink.channel s.net.faults t.net.faults gives.net.cause.later gives.net.others;
+  later = later_all s.net.faults t.net.faults s.sink.channel gives.net.cause.later gives.net.others;
   places = gives.net.places;
   polls = gives.net.polls;
   writes = λ within.
@@ -199,7 +177,7 @@ takes_advances s t result apart takes unheard source sink =
       came = ap (λ (x : Traffic). x.came) (takes.net.traffic_else s.sink.channel other);
       traffic = λ c not_source not_sink. takes.net.traffic_else c not_source;
       faults = λ c not_source not_sink. takes.net.others c not_source;
-      later = later_all s.source.channel s.net.faults t.net.faults takes.net.cause.later takes.net.others;
+      later = later_all s.net.faults t.net.faults s.source.channel takes.net.cause.later takes.net.others;
       places = takes.net.places;
       polls = takes.net.polls;
       writes = λ within.
@@ -208,14 +186,6 @@ takes_advances s t result apart takes unheard source sink =
       reads = λ within.
           subst (λ x. IsTrue (is_within 1 x)) (sym (takes.net.ready_else s.sink.channel other)) within;
     }
-
-not_true : (b : Bool) → not b ≡ true → b ≡ false
-not_true true is = absurd (cc)
-not_true false is = refl
-
-not_false : (b : Bool) → not b ≡ false → b ≡ true
-not_false true is = refl
-not_false false is = absurd (cc)
 
 same_bytes : (xs : List ℕ) → bytes_eq xs xs ≡ true
 same_bytes [] = refl
@@ -247,14 +217,14 @@ order_heard : (b : Bool) (peer : Option Addr) (len : ℕ) (from : Addr) (filled 
 order_heard true None len from filled packets went test unheard order = absurd (cc)
 order_heard true (Some peer) len from filled packets went test unheard order =
     order
-    ∙ sym (heard_more false peer packets _ (not_true (is_same_addr peer from) test)
+    ∙ sym (heard_more false peer packets _ (not-true (is_same_addr peer from) test)
     ∙ append-nil (heard_from peer packets))
 order_heard false None len from filled packets went test unheard order =
     let none : bytes_of went ≡ [] = sym (append-nil (bytes_of went)) ∙ order in
     rw (none, unheard refl) (sym (heard_one true from _ (same_self from)))
 order_heard false (Some peer) len from filled packets went test unheard order =
     ap (λ (xs : List (List ℕ)). xs ++ take len filled ∷ []) (sym (append-nil (bytes_of went)) ∙ order)
-    ∙ sym (heard_more true peer packets _ (not_false (is_same_addr peer from) test))
+    ∙ sym (heard_more true peer packets _ (not-false (is_same_addr peer from) test))
 
 order_after : (made : Result Came Failed) (peer : Option Addr) (filled : List ℕ) (x : Traffic) (went : List Packet)
     → (peer ≡ None → x.came ≡ []) → bytes_of went ++ [] ≡ heard_by peer x.came

@@ -2,16 +2,12 @@
 use Rattle.std.proofs.Common.{ℕ, ◌≤◌, inl, inr}
 use Rattle.std.proofs.Common.{refl, ◌∙◌, arith}
 use Rattle.nio_base.specs.declared.numbers.ChanNo.{ChanNo}
-use Rattle.nio_bytes.specs.Cause.{Rose}
+use Rattle.nio_serve.proofs.Working.{rose_from}
 use Rattle.nio_datagram.specs.Nets.{PacketView}
 use Rattle.nio_datagram.specs.Relaying.{Moves}
 use Rattle.nio_datagram.specs.Serving.{front, back, OneRose}
 
 -- ---- counts
-
-pub rose_from : (a b c : ℕ) → a ≤ b → Rose b c → Rose a c
-rose_from a b c least (inl more) = inl (omega arith)
-rose_from a b c least (inr end) = inr end
 
 pub one_rose_from : (f g h : ChanNo → ℕ) (p q r : ℕ) → ((c : ChanNo) → f c ≤ g c) → p ≤ q → OneRose g h q r
     → OneRose f h p r

@@ -85,7 +85,7 @@ heard_of peer (Ok came.NotYet) = Ok heard.NotYet
 heard_of peer (Err failed) = Err Fault
 
 abbrev pub state_after_bind : Result (Unit {0}) PacketError → DatagramState
-state_after_bind (Ok _) = Bound
+state_after_bind (Ok done) = Bound
 state_after_bind (Err error) = Unbound
 
 -- ---- the calls

@@ -32,13 +32,13 @@ abbrev pub after_receive : Result Came Failed → List ℕ → Traffic → Traff
 after_receive (Ok (came.Packet len from)) buffer t =
     record t { came = t.came ++ record { addr = from; bytes = take len buffer } ∷ [] }
 after_receive (Ok came.NotYet) buffer t = t
-after_receive (Err _) buffer t = t
+after_receive (Err failed) buffer t = t
 
 -- after these bytes were to be sent to this address
 abbrev pub after_send : Result Bool Failed → Addr → List ℕ → Traffic → Traffic
 after_send (Ok true) to bytes t = record t { went = t.went ++ record { addr = to; bytes = bytes } ∷ [] }
 after_send (Ok false) to bytes t = t
-after_send (Err _) to bytes t = t
+after_send (Err failed) to bytes t = t
 
 -- ---- whose packets they are
 

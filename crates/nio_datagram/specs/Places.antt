@@ -18,8 +18,8 @@ IsVacant (Bound at) = ⊥
 IsVacant (Closed at) = Unit {0}
 
 abbrev pub place_after_bind : Result (Unit {0}) Failed → Addr → Place
-place_after_bind (Ok _) at = Bound at
-place_after_bind (Err _) at = Unbound
+place_after_bind (Ok done) at = Bound at
+place_after_bind (Err failed) at = Unbound
 
 abbrev pub place_after_close : Place → Place
 place_after_close Unbound = Unbound

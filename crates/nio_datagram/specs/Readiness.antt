@@ -9,10 +9,10 @@ use Rattle.nio_datagram.specs.declared.net.Came.TheVariants as came
 abbrev pub ready_after_receive : Result Came Failed → ℕ → ℕ
 ready_after_receive (Ok (came.Packet len from)) ops = ops
 ready_after_receive (Ok came.NotYet) ops = without 1 ops
-ready_after_receive (Err _) ops = ops
+ready_after_receive (Err failed) ops = ops
 
 -- WRITE is 4
 abbrev pub ready_after_send : Result Bool Failed → ℕ → ℕ
 ready_after_send (Ok true) ops = ops
 ready_after_send (Ok false) ops = without 4 ops
-ready_after_send (Err _) ops = ops
+ready_after_send (Err failed) ops = ops

@@ -83,7 +83,7 @@ struct Server<'a> {
 
 impl<'a> Server<'a> {
     // The first caller of a new table opens a board and both channels there. The limits have room for all of it.
-    #[tactic(auto, using(crate::proofs::Drawn::drawn_unpinned, crate::proofs::Drawn::drawn_unregistered))]
+    #[tactic(auto, using(nio_serve::proofs::Idle::drawn_unpinned, nio_serve::proofs::Calls::drawn_is_unregistered))]
     fn open<R: Wait>(rt: &R, words: &'a Words, pass: Pass) -> Result<Server<'a>, Refused>
         requires { IsFirstPass words.now pass }
     {

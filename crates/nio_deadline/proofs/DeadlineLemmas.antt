@@ -1,39 +1,21 @@
 -- Deadlines in order, as insertions and removals leave them.
 use Rattle.std.specs.Bool.{⊤}
 use Rattle.std.proofs.Common.{◌≡◌, ◌≢◌, ◌⊎◌, inl, inr, ℕ, ◌<◌, ◌≤◌, Bool, true, false, not, eqb, leb, List, [], ◌∷◌}
-use Rattle.std.proofs.Common.{IfSome, All, get_or, zero, suc}
-use Rattle.std.proofs.Common.{Option, Some, None, length, filter, refl, sym, ap, ◌∙◌, subst, arith, slice_get}
-use Rattle.std.specs.BTreeMap.{BTreeMap, get, is_at}
+use Rattle.std.proofs.Common.{IfSome, All, get_or, zero, suc, Option, Some, None, length, filter, refl, sym, ap, ◌∙◌}
+use Rattle.std.proofs.Common.{subst, arith, slice_get}
+use Rattle.std.specs.BTreeMap.{BTreeMap, get, is_at, insert_entry}
 use Rattle.std.specs.Map.{remove_entry}
 use Rattle.std.specs.declared.cmp.Ordering.TheVariants.{Less, Greater}
-use Rattle.std.specs.BTreeMap.{insert_entry}
 use Rattle.std.specs.Ordering.{nat_cmp, ordering_then}
 use Rattle.std.proofs.lemmas.Bool.Decides.{nat_tests}
-use Rattle.nio_group.proofs.TableLemmas.{by_test, same_number, other_number}
+use Rattle.nio_group.proofs.TableLemmas.{by_test}
 use Rattle.nio_deadline.specs.Deadlines.{Deadline, with_deadline, without, due, first_moment, IsBefore, AreInOrder}
 use Rattle.nio_deadline.specs.Kept.{deadline_of, deadlines_of, HaveMoments, IsAboveAll, IsDeadlinesKept}
 use Rattle.nio_deadline.specs.declared.deadlines.Moment.{Moment}
 use Rattle.nio_deadline.specs.declared.deadlines.Place.{Place}
+use Rattle.std.proofs.lemmas.Bool.{leb-false, leb-true, lt-leb, ne_eqb, eqb-true, eqb-false}
 
 -- ---- tests on numbers
-
-pub not-le : (m n : ℕ) → leb m n ≡ false → n < m
-not-le m n t = grind (arith, nat_tests)
-
-pub is-le : (m n : ℕ) → leb m n ≡ true → m ≤ n
-is-le m n t = grind (arith, nat_tests)
-
-pub le-true : (m n : ℕ) → m ≤ n → leb m n ≡ true
-le-true m n l = grind (arith, nat_tests)
-
-pub le-false : (m n : ℕ) → n < m → leb m n ≡ false
-le-false m n l = grind (arith, nat_tests)
-
-pub eq-false : (m n : ℕ) → m ≢ n → eqb m n ≡ false
-eq-false m n l = grind (arith, nat_tests)
-
-pub eq-true : (n : ℕ) → eqb n n ≡ true
-eq-true n = grind (arith, nat_tests)
 
 not-at : (m n : ℕ) → n ≢ m → is_at (nat_cmp m) n ≡ false
 not-at m n l = grind (arith, nat_tests)
@@ -42,8 +24,8 @@ not-at m n l = grind (arith, nat_tests)
 
 not-after : (d e : Deadline) → e.at ≤ d.at → e.op < d.op → (e.at < d.at) ⊎ ((e.at ≡ d.at) × (e.op < d.op))
 not-after d e l below =
-    by_test (eqb e.at d.at) (λ t. inr (same_number e.at d.at t, below))
-    (λ t. let other = other_number e.at d.at t in inl (omega arith))
+    by_test (eqb e.at d.at) (λ t. inr (eqb-true e.at d.at t, below))
+    (λ t. let other = eqb-false e.at d.at t in inl (omega arith))
 
 insert-before : (d e : Deadline) (ds : List Deadline) → IsBefore e ds → e.at ≤ d.at → e.op < d.op
     → IsBefore e (with_deadline d ds)
@@ -65,8 +47,8 @@ pub insert-in_order : (d : Deadline) (ds : List Deadline) → AreInOrder ds → 
 insert-in_order d [] order above = (tt, tt)
 insert-in_order d (e ∷ es) order above =
     by_test (leb e.at d.at)
-    (λ t. rw t (insert-before d e es order.0 (is-le e.at d.at t) above.0, insert-in_order d es order.1 above.1))
-    (λ t. let later = not-le e.at d.at t in
+    (λ t. rw t (insert-before d e es order.0 (leb-true e.at d.at t) above.0, insert-in_order d es order.1 above.1))
+    (λ t. let later = leb-false e.at d.at t in
     rw t (
       (inl later, (λ same. absurd (let l = above.0 in omega arith)), earlier-all d e es order.0 later above.1),
       (order.0, order.1),
@@ -80,11 +62,11 @@ inserted m p [] above = refl
 inserted m p (e ∷ es) above =
     let rest = inserted m p es above.1 in
     by_test (leb e.0.at m.at)
-    (λ t. let l = is-le e.0.at m.at t in
+    (λ t. let l = leb-true e.0.at m.at t in
     let below = above.0 in
     let after : ordering_then (nat_cmp m.at e.0.at) (nat_cmp m.op e.0.op) ≡ Greater = grind (arith, nat_tests) in
     rw (after, t) (ap (λ ds. deadline_of e ∷ ds) rest))
-    (λ t. let l = not-le e.0.at m.at t in
+    (λ t. let l = leb-false e.0.at m.at t in
     let before : ordering_then (nat_cmp m.at e.0.at) (nat_cmp m.op e.0.op) ≡ Less = grind (arith, nat_tests) in
     rw (before, t) refl)
 
@@ -107,7 +89,7 @@ others-without n [] = tt
 others-without n (d ∷ ds) =
     by_test (eqb d.op n)
     (λ t. rw t (others-without n ds))
-    (λ t. rw t (other_number d.op n t, others-without n ds))
+    (λ t. rw t (eqb-false d.op n t, others-without n ds))
 
 pub moments-others : (m m' : BTreeMap ℕ ℕ) (n : ℕ) (ds : List Deadline)
     → ((q : ℕ) → is_at (nat_cmp n) q ≡ false → get nat_cmp m' q ≡ get nat_cmp m q)
@@ -129,7 +111,7 @@ moments-insert m d (e ∷ es) is have =
 pub without-others : (n : ℕ) (ds : List Deadline) → AreOthers n ds → without n ds ≡ ds
 without-others n [] others = refl
 without-others n (d ∷ ds) others =
-    rw (eq-false d.op n others.0) (ap (λ es. d ∷ es) (without-others n ds others.1))
+    rw (ne_eqb d.op n others.0) (ap (λ es. d ∷ es) (without-others n ds others.1))
 
 filter-before : (p : Deadline → Bool) (d : Deadline) (ds : List Deadline) → IsBefore d ds → IsBefore d (filter p ds)
 filter-before p d [] before = tt
@@ -173,7 +155,7 @@ pub removed-some : (m : BTreeMap ℕ ℕ) (n at : ℕ) (es : List (Moment × Pla
 removed-some m n at [] is order have = refl
 removed-some m n at (e ∷ es) is order have =
     by_test (eqb e.0.op n)
-    (λ t. let same = same_number e.0.op n t in
+    (λ t. let same = eqb-true e.0.op n t in
     let found : get nat_cmp m n ≡ Some e.0.at = subst (λ (k : ℕ). get nat_cmp m k ≡ Some e.0.at) same have.0 in
     let moment : e.0.at ≡ at = cc in
     let here : is_at (λ (b : Moment). ordering_then (nat_cmp at b.at) (nat_cmp n b.op)) e.0 ≡ true =
@@ -182,7 +164,7 @@ removed-some m n at (e ∷ es) is order have =
     (sym (without-others n (deadlines_of es)
     (subst (λ (k : ℕ). AreOthers k (deadlines_of es)) same (others-before (deadline_of e)
     (deadlines_of es) order.0)))))
-    (λ t. let other = other_number e.0.op n t in
+    (λ t. let other = eqb-false e.0.op n t in
     let there : is_at (λ (b : Moment). ordering_then (nat_cmp at b.at) (nat_cmp n b.op)) e.0 ≡ false =
     grind (arith, nat_tests) in
     rw (there, t) (ap (λ ds. deadline_of e ∷ ds) (removed-some m n at es is order.1 have.1)))
@@ -205,15 +187,11 @@ pub first-is : (es : List (Moment × Place)) (e : Moment × Place) → slice_get
 first-is [] e is = absurd (cc)
 first-is (f ∷ fs) e is = let same : f ≡ e = cc in ap (λ (x : Moment × Place). Some x.0.at) same
 
-pub none-is : (es : List (Moment × Place)) → (0 < length es → ⊥) → first_moment (deadlines_of es) ≡ None
-none-is [] none = refl
-none-is (f ∷ fs) none = absurd (none (omega arith))
-
 none-due-after : (now : ℕ) (d : Deadline) (ds : List Deadline) → IsBefore d ds → now < d.at → due now ds ≡ []
 none-due-after now d [] before l = refl
 none-due-after now d (e ∷ es) before l =
     let later : now < e.at = elim before.0 [ inl less ↦ omega arith | inr same ↦ omega arith ] in
-    rw (le-false e.at now later) (none-due-after now d es before.2 l)
+    rw (lt-leb e.at now later) (none-due-after now d es before.2 l)
 
 -- where the first deadline is later none has come
 pub none-due : (now at : ℕ) (ds : List Deadline) → AreInOrder ds → first_moment ds ≡ Some at → now < at → due now ds
@@ -222,11 +200,7 @@ none-due now at [] order first l = refl
 none-due now at (d ∷ ds) order first l =
     let same : d.at ≡ at = cc in
     let later : now < d.at = omega arith in
-    rw (le-false d.at now later) (none-due-after now d ds order.0 later)
-
-pub none-due-empty : (now : ℕ) (ds : List Deadline) → first_moment ds ≡ None → due now ds ≡ []
-none-due-empty now [] first = refl
-none-due-empty now (d ∷ ds) first = absurd (cc)
+    rw (lt-leb d.at now later) (none-due-after now d ds order.0 later)
 
 pub kept-tail : (m m' : BTreeMap ℕ ℕ) (e : Moment × Place) (es es' : List (Moment × Place)) → es ≡ e ∷ es'
     → ((q : ℕ) → is_at (nat_cmp e.0.op) q ≡ false → get nat_cmp m' q ≡ get nat_cmp m q)

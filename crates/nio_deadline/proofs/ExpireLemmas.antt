@@ -1,19 +1,17 @@
 -- A group with time limits after operations have timed out.
-use Rattle.std.proofs.Common.{◌≡◌, ℕ, ◌<◌, ◌≤◌, ◌+◌, true, List, []}
-use Rattle.std.proofs.Common.{◌∷◌, ◌++◌, Option, Some, None, length, refl, sym, ap, ◌∙◌, subst, arith}
-use Rattle.std.proofs.lemmas.Bool.{false≢true}
+use Rattle.std.proofs.Common.{◌≡◌, ℕ, ◌<◌, ◌≤◌, ◌+◌, true, List, ◌∷◌, Option, Some, None, length, refl, sym, ap, ◌∙◌}
+use Rattle.std.proofs.Common.{subst, arith}
+use Rattle.std.proofs.lemmas.Bool.{false≢true, le-leb}
 use Rattle.std.proofs.lemmas.List.{length-set, length_push}
 use Rattle.nio_base.specs.declared.group.OpKind.{OpKind}
 use Rattle.nio_base.specs.declared.group.OpKind.TheVariants.{Accept, Connect, Read, Write}
-use Rattle.nio_base.specs.declared.group.Outcome.{Outcome}
 use Rattle.nio_base.specs.declared.group.Outcome.TheVariants.{Fault}
 use Rattle.nio_group.specs.declared.operation.Operation.{Operation}
-use Rattle.nio_group.specs.Flight.{op_at}
-use Rattle.nio_group.specs.Group.{Group}
+use Rattle.nio_group.specs.Flight.{op_at, Flight, IsPendingAs}
 use Rattle.nio_group.specs.Refusals.{is_allowed, report_refusal}
 use Rattle.nio_group.specs.Run as run
 use Rattle.nio_group.specs.Stages.{is_pending_as}
-use Rattle.nio_group.specs.Steps.{after_report, kept_if_refused, reported}
+use Rattle.nio_group.specs.Steps.{after_report}
 use Rattle.nio_group.proofs.LawfulLemmas.{open-within}
 use Rattle.nio_group.proofs.ListLemmas.{eqb-same}
 use Rattle.nio_group.proofs.RunLemmas.{lawful-after}
@@ -21,13 +19,11 @@ use Rattle.nio_group.proofs.StageLemmas.{stepped-after}
 use Rattle.nio_deadline.specs.Deadlines.{Deadline, AreInOrder, without, due}
 use Rattle.nio_deadline.specs.Kept.{IsTimedKept}
 use Rattle.nio_deadline.specs.Steps.{with_timeout, with_timeouts, after_expire}
-use Rattle.nio_deadline.specs.Timed.{Timed, ArePending, IsLawful}
-use Rattle.nio_deadline.specs.Timed.{kinds_at, with_kind}
-use Rattle.nio_deadline.proofs.DeadlineLemmas.{le-true, without-others, others-before}
-use Rattle.nio_deadline.proofs.PendingLemmas.{as-pending}
+use Rattle.nio_deadline.specs.Timed.{Timed, ArePending, IsLawful, kinds_at, with_kind}
+use Rattle.nio_deadline.proofs.DeadlineLemmas.{without-others, others-before}
 use Rattle.nio_deadline.proofs.QueueLemmas.{keeps-report}
-use Rattle.nio_deadline.proofs.TimedLemmas.{part-push}
-use Rattle.nio_deadline.proofs.TimedLemmas.{lawful-with_group, when-free, reported-deadlines}
+use Rattle.nio_deadline.proofs.TimedLemmas.{part-push, lawful-with_group, reported-deadlines, reported-flight}
+use Rattle.nio_group.proofs.PendingLemmas.{pending-as-pending}
 
 fault-allowed : (kind : OpKind) (len : ℕ) → is_allowed kind len Fault ≡ true
 fault-allowed Accept len = refl
@@ -39,7 +35,14 @@ fault-allowed Write len = refl
 pub fault-free : (c : ℕ) (kind : OpKind) (slot : Option Operation) → is_pending_as c kind slot ≡ true
     → report_refusal slot Fault ≡ None
 fault-free c kind None h = absurd (false≢true h)
-fault-free c kind (Some op) h = rw (as-pending c kind (Some op) h, fault-allowed op.kind op.len) refl
+fault-free c kind (Some op) h = rw (pending-as-pending c kind (Some op) h, fault-allowed op.kind op.len) refl
+
+pub first-pending : (t : Timed) (d : Deadline) (ds : List Deadline) → IsLawful t → t.deadlines ≡ d ∷ ds
+    → IsPendingAs t.group.flight d.chan d.kind d.op
+first-pending t d ds lawful is =
+    let pending : ArePending t.group (d ∷ ds) = subst (λ (es : List Deadline). ArePending t.group es) is
+    lawful.pending in
+    pending.0
 
 -- the first deadline alone leaves
 pub timeout-deadlines : (t : Timed) (d : Deadline) (ds : List Deadline) → IsLawful t → t.deadlines ≡ d ∷ ds
@@ -53,23 +56,11 @@ timeout-deadlines t d ds lawful is =
     rw (eqb-same d.op) (without-others d.op ds (others-before d ds order.0)) in
     rw is (sym first ∙ reported-deadlines t.group d.op Fault (d ∷ ds) free pending)
 
-reported-queue : (g : Group) (n : ℕ) (o : Outcome) → report_refusal (op_at g.flight n) o ≡ None
-    → (after_report g n o).flight.queue ≡ g.flight.queue ++ n ∷ []
-reported-queue g n o free = by_slot (op_at g.flight n) refl free
-  where
-    by_slot : (slot : Option Operation) → op_at g.flight n ≡ slot → report_refusal slot o ≡ None
-        → (kept_if_refused (report_refusal slot o) g (reported g n o slot)).flight.queue ≡ g.flight.queue ++ n ∷ []
-    by_slot None is refused = cc
-    by_slot (Some op) is free_for =
-        when-free (λ (h : Group). h.flight.queue ≡ g.flight.queue ++ n ∷ []) (report_refusal (Some op) o) g
-        (reported g n o (Some op)) free_for refl
-
 pub lawful-timeout : (t : Timed) (d : Deadline) (ds : List Deadline) → IsLawful t → t.deadlines ≡ d ∷ ds
     → IsLawful (with_timeout t d)
 lawful-timeout t d ds lawful is =
-    let pending : ArePending t.group (d ∷ ds) = subst (λ (es : List Deadline). ArePending t.group es) is
-    lawful.pending in
-    let free = fault-free d.chan d.kind (op_at t.group.flight d.op) pending.0 in
+    let pending = first-pending t d ds lawful is in
+    let free = fault-free d.chan d.kind (op_at t.group.flight d.op) pending in
     let g = after_report t.group d.op Fault in
     let left = lawful-with_group t g lawful (lawful-after t.group (run.report
     (record { 0 = d.op }) Fault) lawful.group tt)
@@ -78,7 +69,8 @@ lawful-timeout t d ds lawful is =
       group = left.group;
       pending = left.pending;
       in_order = left.in_order;
-      queued = rw (reported-queue t.group d.op Fault free) (part-push d.op lawful.queued);
+      queued = rw (ap (λ (f : Flight). f.queue) (reported-flight t.group d.op Fault free).left)
+          (part-push d.op lawful.queued);
       each_channel = length-set t.kinds d.chan (with_kind (kinds_at t d.chan) d.kind) ∙ left.each_channel;
     }
 
@@ -102,15 +94,14 @@ kept-timeout t d ds len len' room kept is more =
 pub within-kinds : (t : Timed) (d : Deadline) (ds : List Deadline) → IsLawful t → t.deadlines ≡ d ∷ ds
     → d.chan < length t.kinds
 within-kinds t d ds lawful is =
-    let pending : ArePending t.group (d ∷ ds) = subst (λ (es : List Deadline). ArePending t.group es) is
-    lawful.pending in
-    let made = open-within t.group.channels d.chan (lawful.group.pending_open d.op d.chan d.kind pending.0) in
+    let pending = first-pending t d ds lawful is in
+    let made = open-within t.group.channels d.chan (lawful.group.pending_open d.op d.chan d.kind pending) in
     let few = lawful.group.few_channels in
     let each = lawful.each_channel in
     omega (arith, made, few, each)
 
 due-cons : (now : ℕ) (d : Deadline) (es ds : List Deadline) → es ≡ d ∷ ds → d.at ≤ now → due now es ≡ d ∷ due now ds
-due-cons now d es ds is l = ap (λ (xs : List Deadline). due now xs) is ∙ rw (le-true d.at now l) refl
+due-cons now d es ds is l = ap (λ (xs : List Deadline). due now xs) is ∙ rw (le-leb d.at now l) refl
 
 -- with the first one, which has come, the others that have come time out
 pub expire-first : (t : Timed) (now : ℕ) (d : Deadline) (ds : List Deadline) → t.deadlines ≡ d ∷ ds → d.at ≤ now

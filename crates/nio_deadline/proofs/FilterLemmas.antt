@@ -1,7 +1,6 @@
 -- Deadlines that are kept by a test.
 use Rattle.std.specs.Bool.{⊤}
-use Rattle.std.proofs.Common.{◌≡◌, ◌≤◌, Bool, true, false, ◌&&◌, List, [], ◌∷◌, filter, length, refl, ap}
-use Rattle.std.proofs.Common.{arith}
+use Rattle.std.proofs.Common.{◌≡◌, ◌≤◌, Bool, true, false, ◌&&◌, List, [], ◌∷◌, filter, length, refl, ap, arith}
 use Rattle.nio_group.proofs.TableLemmas.{by_test}
 use Rattle.nio_deadline.specs.Deadlines.{Deadline}
 

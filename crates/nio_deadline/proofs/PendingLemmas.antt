@@ -1,11 +1,9 @@
 -- Which operations each call of a group leaves pending.
-use Rattle.std.proofs.Common.{◌≡◌, ◌≢◌, inl, inr, ℕ, ◌<◌, zero, suc, Bool, true, false, not, ◌&&◌, eqb, List, []}
-use Rattle.std.proofs.Common.{drop}
-use Rattle.std.proofs.Common.{◌∷◌, ◌++◌, Option, Some, None, length, get_or, set, map, refl, sym, ap, ◌∙◌, subst}
-use Rattle.std.proofs.Common.{arith}
+use Rattle.std.proofs.Common.{◌≡◌, ◌≢◌, inl, inr, ℕ, ◌<◌, zero, suc, true, false, not, eqb, List, [], drop, ◌∷◌, ◌++◌}
+use Rattle.std.proofs.Common.{Option, Some, None, length, get_or, set, refl, sym, ap, ◌∙◌, subst, arith}
 use Rattle.std.proofs.Common.{get_or-set_same, get_or-set_other}
 use Rattle.std.specs.Option.{option_map}
-use Rattle.std.proofs.lemmas.Bool.{false≢true, cases_lt}
+use Rattle.std.proofs.lemmas.Bool.{false≢true, cases_lt, eqb-true, eqb-false}
 use Rattle.std.proofs.lemmas.List.{get_or_append_left, get_or_past, length-set}
 use Rattle.nio_base.specs.declared.numbers.GChan.{GChan}
 use Rattle.nio_base.specs.declared.group.GKind.{GKind}
@@ -13,35 +11,32 @@ use Rattle.nio_base.specs.declared.group.OpKind.{OpKind}
 use Rattle.nio_base.specs.declared.group.Finished.{Finished}
 use Rattle.nio_group.specs.declared.channel.Channel.{Channel}
 use Rattle.nio_group.specs.declared.channel.Endpoint.TheVariants.{Listener}
-use Rattle.nio_group.specs.declared.operation.Stage.{Stage}
-use Rattle.nio_group.specs.declared.operation.Stage.TheVariants.{Pending, Queued, Running}
+use Rattle.nio_group.specs.declared.operation.Stage.TheVariants.{Queued, Running}
 use Rattle.nio_group.specs.declared.operation.Operation.{Operation}
-use Rattle.nio_group.specs.Stages.{stage_is_pending, is_pending, is_pending_as, is_queued}
-use Rattle.nio_group.specs.Stages.{is_pending_on, is_running, at_stage, same_kind}
-use Rattle.nio_group.specs.Flight.{Flight, op_at, accepted, IsPendingAs, with_accepted}
-use Rattle.nio_group.specs.Flight.{with_completed, with_ended, flight_after_take, closed_on, with_channel_closed}
+use Rattle.nio_group.specs.Stages.{stage_is_pending, is_pending, is_pending_as, is_queued, is_pending_on, is_running}
+use Rattle.nio_group.specs.Stages.{at_stage}
+use Rattle.nio_group.specs.Flight.{Flight, op_at, IsPendingAs, with_accepted, with_completed, with_ended}
+use Rattle.nio_group.specs.Flight.{flight_after_take, closed_on, with_channel_closed}
 use Rattle.nio_group.specs.Group.{Group, IsLawful, channel_at, new_channel, no_channel}
 use Rattle.nio_group.specs.Refusals.{open_refusal, bind_refusal, start_refusal}
-use Rattle.nio_group.specs.Run.{IsNext, GoesOn}
+use Rattle.nio_group.specs.Run.{IsNext}
 use Rattle.nio_group.specs.Steps.{after_open, after_bind, after_start, after_take, after_finish, after_close}
-use Rattle.nio_group.specs.Steps.{after_shutdown, after_shutdown_now, closed_below, with_endpoint, with_closed}
-use Rattle.nio_group.specs.Steps.{started}
+use Rattle.nio_group.specs.Steps.{after_shutdown, after_shutdown_now, closed_below, with_endpoint, with_closed, started}
 use Rattle.nio_group.specs.Steps.{first_stage, finish_refusal}
 use Rattle.nio_group.proofs.EndLemmas.{queued-not_pending, running-not_pending}
 use Rattle.nio_group.proofs.FlightLemmas.{some-within}
-use Rattle.nio_group.proofs.LawfulLemmas.{open-within}
-use Rattle.nio_group.proofs.ListLemmas.{eqb-same}
-use Rattle.nio_group.proofs.PendingLemmas.{and-left, and-right, same_kind-refl, same_kind-true}
+use Rattle.nio_group.proofs.LawfulLemmas.{open-within, nothing-pending}
+use Rattle.nio_group.proofs.ListLemmas.{within-where}
+use Rattle.nio_group.proofs.PendingLemmas.{pending-parts, pending-as-pending}
 use Rattle.nio_group.proofs.QueueLemmas.{QueueHolds, front-queued}
 use Rattle.nio_group.proofs.RunLemmas.{unless-refused, cond-holds}
-use Rattle.nio_group.proofs.TableLemmas.{by_test, same_number, other_number}
+use Rattle.nio_group.proofs.TableLemmas.{by_test}
+use Rattle.nio_group.proofs.StageLemmas.{completed-not_pending, finishable, goes-not_pending}
+use Rattle.std.proofs.Math.ListN.{get_or-map}
 
 -- each pending operation stays so
 abbrev pub Stays : Flight → Flight → Type 0
 Stays f f' = (n : ℕ) → is_pending (op_at f n) ≡ true → is_pending (op_at f' n) ≡ true
-
-stays-same : (f f' : Flight) → f' ≡ f → Stays f f'
-stays-same f f' same n pending = ap (λ (x : Flight). is_pending (op_at x n)) same ∙ pending
 
 pub stays-open : (g : Group) (kind : GKind) → Stays g.flight (after_open g kind).flight
 stays-open g kind =
@@ -69,25 +64,19 @@ stays-start g chan kind len =
       stage = first_stage (channel_at g chan.0).is_open kind len;
     }) n p)
   where
-    within : (xs : List (Option Operation)) (n : ℕ) → is_pending (get_or xs n None) ≡ true → n < length xs
-    within xs n p =
-        elim (cases_lt n (length xs)) [
-          | inl l ↦ l
-          | inr past ↦ absurd (false≢true (sym (ap is_pending (get_or_past xs n None past)) ∙ p))
-        ]
-
     pushed : (op : Operation) (n : ℕ) → is_pending (op_at g.flight n) ≡ true
         → is_pending (op_at (with_accepted g.flight op) n) ≡ true
     pushed op n p =
-        rw (get_or_append_left g.flight.operations (Some op ∷ []) None n (within g.flight.operations n p)) p
+        rw (get_or_append_left g.flight.operations (Some op ∷ []) None n
+        (within-where is_pending g.flight.operations n None refl p)) p
 
 -- a slot that isn't pending changes
 stays-set : (f : Flight) (i : ℕ) (slot : Option Operation) (queue : List ℕ) → is_pending (op_at f i) ≡ false
     → Stays f (record f { operations = set f.operations i slot; queue = queue })
 stays-set f i slot queue idle n p =
     by_test (eqb n i)
-    (λ t. absurd (false≢true (sym idle ∙ subst (λ (k : ℕ). is_pending (op_at f k) ≡ true) (same_number n i t) p)))
-    (λ e. rw (get_or-set_other f.operations i n slot None (other_number n i e)) p)
+    (λ t. absurd (false≢true (sym idle ∙ subst (λ (k : ℕ). is_pending (op_at f k) ≡ true) (eqb-true n i t) p)))
+    (λ e. rw (get_or-set_other f.operations i n slot None (eqb-false n i e)) p)
 
 queued-idle : (slot : Option Operation) → is_queued slot ≡ true → is_pending slot ≡ false
 queued-idle None q = refl
@@ -107,10 +96,6 @@ stays-take g lawful = by_queue g.flight.queue refl
         stays-set g.flight n (option_map (at_stage Running) (op_at g.flight n)) (drop 1 g.flight.queue)
         (queued-idle (op_at g.flight n) (front-queued g.flight.operations n rest holds))
 
-finishable : (running : Bool) → finish_refusal running ≡ None → running ≡ true
-finishable true free = refl
-finishable false free = cc
-
 pub stays-finish : (g : Group) (n : ℕ) → Stays g.flight (after_finish g n).flight
 stays-finish g n =
     unless-refused (λ (h : Group). Stays g.flight h.flight) (finish_refusal (is_running (op_at g.flight n))) g
@@ -121,11 +106,6 @@ stays-finish g n =
 
 -- ---- `report`
 
-completed-idle : (slot : Option Operation) (result : Finished) → is_pending (option_map (at_stage
-    (Queued result)) slot) ≡ false
-completed-idle None result = refl
-completed-idle (Some op) result = refl
-
 -- of the pending operations one completes
 pub pending-completed : (f : Flight) (n : ℕ) (op : Operation) (result : Finished) → op_at f n ≡ Some op → (m : ℕ)
     → is_pending (op_at f m) ≡ true → is_pending (op_at (with_completed f n result) m) ≡ not (eqb m n)
@@ -135,22 +115,15 @@ pending-completed f n op result is m p =
     (subst
     (λ (k : ℕ). is_pending (get_or (set f.operations n (option_map (at_stage (Queued result)) (op_at f n))) k None)
     ≡ false)
-    (sym (same_number m n t))
+    (sym (eqb-true m n t))
     (ap is_pending (get_or-set_same f.operations n (option_map (at_stage (Queued result)) (op_at f n)) None
     (some-within f.operations n op is))
-    ∙ completed-idle (op_at f n) result)))
+    ∙ completed-not_pending (op_at f n) result)))
     (λ e. rw (
       e,
       get_or-set_other f.operations n m (option_map (at_stage (Queued result)) (op_at f n)) None
-          (other_number m n e),
+          (eqb-false m n e),
     ) p)
-
-pub as-pending : (c : ℕ) (kind : OpKind) (slot : Option Operation) → is_pending_as c kind slot ≡ true
-    → is_pending slot ≡ true
-as-pending c kind None h = absurd (false≢true h)
-as-pending c kind (Some op) h =
-    and-left (stage_is_pending op.stage) (eqb op.chan.0 c)
-    (and-left (stage_is_pending op.stage && eqb op.chan.0 c) (same_kind op.kind kind) h)
 
 -- ---- `close_channel`
 
@@ -158,9 +131,8 @@ pub pending-chan : (c d : ℕ) (kind : OpKind) (slot : Option Operation) → is_
     → is_pending (closed_on d slot) ≡ not (eqb c d)
 pending-chan c d kind None h = absurd (false≢true h)
 pending-chan c d kind (Some op) h =
-    let left = and-left (stage_is_pending op.stage && eqb op.chan.0 c) (same_kind op.kind kind) h in
-    let pending = and-left (stage_is_pending op.stage) (eqb op.chan.0 c) left in
-    let here = same_number op.chan.0 c (and-right (stage_is_pending op.stage) (eqb op.chan.0 c) left) in
+    let pending : stage_is_pending op.stage ≡ true = pending-as-pending c kind (Some op) h in
+    let here = (pending-parts c kind op h).chan in
     by_test (eqb c d)
     (λ t.
     let there : is_pending_on d (Some op) ≡ true = rw (pending, here, t) refl in
@@ -169,27 +141,22 @@ pending-chan c d kind (Some op) h =
     let elsewhere : is_pending_on d (Some op) ≡ false = rw (pending, here, e) refl in
     rw (elsewhere, e) pending)
 
-map-closed : (c n : ℕ) (xs : List (Option Operation)) → get_or (map (closed_on c) xs) n None ≡ closed_on c
-    (get_or xs n None)
-map-closed c n [] = refl
-map-closed c zero (x ∷ xs) = refl
-map-closed c (suc n) (x ∷ xs) = map-closed c n xs
-
 -- of the operations that are pending on some channel those on another stay so
 pub pending-closed : (g : Group) (c d n : ℕ) (kind : OpKind) → IsLawful g → IsPendingAs g.flight d kind n
     → is_pending (op_at (after_close g c).flight n) ≡ not (eqb d c)
 pending-closed g c d n kind lawful pending =
     cond-holds (λ (h : Group). is_pending (op_at h.flight n) ≡ not (eqb d c)) (channel_at g c).is_open
     (record (with_closed g c) { flight = with_channel_closed g.flight c }) g
-    (λ t. ap is_pending (map-closed c n g.flight.operations) ∙ pending-chan d c kind (op_at g.flight n) pending)
+    (λ t. ap is_pending (get_or-map (closed_on c) g.flight.operations n None) ∙ pending-chan d c kind
+    (op_at g.flight n) pending)
     (λ f.
     let was_open : (channel_at g d).is_open ≡ true = lawful.pending_open n d kind pending in
     by_test (eqb d c)
     (λ t.
     let closed : (channel_at g d).is_open ≡ false =
-    subst (λ (k : ℕ). (channel_at g k).is_open ≡ false) (sym (same_number d c t)) f in
+    subst (λ (k : ℕ). (channel_at g k).is_open ≡ false) (sym (eqb-true d c t)) f in
     absurd (false≢true (sym closed ∙ was_open)))
-    (λ e. rw e (as-pending d kind (op_at g.flight n) pending)))
+    (λ e. rw e (pending-as-pending d kind (op_at g.flight n) pending)))
 
 -- ---- `shutdown_now`
 
@@ -225,9 +192,9 @@ closed_below-closed zero g c l = absurd (omega arith)
 closed_below-closed (suc k) g c l =
     by_test (eqb c k)
     (λ t. subst (λ (d : ℕ). (channel_at (after_close (closed_below k g) k) d).is_open ≡ false)
-    (sym (same_number c k t)) (close-closes (closed_below k g) k))
+    (sym (eqb-true c k t)) (close-closes (closed_below k g) k))
     (λ e.
-    let other = other_number c k e in
+    let other = eqb-false c k e in
     ap (λ (ch : Channel). ch.is_open) (close-others (closed_below k g) k c other)
     ∙ closed_below-closed k g c (omega arith))
 
@@ -241,31 +208,12 @@ all-closed g c =
           (get_or_past (after_shutdown_now g).channels c no_channel (omega (arith, same)))
     ]
 
-pub pending-as : (op : Operation) → is_pending (Some op) ≡ true → is_pending_as op.chan.0 op.kind (Some op) ≡ true
-pending-as op p = rw (p, eqb-same op.chan.0, same_kind-refl op.kind) refl
-
 -- where all channels are closed no operation is pending
 pub none-pending : (g : Group) (n : ℕ) → IsLawful (after_shutdown_now g)
     → is_pending (op_at (after_shutdown_now g).flight n) ≡ false
-none-pending g n lawful = by_slot (op_at (after_shutdown_now g).flight n) refl
-  where
-    by_slot : (slot : Option Operation) → op_at (after_shutdown_now g).flight n ≡ slot → is_pending slot ≡ false
-    by_slot None is = refl
-    by_slot (Some op) is =
-        by_test (is_pending (Some op))
-        (λ t.
-        let pending : IsPendingAs (after_shutdown_now g).flight op.chan.0 op.kind n = rw is (pending-as op t) in
-        absurd
-        (false≢true (sym (all-closed g op.chan.0) ∙ lawful.pending_open n op.chan.0 op.kind pending)))
-        (λ f. f)
+none-pending g n lawful = nothing-pending (after_shutdown_now g) lawful (all-closed g) n
 
 -- ---- the next stage
-
-goes-idle : (stage : Stage) (op : Operation) (next : Option Operation) → GoesOn stage op next → is_pending next
-    ≡ false
-goes-idle Pending op next goes = rw goes.1 refl
-goes-idle (Queued r) op next goes = rw goes refl
-goes-idle Running op next goes = rw goes refl
 
 -- an operation that is still pending is as it was
 pub next-as : (c : ℕ) (kind : OpKind) (slot next : Option Operation) → IsNext slot next
@@ -274,26 +222,13 @@ next-as c kind None next is h p = absurd (false≢true h)
 next-as c kind (Some op) next is h p =
     elim is [
       | inl same ↦ rw same h
-      | inr goes ↦ absurd (false≢true (sym (goes-idle op.stage op next goes) ∙ p))
+      | inr goes ↦ absurd (false≢true (sym (goes-not_pending op.stage op next goes) ∙ p))
     ]
-
-pub as-some : (f : Flight) (c n : ℕ) (kind : OpKind) → IsPendingAs f c kind n → n < accepted f
-as-some f c n kind h = by_slot (op_at f n) refl
-  where
-    by_slot : (slot : Option Operation) → op_at f n ≡ slot → n < accepted f
-    by_slot None is = absurd (false≢true (sym (ap (is_pending_as c kind) is) ∙ h))
-    by_slot (Some op) is = some-within f.operations n op is
 
 pub as-chan : (c d : ℕ) (kind other : OpKind) (slot : Option Operation) → is_pending_as c kind slot ≡ true
     → is_pending_as d other slot ≡ true → (c ≡ d) × (kind ≡ other)
 as-chan c d kind other None h h' = absurd (false≢true h)
 as-chan c d kind other (Some op) h h' =
-    let left = and-left (stage_is_pending op.stage && eqb op.chan.0 c) (same_kind op.kind kind) h in
-    let left' = and-left (stage_is_pending op.stage && eqb op.chan.0 d) (same_kind op.kind other) h' in (
-      sym (same_number op.chan.0 c (and-right (stage_is_pending op.stage) (eqb op.chan.0 c) left))
-          ∙ same_number op.chan.0 d (and-right (stage_is_pending op.stage) (eqb op.chan.0 d) left'),
-      sym (same_kind-true op.kind kind (and-right (stage_is_pending op.stage && eqb op.chan.0 c)
-          (same_kind op.kind kind) h))
-          ∙ same_kind-true op.kind other (and-right (stage_is_pending op.stage && eqb op.chan.0 d)
-          (same_kind op.kind other) h'),
-    )
+    let a = pending-parts c kind op h in
+    let b = pending-parts d other op h' in
+    (sym a.chan ∙ b.chan, sym a.same ∙ b.same)

@@ -1,6 +1,5 @@
 -- What each call of a group but `take` makes of its queue and its limits.
-use Rattle.std.proofs.Common.{◌≡◌, ℕ, zero, suc, Bool, true, false, cond, List, [], ◌∷◌, ◌++◌, Option, Some, None}
-use Rattle.std.proofs.Common.{refl}
+use Rattle.std.proofs.Common.{◌≡◌, ℕ, zero, suc, Bool, true, false, cond, List, [], ◌∷◌, ◌++◌, Option, Some, None, refl}
 use Rattle.std.proofs.Common.{sym, ap, ◌∙◌, length, append_assoc}
 use Rattle.std.proofs.lemmas.List.{append-nil}
 use Rattle.nio_base.specs.declared.numbers.GChan.{GChan}
@@ -16,8 +15,7 @@ use Rattle.nio_group.specs.Flight.{Flight, op_at, accepted, with_ended, with_cha
 use Rattle.nio_group.specs.Group.{Group, channel_at, new_channel}
 use Rattle.nio_group.specs.Refusals.{open_refusal, bind_refusal, start_refusal, report_refusal}
 use Rattle.nio_group.specs.Steps.{after_open, after_bind, after_start, after_report, after_finish, after_close}
-use Rattle.nio_group.specs.Steps.{after_shutdown, after_shutdown_now, closed_below, with_endpoint, with_closed}
-use Rattle.nio_group.specs.Steps.{started}
+use Rattle.nio_group.specs.Steps.{after_shutdown, after_shutdown_now, closed_below, with_endpoint, with_closed, started}
 use Rattle.nio_group.specs.Steps.{channels_after_start, channels_after_report, first_stage, reported, finish_refusal}
 use Rattle.nio_group.specs.Steps.{no_number_left}
 use Rattle.nio_group.proofs.RunLemmas.{unless-refused, cond-holds}

@@ -1,10 +1,10 @@
 -- Each timed step leads from a lawful state to a lawful one.
 use Rattle.std.specs.Bool.{⊤}
-use Rattle.std.proofs.Common.{◌≡◌, ℕ, ◌<◌, ◌≤◌, ◌+◌, Bool, true, false, not, ◌&&◌, eqb, leb, List, []}
-use Rattle.std.proofs.Common.{◌∷◌, ◌++◌, cond, Option, Some, None, length, refl, sym, ap, ◌∙◌, subst, get_or}
+use Rattle.std.proofs.Common.{◌≡◌, ℕ, ◌<◌, ◌≤◌, ◌+◌, Bool, true, false, not, ◌&&◌, eqb, leb, List, [], ◌∷◌, ◌++◌, cond}
+use Rattle.std.proofs.Common.{Option, Some, None, length, refl, sym, ap, ◌∙◌, subst, get_or}
 use Rattle.std.specs.Option.{option_or}
-use Rattle.std.proofs.lemmas.Bool.{false≢true}
-use Rattle.std.proofs.lemmas.List.{get_or_push}
+use Rattle.std.proofs.lemmas.Bool.{false≢true, leb-false, leb-true}
+use Rattle.std.proofs.lemmas.List.{get_or_push, length-replicate}
 use Rattle.nio_base.specs.declared.numbers.GChan.{GChan}
 use Rattle.nio_base.specs.declared.group.OpKind.{OpKind}
 use Rattle.nio_group.specs.declared.limits.GroupLimits.{GroupLimits}
@@ -23,22 +23,21 @@ use Rattle.nio_group.proofs.RestLemmas.{lawful-empty}
 use Rattle.nio_group.proofs.RunLemmas.{lawful-after, unless-refused}
 use Rattle.nio_group.proofs.StageLemmas.{stepped-after}
 use Rattle.nio_group.proofs.TableLemmas.{by_test}
-use Rattle.std.proofs.lemmas.List.{length-replicate}
 use Rattle.nio_deadline.specs.Deadlines.{Deadline, AreInOrder, due}
 use Rattle.nio_deadline.specs.Kept.{timed_of, IsAboveAll}
 use Rattle.nio_deadline.specs.Run.{Call, open_channel, bind, start_timed, report, expire, take, finish, close_channel}
 use Rattle.nio_deadline.specs.Run.{shutdown, shutdown_now, IsCallOf, IsRunOf, after, reply_to, left_by, StepsAreLawful}
+use Rattle.nio_deadline.specs.Run.{is_due_at}
 use Rattle.nio_deadline.specs.Steps.{after_start, after_expire, after_take, with_timeout, with_timeouts, with_limit}
 use Rattle.nio_deadline.specs.Steps.{kept_if_refused, started}
-use Rattle.nio_deadline.specs.Timed.{Timed, IsLawful, no_number, with_group, may_have_limit, own_refusal}
-use Rattle.nio_deadline.specs.Timed.{late_refusal, empty_timed, no_kinds, last_moment}
+use Rattle.nio_deadline.specs.Timed.{Timed, IsLawful, no_number, with_group, may_have_limit, own_refusal, late_refusal}
+use Rattle.nio_deadline.specs.Timed.{empty_timed, no_kinds, last_moment}
 use Rattle.nio_deadline.specs.declared.refusal.TimedError.{TimedError}
-use Rattle.nio_deadline.proofs.DeadlineLemmas.{insert-in_order, is-le, not-le, none-due}
+use Rattle.nio_deadline.proofs.DeadlineLemmas.{insert-in_order, none-due}
 use Rattle.nio_deadline.proofs.ExpireLemmas.{expire-first, lawful-timeout, timeout-deadlines}
 use Rattle.nio_deadline.proofs.PendingLemmas.{stays-start}
 use Rattle.nio_deadline.proofs.QueueLemmas.{keeps-open, keeps-bind, keeps-start, keeps-report, keeps-finish}
-use Rattle.nio_deadline.proofs.QueueLemmas.{keeps-close}
-use Rattle.nio_deadline.proofs.QueueLemmas.{keeps-shutdown, keeps-shutdown_now}
+use Rattle.nio_deadline.proofs.QueueLemmas.{keeps-close, keeps-shutdown, keeps-shutdown_now, Keeps}
 use Rattle.nio_deadline.proofs.StartLemmas.{none-next, pending-insert}
 use Rattle.nio_deadline.proofs.TakeLemmas.{lawful-take, nothing-same, taken-nothing, taken-one}
 use Rattle.nio_deadline.proofs.TimedLemmas.{above-all, all-stay, lawful-with_group}
@@ -57,7 +56,7 @@ expire-by P now step [] t is lawful holds =
 expire-by P now step (d ∷ ds) t is lawful holds =
     by_test (leb d.at now)
     (λ u.
-    let come = is-le d.at now u in
+    let come = leb-true d.at now u in
     let left = sym (timeout-deadlines t d ds lawful is) in
     let rest = expire-by P now step ds (with_timeout t d) left (lawful-timeout t d ds lawful is)
     (step t d ds lawful is come holds) in
@@ -65,7 +64,7 @@ expire-by P now step (d ∷ ds) t is lawful holds =
     (λ f.
     let order : AreInOrder (d ∷ ds) = subst (λ (xs : List Deadline). AreInOrder xs) is lawful.in_order in
     let none : due now t.deadlines ≡ [] =
-    ap (λ (xs : List Deadline). due now xs) is ∙ none-due now d.at (d ∷ ds) order refl (not-le d.at now f) in
+    ap (λ (xs : List Deadline). due now xs) is ∙ none-due now d.at (d ∷ ds) order refl (leb-false d.at now f) in
     (t, sym (ap (λ (xs : List Deadline). with_timeouts t xs) none), lawful, holds, none))
 
 lawful-expire : (t : Timed) (now : ℕ) → IsLawful t → IsLawful (after_expire t now)
@@ -167,38 +166,42 @@ lawful-start t chan kind len now limit lawful within =
     (λ f. rw f
     (lawful-limit t chan kind len (now + limit) lawful within (own-limited t chan.0 kind now limit f free))))
 
+-- ---- each call
+
+-- a call is one of the group's that keeps its queue and its limits and at which no deadline comes, or it is a start,
+-- an `expire` or a `take`
+pub by-call : (t : Timed) (P : (Call → Timed → Type 0))
+    → ((call : Call) (core : run.Call) → run.IsCallOf t.group core → Keeps t.group (run.after t.group core)
+    → ((n : ℕ) → is_due_at n t call ≡ false) → P call (with_group t (run.after t.group core)))
+    → ((chan : GChan) (kind : OpKind) (len now limit : ℕ) → chan.0 < length t.group.channels
+    → P (start_timed chan kind len now limit) (after_start t chan kind len now limit))
+    → ((now : ℕ) → P (expire now) (after_expire t now)) → P take (after_take t) → (call : Call) → IsCallOf t call
+    → P call (after t call)
+by-call t P plain start expires takes (open_channel kind) made =
+    plain _ (run.open_channel kind) tt (keeps-open t.group kind) (λ n. refl)
+by-call t P plain start expires takes (bind chan) made =
+    plain _ (run.bind chan) made (keeps-bind t.group chan.0) (λ n. refl)
+by-call t P plain start expires takes (start_timed chan kind len now limit) made = start chan kind len now limit made
+by-call t P plain start expires takes (report op outcome) made =
+    plain _ (run.report op outcome) tt (keeps-report t.group op.0 outcome) (λ n. refl)
+by-call t P plain start expires takes (expire now) made = expires now
+by-call t P plain start expires takes take made = takes
+by-call t P plain start expires takes (finish op) made =
+    plain _ (run.finish op) tt (keeps-finish t.group op.0) (λ n. refl)
+by-call t P plain start expires takes (close_channel chan) made =
+    plain _ (run.close_channel chan) made (keeps-close t.group chan.0) (λ n. refl)
+by-call t P plain start expires takes shutdown made =
+    plain _ run.shutdown tt (keeps-shutdown t.group) (λ n. refl)
+by-call t P plain start expires takes shutdown_now made =
+    plain _ run.shutdown_now tt (keeps-shutdown_now t.group) (λ n. refl)
+
 pub lawful-step : (t : Timed) (call : Call) → IsLawful t → IsCallOf t call → IsLawful (after t call)
-lawful-step t (open_channel kind) lawful made =
-    lawful-with_group t (group_steps.after_open t.group kind) lawful
-    (lawful-after t.group (run.open_channel kind) lawful.group tt)
-    (stepped-after t.group (run.open_channel kind) lawful.group) (keeps-open t.group kind)
-lawful-step t (bind chan) lawful made =
-    lawful-with_group t (group_steps.after_bind t.group chan.0) lawful
-    (lawful-after t.group (run.bind chan) lawful.group made) (stepped-after t.group (run.bind chan) lawful.group)
-    (keeps-bind t.group chan.0)
-lawful-step t (start_timed chan kind len now limit) lawful made = lawful-start t chan kind len now limit lawful made
-lawful-step t (report op outcome) lawful made =
-    lawful-with_group t (group_steps.after_report t.group op.0 outcome) lawful
-    (lawful-after t.group (run.report op outcome) lawful.group tt)
-    (stepped-after t.group (run.report op outcome) lawful.group) (keeps-report t.group op.0 outcome)
-lawful-step t (expire now) lawful made = lawful-expire t now lawful
-lawful-step t take lawful made = lawful-taken t lawful
-lawful-step t (finish op) lawful made =
-    lawful-with_group t (group_steps.after_finish t.group op.0) lawful
-    (lawful-after t.group (run.finish op) lawful.group tt) (stepped-after t.group (run.finish op) lawful.group)
-    (keeps-finish t.group op.0)
-lawful-step t (close_channel chan) lawful made =
-    lawful-with_group t (group_steps.after_close t.group chan.0) lawful
-    (lawful-after t.group (run.close_channel chan) lawful.group made)
-    (stepped-after t.group (run.close_channel chan) lawful.group) (keeps-close t.group chan.0)
-lawful-step t shutdown lawful made =
-    lawful-with_group t (group_steps.after_shutdown t.group) lawful
-    (lawful-after t.group run.shutdown lawful.group tt)
-    (stepped-after t.group run.shutdown lawful.group) (keeps-shutdown t.group)
-lawful-step t shutdown_now lawful made =
-    lawful-with_group t (group_steps.after_shutdown_now t.group) lawful
-    (lawful-after t.group run.shutdown_now lawful.group tt) (stepped-after t.group run.shutdown_now lawful.group)
-    (keeps-shutdown_now t.group)
+lawful-step t call lawful made =
+    by-call t (λ c x. IsLawful x)
+    (λ c core of keeps none. lawful-with_group t (run.after t.group core) lawful
+    (lawful-after t.group core lawful.group of) (stepped-after t.group core lawful.group) keeps)
+    (λ chan kind len now limit within. lawful-start t chan kind len now limit lawful within)
+    (λ now. lawful-expire t now lawful) (lawful-taken t lawful) call made
 
 pub steps-lawful : StepsAreLawful
 steps-lawful t call lawful made =

@@ -1,7 +1,7 @@
 -- A group with time limits after an operation was started.
-use Rattle.std.proofs.Common.{◌≡◌, ◌⊎◌, inl, inr, ℕ, ◌<◌, ◌≤◌, ◌+◌, true, false, eqb, leb, List, []}
-use Rattle.std.proofs.Common.{◌∷◌, Option, Some, None, length, refl, sym, ap, ◌∙◌, subst, arith}
-use Rattle.std.proofs.lemmas.Bool.{false≢true}
+use Rattle.std.proofs.Common.{◌≡◌, ℕ, ◌<◌, ◌≤◌, ◌+◌, true, false, eqb, leb, List, [], ◌∷◌, Some, None, length, refl}
+use Rattle.std.proofs.Common.{sym, ap, ◌∙◌, subst, arith}
+use Rattle.std.proofs.lemmas.Bool.{ne_eqb}
 use Rattle.std.proofs.lemmas.List.{get_or_push, get_or_past}
 use Rattle.nio_base.specs.declared.numbers.GChan.{GChan}
 use Rattle.nio_base.specs.declared.group.OpKind.{OpKind}
@@ -12,32 +12,28 @@ use Rattle.nio_group.specs.Flight.{Flight, op_at, accepted, IsPendingAs}
 use Rattle.nio_group.specs.Group.{Group, channel_at}
 use Rattle.nio_group.specs.Refusals.{start_refusal}
 use Rattle.nio_group.specs.Run as run
-use Rattle.nio_group.specs.Stages.{is_pending, stage_is_pending}
+use Rattle.nio_group.specs.Stages.{is_pending}
 use Rattle.nio_group.specs.Steps as group_steps
-use Rattle.nio_group.specs.Steps.{after_report, kept_if_refused, reported, first_stage, completion_at, completion_of}
-use Rattle.nio_group.specs.Steps.{taken_from, answer_to_take}
+use Rattle.nio_group.specs.Steps.{first_stage}
 use Rattle.nio_group.proofs.ListLemmas.{eqb-same}
-use Rattle.nio_group.proofs.PendingLemmas.{same_kind-refl}
-use Rattle.nio_group.proofs.RunLemmas.{lawful-after, unless-refused}
+use Rattle.nio_group.proofs.PendingLemmas.{same_kind-refl, pending-as-pending}
+use Rattle.nio_group.proofs.RunLemmas.{lawful-after}
 use Rattle.nio_group.proofs.StageLemmas.{stepped-after}
 use Rattle.nio_group.proofs.TableLemmas.{by_test}
 use Rattle.nio_deadline.specs.Deadlines.{Deadline, without, with_deadline}
 use Rattle.nio_deadline.specs.Kept.{IsTimedKept, timed_of, IsAboveAll}
 use Rattle.nio_deadline.specs.Steps.{with_limit}
-use Rattle.nio_deadline.specs.Timed.{Timed, ArePending, IsLawful, with_group}
-use Rattle.nio_deadline.specs.Timed.{may_have_limit}
-use Rattle.nio_deadline.proofs.DeadlineLemmas.{eq-false, insert-in_order, without-others}
-use Rattle.nio_deadline.proofs.DeadlineLemmas.{others-above}
-use Rattle.nio_deadline.proofs.PendingLemmas.{as-pending, stays-start}
+use Rattle.nio_deadline.specs.Timed.{Timed, ArePending, IsLawful, with_group, may_have_limit}
+use Rattle.nio_deadline.proofs.DeadlineLemmas.{insert-in_order, without-others, others-above}
+use Rattle.nio_deadline.proofs.PendingLemmas.{stays-start}
 use Rattle.nio_deadline.proofs.QueueLemmas.{keeps-start}
-use Rattle.nio_deadline.proofs.TimedLemmas.{all-stay, still-pending, above-all, part-grows}
-use Rattle.nio_deadline.proofs.TimedLemmas.{when-free, when-refused}
+use Rattle.nio_deadline.proofs.TimedLemmas.{all-stay, still-pending, above-all, part-grows, when-free, when-refused}
 
 first-pending : (kind : OpKind) (len : ℕ) → may_have_limit kind ≡ true → 0 < len → first_stage true kind len ≡ Pending
 first-pending Accept len limited some = refl
 first-pending Connect len limited some = refl
-first-pending Read len limited some = rw (eq-false len 0 (λ none. absurd (omega arith))) refl
-first-pending Write len limited some = rw (eq-false len 0 (λ none. absurd (omega arith))) refl
+first-pending Read len limited some = rw (ne_eqb len 0 (λ none. absurd (omega arith))) refl
+first-pending Write len limited some = rw (ne_eqb len 0 (λ none. absurd (omega arith))) refl
 
 -- an operation that is started with a limit is pending
 pub started-pending : (g : Group) (chan : GChan) (kind : OpKind) (len : ℕ) → start_refusal g chan.0 kind ≡ None
@@ -68,7 +64,7 @@ pub with-limit : (t : Timed) (chan : GChan) (kind : OpKind) (len at : ℕ) → I
     ≡ with_limit t chan kind at (with_group t (group_steps.after_start t.group chan kind len))
 with-limit t chan kind len at lawful free is_open some limited =
     let g = group_steps.after_start t.group chan kind len in
-    let pending = as-pending chan.0 kind (op_at g.flight (accepted t.group.flight))
+    let pending = pending-as-pending chan.0 kind (op_at g.flight (accepted t.group.flight))
     (started-pending t.group chan kind len free is_open some limited) in
     let stay = all-stay t.group g t.deadlines (stays-start t.group chan kind len) lawful.pending in
     rw pending
@@ -82,7 +78,7 @@ pub without-inserted : (d : Deadline) (ds : List Deadline) → IsAboveAll d.op d
 without-inserted d [] above = rw (eqb-same d.op) refl
 without-inserted d (e ∷ es) above =
     let l = above.0 in
-    let apart : eqb e.op d.op ≡ false = eq-false e.op d.op (λ same. absurd (omega arith)) in
+    let apart : eqb e.op d.op ≡ false = ne_eqb e.op d.op (λ same. absurd (omega arith)) in
     by_test (leb e.at d.at)
     (λ t. rw (t, apart) (ap (λ xs. e ∷ xs) (without-inserted d es above.1)))
     (λ f. rw (f, eqb-same d.op) (without-others d.op (e ∷ es) (others-above d.op (e ∷ es) above)))
@@ -175,35 +171,3 @@ kept-limited t chan kind len at n n' room room' kept within free is_open some li
       has_room = omega (arith, counted, longer, fits);
       few_in_flight = rw keeps.flight kept.few_in_flight;
     }
-
--- an operation that isn't pending gets no deadline
-pub no-limit : (t : Timed) (chan : GChan) (kind : OpKind) (len now limit : ℕ) → may_have_limit kind ≡ true
-    → (len ≡ 0) ⊎ ((channel_at t.group chan.0).is_open ≡ false)
-    → with_limit t chan kind (now + limit) (with_group t (group_steps.after_start t.group chan kind len))
-    ≡ with_group t (group_steps.after_start t.group chan kind len)
-no-limit t chan kind len now limit limited idle =
-    rw
-    (unless-refused
-    (λ (h : Group). is_pending (op_at h.flight (accepted t.group.flight)) ≡ false)
-    (start_refusal t.group chan.0 kind) t.group (group_steps.started t.group chan kind len)
-    (none-next t.group.flight)
-    (λ free.
-    ap is_pending
-    (get_or_push t.group.flight.operations (Some (record {
-      chan = chan;
-      kind = kind;
-      len = len;
-      stage = first_stage (channel_at t.group chan.0).is_open kind len;
-    })) None (accepted t.group.flight) refl)
-    ∙ at_once kind limited idle)) refl
-  where
-    at_once : (k : OpKind) → may_have_limit k ≡ true → (len ≡ 0) ⊎ ((channel_at t.group chan.0).is_open ≡ false)
-        → stage_is_pending (first_stage (channel_at t.group chan.0).is_open k len) ≡ false
-    at_once Accept limited' idle' = absurd (false≢true limited')
-    at_once Connect limited' idle' = absurd (false≢true limited')
-    at_once Read limited' (inr closed) = rw closed refl
-    at_once Write limited' (inr closed) = rw closed refl
-    at_once Read limited' (inl none) =
-        by_test (channel_at t.group chan.0).is_open (λ o. rw (o, none) refl) (λ f. rw f refl)
-    at_once Write limited' (inl none) =
-        by_test (channel_at t.group chan.0).is_open (λ o. rw (o, none) refl) (λ f. rw f refl)

@@ -1,21 +1,19 @@
 -- A group with time limits after a completion was taken.
 use Rattle.nio_group.proofs.IndexLemmas.{count_by-cons}
-use Rattle.std.proofs.Common.{◌≡◌, ◌≢◌, ℕ, ◌<◌, ◌≤◌, true, false, eqb, List, []}
-use Rattle.std.proofs.Common.{◌∷◌, filter, Option, Some, None, length, refl, sym, ap, ◌∙◌, subst, arith, count_by}
-use Rattle.std.proofs.Common.{get_or, drop}
-use Rattle.std.proofs.lemmas.Bool.{false≢true}
+use Rattle.std.proofs.Common.{◌≡◌, ◌≢◌, ℕ, ◌<◌, ◌≤◌, true, false, eqb, List, [], ◌∷◌, filter, Option, Some, None}
+use Rattle.std.proofs.Common.{length, refl, sym, ap, ◌∙◌, subst, arith, count_by, get_or, drop}
+use Rattle.std.proofs.lemmas.Bool.{false≢true, ne_eqb}
 use Rattle.nio_group.specs.declared.operation.Operation.{Operation}
 use Rattle.nio_group.specs.declared.operation.Stage.{Stage}
 use Rattle.nio_group.specs.declared.operation.Stage.TheVariants.{Pending, Queued, Running}
 use Rattle.nio_group.specs.Completion.{CompletionFields}
 use Rattle.nio_group.specs.Flight.{flight_after_take, Flight, op_at}
 use Rattle.nio_group.specs.Group as group
-use Rattle.nio_group.specs.Group.{Group, channel_at}
+use Rattle.nio_group.specs.Group.{Group}
 use Rattle.nio_group.specs.Run as run
 use Rattle.nio_group.specs.Stages.{is_pending, is_queued, stage_is_queued}
 use Rattle.nio_group.specs.Steps as group_steps
-use Rattle.nio_group.specs.Steps.{after_report, kept_if_refused, reported, first_stage, completion_at, completion_of}
-use Rattle.nio_group.specs.Steps.{taken_from, answer_to_take}
+use Rattle.nio_group.specs.Steps.{completion_at, completion_of, taken_from, answer_to_take}
 use Rattle.nio_group.proofs.ListLemmas.{eqb-same}
 use Rattle.nio_group.proofs.QueueLemmas.{QueueHolds, front-queued}
 use Rattle.nio_group.proofs.RunLemmas.{lawful-after}
@@ -25,7 +23,6 @@ use Rattle.nio_deadline.specs.Deadlines.{Deadline}
 use Rattle.nio_deadline.specs.Kept.{IsTimedKept, timed_of, is_among_later}
 use Rattle.nio_deadline.specs.Steps.{is_among, without_number, after_take}
 use Rattle.nio_deadline.specs.Timed.{Timed, ArePending, IsLawful, IsPartOf, no_number, passed, listed}
-use Rattle.nio_deadline.proofs.DeadlineLemmas.{eq-false}
 use Rattle.nio_deadline.proofs.PendingLemmas.{stays-take}
 use Rattle.nio_deadline.proofs.TimedLemmas.{all-stay, still-pending}
 
@@ -212,7 +209,7 @@ pub not-first : (n m : ℕ) (ms rest : List ℕ) → ms ≡ m ∷ rest → m ≢
     → (is_among n ms ≡ false) × (ms ≡ without_number n ms)
 not-first n m ms rest is other later =
     let none : is_among n rest ≡ false = rw is at later in
-    let absent : is_among n ms ≡ false = rw is (rw (eq-false m n other) none) in
+    let absent : is_among n ms ≡ false = rw is (rw (ne_eqb m n other) none) in
     (absent, sym (not-among n ms absent))
 
 pub starts-with : (ms : List ℕ) (x : ℕ) → 0 < length ms → x ≡ get_or ms 0 x → ms ≡ x ∷ drop 1 ms

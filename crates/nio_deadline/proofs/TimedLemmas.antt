@@ -1,39 +1,38 @@
 -- A group with time limits after each call.
-use Rattle.std.proofs.Common.{◌≡◌, ℕ, ◌<◌, ◌≤◌, Bool, true, false, not, ◌&&◌, eqb, List, [], ◌∷◌, ◌++◌, filter}
-use Rattle.std.proofs.Common.{Option, Some, None, length, refl, sym, ap, ◌∙◌, subst, arith, count_by, is_some, set}
-use Rattle.std.proofs.Common.{get_or}
-use Rattle.std.proofs.Common.{get_or-set_other}
-use Rattle.std.proofs.lemmas.Bool.{false≢true}
+use Rattle.std.proofs.Common.{◌≡◌, ℕ, ◌<◌, ◌≤◌, Bool, true, false, not, ◌&&◌, eqb, List, [], ◌∷◌, ◌++◌, filter, Option}
+use Rattle.std.proofs.Common.{Some, None, length, refl, sym, ap, ◌∙◌, subst, arith, count_by, is_some, set, get_or}
+use Rattle.std.proofs.Common.{get_or-set_other, Ok, Err, Result, OnErr, ◌↔◌, IfSome, IsNone}
+use Rattle.std.proofs.lemmas.Bool.{false≢true, eqb-true, eqb-false}
 use Rattle.nio_base.specs.declared.group.OpKind.{OpKind}
 use Rattle.nio_base.specs.declared.group.OpKind.TheVariants.{Accept, Connect, Read, Write}
 use Rattle.nio_group.specs.declared.operation.Operation.{Operation}
 use Rattle.nio_group.specs.Completion.{JobFields}
-use Rattle.nio_group.specs.Flight.{Flight, op_at, accepted, IsPendingAs}
+use Rattle.nio_group.specs.Flight.{Flight, op_at, accepted, IsPendingAs, with_completed}
 use Rattle.nio_group.specs.Group as group
 use Rattle.nio_group.specs.Group.{Group}
+use Rattle.nio_group.specs.Run as run
 use Rattle.nio_group.specs.Stages.{is_pending}
 use Rattle.nio_base.specs.declared.group.Outcome.{Outcome}
-use Rattle.nio_group.specs.Flight.{with_completed}
 use Rattle.nio_group.specs.Refusals.{report_refusal}
 use Rattle.nio_group.specs.Steps.{after_close, after_report, after_shutdown_now, kept_if_refused, unless_refused}
-use Rattle.nio_group.specs.Steps.{reported}
-use Rattle.nio_group.specs.Steps.{result_of, IsJobOf}
-use Rattle.std.proofs.Common.{Ok, Err, Result, OnErr, ◌↔◌, IfSome, IsNone}
+use Rattle.nio_group.specs.Steps.{reported, result_of, IsJobOf}
 use Rattle.nio_group.proofs.ListLemmas.{eqb-same}
-use Rattle.nio_group.proofs.PendingLemmas.{same_kind-refl}
+use Rattle.nio_group.proofs.PendingLemmas.{same_kind-refl, pending-as-pending}
 use Rattle.nio_group.proofs.FlightLemmas.{some-within}
-use Rattle.nio_group.proofs.StageLemmas.{IsStepped}
-use Rattle.nio_group.proofs.TableLemmas.{by_test, same_number, other_number, count_by-set}
+use Rattle.nio_group.proofs.StageLemmas.{IsStepped, stepped-after}
+use Rattle.nio_group.proofs.TableLemmas.{by_test, count_by-set}
 use Rattle.nio_deadline.specs.Deadlines.{Deadline, AreInOrder, IsBefore, without}
 use Rattle.nio_deadline.specs.Kept.{IsTimedKept, without_job, IsAboveAll, timed_of}
 use Rattle.nio_deadline.specs.Timed.{Timed, ArePending, IsLawful, IsPartOf, no_number, passed, listed, with_group}
 use Rattle.nio_deadline.specs.Timed.{may_have_limit}
 use Rattle.nio_deadline.proofs.DeadlineLemmas.{filter-in_order}
-use Rattle.nio_deadline.proofs.FilterLemmas.{AreSo, filter-same, filter-all, filter-none, filter-twice}
-use Rattle.nio_deadline.proofs.FilterLemmas.{filter-fewer, all-so}
-use Rattle.nio_deadline.proofs.PendingLemmas.{Stays, as-pending, as-some, as-chan, next-as, pending-closed}
-use Rattle.nio_deadline.proofs.PendingLemmas.{pending-completed, none-pending}
+use Rattle.nio_deadline.proofs.FilterLemmas.{AreSo, filter-same, filter-all, filter-none, filter-twice, filter-fewer}
+use Rattle.nio_deadline.proofs.FilterLemmas.{all-so}
+use Rattle.nio_deadline.proofs.PendingLemmas.{Stays, as-chan, next-as, pending-closed, pending-completed, none-pending}
 use Rattle.nio_deadline.proofs.QueueLemmas.{Keeps}
+use Rattle.nio_group.proofs.GroupLemmas.{pending-within}
+use Rattle.std.proofs.Math.Bool.{and-false}
+use Rattle.nio_group.proofs.RunLemmas.{lawful-after}
 
 -- ---- deadlines of pending operations
 
@@ -50,7 +49,7 @@ pub all-stay : (g g' : Group) (ds : List Deadline) → Stays g.flight g'.flight 
 all-stay g g' ds stays pending =
     filter-all (λ d. is_pending (op_at g'.flight d.op)) ds
     (pending-so g (λ d. is_pending (op_at g'.flight d.op) ≡ true) ds
-    (λ d p limited. stays d.op (as-pending d.chan d.kind (op_at g.flight d.op) p)) pending)
+    (λ d p limited. stays d.op (pending-as-pending d.chan d.kind (op_at g.flight d.op) p)) pending)
 
 pub still-pending : (g g' : Group) (ds : List Deadline) → IsStepped g.flight g'.flight → ArePending g ds
     → ArePending g' (filter (λ d. is_pending (op_at g'.flight d.op)) ds)
@@ -59,14 +58,14 @@ still-pending g g' (d ∷ ds) step pending =
     let rest = still-pending g g' ds step pending.2 in
     by_test (is_pending (op_at g'.flight d.op))
     (λ t.
-    let next = step.next d.op (as-some g.flight d.chan d.op d.kind pending.0) in
+    let next = step.next d.op (pending-within g.flight.operations d.chan d.kind d.op pending.0) in
     rw t (next-as d.chan d.kind (op_at g.flight d.op) (op_at g'.flight d.op) next pending.0 t, pending.1, rest))
     (λ e. rw e rest)
 
 pub above-all : (g : Group) (ds : List Deadline) → ArePending g ds → IsAboveAll (accepted g.flight) ds
 above-all g [] pending = tt
 above-all g (d ∷ ds) pending =
-    (as-some g.flight d.chan d.op d.kind pending.0, above-all g ds pending.2)
+    (pending-within g.flight.operations d.chan d.kind d.op pending.0, above-all g ds pending.2)
 
 -- ---- parts of a queue
 
@@ -97,17 +96,23 @@ lawful-with_group t g lawful next step keeps =
       each_channel = lawful.each_channel ∙ sym keeps.channels;
     }
 
-pub kept-with_group : (t : Timed) (g : Group) (len room : ℕ) → IsTimedKept t len room → group.IsLawful g
-    → IsStepped t.group.flight g.flight → Keeps t.group g → IsTimedKept (with_group t g) len room
-kept-with_group t g len room kept next step keeps =
+-- a call of the group's was made, and the deadlines of what is still pending are left
+pub kept-call : (t : Timed) (call : run.Call) (ds : List Deadline) (len room : ℕ) → IsTimedKept t len room
+    → run.IsCallOf t.group call → Keeps t.group (run.after t.group call)
+    → ds ≡ filter (λ d. is_pending (op_at (run.after t.group call).flight d.op)) t.deadlines
+    → IsTimedKept (timed_of (run.after t.group call) ds t.timed_out t.kinds) len room
+kept-call t call ds len room kept made keeps same =
+    let g = run.after t.group call in
     let fewer = filter-fewer (λ d. is_pending (op_at g.flight d.op)) t.deadlines in
     let had = kept.has_room in
-    record {
-      lawful = lawful-with_group t g kept.lawful next step keeps;
+    rw same
+    (record {
+      lawful = lawful-with_group t g kept.lawful (lawful-after t.group call kept.lawful.group made)
+          (stepped-after t.group call kept.lawful.group) keeps;
       counted = kept.counted;
       has_room = omega (arith, fewer, had);
       few_in_flight = rw keeps.flight kept.few_in_flight;
-    }
+    })
 
 -- ---- how many deadlines there are
 
@@ -115,7 +120,7 @@ some-as : (f : Flight) (c n : ℕ) (kind : OpKind) → IsPendingAs f c kind n �
 some-as f c n kind h = by_slot (op_at f n) refl
   where
     by_slot : (slot : Option Operation) → op_at f n ≡ slot → is_some slot ≡ true
-    by_slot None is = absurd (false≢true (sym (ap is_pending is) ∙ as-pending c kind (op_at f n) h))
+    by_slot None is = absurd (false≢true (sym (ap is_pending is) ∙ pending-as-pending c kind (op_at f n) h))
     by_slot (Some op) is = refl
 
 abbrev AreSome : List (Option Operation) → List Deadline → Type 0
@@ -180,29 +185,39 @@ refused-keeps r x (Err e) t new is after same =
     (after ∙ when-refused (λ (h : Group). h ≡ t.group) r e t.group new (err-refused r x e is) refl)
     ∙ same
 
-pub on-err : {T E P : Type 0} (answer : Result T E) → P → OnErr answer P
-on-err (Ok y) holds = tt
-on-err (Err e) holds = holds
+-- a report that isn't refused completes its operation
+pub record IsReported (g : Group) (n : ℕ) (o : Outcome) : Type 0 where
+  pub op : Operation
+  pub is : op_at g.flight n ≡ Some op
+  pub left : (after_report g n o).flight ≡ with_completed g.flight n (result_of g o)
+
+pub reported-flight : (g : Group) (n : ℕ) (o : Outcome) → report_refusal (op_at g.flight n) o ≡ None → IsReported g n o
+reported-flight g n o free =
+    let made = by_slot (op_at g.flight n) refl free in record { op = made.0; is = made.1; left = made.2 }
+  where
+    by_slot : (slot : Option Operation) → op_at g.flight n ≡ slot → report_refusal slot o ≡ None
+        → (op : Operation) × (op_at g.flight n ≡ Some op)
+        × ((kept_if_refused (report_refusal slot o) g (reported g n o slot)).flight
+        ≡ with_completed g.flight n (result_of g o))
+    by_slot None is refused = cc
+    by_slot (Some op) is open_for = (
+      op,
+      is,
+      when-free (λ (h : Group). h.flight ≡ with_completed g.flight n (result_of g o)) (report_refusal (Some op) o) g
+          (reported g n o (Some op)) open_for refl,
+    )
 
 pub reported-deadlines : (g : Group) (n : ℕ) (o : Outcome) (ds : List Deadline)
     → report_refusal (op_at g.flight n) o ≡ None → ArePending g ds
     → without n ds ≡ filter (λ d. is_pending (op_at (after_report g n o).flight d.op)) ds
-reported-deadlines g n o ds free pending = by_slot (op_at g.flight n) refl free
-  where
-    by_slot : (slot : Option Operation) → op_at g.flight n ≡ slot → report_refusal slot o ≡ None
-        → without n ds
-        ≡ filter (λ d. is_pending (op_at (kept_if_refused (report_refusal slot o) g
-        (reported g n o slot)).flight d.op)) ds
-    by_slot None is refused = cc
-    by_slot (Some op) is open_for =
-        when-free (λ (h : Group). without n ds ≡ filter (λ d. is_pending (op_at h.flight d.op)) ds)
-        (report_refusal (Some op) o) g (reported g n o (Some op)) open_for
-        (filter-same (λ d. not (eqb d.op n))
-        (λ d. is_pending (op_at (with_completed g.flight n (result_of g o)) d.op)) ds
-        (pending-so g
-        (λ d. not (eqb d.op n) ≡ is_pending (op_at (with_completed g.flight n (result_of g o)) d.op)) ds
-        (λ d p limited. sym (pending-completed g.flight n op (result_of g o) is d.op
-        (as-pending d.chan d.kind (op_at g.flight d.op) p))) pending))
+reported-deadlines g n o ds free pending =
+    let made = reported-flight g n o free in
+    filter-same (λ d. not (eqb d.op n)) (λ d. is_pending (op_at (after_report g n o).flight d.op)) ds
+    (pending-so g (λ d. not (eqb d.op n) ≡ is_pending (op_at (after_report g n o).flight d.op)) ds
+    (λ d p limited. sym
+    (ap (λ (f : Flight). is_pending (op_at f d.op)) made.left
+    ∙ pending-completed g.flight n made.op (result_of g o) made.is d.op
+    (pending-as-pending d.chan d.kind (op_at g.flight d.op) p))) pending)
 
 -- ---- `close_channel`
 
@@ -238,14 +253,10 @@ job-spares g c kind d (Some job) at pending other =
     by_test (eqb d.op job.op.0)
     (λ t.
     let here : IsPendingAs g.flight c kind d.op =
-    subst (λ (k : ℕ). IsPendingAs g.flight c kind k) (sym (same_number d.op job.op.0 t))
+    subst (λ (k : ℕ). IsPendingAs g.flight c kind k) (sym (eqb-true d.op job.op.0 t))
     (job-pending g c kind job at.some) in
-    absurd (other_number d.chan c other (as-chan d.chan c d.kind kind (op_at g.flight d.op) pending here).0))
+    absurd (eqb-false d.chan c other (as-chan d.chan c d.kind kind (op_at g.flight d.op) pending here).0))
     (λ e. rw e refl)
-
-and-false : (b : Bool) → (b && false) ≡ false
-and-false true = refl
-and-false false = refl
 
 pub closed-deadlines : (g : Group) (c : ℕ) (ds : List Deadline) (r w : Option JobFields) → group.IsLawful g
     → ArePending g ds → IsJobAt g c Read r → IsJobAt g c Write w
@@ -272,7 +283,7 @@ closed-deadlines g c ds r w lawful pending reads writes =
         by_test (eqb d.chan c)
         (λ t.
         let here : IsPendingAs g.flight c d.kind d.op =
-        subst (λ (k : ℕ). IsPendingAs g.flight k d.kind d.op) (same_number d.chan c t) p in
+        subst (λ (k : ℕ). IsPendingAs g.flight k d.kind d.op) (eqb-true d.chan c t) p in
         by_kind d d.kind refl limited here
         ∙ sym (pending-closed g c d.chan d.op d.kind lawful p ∙ ap not t))
         (λ e.

@@ -1,12 +1,10 @@
 -- Over every list of calls an operation completes with `InterruptedByTimeout` exactly where it was due.
-use Rattle.std.proofs.Common.{◌≡◌, ◌≢◌, ◌⊎◌, ◌↔◌, inl, inr, ℕ, ◌<◌, ◌≤◌, ◌+◌, Bool, true, false, cond, not, ◌&&◌}
-use Rattle.std.proofs.Common.{◌||◌}
-use Rattle.std.proofs.Common.{eqb, leb, ltb, List, [], ◌∷◌, ◌++◌, Option, Some, None, refl, sym, ap, ◌∙◌, subst}
-use Rattle.std.proofs.Common.{arith}
-use Rattle.std.proofs.Common.{drop, count_by, get_or-set_other}
+use Rattle.std.proofs.Common.{◌≡◌, ◌≢◌, ◌⊎◌, ◌↔◌, inl, inr, ℕ, ◌<◌, ◌≤◌, ◌+◌, Bool, true, false, cond, not, ◌&&◌, ◌||◌}
+use Rattle.std.proofs.Common.{eqb, leb, List, [], ◌∷◌, ◌++◌, Option, Some, None, refl, sym, ap, ◌∙◌, subst, arith, drop}
+use Rattle.std.proofs.Common.{count_by, get_or-set_other}
 use Rattle.std.specs.List.{list_any}
 use Rattle.std.specs.Option.{option_map}
-use Rattle.std.proofs.lemmas.Bool.{false≢true, cases_lt}
+use Rattle.std.proofs.lemmas.Bool.{false≢true, cases_lt, eqb-true, eqb-false, le-leb}
 use Rattle.std.proofs.lemmas.List.{get_or_past, length-set}
 use Rattle.nio_base.specs.declared.numbers.GChan.{GChan}
 use Rattle.nio_base.specs.declared.numbers.OpNo.{OpNo}
@@ -18,57 +16,40 @@ use Rattle.nio_group.specs.declared.operation.Operation.{Operation}
 use Rattle.nio_group.specs.declared.operation.Stage.{Stage}
 use Rattle.nio_group.specs.declared.operation.Stage.TheVariants.{Pending, Queued, Running}
 use Rattle.nio_group.specs.Completion.{CompletionFields}
-use Rattle.nio_group.specs.Flight.{Flight, op_at, accepted, flight_after_take, IsPendingAs}
+use Rattle.nio_group.specs.Flight.{Flight, op_at, accepted, flight_after_take}
 use Rattle.nio_group.specs.Group.{Group}
 use Rattle.nio_group.specs.Refusals.{report_refusal}
 use Rattle.nio_group.specs.Run as run
 use Rattle.nio_group.specs.Run.{IsNext, GoesOn, has_completed, once_where}
-use Rattle.nio_group.specs.Stages.{is_pending, is_queued, stage_is_pending, stage_is_queued}
+use Rattle.nio_group.specs.Stages.{is_pending, is_queued, stage_is_pending}
 use Rattle.nio_group.specs.Steps as group_steps
-use Rattle.nio_group.specs.Steps.{after_report, reported, kept_if_refused, answer_to_take}
-use Rattle.nio_group.proofs.ListLemmas.{eqb-same}
-use Rattle.nio_group.proofs.PendingLemmas.{and-left, and-right}
+use Rattle.nio_group.specs.Steps.{after_report, answer_to_take}
+use Rattle.nio_group.proofs.ListLemmas.{eqb-same, within-where}
 use Rattle.nio_group.proofs.QueueLemmas.{QueueHolds, front-queued}
-use Rattle.nio_group.proofs.RestLemmas.{at-rest}
-use Rattle.nio_group.proofs.StageLemmas.{IsStepped, stepped-after, next-not_pending, not-true, true-not, both}
-use Rattle.nio_group.proofs.StageLemmas.{lt-true}
-use Rattle.nio_group.proofs.StageLemmas.{true-lt}
-use Rattle.nio_group.proofs.TableLemmas.{by_test, same_number, other_number}
+use Rattle.nio_group.proofs.RestLemmas.{at-rest, step-count, none-completed, completed-stays}
+use Rattle.nio_group.proofs.StageLemmas.{IsStepped, stepped-after, next-not_pending, stepped-same}
+use Rattle.nio_group.proofs.TableLemmas.{by_test}
 use Rattle.nio_deadline.specs.Deadlines.{Deadline, due}
 use Rattle.nio_deadline.specs.Kept.{timed_of}
-use Rattle.nio_deadline.specs.Run.{Call, open_channel, bind, start_timed, report, expire, take, finish, close_channel}
-use Rattle.nio_deadline.specs.Run.{shutdown, shutdown_now, IsRunOf, after, left_by, is_due, is_due_at, was_due}
-use Rattle.nio_deadline.specs.Run.{TimesOutExactly, completions, CompletesOnce, LosesNone}
+use Rattle.nio_deadline.specs.Run.{Call, take, IsRunOf, after, left_by, is_due, is_due_at, was_due, TimesOutExactly}
+use Rattle.nio_deadline.specs.Run.{completions, CompletesOnce, LosesNone, IsCallOf}
 use Rattle.nio_deadline.specs.Steps.{after_start, after_expire, after_take, with_timeout, started, is_among}
 use Rattle.nio_deadline.specs.Steps.{without_number, done_of}
-use Rattle.nio_deadline.specs.Timed.{Timed, IsLawful, ArePending, with_group, own_refusal, empty_timed}
+use Rattle.nio_deadline.specs.Timed.{Timed, IsLawful, with_group, own_refusal, empty_timed}
 use Rattle.nio_deadline.specs.declared.done.TimedDone.{TimedDone}
 use Rattle.nio_deadline.specs.declared.done.TimedResult.{TimedResult}
 use Rattle.nio_deadline.specs.declared.done.TimedResult.TheVariants.{Core, InterruptedByTimeout}
-use Rattle.nio_deadline.proofs.DeadlineLemmas.{le-true}
-use Rattle.nio_deadline.proofs.ExpireLemmas.{fault-free, timeout-deadlines}
-use Rattle.nio_deadline.proofs.PendingLemmas.{as-pending, as-some, pending-completed, stays-take}
-use Rattle.nio_deadline.proofs.RunLemmas.{expire-by, kept-or, lawful-step, lawful-left, lawful-empty_timed}
+use Rattle.nio_deadline.proofs.ExpireLemmas.{fault-free, timeout-deadlines, first-pending}
+use Rattle.nio_deadline.proofs.PendingLemmas.{pending-completed, stays-take}
+use Rattle.nio_deadline.proofs.RunLemmas.{expire-by, kept-or, lawful-step, lawful-left, lawful-empty_timed, by-call}
 use Rattle.nio_deadline.proofs.TakeLemmas.{front-is, left-queue, nothing-same, part-among, taken-nothing, taken-one}
-use Rattle.nio_deadline.proofs.TimedLemmas.{when-free}
+use Rattle.nio_deadline.proofs.TimedLemmas.{reported-flight}
+use Rattle.nio_group.proofs.PendingLemmas.{pending-as-pending}
+use Rattle.nio_group.proofs.GroupLemmas.{pending-within}
+use Rattle.std.proofs.Math.Bool.{or-false, or-true, or_assoc, and-false}
+use Rattle.nio_group.proofs.FlightLemmas.{not_queued-pending}
 
 -- ---- tests
-
-or-false : (b : Bool) → (b || false) ≡ b
-or-false true = refl
-or-false false = refl
-
-or-true : (b : Bool) → (b || true) ≡ true
-or-true true = refl
-or-true false = refl
-
-or-assoc : (a b c : Bool) → ((a || b) || c) ≡ (a || (b || c))
-or-assoc true b c = refl
-or-assoc false b c = refl
-
-and-false : (b : Bool) → (b && false) ≡ false
-and-false true = refl
-and-false false = refl
 
 -- ---- what is known of an operation in a run, where it was due or not
 
@@ -79,12 +60,7 @@ record Tells (n : ℕ) (late : Bool) (t : Timed) : Type 0 where
 
 pending-idle : (slot : Option Operation) → is_pending slot ≡ true → is_queued slot ≡ false
 pending-idle None p = refl
-pending-idle (Some op) p = by_stage op.stage refl p
-  where
-    by_stage : (stage : Stage) → op.stage ≡ stage → stage_is_pending stage ≡ true → stage_is_queued stage ≡ false
-    by_stage Pending is q = refl
-    by_stage (Queued r) is q = absurd (false≢true q)
-    by_stage Running is q = absurd (false≢true q)
+pending-idle (Some op) p = not_queued-pending op p
 
 next-pending : (slot next : Option Operation) → IsNext slot next → is_pending next ≡ true → is_pending slot ≡ true
 next-pending slot next is p =
@@ -139,42 +115,25 @@ tells-stepped t t' n late lawful step same tells =
 among-push : (n m : ℕ) (ms : List ℕ) → is_among n (ms ++ m ∷ []) ≡ (is_among n ms || eqb m n)
 among-push n m [] = or-false (eqb m n)
 among-push n m (k ∷ ms) =
-    ap (λ b. eqb k n || b) (among-push n m ms) ∙ sym (or-assoc (eqb k n) (is_among n ms) (eqb m n))
+    ap (λ b. eqb k n || b) (among-push n m ms) ∙ sym (or_assoc (eqb k n) (is_among n ms) (eqb m n))
 
 timeout-stepped : (t : Timed) (d : Deadline) → IsLawful t → IsStepped t.group.flight (with_timeout t d).group.flight
 timeout-stepped t d lawful = stepped-after t.group (run.report (record { 0 = d.op }) Fault) lawful.group
 
-first-pending : (t : Timed) (d : Deadline) (ds : List Deadline) → IsLawful t → t.deadlines ≡ d ∷ ds
-    → IsPendingAs t.group.flight d.chan d.kind d.op
-first-pending t d ds lawful is =
-    let pending : ArePending t.group (d ∷ ds) = subst (λ (es : List Deadline). ArePending t.group es) is
-    lawful.pending in
-    pending.0
-
 -- the operation that times out isn't pending any more, and the others are as they were
 reported-here : (g : Group) (n : ℕ) → report_refusal (op_at g.flight n) Fault ≡ None
     → is_pending (op_at g.flight n) ≡ true → is_pending (op_at (after_report g n Fault).flight n) ≡ false
-reported-here g n free p = by_slot (op_at g.flight n) refl free
-  where
-    by_slot : (slot : Option Operation) → op_at g.flight n ≡ slot → report_refusal slot Fault ≡ None
-        → is_pending (op_at (kept_if_refused (report_refusal slot Fault) g (reported g n Fault slot)).flight n)
-        ≡ false
-    by_slot None is refused = cc
-    by_slot (Some op) is free_for =
-        when-free (λ (h : Group). is_pending (op_at h.flight n) ≡ false) (report_refusal (Some op) Fault) g
-        (reported g n Fault (Some op)) free_for
-        (pending-completed g.flight n op (group_steps.result_of g Fault) is n p ∙ ap not (eqb-same n))
+reported-here g n free p =
+    let made = reported-flight g n Fault free in
+    ap (λ (f : Flight). is_pending (op_at f n)) made.left
+    ∙ pending-completed g.flight n made.op (group_steps.result_of g Fault) made.is n p
+    ∙ ap not (eqb-same n)
 
 reported-others : (g : Group) (n m : ℕ) → report_refusal (op_at g.flight n) Fault ≡ None → m ≢ n
     → op_at (after_report g n Fault).flight m ≡ op_at g.flight m
-reported-others g n m free other = by_slot (op_at g.flight n) refl free
-  where
-    by_slot : (slot : Option Operation) → op_at g.flight n ≡ slot → report_refusal slot Fault ≡ None
-        → op_at (kept_if_refused (report_refusal slot Fault) g (reported g n Fault slot)).flight m ≡ op_at g.flight m
-    by_slot None is refused = cc
-    by_slot (Some op) is free_for =
-        when-free (λ (h : Group). op_at h.flight m ≡ op_at g.flight m) (report_refusal (Some op) Fault) g
-        (reported g n Fault (Some op)) free_for (get_or-set_other g.flight.operations n m _ None other)
+reported-others g n m free other =
+    ap (λ (f : Flight). op_at f m) (reported-flight g n Fault free).left
+    ∙ get_or-set_other g.flight.operations n m _ None other
 
 tells-timeout : (t : Timed) (d : Deadline) (ds : List Deadline) (n : ℕ) (late : Bool) → IsLawful t
     → t.deadlines ≡ d ∷ ds → Tells n late t → Tells n (late || eqb d.op n) (with_timeout t d)
@@ -184,11 +143,11 @@ tells-timeout t d ds n late lawful is tells =
     let step = timeout-stepped t d lawful in
     by_test (eqb d.op n)
     (λ u.
-    let same = same_number d.op n u in
-    let gone = reported-here t.group d.op free (as-pending d.chan d.kind (op_at t.group.flight d.op) pending) in
+    let same = eqb-true d.op n u in
+    let gone = reported-here t.group d.op free (pending-as-pending d.chan d.kind (op_at t.group.flight d.op) pending) in
     let gone_n : is_pending (op_at (with_timeout t d).group.flight n) ≡ false =
     subst (λ (k : ℕ). is_pending (op_at (with_timeout t d).group.flight k) ≡ false) same gone in
-    let within = as-some t.group.flight d.chan d.op d.kind pending in
+    let within = pending-within t.group.flight.operations d.chan d.kind d.op pending in
     let more = step.accepts in
     record {
       pending = λ p. absurd (false≢true (sym gone_n ∙ p));
@@ -215,14 +174,14 @@ due-first t now n d ds lawful is come =
     by_test (eqb d.op n)
     (λ u.
     let here : is_pending (op_at t.group.flight n) ≡ true =
-    subst (λ (k : ℕ). is_pending (op_at t.group.flight k) ≡ true) (same_number d.op n u)
-    (as-pending d.chan d.kind (op_at t.group.flight d.op) pending) in
+    subst (λ (k : ℕ). is_pending (op_at t.group.flight k) ≡ true) (eqb-true d.op n u)
+    (pending-as-pending d.chan d.kind (op_at t.group.flight d.op) pending) in
     let listed : list_any (comes_by now n) t.deadlines ≡ true =
-    ap (λ (es : List Deadline). list_any (comes_by now n) es) is ∙ rw (u, le-true d.at now come) refl in
+    ap (λ (es : List Deadline). list_any (comes_by now n) es) is ∙ rw (u, le-leb d.at now come) refl in
     ap (λ b. b && list_any (comes_by now n) t.deadlines) here ∙ listed
     ∙ sym (ap (λ b. b || is_due (with_timeout t d) now n) u))
     (λ f.
-    let slot = reported-others t.group d.op n free (λ same. other_number d.op n f (sym same)) in
+    let slot = reported-others t.group d.op n free (λ same. eqb-false d.op n f (sym same)) in
     let listed : list_any (comes_by now n) t.deadlines ≡ list_any (comes_by now n) (with_timeout t d).deadlines =
     ap (λ (es : List Deadline). list_any (comes_by now n) es) is ∙ rw f refl
     ∙ ap (λ (es : List Deadline). list_any (comes_by now n) es) (sym left) in
@@ -246,7 +205,7 @@ tells-expire t now n late lawful tells =
     (λ x d ds lawful' is come h. (
       h.0 || eqb d.op n,
       tells-timeout x d ds n h.0 lawful' is h.1,
-      or-assoc h.0 (eqb d.op n) (is_due (with_timeout x d) now n)
+      or_assoc h.0 (eqb d.op n) (is_due (with_timeout x d) now n)
           ∙ ap (λ b. h.0 || b) (sym (due-first x now n d ds lawful' is come)) ∙ h.2,
     ))
     t.deadlines t refl lawful (late, tells, refl) in
@@ -269,7 +228,7 @@ among-without n x (m ∷ ms) other =
     (λ u.
     let apart : eqb m n ≡ false =
     by_test (eqb m n)
-    (λ v. absurd (other_number n x other (sym (same_number m n v) ∙ same_number m x u)))
+    (λ v. absurd (eqb-false n x other (sym (eqb-true m n v) ∙ eqb-true m x u)))
     (λ f. f) in
     rw u (rest ∙ sym (ap (λ b. b || is_among n ms) apart)))
     (λ f. rw f (ap (λ b. eqb m n || b) rest))
@@ -277,10 +236,6 @@ among-without n x (m ∷ ms) other =
 left-accepted : (f : Flight) (queue : List ℕ) → accepted (flight_after_take f queue) ≡ accepted f
 left-accepted f [] = refl
 left-accepted f (n ∷ rest) = length-set f.operations n _
-
-within-queued : (f : Flight) (n : ℕ) → is_queued (op_at f n) ≡ true → n < accepted f
-within-queued f n q =
-    elim (cases_lt n (accepted f)) [ inl l ↦ l | inr past ↦ absurd (false≢true (sym (past-idle f n past) ∙ q)) ]
 
 tells-one : (t : Timed) (x : CompletionFields) (n : ℕ) (late : Bool) → IsLawful t → answer_to_take t.group ≡ Some x
     → Tells n late t
@@ -305,13 +260,13 @@ tells-one t x n late lawful some tells =
           left-queue t.group.flight t.group.flight.queue refl ∙ ap (λ (ns : List ℕ). drop 1 ns) front.is in
           let counts = rw q at (next.group.queued_once n) in
           let none : count_by (λ m. eqb m n) front.rest ≡ 0 =
-          subst (λ (k : ℕ). count_by (λ m. eqb m k) front.rest ≡ 0) (sym (same_number n x.op.0 u)) front.once in
+          subst (λ (k : ℕ). count_by (λ m. eqb m k) front.rest ≡ 0) (sym (eqb-true n x.op.0 u)) front.once in
           let some' : count_by (λ m. eqb m n) front.rest ≡ 1 =
           ap (λ (ns : List ℕ). count_by (λ m. eqb m n) ns) (sym queue) ∙ counts in
           absurd (let never : ⊥ = omega (arith, none, some') in never))
           (λ f.
           let l : n < accepted t.group.flight =
-          let past = within-queued g.flight n q in omega (arith, past, same) in
+          let past = within-where is_queued g.flight.operations n None refl q in omega (arith, past, same) in
           among-without n x.op.0 t.timed_out f
           ∙ elim (next-queued (op_at t.group.flight n) (op_at g.flight n) (step.next n l) q) [
             | inl was ↦ tells.queued was
@@ -338,18 +293,6 @@ record Starts (t x : Timed) : Type 0 where
   stepped : IsStepped t.group.flight x.group.flight
   same : x.timed_out ≡ t.timed_out
 
-stepped-same : (f : Flight) → IsStepped f f
-stepped-same f =
-    record {
-      accepts = omega arith;
-      next = λ n l. next-same (op_at f n);
-      begun = λ n from l. absurd (let never : ⊥ = omega arith in never);
-    }
-  where
-    next-same : (slot : Option Operation) → IsNext slot slot
-    next-same None = refl
-    next-same (Some op) = inl refl
-
 starts : (t : Timed) (chan : GChan) (kind : OpKind) (len now limit : ℕ) → IsLawful t
     → Starts t (after_start t chan kind len now limit)
 starts t chan kind len now limit lawful =
@@ -373,37 +316,25 @@ tells-plain t t' n late lawful starts' tells =
     subst (λ (b : Bool). Tells n b t') (sym (or-false late))
     (tells-stepped t t' n late lawful starts'.stepped (ap (λ (ms : List ℕ). is_among n ms) starts'.same) tells)
 
-by-group : (t : Timed) (call : run.Call) → IsLawful t → Starts t (with_group t (run.after t.group call))
-by-group t call lawful = record { stepped = stepped-after t.group call lawful.group; same = refl }
-
-tells-step : (t : Timed) (call : Call) (n : ℕ) (late : Bool) → IsLawful t → Tells n late t
+tells-step : (t : Timed) (call : Call) (n : ℕ) (late : Bool) → IsLawful t → IsCallOf t call → Tells n late t
     → Tells n (late || is_due_at n t call) (after t call)
-tells-step t (open_channel kind) n late lawful tells =
-    tells-plain t _ n late lawful (by-group t (run.open_channel kind) lawful) tells
-tells-step t (bind chan) n late lawful tells = tells-plain t _ n late lawful (by-group t (run.bind chan) lawful) tells
-tells-step t (start_timed chan kind len now limit) n late lawful tells =
-    tells-plain t _ n late lawful (starts t chan kind len now limit lawful) tells
-tells-step t (report op outcome) n late lawful tells =
-    tells-plain t _ n late lawful (by-group t (run.report op outcome) lawful) tells
-tells-step t (expire now) n late lawful tells = tells-expire t now n late lawful tells
-tells-step t take n late lawful tells =
-    subst (λ (b : Bool). Tells n b (after_take t)) (sym (or-false late)) (tells-take t n late lawful tells)
-tells-step t (finish op) n late lawful tells =
-    tells-plain t _ n late lawful (by-group t (run.finish op) lawful) tells
-tells-step t (close_channel chan) n late lawful tells =
-    tells-plain t _ n late lawful (by-group t (run.close_channel chan) lawful) tells
-tells-step t shutdown n late lawful tells = tells-plain t _ n late lawful (by-group t run.shutdown lawful) tells
-tells-step t shutdown_now n late lawful tells =
-    tells-plain t _ n late lawful (by-group t run.shutdown_now lawful) tells
+tells-step t call n late lawful made tells =
+    by-call t (λ c x. Tells n (late || is_due_at n t c) x)
+    (λ c core of keeps none. rw (none n)
+    (tells-plain t (with_group t (run.after t.group core)) n late lawful
+    (record { stepped = stepped-after t.group core lawful.group; same = refl }) tells))
+    (λ chan kind len now limit within. tells-plain t _ n late lawful (starts t chan kind len now limit lawful) tells)
+    (λ now. tells-expire t now n late lawful tells)
+    (subst (λ (b : Bool). Tells n b (after_take t)) (sym (or-false late)) (tells-take t n late lawful tells)) call made
 
 tells-run : (t : Timed) (calls : List Call) (n : ℕ) (late : Bool) → IsLawful t → IsRunOf t calls → Tells n late t
     → Tells n (late || was_due n t calls) (left_by t calls)
 tells-run t [] n late lawful is tells = subst (λ (b : Bool). Tells n b t) (sym (or-false late)) tells
 tells-run t (call ∷ calls) n late lawful is tells =
     subst (λ (b : Bool). Tells n b (left_by (after t call) calls))
-    (or-assoc late (is_due_at n t call) (was_due n (after t call) calls))
+    (or_assoc late (is_due_at n t call) (was_due n (after t call) calls))
     (tells-run (after t call) calls n (late || is_due_at n t call) (lawful-step t call lawful is.0) is.1
-    (tells-step t call n late lawful tells))
+    (tells-step t call n late lawful is.0 tells))
 
 tells-empty : (limits : GroupLimits) (n : ℕ) → Tells n false (empty_timed limits)
 tells-empty limits n =
@@ -450,57 +381,21 @@ times-out-exactly limits calls done is answer =
 
 -- ---- completions
 
-completed-stepped : (g g' : Group) (n : ℕ) → IsStepped g.flight g'.flight → has_completed g n ≡ true
-    → has_completed g' n ≡ true
-completed-stepped g g' n step is =
-    let more = step.accepts in
-    let within : n < accepted g.flight = true-lt n (accepted g.flight)
-    (and-left (ltb n (accepted g.flight)) (not (is_pending (op_at g.flight n))) is) in
-    let past = not-true (is_pending (op_at g.flight n))
-    (and-right (ltb n (accepted g.flight)) (not (is_pending (op_at g.flight n))) is) in
-    both (ltb n (accepted g'.flight)) (not (is_pending (op_at g'.flight n)))
-    (lt-true n (accepted g'.flight) (omega arith))
-    (true-not (is_pending (op_at g'.flight n))
-    (next-not_pending (op_at g.flight n) (op_at g'.flight n) (step.next n within) past))
-
-completed-step : (t : Timed) (call : Call) (n : ℕ) → IsLawful t → has_completed t.group n ≡ true
+completed-step : (t : Timed) (call : Call) (n : ℕ) → IsLawful t → IsCallOf t call → has_completed t.group n ≡ true
     → has_completed (after t call).group n ≡ true
-completed-step t (open_channel kind) n lawful is =
-    completed-stepped t.group (run.after t.group (run.open_channel kind)) n (stepped-after t.group
-    (run.open_channel kind) lawful.group) is
-completed-step t (bind chan) n lawful is =
-    completed-stepped t.group (run.after t.group (run.bind chan)) n (stepped-after t.group
-    (run.bind chan) lawful.group) is
-completed-step t (start_timed chan kind len now limit) n lawful is =
-    completed-stepped t.group (after_start t chan kind len now limit).group n
-    (starts t chan kind len now limit lawful).stepped is
-completed-step t (report op outcome) n lawful is =
-    completed-stepped t.group (run.after t.group (run.report op outcome)) n (stepped-after t.group
-    (run.report op outcome) lawful.group) is
-completed-step t (expire now) n lawful is =
+completed-step t call n lawful made is =
+    by-call t (λ c x. has_completed x.group n ≡ true)
+    (λ c core of keeps none. completed-stays t.group (run.after t.group core) n
+    (stepped-after t.group core lawful.group) is)
+    (λ chan kind len now limit within. completed-stays t.group (after_start t chan kind len now limit).group n
+    (starts t chan kind len now limit lawful).stepped is)
+    (λ now.
     let all = expire-by (λ x. has_completed x.group n ≡ true) now
     (λ x d ds lawful' first come h.
-    completed-stepped x.group (with_timeout x d).group n (timeout-stepped x d lawful') h)
+    completed-stays x.group (with_timeout x d).group n (timeout-stepped x d lawful') h)
     t.deadlines t refl lawful is in
-    subst (λ (x : Timed). has_completed x.group n ≡ true) all.1 all.3
-completed-step t take n lawful is =
-    completed-stepped t.group (run.after t.group run.take) n (stepped-after t.group run.take lawful.group) is
-completed-step t (finish op) n lawful is =
-    completed-stepped t.group (run.after t.group (run.finish op)) n (stepped-after t.group
-    (run.finish op) lawful.group) is
-completed-step t (close_channel chan) n lawful is =
-    completed-stepped t.group (run.after t.group (run.close_channel chan)) n (stepped-after t.group
-    (run.close_channel chan) lawful.group) is
-completed-step t shutdown n lawful is =
-    completed-stepped t.group (run.after t.group run.shutdown) n (stepped-after t.group run.shutdown lawful.group) is
-completed-step t shutdown_now n lawful is =
-    completed-stepped t.group (run.after t.group run.shutdown_now) n
-    (stepped-after t.group run.shutdown_now lawful.group) is
-
-step-count : (a b : Bool) → (a ≡ true → b ≡ true) → once_where (b && not a) + once_where a ≡ once_where b
-step-count true b h = rw (h refl) refl
-step-count false true h = refl
-step-count false false h = refl
+    subst (λ (x : Timed). has_completed x.group n ≡ true) all.1 all.3)
+    (completed-stays t.group (run.after t.group run.take) n (stepped-after t.group run.take lawful.group) is) call made
 
 counted : (n : ℕ) (t : Timed) (calls : List Call) → IsLawful t → IsRunOf t calls
     → completions n t calls + once_where (has_completed t.group n)
@@ -509,7 +404,7 @@ counted n t [] lawful is = omega arith
 counted n t (call ∷ calls) lawful is =
     let later = counted n (after t call) calls (lawful-step t call lawful is.0) is.1 in
     let here = step-count (has_completed t.group n) (has_completed (after t call).group n)
-    (completed-step t call n lawful) in
+    (completed-step t call n lawful is.0) in
     omega (arith, later, here)
 
 pub completes-once : CompletesOnce
@@ -518,9 +413,6 @@ completes-once limits calls n is =
     let before : once_where (has_completed (empty_timed limits).group n) ≡ 0 =
     ap once_where (none-completed n limits) in
     omega (arith, total, before)
-  where
-    none-completed : (k : ℕ) (l : GroupLimits) → has_completed (empty_timed l).group k ≡ false
-    none-completed k l = by_test (ltb k 0) (λ t. absurd (let below = true-lt k 0 t in omega arith)) (λ f. rw f refl)
 
 pub loses-none : LosesNone
 loses-none limits calls n is terminated within =

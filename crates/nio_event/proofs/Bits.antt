@@ -1,9 +1,8 @@
 -- The number of a set of bits: which bits it has.
-use Rattle.std.proofs.Common.{◌≡◌, ◌≢◌, ℕ, zero, suc, ◌<◌, ◌≤◌, ◌^◌, max, Bool, true, false, cond, if◌then◌else◌, refl}
-use Rattle.std.proofs.Common.{ap, ◌∙◌, subst, arith}
-use Rattle.std.specs.Prelude.{nat_lt}
+use Rattle.std.proofs.Common.{◌≡◌, ◌≢◌, ℕ, zero, suc, ◌<◌, ◌≤◌, ◌^◌, Bool, true, false, cond, if◌then◌else◌, inl, inr}
+use Rattle.std.proofs.Common.{◌∙◌, subst, arith}
 use Rattle.std.specs.Int.{bit_at}
-use Rattle.std.proofs.lemmas.Bool.{ltb-true, ltb-false}
+use Rattle.std.proofs.lemmas.Bool.{cases_lt}
 use Rattle.std.proofs.lemmas.Nat.Bits.{bit_at-zero, bit_at_or, bit_at-pow_same, bit_at-pow_other}
 use Rattle.nio_event.specs.Answers.{bits_below}
 
@@ -30,23 +29,18 @@ pub bits_below-at : (n : ℕ) (test : ℕ → Bool) (i : ℕ) → i < n → bit_
 unfolding bits_below
 bits_below-at zero test i below = absurd (omega arith)
 bits_below-at (suc n) test i below =
-    bit_at_or (bits_below n test) (cond (test n) (2 ^ n) 0) i ∙ by_test (nat_lt i n) refl (bits_below-at n test i)
-  where
-    by_test : (b : Bool) → nat_lt i n ≡ b → (i < n → bit_at (bits_below n test) i ≡ (if test i then 1 else 0))
-        → max (bit_at (bits_below n test) i) (bit_at (cond (test n) (2 ^ n) 0) i) ≡ (if test i then 1 else 0)
-    by_test true e earlier =
-        let lower : i < n = ltb-true i n e in
-        let rest : bit_at (bits_below n test) i ≡ (if test i then 1 else 0) = earlier lower in
-        let other : i ≢ n = omega arith in
-        let last : bit_at (cond (test n) (2 ^ n) 0) i ≡ 0 = one_bit-other (test n) n i other in
-        omega (arith, rest, last)
-    by_test false e earlier =
-        let not_lower : n ≤ i = ltb-false i n e in
-        let same : n ≡ i = omega arith in
-        let rest : bit_at (bits_below n test) i ≡ 0 = bits_below-above n test i not_lower in
-        let last : bit_at (cond (test n) (2 ^ n) 0) i ≡ (if test n then 1 else 0) = subst
-        (λ (k : ℕ). bit_at (cond (test n) (2 ^ n) 0) k ≡ (if test n then 1 else 0)) same
-        (one_bit-same (test n) n) in
-        let bit : ℕ → ℕ = λ k. if test k then 1 else 0 in
-        let tests = ap bit same in
-        omega (arith, rest, last, tests)
+    bit_at_or (bits_below n test) (cond (test n) (2 ^ n) 0) i
+    ∙ elim (cases_lt i n) [
+      | inl lower ↦
+          let rest : bit_at (bits_below n test) i ≡ (if test i then 1 else 0) = bits_below-at n test i lower in
+          let other : i ≢ n = omega arith in
+          let last : bit_at (cond (test n) (2 ^ n) 0) i ≡ 0 = one_bit-other (test n) n i other in
+          omega (arith, rest, last)
+      | inr upper ↦
+          let same : n ≡ i = omega arith in
+          let rest : bit_at (bits_below n test) i ≡ 0 = bits_below-above n test i upper in
+          let last : bit_at (cond (test n) (2 ^ n) 0) i ≡ (if test i then 1 else 0) = subst
+          (λ (k : ℕ). bit_at (cond (test n) (2 ^ n) 0) k ≡ (if test k then 1 else 0)) same
+          (one_bit-same (test n) n) in
+          omega (arith, rest, last)
+    ]

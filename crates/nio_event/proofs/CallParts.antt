@@ -35,7 +35,7 @@ use Rattle.nio_event.specs.declared.call_word.SelectorWord.{SelectorWord}
 use Rattle.nio_event.specs.declared.call_word.SelectorWord.TheVariants as on_selector
 use Rattle.nio_event.specs.declared.group_call.GroupCall.{GroupCall}
 use Rattle.nio_event.specs.declared.group_word.GroupWord.{GroupWord}
-use Rattle.nio_event.proofs.Readers.{reads_none}
+use Rattle.nio_event.proofs.Readers.{reads_none, reads_made}
 
 -- ---- from a word and arguments to the call
 
@@ -159,55 +159,41 @@ pub made_call : {A : Type 0} {Made : A → Call → Type 0} (w : CallWord) (shap
     → (words : List (List ℕ)) (o : Option A) (r : Option Call) → ReadsArguments shape words o
     → MatchOption o (r ≡ None) (λ x. IsSomeAnd r (Made x))
     → ((x : A) (c : Call) → Made x c → (call_word c ≡ w) × (arguments c ≡ shape x)) → ReadsCall w words r
-made_call w shape of_word words None None read cases says = record {
-  found = tt;
-  only = λ d fits e.
-      let own = of_word (arguments d) (subst (λ v. AreOf v (arguments d)) fits.1 (have_shape d)) in
-      absurd (none-some own.0 (read.only own.0 (subst ArgumentsFit own.1 fits.0) (e ∙ ap argument_words own.1)));
-}
-made_call w shape of_word words None (Some c) read cases says = absurd (none-some c (sym cases))
-made_call w shape of_word words (Some x) None read cases says = absurd cases
-made_call w shape of_word words (Some x) (Some c) read cases says =
-    let parts = says x c cases in
-    record {
-      found = (
-        (subst ArgumentsFit (sym parts.1) read.found.0, parts.0),
-        read.found.1 ∙ ap argument_words (sym parts.1),
-      );
-      only = λ d fits e.
-          let own = of_word (arguments d) (subst (λ v. AreOf v (arguments d)) fits.1 (have_shape d)) in
-          let same = same_Some x own.0
-          (read.only own.0 (subst ArgumentsFit own.1 fits.0) (e ∙ ap argument_words own.1)) in
-          ap Some (parts_one c d (parts.0 ∙ sym fits.1) (parts.1 ∙ (ap shape same ∙ sym own.1)));
-    }
+made_call w shape of_word words o r read cases says =
+    reads_made (λ c. IsCall c × (call_word c ≡ w)) (λ c. argument_words (arguments c)) o r read cases
+    (λ x c made fits.
+    let parts = says x c made in
+    ((subst ArgumentsFit (sym parts.1) fits, parts.0), ap argument_words (sym parts.1)))
+    (λ d fits.
+    let own = of_word (arguments d) (subst (λ v. AreOf v (arguments d)) fits.1 (have_shape d)) in (
+      own.0,
+      subst ArgumentsFit own.1 fits.0,
+      ap argument_words own.1,
+      λ c made.
+          let parts = says own.0 c made in
+          parts_one c d (parts.0 ∙ sym fits.1) (parts.1 ∙ sym own.1),
+    ))
 
 -- a call on the group that is read is the call with its word
 pub made_on_group : {Made : GroupCall → Call → Type 0} (w : GroupWord) (words : List (List ℕ)) (o : Option GroupCall)
     (r : Option Call) → ReadsGroupCall w words o → MatchOption o (r ≡ None) (λ g. IsSomeAnd r (Made g))
     → ((g : GroupCall) (c : Call) → Made g c → c ≡ call.Group g) → ReadsCall (word.OnGroup w) words r
-made_on_group w words None None read cases says = record {
-  found = tt;
-  only = λ d fits e.
-      let own = subst (λ v. AreOf v (arguments d)) fits.1 (have_shape d) in
-      absurd (none-some own.0 (read.only own.0 (subst ArgumentsFit own.1 fits.0, own.2) (e ∙ ap argument_words own.1)));
-}
-made_on_group w words None (Some c) read cases says = absurd (none-some c (sym cases))
-made_on_group w words (Some g) None read cases says = absurd cases
-made_on_group w words (Some g) (Some c) read cases says =
-    let is = says g c cases in
-    record {
-      found = (
-        (subst IsCall (sym is) read.found.0.0, ap call_word is ∙ ap word.OnGroup read.found.0.1),
-        read.found.1 ∙ ap (λ d. argument_words (arguments d)) (sym is),
-      );
-      only = λ d fits e.
-          let own = subst (λ v. AreOf v (arguments d)) fits.1 (have_shape d) in
-          let same = same_Some g own.0
-          (read.only own.0 (subst ArgumentsFit own.1 fits.0, own.2) (e ∙ ap argument_words own.1)) in
-          ap Some (is
-          ∙ (ap call.Group same
-          ∙ sym (parts_one d (call.Group own.0) (fits.1 ∙ ap word.OnGroup (sym own.2)) own.1)));
-    }
+made_on_group w words o r read cases says =
+    reads_made (λ c. IsCall c × (call_word c ≡ word.OnGroup w)) (λ c. argument_words (arguments c)) o r read cases
+    (λ g c made fits.
+    let is = says g c made in (
+      (subst IsCall (sym is) fits.0, ap call_word is ∙ ap word.OnGroup fits.1),
+      ap (λ d. argument_words (arguments d)) (sym is),
+    ))
+    (λ d fits.
+    let own = subst (λ v. AreOf v (arguments d)) fits.1 (have_shape d) in (
+      own.0,
+      (subst ArgumentsFit own.1 fits.0, own.2),
+      ap argument_words own.1,
+      λ c made.
+          says own.0 c made
+          ∙ sym (parts_one d (call.Group own.0) (fits.1 ∙ ap word.OnGroup (sym own.2)) own.1),
+    ))
 
 reads_call : (word : List ℕ) (w : CallWord) (args words : List (List ℕ)) (r : Option Call)
     → Reads (λ _. ⊤) call_word_text word (Some w) → words ≡ word ∷ args → ReadsCall w args r

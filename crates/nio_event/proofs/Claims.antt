@@ -3,7 +3,8 @@
 use Rattle.std.proofs.Common.{◌≡◌, ℕ, ◌==◌, Bool, true, false, ◌&&◌, ◌||◌, Option, Some, None, List, [], ◌∷◌, ◌++◌}
 use Rattle.std.proofs.Common.{if◌then◌else◌, refl, ap, sym, ◌∙◌, subst, eqb-true, eq-eqb}
 use Rattle.std.specs.Option.{option_or}
-use Rattle.std.proofs.lemmas.Bool.{and_from}
+use Rattle.std.proofs.Math.Bool.{or-true}
+use Rattle.std.proofs.lemmas.Bool.{and_from, and_right, false_from_ne_true}
 use Rattle.nio_base.specs.declared.limits.Limits.{Limits}
 use Rattle.nio_base.specs.declared.numbers.CallerNo.{CallerNo}
 use Rattle.nio_event.proofs.Legal.{legal_induction}
@@ -66,15 +67,9 @@ claim_told l n s i R told kept =
         by_change : (x : Option (Option OwnClaim)) → claim_changed s i e.act ≡ x → is_by n e ≡ true
             → claim_after x (own_claim s i (mine n past)) ≡ Some claim
             → (unpins s i e.act ≡ true → ⊥) → R claim (effect (state_after past) e.caller e.act)
-        by_change None changed by now' spared = kept past e claim legal step (not_both spared) (before claim now')
-          where
-            not_both : (unpins s i e.act ≡ true → ⊥) → (is_by n e && unpins s i e.act) ≡ false
-            not_both no_way = by_unpin (is_by n e) (unpins s i e.act) refl
-              where
-                by_unpin : (a b : Bool) → unpins s i e.act ≡ b → (a && b) ≡ false
-                by_unpin a true u = absurd (no_way u)
-                by_unpin true false u = refl
-                by_unpin false false u = refl
+        by_change None changed by now' spared =
+            kept past e claim legal step
+            (and_right (is_by n e) (unpins s i e.act) (false_from_ne_true (unpins s i e.act) spared)) (before claim now')
         by_change (Some x) changed by now' spared = told past e claim legal step by (changed ∙ ap Some now')
 
         by_test : (b : Bool) → is_by n e ≡ b → R claim (effect (state_after past) e.caller e.act)
@@ -120,11 +115,7 @@ now_pinned : (st : State) (me : CallerNo) (s' i' s i : ℕ) → ((s' == s) && (i
     → put_at st.pinned s' i' (put (st.pinned s' i') me.0 (st.pinned s' i' me.0 || true)) s i me.0 ≡ true
 now_pinned st me s' i' s i here =
     ap (λ g. g me.0) (put_at-there st.pinned s' i' (put (st.pinned s' i') me.0 (st.pinned s' i' me.0 || true)) s i here)
-    ∙ (put-same (st.pinned s' i') me.0 (st.pinned s' i' me.0 || true) ∙ or_true (st.pinned s' i' me.0))
-  where
-    or_true : (b : Bool) → (b || true) ≡ true
-    or_true true = refl
-    or_true false = refl
+    ∙ (put-same (st.pinned s' i') me.0 (st.pinned s' i' me.0 || true) ∙ or-true (st.pinned s' i' me.0))
 
 -- a step by which a caller claims an index gives it a pin
 pub claim_pins : (st : State) (me : CallerNo) (act : Act) (s i : ℕ) (claim : OwnClaim)

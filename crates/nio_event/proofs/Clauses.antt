@@ -10,8 +10,8 @@ use Rattle.nio_event.specs.Histories.{mine, event_of, last_of, EndsWith, History
 use Rattle.nio_event.specs.declared.act.Act.{Act}
 use Rattle.nio_event.specs.declared.event.Event.{Event}
 
-prefix_then : {A : Type 0} (xs ys zs : List A) → IsPrefix xs ys → IsPrefix ys zs → IsPrefix xs zs
-prefix_then xs ys zs p q = (p.0 ++ q.0, sym (append_assoc xs p.0 q.0) ∙ (ap (λ w. w ++ q.0) p.1 ∙ q.1))
+pub prefix_trans : {A : Type 0} (xs ys zs : List A) → IsPrefix xs ys → IsPrefix ys zs → IsPrefix xs zs
+prefix_trans xs ys zs p q = (p.0 ++ q.0, sym (append_assoc xs p.0 q.0) ∙ (ap (λ w. w ++ q.0) p.1 ∙ q.1))
 
 -- a call without a step
 pub clause_nothing : (l : Limits) (Holds : CallerNo → Type 0) (me : CallerNo) (events : List Event) → IsLegal l events
@@ -44,7 +44,7 @@ pub clause_then : (l : Limits) (Holds : CallerNo → Type 0) (me : CallerNo) (fi
     → HistoryClause l Holds me (first ++ second) before after
 clause_then l Holds me first second before middle after p q = record {
   legal = q.legal;
-  goes_on = prefix_then before middle after p.goes_on q.goes_on;
+  goes_on = prefix_trans before middle after p.goes_on q.goes_on;
   own = q.own ∙ (ap (λ own. own ++ second) p.own ∙ append_assoc (mine me before) first second);
   others = λ n held other. q.others n held other ∙ p.others n held other;
   ends = ends_then me before middle after first second p.ends q.ends;

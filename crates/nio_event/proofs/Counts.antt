@@ -1,8 +1,7 @@
 -- How many pins are on an index: none exactly where nobody has one.
-use Rattle.std.proofs.Common.{◌≡◌, ℕ, zero, suc, ◌+◌, ◌==◌, ◌<◌, ◌≤◌, Bool, true, false, not, if◌then◌else◌, refl, ap}
-use Rattle.std.proofs.Common.{sym, ◌∙◌, subst, eqb-true, eq-eqb, arith}
-use Rattle.std.specs.Prelude.{nat_lt}
-use Rattle.std.proofs.lemmas.Bool.{ltb-true, ltb-false}
+use Rattle.std.proofs.Common.{◌≡◌, ℕ, zero, suc, ◌==◌, ◌<◌, ◌≤◌, Bool, true, false, not, if◌then◌else◌, inl, inr, refl}
+use Rattle.std.proofs.Common.{ap, subst, eqb-true, eq-eqb, arith}
+use Rattle.std.proofs.lemmas.Bool.{cases_lt, not-false}
 use Rattle.nio_event.specs.Answers.{count_below, pins, is_pinned}
 use Rattle.nio_event.specs.State.{State}
 
@@ -10,28 +9,20 @@ use Rattle.nio_event.specs.State.{State}
 count_some : (n : ℕ) (test : ℕ → Bool) (i : ℕ) → i < n → test i ≡ true → 1 ≤ count_below n test
 unfolding count_below
 count_some zero test i below passes = absurd (omega arith)
-count_some (suc n) test i below passes = by_test (i == n) refl (λ lower. count_some n test i lower passes)
-  where
-    by_test : (b : Bool) → (i == n) ≡ b → (i < n → 1 ≤ count_below n test)
-        → 1 ≤ count_below n test + (if test n then 1 else 0)
-    by_test true e rest =
-        let one : ◌≡◌ {A = ℕ} (if test n then 1 else 0) 1 = ap (λ b. if b then 1 else 0)
-        (subst (λ (k : ℕ). test k ≡ true) (eqb-true i n e) passes) in
-        omega (arith, one)
-    by_test false e rest = by_order (nat_lt i n) refl
-      where
-        by_order : (b : Bool) → nat_lt i n ≡ b → 1 ≤ count_below n test + (if test n then 1 else 0)
-        by_order true lower =
-            let some : 1 ≤ count_below n test = rest (ltb-true i n lower) in
-            omega arith
-        by_order false upper =
-            let above : n ≤ i = ltb-false i n upper in
-            let same : i ≡ n = omega arith in
-            let clash : true ≡ false = sym (eq-eqb i n same) ∙ e in
-            absurd cc
+count_some (suc n) test i below passes =
+    elim (cases_lt i n) [
+      | inl lower ↦
+          let some : 1 ≤ count_below n test = count_some n test i lower passes in
+          omega arith
+      | inr upper ↦
+          let same : i ≡ n = omega arith in
+          let one : ◌≡◌ {A = ℕ} (if test n then 1 else 0) 1 = ap (λ b. if b then 1 else 0)
+          (subst (λ (k : ℕ). test k ≡ true) same passes) in
+          omega (arith, one)
+    ]
 
 -- where none passes, none is counted
-count_none : (n : ℕ) (test : ℕ → Bool) → ((i : ℕ) → i < n → test i ≡ false) → count_below n test ≡ 0
+pub count_none : (n : ℕ) (test : ℕ → Bool) → ((i : ℕ) → i < n → test i ≡ false) → count_below n test ≡ 0
 unfolding count_below
 count_none zero test fails = refl
 count_none (suc n) test fails =
@@ -43,12 +34,8 @@ count_none (suc n) test fails =
 pub pinned_by : (st : State) (s i n : ℕ) → n < 64 → st.pinned s i n ≡ true → is_pinned st s i ≡ false → ⊥
 pinned_by st s i n below pin unpinned =
     let some : 1 ≤ pins st s i = count_some 64 (st.pinned s i) n below pin in
-    let none : pins st s i ≡ 0 = eqb-true (pins st s i) 0 (is_true (pins st s i == 0) unpinned) in
+    let none : pins st s i ≡ 0 = eqb-true (pins st s i) 0 (not-false (pins st s i == 0) unpinned) in
     absurd (omega arith)
-  where
-    is_true : (b : Bool) → not b ≡ false → b ≡ true
-    is_true true e = refl
-    is_true false e = absurd cc
 
 pub pinned_by_nobody : (st : State) (s i : ℕ) → ((n : ℕ) → n < 64 → st.pinned s i n ≡ false) → is_pinned st s i ≡ false
 pinned_by_nobody st s i nobody = ap not (eq-eqb (pins st s i) 0 (count_none 64 (st.pinned s i) nobody))

@@ -1,30 +1,28 @@
 -- What a step leaves, and what it finds.
-use Rattle.std.proofs.Common.{◌≡◌, ℕ, ◌==◌, Bool, true, false, ◌&&◌, ◌||◌, inl, inr, if◌then◌else◌, Some, List, [], ◌∷◌}
-use Rattle.std.proofs.Common.{◌++◌, map, append_assoc, refl, ap, sym, ◌∙◌, subst, eqb-true, eq-eqb, arith}
+use Rattle.std.proofs.Common.{◌≡◌, ℕ, ◌==◌, Bool, true, false, ◌&&◌, if◌then◌else◌, Some, List, [], ◌∷◌, ◌++◌}
+use Rattle.std.proofs.Common.{append_assoc, refl, ap, sym, ◌∙◌, subst, eqb-true, eq-eqb, arith}
 use Rattle.std.specs.Prelude.{nat_lt, fold, IsTrue}
 use Rattle.std.specs.Int.{bit_at}
-use Rattle.std.specs.List.{filter}
 use Rattle.std.proofs.lemmas.Bool.{and_parts, ltb-true, ltb-false}
-use Rattle.std.proofs.lemmas.List.{append-nil, append_cancel_left, map-append}
-use Rattle.std.proofs.lemmas.List.Elements.{filter-append}
+use Rattle.std.proofs.lemmas.List.{append-nil, append_cancel_left}
 use Rattle.nio_base.specs.declared.limits.Limits.{Limits}
 use Rattle.nio_base.specs.declared.numbers.CallerNo.{CallerNo}
 use Rattle.nio_event.proofs.Bits.{bits_below-at, bits_below-above}
 use Rattle.nio_event.proofs.Clauses.{last_of-later}
 use Rattle.nio_event.proofs.LastsAlone.{none_further}
-use Rattle.nio_event.proofs.LastsOnceSound.{permanent_stands}
-use Rattle.nio_event.proofs.Legal.{not_empty, legal_next, legal_more, legal_induction}
-use Rattle.nio_event.proofs.OneMore.{state_after-more, mine-own, mine-other, has-more}
-use Rattle.nio_event.proofs.Told.{either}
+use Rattle.nio_event.proofs.LastsOnceSound.{lasts_step}
+use Rattle.nio_event.proofs.Legal.{not_empty, legal_next}
+use Rattle.nio_event.proofs.OneMore.{state_after-more, mine-append, mine-own, mine-other}
+use Rattle.nio_event.proofs.Put.{same_pair}
+use Rattle.nio_event.proofs.Told.{has_told}
 use Rattle.nio_event.specs.Acts.{effect}
 use Rattle.nio_event.specs.Answers.{Answers, bits_below}
 use Rattle.nio_event.specs.Found.{Leaves, StepsLeave, is_look, LooksTell, gate_tells, channel_tells, stage_tells}
 use Rattle.nio_event.specs.Found.{selectors_tell, keys_high_tells, channels_high_tells, finds, FoundStands}
-use Rattle.nio_event.specs.Histories.{state_after, event_of, last_of, is_by, mine, IsStep, IsLegal, HistoryClause}
+use Rattle.nio_event.specs.Histories.{state_after, event_of, last_of, is_by, mine, HistoryClause}
 use Rattle.nio_event.specs.Permanent.{PermanentFact, selector_made, selector_shut, channel_made, channel_closed}
 use Rattle.nio_event.specs.Permanent.{index_claimed, key_claimed, key_published, key_cancelled, key_removed}
 use Rattle.nio_event.specs.Permanent.{below_keys_high, below_channels_high, stands}
-use Rattle.nio_event.specs.OwnEvents.{has}
 use Rattle.nio_event.specs.Sets.{was_claimed, was_published, was_cancelled, was_removed}
 use Rattle.nio_event.specs.State.{State}
 use Rattle.nio_event.specs.declared.act.Act.{Act}
@@ -48,11 +46,6 @@ last_from x (y ∷ ys) e is = let rest = last_from y ys e is in (x ∷ rest.0, a
 pub last_event : (xs : List Event) (e : Event) → last_of xs ≡ Some e → (init : List Event) × (xs ≡ init ++ e ∷ [])
 last_event [] e is = absurd cc
 last_event (x ∷ xs) e is = last_from x xs e is
-
-mine-append : (n : CallerNo) (xs ys : List Event) → mine n (xs ++ ys) ≡ mine n xs ++ mine n ys
-mine-append n xs ys =
-    ap (map (λ x. x.act)) (filter-append (is_by n) xs ys)
-    ∙ map-append (λ x. x.act) (filter (is_by n) xs) (filter (is_by n) ys)
 
 nothing_before : (acts : List Act) (act : Act) → acts ++ act ∷ [] ≡ act ∷ [] → acts ≡ []
 nothing_before [] act same = refl
@@ -141,11 +134,7 @@ found_at_two : (f : ℕ → ℕ → Stage) (P : Stage → Bool) (k j s i : ℕ) 
     → ((k == s) && (j == i) && P found) ≡ true → found ≡ f k j → P (f s i) ≡ true
 found_at_two f P k j s i found told is =
     let parts = and_parts ((k == s) && (j == i)) (P found) told in
-    let both = and_parts (k == s) (j == i) parts.0 in
-    let first : k ≡ s = eqb-true k s both.0 in
-    let second : j ≡ i = eqb-true j i both.1 in
-    subst (λ (m : ℕ). P (f m i) ≡ true) first
-    (subst (λ (m : ℕ). P (f k m) ≡ true) second (subst (λ x. P x ≡ true) is parts.1))
+    same_pair (λ a b. P (f a b) ≡ true) k j s i parts.0 (subst (λ x. P x ≡ true) is parts.1)
 
 gate_stands : (st : State) (s : ℕ) (found : GateWord) (f : PermanentFact) → found ≡ st.gate s
     → gate_tells s found f ≡ true → stands f st ≡ true
@@ -224,22 +213,7 @@ step_finds st me act f answers told = absurd (cc told)
 
 pub found_stands : FoundStands
 found_stands l n events legal f =
-    legal_induction l (λ evs. has (λ act. finds act f) (mine n evs) ≡ true → stands f (state_after evs) ≡ true)
-    (λ e. absurd cc) each events legal
-  where
-    each : (past : List Event) (e : Event) → IsLegal l past → IsStep l past e
-        → (has (λ act. finds act f) (mine n past) ≡ true → stands f (state_after past) ≡ true)
-        → has (λ act. finds act f) (mine n (past ++ e ∷ [])) ≡ true → stands f (state_after (past ++ e ∷ [])) ≡ true
-    each past e legal' step before now =
-        permanent_stands l past (e ∷ []) (legal_more l past e legal' step) f (by_test (is_by n e) refl)
-      where
-        by_test : (b : Bool) → is_by n e ≡ b → stands f (state_after past) ≡ true
-        by_test true by =
-            let more : (has (λ act. finds act f) (mine n past) || finds e.act f) ≡ true =
-            sym (has-more (λ act. finds act f) (mine n past) e.act)
-            ∙ (sym (ap (has (λ act. finds act f)) (mine-own n past e by)) ∙ now) in
-            elim (either (has (λ act. finds act f) (mine n past)) (finds e.act f) more) [
-              | inl had ↦ before had
-              | inr told ↦ step_finds (state_after past) e.caller e.act f step.answers told
-            ]
-        by_test false by = before (sym (ap (has (λ act. finds act f)) (mine-other n past e by)) ∙ now)
+    has_told l (λ act. finds act f) (stands f) (λ past e legal' step. lasts_step l past e legal' step f)
+    (λ past e legal' step told. lasts_step l past e legal' step f
+    (step_finds (state_after past) e.caller e.act f step.answers told))
+    n events legal

@@ -1,7 +1,6 @@
 -- A call on the group is put together from its word and its arguments, in one way.
-use Rattle.std.proofs.Common.{◌≡◌, ℕ, List, Option, Some, None, IsSomeAnd, MatchOption, refl, sym, ap, subst, ◌∙◌}
+use Rattle.std.proofs.Common.{◌≡◌, ℕ, List, Option, None, IsSomeAnd, MatchOption, refl, sym, ap, subst, ◌∙◌}
 use Rattle.std.specs.Prelude.{⊤}
-use Rattle.std.proofs.lemmas.Option.{same_Some, none-some}
 use Rattle.nio_base.specs.declared.group.OpKind.{OpKind}
 use Rattle.nio_base.specs.declared.group.Outcome.{Outcome}
 use Rattle.nio_base.specs.declared.numbers.GChan.{GChan}
@@ -12,6 +11,7 @@ use Rattle.nio_event.specs.declared.group_call.GroupCall.{GroupCall}
 use Rattle.nio_event.specs.declared.group_call.GroupCall.TheVariants as group
 use Rattle.nio_event.specs.declared.group_word.GroupWord.{GroupWord}
 use Rattle.nio_event.specs.declared.group_word.GroupWord.TheVariants as word
+use Rattle.nio_event.proofs.Readers.{reads_made}
 
 -- the forms of calls with several arguments, or none
 
@@ -65,24 +65,15 @@ pub made_group : {A : Type 0} {Made : A → GroupCall → Type 0} (w : GroupWord
     → Reads (λ x. IsGroupCall (form x)) (λ x. group_argument_words (form x)) words o
     → MatchOption o (r ≡ None) (λ x. IsSomeAnd r (Made x))
     → ((x : A) (g : GroupCall) → Made x g → g ≡ form x) → ReadsGroupCall w words r
-made_group w form formed named words None None read cases says = record {
-  found = tt;
-  only = λ g fits e.
-      let own = formed g (of_word w g fits.1) in
-      absurd (none-some own.0 (read.only own.0 (subst IsGroupCall own.1 fits.0) (e ∙ ap group_argument_words own.1)));
-}
-made_group w form formed named words None (Some g) read cases says = absurd (none-some g (sym cases))
-made_group w form formed named words (Some x) None read cases says = absurd cases
-made_group w form formed named words (Some x) (Some g) read cases says =
-    let is = says x g cases in
-    record {
-      found = (
-        (subst IsGroupCall (sym is) read.found.0, ap group_word is ∙ named x),
-        read.found.1 ∙ ap group_argument_words (sym is),
-      );
-      only = λ h fits e.
-          let own = formed h (of_word w h fits.1) in
-          let same = same_Some x own.0
-          (read.only own.0 (subst IsGroupCall own.1 fits.0) (e ∙ ap group_argument_words own.1)) in
-          ap Some (is ∙ (ap form same ∙ sym own.1));
-    }
+made_group w form formed named words o r read cases says =
+    reads_made (λ g. IsGroupCall g × (group_word g ≡ w)) group_argument_words o r read cases
+    (λ x g made fits.
+    let is = says x g made in
+    ((subst IsGroupCall (sym is) fits, ap group_word is ∙ named x), ap group_argument_words (sym is)))
+    (λ h fits.
+    let own = formed h (of_word w h fits.1) in (
+      own.0,
+      subst IsGroupCall own.1 fits.0,
+      ap group_argument_words own.1,
+      λ g made. says own.0 g made ∙ sym own.1,
+    ))

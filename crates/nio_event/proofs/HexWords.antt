@@ -83,10 +83,6 @@ not_dash word dash same is tested differs e =
 abbrev pub Decodes : List ℕ → Option (List ℕ) → Type 0
 Decodes word found = (bytes : List ℕ) → AreBytes bytes → word ≡ bytes_word bytes → found ≡ Some bytes
 
-pub dash_decodes : (word : List ℕ) → word ≡ 45 ∷ [] → Decodes word (Some [])
-dash_decodes word is [] fits e = refl
-dash_decodes word is (b ∷ bytes) fits e = absurd (dash_is_empty b bytes (sym e ∙ is))
-
 pub word_decodes : (word found : List ℕ) → (word ≡ 45 ∷ [] → ⊥) → decode_of word ≡ Ok found
     → Decodes word (Some found)
 word_decodes word found no_dash is [] fits e = absurd (no_dash e)

@@ -1,18 +1,18 @@
 -- Since when a holder has its channel, and what it knows of the channel's mode.
 use Rattle.std.proofs.Common.{◌≡◌, ℕ, ◌==◌, Bool, true, false, ◌&&◌, ◌||◌, not, inl, inr, Some, None, List, [], ◌∷◌}
 use Rattle.std.proofs.Common.{◌++◌, append_assoc, if◌then◌else◌, refl, ap, sym, ◌∙◌, subst, eqb-true, eq-eqb}
-use Rattle.std.proofs.lemmas.Bool.{and_parts, and_from}
+use Rattle.std.proofs.lemmas.Bool.{and_parts, and_from, or_cases, not-true}
 use Rattle.std.proofs.lemmas.List.{append-nil}
+use Rattle.std.proofs.Math.Bool.{and-false}
 use Rattle.nio_base.specs.declared.limits.Limits.{Limits}
 use Rattle.nio_base.specs.declared.numbers.CallerNo.{CallerNo}
 use Rattle.nio_base.specs.declared.numbers.ChanNo.{ChanNo}
-use Rattle.nio_event.proofs.Keeping.{and_not, knows_while}
+use Rattle.nio_event.proofs.Keeping.{knows_while}
 use Rattle.nio_event.proofs.LastsAlone.{one_holder, spares_not}
 use Rattle.nio_event.proofs.Legal.{legal_more, legal_induction}
 use Rattle.nio_event.proofs.OneMore.{state_after-more, mine-own, mine-other, has-more, since_from-more}
 use Rattle.nio_event.proofs.Put.{put_keeps, put_gave, put-same}
 use Rattle.nio_event.proofs.Soundness.{legal-sound, held_some, both_ways}
-use Rattle.nio_event.proofs.Told.{either}
 use Rattle.nio_event.specs.Acts.{effect}
 use Rattle.nio_event.specs.Answers.{Answers}
 use Rattle.nio_event.specs.Conditions.{Condition, is_held_by}
@@ -125,7 +125,7 @@ held_since l n c =
         by_caller true false by takes =
             let earlier = before
             (held_before (state_after past) e.caller n e.act step.answers c.0
-            (ap (λ b. is_by n e && b) takes ∙ and_not (is_by n e)) held_then) in
+            (ap (λ b. is_by n e && b) takes ∙ and-false (is_by n e)) held_then) in
             let more : mine n (earlier.later ++ e ∷ []) ≡ mine n earlier.later ++ e.act
             ∷ [] = mine-own n earlier.later e by in
             going_on earlier
@@ -173,11 +173,7 @@ unblocked_told st me (LookChannel k found) c answers told =
     let same : k.0 ≡ c = eqb-true k.0 c both.0 in
     let found_is : found ≡ st.chan k.0 = cc in
     subst (λ (m : ℕ). (st.chan m).blocking ≡ false) same
-    (subst (λ x. x.blocking ≡ false) found_is (is_false found.blocking both.1))
-  where
-    is_false : (b : Bool) → not b ≡ true → b ≡ false
-    is_false true e = absurd cc
-    is_false false e = refl
+    (subst (λ x. x.blocking ≡ false) found_is (not-true found.blocking both.1))
 unblocked_told st me act c answers told = absurd (cc told)
 
 pub holder_knows_mode : HolderKnowsMode
@@ -187,11 +183,11 @@ holder_knows_mode l n c events legal held had spared =
     knows_while l n (the_hold c) (sets_mode c.0)
     (λ did st. has (finds_unblocked c.0) did ≡ true → (st.chan c.0).blocking ≡ false)
     (λ past e legal' step had' by spared' did knew found.
-    elim (either (has (finds_unblocked c.0) did) (finds_unblocked c.0 e.act)
+    elim (or_cases (has (finds_unblocked c.0) did) (finds_unblocked c.0 e.act)
     (sym (has-more (finds_unblocked c.0) did e.act) ∙ found)) [
       | inl earlier ↦ mode_kept l (mine e.caller past) (state_after past) e.caller n e.act c.0 false
           (legal-sound l past legal') step.condition step.answers had'
-          (ap (λ b. is_by n e && b) spared' ∙ and_not (is_by n e)) (knew earlier)
+          (ap (λ b. is_by n e && b) spared' ∙ and-false (is_by n e)) (knew earlier)
       | inr now ↦ unblocked_told (state_after past) e.caller e.act c.0 step.answers now
     ])
     (λ past e legal' step had' by did knew found.

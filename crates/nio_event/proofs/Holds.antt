@@ -1,23 +1,26 @@
 -- What stands while a caller holds a channel.
 use Rattle.std.proofs.Common.{◌≡◌, ℕ, ◌==◌, Bool, true, false, not, ◌&&◌, ◌||◌, inl, inr, suc, Option, Some, None}
-use Rattle.std.proofs.Common.{if◌then◌else◌, List, [], ◌∷◌, ◌++◌, refl, ap, sym, ◌∙◌, subst, eqb-true}
-use Rattle.std.proofs.lemmas.Bool.{and_parts, or_parts}
+use Rattle.std.proofs.Common.{if◌then◌else◌, List, [], ◌∷◌, ◌++◌, refl, ap, sym, ◌∙◌, subst, eqb-true, eq-eqb}
+use Rattle.std.proofs.lemmas.Bool.{and_from, and_parts, not-true, or_parts, or_cases}
 use Rattle.std.specs.Option.{option_or, ForSome}
+use Rattle.std.proofs.Math.Bool.{and-false}
 use Rattle.nio_base.specs.Limits.{IsFit}
 use Rattle.nio_base.specs.declared.limits.Limits.{Limits}
 use Rattle.nio_base.specs.declared.numbers.CallerNo.{CallerNo}
 use Rattle.nio_base.specs.declared.numbers.ChanNo.{ChanNo}
 use Rattle.nio_base.specs.declared.numbers.KeyId.{KeyId}
+use Rattle.nio_base.specs.declared.numbers.SelNo.{SelNo}
 use Rattle.nio_event.proofs.Claims.{if_some}
 use Rattle.nio_event.proofs.Holder.{mode_kept, held_since}
-use Rattle.nio_event.proofs.Keeping.{and_not, knows_while, stands_while}
+use Rattle.nio_event.proofs.KeyChanges.{stages_keep}
+use Rattle.nio_event.proofs.Keeping.{knows_while, stands_while}
 use Rattle.nio_event.proofs.LastsAlone.{one_holder, spares_not, same_two}
 use Rattle.nio_event.proofs.OneMore.{has-more, last-more, since_from-more}
 use Rattle.nio_event.proofs.PinLaws.{own_claims_stand, enrolled_keys_are_claimed}
-use Rattle.nio_event.proofs.Put.{put_at_keeps, put_at-there}
+use Rattle.nio_event.proofs.Put.{same_pair, put_at_keeps, put_at-there}
 use Rattle.nio_event.proofs.Soundness.{legal-sound}
-use Rattle.nio_event.proofs.Told.{either}
-use Rattle.nio_event.specs.Acts.{effect, new_key}
+use Rattle.nio_event.proofs.Told.{stage_told}
+use Rattle.nio_event.specs.Acts.{effect}
 use Rattle.nio_event.specs.Answers.{Answers}
 use Rattle.nio_event.specs.Conditions.{Condition, is_held_by, holds, may_publish}
 use Rattle.nio_event.specs.Histories.{state_after, mine, IsStep, IsLegal}
@@ -30,10 +33,10 @@ use Rattle.nio_event.specs.OwnEvents.{since_key_enrolled, is_clear_by}
 use Rattle.nio_event.specs.Sets.{is_in_key_set}
 use Rattle.nio_event.specs.State.{State}
 use Rattle.nio_event.specs.declared.act.Act.{Act}
-use Rattle.nio_event.specs.declared.act.Act.TheVariants.{CancelKey, LookKey, Claim, Publish, LookReg, Enrol, Remove}
-use Rattle.nio_event.specs.declared.act.Act.TheVariants.{Pin, ClaimAgain}
+use Rattle.nio_event.specs.declared.act.Act.TheVariants.{LookReg, Enrol}
 use Rattle.nio_event.specs.declared.event.Event.{Event}
 use Rattle.nio_event.specs.declared.found.Stage.{Stage}
+use Rattle.nio_event.proofs.Legal.{none_such}
 
 -- ---- the mode of the channel
 
@@ -82,12 +85,7 @@ enrolled_told : (st : State) (me : CallerNo) (act : Act) (c s : ℕ) (o : Option
     → enrolled_found c s act ≡ Some o → (effect st me act).enrolled c s ≡ o
 enrolled_told st me (LookReg c' s' found) c s o answers told =
     let parts = if_some ((c'.0 == c) && (s'.0 == s)) found o told in
-    let both = and_parts (c'.0 == c) (s'.0 == s) parts.0 in
-    let first : c'.0 ≡ c = eqb-true c'.0 c both.0 in
-    let second : s'.0 ≡ s = eqb-true s'.0 s both.1 in
-    let found_is : found ≡ st.enrolled c'.0 s'.0 = cc in
-    subst (λ (k : ℕ). st.enrolled k s ≡ o) first (subst (λ (k : ℕ). st.enrolled c'.0 k ≡ o) second
-    (sym found_is ∙ parts.1))
+    same_pair (λ a b. st.enrolled a b ≡ o) c'.0 s'.0 c s parts.0 (cc (parts.1))
 enrolled_told st me (Enrol c' s' i serial found) c s o answers told =
     let parts = if_some ((c'.0 == c) && (s'.0 == s)) (Some (key i serial)) o told in
     put_at-there st.enrolled c'.0 s'.0 (Some (key i serial)) c s parts.0 ∙ parts.1
@@ -95,10 +93,6 @@ enrolled_told st me (Enrol c' s' i serial found) c s o answers told =
     key : ℕ → ℕ → KeyId
     key i' serial' = record { index = i'; serial = serial' }
 enrolled_told st me act c s o answers told = absurd (cc told)
-
-none_such : (own : List Act) → has (λ _. false) own ≡ false
-none_such [] = refl
-none_such (act ∷ own) = none_such own
 
 pub found_enrolled_stays : FoundEnrolledStays
 found_enrolled_stays l n c before later keeps s =
@@ -119,7 +113,7 @@ found_enrolled_stays l n c before later keeps s =
         → option_or tells (last (enrolled_found c.0 s.0) did) ≡ Some o → (effect st me act).enrolled c.0 s.0 ≡ o
     own_step l own st me act may answers held did knew o None tells told =
         enrolled_kept l own st me n act c.0 s.0 o may held
-        (ap (λ b. (me.0 == n.0) && b) (not_enrolled c.0 s.0 act tells) ∙ and_not (me.0 == n.0)) (knew o told)
+        (ap (λ b. (me.0 == n.0) && b) (not_enrolled c.0 s.0 act tells) ∙ and-false (me.0 == n.0)) (knew o told)
     own_step l own st me act may answers held did knew o (Some x) tells told =
         enrolled_told st me act c.0 s.0 o answers (tells ∙ told)
 
@@ -146,7 +140,19 @@ outside_kept : (l : Limits) (past : List Event) (e : Event) (n : CallerNo) (c : 
     → is_held_by n ((state_after past).hold c.0) ≡ true → ((e.caller.0 == n.0) && publishes s k.index e.act) ≡ false
     → IsOutsideFor c k.serial ((state_after past).key s k.index)
     → IsOutsideFor c k.serial ((effect (state_after past) e.caller e.act).key s k.index)
-outside_kept l past e n c s k fit legal step held = by_act e.act step.condition step.answers
+outside_kept l past e n c s k fit legal step held spared outside =
+    stages_keep May st me (λ m t x. m ≡ s → t ≡ k.index → IsOutsideFor c k.serial x) (record {
+      claimed = λ s' i' c' _ _ _ _ _. and-false (0 == k.serial);
+      published = λ s' i' found may old at_s at_i its. absurd
+          (spares_not me n ((s'.0 == s) && (i' == k.index)) (holds_too s' i' may.0.1 its)
+          (and_from (s'.0 == s) (i' == k.index) (eq-eqb s'.0 s at_s) (eq-eqb i' k.index at_i)) may.1);
+      cancelled = λ s' i' found may old. old;
+      removed = λ s' i' found may old at_s at_i its.
+          let x : Stage = st.key s'.0 i' in
+          ap (λ b. (x.claimed && (x.serial == k.serial)) && b) (and-false x.published)
+          ∙ and-false (x.claimed && (x.serial == k.serial));
+      again = λ s' i' c' from _ _ _ _ _ _. and-false (suc (st.key s'.0 i').serial == k.serial);
+    }) e.act (step.condition, spared) step.answers s k.index (λ _ _. outside) refl refl
   where
     st : State
     st = state_after past
@@ -154,42 +160,17 @@ outside_kept l past e n c s k fit legal step held = by_act e.act step.condition 
     me : CallerNo
     me = e.caller
 
-    by_act : (act : Act) → Condition l (mine me past) st me act → Answers st me act
-        → ((me.0 == n.0) && publishes s k.index act) ≡ false
-        → IsOutsideFor c k.serial (st.key s k.index) → IsOutsideFor c k.serial ((effect st me act).key s k.index)
-    by_act (CancelKey s' i' found) may answers spared =
-        put_at_keeps (λ _ _ x. IsOutsideFor c k.serial x) st.key s'.0 i' _ (λ old. old) s k.index
-    by_act (Claim s' i' c' true) may answers spared =
-        put_at_keeps (λ _ _ x. IsOutsideFor c k.serial x) st.key s'.0 i' _ (λ old. old) s k.index
-    by_act (Claim s' i' c' false) may answers spared =
-        put_at_keeps (λ _ _ x. IsOutsideFor c k.serial x) st.key s'.0 i' (new_key c' 0)
-        (λ _ _. and_not (0 == k.serial)) s k.index
-    by_act (ClaimAgain s' i' c' from true) may answers spared =
-        put_at_keeps (λ _ _ x. IsOutsideFor c k.serial x) st.key s'.0 i' _ (λ old. old) s k.index
-    by_act (ClaimAgain s' i' c' from false) may answers spared =
-        put_at_keeps (λ _ _ x. IsOutsideFor c k.serial x) st.key s'.0 i' (new_key c' (suc (st.key s'.0 i').serial))
-        (λ _ _. and_not (suc (st.key s'.0 i').serial == k.serial)) s k.index
-    by_act (Remove s' i' found) may answers spared =
-        put_at_keeps (λ _ _ x. IsOutsideFor c k.serial x) st.key s'.0 i' _
-        (λ _ _. ap (λ b. ((st.key s'.0 i').claimed && ((st.key s'.0 i').serial == k.serial)) && b)
-        (and_not (st.key s'.0 i').published)
-        ∙ and_not ((st.key s'.0 i').claimed && ((st.key s'.0 i').serial == k.serial))) s k.index
-    by_act (Publish s' i' found) may answers spared = λ now.
-        put_at_keeps (λ m t x. ((me.0 == n.0) && ((s'.0 == m) && (i' == t))) ≡ false → IsOutsideFor c k.serial x) st.key
-        s'.0 i'
-        (record (st.key s'.0 i') { published = true })
-        (λ old spared' its. absurd
-        (spares_not me n ((s'.0 == s'.0) && (i' == i')) (holds_too its) (same_two s'.0 i') spared')) s k.index
-        (λ _. now) spared
-      where
-        holds_too : (st.key s'.0 i').chan ≡ c → me.0 ≡ n.0
-        holds_too its =
-            let claim = publisher_holds st (mine me past) me (own_claim s'.0 i' (mine me past)) may.1 in
-            let its_key = (own_claims_stand l me s' i' claim.0 past fit legal claim.1).1 in
-            let of_channel : claim.0.channel ≡ c = sym its_key.channel ∙ its in
-            one_holder me n (st.hold c.0)
-            (subst (λ (x : ChanNo). is_held_by me (st.hold x.0) ≡ true) of_channel claim.2) held
-    by_act act may answers spared = λ now. now
+    May : Act → Type 0
+    May act = Condition l (mine me past) st me act × (((me.0 == n.0) && publishes s k.index act) ≡ false)
+
+    holds_too : (s' : SelNo) (i' : ℕ) → may_publish st (mine me past) me (own_claim s'.0 i' (mine me past)) ≡ true
+        → (st.key s'.0 i').chan ≡ c → me.0 ≡ n.0
+    holds_too s' i' may its =
+        let claim = publisher_holds st (mine me past) me (own_claim s'.0 i' (mine me past)) may in
+        let its_key = (own_claims_stand l me s' i' claim.0 past fit legal claim.1).1 in
+        let of_channel : claim.0.channel ≡ c = sym its_key.channel ∙ its in
+        one_holder me n (st.hold c.0)
+        (subst (λ (x : ChanNo). is_held_by me (st.hold x.0) ≡ true) of_channel claim.2) held
 
 pub outside_stays : OutsideStays
 outside_stays l n c before later fit keeps s k spared outside its =
@@ -199,36 +180,16 @@ outside_stays l n c before later fit keeps s k spared outside its =
 
 -- ---- what a caller found
 
--- a stage that was found stands there
-stage_is : (st : State) (s' i' s i : ℕ) (there found : Stage)
-    → (if (s' == s) && (i' == i) then Some there else None) ≡ Some found → there ≡ st.key s' i' → st.key s i ≡ found
-stage_is st s' i' s i there found told is =
-    let parts = if_some ((s' == s) && (i' == i)) there found told in
-    let both = and_parts (s' == s) (i' == i) parts.0 in
-    let first : s' ≡ s = eqb-true s' s both.0 in
-    let second : i' ≡ i = eqb-true i' i both.1 in
-    subst (λ (m : ℕ). st.key m i ≡ found) first (subst (λ (m : ℕ). st.key s' m ≡ found) second (sym is ∙ parts.1))
-
-stage_told : (st : State) (me : CallerNo) (act : Act) (s i : ℕ) (found : Stage) → Answers st me act
-    → stage_found s i act ≡ Some found → (effect st me act).key s i ≡ found
-stage_told st me (LookKey s' i' there) s i found answers told = stage_is st s'.0 i' s i there found told cc
-stage_told st me (Pin s' i' there) s i found answers told = stage_is st s'.0 i' s i there found told cc
-stage_told st me act s i found answers told = absurd (cc told)
-
-outside_told : (st : State) (me : CallerNo) (act : Act) (s : ℕ) (k : KeyId) → Answers st me act
+pub outside_told : (st : State) (me : CallerNo) (act : Act) (s : ℕ) (k : KeyId) → Answers st me act
     → finds_outside s k act ≡ true → is_in_key_set ((effect st me act).key s k.index) k.serial ≡ false
 outside_told st me act s k answers told = by_found (stage_found s k.index act) refl told
   where
-    is_not : (b : Bool) → not b ≡ true → b ≡ false
-    is_not true e = absurd cc
-    is_not false e = refl
-
     by_found : (o : Option Stage) → stage_found s k.index act ≡ o → is_outside k.serial o ≡ true
         → is_in_key_set ((effect st me act).key s k.index) k.serial ≡ false
     by_found None found outside = absurd cc
     by_found (Some stage) found outside =
         ap (λ x. is_in_key_set x k.serial) (stage_told st me act s k.index stage answers found)
-        ∙ is_not (is_in_key_set stage k.serial) outside
+        ∙ not-true (is_in_key_set stage k.serial) outside
 
 pub found_clear_stays : FoundClearStays
 found_clear_stays l n c before later fit keeps s clear =
@@ -267,10 +228,10 @@ found_clear_stays l n c before later fit keeps s clear =
         own_step past e legal step had did knew true opened found = absurd cc
         own_step past e legal step had did knew false opened found =
             let unpublished = (or_parts (enrols_key c.0 s.0 e.act) (publishes s.0 k.index e.act) opened).1 in
-            elim (either (has (finds_outside s.0 k) (span k did)) (finds_outside s.0 k e.act)
+            elim (or_cases (has (finds_outside s.0 k) (span k did)) (finds_outside s.0 k e.act)
             (sym (has-more (finds_outside s.0 k) (span k did) e.act) ∙ found)) [
               | inl earlier ↦ outside_kept l past e n c s.0 k fit legal step had
-                  (ap (λ b. (e.caller.0 == n.0) && b) unpublished ∙ and_not (e.caller.0 == n.0)) (knew earlier)
+                  (ap (λ b. (e.caller.0 == n.0) && b) unpublished ∙ and-false (e.caller.0 == n.0)) (knew earlier)
               | inr now ↦ λ _. outside_told (state_after past) e.caller e.act s.0 k step.answers now
             ]
 
@@ -285,7 +246,7 @@ found_clear_stays l n c before later fit keeps s clear =
         ap (λ b. ((after.key s.0 k.index).claimed && b)
         && ((after.key s.0 k.index).published && not (after.key s.0 k.index).removed)) same
         ∙ ap (λ b. b && ((after.key s.0 k.index).published && not (after.key s.0 k.index).removed))
-        (and_not (after.key s.0 k.index).claimed)
+        (and-false (after.key s.0 k.index).claimed)
 
     by_enrolled : (told : Option (Option KeyId)) → last (enrolled_found c.0 s.0) (mine n later) ≡ told
         → is_clear_by c.0 s.0 (mine n later) told ≡ true

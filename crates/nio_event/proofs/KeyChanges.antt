@@ -49,6 +49,10 @@ stages_keep May st me R keeps (ClaimAgain s' i' c from false) may answers s i =
     put_at_keeps R st.key s'.0 i' (new_key c (suc (st.key s'.0 i').serial)) (keeps.again s' i' c from may unpinned) s i
 stages_keep May st me R keeps act may answers s i = λ h. h
 
+-- a step that claims no index again
+abbrev pub IsNoClaimAgain : Act → Type 0
+IsNoClaimAgain act = (s : SelNo) (i : ℕ) (c : ChanNo) (from : Stage) → act ≡ ClaimAgain s i c from false → ⊥
+
 -- ---- a stage from which an index can come back
 
 pub record IsBack (k : Stage) : Type 0 where

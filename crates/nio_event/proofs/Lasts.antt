@@ -1,6 +1,7 @@
 -- What is permanent, from any state: no step ends it. Each lemma has a line for each kind of step that changes
 -- the fact's part of the state; its last line is for all the others.
-use Rattle.std.proofs.Common.{◌≡◌, ℕ, ◌<◌, Bool, true, false, ◌||◌, refl, ap, arith}
+use Rattle.std.proofs.Common.{◌≡◌, ℕ, ◌<◌, true, false, refl, arith}
+use Rattle.std.proofs.lemmas.Bool.{or_left}
 use Rattle.nio_base.specs.declared.numbers.CallerNo.{CallerNo}
 use Rattle.nio_event.proofs.Put.{put_keeps, put_at_keeps}
 use Rattle.nio_event.specs.Acts.{effect}
@@ -9,9 +10,6 @@ use Rattle.nio_event.specs.declared.act.Act.{Act}
 use Rattle.nio_event.specs.declared.act.Act.TheVariants.{DrawBit, MakeSelector, Wake, CancelKey, MakeChannel, Claim}
 use Rattle.nio_event.specs.declared.act.Act.TheVariants.{RaiseKeys, Publish, Remove, EndWake, RaiseChannels, SetMode}
 use Rattle.nio_event.specs.declared.act.Act.TheVariants.{CloseBit, ShutBit, Enter, ClaimAgain}
-
-or_left : (a b : Bool) → a ≡ true → (a || b) ≡ true
-or_left a b e = ap (λ x. x || b) e
 
 pub drawn_lasts : (st : State) (me : CallerNo) (act : Act) (n : ℕ) → st.drawn n ≡ true
     → (effect st me act).drawn n ≡ true

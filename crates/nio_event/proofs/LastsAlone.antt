@@ -1,28 +1,25 @@
 -- What only the caller's own acts end: its turn, its selection, its hold, its pin, the index that it took.
 use Rattle.std.proofs.Common.{◌≡◌, ℕ, ◌==◌, Bool, true, false, ◌&&◌, ◌||◌, inl, inr, Option, Some, None, is_some, List}
-use Rattle.std.proofs.Common.{[], ◌∷◌, ◌++◌, map, if◌then◌else◌, append_assoc, not, refl, ap, sym, ◌∙◌, subst, eqb-true}
-use Rattle.std.proofs.Common.{eq-eqb}
-use Rattle.std.proofs.lemmas.Bool.{and_parts, and_from}
-use Rattle.std.proofs.lemmas.List.{append-nil, map-append}
-use Rattle.std.proofs.lemmas.List.Elements.{filter-append}
+use Rattle.std.proofs.Common.{[], ◌∷◌, ◌++◌, map, if◌then◌else◌, not, refl, ap, sym, ◌∙◌, subst, eqb-true, eq-eqb}
+use Rattle.std.proofs.lemmas.Bool.{and_parts, and_from, or_cases}
+use Rattle.std.proofs.lemmas.List.{append-nil, append_cancel_left}
 use Rattle.std.specs.List.{filter, list_any}
 use Rattle.nio_base.specs.declared.limits.Limits.{Limits}
 use Rattle.nio_base.specs.declared.numbers.CallerNo.{CallerNo}
 use Rattle.nio_event.proofs.Claims.{pin_stays}
-use Rattle.nio_event.proofs.Legal.{legal_beginning, legal_next}
-use Rattle.nio_event.proofs.OneMore.{state_after-more}
+use Rattle.nio_event.proofs.Legal.{without_from}
+use Rattle.nio_event.proofs.OneMore.{state_after-more, mine-append}
 use Rattle.nio_event.proofs.Put.{put_keeps, put_at_keeps}
 use Rattle.nio_event.proofs.Soundness.{legal-sound, held_some, both_ways}
-use Rattle.nio_event.proofs.Told.{either}
 use Rattle.nio_event.specs.Acts.{effect, taken_by}
 use Rattle.nio_event.specs.Answers.{Answers}
 use Rattle.nio_event.specs.Conditions.{Condition, is_held_by, has_turn, has_begun, has_taken, may_put_due}
-use Rattle.nio_event.specs.Histories.{state_after, is_by, mine, IsStep, IsLegal}
+use Rattle.nio_event.specs.Histories.{state_after, is_by, mine, IsLegal}
 use Rattle.nio_event.specs.Permanent.{OwnFact, the_turn, a_selection, the_hold, a_pin, a_taken_index, is_had_by}
 use Rattle.nio_event.specs.Permanent.{gives_back}
 use Rattle.nio_event.specs.OwnEvents.{has, gives_turn, releases, gives_index}
 use Rattle.nio_event.specs.Sound.{IsSound}
-use Rattle.nio_event.specs.State.{State}
+use Rattle.nio_event.specs.State.{State, put}
 use Rattle.nio_event.specs.declared.act.Act.{Act}
 use Rattle.nio_event.specs.declared.act.Act.TheVariants.{TakeTurn, BeginLook, GiveTurn, TryHoldBit, Release, ClaimAgain}
 use Rattle.nio_event.specs.declared.act.Act.TheVariants.{PutFree, TakeFree}
@@ -52,34 +49,35 @@ not_spared : (me n : CallerNo) (o : Option CallerNo) (there : Bool) → there �
 not_spared me n o there is_there mine' has_it spared =
     spares_not me n there (one_holder me n o mine' has_it) is_there spared
 
+-- who holds a place holds it still when another tries to take it
+take_keeps : (f : ℕ → Option CallerNo) (me n : CallerNo) (k i : ℕ) (found : Option CallerNo) → found ≡ f k
+    → is_held_by n (f i) ≡ true → is_held_by n (put f k (taken_by me found) i) ≡ true
+take_keeps f me n k i found is =
+    put_keeps (λ _ o. is_held_by n o ≡ true) f k _
+    (λ h. taken_keeps me n found (subst (λ o. is_held_by n o ≡ true) (sym is) h)) i
+
+-- and when its holder, another caller, gives back a place
+give_keeps : (f : ℕ → Option CallerNo) (me n : CallerNo) (k i : ℕ) → is_held_by me (f k) ≡ true
+    → ((me.0 == n.0) && (k == i)) ≡ false → is_held_by n (f i) ≡ true → is_held_by n (put f k None i) ≡ true
+give_keeps f me n k i its spared held =
+    put_keeps (λ m o. ((me.0 == n.0) && (k == m)) ≡ false → is_held_by n o ≡ true) f k None
+    (λ old spared'. absurd (not_spared me n (f k) (k == k) (eq-eqb k k refl) its (old spared') spared')) i
+    (λ _. held) spared
+
 turn_stays : (l : Limits) (own : List Act) (st : State) (me n : CallerNo) (act : Act) → Condition l own st me act
     → Answers st me act
     → (s : ℕ) → ((me.0 == n.0) && gives_turn s act) ≡ false → is_held_by n (st.turn s) ≡ true
     → is_held_by n ((effect st me act).turn s) ≡ true
-turn_stays l own st me n (TakeTurn k found) may answers s spared =
-    put_keeps (λ _ o. is_held_by n o ≡ true) st.turn k.0 _
-    (λ h. let found_is : found ≡ st.turn k.0 = cc in
-    subst (λ o. is_held_by n (taken_by me o) ≡ true) (sym found_is) (taken_keeps me n (st.turn k.0) h)) s
-turn_stays l own st me n (GiveTurn k) may answers s spared = λ h.
-    put_keeps (λ m o. ((me.0 == n.0) && (k.0 == m)) ≡ false → is_held_by n o ≡ true) st.turn k.0 None
-    (λ old spared'. absurd
-    (not_spared me n (st.turn k.0) (k.0 == k.0) (eq-eqb k.0 k.0 refl) may.1 (old spared') spared')) s
-    (λ _. h) spared
+turn_stays l own st me n (TakeTurn k found) may answers s spared = take_keeps st.turn me n k.0 s found (cc)
+turn_stays l own st me n (GiveTurn k) may answers s spared = give_keeps st.turn me n k.0 s may.1 spared
 turn_stays l own st me n act may answers s spared = λ h. h
 
 hold_stays : (l : Limits) (own : List Act) (st : State) (me n : CallerNo) (act : Act) → Condition l own st me act
     → Answers st me act
     → (c : ℕ) → ((me.0 == n.0) && releases c act) ≡ false → is_held_by n (st.hold c) ≡ true
     → is_held_by n ((effect st me act).hold c) ≡ true
-hold_stays l own st me n (TryHoldBit k found) may answers c spared =
-    put_keeps (λ _ o. is_held_by n o ≡ true) st.hold k.0 _
-    (λ h. let found_is : found ≡ st.hold k.0 = cc in
-    subst (λ o. is_held_by n (taken_by me o) ≡ true) (sym found_is) (taken_keeps me n (st.hold k.0) h)) c
-hold_stays l own st me n (Release k) may answers c spared = λ h.
-    put_keeps (λ m o. ((me.0 == n.0) && (k.0 == m)) ≡ false → is_held_by n o ≡ true) st.hold k.0 None
-    (λ old spared'. absurd
-    (not_spared me n (st.hold k.0) (k.0 == k.0) (eq-eqb k.0 k.0 refl) may.1 (old spared') spared')) c
-    (λ _. h) spared
+hold_stays l own st me n (TryHoldBit k found) may answers c spared = take_keeps st.hold me n k.0 c found (cc)
+hold_stays l own st me n (Release k) may answers c spared = give_keeps st.hold me n k.0 c may.1 spared
 hold_stays l own st me n act may answers c spared = λ h. h
 
 begun_stays : (l : Limits) (own : List Act) (st : State) (me n : CallerNo) (act : Act) → Condition l own st me act
@@ -126,7 +124,7 @@ taken_stays l own st me n (PutFree k j) sound may answers s i spared = λ h.
   where
     given : is_held_by n (st.taker k.0 j) ≡ true → ((me.0 == n.0) && ((k.0 == k.0) && (j == j))) ≡ false → ⊥
     given held spared' =
-        elim (either (has_taken st me k j) (may_put_due st me k j) may.1) [
+        elim (or_cases (has_taken st me k j) (may_put_due st me k j) may.1) [
           | inl taken ↦ not_spared me n (st.taker k.0 j) ((k.0 == k.0) && (j == j)) (same_two k.0 j) taken held spared'
           | inr dropped ↦ both_ways (st.put_due k.0 j) (and_parts (has_begun st me k) (st.put_due k.0 j) dropped).1
               (sound.taken_not_due k.0 j (held_some n (st.taker k.0 j) held))
@@ -158,24 +156,6 @@ lasts_alone l own st me n act sound may answers (a_taken_index s i) spared h =
     taken_stays l own st me n act sound may answers s.0 i spared h
 
 -- ---- over histories
-
--- where neither of two holds, each of them fails
-any_parts : (a b : Bool) → (a || b) ≡ false → (a ≡ false) × (b ≡ false)
-any_parts true b e = absurd cc
-any_parts false b e = (refl, e)
-
--- what each step keeps, but for some events, stands after every legal longer history without such an event
-pub without_from : (l : Limits) (such : Event → Bool) (P : List Event → Type 0)
-    → ((past : List Event) (e : Event) → IsLegal l past → IsStep l past e → such e ≡ false → P past
-    → P (past ++ e ∷ []))
-    → (past later : List Event) → IsLegal l (past ++ later) → list_any such later ≡ false → P past → P (past ++ later)
-without_from l such P each past [] legal none_such here = subst P (sym (append-nil past)) here
-without_from l such P each past (e ∷ later) legal none_such here =
-    let joined : (past ++ e ∷ []) ++ later ≡ past ++ e ∷ later = append_assoc past (e ∷ []) later in
-    let parts = any_parts (such e) (list_any such later) none_such in
-    let next = each past e (legal_beginning l past (e ∷ later) legal) (legal_next l past e later legal) parts.0 here in
-    subst P joined
-    (without_from l such P each (past ++ e ∷ []) later (subst (IsLegal l) (sym joined) legal) parts.1 next)
 
 -- whether a caller did such an act is whether there is such an event by it
 pub has-mine : (p : Act → Bool) (n : CallerNo) (events : List Event)
@@ -210,12 +190,7 @@ own_stands l n past later legal nothing f =
     had_stands l n past later legal f (has-nothing (gives_back f) (mine n later) nothing)
 
 -- a longer history in which n has as many events has no further one
-nothing_added : {A : Type 0} (xs ys : List A) → xs ++ ys ≡ xs → ys ≡ []
-nothing_added [] ys e = e
-nothing_added (x ∷ xs) ys e = nothing_added xs ys (cc e)
-
 pub none_further : (n : CallerNo) (past later : List Event) → mine n (past ++ later) ≡ mine n past → mine n later ≡ []
 none_further n past later same =
-    nothing_added (mine n past) (mine n later)
-    (sym (map-append (λ x. x.act) (filter (is_by n) past) (filter (is_by n) later))
-    ∙ (sym (ap (map (λ x. x.act)) (filter-append (is_by n) past later)) ∙ same))
+    append_cancel_left (mine n past) (mine n later) []
+    (sym (mine-append n past later) ∙ (same ∙ sym (append-nil (mine n past))))

@@ -1,9 +1,10 @@
 -- What lasts from a sound state: how far a key came, that a channel is closed, and who closes a selector. With
 -- what lasts from every state, all that stands in `PermanentFact`.
-use Rattle.std.proofs.Common.{◌≡◌, ℕ, ◌==◌, ◌<◌, Bool, true, false, not, ◌&&◌, ◌||◌, inl, inr, suc, List, ◌++◌, refl}
-use Rattle.std.proofs.Common.{ap, sym, ◌∙◌, subst, eqb-true, arith}
+use Rattle.std.proofs.Common.{◌≡◌, ℕ, ◌==◌, ◌<◌, ◌≤◌, Bool, true, false, not, ◌&&◌, ◌||◌, inl, inr, suc, List, ◌++◌}
+use Rattle.std.proofs.Common.{refl, ap, sym, ◌∙◌, subst, eqb-true, arith}
 use Rattle.std.specs.Prelude.{nat_lt}
-use Rattle.std.proofs.lemmas.Bool.{and_parts, and_from, ltb-true, lt-ltb}
+use Rattle.std.proofs.lemmas.Bool.{and_parts, and_from, le-ltb, lt-ltb, ltb-false, ltb-true, not-true, not_from_false}
+use Rattle.std.proofs.lemmas.Bool.{or_cases, or_right}
 use Rattle.nio_base.specs.declared.limits.Limits.{Limits}
 use Rattle.nio_base.specs.declared.numbers.CallerNo.{CallerNo}
 use Rattle.nio_event.proofs.KeyChanges.{KeepsStages, stages_keep}
@@ -13,11 +14,10 @@ use Rattle.nio_event.proofs.Legal.{legal_from}
 use Rattle.nio_event.proofs.OneMore.{state_after-more}
 use Rattle.nio_event.proofs.Put.{put_keeps}
 use Rattle.nio_event.proofs.Soundness.{legal-sound, held_some, both_ways, closed-made}
-use Rattle.nio_event.proofs.Told.{either, or_right}
 use Rattle.nio_event.specs.Acts.{effect, new_key}
 use Rattle.nio_event.specs.Answers.{Answers}
 use Rattle.nio_event.specs.Conditions.{Condition, is_held_by}
-use Rattle.nio_event.specs.Histories.{state_after, mine, IsLegal}
+use Rattle.nio_event.specs.Histories.{state_after, mine, IsStep, IsLegal}
 use Rattle.nio_event.specs.Permanent.{PermanentFact, caller_drawn, selector_made, selector_shut, selector_closed_by}
 use Rattle.nio_event.specs.Permanent.{selector_entered, channel_made, channel_closed, index_claimed, key_claimed}
 use Rattle.nio_event.specs.Permanent.{key_published, key_cancelled, key_removed, below_keys_high, below_channels_high}
@@ -33,19 +33,14 @@ use Rattle.nio_event.specs.declared.found.Stage.{Stage}
 -- ---- keys, by their serials
 
 -- the key of an index with this serial has had the bit: the index has a later serial, or this one and the bit
-abbrev is_reached : (Stage → Bool) → Stage → ℕ → Bool
+abbrev pub is_reached : (Stage → Bool) → Stage → ℕ → Bool
 is_reached bit k serial = nat_lt serial k.serial || (fits k serial && bit k)
 
-no_below_zero : (n : ℕ) → nat_lt n 0 ≡ true → ⊥
-no_below_zero n e =
-    let below : n < 0 = ltb-true n 0 e in
-    absurd (omega arith)
-
 -- an index that isn't claimed had no key
-unclaimed_reached : (bit : Stage → Bool) (k : Stage) (serial : ℕ) → k ≡ unclaimed → is_reached bit k serial ≡ true → ⊥
+pub unclaimed_reached : (bit : Stage → Bool) (k : Stage) (serial : ℕ) → k ≡ unclaimed → is_reached bit k serial ≡ true → ⊥
 unclaimed_reached bit k serial is_unclaimed reached =
-    elim (either (nat_lt serial 0) false (sym (ap (λ x. is_reached bit x serial) is_unclaimed) ∙ reached)) [
-      | inl below ↦ no_below_zero serial below
+    elim (or_cases (nat_lt serial 0) false (sym (ap (λ x. is_reached bit x serial) is_unclaimed) ∙ reached)) [
+      | inl below ↦ absurd (omega (arith, ltb-true serial 0 below))
       | inr now ↦ absurd (cc now)
     ]
 
@@ -54,7 +49,7 @@ reached_still : (bit : Stage → Bool) (k k' : Stage) (serial : ℕ) → nat_lt 
     → fits k' serial ≡ fits k serial
     → (bit k ≡ true → bit k' ≡ true) → is_reached bit k serial ≡ true → is_reached bit k' serial ≡ true
 reached_still bit k k' serial lower same still reached =
-    elim (either (nat_lt serial k.serial) (fits k serial && bit k) reached) [
+    elim (or_cases (nat_lt serial k.serial) (fits k serial && bit k) reached) [
       | inl below ↦ ap (λ b. b || (fits k' serial && bit k')) (lower ∙ below)
       | inr now ↦
           let both = and_parts (fits k serial) (bit k) now in
@@ -66,7 +61,7 @@ reached_still bit k k' serial lower same still reached =
 reached_before : (bit : Stage → Bool) (k : Stage) (serial : ℕ) → is_reached bit k serial ≡ true
     → nat_lt serial (suc k.serial) ≡ true
 reached_before bit k serial reached =
-    elim (either (nat_lt serial k.serial) (fits k serial && bit k) reached) [
+    elim (or_cases (nat_lt serial k.serial) (fits k serial && bit k) reached) [
       | inl below ↦
           let lower : serial < k.serial = ltb-true serial k.serial below in
           lt-ltb serial (suc k.serial) (omega arith)
@@ -98,17 +93,9 @@ reached_keeps bit published cancelled removed l own st me serial sound = record 
 }
 
 pub not_below_next : (a q : ℕ) → not (nat_lt a q) ≡ true → not (nat_lt (suc a) q) ≡ true
-not_below_next a q e = by_test (nat_lt (suc a) q) refl
-  where
-    both_ways' : (b : Bool) → b ≡ true → not b ≡ true → ⊥
-    both_ways' true e' f = cc
-    both_ways' false e' f = cc
-
-    by_test : (b : Bool) → nat_lt (suc a) q ≡ b → not b ≡ true
-    by_test true below =
-        let far : suc a < q = ltb-true (suc a) q below in
-        absurd (both_ways' (nat_lt a q) (lt-ltb a q (omega arith)) e)
-    by_test false below = refl
+not_below_next a q e =
+    let above : q ≤ a = ltb-false a q (not-true (nat_lt a q) e) in
+    not_from_false (nat_lt (suc a) q) (le-ltb (suc a) q (omega arith))
 
 -- an index that was claimed for a key was so ever after
 was_claimed_keeps : (l : Limits) (own : List Act) (st : State) (me : CallerNo) (serial : ℕ)
@@ -158,7 +145,7 @@ closer_lasts st me (ShutBit k false) answers sound s n =
 closer_lasts st me act answers sound s n = λ h. h
 
 -- no step ends what is permanent
-pub lasts : (l : Limits) (own : List Act) (st : State) (me : CallerNo) (act : Act) → Condition l own st me act
+lasts : (l : Limits) (own : List Act) (st : State) (me : CallerNo) (act : Act) → Condition l own st me act
     → Answers st me act → IsSound st
     → (f : PermanentFact) → stands f st ≡ true → stands f (effect st me act) ≡ true
 lasts l own st me act may answers sound (caller_drawn n) h = drawn_lasts st me act n h
@@ -190,11 +177,15 @@ lasts l own st me act may answers sound (below_channels_high c) h =
 
 -- ---- over histories
 
+pub lasts_step : (l : Limits) (past : List Event) (e : Event) → IsLegal l past → IsStep l past e → (f : PermanentFact)
+    → stands f (state_after past) ≡ true → stands f (effect (state_after past) e.caller e.act) ≡ true
+lasts_step l past e legal step =
+    lasts l (mine e.caller past) (state_after past) e.caller e.act step.condition step.answers (legal-sound l past legal)
+
 -- what is permanent stands in every legal longer history
 pub permanent_stands : (l : Limits) (past later : List Event) → IsLegal l (past ++ later) → (f : PermanentFact)
     → stands f (state_after past) ≡ true → stands f (state_after (past ++ later)) ≡ true
 permanent_stands l past later legal f = legal_from l (λ events. stands f (state_after events) ≡ true)
     (λ before e legal' step here. subst (λ st. stands f st ≡ true) (sym (state_after-more before e))
-    (lasts l (mine e.caller before) (state_after before) e.caller e.act step.condition step.answers
-    (legal-sound l before legal') f here))
+    (lasts_step l before e legal' step f here))
     past later legal

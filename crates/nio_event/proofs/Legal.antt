@@ -1,6 +1,9 @@
 -- Legal histories: their beginnings, one event more, and induction over them.
-use Rattle.std.proofs.Common.{◌≡◌, List, [], ◌∷◌, ◌++◌, ◌⊎◌, inl, inr, refl, ap, sym, ◌∙◌, subst, append_assoc}
+use Rattle.std.proofs.Common.{◌≡◌, List, [], ◌∷◌, ◌++◌, ◌⊎◌, inl, inr, refl, ap, sym, ◌∙◌, subst, append_assoc, Bool}
+use Rattle.std.proofs.Common.{false}
 use Rattle.std.proofs.lemmas.List.{append-nil}
+use Rattle.std.specs.List.{list_any}
+use Rattle.std.proofs.lemmas.Bool.{or_parts}
 use Rattle.nio_base.specs.declared.limits.Limits.{Limits}
 use Rattle.nio_event.specs.Histories.{IsStep, IsLegal}
 use Rattle.nio_event.specs.declared.event.Event.{Event}
@@ -47,15 +50,29 @@ legal_more l past e legal step = record {
       ];
 }
 
+-- what each step keeps, but for some events, holds of every legal longer history without such an event
+pub without_from : (l : Limits) (such : Event → Bool) (P : List Event → Type 0)
+    → ((past : List Event) (e : Event) → IsLegal l past → IsStep l past e → such e ≡ false → P past
+    → P (past ++ e ∷ []))
+    → (past later : List Event) → IsLegal l (past ++ later) → list_any such later ≡ false → P past → P (past ++ later)
+without_from l such P each past [] legal none_such here = subst P (sym (append-nil past)) here
+without_from l such P each past (e ∷ later) legal none_such here =
+    let joined : (past ++ e ∷ []) ++ later ≡ past ++ e ∷ later = append_assoc past (e ∷ []) later in
+    let parts = or_parts (such e) (list_any such later) none_such in
+    let next = each past e (legal_beginning l past (e ∷ later) legal) (legal_next l past e later legal) parts.0 here in
+    subst P joined
+    (without_from l such P each (past ++ e ∷ []) later (subst (IsLegal l) (sym joined) legal) parts.1 next)
+
+pub none_such : {A : Type 0} (xs : List A) → list_any (λ _. false) xs ≡ false
+none_such [] = refl
+none_such (x ∷ xs) = none_such xs
+
 -- what each step keeps holds of every legal longer history
 pub legal_from : (l : Limits) (P : List Event → Type 0)
     → ((past : List Event) (e : Event) → IsLegal l past → IsStep l past e → P past → P (past ++ e ∷ []))
     → (past later : List Event) → IsLegal l (past ++ later) → P past → P (past ++ later)
-legal_from l P each past [] legal here = subst P (sym (append-nil past)) here
-legal_from l P each past (e ∷ later) legal here =
-    let joined : (past ++ e ∷ []) ++ later ≡ past ++ e ∷ later = append_assoc past (e ∷ []) later in
-    let next = each past e (legal_beginning l past (e ∷ later) legal) (legal_next l past e later legal) here in
-    subst P joined (legal_from l P each (past ++ e ∷ []) later (subst (IsLegal l) (sym joined) legal) next)
+legal_from l P each past later legal =
+    without_from l (λ _. false) P (λ before e legal' step _. each before e legal' step) past later legal (none_such later)
 
 -- what holds of the empty history, and each step keeps, holds of every legal history
 pub legal_induction : (l : Limits) (P : List Event → Type 0) → P []

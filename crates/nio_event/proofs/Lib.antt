@@ -46,3 +46,4 @@ pub mod Selections
 pub mod Finds
 pub mod OwnPins
 pub mod OwnTaken
+pub mod KeptNames

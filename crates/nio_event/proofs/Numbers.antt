@@ -1,6 +1,6 @@
 -- Decimal numbers.
-use Rattle.std.proofs.Common.{◌≡◌, ◌≢◌, ℕ, zero, suc, ◌<◌, ◌≤◌, ◌^◌, ◌+◌, List, [], ◌∷◌, length, get_or, Result, Ok}
-use Rattle.std.proofs.Common.{arith, sym, subst, ap, ◌∙◌, lit<, refl}
+use Rattle.std.proofs.Common.{◌≡◌, ◌≢◌, ℕ, zero, suc, ◌<◌, ◌≤◌, ◌^◌, List, length, get_or, Result, Ok, arith, sym}
+use Rattle.std.proofs.Common.{subst, ap, ◌∙◌, lit<}
 use Rattle.std.specs.Fmt.{decimal}
 use Rattle.std.specs.Str.{IsUtf8}
 use Rattle.std.specs.Str.Parse.{AllDigits, digits_value, ParsesUnsigned}
@@ -14,11 +14,11 @@ use Rattle.nio_event.proofs.Readers.{reads_none, reads_some}
 pub own : IsNumeralModel (AllDigits 10) (digits_value 10)
 own = numerals_by_value (AllDigits 10) tells_digits
 
-no_plus : (n : ℕ) → n < 2 ^ 64 → get_or (decimal n) 0 0 ≢ 43
+pub no_plus : (n : ℕ) → n < 2 ^ 64 → get_or (decimal n) 0 0 ≢ 43
 no_plus n h =
     not_in_digits own (decimal n) 43 (digits_decimal own n h) (λ r. omega (arith, r)) 0 (decimal_nonempty n h)
 
-lone_zero : (n : ℕ) → n < 2 ^ 64 → get_or (decimal n) 0 0 ≡ 48 → length (decimal n) ≡ 1
+pub lone_zero : (n : ℕ) → n < 2 ^ 64 → get_or (decimal n) 0 0 ≡ 48 → length (decimal n) ≡ 1
 lone_zero zero h e = ap length (decimal_digit 0 (lit< tt))
 lone_zero (suc n) h e = absurd (omega (arith, first_decimal (suc n) (omega arith) h))
 

@@ -99,38 +99,25 @@ key_one x y f g e = by_forms (key_form x) (key_form y)
         (numbered_one 107 x.index y.index (omega (arith, f.index_fits)) (omega (arith, g.index_fits)) parts.0)
         (decimal_injective x.serial y.serial (omega (arith, f.serial_fits)) (omega (arith, g.serial_fits)) parts.1)
 
+-- each kind begins with another letter, but for three
 kind_one : (x y : Kind) → kind_word x ≡ kind_word y → x ≡ y
 kind_one Stream Stream e = refl
 kind_one Listener Listener e = refl
 kind_one Source Source e = refl
 kind_one Sink Sink e = refl
 kind_one Datagram Datagram e = refl
-kind_one Stream Listener e = absurd (omega (arith, byte_at 0 e))
 kind_one Stream Source e = absurd (omega (arith, byte_at 1 e))
 kind_one Stream Sink e = absurd (omega (arith, byte_at 1 e))
-kind_one Stream Datagram e = absurd (omega (arith, byte_at 0 e))
-kind_one Listener Stream e = absurd (omega (arith, byte_at 0 e))
-kind_one Listener Source e = absurd (omega (arith, byte_at 0 e))
-kind_one Listener Sink e = absurd (omega (arith, byte_at 0 e))
-kind_one Listener Datagram e = absurd (omega (arith, byte_at 0 e))
 kind_one Source Stream e = absurd (omega (arith, byte_at 1 e))
-kind_one Source Listener e = absurd (omega (arith, byte_at 0 e))
 kind_one Source Sink e = absurd (omega (arith, byte_at 1 e))
-kind_one Source Datagram e = absurd (omega (arith, byte_at 0 e))
 kind_one Sink Stream e = absurd (omega (arith, byte_at 1 e))
-kind_one Sink Listener e = absurd (omega (arith, byte_at 0 e))
 kind_one Sink Source e = absurd (omega (arith, byte_at 1 e))
-kind_one Sink Datagram e = absurd (omega (arith, byte_at 0 e))
-kind_one Datagram Stream e = absurd (omega (arith, byte_at 0 e))
-kind_one Datagram Listener e = absurd (omega (arith, byte_at 0 e))
-kind_one Datagram Source e = absurd (omega (arith, byte_at 0 e))
-kind_one Datagram Sink e = absurd (omega (arith, byte_at 0 e))
+kind_one _ _ e = absurd (omega (arith, byte_at 0 e))
 
 mode_one : (x y : Bool) → mode_word x ≡ mode_word y → x ≡ y
 mode_one true true e = refl
 mode_one false false e = refl
-mode_one true false e = absurd (omega (arith, byte_at 1 e))
-mode_one false true e = absurd (omega (arith, byte_at 1 e))
+mode_one _ _ e = absurd (omega (arith, byte_at 1 e))
 
 attachment_one : IsOne IsAttachment attachment_words
 attachment_one None None f g e = refl
@@ -155,12 +142,7 @@ waiting_one : IsOne IsTime waiting_words
 waiting_one Now Now f g e = refl
 waiting_one Wait Wait f g e = refl
 waiting_one (For x) (For y) f g e = ap For (time_one x y f g (word_at 1 e))
-waiting_one Now Wait f g e = absurd (omega (arith, byte_at 0 (word_at 0 e)))
-waiting_one Wait Now f g e = absurd (omega (arith, byte_at 0 (word_at 0 e)))
-waiting_one Now (For y) f g e = absurd (omega (arith, byte_at 0 (word_at 0 e)))
-waiting_one Wait (For y) f g e = absurd (omega (arith, byte_at 0 (word_at 0 e)))
-waiting_one (For x) Now f g e = absurd (omega (arith, byte_at 0 (word_at 0 e)))
-waiting_one (For x) Wait f g e = absurd (omega (arith, byte_at 0 (word_at 0 e)))
+waiting_one _ _ f g e = absurd (omega (arith, byte_at 0 (word_at 0 e)))
 
 pair_one : IsOne IsPair pair_word
 pair_one x y f g e =
@@ -323,7 +305,7 @@ line_one {caller = caller} {other = other} {c = c} {d = d} x y =
     )
 
 -- a call of a caller isn't blank
-line_full : {caller : CallerNo} {c : Call} {line : List ℕ} → IsLine caller c line → IsBlank line → ⊥
+pub line_full : {caller : CallerNo} {c : Call} {line : List ℕ} → IsLine caller c line → IsBlank line → ⊥
 line_full {caller = caller} {c = c} is blank =
     named_full (decimal caller.0 ++ spaced (call_words c))
     (subst IsBlank (is.text ∙ join_spaced (caller_word caller) (call_words c)) blank)

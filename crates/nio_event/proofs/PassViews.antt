@@ -51,28 +51,29 @@ acts_then me first second v0 v1 v2 p q = record {
 
 -- ---- what is passed to a call may be passed to a later one
 
-permanent_after : (me : CallerNo) (acts : List Act) (old new : PassView) → ActsClause me acts old new
-    → (f : PermanentFact) → stands f (known old) ≡ true → stands f (known new) ≡ true
-permanent_after me acts old new clause f here =
+-- what is permanent stands after the acts of a call
+pub lasts_over : {me : CallerNo} {acts : List Act} {old new : PassView} (f : PermanentFact) → ActsClause me acts old new
+    → stands f (known old) ≡ true → stands f (known new) ≡ true
+lasts_over {old = old} {new = new} f clause here =
     facts_are_permanent old.limits old.seen new.seen clause.history.goes_on clause.history.legal f here
 
 pub selector_after : {me : CallerNo} {acts : List Act} {old new : PassView} {s : SelNo} → ActsClause me acts old new
     → HasSelector old s → HasSelector new s
-selector_after {me = me} {acts = acts} {old = old} {new = new} {s = s} clause has = record {
+selector_after {s = s} clause has = record {
   inside = subst (λ (l : Limits). IsSelector l s) (sym clause.limits) has.inside;
-  made = permanent_after me acts old new clause (selector_made s.0) has.made;
+  made = lasts_over (selector_made s.0) clause has.made;
 }
 
 pub channel_after : {me : CallerNo} {acts : List Act} {old new : PassView} {c : ChanNo} → ActsClause me acts old new
     → HasChannel old c → HasChannel new c
-channel_after {me = me} {acts = acts} {old = old} {new = new} {c = c} clause has = record {
+channel_after {c = c} clause has = record {
   inside = subst (λ (l : Limits). IsChannel l c) (sym clause.limits) has.inside;
-  made = permanent_after me acts old new clause (channel_made c.0) has.made;
+  made = lasts_over (channel_made c.0) clause has.made;
 }
 
 pub key_after : {me : CallerNo} {acts : List Act} {old new : PassView} {k : KeyNo} → ActsClause me acts old new
     → HasKey old k → HasKey new k
-key_after {me = me} {acts = acts} {old = old} {new = new} {k = k} clause has = record {
+key_after {k = k} clause has = record {
   inside = subst (λ (l : Limits). IsKey l k.sel k.index) (sym clause.limits) has.inside;
-  published = permanent_after me acts old new clause (key_published k.sel.0 k.index k.serial) has.published;
+  published = lasts_over (key_published k.sel.0 k.index k.serial) clause has.published;
 }

@@ -1,9 +1,11 @@
 -- The laws of pins and of indexes that are claimed again.
 use Rattle.std.proofs.Common.{◌≡◌, ℕ, ◌==◌, ◌<◌, ◌≤◌, Bool, true, false, not, ◌&&◌, if◌then◌else◌, suc, Option, Some}
-use Rattle.std.proofs.Common.{None, List, [], ◌∷◌, ◌++◌, refl, ap, sym, ◌∙◌, subst, eqb-true, eq-eqb, arith}
+use Rattle.std.proofs.Common.{None, List, [], ◌∷◌, ◌++◌, refl, ap, sym, ◌∙◌, subst, eqb-true, arith}
 use Rattle.std.specs.Prelude.{nat_lt}
 use Rattle.std.specs.Option.{option_or}
-use Rattle.std.proofs.lemmas.Bool.{and_parts, and_from, ltb-true, lt-ltb}
+use Rattle.std.proofs.Math.Bool.{and-false}
+use Rattle.std.proofs.lemmas.Bool.{and_parts, and_from, le-ltb, ltb-false, not-true, not_from_false}
+use Rattle.std.proofs.lemmas.Option.{same_Some}
 use Rattle.nio_base.specs.Limits.{IsFit}
 use Rattle.nio_base.specs.declared.limits.Limits.{Limits}
 use Rattle.nio_base.specs.declared.numbers.CallerNo.{CallerNo}
@@ -11,14 +13,15 @@ use Rattle.nio_base.specs.declared.numbers.ChanNo.{ChanNo}
 use Rattle.nio_base.specs.declared.numbers.KeyId.{KeyId}
 use Rattle.nio_event.proofs.Claims.{claim_told, pin_stays, if_some, claim_pins}
 use Rattle.nio_event.proofs.Counts.{pinned_by, pinned_by_nobody}
-use Rattle.nio_event.proofs.KeyChanges.{KeepsStages, stages_keep, back_parts, published_already, cancelled_already}
-use Rattle.nio_event.proofs.KeyChanges.{removed_already}
-use Rattle.nio_event.proofs.LastsAlone.{without_from, has-mine}
+use Rattle.nio_event.proofs.KeyChanges.{KeepsStages, stages_keep, IsNoClaimAgain, back_parts, published_already}
+use Rattle.nio_event.proofs.KeyChanges.{cancelled_already, removed_already}
+use Rattle.nio_event.proofs.LastsAlone.{has-mine, spares_not, same_two}
 use Rattle.nio_event.proofs.LastsOnceSound.{not_below_next}
-use Rattle.nio_event.proofs.Legal.{legal_beginning, legal_next, legal_induction}
+use Rattle.nio_event.proofs.Legal.{legal_beginning, legal_next, legal_induction, without_from}
 use Rattle.nio_event.proofs.OneMore.{state_after-more, mine-own, mine-other, last-more, since_from-more}
 use Rattle.nio_event.proofs.Put.{put_at_keeps, put_at_both, put_at-there}
 use Rattle.nio_event.proofs.Soundness.{legal-sound, held_some, both_ways, pinned-claimed, back_not_unclaimed}
+use Rattle.nio_event.proofs.Told.{stage_told}
 use Rattle.nio_event.proofs.Within.{legal-within}
 use Rattle.nio_event.specs.Acts.{effect, new_key}
 use Rattle.nio_event.specs.Answers.{Answers, is_pinned}
@@ -31,8 +34,7 @@ use Rattle.nio_event.specs.Sets.{was_claimed, can_come_back}
 use Rattle.nio_event.specs.Sound.{IsSound}
 use Rattle.nio_event.specs.State.{State, put_at}
 use Rattle.nio_event.specs.declared.act.Act.{Act}
-use Rattle.nio_event.specs.declared.act.Act.TheVariants.{CancelKey, LookKey, Claim, Publish, Enrol, Remove, Pin, Unpin}
-use Rattle.nio_event.specs.declared.act.Act.TheVariants.{ClaimAgain, PutFree, TakeFree}
+use Rattle.nio_event.specs.declared.act.Act.TheVariants.{Claim, Enrol, Unpin, ClaimAgain, PutFree, TakeFree}
 use Rattle.nio_event.specs.declared.event.Event.{Event}
 use Rattle.nio_event.specs.declared.found.Stage.{Stage}
 
@@ -118,51 +120,11 @@ claims_again_where_unpinned l me s i c from found past later fit legal = (unpinn
 
 -- ---- the stage that a caller found of an index that it has taken
 
--- a look at an index finds its stage, and changes nothing
-look_finds : (st : State) (me : CallerNo) (act : Act) (s i : ℕ) (found : Stage) → Answers st me act
-    → stage_found s i act ≡ Some found → (effect st me act).key s i ≡ found
-look_finds st me (LookKey s' i' k) s i found answers looked =
-    let here = if_some ((s'.0 == s) && (i' == i)) k found looked in
-    let both = and_parts (s'.0 == s) (i' == i) here.0 in
-    let stands : k ≡ st.key s'.0 i' = cc in
-    subst (λ (a : ℕ). st.key a i ≡ found) (eqb-true s'.0 s both.0)
-    (subst (λ (b : ℕ). st.key s'.0 b ≡ found) (eqb-true i' i both.1) (sym stands ∙ here.1))
-look_finds st me (Pin s' i' k) s i found answers looked =
-    let here = if_some ((s'.0 == s) && (i' == i)) k found looked in
-    let both = and_parts (s'.0 == s) (i' == i) here.0 in
-    let stands : k ≡ st.key s'.0 i' = cc in
-    subst (λ (a : ℕ). st.key a i ≡ found) (eqb-true s'.0 s both.0)
-    (subst (λ (b : ℕ). st.key s'.0 b ≡ found) (eqb-true i' i both.1) (sym stands ∙ here.1))
-look_finds st me act s i found answers looked = absurd (cc looked)
-
 -- an index that a caller has taken before and after a step keeps its stage
 taken_stage_stays : (st : State) (me n : CallerNo) (act : Act) (from : Stage) → Answers st me act → IsSound st
     → (s i : ℕ) → ((me.0 == n.0) && takes_free s i act) ≡ false
     → (is_held_by n (st.taker s i) ≡ true → st.key s i ≡ from) → is_held_by n ((effect st me act).taker s i) ≡ true
     → (effect st me act).key s i ≡ from
-taken_stage_stays st me n (CancelKey s' i' found) from answers sound s i spared =
-    put_at_keeps (λ a b k. is_held_by n (st.taker a b) ≡ true → k ≡ from) st.key s'.0 i' _
-    (λ old taken. cancelled_already (st.key s'.0 i')
-    (back_parts (st.key s'.0 i') (sound.taken_back s'.0 i' (held_some n (st.taker s'.0 i') taken))).cancelled
-    ∙ old taken) s i
-taken_stage_stays st me n (Publish s' i' found) from answers sound s i spared =
-    put_at_keeps (λ a b k. is_held_by n (st.taker a b) ≡ true → k ≡ from) st.key s'.0 i' _
-    (λ old taken. published_already (st.key s'.0 i')
-    (back_parts (st.key s'.0 i') (sound.taken_back s'.0 i' (held_some n (st.taker s'.0 i') taken))).published
-    ∙ old taken) s i
-taken_stage_stays st me n (Remove s' i' found) from answers sound s i spared =
-    put_at_keeps (λ a b k. is_held_by n (st.taker a b) ≡ true → k ≡ from) st.key s'.0 i' _
-    (λ old taken. removed_already (st.key s'.0 i')
-    (back_parts (st.key s'.0 i') (sound.taken_back s'.0 i' (held_some n (st.taker s'.0 i') taken))).removed
-    ∙ old taken) s i
-taken_stage_stays st me n (Claim s' i' c true) from answers sound s i spared =
-    put_at_keeps (λ a b k. is_held_by n (st.taker a b) ≡ true → k ≡ from) st.key s'.0 i' _ (λ old. old) s i
-taken_stage_stays st me n (Claim s' i' c false) from answers sound s i spared =
-    let unclaimed_yet : (st.key s'.0 i').claimed ≡ false = cc in
-    put_at_keeps (λ a b k. is_held_by n (st.taker a b) ≡ true → k ≡ from) st.key s'.0 i' _
-    (λ old taken. absurd
-    (back_not_unclaimed (st.key s'.0 i') (sound.taken_back s'.0 i' (held_some n (st.taker s'.0 i') taken))
-    unclaimed_yet)) s i
 taken_stage_stays st me n (ClaimAgain s' i' c again true) from answers sound s i spared =
     put_at_both (λ _ _ k o. is_held_by n o ≡ true → k ≡ from) st.key st.taker s'.0 i' _ _ (λ old. old) s i
 taken_stage_stays st me n (ClaimAgain s' i' c again false) from answers sound s i spared =
@@ -172,23 +134,33 @@ taken_stage_stays st me n (PutFree s' i') from answers sound s i spared =
 taken_stage_stays st me n (TakeFree s' i' true) from answers sound s i spared = λ old taken.
     put_at_keeps (λ a b o. ((me.0 == n.0) && ((s'.0 == a) && (i' == b))) ≡ false → is_held_by n o ≡ true
     → st.key a b ≡ from) st.taker s'.0 i' (Some me)
-    (λ _ spared' its. absurd (both_ways ((me.0 == n.0) && ((s'.0 == s'.0) && (i' == i'))) (taken_here its) spared')) s i
+    (λ _ spared' its. absurd
+    (spares_not me n ((s'.0 == s'.0) && (i' == i')) (eqb-true me.0 n.0 its) (same_two s'.0 i') spared')) s i
     (λ _. old) spared taken
-  where
-    taken_here : (me.0 == n.0) ≡ true → ((me.0 == n.0) && ((s'.0 == s'.0) && (i' == i'))) ≡ true
-    taken_here its =
-        and_from (me.0 == n.0) ((s'.0 == s'.0) && (i' == i')) its
-        (and_from (s'.0 == s'.0) (i' == i') (eq-eqb s'.0 s'.0 refl) (eq-eqb i' i' refl))
 taken_stage_stays st me n (TakeFree s' i' false) from answers sound s i spared =
     put_at_keeps (λ a b o. is_held_by n o ≡ true → st.key a b ≡ from) st.taker s'.0 i' (st.taker s'.0 i')
     (λ old. old) s i
-taken_stage_stays st me n act from answers sound s i spared = λ old. old
+taken_stage_stays st me n act from answers sound s i spared =
+    stages_keep IsNoClaimAgain st me (λ a b k. is_held_by n (st.taker a b) ≡ true → k ≡ from) (record {
+      claimed = λ s' i' c unclaimed_yet old taken. absurd
+          (back_not_unclaimed (st.key s'.0 i') (back s'.0 i' taken) unclaimed_yet);
+      published = λ s' i' found may old taken.
+          published_already (st.key s'.0 i') (back_parts (st.key s'.0 i') (back s'.0 i' taken)).published ∙ old taken;
+      cancelled = λ s' i' found may old taken.
+          cancelled_already (st.key s'.0 i') (back_parts (st.key s'.0 i') (back s'.0 i' taken)).cancelled ∙ old taken;
+      removed = λ s' i' found may old taken.
+          removed_already (st.key s'.0 i') (back_parts (st.key s'.0 i') (back s'.0 i' taken)).removed ∙ old taken;
+      again = λ s' i' c from' may. absurd (may s' i' c from' refl);
+    }) act (λ s' i' c from' is. cc) answers s i
+  where
+    back : (a b : ℕ) → is_held_by n (st.taker a b) ≡ true → can_come_back (st.key a b) ≡ true
+    back a b taken = sound.taken_back a b (held_some n (st.taker a b) taken)
 
 -- what a caller found of an index since it took it is its stage, while the caller has it
-pub stage_told : (l : Limits) (n : CallerNo) (s i : ℕ) (events : List Event) → IsLegal l events
+pub taken_stage_told : (l : Limits) (n : CallerNo) (s i : ℕ) (events : List Event) → IsLegal l events
     → (from : Stage) → is_held_by n ((state_after events).taker s i) ≡ true
     → last (stage_found s i) (since_taken s i (mine n events)) ≡ Some from → (state_after events).key s i ≡ from
-stage_told l n s i = legal_induction l
+taken_stage_told l n s i = legal_induction l
     (λ evs. (from : Stage) → is_held_by n ((state_after evs).taker s i) ≡ true
     → last (stage_found s i) (since_taken s i (mine n evs)) ≡ Some from → (state_after evs).key s i ≡ from)
     (λ from taken found. absurd cc) each
@@ -215,13 +187,9 @@ stage_told l n s i = legal_induction l
         by_look : (x : Option Stage) → stage_found s i e.act ≡ x → takes_free s i e.act ≡ false
             → option_or x (last (stage_found s i) (since_taken s i (mine n past))) ≡ Some from
             → (effect (state_after past) e.caller e.act).key s i ≡ from
-        by_look None looked other told = kept (ap (λ b. is_by n e && b) other ∙ and_no (is_by n e)) told
-          where
-            and_no : (b : Bool) → (b && false) ≡ false
-            and_no true = refl
-            and_no false = refl
+        by_look None looked other told = kept (ap (λ b. is_by n e && b) other ∙ and-false (is_by n e)) told
         by_look (Some k) looked other told =
-            look_finds (state_after past) e.caller e.act s i from step.answers (looked ∙ told)
+            stage_told (state_after past) e.caller e.act s i from step.answers (looked ∙ told)
 
         by_span : (b : Bool) → takes_free s i e.act ≡ b → is_by n e ≡ true
             → (effect (state_after past) e.caller e.act).key s i ≡ from
@@ -252,16 +220,13 @@ claims_again_the_removed l me s i c from found past later legal =
     let legal_past : IsLegal l past = legal_beginning l past (event_of me (ClaimAgain s i c from found) ∷ later)
     legal in
     let may = (legal_next l past (event_of me (ClaimAgain s i c from found)) later legal).condition in
-    let stands : (state_after past).key s.0 i ≡ from = stage_told l me s.0 i past legal_past from may.3 may.4 in (
+    let stands : (state_after past).key s.0 i ≡ from = taken_stage_told l me s.0 i past legal_past from may.3 may.4 in (
       stands,
       subst (λ k. can_come_back k ≡ true) stands
           ((legal-sound l past legal_past).taken_back s.0 i (held_some me ((state_after past).taker s.0 i) may.3)),
     )
 
 -- ---- a caller's own claim
-
-claim_is : (x y : OwnClaim) → Some x ≡ Some y → x ≡ y
-claim_is x y e = cc
 
 -- a step by which a caller claims an index gives the index the key of the claim
 claim_made : (l : Limits) (past : List Event) (me : CallerNo) (act : Act) (s i : ℕ) (claim : OwnClaim) → IsLegal l past
@@ -273,7 +238,7 @@ claim_made l past me (Claim s' i' c false) s i claim legal may changed =
     let there : put_at st.key s'.0 i' (new_key c 0) s i ≡ new_key c 0 = put_at-there st.key s'.0 i'
     (new_key c 0) s i here.0 in
     subst (λ cl. IsOfClaim cl (put_at st.key s'.0 i' (new_key c 0) s i))
-    (claim_is (record { channel = c; serial = 0 }) claim here.1)
+    (same_Some (record { channel = c; serial = 0 }) claim here.1)
     (record {
       claimed = ap (λ k. k.claimed) there;
       serial = ap (λ k. k.serial) there;
@@ -285,9 +250,9 @@ claim_made l past me (ClaimAgain s' i' c from false) s i claim legal may changed
     let here = if_some ((s'.0 == s) && (i' == i)) (Some (record { channel = c; serial = suc from.serial }))
     (Some claim) changed in
     let there : put_at st.key s'.0 i' next s i ≡ next = put_at-there st.key s'.0 i' next s i here.0 in
-    let stands : st.key s'.0 i' ≡ from = stage_told l me s'.0 i' past legal from may.3 may.4 in
+    let stands : st.key s'.0 i' ≡ from = taken_stage_told l me s'.0 i' past legal from may.3 may.4 in
     subst (λ cl. IsOfClaim cl (put_at st.key s'.0 i' next s i))
-    (claim_is (record { channel = c; serial = suc from.serial }) claim here.1)
+    (same_Some (record { channel = c; serial = suc from.serial }) claim here.1)
     (record {
       claimed = ap (λ k. k.claimed) there;
       serial =
@@ -327,13 +292,7 @@ abbrev IsKeyOf : ℕ → ℕ → Stage → Type 0
 IsKeyOf c serial k = (was_claimed k serial ≡ true) × (k.serial ≡ serial → k.chan.0 ≡ c)
 
 not_below : (a b : ℕ) → a ≡ b → not (nat_lt a b) ≡ true
-not_below a b same = by_test (nat_lt a b) refl
-  where
-    by_test : (t : Bool) → nat_lt a b ≡ t → not t ≡ true
-    by_test true below =
-        let lower : a < b = ltb-true a b below in
-        absurd (omega arith)
-    by_test false below = refl
+not_below a b same = not_from_false (nat_lt a b) (le-ltb a b (omega arith))
 
 key_of_keeps : (May : Act → Type 0) (st : State) (c serial : ℕ) → KeepsStages May st (λ _ _ k. IsKeyOf c serial k)
 key_of_keeps May st c serial = record {
@@ -352,12 +311,10 @@ key_of_keeps May st c serial = record {
   );
 }
   where
-    is_no : (b : Bool) → b ≡ true → not b ≡ true → ⊥
-    is_no true e f = cc
-    is_no false e f = cc
-
     not_next : (a : ℕ) → not (nat_lt a serial) ≡ true → suc a ≡ serial → ⊥
-    not_next a above same = is_no (nat_lt a serial) (lt-ltb a serial (omega arith)) above
+    not_next a above same =
+        let upper : serial ≤ a = ltb-false a serial (not-true (nat_lt a serial) above) in
+        omega arith
 
 -- the enrolled key of a channel is a key of it
 enrolled_step : (l : Limits) (past : List Event) (me : CallerNo) (act : Act) → IsFit l → IsLegal l past
@@ -370,11 +327,8 @@ enrolled_step l past me (Enrol c' s' i serial found) fit legal may answers befor
     put_at_keeps (λ a b o. (k : KeyId) → o ≡ Some k → IsKeyOf a k.serial ((state_after past).key b k.index))
     (state_after past).enrolled c'.0 s'.0 (Some (record { index = i; serial = serial }))
     (λ _ k e. subst (λ x. IsKeyOf c'.0 x.serial ((state_after past).key s'.0 x.index))
-    (key_is (record { index = i; serial = serial }) k e) of_claim) c s (before c s)
+    (same_Some (record { index = i; serial = serial }) k e) of_claim) c s (before c s)
   where
-    key_is : (x y : KeyId) → Some x ≡ Some y → x ≡ y
-    key_is x y e = cc
-
     of_claim : IsKeyOf c'.0 serial ((state_after past).key s'.0 i)
     of_claim =
         let its = (own_claims_stand l me s' i (record { channel = c'; serial = serial }) past fit legal may.2).1 in

@@ -20,7 +20,7 @@ use Rattle.nio_base.specs.declared.group.Outcome.{Outcome}
 use Rattle.nio_base.specs.declared.group.Outcome.TheVariants as outcome
 use Rattle.nio_base.specs.declared.group.Why.TheVariants as failed
 use Rattle.nio_base.specs.declared.kind.Kind.{Kind}
-use Rattle.nio_base.specs.declared.kind.Kind.TheVariants.{Stream, Listener, Source, Sink, Datagram}
+use Rattle.nio_base.specs.declared.kind.Kind.TheVariants.{Stream}
 use Rattle.nio_base.specs.declared.numbers.CallerNo.{CallerNo}
 use Rattle.nio_base.specs.declared.numbers.ChanNo.{ChanNo}
 use Rattle.nio_base.specs.declared.numbers.GChan.{GChan}
@@ -73,18 +73,24 @@ words_weaker P weaker words plain =
 
 -- a word that computes
 
-abbrev is_plain_byte : ℕ → Bool
+abbrev pub is_plain_byte : ℕ → Bool
 is_plain_byte b = nat_le 45 b && not (b == 62)
 
-plain_where_so : (b : ℕ) → is_plain_byte b ≡ true → IsPlainByte b
+pub plain_where_so : (b : ℕ) → is_plain_byte b ≡ true → IsPlainByte b
 plain_where_so b e =
     let parts = and_parts (nat_le 45 b) (not (b == 62)) e in
     (leb-true 45 b parts.0, λ arrow. false≢true (sym (ap not (eq-eqb b 62 arrow)) ∙ parts.1))
 
-literal : (word : List ℕ) → list_all is_plain_byte word ≡ true → IsPlain word
+pub literal : (word : List ℕ) → list_all is_plain_byte word ≡ true → IsPlain word
 literal word e =
     All-weaker (λ b. is_plain_byte b ≡ true) IsPlainByte plain_where_so word
     (AllPass-from_list_all is_plain_byte word e)
+
+literals : (words : List (List ℕ)) → list_all (list_all is_plain_byte) words ≡ true → AllByRecursion IsPlain words
+literals [] e = tt
+literals (word ∷ words) e =
+    let parts = and_parts (list_all is_plain_byte word) (list_all (list_all is_plain_byte) words) e in
+    (literal word parts.0, literals words parts.1)
 
 -- numbers, and letters with a number
 
@@ -170,11 +176,8 @@ bytes_plain (b ∷ bytes) = hex_digits_plain (b ∷ bytes)
 -- the words of calls
 
 kind_plain : (kind : Kind) → IsPlain (kind_word kind)
-kind_plain Stream = literal (codes "stream") refl
-kind_plain Listener = literal (codes "listener") refl
-kind_plain Source = literal (codes "source") refl
-kind_plain Sink = literal (codes "sink") refl
-kind_plain Datagram = literal (codes "datagram") refl
+kind_plain Stream = literal (kind_word Stream) refl
+kind_plain kind = literal (kind_word kind) refl
 
 mode_plain : (on : Bool) → IsPlain (mode_word on)
 mode_plain true = literal (codes "on") refl
@@ -201,21 +204,16 @@ told_plain false pairs = pairs_plain pairs
 -- the words of calls on the group
 
 group_kind_plain : (kind : GKind) → IsPlain (group_kind_word kind)
-group_kind_plain group_kind.Stream = literal (codes "stream") refl
-group_kind_plain group_kind.Listener = literal (codes "listener") refl
+group_kind_plain group_kind.Stream = literal (group_kind_word group_kind.Stream) refl
+group_kind_plain kind = literal (group_kind_word kind) refl
 
 operation_kind_plain : (kind : OpKind) → IsPlain (operation_kind_word kind)
-operation_kind_plain op.Accept = literal (codes "accept") refl
-operation_kind_plain op.Connect = literal (codes "connect") refl
-operation_kind_plain op.Read = literal (codes "read") refl
-operation_kind_plain op.Write = literal (codes "write") refl
+operation_kind_plain op.Accept = literal (operation_kind_word op.Accept) refl
+operation_kind_plain kind = literal (operation_kind_word kind) refl
 
 outcome_plain : (o : Outcome) → AllByRecursion IsPlain (outcome_words o)
 outcome_plain (outcome.Count k) = (literal (codes "count") refl, (decimal_plain k, tt))
-outcome_plain outcome.End = (literal (codes "end") refl, tt)
-outcome_plain outcome.Connected = (literal (codes "connected") refl, tt)
-outcome_plain outcome.Accepted = (literal (codes "accepted") refl, tt)
-outcome_plain outcome.Fault = (literal (codes "fault") refl, tt)
+outcome_plain o = literals (outcome_words o) refl
 
 group_arguments_plain : (g : GroupCall) → AllByRecursion IsPlain (group_argument_words g)
 group_arguments_plain (group.Gopen kind) = (group_kind_plain kind, tt)
@@ -265,12 +263,8 @@ call_plain call = (word_plain (call_word call), arguments_plain (arguments call)
 -- the words of replies
 
 why_plain : (w : Why) → IsPlain (why_word w)
-why_plain why.Ready = literal (codes "ready") refl
-why_plain why.Closed = literal (codes "closed") refl
-why_plain why.Now = literal (codes "now") refl
-why_plain why.Woken = literal (codes "woken") refl
-why_plain why.Interrupted = literal (codes "interrupted") refl
-why_plain why.Elapsed = literal (codes "elapsed") refl
+why_plain why.Ready = literal (why_word why.Ready) refl
+why_plain w = literal (why_word w) refl
 
 keys_plain : (keys : List KeyId) → AllByRecursion IsPlain (map key_word keys)
 keys_plain [] = tt
@@ -282,35 +276,16 @@ looked_plain (p ∷ pairs) = pairs_plain (p ∷ pairs)
 
 finished_plain : (result : Finished) → AllByRecursion IsPlain (finished_words result)
 finished_plain (finished.Count k) = (literal (codes "count") refl, (decimal_plain k, tt))
-finished_plain finished.End = (literal (codes "end") refl, tt)
-finished_plain finished.Connected = (literal (codes "connected") refl, tt)
 finished_plain (finished.Accepted g) = (literal (codes "accepted") refl, (group_channel_plain g, tt))
-finished_plain (finished.Failed failed.Fault) = (literal (codes "fault") refl, tt)
-finished_plain (finished.Failed failed.AsynchronousClose) = (literal (codes "async-close") refl, tt)
-finished_plain (finished.Failed failed.ClosedChannel) = (literal (codes "closed-channel") refl, tt)
-finished_plain (finished.Failed failed.ShutdownGroup) = (literal (codes "shutdown-group") refl, tt)
-finished_plain (finished.Failed failed.ChannelsSpent) = (literal (codes "channels-spent") refl, tt)
+finished_plain (finished.Failed failed.Fault) = literals (finished_words (finished.Failed failed.Fault)) refl
+finished_plain result = literals (finished_words result) refl
 
 group_reply_plain : (r : GroupReply) → AllByRecursion IsPlain (group_reply_words r)
 group_reply_plain (group_reply.Channel g) = (group_channel_plain g, tt)
 group_reply_plain (group_reply.Op n) = (literal (codes "op") refl, (decimal_plain n.0, tt))
 group_reply_plain (group_reply.Completed n result) =
     (literal (codes "op") refl, (decimal_plain n.0, finished_plain result))
-group_reply_plain group_reply.ShutdownGroup = (literal (codes "shutdown-group") refl, tt)
-group_reply_plain group_reply.WrongKind = (literal (codes "wrong-kind") refl, tt)
-group_reply_plain group_reply.AlreadyBound = (literal (codes "already-bound") refl, tt)
-group_reply_plain group_reply.AlreadyConnected = (literal (codes "already-connected") refl, tt)
-group_reply_plain group_reply.ConnectionPending = (literal (codes "connection-pending") refl, tt)
-group_reply_plain group_reply.NotYetConnected = (literal (codes "not-yet-connected") refl, tt)
-group_reply_plain group_reply.NotYetBound = (literal (codes "not-yet-bound") refl, tt)
-group_reply_plain group_reply.ReadPending = (literal (codes "read-pending") refl, tt)
-group_reply_plain group_reply.WritePending = (literal (codes "write-pending") refl, tt)
-group_reply_plain group_reply.AcceptPending = (literal (codes "accept-pending") refl, tt)
-group_reply_plain group_reply.OpsSpent = (literal (codes "ops-spent") refl, tt)
-group_reply_plain group_reply.FlightFull = (literal (codes "flight-full") refl, tt)
-group_reply_plain group_reply.NotPending = (literal (codes "not-pending") refl, tt)
-group_reply_plain group_reply.WrongOutcome = (literal (codes "wrong-outcome") refl, tt)
-group_reply_plain group_reply.NotRunning = (literal (codes "not-running") refl, tt)
+group_reply_plain r = literals (group_reply_words r) refl
 
 pub reply_words_plain : (r : Reply) → AllByRecursion IsPlain (reply_words r)
 reply_words_plain (reply.Selector s) = (selector_plain s, tt)
@@ -318,38 +293,9 @@ reply_words_plain (reply.Channel c) = (channel_plain c, tt)
 reply_words_plain (reply.Key k) = (key_plain k, tt)
 reply_words_plain (reply.Number n) = (decimal_plain n, tt)
 reply_words_plain (reply.Names keys) = keys_plain keys
-reply_words_plain reply.«Ok» = (literal (codes "ok") refl, tt)
-reply_words_plain reply.Yes = (literal (codes "yes") refl, tt)
-reply_words_plain reply.No = (literal (codes "no") refl, tt)
-reply_words_plain reply.None = (literal (codes "none") refl, tt)
 reply_words_plain (reply.Looked pairs) = (literal (codes "looked") refl, looked_plain pairs)
 reply_words_plain (reply.Selected count w) = (literal (codes "selected") refl, (decimal_plain count, (why_plain w, tt)))
-reply_words_plain reply.Again = (literal (codes "again") refl, tt)
-reply_words_plain reply.Left = (literal (codes "left") refl, tt)
-reply_words_plain reply.Already = (literal (codes "already") refl, tt)
-reply_words_plain reply.Closing = (literal (codes "closing") refl, tt)
-reply_words_plain reply.Closed = (literal (codes "closed") refl, tt)
-reply_words_plain reply.SelectorsSpent = (literal (codes "selectors-spent") refl, tt)
-reply_words_plain reply.ChannelsSpent = (literal (codes "channels-spent") refl, tt)
-reply_words_plain reply.ClosedChannel = (literal (codes "closed-channel") refl, tt)
-reply_words_plain reply.IllegalBlockingMode = (literal (codes "illegal-blocking-mode") refl, tt)
-reply_words_plain reply.IllegalOps = (literal (codes "illegal-ops") refl, tt)
-reply_words_plain reply.CancelledKey = (literal (codes "cancelled-key") refl, tt)
-reply_words_plain reply.ClosedSelector = (literal (codes "closed-selector") refl, tt)
-reply_words_plain reply.Full = (literal (codes "full") refl, tt)
-reply_words_plain reply.Busy = (literal (codes "busy") refl, tt)
-reply_words_plain reply.NegativeTimeout = (literal (codes "negative-timeout") refl, tt)
-reply_words_plain reply.NotSelecting = (literal (codes "not-selecting") refl, tt)
-reply_words_plain reply.NotClosing = (literal (codes "not-closing") refl, tt)
-reply_words_plain reply.NoCaller = (literal (codes "no-caller") refl, tt)
-reply_words_plain reply.NoSelector = (literal (codes "no-selector") refl, tt)
-reply_words_plain reply.NoChannel = (literal (codes "no-channel") refl, tt)
-reply_words_plain reply.NoKey = (literal (codes "no-key") refl, tt)
 reply_words_plain (reply.Ends source sink) = (channel_plain source, (channel_plain sink, tt))
 reply_words_plain (reply.Bytes bytes) = (bytes_plain bytes, tt)
-reply_words_plain reply.End = (literal (codes "end") refl, tt)
-reply_words_plain reply.NotOwner = (literal (codes "not-owner") refl, tt)
-reply_words_plain reply.ClosedByInterrupt = (literal (codes "closed-by-interrupt") refl, tt)
-reply_words_plain reply.AsyncClose = (literal (codes "async-close") refl, tt)
-reply_words_plain reply.BrokenPipe = (literal (codes "broken-pipe") refl, tt)
 reply_words_plain (reply.Group r) = group_reply_plain r
+reply_words_plain r = literals (reply_words r) refl

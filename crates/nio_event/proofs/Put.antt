@@ -1,7 +1,13 @@
 -- What a change at one number, or at one pair of numbers, keeps.
-use Rattle.std.proofs.Common.{◌≡◌, ℕ, ◌==◌, Bool, true, false, cond, ◌&&◌, refl, ap, sym, subst, eqb-true, eq-eqb}
-use Rattle.std.proofs.lemmas.Bool.{and_parts, and_from}
+use Rattle.std.proofs.Common.{◌≡◌, ◌≢◌, ℕ, ◌==◌, Bool, true, false, cond, ◌&&◌, refl, ap, sym, subst, eqb-true, eq-eqb}
+use Rattle.std.proofs.lemmas.Bool.{and_parts, and_from, ne_eqb}
 use Rattle.nio_event.specs.State.{put, put_at}
+
+-- what is true of a pair of numbers is true of a pair that the test finds the same
+pub same_pair : (P : ℕ → ℕ → Type 0) (i j m n : ℕ) → ((i == m) && (j == n)) ≡ true → P i j → P m n
+same_pair P i j m n same here =
+    let both = and_parts (i == m) (j == n) same in
+    subst (λ (k : ℕ). P k n) (eqb-true i m both.0) (subst (λ (k : ℕ). P i k) (eqb-true j n both.1) here)
 
 -- a fact of what stands at a number stays where the new value has it
 pub put_keeps : {A : Type 0} (R : ℕ → A → Type 0) (f : ℕ → A) (i : ℕ) (x : A) → (R i (f i) → R i x)
@@ -19,13 +25,7 @@ pub put_at_keeps : {A : Type 0} (R : ℕ → ℕ → A → Type 0) (f : ℕ → 
 put_at_keeps {A = A} R f i j x new m n here = by_test ((m == i) && (n == j)) refl
   where
     by_test : (b : Bool) → ((m == i) && (n == j)) ≡ b → R m n (cond b x (f m n))
-    by_test true e =
-        let both = and_parts (m == i) (n == j) e in
-        let first : m ≡ i = eqb-true m i both.0 in
-        let second : n ≡ j = eqb-true n j both.1 in
-        let there : R i j (f i j) = subst (λ (k : ℕ). R i k (f i k)) second
-        (subst (λ (k : ℕ). R k n (f k n)) first here) in
-        subst (λ (k : ℕ). R k n x) (sym first) (subst (λ (k : ℕ). R i k x) (sym second) (new there))
+    by_test true e = same_pair (λ a b. (R a b (f a b) → R a b x) → R m n x) m n i j e (λ its. its here) new
     by_test false e = here
 
 -- a fact of what stands at a number stood before where the new value has it only then
@@ -42,18 +42,16 @@ put_gave {A = A} R f i x old n now = by_test (n == i) refl now
 pub put-same : {A : Type 0} (f : ℕ → A) (i : ℕ) (x : A) → put f i x i ≡ x
 put-same f i x = ap (λ b. cond b x (f i)) (eq-eqb i i refl)
 
+pub put-other : {A : Type 0} (f : ℕ → A) (i : ℕ) (x : A) (n : ℕ) → n ≢ i → put f i x n ≡ f n
+put-other f i x n other = ap (λ b. cond b x (f n)) (ne_eqb n i other)
+
 pub put_at-same : {A : Type 0} (f : ℕ → ℕ → A) (i j : ℕ) (x : A) → put_at f i j x i j ≡ x
 put_at-same f i j x = ap (λ b. cond b x (f i j)) (and_from (i == i) (j == j) (eq-eqb i i refl) (eq-eqb j j refl))
 
 -- what is put at a pair of numbers stands there
 pub put_at-there : {A : Type 0} (f : ℕ → ℕ → A) (i j : ℕ) (x : A) (m n : ℕ) → ((i == m) && (j == n)) ≡ true
     → put_at f i j x m n ≡ x
-put_at-there f i j x m n here =
-    let both = and_parts (i == m) (j == n) here in
-    let first : i ≡ m = eqb-true i m both.0 in
-    let second : j ≡ n = eqb-true j n both.1 in
-    subst (λ (k : ℕ). put_at f i j x k n ≡ x) first
-    (subst (λ (k : ℕ). put_at f i j x i k ≡ x) second (put_at-same f i j x))
+put_at-there f i j x m n here = same_pair (λ a b. put_at f i j x a b ≡ x) i j m n here (put_at-same f i j x)
 
 -- a fact of what stands at a number in two functions stays where both new values have it
 pub put_both : {A B : Type 0} (R : ℕ → A → B → Type 0) (f : ℕ → A) (g : ℕ → B) (i : ℕ) (x : A) (y : B) → R i x y
@@ -72,12 +70,7 @@ put_at_both {A = A} {B = B} R f g i j x y new m n here = by_test ((m == i) && (n
   where
     by_test : (b : Bool) → ((m == i) && (n == j)) ≡ b → R m n (cond b x (f m n)) (cond b y (g m n))
     by_test true e =
-        let both = and_parts (m == i) (n == j) e in
-        let first : m ≡ i = eqb-true m i both.0 in
-        let second : n ≡ j = eqb-true n j both.1 in
-        let there : R i j (f i j) (g i j) = subst (λ (k : ℕ). R i k (f i k) (g i k)) second
-        (subst (λ (k : ℕ). R k n (f k n) (g k n)) first here) in
-        subst (λ (k : ℕ). R k n x y) (sym first) (subst (λ (k : ℕ). R i k x y) (sym second) (new there))
+        same_pair (λ a b. (R a b (f a b) (g a b) → R a b x y) → R m n x y) m n i j e (λ its. its here) new
     by_test false e = here
 
 -- a fact of what stands at three numbers, of which the last is changed alone

@@ -1,13 +1,13 @@
 -- While a caller selects, a key that it doesn't remove stays.
 use Rattle.std.proofs.Common.{◌≡◌, ℕ, ◌==◌, true, false, ◌&&◌, inl, inr, List, ◌++◌, refl, ap, sym, ◌∙◌, subst, eq-eqb}
-use Rattle.std.proofs.lemmas.Bool.{and_parts, and_from}
+use Rattle.std.proofs.lemmas.Bool.{and_parts, and_from, false_from_ne_true}
 use Rattle.nio_base.specs.declared.limits.Limits.{Limits}
 use Rattle.nio_base.specs.declared.numbers.CallerNo.{CallerNo}
 use Rattle.nio_base.specs.declared.numbers.SelNo.{SelNo}
 use Rattle.nio_event.proofs.Keeping.{stands_while}
 use Rattle.nio_event.proofs.KeyChanges.{KeepsStages, stages_keep, back_parts}
 use Rattle.nio_event.proofs.LastsAlone.{one_holder}
-use Rattle.nio_event.proofs.Soundness.{legal-sound, held_some, both_ways, not_true, may_remove}
+use Rattle.nio_event.proofs.Soundness.{legal-sound, held_some, both_ways, may_remove}
 use Rattle.nio_event.specs.Acts.{effect}
 use Rattle.nio_event.specs.Conditions.{Condition, is_held_by, has_turn, has_begun}
 use Rattle.nio_event.specs.Histories.{state_after, mine, IsStep, IsLegal}
@@ -83,7 +83,7 @@ kept_from_start k unremoved = record { serial = refl; removed = unremoved; publi
 
 pub selections_keep_keys : SelectionsKeepKeys
 selections_keep_keys l n s i before later legal begun keeps_turn keeps_key unremoved =
-    (kept, not_true (after.free s.0 i) not_free)
+    (kept, false_from_ne_true (after.free s.0 i) not_free)
   where
     was : Stage
     was = (state_after before).key s.0 i

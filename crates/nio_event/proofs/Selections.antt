@@ -1,15 +1,13 @@
 -- What stands while a caller selects.
 use Rattle.std.proofs.Common.{◌≡◌, ℕ, ◌==◌, Bool, true, false, not, ◌&&◌, ◌||◌, List, [], ◌∷◌, ◌++◌, append_assoc, refl}
 use Rattle.std.proofs.Common.{ap, sym, ◌∙◌, subst, eq-eqb}
-use Rattle.std.proofs.lemmas.Bool.{and_parts, and_from, or_parts}
-use Rattle.std.proofs.lemmas.List.Folds.{list_any-append}
-use Rattle.std.specs.List.{list_any}
+use Rattle.std.proofs.lemmas.Bool.{and_parts, and_from, not-true}
 use Rattle.nio_base.specs.Limits.{IsFit}
 use Rattle.nio_base.specs.declared.limits.Limits.{Limits}
 use Rattle.nio_base.specs.declared.numbers.CallerNo.{CallerNo}
 use Rattle.nio_base.specs.declared.numbers.SelNo.{SelNo}
 use Rattle.nio_event.proofs.Keeping.{has_neither, of_no_sort, stands_while}
-use Rattle.nio_event.proofs.LastsAlone.{had_stands, has-mine, spares_not, same_two}
+use Rattle.nio_event.proofs.LastsAlone.{had_stands, spares_not, same_two}
 use Rattle.nio_event.proofs.LastsOnceSound.{permanent_stands}
 use Rattle.nio_event.proofs.Legal.{legal_beginning, legal_next}
 use Rattle.nio_event.proofs.Put.{put_keeps, put_at_keeps}
@@ -33,6 +31,7 @@ use Rattle.nio_event.specs.declared.act.Act.TheVariants.{Wake, Mark, UnselectBit
 use Rattle.nio_event.specs.declared.event.Event.{Event}
 use Rattle.nio_event.specs.declared.found.Mark.{Mark as KeyMark}
 use Rattle.nio_event.specs.declared.found.Stage.{Stage}
+use Rattle.nio_event.proofs.OneMore.{has_none-append, mine-append}
 
 -- whoever does what only the selecting caller does, while a caller selects, is that caller
 alone_in : (l : Limits) (past : List Event) (e : Event) (n : CallerNo) (s : SelNo) → IsLegal l past → IsStep l past e
@@ -55,17 +54,10 @@ selects_alone l n s before between e keeps on =
     caller : ℕ → CallerNo
     caller k = record { 0 = k }
 
-    gives : Event → Bool
-    gives e' = is_by n e' && gives_turn s.0 e'.act
-
-    none_gives : (list_any gives between || list_any gives (e ∷ [])) ≡ false
-    none_gives =
-        sym (list_any-append gives between (e ∷ []))
-        ∙ (sym (has-mine (gives_turn s.0) n (between ++ e ∷ [])) ∙ keeps.kept)
-
     kept_between : has (gives_turn s.0) (mine n between) ≡ false
     kept_between =
-        has-mine (gives_turn s.0) n between ∙ (or_parts (list_any gives between) (list_any gives (e ∷ [])) none_gives).0
+        (has_none-append (gives_turn s.0) (mine n between) (mine n (e ∷ []))
+        (sym (ap (has (gives_turn s.0)) (mine-append n between (e ∷ []))) ∙ keeps.kept)).0
 
 -- ---- the key set
 
@@ -75,14 +67,10 @@ in_set : (k : Stage) (serial : ℕ) → is_in_key_set k serial ≡ true → (fit
 in_set k serial here =
     let parts = and_parts (fits k serial) (in_key_set k) here in
     let both = and_parts k.published not_removed parts.1 in
-    (parts.0, both.0, is_not k.removed both.1)
+    (parts.0, both.0, not-true k.removed both.1)
   where
     not_removed : Bool
     not_removed = not k.removed
-
-    is_not : (b : Bool) → not b ≡ true → b ≡ false
-    is_not true e = absurd cc
-    is_not false e = refl
 
 pub key_set_stays : KeySetStays
 key_set_stays l n s before later keeps k spared here =

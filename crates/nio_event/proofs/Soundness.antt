@@ -1,19 +1,21 @@
 -- The state after every legal history is sound: each step keeps each fact.
-use Rattle.std.proofs.Common.{◌≡◌, ℕ, ◌<◌, ◌≤◌, max, Bool, true, false, ◌&&◌, ◌||◌, not, ◌⊎◌, inl, inr, Option, Some}
-use Rattle.std.proofs.Common.{None, is_some, is_none, List, refl, ap, sym, ◌∙◌, subst, arith}
+use Rattle.std.proofs.Common.{◌≡◌, ℕ, ◌<◌, max, Bool, true, false, ◌&&◌, ◌||◌, not, ◌⊎◌, inl, inr, Option, Some, None}
+use Rattle.std.proofs.Common.{is_some, is_none, List, refl, ap, sym, ◌∙◌, subst, arith}
 use Rattle.std.specs.Prelude.{nat_lt}
-use Rattle.std.proofs.lemmas.Bool.{and_parts, and_from, ltb-true, ltb-false}
+use Rattle.std.proofs.lemmas.Bool.{and_parts, and_from, or_cases, cases_lt, false_from_ne_true, not-true}
+use Rattle.std.proofs.Math.Bool.{and-false}
 use Rattle.nio_base.specs.declared.limits.Limits.{Limits}
 use Rattle.nio_base.specs.declared.numbers.CallerNo.{CallerNo}
 use Rattle.nio_base.specs.declared.numbers.SelNo.{SelNo}
+use Rattle.nio_base.specs.declared.numbers.ChanNo.{ChanNo}
 use Rattle.nio_event.proofs.Claims.{claim_pinned}
-use Rattle.nio_event.proofs.KeyChanges.{KeepsStages, stages_keep, back_parts, published_already, cancelled_already}
-use Rattle.nio_event.proofs.KeyChanges.{removed_already}
+use Rattle.nio_event.proofs.KeyChanges.{KeepsStages, stages_keep, IsNoClaimAgain, back_parts, published_already}
+use Rattle.nio_event.proofs.KeyChanges.{cancelled_already, removed_already}
 use Rattle.nio_event.proofs.Lasts.{shut_lasts, made_lasts, claimed_lasts}
 use Rattle.nio_event.proofs.Legal.{legal_induction}
 use Rattle.nio_event.proofs.OneMore.{state_after-more, has-since_first}
 use Rattle.nio_event.proofs.Put.{put_keeps, put_at_keeps, put_both, put_at_both, put_pin_keeps}
-use Rattle.nio_event.proofs.Told.{either, below_told}
+use Rattle.nio_event.proofs.Told.{below_told}
 use Rattle.nio_event.specs.Acts.{effect, taken_by, frees_index}
 use Rattle.nio_event.specs.Answers.{Answers}
 use Rattle.nio_event.specs.Conditions.{Condition, is_held_by, is_closer, has_begun, has_entered, has_taken}
@@ -24,21 +26,14 @@ use Rattle.nio_event.specs.Sets.{in_cancelled_set, can_come_back}
 use Rattle.nio_event.specs.Sound.{IsSound}
 use Rattle.nio_event.specs.State.{State, opening, unmade_channel, unclaimed, last_serial}
 use Rattle.nio_event.specs.declared.act.Act.{Act}
-use Rattle.nio_event.specs.declared.act.Act.TheVariants.{CancelKey, MakeChannel, Claim, RaiseKeys, Publish, TakeTurn}
-use Rattle.nio_event.specs.declared.act.Act.TheVariants.{BeginLook, GiveTurn, Remove, RaiseChannels, TryHoldBit}
-use Rattle.nio_event.specs.declared.act.Act.TheVariants.{Release, SetMode, CloseBit, ShutBit, Enter, Pin, Unpin}
-use Rattle.nio_event.specs.declared.act.Act.TheVariants.{ClaimAgain, PutFree, TakeFree}
+use Rattle.nio_event.specs.declared.act.Act.TheVariants.{MakeChannel, Claim, RaiseKeys, TakeTurn, BeginLook, GiveTurn}
+use Rattle.nio_event.specs.declared.act.Act.TheVariants.{Remove, RaiseChannels, TryHoldBit, Release, SetMode, CloseBit}
+use Rattle.nio_event.specs.declared.act.Act.TheVariants.{ShutBit, Enter, Pin, Unpin, ClaimAgain, PutFree, TakeFree}
 use Rattle.nio_event.specs.declared.event.Event.{Event}
 use Rattle.nio_event.specs.declared.found.Stage.{Stage}
 
 below_max : (a b c : ℕ) → c < max a b → (c < a) ⊎ (c < b)
-below_max a b c h = by_test (nat_lt c a) refl
-  where
-    by_test : (t : Bool) → nat_lt c a ≡ t → (c < a) ⊎ (c < b)
-    by_test true e = inl (ltb-true c a e)
-    by_test false e =
-        let not_below : a ≤ c = ltb-false c a e in
-        inr (omega arith)
+below_max a b c h = elim (cases_lt c a) [ inl below ↦ inl below | inr above ↦ inr (omega arith) ]
 
 -- a place that a caller holds isn't free
 pub held_some : (me : CallerNo) (o : Option CallerNo) → is_held_by me o ≡ true → is_some o ≡ true
@@ -48,10 +43,6 @@ held_some me (Some n) h = refl
 taken_some : (me : CallerNo) (o : Option CallerNo) → is_some (taken_by me o) ≡ true
 taken_some me None = refl
 taken_some me (Some n) = refl
-
-pub not_true : (b : Bool) → (b ≡ true → ⊥) → b ≡ false
-not_true true no_way = absurd (no_way refl)
-not_true false no_way = refl
 
 pub both_ways : (b : Bool) → b ≡ true → b ≡ false → ⊥
 both_ways true e f = cc
@@ -164,9 +155,9 @@ begun_open_step st me (TakeTurn k found) answers sound s =
     (λ old e. old (and_parts (is_some found) (st.begun k.0) e).1) s (sound.begun_open s)
 begun_open_step st me (BeginLook k found) answers sound s =
     put_keeps (λ n b. b ≡ true → st.entered n ≡ false) st.begun k.0 _
-    (λ old e. elim (either (st.begun k.0) (not found.shut) e) [
+    (λ old e. elim (or_cases (st.begun k.0) (not found.shut) e) [
       | inl begun ↦ old begun
-      | inr open_still ↦ not_true _ (not_entered open_still)
+      | inr open_still ↦ false_from_ne_true _ (not_entered open_still)
     ])
     s (sound.begun_open s)
   where
@@ -209,13 +200,9 @@ cancelled_parts k in_set =
     let first_two = and_parts k.published (not k.removed) both.0 in
     record {
       published = first_two.0;
-      not_removed = not_true k.removed (λ e. unless k.removed e first_two.1);
+      not_removed = not-true k.removed first_two.1;
       cancelled = both.1;
     }
-  where
-    unless : (b : Bool) → b ≡ true → not b ≡ true → ⊥
-    unless true e f = cc
-    unless false e f = cc
 
 -- who may remove a key: a selecting caller a key of the cancelled set, and a closer that has entered an index that
 -- it found below the high-water mark
@@ -224,7 +211,7 @@ pub may_remove : (st : State) (own : List Act) (me : CallerNo) (s : SelNo) (i : 
     → ((has_begun st me s ≡ true) × IsCancelled (st.key s.0 i))
     ⊎ ((st.entered s.0 ≡ true) × (has (finds_below s.0 i) (since_entered s.0 own) ≡ true))
 may_remove st own me s i may =
-    elim (either (may_remove_cancelled st me s i) (may_clear_out st own me s i) may) [
+    elim (or_cases (may_remove_cancelled st me s i) (may_clear_out st own me s i) may) [
       | inl sweep ↦
           let both = and_parts (has_begun st me s) (in_cancelled_set (st.key s.0 i)) sweep in
           inl (both.0, cancelled_parts (st.key s.0 i) both.1)
@@ -284,15 +271,6 @@ unclaimed_bare_step l past e legal step sound s i =
 unclaimed_unpinned_step : (l : Limits) (own : List Act) (st : State) (me : CallerNo) (act : Act)
     → Condition l own st me act → IsSound st
     → (s i n : ℕ) → ((effect st me act).key s i).claimed ≡ false → (effect st me act).pinned s i n ≡ false
-unclaimed_unpinned_step l own st me (CancelKey s' i' found) may sound s i n =
-    put_at_keeps (λ a b k. k.claimed ≡ false → st.pinned a b n ≡ false) st.key s'.0 i' _ (λ old. old) s i
-    (sound.unclaimed_unpinned s i n)
-unclaimed_unpinned_step l own st me (Publish s' i' found) may sound s i n =
-    put_at_keeps (λ a b k. k.claimed ≡ false → st.pinned a b n ≡ false) st.key s'.0 i' _ (λ old. old) s i
-    (sound.unclaimed_unpinned s i n)
-unclaimed_unpinned_step l own st me (Remove s' i' found) may sound s i n =
-    put_at_keeps (λ a b k. k.claimed ≡ false → st.pinned a b n ≡ false) st.key s'.0 i' _ (λ old. old) s i
-    (sound.unclaimed_unpinned s i n)
 unclaimed_unpinned_step l own st me (Claim s' i' c true) may sound s i n =
     put_at_both (λ _ _ k g. k.claimed ≡ false → g n ≡ false) st.key st.pinned s'.0 i' _ _
     (λ old e. put_keeps (λ _ b. b ≡ false) (st.pinned s'.0 i') me.0 _ (λ e'. ap (λ b. b || false) e') n (old e)) s i
@@ -313,7 +291,9 @@ unclaimed_unpinned_step l own st me (Pin s' i' found) may sound s i n =
 unclaimed_unpinned_step l own st me (Unpin s' i') may sound s i n =
     put_pin_keeps (λ a b _ x. (st.key a b).claimed ≡ false → x ≡ false) st.pinned s'.0 i' me.0 false (λ _ _. refl) s i n
     (sound.unclaimed_unpinned s i n)
-unclaimed_unpinned_step l own st me act may sound s i n = sound.unclaimed_unpinned s i n
+unclaimed_unpinned_step l own st me act may sound s i n = λ e.
+    sound.unclaimed_unpinned s i n
+    (false_from_ne_true (st.key s i).claimed (λ was. both_ways _ (claimed_lasts st me act s i was) e))
 
 -- ---- indexes that are free, taken, or still to be put
 
@@ -321,7 +301,7 @@ unclaimed_unpinned_step l own st me act may sound s i n = sound.unclaimed_unpinn
 put_back : (st : State) (me : CallerNo) (s : SelNo) (i : ℕ) → IsSound st
     → (has_taken st me s i || may_put_due st me s i) ≡ true → can_come_back (st.key s.0 i) ≡ true
 put_back st me s i sound may =
-    elim (either (has_taken st me s i) (may_put_due st me s i) may) [
+    elim (or_cases (has_taken st me s i) (may_put_due st me s i) may) [
       | inl taken ↦ sound.taken_back s.0 i (held_some me (st.taker s.0 i) taken)
       | inr dropped ↦ sound.due_back s.0 i (and_parts (has_begun st me s) (st.put_due s.0 i) dropped).1
     ]
@@ -342,15 +322,15 @@ pub back_not_unclaimed : (k : Stage) → can_come_back k ≡ true → k.claimed 
 back_not_unclaimed k back e = both_ways k.claimed (back_parts k back).claimed e
 
 -- where no step claims an index again of which `F` stands, an index of which it stands can come back after the step too
-back_keeps : (l : Limits) (own : List Act) (st : State) (me : CallerNo) (F : ℕ → ℕ → Type 0)
-    → ((s : SelNo) (i : ℕ) → has_taken st me s i ≡ true → F s.0 i → ⊥)
-    → KeepsStages (Condition l own st me) st (λ s i k. F s i → can_come_back k ≡ true)
-back_keeps l own st me F untaken = record {
+back_keeps : (May : Act → Type 0) (st : State) (F : ℕ → ℕ → Type 0)
+    → ((s : SelNo) (i : ℕ) (c : ChanNo) (from : Stage) → May (ClaimAgain s i c from false) → F s.0 i → ⊥)
+    → KeepsStages May st (λ s i k. F s i → can_come_back k ≡ true)
+back_keeps May st F never = record {
   claimed = λ s i c unclaimed_yet old here. absurd (back_not_unclaimed (st.key s.0 i) (old here) unclaimed_yet);
   published = λ s i found may old here. again_published (st.key s.0 i) (old here);
   cancelled = λ s i found may old here. again_cancelled (st.key s.0 i) (old here);
   removed = λ s i found may old here. again_removed (st.key s.0 i) (old here);
-  again = λ s i c from may unpinned old here. absurd (untaken s i may.3 here);
+  again = λ s i c from may unpinned old here. absurd (never s i c from may here);
 }
 
 -- nobody has taken a free index
@@ -376,28 +356,12 @@ free_back_step l own st me (TakeFree s' i' found) may answers sound s i =
     (sound.free_back s i)
 free_back_step l own st me act may answers sound s i =
     stages_keep (Condition l own st me) st me (λ a b k. st.free a b ≡ true → can_come_back k ≡ true)
-    (back_keeps l own st me (λ a b. st.free a b ≡ true)
-    (λ s' i' taken free. free_not_taken st sound s'.0 i' free (held_some me (st.taker s'.0 i') taken)))
+    (back_keeps (Condition l own st me) st (λ a b. st.free a b ≡ true)
+    (λ s' i' c from may' free. free_not_taken st sound s'.0 i' free (held_some me (st.taker s'.0 i') may'.3)))
     act may answers s i (sound.free_back s i)
 
 taken_back_step : (st : State) (me : CallerNo) (act : Act) → Answers st me act → IsSound st
     → (s i : ℕ) → is_some ((effect st me act).taker s i) ≡ true → can_come_back ((effect st me act).key s i) ≡ true
-taken_back_step st me (CancelKey s' i' found) answers sound s i =
-    put_at_keeps (λ a b k. is_some (st.taker a b) ≡ true → can_come_back k ≡ true) st.key s'.0 i' _
-    (λ old e. again_cancelled (st.key s'.0 i') (old e)) s i (sound.taken_back s i)
-taken_back_step st me (Publish s' i' found) answers sound s i =
-    put_at_keeps (λ a b k. is_some (st.taker a b) ≡ true → can_come_back k ≡ true) st.key s'.0 i' _
-    (λ old e. again_published (st.key s'.0 i') (old e)) s i (sound.taken_back s i)
-taken_back_step st me (Remove s' i' found) answers sound s i =
-    put_at_keeps (λ a b k. is_some (st.taker a b) ≡ true → can_come_back k ≡ true) st.key s'.0 i' _
-    (λ old e. again_removed (st.key s'.0 i') (old e)) s i (sound.taken_back s i)
-taken_back_step st me (Claim s' i' c true) answers sound s i =
-    put_at_keeps (λ a b k. is_some (st.taker a b) ≡ true → can_come_back k ≡ true) st.key s'.0 i' _ (λ old. old) s i
-    (sound.taken_back s i)
-taken_back_step st me (Claim s' i' c false) answers sound s i =
-    let unclaimed_yet : (st.key s'.0 i').claimed ≡ false = cc in
-    put_at_keeps (λ a b k. is_some (st.taker a b) ≡ true → can_come_back k ≡ true) st.key s'.0 i' _
-    (λ old e. absurd (back_not_unclaimed (st.key s'.0 i') (old e) unclaimed_yet)) s i (sound.taken_back s i)
 taken_back_step st me (ClaimAgain s' i' c from true) answers sound s i =
     put_at_both (λ _ _ k o. is_some o ≡ true → can_come_back k ≡ true) st.key st.taker s'.0 i' _ _ (λ old. old) s i
     (sound.taken_back s i)
@@ -414,7 +378,10 @@ taken_back_step st me (TakeFree s' i' true) answers sound s i =
 taken_back_step st me (TakeFree s' i' false) answers sound s i =
     put_at_keeps (λ a b o. is_some o ≡ true → can_come_back (st.key a b) ≡ true) st.taker s'.0 i' (st.taker s'.0 i')
     (λ old. old) s i (sound.taken_back s i)
-taken_back_step st me act answers sound s i = sound.taken_back s i
+taken_back_step st me act answers sound s i =
+    stages_keep IsNoClaimAgain st me (λ a b k. is_some (st.taker a b) ≡ true → can_come_back k ≡ true)
+    (back_keeps IsNoClaimAgain st (λ a b. is_some (st.taker a b) ≡ true) (λ s' i' c from may _. may s' i' c from refl))
+    act (λ s' i' c from is. cc) answers s i (sound.taken_back s i)
 
 -- what a selection removes can come back, where its serial is below the last
 removed_back : (l : Limits) (own : List Act) (st : State) (me : CallerNo) (s : SelNo) (i : ℕ) (found : Stage)
@@ -444,7 +411,7 @@ dropped_back_step : (l : Limits) (own : List Act) (st : State) (me : CallerNo) (
 dropped_back_step l own st me (Remove s' i' found) may answers sound s i =
     let found_is : found ≡ st.key s'.0 i' = cc in
     put_at_both (λ _ _ k x. x ≡ true → can_come_back k ≡ true) st.key st.put_due s'.0 i' _ _
-    (λ old e. elim (either (st.put_due s'.0 i') (st.begun s'.0 && frees_index found) e) [
+    (λ old e. elim (or_cases (st.put_due s'.0 i') (st.begun s'.0 && frees_index found) e) [
       | inl before ↦ again_removed (st.key s'.0 i') (old before)
       | inr now ↦ removed_back l own st me s' i' found sound may found_is now
     ]) s i (sound.due_back s i)
@@ -456,8 +423,8 @@ dropped_back_step l own st me (GiveTurn k) may answers sound s i =
     (sound.due_back s i)
 dropped_back_step l own st me act may answers sound s i =
     stages_keep (Condition l own st me) st me (λ a b k. st.put_due a b ≡ true → can_come_back k ≡ true)
-    (back_keeps l own st me (λ a b. st.put_due a b ≡ true)
-    (λ s' i' taken dropped. taken_not_dropped st sound me s' i' taken dropped))
+    (back_keeps (Condition l own st me) st (λ a b. st.put_due a b ≡ true)
+    (λ s' i' c from may' dropped. taken_not_dropped st sound me s' i' may'.3 dropped))
     act may answers s i (sound.due_back s i)
 
 free_untaken_step : (st : State) (me : CallerNo) (act : Act) → IsSound st → (s i : ℕ)
@@ -482,11 +449,7 @@ not_dropped_now : (dropped begun : Bool) (found k : Stage) → found ≡ k → c
 not_dropped_now dropped begun found k found_is back undropped =
     let stays : frees_index found ≡ false = ap (λ x. not x.removed && nat_lt x.serial last_serial) found_is
     ∙ ap (λ b. not b && nat_lt k.serial last_serial) (back_parts k back).removed in
-    ap (λ b. b || (begun && frees_index found)) undropped ∙ (ap (λ b. begun && b) stays ∙ and_false begun)
-  where
-    and_false : (b : Bool) → (b && false) ≡ false
-    and_false true = refl
-    and_false false = refl
+    ap (λ b. b || (begun && frees_index found)) undropped ∙ (ap (λ b. begun && b) stays ∙ and-false begun)
 
 free_undropped_step : (st : State) (me : CallerNo) (act : Act) → Answers st me act → IsSound st
     → (s i : ℕ) → (effect st me act).free s i ≡ true → (effect st me act).put_due s i ≡ false
@@ -538,7 +501,7 @@ dropped_begun_step : (st : State) (me : CallerNo) (act : Act) → Answers st me 
     → (s i : ℕ) → (effect st me act).put_due s i ≡ true → (effect st me act).begun s ≡ true
 dropped_begun_step st me (Remove s' i' found) answers sound s i =
     put_at_keeps (λ a b x. x ≡ true → st.begun a ≡ true) st.put_due s'.0 i' _
-    (λ old e. elim (either (st.put_due s'.0 i') (st.begun s'.0 && frees_index found) e) [
+    (λ old e. elim (or_cases (st.put_due s'.0 i') (st.begun s'.0 && frees_index found) e) [
       | inl before ↦ old before
       | inr now ↦ (and_parts (st.begun s'.0) (frees_index found) now).0
     ]) s i (sound.due_begun s i)

@@ -3,20 +3,19 @@
 use Rattle.std.proofs.Common.{not, ◌≡◌, ℕ, ◌==◌, ◌<◌, Bool, true, false, ◌&&◌, ◌||◌, inl, inr, Option, Some, None, List}
 use Rattle.std.proofs.Common.{[], ◌++◌, refl, ap, sym, ◌∙◌, subst, eqb-true, eq-eqb, arith}
 use Rattle.std.specs.Prelude.{nat_lt}
-use Rattle.std.proofs.lemmas.Bool.{and_parts, and_from, ltb-true}
+use Rattle.std.proofs.lemmas.Bool.{and_parts, and_from, ltb-true, false_from_ne_true, or_cases, or_right}
+use Rattle.std.proofs.Math.Bool.{and-true}
 use Rattle.nio_base.specs.declared.limits.Limits.{Limits}
 use Rattle.nio_base.specs.declared.numbers.CallerNo.{CallerNo}
 use Rattle.nio_base.specs.declared.numbers.SelNo.{SelNo}
 use Rattle.nio_event.proofs.KeyChanges.{KeepsStages, stages_keep, back_parts, published_already, cancelled_already}
-use Rattle.nio_event.proofs.LastsAlone.{one_holder, lasts_alone, had_stands, own_stands, none_further, without_from}
-use Rattle.nio_event.proofs.LastsAlone.{has-mine}
+use Rattle.nio_event.proofs.LastsAlone.{one_holder, lasts_alone, had_stands, own_stands, none_further, has-mine}
 use Rattle.nio_event.proofs.LastsOnceSound.{permanent_stands}
-use Rattle.nio_event.proofs.Legal.{legal_beginning}
+use Rattle.nio_event.proofs.Legal.{legal_beginning, without_from}
 use Rattle.nio_event.proofs.OneMore.{state_after-more}
 use Rattle.nio_event.proofs.Put.{put_keeps, put_at_keeps, put_pin_keeps}
-use Rattle.nio_event.proofs.Soundness.{legal-sound, held_some, both_ways, not_true, beyond-claimed, cancelled_parts}
-use Rattle.nio_event.proofs.Soundness.{may_remove, taken_not_dropped}
-use Rattle.nio_event.proofs.Told.{either, or_right}
+use Rattle.nio_event.proofs.Soundness.{legal-sound, held_some, both_ways, beyond-claimed, cancelled_parts, may_remove}
+use Rattle.nio_event.proofs.Soundness.{taken_not_dropped}
 use Rattle.nio_event.specs.Acts.{effect, frees_index}
 use Rattle.nio_event.specs.Conditions.{Condition, is_held_by, holds, has_turn, has_begun, has_entered, is_closer}
 use Rattle.nio_event.specs.Conditions.{has_pin, has_taken, may_remove_cancelled, may_put_due, may_publish}
@@ -52,7 +51,7 @@ record StandsFor (n : CallerNo) (st st' : State) : Type 0 where
 
 or_stays : (a b a' b' : Bool) → (a ≡ true → a' ≡ true) → (b ≡ true → b' ≡ true) → (a || b) ≡ true → (a' || b') ≡ true
 or_stays a b a' b' first second h =
-    elim (either a b h) [ inl x ↦ ap (λ c. c || b') (first x) | inr y ↦ or_right a' b' (second y) ]
+    elim (or_cases a b h) [ inl x ↦ ap (λ c. c || b') (first x) | inr y ↦ or_right a' b' (second y) ]
 
 publish_stays : (n : CallerNo) (own : List Act) (st st' : State) → StandsFor n st st' → (claim : Option OwnClaim)
     → may_publish st own n claim ≡ true → may_publish st' own n claim ≡ true
@@ -187,7 +186,7 @@ dropped_stays l own st me n (PutFree s' i') sound may other s i begun = λ h.
   where
     not_put : st.put_due s'.0 i' ≡ true → has_begun_on st n s'.0 ≡ true → ⊥
     not_put dropped begun' =
-        elim (either (has_taken st me s' i') (may_put_due st me s' i') may.1) [
+        elim (or_cases (has_taken st me s' i') (may_put_due st me s' i') may.1) [
           | inl taken ↦ taken_not_dropped st sound me s' i' taken dropped
           | inr its ↦ not_other me n (st.turn s'.0) other
               (begun_holder st me s' (and_parts (has_begun st me s') (st.put_due s'.0 i') its).0)
@@ -223,12 +222,8 @@ by_others : (l : Limits) (n : CallerNo) (before later : List Event) → IsLegal 
 by_others l n before later legal nothing fact kept =
     without_from l (λ e. is_by n e && true) (λ events. fact (state_after events) ≡ true)
     (λ past e past_legal step spared here. subst (λ st. fact st ≡ true) (sym (state_after-more past e))
-    (kept past e past_legal step (alone (is_by n e) spared) here))
+    (kept past e past_legal step (sym (and-true (is_by n e)) ∙ spared) here))
     before later legal (sym (has-mine (λ _. true) n later) ∙ ap (has (λ _. true)) nothing)
-  where
-    alone : (b : Bool) → (b && true) ≡ false → b ≡ false
-    alone true e = absurd cc
-    alone false e = refl
 
 -- ---- the laws
 
@@ -247,7 +242,7 @@ cancelled-invalid : (k : Stage) (serial : ℕ) → (was_cancelled k serial || wa
 cancelled-invalid k serial h = by_order (nat_lt serial k.serial) refl h
   where
     fits_not : nat_lt serial k.serial ≡ true → fits k serial ≡ false
-    fits_not lower = not_true (fits k serial) again
+    fits_not lower = false_from_ne_true (fits k serial) again
       where
         again : fits k serial ≡ true → ⊥
         again fits' =

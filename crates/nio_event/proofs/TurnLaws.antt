@@ -1,7 +1,7 @@
 -- The laws of turns: each turn and each hold has one holder, and one selection is in progress at a time.
 use Rattle.std.proofs.Common.{◌≡◌, ℕ, ◌==◌, Bool, true, false, ◌&&◌, ◌||◌, not, inl, inr, Option, Some, None, List, []}
 use Rattle.std.proofs.Common.{◌∷◌, ◌++◌, append_assoc, refl, ap, sym, ◌∙◌, subst, eqb-true, eq-eqb}
-use Rattle.std.proofs.lemmas.Bool.{and_parts, and_from}
+use Rattle.std.proofs.lemmas.Bool.{and_parts, and_from, or_cases, or_right, true_from_ne_false}
 use Rattle.nio_base.specs.declared.limits.Limits.{Limits}
 use Rattle.nio_base.specs.declared.numbers.CallerNo.{CallerNo}
 use Rattle.nio_base.specs.declared.numbers.SelNo.{SelNo}
@@ -10,7 +10,6 @@ use Rattle.nio_event.proofs.Legal.{legal_beginning, legal_next}
 use Rattle.nio_event.proofs.OneMore.{state_after-more}
 use Rattle.nio_event.proofs.Put.{put-same}
 use Rattle.nio_event.proofs.Soundness.{legal-sound}
-use Rattle.nio_event.proofs.Told.{either, or_right}
 use Rattle.nio_event.specs.Acts.{effect}
 use Rattle.nio_event.specs.Conditions.{Condition, is_held_by, has_turn, has_begun, is_closer, has_entered}
 use Rattle.nio_event.specs.Conditions.{may_remove_cancelled, may_clear_out}
@@ -50,16 +49,12 @@ held_by_self : (n : CallerNo) → is_held_by n (Some n) ≡ true
 held_by_self n = eq-eqb n.0 n.0 refl
 
 -- a place that is free has no holder
-not_free : (n : CallerNo) (o : Option CallerNo) → is_held_by n o ≡ true → None ≡ o → ⊥
+pub not_free : (n : CallerNo) (o : Option CallerNo) → is_held_by n o ≡ true → None ≡ o → ⊥
 not_free n None held free = absurd cc
 not_free n (Some m) held free = absurd cc
 
-true_unless : (b : Bool) → (b ≡ false → ⊥) → b ≡ true
-true_unless true h = refl
-true_unless false h = absurd (h refl)
-
 pub turn_has_one_holder : TurnHasOneHolder
-turn_has_one_holder l s m n past between legal = true_unless (has (gives_turn s.0) (mine m between)) again
+turn_has_one_holder l s m n past between legal = true_from_ne_false (has (gives_turn s.0) (mine m between)) again
   where
     again : has (gives_turn s.0) (mine m between) ≡ false → ⊥
     again kept =
@@ -71,7 +66,7 @@ turn_has_one_holder l s m n past between legal = true_unless (has (gives_turn s.
         not_free m ((state_after then.0).turn s.0) then.3 free
 
 pub hold_has_one_holder : HoldHasOneHolder
-hold_has_one_holder l c m n past between legal = true_unless (has (releases c.0) (mine m between)) again
+hold_has_one_holder l c m n past between legal = true_from_ne_false (has (releases c.0) (mine m between)) again
   where
     again : has (releases c.0) (mine m between) ≡ false → ⊥
     again kept =
@@ -96,7 +91,7 @@ pub selecting_is : (l : Limits) (own : List Act) (st : State) (me n : CallerNo) 
     → Condition l own st me act → selects_on s.0 act ≡ true → me.0 ≡ n.0
 selecting_is l own st me n s (Remove s' i found) sound has_it may on =
     let same : s'.0 ≡ s.0 = eqb-true s'.0 s.0 on in
-    elim (either (may_remove_cancelled st me s' i) (may_clear_out st own me s' i) may.1) [
+    elim (or_cases (may_remove_cancelled st me s' i) (may_clear_out st own me s' i) may.1) [
       | inl sweep ↦ begun_is st me n s s' has_it same
           (and_parts (has_begun st me s') (in_cancelled_set (st.key s'.0 i)) sweep).0
       | inr clear ↦
@@ -151,7 +146,7 @@ may_select_by : (l : Limits) (own : List Act) (st : State) (me : CallerNo) (s : 
     → (has_begun st me s || (removes_on s.0 act && has_entered st me s)) ≡ true
 may_select_by l own st me s (Remove s' i found) may on =
     let same : s'.0 ≡ s.0 = eqb-true s'.0 s.0 on in
-    elim (either (may_remove_cancelled st me s' i) (may_clear_out st own me s' i) may.1) [
+    elim (or_cases (may_remove_cancelled st me s' i) (may_clear_out st own me s' i) may.1) [
       | inl sweep ↦
           ap (λ b. b || ((s'.0 == s.0) && has_entered st me s))
           (moved (has_begun st me) s' s same

@@ -1,19 +1,18 @@
 -- A key that its caller hasn't published isn't published: nobody else can.
 use Rattle.std.proofs.Common.{◌≡◌, ℕ, ◌==◌, ◌<◌, Bool, true, false, ◌&&◌, suc, Option, Some, None, if◌then◌else◌, List}
 use Rattle.std.proofs.Common.{[], ◌∷◌, ◌++◌, refl, ap, sym, ◌∙◌, subst, eqb-true, eq-eqb, arith}
-use Rattle.std.proofs.lemmas.Bool.{and_parts}
 use Rattle.std.specs.Option.{option_or}
+use Rattle.std.proofs.lemmas.Bool.{and_from}
 use Rattle.nio_base.specs.Limits.{IsFit}
 use Rattle.nio_base.specs.declared.limits.Limits.{Limits}
 use Rattle.nio_base.specs.declared.numbers.CallerNo.{CallerNo}
 use Rattle.nio_event.proofs.Claims.{claim_after, own_claim-more, claim_pinned, if_some}
 use Rattle.nio_event.proofs.Counts.{pinned_by}
-use Rattle.nio_event.proofs.KeyChanges.{back_parts}
-use Rattle.nio_event.proofs.LastsAlone.{same_two}
+use Rattle.nio_event.proofs.KeyChanges.{back_parts, stages_keep}
 use Rattle.nio_event.proofs.Lasts.{claimed_lasts}
 use Rattle.nio_event.proofs.Legal.{legal_induction}
 use Rattle.nio_event.proofs.OneMore.{state_after-more, mine-own, mine-other, last-more}
-use Rattle.nio_event.proofs.Put.{put_at_keeps, put_at-there}
+use Rattle.nio_event.proofs.Put.{put_at-there, same_pair}
 use Rattle.nio_event.proofs.Soundness.{legal-sound, held_some, both_ways}
 use Rattle.nio_event.proofs.Within.{legal-within}
 use Rattle.nio_event.specs.Acts.{effect, new_key}
@@ -26,7 +25,7 @@ use Rattle.nio_event.specs.Pins.{UnpublishedKeysStay}
 use Rattle.nio_event.specs.Sound.{IsSound}
 use Rattle.nio_event.specs.State.{State}
 use Rattle.nio_event.specs.declared.act.Act.{Act}
-use Rattle.nio_event.specs.declared.act.Act.TheVariants.{CancelKey, Claim, Publish, Remove, Unpin, ClaimAgain}
+use Rattle.nio_event.specs.declared.act.Act.TheVariants.{Claim, Publish, Unpin, ClaimAgain}
 use Rattle.nio_event.specs.declared.event.Event.{Event}
 
 -- the key of an index that a caller claimed and hasn't published since: it isn't published, and no other
@@ -36,53 +35,39 @@ record IsAlone (n : CallerNo) (s i : ℕ) (events : List Event) : Type 0 where
   unpublished : ((state_after events).key s i).published ≡ false
   only : (m : CallerNo) (claim : OwnClaim) → own_claim s i (mine m events) ≡ Some claim → n.0 ≡ m.0
 
-is_unpublished-more : (s i : ℕ) (own : List Act) (act : Act)
+pub is_unpublished-more : (s i : ℕ) (own : List Act) (act : Act)
     → is_unpublished s i (own ++ act ∷ [])
     ≡ is_yes (option_or (leaves_unpublished s i act) (last (leaves_unpublished s i) own))
 is_unpublished-more s i own act = ap is_yes (last-more (leaves_unpublished s i) own act)
 
 -- a new key isn't published, and no other step than one that publishes the key makes it so
-published_kept : (st : State) (me : CallerNo) (act : Act) (s i : ℕ) → (leaves_unpublished s i act ≡ Some false → ⊥)
+published_kept : (st : State) (me : CallerNo) (act : Act) (s i : ℕ) → Answers st me act
+    → (leaves_unpublished s i act ≡ Some false → ⊥)
     → (st.key s i).published ≡ false → ((effect st me act).key s i).published ≡ false
-published_kept st me (CancelKey s' i' found) s i spared =
-    put_at_keeps (λ _ _ k. k.published ≡ false) st.key s'.0 i' _ (λ e. e) s i
-published_kept st me (Claim s' i' c true) s i spared =
-    put_at_keeps (λ _ _ k. k.published ≡ false) st.key s'.0 i' _ (λ e. e) s i
-published_kept st me (Claim s' i' c false) s i spared =
-    put_at_keeps (λ _ _ k. k.published ≡ false) st.key s'.0 i' (new_key c 0) (λ _. refl) s i
-published_kept st me (Publish s' i' found) s i spared = λ now.
-    put_at_keeps (λ m t k. ((if (s'.0 == m) && (i' == t) then Some false else None) ≡ Some false → ⊥)
-    → k.published ≡ false) st.key s'.0 i' _
-    (λ _ spared'. absurd (spared' (ap (λ b. if b then Some false else None) (same_two s'.0 i')))) s i (λ _. now) spared
-published_kept st me (Remove s' i' found) s i spared =
-    put_at_keeps (λ _ _ k. k.published ≡ false) st.key s'.0 i' _ (λ e. e) s i
-published_kept st me (ClaimAgain s' i' c from true) s i spared =
-    put_at_keeps (λ _ _ k. k.published ≡ false) st.key s'.0 i' _ (λ e. e) s i
-published_kept st me (ClaimAgain s' i' c from false) s i spared =
-    put_at_keeps (λ _ _ k. k.published ≡ false) st.key s'.0 i' (new_key c (suc (st.key s'.0 i').serial)) (λ _. refl) s i
-published_kept st me act s i spared = λ now. now
+published_kept st me act s i answers spared now =
+    stages_keep (λ act'. leaves_unpublished s i act' ≡ Some false → ⊥) st me
+    (λ a b k. a ≡ s → b ≡ i → k.published ≡ false) (record {
+      claimed = λ s' i' c _ _ _ _. refl;
+      published = λ s' i' found may _ at_s at_i. absurd (may (ap (λ b. if b then Some false else None)
+          (and_from (s'.0 == s) (i' == i) (eq-eqb s'.0 s at_s) (eq-eqb i' i at_i))));
+      cancelled = λ s' i' found may old. old;
+      removed = λ s' i' found may old. old;
+      again = λ s' i' c from may _ _ _ _. refl;
+    }) act spared answers s i (λ _ _. now) refl refl
 
 -- a claim of an index that has a claim already, or whose key isn't published, is no step
 no_new_claim : (l : Limits) (own : List Act) (st : State) (me : CallerNo) (act : Act) (s i : ℕ) (claim : OwnClaim)
     → IsSound st → Condition l own st me act → Answers st me act
     → (st.key s i).claimed ≡ true → (st.key s i).published ≡ false → claim_changed s i act ≡ Some (Some claim) → ⊥
 no_new_claim l own st me (Claim s' i' c false) s i claim sound may answers claimed unpublished changed =
-    let both = and_parts (s'.0 == s) (i' == i) (if_some ((s'.0 == s) && (i' == i)) _ _ changed).0 in
-    let first : s'.0 ≡ s = eqb-true s'.0 s both.0 in
-    let second : i' ≡ i = eqb-true i' i both.1 in
-    let unclaimed_yet : (st.key s'.0 i').claimed ≡ false = cc in
     both_ways (st.key s i).claimed claimed
-    (subst (λ (k : ℕ). (st.key k i).claimed ≡ false) first
-    (subst (λ (k : ℕ). (st.key s'.0 k).claimed ≡ false) second unclaimed_yet))
+    (same_pair (λ a b. (st.key a b).claimed ≡ false) s'.0 i' s i (if_some ((s'.0 == s) && (i' == i)) _ _ changed).0 (cc))
 no_new_claim l own st me (ClaimAgain s' i' c from false) s i claim sound may answers claimed unpublished changed =
-    let both = and_parts (s'.0 == s) (i' == i) (if_some ((s'.0 == s) && (i' == i)) _ _ changed).0 in
-    let first : s'.0 ≡ s = eqb-true s'.0 s both.0 in
-    let second : i' ≡ i = eqb-true i' i both.1 in
     let published =
     (back_parts (st.key s'.0 i') (sound.taken_back s'.0 i' (held_some me (st.taker s'.0 i') may.3))).published in
     both_ways (st.key s i).published
-    (subst (λ (k : ℕ). (st.key k i).published ≡ true) first
-    (subst (λ (k : ℕ). (st.key s'.0 k).published ≡ true) second published)) unpublished
+    (same_pair (λ a b. (st.key a b).published ≡ true) s'.0 i' s i (if_some ((s'.0 == s) && (i' == i)) _ _ changed).0
+    published) unpublished
 no_new_claim l own st me (Unpin s' i') s i claim sound may answers claimed unpublished changed =
     let clash : None ≡ Some claim = (if_some ((s'.0 == s) && (i' == i)) _ _ changed).1 in
     cc
@@ -99,7 +84,6 @@ claims_fresh : (l : Limits) (past : List Event) (me : CallerNo) (act : Act) (s i
     → leaves_unpublished s i act ≡ Some true → IsFresh s i past (record { caller = me; act = act })
 claims_fresh l past me (Claim s' i' c false) s i fit legal may answers leaves =
     let at = (if_some ((s'.0 == s) && (i' == i)) _ _ leaves).0 in
-    let both = and_parts (s'.0 == s) (i' == i) at in
     let new = put_at-there st.key s'.0 i' (new_key c 0) s i at in
     let unclaimed_yet : (st.key s'.0 i').claimed ≡ false = cc in
     record {
@@ -107,33 +91,24 @@ claims_fresh l past me (Claim s' i' c false) s i fit legal may answers leaves =
       unpublished = ap (λ k. k.published) new;
       nobody = λ m claim had. both_ways (st.pinned s i m.0) (claim_pinned l m past s i claim legal had)
           ((legal-sound l past legal).unclaimed_unpinned s i m.0
-          (there s'.0 i' both.0 both.1 (λ m n. (st.key m n).claimed ≡ false) unclaimed_yet));
+          (same_pair (λ a b. (st.key a b).claimed ≡ false) s'.0 i' s i at unclaimed_yet));
     }
   where
     st : State
     st = state_after past
-
-    there : (s' i' : ℕ) → (s' == s) ≡ true → (i' == i) ≡ true → (P : ℕ → ℕ → Type 0) → P s' i' → P s i
-    there s' i' first second P h =
-        subst (λ (k : ℕ). P k i) (eqb-true s' s first) (subst (λ (k : ℕ). P s' k) (eqb-true i' i second) h)
 claims_fresh l past me (ClaimAgain s' i' c from false) s i fit legal may answers leaves =
     let at = (if_some ((s'.0 == s) && (i' == i)) _ _ leaves).0 in
-    let both = and_parts (s'.0 == s) (i' == i) at in
     let new = put_at-there st.key s'.0 i' (new_key c (suc (st.key s'.0 i').serial)) s i at in
     let unpinned : is_pinned st s'.0 i' ≡ false = cc in
     record {
       claimed = ap (λ k. k.claimed) new;
       unpublished = ap (λ k. k.published) new;
       nobody = λ m claim had. pinned_by st s i m.0 (below m claim had) (claim_pinned l m past s i claim legal had)
-          (there s'.0 i' both.0 both.1 (λ m n. is_pinned st m n ≡ false) unpinned);
+          (same_pair (λ a b. is_pinned st a b ≡ false) s'.0 i' s i at unpinned);
     }
   where
     st : State
     st = state_after past
-
-    there : (s' i' : ℕ) → (s' == s) ≡ true → (i' == i) ≡ true → (P : ℕ → ℕ → Type 0) → P s' i' → P s i
-    there s' i' first second P h =
-        subst (λ (k : ℕ). P k i) (eqb-true s' s first) (subst (λ (k : ℕ). P s' k) (eqb-true i' i second) h)
 
     below : (m : CallerNo) (claim : OwnClaim) → own_claim s i (mine m past) ≡ Some claim → m.0 < 64
     below m claim had =
@@ -155,11 +130,10 @@ publishing_claims : (l : Limits) (own : List Act) (st : State) (me : CallerNo) (
     → Condition l own st me act → leaves_unpublished s i act ≡ Some false
     → (its : OwnClaim) × (own_claim s i own ≡ Some its)
 publishing_claims l own st me (Publish s' i' found) s i may leaves =
-    let both = and_parts (s'.0 == s) (i' == i) (if_some ((s'.0 == s) && (i' == i)) _ _ leaves).0 in
     let its = publisher_claims st own me (own_claim s'.0 i' own) may.1 in (
       its.0,
-      subst (λ (k : ℕ). own_claim k i own ≡ Some its.0) (eqb-true s'.0 s both.0)
-          (subst (λ (k : ℕ). own_claim s'.0 k own ≡ Some its.0) (eqb-true i' i both.1) its.1),
+      same_pair (λ a b. own_claim a b own ≡ Some its.0) s'.0 i' s i (if_some ((s'.0 == s) && (i' == i)) _ _ leaves).0
+          its.1,
     )
 publishing_claims l own st me (Claim s' i' c false) s i may leaves =
     let clash : true ≡ false = (if_some ((s'.0 == s) && (i' == i)) true false leaves).1 in
@@ -196,7 +170,7 @@ alone l n s i fit =
           claimed = subst (λ x. (x.key s i).claimed ≡ true) (sym (state_after-more past e))
               (claimed_lasts st e.caller e.act s i earlier.claimed);
           unpublished = subst (λ x. (x.key s i).published ≡ false) (sym (state_after-more past e))
-              (published_kept st e.caller e.act s i spared earlier.unpublished);
+              (published_kept st e.caller e.act s i step.answers spared earlier.unpublished);
           only = λ m claim has_it. by_other m claim has_it (is_by m e) refl;
         }
           where

@@ -6,6 +6,7 @@ use Rattle.std.specs.Option.{ForSome}
 use Rattle.std.proofs.lemmas.Bool.{ltb-true}
 use Rattle.nio_base.specs.declared.limits.Limits.{Limits}
 use Rattle.nio_base.specs.declared.numbers.CallerNo.{CallerNo}
+use Rattle.nio_base.specs.declared.numbers.SelNo.{SelNo}
 use Rattle.nio_event.proofs.Claims.{claim_told, if_some}
 use Rattle.nio_event.proofs.KeyChanges.{stages_keep, back_parts}
 use Rattle.nio_event.proofs.Legal.{legal_induction}
@@ -18,7 +19,7 @@ use Rattle.nio_event.specs.Conditions.{Condition, IsCaller, IsChannel}
 use Rattle.nio_event.specs.Histories.{state_after, mine, IsStep, IsLegal}
 use Rattle.nio_event.specs.OwnEvents.{OwnClaim, claim_changed, own_claim}
 use Rattle.nio_event.specs.Sound.{IsSound, IsWithin}
-use Rattle.nio_event.specs.State.{State, opening, last_serial}
+use Rattle.nio_event.specs.State.{State, opening, last_serial, put_at}
 use Rattle.nio_event.specs.declared.act.Act.{Act}
 use Rattle.nio_event.specs.declared.act.Act.TheVariants.{DrawBit, MakeSelector, SetInterrupt, TakeInterrupt, CancelKey}
 use Rattle.nio_event.specs.declared.act.Act.TheVariants.{MakeChannel, Claim, RaiseKeys, Publish, Enrol, TakeTurn}
@@ -86,25 +87,21 @@ KeyWithin l s i k = k.claimed ≡ true → (s < l.selectors) × (i < l.keys) × 
 keys_within : (l : Limits) (own : List Act) (st : State) (me : CallerNo) (act : Act) → Condition l own st me act
     → IsWithin l st
     → (s i : ℕ) → KeyWithin l s i ((effect st me act).key s i)
-keys_within l own st me (CancelKey s' i' found) may here s i =
-    put_at_keeps (KeyWithin l) st.key s'.0 i' (record (st.key s'.0 i') { cancelled = true }) (λ old. old) s i
-    (here.keys s i)
-keys_within l own st me (Claim s' i' c true) may here s i =
-    put_at_keeps (KeyWithin l) st.key s'.0 i' (st.key s'.0 i') (λ old. old) s i (here.keys s i)
-keys_within l own st me (Claim s' i' c false) may here s i =
-    put_at_keeps (KeyWithin l) st.key s'.0 i' (new_key c 0) (λ _ _. (may.0.0, may.0.1, may.1)) s i (here.keys s i)
-keys_within l own st me (Publish s' i' found) may here s i =
-    put_at_keeps (KeyWithin l) st.key s'.0 i' (record (st.key s'.0 i') { published = true }) (λ old. old) s i
-    (here.keys s i)
-keys_within l own st me (Remove s' i' found) may here s i =
-    put_at_keeps (KeyWithin l) st.key s'.0 i' (record (st.key s'.0 i') { removed = true }) (λ old. old) s i
-    (here.keys s i)
-keys_within l own st me (ClaimAgain s' i' c from true) may here s i =
-    put_at_keeps (KeyWithin l) st.key s'.0 i' (st.key s'.0 i') (λ old. old) s i (here.keys s i)
-keys_within l own st me (ClaimAgain s' i' c from false) may here s i =
-    put_at_keeps (KeyWithin l) st.key s'.0 i' (new_key c (suc (st.key s'.0 i').serial))
-    (λ _ _. (may.0.0, may.0.1, may.1)) s i (here.keys s i)
-keys_within l own st me act may here s i = here.keys s i
+keys_within l own st me act may here s i = by_act act may
+  where
+    kept : (s' : SelNo) (i' : ℕ) (x : Stage) → (KeyWithin l s'.0 i' (st.key s'.0 i') → KeyWithin l s'.0 i' x)
+        → KeyWithin l s i (put_at st.key s'.0 i' x s i)
+    kept s' i' x new = put_at_keeps (KeyWithin l) st.key s'.0 i' x new s i (here.keys s i)
+
+    by_act : (act' : Act) → Condition l own st me act' → KeyWithin l s i ((effect st me act').key s i)
+    by_act (CancelKey s' i' found) may' = kept s' i' _ (λ old. old)
+    by_act (Claim s' i' c true) may' = kept s' i' _ (λ old. old)
+    by_act (Claim s' i' c false) may' = kept s' i' (new_key c 0) (λ _ _. (may'.0.0, may'.0.1, may'.1))
+    by_act (Publish s' i' found) may' = kept s' i' _ (λ old. old)
+    by_act (Remove s' i' found) may' = kept s' i' _ (λ old. old)
+    by_act (ClaimAgain s' i' c from true) may' = kept s' i' _ (λ old. old)
+    by_act (ClaimAgain s' i' c from false) may' = kept s' i' (new_key c _) (λ _ _. (may'.0.0, may'.0.1, may'.1))
+    by_act act' may' = here.keys s i
 
 -- a serial that is given again is below the last
 serials_within : (l : Limits) (own : List Act) (st : State) (me : CallerNo) (act : Act) → Condition l own st me act

@@ -11,11 +11,11 @@ use Rattle.nio_event.specs.Worked.{v, small_limits, worked_history, WorkedHistor
 use Rattle.nio_event.specs.declared.event.Event.{Event}
 
 -- each of the events is a step, one after the other
-abbrev AreSteps : Limits → List Event → List Event → Type 0
+abbrev pub AreSteps : Limits → List Event → List Event → Type 0
 AreSteps l past [] = Unit {0}
 AreSteps l past (e ∷ later) = IsStep l past e × AreSteps l (past ++ e ∷ []) later
 
-legal_by_steps : (l : Limits) (past later : List Event) → IsLegal l past → AreSteps l past later
+pub legal_by_steps : (l : Limits) (past later : List Event) → IsLegal l past → AreSteps l past later
     → IsLegal l (past ++ later)
 legal_by_steps l past [] legal steps = subst (IsLegal l) (sym (append-nil past)) legal
 legal_by_steps l past (e ∷ later) legal steps =
@@ -23,14 +23,14 @@ legal_by_steps l past (e ∷ later) legal steps =
     (legal_by_steps l (past ++ e ∷ []) later (legal_more l past e legal steps.0) steps.1)
 
 -- there is one number below 1
-below_one : (P : ℕ → Type 0) → P 0 → (n : ℕ) → n < 1 → P n
+pub below_one : (P : ℕ → Type 0) → P 0 → (n : ℕ) → n < 1 → P n
 below_one P first n below =
     let is_first : 0 ≡ n = omega arith in
     subst P is_first first
 
 -- a step, and then the others
 infixr 5 ◌▸◌
-abbrev ◌▸◌ : {A B : Type 0} → A → B → A × B
+abbrev pub ◌▸◌ : {A B : Type 0} → A → B → A × B
 first ▸ later = (first, later)
 
 -- the next events of the worked history, so many after so many

@@ -22,6 +22,7 @@ pub mod GroupCalls
 pub mod Arguments
 pub mod CallWords
 pub mod Calls
+pub mod WordRows
 pub mod GroupReplies
 pub mod Replies
 pub mod Script

@@ -15,6 +15,7 @@ pub use parse::{ParseError, Parsed, cut_at, is_blank, parse_line, read_number};
 pub use print::{print_line, print_reply};
 pub use reply::{Reply, Why};
 pub use timeout::{Milliseconds, NegativeTimeout};
+pub use word_row::{LineName, LineNames};
 
 mod act;
 mod bytes;
@@ -32,3 +33,4 @@ mod parse;
 mod print;
 mod reply;
 mod timeout;
+mod word_row;

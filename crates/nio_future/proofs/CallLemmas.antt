@@ -1,9 +1,7 @@
 -- A desk after a call of its group, before its completions are taken.
-use Rattle.std.proofs.Common.{◌≡◌, inl, inr, ℕ, ◌+◌, ◌<◌, ◌≤◌, false, ltb}
-use Rattle.std.proofs.Common.{[], ◌∷◌, ◌++◌, Option, Some, None, length, refl, sym, ap, ◌∙◌}
-use Rattle.std.proofs.Common.{subst, arith, Result, Ok, Err, IfOk, OnErr}
-use Rattle.std.proofs.lemmas.Bool.{false≢true}
-use Rattle.std.proofs.lemmas.Bool.Decides.{nat_tests}
+use Rattle.std.proofs.Common.{◌≡◌, inl, inr, ℕ, ◌+◌, ◌<◌, ◌≤◌, false, ltb, [], ◌∷◌, ◌++◌, Option, Some, None, length}
+use Rattle.std.proofs.Common.{refl, sym, ap, ◌∙◌, subst, arith, Result, Ok, Err, IfOk, OnErr}
+use Rattle.std.proofs.lemmas.Bool.{false≢true, ltb-true, ltb-false}
 use Rattle.std.proofs.lemmas.List.{get_or_past, length_push}
 use Rattle.nio_base.specs.declared.numbers.GChan.{GChan}
 use Rattle.nio_base.specs.declared.group.GKind.{GKind}
@@ -21,21 +19,23 @@ use Rattle.nio_group.specs.Stages.{is_queued}
 use Rattle.nio_group.specs.Steps.{answer_to_open, after_open, kept_if_refused, unless_refused}
 use Rattle.nio_group.proofs.RestLemmas.{lawful-empty}
 use Rattle.nio_group.proofs.RunLemmas.{lawful-after}
-use Rattle.nio_group.proofs.StageLemmas.{stepped-after, true-lt}
+use Rattle.nio_group.proofs.StageLemmas.{stepped-after}
 use Rattle.nio_group.proofs.TableLemmas.{by_test}
 use Rattle.nio_future.specs.Desk.{DeskState, empty_desk, held_at}
 use Rattle.nio_future.specs.Kept.{Agrees, IsSettling, IsDesk}
 use Rattle.nio_future.specs.Steps.{settled, by_group}
 use Rattle.nio_future.proofs.FrameLemmas.{is_start, framed-after}
 use Rattle.nio_future.specs.Tickets.{KeepsTickets}
-use Rattle.nio_future.proofs.SettleLemmas.{HasSameOut, settled-desk, same-out-settled, settled-by, keeps-same, settled-empty}
+use Rattle.nio_future.proofs.SettleLemmas.{HasSameOut, settled-desk, same-out-settled, settled-by, keeps-same}
+use Rattle.nio_future.proofs.SettleLemmas.{settled-empty}
 
 -- nothing is queued where the queue is empty
 pub none-queued : (d : DeskState) → IsDesk d → (n : ℕ) → is_queued (op_at d.group.flight n) ≡ false
 none-queued d desk n =
     let once = desk.settling.lawful.queued_once n in
     let none = rw desk.empty at once in
-    by_test (is_queued (op_at d.group.flight n)) (λ t. absurd (let never = rw t at none in omega (arith, never))) (λ f. f)
+    by_test (is_queued (op_at d.group.flight n)) (λ t. absurd (let never = rw t at none in omega (arith, never)))
+    (λ f. f)
 
 agrees-goes : (stage : Stage) (op : Operation) (held next : Option Operation) → op.stage ≡ stage
     → Agrees (Some op) held → is_queued (Some op) ≡ false → GoesOn stage op next → Agrees next held
@@ -59,10 +59,7 @@ agrees-after d call n desk within =
     (none-queued d desk n) ((stepped-after d.group call desk.settling.lawful).next n within)
 
 pub past-accepted : (f : Flight) (n : ℕ) → ltb n (accepted f) ≡ false → op_at f n ≡ None
-past-accepted f n not = get_or_past f.operations n None (at_least n (accepted f) not)
-  where
-    at_least : (m k : ℕ) → ltb m k ≡ false → k ≤ m
-    at_least m k h = grind (arith, nat_tests)
+past-accepted f n not = get_or_past f.operations n None (ltb-false n (accepted f) not)
 
 pub settling-after : (d : DeskState) (call : Call) → IsDesk d → IsCallOf d.group call → is_start call ≡ false
     → IsSettling (record d { group = after d.group call })
@@ -81,7 +78,7 @@ settling-after d call desk made other =
       few_out = s.few_out;
       agrees = λ n.
           by_test (ltb n (accepted d.group.flight))
-          (λ t. agrees-after d call n desk (true-lt n (accepted d.group.flight) t))
+          (λ t. agrees-after d call n desk (ltb-true n (accepted d.group.flight) t))
           (λ f.
           let same : accepted (after d.group call).flight ≡ accepted d.group.flight = omega (arith, accepts) in
           let before = past-accepted d.group.flight n f in

@@ -21,9 +21,9 @@ use Rattle.nio_group.specs.Refusals.{open_refusal, bind_refusal, report_refusal}
 use Rattle.nio_group.specs.Run.{Call, open_channel, bind, start, report, take, finish, close_channel, shutdown}
 use Rattle.nio_group.specs.Run.{shutdown_now, after}
 use Rattle.nio_group.specs.Stages.{is_running, at_stage}
-use Rattle.nio_group.specs.Steps.{after_open, after_bind, started, channels_after_start, after_report}
-use Rattle.nio_group.specs.Steps.{reported, channels_after_report, no_number_left, after_take, after_finish}
-use Rattle.nio_group.specs.Steps.{finish_refusal, after_close, after_shutdown, closed_below, with_closed, with_endpoint}
+use Rattle.nio_group.specs.Steps.{after_open, after_bind, started, channels_after_start, after_report, reported}
+use Rattle.nio_group.specs.Steps.{channels_after_report, no_number_left, after_take, after_finish, finish_refusal}
+use Rattle.nio_group.specs.Steps.{after_close, after_shutdown, closed_below, with_closed, with_endpoint}
 use Rattle.nio_group.proofs.RunLemmas.{unless-refused, cond-holds}
 
 abbrev pub is_start : Call → Bool

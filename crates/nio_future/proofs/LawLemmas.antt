@@ -1,8 +1,7 @@
 -- The law of tickets.
-use Rattle.std.proofs.Common.{◌≡◌, ◌⊎◌, inl, inr, ℕ, ◌<◌, ◌≤◌, Bool, true, false, cond, eqb, List, [], ◌∷◌}
-use Rattle.std.proofs.Common.{◌++◌, Option, Some, None, is_some, IsSome, length, get_or, refl, sym, ap, ◌∙◌}
-use Rattle.std.proofs.Common.{subst, arith}
-use Rattle.std.proofs.lemmas.Bool.{false≢true}
+use Rattle.std.proofs.Common.{◌≡◌, ◌⊎◌, inl, inr, ℕ, ◌<◌, ◌≤◌, Bool, true, false, cond, eqb, List, [], ◌∷◌, ◌++◌}
+use Rattle.std.proofs.Common.{Option, Some, None, is_some, IsSome, length, get_or, refl, sym, ap, ◌∙◌, subst, arith}
+use Rattle.std.proofs.lemmas.Bool.{false≢true, eqb-true, eqb-false}
 use Rattle.std.proofs.lemmas.List.{length-set, length_push}
 use Rattle.nio_base.specs.declared.numbers.GChan.{GChan}
 use Rattle.nio_base.specs.declared.group.OpKind.{OpKind}
@@ -22,15 +21,16 @@ use Rattle.nio_group.specs.Steps.{answer_to_take, after_take, after_finish}
 use Rattle.nio_group.proofs.ListLemmas.{eqb-same, get_or-push}
 use Rattle.nio_group.proofs.PendingLemmas.{stage-pending}
 use Rattle.nio_group.proofs.RestLemmas.{lawful-empty, resting}
-use Rattle.nio_group.proofs.TableLemmas.{by_test, other_number, same_number}
+use Rattle.nio_group.proofs.TableLemmas.{by_test}
 use Rattle.nio_group.proofs.TakenLemmas.{takes-once}
 use Rattle.nio_future.specs.Desk.{DeskState, empty_desk, held_at, is_out, result_at, result_in}
 use Rattle.nio_future.specs.Kept.{IsSettling, IsDesk}
-use Rattle.nio_future.specs.Run.{Call, ask, poll, cancel, IsAskOf, IsCallOf, IsRunOf, after, left_by, takes_of, with_takes}
-use Rattle.nio_future.specs.Run.{if_allowed, below_ask, below_cancel, below_call, below, GivesResult, IsTaken, handed}
-use Rattle.nio_future.specs.Run.{after_ask, ready_in, hands_out, times_handed, TicketsAreRight}
-use Rattle.nio_future.specs.Steps.{after_cancel, after_poll, after_start, answer_by, by_group, closed_for, kept_if_refused, polled_with, settled}
-use Rattle.nio_future.specs.Steps.{start_refusal, started, ticket_of, with_all_taken, with_taken, with_ticket, without_ticket}
+use Rattle.nio_future.specs.Run.{Call, ask, poll, cancel, IsAskOf, IsCallOf, IsRunOf, after, left_by, takes_of}
+use Rattle.nio_future.specs.Run.{with_takes, if_allowed, below_ask, below_cancel, below_call, below, GivesResult}
+use Rattle.nio_future.specs.Run.{IsTaken, handed, after_ask, ready_in, hands_out, times_handed, TicketsAreRight}
+use Rattle.nio_future.specs.Steps.{after_cancel, after_poll, after_start, answer_by, by_group, closed_for}
+use Rattle.nio_future.specs.Steps.{kept_if_refused, polled_with, settled, start_refusal, started, ticket_of}
+use Rattle.nio_future.specs.Steps.{with_all_taken, with_taken, with_ticket, without_ticket}
 use Rattle.nio_future.proofs.FrameLemmas.{is_start}
 use Rattle.nio_future.proofs.CallLemmas.{desk-by_group, desk-empty, settling-after}
 use Rattle.nio_future.proofs.SettleLemmas.{next-taken, settled-desk, settling-next}
@@ -86,7 +86,7 @@ settles-steps (k ∷ rest) d is settling =
             | inl before ↦
                 by_test (eqb n k)
                 (λ t.
-                let same_n = same_number n k t in
+                let same_n = eqb-true n k t in
                 let holds : result_at d' k ≡ Some next.group.result = ap result_in next.puts_by in
                 let both : Some next.group.result ≡ Some r =
                 sym holds ∙ ap (λ (m : ℕ). result_at d' m) (sym same_n) ∙ before in
@@ -95,7 +95,7 @@ settles-steps (k ∷ rest) d is settling =
                 subst (λ (o : Option CompletionFields). GivesResult n r (taken o)) (sym next.group.answer)
                 (sym same_n, result) in
                 inr (inl gives))
-                (λ f. inl (sym (ap result_in (next.others n (other_number n k f))) ∙ before))
+                (λ f. inl (sym (ap result_in (next.others n (eqb-false n k f))) ∙ before))
           ];
       gone = λ n l none.
           later.gone n (omega (arith, same, l))
@@ -139,7 +139,8 @@ starts-steps : (d : DeskState) (chan : GChan) (kind : OpKind) (len : ℕ) → Is
 starts-steps d chan kind len desk made none =
     let free = free-of d d chan.0 kind desk refl none in
     let op : Operation = record { chan = chan; kind = kind; len = len; stage = Pending } in
-    let settling = settling-start d chan kind len _ (with_ticket d.out chan kind len) desk made free.0 free.1 refl refl in
+    let settling = settling-start d chan kind len _
+    (with_ticket d.out chan kind len) desk made free.0 free.1 refl refl in
     let at : (n : ℕ) → get_or (d.out.operations ++ Some op ∷ []) n None
     ≡ cond (eqb n (length d.out.operations)) (Some op) (held_at d n) =
     λ n. get_or-push d.out.operations (Some op) None n in
@@ -156,7 +157,7 @@ starts-steps d chan kind len desk made none =
     sym (ap result_in here) ∙ is))
     (λ n l is.
     by_test (eqb n (length d.out.operations))
-    (λ t. let same = same_number n (length d.out.operations) t in absurd (omega (arith, same, l)))
+    (λ t. let same = eqb-true n (length d.out.operations) t in absurd (omega (arith, same, l)))
     (λ f. at n ∙ ap (λ (b : Bool). cond b (Some op) (held_at d n)) f ∙ is))
     (omega (arith, length_push d.out.operations (Some op)))
 
@@ -341,7 +342,7 @@ handed-gone n m d desk out same some = by_result (result_at d m) (sym (handed-is
     by_result : (o : Option Finished) → o ≡ handed d m → held_at (polled_with o d m) n ≡ None
     by_result None is = absurd (false≢true (ap is_some is ∙ some))
     by_result (Some r) is =
-        let at : eqb n m ≡ true = subst (λ (k : ℕ). eqb n k ≡ true) (sym (same_number m n same)) (eqb-same n) in
+        let at : eqb n m ≡ true = subst (λ (k : ℕ). eqb n k ≡ true) (sym (eqb-true m n same)) (eqb-same n) in
         others-without d m n (out-within d m out) ∙ ap (λ (b : Bool). cond b None (held_at d n)) at
 
 none-handed : (n : ℕ) (d : DeskState) (call : Call) → IsCallOf d call → held_at d n ≡ None → hands_out n d call ≡ 0
@@ -349,7 +350,7 @@ none-handed n d (ask call) made none = refl
 none-handed n d (cancel m) made none = refl
 none-handed n d (poll m) out none =
     by_test (eqb m n)
-    (λ t. let never : is_out d m ≡ false = ap (λ (k : ℕ). is_out d k) (same_number m n t) ∙ ap is_some none in
+    (λ t. let never : is_out d m ≡ false = ap (λ (k : ℕ). is_out d k) (eqb-true m n t) ∙ ap is_some none in
     absurd (false≢true (sym never ∙ out)))
     (λ f. ap (λ (b : Bool). once_where (cond b (is_some (handed d m)) false)) f)
 
@@ -394,7 +395,7 @@ once-call n d call calls desk run rest = by_call call refl
         (λ t.
         let parts = both-parts (eqb m n) (is_some (handed d m)) t in
         let out : is_out d m ≡ true = subst (λ (x : Call). IsCallOf d x) is run.0 in
-        let same = same_number m n parts.0 in
+        let same = eqb-true m n parts.0 in
         let within : m < length d.out.operations = out-within d m out in
         one (polls ∙ ap once_where t) (subst (λ (k : ℕ). k < length d.out.operations) same within)
         (ap (λ (x : Call). held_at (after d x) n) is ∙ handed-gone n m d desk out parts.0 parts.1))

@@ -1,6 +1,7 @@
+use Rattle.std.proofs.lemmas.Bool.{eqb-true, eqb-false, ne_eqb}
 -- A round of polls: what holds after some of the tickets were polled.
-use Rattle.std.proofs.Common.{◌≡◌, ℕ, ◌+◌, ◌≤◌, Bool, true, false, cond, eqb, List, [], ◌∷◌, ◌++◌, Option, Some}
-use Rattle.std.proofs.Common.{None, is_some, All, length, refl, sym, ap, ◌∙◌, subst, arith}
+use Rattle.std.proofs.Common.{◌≡◌, ℕ, ◌+◌, ◌≤◌, Bool, true, false, cond, eqb, List, [], ◌∷◌, ◌++◌, Option, Some, None}
+use Rattle.std.proofs.Common.{is_some, All, length, refl, sym, ap, ◌∙◌, subst, arith}
 use Rattle.std.proofs.lemmas.List.{length_push}
 use Rattle.std.proofs.lemmas.List.Elements.{All-push}
 use Rattle.nio_base.specs.declared.numbers.OpNo.{OpNo}
@@ -9,8 +10,8 @@ use Rattle.nio_group.specs.declared.operation.Operation.{Operation}
 use Rattle.nio_group.specs.Flight.{op_at}
 use Rattle.nio_group.specs.Group.{Group}
 use Rattle.nio_group.specs.Stages.{is_pending}
-use Rattle.nio_group.proofs.ListLemmas.{count_by-push, eqb-other, eqb-same}
-use Rattle.nio_group.proofs.TableLemmas.{by_test, other_number, same_number}
+use Rattle.nio_group.proofs.ListLemmas.{count_by-push, eqb-same}
+use Rattle.nio_group.proofs.TableLemmas.{by_test}
 use Rattle.nio_future.specs.Desk.{DeskState, held_at, is_out, result_at, result_in}
 use Rattle.nio_future.specs.Round.{results_of, with_ready, with_still}
 use Rattle.nio_future.specs.Steps.{after_poll, answer_by, answer_to_poll, polled_with, without_ticket, IsNotYet}
@@ -21,7 +22,8 @@ use Rattle.nio_future.specs.declared.ticket.Polled.TheVariants.{NotYet}
 use Rattle.nio_future.proofs.TicketLemmas.{bit, others-without, out-within}
 
 -- of all the tickets at the desk `first` some are left; the desk is `d` now
-pub record IsPolling (first d : DeskState) (all left still : List Ticket) (ready : List (OpNo × Finished)) : Type 0 where
+pub record IsPolling (first d : DeskState) (all left still : List Ticket)
+    (ready : List (OpNo × Finished)) : Type 0 where
   pub source : d.source ≡ first.source
   pub group : d.group ≡ first.group
   pub made_left : AreMadeHere first.source left
@@ -110,7 +112,7 @@ waited first d n k r held is =
     absurd (let no_result : ⊥ = cc in no_result))
 
 not-zero : (k m : ℕ) → m ≡ k + 1 → eqb m 0 ≡ false
-not-zero k m is = eqb-other m 0 (λ e. absurd (omega (arith, is, e)))
+not-zero k m is = ne_eqb m 0 (λ e. absurd (omega (arith, is, e)))
 
 gives-result : (first d : DeskState) (all init still : List Ticket) (ready : List (OpNo × Finished)) (t : Ticket)
     (r : Finished) → IsPolling first d all (init ++ t ∷ []) still ready → result_at d t.op.0 ≡ Some r
@@ -132,7 +134,7 @@ gives-result first d all init still ready t r polling is =
           let counts = tickets-push m init t in
           by_test (eqb m n)
           (λ b.
-          let same = same_number m n b in
+          let same = eqb-true m n b in
           let one : bit (eqb n m) ≡ 1 = ap (λ (k : ℕ). bit (eqb n k)) same ∙ ap bit (eqb-same n) in
           let was : bit (is_out d m) ≡ 1 = ap (λ (k : ℕ). bit (is_out d k)) same ∙ ap bit out in
           omega (arith, few, counts, one, was))
@@ -152,14 +154,14 @@ gives-result first d all init still ready t r polling is =
           let more = results-push m ready t.op r in
           by_test (eqb m n)
           (λ b.
-          let same = same_number m n b in
+          let same = eqb-true m n b in
           let one : bit (eqb n m) ≡ 1 = ap (λ (k : ℕ). bit (eqb n k)) same ∙ ap bit (eqb-same n) in
           let some : eqb (results_of m (ready ++ (t.op, r) ∷ [])) 0 ≡ false =
           not-zero (results_of m ready) (results_of m (ready ++ (t.op, r) ∷ [])) (omega (arith, more, one)) in
           now m ∙ ap (λ (x : Bool). cond x None (held_at d m)) b
           ∙ sym (ap (λ (x : Bool). cond x (held_at first m) None) some))
           (λ f.
-          let other : bit (eqb n m) ≡ 0 = ap bit (eqb-other n m (λ e. other_number m n f (sym e))) in
+          let other : bit (eqb n m) ≡ 0 = ap bit (ne_eqb n m (λ e. eqb-false m n f (sym e))) in
           let same : results_of m (ready ++ (t.op, r) ∷ []) ≡ results_of m ready = omega (arith, more, other) in
           now m ∙ ap (λ (x : Bool). cond x None (held_at d m)) f ∙ polling.held m
           ∙ ap (λ (k : ℕ). cond (eqb k 0) (held_at first m) None) (sym same));

@@ -1,8 +1,7 @@
 -- What taking one completion changes, and what taking all of them keeps.
-use Rattle.std.proofs.Common.{◌≡◌, ◌≢◌, ℕ, ◌<◌, true, List, [], ◌∷◌, Option, Some, None, is_some}
-use Rattle.std.proofs.Common.{count_by, length, get_or, set, refl, sym, ap, ◌∙◌, subst, arith, get_or-set_same}
-use Rattle.std.proofs.Common.{get_or-set_other}
-use Rattle.std.proofs.lemmas.Bool.{false≢true}
+use Rattle.std.proofs.Common.{◌≡◌, ◌≢◌, ℕ, ◌<◌, true, List, [], ◌∷◌, Option, Some, None, is_some, count_by, length}
+use Rattle.std.proofs.Common.{get_or, set, refl, sym, ap, ◌∙◌, subst, arith, get_or-set_same, get_or-set_other, eqb}
+use Rattle.std.proofs.lemmas.Bool.{false≢true, eqb-true, eqb-false}
 use Rattle.std.proofs.lemmas.List.{length-set}
 use Rattle.nio_base.specs.declared.numbers.OpNo.{OpNo}
 use Rattle.nio_base.specs.declared.group.Finished.{Finished}
@@ -17,13 +16,12 @@ use Rattle.nio_group.specs.Stages.{is_queued, is_running, at_stage}
 use Rattle.nio_group.specs.Steps.{answer_to_take, after_take, after_finish, finish_refusal, kept_if_refused}
 use Rattle.nio_group.proofs.FlightLemmas.{some-within}
 use Rattle.nio_group.proofs.QueueLemmas.{QueueHolds, front-queued}
-use Rattle.nio_group.proofs.RunLemmas.{lawful-after_take, lawful-after_finish}
-use Rattle.nio_group.proofs.TableLemmas.{by_test, same_number, other_number, count_by-set}
+use Rattle.nio_group.proofs.EndLemmas.{lawful-after_take, lawful-after_finish}
+use Rattle.nio_group.proofs.TableLemmas.{by_test, count_by-set}
 use Rattle.nio_future.specs.Desk.{DeskState, held_at, is_out, tickets_out}
 use Rattle.nio_future.specs.Tickets.{AreMadeHere, KeepsTickets}
 use Rattle.nio_future.specs.Kept.{Agrees, IsSettling, IsDesk}
 use Rattle.nio_future.specs.Steps.{with_taken, with_all_taken, settled, with_result}
-use Rattle.std.proofs.Common.{eqb}
 use Rattle.std.specs.Option.{option_map}
 
 -- ---- the group
@@ -81,9 +79,11 @@ ended-at g n rest lawful is = by_slot (op_at g.flight n) refl
           answer = rw (is, there, e) refl;
           running = running;
           left = left;
-          gone = rw left (get_or-set_same ys n None None (omega (arith, l, length-set xs n (Some (at_stage Running op)))));
+          gone = rw left
+              (get_or-set_same ys n None None (omega (arith, l, length-set xs n (Some (at_stage Running op)))));
           others = λ m differ. rw left
-              (get_or-set_other ys n m None None differ ∙ get_or-set_other xs n m (Some (at_stage Running op)) None differ);
+              (get_or-set_other ys n m None None differ ∙ get_or-set_other xs n m
+              (Some (at_stage Running op)) None differ);
         }
 
     by_slot : (slot : Option Operation) → op_at g.flight n ≡ slot
@@ -97,7 +97,8 @@ ended-at g n rest lawful is = by_slot (op_at g.flight n) refl
 -- the desk after the completion at the front of the queue was taken
 pub record IsNextTaken (d d' : DeskState) (n : ℕ) (rest : List ℕ) : Type 0 where
   pub group : IsEndedAt d.group d'.group n rest
-  pub taken : d' ≡ with_taken d (Some (record { op = record { 0 = n }; chan = group.op.chan; kind = group.op.kind; finished = group.result }))
+  pub taken : d' ≡ with_taken d
+      (Some (record { op = record { 0 = n }; chan = group.op.chan; kind = group.op.kind; finished = group.result }))
   pub held : held_at d n ≡ Some (at_stage Pending group.op)
   pub puts_by : held_at d' n ≡ Some (at_stage (Queued group.result) group.op)
   pub others : (m : ℕ) → m ≢ n → held_at d' m ≡ held_at d m
@@ -112,13 +113,15 @@ pub next-taken : (d : DeskState) (n : ℕ) (rest : List ℕ) → IsSettling d �
     → IsNextTaken d (with_taken d (answer_to_take d.group)) n rest
 next-taken d n rest settling is =
     let ended = ended-at d.group n rest settling.lawful is in
-    let done : CompletionFields = record { op = record { 0 = n }; chan = ended.op.chan; kind = ended.op.kind; finished = ended.result } in
+    let done : CompletionFields =
+    record { op = record { 0 = n }; chan = ended.op.chan; kind = ended.op.kind; finished = ended.result } in
     let taken : with_taken d (answer_to_take d.group) ≡ with_taken d (Some done) = ap (with_taken d) ended.answer in
     let held : held_at d n ≡ Some (at_stage Pending ended.op) =
     held-in (op_at d.group.flight n) (held_at d n) ended.op ended.was (settling.agrees n) in
     let xs = d.out.operations in
     let l = some-within xs n (at_stage Pending ended.op) held in
-    let put : (with_result d.out n ended.result).operations ≡ set xs n (Some (at_stage (Queued ended.result) ended.op)) =
+    let put : (with_result d.out n ended.result).operations ≡ set xs n
+    (Some (at_stage (Queued ended.result) ended.op)) =
     ap (λ (slot : Option Operation). set xs n (option_map (at_stage (Queued ended.result)) slot)) held in
     let here : held_at (with_taken d (Some done)) n ≡ Some (at_stage (Queued ended.result) ended.op) =
     ap (λ (ys : List (Option Operation)). get_or ys n None) put
@@ -134,10 +137,10 @@ next-taken d n rest settling is =
       puts_by = here;
       others = others;
       out = λ m. by_test (eqb m n)
-          (λ t. let same = same_number m n t in
+          (λ t. let same = eqb-true m n t in
           subst (λ (k : ℕ). is_out (with_taken d (Some done)) k ≡ is_out d k) (sym same)
           (ap is_some here ∙ sym (ap is_some held)))
-          (λ f. ap is_some (others m (other_number m n f)));
+          (λ f. ap is_some (others m (eqb-false m n f)));
     })
 
 -- as many tickets are out as were
@@ -150,9 +153,6 @@ tickets-same d n result op held =
     ap (λ (slot : Option Operation). set xs n (option_map (at_stage (Queued result)) slot)) held in
     let counts = rw held at (count_by-set is_some xs n (Some (at_stage (Queued result) op)) None l) in
     rw put (omega (arith, counts))
-
-length-same : (xs : List (Option Operation)) (n : ℕ) (slot : Option Operation) → length (set xs n slot) ≡ length xs
-length-same xs n slot = length-set xs n slot
 
 pub settling-next : (d d' : DeskState) (n : ℕ) (rest : List ℕ) → IsSettling d → IsNextTaken d d' n rest → IsSettling d'
 settling-next d d' n rest settling next =
@@ -167,8 +167,8 @@ settling-next d d' n rest settling next =
     ap tickets_out next.taken ∙ tickets-same d n result (at_stage Pending op) next.held in
     let accepts : accepted d'.group.flight ≡ accepted g.flight =
     ap (λ (x : Group). accepted x.flight) left
-    ∙ length-same (set g.flight.operations n (Some (at_stage Running op))) n None
-    ∙ length-same g.flight.operations n (Some (at_stage Running op)) in
+    ∙ length-set (set g.flight.operations n (Some (at_stage Running op))) n None
+    ∙ length-set g.flight.operations n (Some (at_stage Running op)) in
     let counts : length d'.out.operations ≡ length d.out.operations =
     ap (λ (x : DeskState). length x.out.operations) next.taken ∙ length-set d.out.operations n _ in
     let ops : d'.group.op_limit ≡ g.op_limit = ap (λ (x : Group). x.op_limit) left in
@@ -181,10 +181,10 @@ settling-next d d' n rest settling next =
       few_out = omega (arith, out, limit, few);
       agrees = λ m.
           by_test (eqb m n)
-          (λ t. let same = same_number m n t in
+          (λ t. let same = eqb-true m n t in
           let here : Agrees (op_at d'.group.flight n) (held_at d' n) = rw (next.group.gone, next.puts_by) refl in
           subst (λ (k : ℕ). Agrees (op_at d'.group.flight k) (held_at d' k)) (sym same) here)
-          (λ f. let differ = other_number m n f in
+          (λ f. let differ = eqb-false m n f in
           rw (next.group.others m differ, next.others m differ) (settling.agrees m));
     }
 
@@ -289,10 +289,6 @@ none-left d settling none = by_queue d.group.flight.queue refl
         let next = next-taken d n rest settling is in
         let some = next.group.answer in
         absurd (let never = sym none ∙ some in cc)
-
-pub same-trans : (a b c : DeskState) → HasSameOut a b → HasSameOut b c → HasSameOut a c
-same-trans a b c first second =
-    record { source = second.source ∙ first.source; out = λ n. second.out n ∙ first.out n }
 
 -- nothing is left to do where the queue is empty
 pub settled-empty : (d : DeskState) → d.group.flight.queue ≡ [] → settled d ≡ d

@@ -1,9 +1,9 @@
 -- `start`: what refuses it, and what it leaves.
-use Rattle.std.proofs.Common.{◌≡◌, ℕ, ◌<◌, ◌≤◌, ◌^◌, zero, suc, Bool, true, false, cond, eqb}
-use Rattle.std.proofs.Common.{List, [], ◌∷◌, ◌++◌, Option, Some, None, is_some, count_by, length, get_or, refl, sym, ap}
-use Rattle.std.proofs.Common.{◌∙◌, subst, arith, Ok, Err}
+use Rattle.std.proofs.Common.{◌≡◌, ℕ, ◌<◌, ◌≤◌, ◌^◌, zero, suc, Bool, true, false, cond, eqb, List, [], ◌∷◌, ◌++◌}
+use Rattle.std.proofs.Common.{Option, Some, None, is_some, count_by, length, get_or, refl, sym, ap, ◌∙◌, subst, arith}
+use Rattle.std.proofs.Common.{Ok, Err}
 use Rattle.std.specs.Option.{option_or}
-use Rattle.std.proofs.lemmas.Bool.{false≢true}
+use Rattle.std.proofs.lemmas.Bool.{false≢true, eqb-true, eqb-false}
 use Rattle.std.proofs.lemmas.List.{length_push}
 use Rattle.nio_base.specs.declared.numbers.GChan.{GChan}
 use Rattle.nio_base.specs.declared.numbers.OpNo.{OpNo}
@@ -25,28 +25,24 @@ use Rattle.nio_group.specs.Refusals.{channel_refusal, has_pending}
 use Rattle.nio_group.specs.Run.{start}
 use Rattle.nio_group.specs.Stages.{stage_is_running}
 use Rattle.nio_group.specs.Steps as group_steps
-use Rattle.nio_group.specs.Steps.{first_stage}
+use Rattle.nio_group.specs.Steps.{first_stage, unless_refused}
 use Rattle.nio_group.proofs.ListLemmas.{count_by-push, get_or-push}
 use Rattle.nio_group.proofs.RunLemmas.{lawful-after}
 use Rattle.nio_group.proofs.StartLemmas.{startable}
-use Rattle.nio_group.proofs.TableLemmas.{by_test, same_number, other_number}
+use Rattle.nio_group.proofs.TableLemmas.{by_test}
 use Rattle.nio_group.proofs.IndexLemmas.{count_by-cons}
 use Rattle.nio_future.specs.Desk.{DeskState, held_at, tickets_out}
 use Rattle.nio_future.specs.Kept.{Agrees, IsSettling, IsDesk}
-use Rattle.nio_future.specs.Steps.{after_start, answer_to_start, kept_if_refused, limit_refusal, settled}
-use Rattle.nio_future.specs.Steps.{start_refusal, ticket_of, with_ticket}
+use Rattle.nio_future.specs.Steps.{after_start, answer_to_start, kept_if_refused, limit_refusal, settled, start_refusal}
+use Rattle.nio_future.specs.Steps.{ticket_of, with_ticket}
 use Rattle.nio_future.specs.Ticket.{Ticket}
 use Rattle.nio_future.specs.Tickets.{AreTicketsOf, IsTicketOf, TakesTicket}
-use Rattle.nio_group.specs.Steps.{unless_refused}
 use Rattle.nio_future.proofs.CallLemmas.{channels-settled}
 use Rattle.nio_future.proofs.SettleLemmas.{desk_of, keeps-same, same-out-settled}
-use Rattle.nio_future.proofs.TicketLemmas.{is-given, takes-with}
+use Rattle.nio_future.proofs.TicketLemmas.{is-given, takes-with, bit}
 use Rattle.nio_future.proofs.FrameLemmas.{framed-started}
 
 -- ---- what refuses it
-
-abbrev bit : Bool → ℕ
-bit b = cond b 1 0
 
 count-le : (xs ys : List (Option Operation)) → length xs ≡ length ys
     → ((n : ℕ) → is_some (get_or xs n None) ≡ true → is_some (get_or ys n None) ≡ true)
@@ -77,12 +73,12 @@ flight-le-out d s =
 full-out : (d : DeskState) → IsSettling d → eqb (in_flight d.group.flight) d.group.flight.limit ≡ true
     → eqb (tickets_out d) d.out.limit ≡ true
 full-out d s t =
-    let same = same_number (in_flight d.group.flight) d.group.flight.limit t in
+    let same = eqb-true (in_flight d.group.flight) d.group.flight.limit t in
     let le = flight-le-out d s in
     let few = s.few_out in
     let limit = s.same_limit in
     by_test (eqb (tickets_out d) d.out.limit) (λ x. x)
-    (λ f. absurd (other_number (tickets_out d) d.out.limit f (omega (arith, same, le, few, limit))))
+    (λ f. absurd (eqb-false (tickets_out d) d.out.limit f (omega (arith, same, le, few, limit))))
 
 -- what the desk's cause is, by the group's
 abbrev pub or_full : Bool → Option StartError → Option StartError
@@ -162,14 +158,16 @@ settling-started d chan kind len desk made free room =
           let here = rw t at ours in
           let there = rw turned at theirs in
           let fits : Agrees (Some op) (Some held) = (not-running is_open kind len, refl) in
-          subst (λ (slot : Option Operation). Agrees slot (get_or (d.out.operations ++ Some held ∷ []) n None)) (sym here)
+          subst (λ (slot : Option Operation). Agrees slot (get_or (d.out.operations ++ Some held ∷ []) n None))
+          (sym here)
           (subst (λ (slot : Option Operation). Agrees (Some op) slot) (sym there) fits))
           (λ f.
           let turned : eqb n (length d.out.operations) ≡ false =
           subst (λ (k : ℕ). eqb n k ≡ false) (sym counts) f in
           let here = rw f at ours in
           let there = rw turned at theirs in
-          subst (λ (slot : Option Operation). Agrees slot (get_or (d.out.operations ++ Some held ∷ []) n None)) (sym here)
+          subst (λ (slot : Option Operation). Agrees slot (get_or (d.out.operations ++ Some held ∷ []) n None))
+          (sym here)
           (subst (λ (slot : Option Operation). Agrees (op_at g.flight n) slot) (sym there) (s.agrees n)));
     }
 
@@ -177,7 +175,8 @@ pub refusal-answer : (d old : DeskState) (c : ℕ) (kind : OpKind) (r : Option S
     → r ≡ group.start_refusal d.group c kind
     → or_full (eqb (tickets_out d) d.out.limit) r ≡ start_refusal old c kind
 refusal-answer d old c kind r desk view is =
-    ap (λ (o : Option StartError). or_full (eqb (tickets_out d) d.out.limit) o) is ∙ sym (refusal-by d c kind desk.settling)
+    ap (λ (o : Option StartError). or_full (eqb (tickets_out d) d.out.limit) o) is ∙ sym
+    (refusal-by d c kind desk.settling)
     ∙ ap (λ (x : DeskState). start_refusal x c kind) view
 
 -- ---- a start that isn't refused
@@ -193,7 +192,7 @@ pub free-of : (d old : DeskState) (c : ℕ) (kind : OpKind) → IsDesk d → d �
 free-of d old c kind desk view none =
     let parts = or-none (eqb (tickets_out d) d.out.limit) (group.start_refusal d.group c kind)
     (refusal-answer d old c kind (group.start_refusal d.group c kind) desk view refl ∙ none) in
-    let differ = other_number (tickets_out d) d.out.limit parts.1 in
+    let differ = eqb-false (tickets_out d) d.out.limit parts.1 in
     let few = desk.settling.few_out in
     (parts.0, omega (arith, differ, few))
 
@@ -202,11 +201,10 @@ pub numbers-left : (d : DeskState) (c : ℕ) (kind : OpKind) → IsDesk d → gr
     → length d.out.operations < 2 ^ 62
 numbers-left d c kind desk free =
     let s = desk.settling in
-    let differ = (startable d.group c kind free).numbers in
-    let few = s.lawful.few_accepted in
+    let numbers = (startable d.group c kind s.lawful free).numbers in
     let ops = s.few_ops in
     let counts = s.same_count in
-    omega (arith, differ, few, ops, counts)
+    omega (arith, numbers, ops, counts)
 
 pub settling-start : (d : DeskState) (chan : GChan) (kind : OpKind) (len : ℕ) (g : Group) (out : Accepted) → IsDesk d
     → chan.0 < length d.group.channels → group.start_refusal d.group chan.0 kind ≡ None
@@ -345,7 +343,8 @@ other-channel is_open (Listener bound) pending Connect is = cc
 other-channel is_open (Listener bound) pending Read is = cc
 other-channel is_open (Listener bound) pending Write is = cc
 
-full-limit : (a b : Bool) → cond a (Some refused.OpsSpent) (cond b (Some refused.FlightFull) None) ≡ Some refused.FlightFull
+full-limit : (a b : Bool) → cond a (Some refused.OpsSpent) (cond b (Some refused.FlightFull) None)
+    ≡ Some refused.FlightFull
     → b ≡ true
 full-limit true b is = absurd (let never : ⊥ = cc in never)
 full-limit false true is = refl
@@ -365,5 +364,5 @@ full-cause d c kind is =
     let limits = full-by (is_terminated d.group)
     (channel_refusal channel.is_open channel.endpoint (has_pending d.group.flight c kind) kind) (limit_refusal d)
     (other-channel channel.is_open channel.endpoint (has_pending d.group.flight c kind) kind) is in
-    same_number (tickets_out d) d.out.limit
+    eqb-true (tickets_out d) d.out.limit
     (full-limit (eqb (accepted d.group.flight) d.group.op_limit) (eqb (tickets_out d) d.out.limit) limits)

@@ -1,9 +1,7 @@
 -- What the desk holds for a ticket, and what a poll and a cancel leave.
-use Rattle.std.proofs.Common.{◌≡◌, ◌⊎◌, inl, inr, ℕ, ◌<◌, ◌≤◌, Bool, true, false, cond, eqb, List, [], ◌∷◌}
-use Rattle.std.proofs.Common.{◌++◌}
-use Rattle.std.proofs.Common.{Option, Some, None, is_some, length, get_or, refl, sym, ap, ◌∙◌, subst}
-use Rattle.std.proofs.Common.{arith, ◌↔◌, map, zero, suc}
-use Rattle.std.proofs.lemmas.Bool.{false≢true}
+use Rattle.std.proofs.Common.{◌≡◌, ◌⊎◌, inl, inr, ℕ, ◌<◌, ◌≤◌, Bool, true, false, cond, eqb, List, [], ◌∷◌, ◌++◌}
+use Rattle.std.proofs.Common.{Option, Some, None, is_some, length, get_or, refl, sym, ap, ◌∙◌, subst, arith, ◌↔◌}
+use Rattle.std.proofs.lemmas.Bool.{false≢true, eqb-true, eqb-false, ne_eqb}
 use Rattle.std.proofs.lemmas.List.{get_or_past, get_or_push, length-set}
 use Rattle.nio_base.specs.declared.numbers.OpNo.{OpNo}
 use Rattle.nio_base.specs.declared.group.Finished.{Finished}
@@ -18,9 +16,9 @@ use Rattle.nio_group.specs.Steps.{after_close, with_closed}
 use Rattle.nio_group.specs.Stages.{is_pending, is_pending_as, is_pending_on, stage_is_pending, is_queued, at_stage}
 use Rattle.nio_group.proofs.FlightLemmas.{some-within}
 use Rattle.nio_group.proofs.IndexLemmas.{count_by-cons}
-use Rattle.nio_group.proofs.ListLemmas.{eqb-other, eqb-same, get_or-push, get_or-set}
-use Rattle.nio_group.proofs.TableLemmas.{by_test, count_by-set, other_number, same_number}
-use Rattle.nio_group.proofs.PendingLemmas.{same_kind-refl}
+use Rattle.nio_group.proofs.ListLemmas.{eqb-same, get_or-push, get_or-set, within-where}
+use Rattle.nio_group.proofs.TableLemmas.{by_test, count_by-set}
+use Rattle.nio_group.proofs.PendingLemmas.{pending-own}
 use Rattle.nio_group.proofs.LawfulLemmas.{open-within}
 use Rattle.nio_future.specs.Desk.{DeskState, held_at, is_out, result_at, result_in, stage_result}
 use Rattle.nio_future.specs.Kept.{Agrees, IsSettling, IsDesk}
@@ -29,6 +27,7 @@ use Rattle.nio_future.specs.Ticket.{Ticket}
 use Rattle.nio_future.specs.Tickets.{AreTicketsOf, GivesTicket, IsTicketOf, KeepsTickets, TakesTicket}
 use Rattle.nio_future.proofs.CallLemmas.{called, desk-by_group, none-queued, same-out-by_group, settling-after}
 use Rattle.nio_future.proofs.SettleLemmas.{HasSameOut, desk_of, settled-by, settled-desk}
+use Rattle.std.proofs.Math.ListN.{get_or-map}
 
 -- ---- the three states of an operation that the desk has started
 
@@ -111,7 +110,7 @@ desk-without d n desk out ended = by_held (held_at d n) refl
                 let there = others-without d n m within in
                 by_test (eqb m n)
                 (λ t.
-                let same = same_number m n t in
+                let same = eqb-true m n t in
                 let none : op_at d.group.flight m ≡ None =
                 subst (λ (k : ℕ). op_at d.group.flight k ≡ None) (sym same) ended in
                 let gone : held_at (without_ticket d n) m ≡ None =
@@ -153,9 +152,9 @@ ended-settled d n settling past = ended (known (settled d) n (settled-desk d set
         settled-by (λ x. is_pending (op_at x.group.flight n) ≡ false)
         (λ x x' k rest s next before.
         by_test (eqb n k)
-        (λ t. subst (λ (m : ℕ). is_pending (op_at x'.group.flight m) ≡ false) (sym (same_number n k t))
+        (λ t. subst (λ (m : ℕ). is_pending (op_at x'.group.flight m) ≡ false) (sym (eqb-true n k t))
         (ap is_pending next.group.gone))
-        (λ f. ap is_pending (next.group.others n (other_number n k f)) ∙ before))
+        (λ f. ap is_pending (next.group.others n (eqb-false n k f)) ∙ before))
         d settling past
 
     ended : IsKnown (op_at (settled d).group.flight n) (held_at (settled d) n)
@@ -167,19 +166,13 @@ ended-settled d n settling past = ended (known (settled d) n (settled-desk d set
         absurd (false≢true (sym still ∙ pending))
     ended (inr (inr ready)) = ready.slot_is
 
-get_or-map_closed : (c n : ℕ) (xs : List (Option Operation))
-    → get_or (map (closed_on c) xs) n None ≡ closed_on c (get_or xs n None)
-get_or-map_closed c n [] = refl
-get_or-map_closed c zero (x ∷ xs) = refl
-get_or-map_closed c (suc n) (x ∷ xs) = get_or-map_closed c n xs
-
 closed-past : (g : Group) (n : ℕ) (op : Operation) → op_at g.flight n ≡ Some op → op.stage ≡ Pending
     → (channel_at g op.chan.0).is_open ≡ true → is_pending (op_at (after_close g op.chan.0).flight n) ≡ false
 closed-past g n op is pending opened =
     let closed : after_close g op.chan.0
     ≡ record (with_closed g op.chan.0) { flight = with_channel_closed g.flight op.chan.0 } = rw opened refl in
     let slot : op_at (with_channel_closed g.flight op.chan.0) n ≡ closed_on op.chan.0 (Some op) =
-    get_or-map_closed op.chan.0 n g.flight.operations ∙ ap (closed_on op.chan.0) is in
+    get_or-map (closed_on op.chan.0) g.flight.operations n None ∙ ap (closed_on op.chan.0) is in
     let on : is_pending_on op.chan.0 (Some op) ≡ true = rw (pending, eqb-same op.chan.0) refl in
     let past : is_pending (closed_on op.chan.0 (Some op)) ≡ false = rw on refl in
     ap (λ (h : Group). is_pending (op_at h.flight n)) closed ∙ ap is_pending slot ∙ past
@@ -188,7 +181,7 @@ pub pending-made : (d : DeskState) (n : ℕ) (op : Operation) → IsDesk d → o
     → op.stage ≡ Pending → ((channel_at d.group op.chan.0).is_open ≡ true) × (op.chan.0 < length d.group.channels)
 pending-made d n op desk is pending =
     let pends : is_pending_as op.chan.0 op.kind (op_at d.group.flight n) ≡ true =
-    rw (is, pending, eqb-same op.chan.0, same_kind-refl op.kind) refl in
+    rw is (pending-own op (rw pending refl)) in
     let opened = desk.settling.lawful.pending_open n op.chan.0 op.kind pends in
     (opened, open-within d.group.channels op.chan.0 opened)
 
@@ -197,7 +190,8 @@ waiting-closed : (d : DeskState) (n : ℕ) (op : Operation) → IsDesk d → op_
 waiting-closed d n op desk is pending =
     let made = pending-made d n op desk is pending in
     let settling = settling-after d (close_channel op.chan) desk made.1 refl in
-    let call = called d d (by_group d (close_channel op.chan)) (close_channel op.chan) _ refl desk made.1 refl refl refl in
+    let call = called d d (by_group d (close_channel op.chan))
+    (close_channel op.chan) _ refl desk made.1 refl refl refl in
     record {
       desk = desk-by_group d (close_channel op.chan) desk made.1 refl;
       same_out = same-out-by_group d (close_channel op.chan) desk made.1 refl;
@@ -235,16 +229,6 @@ waiting-from d n held desk is stage = by_known (known d n desk)
         let both : Queued ready.result ≡ Pending = sym ready.stage ∙ ap (λ (o : Operation). o.stage) op ∙ stage in
         absurd (let never : ⊥ = cc in never)
 
--- what the desk holds otherwise has ended in the group
-pub ended-from : (d : DeskState) (n : ℕ) → IsDesk d → ((held : Operation) → held_at d n ≡ Some held
-    → held.stage ≡ Pending → ⊥) → op_at d.group.flight n ≡ None
-ended-from d n desk not = by_known (known d n desk)
-  where
-    by_known : IsKnown (op_at d.group.flight n) (held_at d n) → op_at d.group.flight n ≡ None
-    by_known (inl gone) = gone.slot_is
-    by_known (inr (inl waiting)) = absurd (not waiting.op waiting.held_is waiting.stage)
-    by_known (inr (inr ready)) = ready.slot_is
-
 -- an operation whose result waits has ended
 pub result-ended : (d : DeskState) (n : ℕ) (result : Finished) → IsDesk d → result_at d n ≡ Some result
     → op_at d.group.flight n ≡ None
@@ -277,11 +261,7 @@ waits-while-pending d n desk out = by_known (known d n desk)
     )
 
 pub out-within : (d : DeskState) (n : ℕ) → is_out d n ≡ true → n < length d.out.operations
-out-within d n out = by_held (held_at d n) refl
-  where
-    by_held : (held : Option Operation) → held_at d n ≡ held → n < length d.out.operations
-    by_held None is = absurd (false≢true (ap is_some (sym is) ∙ out))
-    by_held (Some op) is = some-within d.out.operations n op is
+out-within d n out = within-where is_some d.out.operations n None refl out
 
 at-most-one : (b : Bool) → bit b ≤ 1
 at-most-one true = omega arith
@@ -303,7 +283,7 @@ gives-without d t out = λ ts tickets.
           let there = others-without d n m within in
           by_test (eqb m n)
           (λ b.
-          let same = same_number m n b in
+          let same = eqb-true m n b in
           let gone : held_at (without_ticket d n) m ≡ None =
           there ∙ ap (λ (x : Bool). cond x None (held_at d m)) b in
           let first : bit (eqb n m) ≡ 1 = ap (λ (k : ℕ). bit (eqb n k)) same ∙ ap bit (eqb-same n) in
@@ -344,7 +324,7 @@ takes-with d t out op named number pushed = λ ts tickets.
           ∙ get_or-push d.out.operations (Some op) None m in
           by_test (eqb m n)
           (λ b.
-          let same = same_number m n b in
+          let same = eqb-true m n b in
           let past : held_at d m ≡ None = get_or_past d.out.operations m None (omega (arith, same)) in
           let none : bit (is_out d m) ≡ 0 = ap (λ (o : Option Operation). bit (is_some o)) past in
           let now : bit (is_some (get_or out.operations m None)) ≡ 1 =
@@ -357,7 +337,7 @@ takes-with d t out op named number pushed = λ ts tickets.
           ap (λ (o : Option Operation). bit (is_some o))
           (there ∙ ap (λ (x : Bool). cond x (Some op) (held_at d m)) f) in
           let other : bit (eqb t.op.0 m) ≡ 0 =
-          ap bit (ap (λ (k : ℕ). eqb k m) number ∙ eqb-other n m (λ e. other_number m n f (sym e))) in
+          ap bit (ap (λ (k : ℕ). eqb k m) number ∙ ne_eqb n m (λ e. eqb-false m n f (sym e))) in
           omega (arith, few, counts, as_was, other));
     }
 
@@ -410,7 +390,8 @@ cancelled d old t op out desk ticket number closed same ended keeps left =
     let n = op.0 in
     let was : is_out old n ≡ true = ap (λ (k : OpNo). is_out old k.0) number ∙ ticket.out in
     let is : is_out d n ≡ true = same ∙ was in
-    let taken : desk_of d.group out d.source ≡ without_ticket d n = ap (λ (a : Accepted). desk_of d.group a d.source) left in
+    let taken : desk_of d.group out d.source ≡ without_ticket d n = ap
+    (λ (a : Accepted). desk_of d.group a d.source) left in
     let gives : GivesTicket t d (without_ticket d t.op.0) =
     gives-without d t (ap (λ (k : OpNo). is_out d k.0) (sym number) ∙ is) in
     record {
@@ -422,8 +403,3 @@ cancelled d old t op out desk ticket number closed same ended keeps left =
           (ap (λ (k : OpNo). without_ticket d k.0) (sym number) ∙ sym taken)
           (gives ts (keeps.lists (t ∷ ts) tickets));
     }
-
--- ---- for callers
-
-pub no-tickets : (d : DeskState) → AreTicketsOf d []
-no-tickets d = record { made_here = tt; each = λ n. omega arith }

@@ -1,8 +1,9 @@
+use Rattle.std.proofs.lemmas.Option.{none-some, same_Some}
 -- The completions of a channel that is closed, one after another.
 use Rattle.std.proofs.Common.{◌≡◌, ◌≢◌, ℕ, ◌+◌, ◌<◌, ◌≤◌, zero, suc, true, false, eqb, List, [], ◌∷◌, ◌++◌, Option}
 use Rattle.std.proofs.Common.{Some, None, get_or, set, map, length, refl, sym, ap, ◌∙◌, subst, arith, inl, inr}
 use Rattle.std.proofs.Common.{append_assoc, get_or-set_same, get_or-set_other}
-use Rattle.std.proofs.lemmas.Bool.{false≢true}
+use Rattle.std.proofs.lemmas.Bool.{false≢true, eqb-true, eqb-false}
 use Rattle.std.proofs.lemmas.List.{append-nil}
 use Rattle.nio_base.specs.declared.group.OpKind.{OpKind}
 use Rattle.nio_base.specs.declared.group.Finished.TheVariants.{Failed}
@@ -12,7 +13,7 @@ use Rattle.nio_group.specs.declared.operation.Operation.{Operation}
 use Rattle.nio_group.specs.Stages.{is_pending, is_pending_on, is_pending_as, at_stage}
 use Rattle.nio_group.specs.Flight.{Flight, op_at, closed_on, pending_from, with_channel_closed, with_completed}
 use Rattle.nio_group.specs.Flight.{IsPendingAs}
-use Rattle.nio_group.proofs.TableLemmas.{by_test, same_number, other_number}
+use Rattle.nio_group.proofs.TableLemmas.{by_test}
 use Rattle.std.specs.Option.{option_map}
 use Rattle.nio_group.specs.declared.pending.Pending as slots
 use Rattle.nio_group.specs.Pending.{slot_of, with_slot}
@@ -62,9 +63,6 @@ pub record IsListedOn (f : Flight) (c : ℕ) (p : slots.Pending) : Type 0 where
   pub listed : (kind : OpKind) (n : ℕ) → slot_of p kind ≡ Some n → IsPendingAs f c kind n
   pub all : (kind : OpKind) (n : ℕ) → IsPendingAs f c kind n → slot_of p kind ≡ Some n
 
-pub none_some : (m : ℕ) → None ≡ Some m → ⊥
-none_some m e = cc
-
 -- nothing is pending where no slot is filled
 pub nothing-pending_on : (f : Flight) (c : ℕ) (p : slots.Pending) → IsListedOn f c p
     → ((kind : OpKind) → slot_of p kind ≡ None) → (n : ℕ) → is_pending_on c (op_at f n) ≡ false
@@ -77,7 +75,7 @@ nothing-pending_on f c p on none n =
     at_slot None is h = false≢true h
     at_slot (Some op) is h =
         let pending : is_pending_as c op.kind (op_at f n) ≡ true = rw is (pending_on-as c op h) in
-        none_some n (sym (none op.kind) ∙ on.all op.kind n pending)
+        none-some n (sym (none op.kind) ∙ on.all op.kind n pending)
 
 pub closed-nothing : (f : Flight) (c : ℕ) → ((n : ℕ) → is_pending_on c (op_at f n) ≡ false)
     → with_channel_closed f c ≡ f
@@ -92,18 +90,20 @@ pub pending-after : (xs : List (Option Operation)) (n : ℕ) (slot : Option Oper
     → (m ≢ n) × (is_pending_as c kind (get_or xs m None) ≡ true)
 pending-after xs n slot c kind m l not_pending h =
     by_test (eqb m n)
-    (λ t. let same = same_number m n t in
+    (λ t. let same = eqb-true m n t in
     let at : is_pending_as c kind (get_or (set xs n slot) n None) ≡ true = subst
     (λ (i : ℕ). is_pending_as c kind (get_or (set xs n slot) i None) ≡ true) same h in
     let no : is_pending_as c kind slot ≡ true = rw (get_or-set_same xs n slot None l) at at in
     absurd (false≢true (sym (not_pending-as c kind slot not_pending) ∙ no)))
-    (λ e. let differ = other_number m n e in
+    (λ e. let differ = eqb-false m n e in
     (differ, rw (get_or-set_other xs n m slot None differ) at h))
 
 pub pending-before : (xs : List (Option Operation)) (n : ℕ) (slot : Option Operation) (c : ℕ) (kind : OpKind) (m : ℕ)
-    → m ≢ n → is_pending_as c kind (get_or xs m None) ≡ true
+    → (is_pending_as c kind (get_or xs n None) ≡ true → ⊥) → is_pending_as c kind (get_or xs m None) ≡ true
     → is_pending_as c kind (get_or (set xs n slot) m None) ≡ true
-pending-before xs n slot c kind m differ h = rw (get_or-set_other xs n m slot None differ) h
+pending-before xs n slot c kind m not h =
+    rw (get_or-set_other xs n m slot None
+    (λ same. not (subst (λ (i : ℕ). is_pending_as c kind (get_or xs i None) ≡ true) same h))) h
 
 -- a step of the closing
 pub record IsClosingStep (f : Flight) (c : ℕ) (p : slots.Pending) (n : ℕ) (op : Operation) : Type 0 where
@@ -112,10 +112,7 @@ pub record IsClosingStep (f : Flight) (c : ℕ) (p : slots.Pending) (n : ℕ) (o
   pub closed : with_channel_closed (with_completed f n (Failed AsynchronousClose)) c ≡ with_channel_closed f c
   pub fewer : filled_slots (with_slot p op.kind None) + 1 ≡ filled_slots p
 
-pub some-same : {m n : ℕ} → Some m ≡ Some n → m ≡ n
-some-same e = cc
-
-listed-step : (f : Flight) (c : ℕ) (p : slots.Pending) (n : ℕ) (op : Operation) (slot : Option Operation)
+pub listed-step : (f : Flight) (c : ℕ) (p : slots.Pending) (n : ℕ) (op : Operation) (slot : Option Operation)
     (queue : List ℕ) → IsListedOn f c p → op_at f n ≡ Some op → n < length f.operations → slot_of p op.kind ≡ Some n
     → is_pending slot ≡ false
     → IsListedOn (record f { operations = set f.operations n slot; queue = queue }) c (with_slot p op.kind None)
@@ -124,30 +121,22 @@ listed-step f c p n op slot queue on is l own not_pending =
       listed = λ k m h.
           elim (kinds k op.kind) [
             | inl same ↦ absurd
-                (none_some m
+                (none-some m
                 (sym (slot_of-with_same p op.kind None)
                 ∙ subst (λ (j : OpKind). slot_of (with_slot p op.kind None) j ≡ Some m) same h))
-            | inr differ ↦
-                let old = on.listed k m (sym (slot_of-with_other p op.kind k None differ) ∙ h) in
-                pending-before f.operations n slot c k m (not_n k m old differ) old
+            | inr differ ↦ pending-before f.operations n slot c k m
+                (λ at. differ (sym (pending-parts c k op (rw is at at)).same))
+                (on.listed k m (sym (slot_of-with_other p op.kind k None differ) ∙ h))
           ];
       all = λ k m h.
           let old = pending-after f.operations n slot c k m l not_pending h in
           let has = on.all k m old.1 in
           elim (kinds k op.kind) [
             | inl same ↦ absurd
-                (old.0 (some-same (sym has ∙ subst (λ (j : OpKind). slot_of p j ≡ Some n) (sym same) own)))
+                (old.0 (same_Some m n (sym has ∙ subst (λ (j : OpKind). slot_of p j ≡ Some n) (sym same) own)))
             | inr differ ↦ slot_of-with_other p op.kind k None differ ∙ has
           ];
     }
-  where
-    not_n : (k : OpKind) (m : ℕ) → is_pending_as c k (op_at f m) ≡ true → k ≢ op.kind → m ≢ n
-    not_n k m old differ same =
-        let at : is_pending_as c k (op_at f n) ≡ true = subst
-        (λ (i : ℕ). is_pending_as c k (op_at f i) ≡ true) same old in
-        let of : is_pending_as c k (Some op) ≡ true = rw is at at in
-        let parts = pending-parts c k op of in
-        differ (sym parts.same)
 
 -- what is pending before the least is nothing
 none-before : (f : Flight) (c : ℕ) (p : slots.Pending) (n : ℕ) → IsListedOn f c p

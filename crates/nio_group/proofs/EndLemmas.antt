@@ -1,8 +1,9 @@
+use Rattle.std.proofs.lemmas.Option.{none-some}
 -- What takes, ends of operations and closings keep.
-use Rattle.std.proofs.Common.{◌≡◌, ◌≢◌, ℕ, ◌+◌, ◌-◌, ◌<◌, ◌≤◌, zero, suc, Bool, true, false, cond, eqb, not, ◌&&◌, List}
-use Rattle.std.proofs.Common.{[], ◌∷◌, ◌++◌, Option, Some, None, is_some, count_by, get_or, set, map, length, refl, sym}
-use Rattle.std.proofs.Common.{ap, ◌∙◌, subst, arith, get_or-set_same, get_or-set_other}
-use Rattle.std.proofs.lemmas.Bool.{false≢true}
+use Rattle.std.proofs.Common.{◌≡◌, ◌≢◌, ℕ, ◌+◌, ◌-◌, ◌<◌, ◌≤◌, zero, suc, Bool, true, false, cond, eqb, ◌&&◌, List, []}
+use Rattle.std.proofs.Common.{◌∷◌, ◌++◌, Option, Some, None, is_some, count_by, get_or, set, map, length, refl, sym, ap}
+use Rattle.std.proofs.Common.{◌∙◌, subst, arith, drop}
+use Rattle.std.proofs.lemmas.Bool.{false≢true, ne_eqb, and_parts}
 use Rattle.std.proofs.lemmas.List.{length-set, length-map, get_or_read}
 use Rattle.std.proofs.lemmas.List.Sums.{sum_by-append}
 use Rattle.nio_group.specs.declared.channel.Channel.{Channel}
@@ -15,22 +16,25 @@ use Rattle.nio_group.specs.declared.limits.GroupLimits.{GroupLimits}
 use Rattle.nio_group.specs.declared.pending.Pending as slots
 use Rattle.nio_group.specs.Stages.{is_pending, is_pending_on, is_pending_as, is_queued, is_running, stage_is_pending}
 use Rattle.nio_group.specs.Stages.{stage_is_queued, stage_is_running, at_stage}
-use Rattle.nio_group.specs.Flight.{Flight, op_at, IsPendingAs, flight_after_take, with_taken, with_ended, closed_on}
-use Rattle.nio_group.specs.Flight.{pending_from, with_channel_closed}
+use Rattle.nio_group.specs.Flight.{Flight, op_at, IsPendingAs, flight_after_take, with_ended, closed_on, pending_from}
+use Rattle.nio_group.specs.Flight.{with_channel_closed}
 use Rattle.nio_group.specs.Pending.{slot_of, nothing_pending}
 use Rattle.nio_group.specs.Group.{Group, IsLawful, channel_at, no_channel}
 use Rattle.nio_group.specs.GroupKept.{IsGroupKept, IsListed, group_of, is_open}
-use Rattle.nio_group.proofs.TableLemmas.{by_test, same_number, other_number, count_by-set}
+use Rattle.nio_group.proofs.TableLemmas.{by_test, count_by-set}
 use Rattle.nio_group.proofs.IndexLemmas.{count_by-cons}
-use Rattle.nio_group.proofs.ListLemmas.{eqb-same, eqb-other}
+use Rattle.nio_group.proofs.ListLemmas.{eqb-same}
 use Rattle.nio_group.proofs.QueueLemmas.{QueueHolds, once_if, queue-set, queue-taken, front-queued}
 use Rattle.nio_group.proofs.PendingLemmas.{IsPendingOf, pending-parts, pending-as-pending, pending_as-on}
-use Rattle.nio_group.proofs.PendingLemmas.{slot_of-nothing, and-left}
-use Rattle.nio_group.proofs.LawfulLemmas.{IsFlightLawful, lawful-channel, lawful-operations}
-use Rattle.nio_group.proofs.GroupLemmas.{kept-channel, kept-operations}
-use Rattle.nio_group.proofs.CloseLemmas.{none_some, pending-after, pending-before}
-use Rattle.nio_group.proofs.FlightLemmas.{some-within, not_queued-running}
+use Rattle.nio_group.proofs.PendingLemmas.{slot_of-nothing}
+use Rattle.nio_group.proofs.LawfulLemmas.{IsFlightLawful, lawful-channel, lawful-operations, flight-lawful}
+use Rattle.nio_group.proofs.GroupLemmas.{kept-channel, kept-operations, listed-channel}
+use Rattle.nio_group.proofs.CloseLemmas.{pending-after, pending-before}
+use Rattle.nio_group.proofs.FlightLemmas.{some-within, not_queued-running, not_queued-pending}
 use Rattle.nio_group.proofs.ReportLemmas.{flight-changes}
+use Rattle.std.proofs.Math.ListN.{get_or-map}
+use Rattle.nio_group.specs.Steps.{after_take, after_finish, finish_refusal, kept_if_refused}
+use Rattle.std.specs.Option.{option_map}
 
 -- an operation changes from one stage to another, neither of them pending
 pub lawful-unpending : (g : Group) (n : ℕ) (slot : Option Operation) (queue : List ℕ) → IsLawful g
@@ -42,13 +46,8 @@ lawful-unpending g n slot queue lawful l was will flight =
     let xs = g.flight.operations in
     lawful-operations g (record g.flight { operations = set xs n slot; queue = queue }) lawful flight
     (λ c kind m h. (pending-after xs n slot c kind m l will h).1)
-    (λ c m h. pending-before xs n slot c Connect m (not_it c Connect m h) h)
-  where
-    not_it : (c : ℕ) (kind : OpKind) (m : ℕ) → is_pending_as c kind (op_at g.flight m) ≡ true → m ≢ n
-    not_it c kind m h same =
-        let at : is_pending_as c kind (op_at g.flight n) ≡ true = subst
-        (λ (i : ℕ). is_pending_as c kind (op_at g.flight i) ≡ true) same h in
-        false≢true (sym was ∙ pending-as-pending c kind (op_at g.flight n) at)
+    (λ c m h. pending-before xs n slot c Connect m
+    (λ at. false≢true (sym was ∙ pending-as-pending c Connect (op_at g.flight n) at)) h)
 
 pub listed-unpending : (f : Flight) (ps : List slots.Pending) (n : ℕ) (slot : Option Operation) (queue : List ℕ)
     → IsListed f ps → n < length f.operations → is_pending (op_at f n) ≡ false → is_pending slot ≡ false
@@ -56,16 +55,10 @@ pub listed-unpending : (f : Flight) (ps : List slots.Pending) (n : ℕ) (slot : 
 listed-unpending f ps n slot queue is_listed l was will =
     record {
       listed = λ c kind m h.
-          let old = is_listed.listed c kind m h in
-          pending-before f.operations n slot c kind m (not_it c kind m old) old;
+          pending-before f.operations n slot c kind m
+          (λ at. false≢true (sym was ∙ pending-as-pending c kind (op_at f n) at)) (is_listed.listed c kind m h);
       all = λ c kind m h. is_listed.all c kind m (pending-after f.operations n slot c kind m l will h).1;
     }
-  where
-    not_it : (c : ℕ) (kind : OpKind) (m : ℕ) → is_pending_as c kind (op_at f m) ≡ true → m ≢ n
-    not_it c kind m h same =
-        let at : is_pending_as c kind (op_at f n) ≡ true = subst
-        (λ (i : ℕ). is_pending_as c kind (op_at f i) ≡ true) same h in
-        false≢true (sym was ∙ pending-as-pending c kind (op_at f n) at)
 
 queued-some : (slot : Option Operation) → is_queued slot ≡ true → (op : Operation) × (slot ≡ Some op)
 queued-some None h = absurd (false≢true h)
@@ -86,60 +79,119 @@ running-some None h = absurd (false≢true h)
 running-some (Some op) h = (op, refl)
 
 -- a completion is taken
-kept-taken_front : {f : Flight} {cs : List Channel} {ps : List slots.Pending} {o r r' : ℕ} {sh : Bool} {l : GroupLimits}
-    (n : ℕ) (rest : List ℕ) (op : Operation)
-    → IsGroupKept f cs ps o sh l r r' → f.queue ≡ n ∷ rest → QueueHolds f.operations (n ∷ rest) → op_at f n ≡ Some op
-    → is_queued (Some op) ≡ true → IsGroupKept (with_taken f n) cs ps o sh l r r'
-kept-taken_front {f} {cs} {ps} {o} {r} {r'} {sh} {l} n rest op kept is holds is_op of =
-    let within = some-within f.operations n op is_op in
-    let was : is_pending (op_at f n) ≡ false = rw is_op (queued-not_pending op.stage of) in
+record IsFrontTaken (f : Flight) (op_limit : ℕ) (queue : List ℕ) : Type 0 where
+  n : ℕ
+  slot : Option Operation
+  rest : List ℕ
+  is : flight_after_take f queue ≡ record f { operations = set f.operations n slot; queue = rest }
+  within : n < length f.operations
+  was : is_pending (op_at f n) ≡ false
+  will : is_pending slot ≡ false
+  flight : IsFlightLawful (record f { operations = set f.operations n slot; queue = rest }) op_limit
+
+taken-front : (f : Flight) (op_limit n : ℕ) (rest : List ℕ) → IsFlightLawful f op_limit → f.queue ≡ n ∷ rest
+    → IsFrontTaken f op_limit (n ∷ rest)
+taken-front f op_limit n rest lawful is =
+    let holds : QueueHolds f.operations (n ∷ rest) = rw is at lawful.queued_once in
+    let queued = front-queued f.operations n rest holds in
+    let some = queued-some (op_at f n) queued in
+    let op = some.0 in
+    let within = some-within f.operations n op some.1 in
+    let of : is_queued (Some op) ≡ true = sym (ap is_queued some.1) ∙ queued in
     let slot : Option Operation = Some (at_stage Running op) in
-    let flight = flight-changes f n op (at_stage Running op) rest l.ops is_op
-    (queue-taken f.operations n rest slot within refl holds) kept.lawful.few_in_flight kept.lawful.few_accepted in
-    let taken : with_taken f n ≡ record f { operations = set f.operations n slot; queue = rest } = rw
-    (is_op, is) refl in
-    rw taken
-    (kept-operations (record f { operations = set f.operations n slot; queue = rest }) kept
-    (lawful-unpending (group_of f cs sh l) n slot rest kept.lawful within was refl flight) refl
-    (listed-unpending f ps n slot rest kept.is_listed within was refl))
+    record {
+      n = n;
+      slot = slot;
+      rest = rest;
+      is = ap (λ (o : Option Operation). record f {
+        operations = set f.operations n (option_map (at_stage Running) o);
+        queue = drop 1 f.queue;
+      }) some.1
+          ∙ ap (λ (q : List ℕ). record f { operations = set f.operations n slot; queue = drop 1 q }) is;
+      within = within;
+      was = ap is_pending some.1 ∙ queued-not_pending op.stage of;
+      will = refl;
+      flight = flight-changes f n op (at_stage Running op) rest op_limit some.1
+          (queue-taken f.operations n rest slot within refl holds) lawful.few_in_flight lawful.few_accepted;
+    }
+
+pub lawful-after_take : (g : Group) → IsLawful g → IsLawful (after_take g)
+lawful-after_take g lawful = by_queue g.flight.queue refl
+  where
+    by_queue : (queue : List ℕ) → g.flight.queue ≡ queue
+        → IsLawful (record g { flight = flight_after_take g.flight queue })
+    by_queue [] is = lawful
+    by_queue (n ∷ rest) is =
+        let taken = taken-front g.flight g.op_limit n rest (flight-lawful g lawful) is in
+        rw taken.is
+        (lawful-unpending g taken.n taken.slot taken.rest lawful taken.within taken.was taken.will taken.flight)
 
 pub kept-taken : {f : Flight} {cs : List Channel} {ps : List slots.Pending} {o r r' : ℕ} {sh : Bool} {l : GroupLimits}
     → IsGroupKept f cs ps o sh l r r' → IsGroupKept (flight_after_take f f.queue) cs ps o sh l r r'
-kept-taken {f} {cs} {ps} {o} {r} {r'} {sh} {l} kept = by_queue f.queue refl
+kept-taken {f} {cs} {ps} {o} {r} {r'} {sh} {l} kept =
+    let g : Group = group_of f cs sh l in
+    let after = by_queue f.queue refl in
+    kept-operations (flight_after_take f f.queue) kept (lawful-after_take g kept.lawful) after.0 after.1
   where
-    by_queue : (queue : List ℕ) → f.queue ≡ queue → IsGroupKept (flight_after_take f queue) cs ps o sh l r r'
-    by_queue [] is = kept
+    by_queue : (queue : List ℕ) → f.queue ≡ queue
+        → ((flight_after_take f queue).limit ≡ f.limit) × IsListed (flight_after_take f queue) ps
+    by_queue [] is = (refl, kept.is_listed)
     by_queue (n ∷ rest) is =
-        let holds : QueueHolds f.operations (n ∷ rest) = rw is at kept.lawful.queued_once in
-        let queued = front-queued f.operations n rest holds in
-        let some = queued-some (op_at f n) queued in
-        kept-taken_front n rest some.0 kept is holds some.1
-        (subst (λ (slot : Option Operation). is_queued slot ≡ true) some.1 queued)
+        let taken = taken-front f l.ops n rest (flight-lawful (group_of f cs sh l) kept.lawful) is in (
+          refl,
+          rw taken.is
+              (listed-unpending f ps taken.n taken.slot taken.rest kept.is_listed taken.within taken.was taken.will),
+        )
 
 -- an operation ends
+record IsEnding (f : Flight) (op_limit n : ℕ) : Type 0 where
+  within : n < length f.operations
+  was : is_pending (op_at f n) ≡ false
+  flight : IsFlightLawful (with_ended f n) op_limit
+
+ending : (f : Flight) (op_limit n : ℕ) → IsFlightLawful f op_limit → is_running (op_at f n) ≡ true
+    → IsEnding f op_limit n
+ending f op_limit n lawful running =
+    let some = running-some (op_at f n) running in
+    let op = some.0 in
+    let within = some-within f.operations n op some.1 in
+    let of : is_running (Some op) ≡ true = rw some.1 at running in
+    let not_queued : is_queued (get_or f.operations n None) ≡ false = rw some.1 (not_queued-running op of) in
+    let few = lawful.few_in_flight in
+    let few_numbers = lawful.few_accepted in
+    let counts = rw some.1 at (count_by-set is_some f.operations n None None within) in
+    record {
+      within = within;
+      was = rw some.1 (running-not_pending op.stage of);
+      flight = record {
+        queued_once = queue-set f.operations f.queue n None within not_queued lawful.queued_once;
+        few_in_flight = omega (arith, counts);
+        few_accepted = omega (arith, length-set f.operations n None);
+      };
+    }
+
+pub lawful-ended : (g : Group) (n : ℕ) → IsLawful g → is_running (op_at g.flight n) ≡ true
+    → IsLawful (record g { flight = with_ended g.flight n })
+lawful-ended g n lawful running =
+    let ends = ending g.flight g.op_limit n (flight-lawful g lawful) running in
+    lawful-unpending g n None g.flight.queue lawful ends.within ends.was refl ends.flight
+
+pub lawful-after_finish : (g : Group) (n : ℕ) → IsLawful g → IsLawful (after_finish g n)
+lawful-after_finish g n lawful = by_running (is_running (op_at g.flight n)) refl
+  where
+    by_running : (b : Bool) → is_running (op_at g.flight n) ≡ b
+        → IsLawful (kept_if_refused (finish_refusal b) g (record g { flight = with_ended g.flight n }))
+    by_running false is = lawful
+    by_running true is = lawful-ended g n lawful is
+
 pub kept-ended : {f : Flight} {cs : List Channel} {ps : List slots.Pending} {o r r' : ℕ} {sh : Bool} {l : GroupLimits}
     (n : ℕ)
     → IsGroupKept f cs ps o sh l r r' → is_running (op_at f n) ≡ true → IsGroupKept (with_ended f n) cs ps o sh l r r'
 kept-ended {f} {cs} {ps} {o} {r} {r'} {sh} {l} n kept running =
-    let some = running-some (op_at f n) running in
-    let op = some.0 in
-    let is_op = some.1 in
-    let within = some-within f.operations n op is_op in
-    let of : is_running (Some op) ≡ true = rw is_op at running in
-    let was : is_pending (op_at f n) ≡ false = rw is_op (running-not_pending op.stage of) in
-    let not_queued : is_queued (get_or f.operations n None) ≡ false = rw is_op (not_queued-running op of) in
-    let few = kept.lawful.few_in_flight in
-    let few_numbers = kept.lawful.few_accepted in
-    let counts = rw is_op at (count_by-set is_some f.operations n None None within) in
-    let flight : IsFlightLawful (with_ended f n) l.ops =
-    record {
-      queued_once = queue-set f.operations f.queue n None within not_queued kept.lawful.queued_once;
-      few_in_flight = omega (arith, counts);
-      few_accepted = omega (arith, length-set f.operations n None);
-    } in
-    kept-operations (with_ended f n) kept
-    (lawful-unpending (group_of f cs sh l) n None f.queue kept.lawful within was refl flight) refl
-    (listed-unpending f ps n None f.queue kept.is_listed within was refl)
+    let g : Group = group_of f cs sh l in
+    let ends = ending f l.ops n (flight-lawful g kept.lawful) running in
+    kept-operations (with_ended f n) kept (lawful-ended g n kept.lawful running) refl
+    (listed-unpending f ps n None f.queue kept.is_listed ends.within ends.was refl)
 
 -- the numbers of what is pending on a channel
 count-below : (c k m : ℕ) (xs : List (Option Operation)) → m < k → count_by (λ j. eqb j m) (pending_from c k xs) ≡ 0
@@ -148,7 +200,7 @@ count-below c k m (x ∷ xs) l =
     let rest = count-below c (k + 1) m xs (omega arith) in
     by_test (is_pending_on c x)
     (λ t.
-    let differ : eqb k m ≡ false = eqb-other k m (omega arith) in
+    let differ : eqb k m ≡ false = ne_eqb k m (omega arith) in
     let zero_here : cond (eqb k m) 1 0 ≡ 0 = ap {B = ℕ} (λ (b : Bool). cond b 1 0) differ in
     rw t (omega (arith, count_by-cons (λ j. eqb j m) k (pending_from c (k + 1) xs), rest, zero_here)))
     (λ f. rw f rest)
@@ -171,25 +223,15 @@ count-pending_from c k (suc n) (x ∷ xs) =
     ≡ once_if (is_pending_on c (get_or xs n None))) (omega arith) (count-pending_from c (k + 1) n xs) in
     by_test (is_pending_on c x)
     (λ t.
-    let differ : eqb k (k + suc n) ≡ false = eqb-other k (k + suc n) (omega arith) in
+    let differ : eqb k (k + suc n) ≡ false = ne_eqb k (k + suc n) (omega arith) in
     let zero_here : cond (eqb k (k + suc n)) 1 0 ≡ 0 = ap {B = ℕ} (λ (b : Bool). cond b 1 0) differ in
     rw t (omega (arith, count_by-cons (λ j. eqb j (k + suc n)) k (pending_from c (k + 1) xs), rest, zero_here)))
     (λ f. rw f rest)
 
-get_or-map_closed : (c n : ℕ) (xs : List (Option Operation))
-    → get_or (map (closed_on c) xs) n None ≡ closed_on c (get_or xs n None)
-get_or-map_closed c n [] = refl
-get_or-map_closed c zero (x ∷ xs) = refl
-get_or-map_closed c (suc n) (x ∷ xs) = get_or-map_closed c n xs
-
 pending-not_queued : (slot : Option Operation) (c : ℕ) → is_pending_on c slot ≡ true → is_queued slot ≡ false
 pending-not_queued None c h = refl
-pending-not_queued (Some op) c h = by_stage op.stage (and-left (stage_is_pending op.stage) (eqb op.chan.0 c) h)
-  where
-    by_stage : (stage : Stage) → stage_is_pending stage ≡ true → stage_is_queued stage ≡ false
-    by_stage Pending p = refl
-    by_stage (Queued finished) p = absurd (false≢true p)
-    by_stage Running p = refl
+pending-not_queued (Some op) c h =
+    not_queued-pending op (and_parts (stage_is_pending op.stage) (eqb op.chan.0 c) h).0
 
 closed-queued : (slot : Option Operation) (c : ℕ) → is_pending_on c slot ≡ true → is_queued (closed_on c slot) ≡ true
 closed-queued None c h = absurd (false≢true h)
@@ -204,7 +246,7 @@ queue-closed c xs queue holds n =
     subst (λ (i : ℕ). count_by (λ j. eqb j i) (pending_from c 0 xs) ≡ once_if (is_pending_on c slot)) (omega arith)
     (count-pending_from c 0 n xs) in
     let both = sum_by-append (λ j. cond (eqb j n) 1 0) queue (pending_from c 0 xs) in
-    rw get_or-map_closed
+    rw (get_or-map (closed_on c) xs n None)
     (by_test (is_pending_on c slot)
     (λ t.
     let none = rw (pending-not_queued slot c t) at had in
@@ -240,7 +282,7 @@ pending-stays : (c d : ℕ) (kind : OpKind) (slot : Option Operation) → d ≢ 
 pending-stays c d kind None differ h = h
 pending-stays c d kind (Some op) differ h =
     let parts = pending-parts d kind op h in
-    let elsewhere : eqb op.chan.0 c ≡ false = eqb-other op.chan.0 c (λ e. differ (sym parts.chan ∙ e)) in
+    let elsewhere : eqb op.chan.0 c ≡ false = ne_eqb op.chan.0 c (λ e. differ (sym parts.chan ∙ e)) in
     let off : is_pending_on c (Some op) ≡ false = and-false (stage_is_pending op.stage) (eqb op.chan.0 c) elsewhere in
     let same : closed_on c (Some op) ≡ Some op = rw off refl in
     rw same h
@@ -269,12 +311,13 @@ count-closed c (x ∷ xs) =
 
 closed-at_is : (f : Flight) (c d : ℕ) (kind : OpKind) (n : ℕ) → IsPendingAs (with_channel_closed f c) d kind n
     → (d ≢ c) × IsPendingAs f d kind n
-closed-at_is f c d kind n h = pending-closed c d kind (op_at f n) (rw (get_or-map_closed c n f.operations) at h)
+closed-at_is f c d kind n h = pending-closed c d kind (op_at f n)
+    (rw (get_or-map (closed_on c) f.operations n None) at h)
 
 closed-at_stays : (f : Flight) (c d : ℕ) (kind : OpKind) (n : ℕ) → d ≢ c → IsPendingAs f d kind n
     → IsPendingAs (with_channel_closed f c) d kind n
 closed-at_stays f c d kind n differ h =
-    rw (get_or-map_closed c n f.operations) (pending-stays c d kind (op_at f n) differ h)
+    rw (get_or-map (closed_on c) f.operations n None) (pending-stays c d kind (op_at f n) differ h)
 
 pub lawful-closed : (g : Group) (c : ℕ) → IsLawful g → c < length g.channels
     → IsLawful
@@ -316,33 +359,18 @@ kept-closed {f} {cs} {ps} {o} {r} {r'} {sh} {l} c x kept within read was_open =
     let counted = kept.opened_is in
     let some : 1 ≤ o = omega (arith, counts, one) in
     let fewer : o - 1 + cond {A = ℕ} (is_open (get_or cs c no_channel)) 1 0 ≡ o + 0 = omega (arith, one, some) in
-    let here : get_or (set ps c nothing_pending) c nothing_pending
-    ≡ nothing_pending = get_or-set_same ps c nothing_pending nothing_pending (omega arith) in
     rw is
     (kept-channel (with_channel_closed f c) c (record (get_or cs c no_channel) { is_open = false }) nothing_pending
     (o - 1) kept within
     (lawful-closed (group_of f cs sh l) c kept.lawful within) refl
     fewer
+    (listed-channel f (with_channel_closed f c) ps c nothing_pending kept.is_listed (omega arith)
     (record {
-      listed = λ d kind n h.
-          by_test (eqb d c)
-          (λ t. let same = same_number d c t in
-          absurd (none_some n
-          (sym (slot_of-nothing kind)
-          ∙ subst (λ (p : slots.Pending). slot_of p kind ≡ Some n) here
-          (subst (λ (e : ℕ). slot_of (get_or (set ps c nothing_pending) e nothing_pending) kind ≡ Some n)
-          same h))))
-          (λ e. let differ = other_number d c e in
-          closed-at_stays f c d kind n differ
-          (kept.is_listed.listed d kind n (rw (get_or-set_other ps c d nothing_pending nothing_pending differ) at h)));
-      all = λ d kind n h.
-          let old = closed-at_is f c d kind n h in
-          rw (get_or-set_other ps c d nothing_pending nothing_pending old.0) (kept.is_listed.all d kind n old.1);
-    }))
-
-pub not-false : (b : Bool) → not b ≡ false → b ≡ true
-not-false true h = refl
-not-false false h = sym h
+      listed = λ kind n h. absurd (none-some n (sym (slot_of-nothing kind) ∙ h));
+      all = λ kind n h. absurd ((closed-at_is f c c kind n h).0 refl);
+    })
+    (λ d kind n differ h. closed-at_stays f c d kind n differ h)
+    (λ d kind n differ h. (closed-at_is f c d kind n h).1)))
 
 -- what the slots of a channel lead to
 pub job-pending : {f : Flight} {cs : List Channel} {ps : List slots.Pending} {o r r' : ℕ} {sh : Bool} {l : GroupLimits}

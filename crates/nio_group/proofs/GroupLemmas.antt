@@ -1,8 +1,7 @@
 -- What a group's calls keep of its channels and of the slots of what is pending on them.
 use Rattle.std.proofs.Common.{◌≡◌, ◌≢◌, ℕ, ◌+◌, ◌<◌, Bool, true, cond, eqb, List, [], ◌∷◌, ◌++◌, Option, Some, None}
-use Rattle.std.proofs.Common.{get_or, set, length, refl, sym, ap, ◌∙◌, subst, arith, ◌⊎◌, inl, inr, get_or-set_same}
-use Rattle.std.proofs.Common.{get_or-set_other}
-use Rattle.std.proofs.lemmas.Bool.{false≢true, cases_lt}
+use Rattle.std.proofs.Common.{get_or, set, length, refl, sym, ap, ◌∙◌, subst, arith, ◌⊎◌, inl, inr}
+use Rattle.std.proofs.lemmas.Bool.{eqb-true, eqb-false}
 use Rattle.std.proofs.lemmas.List.{get_or_past, get_or_append_left, get_or_push, length-set, length_push}
 use Rattle.nio_base.specs.declared.group.GKind.{GKind}
 use Rattle.nio_base.specs.declared.group.GKind.TheVariants as gkind
@@ -14,22 +13,23 @@ use Rattle.nio_group.specs.declared.operation.Operation.{Operation}
 use Rattle.nio_group.specs.declared.limits.GroupLimits.{GroupLimits}
 use Rattle.nio_group.specs.declared.pending.Pending as slots
 use Rattle.nio_group.specs.Stages.{is_pending_as}
-use Rattle.nio_group.specs.Flight.{Flight, IsPendingAs}
+use Rattle.nio_group.specs.Flight.{Flight, IsPendingAs, with_accepted}
 use Rattle.nio_group.specs.Pending.{slot_of, with_slot, nothing_pending}
 use Rattle.nio_group.specs.Group.{IsLawful, no_channel, new_channel}
 use Rattle.nio_group.specs.GroupKept.{IsGroupKept, IsListed, group_of, is_open}
-use Rattle.nio_group.proofs.TableLemmas.{by_test, same_number, other_number, count_by-set}
-use Rattle.nio_group.proofs.ListLemmas.{get_or-push, count_by-push}
+use Rattle.nio_group.proofs.TableLemmas.{by_test, count_by-set}
+use Rattle.nio_group.proofs.ListLemmas.{get_or-push, count_by-push, get_or-set, within-where}
 use Rattle.nio_group.proofs.PendingLemmas.{kinds, pending-parts, slot_of-with_same, slot_of-with_other}
-use Rattle.nio_group.proofs.CloseLemmas.{some-same}
 use Rattle.nio_group.proofs.LawfulLemmas.{lawful-channel_made}
+use Rattle.nio_group.proofs.CloseLemmas.{IsListedOn}
+use Rattle.std.proofs.lemmas.Option.{same_Some}
 
 -- a slot that is made has nothing pending
 pub slots-push : (ps : List slots.Pending) (c : ℕ)
     → get_or (ps ++ nothing_pending ∷ []) c nothing_pending ≡ get_or ps c nothing_pending
 slots-push ps c =
     by_test (eqb c (length ps))
-    (λ t. let same = same_number c (length ps) t in
+    (λ t. let same = eqb-true c (length ps) t in
     rw t at (get_or-push ps nothing_pending nothing_pending c) ∙ sym (get_or_past ps c nothing_pending (omega arith)))
     (λ f. rw f at (get_or-push ps nothing_pending nothing_pending c))
 
@@ -101,98 +101,80 @@ pub pending-pushed : (xs : List (Option Operation)) (slot : Option Operation) (c
 pending-pushed xs slot c kind m h =
     by_test (eqb m (length xs))
     (λ t. let has = rw t at (get_or-push xs slot None m) in
-    inl (same_number m (length xs) t, rw has at h))
+    inl (eqb-true m (length xs) t, rw has at h))
     (λ f. let has = rw f at (get_or-push xs slot None m) in
-    inr (other_number m (length xs) f, rw has at h))
+    inr (eqb-false m (length xs) f, rw has at h))
 
 pub pending-within : (xs : List (Option Operation)) (c : ℕ) (kind : OpKind) (m : ℕ)
     → is_pending_as c kind (get_or xs m None) ≡ true → m < length xs
-pending-within xs c kind m h =
-    elim (cases_lt m (length xs)) [
-      | inl l ↦ l
-      | inr past ↦ absurd (let none : is_pending_as c kind None ≡ true = rw (get_or_past xs m None past) at h in
-          false≢true none)
-    ]
+pending-within xs c kind m h = within-where (is_pending_as c kind) xs m None refl h
 
 pub pending-still : (xs : List (Option Operation)) (slot : Option Operation) (c : ℕ) (kind : OpKind) (m : ℕ)
     → is_pending_as c kind (get_or xs m None) ≡ true → is_pending_as c kind (get_or (xs ++ slot ∷ []) m None) ≡ true
 pending-still xs slot c kind m h = rw (get_or_append_left xs (slot ∷ []) None m (pending-within xs c kind m h)) h
 
--- the slots after an operation was put after the others, pending
-pub listed-started : (f f' : Flight) (ps : List slots.Pending) (op : Operation) (c : ℕ) → IsListed f ps
-    → f'.operations ≡ f.operations ++ Some op ∷ [] → c < length ps → is_pending_as c op.kind (Some op) ≡ true
-    → ((n : ℕ) → IsPendingAs f c op.kind n → ⊥)
-    → IsListed f' (set ps c (with_slot (get_or ps c nothing_pending) op.kind (Some (length f.operations))))
-listed-started f f' ps op c is_listed pushed within is_pending_op free =
-    let parts = pending-parts c op.kind op is_pending_op in
+-- what is pending on one channel changes, and its slots
+pub listed-channel : (f f' : Flight) (ps : List slots.Pending) (c : ℕ) (p : slots.Pending) → IsListed f ps
+    → c < length ps → IsListedOn f' c p
+    → ((d : ℕ) (kind : OpKind) (n : ℕ) → d ≢ c → IsPendingAs f d kind n → IsPendingAs f' d kind n)
+    → ((d : ℕ) (kind : OpKind) (n : ℕ) → d ≢ c → IsPendingAs f' d kind n → IsPendingAs f d kind n)
+    → IsListed f' (set ps c p)
+listed-channel f f' ps c p is_listed within own stay less =
     record {
-      listed = λ d kind m h.
+      listed = λ d kind n h.
+          let has = get_or-set ps c p nothing_pending d within in
           by_test (eqb d c)
-          (λ t. let same = same_number d c t in
-          let slot = rw (here d same) at h in
+          (λ t. rw (eqb-true d c t)
+          (own.listed kind n (sym (ap (λ (q : slots.Pending). slot_of q kind) (rw t at has)) ∙ h)))
+          (λ e. stay d kind n (eqb-false d c e)
+          (is_listed.listed d kind n (sym (ap (λ (q : slots.Pending). slot_of q kind) (rw e at has)) ∙ h)));
+      all = λ d kind n h.
+          let has = get_or-set ps c p nothing_pending d within in
+          by_test (eqb d c)
+          (λ t. ap (λ (q : slots.Pending). slot_of q kind) (rw t at has)
+          ∙ own.all kind n (subst (λ (e : ℕ). IsPendingAs f' e kind n) (eqb-true d c t) h))
+          (λ e. ap (λ (q : slots.Pending). slot_of q kind) (rw e at has)
+          ∙ is_listed.all d kind n (less d kind n (eqb-false d c e) h));
+    }
+
+-- the slots after an operation was put after the others, pending
+pub listed-started : (f : Flight) (ps : List slots.Pending) (op : Operation) (c : ℕ) → IsListed f ps → c < length ps
+    → is_pending_as c op.kind (Some op) ≡ true → ((n : ℕ) → IsPendingAs f c op.kind n → ⊥)
+    → IsListed (with_accepted f op)
+    (set ps c (with_slot (get_or ps c nothing_pending) op.kind (Some (length f.operations))))
+listed-started f ps op c is_listed within new free =
+    let xs = f.operations in
+    let p : slots.Pending = get_or ps c nothing_pending in
+    let number : Option ℕ = Some (length xs) in
+    listed-channel f (with_accepted f op) ps c (with_slot p op.kind number) is_listed within
+    (record {
+      listed = λ kind m h.
           elim (kinds kind op.kind) [
             | inl own ↦
-                let is_m : Some (length f.operations) ≡ Some m = sym
-                (slot_of-with_same p op.kind (Some (length f.operations))) ∙ subst
-                (λ (k : OpKind). slot_of (with_slot p op.kind (Some (length f.operations))) k ≡ Some m) own slot in
-                let number : length f.operations ≡ m = some-same is_m in
-                let at_end : is_pending_as d kind (get_or (f.operations ++ Some op ∷ []) (length f.operations) None)
-                ≡ true =
-                rw (new_at_end, same, own) is_pending_op in
-                rw pushed
-                (subst (λ (i : ℕ). is_pending_as d kind (get_or (f.operations ++ Some op ∷ []) i None) ≡ true)
-                number at_end)
-            | inr other ↦
-                let old = is_listed.listed c kind m
-                (sym (slot_of-with_other p op.kind kind (Some (length f.operations)) other) ∙ slot) in
-                rw (pushed, same) (pending-still f.operations (Some op) c kind m old)
-          ])
-          (λ e. let differ = other_number d c e in
-          rw pushed
-          (pending-still f.operations (Some op) d kind m (is_listed.listed d kind m (rw (there d differ) at h))));
-      all = λ d kind m h.
-          let pushed_h = rw pushed at h in
-          elim (pending-pushed f.operations (Some op) d kind m pushed_h) [
-            | inl new ↦
-                let of = pending-parts d kind op new.1 in
-                let same : d ≡ c = sym of.chan ∙ parts.chan in
-                let own : kind ≡ op.kind = sym of.same in
-                rw (here d same, own, new.0) (slot_of-with_same p op.kind (Some (length f.operations)))
-            | inr old ↦
-                let has = is_listed.all d kind m old.1 in
-                by_test (eqb d c)
-                (λ t. let same = same_number d c t in
-                elim (kinds kind op.kind) [
-                  | inl own ↦ absurd
-                      (free m (subst (λ (k : OpKind). IsPendingAs f c k m) own
-                      (subst (λ (e : ℕ). IsPendingAs f e kind m) same old.1)))
-                  | inr other ↦ rw (here d same)
-                      (slot_of-with_other p op.kind kind (Some (length f.operations)) other ∙ rw same at has)
-                ])
-                (λ e. rw (there d (other_number d c e)) has)
+                let at_end : length xs ≡ m = same_Some (length xs) m
+                (sym (slot_of-with_same p op.kind number)
+                ∙ subst (λ (k : OpKind). slot_of (with_slot p op.kind number) k ≡ Some m) own h) in
+                rw (get_or_push xs (Some op) None m at_end, own) new
+            | inr other ↦ pending-still xs (Some op) c kind m
+                (is_listed.listed c kind m (sym (slot_of-with_other p op.kind kind number other) ∙ h))
           ];
-    }
-  where
-    p : slots.Pending
-    p = get_or ps c nothing_pending
-
-    here : (d : ℕ) → d ≡ c
-        → get_or (set ps c (with_slot (get_or ps c nothing_pending) op.kind (Some (length f.operations)))) d
-        nothing_pending ≡ with_slot (get_or ps c nothing_pending) op.kind (Some (length f.operations))
-    here d same =
-        subst (λ (e : ℕ). get_or
-        (set ps c (with_slot (get_or ps c nothing_pending) op.kind (Some (length f.operations)))) e nothing_pending
-        ≡ with_slot (get_or ps c nothing_pending) op.kind (Some (length f.operations))) (sym same)
-        (get_or-set_same ps c (with_slot (get_or ps c nothing_pending) op.kind (Some (length f.operations)))
-        nothing_pending within)
-
-    there : (d : ℕ) → d ≢ c
-        → get_or (set ps c (with_slot (get_or ps c nothing_pending) op.kind (Some (length f.operations)))) d
-        nothing_pending ≡ get_or ps d nothing_pending
-    there d differ = get_or-set_other ps c d _ nothing_pending differ
-
-    new_at_end : get_or (f.operations ++ Some op ∷ []) (length f.operations) None ≡ Some op
-    new_at_end = get_or_push f.operations (Some op) None (length f.operations) refl
+      all = λ kind m h.
+          elim (pending-pushed xs (Some op) c kind m h) [
+            | inl last ↦ rw (last.0, sym (pending-parts c kind op last.1).same) (slot_of-with_same p op.kind number)
+            | inr old ↦
+                elim (kinds kind op.kind) [
+                  | inl own ↦ absurd (free m (subst (λ (k : OpKind). IsPendingAs f c k m) own old.1))
+                  | inr other ↦ slot_of-with_other p op.kind kind number other ∙ is_listed.all c kind m old.1
+                ]
+          ];
+    })
+    (λ d kind m differ h. pending-still xs (Some op) d kind m h)
+    (λ d kind m differ h.
+    elim (pending-pushed xs (Some op) d kind m h) [
+      | inl last ↦ absurd
+          (differ (sym (pending-parts d kind op last.1).chan ∙ (pending-parts c op.kind op new).chan))
+      | inr old ↦ old.1
+    ])
 
 pub new-open : (kind : GKind) → (new_channel kind).is_open ≡ true
 new-open kind = refl

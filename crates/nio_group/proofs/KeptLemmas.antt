@@ -5,7 +5,7 @@ use Rattle.std.proofs.Common.{◌∙◌, subst, arith, rules, get_or-set_same, g
 use Rattle.std.specs.List.{range_with_len}
 use Rattle.std.specs.Option.{option_map}
 use Rattle.std.proofs.lemmas.List.{get_or_past, length-set, same_lists}
-use Rattle.std.proofs.lemmas.Bool.{cases_lt}
+use Rattle.std.proofs.lemmas.Bool.{cases_lt, eqb-true, eqb-false}
 use Rattle.std.proofs.lemmas.List.Sums.{sum_by_push}
 use Rattle.std.proofs.lemmas.List.FromFn.{length-map-range_with_len, get_or-map-range_with_len, map-range_with_len_more}
 use Rattle.slab.specs.Slab.{Slab, get, slab_len, Updates, with_value}
@@ -13,16 +13,13 @@ use Rattle.nio_group.specs.declared.operation.Operation.{Operation}
 use Rattle.nio_group.specs.declared.operations.Numbered.{Numbered}
 use Rattle.nio_group.specs.Index.{Index, key_of, entries, ChangesKey}
 use Rattle.nio_group.specs.Kept.{operation_in, operation_of, kept_operations, IsKept}
-use Rattle.nio_group.proofs.TableLemmas.{by_test, same_number, other_number, count_by-set}
+use Rattle.nio_group.proofs.TableLemmas.{by_test, count_by-set}
+use Rattle.std.proofs.lemmas.Option.{none-some, same_Some}
 
 -- the value that is there, and the fact of it
 some_and : {T : Type 0} (o : Option T) (P : T → Type 0) → IsSomeAnd o P → (x : T) × (o ≡ Some x) × P x
 some_and None P h = absurd h
 some_and (Some x) P h = (x, refl, h)
-
-is_some_and : {T : Type 0} (o : Option T) (P : T → Type 0) (x : T) → o ≡ Some x → P x → IsSomeAnd o P
-is_some_and None P x e h = cc
-is_some_and (Some y) P x e h = let same : x ≡ y = cc in subst P same h
 
 by_lt : (n m : ℕ) {P : Type 0} → (n < m → P) → (m ≤ n → P) → P
 by_lt n m below above = elim (cases_lt n m) [ inl l ↦ below l | inr g ↦ above g ]
@@ -69,12 +66,12 @@ kept-set slab slab' index index' accepted n slot here others =
     let new = get_or-map-range_with_len f' 0 accepted k k d within (omega arith) in
     let old = get_or-map-range_with_len f 0 accepted k k d within (omega arith) in
     by_test (eqb k n)
-    (λ t. let same = same_number k n t in
+    (λ t. let same = eqb-true k n t in
     let put : get_or (set had n slot) k d ≡ slot =
     subst (λ (i : ℕ). get_or (set had n slot) i d ≡ slot) (sym same)
     (get_or-set_same had n slot d (omega (arith, length-kept slab index accepted))) in
     new ∙ subst (λ (i : ℕ). f' i ≡ slot) (sym same) here ∙ sym put)
-    (λ e. let differ = other_number k n e in
+    (λ e. let differ = eqb-false k n e in
     new ∙ others k differ ∙ sym old ∙ sym (get_or-set_other had n k slot d differ)))
 
 -- another number's operation stays, where its key isn't the one that changes
@@ -117,12 +114,9 @@ had_by : {slab : Slab Numbered} {index : Index} {accepted limit : ℕ} (n key : 
     → IsKept slab index accepted limit → key_of index n ≡ Some key → get slab key ≡ Some x
     → (n < accepted) × (get_or (kept_operations slab index accepted) n None ≡ Some x.operation)
 had_by {slab} {index} {accepted} n key x kept at is = (
-  by_lt n accepted (λ l. l) (λ g. absurd (none_some key (sym (kept.below n g) ∙ at))),
+  by_lt n accepted (λ l. l) (λ g. absurd (none-some key (sym (kept.below n g) ∙ at))),
   kept-at n kept ∙ ap (operation_in slab) at ∙ ap (option_map (λ (y : Numbered). y.operation)) is,
 )
-  where
-    none_some : (k : ℕ) → None ≡ Some k → ⊥
-    none_some k e = cc
 
 -- the key of a number leads to an operation
 pub kept-has : {slab : Slab Numbered} {index : Index} {accepted limit : ℕ} (n key : ℕ)
@@ -130,6 +124,41 @@ pub kept-has : {slab : Slab Numbered} {index : Index} {accepted limit : ℕ} (n 
 kept-has {slab} n key kept at =
     let there = some_and (get slab key) (λ x. x.number ≡ n) (kept.leads n key at) in
     subst (λ (o : Option Numbered). IsSome o) (sym there.1) (search rules)
+
+-- the index leads to operations with its numbers, where one number's key and one key's slot change
+leads-on : {slab slab' : Slab Numbered} {index index' : Index} {accepted limit : ℕ} (n key : ℕ) (now : Option ℕ)
+    (slot : Option Numbered)
+    → IsKept slab index accepted limit → Updates slab slab' key slot → ChangesKey index index' n now
+    → ((k : ℕ) → now ≡ Some k → IsSomeAnd (get slab' k) (λ x. x.number ≡ n))
+    → ((m k : ℕ) → m ≢ n → key_of index m ≡ Some k → k ≢ key) → (m k : ℕ) → key_of index' m ≡ Some k
+    → IsSomeAnd (get slab' k) (λ x. x.number ≡ m)
+leads-on {slab} {slab'} {index} {index'} n key now slot kept updates change own elsewhere m k at =
+    by_test (eqb m n)
+    (λ t. let same = eqb-true m n t in
+    rw same (own k (sym change.changed ∙ ap (key_of index') (sym same) ∙ at)))
+    (λ e. let differ = eqb-false m n e in
+    let was : key_of index m ≡ Some k = sym (change.others m differ) ∙ at in
+    rw (updates.others k (elsewhere m k differ was)) (kept.leads m k was))
+
+-- a slab's new slot is the operation with a number
+own-slot : {slab slab' : Slab Numbered} {n key k : ℕ} {operation : Operation}
+    → Updates slab slab' key (Some (record { number = n; operation = operation })) → Some key ≡ Some k
+    → IsSomeAnd (get slab' k) (λ x. x.number ≡ n)
+own-slot {slab} {slab'} {n} {key} {k} updates is = rw (← same_Some key k is, updates.changed) refl
+
+-- as many operations are in flight after one was put in another's place, or ended
+counted-set : {slab : Slab Numbered} {index : Index} {accepted limit : ℕ} (n key : ℕ) (slot : Option Operation)
+    → IsKept slab index accepted limit → key_of index n ≡ Some key
+    → count_by is_some (set (kept_operations slab index accepted) n slot) + 1
+    ≡ slab_len slab + cond (is_some slot) 1 0
+counted-set {slab} {index} {accepted} n key slot kept at =
+    let there = some_and (get slab key) (λ x. x.number ≡ n) (kept.leads n key at) in
+    let had = had_by n key there.0 kept at there.1 in
+    let l = had.0 in
+    let counts = rw had.1 at
+    (count_by-set is_some (kept_operations slab index accepted) n slot None
+    (omega (arith, length-kept slab index accepted))) in
+    omega (arith, counts, kept.counted)
 
 -- one more operation is accepted
 module _ {slab slab' : Slab Numbered} {index index' : Index} {accepted limit : ℕ} where
@@ -163,18 +192,8 @@ module _ {slab slab' : Slab Numbered} {index index' : Index} {accepted limit : �
       let was_indexed = kept.indexed in
       let had_room = kept.room in
       record {
-        leads = λ n k at.
-            by_test (eqb n accepted)
-            (λ t. let same = same_number n accepted t in
-            let is_key : Some key ≡ Some k = sym change.changed ∙ ap (key_of index') (sym same) ∙ at in
-            let same_key : key ≡ k = cc in
-            is_some_and (get slab' k) (λ x. x.number ≡ n) (record { number = accepted; operation = operation })
-            (ap (get slab') (sym same_key) ∙ updates.changed) (sym same))
-            (λ e. let differ = other_number n accepted e in
-            let was : key_of index n ≡ Some k = sym (change.others n differ) ∙ at in
-            let there = some_and (get slab k) (λ x. x.number ≡ n) (kept.leads n k was) in
-            is_some_and (get slab' k) (λ x. x.number ≡ n) there.0
-            (updates.others k (not_vacant kept key vacant n k was) ∙ there.1) there.2);
+        leads = leads-on accepted key (Some key) _ kept updates change (λ k is. own-slot updates is)
+            (λ m k differ at. not_vacant kept key vacant m k at);
         below = λ n above. change.others n (omega arith) ∙ kept.below n (omega arith);
         counted =
             ap (count_by is_some) (kept-accepts key operation kept vacant updates change)
@@ -208,27 +227,12 @@ module _ {slab slab' : Slab Numbered} {index : Index} {accepted limit : ℕ} whe
       let was_within = kept.within in
       let had_room = kept.room in
       record {
-        leads = λ m k at'.
-            by_test (eqb m n)
-            (λ t. let same = same_number m n t in
-            let is_key : Some key ≡ Some k = sym at ∙ ap (key_of index) (sym same) ∙ at' in
-            let same_key : key ≡ k = cc in
-            is_some_and (get slab' k) (λ x. x.number ≡ m) (record { number = n; operation = operation })
-            (ap (get slab') (sym same_key) ∙ updates.changed) (sym same))
-            (λ e. let differ = other_number m n e in
-            let there = some_and (get slab k) (λ x. x.number ≡ m) (kept.leads m k at') in
-            is_some_and (get slab' k) (λ x. x.number ≡ m) there.0
-            (updates.others k (apart n m key kept at differ k at') ∙ there.1) there.2);
+        leads = leads-on {index' = index} n key (Some key) _ kept updates
+            (record { changed = at; others = λ m differ. refl })
+            (λ k is. own-slot updates is) (λ m k differ at'. apart n m key kept at differ k at');
         below = kept.below;
-        counted =
-            let there = some_and (get slab key) (λ x. x.number ≡ n) (kept.leads n key at) in
-            let had = had_by n key there.0 kept at there.1 in
-            let l = had.0 in
-            let counts = rw had.1 at
-            (count_by-set is_some (kept_operations slab index accepted) n (Some operation) None
-            (omega (arith, length-kept slab index accepted))) in
-            ap (count_by is_some) (kept-replaces n key operation kept at updates) ∙ omega
-            (arith, counts, was_counted, len);
+        counted = ap (count_by is_some) (kept-replaces n key operation kept at updates)
+            ∙ omega (arith, counted-set n key (Some operation) kept at, len);
         indexed = omega arith;
         within = omega arith;
         room = omega arith;
@@ -258,28 +262,14 @@ module _ {slab slab' : Slab Numbered} {index index' : Index} {accepted limit : �
       let was_within = kept.within in
       let had_room = kept.room in
       record {
-        leads = λ m k at'.
-            by_test (eqb m n)
-            (λ t. let same = same_number m n t in
-            let none : None ≡ Some k = sym change.changed ∙ ap (key_of index') (sym same) ∙ at' in
-            absurd (let no : ⊥ = cc in no))
-            (λ e. let differ = other_number m n e in
-            let was : key_of index m ≡ Some k = sym (change.others m differ) ∙ at' in
-            let there = some_and (get slab k) (λ x. x.number ≡ m) (kept.leads m k was) in
-            is_some_and (get slab' k) (λ x. x.number ≡ m) there.0
-            (updates.others k (apart n m key kept at differ k was) ∙ there.1) there.2);
+        leads = leads-on n key None None kept updates change (λ k is. absurd (none-some k is))
+            (λ m k differ at'. apart n m key kept at differ k at');
         below = λ m above.
             by_test (eqb m n)
-            (λ t. let same = same_number m n t in ap (key_of index') same ∙ change.changed)
-            (λ e. change.others m (other_number m n e) ∙ kept.below m above);
-        counted =
-            let there = some_and (get slab key) (λ x. x.number ≡ n) (kept.leads n key at) in
-            let had = had_by n key there.0 kept at there.1 in
-            let l = had.0 in
-            let counts = rw had.1 at
-            (count_by-set is_some (kept_operations slab index accepted) n None None
-            (omega (arith, length-kept slab index accepted))) in
-            ap (count_by is_some) (kept-ends n key kept at updates change) ∙ omega (arith, counts, was_counted, len);
+            (λ t. let same = eqb-true m n t in ap (key_of index') same ∙ change.changed)
+            (λ e. change.others m (eqb-false m n e) ∙ kept.below m above);
+        counted = ap (count_by is_some) (kept-ends n key kept at updates change)
+            ∙ omega (arith, counted-set n key None kept at, len);
         indexed = omega arith;
         within = omega arith;
         room = omega arith;

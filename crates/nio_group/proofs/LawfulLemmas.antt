@@ -1,24 +1,35 @@
 -- What keeps a group lawful.
 use Rattle.std.proofs.Common.{◌≡◌, ◌≢◌, ℕ, ◌<◌, ◌≤◌, true, eqb, List, [], ◌∷◌, ◌++◌, get_or, set, length, sym, ap, ◌∙◌}
-use Rattle.std.proofs.Common.{subst, arith, inl, inr, get_or-set_same, get_or-set_other}
-use Rattle.std.proofs.lemmas.Bool.{false≢true, cases_lt}
-use Rattle.std.proofs.lemmas.List.{get_or_past, get_or_append_left, length-set, length_push}
+use Rattle.std.proofs.Common.{subst, arith, get_or-set_same, get_or-set_other, false, Option, Some, None, refl}
+use Rattle.std.proofs.lemmas.Bool.{false≢true, eqb-true, eqb-false}
+use Rattle.std.proofs.lemmas.List.{get_or_append_left, length-set, length_push}
 use Rattle.nio_group.specs.declared.channel.Channel.{Channel}
 use Rattle.nio_group.specs.declared.channel.Endpoint.TheVariants.{Stream}
 use Rattle.nio_group.specs.declared.channel.Link.TheVariants.{Connecting}
 use Rattle.nio_base.specs.declared.group.OpKind.{OpKind}
 use Rattle.nio_base.specs.declared.group.OpKind.TheVariants.{Connect}
-use Rattle.nio_group.specs.Flight.{Flight, accepted, in_flight, IsPendingAs}
-use Rattle.nio_group.specs.Group.{Group, IsLawful, no_channel, is_ready_for}
-use Rattle.nio_group.proofs.TableLemmas.{by_test, same_number, other_number}
-use Rattle.nio_group.proofs.ListLemmas.{get_or-push}
+use Rattle.nio_group.specs.Flight.{Flight, accepted, in_flight, IsPendingAs, op_at}
+use Rattle.nio_group.specs.Group.{Group, IsLawful, no_channel, is_ready_for, channel_at}
+use Rattle.nio_group.proofs.TableLemmas.{by_test}
+use Rattle.nio_group.proofs.ListLemmas.{get_or-push, within-where}
 use Rattle.nio_group.proofs.QueueLemmas.{QueueHolds}
+use Rattle.nio_group.proofs.PendingLemmas.{pending-own}
+use Rattle.nio_group.specs.Stages.{is_pending}
+use Rattle.nio_group.specs.declared.operation.Operation.{Operation}
 
 -- what a change of the operations keeps, whatever channel they stand on
 pub record IsFlightLawful (f : Flight) (op_limit : ℕ) : Type 0 where
   pub queued_once : QueueHolds f.operations f.queue
   pub few_in_flight : in_flight f ≤ f.limit
   pub few_accepted : accepted f ≤ op_limit
+
+pub flight-lawful : (g : Group) → IsLawful g → IsFlightLawful g.flight g.op_limit
+flight-lawful g lawful =
+    record {
+      queued_once = lawful.queued_once;
+      few_in_flight = lawful.few_in_flight;
+      few_accepted = lawful.few_accepted;
+    }
 
 -- only operations change: no more are pending, and those that connect stay
 pub lawful-operations : (g : Group) (f : Flight) → IsLawful g → IsFlightLawful f g.op_limit
@@ -39,12 +50,20 @@ lawful-operations g f lawful flight less stay =
 
 -- an open channel is one of the list's
 pub open-within : (cs : List Channel) (c : ℕ) → (get_or cs c no_channel).is_open ≡ true → c < length cs
-open-within cs c is_open =
-    elim (cases_lt c (length cs)) [
-      | inl l ↦ l
-      | inr past ↦ absurd
-          (false≢true (sym (ap (λ (ch : Channel). ch.is_open) (get_or_past cs c no_channel past)) ∙ is_open))
-    ]
+open-within cs c is_open = within-where (λ (ch : Channel). ch.is_open) cs c no_channel refl is_open
+
+-- where every channel is closed nothing is pending
+pub nothing-pending : (g : Group) → IsLawful g → ((c : ℕ) → (channel_at g c).is_open ≡ false) → (n : ℕ)
+    → is_pending (op_at g.flight n) ≡ false
+nothing-pending g lawful closed n = by_slot (op_at g.flight n) refl
+  where
+    by_slot : (slot : Option Operation) → op_at g.flight n ≡ slot → is_pending slot ≡ false
+    by_slot None is = refl
+    by_slot (Some op) is =
+        by_test (is_pending (Some op))
+        (λ t. absurd
+        (false≢true (sym (closed op.chan.0) ∙ lawful.pending_open n op.chan.0 op.kind (rw is (pending-own op t)))))
+        (λ f. f)
 
 -- one more channel is made, which isn't connecting
 pub lawful-channel_made : (g : Group) (ch : Channel) → IsLawful g → length g.channels < g.channel_limit
@@ -90,29 +109,29 @@ lawful-channel g f c ch lawful l flight own less stay =
       queued_once = flight.queued_once;
       pending_open = λ n d kind h.
           by_test (eqb d c)
-          (λ t. let same = same_number d c t in
+          (λ t. let same = eqb-true d c t in
           rw (here d same) (own.open_for kind n (subst (λ (e : ℕ). IsPendingAs f e kind n) same h)))
-          (λ e. let differ = other_number d c e in
+          (λ e. let differ = eqb-false d c e in
           rw (there d differ) (lawful.pending_open n d kind (less d kind n differ h)));
       pending_ready = λ n d kind h.
           by_test (eqb d c)
-          (λ t. let same = same_number d c t in
+          (λ t. let same = eqb-true d c t in
           rw (here d same) (own.ready_for kind n (subst (λ (e : ℕ). IsPendingAs f e kind n) same h)))
-          (λ e. let differ = other_number d c e in
+          (λ e. let differ = eqb-false d c e in
           rw (there d differ) (lawful.pending_ready n d kind (less d kind n differ h)));
       one_each = λ m n d kind a b.
           by_test (eqb d c)
-          (λ t. let same = same_number d c t in
+          (λ t. let same = eqb-true d c t in
           own.once_for kind m n (subst (λ (e : ℕ). IsPendingAs f e kind m) same a)
           (subst (λ (e : ℕ). IsPendingAs f e kind n) same b))
-          (λ e. let differ = other_number d c e in
+          (λ e. let differ = eqb-false d c e in
           lawful.one_each m n d kind (less d kind m differ a) (less d kind n differ b));
       connecting = λ d is_open is.
           by_test (eqb d c)
-          (λ t. let same = same_number d c t in
+          (λ t. let same = eqb-true d c t in
           let found = own.connects (rw (here d same) at is_open) (rw (here d same) at is) in
           (found.0, subst (λ (e : ℕ). IsPendingAs f e Connect found.0) (sym same) found.1))
-          (λ e. let differ = other_number d c e in
+          (λ e. let differ = eqb-false d c e in
           let found = lawful.connecting d (rw (there d differ) at is_open) (rw (there d differ) at is) in
           (found.0, stay d found.0 differ found.1));
       few_in_flight = flight.few_in_flight;

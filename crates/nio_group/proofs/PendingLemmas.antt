@@ -1,7 +1,6 @@
 -- Pending operations, by their channels and kinds.
-use Rattle.std.proofs.Common.{◌≡◌, ◌≢◌, ℕ, ◌+◌, Bool, true, false, eqb, ◌&&◌, Option, Some, None, refl, arith, ◌⊎◌, inl}
-use Rattle.std.proofs.Common.{inr}
-use Rattle.std.proofs.lemmas.Bool.{false≢true}
+use Rattle.std.proofs.Common.{◌≡◌, ◌≢◌, ℕ, ◌+◌, true, false, eqb, ◌&&◌, Option, Some, None, refl, arith, ◌⊎◌, inl, inr}
+use Rattle.std.proofs.lemmas.Bool.{false≢true, eqb-true, and_parts}
 use Rattle.nio_base.specs.declared.group.OpKind.{OpKind}
 use Rattle.nio_base.specs.declared.group.OpKind.TheVariants.{Accept, Connect, Read, Write}
 use Rattle.nio_group.specs.declared.operation.Stage.{Stage}
@@ -10,7 +9,7 @@ use Rattle.nio_group.specs.declared.operation.Operation.{Operation}
 use Rattle.nio_group.specs.declared.pending.Pending as slots
 use Rattle.nio_group.specs.Stages.{same_kind, stage_is_pending, is_pending, is_pending_on, is_pending_as}
 use Rattle.nio_group.specs.Pending.{slot_of, with_slot, nothing_pending}
-use Rattle.nio_group.proofs.TableLemmas.{same_number}
+use Rattle.nio_group.proofs.ListLemmas.{eqb-same}
 
 pub kinds : (a b : OpKind) → (a ≡ b) ⊎ (a ≢ b)
 kinds Accept Accept = inl refl
@@ -54,14 +53,6 @@ same_kind-true Write Accept h = absurd (false≢true h)
 same_kind-true Write Connect h = absurd (false≢true h)
 same_kind-true Write Read h = absurd (false≢true h)
 
-pub and-left : (a b : Bool) → (a && b) ≡ true → a ≡ true
-and-left true b h = refl
-and-left false b h = h
-
-pub and-right : (a b : Bool) → (a && b) ≡ true → b ≡ true
-and-right true b h = h
-and-right false b h = absurd (false≢true h)
-
 pub stage-pending : (stage : Stage) → stage_is_pending stage ≡ true → stage ≡ Pending
 stage-pending Pending h = refl
 stage-pending (Queued finished) h = absurd (false≢true h)
@@ -76,12 +67,12 @@ pub record IsPendingOf (c : ℕ) (kind : OpKind) (op : Operation) : Type 0 where
 pub pending-parts : (c : ℕ) (kind : OpKind) (op : Operation) → is_pending_as c kind (Some op) ≡ true
     → IsPendingOf c kind op
 pending-parts c kind op h =
-    let on = and-left (stage_is_pending op.stage && eqb op.chan.0 c) (same_kind op.kind kind) h in
+    let on = (and_parts (stage_is_pending op.stage && eqb op.chan.0 c) (same_kind op.kind kind) h).0 in
     record {
-      stage = stage-pending op.stage (and-left (stage_is_pending op.stage) (eqb op.chan.0 c) on);
-      chan = same_number op.chan.0 c (and-right (stage_is_pending op.stage) (eqb op.chan.0 c) on);
+      stage = stage-pending op.stage (and_parts (stage_is_pending op.stage) (eqb op.chan.0 c) on).0;
+      chan = eqb-true op.chan.0 c (and_parts (stage_is_pending op.stage) (eqb op.chan.0 c) on).1;
       same = same_kind-true op.kind kind
-          (and-right (stage_is_pending op.stage && eqb op.chan.0 c) (same_kind op.kind kind) h);
+          (and_parts (stage_is_pending op.stage && eqb op.chan.0 c) (same_kind op.kind kind) h).1;
     }
 
 pub not_pending-as : (c : ℕ) (kind : OpKind) (slot : Option Operation) → is_pending slot ≡ false
@@ -93,8 +84,12 @@ pub pending-as-pending : (c : ℕ) (kind : OpKind) (slot : Option Operation) →
     → is_pending slot ≡ true
 pending-as-pending c kind None h = h
 pending-as-pending c kind (Some op) h =
-    and-left (stage_is_pending op.stage) (eqb op.chan.0 c)
-    (and-left (stage_is_pending op.stage && eqb op.chan.0 c) (same_kind op.kind kind) h)
+    (and_parts (stage_is_pending op.stage) (eqb op.chan.0 c)
+    (and_parts (stage_is_pending op.stage && eqb op.chan.0 c) (same_kind op.kind kind) h).0).0
+
+-- a pending operation is pending on its own channel and as of its own kind
+pub pending-own : (op : Operation) → is_pending (Some op) ≡ true → is_pending_as op.chan.0 op.kind (Some op) ≡ true
+pending-own op is = rw (is, eqb-same op.chan.0, same_kind-refl op.kind) refl
 
 -- an operation that is pending on a channel is pending there as one of its kind
 pub pending_on-as : (c : ℕ) (op : Operation) → is_pending_on c (Some op) ≡ true
@@ -104,7 +99,8 @@ pending_on-as c op h = rw (h, same_kind-refl op.kind) refl
 pub pending_as-on : (c : ℕ) (kind : OpKind) (slot : Option Operation) → is_pending_as c kind slot ≡ true
     → is_pending_on c slot ≡ true
 pending_as-on c kind None h = h
-pending_as-on c kind (Some op) h = and-left (stage_is_pending op.stage && eqb op.chan.0 c) (same_kind op.kind kind) h
+pending_as-on c kind (Some op) h =
+    (and_parts (stage_is_pending op.stage && eqb op.chan.0 c) (same_kind op.kind kind) h).0
 
 pub slot_of-with_same : (p : slots.Pending) (kind : OpKind) (n : Option ℕ) → slot_of (with_slot p kind n) kind ≡ n
 slot_of-with_same p Accept n = refl

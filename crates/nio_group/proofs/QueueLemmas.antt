@@ -1,3 +1,4 @@
+use Rattle.std.proofs.lemmas.Bool.{eqb-true, eqb-false, ne_eqb}
 -- The queue lists each queued operation once: what the changes of an operation keep of that.
 use Rattle.std.proofs.Common.{◌≡◌, ℕ, ◌+◌, ◌<◌, Bool, true, false, cond, eqb, List, [], ◌∷◌, ◌++◌, Option, None}
 use Rattle.std.proofs.Common.{count_by, get_or, set, length, sym, ap, ◌∙◌, subst, arith}
@@ -5,8 +6,8 @@ use Rattle.std.proofs.lemmas.List.{get_or_past}
 use Rattle.nio_group.specs.declared.operation.Operation.{Operation}
 use Rattle.nio_group.specs.Stages.{is_queued}
 use Rattle.nio_group.proofs.IndexLemmas.{count_by-cons}
-use Rattle.nio_group.proofs.TableLemmas.{by_test, same_number, other_number}
-use Rattle.nio_group.proofs.ListLemmas.{count_by-push, get_or-set, get_or-push, eqb-same, eqb-other}
+use Rattle.nio_group.proofs.TableLemmas.{by_test}
+use Rattle.nio_group.proofs.ListLemmas.{count_by-push, get_or-set, get_or-push, eqb-same}
 
 -- how often the queue lists an operation in this slot
 abbrev pub once_if : Bool → ℕ
@@ -40,7 +41,7 @@ queue-push xs queue slot holds n =
     let had = holds n in
     let counts = count_by-queued_after (is_queued slot) queue (length xs) n in
     by_test (eqb n (length xs))
-    (λ t. let same = same_number n (length xs) t in
+    (λ t. let same = eqb-true n (length xs) t in
     let none : get_or xs n None ≡ None = get_or_past xs n None (omega arith) in
     let had_none = rw none at had in
     let has = rw t at (get_or-push xs slot None n) in
@@ -49,7 +50,7 @@ queue-push xs queue slot holds n =
     let counted = rw turned at counts in
     rw has (counted_here (is_queued slot) counted had_none))
     (λ f. let has = rw f at (get_or-push xs slot None n) in
-    let turned : eqb (length xs) n ≡ false = eqb-other (length xs) n (λ e. other_number n (length xs) f (sym e)) in
+    let turned : eqb (length xs) n ≡ false = ne_eqb (length xs) n (λ e. eqb-false n (length xs) f (sym e)) in
     let counted = rw turned at counts in
     rw has (counted_elsewhere (is_queued slot) counted had))
 
@@ -60,7 +61,7 @@ queue-set xs queue i slot l was holds n =
     let had = holds n in
     let counts = count_by-queued_after (is_queued slot) queue i n in
     by_test (eqb n i)
-    (λ t. let same = same_number n i t in
+    (λ t. let same = eqb-true n i t in
     let had_none = subst (λ (k : ℕ). count_by (λ m. eqb m n) queue ≡ once_if (is_queued (get_or xs k None))) same had
     ∙ ap once_if was in
     let has = rw t at (get_or-set xs i slot None n l) in
@@ -68,7 +69,7 @@ queue-set xs queue i slot l was holds n =
     let counted = rw turned at counts in
     rw has (counted_here (is_queued slot) counted had_none))
     (λ f. let has = rw f at (get_or-set xs i slot None n l) in
-    let turned : eqb i n ≡ false = eqb-other i n (λ e. other_number n i f (sym e)) in
+    let turned : eqb i n ≡ false = ne_eqb i n (λ e. eqb-false n i f (sym e)) in
     let counted = rw turned at counts in
     rw has (counted_elsewhere (is_queued slot) counted had))
 
@@ -84,7 +85,7 @@ pub queue-taken : (xs : List (Option Operation)) (i : ℕ) (rest : List ℕ) (sl
 queue-taken xs i rest slot l is holds n =
     let counts = sym (count_by-cons (λ m. eqb m n) i rest) ∙ holds n in
     by_test (eqb n i)
-    (λ t. let same = same_number n i t in
+    (λ t. let same = eqb-true n i t in
     let has = rw t at (get_or-set xs i slot None n l) in
     let turned : eqb i n ≡ true = subst (λ (k : ℕ). eqb i k ≡ true) (sym same) (eqb-same i) in
     let counted = rw turned at counts in
@@ -93,6 +94,6 @@ queue-taken xs i rest slot l is holds n =
     let one = rw queued at counted in
     rw (has, is) (omega (arith, one)))
     (λ f. let has = rw f at (get_or-set xs i slot None n l) in
-    let turned : eqb i n ≡ false = eqb-other i n (λ e. other_number n i f (sym e)) in
+    let turned : eqb i n ≡ false = ne_eqb i n (λ e. eqb-false n i f (sym e)) in
     let counted = rw turned at counts in
     rw has (omega (arith, counted)))

@@ -1,8 +1,7 @@
 -- What reports, takes and ends of operations keep.
-use Rattle.std.proofs.Common.{◌≡◌, ◌≢◌, ℕ, ◌+◌, ◌<◌, ◌≤◌, Bool, true, false, cond, eqb, List, [], ◌∷◌, ◌++◌, Option}
-use Rattle.std.proofs.Common.{Some, None, is_some, get_or, set, length, refl, sym, ap, ◌∙◌, subst, arith, inl, inr}
-use Rattle.std.proofs.Common.{get_or-set_same, get_or-set_other}
-use Rattle.std.proofs.lemmas.Bool.{false≢true}
+use Rattle.std.proofs.Common.{◌≡◌, ℕ, ◌+◌, ◌<◌, ◌≤◌, Bool, true, false, cond, List, [], ◌∷◌, ◌++◌, Option, Some, None}
+use Rattle.std.proofs.Common.{is_some, get_or, set, length, refl, sym, ap, ◌∙◌, subst, arith}
+use Rattle.std.proofs.lemmas.Bool.{false≢true, eqb-false}
 use Rattle.std.proofs.lemmas.List.{length-set, get_or_read}
 use Rattle.nio_group.specs.declared.channel.Channel.{Channel}
 use Rattle.nio_group.specs.declared.channel.Endpoint.{Endpoint}
@@ -25,17 +24,15 @@ use Rattle.nio_group.specs.Refusals.{report_refusal, is_allowed}
 use Rattle.nio_group.proofs.StartLemmas.{some_none}
 use Rattle.nio_group.specs.Stages.{is_pending, is_pending_as, is_queued, stage_is_pending, at_stage}
 use Rattle.nio_group.specs.Flight.{Flight, op_at, accepted, in_flight, IsPendingAs, with_completed}
-use Rattle.nio_group.specs.Pending.{slot_of, with_slot, nothing_pending}
+use Rattle.nio_group.specs.Pending.{with_slot, nothing_pending}
 use Rattle.nio_group.specs.Group.{Group, IsLawful, channel_at, no_channel, is_ready_for}
 use Rattle.nio_group.specs.GroupKept.{IsGroupKept, IsListed, group_of, is_open}
-use Rattle.nio_group.proofs.TableLemmas.{by_test, same_number, other_number, count_by-set}
-use Rattle.nio_group.proofs.ListLemmas.{eqb-same}
+use Rattle.nio_group.proofs.TableLemmas.{by_test, count_by-set}
 use Rattle.nio_group.proofs.QueueLemmas.{QueueHolds, queue-set}
-use Rattle.nio_group.proofs.PendingLemmas.{IsPendingOf, kinds, pending-parts, same_kind-refl, slot_of-with_same}
-use Rattle.nio_group.proofs.PendingLemmas.{slot_of-with_other}
+use Rattle.nio_group.proofs.PendingLemmas.{pending-parts, pending-own}
 use Rattle.nio_group.proofs.LawfulLemmas.{IsFlightLawful, lawful-channel, lawful-operations, open-within}
-use Rattle.nio_group.proofs.GroupLemmas.{kept-channel}
-use Rattle.nio_group.proofs.CloseLemmas.{some-same, none_some, pending-after, pending-before}
+use Rattle.nio_group.proofs.GroupLemmas.{kept-channel, listed-channel}
+use Rattle.nio_group.proofs.CloseLemmas.{pending-after, pending-before, listed-step}
 use Rattle.nio_group.proofs.FlightLemmas.{some-within, not_queued-pending}
 
 -- an operation in flight is put in another's place, which keeps the queue
@@ -50,9 +47,6 @@ flight-changes f n op op' queue op_limit is holds few numbers =
       few_in_flight = omega (arith, counts);
       few_accepted = omega (arith, length-set f.operations n (Some op'));
     }
-
-pub pending-new_as : (op : Operation) → is_pending (Some op) ≡ true → is_pending_as op.chan.0 op.kind (Some op) ≡ true
-pending-new_as op is = rw (is, eqb-same op.chan.0, same_kind-refl op.kind) refl
 
 -- the operations after a pending one was completed
 abbrev pub completed_flight : Flight → ℕ → Operation → Finished → Flight
@@ -85,14 +79,7 @@ lawful-completed g n op finished lawful is is_pending_op other =
     (flight-completes g.flight n op finished g.op_limit is is_pending_op lawful.queued_once lawful.few_in_flight
     lawful.few_accepted)
     (λ c kind m h. (pending-after xs n slot c kind m l refl h).1)
-    (λ c m h. pending-before xs n slot c Connect m
-    (λ same.
-    let at : is_pending_as c Connect (get_or xs n None) ≡ true = subst
-    (λ (i : ℕ). is_pending_as c Connect (get_or xs i None) ≡ true) same h in
-    let of : is_pending_as c Connect (Some op) ≡ true = rw is at at in
-    let parts = pending-parts c Connect op of in
-    other parts.same)
-    h)
+    (λ c m h. pending-before xs n slot c Connect m (λ at. other (pending-parts c Connect op (rw is at at)).same) h)
 
 ready-connect : (e : Endpoint) → is_ready_for e Connect ≡ true → e ≡ Stream Connecting
 ready-connect (Listener bound) h = absurd (false≢true h)
@@ -117,7 +104,7 @@ lawful-connected g n op finished ch lawful is is_pending_op connect not_connecti
     let c = op.chan.0 in
     let slot : Option Operation = Some (at_stage (Queued finished) op) in
     let l = some-within xs n op is in
-    let own : IsPendingAs g.flight c op.kind n = rw is (pending-new_as op is_pending_op) in
+    let own : IsPendingAs g.flight c op.kind n = rw is (pending-own op is_pending_op) in
     let own_connect : IsPendingAs g.flight c Connect n = subst
     (λ (k : OpKind). IsPendingAs g.flight c k n) connect own in
     let endpoint = ready-connect (channel_at g c).endpoint (lawful.pending_ready n c Connect own_connect) in
@@ -140,13 +127,7 @@ lawful-connected g n op finished ch lawful is is_pending_op connect not_connecti
     })
     (λ d kind m differ h. (pending-after xs n slot d kind m l refl h).1)
     (λ d m differ h. pending-before xs n slot d Connect m
-    (λ same.
-    let at : is_pending_as d Connect (get_or xs n None) ≡ true = subst
-    (λ (i : ℕ). is_pending_as d Connect (get_or xs i None) ≡ true) same h in
-    let of : is_pending_as d Connect (Some op) ≡ true = rw is at at in
-    let parts = pending-parts d Connect op of in
-    differ (sym parts.chan))
-    h)
+    (λ at. differ (sym (pending-parts d Connect op (rw is at at)).chan)) h)
 
 -- the slots after a pending operation was completed
 pub listed-completed : (f : Flight) (ps : List slots.Pending) (n : ℕ) (op : Operation) (finished : Finished)
@@ -155,57 +136,16 @@ pub listed-completed : (f : Flight) (ps : List slots.Pending) (n : ℕ) (op : Op
     (set ps op.chan.0 (with_slot (get_or ps op.chan.0 nothing_pending) op.kind None))
 listed-completed f ps n op finished is_listed is is_pending_op within =
     let c = op.chan.0 in
-    let xs = f.operations in
     let slot : Option Operation = Some (at_stage (Queued finished) op) in
-    let l = some-within xs n op is in
+    let l = some-within f.operations n op is in
+    let own : IsPendingAs f c op.kind n = rw is (pending-own op is_pending_op) in
     let p : slots.Pending = get_or ps c nothing_pending in
-    let p' : slots.Pending = with_slot p op.kind None in
-    let own : IsPendingAs f c op.kind n = rw is (pending-new_as op is_pending_op) in
-    let own_slot = is_listed.all c op.kind n own in
-    let here : (d : ℕ) → d ≡ c → get_or (set ps c p') d nothing_pending ≡ p' =
-    λ d same. subst (λ (e : ℕ). get_or (set ps c p') e nothing_pending ≡ p') (sym same)
-    (get_or-set_same ps c p' nothing_pending within) in
-    let there : (d : ℕ) → d ≢ c → get_or (set ps c p') d nothing_pending ≡ get_or ps d nothing_pending =
-    λ d differ. get_or-set_other ps c d p' nothing_pending differ in
-    record {
-      listed = λ d kind m h.
-          by_test (eqb d c)
-          (λ t. let same = same_number d c t in
-          let slot_is = rw (here d same) at h in
-          elim (kinds kind op.kind) [
-            | inl own_kind ↦ absurd
-                (none_some m
-                (sym (slot_of-with_same p op.kind None)
-                ∙ subst (λ (k : OpKind). slot_of p' k ≡ Some m) own_kind slot_is))
-            | inr other ↦
-                let old = is_listed.listed c kind m (sym (slot_of-with_other p op.kind kind None other) ∙ slot_is) in
-                rw same (pending-before xs n slot c kind m (not_n c kind m old (λ k. other (sym k.same))) old)
-          ])
-          (λ e. let differ = other_number d c e in
-          let old = is_listed.listed d kind m (rw (there d differ) at h) in
-          pending-before xs n slot d kind m (not_n d kind m old (λ k. differ (sym k.chan))) old);
-      all = λ d kind m h.
-          let old = pending-after xs n slot d kind m l refl h in
-          let has = is_listed.all d kind m old.1 in
-          by_test (eqb d c)
-          (λ t. let same = same_number d c t in
-          let has_here : slot_of p kind ≡ Some m = rw same at has in
-          elim (kinds kind op.kind) [
-            | inl own_kind ↦ absurd
-                (old.0 (some-same
-                (sym has_here ∙ subst (λ (k : OpKind). slot_of p k ≡ Some n) (sym own_kind) own_slot)))
-            | inr other ↦ rw (here d same) (slot_of-with_other p op.kind kind None other ∙ has_here)
-          ])
-          (λ e. rw (there d (other_number d c e)) has);
-    }
-  where
-    not_n : (d : ℕ) (kind : OpKind) (m : ℕ) → is_pending_as d kind (get_or f.operations m None) ≡ true
-        → (IsPendingOf d kind op → ⊥) → m ≢ n
-    not_n d kind m old elsewhere same =
-        let at : is_pending_as d kind (get_or f.operations n None) ≡ true = subst
-        (λ (i : ℕ). is_pending_as d kind (get_or f.operations i None) ≡ true) same old in
-        let of : is_pending_as d kind (Some op) ≡ true = rw is at at in
-        elsewhere (pending-parts d kind op of)
+    listed-channel f (completed_flight f n op finished) ps c (with_slot p op.kind None) is_listed within
+    (listed-step f c p n op slot (f.queue ++ n ∷ []) (record { listed = is_listed.listed c; all = is_listed.all c }) is
+    l (is_listed.all c op.kind n own) refl)
+    (λ d kind m differ h. pending-before f.operations n slot d kind m
+    (λ at. differ (sym (pending-parts d kind op (rw is at at)).chan)) h)
+    (λ d kind m differ h. (pending-after f.operations n slot d kind m l refl h).1)
 
 -- what is known of an operation whose outcome isn't refused
 pub report-allowed : (op : Operation) (outcome : Outcome) → report_refusal (Some op) outcome ≡ None
@@ -224,23 +164,10 @@ connected-connect Connect len h = refl
 connected-connect Read len h = absurd (false≢true h)
 connected-connect Write len h = absurd (false≢true h)
 
-pub accepted-accept : (kind : OpKind) (len : ℕ) → is_allowed kind len outcome.Accepted ≡ true → kind ≡ Connect → ⊥
-accepted-accept kind len h e = false≢true (subst (λ (k : OpKind). is_allowed k len outcome.Accepted ≡ true) e h)
-
-pub count-other : (kind : OpKind) (len k : ℕ) → is_allowed kind len (outcome.Count k) ≡ true → kind ≡ Connect → ⊥
-count-other kind len k h e = false≢true (subst (λ (x : OpKind). is_allowed x len (outcome.Count k) ≡ true) e h)
-
-pub end-other : (kind : OpKind) (len : ℕ) → is_allowed kind len outcome.End ≡ true → kind ≡ Connect → ⊥
-end-other kind len h e = false≢true (subst (λ (x : OpKind). is_allowed x len outcome.End ≡ true) e h)
-
--- an outcome that isn't a connection or a fault is of an operation that isn't a connect
-pub other-outcome : (kind : OpKind) (len : ℕ) (o : Outcome) → is_allowed kind len o ≡ true → (o ≡ outcome.Connected → ⊥)
-    → (o ≡ outcome.Fault → ⊥) → kind ≡ Connect → ⊥
-other-outcome kind len (outcome.Count k) h a b = count-other kind len k h
-other-outcome kind len outcome.End h a b = end-other kind len h
-other-outcome kind len outcome.Connected h a b = absurd (a refl)
-other-outcome kind len outcome.Accepted h a b = accepted-accept kind len h
-other-outcome kind len outcome.Fault h a b = absurd (b refl)
+-- an outcome that no connect may have is of an operation that isn't one
+pub not_connect : (kind : OpKind) (len : ℕ) (o : Outcome) → is_allowed Connect len o ≡ false
+    → is_allowed kind len o ≡ true → kind ≡ Connect → ⊥
+not_connect kind len o never h e = false≢true (sym never ∙ subst (λ (k : OpKind). is_allowed k len o ≡ true) e h)
 
 -- the channel of a pending operation is one of the group's
 pub pending-made : {f : Flight} {cs : List Channel} {ps : List slots.Pending} {o r r' : ℕ} {sh : Bool} {l : GroupLimits}
@@ -248,7 +175,7 @@ pub pending-made : {f : Flight} {cs : List Channel} {ps : List slots.Pending} {o
     → IsGroupKept f cs ps o sh l r r' → op_at f n ≡ Some op → is_pending (Some op) ≡ true
     → (op.chan.0 < length cs) × (op.chan.0 < length ps) × ((get_or cs op.chan.0 no_channel).is_open ≡ true)
 pending-made {f} {cs} n op kept is is_pending_op =
-    let own : IsPendingAs f op.chan.0 op.kind n = rw is (pending-new_as op is_pending_op) in
+    let own : IsPendingAs f op.chan.0 op.kind n = rw is (pending-own op is_pending_op) in
     let opened = kept.lawful.pending_open n op.chan.0 op.kind own in
     let within = open-within cs op.chan.0 opened in
     let slots_are = kept.slots in
@@ -320,7 +247,7 @@ accepted-room g o x lawful is h =
     let left = rw f at at in
     by_test (no_number_left g)
     (λ t. absurd (failed _ x (rw t at left)))
-    (λ e. let differ = other_number (length g.channels) g.channel_limit e in
+    (λ e. let differ = eqb-false (length g.channels) g.channel_limit e in
     let few = lawful.few_channels in omega arith))
   where
     failed : (why : Why) (y : GChan) → done.Failed why ≡ done.Accepted y → ⊥

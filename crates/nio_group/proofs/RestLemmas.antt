@@ -2,7 +2,7 @@
 use Rattle.std.proofs.Common.{◌≡◌, ℕ, ◌+◌, ◌<◌, zero, suc, Bool, true, false, ltb, not, ◌&&◌, ◌||◌, List, [], ◌∷◌}
 use Rattle.std.proofs.Common.{Option, Some, None, length, refl, sym, ap, ◌∙◌, subst, arith}
 use Rattle.std.specs.List.{list_any}
-use Rattle.std.proofs.lemmas.Bool.{false≢true}
+use Rattle.std.proofs.lemmas.Bool.{false≢true, not-true, not_from_false, and_from, lt-ltb, ltb-true, and_parts}
 use Rattle.std.proofs.lemmas.List.Folds.{list_any_at, list_all_at}
 use Rattle.nio_group.specs.declared.channel.Endpoint.{Endpoint}
 use Rattle.nio_group.specs.declared.channel.Endpoint.TheVariants.{Stream, Listener}
@@ -10,7 +10,7 @@ use Rattle.nio_group.specs.declared.operation.Stage.{Stage}
 use Rattle.nio_group.specs.declared.operation.Stage.TheVariants.{Pending, Queued, Running}
 use Rattle.nio_group.specs.declared.operation.Operation.{Operation}
 use Rattle.nio_group.specs.declared.limits.GroupLimits.{GroupLimits}
-use Rattle.nio_group.specs.Stages.{is_pending, is_pending_as, is_queued, is_running}
+use Rattle.nio_group.specs.Stages.{is_pending, is_queued, is_running}
 use Rattle.nio_group.specs.Flight.{Flight, op_at, accepted, flight_after_take}
 use Rattle.nio_group.specs.Group.{Group, IsLawful, channel_at, no_channel, is_terminated, all_closed, none_to_handle}
 use Rattle.nio_group.specs.Group.{empty_group}
@@ -21,14 +21,12 @@ use Rattle.nio_group.specs.Run.{Call, open_channel, bind, start, report, take, f
 use Rattle.nio_group.specs.Run.{shutdown_now, after, has_completed, was_taken, TerminatedStays, IsRunOf, left_by}
 use Rattle.nio_group.specs.Run.{completions, once_where, CompletesOnce, TerminatedIsAtRest}
 use Rattle.nio_group.proofs.TableLemmas.{by_test}
-use Rattle.nio_group.proofs.ListLemmas.{eqb-same}
 use Rattle.nio_group.proofs.QueueLemmas.{QueueHolds, front-queued}
 use Rattle.nio_group.proofs.FlightLemmas.{some-within}
-use Rattle.nio_group.proofs.PendingLemmas.{and-left, and-right, same_kind-refl}
-use Rattle.nio_group.proofs.LawfulLemmas.{open-within}
+use Rattle.nio_group.proofs.LawfulLemmas.{open-within, nothing-pending}
 use Rattle.nio_group.proofs.StartLemmas.{some_none}
 use Rattle.nio_group.proofs.RunLemmas.{unless-refused, lawful-after}
-use Rattle.nio_group.proofs.StageLemmas.{stepped-after, next-not_pending, not-true, true-not, both, lt-true, true-lt}
+use Rattle.nio_group.proofs.StageLemmas.{stepped-after, next-not_pending, IsStepped}
 
 -- what is known of a terminated group
 pub record IsResting (g : Group) : Type 0 where
@@ -40,23 +38,20 @@ none-left : (g : Group) (n : ℕ) → IsLawful g → ((c : ℕ) → (channel_at 
     → list_any (λ slot. is_queued slot || is_running slot) g.flight.operations ≡ false → op_at g.flight n ≡ None
 none-left g n lawful closed idle = by_slot (op_at g.flight n) refl
   where
+    idle_is : (op : Operation) → op_at g.flight n ≡ Some op
+        → (is_queued (op_at g.flight n) || is_running (op_at g.flight n)) ≡ true → ⊥
+    idle_is op is busy =
+        false≢true
+        (sym idle
+        ∙ list_any_at (λ slot. is_queued slot || is_running slot) g.flight.operations n None
+        (some-within g.flight.operations n op is) busy)
+
     by_stage : (op : Operation) → op_at g.flight n ≡ Some op → (stage : Stage) → op.stage ≡ stage → ⊥
     by_stage op is Pending e =
-        let pending : is_pending_as op.chan.0 op.kind (op_at g.flight n) ≡ true = rw
-        (is, e, eqb-same op.chan.0, same_kind-refl op.kind) refl in
-        false≢true (sym (closed op.chan.0) ∙ lawful.pending_open n op.chan.0 op.kind pending)
-    by_stage op is (Queued r) e =
-        let busy : (is_queued (op_at g.flight n) || is_running (op_at g.flight n)) ≡ true = rw (is, e) refl in
-        false≢true
-        (sym idle
-        ∙ list_any_at (λ slot. is_queued slot || is_running slot) g.flight.operations n None
-        (some-within g.flight.operations n op is) busy)
-    by_stage op is Running e =
-        let busy : (is_queued (op_at g.flight n) || is_running (op_at g.flight n)) ≡ true = rw (is, e) refl in
-        false≢true
-        (sym idle
-        ∙ list_any_at (λ slot. is_queued slot || is_running slot) g.flight.operations n None
-        (some-within g.flight.operations n op is) busy)
+        let pending : is_pending (op_at g.flight n) ≡ true = rw (is, e) refl in
+        false≢true (sym (nothing-pending g lawful closed n) ∙ pending)
+    by_stage op is (Queued r) e = idle_is op is (rw (is, e) refl)
+    by_stage op is Running e = idle_is op is (rw (is, e) refl)
 
     by_slot : (slot : Option Operation) → op_at g.flight n ≡ slot → slot ≡ None
     by_slot None is = refl
@@ -64,10 +59,10 @@ none-left g n lawful closed idle = by_slot (op_at g.flight n) refl
 
 pub resting : (g : Group) → IsLawful g → is_terminated g ≡ true → IsResting g
 resting g lawful terminated =
-    let rest = and-right g.is_shut (all_closed g && none_to_handle g) terminated in
-    let all = and-left (all_closed g) (none_to_handle g) rest in
+    let rest = (and_parts g.is_shut (all_closed g && none_to_handle g) terminated).1 in
+    let all = (and_parts (all_closed g) (none_to_handle g) rest).0 in
     let idle = not-true (list_any (λ slot. is_queued slot || is_running slot) g.flight.operations)
-    (and-right (all_closed g) (none_to_handle g) rest) in
+    (and_parts (all_closed g) (none_to_handle g) rest).1 in
     let closed : (c : ℕ) → (channel_at g c).is_open ≡ false =
     λ c.
     by_test (channel_at g c).is_open
@@ -78,7 +73,7 @@ resting g lawful terminated =
     ∙ all)))
     (λ f. f) in
     record {
-      shut = and-left g.is_shut (all_closed g && none_to_handle g) terminated;
+      shut = (and_parts g.is_shut (all_closed g && none_to_handle g) terminated).0;
       closed = closed;
       none = λ n. none-left g n lawful closed idle;
     }
@@ -142,7 +137,7 @@ pub terminated-stays : TerminatedStays
 terminated-stays g call lawful made terminated =
     after-resting (λ (h : Group). is_terminated h ≡ true) g call lawful (resting g lawful terminated) terminated
     terminated
-    (and-right g.is_shut (all_closed g && none_to_handle g) terminated)
+    (and_parts g.is_shut (all_closed g && none_to_handle g) terminated).1
 
 flight-rests : (g : Group) (call : Call) → IsLawful g → is_terminated g ≡ true → (after g call).flight ≡ g.flight
 flight-rests g call lawful terminated =
@@ -174,40 +169,40 @@ at-rest g lawful terminated =
           let pending : is_pending (op_at g.flight n) ≡ false = rw none refl in
           let queued : is_queued (op_at g.flight n) ≡ false = rw none refl in
           let running : is_running (op_at g.flight n) ≡ false = rw none refl in
-          both (was_taken g n) (not (is_running (op_at g.flight n)))
-          (both (has_completed g n) (not (is_queued (op_at g.flight n)))
-          (both (ltb n (accepted g.flight)) (not (is_pending (op_at g.flight n))) (lt-true n (accepted g.flight) l)
-          (true-not (is_pending (op_at g.flight n)) pending))
-          (true-not (is_queued (op_at g.flight n)) queued))
-          (true-not (is_running (op_at g.flight n)) running);
+          and_from (was_taken g n) (not (is_running (op_at g.flight n)))
+          (and_from (has_completed g n) (not (is_queued (op_at g.flight n)))
+          (and_from (ltb n (accepted g.flight)) (not (is_pending (op_at g.flight n))) (lt-ltb n (accepted g.flight) l)
+          (not_from_false (is_pending (op_at g.flight n)) pending))
+          (not_from_false (is_queued (op_at g.flight n)) queued))
+          (not_from_false (is_running (op_at g.flight n)) running);
       completes_none = λ n calls run. none-completes n g calls lawful terminated run;
     }
 
-step-count : (a b : Bool) → (a ≡ true → b ≡ true) → once_where (b && not a) + once_where a ≡ once_where b
+pub step-count : (a b : Bool) → (a ≡ true → b ≡ true) → once_where (b && not a) + once_where a ≡ once_where b
 step-count true b h = rw (h refl) refl
 step-count false true h = refl
 step-count false false h = refl
 
-completed-stays : (g : Group) (call : Call) (n : ℕ) → IsLawful g → has_completed g n ≡ true
-    → has_completed (after g call) n ≡ true
-completed-stays g call n lawful is =
-    let step = stepped-after g call lawful in
+-- an operation that has completed stays so
+pub completed-stays : (g g' : Group) (n : ℕ) → IsStepped g.flight g'.flight → has_completed g n ≡ true
+    → has_completed g' n ≡ true
+completed-stays g g' n step is =
     let more = step.accepts in
-    let within : n < accepted g.flight = true-lt n (accepted g.flight)
-    (and-left (ltb n (accepted g.flight)) (not (is_pending (op_at g.flight n))) is) in
-    let past = not-true (is_pending (op_at g.flight n))
-    (and-right (ltb n (accepted g.flight)) (not (is_pending (op_at g.flight n))) is) in
-    both (ltb n (accepted (after g call).flight)) (not (is_pending (op_at (after g call).flight n)))
-    (lt-true n (accepted (after g call).flight) (omega arith))
-    (true-not (is_pending (op_at (after g call).flight n))
-    (next-not_pending (op_at g.flight n) (op_at (after g call).flight n) (step.next n within) past))
+    let parts = and_parts (ltb n (accepted g.flight)) (not (is_pending (op_at g.flight n))) is in
+    let within : n < accepted g.flight = ltb-true n (accepted g.flight) parts.0 in
+    and_from (ltb n (accepted g'.flight)) (not (is_pending (op_at g'.flight n)))
+    (lt-ltb n (accepted g'.flight) (omega arith))
+    (not_from_false (is_pending (op_at g'.flight n))
+    (next-not_pending (op_at g.flight n) (op_at g'.flight n) (step.next n within)
+    (not-true (is_pending (op_at g.flight n)) parts.1)))
 
 counted : (n : ℕ) (g : Group) (calls : List Call) → IsLawful g → IsRunOf g calls
     → completions n g calls + once_where (has_completed g n) ≡ once_where (has_completed (left_by g calls) n)
 counted n g [] lawful run = omega arith
 counted n g (call ∷ calls) lawful run =
     let later = counted n (after g call) calls (lawful-after g call lawful run.0) run.1 in
-    let here = step-count (has_completed g n) (has_completed (after g call) n) (completed-stays g call n lawful) in
+    let here = step-count (has_completed g n) (has_completed (after g call) n)
+    (completed-stays g (after g call) n (stepped-after g call lawful)) in
     omega (arith, later, here)
 
 pub lawful-empty : (limits : GroupLimits) → IsLawful (empty_group limits)
@@ -223,8 +218,8 @@ lawful-empty limits =
       few_accepted = omega arith;
     }
 
-none-completed : (n : ℕ) (limits : GroupLimits) → has_completed (empty_group limits) n ≡ false
-none-completed n limits = by_test (ltb n 0) (λ t. absurd (let l = true-lt n 0 t in omega arith)) (λ f. rw f refl)
+pub none-completed : (n : ℕ) (limits : GroupLimits) → has_completed (empty_group limits) n ≡ false
+none-completed n limits = by_test (ltb n 0) (λ t. absurd (let l = ltb-true n 0 t in omega arith)) (λ f. rw f refl)
 
 pub completes-once : CompletesOnce
 completes-once limits calls n run =

@@ -1,8 +1,8 @@
 -- Each call keeps a group lawful.
-use Rattle.std.proofs.Common.{◌≡◌, ◌≢◌, ℕ, ◌<◌, ◌≤◌, zero, suc, Bool, true, false, cond, eqb, List, [], ◌∷◌, ◌++◌}
-use Rattle.std.proofs.Common.{Option, Some, None, is_some, length, get_or, set, refl, sym, ap, ◌∙◌, subst, arith}
-use Rattle.std.proofs.lemmas.Bool.{false≢true}
-use Rattle.std.proofs.lemmas.List.{set-get_or, length-set}
+use Rattle.std.proofs.Common.{◌≡◌, ℕ, ◌<◌, zero, suc, Bool, true, false, cond, eqb, List, [], ◌∷◌, ◌++◌, Option, Some}
+use Rattle.std.proofs.Common.{None, length, set, refl, sym, ap, ◌∙◌, subst, arith}
+use Rattle.std.proofs.lemmas.Bool.{false≢true, eqb-false}
+use Rattle.std.proofs.lemmas.List.{set-get_or}
 use Rattle.nio_base.specs.declared.numbers.GChan.{GChan}
 use Rattle.nio_base.specs.declared.group.GKind.{GKind}
 use Rattle.nio_group.specs.declared.channel.Channel.{Channel}
@@ -13,31 +13,27 @@ use Rattle.nio_base.specs.declared.group.OpKind.{OpKind}
 use Rattle.nio_base.specs.declared.group.OpKind.TheVariants.{Accept, Connect, Read, Write}
 use Rattle.nio_base.specs.declared.group.Outcome.{Outcome}
 use Rattle.nio_base.specs.declared.group.Outcome.TheVariants as outcome
-use Rattle.nio_group.specs.declared.operation.Stage.{Stage}
-use Rattle.nio_group.specs.declared.operation.Stage.TheVariants.{Pending, Queued, Running}
+use Rattle.nio_group.specs.declared.operation.Stage.TheVariants.{Pending}
 use Rattle.nio_group.specs.declared.operation.Operation.{Operation}
-use Rattle.nio_group.specs.Stages.{is_pending, is_queued, is_running, at_stage}
-use Rattle.nio_group.specs.Flight.{Flight, op_at, IsPendingAs, with_accepted, with_ended, with_taken, flight_after_take}
-use Rattle.nio_group.specs.Flight.{with_channel_closed}
+use Rattle.nio_group.specs.Stages.{is_pending, stage_is_pending}
+use Rattle.nio_group.specs.Flight.{Flight, op_at, IsPendingAs, with_accepted, with_channel_closed}
 use Rattle.nio_group.specs.Group.{Group, IsLawful, channel_at, no_channel, is_ready_for, new_channel}
 use Rattle.nio_group.specs.Refusals.{open_refusal, bind_refusal, start_refusal, report_refusal, has_pending, is_allowed}
 use Rattle.nio_group.specs.Steps.{kept_if_refused, after_open, after_bind, after_start, channels_after_start, started}
 use Rattle.nio_group.specs.Steps.{first_stage, after_report, reported, channels_after_report, result_of, no_number_left}
-use Rattle.nio_group.specs.Steps.{after_take, after_finish, finish_refusal, after_close, after_shutdown, closed_below}
-use Rattle.nio_group.specs.Steps.{with_endpoint, with_closed, connected_stream}
+use Rattle.nio_group.specs.Steps.{after_close, after_shutdown, closed_below, with_endpoint, with_closed}
+use Rattle.nio_group.specs.Steps.{connected_stream}
 use Rattle.nio_group.specs.Run.{Call, open_channel, bind, start, report, take, finish, close_channel, shutdown}
 use Rattle.nio_group.specs.Run.{shutdown_now, IsCallOf, after, reply_to, StepsAreLawful}
-use Rattle.nio_group.proofs.TableLemmas.{other_number, count_by-set}
-use Rattle.nio_group.proofs.QueueLemmas.{QueueHolds, queue-set, queue-taken, front-queued}
-use Rattle.nio_group.proofs.FlightLemmas.{some-within, not_queued-running}
-use Rattle.nio_group.proofs.LawfulLemmas.{IsFlightLawful, lawful-channel, lawful-channel_made, open-within}
+use Rattle.nio_group.proofs.TableLemmas.{by_test}
+use Rattle.nio_group.proofs.LawfulLemmas.{lawful-channel, lawful-channel_made, open-within, flight-lawful}
 use Rattle.nio_group.proofs.GroupLemmas.{new-not_connecting}
 use Rattle.nio_group.proofs.StartLemmas.{startable, allowed, lawful-started, lawful-queued, endpoint_after, cond-none}
 use Rattle.nio_group.proofs.StartLemmas.{IsStartable}
-use Rattle.nio_group.proofs.ReportLemmas.{flight-changes, completed_flight, completed-is, lawful-completed}
-use Rattle.nio_group.proofs.ReportLemmas.{lawful-connected, report-allowed, connected-connect, other-outcome}
-use Rattle.nio_group.proofs.ReportLemmas.{accepted-accept}
-use Rattle.nio_group.proofs.EndLemmas.{queued-not_pending, running-not_pending, lawful-closed, lawful-unpending}
+use Rattle.nio_group.proofs.ReportLemmas.{completed_flight, completed-is, lawful-completed, lawful-connected}
+use Rattle.nio_group.proofs.ReportLemmas.{report-allowed, connected-connect, not_connect}
+use Rattle.nio_group.proofs.EndLemmas.{lawful-closed, lawful-after_take, lawful-after_finish}
+use Rattle.nio_group.proofs.PendingLemmas.{stage-pending}
 
 -- a refused call keeps what holds, and one that isn't leads to it
 pub unless-refused : {E : Type 0} (P : Group → Type 0) (r : Option E) (old new : Group) → P old → (r ≡ None → P new)
@@ -51,7 +47,7 @@ lawful-after_open g kind lawful =
     (λ free.
     let going = cond-none g.is_shut _ _ free in
     let room = cond-none (eqb (length g.channels) g.channel_limit) _ _ going.1 in
-    let differ = other_number (length g.channels) g.channel_limit room.0 in
+    let differ = eqb-false (length g.channels) g.channel_limit room.0 in
     let few = lawful.few_channels in
     lawful-channel_made g (new_channel kind) lawful (omega arith) (new-not_connecting kind))
 
@@ -66,14 +62,6 @@ unbound-ready Accept h = false≢true h
 unbound-ready Connect h = false≢true h
 unbound-ready Read h = false≢true h
 unbound-ready Write h = false≢true h
-
-flight-lawful : (g : Group) → IsLawful g → IsFlightLawful g.flight g.op_limit
-flight-lawful g lawful =
-    record {
-      queued_once = lawful.queued_once;
-      few_in_flight = lawful.few_in_flight;
-      few_accepted = lawful.few_accepted;
-    }
 
 pub lawful-after_bind : (g : Group) (c : ℕ) → IsLawful g → c < length g.channels → IsLawful (after_bind g c)
 lawful-after_bind g c lawful within =
@@ -98,9 +86,6 @@ lawful-after_bind g c lawful within =
     not_listener : (b : Bool) → Listener b ≡ Stream Connecting → ⊥
     not_listener b e = cc
 
-lt_of_ne : {a b : ℕ} → a ≤ b → a ≢ b → a < b
-lt_of_ne le ne = omega arith
-
 -- the group after a start, where the channel is open or not
 abbrev pub started_as : Group → GChan → OpKind → ℕ → Bool → Group
 started_as g chan kind len is_open =
@@ -115,44 +100,25 @@ closed-same g c Connect = refl
 closed-same g c Read = refl
 closed-same g c Write = refl
 
--- an operation that is pending, and isn't a connect, was started
-lawful-pending : (g : Group) (op : Operation) → IsLawful g → op.chan.0 < length g.channels → op.stage ≡ Pending
+-- an operation that isn't a connect was started on an open channel
+lawful-transfer : (g : Group) (op : Operation) → IsLawful g → op.chan.0 < length g.channels
     → (channel_at g op.chan.0).is_open ≡ true → IsStartable g op.chan.0 op.kind
     → endpoint_after (channel_at g op.chan.0).endpoint op.kind ≡ (channel_at g op.chan.0).endpoint
     → IsLawful (record g { flight = with_accepted g.flight op })
-lawful-pending g op lawful within pending is facts same =
-    let few = lawful.few_in_flight in
-    let few_numbers = lawful.few_accepted in
+lawful-transfer g op lawful within is facts same =
+    by_test (stage_is_pending op.stage)
+    (λ t.
     let allow = allowed (channel_at g op.chan.0).endpoint (has_pending g.flight op.chan.0 op.kind) op.kind
     (rw is at facts.channel) in
-    let made = lawful-started g op lawful within pending is allow (lt_of_ne few facts.room)
-    (lt_of_ne few_numbers facts.numbers) in
+    let made = lawful-started g op lawful within (stage-pending op.stage t) is allow facts.room facts.numbers in
     let unchanged : set g.channels op.chan.0
     (record (channel_at g op.chan.0) { endpoint = endpoint_after (channel_at g op.chan.0).endpoint op.kind })
     ≡ g.channels =
     ap (λ (e : Endpoint). set g.channels op.chan.0 (record (channel_at g op.chan.0) { endpoint = e })) same
     ∙ set-get_or g.channels op.chan.0 no_channel in
     subst (λ (cs : List Channel). IsLawful (record g { flight = with_accepted g.flight op; channels = cs })) unchanged
-    made
-
-lawful-transfer : (g : Group) (op : Operation) → IsLawful g → op.chan.0 < length g.channels
-    → op.stage ≡ first_stage true op.kind op.len → (channel_at g op.chan.0).is_open ≡ true
-    → IsStartable g op.chan.0 op.kind
-    → endpoint_after (channel_at g op.chan.0).endpoint op.kind ≡ (channel_at g op.chan.0).endpoint
-    → IsLawful (record g { flight = with_accepted g.flight op })
-lawful-transfer g op lawful within stage is facts same =
-    by_stage op.stage refl
-  where
-    by_stage : (s : Stage) → op.stage ≡ s → IsLawful (record g { flight = with_accepted g.flight op })
-    by_stage Pending e = lawful-pending g op lawful within e is facts same
-    by_stage (Queued r) e =
-        let few = lawful.few_in_flight in
-        let few_numbers = lawful.few_accepted in
-        lawful-queued g op lawful (rw e refl) (lt_of_ne few facts.room) (lt_of_ne few_numbers facts.numbers)
-    by_stage Running e =
-        let few = lawful.few_in_flight in
-        let few_numbers = lawful.few_accepted in
-        lawful-queued g op lawful (rw e refl) (lt_of_ne few facts.room) (lt_of_ne few_numbers facts.numbers)
+    made)
+    (λ f. lawful-queued g op lawful f facts.room facts.numbers)
 
 -- a start that isn't refused
 lawful-started_now : (g : Group) (chan : GChan) (kind : OpKind) (len : ℕ) (is_open : Bool) → IsLawful g
@@ -160,34 +126,22 @@ lawful-started_now : (g : Group) (chan : GChan) (kind : OpKind) (len : ℕ) (is_
     → IsLawful (started_as g chan kind len is_open)
 lawful-started_now g chan kind len false lawful within facts is =
     let op : Operation = record { chan = chan; kind = kind; len = len; stage = first_stage false kind len } in
-    let few = lawful.few_in_flight in
-    let few_numbers = lawful.few_accepted in
-    let made = lawful-queued g op lawful refl (lt_of_ne few facts.room) (lt_of_ne few_numbers facts.numbers) in
     subst (λ (h : Group). IsLawful (record h { flight = with_accepted g.flight op }))
-    (sym (closed-same g chan.0 kind)) made
-lawful-started_now g chan Accept len true lawful within facts is =
-    lawful-transfer g (record { chan = chan; kind = Accept; len = len; stage = first_stage true Accept len }) lawful
-    within refl is facts refl
+    (sym (closed-same g chan.0 kind)) (lawful-queued g op lawful refl facts.room facts.numbers)
+lawful-started_now g chan Accept len true lawful within facts is = lawful-transfer g _ lawful within is facts refl
 lawful-started_now g chan Connect len true lawful within facts is =
-    let few = lawful.few_in_flight in
-    let few_numbers = lawful.few_accepted in
-    let allow = allowed (channel_at g chan.0).endpoint (has_pending g.flight chan.0 Connect) Connect
-    (rw is at facts.channel) in
-    lawful-started g (record { chan = chan; kind = Connect; len = len; stage = Pending }) lawful within refl is allow
-    (lt_of_ne few facts.room) (lt_of_ne few_numbers facts.numbers)
-lawful-started_now g chan Read len true lawful within facts is =
-    lawful-transfer g (record { chan = chan; kind = Read; len = len; stage = first_stage true Read len }) lawful within
-    refl is facts refl
-lawful-started_now g chan Write len true lawful within facts is =
-    lawful-transfer g (record { chan = chan; kind = Write; len = len; stage = first_stage true Write len }) lawful
-    within refl is facts refl
+    lawful-started g (record { chan = chan; kind = Connect; len = len; stage = Pending }) lawful within refl is
+    (allowed (channel_at g chan.0).endpoint (has_pending g.flight chan.0 Connect) Connect (rw is at facts.channel))
+    facts.room facts.numbers
+lawful-started_now g chan Read len true lawful within facts is = lawful-transfer g _ lawful within is facts refl
+lawful-started_now g chan Write len true lawful within facts is = lawful-transfer g _ lawful within is facts refl
 
 pub lawful-after_start : (g : Group) (chan : GChan) (kind : OpKind) (len : ℕ) → IsLawful g → chan.0 < length g.channels
     → IsLawful (after_start g chan kind len)
 lawful-after_start g chan kind len lawful within =
     unless-refused IsLawful (start_refusal g chan.0 kind) g (started g chan kind len) lawful
     (λ free. lawful-started_now g chan kind len (channel_at g chan.0).is_open lawful within
-    (startable g chan.0 kind free) refl)
+    (startable g chan.0 kind lawful free) refl)
 
 pub cond-holds : {X : Type 0} (P : X → Type 0) (b : Bool) (x y : X) → (b ≡ true → P x) → (b ≡ false → P y)
     → P (cond b x y)
@@ -202,10 +156,10 @@ lawful-reported_now : (g : Group) (n : ℕ) (o : Outcome) (op : Operation) → I
     o) { flight = completed_flight g.flight n op (result_of g o) })
 lawful-reported_now g n (outcome.Count k) op lawful is pending allow =
     lawful-completed g n op (result_of g (outcome.Count k)) lawful is pending
-    (other-outcome op.kind op.len (outcome.Count k) allow (λ e. cc) (λ e. cc))
+    (not_connect op.kind op.len (outcome.Count k) refl allow)
 lawful-reported_now g n outcome.End op lawful is pending allow =
     lawful-completed g n op (result_of g outcome.End) lawful is pending
-    (other-outcome op.kind op.len outcome.End allow (λ e. cc) (λ e. cc))
+    (not_connect op.kind op.len outcome.End refl allow)
 lawful-reported_now g n outcome.Connected op lawful is pending allow =
     lawful-connected g n op (result_of g outcome.Connected)
     (record (channel_at g op.chan.0) { endpoint = Stream Connected }) lawful is pending
@@ -213,7 +167,7 @@ lawful-reported_now g n outcome.Connected op lawful is pending allow =
 lawful-reported_now g n outcome.Accepted op lawful is pending allow =
     let f = completed_flight g.flight n op (result_of g outcome.Accepted) in
     let kept = lawful-completed g n op (result_of g outcome.Accepted) lawful is pending
-    (accepted-accept op.kind op.len allow) in
+    (not_connect op.kind op.len outcome.Accepted refl allow) in
     let P : Group → Type 0 = λ h. IsLawful (record h { flight = f }) in
     cond-holds P g.is_shut g (cond (no_number_left g) g (record g { channels = g.channels ++ connected_stream ∷ [] }))
     (λ t. kept)
@@ -221,7 +175,7 @@ lawful-reported_now g n outcome.Accepted op lawful is pending allow =
     cond-holds P (no_number_left g) g (record g { channels = g.channels ++ connected_stream ∷ [] })
     (λ t. kept)
     (λ e.
-    let differ = other_number (length g.channels) g.channel_limit e in
+    let differ = eqb-false (length g.channels) g.channel_limit e in
     let few = lawful.few_channels in
     lawful-channel_made (record g { flight = f }) connected_stream kept (omega arith) (λ c. cc)))
 lawful-reported_now g n outcome.Fault op lawful is pending allow = by_kind op.kind refl
@@ -256,67 +210,6 @@ lawful-after_report g n o lawful = by_slot (op_at g.flight n) refl
         let made = lawful-reported_now g n o op lawful is facts.0 facts.1 in
         subst (λ (f : Flight). IsLawful (record (channels_after_report g op.chan.0 op.kind o) { flight = f }))
         (sym (completed-is g.flight n op (result_of g o) is)) made)
-
-queued-there : (slot : Option Operation) → is_queued slot ≡ true → (op : Operation) × (slot ≡ Some op)
-queued-there None h = absurd (false≢true h)
-queued-there (Some op) h = (op, refl)
-
-running-there : (slot : Option Operation) → is_running slot ≡ true → (op : Operation) × (slot ≡ Some op)
-running-there None h = absurd (false≢true h)
-running-there (Some op) h = (op, refl)
-
-lawful-taken_front : (g : Group) (n : ℕ) (rest : List ℕ) (op : Operation) → IsLawful g → g.flight.queue ≡ n ∷ rest
-    → QueueHolds g.flight.operations (n ∷ rest) → op_at g.flight n ≡ Some op → is_queued (Some op) ≡ true
-    → IsLawful (record g { flight = with_taken g.flight n })
-lawful-taken_front g n rest op lawful is holds is_op of =
-    let within = some-within g.flight.operations n op is_op in
-    let was : is_pending (op_at g.flight n) ≡ false = rw is_op (queued-not_pending op.stage of) in
-    let slot : Option Operation = Some (at_stage Running op) in
-    let flight = flight-changes g.flight n op (at_stage Running op) rest g.op_limit is_op
-    (queue-taken g.flight.operations n rest slot within refl holds) lawful.few_in_flight lawful.few_accepted in
-    let taken : with_taken g.flight n
-    ≡ record g.flight { operations = set g.flight.operations n slot; queue = rest } = rw (is_op, is) refl in
-    rw taken (lawful-unpending g n slot rest lawful within was refl flight)
-
-pub lawful-after_take : (g : Group) → IsLawful g → IsLawful (after_take g)
-lawful-after_take g lawful = by_queue g.flight.queue refl
-  where
-    by_queue : (queue : List ℕ) → g.flight.queue ≡ queue
-        → IsLawful (record g { flight = flight_after_take g.flight queue })
-    by_queue [] is = lawful
-    by_queue (n ∷ rest) is =
-        let holds : QueueHolds g.flight.operations (n ∷ rest) = rw is at lawful.queued_once in
-        let queued = front-queued g.flight.operations n rest holds in
-        let some = queued-there (op_at g.flight n) queued in
-        lawful-taken_front g n rest some.0 lawful is holds some.1
-        (subst (λ (slot : Option Operation). is_queued slot ≡ true) some.1 queued)
-
-lawful-ended : (g : Group) (n : ℕ) (op : Operation) → IsLawful g → op_at g.flight n ≡ Some op
-    → is_running (Some op) ≡ true → IsLawful (record g { flight = with_ended g.flight n })
-lawful-ended g n op lawful is of =
-    let within = some-within g.flight.operations n op is in
-    let was : is_pending (op_at g.flight n) ≡ false = rw is (running-not_pending op.stage of) in
-    let not_queued : is_queued (get_or g.flight.operations n None) ≡ false = rw is (not_queued-running op of) in
-    let few = lawful.few_in_flight in
-    let few_numbers = lawful.few_accepted in
-    let counts = rw is at (count_by-set is_some g.flight.operations n None None within) in
-    let flight : IsFlightLawful (with_ended g.flight n) g.op_limit =
-    record {
-      queued_once = queue-set g.flight.operations g.flight.queue n None within not_queued lawful.queued_once;
-      few_in_flight = omega (arith, counts);
-      few_accepted = omega (arith, length-set g.flight.operations n None);
-    } in
-    lawful-unpending g n None g.flight.queue lawful within was refl flight
-
-pub lawful-after_finish : (g : Group) (n : ℕ) → IsLawful g → IsLawful (after_finish g n)
-lawful-after_finish g n lawful = by_running (is_running (op_at g.flight n)) refl
-  where
-    by_running : (b : Bool) → is_running (op_at g.flight n) ≡ b
-        → IsLawful (kept_if_refused (finish_refusal b) g (record g { flight = with_ended g.flight n }))
-    by_running false is = lawful
-    by_running true is =
-        let some = running-there (op_at g.flight n) is in
-        lawful-ended g n some.0 lawful some.1 (subst (λ (slot : Option Operation). is_running slot ≡ true) some.1 is)
 
 pub lawful-after_close : (g : Group) (c : ℕ) → IsLawful g → IsLawful (after_close g c)
 lawful-after_close g c lawful =

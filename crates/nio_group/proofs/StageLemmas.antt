@@ -1,10 +1,9 @@
 -- Each call leaves an operation as it is, or takes it to its next stage.
-use Rattle.std.proofs.Common.{◌≡◌, ◌⊎◌, inl, inr, ℕ, ◌<◌, ◌≤◌, zero, suc, Bool, true, false, eqb, ltb, not, ◌&&◌, ◌||◌}
-use Rattle.std.proofs.Common.{List, [], ◌∷◌, ◌++◌, Option, Some, None, length, get_or, set, map, refl, sym, ap, ◌∙◌}
-use Rattle.std.proofs.Common.{subst, arith, get_or-set_same, get_or-set_other}
+use Rattle.std.proofs.Common.{◌≡◌, ◌⊎◌, inl, inr, ℕ, ◌<◌, ◌≤◌, zero, suc, Bool, true, false, eqb, ◌||◌, List, [], ◌∷◌}
+use Rattle.std.proofs.Common.{◌++◌, Option, Some, None, length, get_or, set, refl, sym, ap, ◌∙◌, subst, arith}
+use Rattle.std.proofs.Common.{get_or-set_same, get_or-set_other}
 use Rattle.std.specs.Option.{option_map}
-use Rattle.std.proofs.lemmas.Bool.{false≢true}
-use Rattle.std.proofs.lemmas.Bool.Decides.{nat_tests}
+use Rattle.std.proofs.lemmas.Bool.{false≢true, eqb-true, eqb-false, and_parts}
 use Rattle.std.proofs.lemmas.List.{get_or_append_left, get_or_push, length_push, length-set, length-map}
 use Rattle.nio_base.specs.declared.group.OpKind.{OpKind}
 use Rattle.nio_base.specs.declared.group.OpKind.TheVariants.{Accept, Connect, Read, Write}
@@ -25,10 +24,11 @@ use Rattle.nio_group.specs.Steps.{kept_if_refused, started, first_stage, after_r
 use Rattle.nio_group.specs.Steps.{finish_refusal, after_close, after_shutdown, closed_below, with_closed}
 use Rattle.nio_group.specs.Run.{Call, open_channel, bind, start, report, take, finish, close_channel, shutdown}
 use Rattle.nio_group.specs.Run.{shutdown_now, after, GoesOn, IsNext, StagesGoForward}
-use Rattle.nio_group.proofs.TableLemmas.{by_test, same_number, other_number}
+use Rattle.nio_group.proofs.TableLemmas.{by_test}
 use Rattle.nio_group.proofs.QueueLemmas.{QueueHolds, front-queued}
-use Rattle.nio_group.proofs.PendingLemmas.{and-left}
 use Rattle.nio_group.proofs.RunLemmas.{unless-refused, cond-holds}
+use Rattle.std.proofs.Math.ListN.{get_or-map}
+use Rattle.nio_group.proofs.ReportLemmas.{report-allowed}
 
 next-same : (slot : Option Operation) → IsNext slot slot
 next-same None = refl
@@ -76,7 +76,7 @@ pub record IsStepped (f f' : Flight) : Type 0 where
 none-between : {P : Type 0} (a b n : ℕ) → a ≡ b → a ≤ n → n < b → P
 none-between a b n same from below = absurd (let never : ⊥ = omega arith in never)
 
-stepped-same : (f : Flight) → IsStepped f f
+pub stepped-same : (f : Flight) → IsStepped f f
 stepped-same f =
     record {
       accepts = omega arith;
@@ -103,12 +103,12 @@ stepped-set f i slot queue moves =
       accepts = omega (arith, length-set f.operations i slot);
       next = λ n l.
           by_test (eqb n i)
-          (λ t. let same = same_number n i t in
+          (λ t. let same = eqb-true n i t in
           let put : get_or (set f.operations i slot) n None ≡ slot =
           subst (λ (k : ℕ). get_or (set f.operations i slot) k None ≡ slot) (sym same)
           (get_or-set_same f.operations i slot None (subst (λ (k : ℕ). k < length f.operations) same l)) in
           rw put (subst (λ (k : ℕ). IsNext (op_at f k) slot) (sym same) moves))
-          (λ e. rw (get_or-set_other f.operations i n slot None (other_number n i e)) (next-same (op_at f n)));
+          (λ e. rw (get_or-set_other f.operations i n slot None (eqb-false n i e)) (next-same (op_at f n)));
       begun = λ n from l. none-between (length f.operations) (length (set f.operations i slot)) n
           (sym (length-set f.operations i slot)) from l;
     }
@@ -119,7 +119,7 @@ IsClosed slot slot' =
     (slot' ≡ slot) ⊎
     ((is_pending slot ≡ true) × (slot' ≡ option_map (at_stage (Queued (Failed AsynchronousClose))) slot))
 
-completed-not_pending : (slot : Option Operation) (result : Finished)
+pub completed-not_pending : (slot : Option Operation) (result : Finished)
     → is_pending (option_map (at_stage (Queued result)) slot) ≡ false
 completed-not_pending None result = refl
 completed-not_pending (Some op) result = refl
@@ -138,14 +138,8 @@ closed_on-closed : (c : ℕ) (slot : Option Operation) → IsClosed slot (closed
 closed_on-closed c None = inl refl
 closed_on-closed c (Some op) =
     by_test (is_pending_on c (Some op))
-    (λ t. rw t (inr (and-left (stage_is_pending op.stage) (eqb op.chan.0 c) t, refl)))
+    (λ t. rw t (inr ((and_parts (stage_is_pending op.stage) (eqb op.chan.0 c) t).0, refl)))
     (λ f. rw f (inl refl))
-
-get_or-map_closed : (c n : ℕ) (xs : List (Option Operation))
-    → get_or (map (closed_on c) xs) n None ≡ closed_on c (get_or xs n None)
-get_or-map_closed c n [] = refl
-get_or-map_closed c zero (x ∷ xs) = refl
-get_or-map_closed c (suc n) (x ∷ xs) = get_or-map_closed c n xs
 
 -- what closing channels makes of the operations of a flight
 pub record IsClosing (f f' : Flight) : Type 0 where
@@ -161,7 +155,7 @@ closing-after_close g c =
     (record (with_closed g c) { flight = with_channel_closed g.flight c }) g
     (λ t. record {
       accepts = length-map g.flight.operations (closed_on c);
-      slots = λ n. rw (get_or-map_closed c n g.flight.operations) (closed_on-closed c (op_at g.flight n));
+      slots = λ n. rw (get_or-map (closed_on c) g.flight.operations n None) (closed_on-closed c (op_at g.flight n));
     })
     (λ f. closing-same g.flight)
 
@@ -184,11 +178,6 @@ stepped-closing f f' closing =
       begun = λ n from l. none-between (accepted f) (accepted f') n (sym closing.accepts) from l;
     }
 
-reportable : (slot : Option Operation) (o : Outcome) → report_refusal slot o ≡ None → is_pending slot ≡ true
-reportable None o h = cc
-reportable (Some op) o h =
-    by_test (stage_is_pending op.stage) (λ t. t) (λ f. let no_refusal = rw f at h in cc)
-
 stepped-report : (g : Group) (n : ℕ) (o : Outcome) → IsStepped g.flight (after_report g n o).flight
 stepped-report g n o = by_slot (op_at g.flight n) refl
   where
@@ -199,7 +188,7 @@ stepped-report g n o = by_slot (op_at g.flight n) refl
         unless-refused (λ (h : Group). IsStepped g.flight h.flight) (report_refusal (Some op) o) g
         (reported g n o (Some op)) (stepped-same g.flight)
         (λ free.
-        let pending : is_pending (op_at g.flight n) ≡ true = rw is (reportable (Some op) o free) in
+        let pending : is_pending (op_at g.flight n) ≡ true = rw is (report-allowed op o free).0 in
         stepped-set g.flight n (option_map (at_stage (Queued (result_of g o))) (op_at g.flight n))
         (g.flight.queue ++ n ∷ []) (next-completed (op_at g.flight n) (result_of g o) pending))
 
@@ -221,7 +210,7 @@ first_stage-begins true Connect len = refl
 first_stage-begins true Read len = by_test (eqb len 0) (λ t. rw t refl) (λ f. rw f refl)
 first_stage-begins true Write len = by_test (eqb len 0) (λ t. rw t refl) (λ f. rw f refl)
 
-finishable : (running : Bool) → finish_refusal running ≡ None → running ≡ true
+pub finishable : (running : Bool) → finish_refusal running ≡ None → running ≡ true
 finishable true free = refl
 finishable false free = cc
 
@@ -256,26 +245,8 @@ stages-forward g call n lawful made =
     let step =
     stepped-after g call lawful in record { accepts = step.accepts; goes_on = step.next n; begins = step.begun n }
 
-pub not-true : (b : Bool) → not b ≡ true → b ≡ false
-not-true true h = absurd (false≢true h)
-not-true false h = refl
-
-pub true-not : (b : Bool) → b ≡ false → not b ≡ true
-true-not true h = absurd (false≢true (sym h))
-true-not false h = refl
-
-pub both : (a b : Bool) → a ≡ true → b ≡ true → (a && b) ≡ true
-both true b x y = y
-both false b x y = absurd (false≢true x)
-
-pub lt-true : (m n : ℕ) → m < n → ltb m n ≡ true
-lt-true m n l = grind (arith, nat_tests)
-
-pub true-lt : (m n : ℕ) → ltb m n ≡ true → m < n
-true-lt m n h = grind (arith, nat_tests)
-
 -- an operation that isn't pending any more never is again
-goes-not_pending : (stage : Stage) (op : Operation) (next : Option Operation) → GoesOn stage op next
+pub goes-not_pending : (stage : Stage) (op : Operation) (next : Option Operation) → GoesOn stage op next
     → is_pending next ≡ false
 goes-not_pending Pending op next goes = ap is_pending goes.1
 goes-not_pending (Queued r) op next goes = ap is_pending goes

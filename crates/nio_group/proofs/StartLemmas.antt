@@ -1,8 +1,8 @@
 -- What a start that isn't refused keeps.
-use Rattle.std.proofs.Common.{◌≡◌, ◌≢◌, ℕ, ◌^◌, ◌<◌, ◌≤◌, Bool, true, false, cond, eqb, List, [], ◌∷◌, ◌++◌, Option}
-use Rattle.std.proofs.Common.{Some, None, is_some, get_or, set, length, refl, sym, ap, ◌∙◌, subst, arith, inl, inr}
+use Rattle.std.proofs.Common.{◌≡◌, ℕ, ◌^◌, ◌<◌, Bool, true, false, cond, eqb, List, [], ◌∷◌, ◌++◌, Option, Some, None}
+use Rattle.std.proofs.Common.{is_some, get_or, set, length, refl, sym, ap, ◌∙◌, subst, arith, inl, inr}
 use Rattle.std.specs.Option.{option_or}
-use Rattle.std.proofs.lemmas.Bool.{false≢true}
+use Rattle.std.proofs.lemmas.Bool.{false≢true, eqb-false}
 use Rattle.std.proofs.lemmas.List.{length_push, set-get_or, get_or_push, get_or_read}
 use Rattle.std.proofs.lemmas.List.Folds.{list_any_at}
 use Rattle.nio_group.specs.declared.channel.Channel.{Channel}
@@ -23,13 +23,13 @@ use Rattle.nio_group.specs.Flight.{Flight, accepted, in_flight, IsPendingAs, wit
 use Rattle.nio_group.specs.Group.{Group, IsLawful, channel_at, no_channel, is_ready_for, is_terminated}
 use Rattle.nio_group.specs.Refusals.{channel_refusal, limit_refusal, start_refusal, has_pending}
 use Rattle.nio_group.specs.Steps.{first_stage}
-use Rattle.nio_group.proofs.TableLemmas.{other_number}
-use Rattle.nio_group.proofs.ListLemmas.{count_by-push, eqb-same}
+use Rattle.nio_group.proofs.ListLemmas.{count_by-push}
 use Rattle.nio_group.proofs.QueueLemmas.{QueueHolds, queue-push}
-use Rattle.nio_group.proofs.PendingLemmas.{pending-parts, same_kind-refl, not_pending-as}
+use Rattle.nio_group.proofs.PendingLemmas.{pending-parts, not_pending-as, pending-own}
 use Rattle.nio_group.proofs.LawfulLemmas.{IsFlightLawful, lawful-channel, lawful-operations}
 use Rattle.nio_group.proofs.GroupLemmas.{pending-pushed, pending-still, pending-within, kept-channel, kept-operations}
 use Rattle.nio_group.proofs.GroupLemmas.{listed-started}
+use Rattle.std.proofs.Math.Numerals.{lt_of_le_of_ne}
 
 pub some_none : {T : Type 0} (x : T) → Some x ≡ None → ⊥
 some_none x e = cc
@@ -97,11 +97,11 @@ pub record IsStartable (g : Group) (c : ℕ) (kind : OpKind) : Type 0 where
   pub not_terminated : is_terminated g ≡ false
   pub channel : channel_refusal (channel_at g c).is_open (channel_at g c).endpoint (has_pending g.flight c kind) kind
       ≡ None
-  pub room : in_flight g.flight ≢ g.flight.limit
-  pub numbers : accepted g.flight ≢ g.op_limit
+  pub room : in_flight g.flight < g.flight.limit
+  pub numbers : accepted g.flight < g.op_limit
 
-pub startable : (g : Group) (c : ℕ) (kind : OpKind) → start_refusal g c kind ≡ None → IsStartable g c kind
-startable g c kind h =
+pub startable : (g : Group) (c : ℕ) (kind : OpKind) → IsLawful g → start_refusal g c kind ≡ None → IsStartable g c kind
+startable g c kind lawful h =
     let going = cond-none (is_terminated g) _ _ h in
     let parts = option_or-none
     (channel_refusal (channel_at g c).is_open (channel_at g c).endpoint (has_pending g.flight c kind) kind)
@@ -111,8 +111,8 @@ startable g c kind h =
     record {
       not_terminated = going.0;
       channel = parts.0;
-      room = other_number (in_flight g.flight) g.flight.limit room.0;
-      numbers = other_number (accepted g.flight) g.op_limit numbers.0;
+      room = lt_of_le_of_ne lawful.few_in_flight (eqb-false (in_flight g.flight) g.flight.limit room.0);
+      numbers = lt_of_le_of_ne lawful.few_accepted (eqb-false (accepted g.flight) g.op_limit numbers.0);
     }
 
 -- nothing of a kind is pending where nothing is found
@@ -134,9 +134,6 @@ flight-accepts f op op_limit holds room numbers =
       few_in_flight = omega (arith, count_by-push is_some f.operations (Some op));
       few_accepted = omega (arith, length_push f.operations (Some op));
     }
-
-pub pending-new : (op : Operation) → op.stage ≡ Pending → is_pending_as op.chan.0 op.kind (Some op) ≡ true
-pending-new op is = rw (is, eqb-same op.chan.0, same_kind-refl op.kind) refl
 
 -- nothing of the kind is pending before
 pub start-free : (g : Group) (c : ℕ) (kind : OpKind) → IsLawful g
@@ -161,7 +158,7 @@ pub lawful-started : (g : Group) (op : Operation) → IsLawful g → op.chan.0 <
 lawful-started g op lawful within is_pending_op is_open allow room numbers =
     let c = op.chan.0 in
     let xs = g.flight.operations in
-    let new = pending-new op is_pending_op in
+    let new = pending-own op (rw is_pending_op refl) in
     let free = start-free g c op.kind lawful allow in
     lawful-channel g (with_accepted g.flight op) c
     (record (channel_at g c) { endpoint = endpoint_after (channel_at g c).endpoint op.kind }) lawful within
@@ -235,9 +232,7 @@ kept-started {f} {cs} {ps} {o} {r} {r'} {sh} {l} op x p n kept within read read_
     stage =
     let c = op.chan.0 in
     let g : Group = group_of f cs sh l in
-    let facts = startable g c op.kind allowed_start in
-    let few = kept.lawful.few_in_flight in
-    let few_numbers = kept.lawful.few_accepted in
+    let facts = startable g c op.kind kept.lawful allowed_start in
     let slots_are = kept.slots in
     let is : x ≡ get_or cs c no_channel = get_or_read cs c x within read no_channel in
     let is_slot : p ≡ get_or ps c nothing_pending = get_or_read ps c p (omega arith) read_slot nothing_pending in
@@ -245,18 +240,13 @@ kept-started {f} {cs} {ps} {o} {r} {r'} {sh} {l} op x p n kept within read read_
     let open_there : (get_or cs c no_channel).is_open ≡ true = ap (λ (y : Channel). y.is_open) (sym is) ∙ was_open in
     let refused = rw open_there at facts.channel in
     let allow = allowed (get_or cs c no_channel).endpoint (has_pending f c op.kind) op.kind refused in
-    let lawful = lawful-started g op kept.lawful within is_pending_op open_there allow (lt_of_ne few facts.room)
-    (lt_of_ne few_numbers facts.numbers) in
+    let lawful = lawful-started g op kept.lawful within is_pending_op open_there allow facts.room facts.numbers in
     let free = start-free g c op.kind kept.lawful allow in
     let made = kept-channel (with_accepted f op) c
     (record (get_or cs c no_channel) { endpoint = endpoint_after (get_or cs c no_channel).endpoint op.kind })
     (with_slot (get_or ps c nothing_pending) op.kind (Some (length f.operations))) o kept within lawful refl refl
-    (listed-started f (with_accepted f op) ps op c kept.is_listed refl (omega arith)
-    (pending-new op is_pending_op) free) in
+    (listed-started f ps op c kept.is_listed (omega arith) (pending-own op (rw is_pending_op refl)) free) in
     rw (is, is_slot, number) made
-  where
-    lt_of_ne : {a b : ℕ} → a ≤ b → a ≢ b → a < b
-    lt_of_ne le ne = omega arith
 
 -- the same where no channel changes
 pub kept-started-same : {f : Flight} {cs : List Channel} {ps : List slots.Pending} {o r r' : ℕ} {sh : Bool}
@@ -309,16 +299,11 @@ pub kept-queued : {f : Flight} {cs : List Channel} {ps : List slots.Pending} {o 
     → IsGroupKept (with_accepted f op) cs ps o sh l r r'
 kept-queued {f} {cs} {ps} {o} {r} {r'} {sh} {l} op c kept allowed_start not =
     let g : Group = group_of f cs sh l in
-    let facts = startable g c op.kind allowed_start in
-    let few = kept.lawful.few_in_flight in
-    let few_numbers = kept.lawful.few_accepted in
+    let facts = startable g c op.kind kept.lawful allowed_start in
     let not_pending = not_pending-stage op not in
     kept-operations (with_accepted f op) kept
-    (lawful-queued g op kept.lawful not_pending (lt_of_ne few facts.room) (lt_of_ne few_numbers facts.numbers)) refl
+    (lawful-queued g op kept.lawful not_pending facts.room facts.numbers) refl
     (listed-queued f ps op kept.is_listed not_pending)
-  where
-    lt_of_ne : {a b : ℕ} → a ≤ b → a ≢ b → a < b
-    lt_of_ne le ne = omega arith
 
 -- there is room where a start isn't refused
 pub start-room : {f : Flight} {cs : List Channel} {ps : List slots.Pending} {o r r' : ℕ} {sh : Bool} {l : GroupLimits}
@@ -326,13 +311,10 @@ pub start-room : {f : Flight} {cs : List Channel} {ps : List slots.Pending} {o r
     → IsGroupKept f cs ps o sh l r r' → start_refusal (group_of f cs sh l) c kind ≡ None
     → (in_flight f < f.limit) × (accepted f < 2 ^ 62)
 start-room {f} {cs} {ps} {o} {r} {r'} {sh} {l} c kind kept allowed_start =
-    let facts = startable (group_of f cs sh l) c kind allowed_start in
-    let room = facts.room in
+    let facts = startable (group_of f cs sh l) c kind kept.lawful allowed_start in
     let numbers = facts.numbers in
-    let few = kept.lawful.few_in_flight in
-    let few_numbers = kept.lawful.few_accepted in
     let fit = kept.fit.few_ops in
-    (omega arith, omega arith)
+    (facts.room, omega arith)
 
 -- the same where the operation is a connect
 pub kept-started-connect : {f : Flight} {cs : List Channel} {ps : List slots.Pending} {o r r' : ℕ} {sh : Bool}

@@ -1,7 +1,7 @@
 -- A table of entries under look-ups, insertions and removals.
 use Rattle.std.proofs.Common.{◌≡◌, ◌≢◌, ℕ, ◌+◌, ◌-◌, ◌*◌, ◌<◌, ◌≤◌, max, Bool, true, false, cond, eqb, List, Option}
 use Rattle.std.proofs.Common.{Some, None, count_by, get_or, set, length, refl, sym, ◌∙◌, subst, arith, get_or-set_same}
-use Rattle.std.proofs.Common.{get_or-set_other}
+use Rattle.std.proofs.Common.{get_or-set_other, Result, Ok, Err, OnErr}
 use Rattle.std.proofs.lemmas.Bool.Decides.{nat_tests}
 use Rattle.std.proofs.lemmas.List.{get_or_read, length-set}
 use Rattle.std.proofs.lemmas.List.Sums.{sum_by-set}
@@ -9,16 +9,17 @@ use Rattle.nio_group.specs.declared.index.Entry.{Entry}
 use Rattle.nio_group.specs.Index.{has_number, key_in, home_of, IsNear, IsTable, ChangesKey}
 use Rattle.nio_group.proofs.IndexLemmas.{none_has_number, key_in_found, absent-key_in, key_in-absent, key_in-set_none}
 use Rattle.nio_group.proofs.IndexLemmas.{key_in-set_other, key_in-set_same}
+use Rattle.std.proofs.lemmas.Option.{same_Some}
+use Rattle.std.proofs.lemmas.Bool.{eqb-true, eqb-false}
 
 pub by_test : (b : Bool) {P : Type 0} → (b ≡ true → P) → (b ≡ false → P) → P
 by_test true f g = f refl
 by_test false f g = g refl
 
-pub same_number : (m n : ℕ) → eqb m n ≡ true → m ≡ n
-same_number m n t = grind (arith, nat_tests)
-
-pub other_number : (m n : ℕ) → eqb m n ≡ false → m ≢ n
-other_number m n t = grind (arith, nat_tests)
+-- what holds anyway holds at an error
+pub on_err : {T E P : Type 0} (r : Result T E) → P → OnErr r P
+on_err (Ok x) holds = tt
+on_err (Err e) holds = holds
 
 -- a slot outside the window of a number doesn't have it
 outside : (slots : List (Option Entry)) (limit reach n : ℕ) → IsNear slots limit reach
@@ -27,7 +28,7 @@ outside : (slots : List (Option Entry)) (limit reach n : ℕ) → IsNear slots l
 outside slots limit reach n near h i None at = refl
 outside slots limit reach n near h i (Some e) at =
     by_test (eqb e.number n)
-    (λ t. let same = same_number e.number n t in
+    (λ t. let same = eqb-true e.number n t in
     let place = near i e at in
     let there : has_number n (get_or slots i None) ≡ false =
     h i (subst (λ (m : ℕ). home_of m limit ≤ i) same place.0)
@@ -42,21 +43,19 @@ pub key_in-not_near : {slots : List (Option Entry)} {limit reach : ℕ} (n : ℕ
 key_in-not_near {slots} {limit} {reach} n table h =
     none_has_number n slots (λ i. outside slots limit reach n table.near h i (get_or slots i None) refl)
 
--- the entry of a slot has its number's key
-pub key_in-at : {slots : List (Option Entry)} {limit reach : ℕ} (e : Entry) (i : ℕ) → IsTable slots limit reach
-    → get_or slots i None ≡ Some e → key_in e.number slots ≡ Some e.key
-key_in-at {slots} e i table at = key_in_found e slots i (table.once e.number) at
-
 -- the counts of a table after a write
 pub count_by-set : {X : Type 0} (p : X → Bool) (xs : List X) (i : ℕ) (y d : X) → i < length xs
     → count_by p (set xs i y) + cond (p (get_or xs i d)) 1 0 ≡ count_by p xs + cond (p y) 1 0
 count_by-set p xs i y d l = sum_by-set (λ x. cond (p x) 1 0) xs i y d l
 
 -- the reach of a table is enough for a new entry
-pub table-inserted : {slots : List (Option Entry)} {limit reach : ℕ} (e : Entry) (i : ℕ) → IsTable slots limit reach
-    → i < length slots → get_or slots i None ≡ None → home_of e.number limit ≤ i → i < home_of e.number limit + limit
-    → key_in e.number slots ≡ None → IsTable (set slots i (Some e)) limit (max reach (i - home_of e.number limit))
-table-inserted {slots} {limit} {reach} e i table l vacant above below new =
+pub table-inserts : {slots : List (Option Entry)} {limit reach : ℕ} (e : Entry) (home i : ℕ)
+    → home ≡ home_of e.number limit → IsTable slots limit reach → home < 2 * limit → get_or slots i None ≡ None
+    → home ≤ i → i < home + limit → key_in e.number slots ≡ None
+    → IsTable (set slots i (Some e)) limit (max reach (i - home))
+table-inserts {slots} {limit} {reach} e home i is table placed vacant above below new =
+    let size = table.size in
+    let l : i < length slots = omega arith in
     record {
       some_limit = table.some_limit;
       few_limit = table.few_limit;
@@ -78,29 +77,23 @@ table-inserted {slots} {limit} {reach} e i table l vacant above below new =
         → count_by (has_number n) (set slots i (Some e)) ≤ 1
     once_more n had counts empty none =
         by_test (eqb e.number n)
-        (λ t. let same = same_number e.number n t in
+        (λ t. let same = eqb-true e.number n t in
         let zero_there : count_by (has_number n) slots ≡ 0 = subst
         (λ (m : ℕ). count_by (has_number m) slots ≡ 0) same none in
         let c = rw (empty, t) at counts in omega (arith, c))
         (λ f. let c = rw (empty, f) at counts in omega (arith, c))
 
     near_more : (j : ℕ) (o : Entry) → get_or (set slots i (Some e)) j None ≡ Some o
-        → (home_of o.number limit ≤ j) × (j ≤ home_of o.number limit + max reach (i - home_of e.number limit))
+        → (home_of o.number limit ≤ j) × (j ≤ home_of o.number limit + max reach (i - home))
     near_more j o at =
         by_test (eqb j i)
-        (λ t. let same = same_number j i t in
-        let here : Some e ≡ Some o = sym (get_or-set_same slots i (Some e) None l) ∙ subst
+        (λ t. let same = eqb-true j i t in
+        let here : Some e ≡ Some o = sym (get_or-set_same slots i (Some e) None (omega (arith, table.size))) ∙ subst
         (λ (k : ℕ). get_or (set slots i (Some e)) k None ≡ Some o) same at in
-        let is_e : e ≡ o = cc in
-        subst (λ (x : Entry). (home_of x.number limit ≤ j)
-        × (j ≤ home_of x.number limit + max reach (i - home_of e.number limit))) is_e (omega arith, omega arith))
-        (λ f. let differ = other_number j i f in
+        rw (← same_Some e o here, ← is) (omega arith, omega arith))
+        (λ f. let differ = eqb-false j i f in
         let near = table.near j o (sym (get_or-set_other slots i j (Some e) None differ) ∙ at) in
         (near.0, omega (arith, near.1)))
-
-pub key-inserted : (slots : List (Option Entry)) (e : Entry) (i : ℕ) → i < length slots → get_or slots i None ≡ None
-    → key_in e.number slots ≡ None → key_in e.number (set slots i (Some e)) ≡ Some e.key
-key-inserted slots e i l vacant new = key_in-set_same e slots i l new
 
 pub table-removed : {slots : List (Option Entry)} {limit reach : ℕ} (i : ℕ) → IsTable slots limit reach
     → i < length slots → IsTable (set slots i None) limit reach
@@ -116,11 +109,11 @@ table-removed {slots} {limit} {reach} i table l =
           omega (arith, counts, had);
       near = λ j o at.
           by_test (eqb j i)
-          (λ t. let same = same_number j i t in
+          (λ t. let same = eqb-true j i t in
           let here : None ≡ Some o = sym (get_or-set_same slots i None None l) ∙ subst
           (λ (k : ℕ). get_or (set slots i None) k None ≡ Some o) same at in
           cc)
-          (λ f. let differ = other_number j i f in
+          (λ f. let differ = eqb-false j i f in
           table.near j o (sym (get_or-set_other slots i j None None differ) ∙ at));
     }
 
@@ -138,18 +131,8 @@ pub key_in-read : {slots : List (Option Entry)} {limit reach : ℕ} (n i : ℕ) 
     → x ≡ Some e → Some e.key ≡ key_in n slots
 key_in-read {slots} n i x e table l has read is =
     let at : get_or slots i None ≡ Some e = sym (get_or_read slots i x l read None) ∙ is in
-    let number : e.number ≡ n = same_number e.number n (rw at at has) in
-    sym (subst (λ (m : ℕ). key_in m slots ≡ Some e.key) number (key_in-at e i table at))
-
--- the table after an insertion, where home is the number's
-pub table-inserts : {slots : List (Option Entry)} {limit reach : ℕ} (e : Entry) (home i : ℕ)
-    → home ≡ home_of e.number limit → IsTable slots limit reach → home < 2 * limit → get_or slots i None ≡ None
-    → home ≤ i → i < home + limit → key_in e.number slots ≡ None
-    → IsTable (set slots i (Some e)) limit (max reach (i - home))
-table-inserts {slots} {limit} {reach} e home i is table below vacant from before new =
-    let size = table.size in
-    subst (λ (h : ℕ). IsTable (set slots i (Some e)) limit (max reach (i - h))) (sym is)
-    (table-inserted e i table (omega arith) vacant (omega arith) (omega arith) new)
+    let number : e.number ≡ n = eqb-true e.number n (rw at at has) in
+    sym (subst (λ (m : ℕ). key_in m slots ≡ Some e.key) number (key_in_found e slots i (table.once e.number) at))
 
 pub changes-inserted : {slots : List (Option Entry)} {limit reach : ℕ} (e : Entry) (home i : ℕ)
     → IsTable slots limit reach → home < 2 * limit → get_or slots i None ≡ None → i < home + limit
@@ -159,7 +142,7 @@ pub changes-inserted : {slots : List (Option Entry)} {limit reach : ℕ} (e : En
 changes-inserted {slots} {limit} e home i table below vacant before new =
     let size = table.size in
     record {
-      changed = key-inserted slots e i (omega arith) vacant new;
+      changed = key_in-set_same e slots i (omega arith) new;
       others = λ m ne. key_in-set_other m e slots i vacant ne;
     }
 
@@ -175,4 +158,4 @@ changes-removed {slots} {limit} n i table l has =
   where
     not_this : (m : ℕ) (slot : Option Entry) → has_number n slot ≡ true → m ≢ n → has_number m slot ≡ false
     not_this m None h ne = refl
-    not_this m (Some e) h ne = let same = same_number e.number n h in grind (arith, nat_tests)
+    not_this m (Some e) h ne = let same = eqb-true e.number n h in grind (arith, nat_tests)

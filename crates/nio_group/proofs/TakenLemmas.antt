@@ -1,8 +1,9 @@
 -- A run hands out each completion at most once.
-use Rattle.std.proofs.Common.{◌≡◌, ℕ, ◌<◌, true, false, eqb, ltb, not, List, [], ◌∷◌, Option, Some, None, length}
-use Rattle.std.proofs.Common.{get_or, set, refl, sym, ap, ◌∙◌, subst, arith, get_or-set_same}
+use Rattle.std.proofs.Common.{◌≡◌, ℕ, ◌<◌, true, false, eqb, ltb, not, List, [], ◌∷◌, Option, Some, None, get_or, set}
+use Rattle.std.proofs.Common.{refl, sym, ap, ◌∙◌, subst, arith, get_or-set_same}
 use Rattle.std.specs.Option.{option_map}
-use Rattle.std.proofs.lemmas.Bool.{false≢true}
+use Rattle.std.proofs.lemmas.Bool.{false≢true, eqb-true, not-true, not_from_false, and_from, lt-ltb, ltb-true}
+use Rattle.std.proofs.lemmas.Bool.{and_parts}
 use Rattle.std.proofs.lemmas.List.{length-set}
 use Rattle.nio_base.specs.declared.numbers.GChan.{GChan}
 use Rattle.nio_base.specs.declared.group.OpKind.{OpKind}
@@ -16,12 +17,10 @@ use Rattle.nio_group.specs.Steps.{completion_of, completion_at, taken_from}
 use Rattle.nio_group.specs.Run.{Call, open_channel, bind, start, report, take, finish, close_channel, shutdown}
 use Rattle.nio_group.specs.Run.{shutdown_now, taken, reply_to, after, has_completed, was_taken, IsRunOf, once_where}
 use Rattle.nio_group.specs.Run.{hands_out, times_taken, TakesOnce}
-use Rattle.nio_group.proofs.TableLemmas.{by_test, same_number}
-use Rattle.nio_group.proofs.FlightLemmas.{some-within}
-use Rattle.nio_group.proofs.PendingLemmas.{and-left, and-right}
+use Rattle.nio_group.proofs.TableLemmas.{by_test}
 use Rattle.nio_group.proofs.RunLemmas.{lawful-after}
-use Rattle.nio_group.proofs.StageLemmas.{stepped-after, next-not_pending, next-not_queued, not-true, true-not, both}
-use Rattle.nio_group.proofs.StageLemmas.{lt-true, true-lt}
+use Rattle.nio_group.proofs.StageLemmas.{stepped-after, next-not_pending, next-not_queued}
+use Rattle.nio_group.proofs.ListLemmas.{within-where}
 
 -- only a queued operation's completion is handed out
 handed-stage : (n m : ℕ) (chan : GChan) (kind : OpKind) (stage : Stage)
@@ -34,7 +33,7 @@ handed-slot : (n m : ℕ) (slot : Option Operation) → hands_out n (taken (comp
     → (m ≡ n) × (is_queued slot ≡ true)
 handed-slot n m None handed = absurd (false≢true handed)
 handed-slot n m (Some op) handed =
-    let both_are = handed-stage n m op.chan op.kind op.stage handed in (same_number m n both_are.0, both_are.1)
+    let both_are = handed-stage n m op.chan op.kind op.stage handed in (eqb-true m n both_are.0, both_are.1)
 
 -- the operation is at the front of the queue
 record IsFront (n : ℕ) (f : Flight) (queue : List ℕ) : Type 0 where
@@ -53,15 +52,6 @@ handed-front n f (m ∷ rest) handed =
       queued = subst (λ (k : ℕ). is_queued (op_at f k) ≡ true) front.0 front.1;
     }
 
-queued-within : (xs : List (Option Operation)) (n : ℕ) → is_queued (get_or xs n None) ≡ true → n < length xs
-queued-within xs n queued = by_slot (get_or xs n None) refl
-  where
-    by_slot : (slot : Option Operation) → get_or xs n None ≡ slot → n < length xs
-    by_slot None is =
-        absurd
-        (let not_queued : is_queued (get_or xs n None) ≡ false = rw is refl in false≢true (sym not_queued ∙ queued))
-    by_slot (Some op) is = some-within xs n op is
-
 running-not_pending : (slot : Option Operation) → is_pending (option_map (at_stage Running) slot) ≡ false
 running-not_pending None = refl
 running-not_pending (Some op) = refl
@@ -73,10 +63,10 @@ running-not_queued (Some op) = refl
 taken-by : (g : Group) (n : ℕ) → n < accepted g.flight → is_pending (op_at g.flight n) ≡ false
     → is_queued (op_at g.flight n) ≡ false → was_taken g n ≡ true
 taken-by g n within past not_queued =
-    both (has_completed g n) (not (is_queued (op_at g.flight n)))
-    (both (ltb n (accepted g.flight)) (not (is_pending (op_at g.flight n))) (lt-true n (accepted g.flight) within)
-    (true-not (is_pending (op_at g.flight n)) past))
-    (true-not (is_queued (op_at g.flight n)) not_queued)
+    and_from (has_completed g n) (not (is_queued (op_at g.flight n)))
+    (and_from (ltb n (accepted g.flight)) (not (is_pending (op_at g.flight n))) (lt-ltb n (accepted g.flight) within)
+    (not_from_false (is_pending (op_at g.flight n)) past))
+    (not_from_false (is_queued (op_at g.flight n)) not_queued)
 
 -- the operation whose completion a call hands out was queued, and was taken from then on
 record IsHanded (g : Group) (call : Call) (n : ℕ) : Type 0 where
@@ -92,7 +82,7 @@ handed-out g take n handed =
     let f = g.flight in
     let front = handed-front n f f.queue handed in
     let running = option_map (at_stage Running) (op_at f n) in
-    let within = queued-within f.operations n front.queued in
+    let within = within-where is_queued f.operations n None refl front.queued in
     let put : get_or (set f.operations n running) n None
     ≡ running = get_or-set_same f.operations n running None within in
     let left : Group = record g { flight = flight_after_take f (n ∷ front.rest) } in
@@ -118,14 +108,14 @@ record IsTaken (g : Group) (n : ℕ) : Type 0 where
 
 taken-parts : (g : Group) (n : ℕ) → was_taken g n ≡ true → IsTaken g n
 taken-parts g n is =
-    let completed = and-left (has_completed g n) (not (is_queued (op_at g.flight n))) is in
+    let completed = (and_parts (has_completed g n) (not (is_queued (op_at g.flight n))) is).0 in
     record {
-      within = true-lt n (accepted g.flight)
-          (and-left (ltb n (accepted g.flight)) (not (is_pending (op_at g.flight n))) completed);
+      within = ltb-true n (accepted g.flight)
+          (and_parts (ltb n (accepted g.flight)) (not (is_pending (op_at g.flight n))) completed).0;
       past = not-true (is_pending (op_at g.flight n))
-          (and-right (ltb n (accepted g.flight)) (not (is_pending (op_at g.flight n))) completed);
+          (and_parts (ltb n (accepted g.flight)) (not (is_pending (op_at g.flight n))) completed).1;
       not_queued = not-true (is_queued (op_at g.flight n))
-          (and-right (has_completed g n) (not (is_queued (op_at g.flight n))) is);
+          (and_parts (has_completed g n) (not (is_queued (op_at g.flight n))) is).1;
     }
 
 taken-stays : (g : Group) (call : Call) (n : ℕ) → IsLawful g → was_taken g n ≡ true → was_taken (after g call) n ≡ true

@@ -1,9 +1,10 @@
+use Rattle.std.proofs.lemmas.Option.{none-some}
 -- When a group has terminated, and what is pending, as the code finds them.
 use Rattle.std.proofs.Common.{◌≡◌, ◌≢◌, ℕ, ◌<◌, zero, suc, Bool, true, false, cond, eqb, not, ◌||◌, List, [], ◌∷◌}
 use Rattle.std.proofs.Common.{Option, Some, None, is_some, count_by, get_or, length, refl, sym, ap, ◌∙◌, subst, arith}
 use Rattle.std.specs.Option.{option_or}
 use Rattle.std.specs.List.{list_any, list_all}
-use Rattle.std.proofs.lemmas.Bool.{false≢true}
+use Rattle.std.proofs.lemmas.Bool.{false≢true, ne_eqb}
 use Rattle.std.proofs.lemmas.List.{get_or_read}
 use Rattle.std.proofs.lemmas.List.Folds.{list_any_at}
 use Rattle.nio_group.specs.declared.channel.Channel.{Channel}
@@ -17,17 +18,16 @@ use Rattle.nio_group.specs.declared.limits.GroupLimits.{GroupLimits}
 use Rattle.nio_group.specs.declared.pending.Pending as slots
 use Rattle.nio_group.specs.Stages.{is_pending, is_pending_as, is_queued, is_running, stage_is_pending, stage_is_queued}
 use Rattle.nio_group.specs.Stages.{stage_is_running}
-use Rattle.nio_group.specs.Flight.{Flight, op_at, in_flight, accepted}
+use Rattle.nio_group.specs.Flight.{Flight, in_flight, accepted}
 use Rattle.nio_group.specs.Pending.{slot_of, nothing_pending}
 use Rattle.nio_group.specs.Group.{Group, no_channel, is_terminated}
 use Rattle.nio_group.specs.GroupKept.{IsGroupKept, IsListed, group_of, is_open}
 use Rattle.nio_group.specs.Refusals.{has_pending, channel_refusal, start_refusal, limit_refusal}
 use Rattle.nio_group.proofs.TableLemmas.{by_test}
 use Rattle.nio_group.proofs.IndexLemmas.{count_by-cons}
-use Rattle.nio_group.proofs.ListLemmas.{eqb-same, eqb-other}
-use Rattle.nio_group.proofs.PendingLemmas.{same_kind-refl}
+use Rattle.nio_group.proofs.ListLemmas.{eqb-same}
 use Rattle.nio_group.proofs.GroupLemmas.{pending-within}
-use Rattle.nio_group.proofs.CloseLemmas.{none_some}
+use Rattle.nio_group.proofs.LawfulLemmas.{nothing-pending}
 
 pub all-closed : (cs : List Channel) → count_by is_open cs ≡ 0
     → list_all (λ (channel : Channel). not channel.is_open) cs ≡ true
@@ -61,30 +61,16 @@ none-in_flight (None ∷ xs) h =
     ap (λ (n : ℕ). eqb n 0) (omega (arith, count_by-cons is_some None xs)) ∙ none-in_flight xs (λ i. h (suc i))
 none-in_flight (Some op ∷ xs) h =
     let busy = handled op.stage (h 0) in
-    rw busy (eqb-other (count_by is_some (Some op ∷ xs)) 0
+    rw busy (ne_eqb (count_by is_some (Some op ∷ xs)) 0
     (λ e. let counts = count_by-cons is_some (Some op) xs in absurd (omega (arith, counts, e))))
-
--- where every channel is closed nothing is pending
-nothing-pending : {f : Flight} {cs : List Channel} {ps : List slots.Pending} {o r r' : ℕ} {sh : Bool} {l : GroupLimits}
-    → IsGroupKept f cs ps o sh l r r' → count_by is_open cs ≡ 0 → (i : ℕ) → is_pending (op_at f i) ≡ false
-nothing-pending {f} {cs} kept closed i = by_slot (op_at f i) refl
-  where
-    by_slot : (slot : Option Operation) → op_at f i ≡ slot → is_pending (op_at f i) ≡ false
-    by_slot None is = rw is refl
-    by_slot (Some op) is =
-        by_test (stage_is_pending op.stage)
-        (λ t. let pending : is_pending_as op.chan.0 op.kind (op_at f i)
-        ≡ true = rw (is, t, eqb-same op.chan.0, same_kind-refl op.kind) refl in
-        absurd
-        (false≢true (sym (closed-at cs closed op.chan.0) ∙ kept.lawful.pending_open i op.chan.0 op.kind pending)))
-        (λ e. rw is e)
 
 pub terminated-where_closed : {f : Flight} {cs : List Channel} {ps : List slots.Pending} {o r r' : ℕ} {l : GroupLimits}
     → IsGroupKept f cs ps o true l r r' → o ≡ 0 → eqb (in_flight f) 0 ≡ is_terminated (group_of f cs true l)
-terminated-where_closed {f} {cs} kept zero_open =
+terminated-where_closed {f} {cs} {l = l} kept zero_open =
     let counted = kept.opened_is in
     let closed : count_by is_open cs ≡ 0 = omega arith in
-    rw (all-closed cs closed) (none-in_flight f.operations (nothing-pending kept closed))
+    rw (all-closed cs closed) (none-in_flight f.operations
+    (nothing-pending (group_of f cs true l) kept.lawful (closed-at cs closed)))
 
 any-index : (p : Option Operation → Bool) (xs : List (Option Operation)) → list_any p xs ≡ true
     → (i : ℕ) × (p (get_or xs i None) ≡ true)
@@ -107,7 +93,7 @@ has_pending-slot f ps c kind is_listed = by_slot (slot_of (get_or ps c nothing_p
     by_slot None is =
         by_test (has_pending f c kind)
         (λ t. let found = any-index (is_pending_as c kind) f.operations t in
-        absurd (none_some found.0 (sym is ∙ is_listed.all c kind found.0 found.1)))
+        absurd (none-some found.0 (sym is ∙ is_listed.all c kind found.0 found.1)))
         (λ e. e)
 
 -- a start's refusal, from what is read of the channel and its slots
@@ -146,9 +132,9 @@ pub limit-flight : (g : Group) → accepted g.flight ≢ g.op_limit → in_fligh
 limit-flight g below full =
     let same : eqb (in_flight g.flight) g.flight.limit ≡ true = subst
     (λ (n : ℕ). eqb (in_flight g.flight) n ≡ true) full (eqb-same (in_flight g.flight)) in
-    rw (eqb-other (accepted g.flight) g.op_limit below, same) refl
+    rw (ne_eqb (accepted g.flight) g.op_limit below, same) refl
 
 pub limit-none : (g : Group) → accepted g.flight ≢ g.op_limit → in_flight g.flight ≢ g.flight.limit
     → limit_refusal g ≡ None
 limit-none g below room =
-    rw (eqb-other (accepted g.flight) g.op_limit below, eqb-other (in_flight g.flight) g.flight.limit room) refl
+    rw (ne_eqb (accepted g.flight) g.op_limit below, ne_eqb (in_flight g.flight) g.flight.limit room) refl

@@ -1,6 +1,6 @@
 -- Which keys of a list are ready, while it is walked, and while what was found is told.
 use Rattle.std.proofs.Common.{◌≡◌, ◌≢◌, ℕ, zero, suc, ◌+◌, ◌-◌, ◌<◌, ◌≤◌, ◌==◌, Bool, not, cond, List, [], ◌∷◌, ◌++◌}
-use Rattle.std.proofs.Common.{◌⊎◌, inl, inr, length, get_or, take, map, bit_and, refl, ap, sym, ◌∙◌, subst, arith}
+use Rattle.std.proofs.Common.{◌⊎◌, inl, inr, length, get_or, take, map, bit_and, ap, sym, ◌∙◌, subst, arith}
 use Rattle.std.specs.List.{All, Contains, filter}
 use Rattle.std.specs.Prelude.{IfOk, Result, Ok, Err, Vec}
 use Rattle.std.specs.declared.alloc.AllocError.{AllocError}
@@ -8,7 +8,7 @@ use Rattle.std.specs.declared.alloc.Global.{Global}
 use Rattle.std.specs.List.Sorted.{IsNonDecreasing, IsPermutation}
 use Rattle.std.specs.Int.Bits.{and_zero_l, and_zero_r}
 use Rattle.std.proofs.lemmas.Bool.{cases_lt, cases_eq, eq-eqb}
-use Rattle.std.proofs.lemmas.List.{take_more, take_all, map-append, get_or_past, get_or_default}
+use Rattle.std.proofs.lemmas.List.{append-nil, take_more, take_all, map-append, get_or_past, get_or_default}
 use Rattle.std.proofs.lemmas.List.Elements.{All-get_or, filter-append}
 use Rattle.std.proofs.lemmas.List.Sorted.{Contains-permutation}
 use Rattle.std.proofs.lemmas.Nat.{and_assoc, and_comm}
@@ -69,10 +69,6 @@ unready kept entry never = by_bits (cases_eq (ready_for kept entry) 0)
         (eq-eqb (ready_for kept entry) 0 none)
     by_bits (inr some) = absurd (never some)
 
-append-nil : (xs : List (ℕ × ℕ)) → xs ++ [] ≡ xs
-append-nil [] = refl
-append-nil (x ∷ xs) = ap (λ (ys : List (ℕ × ℕ)). x ∷ ys) (append-nil xs)
-
 -- so many keys that aren't ready are passed over
 passed : (kept : List ℕ) (asked : List LookedKey) (next more : ℕ) → next + more ≤ length asked
     → ((q : ℕ) → next ≤ q → q < next + more → ready_for kept (key_at asked q) ≢ 0 → ⊥)
@@ -98,13 +94,6 @@ pub record IsTold (kept : List ℕ) (asked : List LookedKey) (found : List ℕ) 
   pub told : pairs ≡ ready_keys kept (take next asked)
   pub rest : (q : ℕ) → next ≤ q → q < length asked → ready_for kept (key_at asked q) ≢ 0
       → (k : ℕ) × (index ≤ k) × (k < length found) × (get_or found k q ≡ q)
-
-pub told_none : (kept : List ℕ) (asked : List LookedKey) (found : List ℕ) → AreFound kept asked found
-    → IsTold kept asked found 0 0 []
-told_none kept asked found all = record {
-  told = refl;
-  rest = λ q from below ready. let there = all q below ready in (there.0, omega arith, there.1, there.2);
-}
 
 -- the key at the next place
 pub told_here : (kept : List ℕ) (asked : List LookedKey) (found : List ℕ) (index next at : ℕ)

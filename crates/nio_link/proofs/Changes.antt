@@ -1,8 +1,9 @@
 -- The places of channels and the accepted links, as calls change them.
-use Rattle.std.proofs.Common.{◌≡◌, ◌==◌, ◌∙◌, Bool, true, false, if◌then◌else◌, List, [], ◌∷◌, ◌++◌, refl, ap}
-use Rattle.std.proofs.Common.{eq-eqb, eqb-true}
+use Rattle.std.proofs.Common.{◌≡◌, ◌∙◌, Bool, if◌then◌else◌, List, [], ◌∷◌, ◌++◌, refl, ap, eq-eqb}
+use Rattle.std.proofs.lemmas.Bool.{ne_eqb}
 use Rattle.std.proofs.lemmas.List.Sums.{fold-append}
 use Rattle.nio_base.specs.declared.numbers.ChanNo.{ChanNo}
+use Rattle.nio_link.proofs.Channels.{number_differs}
 use Rattle.nio_link.specs.Accepts.{accepted_by, accepted_next}
 use Rattle.nio_link.specs.Links.{IsSameBut}
 use Rattle.nio_link.specs.Places.{changed, place_after, places_after, unused}
@@ -22,9 +23,6 @@ module _ (changes : List (ChanNo × Change)) (c : ChanNo) (change : Change) wher
       (eq-eqb c.0 c.0 refl)
 
   pub changed_else : IsSameBut c (places_after changes) (places_after (changes ++ (c, change) ∷ []))
-  changed_else k differ = one_more k ∙ by_test (k.0 == c.0) refl
-    where
-      by_test : (b : Bool) → (k.0 == c.0) ≡ b
-          → (if b then place_after change (places_after changes k) else places_after changes k) ≡ places_after changes k
-      by_test true same = absurd (differ (ap (λ n. let x : ChanNo = record { 0 = n } in x) (eqb-true k.0 c.0 same)))
-      by_test false other = refl
+  changed_else k differ =
+      one_more k ∙ ap (λ (b : Bool). if b then place_after change (places_after changes k) else places_after changes k)
+      (ne_eqb k.0 c.0 (number_differs k c differ))

@@ -1,28 +1,27 @@
 -- The laws that a net keeps, at a net in memory.
 use Rattle.std.proofs.Common.{◌≡◌, ◌≢◌, ℕ, suc, ◌+◌, ◌-◌, ◌<◌, ◌≤◌, ◌⊎◌, inl, inr, ◌==◌, nat_lt, min, Bool, true, false}
 use Rattle.std.proofs.Common.{◌&&◌, if◌then◌else◌, cond, Option, Some, None, option_map, IfSome, Result, Ok, Err, IfOk}
-use Rattle.std.proofs.Common.{List}
-use Rattle.std.proofs.Common.{[], ◌∷◌, ◌++◌, length, replicate, ◌*◌, slice_set, refl, ap, sym, ◌∙◌, arith, eq-eqb}
-use Rattle.std.proofs.Common.{length-append}
-use Rattle.std.proofs.Common.{eqb-true, ltb-true, get_or-set_other, get_or-set_same}
-use Rattle.std.proofs.lemmas.Bool.{eqb-false, lt-ltb, and_from, cases_lt}
+use Rattle.std.proofs.Common.{List, [], ◌∷◌, ◌++◌, length, replicate, ◌*◌, slice_set, refl, ap, sym, ◌∙◌, arith, eq-eqb}
+use Rattle.std.proofs.Common.{length-append, ltb-true, get_or-set_other, get_or-set_same}
+use Rattle.std.proofs.lemmas.Bool.{lt-ltb, and_from, cases_lt, and_parts}
+use Rattle.std.proofs.lemmas.Bool.{ne_eqb}
 use Rattle.std.proofs.lemmas.Grind.{common_steps}
 use Rattle.std.proofs.lemmas.List.{set_past, length-replicate}
 use Rattle.std.proofs.lemmas.List.Sums.{fold-append}
+use Rattle.std.proofs.lemmas.Option.{cond_some}
 use Rattle.nio_base.specs.declared.numbers.ChanNo.{ChanNo}
 use Rattle.nio_bytes.specs.Calls.{after_success}
 use Rattle.nio_bytes.specs.Cause.{HasCause}
-use Rattle.nio_group.proofs.PendingLemmas.{and-left, and-right}
+use Rattle.nio_link.proofs.Channels.{all_same, number_differs}
 use Rattle.nio_link.proofs.Growing.{goes_on}
 use Rattle.nio_link.proofs.Pieces.{is_got}
-use Rattle.nio_link.specs.Links.{IsSameBut, IsUnused, IsGot, after_read, after_write, after_shut}
+use Rattle.nio_link.specs.Links.{Link, IsSameBut, IsUnused, IsGot, after_read, after_write, after_shut}
 use Rattle.nio_link.specs.MemoryLinks.{LinkState, IsFresh, carried, is_connected, is_connecting, link_after_read}
 use Rattle.nio_link.specs.MemoryLinks.{link_after_write, got_after, ended_after, put_of, put_after, stage_after_connect}
 use Rattle.nio_link.specs.MemoryLinks.{connect_answer as connect_link_answer}
 use Rattle.nio_link.specs.MemoryNet.{ready_told, heed, times, faulted_after, findings_after, is_early, AreFresh}
-use Rattle.nio_link.specs.MemoryNet.{NetState, is_free, is_waiting, after_listen, listen_answer, with_target}
-use Rattle.nio_link.specs.MemoryNet.{end_under, after_connect, connect_answer, with_client, after_accept, can_accept}
-use Rattle.nio_link.specs.MemoryNet.{is_listener}
+use Rattle.nio_link.specs.MemoryNet.{NetState, is_free, is_waiting, after_listen, listen_answer, with_target, end_under}
+use Rattle.nio_link.specs.MemoryNet.{after_connect, connect_answer, with_client, after_accept, can_accept, is_listener}
 use Rattle.nio_link.specs.NetPlans.{client_end, target_end, ends_from, free_slots}
 use Rattle.nio_link.specs.Pieces.{got_of, pieces_after, buffer_after}
 use Rattle.nio_link.specs.declared.memory.plan.PeerPlan.{PeerPlan}
@@ -44,15 +43,11 @@ use Rattle.nio_link.specs.declared.net.Put.TheVariants as put
 
 -- ---- channels
 
-number_differs : (k c : ChanNo) → k ≢ c → k.0 ≢ c.0
-number_differs k c differ same = differ (ap (λ (n : ℕ). let x : ChanNo = record { 0 = n } in x) same)
-
 is_itself : (c : ChanNo) → (c.0 == c.0) ≡ true
 is_itself c = eq-eqb c.0 c.0 refl
 
-is_another : (b : Bool) (k c : ChanNo) → (k.0 == c.0) ≡ b → k ≢ c → b ≡ false
-is_another true k c is differ = absurd (number_differs k c differ (eqb-true k.0 c.0 is))
-is_another false k c is differ = refl
+is_another : (k c : ChanNo) → k ≢ c → (c.0 == k.0) ≡ false
+is_another k c differ = ne_eqb c.0 k.0 (λ same. number_differs k c differ (sym same))
 
 -- ---- what stands under a channel
 
@@ -71,25 +66,25 @@ slot_here : (slots : List Slot) (c : ChanNo) (x : Slot) → slot_at slots c ≢ 
     → slot_at (slice_set slots c.0 x) c ≡ x
 slot_here slots c x some = get_or-set_same slots c.0 x slot.Free (in_net slots c some)
 
+-- a slot that has carried the same is put where one stands
+same_there : (slots : List Slot) (c : ChanNo) (x : Slot) → carried_by x ≡ carried_by (slot_at slots c)
+    → c.0 < length slots → (k : ChanNo) → carried_at (slice_set slots c.0 x) k ≡ carried_at slots k
+same_there slots c x same within =
+    all_same c (carried_at slots) (carried_at (slice_set slots c.0 x))
+    (ap carried_by (get_or-set_same slots c.0 x slot.Free within) ∙ same)
+    (λ k differ. ap carried_by (slot_else slots c k x differ))
+
 -- ---- links
 
 connected_link : (s : Slot) (l : LinkState) → connected s ≡ Some l → s ≡ slot.Link l
 connected_link slot.Free l is = absurd (cc)
 connected_link slot.Listener l is = absurd (cc)
-connected_link (slot.Link m) l is = by_test (is_connected m.stage) is
-  where
-    by_test : (b : Bool) → (if b then Some m else None) ≡ Some l → slot.Link m ≡ slot.Link l
-    by_test true is = cc
-    by_test false is = absurd (cc)
+connected_link (slot.Link m) l is = ap (λ x. slot.Link x) (cond_some (is_connected m.stage) m l is).1
 
 connecting_link : (s : Slot) (l : LinkState) → connecting s ≡ Some l → s ≡ slot.Link l
 connecting_link slot.Free l is = absurd (cc)
 connecting_link slot.Listener l is = absurd (cc)
-connecting_link (slot.Link m) l is = by_test (is_connecting m.stage) is
-  where
-    by_test : (b : Bool) → (if b then Some m else None) ≡ Some l → slot.Link m ≡ slot.Link l
-    by_test true is = cc
-    by_test false is = absurd (cc)
+connecting_link (slot.Link m) l is = ap (λ x. slot.Link x) (cond_some (is_connecting m.stage) m l is).1
 
 link_some : (s : Slot) (l : LinkState) → s ≡ slot.Link l → s ≢ slot.Free
 link_some s l is free = cc
@@ -98,6 +93,18 @@ placed_else : (slots : List Slot) (c : ChanNo) (o : Option LinkState)
     → IsSameBut c (carried_at slots) (carried_at (placed c slots o))
 placed_else slots c None k differ = refl
 placed_else slots c (Some l) k differ = ap carried_by (slot_else slots c k (slot.Link l) differ)
+
+-- the link under a channel is changed, if one is connected there
+changed_link : (slots : List Slot) (c : ChanNo) (change : LinkState → LinkState)
+    (after : Option LinkState → Link → Link) → ((l : Link) → l ≡ after None l)
+    → ((l : LinkState) → carried (change l) ≡ after (Some l) (carried l)) → (o : Option LinkState)
+    → connected (slot_at slots c) ≡ o
+    → carried_at (placed c slots (option_map change o)) c ≡ after o (carried_at slots c)
+changed_link slots c change after none some None is = none (carried_at slots c)
+changed_link slots c change after none some (Some l) is =
+    let here : slot_at slots c ≡ slot.Link l = connected_link (slot_at slots c) l is in
+    ap carried_by (slot_here slots c (slot.Link (change l)) (link_some _ l here)) ∙ some l
+    ∙ ap (λ s. after (Some l) (carried_by s)) (sym here)
 
 -- ---- reading
 
@@ -109,22 +116,14 @@ read_link got.End l buffer pieces = refl
 read_link got.NotYet l buffer pieces = refl
 
 module _ (slots : List Slot) (c : ChanNo) (buffer : List ℕ) where
-  read_by : (o : Option LinkState) → connected (slot_at slots c) ≡ o
-      → carried_at (placed c slots (option_map (λ l. link_after_read l buffer) o)) c
-      ≡ after_read (read_answer o (length buffer)) (read_buffer o buffer) (carried_at slots c)
-  read_by None is = refl
-  read_by (Some l) is =
-      let here : slot_at slots c ≡ slot.Link l = connected_link (slot_at slots c) l is in
-      ap carried_by (slot_here slots c (slot.Link (link_after_read l buffer)) (link_some _ l here))
-      ∙ read_link (got_of l.pieces (length buffer)) l (buffer_after l.pieces buffer)
-      (pieces_after l.pieces (length buffer))
-      ∙ ap (λ s. after_read (Ok (got_of l.pieces (length buffer))) (buffer_after l.pieces buffer) (carried_by s))
-      (sym here)
-
   pub read_carried : carried_at (slots_after_read slots c buffer) c
       ≡ after_read (read_answer (connected (slot_at slots c)) (length buffer))
       (read_buffer (connected (slot_at slots c)) buffer) (carried_at slots c)
-  read_carried = read_by (connected (slot_at slots c)) refl
+  read_carried =
+      changed_link slots c (λ l. link_after_read l buffer)
+      (λ o. after_read (read_answer o (length buffer)) (read_buffer o buffer)) (λ l. refl)
+      (λ l. read_link (got_of l.pieces (length buffer)) l (buffer_after l.pieces buffer)
+      (pieces_after l.pieces (length buffer))) (connected (slot_at slots c)) refl
 
   pub read_else : IsSameBut c (carried_at slots) (carried_at (slots_after_read slots c buffer))
   read_else = placed_else slots c (option_map (λ l. link_after_read l buffer) (connected (slot_at slots c)))
@@ -143,19 +142,11 @@ write_link (Ok put.NotYet) l bytes = refl
 write_link (Err failed) l bytes = refl
 
 module _ (slots : List Slot) (c : ChanNo) (bytes : List ℕ) where
-  write_by : (o : Option LinkState) → connected (slot_at slots c) ≡ o
-      → carried_at (placed c slots (option_map (λ l. link_after_write l bytes) o)) c
-      ≡ after_write (write_answer o (length bytes)) bytes (carried_at slots c)
-  write_by None is = refl
-  write_by (Some l) is =
-      let here : slot_at slots c ≡ slot.Link l = connected_link (slot_at slots c) l is in
-      ap carried_by (slot_here slots c (slot.Link (link_after_write l bytes)) (link_some _ l here))
-      ∙ write_link (put_of l (length bytes)) l bytes
-      ∙ ap (λ s. after_write (put_of l (length bytes)) bytes (carried_by s)) (sym here)
-
   pub write_carried : carried_at (slots_after_write slots c bytes) c
       ≡ after_write (write_answer (connected (slot_at slots c)) (length bytes)) bytes (carried_at slots c)
-  write_carried = write_by (connected (slot_at slots c)) refl
+  write_carried =
+      changed_link slots c (λ l. link_after_write l bytes) (λ o. after_write (write_answer o (length bytes)) bytes)
+      (λ l. refl) (λ l. write_link (put_of l (length bytes)) l bytes) (connected (slot_at slots c)) refl
 
   pub write_else : IsSameBut c (carried_at slots) (carried_at (slots_after_write slots c bytes))
   write_else = placed_else slots c (option_map (λ l. link_after_write l bytes) (connected (slot_at slots c)))
@@ -173,18 +164,11 @@ write_ready (Some l) count ops =
 -- ---- shutting
 
 module _ (slots : List Slot) (c : ChanNo) where
-  shut_by : (o : Option LinkState) → connected (slot_at slots c) ≡ o
-      → carried_at (placed c slots (option_map (λ (l : LinkState). record l { shut = true }) o)) c
-      ≡ after_shut (shut_answer o) (carried_at slots c)
-  shut_by None is = refl
-  shut_by (Some l) is =
-      let here : slot_at slots c ≡ slot.Link l = connected_link (slot_at slots c) l is in
-      ap carried_by (slot_here slots c (slot.Link (record l { shut = true })) (link_some _ l here))
-      ∙ ap (λ s. after_shut (Ok tt) (carried_by s)) (sym here)
-
   pub shut_carried : carried_at (slots_after_shut slots c) c
       ≡ after_shut (shut_answer (connected (slot_at slots c))) (carried_at slots c)
-  shut_carried = shut_by (connected (slot_at slots c)) refl
+  shut_carried =
+      changed_link slots c (λ l. record l { shut = true }) (λ o. after_shut (shut_answer o)) (λ l. refl) (λ l. refl)
+      (connected (slot_at slots c)) refl
 
   pub shut_else : IsSameBut c (carried_at slots) (carried_at (slots_after_shut slots c))
   shut_else = placed_else slots c
@@ -200,8 +184,7 @@ times_here xs c = times_more xs c c ∙ ap (λ (b : Bool). times xs c + cond b 1
 
 times_else : (xs : List ChanNo) (c k : ChanNo) → k ≢ c → times (xs ++ c ∷ []) k ≡ times xs k
 times_else xs c k differ =
-    let other : (c.0 == k.0) ≡ false = is_another (c.0 == k.0) c k refl (λ same. differ (sym same)) in
-    times_more xs c k ∙ ap (λ (b : Bool). times xs k + cond b 1 0) other ∙ omega arith
+    times_more xs c k ∙ ap (λ (b : Bool). times xs k + cond b 1 0) (is_another k c differ) ∙ omega arith
 
 pub cause_after : {T : Type 0} (result : Result T Failed) (xs : List ChanNo) (c : ChanNo)
     → HasCause (times xs c) (times (faulted_after result c xs) c) result
@@ -231,7 +214,7 @@ pub ready_else : (findings : List Finding) (c : ChanNo) (op : ℕ)
 ready_else findings c op k differ =
     ready_more findings (NotReady c op) k
     ∙ ap (λ (b : Bool). if b then without op (ready_told findings k) else ready_told findings k)
-    (is_another (c.0 == k.0) c k refl (λ same. differ (sym same)))
+    (is_another k c differ)
 
 pub read_ready : (r : Result Got Failed) (findings : List Finding) (c : ChanNo)
     → ready_told (findings_after (is_early r) c 1 findings) c ≡ ready_after_read r (ready_told findings c)
@@ -263,54 +246,21 @@ nothing_there (slot.Link l) is = absurd (cc)
 module _ (slots : List Slot) (c : ChanNo) (free : is_free slots c ≡ true) where
   was_free : slot_at slots c ≡ slot.Free
   was_free = nothing_there (slot_at slots c)
-      (and-right (nat_lt c.0 (length slots)) (holds_nothing (slot_at slots c)) free)
+      (and_parts (nat_lt c.0 (length slots)) (holds_nothing (slot_at slots c)) free).1
 
   within_net : c.0 < length slots
-  within_net = ltb-true c.0 (length slots) (and-left (nat_lt c.0 (length slots)) (holds_nothing (slot_at slots c)) free)
+  within_net = ltb-true c.0 (length slots)
+      (and_parts (nat_lt c.0 (length slots)) (holds_nothing (slot_at slots c)) free).0
 
   pub put_free : (x : Slot) → carried_by x ≡ carried_by slot.Free → (k : ChanNo)
       → carried_at (slice_set slots c.0 x) k ≡ carried_at slots k
-  put_free x nothing k = by_test (k.0 == c.0) refl
-    where
-      by_test : (b : Bool) → (k.0 == c.0) ≡ b → carried_at (slice_set slots c.0 x) k ≡ carried_at slots k
-      by_test true is =
-          let same : k ≡ c = ap (λ (n : ℕ). let y : ChanNo = record { 0 = n } in y) (eqb-true k.0 c.0 is) in
-          ap (λ (chan : ChanNo). carried_at (slice_set slots c.0 x) chan) same
-          ∙ ap carried_by (get_or-set_same slots c.0 x slot.Free within_net)
-          ∙ nothing ∙ ap carried_by (sym was_free)
-          ∙ ap (λ (chan : ChanNo). carried_at slots chan) (sym same)
-      by_test false is = ap carried_by (get_or-set_other slots c.0 k.0 x slot.Free (eqb-false k.0 c.0 is))
+  put_free x nothing = same_there slots c x (nothing ∙ ap carried_by (sym was_free)) within_net
 
   pub put_fresh : (l : LinkState) → IsFresh l → (k : ChanNo)
       → carried_at (slice_set slots c.0 (slot.Link l)) k ≡ carried_at slots k
   put_fresh l fresh = put_free (slot.Link l) (fresh_slot l fresh)
 
-pub listen_carried : (s : NetState) (c : ChanNo) (k : ChanNo)
-    → carried_at (after_listen s c).slots k ≡ carried_at s.slots k
-listen_carried s c k = by_test (is_free s.slots c) refl
-  where
-    by_test : (b : Bool) → is_free s.slots c ≡ b
-        → carried_at
-        (if b then record s { slots = slice_set s.slots c.0 slot.Listener }
-        else record s { faulted = s.faulted ++ c ∷ [] }).slots k ≡ carried_at s.slots k
-    by_test true free = put_free s.slots c free slot.Listener refl k
-    by_test false taken = refl
-
--- putting a link that has carried the same where one stands
 module _ (slots : List Slot) (c : ChanNo) where
-  same_there : (x : Slot) → carried_by x ≡ carried_by (slot_at slots c) → c.0 < length slots → (k : ChanNo)
-      → carried_at (slice_set slots c.0 x) k ≡ carried_at slots k
-  same_there x same within k = by_test (k.0 == c.0) refl
-    where
-      by_test : (b : Bool) → (k.0 == c.0) ≡ b → carried_at (slice_set slots c.0 x) k ≡ carried_at slots k
-      by_test true is =
-          let here : k ≡ c = ap (λ (n : ℕ). let y : ChanNo = record { 0 = n } in y) (eqb-true k.0 c.0 is) in
-          ap (λ (chan : ChanNo). carried_at (slice_set slots c.0 x) chan) here
-          ∙ ap carried_by (get_or-set_same slots c.0 x slot.Free within)
-          ∙ same
-          ∙ ap (λ (chan : ChanNo). carried_at slots chan) (sym here)
-      by_test false is = ap carried_by (get_or-set_other slots c.0 k.0 x slot.Free (eqb-false k.0 c.0 is))
-
   finish_by : (o : Option LinkState) → connecting (slot_at slots c) ≡ o → (k : ChanNo)
       → carried_at
       (placed c slots (option_map (λ (l : LinkState). record l { stage = stage_after_connect l.fail_connect }) o)) k
@@ -318,8 +268,8 @@ module _ (slots : List Slot) (c : ChanNo) where
   finish_by None is k = refl
   finish_by (Some l) is k =
       let here : slot_at slots c ≡ slot.Link l = connecting_link (slot_at slots c) l is in
-      same_there (slot.Link (record l { stage = stage_after_connect l.fail_connect })) (ap carried_by (sym here))
-      (in_net slots c (link_some _ l here)) k
+      same_there slots c (slot.Link (record l { stage = stage_after_connect l.fail_connect }))
+      (ap carried_by (sym here)) (in_net slots c (link_some _ l here)) k
 
   pub finish_carried : (k : ChanNo) → carried_at (slots_after_finish slots c) k ≡ carried_at slots k
   finish_carried = finish_by (connecting (slot_at slots c)) refl
@@ -330,11 +280,11 @@ module _ (slots : List Slot) (c : ChanNo) where
     where
       by_place : (c.0 < length slots) ⊎ (length slots ≤ c.0)
           → carried_at (slice_set slots c.0 slot.Free) k ≡ carried_at slots k
-      by_place (inl within) = same_there slot.Free (ap carried_by (sym is)) within k
+      by_place (inl within) = same_there slots c slot.Free (ap carried_by (sym is)) within k
       by_place (inr past) = ap (λ (xs : List Slot). carried_at xs k) (set_past slots c.0 slot.Free past)
-  close_by slot.Listener is k = same_there slot.Free (ap carried_by (sym is)) (in_net slots c (λ free. cc)) k
+  close_by slot.Listener is k = same_there slots c slot.Free (ap carried_by (sym is)) (in_net slots c (λ free. cc)) k
   close_by (slot.Link l) is k =
-      same_there (closed (slot.Link l)) (ap carried_by (sym is)) (in_net slots c (link_some _ l is)) k
+      same_there slots c (closed (slot.Link l)) (ap carried_by (sym is)) (in_net slots c (link_some _ l is)) k
 
   pub close_carried : (k : ChanNo) → carried_at (slots_after_close slots c) k ≡ carried_at slots k
   close_carried = close_by (slot_at slots c) refl
@@ -344,11 +294,12 @@ module _ (slots : List Slot) (c : ChanNo) where
       → carried_at (slice_set slots c.0 (without_link s)) k ≡ carried_at slots k
   take_by slot.Free is unused k = close_by slot.Free is k
   take_by slot.Listener is unused k =
-      same_there slot.Listener (ap carried_by (sym is)) (in_net slots c (λ free. cc)) k
+      same_there slots c slot.Listener (ap carried_by (sym is)) (in_net slots c (λ free. cc)) k
   take_by (slot.Link l) is unused k =
       let fresh : IsFresh l =
       record { got = unused.got; ended = unused.ended; put = unused.put; shut = unused.shut } in
-      same_there slot.Free (sym (fresh_slot l fresh) ∙ ap carried_by (sym is)) (in_net slots c (link_some _ l is)) k
+      same_there slots c slot.Free (sym (fresh_slot l fresh) ∙ ap carried_by (sym is))
+      (in_net slots c (link_some _ l is)) k
 
   pub take_carried : IsUnused (carried_at slots c) → (k : ChanNo)
       → carried_at (slots_after_take slots c) k ≡ carried_at slots k
@@ -376,53 +327,35 @@ module _ (slots : List Slot) (c : ChanNo) where
 
 -- ---- the calls that make links
 
-pub listen_faulted : (s : NetState) (c : ChanNo)
-    → (after_listen s c).faulted ≡ faulted_after (listen_answer s c) c s.faulted
-listen_faulted s c = by_test (is_free s.slots c)
-  where
-    by_test : (b : Bool)
-        → (if b then record s { slots = slice_set s.slots c.0 slot.Listener }
-        else record s { faulted = s.faulted ++ c ∷ [] }).faulted
-        ≡ faulted_after {T = Unit {0}} (if b then Ok tt else Err (record {})) c s.faulted
-    by_test true = refl
-    by_test false = refl
-
-pub listen_polls : (s : NetState) (c : ChanNo) → (after_listen s c).polls ≡ s.polls
-listen_polls s c = by_test (is_free s.slots c)
-  where
-    by_test : (b : Bool)
-        → (if b then record s { slots = slice_set s.slots c.0 slot.Listener }
-        else record s { faulted = s.faulted ++ c ∷ [] }).polls ≡ s.polls
-    by_test true = refl
-    by_test false = refl
-
-pub listen_findings : (s : NetState) (c : ChanNo) → (after_listen s c).findings ≡ s.findings
-listen_findings s c = by_test (is_free s.slots c)
-  where
-    by_test : (b : Bool)
-        → (if b then record s { slots = slice_set s.slots c.0 slot.Listener }
-        else record s { faulted = s.faulted ++ c ∷ [] }).findings ≡ s.findings
-    by_test true = refl
-    by_test false = refl
-
--- what making a link leaves
-pub record Connects (s now : NetState) (c : ChanNo) (answer : Result Bool Failed) : Type 0 where
+-- what making a listener or a link leaves
+pub record Makes {T : Type 0} (s now : NetState) (c : ChanNo) (answer : Result T Failed) : Type 0 where
   pub carried : (k : ChanNo) → carried_at now.slots k ≡ carried_at s.slots k
   pub faulted : now.faulted ≡ faulted_after answer c s.faulted
   pub polls : now.polls ≡ s.polls
   pub findings : now.findings ≡ s.findings
 
+pub listens : (s : NetState) (c : ChanNo) → Makes s (after_listen s c) c (listen_answer s c)
+listens s c = by_test (is_free s.slots c) refl
+  where
+    by_test : (b : Bool) → is_free s.slots c ≡ b
+        → Makes {T = Unit {0}} s
+        (if b then record s { slots = slice_set s.slots c.0 slot.Listener }
+        else record s { faulted = s.faulted ++ c ∷ [] }) c (if b then Ok tt else Err (record {}))
+    by_test true free =
+        record { carried = put_free s.slots c free slot.Listener refl; faulted = refl; polls = refl; findings = refl }
+    by_test false taken = record { carried = λ k. refl; faulted = refl; polls = refl; findings = refl }
+
 with_target_is : (s : NetState) (c : ChanNo) (targets : List LinkState) → AreFresh targets → is_free s.slots c ≡ true
-    → Connects s (with_target targets c s) c (if is_waiting targets then Ok false else Err (record {}))
+    → Makes s (with_target targets c s) c (if is_waiting targets then Ok false else Err (record {}))
 with_target_is s c [] fresh free = record { carried = λ k. refl; faulted = refl; polls = refl; findings = refl }
 with_target_is s c (l ∷ later) fresh free =
     record { carried = put_fresh s.slots c free l fresh.0; faulted = refl; polls = refl; findings = refl }
 
-pub connects : (s : NetState) (c : ChanNo) → AreFresh s.targets → Connects s (after_connect s c) c (connect_answer s c)
+pub connects : (s : NetState) (c : ChanNo) → AreFresh s.targets → Makes s (after_connect s c) c (connect_answer s c)
 connects s c fresh = by_test (is_free s.slots c) refl
   where
     by_test : (b : Bool) → is_free s.slots c ≡ b
-        → Connects s (if b then with_target s.targets c s else record s { faulted = s.faulted ++ c ∷ [] }) c
+        → Makes s (if b then with_target s.targets c s else record s { faulted = s.faulted ++ c ∷ [] }) c
         (if b && is_waiting s.targets then Ok false else Err (record {}))
     by_test true free = with_target_is s c s.targets fresh free
     by_test false taken = record { carried = λ k. refl; faulted = refl; polls = refl; findings = refl }
@@ -450,7 +383,7 @@ accepts s listener c fresh able = by_clients s.clients fresh
       ready_else = ready_else s.findings listener 16;
     }
     by_clients (l ∷ later) all = record {
-      carried = put_fresh s.slots c (and-right (is_listener s.slots listener) (is_free s.slots c) able) l all.0;
+      carried = put_fresh s.slots c (and_parts (is_listener s.slots listener) (is_free s.slots c) able).1 l all.0;
       faulted = refl;
       polls = refl;
       ready = refl;

@@ -9,7 +9,7 @@ use Rattle.nio_link.specs.declared.place.Change.TheVariants as change
 abbrev pub accepted_after : Result Bool Failed → ChanNo → List ChanNo → List ChanNo
 accepted_after (Ok true) c before = before ++ c ∷ []
 accepted_after (Ok false) c before = before
-accepted_after (Err _) c before = before
+accepted_after (Err failed) c before = before
 
 -- after a call on this channel
 abbrev pub accepted_next : List ChanNo → ChanNo × Change → List ChanNo

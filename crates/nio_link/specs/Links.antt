@@ -41,7 +41,7 @@ abbrev pub after_read : Result Got Failed → List ℕ → Link → Link
 after_read (Ok (got.Bytes n)) buffer l = record l { got = option_map (λ bytes. bytes ++ take n buffer) l.got }
 after_read (Ok got.End) buffer l = record l { ended = option_map (λ _. true) l.ended }
 after_read (Ok got.NotYet) buffer l = l
-after_read (Err _) buffer l = l
+after_read (Err failed) buffer l = l
 
 -- ---- writing
 
@@ -53,9 +53,9 @@ IsPut bytes put.NotYet = Unit {0}
 abbrev pub after_write : Result Put Failed → List ℕ → Link → Link
 after_write (Ok (put.Bytes n)) bytes l = record l { put = option_map (λ before. before ++ take n bytes) l.put }
 after_write (Ok put.NotYet) bytes l = l
-after_write (Err _) bytes l = l
+after_write (Err failed) bytes l = l
 
 -- after shutting the side on which bytes are written
 abbrev pub after_shut : Result (Unit {0}) Failed → Link → Link
-after_shut (Ok _) l = record l { shut = option_map (λ _. true) l.shut }
-after_shut (Err _) l = l
+after_shut (Ok done) l = record l { shut = option_map (λ _. true) l.shut }
+after_shut (Err failed) l = l

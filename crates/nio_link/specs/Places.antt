@@ -48,28 +48,28 @@ stands place = is_standing place.standing
 -- ---- after each call: one that fails makes nothing, and leaves what stands; but a link that fails to connect is gone
 
 abbrev pub place_after_listen : Result (Unit {0}) Failed → Addr → Place
-place_after_listen (Ok _) at = record { role = role.Listener at; standing = standing.Listening }
-place_after_listen (Err _) at = record { role = role.Listener at; standing = standing.Nothing }
+place_after_listen (Ok done) at = record { role = role.Listener at; standing = standing.Listening }
+place_after_listen (Err failed) at = record { role = role.Listener at; standing = standing.Nothing }
 
 -- the place of the accepted link; where none has come yet, the channel can be asked again
 abbrev pub place_after_accept : Result Bool Failed → ChanNo → Place → Place
 place_after_accept (Ok true) listener before = record { role = role.Accepted listener; standing = standing.Linked }
 place_after_accept (Ok false) listener before = before
-place_after_accept (Err _) listener before = record { role = role.Accepted listener; standing = standing.Nothing }
+place_after_accept (Err failed) listener before = record { role = role.Accepted listener; standing = standing.Nothing }
 
 abbrev pub place_after_connect : Result Bool Failed → Addr → Place
 place_after_connect (Ok true) to = record { role = role.Connected to; standing = standing.Linked }
 place_after_connect (Ok false) to = record { role = role.Connected to; standing = standing.Connecting }
-place_after_connect (Err _) to = record { role = role.Connected to; standing = standing.Nothing }
+place_after_connect (Err failed) to = record { role = role.Connected to; standing = standing.Nothing }
 
 abbrev pub place_after_finish : Result Bool Failed → Place → Place
 place_after_finish (Ok true) before = record before { standing = standing.Linked }
 place_after_finish (Ok false) before = before
-place_after_finish (Err _) before = record before { standing = standing.Gone }
+place_after_finish (Err failed) before = record before { standing = standing.Gone }
 
 abbrev pub place_after_shut : Result (Unit {0}) Failed → Place → Place
-place_after_shut (Ok _) before = record before { standing = standing.Shut }
-place_after_shut (Err _) before = before
+place_after_shut (Ok done) before = record before { standing = standing.Shut }
+place_after_shut (Err failed) before = before
 
 -- what is left of what stands
 abbrev pub closed : Standing → Standing
@@ -90,7 +90,7 @@ place_after_take_out None before = before
 
 -- where memory lacks, the link comes back
 abbrev pub place_after_put_in : {L : Type 0} → Result (Unit {0}) L → Place → Place
-place_after_put_in (Ok _) before = record { role = role.PutIn; standing = standing.Linked }
+place_after_put_in (Ok done) before = record { role = role.PutIn; standing = standing.Linked }
 place_after_put_in (Err link) before = before
 
 -- ---- after a list of calls
@@ -120,15 +120,15 @@ abbrev pub stands_after : Change → Bool → Bool
 stands_after (change.Listen at made) before = false
 stands_after (change.Accept listener (Ok true)) before = true
 stands_after (change.Accept listener (Ok false)) before = before
-stands_after (change.Accept listener (Err _)) before = false
+stands_after (change.Accept listener (Err failed)) before = false
 stands_after (change.Connect to (Ok true)) before = true
 stands_after (change.Connect to (Ok false)) before = false
-stands_after (change.Connect to (Err _)) before = false
+stands_after (change.Connect to (Err failed)) before = false
 stands_after (change.FinishConnect (Ok true)) before = true
 stands_after (change.FinishConnect (Ok false)) before = before
-stands_after (change.FinishConnect (Err _)) before = false
-stands_after (change.ShutWrite (Ok _)) before = true
-stands_after (change.ShutWrite (Err _)) before = before
+stands_after (change.FinishConnect (Err failed)) before = false
+stands_after (change.ShutWrite (Ok done)) before = true
+stands_after (change.ShutWrite (Err failed)) before = before
 stands_after change.Close before = false
 stands_after change.TakeOut before = false
 stands_after change.PutIn before = true
@@ -137,11 +137,11 @@ stands_after change.PutIn before = true
 abbrev pub moves_link : Change → Bool
 moves_link (change.Listen at made) = false
 moves_link (change.Accept listener (Ok made)) = made
-moves_link (change.Accept listener (Err _)) = false
+moves_link (change.Accept listener (Err failed)) = false
 moves_link (change.Connect to (Ok made)) = made
-moves_link (change.Connect to (Err _)) = false
+moves_link (change.Connect to (Err failed)) = false
 moves_link (change.FinishConnect (Ok made)) = made
-moves_link (change.FinishConnect (Err _)) = false
+moves_link (change.FinishConnect (Err failed)) = false
 moves_link (change.ShutWrite made) = false
 moves_link change.Close = true
 moves_link change.TakeOut = true

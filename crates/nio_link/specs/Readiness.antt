@@ -15,22 +15,22 @@ abbrev pub ready_after_read : Result Got Failed → ℕ → ℕ
 ready_after_read (Ok (got.Bytes n)) ops = ops
 ready_after_read (Ok got.End) ops = ops
 ready_after_read (Ok got.NotYet) ops = without 1 ops
-ready_after_read (Err _) ops = ops
+ready_after_read (Err failed) ops = ops
 
 -- WRITE is 4
 abbrev pub ready_after_write : Result Put Failed → ℕ → ℕ
 ready_after_write (Ok (put.Bytes n)) ops = ops
 ready_after_write (Ok put.NotYet) ops = without 4 ops
-ready_after_write (Err _) ops = ops
+ready_after_write (Err failed) ops = ops
 
 -- CONNECT is 8
 abbrev pub ready_after_connect : Result Bool Failed → ℕ → ℕ
 ready_after_connect (Ok true) ops = ops
 ready_after_connect (Ok false) ops = without 8 ops
-ready_after_connect (Err _) ops = ops
+ready_after_connect (Err failed) ops = ops
 
 -- ACCEPT is 16
 abbrev pub ready_after_accept : Result Bool Failed → ℕ → ℕ
 ready_after_accept (Ok true) ops = ops
 ready_after_accept (Ok false) ops = without 16 ops
-ready_after_accept (Err _) ops = ops
+ready_after_accept (Err failed) ops = ops

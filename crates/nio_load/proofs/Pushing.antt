@@ -1,7 +1,6 @@
 -- How the generated text grows.
 use Rattle.std.proofs.Common.{◌≡◌, ℕ, zero, suc, ◌+◌, List, [], ◌∷◌, ◌++◌, refl, sym, ap, ◌∙◌, append_assoc, append-nil}
 use Rattle.std.proofs.Common.{arith}
-use Rattle.std.specs.Prelude.{Result, Ok, Err, OnOk}
 use Rattle.std.specs.List.{flat_map, range_with_len}
 use Rattle.std.proofs.lemmas.Grind.{flat_map-append}
 use Rattle.nio_load.specs.Generator.{lines_below, text_of}
@@ -44,11 +43,6 @@ module _ (lines : ℕ → List (List ℕ)) where
       ∙ append_assoc before (text_of (lines_below n lines)) (text_of (lines n))
       ∙ ap (λ t. before ++ t)
       (sym (text-append (lines_below n lines) (lines n)) ∙ ap text_of (sym (lines_below_more n)))
-
--- what follows from what holds at an `Ok`
-pub on_ok_map : {T E P Q : Type 0} (r : Result T E) → (P → Q) → OnOk r P → OnOk r Q
-on_ok_map (Ok x) f p = f p
-on_ok_map (Err e) f p = tt
 
 -- three lines, one after the other
 pub pushed_three : (before first second third one two two' three three' : List ℕ) → first ≡ before ++ (one ++ 10 ∷ [])

@@ -1,15 +1,16 @@
 -- Lists of acts: what one act more does to the words of careful histories and of debts.
 use Rattle.std.proofs.Common.{◌≡◌, ℕ, ◌+◌, ◌≤◌, Bool, true, false, cond, ◌&&◌, ◌||◌, not, ◌⊎◌, inl, inr, if◌then◌else◌}
 use Rattle.std.proofs.Common.{List, [], ◌∷◌, ◌++◌, refl, ap, sym, ◌∙◌, arith}
-use Rattle.std.proofs.lemmas.Bool.{or_parts}
+use Rattle.std.proofs.lemmas.Bool.{or_parts, or_cases}
 use Rattle.std.proofs.lemmas.List.Folds.{list_any-append}
-use Rattle.std.proofs.lemmas.List.Sums.{sum_by-append, sum_by-cons, sum_by_push}
+use Rattle.std.proofs.lemmas.List.Sums.{sum_by_push}
+use Rattle.nio_event.proofs.Legal.{not_empty}
 use Rattle.nio_event.proofs.OneMore.{has-more, since_from-more}
-use Rattle.nio_event.proofs.Told.{either}
 use Rattle.nio_event.specs.OwnEvents.{has, count, since_from, since_first, releases}
 use Rattle.nio_event.specs.declared.act.Act.{Act}
 use Rattle.nio_orderly.specs.Careful.{claims, leaves_below, finds_open, until_released, is_prepared}
 use Rattle.nio_orderly.specs.Owed.{Duty, owes}
+use Rattle.nio_steps.proofs.SelectionLaws.{count-cons}
 
 -- ---- has, count
 
@@ -21,15 +22,9 @@ pub has_no_first : (p : Act → Bool) (xs ys : List Act) → has p (xs ++ ys) �
     → (has p xs ≡ false) × (has p ys ≡ false)
 has_no_first p xs ys none_such = or_parts (has p xs) (has p ys) (sym (has-append p xs ys) ∙ none_such)
 
-pub count-append : (p : Act → Bool) (xs ys : List Act) → count p (xs ++ ys) ≡ count p xs + count p ys
-count-append p xs ys = sum_by-append (λ x. cond (p x) 1 0) xs ys
-
 pub count-more : (p : Act → Bool) (own : List Act) (act : Act)
     → count p (own ++ act ∷ []) ≡ count p own + cond (p act) 1 0
 count-more p own act = sum_by_push (λ x. cond (p x) 1 0) own act
-
-count-cons : (p : Act → Bool) (act : Act) (own : List Act) → count p (act ∷ own) ≡ cond (p act) 1 0 + count p own
-count-cons p act own = sum_by-cons (λ x. cond (p x) 1 0) act own
 
 -- where an act of a narrower sort was done, one at least was
 pub has_counts : (p q : Act → Bool) → ((act : Act) → q act ≡ true → p act ≡ true) → (own : List Act) → has q own ≡ true
@@ -161,7 +156,7 @@ prepared-more s i own act prepared = by_left (has (leaves_below s i) own) refl
     by_claim true claimed found = absurd cc
     by_claim false claimed found = (
       claimed,
-      either (is_prepared s i own) (finds_open s act)
+      or_cases (is_prepared s i own) (finds_open s act)
           (sym (has-more (finds_open s) (since_from (claims s i) since) act) ∙ found),
     )
 
@@ -180,10 +175,6 @@ prepared-more s i own act prepared = by_left (has (leaves_below s i) own) refl
         ∙ ap (λ b. cond {A = List Act} b (since ++ act ∷ []) []) none_such) prepared))
 
 -- ---- where an act stands
-
-not_empty : {A : Type 0} (xs : List A) (y : A) (ys : List A) → [] ≡ xs ++ y ∷ ys → ⊥
-not_empty [] y ys eq = cc
-not_empty (x ∷ xs) y ys eq = cc
 
 -- what stands in a list with one act more at its end is that act, or stands in the list
 pub record AtEnd (xs : List Act) (x : Act) (ys : List Act) (y : Act) (zs : List Act) : Type 0 where

@@ -1,7 +1,7 @@
 -- What is left once a closing has done all its steps, and where nobody owes anything.
 use Rattle.std.proofs.Common.{◌≡◌, ℕ, ◌<◌, Bool, true, false, not, ◌||◌, ◌⊎◌, inl, inr, Option, Some, None, List, []}
 use Rattle.std.proofs.Common.{◌∷◌, ◌++◌, append_assoc, refl, ap, sym, ◌∙◌, subst, eqb-true, eq-eqb}
-use Rattle.std.proofs.lemmas.Bool.{and_parts}
+use Rattle.std.proofs.lemmas.Bool.{and_parts, or_right, false_from_ne_true}
 use Rattle.nio_base.specs.Limits.{IsFit}
 use Rattle.nio_base.specs.declared.limits.Limits.{Limits}
 use Rattle.nio_base.specs.declared.numbers.CallerNo.{CallerNo}
@@ -13,15 +13,14 @@ use Rattle.nio_event.proofs.Legal.{legal_beginning, legal_next, legal_more, lega
 use Rattle.nio_event.proofs.OneMore.{state_after-more, mine-own, mine-other, has-more}
 use Rattle.nio_event.proofs.PinLaws.{own_claims_stand}
 use Rattle.nio_event.proofs.Put.{put_keeps}
-use Rattle.nio_event.proofs.Soundness.{legal-sound, both_ways, not_true}
-use Rattle.nio_event.proofs.Told.{or_right}
+use Rattle.nio_event.proofs.Soundness.{legal-sound, both_ways}
 use Rattle.nio_event.proofs.Within.{legal-within}
 use Rattle.nio_event.specs.Acts.{effect}
 use Rattle.nio_event.specs.Answers.{Answers}
 use Rattle.nio_event.specs.Conditions.{Condition, is_held_by}
 use Rattle.nio_event.specs.Histories.{state_after, event_of, is_by, mine, IsStep, IsLegal}
-use Rattle.nio_event.specs.Permanent.{selector_closed_by}
 use Rattle.nio_event.specs.OwnEvents.{has, enters, since_entered, own_claim}
+use Rattle.nio_event.specs.Permanent.{selector_closed_by}
 use Rattle.nio_event.specs.Pins.{IsOfClaim}
 use Rattle.nio_event.specs.Sets.{in_key_set, is_valid}
 use Rattle.nio_event.specs.State.{State}
@@ -89,7 +88,7 @@ closer_is n (Some x) held = ap (λ (m : ℕ). Some (caller m)) (eqb-true x.0 n.0
 
 pub closed_selectors_have_no_key : ClosedSelectorsHaveNoKey
 closed_selectors_have_no_key l n s before after fit goes_on legal careful closed i =
-    not_true (is_valid ((state_after after).key s.0 i)) (λ valid.
+    false_from_ne_true (is_valid ((state_after after).key s.0 i)) (λ valid.
     both_ways (owes (clearing_duty s.0 i) (since_entered s.0 (mine n after)))
     (clearing_owed l fit after legal careful s.0 i n closer_now (valid_coming after s.0 i valid)) settled_now)
   where
@@ -241,9 +240,9 @@ publisher_settled l events c s k fit legal settled debt =
 
 pub settled_loses_no_key : SettledLosesNoKey
 settled_loses_no_key l events fit legal careful settled = record {
-  channels = λ s i valid. not_true (st.chan (st.key s i).chan.0).closed
+  channels = λ s i valid. false_from_ne_true (st.chan (st.key s i).chan.0).closed
       (λ closed. by_publisher s i valid (closed_by l (st.key s i).chan events legal closed));
-  selectors = λ s i valid. not_true (st.entered s)
+  selectors = λ s i valid. false_from_ne_true (st.entered s)
       (λ entered. by_closer s i valid (entered_by l (selector s) events legal entered));
 }
   where

@@ -10,13 +10,14 @@ use Rattle.nio_event.specs.Histories.{is_by, mine, event_of}
 use Rattle.nio_event.specs.declared.act.Act.{Act}
 use Rattle.nio_event.specs.declared.act.Act.TheVariants.{TakeInterrupt}
 use Rattle.nio_event.specs.declared.event.Event.{Event}
-use Rattle.nio_orderly.specs.Made.{Made, IsRun, Ongoing, nothing_ongoing, after_call, after_calls, MayCome, AreInOrder}
-use Rattle.nio_orderly.specs.Made.{interrupted}
+use Rattle.nio_orderly.specs.Made.{Made, IsRun, after_call, after_calls, MayCome, AreInOrder, table_call}
 use Rattle.nio_orderly.specs.Orderly.{AreRuns, HasMadeCalls, MadeBy, AreRunsBy, calls_of}
 use Rattle.nio_orderly.specs.OrderlyLaws.{BeginningsAreOrderly, WholeIsOrderly, OneCallMore, OrderlyEndsInCall}
 use Rattle.nio_orderly.specs.OrderlyLaws.{SerialIsWhole, SerialCallMore}
 use Rattle.nio_steps.proofs.OwnActs.{mine-append}
+use Rattle.nio_steps.specs.Ongoing.{Ongoing, nothing_ongoing}
 use Rattle.nio_steps.specs.SelectCalls.{interrupted_plan}
+use Rattle.nio_steps.specs.TableCalls.{interrupted}
 
 -- ---- one list of calls and then another
 
@@ -104,7 +105,7 @@ record EndsFrom (l : Limits) (now : Ongoing) (acts : List Act) : Type 0 where
   later : List Act
   is_run : IsRun l call (begun ++ later)
 
-asks_interrupted : (l : Limits) → IsRun l (interrupted false) (TakeInterrupt false ∷ [])
+asks_interrupted : (l : Limits) → IsRun l (table_call interrupted false) (TakeInterrupt false ∷ [])
 unfolding interrupted_plan
 asks_interrupted l = (refl, refl)
 
@@ -117,7 +118,7 @@ ends_from l now [] [] later runs order = record {
   calls = [];
   runs = refl;
   in_order = tt;
-  call = interrupted false;
+  call = table_call interrupted false;
   may_come = tt;
   later = TakeInterrupt false ∷ [];
   is_run = asks_interrupted l;
@@ -182,7 +183,7 @@ orderly_ends_in_call l acts makes =
 -- ---- serial histories
 
 -- the events of one caller
-mine-by : (n m : CallerNo) (acts : List Act) (b : Bool) → (m.0 == n.0) ≡ b
+pub mine-by : (n m : CallerNo) (acts : List Act) (b : Bool) → (m.0 == n.0) ≡ b
     → mine n (map (event_of m) acts) ≡ (if b then acts else [])
 mine-by n m [] true by = refl
 mine-by n m [] false by = refl

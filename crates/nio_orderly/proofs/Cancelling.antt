@@ -3,23 +3,23 @@
 use Rattle.std.proofs.Common.{◌≡◌, ℕ, ◌==◌, Bool, true, false, not, ◌&&◌, ◌⊎◌, inl, inr, Option, Some, None}
 use Rattle.std.proofs.Common.{if◌then◌else◌, List, [], ◌∷◌, ◌++◌, append_assoc, refl, ap, sym, ◌∙◌, subst, eqb-true}
 use Rattle.std.proofs.Common.{eq-eqb}
-use Rattle.std.proofs.lemmas.Bool.{and_parts, and_from, or_from}
+use Rattle.std.proofs.lemmas.Bool.{and_parts, and_from, or_from, false_from_ne_true}
 use Rattle.nio_base.specs.Limits.{IsFit}
 use Rattle.nio_base.specs.declared.limits.Limits.{Limits}
 use Rattle.nio_base.specs.declared.numbers.CallerNo.{CallerNo}
 use Rattle.nio_base.specs.declared.numbers.ChanNo.{ChanNo}
 use Rattle.nio_base.specs.declared.numbers.KeyId.{KeyId}
 use Rattle.nio_event.proofs.Claims.{if_some}
+use Rattle.nio_event.proofs.LastsOnceSound.{permanent_stands}
 use Rattle.nio_event.proofs.Legal.{legal_more, legal_induction}
 use Rattle.nio_event.proofs.OneMore.{state_after-more, mine-own, mine-other}
-use Rattle.nio_event.proofs.LastsOnceSound.{permanent_stands}
 use Rattle.nio_event.proofs.Put.{put-same, put_at-there}
-use Rattle.nio_event.proofs.Soundness.{legal-sound, both_ways, not_true}
+use Rattle.nio_event.proofs.Soundness.{legal-sound, both_ways}
 use Rattle.nio_event.specs.Acts.{effect}
 use Rattle.nio_event.specs.Answers.{Answers}
 use Rattle.nio_event.specs.Histories.{state_after, event_of, is_by, mine, IsStep, IsLegal}
-use Rattle.nio_event.specs.Permanent.{channel_closed}
 use Rattle.nio_event.specs.OwnEvents.{stage_found, is_outside, finds_outside}
+use Rattle.nio_event.specs.Permanent.{channel_closed}
 use Rattle.nio_event.specs.Sets.{in_key_set, is_in_key_set, is_valid}
 use Rattle.nio_event.specs.Sound.{IsSound}
 use Rattle.nio_event.specs.State.{State}
@@ -31,11 +31,11 @@ use Rattle.nio_orderly.proofs.ActLists.{owes-more, AtEnd, Within, split_last}
 use Rattle.nio_orderly.proofs.Careful.{beginnings_are_careful}
 use Rattle.nio_orderly.proofs.KeySet.{is_false, WasThere, was_valid, came, came_closed}
 use Rattle.nio_orderly.proofs.KeysStand.{keys_stand, set_fits}
-use Rattle.nio_steps.proofs.OwnActs.{cut_at}
 use Rattle.nio_orderly.specs.Careful.{IsCareful}
 use Rattle.nio_orderly.specs.Owed.{publishes_key, closes, looks_at_channel, finds_closed, looks_for_key, finds_key}
 use Rattle.nio_orderly.specs.Owed.{cancels, settles_key, Duty, owes, publisher_duty, closing_duty, OwesSince}
 use Rattle.nio_orderly.specs.Owed.{OwesCancelling, key_of}
+use Rattle.nio_steps.proofs.OwnActs.{cut_at}
 
 -- ---- a debt goes on
 
@@ -146,8 +146,8 @@ unsettled : (st : State) (me : CallerNo) (act : Act) (s i : ℕ) → Answers st 
     → is_valid ((effect st me act).key s i) ≡ true
     → settles_key s (key_of (effect st me act) s i) act ≡ false
 unsettled st me act s i answers sound valid =
-    or_from (cancels s i act) (finds_outside s k act) (not_true (cancels s i act) not_cancelled)
-    (not_true (finds_outside s k act) not_outside)
+    or_from (cancels s i act) (finds_outside s k act) (false_from_ne_true (cancels s i act) not_cancelled)
+    (false_from_ne_true (finds_outside s k act) not_outside)
   where
     k : KeyId
     k = key_of (effect st me act) s i

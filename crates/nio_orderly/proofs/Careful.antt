@@ -3,7 +3,6 @@ use Rattle.std.proofs.Common.{◌≡◌, ℕ, ◌==◌, ◌+◌, ◌≤◌, true
 use Rattle.std.proofs.Common.{sym, ◌∙◌, arith, eq-eqb}
 use Rattle.std.proofs.lemmas.Bool.{and_parts}
 use Rattle.nio_base.specs.declared.numbers.SelNo.{SelNo}
-use Rattle.nio_steps.proofs.OwnActs.{mine-append}
 use Rattle.nio_event.proofs.OneMore.{mine-own}
 use Rattle.nio_event.specs.Histories.{mine}
 use Rattle.nio_event.specs.OwnEvents.{OwnClaim, has, count, under, sets_mode, own_claim}
@@ -11,10 +10,12 @@ use Rattle.nio_event.specs.declared.act.Act.{Act}
 use Rattle.nio_event.specs.declared.act.Act.TheVariants.{Publish, Enrol}
 use Rattle.nio_event.specs.declared.event.Event.{Event}
 use Rattle.nio_event.specs.declared.found.Stage.{Stage}
-use Rattle.nio_orderly.proofs.ActLists.{has_no_first, count-append, has_counts, until_released-append}
+use Rattle.nio_orderly.proofs.ActLists.{has_no_first, has_counts, until_released-append}
 use Rattle.nio_orderly.proofs.LookingBack.{MayPublish}
 use Rattle.nio_orderly.specs.Careful.{enrols_for, enrols_this_key, until_released, its_hold, KeepsRules, IsCareful}
 use Rattle.nio_orderly.specs.Careful.{BeginningsAreCareful}
+use Rattle.nio_steps.proofs.OwnActs.{mine-append}
+use Rattle.nio_steps.proofs.SelectionLaws.{count-append}
 
 -- who enrols a key for a channel enrols one for it
 pub key_enrolled_for : (c s i q : ℕ) (act : Act) → enrols_this_key c s i q act ≡ true → enrols_for c act ≡ true

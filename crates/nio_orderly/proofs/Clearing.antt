@@ -3,7 +3,7 @@
 use Rattle.std.proofs.Common.{◌≡◌, ℕ, ◌==◌, ◌<◌, Bool, true, false, cond, not, ◌&&◌, ◌||◌, ◌⊎◌, inl, inr, Option, Some}
 use Rattle.std.proofs.Common.{None, is_some, List, [], ◌∷◌, ◌++◌, refl, ap, sym, ◌∙◌, subst, eqb-true, arith}
 use Rattle.std.specs.Prelude.{nat_lt}
-use Rattle.std.proofs.lemmas.Bool.{and_parts, and_from}
+use Rattle.std.proofs.lemmas.Bool.{and_parts, and_from, false_from_ne_true}
 use Rattle.nio_base.specs.Limits.{IsFit}
 use Rattle.nio_base.specs.declared.limits.Limits.{Limits}
 use Rattle.nio_base.specs.declared.numbers.CallerNo.{CallerNo}
@@ -14,7 +14,7 @@ use Rattle.nio_event.proofs.Legal.{legal_more, legal_induction}
 use Rattle.nio_event.proofs.OneMore.{state_after-more, mine-own, mine-other, has-more}
 use Rattle.nio_event.proofs.PinLaws.{own_claims_stand}
 use Rattle.nio_event.proofs.Put.{put_keeps, put_at-there}
-use Rattle.nio_event.proofs.Soundness.{legal-sound, both_ways, not_true, pinned-claimed}
+use Rattle.nio_event.proofs.Soundness.{legal-sound, both_ways, pinned-claimed}
 use Rattle.nio_event.proofs.Within.{legal-within}
 use Rattle.nio_event.specs.Acts.{effect}
 use Rattle.nio_event.specs.Answers.{Answers}
@@ -87,7 +87,7 @@ unremoved_before : (l : Limits) (past : List Event) (e : Event) (n : CallerNo) (
     → IsLegal l past → IsStep l past e
     → own_claim s i (mine n past) ≡ Some claim → ((effect (state_after past) e.caller e.act).key s i).removed ≡ false
     → ((state_after past).key s i).removed ≡ false
-unremoved_before l past e n s i claim fit legal step its unremoved = not_true (st.key s i).removed (λ removed.
+unremoved_before l past e n s i claim fit legal step its unremoved = false_from_ne_true (st.key s i).removed (λ removed.
     both_ways ((effect st e.caller e.act).key s i).removed
     (stages_keep (λ _. Unit) st e.caller (λ a b k. st.pinned a b n.0 ≡ true → k.removed ≡ true)
     (removed_keeps (λ _. Unit) st n.0 (legal-sound l past legal) below) e.act tt step.answers s i (λ _. removed) pinned)
@@ -265,7 +265,7 @@ clearing_step l past e fit legal step careful s i n before closer coming =
     coming_then = coming_before l past e fit legal step careful s i shut coming
 
     unsettled : removes s i e.act ≡ false
-    unsettled = not_true (removes s i e.act) (λ told.
+    unsettled = false_from_ne_true (removes s i e.act) (λ told.
         both_ways (st'.key s i).removed (removed_now st me e.act s i told)
         (subst (λ x. (x.key s i).removed ≡ false) (state_after-more past e) coming.unremoved))
 
@@ -302,7 +302,7 @@ clearing_step l past e fit legal step careful s i n before closer coming =
     by_closer (inr shuts) = not_in (mine n (past ++ e ∷ [])) (none_by (is_by n e) refl)
       where
         none_before : has (enters s) (mine n past) ≡ false
-        none_before = not_true (has (enters s) (mine n past)) (λ had.
+        none_before = false_from_ne_true (has (enters s) (mine n past)) (λ had.
             let sound : IsSound st = legal-sound l past legal in
             both_ways (st.gate s).shut
             (sound.closer_shut s (sound.entered_closer s (entered_told l n past s legal had))) shuts.open_before)

@@ -8,6 +8,7 @@ use Rattle.nio_base.specs.declared.limits.Limits.{Limits}
 use Rattle.nio_base.specs.declared.numbers.ChanNo.{ChanNo}
 use Rattle.nio_base.specs.declared.numbers.KeyId.{KeyId}
 use Rattle.nio_base.specs.declared.numbers.SelNo.{SelNo}
+use Rattle.nio_event.proofs.LastsAlone.{same_two}
 use Rattle.nio_event.specs.OwnEvents.{has, is_outside, enters}
 use Rattle.nio_event.specs.Pins.{removes}
 use Rattle.nio_event.specs.Questions.{Question, question_of, answer_of}
@@ -17,9 +18,10 @@ use Rattle.nio_event.specs.declared.act.Act.TheVariants.{CancelKey, LookKeys, Lo
 use Rattle.nio_event.specs.declared.found.Stage.{Stage}
 use Rattle.nio_orderly.proofs.ActLists.{owes-settled}
 use Rattle.nio_orderly.proofs.Kept.{Kept, kept-append, kept-one, kept-none, kept-calm, kept-closing, kept-entering}
-use Rattle.nio_orderly.proofs.Kept.{calm, Keeps}
+use Rattle.nio_orderly.proofs.Kept.{calm, keeping}
 use Rattle.nio_orderly.proofs.ListWords.{has-first, has-second, has-neither, owes-later}
 use Rattle.nio_orderly.specs.Owed.{owes, closing_duty, clearing_duty, settles_key, looks_for_key}
+use Rattle.nio_steps.proofs.PlanWalks.{Walks}
 use Rattle.nio_steps.proofs.Walks.{Always, always_weaker, always_bind, always_sweep}
 use Rattle.nio_steps.specs.ChannelCalls.{cancel_at, cancel_enrolled, cancel_keys, close_channel_plan}
 use Rattle.nio_steps.specs.KeyCalls.{cancel_plan}
@@ -31,9 +33,6 @@ use Rattle.nio_steps.specs.Sweeps.{sweep_to}
 
 same_number : (n : ℕ) → (n == n) ≡ true
 same_number n = eq-eqb n n refl
-
-both_same : (m n : ℕ) → ((m == m) && (n == n)) ≡ true
-both_same m n = ap (λ b. b && (n == n)) (same_number m) ∙ same_number n
 
 -- ---- what an act is by its question
 
@@ -57,7 +56,7 @@ cancel-settles s k (CancelKey s' i found) asks =
     let second : i ≡ k.index = cc asks in
     ap (λ b. b || false)
     (ap (λ (x : SelNo). (x.0 == s.0) && (i == k.index)) first
-    ∙ (ap (λ (x : ℕ). (s.0 == s.0) && (x == k.index)) second ∙ both_same s.0 k.index))
+    ∙ (ap (λ (x : ℕ). (s.0 == s.0) && (x == k.index)) second ∙ same_two s.0 k.index))
 cancel-settles s k _ asks = absurd (cc asks)
 
 -- a key that its index hasn't, or that is removed, is found outside the key set
@@ -77,7 +76,7 @@ pin-settles s k (Pin s' i found) asks not_present =
     let first : s' ≡ s = cc asks in
     let second : i ≡ k.index = cc asks in
     let here : ((s'.0 == s.0) && (i == k.index)) ≡ true = ap (λ (x : SelNo). (x.0 == s.0) && (i == k.index)) first
-    ∙ (ap (λ (x : ℕ). (s.0 == s.0) && (x == k.index)) second ∙ both_same s.0 k.index) in
+    ∙ (ap (λ (x : ℕ). (s.0 == s.0) && (x == k.index)) second ∙ same_two s.0 k.index) in
     by_place ((s'.0 == s.0) && (i == k.index)) here
   where
     by_place : (b : Bool) → b ≡ true → is_outside k.serial (if b then Some found else None) ≡ true
@@ -255,7 +254,7 @@ keys_cancelled l c =
     (λ acts _ cancelled. subst (λ xs. Kept l (CloseBit c false ∷ xs)) (sym (append-nil acts))
     (kept-closing l c acts cancelled.kept cancelled.settled))
 
-pub close_channel-keeps : (l : Limits) (c : ChanNo) → Keeps l (close_channel_plan l c)
+pub close_channel-keeps : (l : Limits) (c : ChanNo) → Walks (keeping l) (close_channel_plan l c)
 unfolding close_channel_plan
 close_channel-keeps l c = record { always = λ act asks. by_act act asks }
   where
@@ -275,7 +274,7 @@ remove-removes s i (Remove s' i' found) asks =
     let first : s' ≡ s = cc asks in
     let second : i' ≡ i = cc asks in
     ap (λ (x : SelNo). (x.0 == s.0) && (i' == i)) first
-    ∙ (ap (λ (x : ℕ). (s.0 == s.0) && (x == i)) second ∙ both_same s.0 i)
+    ∙ (ap (λ (x : ℕ). (s.0 == s.0) && (x == i)) second ∙ same_two s.0 i)
 remove-removes s i _ asks = absurd (cc asks)
 
 -- the indexes below are removed
@@ -334,7 +333,7 @@ keys_removed l s = λ looked asks. by_act looked asks
         by_side acts removed i false high = refl
     by_act _ asks = absurd (cc asks)
 
-pub try_finish-keeps : {l : Limits} (s : SelNo) → Keeps l (try_finish_plan s)
+pub try_finish-keeps : {l : Limits} (s : SelNo) → Walks (keeping l) (try_finish_plan s)
 unfolding try_finish_plan
 try_finish-keeps {l = l} s = record { always = λ act asks. by_act act asks }
   where

@@ -4,14 +4,13 @@ use Rattle.std.proofs.Common.{◌∷◌, ◌++◌, take, drop, append_assoc, ref
 use Rattle.std.proofs.Common.{lit≤}
 use Rattle.std.specs.Prelude.{nat_lt}
 use Rattle.std.specs.List.{list_all}
-use Rattle.std.proofs.lemmas.Bool.{and_parts, and_from, ltb-true, eqb-false, ne_eqb}
+use Rattle.std.proofs.lemmas.Bool.{and_parts, and_from, ltb-true, eqb-false, ne_eqb, or_right}
 use Rattle.std.proofs.lemmas.List.{append-nil}
 use Rattle.nio_base.specs.Limits.{IsFit}
 use Rattle.nio_base.specs.declared.numbers.CallerNo.{CallerNo}
 use Rattle.nio_event.proofs.Legal.{not_empty, legal_beginning, legal_more}
 use Rattle.nio_event.proofs.OneMore.{mine-other}
 use Rattle.nio_event.proofs.Soundness.{both_ways}
-use Rattle.nio_event.proofs.Told.{or_right}
 use Rattle.nio_event.proofs.WorkedSteps.{worked_history_is_legal}
 use Rattle.nio_event.specs.Histories.{event_of, mine, IsLegal}
 use Rattle.nio_event.specs.OwnEvents.{OwnClaim, own_claim}
@@ -23,8 +22,8 @@ use Rattle.nio_orderly.proofs.ActLists.{split_last}
 use Rattle.nio_orderly.proofs.LookingBack.{MayPublish, CarefulAct, AreCarefulActs}
 use Rattle.nio_orderly.proofs.LookingBackLaw.{careful_from_acts}
 use Rattle.nio_orderly.proofs.Owed.{nothing_is_lost}
-use Rattle.nio_orderly.specs.Examples.{closed_meanwhile, DebtStands, unenrolled_key, CancellationIsLost}
 use Rattle.nio_orderly.specs.Careful.{IsCareful}
+use Rattle.nio_orderly.specs.Examples.{closed_meanwhile, DebtStands, unenrolled_key, CancellationIsLost}
 use Rattle.nio_orderly.specs.Owed.{publishes_key, closes, Duty, owes, publisher_duty, closing_duty, OwesSince, Owed}
 use Rattle.nio_steps.proofs.OwnActs.{mine-append}
 

@@ -1,6 +1,6 @@
 -- What whole calls keep, whatever their caller did before and does after them: each publish keeps the rules of
 -- careful histories, and of what a publish, a closing of a channel or an entering leaves to do, nothing is owed.
-use Rattle.std.proofs.Common.{◌≡◌, ℕ, zero, suc, ◌+◌, ◌-◌, ◌<◌, Bool, true, false, ◌||◌, if◌then◌else◌, Option, Some}
+use Rattle.std.proofs.Common.{◌≡◌, ℕ, ◌<◌, Bool, true, false, ◌||◌, if◌then◌else◌, Some}
 use Rattle.std.proofs.Common.{None, List, [], ◌∷◌, ◌++◌, refl, ap, sym, ◌∙◌, subst, append_assoc, ◌⊎◌, inl, inr}
 use Rattle.std.proofs.lemmas.List.{append-nil}
 use Rattle.nio_base.specs.declared.limits.Limits.{Limits}
@@ -8,7 +8,7 @@ use Rattle.nio_base.specs.declared.numbers.ChanNo.{ChanNo}
 use Rattle.nio_base.specs.declared.numbers.KeyId.{KeyId}
 use Rattle.nio_base.specs.declared.numbers.SelNo.{SelNo}
 use Rattle.nio_event.specs.OwnEvents.{OwnClaim, has, count, under, takes_hold, enters, releases, sets_mode, own_claim}
-use Rattle.nio_event.specs.Questions.{Question, Answer, question_of, answer_of}
+use Rattle.nio_event.specs.Questions.{Question, question_of}
 use Rattle.nio_event.specs.declared.act.Act.{Act}
 use Rattle.nio_event.specs.declared.act.Act.TheVariants.{Publish, CloseBit, Enter}
 use Rattle.nio_event.specs.declared.found.Stage.{Stage}
@@ -17,10 +17,7 @@ use Rattle.nio_orderly.proofs.ListWords.{InFirst, InSecond, split_at, has-first,
 use Rattle.nio_orderly.proofs.ListWords.{since_from-opened, until_released-append, is_prepared-grows, own_claim-later}
 use Rattle.nio_orderly.specs.Careful.{until_released, its_hold, enrols_for, enrols_this_key, is_prepared}
 use Rattle.nio_orderly.specs.Owed.{owes, publisher_duty, closing_duty, clearing_duty}
-use Rattle.nio_steps.proofs.Walks.{Always, always_weaker, always_bind, always_if, always_run}
-use Rattle.nio_steps.specs.Plan.{Plan, reply, ask, ◌>>=◌}
-use Rattle.nio_steps.specs.Runs.{Completes}
-use Rattle.nio_steps.specs.Sweeps.{sweep, sweep_to, found_or, seek, seek_to, sweep_over}
+use Rattle.nio_steps.proofs.PlanWalks.{Walk, is_plain, pinned_calm}
 
 -- ---- what is kept
 
@@ -269,68 +266,20 @@ kept-entering l s acts kept once settled = record {
 
 -- ---- of plans
 
--- each run of the plan is kept
-pub record Keeps (l : Limits) {R : Type 0} (plan : Plan R) : Type 0 where
-  pub always : Always (λ acts _. Kept l acts) plan
+pub plain_calm : (question : Question) → is_plain question ≡ true → calm question ≡ true
+plain_calm (Question.publish s i) is = absurd (cc is)
+plain_calm (Question.close_bit c) is = absurd (cc is)
+plain_calm (Question.enter s) is = absurd (cc is)
+plain_calm _ is = refl
 
-pub keeps_reply : {R : Type 0} {l : Limits} (r : R) → Keeps l (reply r)
-keeps_reply {l = l} r = record { always = kept-none l }
-
-pub keeps_ask : {R : Type 0} {l : Limits} (question : Question) (next : Answer → Plan R) → calm question ≡ true
-    → ((answer : Answer) → Keeps l (next answer)) → Keeps l (ask question next)
-keeps_ask {l = l} question next quiet later = record {
-  always = λ act asks.
-      always_weaker (λ acts _. Kept l acts) (λ acts _. Kept l (act ∷ acts)) (next (answer_of act))
-      (λ acts _ kept. kept-append l (act ∷ []) acts (kept-one l act (ap calm asks ∙ quiet)) kept)
-      (later (answer_of act)).always;
+abbrev pub keeping : Limits → Walk
+keeping l = record {
+  Holds = Kept l;
+  Calm = λ question. calm question ≡ true;
+  none = kept-none l;
+  append = kept-append l;
+  one = kept-one l;
+  plain = plain_calm;
+  pinned = λ s i. pinned_calm (Kept l) (kept-append l) s i (λ act asks. kept-one l act (ap calm asks))
+      (λ act asks. kept-one l act (ap calm asks));
 }
-
-pub keeps_bind : {A B : Type 0} {l : Limits} (plan : Plan A) (f : A → Plan B) → Keeps l plan → ((a : A) → Keeps l (f a))
-    → Keeps l (plan >>= f)
-keeps_bind {l = l} plan f here later = record {
-  always = always_bind (λ acts _. Kept l acts) (λ acts _. Kept l acts) plan f here.always
-      (λ xs a kept. always_weaker (λ acts _. Kept l acts) (λ acts _. Kept l (xs ++ acts)) (f a)
-      (λ acts _ more. kept-append l xs acts kept more) (later a).always);
-}
-
-pub keeps_if : {R : Type 0} {l : Limits} (b : Bool) (x y : Plan R) → Keeps l x → Keeps l y
-    → Keeps l (if b then x else y)
-keeps_if {l = l} b x y this that =
-    record { always = always_if (λ acts _. Kept l acts) b x y (λ _. this.always) (λ _. that.always) }
-
-keeps_turns : {A : Type 0} {l : Limits} (n i : ℕ) (f : ℕ → A → Plan A) (x : A) → ((k : ℕ) (y : A) → Keeps l (f k y))
-    → Keeps l (sweep n i f x)
-unfolding sweep
-keeps_turns zero i f x each = keeps_reply x
-keeps_turns (suc n) i f x each =
-    keeps_bind (f i x) (λ y. sweep n (i + 1) f y) (each i x) (λ y. keeps_turns n (i + 1) f y each)
-
-pub keeps_sweep : {A : Type 0} {l : Limits} (b i : ℕ) (f : ℕ → A → Plan A) (x : A) → ((k : ℕ) (y : A) → Keeps l (f k y))
-    → Keeps l (sweep_to b i f x)
-keeps_sweep b i f x each = keeps_turns (b - i) i f x each
-
-pub keeps_over : {X A : Type 0} {l : Limits} (xs : List X) (f : X → A → Plan A) (x : A)
-    → ((e : X) (y : A) → Keeps l (f e y)) → Keeps l (sweep_over xs f x)
-unfolding sweep_over
-keeps_over [] f x each = keeps_reply x
-keeps_over (e ∷ later) f x each =
-    keeps_bind (f e x) (λ y. sweep_over later f y) (each e x) (λ y. keeps_over later f y each)
-
-keeps_tries : {A : Type 0} {l : Limits} (n i : ℕ) (f : ℕ → Plan (Option A)) → ((k : ℕ) → Keeps l (f k))
-    → Keeps l (seek n i f)
-unfolding seek
-keeps_tries zero i f each = keeps_reply None
-keeps_tries {A = A} {l = l} (suc n) i f each =
-    keeps_bind (f i) (found_or (seek n (i + 1) f)) (each i) (by_found (keeps_tries n (i + 1) f each))
-  where
-    by_found : Keeps l (seek n (i + 1) f) → (here : Option A) → Keeps l (found_or (seek n (i + 1) f) here)
-    by_found later (Some x) = keeps_reply (Some x)
-    by_found later None = later
-
-pub keeps_seek : {A : Type 0} {l : Limits} (b i : ℕ) (f : ℕ → Plan (Option A)) → ((k : ℕ) → Keeps l (f k))
-    → Keeps l (seek_to b i f)
-keeps_seek b i f each = keeps_tries (b - i) i f each
-
-pub kept_run : {R : Type 0} (l : Limits) (plan : Plan R) (acts : List Act) (answer : R) → Keeps l plan
-    → Completes plan acts answer → Kept l acts
-kept_run l plan acts answer here run = always_run (λ xs _. Kept l xs) plan acts answer here.always run

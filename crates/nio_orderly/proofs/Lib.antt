@@ -14,7 +14,6 @@ pub mod CallLists
 pub mod ListWords
 pub mod Kept
 pub mod ClosingsKept
-pub mod CallsKept
 pub mod Registration
 pub mod OrderlyCare
 pub mod Examples

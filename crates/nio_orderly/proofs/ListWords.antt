@@ -52,10 +52,6 @@ split_at {X = X} (x ∷ first) second (y ∷ before) e later same = by_case (spl
               ap (λ (z : X). z ∷ before) (sym head) ∙ ap (λ zs. x ∷ zs) there.before_is;
         })
 
-pub nothing_there : {X : Type 0} (before : List X) (e : X) (later : List X) → [] ≡ before ++ e ∷ later → ⊥
-nothing_there [] e later same = cc
-nothing_there (x ∷ before) e later same = cc
-
 -- ---- whether there is such an act
 
 pub has-first : (p : Act → Bool) (xs ys : List Act) → has p xs ≡ true → has p (xs ++ ys) ≡ true
@@ -69,9 +65,6 @@ has-neither p xs ys first second = has-append p xs ys ∙ neither (has p xs) (ha
 
 pub has-not_first : (p : Act → Bool) (xs ys : List Act) → has p (xs ++ ys) ≡ false → has p xs ≡ false
 has-not_first p xs ys none = not_first (has p xs) (has p ys) (sym (has-append p xs ys) ∙ none)
-
-pub has-not_second : (p : Act → Bool) (xs ys : List Act) → has p (xs ++ ys) ≡ false → has p ys ≡ false
-has-not_second p xs ys none = not_second (has p xs) (has p ys) (sym (has-append p xs ys) ∙ none)
 
 -- an act that stands there is such a one, or is none where there is none
 pub has-at : (p : Act → Bool) (xs : List Act) (act : Act) (ys : List Act) → p act ≡ true → has p (xs ++ act ∷ ys) ≡ true
@@ -89,13 +82,6 @@ either_part p xs ys there = by_test (has p xs) refl (sym (has-append p xs ys) �
     by_test false is or = inr or
 
 -- ---- how many such acts there are
-
-pub count-none : (p : Act → Bool) (xs : List Act) → has p xs ≡ false → count p xs ≡ 0
-count-none p [] none = refl
-count-none p (x ∷ xs) none =
-    let here : cond {A = ℕ} (p x) 1 0 ≡ 0 = ap (λ b. cond b 1 0) (not_first (p x) (has p xs) none) in
-    let rest = count-none p xs (not_second (p x) (has p xs) none) in
-    omega (arith, sum_by-cons (λ y. cond {A = ℕ} (p y) 1 0) x xs, here, rest)
 
 pub count-one : (p : Act → Bool) (act : Act) → p act ≡ true → count p (act ∷ []) ≡ 1
 count-one p act such =

@@ -1,9 +1,8 @@
 -- A legal history whose acts keep the rules looking back is careful.
 use Rattle.std.proofs.Common.{◌≡◌, ℕ, ◌==◌, ◌+◌, Bool, true, false, cond, ◌||◌, Some, None, if◌then◌else◌, List, []}
-use Rattle.std.proofs.Common.{◌∷◌, ◌++◌, append_assoc, refl, ap, sym, ◌∙◌, subst, eqb-true, eq-eqb, arith}
-use Rattle.std.proofs.lemmas.Bool.{or_parts}
+use Rattle.std.proofs.Common.{◌∷◌, ◌++◌, append_assoc, refl, ap, sym, ◌∙◌, subst, eqb-true, eq-eqb}
+use Rattle.std.proofs.lemmas.Bool.{or_parts, or_right}
 use Rattle.std.proofs.lemmas.List.{append-nil}
-use Rattle.std.proofs.lemmas.List.Sums.{sum_by-cons}
 use Rattle.nio_base.specs.declared.limits.Limits.{Limits}
 use Rattle.nio_base.specs.declared.numbers.CallerNo.{CallerNo}
 use Rattle.nio_base.specs.declared.numbers.SelNo.{SelNo}
@@ -11,22 +10,22 @@ use Rattle.nio_event.proofs.LastsAlone.{had_stands}
 use Rattle.nio_event.proofs.Legal.{legal_beginning, legal_next}
 use Rattle.nio_event.proofs.OneMore.{since_from-more}
 use Rattle.nio_event.proofs.Soundness.{both_ways}
-use Rattle.nio_event.proofs.Told.{or_right}
 use Rattle.nio_event.specs.Answers.{Answers}
 use Rattle.nio_event.specs.Conditions.{is_held_by}
 use Rattle.nio_event.specs.Histories.{state_after, event_of, mine, IsStep, IsLegal}
-use Rattle.nio_event.specs.Permanent.{the_hold}
 use Rattle.nio_event.specs.OwnEvents.{OwnClaim, has, count, under, takes_hold, sets_mode, releases, own_claim}
+use Rattle.nio_event.specs.Permanent.{the_hold}
 use Rattle.nio_event.specs.State.{State}
 use Rattle.nio_event.specs.declared.act.Act.{Act}
 use Rattle.nio_event.specs.declared.act.Act.TheVariants.{Publish, Enrol, TryHoldBit, SetMode}
 use Rattle.nio_event.specs.declared.event.Event.{Event}
 use Rattle.nio_event.specs.declared.found.Stage.{Stage}
-use Rattle.nio_orderly.proofs.ActLists.{has-append, count-append}
+use Rattle.nio_orderly.proofs.ActLists.{has-append}
 use Rattle.nio_orderly.proofs.LookingBack.{publishes_any, MayPublish, CarefulAct, AreCarefulActs}
 use Rattle.nio_orderly.proofs.Published.{MayClaim, may_claim}
 use Rattle.nio_orderly.specs.Careful.{enrols_for, until_released, IsCareful}
 use Rattle.nio_steps.proofs.OwnActs.{Cut, cut_at, mine-own_first}
+use Rattle.nio_steps.proofs.SelectionLaws.{count-append, count-none}
 
 -- ---- a caller that has a hold doesn't take it
 
@@ -111,13 +110,6 @@ under-append c own (x ∷ done) none =
     ∙ (ap (λ acts. acts ++ done)
     (since_from-more (takes_hold c) own x ∙ ap (λ b. cond {A = List Act} b [] (under c own ++ x ∷ [])) both.0)
     ∙ append_assoc (under c own) (x ∷ []) done))
-
-count-none : (p : Act → Bool) (own : List Act) → has p own ≡ false → count p own ≡ 0
-count-none p [] none = refl
-count-none p (x ∷ own) none =
-    let both = or_parts (p x) (has p own) none in
-    let first : ◌≡◌ {A = ℕ} (cond (p x) 1 0) 0 = ap (λ b. cond b 1 0) both.0 in
-    omega (arith, sum_by-cons (λ y. cond (p y) 1 0) x own, first, count-none p own both.1)
 
 -- an act by which a key is enrolled for the channel, or its mode set
 abbrev spoils : ℕ → Act → Bool

@@ -11,138 +11,62 @@ use Rattle.nio_event.specs.declared.act.Act.{Act}
 use Rattle.nio_event.specs.declared.act.Act.TheVariants.{DrawBit, Publish, Enter}
 use Rattle.nio_event.specs.declared.found.Stage.{Stage}
 use Rattle.nio_orderly.proofs.ActLists.{owes-settled}
-use Rattle.nio_orderly.proofs.CallsKept.{find_selector-keeps, find_channel-keeps, find-keeps, is_valid-keeps}
-use Rattle.nio_orderly.proofs.CallsKept.{interest-keeps, set_interest-keeps, interest_or-keeps, interest_and-keeps}
-use Rattle.nio_orderly.proofs.CallsKept.{ready-keeps, cancel-keeps, unselect-keeps, attach-keeps, attachment-keeps}
-use Rattle.nio_orderly.proofs.CallsKept.{open_channel-keeps, is_open-keeps, is_blocking-keeps, is_registered-keeps}
-use Rattle.nio_orderly.proofs.CallsKept.{key_for-keeps, set_blocking-keeps, open_selector-keeps, begin-keeps}
-use Rattle.nio_orderly.proofs.CallsKept.{told-keeps, leave-keeps, shut-keeps, keys-keeps, selected_keys-keeps}
-use Rattle.nio_orderly.proofs.CallsKept.{wakeup-keeps, interrupt-keeps, interrupted-keeps, pipe-keeps, try_read-keeps}
-use Rattle.nio_orderly.proofs.CallsKept.{try_write-keeps}
 use Rattle.nio_orderly.proofs.Careful.{rules_before}
 use Rattle.nio_orderly.proofs.ClosingsKept.{close_channel-keeps, try_finish-keeps}
-use Rattle.nio_orderly.proofs.Kept.{PublishKept, EnterKept, Kept, kept-append, kept-none, kept-one, kept_run}
+use Rattle.nio_orderly.proofs.Kept.{PublishKept, EnterKept, Kept, kept-append, kept-none, kept-one, keeping}
 use Rattle.nio_orderly.proofs.Registration.{register-kept}
-use Rattle.nio_orderly.proofs.WaitedCalls.{waiting_calls_are_calls}
+use Rattle.nio_orderly.proofs.WaitedCalls.{calls_without_waiting}
 use Rattle.nio_orderly.specs.Careful.{KeepsRules}
-use Rattle.nio_orderly.specs.Made.{Made, IsRun, draw, find_selector, find_channel, find, is_valid, interest}
-use Rattle.nio_orderly.specs.Made.{set_interest, interest_or, interest_and, ready, cancel, unselect, attach, attachment}
-use Rattle.nio_orderly.specs.Made.{open_channel, is_open, is_blocking, is_registered, key_for, try_set_blocking}
-use Rattle.nio_orderly.specs.Made.{try_register, close_channel, open_selector, try_begin, told, leave, shut, try_finish}
-use Rattle.nio_orderly.specs.Made.{keys, selected_keys, wakeup, interrupt, interrupted, pipe, try_read, try_write}
-use Rattle.nio_orderly.specs.Made.{set_blocking, register, select, close, read, write, nothing_ongoing}
-use Rattle.nio_orderly.specs.OrderlyCare.{OrderlyIsCareful, WholeIsSettled}
-use Rattle.nio_orderly.specs.Waited.{waits}
+use Rattle.nio_orderly.specs.Made.{Made, draw, table_call, waiting_call, IsRun}
 use Rattle.nio_orderly.specs.Orderly.{AreRuns, HasMadeCalls}
+use Rattle.nio_orderly.specs.OrderlyCare.{OrderlyIsCareful, WholeIsSettled}
 use Rattle.nio_orderly.specs.Owed.{owes, publisher_duty, clearing_duty}
 use Rattle.nio_orderly.specs.Settled.{claimed_key, IsSettled}
-use Rattle.nio_steps.specs.ChannelCalls.{open_channel_plan, is_open_plan, is_blocking_plan, is_registered_plan}
-use Rattle.nio_steps.specs.ChannelCalls.{key_for_plan, try_set_blocking_plan, close_channel_plan}
-use Rattle.nio_steps.specs.KeyCalls.{find_selector_plan, find_channel_plan, find_plan, is_valid_plan, interest_plan}
-use Rattle.nio_steps.specs.KeyCalls.{set_interest_plan, interest_or_plan, interest_and_plan, ready_plan, cancel_plan}
-use Rattle.nio_steps.specs.KeyCalls.{unselect_plan, attach_plan, attachment_plan}
-use Rattle.nio_steps.specs.PipeCalls.{pipe_plan, pipe_lacks_memory, try_read_plan, try_write_plan}
-use Rattle.nio_steps.specs.SelectCalls.{open_selector_plan, try_begin_plan, begin_lacks_memory, told_plan, leave_plan}
-use Rattle.nio_steps.specs.SelectCalls.{shut_plan, try_finish_plan, keys_plan, selected_keys_plan, list_lacks_memory}
-use Rattle.nio_steps.specs.SelectCalls.{wakeup_plan, interrupt_plan, interrupted_plan}
+use Rattle.nio_orderly.specs.Waited.{waits}
+use Rattle.nio_steps.proofs.CallWalks.{each_call}
+use Rattle.nio_steps.proofs.PlanWalks.{walks_run}
+use Rattle.nio_steps.proofs.Walks.{always_weaker, always_itself}
+use Rattle.nio_steps.specs.ChannelCalls.{try_register_plan}
+use Rattle.nio_steps.specs.Runs.{Completes}
+use Rattle.nio_steps.specs.TableCalls.{TableCall, row_of}
 
 -- ---- each call, and lists of calls
 
--- a call that doesn't wait
-plain_is_kept : (l : Limits) (call : Made) (acts : List Act) → waits call ≡ false → IsRun l call acts → Kept l acts
-plain_is_kept l (draw n) acts is run = subst (Kept l) (sym run) (kept-one l (DrawBit n false) refl)
-plain_is_kept l (find_selector n answer) acts is run =
-    kept_run l (find_selector_plan l n) acts answer (find_selector-keeps l n) run
-plain_is_kept l (find_channel n answer) acts is run =
-    kept_run l (find_channel_plan l n) acts answer (find_channel-keeps l n) run
-plain_is_kept l (find s i serial answer) acts is run =
-    kept_run l (find_plan l s i serial) acts answer (find-keeps l s i serial) run
-plain_is_kept l (is_valid k answer) acts is run = kept_run l (is_valid_plan k) acts answer (is_valid-keeps k) run
-plain_is_kept l (interest k answer) acts is run = kept_run l (interest_plan k) acts answer (interest-keeps k) run
-plain_is_kept l (set_interest k ops answer) acts is run =
-    kept_run l (set_interest_plan k ops) acts answer (set_interest-keeps k ops) run
-plain_is_kept l (interest_or k ops answer) acts is run =
-    kept_run l (interest_or_plan k ops) acts answer (interest_or-keeps k ops) run
-plain_is_kept l (interest_and k ops answer) acts is run =
-    kept_run l (interest_and_plan k ops) acts answer (interest_and-keeps k ops) run
-plain_is_kept l (ready k answer) acts is run = kept_run l (ready_plan k) acts answer (ready-keeps k) run
-plain_is_kept l (cancel k) acts is run = kept_run l (cancel_plan k) acts tt (cancel-keeps k) run
-plain_is_kept l (unselect k answer) acts is run = kept_run l (unselect_plan k) acts answer (unselect-keeps k) run
-plain_is_kept l (attach k att answer) acts is run = kept_run l (attach_plan k att) acts answer (attach-keeps k att) run
-plain_is_kept l (attachment k answer) acts is run = kept_run l (attachment_plan k) acts answer (attachment-keeps k) run
-plain_is_kept l (open_channel kind answer) acts is run =
-    kept_run l (open_channel_plan l kind) acts answer (open_channel-keeps l kind) run
-plain_is_kept l (is_open c answer) acts is run = kept_run l (is_open_plan c) acts answer (is_open-keeps c) run
-plain_is_kept l (is_blocking c answer) acts is run =
-    kept_run l (is_blocking_plan c) acts answer (is_blocking-keeps c) run
-plain_is_kept l (is_registered c answer) acts is run =
-    kept_run l (is_registered_plan l c) acts answer (is_registered-keeps l c) run
-plain_is_kept l (key_for c s answer) acts is run = kept_run l (key_for_plan c s) acts answer (key_for-keeps c s) run
-plain_is_kept l (try_set_blocking c on answer) acts is run =
-    kept_run l (try_set_blocking_plan l c on) acts answer (set_blocking-keeps l c on) run
-plain_is_kept l (try_register s c ops att answer) acts is run = register-kept l s c ops att acts answer run
-plain_is_kept l (close_channel c answer) acts is run =
-    kept_run l (close_channel_plan l c) acts answer (close_channel-keeps l c) run
-plain_is_kept l (open_selector answer) acts is run =
-    kept_run l (open_selector_plan l) acts answer (open_selector-keeps l) run
-plain_is_kept l (try_begin s mode answer) acts is run =
-    kept_run l (try_begin_plan s mode (begin_lacks_memory answer)) acts answer
-    (begin-keeps s mode (begin_lacks_memory answer)) run
-plain_is_kept l (told selection poll answer) acts is run =
-    kept_run l (told_plan selection poll.pairs poll.elapsed) acts answer (told-keeps selection poll.pairs poll.elapsed)
-    run
-plain_is_kept l (leave selection) acts is run = kept_run l (leave_plan selection) acts tt (leave-keeps selection) run
-plain_is_kept l (shut s answer) acts is run = kept_run l (shut_plan s) acts answer (shut-keeps s) run
-plain_is_kept l (try_finish s answer) acts is run = kept_run l (try_finish_plan s) acts answer (try_finish-keeps s) run
-plain_is_kept l (keys s answer) acts is run =
-    kept_run l (keys_plan s (list_lacks_memory answer)) acts answer (keys-keeps s (list_lacks_memory answer)) run
-plain_is_kept l (selected_keys s answer) acts is run =
-    kept_run l (selected_keys_plan s (list_lacks_memory answer)) acts answer
-    (selected_keys-keeps s (list_lacks_memory answer)) run
-plain_is_kept l (wakeup s) acts is run = kept_run l (wakeup_plan s) acts tt (wakeup-keeps s) run
-plain_is_kept l (interrupt n) acts is run = kept_run l (interrupt_plan n) acts tt (interrupt-keeps n) run
-plain_is_kept l (interrupted answer) acts is run = kept_run l interrupted_plan acts answer interrupted-keeps run
-plain_is_kept l (pipe answer) acts is run =
-    kept_run l (pipe_plan l (pipe_lacks_memory answer)) acts answer (pipe-keeps l (pipe_lacks_memory answer)) run
-plain_is_kept l (try_read source answer) acts is run =
-    kept_run l (try_read_plan l source) acts answer (try_read-keeps l source) run
-plain_is_kept l (try_write source sink answer) acts is run =
-    kept_run l (try_write_plan l source sink) acts answer (try_write-keeps l source sink) run
-plain_is_kept l (set_blocking c on answer) acts is run = absurd (cc is)
-plain_is_kept l (register s c ops att answer) acts is run = absurd (cc is)
-plain_is_kept l (select s mode polls answer) acts is run = absurd (cc is)
-plain_is_kept l (close s answer) acts is run = absurd (cc is)
-plain_is_kept l (read source none answer) acts is run = absurd (cc is)
-plain_is_kept l (write source sink none answer) acts is run = absurd (cc is)
+pub table_call_is_kept : (l : Limits) (call : TableCall) (answer : (row_of call).Reply) (acts : List Act)
+    → IsRun l (table_call call answer) acts → Kept l acts
+table_call_is_kept l call answer acts run =
+    walks_run {w = keeping l} ((row_of call).plan l ((row_of call).lacks_memory answer)) acts answer
+    (each_call l ((row_of call).lacks_memory answer) call
+    (record {
+      registers = λ s c ops att. record {
+        always = always_weaker (Completes (try_register_plan l s c ops att)) (λ xs _. Kept l xs)
+            (try_register_plan l s c ops att) (register-kept l s c ops att)
+            (always_itself (try_register_plan l s c ops att));
+      };
+      closes = close_channel-keeps l;
+      finishes = λ s _. try_finish-keeps s;
+    })
+    (λ s _. record { gives = refl; marks = λ i from bits. refl; removes = λ i. refl })) run
 
-plain_are_kept : (l : Limits) (calls : List Made) (acts : List Act) → All (λ call. waits call ≡ false) calls
+unwaiting_is_kept : (l : Limits) (call : Made) (acts : List Act) → waits call ≡ false → IsRun l call acts → Kept l acts
+unwaiting_is_kept l (draw n) acts is run = subst (Kept l) (sym run) (kept-one l (DrawBit n false) refl)
+unwaiting_is_kept l (table_call call answer) acts is run = table_call_is_kept l call answer acts run
+unwaiting_is_kept l (waiting_call call answer) acts is run = absurd (cc is)
+
+unwaiting_are_kept : (l : Limits) (calls : List Made) (acts : List Act) → All (λ call. waits call ≡ false) calls
     → AreRuns l calls acts → Kept l acts
-plain_are_kept l [] acts plain none = subst (Kept l) (sym none) (kept-none l)
-plain_are_kept l (call ∷ calls) acts plain runs =
+unwaiting_are_kept l [] acts at_once none = subst (Kept l) (sym none) (kept-none l)
+unwaiting_are_kept l (call ∷ calls) acts at_once runs =
     subst (Kept l) (sym runs.parts)
     (kept-append l runs.first runs.second
-    (plain_is_kept l call runs.first (All-head (λ x. waits x ≡ false) call calls plain) runs.is_first)
-    (plain_are_kept l calls runs.second (All-tail (λ x. waits x ≡ false) call calls plain) runs.is_second))
+    (unwaiting_is_kept l call runs.first (All-head (λ x. waits x ≡ false) call calls at_once) runs.is_first)
+    (unwaiting_are_kept l calls runs.second (All-tail (λ x. waits x ≡ false) call calls at_once) runs.is_second))
 
 -- a call that waits is a list of those
-pub run_is_kept : (l : Limits) (call : Made) (acts : List Act) → IsRun l call acts → Kept l acts
-run_is_kept l call acts run = by_test (waits call) refl
-  where
-    by_test : (b : Bool) → waits call ≡ b → Kept l acts
-    by_test true is =
-        let calls = waiting_calls_are_calls l call acts nothing_ongoing is run in
-        plain_are_kept l calls.calls acts calls.unwaiting calls.runs
-    by_test false is = plain_is_kept l call acts is run
-
-pub runs_are_kept : (l : Limits) (calls : List Made) (acts : List Act) → AreRuns l calls acts → Kept l acts
-runs_are_kept l [] acts none = subst (Kept l) (sym none) (kept-none l)
-runs_are_kept l (call ∷ calls) acts runs =
-    subst (Kept l) (sym runs.parts)
-    (kept-append l runs.first runs.second (run_is_kept l call runs.first runs.is_first)
-    (runs_are_kept l calls runs.second runs.is_second))
-
 pub made_is_kept : (l : Limits) (acts : List Act) → HasMadeCalls l acts → Kept l acts
-made_is_kept l acts made = runs_are_kept l made.calls acts made.are.runs
+made_is_kept l acts made =
+    let its = calls_without_waiting l acts made.calls made.are in
+    unwaiting_are_kept l its.calls acts its.unwaiting its.runs
 
 -- ---- orderly histories are careful
 

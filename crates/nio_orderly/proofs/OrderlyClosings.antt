@@ -1,16 +1,16 @@
 -- What is left in orderly histories: what is owed, and what is left once a closing has answered.
 use Rattle.std.proofs.Common.{◌≡◌, ℕ, Bool, true, false, ◌||◌, if◌then◌else◌, Some, None, List, [], ◌∷◌, ◌++◌, refl, ap}
 use Rattle.std.proofs.Common.{sym, ◌∙◌, subst, append_assoc, eq-eqb, ◌⊎◌, inl, inr}
+use Rattle.std.proofs.lemmas.Bool.{false_from_ne_true}
 use Rattle.nio_base.specs.declared.limits.Limits.{Limits}
 use Rattle.nio_base.specs.declared.numbers.ChanNo.{ChanNo}
 use Rattle.nio_base.specs.declared.numbers.SelNo.{SelNo}
 use Rattle.nio_event.proofs.LastsOnceSound.{permanent_stands}
-use Rattle.nio_event.proofs.Soundness.{not_true}
 use Rattle.nio_event.proofs.Stays.{beginnings_are_legal}
 use Rattle.nio_event.specs.Conditions.{is_closer, is_held_by}
 use Rattle.nio_event.specs.Histories.{state_after, mine, event_of, IsLegal}
-use Rattle.nio_event.specs.Permanent.{selector_closed_by}
 use Rattle.nio_event.specs.OwnEvents.{has, since_first, since_entered, enters}
+use Rattle.nio_event.specs.Permanent.{selector_closed_by}
 use Rattle.nio_event.specs.Sets.{is_valid}
 use Rattle.nio_event.specs.declared.act.Act.{Act}
 use Rattle.nio_event.specs.declared.act.Act.TheVariants.{CloseBit, Enter}
@@ -20,18 +20,18 @@ use Rattle.nio_orderly.proofs.AfterClosing.{settled_loses_no_key}
 use Rattle.nio_orderly.proofs.CallLists.{whole_is_orderly, beginnings_are_orderly}
 use Rattle.nio_orderly.proofs.Kept.{EnterKept}
 use Rattle.nio_orderly.proofs.ListWords.{InFirst, InSecond, split_at, no_such_act, has-second, since_first-append}
-use Rattle.nio_orderly.proofs.OrderlyCare.{run_is_kept, made_is_kept, orderly_is_careful, whole_is_settled, Opened}
-use Rattle.nio_orderly.proofs.OrderlyCare.{first_opened, IsEnter, is_enter, enter_settled}
+use Rattle.nio_orderly.proofs.OrderlyCare.{table_call_is_kept, made_is_kept, orderly_is_careful, whole_is_settled}
+use Rattle.nio_orderly.proofs.OrderlyCare.{Opened, first_opened, IsEnter, is_enter, enter_settled}
 use Rattle.nio_orderly.proofs.Owed.{nothing_is_lost}
-use Rattle.nio_orderly.specs.Made.{close_channel, try_finish}
+use Rattle.nio_orderly.specs.Orderly.{IsOrderly}
 use Rattle.nio_orderly.specs.OrderlyCare.{OrderlyOwes, WholeLosesNoKey, CloseChannelCloses, FinishCloses}
 use Rattle.nio_orderly.specs.OrderlyCare.{AfterCloseChannel, NoKeyAfterCloseChannel, NoKeyAfterFinish, NoKeyAfterClose}
-use Rattle.nio_orderly.specs.Orderly.{IsOrderly}
 use Rattle.nio_orderly.specs.Owed.{owes, clearing_duty, key_of}
 use Rattle.nio_steps.proofs.OwnActs.{Cut, cut_at}
 use Rattle.nio_steps.specs.ChannelCalls.{close_channel_plan}
 use Rattle.nio_steps.specs.Runs.{Completes}
 use Rattle.nio_steps.specs.SelectCalls.{closed, try_finish_plan, ShutReply, closing, already_closed, ClosesRest}
+use Rattle.nio_steps.specs.TableCalls.{close_channel, try_finish}
 
 pub orderly_owes : OrderlyOwes
 orderly_owes l events fit legal orderly = nothing_is_lost l events fit legal (orderly_is_careful l events orderly)
@@ -64,8 +64,8 @@ close_channel_closes l n c events own acts did run = record {
   before = own;
   since = begins.later;
   did = did ∙ ap (λ xs. own ++ xs) begins.parts;
-  settled = λ s below k. (run_is_kept l (close_channel c true) acts run).closes [] c begins.later begins.parts s k
-      below;
+  settled = λ s below k. (table_call_is_kept l (close_channel c) true acts run).closes [] c begins.later begins.parts
+      s k below;
 }
   where
     begins : BeginsClosing c acts
@@ -78,7 +78,7 @@ after_close_channel l n c before after own acts fit goes_on legal orderly did ru
 
 pub no_key_after_close_channel : NoKeyAfterCloseChannel
 no_key_after_close_channel l n c before after own acts fit goes_on legal whole did run s i of_channel =
-    not_true (is_valid ((state_after after).key s i)) (λ valid.
+    false_from_ne_true (is_valid ((state_after after).key s i)) (λ valid.
     publisher_settled l after c.0 s (key_of (state_after after) s i) fit legal (λ m. whole_is_settled l after m whole)
     (after_close_channel l n c before after own acts fit goes_on legal (whole_is_orderly l after whole) did run s i
     valid of_channel))
@@ -148,7 +148,7 @@ finish_closes l n s events own acts legal orderly did run = record {
         ap (λ b. owes (clearing_duty s.0 i) (if b then begins.later else since_first (enters s.0) begins.later))
         (eq-eqb s.0 s.0 refl)
         ∙ enter_settled s begins.later
-        ((run_is_kept l (try_finish s closed) acts run).enters [] s begins.later begins.parts) i
+        ((table_call_is_kept l (try_finish s) closed acts run).enters [] s begins.later begins.parts) i
     by_test i true entered =
         owes-settled (clearing_duty s.0 i) since (Enter s None ∷ begins.later)
         (settled_before s since acts (begins.later ++ more) kept i)

@@ -14,16 +14,16 @@ use Rattle.nio_orderly.proofs.CallLists.{run_one}
 use Rattle.nio_orderly.proofs.Examples.{for_each_caller, cancellation_is_lost}
 use Rattle.nio_orderly.proofs.OrderlyCare.{orderly_is_careful}
 use Rattle.nio_orderly.specs.Examples.{unenrolled_key}
-use Rattle.nio_orderly.specs.Made.{Made, IsRun, draw, open_selector, open_channel, try_set_blocking, try_register}
-use Rattle.nio_orderly.specs.Made.{close_channel}
+use Rattle.nio_orderly.specs.Made.{Made, IsRun, draw, table_call}
+use Rattle.nio_orderly.specs.Orderly.{AreRuns, AreCallsOf, HasMadeCalls}
 use Rattle.nio_orderly.specs.OrderlyExamples.{closed_in_registration, its_key, calls_of_u, calls_of_v}
 use Rattle.nio_orderly.specs.OrderlyExamples.{ClosedInRegistration, StepsOfNoCalls}
-use Rattle.nio_orderly.specs.Orderly.{AreRuns, AreCallsOf, HasMadeCalls}
 use Rattle.nio_steps.specs.ChannelCalls.{open_channel_plan, try_set_blocking_plan, try_register_plan}
 use Rattle.nio_steps.specs.ChannelCalls.{close_channel_plan}
 use Rattle.nio_steps.specs.KeyCalls.{cancel_plan}
 use Rattle.nio_steps.specs.SelectCalls.{open_selector_plan}
 use Rattle.nio_steps.specs.Sweeps.{sweep, seek}
+use Rattle.nio_steps.specs.TableCalls.{open_selector, open_channel, try_set_blocking, try_register, close_channel}
 
 -- each of the events is a step, one after the other
 abbrev AreSteps : Limits → List Event → List Event → Type 0
@@ -121,42 +121,42 @@ own_u = mine u closed_in_registration
 abbrev own_v : List Act
 own_v = mine v closed_in_registration
 
-opens_selector : IsRun small_limits (open_selector (Ok s)) (take 1 (drop 1 own_u))
+opens_selector : IsRun small_limits (table_call open_selector (Ok s)) (take 1 (drop 1 own_u))
 unfolding open_selector_plan seek
 opens_selector = refl ▸ refl
 
-opens_channel : IsRun small_limits (open_channel Source (Ok c)) (take 3 (drop 2 own_u))
+opens_channel : IsRun small_limits (table_call (open_channel Source) (Ok c)) (take 3 (drop 2 own_u))
 unfolding open_channel_plan seek
 opens_channel = refl ▸ refl ▸ refl ▸ refl
 
-sets_blocking : IsRun small_limits (try_set_blocking c false (Ok tt)) (take 5 (drop 5 own_u))
+sets_blocking : IsRun small_limits (table_call (try_set_blocking c false) (Ok tt)) (take 5 (drop 5 own_u))
 unfolding try_set_blocking_plan
 sets_blocking = refl ▸ refl ▸ refl ▸ refl ▸ refl ▸ refl
 
-registers : IsRun small_limits (try_register s c 1 7 (Ok its_key)) (drop 10 own_u)
+registers : IsRun small_limits (table_call (try_register s c 1 7) (Ok its_key)) (drop 10 own_u)
 unfolding try_register_plan seek
 registers =
     refl ▸ refl ▸ refl ▸ refl ▸ refl ▸ refl ▸ refl ▸ refl ▸ refl ▸ refl ▸ refl ▸ refl ▸ refl ▸ refl ▸ refl ▸ refl ▸ refl
     ▸ refl
 
-closes_channel : IsRun small_limits (close_channel c true) (drop 1 own_v)
+closes_channel : IsRun small_limits (table_call (close_channel c) true) (drop 1 own_v)
 unfolding close_channel_plan cancel_plan sweep
 closes_channel = refl ▸ refl ▸ refl ▸ refl ▸ refl ▸ refl
 
 runs_u : AreRuns small_limits calls_of_u own_u
 runs_u =
     next_call small_limits (draw u) (drop 1 calls_of_u) (take 1 own_u) (drop 1 own_u) refl
-    (next_call small_limits (open_selector (Ok s)) (drop 2 calls_of_u) (take 1 (drop 1 own_u))
+    (next_call small_limits (table_call open_selector (Ok s)) (drop 2 calls_of_u) (take 1 (drop 1 own_u))
     (drop 2 own_u) opens_selector
-    (next_call small_limits (open_channel Source (Ok c)) (drop 3 calls_of_u) (take 3 (drop 2 own_u))
+    (next_call small_limits (table_call (open_channel Source) (Ok c)) (drop 3 calls_of_u) (take 3 (drop 2 own_u))
     (drop 5 own_u) opens_channel
-    (next_call small_limits (try_set_blocking c false (Ok tt)) (drop 4 calls_of_u) (take 5 (drop 5 own_u))
+    (next_call small_limits (table_call (try_set_blocking c false) (Ok tt)) (drop 4 calls_of_u) (take 5 (drop 5 own_u))
     (drop 10 own_u) sets_blocking
-    (run_one small_limits (try_register s c 1 7 (Ok its_key)) (drop 10 own_u) registers))))
+    (run_one small_limits (table_call (try_register s c 1 7) (Ok its_key)) (drop 10 own_u) registers))))
 
 runs_v : AreRuns small_limits calls_of_v own_v
 runs_v = next_call small_limits (draw v) (drop 1 calls_of_v) (take 1 own_v) (drop 1 own_v) refl
-    (run_one small_limits (close_channel c true) (drop 1 own_v) closes_channel)
+    (run_one small_limits (table_call (close_channel c) true) (drop 1 own_v) closes_channel)
 
 calls_u : AreCallsOf small_limits own_u calls_of_u
 calls_u = record { runs = runs_u; in_order = tt ▸ tt ▸ tt ▸ tt ▸ tt ▸ tt }

@@ -1,10 +1,9 @@
 -- Nothing is lost: the debts stand in every legal and careful history.
 use Rattle.std.proofs.Common.{◌≡◌, ℕ, true, false, not, inl, Option, Some, None, is_some, List, refl, ap, sym, ◌∙◌}
 use Rattle.std.proofs.Common.{subst}
-use Rattle.std.proofs.lemmas.Bool.{and_parts}
+use Rattle.std.proofs.lemmas.Bool.{and_parts, or_right}
 use Rattle.nio_base.specs.declared.numbers.CallerNo.{CallerNo}
 use Rattle.nio_event.proofs.Soundness.{legal-sound}
-use Rattle.nio_event.proofs.Told.{or_right}
 use Rattle.nio_event.specs.Histories.{state_after, mine}
 use Rattle.nio_event.specs.OwnEvents.{since_entered}
 use Rattle.nio_event.specs.Sets.{in_key_set, is_valid}

@@ -2,7 +2,7 @@
 -- non-blocking, and it is prepared.
 use Rattle.std.proofs.Common.{◌≡◌, ℕ, ◌==◌, ◌+◌, Bool, true, false, cond, not, ◌&&◌, ◌⊎◌, inl, inr, Option, Some, None}
 use Rattle.std.proofs.Common.{List, [], ◌∷◌, ◌++◌, refl, ap, sym, ◌∙◌, subst, eqb-true, arith}
-use Rattle.std.proofs.lemmas.Bool.{and_parts}
+use Rattle.std.proofs.lemmas.Bool.{and_parts, or_cases}
 use Rattle.nio_base.specs.Limits.{IsFit}
 use Rattle.nio_base.specs.declared.limits.Limits.{Limits}
 use Rattle.nio_base.specs.declared.numbers.CallerNo.{CallerNo}
@@ -16,12 +16,11 @@ use Rattle.nio_event.proofs.OneMore.{has-more}
 use Rattle.nio_event.proofs.PinLaws.{own_claims_stand}
 use Rattle.nio_event.proofs.Put.{put_at_keeps, put_at-there}
 use Rattle.nio_event.proofs.Soundness.{both_ways}
-use Rattle.nio_event.proofs.Told.{either}
 use Rattle.nio_event.specs.Acts.{effect}
 use Rattle.nio_event.specs.Conditions.{Condition, is_held_by, holds, may_publish}
 use Rattle.nio_event.specs.Histories.{state_after, mine, IsStep, IsLegal}
-use Rattle.nio_event.specs.Permanent.{the_hold}
 use Rattle.nio_event.specs.OwnEvents.{OwnClaim, has, count, under, own_claim, enrols_key, finds_unblocked}
+use Rattle.nio_event.specs.Permanent.{the_hold}
 use Rattle.nio_event.specs.Pins.{IsOfClaim}
 use Rattle.nio_event.specs.State.{State}
 use Rattle.nio_event.specs.declared.act.Act.{Act}
@@ -145,7 +144,7 @@ enrolled_under l n c s i q events legal held once had =
         more = sym (count-more (enrols_for c.0) did e.act) ∙ one
 
         had_or : (has (enrols_this_key c.0 s i q) did ≡ true) ⊎ (enrols_this_key c.0 s i q e.act ≡ true)
-        had_or = either (has (enrols_this_key c.0 s i q) did) (enrols_this_key c.0 s i q e.act)
+        had_or = or_cases (has (enrols_this_key c.0 s i q) did) (enrols_this_key c.0 s i q e.act)
             (sym (has-more (enrols_this_key c.0 s i q) did e.act) ∙ some)
 
         by_enrolling : (b : Bool) → enrols_for c.0 e.act ≡ b

@@ -20,14 +20,14 @@ use Rattle.nio_event.specs.declared.act.Act.TheVariants.{LookGate, CancelKey, Lo
 use Rattle.nio_event.specs.declared.act.Act.TheVariants.{Publish, Enrol, TryHoldBit, Release, SetMode, CloseBit, Enter}
 use Rattle.nio_event.specs.declared.act.Act.TheVariants.{Unpin, ClaimAgain}
 use Rattle.nio_event.specs.declared.found.Stage.{Stage}
-use Rattle.nio_orderly.proofs.ActLists.{count-append, owes-settled, since_first_none}
+use Rattle.nio_orderly.proofs.ActLists.{owes-settled, since_first_none}
 use Rattle.nio_orderly.proofs.Kept.{PublishKept, Kept, kept-calm, is_loud, first_or_later}
 use Rattle.nio_orderly.proofs.ListWords.{InFirst, InSecond, split_at, has-first, has-second, has-neither, no_such_act}
-use Rattle.nio_orderly.proofs.ListWords.{count-none, count-one, since_from-none, since_first-append}
-use Rattle.nio_orderly.proofs.ListWords.{until_released-done}
+use Rattle.nio_orderly.proofs.ListWords.{count-one, since_from-none, since_first-append, until_released-done}
 use Rattle.nio_orderly.specs.Careful.{enrols_for, enrols_this_key, claims, leaves_below, finds_open, until_released}
 use Rattle.nio_orderly.specs.Careful.{is_prepared}
 use Rattle.nio_orderly.specs.Owed.{owes, publisher_duty, settles_key}
+use Rattle.nio_steps.proofs.SelectionLaws.{count-append, count-none}
 use Rattle.nio_steps.specs.ChannelCalls.{under_hold, register_enrolled, register_over, claim_taken, claim_free}
 use Rattle.nio_steps.specs.ChannelCalls.{claim_at_bit, claim_in_word, search_free, words_below, claim_new, settle_key}
 use Rattle.nio_steps.specs.ChannelCalls.{publish_key, make_key, make_claimed, register_first, register_next}

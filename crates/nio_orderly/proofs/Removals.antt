@@ -28,7 +28,7 @@ use Rattle.nio_orderly.proofs.KeysStand.{keys_stand}
 use Rattle.nio_orderly.proofs.ListWords.{InFirst, InSecond, split_at, no_such_act, has-neither}
 use Rattle.nio_orderly.proofs.OrderlyCare.{orderly_is_careful}
 use Rattle.nio_orderly.specs.Careful.{IsCareful}
-use Rattle.nio_orderly.specs.Made.{Made, IsRun, try_begin, try_finish, select, close}
+use Rattle.nio_orderly.specs.Made.{Made, IsRun, table_call, waiting_call}
 use Rattle.nio_orderly.specs.Orderly.{IsOrderly}
 use Rattle.nio_orderly.specs.Owed.{looks_at_high}
 use Rattle.nio_orderly.specs.Removals.{MadeLast, did_begin, BeginRemovesCancelled, SelectRemovesCancelled}
@@ -42,11 +42,12 @@ use Rattle.nio_steps.proofs.OwnActs.{At, at_own, cut_at, mine-own_first, mine-ap
 use Rattle.nio_steps.proofs.Walks.{Always, always_if, always_bind, always_any, always_run}
 use Rattle.nio_steps.specs.Plan.{reply}
 use Rattle.nio_steps.specs.Runs.{Completes}
-use Rattle.nio_steps.specs.SelectCalls.{Selection, Begins, SelectsRest}
-use Rattle.nio_steps.specs.SelectCalls.{ShutReply, closing, already_closed, FinishReply, closed, busy, ClosesRest}
-use Rattle.nio_steps.specs.SelectCalls.{finish_finds_busy, remove_key, shut_plan, try_finish_plan}
+use Rattle.nio_steps.specs.SelectCalls.{Selection, Begins, SelectsRest, ShutReply, closing, already_closed, FinishReply}
+use Rattle.nio_steps.specs.SelectCalls.{closed, busy, ClosesRest, finish_finds_busy, remove_key, shut_plan}
+use Rattle.nio_steps.specs.SelectCalls.{try_finish_plan}
 use Rattle.nio_steps.specs.Steps.{holder_in, number_in}
 use Rattle.nio_steps.specs.Sweeps.{sweep_to}
+use Rattle.nio_steps.specs.TableCalls.{try_begin, try_finish, select, close}
 use Rattle.nio_steps.specs.Waiting.{Run, acts_of}
 use Rattle.nio_steps.specs.declared.refusal.BeginError.{BeginError}
 
@@ -202,7 +203,7 @@ begin_removes_cancelled l n before later s mode selection i serial made publishe
 )
   where
     call : Made
-    call = try_begin s mode (Ok selection)
+    call = table_call (try_begin s mode) (Ok selection)
 
     go : i < selection.bound → (was_removed ((state_after (before ++ later)).key s.0 i) serial ≡ true)
         × All (λ entry. ¬ ((entry.index ≡ i) × (entry.serial ≡ serial))) selection.looked
@@ -256,9 +257,9 @@ select_removes_cancelled l n before later s mode polls answer i serial made begu
             ∙ (ap (λ xs. xs ++ made.runs.second) made.runs.runs_first.parts
             ∙ append_assoc tries acts made.runs.second)
 
-        its : Amid l n before later (try_begin s mode (Ok selection))
-        its = amid l n before later (select s mode polls answer) (try_begin s mode (Ok selection)) tries acts
-            made.runs.second made own
+        its : Amid l n before later (table_call (try_begin s mode) (Ok selection))
+        its = amid l n before later (waiting_call (select s mode polls) answer)
+            (table_call (try_begin s mode) (Ok selection)) tries acts made.runs.second made own
             (subst (Begins s mode acts) answers made.runs.runs_first.made)
 
         legal_past : IsLegal l (before ++ its.past)
@@ -398,7 +399,7 @@ finish_removes_published l n before later s i serial made published =
         (legal_beginning l (before ++ at.past) (e ∷ at.later) legal_parts) (key_claimed s.0 i serial)
         (there_claimed ((state_after before).key s.0 i) serial there))
         (found_above l n before at.past at.later s found.mark i legal_parts
-        (there_below l n before later (try_finish s closed) made s.0 i serial there)))
+        (there_below l n before later (table_call (try_finish s) closed) made s.0 i serial there)))
       where
         found : FindsHigh s (mine n later)
         found = always_run (Looked s) (try_finish_plan s) (mine n later) closed (finish_looked s) made.runs
@@ -443,6 +444,7 @@ close_removes_published l n before later s i serial made published =
             ∙ (sym (append_assoc made.runs.first tries acts)
             ∙ ap (λ xs. (made.runs.first ++ tries) ++ xs) (sym (append-nil acts))))
 
-        its : Amid l n before later (try_finish s closed)
-        its = amid l n before later (close s true) (try_finish s closed) (made.runs.first ++ tries) acts [] made own
+        its : Amid l n before later (table_call (try_finish s) closed)
+        its = amid l n before later (waiting_call (close s) true) (table_call (try_finish s) closed)
+            (made.runs.first ++ tries) acts [] made own
             (subst (Completes (try_finish_plan s) acts) second.1.answers second.1.made)

@@ -3,7 +3,7 @@
 use Rattle.std.proofs.Common.{◌≡◌, ℕ, ◌==◌, ◌<◌, max, suc, true, false, Some, None, is_some, List, refl, sym, ◌∙◌}
 use Rattle.std.proofs.Common.{subst, eqb-true, arith}
 use Rattle.std.specs.Prelude.{nat_lt}
-use Rattle.std.proofs.lemmas.Bool.{and_parts, ltb-true, lt-ltb}
+use Rattle.std.proofs.lemmas.Bool.{and_parts, ltb-true, lt-ltb, or_right}
 use Rattle.nio_base.specs.declared.limits.Limits.{Limits}
 use Rattle.nio_base.specs.declared.numbers.CallerNo.{CallerNo}
 use Rattle.nio_event.proofs.Lasts.{keys_high_lasts, entered_lasts, made_lasts}
@@ -11,7 +11,7 @@ use Rattle.nio_event.proofs.Legal.{legal_induction}
 use Rattle.nio_event.proofs.OneMore.{state_after-more}
 use Rattle.nio_event.proofs.Put.{put_keeps, put_both, put-same, put_at_keeps}
 use Rattle.nio_event.proofs.Soundness.{legal-sound, held_some}
-use Rattle.nio_event.proofs.Told.{has_told, or_right}
+use Rattle.nio_event.proofs.Told.{has_told}
 use Rattle.nio_event.specs.Acts.{effect, new_key}
 use Rattle.nio_event.specs.Answers.{Answers}
 use Rattle.nio_event.specs.Conditions.{Condition}
@@ -103,8 +103,8 @@ enters_told st me act s told = absurd (cc told)
 pub entered_told : (l : Limits) (n : CallerNo) (events : List Event) (s : ℕ) → IsLegal l events
     → has (enters s) (mine n events) ≡ true → (state_after events).entered s ≡ true
 entered_told l n events s legal had = has_told l (enters s) (λ st. st.entered s)
-    (λ past e step. entered_lasts (state_after past) e.caller e.act s)
-    (λ past e step. enters_told (state_after past) e.caller e.act s)
+    (λ past e _ step. entered_lasts (state_after past) e.caller e.act s)
+    (λ past e _ step. enters_told (state_after past) e.caller e.act s)
     n events legal had
 
 -- an index that a caller found or raised the keys' high-water mark above is below the high-water mark
@@ -127,6 +127,6 @@ left_below st me act s i answers told = absurd (cc told)
 pub below_left : (l : Limits) (n : CallerNo) (events : List Event) (s i : ℕ) → IsLegal l events
     → has (leaves_below s i) (mine n events) ≡ true → nat_lt i ((state_after events).keys_high s) ≡ true
 below_left l n events s i legal had = has_told l (leaves_below s i) (λ st. nat_lt i (st.keys_high s))
-    (λ past e step before. lt-ltb i _ (keys_high_lasts (state_after past) e.caller e.act s i (ltb-true i _ before)))
-    (λ past e step. left_below (state_after past) e.caller e.act s i step.answers)
+    (λ past e _ step before. lt-ltb i _ (keys_high_lasts (state_after past) e.caller e.act s i (ltb-true i _ before)))
+    (λ past e _ step. left_below (state_after past) e.caller e.act s i step.answers)
     n events legal had

@@ -1,26 +1,27 @@
 -- A call that waits is a list of whole calls: the tries, and the one that says that it is over.
 use Rattle.std.proofs.Common.{◌≡◌, ℕ, ◌==◌, Bool, true, false, if◌then◌else◌, Option, Some, None, Result, Ok, Err, List}
-use Rattle.std.proofs.Common.{[], ◌∷◌, ◌++◌, refl, ap, sym, ◌∙◌, subst, eq-eqb}
+use Rattle.std.proofs.Common.{[], ◌∷◌, ◌++◌, refl, ap, sym, ◌∙◌, subst}
 use Rattle.std.specs.List.{All}
 use Rattle.std.proofs.lemmas.List.Elements.{All-nil, All-append, All-head, All-tail}
 use Rattle.nio_base.specs.declared.limits.Limits.{Limits}
-use Rattle.nio_base.specs.declared.numbers.ChanNo.{ChanNo}
 use Rattle.nio_base.specs.declared.numbers.SelNo.{SelNo}
+use Rattle.nio_event.proofs.Put.{put-same}
 use Rattle.nio_event.specs.Questions.{answer_of}
 use Rattle.nio_event.specs.State.{put}
 use Rattle.nio_event.specs.declared.act.Act.{Act}
 use Rattle.nio_event.specs.declared.found.Mode.{Mode}
 use Rattle.nio_orderly.proofs.CallLists.{runs_append, order_append, run_one}
-use Rattle.nio_orderly.specs.Made.{Made, IsRun, Ongoing, nothing_ongoing, selecting, closes_on, after_call, after_calls}
-use Rattle.nio_orderly.specs.Made.{MayCome, AreInOrder, try_set_blocking, try_register, try_begin, told, leave, shut}
-use Rattle.nio_orderly.specs.Made.{try_finish, try_read, try_write, set_blocking, register, select, close, read, write}
+use Rattle.nio_orderly.specs.Made.{Made, draw, IsRun, after_call, after_calls, table_call, waiting_call, MayCome}
+use Rattle.nio_orderly.specs.Made.{AreInOrder}
 use Rattle.nio_orderly.specs.Orderly.{AreRuns}
 use Rattle.nio_orderly.specs.Waited.{waits, AreCallsFrom, WaitingCallsAreCalls, CallsWithoutWaiting}
 use Rattle.nio_steps.proofs.BeginLaws.{begin-parts}
 use Rattle.nio_steps.proofs.Lists.{all-one}
 use Rattle.nio_steps.proofs.Walks.{Always, always_bind, always_if, always_any, always_run}
-use Rattle.nio_steps.specs.ChannelCalls.{try_set_blocking_plan, try_register_plan, finds_held}
-use Rattle.nio_steps.specs.PipeCalls.{Waits, waits_for_bytes, try_read_plan, try_write_plan}
+use Rattle.nio_steps.specs.ChannelCalls.{finds_held}
+use Rattle.nio_steps.specs.Ongoing.{Ongoing, nothing_ongoing, selecting, closes_on, changed, close_change}
+use Rattle.nio_steps.specs.Ongoing.{select_change}
+use Rattle.nio_steps.specs.PipeCalls.{waits_for_bytes}
 use Rattle.nio_steps.specs.Plan.{reply, ◌>>◌}
 use Rattle.nio_steps.specs.Runs.{Completes}
 use Rattle.nio_steps.specs.SelectCalls.{Selection, Begins, begin_finds_busy, Poll, Tells, goes_on_after, ToldReply}
@@ -30,6 +31,9 @@ use Rattle.nio_steps.specs.SelectCalls.{SelectsRest, ShutReply, closing, already
 use Rattle.nio_steps.specs.SelectCalls.{finish_finds_busy, ClosesRest, shut_plan, try_finish_plan}
 use Rattle.nio_steps.specs.Steps.{flag_in, gate_in, end_wake, give_turn}
 use Rattle.nio_steps.specs.Sweeps.{sweep_over}
+use Rattle.nio_steps.specs.TableCalls.{TableCall, row_of, try_set_blocking, try_register, try_begin, told, leave, shut}
+use Rattle.nio_steps.specs.TableCalls.{try_finish, try_read, try_write, set_blocking, register, select, close, read}
+use Rattle.nio_steps.specs.TableCalls.{write}
 use Rattle.nio_steps.specs.Waiting.{Then, Run, acts_of, Tries, Repeats, Retries}
 use Rattle.nio_steps.specs.declared.refusal.BeginError.{BeginError}
 use Rattle.nio_steps.specs.declared.selected.Selected.{Selected}
@@ -44,7 +48,7 @@ record CallsTo (l : Limits) (now : Ongoing) (acts : List Act) (Then' : Ongoing �
   in_order : AreInOrder now calls
   after : Then' (after_calls now calls)
 
-after_calls-append : (now : Ongoing) (calls later : List Made)
+pub after_calls-append : (now : Ongoing) (calls later : List Made)
     → after_calls now (calls ++ later) ≡ after_calls (after_calls now calls) later
 after_calls-append now [] later = refl
 after_calls-append now (call ∷ calls) later = after_calls-append (after_call now call) calls later
@@ -143,48 +147,21 @@ abbrev IsMadeOfCalls : {R : Type 0} → Limits → (List Act → R → Type 0) �
 IsMadeOfCalls {R} l Shape leaves = (now : Ongoing) (acts : List Act) (answer : R) → Shape acts answer
     → AreCallsFrom l now acts (leaves now answer)
 
-set_blocking-calls : (l : Limits) (c : ChanNo) (on : Bool)
-    → IsMadeOfCalls l (Retries (Completes (try_set_blocking_plan l c on)) finds_held) (λ now _. now)
-set_blocking-calls l c on now acts answer retries =
+-- one call again and again, which may always come and leaves what is in progress
+same-calls : {X : Type 0} (l : Limits) (call : TableCall) (goes_on : X → (row_of call).Reply → Bool)
+    → ((now : Ongoing) (answer : (row_of call).Reply)
+    → MayCome now (table_call call answer) × (after_call now (table_call call answer) ≡ now))
+    → (now : Ongoing) (acts : List Act) (answer : (row_of call).Reply)
+    → Repeats (λ (_ : X) xs r. IsRun l (table_call call r) xs) goes_on acts answer → AreCallsFrom l now acts now
+same-calls {X = X} l call goes_on stays now acts answer repeats =
     calls_from l now acts now
-    (repeats_calls l (λ (_ : Unit {0}). Completes (try_set_blocking_plan l c on)) (λ _. finds_held) (Now now)
-    (Now now) (λ _ r. try_set_blocking c on r)
-    (λ now' _ xs r here run _. (refl, run, tt, here)) acts answer retries
-    (λ now' _ xs here run. one_call l now' xs (Now now) (try_set_blocking c on answer) refl run tt here) now refl)
-
-register-calls : (l : Limits) (s : SelNo) (c : ChanNo) (ops att : ℕ)
-    → IsMadeOfCalls l (Retries (Completes (try_register_plan l s c ops att)) finds_held) (λ now _. now)
-register-calls l s c ops att now acts answer retries =
-    calls_from l now acts now
-    (repeats_calls l (λ (_ : Unit {0}). Completes (try_register_plan l s c ops att)) (λ _. finds_held) (Now now)
-    (Now now) (λ _ r. try_register s c ops att r)
-    (λ now' _ xs r here run _. (refl, run, tt, here)) acts answer retries
-    (λ now' _ xs here run. one_call l now' xs (Now now) (try_register s c ops att answer) refl run tt here) now
-    refl)
-
-read-calls : (l : Limits) (source : ChanNo) (none : Bool)
-    → IsMadeOfCalls l (Waits (try_read_plan l source) none) (λ now _. now)
-read-calls l source none now acts answer reads =
-    calls_from l now acts now
-    (repeats_calls l (λ (_ : Bool). Completes (try_read_plan l source)) waits_for_bytes (Now now) (Now now)
-    (λ _ r. try_read source r)
-    (λ now' _ xs r here run _. (refl, run, tt, here)) acts reads.found reads.runs
-    (λ now' _ xs here run. one_call l now' xs (Now now) (try_read source reads.found) refl run tt here) now refl)
-
-write-calls : (l : Limits) (source sink : ChanNo) (none : Bool)
-    → IsMadeOfCalls l (Waits (try_write_plan l source sink) none) (λ now _. now)
-write-calls l source sink none now acts answer writes =
-    calls_from l now acts now
-    (repeats_calls l (λ (_ : Bool). Completes (try_write_plan l source sink)) waits_for_bytes (Now now) (Now now)
-    (λ _ r. try_write source sink r)
-    (λ now' _ xs r here run _. (refl, run, tt, here)) acts writes.found writes.runs
-    (λ now' _ xs here run. one_call l now' xs (Now now) (try_write source sink writes.found) refl run tt here) now
-    refl)
+    (repeats_calls l (λ (_ : X) xs r. IsRun l (table_call call r) xs) goes_on (Now now) (Now now)
+    (λ _ r. table_call call r)
+    (λ now' _ xs r here run _. (refl, run, (stays now' r).0, (stays now' r).1 ∙ here)) acts answer repeats
+    (λ now' _ xs here run. one_call l now' xs (Now now) (table_call call answer) refl run (stays now' answer).0
+    ((stays now' answer).1 ∙ here)) now refl)
 
 -- ---- closing a selector
-
-put-there : {A : Type 0} (f : ℕ → A) (i : ℕ) (x : A) → put f i x i ≡ x
-put-there f i x = ap (λ b. if b then x else f i) (eq-eqb i i refl)
 
 put-twice : {A : Type 0} (f : ℕ → A) (i : ℕ) (x y : A) → put (put f i x) i y ≡ put f i y
 put-twice f i x y = λ j n. once n (n == i) j
@@ -194,24 +171,25 @@ put-twice f i x y = λ j n. once n (n == i) j
     once n false = refl
 
 close-calls : (l : Limits) (s : SelNo)
-    → IsMadeOfCalls l (Then (Completes (shut_plan s)) (ClosesRest s)) (λ now answer. after_call now (close s answer))
+    → IsMadeOfCalls l (Then (Completes (shut_plan s)) (ClosesRest s)) (λ now answer. changed now
+    (close_change s answer))
 close-calls l s now acts answer both =
-    subst (λ xs. AreCallsFrom l now xs (after_call now (close s answer))) (sym both.parts)
+    subst (λ xs. AreCallsFrom l now xs (changed now (close_change s answer))) (sym both.parts)
     (by_reply both.middle both.runs_first both.runs_second)
   where
     by_reply : (middle : ShutReply) → Completes (shut_plan s) both.first middle → ClosesRest s middle both.second answer
-        → AreCallsFrom l now (both.first ++ both.second) (after_call now (close s answer))
+        → AreCallsFrom l now (both.first ++ both.second) (changed now (close_change s answer))
     by_reply closing first second =
-        calls_from l now (both.first ++ both.second) (after_call now (close s answer))
-        (subst (λ b. CallsTo l now (both.first ++ both.second) (Now (after_call now (close s b)))) (sym second.0)
+        calls_from l now (both.first ++ both.second) (changed now (close_change s answer))
+        (subst (λ b. CallsTo l now (both.first ++ both.second) (Now (changed now (close_change s b)))) (sym second.0)
         (then_calls l now both.first both.second (Now shut_now) (Now (closes_on now s false))
-        (one_call l now both.first (Now shut_now) (shut s closing) refl first tt refl)
+        (one_call l now both.first (Now shut_now) (table_call (shut s) closing) refl first tt refl)
         (λ now' here. repeats_calls l (λ (_ : Unit {0}). Completes (try_finish_plan s)) (λ _. finish_finds_busy)
-        (Now shut_now) (Now (closes_on now s false)) (λ _ r. try_finish s r)
+        (Now shut_now) (Now (closes_on now s false)) (λ _ r. table_call (try_finish s) r)
         (λ now'' _ xs r here' run goes. (refl, run, may now'' here', still now'' r here' goes)) both.second closed
         second.1
-        (λ now'' _ xs here' run. one_call l now'' xs (Now (closes_on now s false)) (try_finish s closed) refl run
-        (may now'' here')
+        (λ now'' _ xs here' run. one_call l now'' xs (Now (closes_on now s false)) (table_call (try_finish s) closed)
+        refl run (may now'' here')
         (ap (λ n. closes_on n s false) here'
         ∙ ap (λ f. record now { closes = f }) (put-twice now.closes s.0 true false))) now' here)))
       where
@@ -219,23 +197,23 @@ close-calls l s now acts answer both =
         shut_now = closes_on now s true
 
         may : (now'' : Ongoing) → now'' ≡ shut_now → now''.closes s.0 ≡ true
-        may now'' here' = ap (λ n. n.closes s.0) here' ∙ put-there now.closes s.0 true
+        may now'' here' = ap (λ n. n.closes s.0) here' ∙ put-same now.closes s.0 true
 
         still : (now'' : Ongoing) (r : FinishReply) → now'' ≡ shut_now → finish_finds_busy r ≡ true
-            → after_call now'' (try_finish s r) ≡ shut_now
+            → after_call now'' (table_call (try_finish s) r) ≡ shut_now
         still now'' busy here' is = here'
         still now'' closed here' is = absurd (cc is)
     by_reply already_closed first second =
-        calls_from l now (both.first ++ both.second) (after_call now (close s answer))
-        (subst (λ b. CallsTo l now (both.first ++ both.second) (Now (after_call now (close s b)))) (sym second.0)
+        calls_from l now (both.first ++ both.second) (changed now (close_change s answer))
+        (subst (λ b. CallsTo l now (both.first ++ both.second) (Now (changed now (close_change s b)))) (sym second.0)
         (then_calls l now both.first both.second (Now now) (Now now)
-        (one_call l now both.first (Now now) (shut s already_closed) refl first tt refl)
+        (one_call l now both.first (Now now) (table_call (shut s) already_closed) refl first tt refl)
         (λ now' here. subst (λ xs. CallsTo l now' xs (Now now)) (sym second.1) (no_calls l now' (Now now) here))))
 
 -- ---- selecting
 
 -- a `told` that answers Again goes on with the same selection
-abbrev GoesOn : Selection → ToldReply → Type 0
+abbrev pub GoesOn : Selection → ToldReply → Type 0
 GoesOn selection (done answer) = Unit {0}
 GoesOn selection (again next) = next ≡ selection
 
@@ -247,7 +225,7 @@ ends-over selection answer =
     (λ _. (end_wake selection.selector >> give_turn selection.selector >> reply (done answer))) (always_any _)
     (λ _ _ _ woken asks given asks'. tt)
 
-told-goes_on : (selection : Selection) (pairs : List (ℕ × ℕ)) (elapsed : Bool)
+pub told-goes_on : (selection : Selection) (pairs : List (ℕ × ℕ)) (elapsed : Bool)
     → Always (λ _ r. GoesOn selection r) (told_plan selection pairs elapsed)
 unfolding told_plan
 told-goes_on selection pairs elapsed =
@@ -269,7 +247,7 @@ Selecting now selection = Now (selecting now selection.selector (Some selection)
 may_tell : (now : Ongoing) (selection : Selection) (now' : Ongoing) → Selecting now selection now'
     → now'.selection selection.selector.0 ≡ Some selection
 may_tell now selection now' here =
-    ap (λ n. n.selection selection.selector.0) here ∙ put-there now.selection selection.selector.0 (Some selection)
+    ap (λ n. n.selection selection.selector.0) here ∙ put-same now.selection selection.selector.0 (Some selection)
 
 then_selecting : (now : Ongoing) (selection : Selection) (now' : Ongoing) (x : Option Selection)
     → Selecting now selection now' → selecting now' selection.selector x ≡ selecting now selection.selector x
@@ -278,7 +256,8 @@ then_selecting now selection now' x here =
     ∙ ap (λ f. record now { selection = f }) (put-twice now.selection selection.selector.0 (Some selection) x)
 
 told-repeats : (l : Limits) (now : Ongoing) (selection : Selection)
-    → MayRepeat l (Tells selection) goes_on_after (Selecting now selection) (λ poll r. told selection poll r)
+    → MayRepeat l (Tells selection) goes_on_after (Selecting now selection)
+    (λ poll r. table_call (told selection poll) r)
 told-repeats l now selection now' poll acts (done answer) here run goes = absurd (cc goes)
 told-repeats l now selection now' poll acts (again next) here run goes =
     let same : next ≡ selection = always_run (λ _ r. GoesOn selection r) (told_plan selection poll.pairs poll.elapsed)
@@ -292,23 +271,23 @@ told-repeats l now selection now' poll acts (again next) here run goes =
 
 selection-calls : (l : Limits) (now : Ongoing) (polls : List Poll) (selection : Selection) (acts : List Act)
     (answer : SelectReply) → SelectsRest polls (Ok selection) acts answer
-    → (mode : Mode) (now' : Ongoing) → Selecting now selection now'
-    → CallsTo l now' acts (Now (after_call now (select selection.selector mode polls answer)))
-selection-calls l now polls selection acts (selected answer) rest mode now' here =
+    → (now' : Ongoing) → Selecting now selection now'
+    → CallsTo l now' acts (Now (changed now (select_change selection.selector answer)))
+selection-calls l now polls selection acts (selected answer) rest now' here =
     repeats_calls l (Tells selection) goes_on_after (Selecting now selection)
-    (Now (selecting now selection.selector None)) (λ poll r. told selection poll r)
+    (Now (selecting now selection.selector None)) (λ poll r. table_call (told selection poll) r)
     (told-repeats l now selection) acts (done answer) rest.tells
     (λ now'' poll xs here' run. one_call l now'' xs (Now (selecting now selection.selector None))
-    (told selection poll (done answer)) refl run (may_tell now selection now'' here')
+    (table_call (told selection poll) (done answer)) refl run (may_tell now selection now'' here')
     (then_selecting now selection now'' None here')) now' here
-selection-calls l now polls selection acts (not_begun refusal) rest mode now' here = absurd rest
-selection-calls l now polls selection acts left rest mode now' here =
+selection-calls l now polls selection acts (not_begun refusal) rest now' here = absurd rest
+selection-calls l now polls selection acts left rest now' here =
     subst (λ xs. CallsTo l now' xs (Now (selecting now selection.selector None))) (sym rest.parts)
     (then_calls l now' rest.told rest.leaves (Selecting now selection) (Now (selecting now selection.selector None))
-    (tries_calls l (Tells selection) goes_on_after (Selecting now selection) (λ poll r. told selection poll r)
-    (told-repeats l now selection) rest.told rest.tells now' here)
+    (tries_calls l (Tells selection) goes_on_after (Selecting now selection)
+    (λ poll r. table_call (told selection poll) r) (told-repeats l now selection) rest.told rest.tells now' here)
     (λ now'' here'. one_call l now'' rest.leaves (Now (selecting now selection.selector None))
-    (leave selection) refl rest.left (may_tell now selection now'' here')
+    (table_call (leave selection) tt) refl rest.left (may_tell now selection now'' here')
     (then_selecting now selection now'' None here')))
 
 -- what is in progress after a beginning
@@ -321,71 +300,77 @@ begins-calls : (l : Limits) (s : SelNo) (mode : Mode) (now : Ongoing) (answer : 
     → CallsTo l now' acts (AfterBegin now s answer)
 begins-calls l s mode now (Ok selection) acts begins now' here =
     let same : selection.selector ≡ s = (begin-parts s mode acts selection begins).selector in
-    one_call l now' acts (AfterBegin now s (Ok selection)) (try_begin s mode (Ok selection)) refl begins tt (
+    one_call l now' acts (AfterBegin now s (Ok selection)) (table_call (try_begin s mode) (Ok selection)) refl
+    begins tt (
       same,
       ap (λ n. selecting n s (Some selection)) here
           ∙ ap (λ (t : SelNo). selecting now t (Some selection)) (sym same),
     )
 begins-calls l s mode now (Err refusal) acts begins now' here =
-    one_call l now' acts (AfterBegin now s (Err refusal)) (try_begin s mode (Err refusal)) refl begins tt here
+    one_call l now' acts (AfterBegin now s (Err refusal)) (table_call (try_begin s mode) (Err refusal)) refl
+    begins tt here
 
 begins-repeat : (l : Limits) (s : SelNo) (mode : Mode) (now : Ongoing)
-    → MayRepeat l (λ (_ : Unit {0}). Begins s mode) (λ _. begin_finds_busy) (Now now) (λ _ r. try_begin s mode r)
+    → MayRepeat l (λ (_ : Unit {0}). Begins s mode) (λ _. begin_finds_busy) (Now now)
+    (λ _ r. table_call (try_begin s mode) r)
 begins-repeat l s mode now now' _ acts (Ok selection) here run goes = absurd (cc goes)
 begins-repeat l s mode now now' _ acts (Err refusal) here run goes = (refl, run, tt, here)
 
 select-calls : (l : Limits) (s : SelNo) (mode : Mode) (polls : List Poll)
     → IsMadeOfCalls l (Then (Retries (Begins s mode) begin_finds_busy) (SelectsRest polls))
-    (λ now answer. after_call now (select s mode polls answer))
+    (λ now answer. changed now (select_change s answer))
 select-calls l s mode polls now acts answer both =
-    subst (λ xs. AreCallsFrom l now xs (after_call now (select s mode polls answer))) (sym both.parts)
-    (calls_from l now (both.first ++ both.second) (after_call now (select s mode polls answer))
+    subst (λ xs. AreCallsFrom l now xs (changed now (select_change s answer))) (sym both.parts)
+    (calls_from l now (both.first ++ both.second) (changed now (select_change s answer))
     (then_calls l now both.first both.second (AfterBegin now s both.middle)
-    (Now (after_call now (select s mode polls answer)))
+    (Now (changed now (select_change s answer)))
     (repeats_calls l (λ (_ : Unit {0}). Begins s mode) (λ _. begin_finds_busy) (Now now) (AfterBegin now s both.middle)
-    (λ _ r. try_begin s mode r) (begins-repeat l s mode now) both.first both.middle both.runs_first
+    (λ _ r. table_call (try_begin s mode) r) (begins-repeat l s mode now) both.first both.middle both.runs_first
     (λ now' _ xs here begins. begins-calls l s mode now both.middle xs begins now' here) now refl)
     (by_beginning both.middle both.runs_second)))
   where
     by_beginning : (middle : Result Selection BeginError) → SelectsRest polls middle both.second answer
         → (now' : Ongoing) → AfterBegin now s middle now'
-        → CallsTo l now' both.second (Now (after_call now (select s mode polls answer)))
+        → CallsTo l now' both.second (Now (changed now (select_change s answer)))
     by_beginning (Ok selection) rest now' here =
-        subst (λ (t : SelNo). CallsTo l now' both.second (Now (after_call now (select t mode polls answer)))) here.0
-        (selection-calls l now polls selection both.second answer rest mode now' here.1)
+        subst (λ (t : SelNo). CallsTo l now' both.second (Now (changed now (select_change t answer)))) here.0
+        (selection-calls l now polls selection both.second answer rest now' here.1)
     by_beginning (Err refusal) rest now' here =
-        subst (λ (r : SelectReply). CallsTo l now' both.second (Now (after_call now (select s mode polls r))))
+        subst (λ (r : SelectReply). CallsTo l now' both.second (Now (changed now (select_change s r))))
         (sym rest.2)
         (subst (λ xs. CallsTo l now' xs (Now now)) (sym rest.0) (no_calls l now' (Now now) here))
 
 pub waiting_calls_are_calls : WaitingCallsAreCalls
-waiting_calls_are_calls l (set_blocking c on answer) acts now is run = set_blocking-calls l c on now acts answer run
-waiting_calls_are_calls l (register s c ops att answer) acts now is run =
-    register-calls l s c ops att now acts answer run
-waiting_calls_are_calls l (select s mode polls answer) acts now is run = select-calls l s mode polls now acts answer run
-waiting_calls_are_calls l (close s answer) acts now is run = close-calls l s now acts answer run
-waiting_calls_are_calls l (read source none answer) acts now is run = read-calls l source none now acts answer run
-waiting_calls_are_calls l (write source sink none answer) acts now is run =
-    write-calls l source sink none now acts answer run
-waiting_calls_are_calls l _ acts now is run = absurd (cc is)
+waiting_calls_are_calls l (draw n) acts now is run = absurd (cc is)
+waiting_calls_are_calls l (table_call call answer) acts now is run = absurd (cc is)
+waiting_calls_are_calls l (waiting_call (set_blocking c on) answer) acts now is run =
+    same-calls l (try_set_blocking c on) (λ (_ : Unit {0}). finds_held) (λ _ _. (tt, refl)) now acts answer run
+waiting_calls_are_calls l (waiting_call (register s c ops att) answer) acts now is run =
+    same-calls l (try_register s c ops att) (λ (_ : Unit {0}). finds_held) (λ _ _. (tt, refl)) now acts answer run
+waiting_calls_are_calls l (waiting_call (select s mode polls) answer) acts now is run =
+    select-calls l s mode polls now acts answer run
+waiting_calls_are_calls l (waiting_call (close s) answer) acts now is run = close-calls l s now acts answer run
+waiting_calls_are_calls l (waiting_call (read source none) answer) acts now is run =
+    same-calls l (try_read source) waits_for_bytes (λ _ _. (tt, refl)) now acts run.found run.runs
+waiting_calls_are_calls l (waiting_call (write source sink none) answer) acts now is run =
+    same-calls l (try_write source sink) waits_for_bytes (λ _ _. (tt, refl)) now acts run.found run.runs
 
 -- ---- lists of calls
 
 call_unwaiting : (l : Limits) (call : Made) (acts : List Act) (now : Ongoing) → IsRun l call acts → MayCome now call
     → CallsTo l now acts (Now (after_call now call))
-call_unwaiting l call acts now run may = by_test (waits call) refl
-  where
-    by_test : (b : Bool) → waits call ≡ b → CallsTo l now acts (Now (after_call now call))
-    by_test true is =
-        let its = waiting_calls_are_calls l call acts now is run in
-        record {
-          calls = its.calls;
-          unwaiting = its.unwaiting;
-          runs = its.runs;
-          in_order = its.in_order;
-          after = its.leaves;
-        }
-    by_test false is = one_call l now acts (Now (after_call now call)) call is run may refl
+call_unwaiting l (draw n) acts now run may = one_call l now acts (Now now) (draw n) refl run may refl
+call_unwaiting l (table_call call answer) acts now run may =
+    one_call l now acts (Now (after_call now (table_call call answer))) (table_call call answer) refl run may refl
+call_unwaiting l (waiting_call call answer) acts now run may =
+    let its = waiting_calls_are_calls l (waiting_call call answer) acts now refl run in
+    record {
+      calls = its.calls;
+      unwaiting = its.unwaiting;
+      runs = its.runs;
+      in_order = its.in_order;
+      after = its.leaves;
+    }
 
 calls_unwaiting : (l : Limits) (calls : List Made) (acts : List Act) (now now' : Ongoing) → now' ≡ now
     → AreRuns l calls acts → AreInOrder now calls → CallsTo l now' acts (Now (after_calls now calls))

@@ -5,7 +5,8 @@ use Rattle.nio_base.specs.declared.numbers.CallerNo.{CallerNo}
 use Rattle.nio_event.specs.Histories.{mine, event_of}
 use Rattle.nio_event.specs.declared.act.Act.{Act}
 use Rattle.nio_event.specs.declared.event.Event.{Event}
-use Rattle.nio_orderly.specs.Made.{Made, IsRun, nothing_ongoing, AreInOrder}
+use Rattle.nio_orderly.specs.Made.{Made, IsRun, AreInOrder}
+use Rattle.nio_steps.specs.Ongoing.{nothing_ongoing}
 
 -- a list in two parts, one after the other
 pub record Parts {X : Type 0} (First Second : List X → Type 0) (all : List X) : Type 0 where

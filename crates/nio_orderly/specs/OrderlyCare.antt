@@ -13,11 +13,12 @@ use Rattle.nio_event.specs.declared.act.Act.{Act}
 use Rattle.nio_event.specs.declared.event.Event.{Event}
 use Rattle.nio_orderly.specs.AfterClosing.{HasClosedChannel, HasClosedSelector}
 use Rattle.nio_orderly.specs.Careful.{IsCareful}
-use Rattle.nio_orderly.specs.Made.{IsRun, close_channel, try_finish, close}
+use Rattle.nio_orderly.specs.Made.{IsRun, table_call, waiting_call}
 use Rattle.nio_orderly.specs.Orderly.{IsWhole, IsOrderly}
 use Rattle.nio_orderly.specs.Owed.{publishes_key, publisher_duty, OwesSince, key_of, Owed}
 use Rattle.nio_orderly.specs.Settled.{IsSettled, HasNoLostKey}
 use Rattle.nio_steps.specs.SelectCalls.{closed}
+use Rattle.nio_steps.specs.TableCalls.{close_channel, try_finish, close}
 
 -- an orderly history is careful, legal or not
 abbrev pub OrderlyIsCareful : Type 0
@@ -44,14 +45,14 @@ WholeLosesNoKey = (l : Limits) (events : List Event) → IsFit l → IsLegal l e
 abbrev pub CloseChannelCloses : Type 0
 CloseChannelCloses =
     (l : Limits) (n : CallerNo) (c : ChanNo) (events : List Event) (own acts : List Act)
-    → mine n events ≡ own ++ acts → IsRun l (close_channel c true) acts → HasClosedChannel l n c events
+    → mine n events ≡ own ++ acts → IsRun l (table_call (close_channel c) true) acts → HasClosedChannel l n c events
 
 -- a `try_finish` that answers Closed has closed the selector, and owes the clearing out of no index
 abbrev pub FinishCloses : Type 0
 FinishCloses =
     (l : Limits) (n : CallerNo) (s : SelNo) (events : List Event) (own acts : List Act) → IsLegal l events
     → IsOrderly l events
-    → mine n events ≡ own ++ acts → IsRun l (try_finish s closed) acts → HasClosedSelector n s events
+    → mine n events ≡ own ++ acts → IsRun l (table_call (try_finish s) closed) acts → HasClosedSelector n s events
 
 -- After a `close_channel` that answers true, of each valid key of the channel its publisher owes the cancelling,
 -- ever after.
@@ -59,7 +60,7 @@ abbrev pub AfterCloseChannel : Type 0
 AfterCloseChannel =
     (l : Limits) (n : CallerNo) (c : ChanNo) (before after : List Event) (own acts : List Act) → IsFit l
     → IsPrefix before after → IsLegal l after → IsOrderly l after
-    → mine n before ≡ own ++ acts → IsRun l (close_channel c true) acts
+    → mine n before ≡ own ++ acts → IsRun l (table_call (close_channel c) true) acts
     → (s i : ℕ) → IsTrue (is_valid ((state_after after).key s i)) → ((state_after after).key s i).chan ≡ c
     → OwesSince after (publishes_key c.0 s (key_of (state_after after) s i))
     (publisher_duty c.0 s (key_of (state_after after) s i))
@@ -69,7 +70,7 @@ abbrev pub NoKeyAfterCloseChannel : Type 0
 NoKeyAfterCloseChannel =
     (l : Limits) (n : CallerNo) (c : ChanNo) (before after : List Event) (own acts : List Act) → IsFit l
     → IsPrefix before after → IsLegal l after → IsWhole l after
-    → mine n before ≡ own ++ acts → IsRun l (close_channel c true) acts
+    → mine n before ≡ own ++ acts → IsRun l (table_call (close_channel c) true) acts
     → (s i : ℕ) → ((state_after after).key s i).chan ≡ c → IsFalse (is_valid ((state_after after).key s i))
 
 -- after a `try_finish` that answers Closed no key of the selector is valid, ever after
@@ -77,7 +78,7 @@ abbrev pub NoKeyAfterFinish : Type 0
 NoKeyAfterFinish =
     (l : Limits) (n : CallerNo) (s : SelNo) (before after : List Event) (own acts : List Act) → IsFit l
     → IsPrefix before after → IsLegal l after → IsOrderly l after
-    → mine n before ≡ own ++ acts → IsRun l (try_finish s closed) acts
+    → mine n before ≡ own ++ acts → IsRun l (table_call (try_finish s) closed) acts
     → (i : ℕ) → IsFalse (is_valid ((state_after after).key s.0 i))
 
 -- so it is after a `close` that answers true
@@ -85,5 +86,5 @@ abbrev pub NoKeyAfterClose : Type 0
 NoKeyAfterClose =
     (l : Limits) (n : CallerNo) (s : SelNo) (before after : List Event) (own acts : List Act) → IsFit l
     → IsPrefix before after → IsLegal l after → IsOrderly l after
-    → mine n before ≡ own ++ acts → IsRun l (close s true) acts
+    → mine n before ≡ own ++ acts → IsRun l (waiting_call (close s) true) acts
     → (i : ℕ) → IsFalse (is_valid ((state_after after).key s.0 i))

@@ -11,9 +11,9 @@ use Rattle.nio_event.specs.declared.act.Act.TheVariants.{Publish, LookReg, Enrol
 use Rattle.nio_event.specs.declared.act.Act.TheVariants.{TryHoldBit, Release, SetMode, CloseBit, Pin, Unpin}
 use Rattle.nio_event.specs.declared.event.Event.{Event}
 use Rattle.nio_orderly.specs.Examples.{unenrolled_key}
-use Rattle.nio_orderly.specs.Made.{Made, draw, open_selector, open_channel, try_set_blocking, try_register}
-use Rattle.nio_orderly.specs.Made.{close_channel}
+use Rattle.nio_orderly.specs.Made.{Made, draw, table_call}
 use Rattle.nio_orderly.specs.Orderly.{AreCallsOf, IsWhole, IsOrderly}
+use Rattle.nio_steps.specs.TableCalls.{open_selector, open_channel, try_set_blocking, try_register, close_channel}
 
 -- caller u opens a selector and a channel and registers the channel; caller v closes the channel when u has published
 -- the key, and u finds it closed
@@ -63,11 +63,14 @@ its_key = record { sel = s; index = 0; serial = 0 }
 
 abbrev pub calls_of_u : List Made
 calls_of_u =
-    draw u ∷ open_selector (Ok s) ∷ open_channel Source (Ok c) ∷ try_set_blocking c false (Ok tt) ∷ try_register s c 1 7
-    (Ok its_key) ∷ []
+    draw u ∷
+    table_call open_selector (Ok s) ∷
+    table_call (open_channel Source) (Ok c) ∷
+    table_call (try_set_blocking c false) (Ok tt) ∷
+    table_call (try_register s c 1 7) (Ok its_key) ∷ []
 
 abbrev pub calls_of_v : List Made
-calls_of_v = draw v ∷ close_channel c true ∷ []
+calls_of_v = draw v ∷ table_call (close_channel c) true ∷ []
 
 -- the history is legal and whole
 pub record ClosedInRegistration : Type 0 where

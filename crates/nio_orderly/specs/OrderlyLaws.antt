@@ -5,8 +5,9 @@ use Rattle.nio_base.specs.declared.numbers.CallerNo.{CallerNo}
 use Rattle.nio_event.specs.Histories.{mine, event_of}
 use Rattle.nio_event.specs.declared.act.Act.{Act}
 use Rattle.nio_event.specs.declared.event.Event.{Event}
-use Rattle.nio_orderly.specs.Made.{Made, IsRun, nothing_ongoing, after_calls, MayCome}
+use Rattle.nio_orderly.specs.Made.{Made, IsRun, after_calls, MayCome}
 use Rattle.nio_orderly.specs.Orderly.{AreCallsOf, MakesCalls, IsWhole, IsOrderly, MadeBy, calls_of, IsSerial}
+use Rattle.nio_steps.specs.Ongoing.{nothing_ongoing}
 
 -- a beginning of an orderly history is orderly
 abbrev pub BeginningsAreOrderly : Type 0

@@ -13,10 +13,11 @@ use Rattle.nio_event.specs.Sets.{was_claimed, was_published, was_cancelled, was_
 use Rattle.nio_event.specs.declared.act.Act.TheVariants.{LookKeys}
 use Rattle.nio_event.specs.declared.event.Event.{Event}
 use Rattle.nio_event.specs.declared.found.Mode.{Mode}
-use Rattle.nio_orderly.specs.Made.{Made, IsRun, try_begin, told, try_finish, select, close}
+use Rattle.nio_orderly.specs.Made.{Made, IsRun, table_call, waiting_call}
 use Rattle.nio_orderly.specs.Orderly.{IsOrderly}
 use Rattle.nio_steps.specs.SelectCalls.{Selection, Poll, done, SelectReply, selected, not_begun, left, closed}
 use Rattle.nio_steps.specs.Selections.{IsBegun}
+use Rattle.nio_steps.specs.TableCalls.{try_begin, told, try_finish, select, close}
 use Rattle.nio_steps.specs.declared.looked.LookedKey.{LookedKey}
 use Rattle.nio_steps.specs.declared.selected.Selected.{Selected}
 
@@ -36,7 +37,7 @@ abbrev pub BeginRemovesCancelled : Type 0
 BeginRemovesCancelled =
     (l : Limits) (n : CallerNo) (before later : List Event) (s : SelNo) (mode : Mode) (selection : Selection)
     (i serial : ℕ)
-    → MadeLast l n before later (try_begin s mode (Ok selection))
+    → MadeLast l n before later (table_call (try_begin s mode) (Ok selection))
     → IsTrue (was_published ((state_after before).key s.0 i) serial)
     → IsTrue (was_cancelled ((state_after before).key s.0 i) serial)
     → IsTrue (was_removed ((state_after (before ++ later)).key s.0 i) serial)
@@ -53,7 +54,7 @@ abbrev pub SelectRemovesCancelled : Type 0
 SelectRemovesCancelled =
     (l : Limits) (n : CallerNo) (before later : List Event) (s : SelNo) (mode : Mode) (polls : List Poll)
     (answer : SelectReply) (i serial : ℕ)
-    → MadeLast l n before later (select s mode polls answer) → IsTrue (did_begin answer)
+    → MadeLast l n before later (waiting_call (select s mode polls) answer) → IsTrue (did_begin answer)
     → IsTrue (was_published ((state_after before).key s.0 i) serial)
     → IsTrue (was_cancelled ((state_after before).key s.0 i) serial)
     → IsTrue (was_removed ((state_after (before ++ later)).key s.0 i) serial)
@@ -66,7 +67,7 @@ ToldRemovesCancelled =
     (l : Limits) (n : CallerNo) (before later : List Event) (selection : Selection) (poll : Poll) (answer : Selected)
     (entry : LookedKey)
     → IsLegal l (before ++ later) → IsBegun (mine n before) selection
-    → IsRun l (told selection poll (done answer)) (mine n later)
+    → IsRun l (table_call (told selection poll) (done answer)) (mine n later)
     → Contains selection.looked entry
     → IsTrue (was_cancelled ((state_after before).key selection.selector.0 entry.index) entry.serial)
     → IsTrue (was_removed ((state_after (before ++ later)).key selection.selector.0 entry.index) entry.serial)
@@ -80,7 +81,7 @@ abbrev pub CloseRemovesBelow : Type 0
 CloseRemovesBelow =
     (l : Limits) (n : CallerNo) (before looked later : List Event) (s : SelNo) (mark i serial : ℕ)
     → let call = looked ++ event_of n (LookKeys s mark) ∷ later in
-    IsLegal l (before ++ call) → IsRun l (close s true) (mine n call)
+    IsLegal l (before ++ call) → IsRun l (waiting_call (close s) true) (mine n call)
     → IsTrue (was_claimed ((state_after (before ++ looked)).key s.0 i) serial) → i < mark
     → IsTrue (was_removed ((state_after (before ++ call)).key s.0 i) serial)
 
@@ -88,7 +89,7 @@ CloseRemovesBelow =
 abbrev pub FinishRemovesPublished : Type 0
 FinishRemovesPublished =
     (l : Limits) (n : CallerNo) (before later : List Event) (s : SelNo) (i serial : ℕ)
-    → MadeLast l n before later (try_finish s closed)
+    → MadeLast l n before later (table_call (try_finish s) closed)
     → IsTrue (was_published ((state_after before).key s.0 i) serial)
     → IsTrue (was_removed ((state_after (before ++ later)).key s.0 i) serial)
 
@@ -97,6 +98,6 @@ FinishRemovesPublished =
 abbrev pub CloseRemovesPublished : Type 0
 CloseRemovesPublished =
     (l : Limits) (n : CallerNo) (before later : List Event) (s : SelNo) (i serial : ℕ)
-    → MadeLast l n before later (close s true)
+    → MadeLast l n before later (waiting_call (close s) true)
     → IsTrue (was_published ((state_after before).key s.0 i) serial)
     → IsTrue (was_removed ((state_after (before ++ later)).key s.0 i) serial)

@@ -3,14 +3,16 @@ use Rattle.std.proofs.Common.{◌≡◌, ℕ, ◌+◌, ◌-◌, ◌%◌, ◌^◌
 use Rattle.std.proofs.Common.{◌∷◌, ◌++◌, length, min, take, drop, Option, Some, None, refl, ap, sym, ◌∙◌, subst, arith}
 use Rattle.std.proofs.Common.{length-append}
 use Rattle.std.specs.Prelude.{is_some, IfSome, IfNone}
-use Rattle.std.proofs.lemmas.List.{append-nil, length-take-le, length-take, take-append-le, take-append-drop}
+use Rattle.std.proofs.lemmas.List.{append-nil, length-take-le, length-take, nil_from_length, take-append-le}
+use Rattle.std.proofs.lemmas.List.{take-append-drop}
 use Rattle.std.proofs.lemmas.Slice.{drop-append-drop}
 use Rattle.std.proofs.Math.Seq.{take-append-add, take-length}
+use Rattle.nio_event.proofs.Clauses.{prefix_trans}
 use mathlib.Core.List.{IsPrefix}
-use Rattle.nio_words.proofs.Beginnings.{prefix_self, prefix_length, prefix_trans, prefix_whole}
+use Rattle.nio_words.proofs.Beginnings.{prefix_self, prefix_length, prefix_whole}
+use Rattle.nio_pipe.proofs.Rings.{ring_then}
 use Rattle.nio_pipe.specs.Counts.{count_of, seals_left, seals_taken, left_to, known_of, IsReached}
-use Rattle.nio_pipe.specs.Answers.{read_answer}
-use Rattle.nio_pipe.specs.Ends.{GivesBytes, IsAtEnd, IsSameSource, KnowsNothing, SourceLooks, known, knows_end}
+use Rattle.nio_pipe.specs.Ends.{GivesBytes, IsSameSource, KnowsNothing, SourceLooks, known, knows_end}
 use Rattle.nio_pipe.specs.Ends.{received, IsSameSink, SinkLooks, TakesBytes, sent, free, is_sealed}
 use Rattle.nio_pipe.specs.declared.sink.PipeSink.{PipeSink}
 use Rattle.nio_pipe.specs.declared.source.PipeSource.{PipeSource}
@@ -58,26 +60,14 @@ gives_after {a = a} {b = b} {c = c} {after = after} {n = n} looks gives = record
   no_more = λ knows. sym (looks.no_more knows) ∙ gives.no_more (looks.end_stays knows);
 }
 
-same_source : {a b c : PipeSource} → IsSameSource a b → IsSameSource b c → IsSameSource a c
-same_source first second = record {
+pub same_source : {a b c : PipeSource} → IsSameSource a b → IsSameSource b c → IsSameSource a c
+same_source {a} {b} {c} first second = record {
   bytes = (
-    (
-      second.bytes.0.0 ∙ first.bytes.0.0,
-      second.bytes.0.1 ∙ first.bytes.0.1,
-      second.bytes.0.2
-          ∙ first.bytes.0.2,
-      second.bytes.0.3 ∙ first.bytes.0.3,
-    ),
+    ring_then a.bytes.end b.bytes.end c.bytes.end first.bytes.0 second.bytes.0,
     second.bytes.1 ∙ first.bytes.1,
   );
   seals = (
-    (
-      second.seals.0.0 ∙ first.seals.0.0,
-      second.seals.0.1 ∙ first.seals.0.1,
-      second.seals.0.2
-          ∙ first.seals.0.2,
-      second.seals.0.3 ∙ first.seals.0.3,
-    ),
+    ring_then a.seals.end b.seals.end c.seals.end first.seals.0 second.seals.0,
     second.seals.1 ∙ first.seals.1,
   );
   channel = second.channel ∙ first.channel;
@@ -94,7 +84,7 @@ looks_more {a = a} {b = b} {c = c} looks same gives = record {
   no_more = λ knows. sym (gives.no_more (looks.end_stays knows)) ∙ looks.no_more knows;
 }
 
-no_front : (xs ys : List ℕ) → xs ++ ys ≡ [] → xs ≡ []
+pub no_front : (xs ys : List ℕ) → xs ++ ys ≡ [] → xs ≡ []
 no_front [] ys is = refl
 no_front (x ∷ xs) ys is = absurd (cc is)
 
@@ -108,24 +98,6 @@ knew_nothing {a = a} {b = b} looks none = record {
     by_test : (knows : Bool) → knows_end a ≡ knows → knows_end a ≡ false
     by_test true is = let clash : true ≡ false = sym (looks.end_stays is) ∙ none.no_seal in absurd (cc clash)
     by_test false is = is
-
--- ---- at the end
-
--- looking changes nothing there
-pub end_looked : {a b : PipeSource} → SourceLooks a b → IsAtEnd a → IsAtEnd b
-end_looked looks at_end =
-    record { sealed = looks.end_stays at_end.sealed; no_byte = looks.no_more at_end.sealed ∙ at_end.no_byte }
-
--- reading gives nothing there, and tells the end
-pub end_told : {a b : PipeSource} (before after : List ℕ) (n : ℕ) → GivesBytes a b before after n
-    → length after ≡ length before → IsAtEnd a
-    → read_answer (length before) n (knows_end b) ≡ read_answer (length before) 0 true
-end_told {a = a} {b = b} before after n gives same at_end =
-    let none : take n after ≡ [] = no_front (take n after) (known b)
-    (sym (gives.no_more at_end.sealed) ∙ at_end.no_byte) in
-    let no_byte : n ≡ 0 = sym (length-take-le n after (omega (arith, gives.fit, same))) ∙ ap length none in
-    ap (λ (k : ℕ). read_answer (length before) k (knows_end b)) no_byte
-    ∙ ap (read_answer (length before) 0) (gives.end_stays at_end.sealed)
 
 -- ---- reading up to the end
 
@@ -269,10 +241,6 @@ to_end_is R K S false read written seal to_end to_end' beside = by_end to_end re
     by_end (Some n) is = let clash : None ≡ Some ((length R + n) % 2 ^ 64) =
         sym none ∙ beside.told n is in absurd (cc clash)
 
-no_items : (xs : List ℕ) → length xs ≡ 0 → xs ≡ []
-no_items [] is = refl
-no_items (x ∷ xs) is = absurd (omega (arith, is))
-
 module _ (R K S : List ℕ) (sealed : Bool) (read written : ℕ) (seal to_end to_end' : Option ℕ)
     (beside : Beside R K S sealed read written seal to_end to_end') where
   pub end_known : is_some to_end' ≡ sealed
@@ -349,7 +317,7 @@ module _ (R K S : List ℕ) (sealed : Bool) (read written : ℕ) (seal to_end to
           let left : sealed ≡ true = sealed_then n is in
           let n_is : n ≡ 0 = omega (arith, seen n is, length-take-le n items (seen n is), ap length none) in
           let none_waits : length K ≡ 0 = sym (counted n is (omega (arith, n_is))) ∙ n_is in
-          (left, sym (append-nil R) ∙ (ap (λ xs. R ++ xs) (sym (no_items K none_waits)) ∙ beside.whole))
+          (left, sym (append-nil R) ∙ (ap (λ xs. R ++ xs) (sym (nil_from_length K none_waits)) ∙ beside.whole))
 
 -- ---- the sink
 
@@ -366,34 +334,25 @@ sink_looks_none s = record {
   seal = refl;
 }
 
+pub same_sink : {a b c : PipeSink} → IsSameSink a b → IsSameSink b c → IsSameSink a c
+same_sink {a} {b} {c} first second = record {
+  bytes = (
+    ring_then a.bytes.end b.bytes.end c.bytes.end first.bytes.0 second.bytes.0,
+    second.bytes.1 ∙ first.bytes.1,
+  );
+  seals = (
+    ring_then a.seals.end b.seals.end c.seals.end first.seals.0 second.seals.0,
+    second.seals.1 ∙ first.seals.1,
+  );
+  channel = second.channel ∙ first.channel;
+  other = second.other ∙ first.other;
+}
+
 -- a write that took nothing is a look
 pub sink_looks_more : {a b c : PipeSink} {slice : List ℕ} → SinkLooks a b → IsSameSink b c → TakesBytes b c slice 0
     → is_sealed c ≡ is_sealed b → free b ≤ free c + 0 → SinkLooks a c
-sink_looks_more {a = a} {b = b} {c = c} looks same takes seal places = record {
-  same = record {
-    bytes = (
-      (
-        same.bytes.0.0 ∙ looks.same.bytes.0.0,
-        same.bytes.0.1 ∙ looks.same.bytes.0.1,
-        same.bytes.0.2
-            ∙ looks.same.bytes.0.2,
-        same.bytes.0.3 ∙ looks.same.bytes.0.3,
-      ),
-      same.bytes.1 ∙ looks.same.bytes.1,
-    );
-    seals = (
-      (
-        same.seals.0.0 ∙ looks.same.seals.0.0,
-        same.seals.0.1 ∙ looks.same.seals.0.1,
-        same.seals.0.2
-            ∙ looks.same.seals.0.2,
-        same.seals.0.3 ∙ looks.same.seals.0.3,
-      ),
-      same.seals.1 ∙ looks.same.seals.1,
-    );
-    channel = same.channel ∙ looks.same.channel;
-    other = same.other ∙ looks.same.other;
-  };
+sink_looks_more {b = b} looks same takes seal places = record {
+  same = same_sink looks.same same;
   sent = takes.sent ∙ (append-nil (sent b) ∙ looks.sent);
   free = omega (arith, looks.free, places);
   seal = seal ∙ looks.seal;

@@ -12,6 +12,7 @@ use Rattle.nio_words.specs.Sharing.{HandsOver}
 use Rattle.nio_words.specs.Views.{view}
 use Rattle.nio_words.specs.declared.words.Pass.{Pass}
 use Rattle.nio_words.specs.declared.words.Words.{Words}
+use Rattle.nio_pipe.proofs.Rings.{ring_back, ring_then}
 use Rattle.nio_pipe.specs.Calls.{HasEnds}
 use Rattle.nio_pipe.specs.Ends.{AreEnds, IsSameSource, IsSameSink}
 use Rattle.nio_pipe.specs.Idle.{HasBoth, MayUse}
@@ -62,40 +63,18 @@ may_go {w = w} {before = before} {given = given} over idle ends = record {
 -- ---- both ends in one hand
 
 pub pair_read : {a b : PipeSource} {sink : PipeSink} → IsSameSource a b → AreEnds a sink → AreEnds b sink
-pair_read same pair = record {
-  bytes = (
-    same.bytes.0.0 ∙ pair.bytes.0,
-    same.bytes.0.1 ∙ pair.bytes.1,
-    same.bytes.0.2 ∙ pair.bytes.2,
-    same.bytes.0.3
-        ∙ pair.bytes.3,
-  );
-  seals = (
-    same.seals.0.0 ∙ pair.seals.0,
-    same.seals.0.1 ∙ pair.seals.1,
-    same.seals.0.2 ∙ pair.seals.2,
-    same.seals.0.3
-        ∙ pair.seals.3,
-  );
+pair_read {a} {b} {sink} same pair = record {
+  bytes = ring_then sink.bytes.end a.bytes.end b.bytes.end pair.bytes same.bytes.0;
+  seals = ring_then sink.seals.end a.seals.end b.seals.end pair.seals same.seals.0;
   channel = pair.channel ∙ sym same.channel;
 }
 
 pub pair_written : {source : PipeSource} {a b : PipeSink} → IsSameSink a b → AreEnds source a → AreEnds source b
-pair_written same pair = record {
-  bytes = (
-    pair.bytes.0 ∙ sym same.bytes.0.0,
-    pair.bytes.1 ∙ sym same.bytes.0.1,
-    pair.bytes.2
-        ∙ sym same.bytes.0.2,
-    pair.bytes.3 ∙ sym same.bytes.0.3,
-  );
-  seals = (
-    pair.seals.0 ∙ sym same.seals.0.0,
-    pair.seals.1 ∙ sym same.seals.0.1,
-    pair.seals.2
-        ∙ sym same.seals.0.2,
-    pair.seals.3 ∙ sym same.seals.0.3,
-  );
+pair_written {source} {a} {b} same pair = record {
+  bytes = ring_then b.bytes.end a.bytes.end source.bytes.end (ring_back a.bytes.end b.bytes.end same.bytes.0)
+      pair.bytes;
+  seals = ring_then b.seals.end a.seals.end source.seals.end (ring_back a.seals.end b.seals.end same.seals.0)
+      pair.seals;
   channel = same.other ∙ pair.channel;
 }
 

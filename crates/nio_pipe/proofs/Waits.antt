@@ -1,8 +1,7 @@
 -- Reading and writing that wait: a run that went before tells how a closed channel is refused.
 use Rattle.std.proofs.Common.{◌≡◌, ◌≢◌, ℕ, ◌<◌, ◌==◌, Bool, true, false, if◌then◌else◌, IsTrue, Result, Ok, Err, List}
-use Rattle.std.proofs.Common.{[], ◌∷◌, ◌++◌, refl, ap, sym, ◌∙◌, append_assoc, arith, eq-eqb}
+use Rattle.std.proofs.Common.{[], ◌∷◌, ◌++◌, refl, ap, sym, ◌∙◌, arith, eq-eqb}
 use Rattle.std.proofs.lemmas.Bool.{cond-true}
-use Rattle.std.proofs.lemmas.List.{append-nil}
 use Rattle.std.proofs.lemmas.List.Elements.{All-nil, All-push}
 use Rattle.nio_base.specs.declared.limits.Limits.{Limits}
 use Rattle.nio_base.specs.declared.numbers.ChanNo.{ChanNo}
@@ -12,11 +11,12 @@ use Rattle.nio_event.specs.Histories.{IsLegal}
 use Rattle.nio_event.specs.PassViews.{PassView}
 use Rattle.nio_event.specs.declared.act.Act.{Act}
 use Rattle.nio_steps.proofs.CallLaws.{call_of_acts, calls_then, call_as}
+use Rattle.nio_steps.proofs.WaitingLaws.{acts_of-push}
 use Rattle.nio_steps.specs.Calls.{CallClause}
 use Rattle.nio_steps.specs.PipeCalls.{waits_for_bytes, as_waited, try_read_plan, try_write_plan}
 use Rattle.nio_steps.specs.Plan.{Plan}
 use Rattle.nio_steps.specs.Runs.{Completes}
-use Rattle.nio_steps.specs.Waiting.{Run, acts_of, Tries}
+use Rattle.nio_steps.specs.Waiting.{Run, Tries}
 use Rattle.nio_steps.specs.declared.refusal.PipeError.{PipeError}
 use Rattle.nio_steps.specs.declared.refusal.PipeError.TheVariants.{ClosedChannel, ClosedByInterrupt, AsynchronousClose}
 use Rattle.nio_steps.specs.declared.refusal.PipeError.TheVariants.{BrokenPipe}
@@ -66,12 +66,6 @@ refused_ends none ClosedChannel = refl
 refused_ends none ClosedByInterrupt = refl
 refused_ends none AsynchronousClose = refl
 refused_ends none BrokenPipe = refl
-
-acts_of-push : {X R : Type 0} (runs : List (Run X R)) (run : Run X R)
-    → acts_of (runs ++ run ∷ []) ≡ acts_of runs ++ run.acts
-acts_of-push [] run = append-nil run.acts
-acts_of-push (first ∷ later) run =
-    ap (λ acts. first.acts ++ acts) (acts_of-push later run) ∙ sym (append_assoc first.acts (acts_of later) run.acts)
 
 pub tried_none : (me : CallerNo) (plan : Plan (Result Bool PipeError)) (pass : PassView) → IsLegal pass.limits pass.seen
     → TriedClause me plan false pass pass

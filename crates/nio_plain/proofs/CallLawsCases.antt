@@ -1,9 +1,8 @@
--- What holds of every call: a call refuses or only tells, or it makes the one change of its word. So a
--- fact of all calls is shown once for each change.
+-- Each call makes one of the changes.
 use Rattle.std.proofs.Common.{◌≡◌, ℕ, ◌<◌, ◌==◌, Bool, true, false, not, ◌&&◌, ◌||◌, cond, nat_lt, Option, Some, None}
 use Rattle.std.proofs.Common.{is_some, List, [], ◌∷◌, ◌++◌, length, take, drop, filter, map, find, refl, bit_and}
-use Rattle.std.proofs.Common.{bit_or}
-use Rattle.std.proofs.lemmas.Bool.{ltb-true}
+use Rattle.std.proofs.Common.{bit_or, ◌∙◌}
+use Rattle.std.proofs.lemmas.Bool.{ltb-true, not-false, or_parts, both_ways}
 use Rattle.nio_base.specs.declared.kind.Kind.{Kind}
 use Rattle.nio_base.specs.declared.kind.Kind.TheVariants.{Source}
 use Rattle.nio_base.specs.declared.limits.Limits.{Limits}
@@ -27,7 +26,7 @@ use Rattle.nio_event.specs.declared.reply.Why.{Why}
 use Rattle.nio_group.specs.Group.{is_terminated}
 use Rattle.nio_group.specs.Run as step
 use Rattle.nio_group.specs.Run.{IsCallOf}
-use Rattle.nio_plain.specs.ScriptState.{ScriptState, Selection, with_shared, with_selection}
+use Rattle.nio_plain.specs.ScriptState.{ScriptState, Selection}
 use Rattle.nio_plain.specs.Seq.{call_of, seq}
 use Rattle.nio_plain.specs.Seq.Replies.{Replied, unchanged, replied, yes_or_no}
 use Rattle.nio_plain.specs.Seq.Cancelling.{channel_closed, cancelled_in_set, closec_call, cancel_call}
@@ -47,46 +46,14 @@ use Rattle.nio_plain.specs.Seq.Piping.{room_for, write_to, pipe_call, pread_call
 use Rattle.nio_plain.specs.Seq.Registering.{given_or_none, given_or_kept, next_key, with_new_key, are_legal, registered}
 use Rattle.nio_plain.specs.Seq.Registering.{registered_new, register_call}
 use Rattle.nio_plain.specs.Seq.Removing.{unselected}
-use Rattle.nio_plain.specs.Seq.Selections.{mode_of, selection_begun, updated_count, is_again, why_ended}
-use Rattle.nio_plain.specs.Seq.Selections.{selection_ended, own_selection, left_selection, is_caller, begun_with}
-use Rattle.nio_plain.specs.Seq.Selections.{told_selection, begin_call, told_call, failed_call}
+use Rattle.nio_plain.specs.Seq.Selections.{mode_of, selection_begun, updated_count, is_again, why_ended, own_selection}
+use Rattle.nio_plain.specs.Seq.Selections.{left_selection, is_caller, begun_with, told_selection, begin_call, told_call}
+use Rattle.nio_plain.specs.Seq.Selections.{failed_call}
 use Rattle.nio_plain.specs.Seq.Wakeups.{wakeup_call, interrupt_call, interrupted_call}
 use Rattle.nio_plain.specs.declared.rules.Rules.{Rules}
-
--- a selection that ended in a `told`
-abbrev pub told_ended : Rules → ScriptState → ℕ → List (KeyId × ℕ) → Selection → ℕ → Why → Replied
-told_ended rules st s pairs selection count why = record {
-  reply = reply.Selected count why;
-  left = with_selection (with_shared st (selection_ended rules st.shared s selection pairs)) s None;
-}
-
--- the step of the group that a call makes; the two that only ask make none
-abbrev pub step_of : GroupCall → Option step.Call
-step_of (group.Gopen kind) = Some (step.open_channel kind)
-step_of (group.Gbind g) = Some (step.bind g)
-step_of (group.Start g kind len) = Some (step.start g kind len)
-step_of (group.Report n outcome) = Some (step.report n outcome)
-step_of group.Take = Some step.take
-step_of (group.Done n) = Some (step.finish n)
-step_of (group.Gclose g) = Some (step.close_channel g)
-step_of group.Shutdown = Some step.shutdown
-step_of group.ShutdownNow = Some step.shutdown_now
-step_of group.IsShutdown = None
-step_of group.Terminated = None
-
--- the replies of calls that change nothing; some of them are also those of calls that do
-abbrev pub may_keep : Reply → Bool
-may_keep (reply.Selector s) = false
-may_keep (reply.Channel c) = false
-may_keep (reply.Looked pairs) = false
-may_keep (reply.Selected count why) = false
-may_keep reply.«Ok» = false
-may_keep reply.Left = false
-may_keep reply.Closing = false
-may_keep reply.Closed = false
-may_keep (reply.Ends source sink) = false
-may_keep (reply.Bytes bytes) = false
-may_keep _ = true
+use Rattle.nio_plain.proofs.CallChanges as change
+use Rattle.nio_plain.proofs.CallChanges.{Change, MayRegister, told_ended, step_of, may_keep}
+use Rattle.nio_plain.proofs.Found.{found_below}
 
 -- what is to be shown of each change
 pub record HoldsOfChanges (rules : Rules) (st : ScriptState) (me : CallerNo)
@@ -172,67 +139,93 @@ pub record HoldsOfChanges (rules : Rules) (st : ScriptState) (me : CallerNo)
   pub interrupted : P call.Interrupted
       (replied st (yes_or_no (st.shared.interrupted me.0)) (with_interrupted st.shared me.0 false))
 
-module _ (rules : Rules) (l : Limits) (st : ScriptState) (me : CallerNo) (P : Call → Replied → Type 0)
-    (h : HoldsOfChanges rules st me P) where
+pub some_caller : (me : CallerNo) (o : Option CallerNo) → is_caller me o ≡ true → is_some o ≡ true
+some_caller me None h = absurd (both_ways false refl h)
+some_caller me (Some n) h = refl
+
+module _ (rules : Rules) (l : Limits) (st : ScriptState) (me : CallerNo) where
+  abbrev C : Call → Replied → Type 0
+  C = Change rules l st me
+
   -- both ways of a test
-  either : {c : Call} {x y : Replied} (b : Bool) → P c x → P c y → P c (cond b x y)
+  either : {c : Call} {x y : Replied} (b : Bool) → C c x → C c y → C c (cond b x y)
   either true p q = p
   either false p q = q
 
-  either_where : {c : Call} {x y : Replied} (b : Bool) → (b ≡ true → P c x) → (b ≡ false → P c y) → P c (cond b x y)
+  either_where : {c : Call} {x y : Replied} (b : Bool) → (b ≡ true → C c x) → (b ≡ false → C c y) → C c (cond b x y)
   either_where true p q = p refl
   either_where false p q = q refl
 
   -- a call that changes nothing: it is unchanged, or it tells something
-  says : (c : Call) (r : Reply) → may_keep r ≡ true → P c (unchanged st r)
-  says c r keeps = h.nothing c r keeps
+  says : (c : Call) (r : Reply) → may_keep r ≡ true → C c (unchanged st r)
+  says c r keeps = change.nothing c r keeps
 
-  says_whether : (c : Call) (b : Bool) → P c (unchanged st (yes_or_no b))
+  says_whether : (c : Call) (b : Bool) → C c (unchanged st (yes_or_no b))
   says_whether c true = says c reply.Yes refl
   says_whether c false = says c reply.No refl
 
-  says_name : (c : Call) (name : Option KeyId) → P c (unchanged st (name_or_none name))
+  says_name : (c : Call) (name : Option KeyId) → C c (unchanged st (name_or_none name))
   says_name c None = says c reply.None refl
   says_name c (Some k) = says c (reply.Key k) refl
 
-  says_names : (c : Call) (names : List KeyId) → P c (unchanged st (names_or_none names))
+  says_names : (c : Call) (names : List KeyId) → C c (unchanged st (names_or_none names))
   says_names c [] = says c reply.None refl
   says_names c (k ∷ ks) = says c (reply.Names (k ∷ ks)) refl
 
-  of_selector : (made : Option ℕ) → P call.Selector (selector_made st made)
-  of_selector None = says call.Selector reply.SelectorsSpent refl
-  of_selector (Some s) = h.selector s
+  of_selector : (made : Option ℕ) → ((s : ℕ) → made ≡ Some s → s < l.selectors)
+      → C call.Selector (selector_made st made)
+  of_selector None within = says call.Selector reply.SelectorsSpent refl
+  of_selector (Some s) within = change.selector s (within s refl)
 
-  of_channel : (kind : Kind) (made : Option ℕ) → P (call.Channel kind) (channel_made st kind made)
-  of_channel kind None = says (call.Channel kind) reply.ChannelsSpent refl
-  of_channel kind (Some c) = h.channel kind c
+  of_channel : (kind : Kind) (made : Option ℕ) → next_channel l st ≡ made
+      → C (call.Channel kind) (channel_made st kind made)
+  of_channel kind None is = says (call.Channel kind) reply.ChannelsSpent refl
+  of_channel kind (Some c) is = change.channel kind c is
 
   of_new : (s : SelNo) (c : ChanNo) (ops : ℕ) (att : Option ℕ) (note : ℕ) (next : Option KeyId)
-      → P (call.Register s c ops att) (registered_new st s.0 c.0 ops note next)
-  of_new s c ops att note None = says (call.Register s c ops att) reply.Full refl
-  of_new s c ops att note (Some k) = h.register s c ops att k note
+      → ((k : KeyId) → next ≡ Some k → MayRegister l st s.0 c.0 k)
+      → C (call.Register s c ops att) (registered_new st s.0 c.0 ops note next)
+  of_new s c ops att note None may = says (call.Register s c ops att) reply.Full refl
+  of_new s c ops att note (Some k) may = change.register s c ops att k note (may k refl)
 
   of_register : (s : SelNo) (c : ChanNo) (ops : ℕ) (att : Option ℕ) (key : Option KeyId)
-      → P (call.Register s c ops att) (registered l st s.0 c.0 ops att key)
-  of_register s c ops att None =
-      either (st.shared.gate s.0).shut (says (call.Register s c ops att) reply.ClosedSelector refl)
-      (of_new s c ops att (given_or_none att) (next_key l st.shared s.0))
-  of_register s c ops att (Some k) =
+      → ((k : KeyId) → next_key l st.shared s.0 ≡ Some k → key ≡ None → (st.shared.gate s.0).shut ≡ false
+      → MayRegister l st s.0 c.0 k)
+      → C (call.Register s c ops att) (registered l st s.0 c.0 ops att key)
+  of_register s c ops att None may =
+      either_where (st.shared.gate s.0).shut (λ _. says (call.Register s c ops att) reply.ClosedSelector refl)
+      (λ not_shut. of_new s c ops att (given_or_none att) (next_key l st.shared s.0)
+      (λ k next. may k next refl not_shut))
+  of_register s c ops att (Some k) may =
       let word = call.Register s c ops att in
       either (st.shared.key s.0 k.index).cancelled (says word reply.CancelledKey refl)
       (either (st.shared.gate s.0).shut (says word reply.ClosedSelector refl)
-      (h.register_again s c ops att k (given_or_kept att (st.shared.note s.0 k.index))))
+      (change.register_again s c ops att k (given_or_kept att (st.shared.note s.0 k.index))))
+
+  by_key : (s : SelNo) (c : ChanNo) (ops : ℕ) (att : Option ℕ) (key : Option KeyId) → key_of st.shared c.0 s.0 ≡ key
+      → st.shared.selector s.0 ≡ true → (st.shared.chan c.0).made ≡ true → (st.shared.chan c.0).closed ≡ false
+      → (st.shared.chan c.0).blocking ≡ false → C (call.Register s c ops att) (registered l st s.0 c.0 ops att key)
+  by_key s c ops att key is selector made is_open non_blocking =
+      of_register s c ops att key (λ k next none not_shut. record {
+        next = next;
+        none = is ∙ none;
+        selector = selector;
+        not_shut = not_shut;
+        made = made;
+        is_open = is_open;
+        non_blocking = non_blocking;
+      })
 
   of_begin : (s : SelNo) (waiting : Waiting) (how : Option Mode)
-      → P (call.Begin s waiting) (begun_with rules st me s.0 how)
+      → C (call.Begin s waiting) (begun_with rules st me s.0 how)
   of_begin s waiting None = says (call.Begin s waiting) reply.NegativeTimeout refl
   of_begin s waiting (Some how) =
       let word = call.Begin s waiting in
       either (st.shared.gate s.0).shut (says word reply.ClosedSelector refl)
-      (either_where (is_some (st.shared.turn s.0)) (λ _. says word reply.Busy refl) (h.begin s waiting how))
+      (either_where (is_some (st.shared.turn s.0)) (λ _. says word reply.Busy refl) (change.begin s waiting how))
 
   of_told : (s : SelNo) (elapsed : Bool) (pairs : List (KeyId × ℕ)) (own : Option Selection)
-      → own_selection st me s.0 ≡ own → P (call.Told s elapsed pairs) (told_selection rules st me s.0 pairs elapsed own)
+      → own_selection st me s.0 ≡ own → C (call.Told s elapsed pairs) (told_selection rules st me s.0 pairs elapsed own)
   of_told s elapsed pairs None e = says (call.Told s elapsed pairs) reply.NotSelecting refl
   of_told s elapsed pairs (Some selection) e =
       let count = updated_count st.shared s.0 selection.looked pairs in
@@ -240,31 +233,31 @@ module _ (rules : Rules) (l : Limits) (st : ScriptState) (me : CallerNo) (P : Ca
       let interrupted = st.shared.interrupted me.0 in
       either (is_again gate interrupted selection.mode elapsed count)
       (says (call.Told s elapsed pairs) reply.Again refl)
-      (h.told s elapsed pairs selection count (why_ended gate interrupted selection.mode count) e)
+      (change.told s elapsed pairs selection count (why_ended gate interrupted selection.mode count) e)
 
   of_failed : (s : SelNo) (own : Option Selection) → own_selection st me s.0 ≡ own
-      → P (call.Failed s) (left_selection st s.0 own)
+      → C (call.Failed s) (left_selection st s.0 own)
   of_failed s None e = says (call.Failed s) reply.NotSelecting refl
-  of_failed s (Some selection) e = h.failed s selection e
+  of_failed s (Some selection) e = change.failed s selection e
 
   -- the tests of the names of a line
-  channel_named : {c : Call} {x : Replied} (k : ChanNo) → P c x
-      → P c (cond (st.shared.chan k.0).made x (unchanged st reply.NoChannel))
+  channel_named : {c : Call} {x : Replied} (k : ChanNo) → C c x
+      → C c (cond (st.shared.chan k.0).made x (unchanged st reply.NoChannel))
   channel_named {c = c} k done = either (st.shared.chan k.0).made done (says c reply.NoChannel refl)
 
-  selector_named : {c : Call} {x : Replied} (s : SelNo) → P c x
-      → P c (cond (st.shared.selector s.0) x (unchanged st reply.NoSelector))
+  selector_named : {c : Call} {x : Replied} (s : SelNo) → C c x
+      → C c (cond (st.shared.selector s.0) x (unchanged st reply.NoSelector))
   selector_named {c = c} s done = either (st.shared.selector s.0) done (says c reply.NoSelector refl)
 
-  key_named : {c : Call} {x : Replied} (s : SelNo) (k : KeyId) → P c x
-      → P c (cond (st.shared.selector s.0)
+  key_named : {c : Call} {x : Replied} (s : SelNo) (k : KeyId) → C c x
+      → C c (cond (st.shared.selector s.0)
       (cond (was_published (st.shared.key s.0 k.index) k.serial) x (unchanged st reply.NoKey))
       (unchanged st reply.NoSelector))
   key_named {c = c} s k done =
       selector_named s (either (was_published (st.shared.key s.0 k.index) k.serial) done (says c reply.NoKey refl))
 
-  valid_named : {c : Call} {x : Replied} (s : SelNo) (k : KeyId) → P c x
-      → P c (cond (st.shared.selector s.0)
+  valid_named : {c : Call} {x : Replied} (s : SelNo) (k : KeyId) → C c x
+      → C c (cond (st.shared.selector s.0)
       (cond (was_published (st.shared.key s.0 k.index) k.serial)
       (cond (is_valid_key (st.shared.key s.0 k.index) k.serial) x (unchanged st reply.CancelledKey))
       (unchanged st reply.NoKey)) (unchanged st reply.NoSelector))
@@ -274,93 +267,99 @@ module _ (rules : Rules) (l : Limits) (st : ScriptState) (me : CallerNo) (P : Ca
   -- calls on pipes
 
   of_closec : (c : ChanNo) (closed : Bool)
-      → P (call.Closec c)
+      → C (call.Closec c)
       (sealing (own_sink st.pipes me c)
       (cond closed (unchanged st reply.Already) (replied st reply.«Ok» (channel_closed st.shared c.0))))
-  of_closec c true = h.closec_again c
-  of_closec c false = h.closec c
+  of_closec c true = change.closec_again c
+  of_closec c false = change.closec c
 
-  of_sink : (target : CallerNo) (source : ℕ) (sink : Option ℕ)
-      → P (call.Pipe target) (with_sink (channel_made st Source (Some source)).left me target source sink)
-  of_sink target source None = h.pipe_spent target source
-  of_sink target source (Some sink) = h.pipe target source sink
+  of_sink : (target : CallerNo) (source : ℕ) (sink : Option ℕ) → next_channel l st ≡ Some source
+      → next_channel l (channel_made st Source (Some source)).left ≡ sink
+      → C (call.Pipe target) (with_sink (channel_made st Source (Some source)).left me target source sink)
+  of_sink target source None is then_is = change.pipe_spent target source is
+  of_sink target source (Some sink) is then_is = change.pipe target source sink is then_is
 
-  of_pipe : (target : CallerNo) (source : Option ℕ) → P (call.Pipe target) (with_source l st me target source)
-  of_pipe target None = says (call.Pipe target) reply.ChannelsSpent refl
-  of_pipe target (Some source) = of_sink target source (next_channel l (channel_made st Source (Some source)).left)
+  of_pipe : (target : CallerNo) (source : Option ℕ) → next_channel l st ≡ source
+      → C (call.Pipe target) (with_source l st me target source)
+  of_pipe target None is = says (call.Pipe target) reply.ChannelsSpent refl
+  of_pipe target (Some source) is =
+      of_sink target source (next_channel l (channel_made st Source (Some source)).left) is refl
 
-  of_not_now : (c : Call) (blocking : Bool) → P c (unchanged st (not_now blocking))
+  of_not_now : (c : Call) (blocking : Bool) → C c (unchanged st (not_now blocking))
   of_not_now c true = says c reply.Again refl
   of_not_now c false = says c (reply.Number 0) refl
 
   of_read : (c : ChanNo) (n i : ℕ) (blocking : Bool) (waiting : List ℕ) (sealed : Bool)
-      → P (call.Pread c n) (read_first st blocking n i waiting sealed)
+      → C (call.Pread c n) (read_first st blocking n i waiting sealed)
   of_read c n i blocking [] false = of_not_now (call.Pread c n) blocking
   of_read c n i blocking [] true = says (call.Pread c n) reply.End refl
-  of_read c n i blocking (b ∷ bytes) sealed = h.pread c n i b bytes
+  of_read c n i blocking (b ∷ bytes) sealed = change.pread c n i b bytes
 
-  of_pread : (c : ChanNo) (n : ℕ) (place : Option ℕ) → P (call.Pread c n) (read_from st me c n place)
+  of_pread : (c : ChanNo) (n : ℕ) (place : Option ℕ) → C (call.Pread c n) (read_from st me c n place)
   of_pread c n None = says (call.Pread c n) reply.NotOwner refl
   of_pread c n (Some i) =
       let word = call.Pread c n in
       either (st.shared.chan c.0).closed (says word reply.ClosedChannel refl)
-      (either (finds_interrupt st me c) (h.pread_interrupted c n)
+      (either (finds_interrupt st me c) (change.pread_interrupted c n)
       (either (n == 0) (says word (reply.Number 0) refl)
       (of_read c n i (st.shared.chan c.0).blocking (pipe_at st.pipes i).waiting (pipe_at st.pipes i).sealed)))
 
-  of_pwrite : (c : ChanNo) (bytes : List ℕ) (place : Option ℕ) → P (call.Pwrite c bytes) (write_to st me c bytes place)
+  of_pwrite : (c : ChanNo) (bytes : List ℕ) (place : Option ℕ) → C (call.Pwrite c bytes) (write_to st me c bytes place)
   of_pwrite c bytes None = says (call.Pwrite c bytes) reply.NotOwner refl
   of_pwrite c bytes (Some i) =
       let word = call.Pwrite c bytes in
-      either (st.shared.chan c.0).closed (h.pwrite_closed c bytes i)
-      (either (finds_interrupt st me c) (h.pwrite_interrupted c bytes i)
+      either (st.shared.chan c.0).closed (change.pwrite_closed c bytes i)
+      (either (finds_interrupt st me c) (change.pwrite_interrupted c bytes i)
       (either (st.shared.chan (pipe_at st.pipes i).source.0).closed (says word reply.BrokenPipe refl)
       (either (length bytes == 0) (says word (reply.Number 0) refl)
       (either (room_for bytes (pipe_at st.pipes i) == 0) (of_not_now word (st.shared.chan c.0).blocking)
-      (h.pwrite c bytes i (room_for bytes (pipe_at st.pipes i)))))))
+      (change.pwrite c bytes i (room_for bytes (pipe_at st.pipes i)))))))
 
   -- calls on the group
 
-  either_group : {c : Call} (b : Bool) (x y : GroupReplied) → (b ≡ true → P c (replied_by_group st x))
-      → P c (replied_by_group st y) → P c (replied_by_group st (cond b x y))
+  either_group : {c : Call} (b : Bool) (x y : GroupReplied) → (b ≡ true → C c (replied_by_group st x))
+      → C c (replied_by_group st y) → C c (replied_by_group st (cond b x y))
   either_group true x y p q = p refl
   either_group false x y p q = q
 
   group_channel_named : {c : Call} (g : GChan) (x : GroupReplied)
-      → (g.0 < length st.group.channels → P c (replied_by_group st x))
-      → P c (replied_by_group st (with_named_group_channel st.group g x))
+      → (g.0 < length st.group.channels → C c (replied_by_group st x))
+      → C c (replied_by_group st (with_named_group_channel st.group g x))
   group_channel_named {c = c} g x done =
       either_group (nat_lt g.0 (length st.group.channels)) x _
       (λ e. done (ltb-true g.0 (length st.group.channels) e)) (says c reply.NoChannel refl)
 
-  of_group : (g : GroupCall) → P (call.Group g) (group_call st g)
+  of_group : (g : GroupCall) → C (call.Group g) (group_call st g)
   unfolding group_replied
-  of_group (group.Gopen kind) = h.group (group.Gopen kind) (step.open_channel kind) refl tt
-  of_group (group.Gbind g) = group_channel_named g _ (h.group (group.Gbind g) (step.bind g) refl)
+  of_group (group.Gopen kind) = change.group (group.Gopen kind) (step.open_channel kind) refl tt
+  of_group (group.Gbind g) = group_channel_named g _ (change.group (group.Gbind g) (step.bind g) refl)
   of_group (group.Start g kind len) =
-      group_channel_named g _ (h.group (group.Start g kind len) (step.start g kind len) refl)
-  of_group (group.Report n outcome) = h.group (group.Report n outcome) (step.report n outcome) refl tt
-  of_group group.Take = h.group group.Take step.take refl tt
-  of_group (group.Done n) = h.group (group.Done n) (step.finish n) refl tt
-  of_group (group.Gclose g) = group_channel_named g _ (h.group (group.Gclose g) (step.close_channel g) refl)
-  of_group group.Shutdown = h.group group.Shutdown step.shutdown refl tt
-  of_group group.ShutdownNow = h.group group.ShutdownNow step.shutdown_now refl tt
+      group_channel_named g _ (change.group (group.Start g kind len) (step.start g kind len) refl)
+  of_group (group.Report n outcome) = change.group (group.Report n outcome) (step.report n outcome) refl tt
+  of_group group.Take = change.group group.Take step.take refl tt
+  of_group (group.Done n) = change.group (group.Done n) (step.finish n) refl tt
+  of_group (group.Gclose g) = group_channel_named g _ (change.group (group.Gclose g) (step.close_channel g) refl)
+  of_group group.Shutdown = change.group group.Shutdown step.shutdown refl tt
+  of_group group.ShutdownNow = change.group group.ShutdownNow step.shutdown_now refl tt
   of_group group.IsShutdown = says_whether (call.Group group.IsShutdown) st.group.is_shut
   of_group group.Terminated = says_whether (call.Group group.Terminated) (is_terminated st.group)
 
-  pub each_call : (c : Call) → P c (call_of rules l st me c)
+  each_call : (c : Call) → C c (call_of rules l st me c)
   unfolding call_of selector_call channel_call blocking_call is_blocking_call is_open_call is_registered_call
       key_for_call register_call closec_call cancel_call valid_call interest_call ready_call iset_call ior_call
       iand_call unselect_call attach_call attachment_call begin_call told_call failed_call wakeup_call
       interrupt_call interrupted_call close_call close_end_call keys_call selected_call pipe_call pread_call
       pwrite_call
-  each_call call.Selector = of_selector (find (λ s. not (st.shared.selector s)) (below l.selectors))
-  each_call (call.Channel kind) = of_channel kind (find (λ c. not (st.shared.chan c).made) (below l.channels))
+  each_call call.Selector =
+      of_selector (find (λ s. not (st.shared.selector s)) (below l.selectors))
+      (λ s e. (found_below (λ n. not (st.shared.selector n)) l.selectors s e).1)
+  each_call (call.Channel kind) = of_channel kind (next_channel l st) refl
   each_call (call.Blocking c on) =
       let word = call.Blocking c on in
       channel_named c
       (either (st.shared.chan c.0).closed (says word reply.ClosedChannel refl)
-      (either (on && is_registered l st.shared c.0) (says word reply.IllegalBlockingMode refl) (h.blocking c on)))
+      (either_where (on && is_registered l st.shared c.0) (λ _. says word reply.IllegalBlockingMode refl)
+      (change.blocking c on)))
   each_call (call.IsBlocking c) = channel_named c (says_whether (call.IsBlocking c) (st.shared.chan c.0).blocking)
   each_call (call.IsOpen c) = channel_named c (says_whether (call.IsOpen c) (not (st.shared.chan c.0).closed))
   each_call (call.IsRegistered c) = channel_named c (says_whether (call.IsRegistered c) (is_registered l st.shared c.0))
@@ -368,12 +367,14 @@ module _ (rules : Rules) (l : Limits) (st : ScriptState) (me : CallerNo) (P : Ca
       channel_named c (selector_named s (says_name (call.KeyFor c s) (key_of st.shared c.0 s.0)))
   each_call (call.Register s c ops att) =
       let word = call.Register s c ops att in
-      selector_named s
-      (channel_named c
-      (either (not (are_legal (st.shared.chan c.0).kind ops)) (says word reply.IllegalOps refl)
-      (either (st.shared.chan c.0).closed (says word reply.ClosedChannel refl)
-      (either (st.shared.chan c.0).blocking (says word reply.IllegalBlockingMode refl)
-      (of_register s c ops att (key_of st.shared c.0 s.0))))))
+      either_where (st.shared.selector s.0) (λ selector.
+      either_where (st.shared.chan c.0).made (λ made.
+      either (not (are_legal (st.shared.chan c.0).kind ops)) (says word reply.IllegalOps refl)
+      (either_where (st.shared.chan c.0).closed (λ _. says word reply.ClosedChannel refl) (λ is_open.
+      either_where (st.shared.chan c.0).blocking (λ _. says word reply.IllegalBlockingMode refl) (λ non_blocking.
+      by_key s c ops att (key_of st.shared c.0 s.0) refl selector made is_open non_blocking))))
+      (λ _. says word reply.NoChannel refl))
+      (λ _. says word reply.NoSelector refl)
   each_call (call.Closec c) = channel_named c (of_closec c (st.shared.chan c.0).closed)
   each_call (call.Valid s k) =
       key_named s k (says_whether (call.Valid s k) (is_valid_key (st.shared.key s.0 k.index) k.serial))
@@ -383,20 +384,20 @@ module _ (rules : Rules) (l : Limits) (st : ScriptState) (me : CallerNo) (P : Ca
       valid_named s k (says (call.Ready s k) (reply.Number (st.shared.mark s.0 k.index).ready) refl)
   each_call (call.Iset s k ops) =
       valid_named s k
-      (either (are_legal_at st.shared s.0 k.index ops) (h.iset s k ops)
+      (either (are_legal_at st.shared s.0 k.index ops) (change.iset s k ops)
       (says (call.Iset s k ops) reply.IllegalOps refl))
   each_call (call.Ior s k ops) =
       valid_named s k
-      (either (are_legal_at st.shared s.0 k.index ops) (h.ior s k ops)
+      (either (are_legal_at st.shared s.0 k.index ops) (change.ior s k ops)
       (says (call.Ior s k ops) reply.IllegalOps refl))
-  each_call (call.Iand s k ops) = valid_named s k (h.iand s k ops)
-  each_call (call.Cancel s k) = key_named s k (h.cancel s k)
+  each_call (call.Iand s k ops) = valid_named s k (change.iand s k ops)
+  each_call (call.Cancel s k) = key_named s k (change.cancel s k)
   each_call (call.Unselect s k) =
       key_named s k
-      (either (is_in_selected_set st.shared s.0 k) (h.unselect s k) (says (call.Unselect s k) reply.No refl))
+      (either (is_in_selected_set st.shared s.0 k) (change.unselect s k) (says (call.Unselect s k) reply.No refl))
   each_call (call.Attach s k att) =
       key_named s k
-      (either (fits (st.shared.key s.0 k.index) k.serial) (h.attach s k att)
+      (either (fits (st.shared.key s.0 k.index) k.serial) (change.attach s k att)
       (says (call.Attach s k att) (reply.Number 0) refl))
   each_call (call.Attachment s k) =
       key_named s k
@@ -405,14 +406,17 @@ module _ (rules : Rules) (l : Limits) (st : ScriptState) (me : CallerNo) (P : Ca
   each_call (call.Begin s waiting) = selector_named s (of_begin s waiting (mode_of waiting))
   each_call (call.Told s elapsed pairs) = selector_named s (of_told s elapsed pairs (own_selection st me s.0) refl)
   each_call (call.Failed s) = selector_named s (of_failed s (own_selection st me s.0) refl)
-  each_call (call.Wakeup s) = selector_named s (h.wakeup s)
+  each_call (call.Wakeup s) = selector_named s (change.wakeup s)
   each_call (call.Close s) =
-      selector_named s (either (st.shared.gate s.0).shut (says (call.Close s) reply.Already refl) (h.close s))
+      selector_named s (either (st.shared.gate s.0).shut (says (call.Close s) reply.Already refl) (change.close s))
   each_call (call.CloseEnd s) =
       let word = call.CloseEnd s in
+      let own = is_caller me (st.shared.closer s.0) in
       selector_named s
-      (either (not (is_caller me (st.shared.closer s.0)) || st.shared.entered s.0) (says word reply.NotClosing refl)
-      (either (is_some (st.shared.turn s.0)) (says word reply.Busy refl) (h.close_end s)))
+      (either_where (not own || st.shared.entered s.0) (λ _. says word reply.NotClosing refl) (λ may.
+      either_where (is_some (st.shared.turn s.0)) (λ _. says word reply.Busy refl)
+      (change.close_end s
+      (some_caller me (st.shared.closer s.0) (not-false own (or_parts (not own) (st.shared.entered s.0) may).0)))))
   each_call (call.Keys s) =
       selector_named s
       (either (st.shared.gate s.0).shut (says (call.Keys s) reply.ClosedSelector refl)
@@ -426,16 +430,52 @@ module _ (rules : Rules) (l : Limits) (st : ScriptState) (me : CallerNo) (P : Ca
       (map (key_at st.shared s.0)
       (filter (λ i. in_selected_set st.shared s.0 i) (below (st.shared.keys_high s.0))))))
   each_call (call.Interrupt target) =
-      either (nat_lt target.0 l.callers) (h.interrupt target) (says (call.Interrupt target) reply.NoCaller refl)
-  each_call call.Interrupted = h.interrupted
+      either (nat_lt target.0 l.callers) (change.interrupt target) (says (call.Interrupt target) reply.NoCaller refl)
+  each_call call.Interrupted = change.interrupted
   each_call (call.Pipe target) =
-      either (nat_lt target.0 l.callers) (of_pipe target (next_channel l st))
+      either (nat_lt target.0 l.callers) (of_pipe target (next_channel l st) refl)
       (says (call.Pipe target) reply.NoCaller refl)
   each_call (call.Pwrite c bytes) = channel_named c (of_pwrite c bytes (own_sink st.pipes me c))
   each_call (call.Pread c n) = channel_named c (of_pread c n (own_source st.pipes me c))
   each_call (call.Group g) = of_group g
 
-  -- what holds of the change of each word holds of each call
-  pub holds_of_calls : (c : Call) → P c (seq rules l st me c)
+  pub change_of : (c : Call) → C c (seq rules l st me c)
   unfolding seq
-  holds_of_calls c = either (nat_lt me.0 l.callers) (each_call c) (says c reply.NoCaller refl)
+  change_of c = either (nat_lt me.0 l.callers) (each_call c) (says c reply.NoCaller refl)
+
+-- what holds of the change of each word holds of each call
+pub holds_of_calls : (rules : Rules) (l : Limits) (st : ScriptState) (me : CallerNo) (P : (Call → Replied → Type 0))
+    → HoldsOfChanges rules st me P → (c : Call) → P c (seq rules l st me c)
+holds_of_calls rules l st me P h word = of_change (change_of rules l st me word)
+  where
+    of_change : {c : Call} {done : Replied} → Change rules l st me c done → P c done
+    of_change (change.nothing c r keeps) = h.nothing c r keeps
+    of_change (change.selector s _) = h.selector s
+    of_change (change.channel kind c _) = h.channel kind c
+    of_change (change.blocking c on _) = h.blocking c on
+    of_change (change.register s c ops att k note _) = h.register s c ops att k note
+    of_change (change.register_again s c ops att k note) = h.register_again s c ops att k note
+    of_change (change.closec c) = h.closec c
+    of_change (change.closec_again c) = h.closec_again c
+    of_change (change.cancel s k) = h.cancel s k
+    of_change (change.iset s k ops) = h.iset s k ops
+    of_change (change.ior s k ops) = h.ior s k ops
+    of_change (change.iand s k ops) = h.iand s k ops
+    of_change (change.unselect s k) = h.unselect s k
+    of_change (change.attach s k att) = h.attach s k att
+    of_change (change.begin s waiting how free) = h.begin s waiting how free
+    of_change (change.told s elapsed pairs selection count why own) = h.told s elapsed pairs selection count why own
+    of_change (change.failed s selection own) = h.failed s selection own
+    of_change (change.wakeup s) = h.wakeup s
+    of_change (change.close s) = h.close s
+    of_change (change.close_end s _ _) = h.close_end s
+    of_change (change.interrupt target) = h.interrupt target
+    of_change (change.pipe target source sink _ _) = h.pipe target source sink
+    of_change (change.pipe_spent target source _) = h.pipe_spent target source
+    of_change (change.pread c n i b bytes) = h.pread c n i b bytes
+    of_change (change.pread_interrupted c n) = h.pread_interrupted c n
+    of_change (change.pwrite c bytes i n) = h.pwrite c bytes i n
+    of_change (change.pwrite_closed c bytes i) = h.pwrite_closed c bytes i
+    of_change (change.pwrite_interrupted c bytes i) = h.pwrite_interrupted c bytes i
+    of_change (change.group g s is made) = h.group g s is made
+    of_change change.interrupted = h.interrupted

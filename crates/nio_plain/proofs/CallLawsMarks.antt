@@ -13,7 +13,9 @@ use Rattle.nio_event.specs.State.{unmarked}
 use Rattle.nio_event.specs.declared.call.Call.{Call}
 use Rattle.nio_event.specs.declared.call.Call.TheVariants as call
 use Rattle.nio_event.specs.declared.found.Mark.{Mark}
-use Rattle.nio_plain.proofs.CallLawsCases.{HoldsOfChanges, holds_of_calls}
+use Rattle.nio_plain.proofs.CallChanges as change
+use Rattle.nio_plain.proofs.CallChanges.{Change}
+use Rattle.nio_plain.proofs.CallLawsCases.{change_of}
 use Rattle.nio_plain.specs.CallLaws.{told_of, newly_told, HasBit, GainsOnly, OnlyToldBitsAreSelected, IsGiven}
 use Rattle.nio_plain.specs.CallLaws.{IsToldAndLookedFor, BitsAreToldAndLookedFor}
 use Rattle.nio_plain.specs.ScriptState.{ScriptState, Selection}
@@ -23,6 +25,7 @@ use Rattle.nio_plain.specs.Seq.Names.{key_at, is_same_key}
 use Rattle.nio_plain.specs.Seq.Removing.{unselected}
 use Rattle.nio_plain.specs.declared.rules.Rules.{Rules}
 use Rattle.nio_plain.proofs.Lists.{same-is}
+use Rattle.nio_base.specs.declared.limits.Limits.{Limits}
 
 -- bits of a union and of a meet
 one_of_max : (x y : ℕ) → x ≢ 1 → x < 2 → max x y ≡ 1 → y ≡ 1
@@ -102,46 +105,23 @@ module _ (rules : Rules) (st : ScriptState) (me : CallerNo) (s i : ℕ) where
   abbrev m : Mark
   m = st.shared.mark s i
 
-  changes : HoldsOfChanges rules st me Gains
-  changes = record {
-    nothing = λ c r _. same m (newly_told st me c s i);
-    selector = λ _. same m 0;
-    channel = λ _ _. same m 0;
-    blocking = λ _ _. same m 0;
-    register = λ t _ _ _ k _. put_at_keeps (λ s' i' n. GainsOnly (st.shared.mark s' i') n 0) st.shared.mark t.0 k.index
-        unmarked (λ _. cleared (st.shared.mark t.0 k.index)) s i (same m 0);
-    register_again = λ _ _ _ _ _ _. same m 0;
-    closec = λ _. same m 0;
-    closec_again = λ _. same m 0;
-    cancel = λ _ _. same m 0;
-    iset = λ _ _ _. same m 0;
-    ior = λ _ _ _. same m 0;
-    iand = λ _ _ _. same m 0;
-    unselect = λ t k. put_at_keeps (λ s' i' n. GainsOnly (st.shared.mark s' i') n 0) st.shared.mark t.0 k.index
-        (unselected (st.shared.mark t.0 k.index)) after_unselecting s i (same m 0);
-    attach = λ _ _ _. same m 0;
-    begin = λ t _ _ _. after_sweep _ (same m 0);
-    told = λ t elapsed pairs selection count why own. after_sweep _
-        (after_told m s t.0 (own_selection st me) selection pairs (key_at st.shared s i) own);
-    failed = λ _ _ _. same m 0;
-    wakeup = λ _. same m 0;
-    close = λ _. same m 0;
-    close_end = λ t. after_sweep _ (same m 0);
-    interrupt = λ _. same m 0;
-    pipe = λ _ _ _. same m 0;
-    pipe_spent = λ _ _. same m 0;
-    pread = λ _ _ _ _ _. same m 0;
-    pread_interrupted = λ _ _. same m 0;
-    pwrite = λ _ _ _ _. same m 0;
-    pwrite_closed = λ _ _ _. same m 0;
-    pwrite_interrupted = λ _ _ _. same m 0;
-    group = λ _ _ _ _. same m 0;
-    interrupted = same m 0;
-  }
+  changes : {l : Limits} {c : Call} {done : Replied} → Change rules l st me c done → Gains c done
+  changes (change.nothing c r _) = same m (newly_told st me c s i)
+  changes (change.register t _ _ _ k _ _) =
+      put_at_keeps (λ s' i' n. GainsOnly (st.shared.mark s' i') n 0) st.shared.mark t.0 k.index unmarked
+      (λ _. cleared (st.shared.mark t.0 k.index)) s i (same m 0)
+  changes (change.unselect t k) =
+      put_at_keeps (λ s' i' n. GainsOnly (st.shared.mark s' i') n 0) st.shared.mark t.0 k.index
+      (unselected (st.shared.mark t.0 k.index)) after_unselecting s i (same m 0)
+  changes (change.begin t _ _ _) = after_sweep _ (same m 0)
+  changes (change.told t elapsed pairs selection count why own) =
+      after_sweep _ (after_told m s t.0 (own_selection st me) selection pairs (key_at st.shared s i) own)
+  changes (change.close_end t _ _) = after_sweep _ (same m 0)
+  changes _ = same m 0
 
 pub only_told_bits_are_selected : OnlyToldBitsAreSelected
 only_told_bits_are_selected rules l st me c s i =
-    holds_of_calls rules l st me (Gains rules st me s i) (changes rules st me s i) c
+    changes rules st me s i (change_of rules l st me c)
 
 -- where the bits come from
 later : {pairs : List (KeyId × ℕ)} {k : KeyId} {bit : ℕ} (p : KeyId × ℕ) → IsGiven pairs k bit

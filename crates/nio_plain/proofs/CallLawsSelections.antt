@@ -19,7 +19,9 @@ use Rattle.nio_event.specs.declared.call.Waiting.{Waiting}
 use Rattle.nio_event.specs.declared.found.Mode.{Mode}
 use Rattle.nio_event.specs.declared.found.Stage.{Stage}
 use Rattle.nio_plain.proofs.Found.{below_contains}
-use Rattle.nio_plain.proofs.CallLawsCases.{HoldsOfChanges, holds_of_calls}
+use Rattle.nio_plain.proofs.CallChanges as change
+use Rattle.nio_plain.proofs.CallChanges.{Change}
+use Rattle.nio_plain.proofs.CallLawsCases.{change_of, some_caller}
 use Rattle.nio_plain.proofs.Places.{put-elsewhere}
 use Rattle.nio_plain.specs.CallLaws.{IsBegunBy, LookedIsReplied, is_over, OnlyItselfEndsASelection}
 use Rattle.nio_plain.specs.ScriptState.{ScriptState, Selection}
@@ -28,6 +30,7 @@ use Rattle.nio_plain.specs.Seq.Names.{below, key_at}
 use Rattle.nio_plain.specs.Seq.Removing.{removed_key}
 use Rattle.nio_plain.specs.declared.rules.Rules.{Rules}
 use Rattle.nio_plain.specs.Seq.Selections.{without_cancelled, looked_keys, selection_begun, is_caller, own_selection}
+use Rattle.nio_base.specs.declared.limits.Limits.{Limits}
 
 -- an element that passes is kept, and so is its image
 contains_later : {X : Type 0} (y : X) (xs : List X) (x : X) → Contains xs x → Contains (y ∷ xs) x
@@ -164,49 +167,17 @@ module _ (rules : Rules) (st : ScriptState) (me : CallerNo) (s : ℕ) (selection
       (λ (ne : s ≡ t.0 → ⊥). inl (sym (put-elsewhere st.selection t.0 s (Some new) ne) ∙ now))
       (cases_eq s t.0)
 
-  changes : HoldsOfChanges rules st me Begun
-  changes = record {
-    nothing = λ _ _ _. before;
-    selector = λ _. before;
-    channel = λ _ _. before;
-    blocking = λ _ _. before;
-    register = λ _ _ _ _ _ _. before;
-    register_again = λ _ _ _ _ _ _. before;
-    closec = λ _. before;
-    closec_again = λ _. before;
-    cancel = λ _ _. before;
-    iset = λ _ _ _. before;
-    ior = λ _ _ _. before;
-    iand = λ _ _ _. before;
-    unselect = λ _ _. before;
-    attach = λ _ _ _. before;
-    begin = λ t waiting how _. by_begin t waiting how;
-    told = λ t _ _ _ _ _ _ e. inl (over t.0 e);
-    failed = λ t _ _ e. inl (over t.0 e);
-    wakeup = λ _. before;
-    close = λ _. before;
-    close_end = λ _. before;
-    interrupt = λ _. before;
-    pipe = λ _ _ _. before;
-    pipe_spent = λ _ _. before;
-    pread = λ _ _ _ _ _. before;
-    pread_interrupted = λ _ _. before;
-    pwrite = λ _ _ _ _. before;
-    pwrite_closed = λ _ _ _. before;
-    pwrite_interrupted = λ _ _ _. before;
-    group = λ _ _ _ _. before;
-    interrupted = before;
-  }
+  changes : {l : Limits} {c : Call} {done : Replied} → Change rules l st me c done → Begun c done
+  changes (change.begin t waiting how _) = by_begin t waiting how
+  changes (change.told t _ _ _ _ _ _) = λ e. inl (over t.0 e)
+  changes (change.failed t _ _) = λ e. inl (over t.0 e)
+  changes _ = before
 
 pub looked_is_replied : LookedIsReplied
 looked_is_replied rules l st me c s selection =
-    holds_of_calls rules l st me (Begun rules st me s selection) (changes rules st me s selection) c
+    changes rules st me s selection (change_of rules l st me c)
 
 -- whoever has the turn
-some_caller : (me : CallerNo) (o : Option CallerNo) → is_caller me o ≡ true → is_some o ≡ true
-some_caller me None h = absurd cc
-some_caller me (Some x) h = refl
-
 one_caller : (me other : CallerNo) (o : Option CallerNo) → is_caller me o ≡ true → is_caller other o ≡ true
     → other.0 ≡ me.0
 one_caller me other None h k = absurd cc
@@ -262,41 +233,12 @@ module _ (rules : Rules) (st : ScriptState) (me other : CallerNo) (s : ℕ) (sel
       (λ (ne : s ≡ t → ⊥). inl (elsewhere t None None ne))
       (cases_eq s t)
 
-  changes_stay : HoldsOfChanges rules st other Stays
-  changes_stay = record {
-    nothing = λ _ _ _. stays;
-    selector = λ _. stays;
-    channel = λ _ _. stays;
-    blocking = λ _ _. stays;
-    register = λ _ _ _ _ _ _. stays;
-    register_again = λ _ _ _ _ _ _. stays;
-    closec = λ _. stays;
-    closec_again = λ _. stays;
-    cancel = λ _ _. stays;
-    iset = λ _ _ _. stays;
-    ior = λ _ _ _. stays;
-    iand = λ _ _ _. stays;
-    unselect = λ _ _. stays;
-    attach = λ _ _ _. stays;
-    begin = begins;
-    told = λ t _ _ _ _ _ theirs. ends t.0 theirs;
-    failed = λ t _ theirs. ends t.0 theirs;
-    wakeup = λ _. stays;
-    close = λ _. stays;
-    close_end = λ _. stays;
-    interrupt = λ _. stays;
-    pipe = λ _ _ _. stays;
-    pipe_spent = λ _ _. stays;
-    pread = λ _ _ _ _ _. stays;
-    pread_interrupted = λ _ _. stays;
-    pwrite = λ _ _ _ _. stays;
-    pwrite_closed = λ _ _ _. stays;
-    pwrite_interrupted = λ _ _ _. stays;
-    group = λ _ _ _ _. stays;
-    interrupted = stays;
-  }
+  changes_stay : {l : Limits} {c : Call} {done : Replied} → Change rules l st other c done → Stays c done
+  changes_stay (change.begin t waiting how free) = begins t waiting how free
+  changes_stay (change.told t _ _ _ _ _ theirs) = ends t.0 theirs
+  changes_stay (change.failed t _ theirs) = ends t.0 theirs
+  changes_stay _ = stays
 
 pub only_itself_ends_a_selection : OnlyItselfEndsASelection
 only_itself_ends_a_selection rules l st me other c s selection own =
-    holds_of_calls rules l st other (Stays rules st me other s selection own)
-    (changes_stay rules st me other s selection own) c
+    changes_stay rules st me other s selection own (change_of rules l st other c)

@@ -13,7 +13,9 @@ use Rattle.nio_event.specs.declared.call.ScriptCall.{ScriptCall}
 use Rattle.nio_event.specs.declared.found.GateWord.{GateWord}
 use Rattle.nio_event.specs.declared.reply.Reply.{Reply}
 use Rattle.nio_event.specs.declared.reply.Reply.TheVariants as reply
-use Rattle.nio_plain.proofs.CallLawsCases.{may_keep, HoldsOfChanges, holds_of_calls}
+use Rattle.nio_plain.proofs.CallChanges as change
+use Rattle.nio_plain.proofs.CallChanges.{Change, may_keep}
+use Rattle.nio_plain.proofs.CallLawsCases.{change_of}
 use Rattle.nio_plain.proofs.Places.{put-elsewhere, put_same, put_kept}
 use Rattle.nio_plain.specs.Answer.{left_from}
 use Rattle.nio_plain.specs.CallLaws.{is_woken, is_wakeup, is_end, WakeupsArePending, FurtherWakeupsChangeNothing}
@@ -89,42 +91,15 @@ module _ (rules : Rules) (st : ScriptState) (me : CallerNo) (s : ℕ) where
   by_close t =
       put_kept (λ (g : GateWord). g.woken) st.shared.gate t (record (st.shared.gate t) { shut = true }) s refl ∙ same
 
-  changes : HoldsOfChanges rules st me Pending
-  changes = record {
-    nothing = nothing;
-    selector = λ _. same;
-    channel = λ _ _. same;
-    blocking = λ _ _. same;
-    register = λ _ _ _ _ _ _. same;
-    register_again = λ _ _ _ _ _ _. same;
-    closec = λ _. same;
-    closec_again = λ _. same;
-    cancel = λ _ _. same;
-    iset = λ _ _ _. same;
-    ior = λ _ _ _. same;
-    iand = λ _ _ _. same;
-    unselect = λ _ _. same;
-    attach = λ _ _ _. same;
-    begin = λ _ _ _ _. same;
-    told = λ t _ _ _ _ _ _. by_end t.0;
-    failed = λ _ _ _. same;
-    wakeup = λ t. by_wakeup t.0;
-    close = λ t. by_close t.0;
-    close_end = λ _. same;
-    interrupt = λ _. same;
-    pipe = λ _ _ _. same;
-    pipe_spent = λ _ _. same;
-    pread = λ _ _ _ _ _. same;
-    pread_interrupted = λ _ _. same;
-    pwrite = λ _ _ _ _. same;
-    pwrite_closed = λ _ _ _. same;
-    pwrite_interrupted = λ _ _ _. same;
-    group = λ _ _ _ _. same;
-    interrupted = same;
-  }
+  changes : {l : Limits} {c : Call} {done : Replied} → Change rules l st me c done → Pending c done
+  changes (change.nothing c r keeps) = nothing c r keeps
+  changes (change.told t _ _ _ _ _ _) = by_end t.0
+  changes (change.wakeup t) = by_wakeup t.0
+  changes (change.close t) = by_close t.0
+  changes _ = same
 
 pub wakeups_are_pending : WakeupsArePending
-wakeups_are_pending rules l st me c s = holds_of_calls rules l st me (Pending rules st me s) (changes rules st me s) c
+wakeups_are_pending rules l st me c s = changes rules st me s (change_of rules l st me c)
 
 -- a wakeup, by whether there are its caller and its selector
 module _ (st : ScriptState) (s : SelNo) where
@@ -164,7 +139,7 @@ further_wakeups_change_nothing rules l st me s h =
     ∙ woken_as_before st s h (nat_lt me.0 l.callers) (st.shared.selector s.0)
 
 -- over lists of calls
-left_from-append : (rules : Rules) (l : Limits) (st : ScriptState) (xs ys : List ScriptCall)
+pub left_from-append : (rules : Rules) (l : Limits) (st : ScriptState) (xs ys : List ScriptCall)
     → left_from rules l st (xs ++ ys) ≡ left_from rules l (left_from rules l st xs) ys
 left_from-append rules l st [] ys = refl
 left_from-append rules l st (x ∷ xs) ys = left_from-append rules l (seq rules l st x.caller x.call).left xs ys

@@ -12,7 +12,7 @@ use Rattle.nio_group.specs.Run.{after, reply_to}
 use Rattle.nio_group.specs.Stages.{is_running}
 use Rattle.nio_group.specs.Flight.{op_at}
 use Rattle.nio_group.specs.Steps.{answer_to_take, finish_refusal, kept_if_refused, unless_refused}
-use Rattle.nio_plain.proofs.CallLawsCases.{step_of}
+use Rattle.nio_plain.proofs.CallChanges.{step_of}
 use Rattle.nio_plain.specs.CallLaws.{is_without_group_effect, refuses}
 use Rattle.nio_plain.specs.Seq.Grouping.{line_reply}
 

@@ -21,6 +21,7 @@ pub mod Telling
 pub mod Registering
 pub mod RegisteringAt
 pub mod TellingAt
+pub mod CallChanges
 pub mod CallLawsCases
 pub mod GroupSteps
 pub mod CallLawsRefusals

@@ -3,7 +3,6 @@ use Rattle.std.proofs.Common.{◌≡◌, ℕ, suc, ◌+◌, ◌<◌, ◌≤◌, 
 use Rattle.std.proofs.Common.{length, get_or, set, bit_and, bit_or, count_by, refl, sym, ap, ◌∙◌, subst, arith, ⊎_elim}
 use Rattle.std.proofs.lemmas.Bool.{cases_eq, cond-true, cond-false, eq-eqb, ne_eqb}
 use Rattle.std.proofs.lemmas.List.{get_or-set_same, get_or-set_other, take_more, get_or_read}
-use Rattle.std.proofs.lemmas.Grind.{common_steps}
 use Rattle.std.proofs.lemmas.List.Elements.{All-push}
 use Rattle.std.proofs.lemmas.Nat.Bits.{bit_at_or, same_from_bits}
 use Rattle.std.specs.List.{All}
@@ -18,6 +17,7 @@ use Rattle.nio_plain.specs.PlainState.{KeyRow, places, key_row, no_key, key_id, 
 use Rattle.nio_plain.specs.Seq.Names.{is_same_key}
 use Rattle.nio_plain.specs.Seq.Selections.{all_told, looked_interest, told_bits, marked, is_updated}
 use Rattle.nio_plain.specs.declared.plain.selector.Key.{Key}
+use Rattle.nio_group.proofs.IndexLemmas.{count_by-cons}
 
 or_assoc : (a b c : ℕ) → bit_or a (bit_or b c) ≡ bit_or (bit_or a b) c
 or_assoc a b c =
@@ -252,9 +252,6 @@ serials-step xs j p serials rising h e within so_far =
     (All-push P (take j xs) p old (get_or-set_same serials p.0.index p.0.serial 0 within))
 
 -- ---- counting
-
-count_by-cons : {X : Type 0} (p : X → Bool) (x : X) (xs : List X) → count_by p (x ∷ xs) ≡ cond (p x) 1 0 + count_by p xs
-count_by-cons p x xs = grind (arith, common_steps)
 
 pub count_by-same : {X : Type 0} (p q : X → Bool) (xs : List X)
     → ((k : ℕ) (d : X) → k < length xs → p (get_or xs k d) ≡ q (get_or xs k d)) → count_by p xs ≡ count_by q xs

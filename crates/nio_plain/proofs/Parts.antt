@@ -1,7 +1,6 @@
 -- The parts of one selector, put into a state: what the state holds after any change of a selector.
 use Rattle.std.proofs.Common.{◌≡◌, ℕ, eqb, Bool, true, false, cond, ◌&&◌, ◌||◌, Option, is_some, refl, sym, ap, ◌∙◌}
-use Rattle.std.proofs.Common.{⊎_elim, List}
-use Rattle.std.proofs.lemmas.Bool.{cases_eq}
+use Rattle.std.proofs.Common.{List}
 use Rattle.nio_base.specs.declared.numbers.CallerNo.{CallerNo}
 use Rattle.nio_event.specs.State.{put}
 use Rattle.nio_event.specs.declared.found.Chan.{Chan}
@@ -9,10 +8,11 @@ use Rattle.nio_event.specs.declared.found.GateWord.{GateWord}
 use Rattle.nio_event.specs.declared.found.Mark.{Mark}
 use Rattle.nio_event.specs.declared.found.Stage.{Stage}
 use Rattle.nio_group.specs.Group.{Group}
-use Rattle.nio_plain.proofs.Places.{same_function, put_part, put_same, put_by, put-here, put-elsewhere}
+use Rattle.nio_plain.proofs.Places.{same_function, put_part, put_same, put_by, put-twice}
 use Rattle.nio_plain.specs.PlainState.{SelectorRow, KeyRow, state_from, removed_row}
 use Rattle.nio_plain.specs.ScriptState.{ScriptState, Selection, with_shared, Pipe}
 use Rattle.nio_plain.specs.Seq.Removing.{removed_key, unselected, without_keys_where}
+use Rattle.nio_event.proofs.Put.{put-same}
 
 -- the state in which the parts of the selector are these
 abbrev pub with_row : ScriptState → ℕ → SelectorRow → ScriptState
@@ -34,15 +34,6 @@ with_row st s r = record st {
   };
   selection = put st.selection s r.selection;
 }
-
-put-put : {A : Type 0} (f : ℕ → A) (s : ℕ) (x y : A) → put (put f s x) s y ≡ put f s y
-put-put f s x y =
-    same_function (λ n. ⊎_elim
-    (λ (e : n ≡ s). ap (put (put f s x) s y) e
-    ∙ (put-here (put f s x) s y ∙ (sym (put-here f s y) ∙ ap (put f s y) (sym e))))
-    (λ (ne : n ≡ s → ⊥). put-elsewhere (put f s x) s n y ne
-    ∙ (put-elsewhere f s n x ne ∙ sym (put-elsewhere f s n y ne)))
-    (cases_eq n s))
 
 pub and_true : (b : Bool) → b ≡ (b && true)
 and_true true = refl
@@ -99,8 +90,8 @@ module _ (group : Group) (pipes : List Pipe) (interrupted : ℕ → Bool) (mark 
         → Makes (λ r. g (f r)) (λ st. G (F st))
     then f g F G first second = λ row.
         let row' = put row s (f (row s)) in
-        let same = sym (put-put row s (f (row s)) (g (f (row s))))
-        ∙ ap (λ r. put row' s (g r)) (sym (put-here row s (f (row s)))) in
+        let same = sym (put-twice row s (f (row s)) (g (f (row s))))
+        ∙ ap (λ r. put row' s (g r)) (sym (put-same row s (f (row s)))) in
         (ap state same ∙ second row') ∙ ap G (first row)
 
     -- the change of one part

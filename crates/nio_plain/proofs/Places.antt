@@ -1,6 +1,6 @@
 -- What a vector holds by the place, after a write and after a push.
 use Rattle.std.proofs.Common.{◌≡◌, ℕ, Bool, true, false, zero, suc, ◌<◌, ◌≤◌, eqb, ◌&&◌, List, [], ◌∷◌, ◌++◌, map}
-use Rattle.std.proofs.Common.{length, get_or, set, refl, sym, ap, ◌∙◌, arith, ⊎_elim}
+use Rattle.std.proofs.Common.{length, get_or, set, refl, sym, ap, ◌∙◌, arith, ⊎_elim, cond}
 use Rattle.std.proofs.lemmas.Bool.{cases_eq, cond-true, cond-false, eq-eqb, ne_eqb, cases_lt, and_from, and_left}
 use Rattle.std.proofs.lemmas.Bool.{and_right}
 use Rattle.std.proofs.lemmas.List.{get_or-set_same, get_or-set_other, get_or-map, map-set, map_push, get_or_push}
@@ -10,13 +10,11 @@ use mathlib.Core.Path.{fun_ext}
 use lib.ListN.{replicate}
 use Rattle.nio_event.specs.State.{put, put_at}
 use Rattle.nio_plain.specs.PlainState.{places}
+use Rattle.nio_event.proofs.Put.{put-same}
 
 -- two functions are one where they agree everywhere
 pub same_function : {A B : Type 0} {f g : A → B} → ((x : A) → f x ≡ g x) → f ≡ g
 same_function h = fun_ext h
-
-pub put-here : {A : Type 0} (f : ℕ → A) (s : ℕ) (x : A) → put f s x s ≡ x
-put-here f s x = cond-true (eqb s s) x (f s) (eq-eqb s s refl)
 
 pub put-elsewhere : {A : Type 0} (f : ℕ → A) (s n : ℕ) (x : A) → (n ≡ s → ⊥) → put f s x n ≡ f n
 put-elsewhere f s n x h = cond-false (eqb n s) x (f n) (ne_eqb n s h)
@@ -25,7 +23,7 @@ put-elsewhere f s n x h = cond-false (eqb n s) x (f n) (ne_eqb n s h)
 pub put_is : {A : Type 0} (g f : ℕ → A) (s : ℕ) (x : A) → g s ≡ x → ((n : ℕ) → (n ≡ s → ⊥) → g n ≡ f n) → g ≡ put f s x
 put_is {A} g f s x here other =
     same_function (λ n. ⊎_elim
-    (λ (e : n ≡ s). (ap g e ∙ here) ∙ sym (ap (put f s x) e ∙ put-here f s x))
+    (λ (e : n ≡ s). (ap g e ∙ here) ∙ sym (ap (put f s x) e ∙ put-same f s x))
     (λ (ne : n ≡ s → ⊥). other n ne ∙ sym (put-elsewhere f s n x ne))
     (cases_eq n s))
 
@@ -33,11 +31,19 @@ put_is {A} g f s x here other =
 pub put_same : {A : Type 0} (f : ℕ → A) (s : ℕ) (x : A) → f s ≡ x → put f s x ≡ f
 put_same f s x e = sym (put_is f f s x e (λ n ne. refl))
 
+twice : {A : Type 0} (b : Bool) (x y z : A) → cond b y (cond b x z) ≡ cond b y z
+twice true x y z = refl
+twice false x y z = refl
+
+-- what is put last at a place is there
+pub put-twice : {A : Type 0} (f : ℕ → A) (s : ℕ) (x y : A) → put (put f s x) s y ≡ put f s y
+put-twice f s x y = same_function (λ n. twice (eqb n s) x y (f n))
+
 -- a part of what is put in is put in that part
 pub put_part : {R A : Type 0} (part : R → A) (f : ℕ → R) (s : ℕ) (x : R)
     → ◌≡◌ {A = ℕ → A} (λ n. part (put f s x n)) (put (λ n. part (f n)) s (part x))
 put_part part f s x =
-    put_is (λ n. part (put f s x n)) (λ n. part (f n)) s (part x) (ap part (put-here f s x))
+    put_is (λ n. part (put f s x n)) (λ n. part (f n)) s (part x) (ap part (put-same f s x))
     (λ n ne. ap part (put-elsewhere f s n x ne))
 
 -- a part that stays as it was
@@ -45,7 +51,7 @@ pub part_kept : {R A : Type 0} (part : R → A) (f : ℕ → R) (s : ℕ) (x : R
     → ◌≡◌ {A = ℕ → A} (λ n. part (put f s x n)) (λ n. part (f n))
 part_kept part f s x h =
     same_function (λ n. ⊎_elim
-    (λ (e : n ≡ s). ((ap (λ m. part (put f s x m)) e ∙ ap part (put-here f s x)) ∙ h) ∙ ap (λ m. part (f m)) (sym e))
+    (λ (e : n ≡ s). ((ap (λ m. part (put f s x m)) e ∙ ap part (put-same f s x)) ∙ h) ∙ ap (λ m. part (f m)) (sym e))
     (λ (ne : n ≡ s → ⊥). ap part (put-elsewhere f s n x ne))
     (cases_eq n s))
 

@@ -12,46 +12,13 @@ use Rattle.nio_event.specs.declared.found.GateWord.{GateWord}
 use Rattle.nio_event.specs.declared.found.Mark.{Mark}
 use Rattle.nio_event.specs.declared.found.Stage.{Stage}
 use Rattle.nio_event.specs.declared.reply.Reply.{Reply}
-use Rattle.nio_group.specs.Group.{Group}
 use Rattle.nio_plain.proofs.ReachedRemoving.{look-none, bound-none}
 use Rattle.nio_plain.proofs.ReachedSound.{ClosingSound, LookSound, BoundSound, Sound, Keeps, Aged, here_or_there}
 use Rattle.nio_plain.proofs.ReachedSound.{aged-same, aged-cancelled, in_set-cancelled, same_stays, keeps_cancelled}
-use Rattle.nio_plain.specs.ScriptState.{ScriptState, with_shared, with_selection, with_group}
+use Rattle.nio_plain.specs.ScriptState.{ScriptState, with_shared, with_selection}
 use Rattle.nio_plain.specs.Seq.Replies.{replied}
 use Rattle.nio_plain.specs.Seq.Cancelling.{cancelled_key, cancelled_in_set}
 use Rattle.nio_plain.specs.declared.rules.Rules.{Rules}
-
--- interrupt statuses, interests and attachments may be what they like
-pub keeps_beside : (rules : Rules) (l : Limits) (st : ScriptState) (r : Reply) (interrupted : ℕ → Bool)
-    (interest note : ℕ → ℕ → ℕ) → Sound rules l st
-    → Keeps rules l st
-    (replied st r (record st.shared { interrupted = interrupted; interest = interest; note = note }))
-keeps_beside rules l st r interrupted interest note sound = record {
-  sound = record {
-    keys = sound.keys;
-    free = sound.free;
-    selected = sound.selected;
-    closings = sound.closings;
-    looks = sound.looks;
-    bounds = sound.bounds;
-  };
-  stays = same_stays st.shared.key st.shared.entered;
-}
-
--- the group may be what it likes
-pub keeps_grouped : (rules : Rules) (l : Limits) (st : ScriptState) (r : Reply) (group : Group) → Sound rules l st
-    → Keeps rules l st (record { reply = r; left = with_group st group })
-keeps_grouped rules l st r group sound = record {
-  sound = record {
-    keys = sound.keys;
-    free = sound.free;
-    selected = sound.selected;
-    closings = sound.closings;
-    looks = sound.looks;
-    bounds = sound.bounds;
-  };
-  stays = same_stays st.shared.key st.shared.entered;
-}
 
 -- a wakeup is left
 pub keeps_woken : (rules : Rules) (l : Limits) (st : ScriptState) (r : Reply) (s : ℕ) → Sound rules l st

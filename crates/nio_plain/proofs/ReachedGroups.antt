@@ -9,7 +9,9 @@ use Rattle.nio_group.proofs.RunLemmas.{lawful-after}
 use Rattle.nio_group.specs.Group.{Group, IsLawful, empty_group}
 use Rattle.nio_group.specs.Run as step
 use Rattle.nio_group.specs.Run.{IsCallOf, IsRunOf, after, left_by}
-use Rattle.nio_plain.proofs.CallLawsCases.{HoldsOfChanges, holds_of_calls}
+use Rattle.nio_plain.proofs.CallChanges as change
+use Rattle.nio_plain.proofs.CallChanges.{Change}
+use Rattle.nio_plain.proofs.CallLawsCases.{change_of}
 use Rattle.nio_plain.specs.Answer.{left_from}
 use Rattle.nio_plain.specs.ReachedLaws.{GroupIsLawful, GroupIsLeftByARun}
 use Rattle.nio_plain.specs.ScriptState.{ScriptState, group_limits, script_opening}
@@ -22,39 +24,10 @@ abbrev Steps : ScriptState → Call → Replied → Type 0
 Steps st c done =
     (done.left.group ≡ st.group) ⊎ ((s : step.Call) × IsCallOf st.group s × (done.left.group ≡ after st.group s))
 
-changes : (rules : Rules) (st : ScriptState) (me : CallerNo) → HoldsOfChanges rules st me (Steps st)
-changes rules st me = record {
-  nothing = λ _ _ _. inl refl;
-  selector = λ _. inl refl;
-  channel = λ _ _. inl refl;
-  blocking = λ _ _. inl refl;
-  register = λ _ _ _ _ _ _. inl refl;
-  register_again = λ _ _ _ _ _ _. inl refl;
-  closec = λ _. inl refl;
-  closec_again = λ _. inl refl;
-  cancel = λ _ _. inl refl;
-  iset = λ _ _ _. inl refl;
-  ior = λ _ _ _. inl refl;
-  iand = λ _ _ _. inl refl;
-  unselect = λ _ _. inl refl;
-  attach = λ _ _ _. inl refl;
-  begin = λ _ _ _ _. inl refl;
-  told = λ _ _ _ _ _ _ _. inl refl;
-  failed = λ _ _ _. inl refl;
-  wakeup = λ _. inl refl;
-  close = λ _. inl refl;
-  close_end = λ _. inl refl;
-  interrupt = λ _. inl refl;
-  pipe = λ _ _ _. inl refl;
-  pipe_spent = λ _ _. inl refl;
-  pread = λ _ _ _ _ _. inl refl;
-  pread_interrupted = λ _ _. inl refl;
-  pwrite = λ _ _ _ _. inl refl;
-  pwrite_closed = λ _ _ _. inl refl;
-  pwrite_interrupted = λ _ _ _. inl refl;
-  group = λ g s _ made. inr (s, made, refl);
-  interrupted = inl refl;
-}
+changes : {rules : Rules} {l : Limits} {st : ScriptState} {me : CallerNo} {c : Call} {done : Replied}
+    → Change rules l st me c done → Steps st c done
+changes (change.group g s _ made) = inr (s, made, refl)
+changes _ = inl refl
 
 -- from a group on, a run of it leaves this one
 pub record IsRunTo (before left : Group) : Type 0 where
@@ -68,7 +41,7 @@ runs rules l [] st = record { steps = []; run = tt; leaves = refl }
 runs rules l (c ∷ calls) st =
     let done = seq rules l st c.caller c.call in
     let rest = runs rules l calls done.left in
-    elim (holds_of_calls rules l st c.caller (Steps st) (changes rules st c.caller) c.call) [
+    elim (changes (change_of rules l st c.caller c.call)) [
       | inl same ↦ subst (λ (g : Group). IsRunTo g (left_from rules l done.left calls).group) same rest
       | inr first ↦
           let on = subst (λ (g : Group). IsRunTo g (left_from rules l done.left calls).group) first.2 rest in

@@ -1,6 +1,6 @@
 -- The laws of the states that scripts leave.
-use Rattle.std.proofs.Common.{◌≡◌, ℕ, ◌==◌, true, false, not, ◌||◌, nat_lt, Option, Some, None, is_some, List, [], ◌∷◌}
-use Rattle.std.proofs.Common.{◌++◌, refl, sym, ap, ◌∙◌, subst, arith, eq-eqb, eqb-true}
+use Rattle.std.proofs.Common.{◌≡◌, ℕ, ◌==◌, true, false, not, nat_lt, Option, Some, None, List, ◌∷◌, ◌++◌, refl, sym}
+use Rattle.std.proofs.Common.{ap, ◌∙◌, subst, arith, eq-eqb, eqb-true}
 use Rattle.std.proofs.lemmas.Bool.{and_left, and_right, and_parts, and_from, or_right, both_ways, false_from_ne_true}
 use Rattle.std.proofs.lemmas.Bool.{cond-false}
 use Rattle.nio_base.specs.declared.limits.Limits.{Limits}
@@ -10,13 +10,17 @@ use Rattle.nio_base.specs.declared.numbers.KeyId.{KeyId}
 use Rattle.nio_base.specs.declared.numbers.SelNo.{SelNo}
 use Rattle.nio_event.proofs.Put.{put-same, put_at-same}
 use Rattle.nio_event.specs.Sets.{fits, in_key_set, is_valid, was_published, is_in_key_set, is_valid_key}
-use Rattle.nio_event.specs.State.{State}
+use Rattle.nio_event.specs.State.{State, put}
 use Rattle.nio_event.specs.declared.call.Call.{Call}
 use Rattle.nio_event.specs.declared.call.Call.TheVariants as call
 use Rattle.nio_event.specs.declared.call.ScriptCall.{ScriptCall}
 use Rattle.nio_event.specs.declared.found.Stage.{Stage}
 use Rattle.nio_event.specs.declared.reply.Reply.TheVariants as reply
-use Rattle.nio_plain.proofs.ReachedCalls.{keeps-seq, sound-left, stays-left}
+use Rattle.nio_plain.proofs.CallChanges as change
+use Rattle.nio_plain.proofs.CallChanges.{Change, may_keep}
+use Rattle.nio_plain.proofs.CallLawsCases.{change_of}
+use Rattle.nio_plain.proofs.CallLawsWakeups.{left_from-append}
+use Rattle.nio_plain.proofs.ReachedCalls.{keeps_call, sound-left, stays-left}
 use Rattle.nio_plain.proofs.ReachedChannels.{in_set-registered}
 use Rattle.nio_plain.proofs.ReachedRegistering.{IsNext, next-is}
 use Rattle.nio_plain.proofs.ReachedSound.{Sound, sound-opening, some_same, by_test}
@@ -31,23 +35,16 @@ use Rattle.nio_plain.specs.ReachedLaws.{ClosedSelectorIsEmpty}
 use Rattle.nio_plain.specs.ScriptState.{ScriptState, script_opening}
 use Rattle.nio_plain.specs.Seq.{call_of, seq}
 use Rattle.nio_plain.specs.Seq.Replies.{Replied, unchanged}
-use Rattle.nio_plain.specs.Seq.Closing.{close_end_call}
 use Rattle.nio_plain.specs.Seq.Modes.{if_in_key_set, key_of}
 use Rattle.nio_plain.specs.Seq.Names.{key_at}
 use Rattle.nio_plain.specs.Seq.Registering.{are_legal, given_or_none, new_stage, next_key, registered, registered_new}
 use Rattle.nio_plain.specs.Seq.Registering.{register_call, with_new_key}
-use Rattle.nio_plain.specs.Seq.Selections.{is_caller}
 use Rattle.nio_plain.specs.declared.rules.Rules.{Rules}
 use Rattle.nio_plain.specs.declared.rules.Rules.TheVariants.{First}
 
 -- every state that a script leaves is sound
 reached : (rules : Rules) (l : Limits) (calls : List ScriptCall) → Sound rules l (left_by_script rules l calls)
 reached rules l calls = sound-left rules l calls script_opening (sound-opening rules l)
-
-left_from-append : (rules : Rules) (l : Limits) (calls more : List ScriptCall) (st : ScriptState)
-    → left_from rules l st (calls ++ more) ≡ left_from rules l (left_from rules l st calls) more
-left_from-append rules l [] more st = refl
-left_from-append rules l (c ∷ calls) more st = left_from-append rules l calls more (seq rules l st c.caller c.call).left
 
 pub sets_are_within_key_set : SetsAreWithinKeySet
 sets_are_within_key_set rules l calls = record {
@@ -69,7 +66,7 @@ published_stays rules l calls more s k h =
     let before = left_by_script rules l calls in
     let after = (stays-left rules l more before (reached rules l calls)).published s k.index k.serial h in
     subst (λ (st : ScriptState). was_published (st.shared.key s k.index) k.serial ≡ true)
-    (sym (left_from-append rules l calls more script_opening)) after
+    (sym (left_from-append rules l script_opening calls more)) after
 
 pub invalid_keys_stay_invalid : InvalidKeysStayInvalid
 invalid_keys_stay_invalid rules l calls more s k published invalid =
@@ -77,7 +74,7 @@ invalid_keys_stay_invalid rules l calls more s k published invalid =
     let after = (stays-left rules l more before (reached rules l calls)).invalid s k.index k.serial
     (record { published = published; invalid = invalid }) in
     subst (λ (st : ScriptState). is_valid_key (st.shared.key s k.index) k.serial ≡ false)
-    (sym (left_from-append rules l calls more script_opening)) after.invalid
+    (sym (left_from-append rules l script_opening calls more)) after.invalid
 
 -- ---- free indexes, and the first rules
 
@@ -190,11 +187,11 @@ new_keys_differ rules l calls more first second s k m new later same =
     let before = left_by_script rules l calls in
     let made = made-is rules l before (reached rules l calls) first s k new in
     let done = (seq rules l before first.caller first.call).left in
-    let sound = (keeps-seq rules l before (reached rules l calls) first.caller first.call).sound in
+    let sound = (keeps_call rules l before first.caller (reached rules l calls) first.call).sound in
     let was = valid-published (done.shared.key s k.index) k.serial made.1 in
     let still = (stays-left rules l more done sound).published s k.index k.serial was in
     let at_end = subst (λ (st : ScriptState). was_published (st.shared.key s k.index) k.serial ≡ true)
-    (sym (left_from-append rules l calls (first ∷ more) script_opening)) still in
+    (sym (left_from-append rules l script_opening calls (first ∷ more))) still in
     let end = left_by_script rules l (calls ++ first ∷ more) in
     let next = made-is rules l end (reached rules l (calls ++ first ∷ more)) second s m later in
     both_ways (was_published (end.shared.key s m.index) m.serial) (not_yet rules end s m next.0)
@@ -257,20 +254,14 @@ closed_channel_has_no_valid_key rules l calls s i closed =
 -- ---- a closed selector
 
 -- the answer Closed comes only where the closing has ended
-closed-ended : (rules : Rules) (l : Limits) (st : ScriptState) (me : CallerNo) (s : SelNo)
-    → (seq rules l st me (call.CloseEnd s)).reply ≡ reply.Closed
-    → (seq rules l st me (call.CloseEnd s)).left.shared.entered s.0 ≡ true
-unfolding seq call_of close_end_call
-closed-ended rules l st me s =
-    let P : Replied → Type 0 = λ a. a.reply ≡ reply.Closed → a.left.shared.entered s.0 ≡ true in
-    by_test P (nat_lt me.0 l.callers) _ (unchanged st reply.NoCaller)
-    (λ _. by_test P (st.shared.selector s.0) _ (unchanged st reply.NoSelector)
-    (λ _. by_test P (not (is_caller me (st.shared.closer s.0)) || st.shared.entered s.0)
-    (unchanged st reply.NotClosing) _ (λ _ e. absurd cc)
-    (λ _. by_test P (is_some (st.shared.turn s.0)) (unchanged st reply.Busy) _ (λ _ e. absurd cc)
-    (λ _ e. put-same st.shared.entered s.0 true)))
-    (λ _ e. absurd cc))
-    (λ _ e. absurd cc)
+closed-ended : {rules : Rules} {l : Limits} {st : ScriptState} {me : CallerNo} {c : Call} {done : Replied} (s : SelNo)
+    → Change rules l st me c done → c ≡ call.CloseEnd s → done.reply ≡ reply.Closed
+    → done.left.shared.entered s.0 ≡ true
+closed-ended s (change.nothing c r keeps) is closed = absurd (both_ways (may_keep r) (ap may_keep closed) keeps)
+closed-ended {st = st} s (change.close_end t _ _) is closed =
+    let same : t ≡ s = cc in
+    subst (λ (n : SelNo). put st.shared.entered t.0 true n.0 ≡ true) same (put-same st.shared.entered t.0 true)
+closed-ended s _ is closed = absurd cc
 
 emptied : (st : State) (s : ℕ) → ((i : ℕ) → in_key_set (st.key s i) ≡ false) → IsEmptied st s
 emptied st s no_key = record {
@@ -289,9 +280,10 @@ pub closed_selector_is_empty : ClosedSelectorIsEmpty
 closed_selector_is_empty rules l calls more me s closed =
     let before = left_by_script rules l calls in
     let ended = (seq rules l before me (call.CloseEnd s)).left in
-    let sound = (keeps-seq rules l before (reached rules l calls) me (call.CloseEnd s)).sound in
-    let stays = (stays-left rules l more ended sound).closed s.0 (closed-ended rules l before me s closed) in
+    let sound = (keeps_call rules l before me (reached rules l calls) (call.CloseEnd s)).sound in
+    let stays = (stays-left rules l more ended sound).closed s.0
+    (closed-ended s (change_of rules l before me (call.CloseEnd s)) refl closed) in
     subst (λ (st : ScriptState). IsEmptied st.shared s.0)
-    (sym (left_from-append rules l calls (record { caller = me; call = call.CloseEnd s } ∷ more) script_opening))
+    (sym (left_from-append rules l script_opening calls (record { caller = me; call = call.CloseEnd s } ∷ more)))
     (emptied (left_from rules l ended more).shared s.0
     (((sound-left rules l more ended sound).closings s.0).entered_empty stays))

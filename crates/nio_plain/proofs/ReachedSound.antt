@@ -18,6 +18,7 @@ use Rattle.nio_plain.specs.Seq.Removing.{removed_key}
 use Rattle.nio_plain.specs.Seq.Selections.{is_looked}
 use Rattle.nio_plain.specs.declared.rules.Rules.{Rules}
 use Rattle.nio_plain.specs.declared.rules.Rules.TheVariants.{First}
+use Rattle.nio_event.specs.declared.found.GateWord.{GateWord}
 
 -- ---- the parts
 
@@ -86,14 +87,22 @@ pub record KeysSound (l : Limits) (selector : ℕ → Bool) (keys_high : ℕ →
   pub channels : ChannelsSound chan key
   pub cancelled : CancelledSound key
 
-pub record Sound (rules : Rules) (l : Limits) (st : ScriptState) : Type 0 where
-  pub keys : KeysSound l st.shared.selector st.shared.keys_high st.shared.enrolled st.shared.chan st.shared.key
-  pub free : FreeSound rules st.shared.free st.shared.key
-  pub selected : SelectedSound st.shared.key st.shared.mark
-  pub closings : (s : ℕ)
-      → ClosingSound (st.shared.gate s).shut (st.shared.closer s) (st.shared.entered s) (st.shared.key s)
-  pub looks : (s : ℕ) → LookSound (st.selection s) (st.shared.turn s) (st.shared.key s)
-  pub bounds : (s : ℕ) → BoundSound rules (st.selection s) (st.shared.keys_high s) (st.shared.key s)
+-- of all that the calls change, but for interests, attachments, interrupt statuses, pipes and the group
+pub record AreSound (rules : Rules) (l : Limits) (selector : ℕ → Bool) (keys_high : ℕ → ℕ)
+    (enrolled : ℕ → ℕ → Option KeyId) (chan : ℕ → Chan) (key : ℕ → ℕ → Stage) (vacant : ℕ → ℕ → Bool)
+    (mark : ℕ → ℕ → Mark) (gate : ℕ → GateWord) (closer : ℕ → Option CallerNo) (entered : ℕ → Bool)
+    (turn : ℕ → Option CallerNo) (selection : ℕ → Option Selection) : Type 0 where
+  pub keys : KeysSound l selector keys_high enrolled chan key
+  pub free : FreeSound rules vacant key
+  pub selected : SelectedSound key mark
+  pub closings : (s : ℕ) → ClosingSound (gate s).shut (closer s) (entered s) (key s)
+  pub looks : (s : ℕ) → LookSound (selection s) (turn s) (key s)
+  pub bounds : (s : ℕ) → BoundSound rules (selection s) (keys_high s) (key s)
+
+abbrev pub Sound : Rules → Limits → ScriptState → Type 0
+Sound rules l st =
+    AreSound rules l st.shared.selector st.shared.keys_high st.shared.enrolled st.shared.chan st.shared.key
+    st.shared.free st.shared.mark st.shared.gate st.shared.closer st.shared.entered st.shared.turn st.selection
 
 pub sound-opening : (rules : Rules) (l : Limits) → Sound rules l script_opening
 sound-opening rules l = record {
@@ -156,10 +165,13 @@ pub record Keeps (rules : Rules) (l : Limits) (st : ScriptState) (a : Replied) :
 pub same_stays : (key : ℕ → ℕ → Stage) (entered : ℕ → Bool) → Stays key key entered entered
 same_stays key entered = record { published = λ s i q h. h; invalid = λ s i q h. h; closed = λ s h. h }
 
--- a call that changes nothing
-pub keeps_unchanged : (rules : Rules) (l : Limits) (st : ScriptState) (r : Reply) → Sound rules l st
-    → Keeps rules l st (record { reply = r; left = st })
-keeps_unchanged rules l st r sound = record { sound = sound; stays = same_stays st.shared.key st.shared.entered }
+-- one change after another
+pub stays_then : {a b c : ℕ → ℕ → Stage} {x y z : ℕ → Bool} → Stays a b x y → Stays b c y z → Stays a c x z
+stays_then first second = record {
+  published = λ s i q h. second.published s i q (first.published s i q h);
+  invalid = λ s i q h. second.invalid s i q (first.invalid s i q h);
+  closed = λ s h. second.closed s (first.closed s h);
+}
 
 pub some_same : {A : Type 0} (x y : A) → ◌≡◌ {A = Option A} (Some x) (Some y) → x ≡ y
 some_same x y e = cc

@@ -1,9 +1,9 @@
 -- How a call of a plain system is shown to answer as the documented one, at each of its returns.
-use Rattle.std.proofs.Common.{◌≡◌, ℕ, ◌+◌, ◌<◌, ◌≤◌, Option, None, Some, is_some, Bool, true, false, Result, Ok, Err}
-use Rattle.std.proofs.Common.{List, [], ◌∷◌, ◌++◌, length, get_or, set, refl, sym, ap, subst, ◌∙◌, map}
+use Rattle.std.proofs.Common.{◌≡◌, ℕ, ◌+◌, ◌<◌, ◌≤◌, Option, None, Some, is_some, Bool, true, false, Result, Ok, List}
+use Rattle.std.proofs.Common.{[], ◌∷◌, ◌++◌, length, get_or, set, refl, sym, ap, subst, ◌∙◌, map}
 use Rattle.std.proofs.lemmas.List.{length-set, length_push}
 use Rattle.std.proofs.lemmas.Result.{IfOk-from_err}
-use Rattle.std.specs.Result.{IsErr, OnErr}
+use Rattle.std.specs.Result.{IsErr}
 use Rattle.std.specs.declared.alloc.AllocError.{AllocError}
 use lib.ListN.{replicate}
 use Rattle.nio_event.specs.State.{unmade_channel, put, with_interrupted}
@@ -21,6 +21,7 @@ use Rattle.nio_plain.specs.declared.plain.channel.Channel.{Channel}
 use Rattle.nio_plain.specs.declared.plain.pipe.Pipe.{Pipe as PlainPipe}
 use Rattle.nio_plain.specs.declared.plain.selector.Selecting.{Selecting}
 use Rattle.nio_plain.specs.declared.plain.selector.Selector.{Selector}
+pub use Rattle.nio_group.proofs.TableLemmas.{on_err}
 
 -- a call that keeps the limits and the rules
 pub kept_same : (p : Plain) → Kept p p
@@ -135,10 +136,6 @@ replied_without_memory p q r a b e same left kept = record {
   left = left ∙ sym (ap (λ (x : Replied). x.left) e);
   kept = kept;
 }
-
-on_err : {X E P : Type 0} (r : Result X E) → P → OnErr r P
-on_err (Ok x) h = tt
-on_err (Err e) h = h
 
 -- a call that lacked memory
 pub failed_as : (p q : Plain) (r : Result Reply AllocError) (a : Replied) → IsErr r → state_of q ≡ state_of p

@@ -1,4 +1,4 @@
-mod Trying
+pub mod Trying
 pub mod Ready
 pub mod Marks
 pub mod Quiet

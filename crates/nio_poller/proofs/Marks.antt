@@ -1,11 +1,13 @@
 -- What is marked is what a poll told of the key's channel.
 use Rattle.std.proofs.Common.{◌≡◌, ℕ, ◌==◌, Bool, true, false, if◌then◌else◌, ◌⊎◌, inl, inr, Result, Ok, List, []}
-use Rattle.std.proofs.Common.{◌∷◌, ◌++◌, fold, bit_and, bit_or, refl, ap, sym, ◌∙◌, subst, arith, eq-eqb, IsTrue}
+use Rattle.std.proofs.Common.{◌∷◌, ◌++◌, fold, bit_and, bit_or, refl, ap, sym, ◌∙◌, subst, arith, eq-eqb, eqb-true}
+use Rattle.std.proofs.Common.{IsTrue}
 use Rattle.std.specs.List.{All, Contains}
 use Rattle.std.proofs.lemmas.List.Elements.{All-head, All-tail, Contains-append_cases}
 use Rattle.std.proofs.lemmas.List.Folds.{list_any-append}
 use Rattle.std.proofs.lemmas.List.Sums.{fold-append}
 use Rattle.std.proofs.lemmas.Bool.{or_left, or_right}
+use Rattle.std.proofs.lemmas.Nat.{and_assoc}
 use Rattle.std.proofs.lemmas.Nat.Bits.{bit_at_or, bit_at_and, same_from_bits}
 use Rattle.nio_base.specs.declared.numbers.ChanNo.{ChanNo}
 use Rattle.nio_base.specs.declared.numbers.SelNo.{SelNo}
@@ -34,13 +36,13 @@ use Rattle.nio_poller.specs.Selecting.{MarksReady}
 abbrev pub IsPart : ℕ → ℕ → Type 0
 IsPart a b = bit_and a b ≡ a
 
-pub part_left : (a b c : ℕ) → IsPart a b → IsPart a (bit_or b c)
+part_left : (a b c : ℕ) → IsPart a b → IsPart a (bit_or b c)
 part_left a b c part =
     ap (λ n. bit_and n (bit_or b c)) (sym part)
     ∙ (same_from_bits (bit_and (bit_and a b) (bit_or b c)) (bit_and a b)
     (λ i. simp (bit_at_or, bit_at_and) (omega arith)) ∙ part)
 
-pub part_right : (b c : ℕ) → IsPart c (bit_or b c)
+part_right : (b c : ℕ) → IsPart c (bit_or b c)
 part_right b c = same_from_bits (bit_and c (bit_or b c)) c (λ i. simp (bit_at_or, bit_at_and) (omega arith))
 
 pub part_met : (a b c : ℕ) → IsPart a c → IsPart (bit_and a b) c
@@ -50,36 +52,51 @@ part_met a b c part =
     (λ i. simp bit_at_and (omega arith))
     ∙ ap (λ n. bit_and n b) part)
 
--- ---- what was told of a channel
+pub part_then : (a b c : ℕ) → IsPart a b → IsPart b c → IsPart a c
+part_then a b c first second =
+    ap (λ n. bit_and n c) (sym first) ∙ (and_assoc c a b ∙ (ap (bit_and a) second ∙ first))
 
-module _ (pairs : List (ℕ × ℕ)) (c : ChanNo) where
-  abbrev with_entry : ℕ → LookedKey → ℕ
-  with_entry bits entry = if entry.channel.0 == c.0 then bit_or bits (told_of pairs entry.index) else bits
+pub within_trans : (a b c : ℕ) → IsPart a b → IsTrue (is_within b c) → IsTrue (is_within a c)
+within_trans a b c first second =
+    eq-eqb (bit_and a c) a (part_then a b c first (eqb-true (bit_and b c) b second))
 
-  stays : (a bits : ℕ) (asked : List LookedKey) → IsPart a bits → IsPart a (fold with_entry bits asked)
+-- the union of the bits of some elements of a list
+module _ {X : Type 0} (test : X → Bool) (bits_of : X → ℕ) where
+  abbrev with_one : ℕ → X → ℕ
+  with_one bits x = if test x then bit_or bits (bits_of x) else bits
+
+  stays : (a bits : ℕ) (xs : List X) → IsPart a bits → IsPart a (fold with_one bits xs)
   stays a bits [] part = part
-  stays a bits (entry ∷ asked) part = stays a (with_entry bits entry) asked (by_test (entry.channel.0 == c.0))
+  stays a bits (x ∷ xs) part = stays a (with_one bits x) xs (by_test (test x))
     where
-      by_test : (b : Bool) → IsPart a (if b then bit_or bits (told_of pairs entry.index) else bits)
-      by_test true = part_left a bits (told_of pairs entry.index) part
+      by_test : (b : Bool) → IsPart a (if b then bit_or bits (bits_of x) else bits)
+      by_test true = part_left a bits (bits_of x) part
       by_test false = part
+
+  united : (xs : List X) (x : X) → test x ≡ true → Contains xs x → IsPart (bits_of x) (fold with_one 0 xs)
+  united xs x passes there =
+      let cut = parted xs x there in
+      let before : ℕ = fold with_one 0 cut.past in
+      let here : with_one before x ≡ bit_or before (bits_of x) = ap
+      (λ (b : Bool). if b then bit_or before (bits_of x) else before) passes in
+      let part : IsPart (bits_of x) (with_one before x) = subst (IsPart (bits_of x)) (sym here)
+      (part_right before (bits_of x)) in
+      let whole : fold with_one 0 xs ≡ fold with_one (with_one before x) cut.later = ap (fold with_one 0) cut.parts
+      ∙ fold-append with_one 0 cut.past (x ∷ cut.later) in
+      subst (IsPart (bits_of x)) (sym whole) (stays (bits_of x) (with_one before x) cut.later part)
+
+-- ---- what was told of a key, and of a channel
+
+pub told_in_pairs : (pairs : List (ℕ × ℕ)) (i bits : ℕ) → Contains pairs (i, bits) → IsPart bits (told_of pairs i)
+told_in_pairs pairs i bits there =
+    united (λ (pair : ℕ × ℕ). pair.0 == i) (λ pair. pair.1) pairs (i, bits) (eq-eqb i i refl) there
 
 -- what was told of a key that was asked for was told of its channel
 pub told_in_channel : (asked : List LookedKey) (pairs : List (ℕ × ℕ)) (entry : LookedKey) → Contains asked entry
     → IsPart (told_of pairs entry.index) (told_of_channel asked pairs entry.channel)
 told_in_channel asked pairs entry there =
-    let f = with_entry pairs entry.channel in
-    let cut = parted asked entry there in
-    let before : ℕ = fold f 0 cut.past in
-    let here : f before entry ≡ bit_or before (told_of pairs entry.index) =
-    ap (λ (b : Bool). if b then bit_or before (told_of pairs entry.index) else before)
-    (eq-eqb entry.channel.0 entry.channel.0 refl) in
-    let part : IsPart (told_of pairs entry.index) (f before entry) = subst (IsPart (told_of pairs entry.index))
-    (sym here) (part_right before (told_of pairs entry.index)) in
-    let whole : fold f 0 asked ≡ fold f (f before entry) cut.later = ap (fold f 0) cut.parts
-    ∙ fold-append f 0 cut.past (entry ∷ cut.later) in
-    subst (IsPart (told_of pairs entry.index)) (sym whole)
-    (stays pairs entry.channel (told_of pairs entry.index) (f before entry) cut.later part)
+    united (λ (x : LookedKey). x.channel.0 == entry.channel.0) (λ x. told_of pairs x.index) asked entry
+    (eq-eqb entry.channel.0 entry.channel.0 refl) there
 
 -- what was told of a key and asked for was told of its channel
 pub bits_in_channel : (asked : List LookedKey) (pairs : List (ℕ × ℕ)) (entry : LookedKey) → Contains asked entry

@@ -1,21 +1,27 @@
 -- Calls that are made again while another caller is in the way.
-use Rattle.std.proofs.Common.{◌≡◌, true, false, Result, [], refl, sym, subst}
+use Rattle.std.proofs.Common.{◌≡◌, true, false, Result, List, [], refl, sym, subst}
 use Rattle.std.proofs.lemmas.List.{append-nil}
 use Rattle.nio_base.specs.declared.numbers.CallerNo.{CallerNo}
 use Rattle.nio_base.specs.declared.numbers.SelNo.{SelNo}
 use Rattle.nio_event.specs.PassViews.{PassView}
+use Rattle.nio_event.specs.declared.act.Act.{Act}
 use Rattle.nio_event.specs.declared.found.Mode.{Mode}
 use Rattle.nio_steps.proofs.CallLaws.{call_as}
+use Rattle.nio_steps.proofs.PinLaws.{pins_are_given_back}
 use Rattle.nio_steps.proofs.WaitingLaws.{TryingClause, try_more, try_last, then_call}
 use Rattle.nio_steps.specs.Calls.{CallClause}
+use Rattle.nio_steps.specs.PinLaws.{GivesPinsBack}
 use Rattle.nio_steps.specs.Runs.{Completes}
 use Rattle.nio_steps.specs.SelectCalls.{Selection, Begins, begin_finds_busy, FinishReply, closed, closing}
 use Rattle.nio_steps.specs.SelectCalls.{already_closed, shut_plan, try_finish_plan, finish_finds_busy, Closes}
 use Rattle.nio_steps.specs.SelectCalls.{ClosesRest}
-use Rattle.nio_steps.specs.Waiting.{Retries}
+use Rattle.nio_steps.specs.Waiting.{Retries, Then}
 use Rattle.nio_steps.specs.declared.refusal.BeginError.{BeginError}
 
 -- ---- beginning a selection
+
+pub begin_gives : (s : SelNo) (mode : Mode) → GivesPinsBack (Begins s mode)
+begin_gives s mode = λ acts answer shape. pins_are_given_back.try_begin s mode _ acts answer shape
 
 pub begin_last : {me : CallerNo} {v0 v1 v2 : PassView} (s : SelNo) (mode : Mode)
     (found answer : Result Selection BeginError) → found ≡ answer → begin_finds_busy answer ≡ false
@@ -44,6 +50,21 @@ module _ {me : CallerNo} {v0 v1 v2 : PassView} (s s' : SelNo) (answer : FinishRe
 
 -- ---- closing
 
+-- a call after which nothing is done
+pub then_nothing : {A R : Type 0} {me : CallerNo} {First : List Act → A → Type 0} {a : A} {v0 v1 : PassView}
+    (Second : A → List Act → R → Type 0) (answer : R) → CallClause me First v0 v1 a → Second a [] answer
+    → CallClause me (Then First Second) v0 v1 answer
+then_nothing {First = First} {a = a} Second answer first second =
+    call_as (Then First Second) answer
+    (λ xs runs. record {
+      first = xs;
+      middle = a;
+      second = [];
+      parts = sym (append-nil xs);
+      runs_first = runs;
+      runs_second = second;
+    }) first
+
 pub closes_finished : {me : CallerNo} {v0 v1 v2 : PassView} (s s' : SelNo) → s' ≡ s
     → CallClause me (Completes (shut_plan s)) v0 v1 closing
     → CallClause me (Retries (Completes (try_finish_plan s')) finish_finds_busy) v1 v2 closed
@@ -55,14 +76,4 @@ closes_finished {me = me} {v1 = v1} {v2 = v2} s s' same shuts finishes =
 
 pub closes_found : {me : CallerNo} {v0 v1 : PassView} (s : SelNo)
     → CallClause me (Completes (shut_plan s)) v0 v1 already_closed → CallClause me (Closes s) v0 v1 false
-closes_found s shuts =
-    call_as (Closes s) false
-    (λ xs run. record {
-      first = xs;
-      middle = already_closed;
-      second = [];
-      parts = sym (append-nil xs);
-      runs_first = run;
-      runs_second =
-          (refl, refl);
-    }) shuts
+closes_found s shuts = then_nothing (ClosesRest s) false shuts (refl, refl)

@@ -18,11 +18,16 @@ use Rattle.nio_event.specs.declared.found.Mark.{Mark as KeyMark}
 use Rattle.nio_event.specs.declared.found.Mode.TheVariants.{Now as WithoutWaiting, Wait}
 use Rattle.nio_event.specs.declared.reply.Reply.{Reply}
 use Rattle.nio_event.specs.declared.reply.Reply.TheVariants as reply
-use Rattle.nio_orderly.specs.Made.{find_selector, select, nothing_ongoing, after_calls, selecting}
+use Rattle.nio_orderly.specs.Made.{after_calls, table_call, waiting_call}
 use Rattle.nio_poller.specs.Polled.{Polled}
 use Rattle.nio_poller.specs.Selecting.{Answers, SelectClause, looked_by, polls_of, told_from}
 use Rattle.nio_poller.specs.declared.selecting.SelectError.{SelectError}
 use Rattle.nio_poller.specs.declared.selecting.SelectError.TheVariants as select_error
+use Rattle.nio_race.proofs.PartKept.{all_of_map}
+use Rattle.nio_race.proofs.Standing.{stands_made}
+use Rattle.nio_race.specs.Quiet.{AreStillUntold, AreUntold}
+use Rattle.nio_race.specs.Racers.{BlocksOn, LooksAndBlocksOn, StandsFor}
+use Rattle.nio_race.specs.Runs.{Blocks, LooksAndBlocks, TellsNothing}
 use Rattle.nio_serial.specs.Documented.{Progress}
 use Rattle.nio_serial.specs.Lines.{if_own, with_selection}
 use Rattle.nio_sole.proofs.Calls.{made_more}
@@ -33,19 +38,16 @@ use Rattle.nio_steps.proofs.CallLaws.{call_as}
 use Rattle.nio_steps.proofs.WaitingLaws.{then_call}
 use Rattle.nio_steps.specs.Calls.{CallClause}
 use Rattle.nio_steps.specs.KeyCalls.{find_selector_plan}
+use Rattle.nio_steps.specs.Ongoing.{nothing_ongoing, selecting}
 use Rattle.nio_steps.specs.Runs.{Completes}
 use Rattle.nio_steps.specs.SelectCalls.{Poll, SelectReply, selected, not_begun, left, Selects}
-use Rattle.nio_steps.specs.declared.refusal.BeginError.TheVariants as begin_error
+use Rattle.nio_steps.specs.TableCalls.{find_selector, select}
 use Rattle.nio_steps.specs.declared.looked.LookedKey.{LookedKey}
+use Rattle.nio_steps.specs.declared.refusal.BeginError.TheVariants as begin_error
 use Rattle.nio_steps.specs.declared.selected.Selected.{Selected}
 use Rattle.nio_words.specs.Passes.{IsReady, acts_seen, limits_of}
 use Rattle.nio_words.specs.Views.{view}
 use Rattle.nio_words.specs.declared.words.Words.{Words}
-use Rattle.nio_race.proofs.PartKept.{all_of_map}
-use Rattle.nio_race.proofs.Standing.{stands_made}
-use Rattle.nio_race.specs.Racers.{BlocksOn, LooksAndBlocksOn, StandsFor}
-use Rattle.nio_race.specs.Quiet.{AreStillUntold, AreUntold}
-use Rattle.nio_race.specs.Runs.{Blocks, LooksAndBlocks, TellsNothing}
 
 -- ---- a poller that tells nothing
 
@@ -210,7 +212,7 @@ module _ (w : Words) (d d' : Desk) (me : CallerNo) (stands : StandsFor w d me) w
       (subst (λ (p : Progress). HasMade (limits_of w)
       (acts_seen d.pass me ++ done_between me (view w d.pass) (view w d'.pass)) me p) (sym same)
       (made_more (limits_of w) (acts_seen d.pass me) (done_between me (view w d.pass) (view w d'.pass)) me
-      (progress_of d) (progress_of d) (find_selector n found) m looks.shape tt m.ongoing))))
+      (progress_of d) (progress_of d) (table_call (find_selector n) found) m looks.shape tt m.ongoing))))
 
   put_own : (s s' : SelNo) (m : HasMade (limits_of w) (acts_seen d.pass me) me (progress_of d))
       → IsOngoing me (with_selection (progress_of d) s None) (selecting (after_calls nothing_ongoing m.calls) s None)
@@ -238,7 +240,8 @@ module _ (w : Words) (d d' : Desk) (me : CallerNo) (stands : StandsFor w d me) w
       (subst (λ (p : Progress). HasMade (limits_of w)
       (acts_seen d.pass me ++ done_between me (view w d.pass) (view w d'.pass)) me p) (sym leaves)
       (made_more (limits_of w) (acts_seen d.pass me) (done_between me (view w d.pass) (view w d'.pass)) me
-      (progress_of d) (with_selection (progress_of d) s None) (select s Wait (told_from clause.polls) (selected x))
+      (progress_of d) (with_selection (progress_of d) s None) (waiting_call (select s Wait (told_from clause.polls))
+      (selected x))
       m
       (subst (λ (r : SelectReply). Selects s Wait (told_from clause.polls)
       (done_between me (view w d.pass) (view w d'.pass)) r) (said_selected clause.reply x clause.answers)
@@ -258,7 +261,7 @@ module _ (w : Words) (d d' : Desk) (me : CallerNo) (stands : StandsFor w d me) w
       (acts_seen d.pass me ++ done_between me (view w d.pass) (view w d'.pass)) me p) (sym same)
       (made_more (limits_of w) (acts_seen d.pass me) (done_between me (view w d.pass) (view w d'.pass)) me
       (progress_of d) (progress_of d)
-      (select s Wait (told_from clause.polls) (not_begun begin_error.ClosedSelector)) m
+      (waiting_call (select s Wait (told_from clause.polls)) (not_begun begin_error.ClosedSelector)) m
       (subst (λ (r : SelectReply). Selects s Wait (told_from clause.polls)
       (done_between me (view w d.pass) (view w d'.pass)) r) (said_closed clause.reply clause.answers)
       clause.call.shape) tt m.ongoing))))

@@ -13,12 +13,12 @@ use Rattle.nio_event.specs.declared.call.Call.TheVariants as call
 use Rattle.nio_event.specs.declared.call.ScriptCall.{ScriptCall}
 use Rattle.nio_event.specs.declared.reply.Reply.{Reply}
 use Rattle.nio_event.specs.declared.reply.Reply.TheVariants as reply
+use Rattle.nio_pipe.proofs.EndLemmas.{no_front}
 use Rattle.nio_pipe.specs.Ends.{IsAtEnd, is_sealed, received, sent, sink_chan, source_chan}
 use Rattle.nio_plain.specs.ScriptState.{Pipe}
 use Rattle.nio_race_text.specs.declared.call.RaceCall.{RaceCall}
 use Rattle.nio_race_text.specs.declared.call.RaceCall.TheVariants.{Script}
 use Rattle.nio_race_text.specs.declared.call.RaceLine.{RaceLine}
-use Rattle.nio_race.proofs.EndLines.{no_front}
 use Rattle.nio_race.proofs.SetupLines.{leave_seal-append}
 use Rattle.nio_race.proofs.PairsLists.{all-at, at_itself, standing}
 use Rattle.nio_race.proofs.PairsRaced.{PipeGoesOn}

@@ -11,10 +11,18 @@ use Rattle.nio_event.specs.declared.call.Call.{Call}
 use Rattle.nio_event.specs.declared.call.Call.TheVariants as call
 use Rattle.nio_event.specs.declared.reply.Reply.{Reply}
 use Rattle.nio_event.specs.declared.reply.Reply.TheVariants as reply
-use Rattle.nio_orderly.specs.Made.{close_channel}
+use Rattle.nio_orderly.specs.Made.{table_call}
 use Rattle.nio_pipe.specs.Ends.{IsSameSink, is_sealed, sent, sink_chan}
 use Rattle.nio_pipe.specs.declared.sink.PipeSink.{PipeSink}
 use Rattle.nio_plain.specs.Seq.Pipes.{own_sink}
+use Rattle.nio_race.proofs.EndLines.{close_elsewhere, close_goes_on, close_stays, sink_closed}
+use Rattle.nio_race.proofs.EndLooks.{IsSinkPlace, LooksUp, made_sinks, sink_inside, sink_its, stands_called}
+use Rattle.nio_race.proofs.EndLooks.{stands_looked, with_pass}
+use Rattle.nio_race.proofs.LineEnds.{ends_still_made, stands_with}
+use Rattle.nio_race.proofs.LinePipes.{script_line_pipeless}
+use Rattle.nio_race.specs.Racers.{CalledOn, MakesAsScript, MakesOnce, StandsFor, StandsWith}
+use Rattle.nio_race.specs.Runs.{MakesScriptLine, is_made_again}
+use Rattle.nio_race.specs.declared.ends.OwnEnds.{OwnEnds}
 use Rattle.nio_serial.specs.Lines.{Said, call_plan, if_found, if_named, line_plan, makes, refused}
 use Rattle.nio_serial.specs.PipeLines.{with_seal}
 use Rattle.nio_serial.specs.Replies.{closed_reply}
@@ -30,18 +38,11 @@ use Rattle.nio_steps.specs.Calls.{CallClause}
 use Rattle.nio_steps.specs.ChannelCalls.{close_channel_plan}
 use Rattle.nio_steps.specs.Plan.{Plan}
 use Rattle.nio_steps.specs.Runs.{Completes}
+use Rattle.nio_steps.specs.TableCalls.{close_channel}
 use Rattle.nio_words.specs.Passes.{IsReady, limits_of}
 use Rattle.nio_words.specs.Views.{view}
 use Rattle.nio_words.specs.declared.words.Pass.{Pass}
 use Rattle.nio_words.specs.declared.words.Words.{Words}
-use Rattle.nio_race.proofs.EndLines.{close_elsewhere, close_goes_on, close_stays, sink_closed}
-use Rattle.nio_race.proofs.EndLooks.{IsSinkPlace, LooksUp, made_sinks, sink_inside, sink_its, stands_called}
-use Rattle.nio_race.proofs.EndLooks.{stands_looked, with_pass}
-use Rattle.nio_race.proofs.LineEnds.{ends_still_made, stands_with}
-use Rattle.nio_race.proofs.LinePipes.{script_line_pipeless}
-use Rattle.nio_race.specs.Racers.{CalledOn, MakesAsScript, MakesOnce, StandsFor, StandsWith}
-use Rattle.nio_race.specs.Runs.{MakesScriptLine, is_made_again}
-use Rattle.nio_race.specs.declared.ends.OwnEnds.{OwnEnds}
 
 module _ (w : Words) (d : Desk) (ends : OwnEnds) (me : CallerNo) (c : ChanNo) (stands : StandsWith w d ends me) where
   abbrev Closing : Call
@@ -106,7 +107,7 @@ module _ (w : Words) (d : Desk) (ends : OwnEnds) (me : CallerNo) (c : ChanNo) (s
       → IfOk result (MakesAsScript w d d' me Closing) → IfOk result (λ _. StandsWith w d' ends me)
   stands_unowned d' (Ok r) stands' makes =
       stands_with w d d' ends me stands stands' makes
-      (script_line_pipeless (limits_of w) (progress_of d) (ap pipes_of stands.pipeless) me Closing _ _ tt makes.shape)
+      (script_line_pipeless (limits_of w) (progress_of d) (ap pipes_of stands.pipeless) me Closing _ _ refl makes.shape)
   stands_unowned d' (Err e) stands' makes = tt
 
   module _ (q q' : Pass) (found : ChanNo) (place : ℕ) (old new : PipeSink) (sinks : Vec PipeSink Global) (closes : Bool)
@@ -144,7 +145,8 @@ module _ (w : Words) (d : Desk) (ends : OwnEnds) (me : CallerNo) (c : ChanNo) (s
         let d1 = with_pass d q in
         let looked : StandsWith w d1 ends me = stands_looked w d q ends me c (Some found) stands ready looks in
         record {
-          stands = stands_called w d1 q' me (close_channel c closes) looked.stands ready' its_call its_call.shape
+          stands = stands_called w d1 q' me (table_call (close_channel c) closes) looked.stands ready' its_call
+              its_call.shape
               (λ o. tt) (λ o. refl);
           made_ends = made_sinks w (with_pass d q') ends place old new sinks inside here same items
               (ends_still_made w d1 (with_pass d q') ends its_call looked.made_ends);

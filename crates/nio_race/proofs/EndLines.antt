@@ -12,10 +12,12 @@ use Rattle.std.specs.Prelude.{OnOk, Vec}
 use Rattle.std.specs.declared.alloc.Global.{Global}
 use mathlib.Core.List.{IsPrefix}
 use Rattle.nio_base.specs.declared.numbers.ChanNo.{ChanNo}
+use Rattle.nio_event.proofs.Clauses.{prefix_trans}
 use Rattle.nio_event.specs.declared.call.Call.{Call}
 use Rattle.nio_event.specs.declared.call.Call.TheVariants as call
 use Rattle.nio_event.specs.declared.reply.Reply.{Reply}
 use Rattle.nio_event.specs.declared.reply.Reply.TheVariants as reply
+use Rattle.nio_pipe.proofs.EndLemmas.{no_front}
 use Rattle.nio_pipe.specs.Answers.{bytes_read, bytes_written, leaves_seal}
 use Rattle.nio_pipe.specs.Ends.{GivesBytes, HadNoByte, HadNoPlace, IsAtEnd, IsSameSink, IsSameSource, KnowsNothing}
 use Rattle.nio_pipe.specs.Ends.{TakesBytes, free, is_sealed, known, received, sent, sink_chan, source_chan}
@@ -29,7 +31,7 @@ use Rattle.nio_serial.specs.Replies.{closed_reply, pipe_refusal}
 use Rattle.nio_sole.specs.PipeReplies.{read_reply, write_reply}
 use Rattle.nio_steps.specs.declared.refusal.PipeError.{PipeError}
 use Rattle.nio_steps.specs.declared.refusal.PipeError.TheVariants.{AsynchronousClose}
-use Rattle.nio_words.proofs.Beginnings.{prefix_length, prefix_trans}
+use Rattle.nio_words.proofs.Beginnings.{prefix_length}
 use Rattle.nio_race.proofs.EndLists.{each_itself, each_set, none_passes, other_number}
 use Rattle.nio_race.proofs.FindLines.{KeepsRoom, close_keeps_room, close_takes_here, one_finds, one_takes}
 use Rattle.nio_race.proofs.FindLines.{prefix_drop, prefix_none, read_finds_elsewhere, read_finds_here}
@@ -195,10 +197,6 @@ end_answered (Err refusal) bytes same = absurd (no_end_refused refusal same)
 no_rest : (xs ys : List ℕ) → xs ++ ys ≡ [] → ys ≡ []
 no_rest [] ys none = none
 no_rest (x ∷ xs) ys none = absurd (cc none)
-
-pub no_front : (xs ys : List ℕ) → xs ++ ys ≡ [] → xs ≡ []
-no_front [] ys none = refl
-no_front (x ∷ xs) ys none = absurd (cc none)
 
 -- What a read says beside the bytes that it gives: how long its slice is, that it gave all that was known where the
 -- slice isn't full, and what its answers tell.

@@ -17,8 +17,7 @@ use Rattle.nio_event.specs.declared.act.Act.{Act}
 use Rattle.nio_event.specs.declared.call.Call.TheVariants as call
 use Rattle.nio_event.specs.declared.reply.Reply.{Reply}
 use Rattle.nio_event.specs.declared.reply.Reply.TheVariants as reply
-use Rattle.nio_orderly.specs.Made.{IsRun, Made, MayCome, Ongoing, after_call, after_calls, nothing_ongoing}
-use Rattle.nio_orderly.specs.Made.{find_channel, read, write}
+use Rattle.nio_orderly.specs.Made.{IsRun, Made, MayCome, after_call, after_calls, table_call, waiting_call}
 use Rattle.nio_pipe.specs.Answers.{bytes_read, bytes_written, leaves_seal, read_answer, read_waits, write_answer}
 use Rattle.nio_pipe.specs.Answers.{write_waits}
 use Rattle.nio_pipe.specs.Calls.{HasEnds, WaitsToRead, WaitsToWrite}
@@ -28,24 +27,6 @@ use Rattle.nio_pipe.specs.declared.answers.PipeRead.{PipeRead}
 use Rattle.nio_pipe.specs.declared.answers.PipeWrite.{PipeWrite}
 use Rattle.nio_pipe.specs.declared.sink.PipeSink.{PipeSink}
 use Rattle.nio_pipe.specs.declared.source.PipeSource.{PipeSource}
-use Rattle.nio_sole.proofs.Calls.{made_more}
-use Rattle.nio_sole.proofs.Desks.{places_same}
-use Rattle.nio_sole.proofs.PipeLines.{channel_is}
-use Rattle.nio_sole.specs.Made.{HasMade, IsOngoing}
-use Rattle.nio_sole.specs.Stands.{progress_of}
-use Rattle.nio_sole.specs.declared.desk.Desk.{Desk}
-use Rattle.nio_steps.proofs.CallLaws.{call_as}
-use Rattle.nio_steps.proofs.WaitingLaws.{then_call}
-use Rattle.nio_steps.specs.Calls.{CallClause}
-use Rattle.nio_steps.specs.KeyCalls.{find_channel_plan}
-use Rattle.nio_steps.specs.PipeCalls.{PipeEnds, Reads, Writes}
-use Rattle.nio_steps.specs.Runs.{Completes}
-use Rattle.nio_steps.specs.declared.refusal.PipeError.{PipeError}
-use Rattle.nio_steps.specs.declared.refusal.PipeError.TheVariants.{AsynchronousClose}
-use Rattle.nio_words.specs.Passes.{IsReady, acts_seen, limits_of}
-use Rattle.nio_words.specs.Views.{view}
-use Rattle.nio_words.specs.declared.words.Pass.{Pass}
-use Rattle.nio_words.specs.declared.words.Words.{Words}
 use Rattle.nio_race.proofs.EndLines.{FindsRoom, read_goes_on, read_said, read_stays, sink_written, source_read}
 use Rattle.nio_race.proofs.EndLines.{write_goes_on, write_said, write_stays}
 use Rattle.nio_race.proofs.EndLists.{differ_set, find_none, find_some}
@@ -58,6 +39,26 @@ use Rattle.nio_race.specs.Piping.{LooksAndReads, LooksAndWrites, ReadsFound, Rea
 use Rattle.nio_race.specs.Piping.{own_source}
 use Rattle.nio_race.specs.Racers.{CalledOn, StandsFor, StandsWith}
 use Rattle.nio_race.specs.declared.ends.OwnEnds.{OwnEnds}
+use Rattle.nio_sole.proofs.Calls.{made_more}
+use Rattle.nio_sole.proofs.Desks.{places_same}
+use Rattle.nio_sole.proofs.PipeLines.{channel_is}
+use Rattle.nio_sole.specs.Made.{HasMade, IsOngoing}
+use Rattle.nio_sole.specs.Stands.{progress_of}
+use Rattle.nio_sole.specs.declared.desk.Desk.{Desk}
+use Rattle.nio_steps.proofs.CallLaws.{call_as}
+use Rattle.nio_steps.proofs.WaitingLaws.{then_call}
+use Rattle.nio_steps.specs.Calls.{CallClause}
+use Rattle.nio_steps.specs.KeyCalls.{find_channel_plan}
+use Rattle.nio_steps.specs.Ongoing.{Ongoing, nothing_ongoing}
+use Rattle.nio_steps.specs.PipeCalls.{PipeEnds, Reads, Writes}
+use Rattle.nio_steps.specs.Runs.{Completes}
+use Rattle.nio_steps.specs.TableCalls.{find_channel, read, write}
+use Rattle.nio_steps.specs.declared.refusal.PipeError.{PipeError}
+use Rattle.nio_steps.specs.declared.refusal.PipeError.TheVariants.{AsynchronousClose}
+use Rattle.nio_words.specs.Passes.{IsReady, acts_seen, limits_of}
+use Rattle.nio_words.specs.Views.{view}
+use Rattle.nio_words.specs.declared.words.Pass.{Pass}
+use Rattle.nio_words.specs.declared.words.Words.{Words}
 
 abbrev pub with_pass : Desk → Pass → Desk
 with_pass d q = record d { pass = q }
@@ -144,7 +145,8 @@ pub stands_looked : (w : Words) (d : Desk) (q : Pass) (ends : OwnEnds) (me : Cal
     (found : Option ChanNo) → StandsWith w d ends me → IsReady w q me → LooksUp w me c d.pass q found
     → StandsWith w (with_pass d q) ends me
 stands_looked w d q ends me c found stands ready looks = record {
-  stands = stands_called w d q me (find_channel c.0 found) stands.stands ready looks looks.shape (λ o. tt) (λ o. refl);
+  stands = stands_called w d q me (table_call (find_channel c.0) found) stands.stands ready looks looks.shape (λ o. tt)
+      (λ o. refl);
   made_ends = ends_still_made w d (with_pass d q) ends looks stands.made_ends;
   pipeless = stands.pipeless;
 }
@@ -347,7 +349,8 @@ module _ (w : Words) (d : Desk) (ends : OwnEnds) (me : CallerNo) (c : ChanNo) (n
         let run = has_read w c (done_between me (view w q) (view w q')) answer (HadNoByte old new before)
         reads_its.shape in
         record {
-          stands = stands_called w d1 q' me (read c run.none run.found) looked.stands ready' reads_its run.reads
+          stands = stands_called w d1 q' me (waiting_call (read c run.none) run.found) looked.stands ready' reads_its
+              run.reads
               (λ o. tt) (λ o. refl);
           made_ends = made_sources w (with_pass d q') ends place old new sources inside here same.channel items
               (ends_still_made w d1 (with_pass d q') ends reads_its looked.made_ends);
@@ -486,7 +489,8 @@ module _ (w : Words) (d : Desk) (ends : OwnEnds) (me : CallerNo) (c : ChanNo) (b
         let run = has_written w (other_chan old) (sink_chan old) (done_between me (view w q) (view w q')) answer
         (HadNoPlace old new from) writes.shape in
         record {
-          stands = stands_called w d1 q' me (write (other_chan old) (sink_chan old) run.none run.found) looked.stands
+          stands = stands_called w d1 q' me (waiting_call (write (other_chan old) (sink_chan old) run.none) run.found)
+              looked.stands
               ready' writes run.writes (λ o. tt) (λ o. refl);
           made_ends = made_sinks w (with_pass d q') ends place old new sinks sink_in here same items
               (ends_still_made w d1 (with_pass d q') ends writes looked.made_ends);

@@ -12,10 +12,12 @@ use Rattle.nio_base.specs.declared.numbers.CallerNo.{CallerNo}
 use Rattle.nio_base.specs.declared.numbers.ChanNo.{ChanNo}
 use Rattle.nio_event.proofs.PassViews.{channel_after}
 use Rattle.nio_event.specs.PassViews.{HasChannel}
+use Rattle.nio_event.specs.WordRows.{PipeUse, neither, reads}
 use Rattle.nio_event.specs.declared.act.Act.{Act}
 use Rattle.nio_event.specs.declared.call.Call.TheVariants as call
 use Rattle.nio_event.specs.declared.reply.Reply.{Reply}
 use Rattle.nio_event.specs.declared.reply.Reply.TheVariants as reply
+use Rattle.nio_pipe.proofs.EndLemmas.{same_source}
 use Rattle.nio_pipe.specs.Calls.{HasEnds}
 use Rattle.nio_pipe.specs.Ends.{IsSameSink, IsSameSource, is_sealed, other_chan, received, sent, sink_chan}
 use Rattle.nio_pipe.specs.Ends.{source_chan}
@@ -36,7 +38,7 @@ use Rattle.nio_race.specs.Ends.{AreEach, EndsGoOn, HasMadeEnds, SinkGoesOn, Sour
 use Rattle.nio_race.specs.PipeBytes.{TellsEnd, all_read, all_written, seals_by, seals_in, leave_seal, read_by, read_in}
 use Rattle.nio_race.specs.PipeBytes.{written_by, written_in}
 use Rattle.nio_race.specs.PipeFinds.{Awaited, LinesFind, LinesTake}
-use Rattle.nio_race.specs.Piping.{OwnedEnds, PipeUse, neither, reads}
+use Rattle.nio_race.specs.Piping.{OwnedEnds}
 use Rattle.nio_race.specs.Racers.{StandsFor, StandsWith}
 use Rattle.nio_race.specs.Runs.{AreRaceLines}
 use Rattle.nio_race.specs.declared.ends.OwnEnds.{OwnEnds}
@@ -56,29 +58,6 @@ same_sink_self s = record {
   seals = ((refl, refl, refl, refl), refl);
   channel = refl;
   other = refl;
-}
-
-pub same_source_then : {a b c : PipeSource} → IsSameSource a b → IsSameSource b c → IsSameSource a c
-same_source_then p q = record {
-  bytes = (
-    (
-      q.bytes.0.0 ∙ p.bytes.0.0,
-      q.bytes.0.1 ∙ p.bytes.0.1,
-      q.bytes.0.2 ∙ p.bytes.0.2,
-      q.bytes.0.3 ∙ p.bytes.0.3,
-    ),
-    q.bytes.1 ∙ p.bytes.1,
-  );
-  seals = (
-    (
-      q.seals.0.0 ∙ p.seals.0.0,
-      q.seals.0.1 ∙ p.seals.0.1,
-      q.seals.0.2 ∙ p.seals.0.2,
-      q.seals.0.3 ∙ p.seals.0.3,
-    ),
-    q.seals.1 ∙ p.seals.1,
-  );
-  channel = q.channel ∙ p.channel;
 }
 
 pub same_sink_then : {a b c : PipeSink} → IsSameSink a b → IsSameSink b c → IsSameSink a c
@@ -244,7 +223,7 @@ source_more : (xs ys : List (RaceCall × Reply)) (a b c : PipeSource) → Source
 source_more xs ys a b c p q =
     let chan : source_chan b ≡ source_chan a = p.same.channel in
     record {
-      same = same_source_then p.same q.same;
+      same = same_source p.same q.same;
       received =
           q.received
           ∙ (ap (λ (k : ChanNo). received b ++ all_read k ys) chan

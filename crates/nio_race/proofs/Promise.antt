@@ -10,6 +10,7 @@ use mathlib.Core.List.{IsPrefix}
 use Rattle.nio_base.specs.Limits.{IsFit}
 use Rattle.nio_base.specs.declared.limits.Limits.{Limits}
 use Rattle.nio_base.specs.declared.numbers.CallerNo.{CallerNo}
+use Rattle.nio_event.proofs.Clauses.{prefix_trans}
 use Rattle.nio_event.proofs.Legal.{legal_beginning}
 use Rattle.nio_event.specs.Histories.{IsLegal, mine, is_by}
 use Rattle.nio_event.specs.declared.call.ScriptCall.{ScriptCall}
@@ -24,7 +25,6 @@ use Rattle.nio_serial.specs.Documented.{Progress}
 use Rattle.nio_sole.proofs.Beginnings.{made_whole}
 use Rattle.nio_sole.specs.Stands.{progress_of}
 use Rattle.nio_sole.specs.declared.desk.Desk.{Desk}
-use Rattle.nio_words.proofs.Beginnings.{prefix_trans}
 use Rattle.nio_words.specs.Passes.{Holds, IsPassOf, IsReady, limits_of, seen}
 use Rattle.nio_words.specs.declared.words.Pass.{Pass}
 use Rattle.nio_words.specs.declared.words.Words.{Words}

@@ -5,6 +5,7 @@ use Rattle.std.specs.declared.alloc.AllocError.{AllocError}
 use Rattle.nio_base.specs.declared.numbers.CallerNo.{CallerNo}
 use Rattle.nio_base.specs.declared.numbers.SelNo.{SelNo}
 use Rattle.nio_event.specs.PassViews.{done_between}
+use Rattle.nio_event.specs.WordRows.{PipeUse, neither}
 use Rattle.nio_event.specs.declared.call.Call.{Call}
 use Rattle.nio_event.specs.declared.reply.Reply.{Reply}
 use Rattle.nio_race_text.specs.RaceLines.{MayRace}
@@ -19,7 +20,7 @@ use Rattle.nio_words.specs.declared.words.Words.{Words}
 use Rattle.nio_race.proofs.LineEnds.{neither_stays, pipes_none, stands_with}
 use Rattle.nio_race.proofs.LinePipes.{block_pipeless, script_line_pipeless}
 use Rattle.nio_race.specs.Ends.{ends_of}
-use Rattle.nio_race.specs.Piping.{PipeUse, neither, use_of}
+use Rattle.nio_race.specs.Piping.{use_of}
 use Rattle.nio_race.specs.Racers.{CalledOn, LineOn, LooksAndBlocksOn, MakesAsScript, StandsFor, StandsWith}
 use Rattle.nio_race.specs.Runs.{MakesCalledLine}
 use Rattle.nio_race.specs.declared.ends.OwnEnds.{OwnEnds}

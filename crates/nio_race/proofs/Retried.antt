@@ -1,6 +1,7 @@
 -- A line that is made again while its channel is held.
 use Rattle.std.proofs.Common.{◌≡◌, true, false, subst}
 use Rattle.nio_base.specs.declared.numbers.CallerNo.{CallerNo}
+use Rattle.nio_event.proofs.Clauses.{prefix_trans}
 use Rattle.nio_event.specs.declared.call.Call.{Call}
 use Rattle.nio_event.specs.declared.reply.Reply.{Reply}
 use Rattle.nio_serial.specs.Documented.{Progress}
@@ -14,7 +15,6 @@ use Rattle.nio_words.specs.Passes.{limits_of, seen}
 use Rattle.nio_words.specs.Views.{view}
 use Rattle.nio_words.specs.declared.words.Words.{Words}
 use mathlib.Core.List.{IsPrefix}
-use Rattle.nio_words.proofs.Beginnings.{prefix_trans}
 use Rattle.nio_race.proofs.Waiting.{line_stays}
 use Rattle.nio_race.specs.Racers.{MakesAsScript, MakesOnce, StandsFor}
 use Rattle.nio_race.specs.Runs.{is_made_again, waits_for_hold}

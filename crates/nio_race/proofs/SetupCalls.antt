@@ -1,9 +1,9 @@
 -- Each call of a setup does to the pipes what its line says.
-use Rattle.std.proofs.Common.{◌≡◌, ◌≢◌, ℕ, ◌<◌, ◌==◌, nat_lt, Bool, true, false, not, ◌&&◌, ◌||◌, Option, Some}
-use Rattle.std.proofs.Common.{None, List, [], ◌∷◌, ◌++◌, length, take, drop, set, refl, ap, sym, ◌∙◌, subst, eqb-true}
+use Rattle.std.proofs.Common.{◌≡◌, ◌≢◌, ℕ, ◌<◌, ◌==◌, nat_lt, Bool, true, false, ◌&&◌, ◌||◌, Option, Some, None, List}
+use Rattle.std.proofs.Common.{[], ◌∷◌, ◌++◌, length, take, drop, set, refl, ap, sym, ◌∙◌, subst, eqb-true}
 use Rattle.std.proofs.Common.{take-append-drop}
 use Rattle.std.proofs.Math.Bool.{or-false}
-use Rattle.std.proofs.lemmas.Bool.{and_parts, both_ways, false_from_ne_true, ltb-true, not-true, or_right}
+use Rattle.std.proofs.lemmas.Bool.{and_parts, both_ways, false_from_ne_true, ltb-true, or_right}
 use Rattle.std.proofs.lemmas.List.{append-nil, set-get_or}
 use Rattle.std.proofs.lemmas.List.Quantifiers.{position-Some}
 use Rattle.nio_base.specs.declared.kind.Kind.{Kind}
@@ -14,14 +14,14 @@ use Rattle.nio_base.specs.declared.numbers.ChanNo.{ChanNo}
 use Rattle.nio_event.proofs.Put.{put_keeps, put-same}
 use Rattle.nio_event.specs.Acts.{new_channel}
 use Rattle.nio_event.specs.State.{put}
+use Rattle.nio_event.specs.WordRows.{neither}
 use Rattle.nio_event.specs.declared.call.Call.{Call}
 use Rattle.nio_event.specs.declared.call.Call.TheVariants as call
 use Rattle.nio_event.specs.declared.call.ScriptCall.{ScriptCall}
 use Rattle.nio_event.specs.declared.found.Chan.{Chan}
 use Rattle.nio_event.specs.declared.reply.Reply.{Reply}
 use Rattle.nio_event.specs.declared.reply.Reply.TheVariants as reply
-use Rattle.nio_plain.proofs.CallLawsCases.{HoldsOfChanges, holds_of_calls}
-use Rattle.nio_plain.proofs.Found.{found_below}
+use Rattle.nio_plain.proofs.CallLawsCases.{holds_of_calls}
 use Rattle.nio_plain.proofs.ReachedSound.{by_test}
 use Rattle.nio_plain.specs.ScriptState.{Pipe, ScriptState}
 use Rattle.nio_plain.specs.Seq.{call_of, seq}
@@ -34,6 +34,7 @@ use Rattle.nio_plain.specs.Seq.Pipes.{sealing, no_pipe, own_sink, own_source, ow
 use Rattle.nio_plain.specs.Seq.Piping.{finds_interrupt, pipe_call, pread_call, pwrite_call, read_first}
 use Rattle.nio_plain.specs.Seq.Piping.{read_from, room_for, with_sink, with_source, write_first, write_to}
 use Rattle.nio_plain.specs.declared.rules.Rules.TheVariants.{Now}
+use Rattle.nio_serial.proofs.WholePipes.{Leaves, is_apart, leaves, next-unmade}
 use Rattle.nio_race.proofs.EndLists.{none_passes}
 use Rattle.nio_race.proofs.SetupKept.{AllStay, AreKept, Stays, beside-more}
 use Rattle.nio_race.proofs.SetupKept.{pipe-behind, place-more, silent-more}
@@ -43,7 +44,7 @@ use Rattle.nio_race.proofs.SetupSilent.{line, neither-silent, no-caller, no-chan
 use Rattle.nio_race.proofs.SetupSilent.{of-same, own-sink-is, quiet-silent, read-beside, read-elsewhere}
 use Rattle.nio_race.proofs.SetupSilent.{read-own, read-silent, write-beside, write-elsewhere, write-ends, write-own}
 use Rattle.nio_race.specs.PipeBytes.{bytes_of, number_of, says_closed}
-use Rattle.nio_race.specs.Piping.{neither, use_of}
+use Rattle.nio_race.specs.Piping.{use_of}
 
 -- ---- channels
 
@@ -64,10 +65,6 @@ both-stay a b c first second n made =
 unmade-stays : (before after : Chan) → before.made ≡ false → Stays before after
 unmade-stays before after unmade made = absurd (both_ways before.made unmade made)
 
-next-unmade : (l : Limits) (st : ScriptState) (c : ℕ) → next_channel l st ≡ Some c → (st.shared.chan c).made ≡ false
-next-unmade l st c e =
-    not-true (st.shared.chan c).made (found_below (λ n. not (st.shared.chan n).made) l.channels c e).0
-
 -- a made channel is another than one that isn't made
 made-differs : (chan : ℕ → Chan) (a b : ℕ) → (chan a).made ≡ true → (chan b).made ≡ false → (a == b) ≡ false
 made-differs chan a b made unmade =
@@ -75,53 +72,6 @@ made-differs chan a b made unmade =
     (λ e. both_ways (chan b).made unmade (subst (λ (n : ℕ). (chan n).made ≡ true) (eqb-true a b e) made))
 
 -- ---- calls that say nothing of a pipe
-
--- the others are told apart
-abbrev is_apart : Call → Bool
-is_apart (call.Channel kind) = false
-is_apart (call.Blocking c on) = false
-is_apart (call.Closec c) = false
-is_apart (call.Pipe target) = false
-is_apart (call.Pwrite c bytes) = false
-is_apart (call.Pread c n) = false
-is_apart _ = true
-
-abbrev Leaves : ScriptState → Call → Replied → Type 0
-Leaves st word a = is_apart word ≡ true → (a.left.shared.chan ≡ st.shared.chan) × (a.left.pipes ≡ st.pipes)
-
-leaves : (st : ScriptState) (me : CallerNo) → HoldsOfChanges Now st me (Leaves st)
-leaves st me = record {
-  nothing = λ _ _ _ _. (refl, refl);
-  selector = λ _ _. (refl, refl);
-  channel = λ _ _ h. absurd (cc h);
-  blocking = λ _ _ h. absurd (cc h);
-  register = λ _ _ _ _ _ _ _. (refl, refl);
-  register_again = λ _ _ _ _ _ _ _. (refl, refl);
-  closec = λ _ h. absurd (cc h);
-  closec_again = λ _ h. absurd (cc h);
-  cancel = λ _ _ _. (refl, refl);
-  iset = λ _ _ _ _. (refl, refl);
-  ior = λ _ _ _ _. (refl, refl);
-  iand = λ _ _ _ _. (refl, refl);
-  unselect = λ _ _ _. (refl, refl);
-  attach = λ _ _ _ _. (refl, refl);
-  begin = λ _ _ _ _ _. (refl, refl);
-  told = λ _ _ _ _ _ _ _ _. (refl, refl);
-  failed = λ _ _ _ _. (refl, refl);
-  wakeup = λ _ _. (refl, refl);
-  close = λ _ _. (refl, refl);
-  close_end = λ _ _. (refl, refl);
-  interrupt = λ _ _. (refl, refl);
-  pipe = λ _ _ _ h. absurd (cc h);
-  pipe_spent = λ _ _ h. absurd (cc h);
-  pread = λ _ _ _ _ _ h. absurd (cc h);
-  pread_interrupted = λ _ _ h. absurd (cc h);
-  pwrite = λ _ _ _ _ h. absurd (cc h);
-  pwrite_closed = λ _ _ _ h. absurd (cc h);
-  pwrite_interrupted = λ _ _ _ h. absurd (cc h);
-  group = λ _ _ _ _ _. (refl, refl);
-  interrupted = λ _. (refl, refl);
-}
 
 apart-neither : (word : Call) → is_apart word ≡ true → use_of word ≡ neither
 apart-neither (call.Closec c) h = absurd (cc h)

@@ -6,6 +6,7 @@ use Rattle.std.proofs.lemmas.Bool.{and_from, and_left, and_parts, and_right, bot
 use Rattle.std.proofs.lemmas.Bool.{false_from_ne_true, cond-false, cond-true}
 use Rattle.nio_base.specs.declared.numbers.CallerNo.{CallerNo}
 use Rattle.nio_base.specs.declared.numbers.ChanNo.{ChanNo}
+use Rattle.nio_event.specs.WordRows.{PipeUse, closes, neither, reads, writes}
 use Rattle.nio_event.specs.declared.call.Call.{Call}
 use Rattle.nio_event.specs.declared.call.Call.TheVariants as call
 use Rattle.nio_event.specs.declared.call.ScriptCall.{ScriptCall}
@@ -17,7 +18,7 @@ use Rattle.nio_plain.specs.Seq.Piping.{not_now}
 use Rattle.nio_race.proofs.SetupKept.{IsBeside, IsSilent}
 use Rattle.nio_race.proofs.SetupLines.{ReadsEnd, end_of, of-none, read_of, written_of}
 use Rattle.nio_race.specs.PipeBytes.{bytes_of, seals_by, number_of, read_by, says_closed, written_by}
-use Rattle.nio_race.specs.Piping.{PipeUse, closes, neither, reads, use_of, writes}
+use Rattle.nio_race.specs.Piping.{use_of}
 
 abbrev pub line : CallerNo → Call → Reply → ScriptCall × Reply
 line me word r = (record { caller = me; call = word }, r)

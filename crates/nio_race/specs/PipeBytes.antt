@@ -6,6 +6,7 @@ use mathlib.Core.List.{IsPrefix}
 use Rattle.nio_base.specs.declared.limits.Limits.{Limits}
 use Rattle.nio_base.specs.declared.numbers.CallerNo.{CallerNo}
 use Rattle.nio_base.specs.declared.numbers.ChanNo.{ChanNo}
+use Rattle.nio_event.specs.WordRows.{PipeUse, closes, neither, reads, writes}
 use Rattle.nio_event.specs.declared.call.Call.TheVariants as call
 use Rattle.nio_event.specs.declared.call.ScriptCall.{ScriptCall}
 use Rattle.nio_event.specs.declared.reply.Reply.{Reply}
@@ -14,7 +15,7 @@ use Rattle.nio_plain.specs.ScriptState.{script_opening}
 use Rattle.nio_race_text.specs.declared.call.RaceCall.{RaceCall}
 use Rattle.nio_race_text.specs.declared.call.RaceCall.TheVariants.{Script, Block}
 use Rattle.nio_serial.specs.Serial.{replies_from}
-use Rattle.nio_race.specs.Piping.{PipeUse, closes, neither, reads, use_of, writes}
+use Rattle.nio_race.specs.Piping.{use_of}
 
 -- ---- of one line
 

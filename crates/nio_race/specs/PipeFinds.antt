@@ -4,6 +4,7 @@
 use Rattle.std.specs.Prelude.{◌≡◌, ◌≢◌, ℕ, ◌-◌, ◌<◌, ◌≤◌, min, Bool, true, false, IsFalse, if◌then◌else◌, List, []}
 use Rattle.std.specs.Prelude.{◌∷◌, length, drop}
 use Rattle.nio_base.specs.declared.numbers.ChanNo.{ChanNo}
+use Rattle.nio_event.specs.WordRows.{PipeUse, closes, neither, reads, writes}
 use Rattle.nio_event.specs.declared.reply.Reply.{Reply}
 use Rattle.nio_event.specs.declared.reply.Reply.TheVariants as reply
 use Rattle.nio_plain.specs.ScriptState.{Pipe}
@@ -12,7 +13,7 @@ use Rattle.nio_race_text.specs.declared.call.RaceCall.TheVariants.{Script, Block
 use Rattle.nio_serial.specs.Replies.{pipe_refusal}
 use Rattle.nio_steps.specs.declared.refusal.PipeError.{PipeError}
 use Rattle.nio_steps.specs.declared.refusal.PipeError.TheVariants.{AsynchronousClose}
-use Rattle.nio_race.specs.Piping.{PipeUse, closes, neither, reads, use_of, writes}
+use Rattle.nio_race.specs.Piping.{use_of}
 
 -- ---- a reader
 

@@ -4,9 +4,9 @@ use Rattle.std.specs.Prelude.{List, [], length, map, filter, find}
 use Rattle.nio_base.specs.declared.limits.Limits.{Limits}
 use Rattle.nio_base.specs.declared.numbers.CallerNo.{CallerNo}
 use Rattle.nio_base.specs.declared.numbers.ChanNo.{ChanNo}
+use Rattle.nio_event.specs.WordRows.{PipeUse, word_row}
 use Rattle.nio_event.specs.declared.act.Act.{Act}
 use Rattle.nio_event.specs.declared.call.Call.{Call}
-use Rattle.nio_event.specs.declared.call.Call.TheVariants as call
 use Rattle.nio_event.specs.declared.reply.Reply.{Reply}
 use Rattle.nio_event.specs.declared.reply.Reply.TheVariants as reply
 use Rattle.nio_pipe.specs.Calls.{WaitsWhere}
@@ -23,47 +23,8 @@ use Rattle.nio_steps.specs.declared.refusal.PipeError.TheVariants.{AsynchronousC
 
 -- ---- which lines these are
 
--- a read of up to so many bytes from this channel, a write of these bytes into it, its closing, or none of these
-pub data PipeUse : Type 0 where
-  reads : ChanNo → ℕ → PipeUse
-  writes : ChanNo → List ℕ → PipeUse
-  closes : ChanNo → PipeUse
-  neither : PipeUse
-
 abbrev pub use_of : Call → PipeUse
-use_of call.Selector = neither
-use_of (call.Channel kind) = neither
-use_of (call.Blocking c on) = neither
-use_of (call.IsBlocking c) = neither
-use_of (call.IsOpen c) = neither
-use_of (call.IsRegistered c) = neither
-use_of (call.KeyFor c s) = neither
-use_of (call.Register s c ops att) = neither
-use_of (call.Closec c) = closes c
-use_of (call.Valid s k) = neither
-use_of (call.Interest s k) = neither
-use_of (call.Ready s k) = neither
-use_of (call.Iset s k ops) = neither
-use_of (call.Ior s k ops) = neither
-use_of (call.Iand s k ops) = neither
-use_of (call.Cancel s k) = neither
-use_of (call.Unselect s k) = neither
-use_of (call.Attach s k att) = neither
-use_of (call.Attachment s k) = neither
-use_of (call.Begin s waiting) = neither
-use_of (call.Told s elapsed pairs) = neither
-use_of (call.Failed s) = neither
-use_of (call.Wakeup s) = neither
-use_of (call.Close s) = neither
-use_of (call.CloseEnd s) = neither
-use_of (call.Keys s) = neither
-use_of (call.Selected s) = neither
-use_of (call.Interrupt target) = neither
-use_of call.Interrupted = neither
-use_of (call.Pipe target) = neither
-use_of (call.Pwrite c bytes) = writes c bytes
-use_of (call.Pread c n) = reads c n
-use_of (call.Group g) = neither
+use_of word = (word_row word).on_pipe
 
 -- ---- the ends that a caller owns
 

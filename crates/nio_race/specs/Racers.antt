@@ -1,5 +1,5 @@
 -- The callers of a race, each with a pass of its own.
-use Rattle.std.specs.Prelude.{◌≡◌, ℕ, ◌<◌, ◌++◌, IsFalse, List, [], ◌∷◌, length, map, zip}
+use Rattle.std.specs.Prelude.{◌≡◌, ◌++◌, IsFalse, List, [], ◌∷◌, map, zip}
 use Rattle.std.specs.List.{slice_index_or}
 use mathlib.Core.List.{IsPrefix}
 use Rattle.nio_base.specs.declared.numbers.SelNo.{SelNo}

@@ -1,13 +1,13 @@
 -- What a caller does in a line after `go`, and what the line says.
-use Rattle.std.specs.Prelude.{◌≡◌, ⊤, ℕ, ◌++◌, Bool, true, false, Option, Some, None, Ok, List, [], ◌∷◌, All}
+use Rattle.std.specs.Prelude.{◌≡◌, ⊤, ℕ, ◌++◌, Bool, true, false, ◌&&◌, Option, Some, None, Ok, List, [], ◌∷◌, All}
 use Rattle.std.specs.List.{Contains}
 use Rattle.nio_base.specs.declared.limits.Limits.{Limits}
 use Rattle.nio_base.specs.declared.numbers.CallerNo.{CallerNo}
 use Rattle.nio_base.specs.declared.numbers.SelNo.{SelNo}
+use Rattle.nio_event.specs.WordRows.{PipeUse, closes, neither, reads, word_row, writes}
 use Rattle.nio_event.specs.declared.act.Act.{Act}
 use Rattle.nio_event.specs.declared.act.Act.TheVariants.{Mark}
 use Rattle.nio_event.specs.declared.call.Call.{Call}
-use Rattle.nio_event.specs.declared.call.Call.TheVariants as call
 use Rattle.nio_event.specs.declared.found.Mark.{Mark as KeyMark}
 use Rattle.nio_event.specs.declared.found.Mode.TheVariants.{Wait}
 use Rattle.nio_event.specs.declared.reply.Reply.{Reply}
@@ -23,8 +23,7 @@ use Rattle.nio_steps.specs.Runs.{Completes}
 use Rattle.nio_steps.specs.SelectCalls.{Poll, SelectReply, selected, not_begun, left, Selects}
 use Rattle.nio_steps.specs.Waiting.{Retries, Then}
 use Rattle.nio_steps.specs.declared.refusal.BeginError.TheVariants.{ClosedSelector, Busy, Memory}
-use Rattle.nio_race.specs.Piping.{LooksAndReads, LooksAndWrites, OwnedEnds, PipeUse, closes, neither, reads, use_of}
-use Rattle.nio_race.specs.Piping.{writes}
+use Rattle.nio_race.specs.Piping.{LooksAndReads, LooksAndWrites, OwnedEnds, use_of}
 
 -- ---- a call that scripts have too
 
@@ -73,39 +72,7 @@ is_busy (reply.Group answer) = false
 
 -- The line with this reply is made again: its call waits for a hold, and found that another caller has it.
 abbrev pub waits_for_hold : Call → Reply → Bool
-waits_for_hold call.Selector r = false
-waits_for_hold (call.Channel kind) r = false
-waits_for_hold (call.Blocking c on) r = is_busy r
-waits_for_hold (call.IsBlocking c) r = false
-waits_for_hold (call.IsOpen c) r = false
-waits_for_hold (call.IsRegistered c) r = false
-waits_for_hold (call.KeyFor c s) r = false
-waits_for_hold (call.Register s c ops att) r = is_busy r
-waits_for_hold (call.Closec c) r = false
-waits_for_hold (call.Valid s k) r = false
-waits_for_hold (call.Interest s k) r = false
-waits_for_hold (call.Ready s k) r = false
-waits_for_hold (call.Iset s k ops) r = false
-waits_for_hold (call.Ior s k ops) r = false
-waits_for_hold (call.Iand s k ops) r = false
-waits_for_hold (call.Cancel s k) r = false
-waits_for_hold (call.Unselect s k) r = false
-waits_for_hold (call.Attach s k att) r = false
-waits_for_hold (call.Attachment s k) r = false
-waits_for_hold (call.Begin s waiting) r = false
-waits_for_hold (call.Told s elapsed pairs) r = false
-waits_for_hold (call.Failed s) r = false
-waits_for_hold (call.Wakeup s) r = false
-waits_for_hold (call.Close s) r = false
-waits_for_hold (call.CloseEnd s) r = false
-waits_for_hold (call.Keys s) r = false
-waits_for_hold (call.Selected s) r = false
-waits_for_hold (call.Interrupt target) r = false
-waits_for_hold call.Interrupted r = false
-waits_for_hold (call.Pipe target) r = false
-waits_for_hold (call.Pwrite c bytes) r = false
-waits_for_hold (call.Pread c n) r = false
-waits_for_hold (call.Group g) r = false
+waits_for_hold word r = (word_row word).waits_for_hold && is_busy r
 
 abbrev pub is_made_again : Call → Said → Bool
 is_made_again word said = waits_for_hold word said.reply
@@ -113,45 +80,6 @@ is_made_again word said = waits_for_hold word said.reply
 -- A line is its look-ups and its call. One whose call waits for a hold is made again while another caller has it.
 abbrev pub MakesScriptLine : Limits → Progress → CallerNo → Call → List Act → Said → Type 0
 MakesScriptLine l now me word acts said = Retries (Completes (line_plan l now me word)) (is_made_again word) acts said
-
--- ---- calls that ring
-
--- The call may end the wait of a caller that blocks. Once its line is made, the code rings each caller's bell; no
--- clause says so.
-abbrev pub wakes : Call → Bool
-wakes call.Selector = false
-wakes (call.Channel kind) = false
-wakes (call.Blocking c on) = false
-wakes (call.IsBlocking c) = false
-wakes (call.IsOpen c) = false
-wakes (call.IsRegistered c) = false
-wakes (call.KeyFor c s) = false
-wakes (call.Register s c ops att) = false
-wakes (call.Closec c) = false
-wakes (call.Valid s k) = false
-wakes (call.Interest s k) = false
-wakes (call.Ready s k) = false
-wakes (call.Iset s k ops) = false
-wakes (call.Ior s k ops) = false
-wakes (call.Iand s k ops) = false
-wakes (call.Cancel s k) = false
-wakes (call.Unselect s k) = false
-wakes (call.Attach s k att) = false
-wakes (call.Attachment s k) = false
-wakes (call.Begin s waiting) = false
-wakes (call.Told s elapsed pairs) = false
-wakes (call.Failed s) = false
-wakes (call.Wakeup s) = true
-wakes (call.Close s) = true
-wakes (call.CloseEnd s) = false
-wakes (call.Keys s) = false
-wakes (call.Selected s) = false
-wakes (call.Interrupt target) = true
-wakes call.Interrupted = false
-wakes (call.Pipe target) = false
-wakes (call.Pwrite c bytes) = false
-wakes (call.Pread c n) = false
-wakes (call.Group g) = false
 
 -- ---- `block`
 

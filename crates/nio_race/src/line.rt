@@ -57,40 +57,7 @@ fn make_line_once(
 fn waits_for_hold(call: &Call, reply: &Reply) -> bool
     ensures { result ≡ is_to_wait call.now reply.now }
 {
-    match call {
-        Call::Blocking(..) | Call::Register(..) => is_busy(reply),
-        Call::Selector
-        | Call::Channel(..)
-        | Call::IsBlocking(..)
-        | Call::IsOpen(..)
-        | Call::IsRegistered(..)
-        | Call::KeyFor(..)
-        | Call::Closec(..)
-        | Call::Valid(..)
-        | Call::Interest(..)
-        | Call::Ready(..)
-        | Call::Iset(..)
-        | Call::Ior(..)
-        | Call::Iand(..)
-        | Call::Cancel(..)
-        | Call::Unselect(..)
-        | Call::Attach(..)
-        | Call::Attachment(..)
-        | Call::Begin(..)
-        | Call::Told(..)
-        | Call::Failed(..)
-        | Call::Wakeup(..)
-        | Call::Close(..)
-        | Call::CloseEnd(..)
-        | Call::Keys(..)
-        | Call::Selected(..)
-        | Call::Interrupt(..)
-        | Call::Interrupted
-        | Call::Pipe(..)
-        | Call::Pwrite(..)
-        | Call::Pread(..)
-        | Call::Group(..) => false,
-    }
+    call.waits_for_hold() && is_busy(reply)
 }
 
 fn is_busy(reply: &Reply) -> bool

@@ -6,7 +6,7 @@ ghost use Rattle.nio_race_text.specs.RaceLines.{MayRace};
 ghost use Rattle.nio_race.specs.Runs.{MayRaceLine, MayRaceLines};
 ghost use Rattle.nio_race.specs.Racers.{CalledOn, HasRaced, IsSetOff, LineOn, MadeLines, RepliesLine, StandsWith};
 
-use crate::bells::{ring_all, wakes};
+use crate::bells::ring_all;
 use crate::block::block_line;
 use crate::ends::OwnEnds;
 use crate::line::script_line;
@@ -171,7 +171,7 @@ fn make_race_line<R: Wait>(
     match call {
         RaceCall::Script(call) => {
             let reply = make_called_line(rt, alloc, w, me, d, ends, call)?;
-            if wakes(call) {
+            if call.wakes() {
                 ring_all(bells);
             }
             Ok(reply)
@@ -201,35 +201,6 @@ fn make_called_line<R: Wait>(
         Call::Pread(chan, most) => read_line(rt, alloc, w, d, ends, me, *chan, *most),
         Call::Pwrite(chan, bytes) => Ok(write_line(rt, w, d, ends, me, *chan, bytes)),
         Call::Closec(chan) => close_line(rt, alloc, w, d, ends, me, *chan),
-        Call::Selector
-        | Call::Channel(..)
-        | Call::Blocking(..)
-        | Call::IsBlocking(..)
-        | Call::IsOpen(..)
-        | Call::IsRegistered(..)
-        | Call::KeyFor(..)
-        | Call::Register(..)
-        | Call::Valid(..)
-        | Call::Interest(..)
-        | Call::Ready(..)
-        | Call::Iset(..)
-        | Call::Ior(..)
-        | Call::Iand(..)
-        | Call::Cancel(..)
-        | Call::Unselect(..)
-        | Call::Attach(..)
-        | Call::Attachment(..)
-        | Call::Begin(..)
-        | Call::Told(..)
-        | Call::Failed(..)
-        | Call::Wakeup(..)
-        | Call::Close(..)
-        | Call::CloseEnd(..)
-        | Call::Keys(..)
-        | Call::Selected(..)
-        | Call::Interrupt(..)
-        | Call::Interrupted
-        | Call::Pipe(..)
-        | Call::Group(..) => script_line(rt, alloc, w, d, me, call),
+        _ => script_line(rt, alloc, w, d, me, call),
     }
 }

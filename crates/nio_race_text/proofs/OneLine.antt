@@ -1,13 +1,13 @@
 -- A line behind `go` is one call of one caller; and a caller's line is neither blank nor `go`.
-use Rattle.std.proofs.Common.{◌≡◌, ◌≢◌, ℕ, ◌<◌, ◌^◌, ◌==◌, List, [], ◌∷◌, ◌++◌, drop, get_or, codes, None, inl, inr}
-use Rattle.std.proofs.Common.{refl, sym, ap, ◌∙◌, arith}
+use Rattle.std.proofs.Common.{◌≡◌, ◌≢◌, ℕ, ◌<◌, ◌^◌, ◌==◌, List, [], ◌∷◌, ◌++◌, get_or, codes, None, inl, inr, refl}
+use Rattle.std.proofs.Common.{sym, ap, ◌∙◌, arith}
 use Rattle.std.specs.Fmt.{decimal}
 use Rattle.std.specs.List.{join_with_byte, slice_split}
-use Rattle.std.proofs.lemmas.Fmt.{decimal_injective}
 use Rattle.std.proofs.lemmas.List.Elements.{All-cons, All-nil}
 use Rattle.std.proofs.lemmas.Option.{none-some, same_Some}
 use Rattle.nio_base.specs.declared.numbers.CallerNo.{CallerNo}
 use Rattle.nio_base.specs.declared.numbers.SelNo.{SelNo}
+use Rattle.nio_event.proofs.Ones.{numbered_one, word_at}
 use Rattle.nio_event.specs.Calls.{IsBlank, IsLine, call_words}
 use Rattle.nio_event.specs.CallWords.{call_word, call_word_text}
 use Rattle.nio_event.specs.Words.{caller_word}
@@ -15,13 +15,15 @@ use Rattle.nio_event.specs.declared.call.Call.{Call}
 use Rattle.nio_event.proofs.CallWordTable.{reads_call_word}
 use Rattle.nio_event.proofs.NameWords.{decimal_lacks}
 use Rattle.nio_event.proofs.OneReading.{line_one}
-use Rattle.nio_event.proofs.Spaces.{Spaceless, split_join, caller_spaceless, call_spaceless}
+use Rattle.nio_event.proofs.Spaces.{Spaceless, split_join, caller_spaceless}
 use Rattle.nio_race_text.specs.RaceLines.{IsBlockLine, IsRaceLine, script_line, block_line, AreRaceLines, no_lines}
 use Rattle.nio_race_text.specs.RaceLines.{blank_line, race_line, race_words}
 use Rattle.nio_race_text.specs.RaceText.{go_line}
 use Rattle.nio_race_text.specs.declared.call.RaceCall.{RaceCall}
 use Rattle.nio_race_text.specs.declared.call.RaceCall.TheVariants.{Script, Block}
 use Rattle.nio_race_text.specs.declared.call.RaceLine.{RaceLine}
+use Rattle.nio_script.proofs.Lines.{line_words_of}
+use Rattle.nio_event.proofs.Ones.{word_at, numbered_one}
 
 -- ---- how a line begins
 
@@ -59,9 +61,6 @@ go_full go (inr hash) = absurd (omega (arith, same_Some 103 35 (rw go at hash)))
 
 -- ---- the words of a line
 
-word_at : (k : ℕ) {xs ys : List (List ℕ)} → xs ≡ ys → get_or xs k [] ≡ get_or ys k []
-word_at k e = ap (λ (ws : List (List ℕ)). get_or ws k []) e
-
 block_spaceless : Spaceless (codes "block")
 block_spaceless =
     each 98 (codes "lock") (omega arith)
@@ -75,13 +74,6 @@ block_spaceless =
 selector_spaceless : (n : ℕ) → n < 2 ^ 32 → Spaceless (115 ∷ decimal n)
 selector_spaceless n fits =
     All-cons (λ b. b ≢ 32) 115 (decimal n) (omega arith) (decimal_lacks n 32 (omega arith) (λ r. omega (arith, r)))
-
-line_words_of : {caller : CallerNo} {c : Call} {line : List ℕ} → IsLine caller c line
-    → slice_split (λ b. b == 32) line ≡ caller_word caller ∷ call_words c
-line_words_of {caller = caller} {c = c} is =
-    ap (slice_split (λ b. b == 32)) is.text
-    ∙ split_join (caller_word caller) (call_words c) (caller_spaceless caller.0 is.caller_fits)
-    (call_spaceless c is.call_fits)
 
 block_words_of : {caller : CallerNo} {s : SelNo} {line : List ℕ} → IsBlockLine caller s line
     → slice_split (λ b. b == 32) line ≡ caller_word caller ∷ race_words (Block s)
@@ -99,9 +91,6 @@ pub no_block : {caller other : CallerNo} {c : Call} {s : SelNo} {line : List ℕ
 no_block {c = c} x y = no_block_word c (word_at 1 (sym (line_words_of x) ∙ block_words_of y))
 
 -- ---- one reading
-
-numbered_one : (letter m n : ℕ) → m < 2 ^ 64 → n < 2 ^ 64 → letter ∷ decimal m ≡ letter ∷ decimal n → m ≡ n
-numbered_one letter m n h k e = decimal_injective m n h k (ap (drop 1) e)
 
 block_one : {caller other : CallerNo} {s r : SelNo} {line : List ℕ} → IsBlockLine caller s line
     → IsBlockLine other r line

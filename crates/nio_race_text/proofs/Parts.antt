@@ -28,11 +28,6 @@ AreRaceLines-behind [] ys race are = (race, are)
 AreRaceLines-behind (x ∷ xs) ys race (blank_line b are) = AreRaceLines-behind xs ys race are
 AreRaceLines-behind (x ∷ xs) ys race (race_line {race = others} is are) = AreRaceLines-behind xs ys others are
 
--- a line that isn't in the grammar of its part has no calls
-pub no_setup_line : {line : List ℕ} → (script.IsInGrammar line → ⊥) → IsNoLine script.AreCalls line
-no_setup_line bad calls (script.blank_line b _) = bad (script.is_blank b)
-no_setup_line bad calls (script.call_line {caller = caller} {c = c} is _) = bad (script.is_call caller c is)
-
 pub no_race_line : {line : List ℕ} → (IsBlank line → ⊥) → ((r : RaceLine) → IsRaceLine r.caller r.call line → ⊥)
     → IsNoLine AreRaceLines line
 no_race_line full bad calls (blank_line b _) = full b

@@ -1,52 +1,19 @@
 -- The lines behind `go`: which bytes are a call of which caller there.
-use Rattle.std.specs.Prelude.{◌≡◌, ⊤, ℕ, ◌<◌, List, [], ◌∷◌, codes}
+use Rattle.std.specs.Prelude.{◌≡◌, ℕ, ◌<◌, IsTrue, List, [], ◌∷◌, codes}
 use Rattle.std.specs.List.{join_with_byte}
 use Rattle.nio_base.specs.declared.numbers.CallerNo.{CallerNo}
 use Rattle.nio_base.specs.declared.numbers.SelNo.{SelNo}
 use Rattle.nio_event.specs.Calls.{IsBlank, IsLine, call_words}
+use Rattle.nio_event.specs.WordRows.{word_row}
 use Rattle.nio_event.specs.Words.{IsNumber, caller_word, selector_word}
 use Rattle.nio_event.specs.declared.call.Call.{Call}
-use Rattle.nio_event.specs.declared.call.Call.TheVariants as call
 use Rattle.nio_race_text.specs.declared.call.RaceCall.{RaceCall}
 use Rattle.nio_race_text.specs.declared.call.RaceCall.TheVariants.{Script, Block}
 use Rattle.nio_race_text.specs.declared.call.RaceLine.{RaceLine}
 
--- A script's call may stand behind `go`. Those that open a selector, a channel or a pipe may not, nor those on the
--- group.
+-- a script's call may stand behind `go`
 abbrev pub MayRace : Call → Type 0
-MayRace call.Selector = ⊥
-MayRace (call.Channel kind) = ⊥
-MayRace (call.Blocking c on) = ⊤
-MayRace (call.IsBlocking c) = ⊤
-MayRace (call.IsOpen c) = ⊤
-MayRace (call.IsRegistered c) = ⊤
-MayRace (call.KeyFor c s) = ⊤
-MayRace (call.Register s c ops att) = ⊤
-MayRace (call.Closec c) = ⊤
-MayRace (call.Valid s k) = ⊤
-MayRace (call.Interest s k) = ⊤
-MayRace (call.Ready s k) = ⊤
-MayRace (call.Iset s k ops) = ⊤
-MayRace (call.Ior s k ops) = ⊤
-MayRace (call.Iand s k ops) = ⊤
-MayRace (call.Cancel s k) = ⊤
-MayRace (call.Unselect s k) = ⊤
-MayRace (call.Attach s k att) = ⊤
-MayRace (call.Attachment s k) = ⊤
-MayRace (call.Begin s waiting) = ⊤
-MayRace (call.Told s elapsed pairs) = ⊤
-MayRace (call.Failed s) = ⊤
-MayRace (call.Wakeup s) = ⊤
-MayRace (call.Close s) = ⊤
-MayRace (call.CloseEnd s) = ⊤
-MayRace (call.Keys s) = ⊤
-MayRace (call.Selected s) = ⊤
-MayRace (call.Interrupt t) = ⊤
-MayRace call.Interrupted = ⊤
-MayRace (call.Pipe t) = ⊥
-MayRace (call.Pwrite c bytes) = ⊤
-MayRace (call.Pread c n) = ⊤
-MayRace (call.Group g) = ⊥
+MayRace word = IsTrue (word_row word).may_race
 
 -- a call's word and its arguments
 abbrev pub race_words : RaceCall → List (List ℕ)

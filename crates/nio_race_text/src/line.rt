@@ -5,7 +5,7 @@ ghost use Rattle.nio_event.specs.Reading.{Reads};
 ghost use Rattle.nio_race_text.specs.RaceLines.{IsBlockLine, IsRaceLine};
 ghost use Rattle.nio_script.specs.Entries.{Finds};
 
-use crate::call::{RaceCall, RaceLine, may_race};
+use crate::call::{RaceCall, RaceLine};
 use nio_base::{CallerNo, SelNo};
 use nio_event::{ParseError, Parsed, cut_at, parse_line, read_number};
 use std::alloc::{AllocError, Global};
@@ -19,7 +19,7 @@ pub fn read_race_call(alloc: Global, line: &[u8]) -> Result<Option<RaceLine>, Al
 {
     match parse_line(alloc, line) {
         Ok(Parsed::Line { caller, call }) => {
-            if may_race(&call) {
+            if call.may_race() {
                 Ok(Some(RaceLine {
                     caller,
                     call: RaceCall::Script(call),

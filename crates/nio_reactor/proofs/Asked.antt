@@ -5,13 +5,15 @@ use Rattle.std.proofs.lemmas.List.{append-nil}
 use Rattle.nio_base.specs.declared.numbers.ChanNo.{ChanNo}
 use Rattle.nio_bytes.specs.Cause.{Rose}
 use Rattle.nio_link.specs.Links.{IsUnused, IsSameBut}
-use Rattle.nio_link.specs.Places.{unused, IsVacant, place_after_accept, closed}
+use Rattle.nio_link.specs.Places.{unused, IsVacant, place_after_accept}
 use Rattle.nio_link.specs.declared.place.Place.{Place}
 use Rattle.nio_link.specs.declared.place.Role.TheVariants as role
 use Rattle.nio_link.specs.declared.place.Standing.{Standing}
 use Rattle.nio_link.specs.declared.place.Standing.TheVariants as standing
 use Rattle.nio_relay.specs.declared.plan.ProxyPlan.{ProxyPlan}
-use Rattle.nio_reactor.proofs.Channels.{is_or_not, rose_from}
+use Rattle.nio_link.proofs.Channels.{is_or_not}
+use Rattle.nio_serve.proofs.Slotting.{client_listener, client_target, target_listener}
+use Rattle.nio_serve.proofs.Working.{rose_from}
 use Rattle.nio_serve.specs.Serving.{client_of, target_of, clients_below, listener, IsAtMost}
 use Rattle.nio_reactor.specs.Accepting.{Accepts, HasAccepted, IsAccepting}
 use Rattle.nio_reactor.specs.declared.many.ManyError.{ManyError}
@@ -49,7 +51,7 @@ module _ {N : Type 0} (m : Meanings N) where
     fresh = λ c. subst IsUnused (sym (links c)) (was.fresh c);
     vacant = λ c other. subst (λ (p : Place). IsVacant p.standing) (sym (same c other)) (was.vacant c other);
     clients = λ k. subst (λ (p : Place). IsAtMost (role.Accepted listener) p.role)
-        (sym (same (client_of k) (λ at. let n : 2 * k + 1 ≡ 0 = ap (λ (c : ChanNo). c.0) at in absurd (omega arith))))
+        (sym (same (client_of k) (client_listener k)))
         (was.clients k);
     rest = λ c other apart. same c other ∙ was.rest c other apart;
   }
@@ -69,7 +71,7 @@ module _ {N : Type 0} (m : Meanings N) where
     fresh = fresh;
     vacant = λ c other. subst (λ (p : Place). IsVacant p.standing) (sym (same c other)) tt;
     clients = λ k. inl (ap (λ (p : Place). p.role)
-        (same (client_of k) (λ at. let n : 2 * k + 1 ≡ 0 = ap (λ (c : ChanNo). c.0) at in absurd (omega arith))));
+        (same (client_of k) (client_listener k)));
     rest = λ c other apart. same c other;
   }
 
@@ -87,9 +89,7 @@ module _ {N : Type 0} (m : Meanings N) where
         ];
         listens = listens;
         clients = λ k few. stands.clients k;
-        targets = λ k. stands.rest (target_of k)
-            (λ at. let n : 2 * k + 2 ≡ 0 = ap (λ (c : ChanNo). c.0) at in absurd (omega arith))
-            (λ i few at. let n : 2 * k + 2 ≡ 2 * i + 1 = ap (λ (c : ChanNo). c.0) at in absurd (omega arith));
+        targets = λ k. stands.rest (target_of k) (target_listener k) (λ i few at. client_target i k (sym at));
         others = λ c far. stands.rest c
             (λ at. let n : c.0 ≡ 0 = ap (λ (k : ChanNo). k.0) at in absurd (omega arith))
             (λ i few at. let n : c.0 ≡ 2 * i + 1 = ap (λ (k : ChanNo). k.0) at in absurd (omega arith));
@@ -130,14 +130,6 @@ pub came : (b : Bool) (p q : Place) → b ≡ true → q ≡ place_after_accept 
     → q ≡ record { role = role.Accepted listener; standing = standing.Linked }
 came true p q same is = is
 came false p q same is = absurd (cc)
-
-pub closed_vacant : (s : Standing) → IsVacant (closed s)
-closed_vacant standing.Nothing = tt
-closed_vacant standing.Listening = tt
-closed_vacant standing.Connecting = tt
-closed_vacant standing.Linked = tt
-closed_vacant standing.Shut = tt
-closed_vacant standing.Gone = tt
 
 -- what the acceptor has come to
 module _ {N : Type 0} (m : Meanings N) (accepted : N → List ChanNo) (plan : ProxyPlan) (x y : N) (n : ℕ)

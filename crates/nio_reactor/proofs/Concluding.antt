@@ -2,10 +2,11 @@
 use Rattle.std.proofs.Common.{◌≡◌, ℕ, zero, suc, ◌<◌, ◌⊎◌, inl, inr, Bool, false, IsTrue, IsOk, Ok, Err, Result, Some}
 use Rattle.std.proofs.Common.{option_map, List, [], ◌∷◌, map, length, slice_get, slice_index_or, refl, sym, ap, subst}
 use Rattle.std.proofs.Common.{◌∙◌, arith}
-use Rattle.std.proofs.Common.{All, ◌++◌, take, drop}
-use Rattle.std.proofs.lemmas.List.{append-nil, length-map}
+use Rattle.std.proofs.Common.{All}
+use Rattle.std.proofs.lemmas.List.{length-map}
 use Rattle.std.proofs.lemmas.List.Elements.{All-get_or}
-use Rattle.std.proofs.lemmas.Option.{get_or_from_slice_get, slice_get_within, slice_get-get_or}
+use Rattle.std.proofs.lemmas.Option.{get_or_from_slice_get, same_Some, slice_get_within, slice_get-get_or}
+use Rattle.std.proofs.lemmas.Option.{slice_get-map}
 use Rattle.nio_base.specs.declared.numbers.ChanNo.{ChanNo}
 use Rattle.nio_bytes.specs.Cause.{Rose}
 use Rattle.nio_relay.specs.declared.plan.ProxyPlan.{ProxyPlan}
@@ -15,6 +16,7 @@ use Rattle.nio_link.specs.Places.{unused, IsVacant}
 use Rattle.nio_link.specs.declared.place.Place.{Place}
 use Rattle.nio_serve.proofs.Promise.{unbegun}
 use Rattle.nio_reactor.proofs.Asked.{asked_first, asked_more, left}
+use Rattle.nio_reactor.proofs.Lists.{element}
 use Rattle.nio_reactor.proofs.Worked.{fresh_leaves}
 use Rattle.nio_serve.specs.Serving.{NoneRose, RelaysBytes, WasClean, listener}
 use Rattle.nio_serve.specs.declared.serving.ServeError.{ServeError}
@@ -28,26 +30,16 @@ use Rattle.nio_reactor.specs.Working.{HasWorked, HaveWorked, IsFresh, AddsAll, A
 use Rattle.nio_reactor.specs.declared.many.ManyError.{ManyError}
 use Rattle.nio_reactor.specs.declared.many.ManyError.TheVariants.{NetFault, Memory}
 
-some_same : {A : Type 0} (x y : A) → Some x ≡ Some y → x ≡ y
-some_same x y is = cc
-
 -- the lane whose net stands at a place of the nets
 from_map : {X N : Type 0} (net : X → N) (lanes : List X) (v : ℕ) (y : N) → slice_get (map net lanes) v ≡ Some y
     → (b : X) × (slice_get lanes v ≡ Some b) × (net b ≡ y)
 from_map net [] v y at = absurd (cc)
-from_map net (b ∷ lanes) zero y at = (b, refl, some_same (net b) y at)
+from_map net (b ∷ lanes) zero y at = (b, refl, same_Some (net b) y at)
 from_map net (b ∷ lanes) (suc v) y at = from_map net lanes v y at
 
 to_map : {X N : Type 0} (net : X → N) (lanes : List X) (v : ℕ) (b : X) → slice_get lanes v ≡ Some b
     → slice_get (map net lanes) v ≡ Some (net b)
-to_map net [] v b at = absurd (cc)
-to_map net (a ∷ lanes) zero b at = ap (λ o. option_map net o) at
-to_map net (a ∷ lanes) (suc v) b at = to_map net lanes v b at
-
-pub element : {X : Type 0} (xs : List X) (v : ℕ) → v < length xs → (b : X) × (slice_get xs v ≡ Some b)
-element [] v few = absurd (omega (arith, few))
-element (b ∷ xs) zero few = (b, refl)
-element (b ∷ xs) (suc v) few = element xs v (omega (arith, few))
+to_map net lanes v b at = slice_get-map net lanes v ∙ ap (option_map net) at
 
 -- a sum of none
 pub sum_none : (f : ℕ → ℕ) (n : ℕ) → ((v : ℕ) → v < n → f v ≡ 0) → sum_below f n ≡ 0
@@ -114,7 +106,7 @@ module _ {X N : Type 0} (m : Meanings N) (plan : ProxyPlan) (net : X → N) (ear
       let within : v < length before = subst (λ n. v < n) count (slice_get_within now v b at) in
       let a = element before v within in
       let has = at_worker v (net a.0) (net b) (to_map net before v a.0 a.1) (to_map net now v b at) in
-      let same : has.0 ≡ b = some_same has.0 b (sym has.1 ∙ at) in (
+      let same : has.0 ≡ b = same_Some has.0 b (sym has.1 ∙ at) in (
         net a.0,
         to_map net before v a.0 a.1,
         subst (λ c. HasWorked m plan.target (share (length (map net now)) v plan.conns) (net a.0) (net b) (early c)
@@ -246,9 +238,6 @@ module _ {N : Type 0} (m : Meanings N) (plan : ProxyPlan) where
       subst (IsFresh m) (get_or_from_slice_get nets v y y at)
       (All-get_or (IsFresh m) nets v y (slice_get_within nets v y at) all)
 
-  pub fresh_places : (nets : List N) → All (IsFresh m) nets → All (λ net. m.place net listener ≡ unused) nets
-  fresh_places nets all k d few = (all k d few).unasked listener
-
   pub fresh_lanes : {X : Type 0} (net : X → N) (lanes : List X) (nets : List N) → map net lanes ≡ nets
       → All (IsFresh m) nets → All (λ l. IsFresh m (net l)) lanes
   fresh_lanes {X} net lanes nets same all k d few =
@@ -271,25 +260,3 @@ module _ {N : Type 0} (m : Meanings N) (plan : ProxyPlan) where
       (λ c. refl) (λ c. refl) (λ c other. refl)
       (subst (λ (p : Place). IsVacant p.standing) (sym (unasked listener)) tt)
       (inl (ap (λ (p : Place). p.role) (unasked listener)))
-
-  pub none_accepts : (before : List ChanNo) → AreAccepted plan.conns before before (Err Memory)
-  none_accepts before = (0, omega arith, sym (append-nil before))
-
--- ---- back from a slice of lanes
-
-pub take_back : {A : Type 0} (new old : List A) → length new ≡ length old
-    → take (length old) (new ++ drop (length new) old) ≡ new
-take_back [] [] same = refl
-take_back [] (o ∷ os) same = absurd (omega (arith, same))
-take_back (n ∷ ns) [] same = absurd (omega (arith, same))
-take_back (n ∷ ns) (o ∷ os) same = ap (λ l. n ∷ l) (take_back ns os (omega (arith, same)))
-
-pub worked_back : {X N : Type 0} (m : Meanings N) (plan : ProxyPlan) (net : X → N) (early : X → Bool)
-    (outcome : X → Result Served ServeError) (old before new : List X) (n : ℕ) → before ≡ old → n ≡ length old
-    → length new ≡ length before → HaveWorked m plan net early outcome before new
-    → HaveWorked m plan net early outcome old (take n (new ++ drop (length new) old))
-worked_back {X} m plan net early outcome old before new n old_is n_is count worked =
-    let back : take n (new ++ drop (length new) old) ≡ new
-    = ap (λ k. take k (new ++ drop (length new) old)) n_is ∙ take_back new old (count ∙ ap length old_is) in
-    subst (λ l. HaveWorked m plan net early outcome old l) (sym back)
-    (subst (λ l. HaveWorked m plan net early outcome l new) old_is worked)

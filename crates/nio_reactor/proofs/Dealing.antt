@@ -1,12 +1,11 @@
 -- What is sent to each worker.
-use Rattle.std.proofs.Common.{◌≡◌, ◌≢◌, ℕ, ◌+◌, ◌%◌, ◌==◌, ◌<◌, if◌then◌else◌, inl, inr, Option, Some}
+use Rattle.std.proofs.Common.{◌≡◌, ◌≢◌, ℕ, ◌+◌, ◌%◌, ◌<◌, if◌then◌else◌, inl, inr, Option, Some}
 use Rattle.std.proofs.Common.{List, [], ◌∷◌, ◌++◌, map, length, slice_set, get_or, refl, sym, ap, subst, ◌∙◌}
-use Rattle.std.proofs.Common.{arith, eq-eqb, eqb-true, add-one, append_assoc, mod-lt}
-use Rattle.std.proofs.lemmas.Bool.{cases_order}
+use Rattle.std.proofs.Common.{arith, eq-eqb, add-one, append_assoc, mod-lt}
+use Rattle.std.proofs.lemmas.Bool.{cases_eq, ne_eqb}
 use Rattle.std.proofs.lemmas.List.{map-append, get_or-set_same, get_or-set_other, length-set}
 use Rattle.std.proofs.lemmas.Option.{get_or_from_slice_get, slice_get-get_or, slice_get_within}
 use Rattle.nio_line.specs.Lines.{End as LineEnd}
-use Rattle.nio_reactor.proofs.Seen.{not_true}
 use Rattle.nio_reactor.specs.Accepting.{Deals}
 use Rattle.nio_reactor.specs.Dealing.{dealt, number_of, share}
 use Rattle.nio_reactor.specs.declared.message.Message.{Message}
@@ -20,7 +19,7 @@ dealt_others : (w v k : ℕ) → k % w ≢ v → dealt w v (k + 1) ≡ dealt w v
 dealt_others w v k others =
     ap (dealt w v) (add-one k)
     ∙ ap (λ t. if t then dealt w v k ++ Some k ∷ [] else dealt w v k)
-    (not_true ((k % w) == v) (λ is. others (eqb-true (k % w) v is)))
+    (ne_eqb (k % w) v others)
 
 pub deals_none : {L : Type 0} (k : ℕ) (lines : List (LineEnd (Message L))) → Deals k k lines lines
 deals_none {L} k lines = record {
@@ -55,7 +54,7 @@ deals_one {L} lines k d new message some new_is number =
     let within : at < length lines = mod-lt k some in
     record {
       count = length-set lines at new;
-      dealt = λ w v x y start len at_x at_y was. elim (cases_order v at) [
+      dealt = λ w v x y start len at_x at_y was. elim (cases_eq v at) [
         | inl same ↦
             let x_is : x ≡ old = sym (get_or_from_slice_get lines v x d at_x) ∙ ap (λ i. get_or lines i d) same in
             let y_is : y ≡ new
@@ -69,11 +68,7 @@ deals_one {L} lines k d new message some new_is number =
             sent ∙ ap (λ (l : List (Option ℕ)). l ++ Some k ∷ []) was
             ∙ append_assoc start (dealt w v k) (Some k ∷ [])
             ∙ ap (λ l. start ++ l) (sym (dealt_mine w v k (ap (λ m. k % m) (sym len) ∙ sym same)))
-        | inr apart ↦
-            let not_at : v ≢ at = elim apart [
-              | inl less ↦ λ is. absurd (omega arith)
-              | inr more ↦ λ is. absurd (omega arith)
-            ] in
+        | inr not_at ↦
             let same : y ≡ x
             = sym (get_or_from_slice_get (slice_set lines at new) v y x at_y)
             ∙ get_or-set_other lines at v new x not_at ∙ get_or_from_slice_get lines v x x at_x in
@@ -104,5 +99,5 @@ share_mine w v k mine =
 pub share_others : (w v k : ℕ) → k % w ≢ v → share w v (k + 1) ≡ share w v k
 share_others w v k others =
     ap (share w v) (add-one k)
-    ∙ ap (λ t. share w v k + (if t then 1 else 0)) (not_true ((k % w) == v) (λ is. others (eqb-true (k % w) v is)))
+    ∙ ap (λ t. share w v k + (if t then 1 else 0)) (ne_eqb (k % w) v others)
     ∙ add-zero (share w v k)

@@ -1,13 +1,11 @@
 -- The end of the lines.
 use Rattle.std.proofs.Common.{◌≡◌, ◌≢◌, ℕ, ◌+◌, ◌<◌, ◌≤◌, inl, inr, Option, Some, None, List, [], ◌∷◌, ◌++◌, map, length}
 use Rattle.std.proofs.Common.{slice_get, slice_set, get_or, refl, sym, ap, subst, ◌∙◌, arith}
-use Rattle.std.proofs.Common.{take, drop}
 use Rattle.std.proofs.lemmas.Bool.{cases_order}
 use Rattle.std.proofs.lemmas.List.{append-nil, map-append, get_or-set_same, get_or-set_other, length-set}
 use Rattle.std.proofs.lemmas.Option.{get_or_from_slice_get, slice_get-get_or, slice_get_within}
 use Rattle.nio_base.specs.declared.numbers.ChanNo.{ChanNo}
 use Rattle.nio_line.specs.Lines.{End as LineEnd}
-use Rattle.nio_reactor.proofs.Concluding.{take_back}
 use Rattle.nio_reactor.specs.Accepting.{Accepts, AreEnded, Deals, EndedBelow, HasSent}
 use Rattle.nio_reactor.specs.Dealing.{dealt, number_of}
 use Rattle.nio_reactor.specs.Many.{Meanings}
@@ -82,13 +80,3 @@ has_sent {L} m accepted n x y a b c accepts deals ends = record {
       ∙ map-append number_of mid.carried (End ∷ [])
       ∙ ap (λ (l : List (Option ℕ)). l ++ None ∷ []) sent;
 }
-
--- back from a slice of lines
-pub sent_back : {L : Type 0} (before_chans now_chans : List ChanNo) (old slice new : List (LineEnd (Message L))) (n : ℕ)
-    → slice ≡ old → n ≡ length old → HasSent before_chans now_chans slice new
-    → HasSent before_chans now_chans old (take n (new ++ drop (length new) old))
-sent_back {L} before_chans now_chans old slice new n slice_is n_is sent =
-    let back : take n (new ++ drop (length new) old) ≡ new
-    = ap (λ k. take k (new ++ drop (length new) old)) n_is ∙ take_back new old (sent.lines ∙ ap length slice_is) in
-    subst (λ l. HasSent before_chans now_chans old l) (sym back)
-    (subst (λ l. HasSent before_chans now_chans l new) slice_is sent)

@@ -1,11 +1,11 @@
 -- The passes are joined: what the one pass has seen that is left.
-use Rattle.std.proofs.Common.{◌≡◌, ℕ, ◌+◌, ◌-◌, ◌%◌, ◌<◌, ◌≤◌, ◌==◌, inl, inr, ⊎_elim, Bool, if◌then◌else◌}
+use Rattle.std.proofs.Common.{◌≡◌, ℕ, ◌+◌, ◌-◌, ◌%◌, ◌<◌, ◌≤◌, inl, inr, ⊎_elim, Bool, if◌then◌else◌}
 use Rattle.std.proofs.Common.{Some, Result, Ok, Err, IsOk, OnOk, IfOk, List, [], ◌∷◌, ◌++◌, length, map, filter, All}
-use Rattle.std.proofs.Common.{append_assoc, drop, get_or, take}
-use Rattle.std.proofs.Common.{slice_get, slice_index_or, refl, sym, ap, subst, ◌∙◌, arith, eqb-true, mod-lt}
-use Rattle.std.proofs.lemmas.Bool.{cases_eq, cases_lt}
-use Rattle.std.proofs.lemmas.List.{append-nil, get_or-map, length-map}
-use Rattle.std.proofs.lemmas.List.Elements.{All-append, All-cons, All-nil, All-tail, All-weaker}
+use Rattle.std.proofs.Common.{append_assoc}
+use Rattle.std.proofs.Common.{slice_get, slice_index_or, refl, sym, ap, subst, ◌∙◌, arith, mod-lt}
+use Rattle.std.proofs.lemmas.Bool.{cases_eq, cases_lt, ne_eqb}
+use Rattle.std.proofs.lemmas.List.{get_or-map, length-map}
+use Rattle.std.proofs.lemmas.List.Elements.{All-head, All-nil, All-push, All-tail, All-weaker}
 use Rattle.std.proofs.lemmas.Option.{get_or_from_slice_get}
 use Rattle.nio_base.specs.declared.limits.Limits.{Limits}
 use Rattle.nio_base.specs.declared.numbers.CallerNo.{CallerNo}
@@ -14,9 +14,16 @@ use Rattle.nio_base.specs.declared.numbers.SelNo.{SelNo}
 use Rattle.nio_event.specs.Histories.{mine, is_by, IsLegal}
 use Rattle.nio_event.specs.declared.act.Act.{Act}
 use Rattle.nio_event.specs.declared.event.Event.{Event}
-use Rattle.nio_orderly.proofs.CallLists.{whole_is_orderly}
 use Rattle.nio_orderly.specs.Made.{Made}
-use Rattle.nio_orderly.specs.Orderly.{IsOrderly, IsWhole}
+use Rattle.nio_orderly.specs.Orderly.{IsWhole}
+use Rattle.nio_reactor.proofs.Placed.{IsLinkOf, placed_behind, placed_elsewhere, placed_here}
+use Rattle.nio_reactor.specs.Dealing.{share}
+use Rattle.nio_reactor.specs.Placing.{ArePlaced, HoldsAll, IsRegisteredOnce, caller, selectors_with, served_of}
+use Rattle.nio_reactor.specs.Placing.{table_for}
+use Rattle.nio_reactor.specs.Seats.{HaveSeats, IsNewcomer, LeavesSeat, LeaveSeats, StandsIn, acceptor_deal}
+use Rattle.nio_reactor.specs.Seats.{channels_for, deal_of}
+use Rattle.nio_reactor.specs.Working.{Concludes}
+use Rattle.nio_reactor.specs.declared.many.ManyError.{ManyError}
 use Rattle.nio_relay.specs.declared.plan.ProxyPlan.{ProxyPlan}
 use Rattle.nio_relay.specs.declared.plan.Served.{Served}
 use Rattle.nio_serve.specs.Called.{HasRegistered, registrations, seats}
@@ -27,15 +34,7 @@ use Rattle.nio_words.specs.Passes.{Holds, IsPassOf, IsReady, acts_seen, limits_o
 use Rattle.nio_words.specs.Sharing.{Joins}
 use Rattle.nio_words.specs.declared.words.Pass.{Pass}
 use Rattle.nio_words.specs.declared.words.Words.{Words}
-use Rattle.nio_reactor.proofs.Concluding.{element, take_back}
-use Rattle.nio_reactor.proofs.Placed.{IsLinkOf, placed_behind, placed_elsewhere, placed_here}
-use Rattle.nio_reactor.proofs.Seen.{not_true}
-use Rattle.nio_reactor.specs.Dealing.{share}
-use Rattle.nio_reactor.specs.Placing.{ArePlaced, HoldsAll, IsRegisteredOnce, caller, selectors_with, served_of}
-use Rattle.nio_reactor.specs.Placing.{table_for}
-use Rattle.nio_reactor.specs.Seats.{HaveSeats, IsNewcomer, LeavesSeat, LeaveSeats, StandsIn, acceptor_deal, channels_for, deal_of}
-use Rattle.nio_reactor.specs.Working.{Concludes}
-use Rattle.nio_reactor.specs.declared.many.ManyError.{ManyError}
+use Rattle.nio_reactor.proofs.Lists.{element, nets_end}
 
 -- ---- joining
 
@@ -85,38 +84,33 @@ begins_gathering pass w p all is passes = record {
   passes = passes;
 }
 
-pub first_pass : {X : Type 0} (pass : X → Pass) (w : Words) (before now : Pass) (all left : List X) (x : X)
-    → IsGathering pass w before now all left → 0 < length left → x ≡ get_or left 0 x → IsPassOf w (pass x)
-first_pass pass w before now all left x at some is =
-    subst (λ y. IsPassOf w (pass y)) (sym is) (at.passes 0 x some)
+pub first_pass : {X : Type 0} (pass : X → Pass) (w : Words) (before now : Pass) (all left rest : List X) (x : X)
+    → IsGathering pass w before now all left → left ≡ x ∷ rest → IsPassOf w (pass x)
+first_pass pass w before now all left rest x at first =
+    All-head (λ y. IsPassOf w (pass y)) x rest (subst (All (λ y. IsPassOf w (pass y))) first at.passes)
 
 pub goes_on_gathering : {X : Type 0} (pass : X → Pass) (w : Words) (before now after : Pass) (all left rest : List X)
-    (x : X) → IsGathering pass w before now all left → 0 < length left → x ≡ get_or left 0 x
-    → rest ≡ take 0 left ++ drop (0 + 1) left → Joins w now (pass x) after
+    (x : X) → IsGathering pass w before now all left → left ≡ x ∷ rest → Joins w now (pass x) after
     → IsGathering pass w before after all rest
-goes_on_gathering pass w before now after all [] rest x at some is rest_is joins = absurd (omega (arith, some))
-goes_on_gathering {X} pass w before now after all (y ∷ ys) rest x at some is rest_is joins =
+goes_on_gathering pass w before now after all left rest x at first joins =
     let further : StandsIn now after = joined_own w now (pass x) after joins in
     record {
       pass_is = joins.pass;
       own = stands_on before now after at.own further;
-      joined = at.joined ++ y ∷ [];
-      parts = at.parts ∙ (sym (append_assoc at.joined (y ∷ []) ys) ∙ ap (λ l. (at.joined ++ y ∷ []) ++ l) (sym rest_is));
-      each = All-append (λ z. StandsIn (pass z) after) at.joined (y ∷ [])
+      joined = at.joined ++ x ∷ [];
+      parts = at.parts ∙ (ap (λ l. at.joined ++ l) first ∙ sym (append_assoc at.joined (x ∷ []) rest));
+      each = All-push (λ z. StandsIn (pass z) after) at.joined x
           (All-weaker (λ z. StandsIn (pass z) now) (λ z. StandsIn (pass z) after)
           (λ z there. stands_on (pass z) now after there further) at.joined at.each)
-          (All-cons (λ z. StandsIn (pass z) after) y []
-          (subst (λ z. StandsIn (pass z) after) is (joined_other w now (pass x) after joins))
-          (All-nil (λ z. StandsIn (pass z) after)));
-      passes = subst (All (λ z. IsPassOf w (pass z))) (sym rest_is)
-          (All-tail (λ z. IsPassOf w (pass z)) y ys at.passes);
+          (joined_other w now (pass x) after joins);
+      passes = All-tail (λ z. IsPassOf w (pass z)) x rest (subst (All (λ z. IsPassOf w (pass z))) first at.passes);
     }
 
 pub all_gathered : {X : Type 0} (pass : X → Pass) (w : Words) (before now : Pass) (all left : List X)
     → IsGathering pass w before now all left → length left ≡ 0 → All (λ x. StandsIn (pass x) now) all
-all_gathered pass w before now all [] at none =
-    subst (All (λ x. StandsIn (pass x) now)) (sym (at.parts ∙ append-nil at.joined)) at.each
-all_gathered pass w before now all (y ∷ ys) at none = absurd (omega (arith, none))
+all_gathered pass w before now all left at none =
+    subst (All (λ x. StandsIn (pass x) now))
+    (nets_end at.joined left all (sym at.parts) none) at.each
 
 -- ---- callers beyond the limit
 
@@ -126,8 +120,7 @@ done_nothing : (n : CallerNo) (k : ℕ) (events : List Event) → k ≤ n.0
 done_nothing n k [] above below = refl
 done_nothing n k (e ∷ events) above below =
     ap (λ (b : Bool). map (λ (x : Event). x.act) (if b then e ∷ filter (is_by n) events else filter (is_by n) events))
-    (not_true (e.caller.0 == n.0) (λ is.
-    let same : e.caller.0 ≡ n.0 = eqb-true e.caller.0 n.0 is in
+    (ne_eqb e.caller.0 n.0 (λ same.
     let less : e.caller.0 < k = below [] e events refl in
     absurd (omega (arith, same, less, above))))
     ∙ done_nothing n k events above
@@ -187,7 +180,7 @@ module _ (w conns : ℕ) (p : Pass) (own : (n : CallerNo) → HasOwn w conns p n
         (cases_eq n.0 0);
   }
 
-  pub are_placed : ArePlaced w conns (seen p)
+  are_placed : ArePlaced w conns (seen p)
   are_placed = record {
     calls = calls;
     are = λ n. (own n).has.are;
@@ -200,13 +193,16 @@ module _ (w conns : ℕ) (p : Pass) (own : (n : CallerNo) → HasOwn w conns p n
     };
   }
 
-  pub is_whole : IsWhole (table_for w) (seen p)
+  is_whole : IsWhole (table_for w) (seen p)
   is_whole n = record { calls = calls n; are = (own n).has.are }
 
-  pub is_orderly : IsOrderly (table_for w) (seen p)
-  is_orderly = whole_is_orderly (table_for w) (seen p) is_whole
-
 -- ---- at the end of a call
+
+-- what the pass that is left shows, where the plan was served
+pub record Settled (w conns : ℕ) (p : Pass) : Type 0 where
+  pub holds : HoldsAll (table_for w) p
+  pub whole : IsWhole (table_for w) (seen p)
+  pub placed : ArePlaced w conns (seen p)
 
 module _ {X : Type 0} (words : Words) (plan : ProxyPlan) (early : X → Bool) (outcome : X → Result Served ServeError)
     (pass : X → Pass) (w : ℕ) (limits : limits_of words ≡ table_for w) (before now : List X) (count : length before ≡ w)
@@ -307,15 +303,6 @@ module _ {X : Type 0} (words : Words) (plan : ProxyPlan) (early : X → Bool) (o
             let clash : Ok served ≡ Err error = sym is ∙ failed in
             absurd (cc)
 
-    pub placed_of : (served : Served) → result ≡ Ok served → ArePlaced w plan.conns (seen p)
-    placed_of served is = are_placed w plan.conns p (owned served is) some
-
-    pub whole_of : (served : Served) → result ≡ Ok served → IsWhole (table_for w) (seen p)
-    whole_of served is = is_whole w plan.conns p (owned served is) some
-
-    pub orderly_of : (served : Served) → result ≡ Ok served → IsOrderly (table_for w) (seen p)
-    orderly_of served is = is_orderly w plan.conns p (owned served is) some
-
   ready_worker : (v : ℕ) → v < w → IsReady words p (caller (v + 1))
   ready_worker v less =
       let within : v < length before = omega (arith, less, count) in
@@ -323,7 +310,7 @@ module _ {X : Type 0} (words : Words) (plan : ProxyPlan) (early : X → Bool) (o
       ready_on words (pass (slice_index_or now v x)) p (caller (v + 1)) (each v x (omega (arith, within, same))) is_pass
       (leave v x within).ready
 
-  pub holds_all : HoldsAll (table_for w) p
+  holds_all : HoldsAll (table_for w) p
   holds_all = record {
     legal = subst (λ (l : Limits). IsLegal l (seen p)) limits is_pass.legal;
     holds = λ n below. ⊎_elim
@@ -334,6 +321,16 @@ module _ {X : Type 0} (words : Words) (plan : ProxyPlan) (early : X → Bool) (o
         subst (Holds p) (sym (ap caller next)) (ready_worker (n.0 - 1) (omega (arith, next, below))).number)
         (cases_eq n.0 0);
   }
+
+  -- where the call answers Ok
+  pub settled : (result : Result Served ManyError) → Concludes accepted early outcome plan.conns now result → 0 < w
+      → (served : Served) → result ≡ Ok served → Settled w plan.conns p
+  settled result concludes some served is =
+      let own = owned result concludes some served is in record {
+        holds = holds_all;
+        whole = is_whole w plan.conns p own some;
+        placed = are_placed w plan.conns p own some;
+      }
 
 -- ---- the workers have the passes that were handed out
 
@@ -351,23 +348,6 @@ pub passes_after : {X : Type 0} (w : Words) (plan : ProxyPlan) (pass : X → Pas
     → LeaveSeats w plan pass outcome before now → All (λ x. IsPassOf w (pass x)) now
 passes_after w plan pass outcome before now same leave k x less =
     (leave k x (subst (λ n. k < n) same less)).ready.pass
-
--- back from a slice of workers
-pub seats_back : {X : Type 0} (w : Words) (plan : ProxyPlan) (pass : X → Pass)
-    (outcome : X → Result Served ServeError) (old before new : List X) (n : ℕ) → before ≡ old → n ≡ length old
-    → length new ≡ length before → LeaveSeats w plan pass outcome before new
-    → LeaveSeats w plan pass outcome old (take n (new ++ drop (length new) old))
-seats_back {X} w plan pass outcome old before new n old_is n_is count leave =
-    let back : take n (new ++ drop (length new) old) ≡ new
-    = ap (λ k. take k (new ++ drop (length new) old)) n_is ∙ take_back new old (count ∙ ap length old_is) in
-    subst (λ l. LeaveSeats w plan pass outcome old l) (sym back)
-    (subst (λ l. LeaveSeats w plan pass outcome l new) old_is leave)
-
-pub count_back : {X : Type 0} (old before new : List X) (n : ℕ) → before ≡ old → n ≡ length old
-    → length new ≡ length before → length (take n (new ++ drop (length new) old)) ≡ length old
-count_back old before new n old_is n_is count =
-    ap (λ k. length (take k (new ++ drop (length new) old))) n_is
-    ∙ (ap length (take_back new old (count ∙ ap length old_is)) ∙ (count ∙ ap length old_is))
 
 -- with the pass
 pub answered_with : (P : Pass → Type 0) (p : Pass) (outcome : Result Served ManyError)

@@ -1,9 +1,9 @@
 -- Which connections' links each worker puts in.
 use Rattle.std.proofs.Common.{◌≡◌, ℕ, zero, suc, ◌+◌, ◌*◌, ◌<◌, ◌≤◌, inl, inr, Bool, Ok, Err, Result, Some, IsOk}
 use Rattle.std.proofs.Common.{List, [], ◌∷◌, ◌++◌, map, length, slice_get, slice_index_or, refl, sym, ap, subst, ◌∙◌}
-use Rattle.std.proofs.Common.{arith, add-one, append_assoc, length-append, take, drop}
+use Rattle.std.proofs.Common.{arith, add-one, append_assoc, length-append}
 use Rattle.std.proofs.Math.Nat.{suc-mul}
-use Rattle.std.proofs.lemmas.List.{append-nil, length-map, map-append}
+use Rattle.std.proofs.lemmas.List.{append-nil, length-map, map-append, nil_from_length}
 use Rattle.std.proofs.lemmas.Option.{get_or_from_slice_get, slice_get-get_or}
 use Rattle.nio_base.specs.declared.numbers.Addr.{Addr}
 use Rattle.nio_link.specs.declared.place.Role.TheVariants as role
@@ -11,7 +11,7 @@ use Rattle.nio_relay.specs.declared.plan.ProxyPlan.{ProxyPlan}
 use Rattle.nio_relay.specs.declared.plan.Served.{Served}
 use Rattle.nio_serve.specs.Serving.{client_of, clients_below, AreNumbered, IsAtMost}
 use Rattle.nio_serve.specs.declared.serving.ServeError.{ServeError}
-use Rattle.nio_reactor.proofs.Concluding.{element, take_back}
+use Rattle.nio_reactor.proofs.Lists.{element}
 use Rattle.nio_reactor.specs.Dealing.{share}
 use Rattle.nio_reactor.specs.Doors.{worker_at, workers_at}
 use Rattle.nio_reactor.specs.Handing.{below, handover, handovers, handed_by, put_at, put_below}
@@ -45,8 +45,7 @@ tail_same : {A : Type 0} (x y : A) (xs ys : List A) → x ∷ xs ≡ y ∷ ys �
 tail_same x y xs ys is = cc
 
 none_mapped : {A B : Type 0} (f : A → B) (xs : List A) → map f xs ≡ [] → xs ≡ []
-none_mapped f [] is = refl
-none_mapped f (x ∷ xs) is = absurd (cc)
+none_mapped f xs is = nil_from_length xs (sym (length-map xs f) ∙ ap length is)
 
 -- ---- one more link
 
@@ -166,12 +165,6 @@ module _ (at : Addr) where
       → HasHanded (workers_at at) (worker_at at) conns put (Err error)
   handed_not conns d put error unasked order =
       (0, omega arith, none_mapped turn_of put (order ∙ ap (λ x. turns_of x (length put)) unasked))
-
-pub handed_at : (at : Addr) (w v conns : ℕ) (put : List Handover) (result : Result Served ServeError)
-    → workers_at at ≡ w → worker_at at ≡ v → HasHanded (workers_at at) (worker_at at) conns put result
-    → HasHanded w v conns put result
-handed_at at w v conns put result is_w is_v has =
-    subst (λ x. HasHanded x v conns put result) is_w (subst (λ x. HasHanded (workers_at at) x conns put result) is_v has)
 
 -- ---- what all have put in
 
@@ -295,14 +288,3 @@ handed_of plan put early outcome net before now nets nets_are count has old new 
     (subst (λ w. AreHanded plan.conns w old (old ++ put_below put now (length now)) answer)
     (sym (length-map before net) ∙ ap length nets_are)
     (are_handed plan put early outcome before now count has old done answer is))
-
--- back from a slice of lanes
-pub handed_back : {X : Type 0} (plan : ProxyPlan) (put : X → List Handover) (outcome : X → Result Served ServeError)
-    (old before new : List X) (n : ℕ) → before ≡ old → n ≡ length old → length new ≡ length before
-    → HaveHanded plan put outcome before new
-    → HaveHanded plan put outcome old (take n (new ++ drop (length new) old))
-handed_back plan put outcome old before new n old_is n_is count has =
-    let back : take n (new ++ drop (length new) old) ≡ new
-    = ap (λ k. take k (new ++ drop (length new) old)) n_is ∙ take_back new old (count ∙ ap length old_is) in
-    subst (λ l. HaveHanded plan put outcome old l) (sym back)
-    (subst (λ l. HaveHanded plan put outcome l new) old_is has)

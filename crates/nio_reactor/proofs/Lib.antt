@@ -1,11 +1,11 @@
 pub mod Adding
 pub mod Asked
-pub mod Channels
 pub mod Concluding
 pub mod Dealing
 pub mod Ending
 pub mod Gathered
 pub mod Handing
+pub mod Lists
 pub mod Placed
 pub mod Seating
 pub mod Seen

@@ -1,9 +1,9 @@
 -- Where the registrations of the callers stand: each connection's channels are those of one worker.
 use Rattle.std.proofs.Common.{◌≡◌, ◌≢◌, ℕ, zero, suc, ◌+◌, ◌-◌, ◌*◌, ◌/◌, ◌%◌, ◌<◌, ◌≤◌, ◌==◌, if◌then◌else◌, ⊎_elim}
 use Rattle.std.proofs.Common.{Bool, Some, List, [], ◌∷◌, ◌++◌, map, filter, refl, sym, ap, ◌∙◌}
-use Rattle.std.proofs.Common.{arith, add-one, eq-eqb, eqb-true, mod-lt}
+use Rattle.std.proofs.Common.{arith, add-one, eq-eqb, mod-lt}
 use Rattle.std.proofs.Math.Nat.{suc-mul, mod-add-div', div-add-mod, mul-le-mul_right}
-use Rattle.std.proofs.lemmas.Bool.{cases_eq, cases_lt}
+use Rattle.std.proofs.lemmas.Bool.{cases_eq, cases_lt, ne_eqb}
 use Rattle.std.proofs.lemmas.List.{map-append}
 use Rattle.std.proofs.lemmas.List.Elements.{filter-append}
 use Rattle.std.proofs.lemmas.Nat.{mod-mul-add, div-mul-add}
@@ -13,7 +13,6 @@ use Rattle.nio_serve.specs.Called.{channel_in, dealt_channel, seats}
 use Rattle.nio_serve.specs.declared.deal.Deal.{Deal}
 use Rattle.nio_steps.specs.Names.{channel}
 use Rattle.nio_reactor.proofs.Dealing.{share_mine, share_others}
-use Rattle.nio_reactor.proofs.Seen.{not_true}
 use Rattle.nio_reactor.specs.Dealing.{share}
 use Rattle.nio_reactor.specs.Placing.{selectors_with}
 use Rattle.nio_reactor.specs.Seats.{acceptor_deal, channels_for, deal_of}
@@ -70,11 +69,7 @@ module _ (deal : Deal) where
       → (dealt_channel deal (channel i)).0 ≡ 2 * (deal.worker + ((i - 1) / 2) * deal.workers) + 1 + (i - 1) % 2
   later i some =
       ap (λ (b : Bool). let c : ChanNo = if b then deal.listener else channel (2 * (deal.worker + ((i - 1) / 2) * deal.workers) + 1
-      + (i - 1) % 2) in c.0) (not_true (i == 0) (λ is. let none : i ≡ 0 = eqb-true i 0 is in absurd (omega (
-        arith,
-        some,
-        none,
-      ))))
+      + (i - 1) % 2) in c.0) (ne_eqb i 0 (λ is. absurd (omega (arith, some, is))))
 
 -- a link of connection k: its client or its target
 pub record IsLinkOf (k : ℕ) (c : ChanNo) : Type 0 where
@@ -144,7 +139,7 @@ module _ (w k conns : ℕ) (c : ChanNo) (some : 0 < w) (few : k < conns) (link :
   with_other : (s : SelNo) (d : ChanNo) → d.0 ≢ c.0 → selectors_with c ((s, d) ∷ []) ≡ []
   with_other s d other =
       ap (λ (b : Bool). map (λ (x : SelNo × ChanNo). x.0) (if b then (s, d) ∷ [] else []))
-      (not_true (d.0 == c.0) (λ is. other (eqb-true d.0 c.0 is)))
+      (ne_eqb d.0 c.0 other)
 
   with_none : (deal : Deal) (s : SelNo) (n : ℕ)
       → ((i : ℕ) → i < n → (channel_in (Some deal) (channel i)).0 ≢ c.0) → selectors_with c (seats (Some deal) s n) ≡ []

@@ -1,37 +1,36 @@
 -- The callers of the shared table until they take their seats.
-use Rattle.std.proofs.Common.{◌≡◌, ◌≢◌, ℕ, ◌+◌, ◌<◌, ◌≤◌, ◌==◌, ⊎_elim, Bool, true, false, if◌then◌else◌, Option, Some, None}
+use Rattle.std.proofs.Common.{◌≡◌, ◌≢◌, ℕ, ◌+◌, ◌<◌, ◌≤◌, ⊎_elim, Bool, true, false, if◌then◌else◌, Option, Some, None}
 use Rattle.std.proofs.Common.{Result, Ok, Err, OnOk, is_err, zero, suc, ◌*◌}
-use Rattle.std.proofs.Common.{List, [], ◌∷◌, ◌++◌, length, slice_index_or, refl, sym, ap, subst, ◌∙◌, arith, append_assoc}
+use Rattle.std.proofs.Common.{List, [], ◌∷◌, ◌++◌, length, slice_index_or, refl, sym, ap, subst, ◌∙◌, arith}
 use Rattle.std.proofs.Common.{eqb-true, eq-eqb, length-append}
 use Rattle.std.proofs.Math.Seq.{get_or-append_seam}
-use Rattle.std.proofs.lemmas.Bool.{cases_eq, cases_lt}
-use Rattle.std.proofs.lemmas.List.{append-nil, get_or_append_left}
+use Rattle.std.proofs.lemmas.Bool.{cases_eq, cases_lt, ne_eqb}
+use Rattle.std.proofs.lemmas.List.{get_or_append_left}
+use Rattle.std.proofs.lemmas.Result.{on_ok_weaker}
 use Rattle.nio_base.specs.declared.limits.Limits.{Limits}
 use Rattle.nio_base.specs.declared.numbers.CallerNo.{CallerNo}
 use Rattle.nio_base.specs.declared.numbers.SelNo.{SelNo}
 use Rattle.nio_event.proofs.OneMore.{mine-own, mine-other}
 use Rattle.nio_event.proofs.OwnPins.{pins_are_own}
-use Rattle.nio_event.specs.Histories.{event_of, mine, state_after}
+use Rattle.nio_event.specs.Histories.{event_of, mine}
 use Rattle.nio_event.specs.OwnEvents.{keeps_pin}
 use Rattle.nio_event.specs.PassViews.{HasSelector}
 use Rattle.nio_event.specs.Questions.{Question, Answer, answer_of}
 use Rattle.nio_event.specs.declared.act.Act.{Act}
 use Rattle.nio_event.specs.declared.act.Act.TheVariants.{DrawBit}
 use Rattle.nio_event.specs.declared.event.Event.{Event}
-use Rattle.nio_orderly.proofs.CallLists.{one_call_more, run_one}
 use Rattle.nio_base.specs.declared.kind.Kind.{Kind}
-use Rattle.nio_orderly.specs.Made.{Made, IsRun, MayCome, Ongoing, after_calls, nothing_ongoing, draw, find_selector}
-use Rattle.nio_orderly.specs.Made.{open_channel, open_selector}
-use Rattle.nio_serve.specs.Board.{BoardView, IsIdle, IsSameBoard, IsSameSeat}
-use Rattle.nio_serve.specs.Called.{HasCalled, IsUnregistered, registration, registrations}
+use Rattle.nio_poller.proofs.Ready.{selector_same}
+use Rattle.nio_serve.proofs.Calls.{DidCall, IsFree, did_unpinned, only_drawn, unregistered_after}
+use Rattle.nio_serve.proofs.Watching.{on_ok_any}
+use Rattle.nio_serve.specs.Board.{BoardView, IsIdle, IsSameSeat}
+use Rattle.nio_serve.specs.Called.{HasCalled, IsUnregistered}
 use Rattle.nio_serve.specs.declared.deal.Deal.{Deal}
-use Rattle.nio_steps.proofs.PinBack.{no_pin_after}
 use Rattle.nio_steps.proofs.PinLaws.{pins_are_given_back}
 use Rattle.nio_steps.specs.Calls.{CallClause}
 use Rattle.nio_steps.specs.ChannelCalls.{open_channel_plan}
 use Rattle.nio_steps.specs.KeyCalls.{find_selector_plan}
 use Rattle.nio_steps.specs.Names.{selector}
-use Rattle.nio_steps.specs.PinLaws.{GivesPinsBack}
 use Rattle.nio_steps.specs.Plan.{Plan, ask}
 use Rattle.nio_steps.specs.Runs.{Completes}
 use Rattle.nio_steps.specs.SelectCalls.{open_selector_plan}
@@ -40,7 +39,7 @@ use Rattle.nio_steps.specs.declared.refusal.SelectorsSpent.{SelectorsSpent}
 use Rattle.nio_base.specs.declared.numbers.ChanNo.{ChanNo}
 use Rattle.nio_words.specs.Drawing.{Drawn, Draws}
 use Rattle.nio_words.specs.declared.drawing.DrawError.{DrawError}
-use Rattle.nio_words.specs.Passes.{Holds, IsFirstPass, IsPassOf, IsReady, acts_seen, limits_of, seen}
+use Rattle.nio_words.specs.Passes.{Holds, IsPassOf, IsReady, acts_seen, limits_of, seen}
 use Rattle.nio_words.specs.Sharing.{HandsOver}
 use Rattle.nio_words.specs.Views.{view}
 use Rattle.nio_words.specs.declared.words.Pass.{Pass}
@@ -48,6 +47,8 @@ use Rattle.nio_words.specs.declared.words.Words.{Words}
 use Rattle.nio_reactor.specs.Placing.{caller}
 use Rattle.nio_reactor.specs.Seats.{AreNewcomers, HaveDrawn, HaveSeats, IsHandingOut, IsNewcomer, IsSeat, LeavesSeat}
 use Rattle.nio_reactor.specs.Seats.{channels_for}
+use Rattle.nio_orderly.specs.Made.{Made, table_call}
+use Rattle.nio_steps.specs.TableCalls.{find_selector, open_channel, open_selector}
 
 -- ---- a caller that goes on
 
@@ -62,133 +63,66 @@ newcomer_same w p q n is pass held same = record {
   unregistered = subst (IsUnregistered (limits_of w)) (sym same) is.unregistered;
 }
 
-registrations-append : (calls later : List Made)
-    → registrations (calls ++ later) ≡ registrations calls ++ registrations later
-registrations-append [] later = refl
-registrations-append (call ∷ calls) later =
-    ap (λ l. registration call ++ l) (registrations-append calls later)
-    ∙ sym (append_assoc (registration call) (registrations calls) (registrations later))
-
 -- by a call that may come at any time, and registers nothing
-unregistered_call : (l : Limits) (own acts : List Act) (call : Made) → IsUnregistered l own
-    → ((now : Ongoing) → MayCome now call) → IsRun l call acts → registration call ≡ []
-    → IsUnregistered l (own ++ acts)
-unregistered_call l own acts call is may run none = record {
-  calls = is.calls ++ call ∷ [];
-  are = one_call_more l own acts is.calls call is.are (may (after_calls nothing_ongoing is.calls)) run;
-  registered = registrations-append is.calls (call ∷ [])
-      ∙ (ap (λ l. l ++ registrations (call ∷ [])) is.registered ∙ (append-nil (registration call) ∙ none));
-}
-
--- such a call of a caller
-pub record IsPlainCall {R : Type 0} (l : Limits) (Shape : List Act → R → Type 0) (answer : R) (call : Made)
-    : Type 0 where
-  pub gives : GivesPinsBack Shape
-  pub runs : (acts : List Act) → Shape acts answer → IsRun l call acts
-  pub may_come : (now : Ongoing) → MayCome now call
-  pub none : registration call ≡ []
-
-pub newcomer_call : {R : Type 0} {Shape : List Act → R → Type 0} {answer : R} (w : Words) (p q : Pass) (n : CallerNo)
-    (call : Made) → IsPlainCall (limits_of w) Shape answer call → IsNewcomer w p n
-    → CallClause n Shape (view w p) (view w q) answer → IsReady w q n → IsNewcomer w q n
-newcomer_call {answer = answer} w p q n call plain is clause ready = record {
-  ready = ready;
-  unpinned = no_pin_after (λ acts shape. plain.gives acts answer shape) clause is.unpinned;
-  unregistered = subst (IsUnregistered (limits_of w)) (sym clause.acts.history.own)
-      (unregistered_call (limits_of w) (acts_seen p n) _ call is.unregistered plain.may_come
-      (plain.runs _ clause.shape) plain.none);
+newcomer_call : (w : Words) (p q : Pass) (n : CallerNo) (call : Made) → IsFree call → DidCall w p q n call
+    → IsNewcomer w p n → IsNewcomer w q n
+newcomer_call w p q n call free did is = record {
+  ready = did.ready;
+  unpinned = did.unpinned;
+  unregistered = unregistered_after call free did is.unregistered;
 }
 
 -- the other callers go on by no act
-pub newcomers_call : {R : Type 0} {Shape : List Act → R → Type 0} {answer : R} (w : Words) (p q : Pass) (k : ℕ)
-    (call : Made) → IsPlainCall (limits_of w) Shape answer call → 0 < k → AreNewcomers w p k
-    → CallClause (caller 0) Shape (view w p) (view w q) answer → IsReady w q (caller 0) → AreNewcomers w q k
-newcomers_call w p q k call plain some are clause ready n below =
+newcomers_call : (w : Words) (p q : Pass) (k : ℕ) (call : Made) → IsFree call → DidCall w p q (caller 0) call → 0 < k
+    → AreNewcomers w p k → AreNewcomers w q k
+newcomers_call w p q k call free did some are n below =
     ⊎_elim
     (λ (same : n.0 ≡ 0).
     subst (IsNewcomer w q) (sym (ap caller same))
-    (newcomer_call w p q (caller 0) call plain (are (caller 0) some) clause ready))
+    (newcomer_call w p q (caller 0) call free did (are (caller 0) some)))
     (λ (other : n.0 ≡ 0 → ⊥).
     let is = are n below in
-    newcomer_same w p q n is ready.pass (held n is.ready.number)
-    (clause.acts.history.others n (eq-eqb _ 1 is.ready.number) (λ same. other (ap (λ (m : CallerNo). m.0) same))))
+    newcomer_same w p q n is did.ready.pass (held n is.ready.number)
+    (did.did.history.others n (eq-eqb _ 1 is.ready.number) (λ same. other (ap (λ (m : CallerNo). m.0) same))))
     (cases_eq n.0 0)
   where
     held : (m : CallerNo) → Holds p m → Holds q m
-    held m has =
-        eqb-true _ 1 (ap (λ (f : CallerNo → Bool). f m) clause.acts.held ∙ eq-eqb _ 1 has)
-
-plain_open_selector : (l : Limits) (answer : Result SelNo SelectorsSpent)
-    → IsPlainCall l (Completes (open_selector_plan l)) answer (open_selector answer)
-plain_open_selector l answer = record {
-  gives = pins_are_given_back.open_selector l;
-  runs = λ acts run. run;
-  may_come = λ now. tt;
-  none = refl;
-}
-
-plain_open_channel : (l : Limits) (kind : Kind) (answer : Result ChanNo ChannelError)
-    → IsPlainCall l (Completes (open_channel_plan l kind)) answer (open_channel kind answer)
-plain_open_channel l kind answer = record {
-  gives = pins_are_given_back.open_channel l kind;
-  runs = λ acts run. run;
-  may_come = λ now. tt;
-  none = refl;
-}
-
-plain_find_selector : (l : Limits) (n : ℕ) (answer : Option SelNo)
-    → IsPlainCall l (Completes (find_selector_plan l n)) answer (find_selector n answer)
-plain_find_selector l n answer = record {
-  gives = pins_are_given_back.find_selector l n;
-  runs = λ acts run. run;
-  may_come = λ now. tt;
-  none = refl;
-}
+    held m has = eqb-true _ 1 (ap (λ (f : CallerNo → Bool). f m) did.did.held ∙ eq-eqb _ 1 has)
 
 pub after_open_selector : (w : Words) (p q : Pass) (k : ℕ) (answer : Result SelNo SelectorsSpent) → 0 < k
     → AreNewcomers w p k → CallClause (caller 0) (Completes (open_selector_plan (limits_of w))) (view w p) (view w q) answer
     → IsReady w q (caller 0) → AreNewcomers w q k
-after_open_selector w p q k answer =
-    newcomers_call w p q k (open_selector answer) (plain_open_selector (limits_of w) answer)
+after_open_selector w p q k answer some are clause ready =
+    newcomers_call w p q k (table_call open_selector answer) (record { may_come = λ now. tt; registers_nothing = refl })
+    (did_unpinned (table_call open_selector answer) (λ acts run. run) (pins_are_given_back.open_selector _) clause ready
+    (are (caller 0) some).unpinned) some are
 
 pub after_open_channel : (w : Words) (p q : Pass) (k : ℕ) (kind : Kind) (answer : Result ChanNo ChannelError) → 0 < k
     → AreNewcomers w p k
     → CallClause (caller 0) (Completes (open_channel_plan (limits_of w) kind)) (view w p) (view w q) answer
     → IsReady w q (caller 0) → AreNewcomers w q k
-after_open_channel w p q k kind answer =
-    newcomers_call w p q k (open_channel kind answer) (plain_open_channel (limits_of w) kind answer)
+after_open_channel w p q k kind answer some are clause ready =
+    newcomers_call w p q k (table_call (open_channel kind) answer) (record { may_come = λ now. tt; registers_nothing = refl })
+    (did_unpinned (table_call (open_channel kind) answer) (λ acts run. run) (pins_are_given_back.open_channel _ _) clause ready
+    (are (caller 0) some).unpinned) some are
 
 pub after_find_selector : (w : Words) (p q : Pass) (n : CallerNo) (number : ℕ) (answer : Option SelNo)
     → IsNewcomer w p n
     → CallClause n (Completes (find_selector_plan (limits_of w) number)) (view w p) (view w q) answer
     → IsReady w q n → IsNewcomer w q n
-after_find_selector w p q n number answer =
-    newcomer_call w p q n (find_selector number answer) (plain_find_selector (limits_of w) number answer)
+after_find_selector w p q n number answer is clause ready =
+    newcomer_call w p q n (table_call (find_selector number) answer) (record { may_come = λ now. tt; registers_nothing = refl })
+    (did_unpinned (table_call (find_selector number) answer) (λ acts run. run) (pins_are_given_back.find_selector _ _) clause ready
+    is.unpinned) is
 
 -- ---- the draws
-
-pub none_drawn : (w : Words) (p : Pass) → IsFirstPass w p → HaveDrawn w p 0
-none_drawn w p first = record {
-  pass = first.pass;
-  only = first.only;
-  drawn = λ n below. absurd (omega (arith, below));
-  rest = λ n above. ap (mine n) first.unseen;
-}
 
 drawn_newcomer : (w : Words) (q : Pass) (n : CallerNo) → IsPassOf w q → Holds q n
     → acts_seen q n ≡ DrawBit n false ∷ [] → IsNewcomer w q n
 drawn_newcomer w q n pass held acts = record {
   ready = record { pass = pass; number = held };
   unpinned = λ s i. pins_are_own (limits_of w) n s i (seen q) pass.legal ∙ ap (keeps_pin s.0 i) acts;
-  unregistered = subst (IsUnregistered (limits_of w)) (sym acts)
-      (record {
-        calls = draw n ∷ [];
-        are = record {
-          runs = run_one (limits_of w) (draw n) (DrawBit n false ∷ []) refl;
-          in_order = (tt, tt);
-        };
-        registered = refl;
-      });
+  unregistered = only_drawn (limits_of w) n (acts_seen q n) acts;
 }
 
 one_drawn : (w : Words) (p q : Pass) (number : CallerNo) → HaveDrawn w p number.0 → Draws w p q number false
@@ -222,11 +156,7 @@ one_drawn w p q number before draws = record {
     still : (n : CallerNo) → (n.0 ≡ number.0 → ⊥) → acts_seen q n ≡ acts_seen p n
     still n other =
         ap (mine n) grown
-        ∙ mine-other n (seen p) drawing (not_same (number.0 == n.0) (λ is. other (sym (eqb-true number.0 n.0 is))))
-      where
-        not_same : (b : Bool) → (b ≡ true → ⊥) → b ≡ false
-        not_same true never = absurd (never refl)
-        not_same false never = refl
+        ∙ mine-other n (seen p) drawing (ne_eqb number.0 n.0 (λ is. other (sym is)))
 
 pub next_drawn : (w : Words) (p q : Pass) (k : ℕ) (answer : Result (Unit {0}) DrawError) → HaveDrawn w p k
     → false ≡ is_err answer → Drawn w p q (caller k) answer → HaveDrawn w q (k + 1)
@@ -320,10 +250,7 @@ seated_idle w p q given n s is hands made =
     record {
       ready = newcomer.ready;
       unpinned = newcomer.unpinned;
-      selector = record {
-        inside = made.inside;
-        made = ap (λ es. (state_after es).selector s.0) hands.sees.given_sight ∙ made.made;
-      };
+      selector = selector_same w p given s hands.sees.given_sight made;
     }
 
 pub seat_is : (w : Words) (number : ℕ) (deal : Deal) (given : Pass) (s : SelNo) (board : BoardView)
@@ -343,35 +270,7 @@ seat_is w number deal given s board acts is run = record {
   registered_is = ap (λ (b : BoardView). b.registered) is;
 }
 
--- ---- the board goes on
-
-pub seat_then : (a b c : BoardView) → IsSameSeat a b → IsSameSeat b c → IsSameSeat a c
-seat_then a b c first second = record {
-  words = second.words ∙ first.words;
-  caller = second.caller ∙ first.caller;
-  selector = second.selector ∙ first.selector;
-  deal = second.deal ∙ first.deal;
-}
-
-pub board_same : (board : BoardView) → IsSameBoard board board
-board_same board = record {
-  seat = record { words = refl; caller = refl; selector = refl; deal = refl };
-  registered = refl;
-}
-
-pub board_then : (a b c : BoardView) → IsSameBoard a b → IsSameBoard b c → IsSameBoard a c
-board_then a b c first second =
-    record { seat = seat_then a b c first.seat second.seat; registered = second.registered ∙ first.registered }
-
--- ---- and left
-
-on_ok : {T E P Q : Type 0} (r : Result T E) → (P → Q) → OnOk r P → OnOk r Q
-on_ok (Ok x) more has = more has
-on_ok (Err e) more has = tt
-
-pub in_any_case : {T E P : Type 0} (r : Result T E) → P → OnOk r P
-in_any_case (Ok x) has = has
-in_any_case (Err e) has = tt
+-- ---- a seat is left
 
 pub left_seat : {T E : Type 0} (w : Words) (number : ℕ) (deal : Deal) (registered : ℕ) (before after : BoardView)
     (pass : Pass) (result : Result T E) → IsSeat w number deal 0 before → IsSameSeat before after
@@ -384,7 +283,7 @@ left_seat w number deal registered before after pass result seat same all ready 
     let deal_is : after.deal ≡ Some deal = same.deal ∙ seat.deal_is in
     record {
       ready = subst (IsReady w pass) caller_is ready;
-      called = on_ok result
+      called = on_ok_weaker result
           (λ (all_are : after.registered ≡ registered).
           subst (λ n. HasCalled (limits_of w) (acts_seen pass n) (Some deal) (selector number) registered) caller_is
           (subst (λ d. HasCalled (limits_of w) (acts_seen pass after.caller) d (selector number) registered) deal_is
@@ -405,14 +304,14 @@ pub left_served : {T E : Type 0} (w : Words) (number : ℕ) (deal : Deal) (conns
     → LeavesSeat w number deal (channels_for conns) pass result
 left_served w number deal conns before after pass result some seat same all ready called =
     left_seat w number deal (channels_for conns) before after pass result seat same
-    (on_ok result (λ all_are. all_are ∙ sym (channels_are conns some)) all) ready called
+    (on_ok_weaker result (λ all_are. all_are ∙ sym (channels_are conns some)) all) ready called
 
 -- and of one that has none
 pub left_idle : {T E : Type 0} (w : Words) (number : ℕ) (deal : Deal) (conns : ℕ) (pass : Pass) (result : Result T E)
     → conns ≡ 0 → IsNewcomer w pass (caller number) → LeavesSeat w number deal (channels_for conns) pass result
 left_idle w number deal conns pass result none is = record {
   ready = is.ready;
-  called = in_any_case result
+  called = on_ok_any result
       (subst (λ n. HasCalled (limits_of w) (acts_seen pass (caller number)) (Some deal) (selector number)
       (channels_for n)) (sym none) is.unregistered);
 }

@@ -1,46 +1,27 @@
 -- How a serving loop sees a worker's net.
-use Rattle.std.proofs.Common.{◌≡◌, ◌≢◌, ℕ, ◌==◌, if◌then◌else◌, Bool, true, false, Result, refl, sym, ap, subst, ◌∙◌}
-use Rattle.std.proofs.Common.{eqb-true}
+use Rattle.std.proofs.Common.{◌≡◌, ◌≢◌, ℕ, ◌==◌, if◌then◌else◌, refl, ap}
+use Rattle.std.proofs.lemmas.Bool.{ne_eqb}
 use Rattle.nio_base.specs.declared.numbers.ChanNo.{ChanNo}
 use Rattle.nio_base.specs.declared.numbers.Addr.{Addr}
-use Rattle.nio_bytes.specs.Cause.{HasCause}
-use Rattle.nio_link.specs.Places.{unused}
 use Rattle.nio_link.specs.declared.place.Place.{Place}
 use Rattle.nio_link.specs.declared.place.Role.{Role}
 use Rattle.nio_link.specs.declared.place.Role.TheVariants as role
-use Rattle.nio_link.specs.declared.place.Standing.{Standing}
 use Rattle.nio_link.specs.declared.place.Standing.TheVariants as standing
+use Rattle.nio_serve.proofs.Promise.{place_as}
 use Rattle.nio_serve.specs.Serving.{listener}
 use Rattle.nio_reactor.specs.Lanes.{door_place, seen_role, seen, place_over, faults_over}
 use Rattle.nio_reactor.specs.declared.door.Door.{Door}
 
 -- ---- by channels
 
-pub not_true : (b : Bool) → (b ≡ true → ⊥) → b ≡ false
-not_true true never = absurd (never refl)
-not_true false never = refl
-
 other : {A : Type 0} (n : ℕ) (a b : A) → n ≢ 0 → (if n == 0 then a else b) ≡ b
-other n a b apart = ap (λ t. if t then a else b) (not_true (n == 0) (λ is. apart (eqb-true n 0 is)))
+other n a b apart = ap (λ t. if t then a else b) (ne_eqb n 0 apart)
 
 pub place_other : (d : Door) (place : ChanNo → Place) (c : ChanNo) → c.0 ≢ 0 → place_over d place c ≡ seen (place c)
 place_other d place c apart = other c.0 (door_place d) (seen (place c)) apart
 
 pub faults_other : (faults : ChanNo → ℕ) (c : ChanNo) → c.0 ≢ 0 → faults_over faults c ≡ faults c
 faults_other faults c apart = other c.0 0 (faults c) apart
-
-pub place_same : (d : Door) (before now : ChanNo → Place) (c : ChanNo) → now c ≡ before c
-    → place_over d now c ≡ place_over d before c
-place_same d before now c same = ap (λ p. if c.0 == 0 then door_place d else seen p) same
-
-pub faults_same : (before now : ChanNo → ℕ) (c : ChanNo) → now c ≡ before c → faults_over now c ≡ faults_over before c
-faults_same before now c same = ap (λ n. if c.0 == 0 then 0 else n) same
-
-pub cause_other : {T E : Type 0} (before now : ChanNo → ℕ) (c : ChanNo) (result : Result T E) → c.0 ≢ 0
-    → HasCause (before c) (now c) result → HasCause (faults_over before c) (faults_over now c) result
-cause_other {T} {E} before now c result apart cause =
-    subst (λ n. HasCause n (faults_over now c) result) (sym (faults_other before c apart))
-    (subst (λ n. HasCause (before c) n result) (sym (faults_other now c apart)) cause)
 
 -- ---- back from what is seen
 
@@ -65,17 +46,8 @@ seen_connected (role.Accepted from) to is = absurd (cc)
 seen_connected (role.Connected at) to is = is
 seen_connected role.PutIn to is = absurd (cc)
 
-pub from_unused : (p : Place) → seen p ≡ unused → p ≡ unused
-from_unused p is =
-    ap (λ (r : Role). let q : Place = record { role = r; standing = p.standing } in q) (seen_nothing p.role (ap (λ (q
-    : Place). q.role) is))
-    ∙ ap (λ (s : Standing). let q : Place = record { role = role.Nothing; standing = s } in q) (ap (λ (q : Place).
-    q.standing) is)
-
 pub from_put_in : (p : Place) → seen p ≡ record { role = role.Accepted listener; standing = standing.Gone }
     → p ≡ record { role = role.PutIn; standing = standing.Gone }
 from_put_in p is =
-    ap (λ (r : Role). let q : Place = record { role = r; standing = p.standing } in q) (seen_accepted p.role (ap (λ
-    (q : Place). q.role) is))
-    ∙ ap (λ (s : Standing). let q : Place = record { role = role.PutIn; standing = s } in q) (ap (λ (q : Place).
-    q.standing) is)
+    place_as p role.PutIn standing.Gone (seen_accepted p.role (ap (λ (q : Place). q.role) is))
+    (ap (λ (q : Place). q.standing) is)

@@ -1,6 +1,7 @@
 -- What a worker has come to, from the promise of the serving loop over what it sees of the worker's net.
 use Rattle.std.proofs.Common.{◌≡◌, ◌≢◌, ℕ, ◌<◌, ◌⊎◌, inl, inr, Bool, true, false, IsTrue, Ok, Err, Result}
 use Rattle.std.proofs.Common.{refl, sym, ap, subst, ◌∙◌, arith}
+use Rattle.std.proofs.lemmas.Bool.{false_from_ne_true}
 use Rattle.nio_base.specs.declared.numbers.ChanNo.{ChanNo}
 use Rattle.nio_bytes.specs.Cause.{Rose}
 use Rattle.nio_link.specs.Places.{unused, IsVacant}
@@ -9,12 +10,13 @@ use Rattle.nio_link.specs.declared.place.Role.TheVariants as role
 use Rattle.nio_relay.specs.declared.plan.ProxyPlan.{ProxyPlan}
 use Rattle.nio_relay.specs.declared.plan.Served.{Served}
 use Rattle.nio_serve.proofs.Promise.{unbegun}
-use Rattle.nio_reactor.proofs.Channels.{chan_as, is_or_not, count_none}
+use Rattle.nio_link.proofs.Channels.{chan_as, is_or_not}
+use Rattle.nio_serve.proofs.Counts.{count_none}
 use Rattle.nio_serve.specs.Serving.{client_of, target_of, listener, HasServed, Serves, LeavesNothing}
 use Rattle.nio_serve.specs.Serving.{IsAtMost, WasBegun, HasFaulted, NoneRose, RelaysBytes}
 use Rattle.nio_serve.specs.declared.serving.ServeError.{ServeError}
 use Rattle.nio_serve.specs.declared.serving.ServeError.TheVariants.{NetFault, Memory}
-use Rattle.nio_reactor.proofs.Seen.{place_other, faults_other, not_true, from_put_in}
+use Rattle.nio_reactor.proofs.Seen.{place_other, faults_other, from_put_in}
 use Rattle.nio_reactor.proofs.Seen.{seen_nothing, seen_accepted, seen_connected}
 use Rattle.nio_reactor.specs.Lanes.{place_over, faults_over, polls_over, seen_role}
 use Rattle.nio_reactor.specs.Many.{Meanings, HasServedPart, LeavesWorker, WasPutIn}
@@ -107,7 +109,7 @@ module _ {N : Type 0} (m : Meanings N) (plan : ProxyPlan) (x y : N) (d : Door) w
       → NoneRose (m.faults x) (m.faults y) (m.polls x) (m.polls y) → IsCleanPart m plan.conns y served
   clean_part served part none =
       let uncounted : (k : ℕ) → k < plan.conns → part.counted k ≡ false
-      = λ k few. not_true (part.counted k) (λ is. elim (part.faulty k few is) [
+      = λ k few. false_from_ne_true (part.counted k) (λ is. elim (part.faulty k few is) [
         | inl rose ↦ none.links (client_of k) rose
         | inr rose ↦ none.links (target_of k) rose
       ]) in

@@ -11,13 +11,13 @@ use Rattle.nio_event.specs.Histories.{mine, IsLegal}
 use Rattle.nio_event.specs.declared.event.Event.{Event}
 use Rattle.nio_orderly.specs.Made.{Made}
 use Rattle.nio_orderly.specs.Orderly.{AreCallsOf}
+use Rattle.nio_reactor.specs.declared.many.ManyError.{ManyError}
 use Rattle.nio_relay.specs.declared.plan.Served.{Served}
 use Rattle.nio_serve.specs.Called.{registrations}
 use Rattle.nio_serve.specs.Serving.{client_of, listener, target_of}
 use Rattle.nio_steps.specs.Names.{selector}
 use Rattle.nio_words.specs.Passes.{Holds, seen}
 use Rattle.nio_words.specs.declared.words.Pass.{Pass}
-use Rattle.nio_reactor.specs.declared.many.ManyError.{ManyError}
 
 -- the limits of a table for so many workers
 abbrev pub table_for : ℕ → Limits

@@ -3,11 +3,6 @@ use Rattle.std.proofs.Common.{◌≡◌, ℕ, List, [], ◌++◌, Some, None, re
 use Rattle.std.specs.Prelude.{Option, IfSome}
 use Rattle.std.specs.Io.KnownBytes.{prepend_known, append_known}
 
--- bytes in front of nothing
-pub prepend_known-nil : (known : Option (List ℕ)) → prepend_known [] known ≡ known
-prepend_known-nil None = refl
-prepend_known-nil (Some xs) = refl
-
 -- bytes in front, and then more behind them
 pub prepend_known-append : (bytes more : List ℕ) (known : Option (List ℕ))
     → prepend_known (bytes ++ more) known ≡ prepend_known bytes (prepend_known more known)

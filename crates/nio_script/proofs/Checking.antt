@@ -5,7 +5,6 @@ use Rattle.std.proofs.Common.{subst}
 use Rattle.std.proofs.lemmas.List.{map-append}
 use Rattle.nio_base.specs.declared.limits.Limits.{Limits}
 use Rattle.nio_event.specs.Replies.{reply_text}
-use Rattle.nio_event.specs.declared.call.ScriptCall.{ScriptCall}
 use Rattle.nio_event.specs.declared.reply.Reply.{Reply}
 use Rattle.nio_plain.specs.Answer.{left_from, left_by_script}
 use Rattle.nio_plain.specs.ScriptState.{ScriptState, script_opening}
@@ -18,12 +17,7 @@ use Rattle.nio_script.specs.declared.status.Status.{Status}
 use Rattle.nio_script.specs.declared.status.Status.TheVariants.{Done, BadScript, ReadFault, WriteFault, Memory, Illegal}
 use Rattle.nio_script.proofs.FirstBreak.{IsBreak, unbroken, one_break}
 use Rattle.nio_script.proofs.Lines.{IsNext, take_one_more, parts, number_of_next}
-
--- what some calls leave, and then more
-left_from-append : (rules : Rules) (l : Limits) (st : ScriptState) (xs ys : List ScriptCall)
-    → left_from rules l st (xs ++ ys) ≡ left_from rules l (left_from rules l st xs) ys
-left_from-append rules l st [] ys = refl
-left_from-append rules l st (x ∷ xs) ys = left_from-append rules l (left_from rules l st (x ∷ [])) xs ys
+use Rattle.nio_plain.proofs.CallLawsWakeups.{left_from-append}
 
 -- entries that are legal, and then more
 IsLegalFrom-append : (rules : Rules) (l : Limits) (st : ScriptState) (xs ys : List Entry) → IsLegalFrom rules l st xs

@@ -1,6 +1,6 @@
 -- Lists that are gone over from the front, and the lines of a text among them.
 use Rattle.std.proofs.Common.{◌≡◌, ℕ, ◌+◌, ◌<◌, List, ◌∷◌, [], ◌++◌, length, drop, take, get_or, refl, sym, ◌∙◌, ap}
-use Rattle.std.proofs.Common.{subst, append-nil, arith, add-one, drop-cons}
+use Rattle.std.proofs.Common.{subst, append-nil, arith, add-one, drop-cons, ◌==◌}
 use Rattle.std.specs.Prelude.{map}
 use Rattle.std.specs.Borrow.{Bor}
 use Rattle.std.proofs.Math.ListN.{get_or-map}
@@ -9,6 +9,12 @@ use Rattle.std.proofs.lemmas.List.{take-append-drop, length-map, length-take-le,
 use Rattle.nio_script.specs.Entries.{Adds}
 use Rattle.nio_script.specs.declared.script.ScriptError.{ScriptError}
 use Rattle.nio_script.specs.declared.script.ScriptError.TheVariants.{BadLine, Memory}
+use Rattle.nio_event.proofs.Spaces.{split_join, caller_spaceless, call_spaceless}
+use Rattle.nio_event.specs.Calls.{IsLine, call_words}
+use Rattle.nio_event.specs.Words.{caller_word}
+use Rattle.nio_event.specs.declared.call.Call.{Call}
+use Rattle.nio_base.specs.declared.numbers.CallerNo.{CallerNo}
+use Rattle.std.specs.List.{slice_split}
 
 -- Behind the first i items stands this one.
 pub record IsNext {A : Type 0} (xs : List A) (i : ℕ) (x : A) : Type 0 where
@@ -54,3 +60,11 @@ adds_nothing before reads = record { added = []; so = reads; adds = sym (append-
 pub only_memory : (e : ScriptError) → ((n : ℕ) → e ≡ BadLine n → ⊥) → e ≡ Memory
 only_memory (BadLine n) none = absurd (none n refl)
 only_memory Memory none = refl
+
+-- the words of a call's line
+pub line_words_of : {caller : CallerNo} {c : Call} {line : List ℕ} → IsLine caller c line
+    → slice_split (λ b. b == 32) line ≡ caller_word caller ∷ call_words c
+line_words_of {caller = caller} {c = c} is =
+    ap (slice_split (λ b. b == 32)) is.text
+    ∙ split_join (caller_word caller) (call_words c) (caller_spaceless caller.0 is.caller_fits)
+    (call_spaceless c is.call_fits)

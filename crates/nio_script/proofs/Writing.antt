@@ -1,7 +1,7 @@
 -- What is kept while bytes are written.
 use Rattle.std.proofs.Common.{◌≡◌, ℕ, zero, suc, ◌+◌, ◌-◌, ◌<◌, Bool, false, List, [], ◌++◌, length, take, drop, Some}
 use Rattle.std.proofs.Common.{None, refl, sym, ap, ◌∙◌, length-drop, append_assoc, take-append-drop, arith}
-use Rattle.std.specs.Prelude.{Option, Result, Ok, Err, OnErr}
+use Rattle.std.specs.Prelude.{Option}
 use Rattle.std.proofs.Math.Seq.{take-add, take-length, take-append_seam, take-append-add}
 use Rattle.std.specs.Io.KnownBytes.{append_known}
 use Rattle.nio_bytes.specs.Sink.{shown}
@@ -12,16 +12,6 @@ use Rattle.nio_script.proofs.Bytes.{append_known-nil, append_known-append}
 -- what stands from n on
 pub rest_from : (n : ℕ) (bytes : List ℕ) → take (length bytes - n) (drop n bytes) ≡ drop n bytes
 rest_from n bytes = ap (λ m. take m (drop n bytes)) (sym (length-drop n bytes)) ∙ take-length (drop n bytes)
-
--- what holds anyway holds at an error
-pub on_err : {T E P : Type 0} (r : Result T E) → P → OnErr r P
-on_err (Ok x) p = tt
-on_err (Err e) p = p
-
--- what follows from what holds at an error
-pub on_err_map : {T E P Q : Type 0} (r : Result T E) → (P → Q) → OnErr r P → OnErr r Q
-on_err_map (Ok x) f p = tt
-on_err_map (Err e) f p = f p
 
 -- what is shown last counts
 shown-shown : (known : Option Bool) (first second : Bool) → shown (shown known first) second ≡ shown known second

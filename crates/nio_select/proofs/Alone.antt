@@ -1,24 +1,14 @@
 -- Only the selecting caller does what only it does.
-use Rattle.std.proofs.Common.{◌≡◌, ◌||◌, Bool, true, false, List, [], ◌∷◌, ◌++◌, refl, ap, sym, ◌∙◌, subst}
-use Rattle.std.proofs.Common.{append_assoc}
-use Rattle.std.proofs.lemmas.List.Folds.{list_any-append}
+use Rattle.std.proofs.Common.{◌≡◌, [], ◌∷◌, ◌++◌, ap, sym, ◌∙◌, subst, append_assoc}
 use Rattle.nio_event.proofs.Legal.{legal_beginning}
 use Rattle.nio_event.proofs.Selections.{selects_alone}
 use Rattle.nio_event.specs.Histories.{mine, IsLegal}
 use Rattle.nio_event.specs.OwnEvents.{has, gives_turn}
 use Rattle.nio_event.specs.PassViews.{done_between}
-use Rattle.nio_event.specs.declared.act.Act.{Act}
+use Rattle.nio_event.proofs.OneMore.{has_none-append, mine-append}
 use Rattle.nio_steps.proofs.StandLaws.{selections_stand}
-use Rattle.nio_words.proofs.Beginnings.{mine-append}
 use Rattle.nio_select.proofs.GoneOn.{done_in}
 use Rattle.nio_select.specs.Laws.{SelectionsAreAlone}
-
-none_before : (p : Act → Bool) (xs ys : List Act) → has p (xs ++ ys) ≡ false → has p xs ≡ false
-none_before p xs ys none = first (has p xs) (has p ys) (sym (list_any-append p xs ys) ∙ none)
-  where
-    first : (a b : Bool) → (a || b) ≡ false → a ≡ false
-    first false b none = refl
-    first true b none = absurd (cc none)
 
 pub selections_are_alone : SelectionsAreAlone
 selections_are_alone old new me selection between e later selects legal parts keeps on =
@@ -36,5 +26,6 @@ selections_are_alone old new me selection between e later selects legal parts ke
     (record {
       legal = legal_until;
       has_it = selections_stand old.limits me old.seen selection legal_old selects.begun;
-      kept = none_before (gives_turn s.0) (mine me until) (mine me later) (ap (has (gives_turn s.0)) (sym own) ∙ keeps);
+      kept =
+          (has_none-append (gives_turn s.0) (mine me until) (mine me later) (ap (has (gives_turn s.0)) (sym own) ∙ keeps)).0;
     }) on

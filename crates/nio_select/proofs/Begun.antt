@@ -1,6 +1,6 @@
 -- What stands within a selection after one step more.
-use Rattle.std.proofs.Common.{◌≡◌, ℕ, ◌≤◌, Bool, true, false, ◌&&◌, ◌||◌, not, [], ◌∷◌, ◌++◌, refl, ap, sym, ◌∙◌, subst}
-use Rattle.std.proofs.Common.{append_assoc, Option, None, eq-eqb}
+use Rattle.std.proofs.Common.{◌≡◌, ℕ, true, false, ◌&&◌, ◌||◌, not, [], ◌∷◌, ◌++◌, refl, ap, sym, ◌∙◌, subst}
+use Rattle.std.proofs.Common.{append_assoc}
 use Rattle.std.specs.Prelude.{nat_lt}
 use Rattle.std.proofs.lemmas.Bool.{and_parts, and_from, or_right}
 use Rattle.nio_base.specs.declared.numbers.CallerNo.{CallerNo}
@@ -8,47 +8,30 @@ use Rattle.nio_base.specs.declared.numbers.SelNo.{SelNo}
 use Rattle.nio_event.proofs.Finds.{step_leaves}
 use Rattle.nio_event.proofs.LastsAlone.{own_stands}
 use Rattle.nio_event.proofs.Legal.{legal_beginning}
-use Rattle.nio_event.proofs.Put.{put-same, put_at-same}
+use Rattle.nio_event.proofs.Put.{put_at-same}
 use Rattle.nio_event.proofs.SelectedKeys.{selections_keep_keys}
 use Rattle.nio_event.proofs.Soundness.{cancelled_parts}
-use Rattle.nio_event.proofs.Within.{legal-within}
-use Rattle.nio_event.specs.Acts.{frees_index, taken_by}
-use Rattle.nio_event.specs.Conditions.{IsSelector, is_held_by, has_begun, has_turn, may_put_due, may_remove_cancelled}
+use Rattle.nio_event.specs.Acts.{frees_index}
+use Rattle.nio_event.specs.Conditions.{IsSelector, has_begun, has_turn, may_put_due, may_remove_cancelled}
 use Rattle.nio_event.specs.Histories.{state_after, event_of, IsLegal}
 use Rattle.nio_event.specs.OwnEvents.{gives_turn, has}
-use Rattle.nio_event.specs.Permanent.{a_selection, is_had_by, gives_back, OwnFact}
+use Rattle.nio_event.specs.Permanent.{a_selection}
 use Rattle.nio_event.specs.Pins.{removes, IsKeptInSelection}
 use Rattle.nio_event.specs.PassViews.{PassView, Holds, known, ActsClause}
 use Rattle.nio_event.specs.Sets.{in_cancelled_set}
-use Rattle.nio_event.specs.State.{State, put, last_serial}
+use Rattle.nio_event.specs.State.{State, last_serial}
 use Rattle.nio_event.specs.declared.act.Act.{Act}
-use Rattle.nio_event.specs.declared.act.Act.TheVariants.{LookKey, LookKeys, TakeTurn, BeginLook, Remove}
+use Rattle.nio_event.specs.declared.act.Act.TheVariants.{LookKey, BeginLook, Remove}
 use Rattle.nio_event.specs.declared.found.GateWord.{GateWord}
 use Rattle.nio_event.specs.declared.found.Stage.{Stage}
-use Rattle.nio_words.proofs.GoingOn.{own_stands as stands_in_pass}
 use Rattle.nio_words.proofs.Stepping.{still_ready}
-use Rattle.nio_words.proofs.Views.{finds_drawn, step_acts, look_tells}
-use Rattle.nio_words.specs.Passes.{state_seen, limits_of, IsPassOf, IsReady}
+use Rattle.nio_words.proofs.Views.{finds_drawn, step_acts, look_tells, selection_begun}
+use Rattle.nio_words.specs.Passes.{state_seen, limits_of, IsReady}
 use Rattle.nio_words.specs.Steps.{Steps}
 use Rattle.nio_words.specs.declared.words.Pass.{Pass}
 use Rattle.nio_words.specs.declared.words.Words.{Words}
 use Rattle.nio_select.specs.Begun.{HasBegun}
-
--- a caller has what it had, where the step doesn't give it back
-pub had_stays : {w : Words} {p q : Pass} {me : CallerNo} {act : Act} (f : OwnFact) → Steps w p q me act
-    → finds_drawn act ≡ false → gives_back f act ≡ false → IsPassOf w p
-    → is_had_by me f (state_seen p) ≡ true → is_had_by me f (state_seen q) ≡ true
-had_stays {w = w} {p = p} {q = q} {me = me} {act = act} f steps new keeps pass had =
-    let clause = (step_acts steps new).history in
-    stands_in_pass w me f (act ∷ []) p q
-    (record {
-      goes_on = record {
-        later = record { earlier_pass = pass; later_pass = steps.pass; begins = clause.goes_on };
-        own = clause.own;
-      };
-      has_it = had;
-      kept = ap (λ b. b || false) keeps;
-    })
+use Rattle.nio_channel.proofs.Held.{had_stays}
 
 -- a step that doesn't give the turn back leaves the selection begun
 pub begun_stays : {w : Words} {p q : Pass} {me : CallerNo} {act : Act} {s : SelNo} → Steps w p q me act
@@ -111,40 +94,11 @@ due_now {me = me} {s = s} {i = i} {stage = stage} {found = found} {v0 = v0} {v1 
 
 -- ---- the beginning
 
--- who just took the turn when it was free has it
-pub turn_now : {me : CallerNo} {s : SelNo} {found : Option CallerNo} {v0 v1 : PassView}
-    → ActsClause me (TakeTurn s found ∷ []) v0 v1 → found ≡ None → has_turn (known v1) me s ≡ true
-turn_now {me = me} {s = s} {found = found} {v0 = v0} {v1 = v1} clause free =
-    let leaves = step_leaves v0.limits (Holds v0) me (TakeTurn s found) v0.seen v1.seen clause.history in
-    let before : State = state_after (v0.seen ++ leaves.between) in
-    ap (λ st. has_turn st me s) leaves.state
-    ∙ (ap (is_held_by me) (put-same before.turn s.0 (taken_by me found))
-    ∙ (ap (λ (o : Option CallerNo). is_held_by me (taken_by me o)) free ∙ eq-eqb me.0 me.0 refl))
-
--- who has the turn and found the gate not shut has begun
-pub begun_now : {me : CallerNo} {s : SelNo} {found : GateWord} {v0 v1 : PassView}
-    → ActsClause me (BeginLook s found ∷ []) v0 v1 → found.shut ≡ false → has_begun (known v1) me s ≡ true
-begun_now {me = me} {s = s} {found = found} {v0 = v0} {v1 = v1} clause unshut =
-    let leaves = step_leaves v0.limits (Holds v0) me (BeginLook s found) v0.seen v1.seen clause.history in
-    let before : State = state_after (v0.seen ++ leaves.between) in
-    let here : Bool = before.begun s.0 || not found.shut in
-    ap (λ st. has_begun st me s) leaves.state
-    ∙ and_from (has_turn before me s) (put before.begun s.0 here s.0) leaves.step.condition.1
-    (put-same before.begun s.0 here ∙ or_right (before.begun s.0) (not found.shut) (ap not unshut))
-
 pub begins : {w : Words} {p q : Pass} {me : CallerNo} {s : SelNo} {found : GateWord}
     → Steps w p q me (BeginLook s found) → found.shut ≡ false → IsReady w p me → IsSelector (limits_of w) s
     → HasBegun w q me s
 begins {w = w} {p = p} {q = q} {me = me} {s = s} {found = found} steps unshut ready inside = record {
   ready = still_ready w p q me me (BeginLook s found) steps ready;
   inside = inside;
-  begun = begun_now (step_acts steps refl) unshut;
+  begun = selection_begun (step_acts steps refl) unshut;
 }
-
--- the high-water mark that was found is within the limits
-pub mark_inside : {me : CallerNo} {s : SelNo} {mark : ℕ} {v0 v1 : PassView} → ActsClause me (LookKeys s mark ∷ []) v0 v1
-    → mark ≤ v0.limits.keys
-mark_inside {s = s} {mark = mark} {v0 = v0} {v1 = v1} clause =
-    let told : mark ≡ (known v1).keys_high s.0 = cc (look_tells clause refl) in
-    subst (λ (n : ℕ). n ≤ v0.limits.keys) (sym told)
-    ((legal-within v0.limits v1.seen clause.history.legal).keys_high s.0)

@@ -1,21 +1,22 @@
 -- What stands within the finishing of a closing after one step more.
-use Rattle.std.proofs.Common.{◌≡◌, ℕ, ◌<◌, ◌≤◌, ◌==◌, Bool, true, false, ◌&&◌, ◌||◌, if◌then◌else◌, Option, Some, None}
-use Rattle.std.proofs.Common.{List, [], ◌∷◌, ◌++◌, refl, ap, ◌∙◌, eq-eqb}
+use Rattle.std.proofs.Common.{◌≡◌, ℕ, ◌<◌, ◌≤◌, ◌==◌, true, false, ◌&&◌, ◌||◌, Option, Some, None, [], ◌∷◌, ◌++◌, refl}
+use Rattle.std.proofs.Common.{ap, ◌∙◌, eq-eqb}
 use Rattle.std.specs.Prelude.{nat_lt, is_some, IsTrue}
 use Rattle.std.proofs.lemmas.Bool.{and_parts, and_from, or_left, or_right, lt-ltb}
 use Rattle.nio_base.specs.declared.numbers.CallerNo.{CallerNo}
 use Rattle.nio_base.specs.declared.numbers.SelNo.{SelNo}
 use Rattle.nio_event.proofs.Finds.{step_leaves}
-use Rattle.nio_event.proofs.OneMore.{has-more}
+use Rattle.nio_event.proofs.OneMore.{has-more, since_first-append}
 use Rattle.nio_event.proofs.Put.{put-same}
 use Rattle.nio_event.specs.Conditions.{IsSelector, is_closer, has_entered, may_remove_cancelled, may_clear_out}
 use Rattle.nio_event.specs.Histories.{state_after}
-use Rattle.nio_event.specs.OwnEvents.{has, enters, since_first, since_entered, finds_below}
+use Rattle.nio_event.specs.OwnEvents.{has, enters, since_entered, finds_below}
 use Rattle.nio_event.specs.PassViews.{Holds, ActsClause}
 use Rattle.nio_event.specs.Permanent.{selector_closed_by, selector_entered}
 use Rattle.nio_event.specs.State.{State}
 use Rattle.nio_event.specs.declared.act.Act.{Act}
 use Rattle.nio_event.specs.declared.act.Act.TheVariants.{LookKeys, Enter}
+use Rattle.nio_event.proofs.PassViews.{lasts_over}
 use Rattle.nio_words.proofs.Stepping.{still_ready}
 use Rattle.nio_words.proofs.Views.{finds_drawn, step_acts}
 use Rattle.nio_words.specs.Passes.{IsReady, acts_seen, limits_of, seen, state_seen}
@@ -23,24 +24,8 @@ use Rattle.nio_words.specs.Steps.{Steps}
 use Rattle.nio_words.specs.Views.{view}
 use Rattle.nio_words.specs.declared.words.Pass.{Pass}
 use Rattle.nio_words.specs.declared.words.Words.{Words}
-use Rattle.nio_select.proofs.Claimed.{mark_inside}
-use Rattle.nio_select.proofs.Made.{lasts_over}
+use Rattle.nio_channel.proofs.Claimed.{mark_inside}
 use Rattle.nio_select.specs.Entered.{HasEntered}
-
--- ---- the caller's acts
-
--- acts after the first that opens a span stay in it
-since_first-append : (opens : Act → Bool) (own later : List Act) → has opens own ≡ true
-    → since_first opens (own ++ later) ≡ since_first opens own ++ later
-since_first-append opens [] later here = absurd cc
-since_first-append opens (act ∷ own) later here = by_test (opens act) here (since_first-append opens own later)
-  where
-    by_test : (b : Bool) → (b || has opens own) ≡ true
-        → (has opens own ≡ true → since_first opens (own ++ later) ≡ since_first opens own ++ later)
-        → (if b then own ++ later else since_first opens (own ++ later)) ≡ (if b then own else since_first opens own)
-        ++ later
-    by_test true here shorter = refl
-    by_test false here shorter = shorter here
 
 -- ---- the finishing caller
 

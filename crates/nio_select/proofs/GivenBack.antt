@@ -1,8 +1,8 @@
 -- After a poll that failed, and after want of memory, the turn is free, and a pending wakeup stays.
-use Rattle.std.proofs.Common.{◌≡◌, ◌==◌, ◌&&◌, Bool, true, false, Some, None, Result, Ok, Err, List, []}
-use Rattle.std.proofs.Common.{◌∷◌, ◌++◌, refl, ap, sym, ◌∙◌, subst, append_assoc, eq-eqb}
+use Rattle.std.proofs.Common.{◌≡◌, ◌==◌, ◌&&◌, true, false, Some, None, Result, Ok, Err, List, [], ◌∷◌, ◌++◌, refl, ap}
+use Rattle.std.proofs.Common.{sym, ◌∙◌, subst, append_assoc, eq-eqb}
 use Rattle.std.specs.Prelude.{⊤, is_some}
-use Rattle.std.proofs.lemmas.Bool.{and_parts}
+use Rattle.std.proofs.lemmas.Bool.{and_parts, and_from}
 use Rattle.nio_base.specs.declared.limits.Limits.{Limits}
 use Rattle.nio_base.specs.declared.numbers.CallerNo.{CallerNo}
 use Rattle.nio_base.specs.declared.numbers.SelNo.{SelNo}
@@ -32,8 +32,7 @@ use Rattle.nio_steps.proofs.StandLaws.{look-act, selections_stand}
 use Rattle.nio_steps.proofs.Walks.{Always, always_run, always_if}
 use Rattle.nio_steps.specs.Plan.{reply}
 use Rattle.nio_steps.specs.Runs.{Completes}
-use Rattle.nio_steps.specs.SelectCalls.{Selection, given_back, begin_with_turn, begin_open}
-use Rattle.nio_steps.specs.SelectCalls.{try_begin_plan, leave_plan}
+use Rattle.nio_steps.specs.SelectCalls.{Selection, given_back, begin_with_turn, begin_open, try_begin_plan, leave_plan}
 use Rattle.nio_steps.specs.Steps.{gate_in, holder_in, number_in}
 use Rattle.nio_steps.specs.declared.refusal.BeginError.{BeginError}
 use Rattle.nio_select.proofs.GoneOn.{done_in, mine-around}
@@ -51,17 +50,11 @@ woken_kept l own st me n (Wake k found) s may turn spared =
 woken_kept l own st me n (EndWake k found) s may turn spared = λ now.
     put_keeps (λ m g. is_held_by n (st.turn m) ≡ true → ((me.0 == n.0) && (k.0 == m)) ≡ false → g.woken ≡ true) st.gate
     k.0 _
-    (λ _ turn' spared'. absurd
-    (not_spared (me.0 == n.0) (k.0 == k.0)
-    (eq-eqb me.0 n.0
-    (one_holder me n (st.turn k.0) (and_parts (has_turn st me k) (st.begun k.0) may.1).0 turn'))
-    (eq-eqb k.0 k.0 refl) spared'))
+    (λ _ turn' spared'.
+    let holder = one_holder me n (st.turn k.0) (and_parts (has_turn st me k) (st.begun k.0) may.1).0 turn' in
+    let ends = and_from (me.0 == n.0) (k.0 == k.0) (eq-eqb me.0 n.0 holder) (eq-eqb k.0 k.0 refl) in
+    absurd cc)
     s.0 (λ _ _. now) turn spared
-  where
-    not_spared : (by there : Bool) → by ≡ true → there ≡ true → (by && there) ≡ false → ⊥
-    not_spared true true is is' none = cc none
-    not_spared false there is is' none = cc is
-    not_spared true false is is' none = cc is'
 woken_kept l own st me n (ShutBit k found) s may turn spared =
     put_keeps (λ _ g. g.woken ≡ true) st.gate k.0 _ (λ e. e) s.0
 woken_kept l own st me n act s may turn spared = λ now. now

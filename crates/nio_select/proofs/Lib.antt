@@ -1,5 +1,4 @@
 pub mod Made
-pub mod Claimed
 pub mod Entered
 pub mod Listings
 pub mod ToldSlots

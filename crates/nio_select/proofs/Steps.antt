@@ -16,11 +16,11 @@ use Rattle.nio_event.specs.Turns.{removes_on}
 use Rattle.nio_event.specs.declared.act.Act.{Act}
 use Rattle.nio_event.specs.declared.act.Act.TheVariants.{BeginLook, EndWake}
 use Rattle.nio_event.specs.declared.event.Event.{Event}
+use Rattle.nio_event.proofs.OneMore.{mine-append}
 use Rattle.nio_steps.specs.Bound.{disturbs, finds_listed, IsWhole, SelectionIsBounded}
 use Rattle.nio_steps.specs.ChannelCalls.{words_below}
 use Rattle.nio_steps.specs.Laws.{CancelledKeysGo}
 use Rattle.nio_steps.specs.SelectCalls.{Begins, Tells, done}
-use Rattle.nio_words.proofs.Beginnings.{mine-append}
 use Rattle.nio_select.proofs.GoneOn.{done_in, mine-around}
 use Rattle.nio_select.specs.Laws.{CancelledKeysAreGone, CallsAreBounded}
 
@@ -58,12 +58,6 @@ count_below-le (suc n) p q allows = by_test (p n) refl (count_below-le n p q all
     by_test false is rest =
         let here : one (p n) ≡ one false = ap one is in
         omega (arith, here, rest)
-
-has_later : (p : Act → Bool) (first : List Act) (act : Act) (second : List Act) → has p second ≡ true
-    → has p (first ++ act ∷ second) ≡ true
-has_later p first act second there =
-    list_any-append p first (act ∷ second)
-    ∙ or_right (has p first) (has p (act ∷ second)) (or_right (p act) (has p second) there)
 
 pub calls_are_bounded : SelectionIsBounded → CallsAreBounded
 calls_are_bounded law me before_begin after_begin before_told after_told selection poll answer window fit is its =
@@ -169,7 +163,10 @@ calls_are_bounded law me before_begin after_begin before_told after_told selecti
     found_fewer =
         count_below-le selection.bound (λ k. has (finds_listed s.0 k) second)
         (λ k. has (finds_listed s.0 k) (done_between me before_begin after_begin))
-        (λ k there. ap (has (finds_listed s.0 k)) begin_is ∙ has_later (finds_listed s.0 k) first look second there)
+        (λ k there. ap (has (finds_listed s.0 k)) begin_is
+        ∙ (list_any-append (finds_listed s.0 k) first (look ∷ second)
+        ∙ or_right (has (finds_listed s.0 k) first) (has (finds_listed s.0 k) (look ∷ second))
+        (or_right (finds_listed s.0 k look) (has (finds_listed s.0 k) second) there)))
 
     bounded : length (done_between me before_begin after_begin) + length (done_between me before_told after_told)
         ≤ 8 + words_below selection.bound + 6 * count_below selection.bound

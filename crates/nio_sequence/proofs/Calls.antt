@@ -1,10 +1,10 @@
 -- Each call that doesn't wait, made between two calls: what it leaves.
-use Rattle.nio_plain.specs.Seq.Pipes.{own_sink}
-use Rattle.std.proofs.Common.{◌≡◌, ℕ, ◌==◌, nat_lt, Bool, true, false, not, ◌&&◌, cond, if◌then◌else◌}
+use Rattle.std.proofs.Common.{◌≡◌, ℕ, ◌==◌, Bool, true, false, not, ◌&&◌, cond, if◌then◌else◌}
 use Rattle.std.proofs.Common.{Option, Some, None, option_map, Result, Ok, Err, List, [], ◌∷◌, ◌++◌, map, refl, ap, sym}
 use Rattle.std.proofs.Common.{◌∙◌, subst}
+use Rattle.nio_plain.specs.Seq.Pipes.{own_sink}
 use Rattle.std.specs.Prelude.{is_some, IsTrue}
-use Rattle.std.proofs.lemmas.Bool.{both_ways, lt-ltb, cond-true}
+use Rattle.std.proofs.lemmas.Bool.{both_ways}
 use Rattle.nio_base.specs.Limits.{IsFit}
 use Rattle.nio_base.specs.declared.limits.Limits.{Limits}
 use Rattle.nio_base.specs.declared.numbers.CallerNo.{CallerNo}
@@ -12,11 +12,11 @@ use Rattle.nio_base.specs.declared.numbers.ChanNo.{ChanNo}
 use Rattle.nio_base.specs.declared.numbers.KeyId.{KeyId}
 use Rattle.nio_base.specs.declared.numbers.KeyNo.{KeyNo}
 use Rattle.nio_base.specs.declared.numbers.SelNo.{SelNo}
+use Rattle.nio_event.proofs.Legal.{legal_next}
 use Rattle.nio_event.proofs.OneMore.{state_after-more}
 use Rattle.nio_event.specs.Conditions.{IsCaller, Condition}
-use Rattle.nio_event.specs.Questions.{Question, question_of}
-use Rattle.nio_event.proofs.Legal.{legal_next}
 use Rattle.nio_event.specs.Histories.{state_after, event_of, mine, IsLegal}
+use Rattle.nio_event.specs.Questions.{Question, question_of}
 use Rattle.nio_event.specs.State.{State, with_drawn}
 use Rattle.nio_event.specs.declared.act.Act.{Act}
 use Rattle.nio_event.specs.declared.act.Act.TheVariants.{DrawBit, SetInterrupt}
@@ -26,23 +26,26 @@ use Rattle.nio_event.specs.declared.event.Event.{Event}
 use Rattle.nio_event.specs.declared.found.Mode.{Mode}
 use Rattle.nio_event.specs.declared.reply.Reply.{Reply}
 use Rattle.nio_event.specs.declared.reply.Reply.TheVariants as reply
-use Rattle.nio_orderly.specs.Made.{Made, IsRun, Ongoing, after_call, MayCome, draw, find_selector, find_channel, find}
-use Rattle.nio_orderly.specs.Made.{is_valid, interest, set_interest, interest_or, interest_and, ready, cancel, unselect}
-use Rattle.nio_orderly.specs.Made.{attach, attachment, open_channel, is_open, is_blocking, is_registered, key_for}
-use Rattle.nio_orderly.specs.Made.{try_set_blocking, try_register, close_channel, open_selector, try_begin, told, leave}
-use Rattle.nio_orderly.specs.Made.{shut, try_finish, keys, selected_keys, wakeup, interrupt, interrupted, pipe}
-use Rattle.nio_orderly.specs.Made.{try_read, try_write, set_blocking, register, select, close, read, write}
+use Rattle.nio_orderly.specs.Made.{Made, IsRun, after_call, MayCome, draw, table_call, waiting_call}
 use Rattle.nio_orderly.specs.Waited.{waits}
 use Rattle.nio_plain.proofs.Naming.{selector-through}
 use Rattle.nio_plain.specs.ScriptState.{ScriptState}
 use Rattle.nio_plain.specs.Seq.{call_of, seq}
-use Rattle.nio_plain.specs.Seq.Replies.{Replied, unchanged, yes_or_no}
 use Rattle.nio_plain.specs.Seq.Closing.{close_call}
+use Rattle.nio_plain.specs.Seq.Replies.{Replied, unchanged, yes_or_no}
 use Rattle.nio_plain.specs.Seq.Selections.{mode_of, begun_with, begin_call, is_caller}
 use Rattle.nio_plain.specs.declared.rules.Rules.TheVariants.{Now}
+use Rattle.nio_sequence.proofs.Pipes.{unsealed}
+use Rattle.nio_sequence.proofs.Progress.{put_selection, put_closing, put_same, own_of_caller, closing_of_caller}
+use Rattle.nio_sequence.proofs.Progress.{others_begun, others_ended, others_shut, others_closed}
+use Rattle.nio_sequence.specs.Called.{Scripted, as_call, unseen, unscripted, waiting_of, script_call, lacks_memory}
+use Rattle.nio_sequence.specs.Called.{HasNames}
+use Rattle.nio_sequence.specs.Laws.{is_of_script}
+use Rattle.nio_sequence.specs.Left.{after_made, IsOngoing}
 use Rattle.nio_serial.proofs.Facts.{sound}
-use Rattle.nio_serial.proofs.Histories.{call-runs-amount, told-runs-amount, lacking-leaves, draws-stay}
+use Rattle.nio_serial.proofs.Histories.{call-runs-amount, told-runs-amount, lacking-leaves, draws-stay, seq-through}
 use Rattle.nio_serial.proofs.Lines.{selector-found, channel-found, key-found}
+use Rattle.nio_serial.proofs.Showing.{own-is}
 use Rattle.nio_serial.specs.Between.{IsBetween}
 use Rattle.nio_serial.specs.Documented.{Progress, Selecting, documented, shown}
 use Rattle.nio_serial.specs.Laws.{IsMadeSelector, IsNamed, Amounts, by_key}
@@ -56,11 +59,12 @@ use Rattle.nio_steps.proofs.EachLaws.{each_run, split}
 use Rattle.nio_steps.proofs.PerformLaws.{perform_ran}
 use Rattle.nio_steps.proofs.RunLaws.{follows_bind}
 use Rattle.nio_steps.proofs.SelectionLaws.{NoMark, Replies, after-replies}
+use Rattle.nio_steps.specs.ChannelCalls.{open_channel_plan, is_open_plan, is_blocking_plan, is_registered_plan}
+use Rattle.nio_steps.specs.ChannelCalls.{key_for_plan, try_set_blocking_plan, try_register_plan, close_channel_plan}
 use Rattle.nio_steps.specs.KeyCalls.{find_selector_plan, find_channel_plan, find_plan, is_valid_plan, interest_plan}
 use Rattle.nio_steps.specs.KeyCalls.{set_interest_plan, interest_or_plan, interest_and_plan, ready_plan, cancel_plan}
 use Rattle.nio_steps.specs.KeyCalls.{unselect_plan, attach_plan, attachment_plan}
-use Rattle.nio_steps.specs.ChannelCalls.{open_channel_plan, is_open_plan, is_blocking_plan, is_registered_plan}
-use Rattle.nio_steps.specs.ChannelCalls.{key_for_plan, try_set_blocking_plan, try_register_plan, close_channel_plan}
+use Rattle.nio_steps.specs.Ongoing.{Ongoing}
 use Rattle.nio_steps.specs.Perform.{perform}
 use Rattle.nio_steps.specs.Plan.{Plan}
 use Rattle.nio_steps.specs.Runs.{Completes}
@@ -69,15 +73,14 @@ use Rattle.nio_steps.specs.SelectCalls.{try_begin_plan, told_plan, mark_entry, a
 use Rattle.nio_steps.specs.SelectCalls.{again, leave_plan, shut_plan, ShutReply, closing, already_closed}
 use Rattle.nio_steps.specs.SelectCalls.{try_finish_plan, FinishReply, closed, busy, keys_plan, selected_keys_plan}
 use Rattle.nio_steps.specs.Sweeps.{sweep_over}
+use Rattle.nio_steps.specs.TableCalls.{find_selector, find_channel, find, is_valid, interest, set_interest, interest_or}
+use Rattle.nio_steps.specs.TableCalls.{interest_and, ready, cancel, unselect, attach, attachment, open_channel, is_open}
+use Rattle.nio_steps.specs.TableCalls.{is_blocking, is_registered, key_for, try_set_blocking, try_register}
+use Rattle.nio_steps.specs.TableCalls.{close_channel, open_selector, try_begin, told, leave, shut, try_finish, keys}
+use Rattle.nio_steps.specs.TableCalls.{selected_keys, wakeup, interrupt, interrupted, pipe, try_read, try_write}
+use Rattle.nio_steps.specs.TableCalls.{set_blocking, register, select, close, read, write}
 use Rattle.nio_steps.specs.declared.refusal.BeginError.{BeginError}
 use Rattle.nio_steps.specs.declared.refusal.ListError.{ListError}
-use Rattle.nio_sequence.proofs.Pipes.{unsealed}
-use Rattle.nio_sequence.proofs.Progress.{put_selection, put_closing, put_same, own-is, own_of_caller, closing_of_caller}
-use Rattle.nio_sequence.proofs.Progress.{others_begun, others_ended, others_shut, others_closed}
-use Rattle.nio_sequence.specs.Called.{Scripted, as_call, unseen, unscripted, waiting_of, script_call, lacks_memory}
-use Rattle.nio_sequence.specs.Called.{HasNames}
-use Rattle.nio_sequence.specs.Laws.{is_of_script}
-use Rattle.nio_sequence.specs.Left.{after_made, IsOngoing}
 
 abbrev pub after : List Event → CallerNo → List Act → List Event
 after past me acts = past ++ map (event_of me) acts
@@ -117,13 +120,6 @@ pub made-run : {R : Type 0} (plan : Plan R) (said : R → Reply) (left : R → P
 made-run plan said left acts a run =
     follows_bind plan (λ answer. Plan.reply (record { reply = said answer; left = left answer })) acts
     (Plan.reply a) run
-
-seq-through : (l : Limits) (st : ScriptState) (me : CallerNo) (word : Call) → IsCaller l me
-    → seq Now l st me word ≡ call_of Now l st me word
-unfolding seq
-seq-through l st me word below =
-    cond-true (nat_lt me.0 l.callers) (call_of Now l st me word) (unchanged st reply.NoCaller)
-    (lt-ltb me.0 l.callers below)
 
 mode_through : (mode : Mode) → mode_of (waiting_of mode) ≡ Some mode
 mode_through Mode.Now = refl
@@ -280,8 +276,8 @@ module _ (l : Limits) (past : List Event) (now : Progress) (me : CallerNo) (fit 
   -- ---- selections
 
   begin-ends : (o : Ongoing) (s : SelNo) (mode : Mode) (answer : Result Selection BeginError) (acts : List Act)
-      → IsRun l (try_begin s mode answer) acts → IsLegal l (after past me acts)
-      → IsMadeSelector st s → IsOngoing me now o → Here o acts (try_begin s mode answer)
+      → IsRun l (table_call (try_begin s mode) answer) acts → IsLegal l (after past me acts)
+      → IsMadeSelector st s → IsOngoing me now o → Here o acts (table_call (try_begin s mode) answer)
   unfolding call_plan
   begin-ends o s mode (Ok x) acts run legal made at =
       let said : Said = record { reply = begin_reply (Ok x); left = after_begin now me s (Ok x) } in
@@ -311,7 +307,7 @@ module _ (l : Limits) (past : List Event) (now : Progress) (me : CallerNo) (fit 
       (sym (mode_through mode))
       (made-run (try_begin_plan s mode false) begin_reply (after_begin now me s) acts (Err BeginError.Busy) run)) at
   begin-ends o s mode (Err BeginError.Memory) acts run legal made at =
-      lacking-ends o acts (script_call (try_begin s mode (Err BeginError.Memory)))
+      lacking-ends o acts (script_call (table_call (try_begin s mode) (Err BeginError.Memory)))
       (same-state (try_begin_plan s mode true) acts (Err BeginError.Memory)
       (lacking-leaves l st now me s mode between).begins legal run) at
 
@@ -321,9 +317,9 @@ module _ (l : Limits) (past : List Event) (now : Progress) (me : CallerNo) (fit 
   own-selection o x at may = sym (at.selection x.selector.0) ∙ may
 
   told-ends : (o : Ongoing) (x : Selection) (poll : Poll) (answer : ToldReply) (acts : List Act)
-      → IsRun l (told x poll answer) acts → IsLegal l (after past me acts)
+      → IsRun l (table_call (told x poll) answer) acts → IsLegal l (after past me acts)
       → IsMadeSelector st x.selector → IsOngoing me now o → o.selection x.selector.0 ≡ Some x
-      → Here o acts (told x poll answer)
+      → Here o acts (table_call (told x poll) answer)
   told-ends o x poll answer acts run legal made at may = by_answer answer run
     where
       its_own : own_selection now me x.selector ≡ Some x
@@ -332,7 +328,7 @@ module _ (l : Limits) (past : List Event) (now : Progress) (me : CallerNo) (fit 
       word : Call
       word = call.Told x.selector poll.elapsed (by_key x poll.pairs)
 
-      by_answer : (a : ToldReply) → IsRun l (told x poll a) acts → Here o acts (told x poll a)
+      by_answer : (a : ToldReply) → IsRun l (table_call (told x poll) a) acts → Here o acts (table_call (told x poll) a)
       by_answer (done a) run' =
           let amounts =
           told-runs-amount l now me x.selector x poll.pairs poll.elapsed past acts
@@ -364,8 +360,10 @@ module _ (l : Limits) (past : List Event) (now : Progress) (me : CallerNo) (fit 
             }) amounts;
           }
 
-  leave-ends : (o : Ongoing) (x : Selection) (acts : List Act) → IsRun l (leave x) acts → IsLegal l (after past me acts)
-      → IsMadeSelector st x.selector → IsOngoing me now o → o.selection x.selector.0 ≡ Some x → Here o acts (leave x)
+  leave-ends : (o : Ongoing) (x : Selection) (acts : List Act) → IsRun l (table_call (leave x) tt) acts
+      → IsLegal l (after past me acts)
+      → IsMadeSelector st x.selector → IsOngoing me now o → o.selection x.selector.0 ≡ Some x
+      → Here o acts (table_call (leave x) tt)
   unfolding call_plan
   leave-ends o x acts run legal made at may =
       let left = with_selection now x.selector None in
@@ -384,8 +382,10 @@ module _ (l : Limits) (past : List Event) (now : Progress) (me : CallerNo) (fit 
 
   -- ---- closings
 
-  shut-ends : (o : Ongoing) (s : SelNo) (answer : ShutReply) (acts : List Act) → IsRun l (shut s answer) acts
-      → IsLegal l (after past me acts) → IsMadeSelector st s → IsOngoing me now o → Here o acts (shut s answer)
+  shut-ends : (o : Ongoing) (s : SelNo) (answer : ShutReply) (acts : List Act)
+      → IsRun l (table_call (shut s) answer) acts
+      → IsLegal l (after past me acts) → IsMadeSelector st s → IsOngoing me now o
+      → Here o acts (table_call (shut s) answer)
   unfolding call_plan
   shut-ends o s closing acts run legal made at =
       let said : Said = record { reply = reply.Closing; left = after_shut now me s closing } in
@@ -404,9 +404,10 @@ module _ (l : Limits) (past : List Event) (now : Progress) (me : CallerNo) (fit 
       quiet-line o (call.Close s) reply.Already acts made legal
       (made-run (shut_plan s) shut_reply (after_shut now me s) acts already_closed run) at
 
-  finish-ends : (o : Ongoing) (s : SelNo) (answer : FinishReply) (acts : List Act) → IsRun l (try_finish s answer) acts
+  finish-ends : (o : Ongoing) (s : SelNo) (answer : FinishReply) (acts : List Act)
+      → IsRun l (table_call (try_finish s) answer) acts
       → IsLegal l (after past me acts) → IsMadeSelector st s → IsOngoing me now o → o.closes s.0 ≡ true
-      → Here o acts (try_finish s answer)
+      → Here o acts (table_call (try_finish s) answer)
   unfolding call_plan
   finish-ends o s answer acts run legal made at may = by_answer answer run
     where
@@ -421,7 +422,7 @@ module _ (l : Limits) (past : List Event) (now : Progress) (me : CallerNo) (fit 
           (sym mine)
           (made-run (try_finish_plan s) finish_reply (after_finish now s) acts a run')
 
-      by_answer : (a : FinishReply) → Completes (try_finish_plan s) acts a → Here o acts (try_finish s a)
+      by_answer : (a : FinishReply) → Completes (try_finish_plan s) acts a → Here o acts (table_call (try_finish s) a)
       by_answer closed run' =
           let said : Said = record { reply = reply.Closed; left = after_finish now s closed } in
           let amounts = line-amounts (call.CloseEnd s) acts said made legal (along closed run') in
@@ -436,8 +437,9 @@ module _ (l : Limits) (past : List Event) (now : Progress) (me : CallerNo) (fit 
   -- ---- listings
 
   keys-ends : (o : Ongoing) (s : SelNo) (answer : Result (List KeyNo) ListError) (acts : List Act)
-      → IsRun l (keys s answer) acts → IsLegal l (after past me acts) → IsMadeSelector st s → IsOngoing me now o
-      → Here o acts (keys s answer)
+      → IsRun l (table_call (keys s) answer) acts → IsLegal l (after past me acts) → IsMadeSelector st s
+      → IsOngoing me now o
+      → Here o acts (table_call (keys s) answer)
   unfolding call_plan
   keys-ends o s (Ok found) acts run legal made at =
       quiet-line o (call.Keys s) (list_reply (Ok found)) acts made legal
@@ -446,13 +448,13 @@ module _ (l : Limits) (past : List Event) (now : Progress) (me : CallerNo) (fit 
       quiet-line o (call.Keys s) reply.ClosedSelector acts made legal
       (made-run (keys_plan s false) list_reply (λ _. now) acts (Err ListError.ClosedSelector) run) at
   keys-ends o s (Err ListError.Memory) acts run legal made at =
-      lacking-ends o acts (script_call (keys s (Err ListError.Memory)))
+      lacking-ends o acts (script_call (table_call (keys s) (Err ListError.Memory)))
       (same-state (keys_plan s true) acts (Err ListError.Memory)
       (lacking-leaves l st now me s Mode.Now between).keys legal run) at
 
   selected-ends : (o : Ongoing) (s : SelNo) (answer : Result (List KeyNo) ListError) (acts : List Act)
-      → IsRun l (selected_keys s answer) acts → IsLegal l (after past me acts) → IsMadeSelector st s
-      → IsOngoing me now o → Here o acts (selected_keys s answer)
+      → IsRun l (table_call (selected_keys s) answer) acts → IsLegal l (after past me acts) → IsMadeSelector st s
+      → IsOngoing me now o → Here o acts (table_call (selected_keys s) answer)
   unfolding call_plan
   selected-ends o s (Ok found) acts run legal made at =
       quiet-line o (call.Selected s) (list_reply (Ok found)) acts made legal
@@ -461,7 +463,7 @@ module _ (l : Limits) (past : List Event) (now : Progress) (me : CallerNo) (fit 
       quiet-line o (call.Selected s) reply.ClosedSelector acts made legal
       (made-run (selected_keys_plan s false) list_reply (λ _. now) acts (Err ListError.ClosedSelector) run) at
   selected-ends o s (Err ListError.Memory) acts run legal made at =
-      lacking-ends o acts (script_call (selected_keys s (Err ListError.Memory)))
+      lacking-ends o acts (script_call (table_call (selected_keys s) (Err ListError.Memory)))
       (same-state (selected_keys_plan s true) acts (Err ListError.Memory)
       (lacking-leaves l st now me s Mode.Now between).selected legal run) at
 
@@ -469,21 +471,21 @@ module _ (l : Limits) (past : List Event) (now : Progress) (me : CallerNo) (fit 
 
   selector-ends : (o : Ongoing) (n : ℕ) (answer : Option SelNo) (acts : List Act)
       → Completes (find_selector_plan l n) acts answer → IsLegal l (after past me acts) → IsOngoing me now o
-      → Here o acts (find_selector n answer)
+      → Here o acts (table_call (find_selector n) answer)
   selector-ends o n answer acts run legal at =
       unseen-ends o acts (same-state (find_selector_plan l n) acts answer
       (ap (λ p. p.state) (selector-found l st now me fit between n)) legal run) at
 
   channel-ends : (o : Ongoing) (n : ℕ) (answer : Option ChanNo) (acts : List Act)
       → Completes (find_channel_plan l n) acts answer → IsLegal l (after past me acts) → IsOngoing me now o
-      → Here o acts (find_channel n answer)
+      → Here o acts (table_call (find_channel n) answer)
   channel-ends o n answer acts run legal at =
       unseen-ends o acts (same-state (find_channel_plan l n) acts answer
       (ap (λ p. p.state) (channel-found l st now me fit between n)) legal run) at
 
   key-ends : (o : Ongoing) (s : SelNo) (i q : ℕ) (answer : Option KeyNo) (acts : List Act)
       → Completes (find_plan l s i q) acts answer → IsLegal l (after past me acts) → IsOngoing me now o
-      → Here o acts (find s i q answer)
+      → Here o acts (table_call (find s i q) answer)
   key-ends o s i q answer acts run legal at =
       unseen-ends o acts (same-state (find_plan l s i q) acts answer
       (ap (λ p. p.state) (key-found l st now me fit between s i q)) legal run) at
@@ -506,93 +508,99 @@ module _ (l : Limits) (past : List Event) (now : Progress) (me : CallerNo) (fit 
       → IsLegal l (after past me acts) → HasNames st made → IsOngoing me now o → MayCome o made → Here o acts made
   unfolding call_plan
   ends o (draw n) acts plain run legal names at may = draw-ends o n acts run at
-  ends o (find_selector n answer) acts plain run legal names at may = selector-ends o n answer acts run legal at
-  ends o (find_channel n answer) acts plain run legal names at may = channel-ends o n answer acts run legal at
-  ends o (find s i serial answer) acts plain run legal names at may = key-ends o s i serial answer acts run legal at
-  ends o (is_valid k answer) acts plain run legal names at may =
+  ends o (table_call (find_selector n) answer) acts plain run legal names at may =
+      selector-ends o n answer acts run legal at
+  ends o (table_call (find_channel n) answer) acts plain run legal names at may =
+      channel-ends o n answer acts run legal at
+  ends o (table_call (find s i serial) answer) acts plain run legal names at may =
+      key-ends o s i serial answer acts run legal at
+  ends o (table_call (is_valid k) answer) acts plain run legal names at may =
       quiet-line o (call.Valid k.sel (key_id k)) (yes_or_no answer) acts names legal
       (made-run (is_valid_plan k) yes_or_no (λ _. now) acts answer run) at
-  ends o (interest k answer) acts plain run legal names at may =
+  ends o (table_call (interest k) answer) acts plain run legal names at may =
       quiet-line o (call.Interest k.sel (key_id k)) (set_reply answer) acts names legal
       (made-run (interest_plan k) set_reply (λ _. now) acts answer run) at
-  ends o (set_interest k ops answer) acts plain run legal names at may =
+  ends o (table_call (set_interest k ops) answer) acts plain run legal names at may =
       quiet-line o (call.Iset k.sel (key_id k) ops) (put_reply answer) acts names legal
       (made-run (set_interest_plan k ops) put_reply (λ _. now) acts answer run) at
-  ends o (interest_or k ops answer) acts plain run legal names at may =
+  ends o (table_call (interest_or k ops) answer) acts plain run legal names at may =
       quiet-line o (call.Ior k.sel (key_id k) ops) (set_reply answer) acts names legal
       (made-run (interest_or_plan k ops) set_reply (λ _. now) acts answer run) at
-  ends o (interest_and k ops answer) acts plain run legal names at may =
+  ends o (table_call (interest_and k ops) answer) acts plain run legal names at may =
       quiet-line o (call.Iand k.sel (key_id k) ops) (set_reply answer) acts names legal
       (made-run (interest_and_plan k ops) set_reply (λ _. now) acts answer run) at
-  ends o (ready k answer) acts plain run legal names at may =
+  ends o (table_call (ready k) answer) acts plain run legal names at may =
       quiet-line o (call.Ready k.sel (key_id k)) (set_reply answer) acts names legal
       (made-run (ready_plan k) set_reply (λ _. now) acts answer run) at
-  ends o (cancel k) acts plain run legal names at may =
+  ends o (table_call (cancel k) answer) acts plain run legal names at may =
       quiet-line o (call.Cancel k.sel (key_id k)) reply.«Ok» acts names legal
       (made-run (cancel_plan k) (λ _. reply.«Ok») (λ _. now) acts tt run) at
-  ends o (unselect k answer) acts plain run legal names at may =
+  ends o (table_call (unselect k) answer) acts plain run legal names at may =
       quiet-line o (call.Unselect k.sel (key_id k)) (yes_or_no answer) acts names legal
       (made-run (unselect_plan k) yes_or_no (λ _. now) acts answer run) at
-  ends o (attach k att answer) acts plain run legal names at may =
+  ends o (table_call (attach k att) answer) acts plain run legal names at may =
       quiet-line o (call.Attach k.sel (key_id k) att) (reply.Number answer) acts names legal
       (made-run (attach_plan k att) (λ before. reply.Number before) (λ _. now) acts answer run) at
-  ends o (attachment k answer) acts plain run legal names at may =
+  ends o (table_call (attachment k) answer) acts plain run legal names at may =
       quiet-line o (call.Attachment k.sel (key_id k)) (reply.Number answer) acts names legal
       (made-run (attachment_plan k) (λ att. reply.Number att) (λ _. now) acts answer run) at
-  ends o (open_channel kind answer) acts plain run legal names at may =
+  ends o (table_call (open_channel kind) answer) acts plain run legal names at may =
       quiet-line o (call.Channel kind) (channel_reply answer) acts names legal
       (made-run (open_channel_plan l kind) channel_reply (λ _. now) acts answer run) at
-  ends o (is_open c answer) acts plain run legal names at may =
+  ends o (table_call (is_open c) answer) acts plain run legal names at may =
       quiet-line o (call.IsOpen c) (yes_or_no answer) acts names legal
       (made-run (is_open_plan c) yes_or_no (λ _. now) acts answer run) at
-  ends o (is_blocking c answer) acts plain run legal names at may =
+  ends o (table_call (is_blocking c) answer) acts plain run legal names at may =
       quiet-line o (call.IsBlocking c) (yes_or_no answer) acts names legal
       (made-run (is_blocking_plan c) yes_or_no (λ _. now) acts answer run) at
-  ends o (is_registered c answer) acts plain run legal names at may =
+  ends o (table_call (is_registered c) answer) acts plain run legal names at may =
       quiet-line o (call.IsRegistered c) (yes_or_no answer) acts names legal
       (made-run (is_registered_plan l c) yes_or_no (λ _. now) acts answer run) at
-  ends o (key_for c s answer) acts plain run legal names at may =
+  ends o (table_call (key_for c s) answer) acts plain run legal names at may =
       quiet-line o (call.KeyFor c s) (find_reply answer) acts names legal
       (made-run (key_for_plan c s) find_reply (λ _. now) acts answer run) at
-  ends o (try_set_blocking c on answer) acts plain run legal names at may =
+  ends o (table_call (try_set_blocking c on) answer) acts plain run legal names at may =
       quiet-line o (call.Blocking c on) (mode_reply answer) acts names legal
       (made-run (try_set_blocking_plan l c on) mode_reply (λ _. now) acts answer run) at
-  ends o (try_register s c ops att answer) acts plain run legal names at may =
+  ends o (table_call (try_register s c ops att) answer) acts plain run legal names at may =
       quiet-line o (call.Register s c ops (Some att)) (register_reply answer) acts names legal
       (made-run (try_register_plan l s c ops att) register_reply (λ _. now) acts answer run) at
-  ends o (close_channel c answer) acts plain run legal names at may =
+  ends o (table_call (close_channel c) answer) acts plain run legal names at may =
       quiet-line o (call.Closec c) (closed_reply answer) acts names legal
       (subst (λ (x : Progress). Completes (call_plan l now me (call.Closec c)) acts
       (record { reply = closed_reply answer; left = x }))
       (unsealed now me c no_pipes)
       (made-run (close_channel_plan l c) closed_reply (λ _. with_seal now (own_sink now.pipes me c))
       acts answer run)) at
-  ends o (open_selector answer) acts plain run legal names at may =
+  ends o (table_call open_selector answer) acts plain run legal names at may =
       quiet-line o call.Selector (selector_reply answer) acts names legal
       (made-run (open_selector_plan l) selector_reply (λ _. now) acts answer run) at
-  ends o (try_begin s mode answer) acts plain run legal names at may =
+  ends o (table_call (try_begin s mode) answer) acts plain run legal names at may =
       begin-ends o s mode answer acts run legal names at
-  ends o (told x poll answer) acts plain run legal names at may = told-ends o x poll answer acts run legal names at may
-  ends o (leave x) acts plain run legal names at may = leave-ends o x acts run legal names at may
-  ends o (shut s answer) acts plain run legal names at may = shut-ends o s answer acts run legal names at
-  ends o (try_finish s answer) acts plain run legal names at may = finish-ends o s answer acts run legal names at may
-  ends o (keys s answer) acts plain run legal names at may = keys-ends o s answer acts run legal names at
-  ends o (selected_keys s answer) acts plain run legal names at may = selected-ends o s answer acts run legal names at
-  ends o (wakeup s) acts plain run legal names at may =
+  ends o (table_call (told x poll) answer) acts plain run legal names at may =
+      told-ends o x poll answer acts run legal names at may
+  ends o (table_call (leave x) answer) acts plain run legal names at may = leave-ends o x acts run legal names at may
+  ends o (table_call (shut s) answer) acts plain run legal names at may = shut-ends o s answer acts run legal names at
+  ends o (table_call (try_finish s) answer) acts plain run legal names at may =
+      finish-ends o s answer acts run legal names at may
+  ends o (table_call (keys s) answer) acts plain run legal names at may = keys-ends o s answer acts run legal names at
+  ends o (table_call (selected_keys s) answer) acts plain run legal names at may =
+      selected-ends o s answer acts run legal names at
+  ends o (table_call (wakeup s) answer) acts plain run legal names at may =
       quiet-line o (call.Wakeup s) reply.«Ok» acts names legal
       (made-run (wakeup_plan s) (λ _. reply.«Ok») (λ _. now) acts tt run) at
-  ends o (interrupt n) acts plain run legal names at may =
+  ends o (table_call (interrupt n) answer) acts plain run legal names at may =
       quiet-line o (call.Interrupt n) reply.«Ok» acts (interrupt-below n acts run legal) legal
       (made-run (interrupt_plan n) (λ _. reply.«Ok») (λ _. now) acts tt run) at
-  ends o (interrupted answer) acts plain run legal names at may =
+  ends o (table_call interrupted answer) acts plain run legal names at may =
       quiet-line o call.Interrupted (yes_or_no answer) acts names legal
       (made-run interrupted_plan yes_or_no (λ _. now) acts answer run) at
-  ends o (pipe answer) acts plain run legal names at may = absurd (cc plain)
-  ends o (try_read source answer) acts plain run legal names at may = absurd (cc plain)
-  ends o (try_write source sink answer) acts plain run legal names at may = absurd (cc plain)
-  ends o (set_blocking c on answer) acts plain run legal names at may = absurd (cc plain)
-  ends o (register s c ops att answer) acts plain run legal names at may = absurd (cc plain)
-  ends o (select s mode polls answer) acts plain run legal names at may = absurd (cc plain)
-  ends o (close s answer) acts plain run legal names at may = absurd (cc plain)
-  ends o (read source none answer) acts plain run legal names at may = absurd (cc plain)
-  ends o (write source sink none answer) acts plain run legal names at may = absurd (cc plain)
+  ends o (table_call pipe answer) acts plain run legal names at may = absurd (cc plain)
+  ends o (table_call (try_read source) answer) acts plain run legal names at may = absurd (cc plain)
+  ends o (table_call (try_write source sink) answer) acts plain run legal names at may = absurd (cc plain)
+  ends o (waiting_call (set_blocking c on) answer) acts plain run legal names at may = absurd (cc plain)
+  ends o (waiting_call (register s c ops att) answer) acts plain run legal names at may = absurd (cc plain)
+  ends o (waiting_call (select s mode polls) answer) acts plain run legal names at may = absurd (cc plain)
+  ends o (waiting_call (close s) answer) acts plain run legal names at may = absurd (cc plain)
+  ends o (waiting_call (read source none) answer) acts plain run legal names at may = absurd (cc plain)
+  ends o (waiting_call (write source sink none) answer) acts plain run legal names at may = absurd (cc plain)

@@ -1,78 +1,37 @@
 -- What callers have in progress, where a progress shows it: what a call puts in progress, for its caller and for
 -- others.
-use Rattle.std.proofs.Common.{◌≡◌, ℕ, ◌==◌, Bool, true, false, if◌then◌else◌, Option, Some, None, Ok, Err, List, []}
+use Rattle.std.proofs.Common.{◌≡◌, ℕ, ◌==◌, Bool, true, false, if◌then◌else◌, Option, Some, None, List, []}
 use Rattle.std.proofs.Common.{◌∷◌, refl, ap, sym, ◌∙◌, eqb-true, eq-eqb}
 use Rattle.nio_base.specs.declared.numbers.CallerNo.{CallerNo}
 use Rattle.nio_event.proofs.Put.{put_keeps, put_both}
 use Rattle.nio_event.specs.State.{put}
-use Rattle.nio_orderly.specs.Made.{Made, Ongoing, draw, find_selector, find_channel, find, is_valid, interest}
-use Rattle.nio_orderly.specs.Made.{set_interest, interest_or, interest_and, ready, cancel, unselect, attach, attachment}
-use Rattle.nio_orderly.specs.Made.{open_channel, is_open, is_blocking, is_registered, key_for, try_set_blocking}
-use Rattle.nio_orderly.specs.Made.{try_register, close_channel, open_selector, try_begin, told, leave, shut, try_finish}
-use Rattle.nio_orderly.specs.Made.{keys, selected_keys, wakeup, interrupt, interrupted, pipe, try_read, try_write}
-use Rattle.nio_orderly.specs.Made.{set_blocking, register, select, close, read, write}
+use Rattle.nio_orderly.specs.Made.{Made, draw, table_call, waiting_call}
 use Rattle.nio_orderly.specs.Orderly.{MadeBy}
 use Rattle.nio_plain.specs.Seq.Selections.{is_caller}
+use Rattle.nio_sequence.specs.Left.{progress_changed, after_made, in_progress, IsOngoing}
 use Rattle.nio_serial.specs.Documented.{Progress, Selecting}
 use Rattle.nio_serial.specs.Lines.{if_own, own_selection}
 use Rattle.nio_steps.specs.Names.{selector}
-use Rattle.nio_steps.specs.SelectCalls.{Selection, done, again, closing, already_closed, closed, busy, selected}
-use Rattle.nio_steps.specs.SelectCalls.{not_begun, left}
-use Rattle.nio_sequence.specs.Left.{after_made, in_progress, IsOngoing}
+use Rattle.nio_steps.specs.Ongoing.{Ongoing, Change, no_change, selection_begins, selection_goes_on, selection_ends}
+use Rattle.nio_steps.specs.Ongoing.{closing_begins, closing_ends}
+use Rattle.nio_steps.specs.SelectCalls.{Selection}
+use Rattle.nio_steps.specs.TableCalls.{row_of, wait_row_of}
 
 -- ---- pipes of a script
 
 -- The calls of a history make no pipe of a script: its pipes are made by lines.
+pipes-changed : (now : Progress) (me : CallerNo) (change : Change) → (progress_changed now me change).pipes ≡ now.pipes
+pipes-changed now me no_change = refl
+pipes-changed now me (selection_begins s x) = refl
+pipes-changed now me (selection_goes_on s x) = refl
+pipes-changed now me (selection_ends s) = refl
+pipes-changed now me (closing_begins s) = refl
+pipes-changed now me (closing_ends s) = refl
+
 pub pipes-after : (now : Progress) (me : CallerNo) (made : Made) → (after_made now me made).pipes ≡ now.pipes
 pipes-after now me (draw n) = refl
-pipes-after now me (find_selector n answer) = refl
-pipes-after now me (find_channel n answer) = refl
-pipes-after now me (find s i serial answer) = refl
-pipes-after now me (is_valid k answer) = refl
-pipes-after now me (interest k answer) = refl
-pipes-after now me (set_interest k ops answer) = refl
-pipes-after now me (interest_or k ops answer) = refl
-pipes-after now me (interest_and k ops answer) = refl
-pipes-after now me (ready k answer) = refl
-pipes-after now me (cancel k) = refl
-pipes-after now me (unselect k answer) = refl
-pipes-after now me (attach k att answer) = refl
-pipes-after now me (attachment k answer) = refl
-pipes-after now me (open_channel kind answer) = refl
-pipes-after now me (is_open c answer) = refl
-pipes-after now me (is_blocking c answer) = refl
-pipes-after now me (is_registered c answer) = refl
-pipes-after now me (key_for c s answer) = refl
-pipes-after now me (try_set_blocking c on answer) = refl
-pipes-after now me (try_register s c ops att answer) = refl
-pipes-after now me (close_channel c answer) = refl
-pipes-after now me (open_selector answer) = refl
-pipes-after now me (try_begin s mode (Ok x)) = refl
-pipes-after now me (try_begin s mode (Err refusal)) = refl
-pipes-after now me (told selection poll (done answer)) = refl
-pipes-after now me (told selection poll (again x)) = refl
-pipes-after now me (leave selection) = refl
-pipes-after now me (shut s closing) = refl
-pipes-after now me (shut s already_closed) = refl
-pipes-after now me (try_finish s closed) = refl
-pipes-after now me (try_finish s busy) = refl
-pipes-after now me (keys s answer) = refl
-pipes-after now me (selected_keys s answer) = refl
-pipes-after now me (wakeup s) = refl
-pipes-after now me (interrupt n) = refl
-pipes-after now me (interrupted answer) = refl
-pipes-after now me (pipe answer) = refl
-pipes-after now me (try_read source answer) = refl
-pipes-after now me (try_write source sink answer) = refl
-pipes-after now me (set_blocking c on answer) = refl
-pipes-after now me (register s c ops att answer) = refl
-pipes-after now me (select s mode polls (selected answer)) = refl
-pipes-after now me (select s mode polls (not_begun refusal)) = refl
-pipes-after now me (select s mode polls left) = refl
-pipes-after now me (close s true) = refl
-pipes-after now me (close s false) = refl
-pipes-after now me (read source none answer) = refl
-pipes-after now me (write source sink none answer) = refl
+pipes-after now me (table_call call answer) = pipes-changed now me ((row_of call).change answer)
+pipes-after now me (waiting_call call answer) = pipes-changed now me ((wait_row_of call).change answer)
 
 pub pipes-in_progress : (now : Progress) (made : List MadeBy) → (in_progress now made).pipes ≡ now.pipes
 pipes-in_progress now [] = refl
@@ -106,21 +65,6 @@ put_same me now o s x is at = record {
       (at.selection t);
   closes = at.closes;
 }
-
--- the caller's own selection is in progress
-pub record Own (me : CallerNo) (o : Option Selecting) (x : Selection) : Type 0 where
-  pub its : Selecting
-  pub is : o ≡ Some its
-  pub by : (its.caller.0 == me.0) ≡ true
-
-pub own-is : (me : CallerNo) (o : Option Selecting) (x : Selection) → if_own me o ≡ Some x → Own me o x
-own-is me None x is = absurd (cc is)
-own-is me (Some y) x is = by_test (y.caller.0 == me.0) refl is
-  where
-    by_test : (b : Bool) → (y.caller.0 == me.0) ≡ b → (if b then Some y.selection else None) ≡ Some x
-        → Own me (Some y) x
-    by_test true by is' = record { its = y; is = refl; by = by }
-    by_test false by is' = absurd (cc is')
 
 pub own_of_caller : (me : CallerNo) (x : Selection) → Some x ≡ if_own me (Some (record { caller = me; selection = x }))
 own_of_caller me x = ap (λ (b : Bool). if b then Some x else None) (sym (eq-eqb me.0 me.0 refl))

@@ -9,29 +9,20 @@ use Rattle.nio_base.specs.declared.numbers.CallerNo.{CallerNo}
 use Rattle.nio_event.proofs.Legal.{legal_beginning, legal_empty}
 use Rattle.nio_event.specs.Conditions.{IsCaller}
 use Rattle.nio_event.specs.Histories.{state_after, event_of, IsLegal}
+use Rattle.nio_event.specs.State.{State}
 use Rattle.nio_event.specs.declared.act.Act.{Act}
 use Rattle.nio_event.specs.declared.call.ScriptCall.{ScriptCall}
 use Rattle.nio_event.specs.declared.event.Event.{Event}
 use Rattle.nio_event.specs.declared.reply.Reply.{Reply}
 use Rattle.nio_orderly.proofs.CallLists.{calls-by, calls-append, serial_call_more}
-use Rattle.nio_orderly.specs.Made.{Made, IsRun, Ongoing, nothing_ongoing, after_call, after_calls, MayCome, AreInOrder}
-use Rattle.nio_orderly.specs.Made.{draw, find_selector, find_channel, find, is_valid, interest, set_interest}
-use Rattle.nio_orderly.specs.Made.{interest_or, interest_and, ready, cancel, unselect, attach, attachment, open_channel}
-use Rattle.nio_orderly.specs.Made.{is_open, is_blocking, is_registered, key_for, try_set_blocking, try_register}
-use Rattle.nio_orderly.specs.Made.{close_channel, open_selector, try_begin, told, leave, shut, try_finish, keys}
-use Rattle.nio_orderly.specs.Made.{selected_keys, wakeup, interrupt, interrupted, pipe, try_read, try_write}
-use Rattle.nio_orderly.specs.Made.{set_blocking, register, select, close, read, write}
+use Rattle.nio_orderly.proofs.WaitedCalls.{after_calls-append}
+use Rattle.nio_orderly.specs.Made.{Made, IsRun, after_call, after_calls, MayCome, AreInOrder, draw, table_call}
+use Rattle.nio_orderly.specs.Made.{waiting_call}
 use Rattle.nio_orderly.specs.Orderly.{MadeBy, IsRunBy, AreRunsBy, calls_of}
 use Rattle.nio_plain.specs.Answer.{left_from}
 use Rattle.nio_plain.specs.ScriptState.{ScriptState}
 use Rattle.nio_plain.specs.Seq.Replies.{Replied}
 use Rattle.nio_plain.specs.declared.rules.Rules.TheVariants.{Now}
-use Rattle.nio_event.specs.State.{State}
-use Rattle.nio_serial.proofs.Facts.{sound}
-use Rattle.nio_serial.proofs.Staying.{begins-between}
-use Rattle.nio_serial.specs.Between.{IsBetween}
-use Rattle.nio_serial.specs.Documented.{Progress, nothing_yet, documented}
-use Rattle.nio_serial.specs.Serial.{replies_from}
 use Rattle.nio_sequence.proofs.Calls.{after, IsScripted, Ends, ends}
 use Rattle.nio_sequence.proofs.Progress.{pipes-after, pipes-in_progress}
 use Rattle.nio_sequence.proofs.Waiting.{blocking-ends, register-ends, select-ends, close-ends, read-ends, write-ends}
@@ -41,6 +32,13 @@ use Rattle.nio_sequence.specs.Called.{IsNamedCall}
 use Rattle.nio_sequence.specs.Laws.{is_of_script, AreOfScript, line_of, reply_of, script_of, replies_of, SequencesStand}
 use Rattle.nio_sequence.specs.Laws.{NextCallIsDocumented, SequencesGrow, NothingIsSequence, SequencesAreScripts}
 use Rattle.nio_sequence.specs.Left.{after_made, in_progress, IsOngoing, AreNamed, AreEnrolled, IsSequence, IsLeftBy}
+use Rattle.nio_serial.proofs.Facts.{sound}
+use Rattle.nio_serial.proofs.Staying.{begins-between}
+use Rattle.nio_serial.specs.Between.{IsBetween}
+use Rattle.nio_serial.specs.Documented.{Progress, nothing_yet, documented}
+use Rattle.nio_serial.specs.Serial.{replies_from}
+use Rattle.nio_steps.specs.Ongoing.{Ongoing, nothing_ongoing}
+use Rattle.nio_steps.specs.TableCalls.{pipe, try_read, try_write, set_blocking, register, select, close, read, write}
 
 -- ---- every call
 
@@ -50,87 +48,25 @@ module _ (l : Limits) (past : List Event) (now : Progress) (me : CallerNo) (fit 
       → HasNames (state_after past) made → IsOngoing me now o → MayCome o made → Ends l past now me o acts made
   each-ends o (draw n) acts run legal names at may =
       ends l past now me fit by between no_pipes o (draw n) acts refl run legal names at may
-  each-ends o (find_selector n answer) acts run legal names at may =
-      ends l past now me fit by between no_pipes o (find_selector n answer) acts refl run legal names at may
-  each-ends o (find_channel n answer) acts run legal names at may =
-      ends l past now me fit by between no_pipes o (find_channel n answer) acts refl run legal names at may
-  each-ends o (find s i serial answer) acts run legal names at may =
-      ends l past now me fit by between no_pipes o (find s i serial answer) acts refl run legal names at may
-  each-ends o (is_valid k answer) acts run legal names at may =
-      ends l past now me fit by between no_pipes o (is_valid k answer) acts refl run legal names at may
-  each-ends o (interest k answer) acts run legal names at may =
-      ends l past now me fit by between no_pipes o (interest k answer) acts refl run legal names at may
-  each-ends o (set_interest k ops answer) acts run legal names at may =
-      ends l past now me fit by between no_pipes o (set_interest k ops answer) acts refl run legal names at may
-  each-ends o (interest_or k ops answer) acts run legal names at may =
-      ends l past now me fit by between no_pipes o (interest_or k ops answer) acts refl run legal names at may
-  each-ends o (interest_and k ops answer) acts run legal names at may =
-      ends l past now me fit by between no_pipes o (interest_and k ops answer) acts refl run legal names at may
-  each-ends o (ready k answer) acts run legal names at may =
-      ends l past now me fit by between no_pipes o (ready k answer) acts refl run legal names at may
-  each-ends o (cancel k) acts run legal names at may =
-      ends l past now me fit by between no_pipes o (cancel k) acts refl run legal names at may
-  each-ends o (unselect k answer) acts run legal names at may =
-      ends l past now me fit by between no_pipes o (unselect k answer) acts refl run legal names at may
-  each-ends o (attach k att answer) acts run legal names at may =
-      ends l past now me fit by between no_pipes o (attach k att answer) acts refl run legal names at may
-  each-ends o (attachment k answer) acts run legal names at may =
-      ends l past now me fit by between no_pipes o (attachment k answer) acts refl run legal names at may
-  each-ends o (open_channel kind answer) acts run legal names at may =
-      ends l past now me fit by between no_pipes o (open_channel kind answer) acts refl run legal names at may
-  each-ends o (is_open c answer) acts run legal names at may =
-      ends l past now me fit by between no_pipes o (is_open c answer) acts refl run legal names at may
-  each-ends o (is_blocking c answer) acts run legal names at may =
-      ends l past now me fit by between no_pipes o (is_blocking c answer) acts refl run legal names at may
-  each-ends o (is_registered c answer) acts run legal names at may =
-      ends l past now me fit by between no_pipes o (is_registered c answer) acts refl run legal names at may
-  each-ends o (key_for c s answer) acts run legal names at may =
-      ends l past now me fit by between no_pipes o (key_for c s answer) acts refl run legal names at may
-  each-ends o (try_set_blocking c on answer) acts run legal names at may =
-      ends l past now me fit by between no_pipes o (try_set_blocking c on answer) acts refl run legal names at may
-  each-ends o (try_register s c ops att answer) acts run legal names at may =
-      ends l past now me fit by between no_pipes o (try_register s c ops att answer) acts refl run legal names at may
-  each-ends o (close_channel c answer) acts run legal names at may =
-      ends l past now me fit by between no_pipes o (close_channel c answer) acts refl run legal names at may
-  each-ends o (open_selector answer) acts run legal names at may =
-      ends l past now me fit by between no_pipes o (open_selector answer) acts refl run legal names at may
-  each-ends o (try_begin s mode answer) acts run legal names at may =
-      ends l past now me fit by between no_pipes o (try_begin s mode answer) acts refl run legal names at may
-  each-ends o (told x poll answer) acts run legal names at may =
-      ends l past now me fit by between no_pipes o (told x poll answer) acts refl run legal names at may
-  each-ends o (leave x) acts run legal names at may =
-      ends l past now me fit by between no_pipes o (leave x) acts refl run legal names at may
-  each-ends o (shut s answer) acts run legal names at may =
-      ends l past now me fit by between no_pipes o (shut s answer) acts refl run legal names at may
-  each-ends o (try_finish s answer) acts run legal names at may =
-      ends l past now me fit by between no_pipes o (try_finish s answer) acts refl run legal names at may
-  each-ends o (keys s answer) acts run legal names at may =
-      ends l past now me fit by between no_pipes o (keys s answer) acts refl run legal names at may
-  each-ends o (selected_keys s answer) acts run legal names at may =
-      ends l past now me fit by between no_pipes o (selected_keys s answer) acts refl run legal names at may
-  each-ends o (wakeup s) acts run legal names at may =
-      ends l past now me fit by between no_pipes o (wakeup s) acts refl run legal names at may
-  each-ends o (interrupt n) acts run legal names at may =
-      ends l past now me fit by between no_pipes o (interrupt n) acts refl run legal names at may
-  each-ends o (interrupted answer) acts run legal names at may =
-      ends l past now me fit by between no_pipes o (interrupted answer) acts refl run legal names at may
-  each-ends o (pipe answer) acts run legal names at may =
+  each-ends o (table_call pipe answer) acts run legal names at may =
       pipe-ends l me fit by past now o between no_pipes at answer acts run legal
-  each-ends o (try_read source answer) acts run legal names at may =
+  each-ends o (table_call (try_read source) answer) acts run legal names at may =
       try_read-ends l me fit by past now o between no_pipes at source answer acts run legal names
-  each-ends o (try_write source sink answer) acts run legal names at may =
+  each-ends o (table_call (try_write source sink) answer) acts run legal names at may =
       try_write-ends l me fit by past now o between no_pipes at source sink answer acts run legal names.1
-  each-ends o (set_blocking c on answer) acts run legal names at may =
+  each-ends o (table_call call answer) acts run legal names at may =
+      ends l past now me fit by between no_pipes o (table_call call answer) acts refl run legal names at may
+  each-ends o (waiting_call (set_blocking c on) answer) acts run legal names at may =
       blocking-ends l me fit by past now o between no_pipes at c on answer acts run legal names
-  each-ends o (register s c ops att answer) acts run legal names at may =
+  each-ends o (waiting_call (register s c ops att) answer) acts run legal names at may =
       register-ends l me fit by past now o between no_pipes at s c ops att answer acts run legal names.0 names.1
-  each-ends o (select s mode polls answer) acts run legal names at may =
+  each-ends o (waiting_call (select s mode polls) answer) acts run legal names at may =
       select-ends l me fit by past now o between no_pipes at s names mode polls answer acts run legal
-  each-ends o (close s answer) acts run legal names at may =
+  each-ends o (waiting_call (close s) answer) acts run legal names at may =
       close-ends l me fit by past now o between no_pipes at s names answer acts run legal
-  each-ends o (read source none answer) acts run legal names at may =
+  each-ends o (waiting_call (read source none) answer) acts run legal names at may =
       read-ends l me fit by past now o between no_pipes at source none answer acts run legal names
-  each-ends o (write source sink none answer) acts run legal names at may =
+  each-ends o (waiting_call (write source sink none) answer) acts run legal names at may =
       write-ends l me fit by past now o between no_pipes at source sink none answer acts run legal names.1
 
 -- ---- what a script has of a call
@@ -301,11 +237,6 @@ sequences_are_scripts l events made fit sequence of = let all = stand l fit even
 
 -- ---- one call more
 
-after-more : (o : Ongoing) (calls : List Made) (call : Made)
-    → after_calls o (calls ++ call ∷ []) ≡ after_call (after_calls o calls) call
-after-more o [] call = refl
-after-more o (first ∷ calls) call = after-more (after_call o first) calls call
-
 -- what each caller has in progress by its calls, after one more
 after-next : (made : List MadeBy) (one : MadeBy) (n : CallerNo)
     → next_ongoing (λ m. after_calls nothing_ongoing (calls_of m made)) one n
@@ -319,7 +250,7 @@ after-next made one n = by_caller (one.caller.0 == n.0) refl
         → (if b then after_call (after_calls nothing_ongoing calls) one.call else after_calls nothing_ongoing calls)
         ≡ after_calls nothing_ongoing (calls_of n (made ++ one ∷ []))
     by_caller true is =
-        sym (after-more nothing_ongoing calls one.call)
+        sym (after_calls-append nothing_ongoing calls (one.call ∷ []))
         ∙ ap (after_calls nothing_ongoing) (sym (calls-append n made (one ∷ [])
         ∙ ap (λ xs. calls ++ xs) (calls-by n one [] true is)))
     by_caller false is =

@@ -8,6 +8,7 @@ use Rattle.nio_base.specs.Limits.{IsFit}
 use Rattle.nio_base.specs.declared.limits.Limits.{Limits}
 use Rattle.nio_base.specs.declared.numbers.CallerNo.{CallerNo}
 use Rattle.nio_base.specs.declared.numbers.ChanNo.{ChanNo}
+use Rattle.nio_base.specs.declared.numbers.KeyNo.{KeyNo}
 use Rattle.nio_base.specs.declared.numbers.SelNo.{SelNo}
 use Rattle.nio_event.proofs.Legal.{legal_beginning}
 use Rattle.nio_event.proofs.Put.{put-same}
@@ -17,18 +18,31 @@ use Rattle.nio_event.specs.Histories.{state_after, event_of, IsLegal}
 use Rattle.nio_event.specs.Permanent.{PermanentFact}
 use Rattle.nio_event.specs.State.{put}
 use Rattle.nio_event.specs.declared.act.Act.{Act}
+use Rattle.nio_event.specs.declared.call.Call.{Call}
+use Rattle.nio_event.specs.declared.call.Call.TheVariants as call
 use Rattle.nio_event.specs.declared.event.Event.{Event}
 use Rattle.nio_event.specs.declared.found.Mode.{Mode}
-use Rattle.nio_orderly.specs.Made.{IsRun, Ongoing, selecting, closes_on, try_set_blocking, try_register, try_begin}
-use Rattle.nio_orderly.specs.Made.{told, leave, shut, try_finish, pipe, try_read, try_write, set_blocking, register}
-use Rattle.nio_orderly.specs.Made.{select, close, read, write}
+use Rattle.nio_event.specs.declared.reply.Reply.{Reply}
+use Rattle.nio_event.specs.declared.reply.Reply.TheVariants as reply
+use Rattle.nio_orderly.specs.Made.{IsRun, table_call, waiting_call}
+use Rattle.nio_plain.proofs.CallLawsRefusals.{refusals_change_nothing}
+use Rattle.nio_plain.specs.CallLaws.{changes_pipe, is_without_effect}
+use Rattle.nio_plain.specs.Seq.{seq}
+use Rattle.nio_plain.specs.Seq.Replies.{Replied}
+use Rattle.nio_plain.specs.declared.rules.Rules.TheVariants.{Now}
+use Rattle.nio_sequence.proofs.Calls.{after, IsScripted, EndsAs, Ends, ends}
+use Rattle.nio_sequence.proofs.Pipes.{read-leaves, write-leaves, pipe-leaves}
+use Rattle.nio_sequence.specs.Called.{as_call, Scripted, unscripted}
+use Rattle.nio_sequence.specs.Left.{IsOngoing}
 use Rattle.nio_serial.proofs.Base.{put-twice}
 use Rattle.nio_serial.specs.Between.{IsBetween}
-use Rattle.nio_serial.specs.Documented.{Progress}
+use Rattle.nio_serial.specs.Documented.{Progress, documented}
 use Rattle.nio_serial.specs.Laws.{IsMadeSelector, IsMadeChannel}
 use Rattle.nio_serial.specs.Lines.{with_selection, with_closing, after_begin, after_shut, after_finish}
+use Rattle.nio_serial.specs.Replies.{mode_reply, register_reply}
 use Rattle.nio_steps.proofs.PerformLaws.{perform_ran}
 use Rattle.nio_steps.specs.ChannelCalls.{try_set_blocking_plan, try_register_plan, finds_held}
+use Rattle.nio_steps.specs.Ongoing.{Ongoing, selecting, closes_on}
 use Rattle.nio_steps.specs.Perform.{Performed, perform}
 use Rattle.nio_steps.specs.PipeCalls.{PipeEnds, pipe_plan, pipe_lacks_memory, try_read_plan, try_write_plan}
 use Rattle.nio_steps.specs.Plan.{Plan}
@@ -37,29 +51,14 @@ use Rattle.nio_steps.specs.SelectCalls.{Selection, Begins, begin_finds_busy, Pol
 use Rattle.nio_steps.specs.SelectCalls.{done, again, SelectReply, selected, not_begun, left, SelectsRest, TellsAll}
 use Rattle.nio_steps.specs.SelectCalls.{TellsAndLeaves, ShutReply, closing, already_closed, FinishReply, closed, busy}
 use Rattle.nio_steps.specs.SelectCalls.{finish_finds_busy, ClosesRest, shut_plan, try_finish_plan}
+use Rattle.nio_steps.specs.TableCalls.{try_set_blocking, try_register, try_begin, told, leave, shut, try_finish, pipe}
+use Rattle.nio_steps.specs.TableCalls.{try_read, try_write, set_blocking, register, select, close, read, write}
 use Rattle.nio_steps.specs.Waiting.{Run, acts_of, Tries, Repeats, Retries}
 use Rattle.nio_steps.specs.declared.refusal.BeginError.{BeginError}
 use Rattle.nio_steps.specs.declared.refusal.ChannelError.{ChannelError}
 use Rattle.nio_steps.specs.declared.refusal.ChannelError.TheVariants.{Busy}
-use Rattle.nio_base.specs.declared.numbers.KeyNo.{KeyNo}
-use Rattle.nio_event.specs.declared.call.Call.{Call}
-use Rattle.nio_event.specs.declared.call.Call.TheVariants as call
-use Rattle.nio_event.specs.declared.reply.Reply.{Reply}
-use Rattle.nio_event.specs.declared.reply.Reply.TheVariants as reply
-use Rattle.nio_plain.proofs.CallLawsRefusals.{refusals_change_nothing}
-use Rattle.nio_plain.specs.CallLaws.{changes_pipe, is_without_effect}
-use Rattle.nio_plain.specs.Seq.{seq}
-use Rattle.nio_plain.specs.Seq.Replies.{Replied}
-use Rattle.nio_plain.specs.declared.rules.Rules.TheVariants.{Now}
-use Rattle.nio_serial.specs.Documented.{documented}
-use Rattle.nio_serial.specs.Replies.{mode_reply, register_reply}
-use Rattle.nio_sequence.specs.Called.{as_call}
 use Rattle.nio_steps.specs.declared.refusal.PipeError.{PipeError}
 use Rattle.nio_steps.specs.declared.refusal.PipeMakeError.{PipeMakeError}
-use Rattle.nio_sequence.proofs.Calls.{after, IsScripted, EndsAs, Ends, ends}
-use Rattle.nio_sequence.proofs.Pipes.{read-leaves, write-leaves, pipe-leaves}
-use Rattle.nio_sequence.specs.Called.{Scripted, unscripted}
-use Rattle.nio_sequence.specs.Left.{IsOngoing}
 
 unscripted-is : (l : Limits) (past : List Event) (now : Progress) (me : CallerNo) (acts : List Act) (x : Progress)
     (b : Bool) → IsScripted l past now me acts x b unscripted
@@ -198,8 +197,9 @@ module _ (l : Limits) (me : CallerNo) (fit : IsFit l) (by : IsCaller l me) where
     }
 
     pub blocking-ends : (c : ChanNo) (on : Bool) (answer : Result (Unit {0}) ChannelError) (acts : List Act)
-        → IsRun l (set_blocking c on answer) acts → IsLegal l (after past me acts) → IsMadeChannel (state_after past) c
-        → Ends l past now me o acts (set_blocking c on answer)
+        → IsRun l (waiting_call (set_blocking c on) answer) acts → IsLegal l (after past me acts)
+        → IsMadeChannel (state_after past) c
+        → Ends l past now me o acts (waiting_call (set_blocking c on) answer)
     blocking-ends c on answer acts run legal made =
         let it =
         last_run l me _ _ (λ p. WithChannel c p × SeenSame p)
@@ -210,9 +210,10 @@ module _ (l : Limits) (me : CallerNo) (fit : IsFit l) (by : IsCaller l me) where
       where
         one : (p : List Event) (xs : List Act) (r : Result (Unit {0}) ChannelError) → WithChannel c p
             → IsLegal l (after p me xs) → Completes (try_set_blocking_plan l c on) xs r
-            → Ends l p now me o xs (try_set_blocking c on r)
+            → Ends l p now me o xs (table_call (try_set_blocking c on) r)
         one p xs r here legal' run' =
-            ends l p now me fit by here.0 no_pipes o (try_set_blocking c on r) xs refl run' legal' here.1 at tt
+            ends l p now me fit by here.0 no_pipes o (table_call (try_set_blocking c on) r) xs refl run' legal' here.1
+            at tt
 
         once_more : (p : List Event) (xs : List Act) (r : Result (Unit {0}) ChannelError) → WithChannel c p × SeenSame p
             → IsLegal l (after p me xs) → Completes (try_set_blocking_plan l c on) xs r → finds_held r ≡ true
@@ -226,9 +227,9 @@ module _ (l : Limits) (me : CallerNo) (fit : IsFit l) (by : IsCaller l me) where
         once_more p xs _ here legal' run' goes = absurd (cc goes)
 
     pub register-ends : (s : SelNo) (c : ChanNo) (ops att : ℕ) (answer : Result KeyNo ChannelError) (acts : List Act)
-        → IsRun l (register s c ops att answer) acts → IsLegal l (after past me acts)
+        → IsRun l (waiting_call (register s c ops att) answer) acts → IsLegal l (after past me acts)
         → IsMadeSelector (state_after past) s → IsMadeChannel (state_after past) c
-        → Ends l past now me o acts (register s c ops att answer)
+        → Ends l past now me o acts (waiting_call (register s c ops att) answer)
     register-ends s c ops att answer acts run legal made made' =
         let it =
         last_run l me _ _ (λ p. WithBoth s c p × SeenSame p)
@@ -239,9 +240,10 @@ module _ (l : Limits) (me : CallerNo) (fit : IsFit l) (by : IsCaller l me) where
       where
         one : (p : List Event) (xs : List Act) (r : Result KeyNo ChannelError) → WithBoth s c p
             → IsLegal l (after p me xs) → Completes (try_register_plan l s c ops att) xs r
-            → Ends l p now me o xs (try_register s c ops att r)
+            → Ends l p now me o xs (table_call (try_register s c ops att) r)
         one p xs r here legal' run' =
-            ends l p now me fit by here.0 no_pipes o (try_register s c ops att r) xs refl run' legal' here.1 at tt
+            ends l p now me fit by here.0 no_pipes o (table_call (try_register s c ops att) r) xs refl run' legal'
+            here.1 at tt
 
         once_more : (p : List Event) (xs : List Act) (r : Result KeyNo ChannelError) → WithBoth s c p × SeenSame p
             → IsLegal l (after p me xs) → Completes (try_register_plan l s c ops att) xs r → finds_held r ≡ true
@@ -261,30 +263,33 @@ module _ (l : Limits) (me : CallerNo) (fit : IsFit l) (by : IsCaller l me) where
     ran-between {R = R} p plan xs r there legal' run' =
         subst (λ (d : Performed R). IsBetween l d.state now) (perform_ran l me plan p xs r legal' run') there
 
-    pub pipe-ends : (answer : Result PipeEnds PipeMakeError) (acts : List Act) → IsRun l (pipe answer) acts
-        → IsLegal l (after past me acts) → Ends l past now me o acts (pipe answer)
+    pub pipe-ends : (answer : Result PipeEnds PipeMakeError) (acts : List Act) → IsRun l (table_call pipe answer) acts
+        → IsLegal l (after past me acts) → Ends l past now me o acts (table_call pipe answer)
     pipe-ends answer acts run legal =
         leaves-now past now o acts (pipe_lacks_memory answer)
         (ran-between past (pipe_plan l (pipe_lacks_memory answer)) acts answer
         (pipe-leaves l now me fit by no_pipes (state_after past) (pipe_lacks_memory answer) between) legal run) at
 
     pub try_read-ends : (c : ChanNo) (answer : Result Bool PipeError) (acts : List Act)
-        → IsRun l (try_read c answer) acts → IsLegal l (after past me acts) → IsMadeChannel (state_after past) c
-        → Ends l past now me o acts (try_read c answer)
+        → IsRun l (table_call (try_read c) answer) acts → IsLegal l (after past me acts)
+        → IsMadeChannel (state_after past) c
+        → Ends l past now me o acts (table_call (try_read c) answer)
     try_read-ends c answer acts run legal made =
         leaves-now past now o acts false (ran-between past (try_read_plan l c) acts answer
         (read-leaves l (state_after past) now me fit by between no_pipes c made) legal run) at
 
     pub try_write-ends : (source c : ChanNo) (answer : Result Bool PipeError) (acts : List Act)
-        → IsRun l (try_write source c answer) acts → IsLegal l (after past me acts) → IsMadeChannel (state_after past) c
-        → Ends l past now me o acts (try_write source c answer)
+        → IsRun l (table_call (try_write source c) answer) acts → IsLegal l (after past me acts)
+        → IsMadeChannel (state_after past) c
+        → Ends l past now me o acts (table_call (try_write source c) answer)
     try_write-ends source c answer acts run legal made =
         leaves-now past now o acts false (ran-between past (try_write_plan l source c) acts answer
         (write-leaves l (state_after past) now me fit by between no_pipes source c made) legal run) at
 
     pub read-ends : (c : ChanNo) (none : Bool) (answer : Result Bool PipeError) (acts : List Act)
-        → IsRun l (read c none answer) acts → IsLegal l (after past me acts) → IsMadeChannel (state_after past) c
-        → Ends l past now me o acts (read c none answer)
+        → IsRun l (waiting_call (read c none) answer) acts → IsLegal l (after past me acts)
+        → IsMadeChannel (state_after past) c
+        → Ends l past now me o acts (waiting_call (read c none) answer)
     read-ends c none answer acts run legal made =
         let it = last_run l me _ _ (WithChannel c)
         (λ p x xs r here legal' run' _. (
@@ -301,9 +306,9 @@ module _ (l : Limits) (me : CallerNo) (fit : IsFit l) (by : IsCaller l me) where
             (state_after p) now me fit by here.0 no_pipes c here.1) legal' run'
 
     pub write-ends : (source c : ChanNo) (none : Bool) (answer : Result Bool PipeError) (acts : List Act)
-        → IsRun l (write source c none answer) acts → IsLegal l (after past me acts)
+        → IsRun l (waiting_call (write source c none) answer) acts → IsLegal l (after past me acts)
         → IsMadeChannel (state_after past) c
-        → Ends l past now me o acts (write source c none answer)
+        → Ends l past now me o acts (waiting_call (write source c none) answer)
     write-ends source c none answer acts run legal made =
         let it = last_run l me _ _ (WithChannel c)
         (λ p x xs r here legal' run' _. (
@@ -363,24 +368,26 @@ module _ (l : Limits) (me : CallerNo) (fit : IsFit l) (by : IsCaller l me) where
         → Completes (try_finish_plan s) xs r → finish_finds_busy r ≡ true → WithSelector w s (after p me xs)
     finish-again w without k p xs closed at' may here legal run goes = absurd (cc goes)
     finish-again w without k p xs busy at' may here legal run goes = (
-      (ends l p w me fit by here.0 without k (try_finish s busy) xs refl run legal here.1 at' may).between,
+      (ends l p w me fit by here.0 without k (table_call (try_finish s) busy) xs refl run legal here.1 at' may).between,
       selector-stays p xs s legal here.1,
     )
 
     close-rest : (first second acts : List Act) (middle : ShutReply) (answer : Bool) → acts ≡ first ++ second
         → IsLegal l (after past me acts) → Completes (shut_plan s) first middle → ClosesRest s middle second answer
-        → Ends l past now me o acts (close s answer)
+        → Ends l past now me o acts (waiting_call (close s) answer)
     close-rest first second acts already_closed answer parts legal run rest =
         let legal' = begins-legal l me past first second (subst (λ xs. IsLegal l (after past me xs)) parts legal) in
         let one =
-        ends l past now me fit by between no_pipes o (shut s already_closed) first refl run legal' made at tt in
-        subst (λ (b : Bool). Ends l past now me o acts (close s b)) (sym rest.0)
+        ends l past now me fit by between no_pipes o (table_call (shut s) already_closed) first refl run legal' made at
+        tt in
+        subst (λ (b : Bool). Ends l past now me o acts (waiting_call (close s) b)) (sym rest.0)
         (moved past past now first acts now o false false _ one
         (ap (λ xs. after past me xs) (sym (append-nil first) ∙ (ap (λ xs. first ++ xs) (sym rest.1) ∙ sym parts))))
     close-rest first second acts closing answer parts legal run rest =
         let whole = subst (λ xs. IsLegal l (after past me xs)) parts legal in
         let legal' = begins-legal l me past first second whole in
-        let one = ends l past now me fit by between no_pipes o (shut s closing) first refl run legal' made at tt in
+        let one = ends l past now me fit by between no_pipes o (table_call (shut s) closing) first refl run legal' made
+        at tt in
         let w = after_shut now me s closing in
         let k = closes_on o s true in
         let may : k.closes s.0 ≡ true = put-same o.closes s.0 true in
@@ -391,8 +398,8 @@ module _ (l : Limits) (me : CallerNo) (fit : IsFit l) (by : IsCaller l me) where
         (then-legal l me past first second whole) rest.1 in
         let two =
         ends l it.before w me fit by it.here.0 no_pipes k
-        (try_finish s closed) it.last refl it.made it.legal it.here.1 one.own may in
-        subst (λ (b : Bool). Ends l past now me o acts (close s b)) (sym rest.0)
+        (table_call (try_finish s) closed) it.last refl it.made it.legal it.here.1 one.own may in
+        subst (λ (b : Bool). Ends l past now me o acts (waiting_call (close s) b)) (sym rest.0)
         (two-end past now w (after_finish w s closed) k
         (closes_on k s false) first it.last acts false false _ _ it.before (with_closing now s None)
         (closes_on o s false) false one two
@@ -400,8 +407,9 @@ module _ (l : Limits) (me : CallerNo) (fit : IsFit l) (by : IsCaller l me) where
         (ap (λ f. record now { closing = f }) (put-twice now.closing s.0 (Some me) None))
         (ap (λ f. record o { closes = f }) (put-twice o.closes s.0 true false)))
 
-    pub close-ends : (answer : Bool) (acts : List Act) → IsRun l (close s answer) acts → IsLegal l (after past me acts)
-        → Ends l past now me o acts (close s answer)
+    pub close-ends : (answer : Bool) (acts : List Act) → IsRun l (waiting_call (close s) answer) acts
+        → IsLegal l (after past me acts)
+        → Ends l past now me o acts (waiting_call (close s) answer)
     close-ends answer acts run legal =
         close-rest run.first run.second acts run.middle answer run.parts legal run.runs_first run.runs_second
 
@@ -418,7 +426,7 @@ module _ (l : Limits) (me : CallerNo) (fit : IsFit l) (by : IsCaller l me) where
     begin-again p xs (Err BeginError.ClosedSelector) here legal run goes = absurd (cc goes)
     begin-again p xs (Err BeginError.Memory) here legal run goes = absurd (cc goes)
     begin-again p xs (Err BeginError.Busy) here legal run goes = (
-      (ends l p now me fit by here.0 no_pipes o (try_begin s mode (Err BeginError.Busy)) xs refl run legal
+      (ends l p now me fit by here.0 no_pipes o (table_call (try_begin s mode) (Err BeginError.Busy)) xs refl run legal
           here.1 at tt).between,
       selector-stays p xs s legal here.1,
     )
@@ -460,7 +468,7 @@ module _ (l : Limits) (me : CallerNo) (fit : IsFit l) (by : IsCaller l me) where
           → WithSelector now_on s (after p me xs)
       tell-again same at' p poll xs (done a) here legal run goes = absurd (cc goes)
       tell-again same at' p poll xs (again next) here legal run goes = (
-        (ends l p now_on me fit by here.0 no_pipes o_on (told x poll (again next)) xs refl run legal
+        (ends l p now_on me fit by here.0 no_pipes o_on (table_call (told x poll) (again next)) xs refl run legal
             (its-selector same p here.1) at' (may-tell same)).between,
         selector-stays p xs s legal here.1,
       )
@@ -471,7 +479,7 @@ module _ (l : Limits) (me : CallerNo) (fit : IsFit l) (by : IsCaller l me) where
       rest-selected : (first second acts : List Act) (polls : List Poll) (answer : _) → acts ≡ first ++ second
           → IsLegal l (after past me acts) → Begun past first → IsMadeSelector (state_after (after past me first)) s
           → TellsAll x polls second answer
-          → Ends l past now me o acts (select s mode polls (selected answer))
+          → Ends l past now me o acts (waiting_call (select s mode polls) (selected answer))
       rest-selected first second acts polls answer parts legal one there rest =
           let whole = subst (λ xs. IsLegal l (after past me xs)) parts legal in
           let same = on-selector (after past me first) one.between in
@@ -480,7 +488,7 @@ module _ (l : Limits) (me : CallerNo) (fit : IsFit l) (by : IsCaller l me) where
           (done answer) (one.between, there) (then-legal l me past first second whole) rest.tells in
           let two =
           ends l it.before now_on me fit by it.here.0 no_pipes o_on
-          (told x it.given (done answer)) it.last refl it.made it.legal
+          (table_call (told x it.given) (done answer)) it.last refl it.made it.legal
           (its-selector same it.before it.here.1) one.own (may-tell same) in
           two-end past now now_on (with_selection now_on x.selector None) o_on
           (selecting o_on x.selector None) first it.last acts false false _ _ it.before (with_selection now s None)
@@ -491,7 +499,7 @@ module _ (l : Limits) (me : CallerNo) (fit : IsFit l) (by : IsCaller l me) where
       rest-left : (first second acts : List Act) (polls : List Poll) → acts ≡ first ++ second
           → IsLegal l (after past me acts) → Begun past first → IsMadeSelector (state_after (after past me first)) s
           → TellsAndLeaves x polls second
-          → Ends l past now me o acts (select s mode polls left)
+          → Ends l past now me o acts (waiting_call (select s mode polls) left)
       rest-left first second acts polls parts legal one there rest =
           let whole = subst (λ xs. IsLegal l (after past me xs)) parts legal in
           let same = on-selector (after past me first) one.between in
@@ -503,7 +511,7 @@ module _ (l : Limits) (me : CallerNo) (fit : IsFit l) (by : IsCaller l me) where
           (begins-legal l me p rest.told rest.leaves legal_rest) rest.tells in
           let before = after p me rest.told in
           let two =
-          ends l before now_on me fit by here.0 no_pipes o_on (leave x) rest.leaves refl rest.left
+          ends l before now_on me fit by here.0 no_pipes o_on (table_call (leave x) tt) rest.leaves refl rest.left
           (then-legal l me p rest.told rest.leaves legal_rest) (its-selector same before here.1) one.own
           (may-tell same) in
           two-end past now now_on (with_selection now_on x.selector None) o_on
@@ -517,7 +525,7 @@ module _ (l : Limits) (me : CallerNo) (fit : IsFit l) (by : IsCaller l me) where
     select-rest : (first second acts : List Act) (polls : List Poll) (middle : Result Selection BeginError)
         (answer : SelectReply) → acts ≡ first ++ second → IsLegal l (after past me acts)
         → Retries (Begins s mode) begin_finds_busy first middle → SelectsRest polls middle second answer
-        → Ends l past now me o acts (select s mode polls answer)
+        → Ends l past now me o acts (waiting_call (select s mode polls) answer)
     select-rest first second acts polls middle answer parts legal runs rest = by_middle middle answer it one rest
       where
         first_legal : IsLegal l (after past me first)
@@ -528,9 +536,9 @@ module _ (l : Limits) (me : CallerNo) (fit : IsFit l) (by : IsCaller l me) where
         it = last_run l me _ _ (WithSelector now s) (λ p _ xs r here legal' run' goes.
             begin-again p xs r here legal' run' goes) past first middle (between, made) first_legal runs
 
-        one : Ends l it.before now me o it.last (try_begin s mode middle)
+        one : Ends l it.before now me o it.last (table_call (try_begin s mode) middle)
         one = ends l it.before now me fit by it.here.0 no_pipes o
-            (try_begin s mode middle) it.last refl it.made it.legal it.here.1 at tt
+            (table_call (try_begin s mode) middle) it.last refl it.made it.legal it.here.1 at tt
 
         there : IsMadeSelector (state_after (after past me first)) s
         there = selector-stays past first s first_legal made
@@ -538,8 +546,8 @@ module _ (l : Limits) (me : CallerNo) (fit : IsFit l) (by : IsCaller l me) where
         by_middle : (m : Result Selection BeginError) (a : SelectReply)
             → (run : LastRun l me (λ (_ : Unit {0}). Begins s mode) (λ _. begin_finds_busy) (WithSelector now s)
             (λ p _ xs r here legal' run' goes. begin-again p xs r here legal' run' goes) past first m)
-            → Ends l run.before now me o run.last (try_begin s mode m) → SelectsRest polls m second a
-            → Ends l past now me o acts (select s mode polls a)
+            → Ends l run.before now me o run.last (table_call (try_begin s mode) m) → SelectsRest polls m second a
+            → Ends l past now me o acts (waiting_call (select s mode polls) a)
         by_middle (Ok x) (selected a) run one' rest' =
             rest-selected x first second acts polls a parts legal
             (moved run.before past now run.last first (now_on x) (o_on x) false false _ one' run.same) there rest'
@@ -548,14 +556,14 @@ module _ (l : Limits) (me : CallerNo) (fit : IsFit l) (by : IsCaller l me) where
             rest-left x first second acts polls parts legal (moved run.before past now run.last first (now_on x)
             (o_on x) false false _ one' run.same) there rest'
         by_middle (Err refusal) a run one' rest' =
-            subst (λ (b : SelectReply). Ends l past now me o acts (select s mode polls b)) (sym rest'.2)
+            subst (λ (b : SelectReply). Ends l past now me o acts (waiting_call (select s mode polls) b)) (sym rest'.2)
             (moved run.before past now run.last acts now o _ _ _ one'
             (run.same
             ∙ ap (λ xs. after past me xs) (sym (append-nil first)
             ∙ (ap (λ xs. first ++ xs) (sym rest'.0) ∙ sym parts))))
 
     pub select-ends : (polls : List Poll) (answer : SelectReply) (acts : List Act)
-        → IsRun l (select s mode polls answer) acts → IsLegal l (after past me acts)
-        → Ends l past now me o acts (select s mode polls answer)
+        → IsRun l (waiting_call (select s mode polls) answer) acts → IsLegal l (after past me acts)
+        → Ends l past now me o acts (waiting_call (select s mode polls) answer)
     select-ends polls answer acts run legal =
         select-rest run.first run.second acts polls run.middle answer run.parts legal run.runs_first run.runs_second

@@ -1,27 +1,28 @@
 -- Where calls don't overlap, the table is the sequential selector of Java.
 use Rattle.std.specs.Prelude.{◌≡◌, Bool, true, false, not, ◌&&◌, IsTrue, IsFalse, List, [], ◌∷◌, ◌++◌, map}
+use Rattle.std.specs.List.{All}
 use Rattle.nio_base.specs.Limits.{IsFit}
 use Rattle.nio_base.specs.declared.limits.Limits.{Limits}
 use Rattle.nio_base.specs.declared.numbers.CallerNo.{CallerNo}
 use Rattle.nio_event.specs.Conditions.{IsCaller}
 use Rattle.nio_event.specs.Histories.{state_after, event_of, IsLegal}
 use Rattle.nio_event.specs.declared.act.Act.{Act}
+use Rattle.nio_event.specs.declared.call.Call.{Call}
 use Rattle.nio_event.specs.declared.call.ScriptCall.{ScriptCall}
 use Rattle.nio_event.specs.declared.event.Event.{Event}
-use Rattle.nio_event.specs.declared.call.Call.{Call}
 use Rattle.nio_event.specs.declared.reply.Reply.{Reply}
-use Rattle.nio_plain.specs.ScriptState.{script_opening}
-use Rattle.nio_serial.specs.Serial.{replies_from}
-use Rattle.std.specs.List.{All}
-use Rattle.nio_orderly.specs.Made.{Made, IsRun, nothing_ongoing, MayCome, after_calls}
+use Rattle.nio_orderly.specs.Made.{Made, IsRun, MayCome, after_calls}
 use Rattle.nio_orderly.specs.Orderly.{MadeBy, calls_of}
 use Rattle.nio_plain.specs.Answer.{left_by_script}
+use Rattle.nio_plain.specs.ScriptState.{script_opening}
 use Rattle.nio_plain.specs.Seq.{seq}
 use Rattle.nio_plain.specs.declared.rules.Rules.TheVariants.{Now}
-use Rattle.nio_serial.specs.Documented.{Progress, nothing_yet, documented}
 use Rattle.nio_sequence.specs.Called.{Scripted, as_call, unseen, unscripted, script_call, lacks_memory, HasNames}
 use Rattle.nio_sequence.specs.Called.{IsNamedCall}
 use Rattle.nio_sequence.specs.Left.{after_made, in_progress, IsSequence, IsLeftBy}
+use Rattle.nio_serial.specs.Documented.{Progress, nothing_yet, documented}
+use Rattle.nio_serial.specs.Serial.{replies_from}
+use Rattle.nio_steps.specs.Ongoing.{nothing_ongoing}
 
 -- ---- what every serial history leaves
 

@@ -1,77 +1,40 @@
 -- What a serial history leaves: what is in progress by its calls, and what holds of the state.
-use Rattle.std.specs.Prelude.{◌≡◌, ℕ, true, false, None, List, [], ◌∷◌, ◌++◌, ⊤, IsTrue, Some}
+use Rattle.std.specs.Prelude.{◌≡◌, ℕ, None, List, [], ◌∷◌, ◌++◌, ⊤, IsTrue, Some}
 use Rattle.nio_base.specs.declared.limits.Limits.{Limits}
 use Rattle.nio_base.specs.declared.numbers.CallerNo.{CallerNo}
-use Rattle.nio_event.specs.State.{State}
-use Rattle.nio_event.specs.Sets.{in_key_set}
 use Rattle.nio_event.specs.Histories.{state_after, IsLegal}
+use Rattle.nio_event.specs.Sets.{in_key_set}
+use Rattle.nio_event.specs.State.{State}
 use Rattle.nio_event.specs.declared.event.Event.{Event}
-use Rattle.nio_orderly.specs.Made.{Made, Ongoing, nothing_ongoing, after_calls, draw, find_selector, find_channel, find}
-use Rattle.nio_orderly.specs.Made.{is_valid, interest, set_interest, interest_or, interest_and, ready, cancel, unselect}
-use Rattle.nio_orderly.specs.Made.{attach, attachment, open_channel, is_open, is_blocking, is_registered, key_for}
-use Rattle.nio_orderly.specs.Made.{try_set_blocking, try_register, close_channel, open_selector, try_begin, told, leave}
-use Rattle.nio_orderly.specs.Made.{shut, try_finish, keys, selected_keys, wakeup, interrupt, interrupted, pipe}
-use Rattle.nio_orderly.specs.Made.{try_read, try_write, set_blocking, register, select, close, read, write}
+use Rattle.nio_orderly.specs.Made.{Made, after_calls, draw, table_call, waiting_call}
 use Rattle.nio_orderly.specs.Orderly.{MadeBy, AreRunsBy, calls_of, IsSerial}
 use Rattle.nio_plain.specs.Seq.Selections.{is_caller}
+use Rattle.nio_sequence.specs.Called.{IsNamedCall}
 use Rattle.nio_serial.specs.Between.{IsBetween}
 use Rattle.nio_serial.specs.Documented.{Progress}
-use Rattle.nio_serial.specs.Lines.{with_selection, with_closing, own_selection, after_begin, after_told, after_shut}
-use Rattle.nio_serial.specs.Lines.{after_finish}
+use Rattle.nio_serial.specs.Lines.{with_selection, with_closing, own_selection}
 use Rattle.nio_steps.specs.Names.{selector}
-use Rattle.nio_steps.specs.SelectCalls.{selected, not_begun, left}
-use Rattle.nio_sequence.specs.Called.{IsNamedCall}
+use Rattle.nio_steps.specs.Ongoing.{Ongoing, nothing_ongoing, Change, no_change, selection_begins, selection_goes_on}
+use Rattle.nio_steps.specs.Ongoing.{selection_ends, closing_begins, closing_ends}
+use Rattle.nio_steps.specs.TableCalls.{row_of, wait_row_of}
 
 -- ---- what is in progress
+
+-- what is in progress after a call of the caller that changes this of what the caller has in progress
+abbrev pub progress_changed : Progress → CallerNo → Change → Progress
+progress_changed now me no_change = now
+progress_changed now me (selection_begins s x) = with_selection now s (Some (record { caller = me; selection = x }))
+progress_changed now me (selection_goes_on s x) = now
+progress_changed now me (selection_ends s) = with_selection now s None
+progress_changed now me (closing_begins s) = with_closing now s (Some me)
+progress_changed now me (closing_ends s) = with_closing now s None
 
 -- What is in progress after this call of the caller. The pipes and the group of a script are made and used by lines:
 -- no call of a history is on them.
 abbrev pub after_made : Progress → CallerNo → Made → Progress
 after_made now me (draw n) = now
-after_made now me (find_selector n answer) = now
-after_made now me (find_channel n answer) = now
-after_made now me (find s i serial answer) = now
-after_made now me (is_valid k answer) = now
-after_made now me (interest k answer) = now
-after_made now me (set_interest k ops answer) = now
-after_made now me (interest_or k ops answer) = now
-after_made now me (interest_and k ops answer) = now
-after_made now me (ready k answer) = now
-after_made now me (cancel k) = now
-after_made now me (unselect k answer) = now
-after_made now me (attach k att answer) = now
-after_made now me (attachment k answer) = now
-after_made now me (open_channel kind answer) = now
-after_made now me (is_open c answer) = now
-after_made now me (is_blocking c answer) = now
-after_made now me (is_registered c answer) = now
-after_made now me (key_for c s answer) = now
-after_made now me (try_set_blocking c on answer) = now
-after_made now me (try_register s c ops att answer) = now
-after_made now me (close_channel c answer) = now
-after_made now me (open_selector answer) = now
-after_made now me (try_begin s mode answer) = after_begin now me s answer
-after_made now me (told selection poll answer) = after_told now selection.selector answer
-after_made now me (leave selection) = with_selection now selection.selector None
-after_made now me (shut s answer) = after_shut now me s answer
-after_made now me (try_finish s answer) = after_finish now s answer
-after_made now me (keys s answer) = now
-after_made now me (selected_keys s answer) = now
-after_made now me (wakeup s) = now
-after_made now me (interrupt n) = now
-after_made now me (interrupted answer) = now
-after_made now me (pipe answer) = now
-after_made now me (try_read source answer) = now
-after_made now me (try_write source sink answer) = now
-after_made now me (set_blocking c on answer) = now
-after_made now me (register s c ops att answer) = now
-after_made now me (select s mode polls (selected answer)) = with_selection now s None
-after_made now me (select s mode polls (not_begun refusal)) = now
-after_made now me (select s mode polls left) = with_selection now s None
-after_made now me (close s true) = with_closing now s None
-after_made now me (close s false) = now
-after_made now me (read source none answer) = now
-after_made now me (write source sink none answer) = now
+after_made now me (table_call call answer) = progress_changed now me ((row_of call).change answer)
+after_made now me (waiting_call call answer) = progress_changed now me ((wait_row_of call).change answer)
 
 -- what is in progress after these calls
 abbrev pub in_progress : Progress → List MadeBy → Progress

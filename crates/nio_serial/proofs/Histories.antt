@@ -5,124 +5,71 @@ use Rattle.nio_serial.proofs.Resting.{rests-from, rests-is}
 use Rattle.nio_serial.specs.Replies.{told_reply}
 use Rattle.nio_plain.specs.ScriptState.{ScriptState}
 use Rattle.nio_plain.specs.Seq.Replies.{Replied, unchanged}
-use Rattle.std.proofs.Common.{List, sym, ◌≡◌, Bool, if◌then◌else◌, Some, None, refl, ap, ◌∙◌, subst, nat_lt}
+use Rattle.std.proofs.Common.{List, sym, ◌≡◌, Option, refl, ap, ◌∙◌, subst, nat_lt}
 use Rattle.std.proofs.lemmas.Bool.{lt-ltb, cond-true}
 use Rattle.nio_base.specs.Limits.{IsFit}
 use Rattle.nio_base.specs.declared.limits.Limits.{Limits}
 use Rattle.nio_base.specs.declared.numbers.CallerNo.{CallerNo}
-use Rattle.nio_base.specs.declared.numbers.ChanNo.{ChanNo}
-use Rattle.nio_base.specs.declared.numbers.KeyId.{KeyId}
-use Rattle.nio_base.specs.declared.numbers.SelNo.{SelNo}
 use Rattle.nio_event.specs.Conditions.{IsCaller}
 use Rattle.nio_event.specs.Histories.{state_after}
 use Rattle.nio_event.specs.Histories.{IsLegal}
 use Rattle.nio_event.specs.PassViews.{known, done_between}
 use Rattle.nio_event.specs.State.{State}
+use Rattle.nio_event.specs.WordRows.{EachName, by_names, word_row}
 use Rattle.nio_event.specs.declared.call.Call.{Call}
 use Rattle.nio_event.specs.declared.call.Call.TheVariants as call
+use Rattle.nio_event.specs.declared.reply.Reply.{Reply}
 use Rattle.nio_event.specs.declared.reply.Reply.TheVariants as reply
 use Rattle.nio_event.specs.declared.event.Event.{Event}
+use Rattle.nio_event.specs.declared.word_row.LineName.{LineName}
+use Rattle.nio_event.specs.declared.word_row.LineName.TheVariants.{Caller}
+use Rattle.nio_event.specs.declared.word_row.LineNames.{LineNames}
+use Rattle.nio_event.specs.declared.word_row.LineNames.TheVariants.{One, Two}
+use Rattle.nio_event.specs.declared.word_row.LineNames.TheVariants as line
 use Rattle.nio_plain.specs.Seq.{seq, call_of}
 use Rattle.nio_plain.specs.declared.rules.Rules.TheVariants.{Now}
-use Rattle.nio_steps.proofs.PerformLaws.{perform_then_on, perform_ran}
-use Rattle.nio_steps.specs.KeyCalls.{find_selector_plan, find_channel_plan, find_plan}
-use Rattle.nio_steps.specs.Names.{selector, channel}
+use Rattle.nio_steps.proofs.PerformLaws.{perform_ran}
 use Rattle.nio_steps.specs.Perform.{Performed, perform}
-use Rattle.nio_steps.specs.Plan.{Plan, ◌>>=◌}
+use Rattle.nio_steps.specs.Plan.{Plan}
 use Rattle.nio_steps.specs.SelectCalls.{list_key, list_selected, keys_plan, selected_keys_plan, told_plan, ToldReply}
 use Rattle.nio_serial.proofs.Beginning.{begin-lacking}
 use Rattle.nio_serial.proofs.Facts.{none_due, begun, sound}
 use Rattle.nio_serial.proofs.Listing.{list-lacking}
 use Rattle.nio_serial.proofs.Calls.{call-amounts, told-by-index}
-use Rattle.nio_serial.proofs.Lines.{selector-found, channel-found, key-found, line-amounts}
+use Rattle.nio_serial.proofs.Lines.{unless, none-missing, name-done, line-amounts}
 use Rattle.nio_serial.proofs.Staying.{line-stays, left-more}
 use Rattle.nio_serial.specs.Between.{IsBetween, IsLeft, IsAtRest}
 use Rattle.nio_serial.specs.Documented.{Progress, documented, amounts}
-use Rattle.nio_serial.specs.Laws.{IsMadeSelector, IsMadeChannel, IsMadeKey, IsNamed, CallsAmount, LinesAmount}
-use Rattle.nio_serial.specs.Laws.{DrawsStayBetween, CallsStayBetween, Amounts, CallRunsAmount, LineRunsAmount}
-use Rattle.nio_serial.specs.Laws.{PassLinesAmount, ToldAmounts, LackingLeaves, by_key, ToldStaysBetween, ToldRunsAmount}
-use Rattle.nio_serial.specs.Lines.{Said, comes_to, refused, if_found, if_selector, if_channel, if_key, if_named}
-use Rattle.nio_serial.specs.Lines.{call_plan, line_plan, after_told}
+use Rattle.nio_serial.specs.Laws.{IsThere, IsNamed, CallsAmount, LinesAmount, DrawsStayBetween, CallsStayBetween}
+use Rattle.nio_serial.specs.Laws.{Amounts, CallRunsAmount, LineRunsAmount, PassLinesAmount, ToldAmounts, LackingLeaves}
+use Rattle.nio_serial.specs.Laws.{by_key, ToldStaysBetween, ToldRunsAmount}
+use Rattle.nio_serial.specs.Lines.{Said, comes_to, refused, if_name, if_named, call_plan, line_plan, after_told}
 
 -- ---- names that are found
 
 module _ (l : Limits) (st : State) (now : Progress) (me : CallerNo) (fit : IsFit l) (between : IsBetween l st now) where
-  selector-through : (s : SelNo) (plan : Plan Said) → IsMadeSelector st s
-      → perform me (if_selector l now s plan) st ≡ perform me plan st
-  selector-through s plan made =
-      perform_then_on me (find_selector_plan l s.0) (if_found now reply.NoSelector plan) st (Some (selector s.0)) st
-      (selector-found l st now me fit between s.0
-      ∙ ap (λ (b : Bool). record { answer = if b then Some (selector s.0) else None; state = st }) made)
+  name-through : (a : LineName) (plan : Plan Said) → IsThere l st a
+      → perform me (if_name l now a plan) st ≡ perform me plan st
+  name-through a plan there =
+      name-done l st now me fit between a plan
+      ∙ ap (λ (o : Option Reply). perform me (unless (refused now) plan o) st) (none-missing l st a there)
 
-  channel-through : (c : ChanNo) (plan : Plan Said) → IsMadeChannel st c
-      → perform me (if_channel l now c plan) st ≡ perform me plan st
-  channel-through c plan made =
-      perform_then_on me (find_channel_plan l c.0) (if_found now reply.NoChannel plan) st (Some (channel c.0)) st
-      (channel-found l st now me fit between c.0
-      ∙ ap (λ (b : Bool). record { answer = if b then Some (channel c.0) else None; state = st }) made)
-
-  key-through : (s : SelNo) (k : KeyId) (plan : Plan Said) → IsMadeKey st s k
-      → perform me (if_key l now s k plan) st ≡ perform me plan st
-  key-through s k plan made =
-      selector-through s (find_plan l s k.index k.serial >>= if_found now reply.NoKey plan) made.0
-      ∙ perform_then_on me (find_plan l s k.index k.serial) (if_found now reply.NoKey plan) st
-      (Some (record { sel = s; index = k.index; serial = k.serial })) st
-      (key-found l st now me fit between s k.index k.serial
-      ∙ ap (λ (b : Bool). record {
-        answer = if b then Some (record { sel = s; index = k.index; serial = k.serial })
-            else None;
-        state = st;
-      }) made.1)
+  names-through : (names : LineNames) (plan : Plan Said) → EachName (IsThere l st) names
+      → perform me (by_names (if_name l now) names plan) st ≡ perform me plan st
+  names-through line.None plan there = refl
+  names-through (One a) plan there = name-through a plan there
+  names-through (Two a b) plan there = name-through a (if_name l now b plan) there.0 ∙ name-through b plan there.1
 
   named-through : (word : Call) (plan : Plan Said) → IsNamed l st word
       → perform me (if_named l now word plan) st ≡ perform me plan st
   unfolding if_named
-  named-through call.Selector plan named = refl
-  named-through (call.Channel kind) plan named = refl
-  named-through (call.Blocking c on) plan named = channel-through c plan named
-  named-through (call.IsBlocking c) plan named = channel-through c plan named
-  named-through (call.IsOpen c) plan named = channel-through c plan named
-  named-through (call.IsRegistered c) plan named = channel-through c plan named
-  named-through (call.KeyFor c s) plan named =
-      channel-through c (if_selector l now s plan) named.0 ∙ selector-through s plan named.1
-  named-through (call.Register s c ops att) plan named =
-      selector-through s (if_channel l now c plan) named.0 ∙ channel-through c plan named.1
-  named-through (call.Closec c) plan named = channel-through c plan named
-  named-through (call.Valid s k) plan named = key-through s k plan named
-  named-through (call.Interest s k) plan named = key-through s k plan named
-  named-through (call.Ready s k) plan named = key-through s k plan named
-  named-through (call.Iset s k ops) plan named = key-through s k plan named
-  named-through (call.Ior s k ops) plan named = key-through s k plan named
-  named-through (call.Iand s k ops) plan named = key-through s k plan named
-  named-through (call.Cancel s k) plan named = key-through s k plan named
-  named-through (call.Unselect s k) plan named = key-through s k plan named
-  named-through (call.Attach s k att) plan named = key-through s k plan named
-  named-through (call.Attachment s k) plan named = key-through s k plan named
-  named-through (call.Begin s waiting) plan named = selector-through s plan named
-  named-through (call.Told s elapsed pairs) plan named = selector-through s plan named
-  named-through (call.Failed s) plan named = selector-through s plan named
-  named-through (call.Wakeup s) plan named = selector-through s plan named
-  named-through (call.Close s) plan named = selector-through s plan named
-  named-through (call.CloseEnd s) plan named = selector-through s plan named
-  named-through (call.Keys s) plan named = selector-through s plan named
-  named-through (call.Selected s) plan named = selector-through s plan named
-  named-through (call.Interrupt target) plan named =
-      ap (λ (b : Bool). perform me (if b then plan else refused now reply.NoCaller) st)
-      (lt-ltb target.0 l.callers named)
-  named-through call.Interrupted plan named = refl
-  named-through (call.Pipe target) plan named =
-      ap (λ (b : Bool). perform me (if b then plan else refused now reply.NoCaller) st)
-      (lt-ltb target.0 l.callers named)
-  named-through (call.Pwrite c bytes) plan named = channel-through c plan named
-  named-through (call.Pread c n) plan named = channel-through c plan named
-  named-through (call.Group g) plan named = refl
+  named-through word plan named = names-through (word_row word).names plan named
 
   line-through : (word : Call) → IsCaller l me → IsNamed l st word
       → perform me (line_plan l now me word) st ≡ perform me (call_plan l now me word) st
   unfolding line_plan
   line-through word below named =
-      ap (λ (b : Bool). perform me (if b then if_named l now word (call_plan l now me word)
-      else refused now reply.NoCaller) st) (lt-ltb me.0 l.callers below)
+      name-through (Caller me) (if_named l now word (call_plan l now me word)) below
       ∙ named-through word (call_plan l now me word) named
 
 pub calls-stay : CallsStayBetween
@@ -196,7 +143,7 @@ lacking-leaves l st now me s mode between = record {
 
 -- ---- a `told` by index stays between two calls
 
-seq-through : (l : Limits) (st : ScriptState) (me : CallerNo) (word : Call) → IsCaller l me
+pub seq-through : (l : Limits) (st : ScriptState) (me : CallerNo) (word : Call) → IsCaller l me
     → seq Now l st me word ≡ call_of Now l st me word
 unfolding seq
 seq-through l st me word below =

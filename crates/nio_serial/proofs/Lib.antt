@@ -25,6 +25,7 @@ pub mod Lines
 pub mod RestingCalls
 pub mod Showing
 pub mod Steady
+pub mod Leaving
 pub mod Staying
 pub mod WholePipes
 pub mod Histories

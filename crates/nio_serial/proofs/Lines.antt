@@ -1,24 +1,28 @@
 -- A line of a script, made on the table with its look-ups, amounts to the documented call.
-use Rattle.std.proofs.Common.{◌≡◌, ℕ, ◌<◌, ◌≤◌, ◌==◌, nat_lt, Bool, true, false, cond, not, ◌&&◌, ◌||◌, if◌then◌else◌}
-use Rattle.std.proofs.Common.{Option, Some, None, refl, ap, sym, ◌∙◌, arith}
-use Rattle.std.proofs.lemmas.Bool.{both_ways, ltb-true, ltb-false, lt-ltb, le-ltb, false_from_ne_true, cond-false}
+use Rattle.std.proofs.Common.{◌≡◌, ℕ, ◌<◌, ◌≤◌, ◌==◌, nat_lt, Bool, true, false, not, ◌&&◌, ◌||◌, if◌then◌else◌, Option}
+use Rattle.std.proofs.Common.{Some, None, refl, ap, sym, ◌∙◌, arith}
+use Rattle.std.proofs.lemmas.Bool.{both_ways, ltb-true, ltb-false, lt-ltb, le-ltb, false_from_ne_true}
 use Rattle.nio_base.specs.Limits.{IsFit}
 use Rattle.nio_base.specs.declared.limits.Limits.{Limits}
 use Rattle.nio_base.specs.declared.numbers.CallerNo.{CallerNo}
 use Rattle.nio_base.specs.declared.numbers.ChanNo.{ChanNo}
-use Rattle.nio_base.specs.declared.numbers.KeyId.{KeyId}
 use Rattle.nio_base.specs.declared.numbers.KeyNo.{KeyNo}
 use Rattle.nio_base.specs.declared.numbers.SelNo.{SelNo}
 use Rattle.nio_event.proofs.Bits.{bits_below-at}
 use Rattle.nio_event.specs.Answers.{selectors_word}
 use Rattle.nio_event.specs.Sets.{was_published}
 use Rattle.nio_event.specs.State.{State, unclaimed}
+use Rattle.nio_event.specs.WordRows.{EachName, by_names, word_row}
 use Rattle.nio_event.specs.declared.call.Call.{Call}
 use Rattle.nio_event.specs.declared.call.Call.TheVariants as call
 use Rattle.nio_event.specs.declared.found.Stage.{Stage}
 use Rattle.nio_event.specs.declared.reply.Reply.{Reply}
 use Rattle.nio_event.specs.declared.reply.Reply.TheVariants as reply
-use Rattle.nio_plain.proofs.Naming.{channel-through, channel-refused, selector-through, selector-refused}
+use Rattle.nio_event.specs.declared.word_row.LineName.{LineName}
+use Rattle.nio_event.specs.declared.word_row.LineName.TheVariants.{Caller, Selector, Channel, Key}
+use Rattle.nio_event.specs.declared.word_row.LineNames.{LineNames}
+use Rattle.nio_event.specs.declared.word_row.LineNames.TheVariants.{One, Two}
+use Rattle.nio_event.specs.declared.word_row.LineNames.TheVariants as line
 use Rattle.nio_plain.specs.ScriptState.{ScriptState}
 use Rattle.nio_plain.specs.Seq.{call_of, seq}
 use Rattle.nio_plain.specs.Seq.Replies.{Replied, unchanged}
@@ -44,8 +48,8 @@ use Rattle.nio_serial.proofs.Calls.{call-amounts}
 use Rattle.nio_serial.proofs.Facts.{sound, channels}
 use Rattle.nio_serial.specs.Between.{IsBetween}
 use Rattle.nio_serial.specs.Documented.{Progress, settled, documented}
-use Rattle.nio_serial.specs.Lines.{Said, comes_to, refused, if_found, if_selector, if_channel, if_key, if_named}
-use Rattle.nio_serial.specs.Lines.{call_plan, line_plan}
+use Rattle.nio_serial.specs.Laws.{IsThere}
+use Rattle.nio_serial.specs.Lines.{Said, comes_to, refused, if_found, if_name, if_named, call_plan, line_plan}
 
 -- ---- look-ups
 
@@ -55,6 +59,51 @@ bit-selector st n low = ap (λ k. k == 1) (bits_below-at 64 st.selector n low) �
     by_test : (b : Bool) → ((if b then 1 else 0) == 1) ≡ b
     by_test true = refl
     by_test false = refl
+
+-- ---- names
+
+-- a line goes on, unless something is missing
+abbrev pub unless : {A : Type 0} → (Reply → A) → A → Option Reply → A
+unless refuse go None = go
+unless refuse go (Some r) = refuse r
+
+-- what a line is refused with where the name isn't there
+abbrev pub missing : Limits → State → LineName → Option Reply
+missing l st (Caller n) = if nat_lt n.0 l.callers then None else Some reply.NoCaller
+missing l st (Selector s) = if st.selector s.0 then None else Some reply.NoSelector
+missing l st (Channel c) = if (st.chan c.0).made then None else Some reply.NoChannel
+missing l st (Key s k) =
+    if st.selector s.0 then (if was_published (st.key s.0 k.index) k.serial then None else Some reply.NoKey)
+    else Some reply.NoSelector
+
+test-holds : (b : Bool) (r : Reply) → (if b then None else Some r) ≡ None → b ≡ true
+test-holds true r e = refl
+test-holds false r e = absurd (cc e)
+
+holds-test : (b : Bool) (r : Reply) → b ≡ true → (if b then None else Some r) ≡ None
+holds-test b r e = ap (λ (c : Bool). if c then None else Some r) e
+
+pub none-missing : (l : Limits) (st : State) (a : LineName) → IsThere l st a → missing l st a ≡ None
+none-missing l st (Caller n) there = holds-test (nat_lt n.0 l.callers) reply.NoCaller (lt-ltb n.0 l.callers there)
+none-missing l st (Selector s) there = holds-test (st.selector s.0) reply.NoSelector there
+none-missing l st (Channel c) there = holds-test (st.chan c.0).made reply.NoChannel there
+none-missing l st (Key s k) there =
+    ap (λ (b : Bool). if b then (if was_published (st.key s.0 k.index) k.serial then None else Some reply.NoKey)
+    else Some reply.NoSelector) there.0
+    ∙ holds-test (was_published (st.key s.0 k.index) k.serial) reply.NoKey there.1
+
+is-there : (l : Limits) (st : State) (a : LineName) → missing l st a ≡ None → IsThere l st a
+is-there l st (Caller n) e = ltb-true n.0 l.callers (test-holds (nat_lt n.0 l.callers) reply.NoCaller e)
+is-there l st (Selector s) e = test-holds (st.selector s.0) reply.NoSelector e
+is-there l st (Channel c) e = test-holds (st.chan c.0).made reply.NoChannel e
+is-there l st (Key s k) e = by_selector (st.selector s.0) refl e
+  where
+    by_selector : (b : Bool) → st.selector s.0 ≡ b
+        → (if b then (if was_published (st.key s.0 k.index) k.serial then None else Some reply.NoKey)
+        else Some reply.NoSelector) ≡ None
+        → IsThere l st (Key s k)
+    by_selector true made e' = (made, test-holds (was_published (st.key s.0 k.index) k.serial) reply.NoKey e')
+    by_selector false unmade e' = absurd (cc e')
 
 module _ (l : Limits) (st : State) (now : Progress) (me : CallerNo) (fit : IsFit l) (between : IsBetween l st now) where
   abbrev ds : ScriptState
@@ -142,164 +191,127 @@ module _ (l : Limits) (st : State) (now : Progress) (me : CallerNo) (fit : IsFit
 
   -- ---- a line with its look-ups
 
-  pub found-is : {A : Type 0} (b : Bool) (a : A) (r : Reply) (plan : Plan Said)
-      → perform me (if_found now r plan (if b then Some a else None)) st
-      ≡ perform me (if b then plan else refused now r) st
-  found-is true a r plan = refl
-  found-is false a r plan = refl
+  test-done : (b : Bool) (r : Reply) (plan : Plan Said) → perform me (if b then plan else refused now r) st
+      ≡ perform me (unless (refused now) plan (if b then None else Some r)) st
+  test-done true r plan = refl
+  test-done false r plan = refl
+
+  -- a look-up, by what it finds
+  found-done : {A : Type 0} (look : Plan (Option A)) (b : Bool) (x : A) (r : Reply) (plan : Plan Said)
+      → perform me look st ≡ record { answer = if b then Some x else None; state = st }
+      → perform me (look >>= if_found now r plan) st
+      ≡ perform me (unless (refused now) plan (if b then None else Some r)) st
+  found-done look b x r plan found =
+      perform_then_on me look (if_found now r plan) st (if b then Some x else None) st found ∙ by_test b
+    where
+      by_test : (c : Bool) → perform me (if_found now r plan (if c then Some x else None)) st
+          ≡ perform me (unless (refused now) plan (if c then None else Some r)) st
+      by_test true = refl
+      by_test false = refl
+
+  pub name-done : (a : LineName) (plan : Plan Said)
+      → perform me (if_name l now a plan) st ≡ perform me (unless (refused now) plan (missing l st a)) st
+  name-done (Caller n) plan = test-done (nat_lt n.0 l.callers) reply.NoCaller plan
+  name-done (Selector s) plan =
+      found-done (find_selector_plan l s.0) (st.selector s.0) (selector s.0) reply.NoSelector plan (selector-found s.0)
+  name-done (Channel c) plan =
+      found-done (find_channel_plan l c.0) (st.chan c.0).made (channel c.0) reply.NoChannel plan (channel-found c.0)
+  name-done (Key s k) plan =
+      found-done (find_selector_plan l s.0) (st.selector s.0) (selector s.0) reply.NoSelector look (selector-found s.0)
+      ∙ by_selector (st.selector s.0)
+    where
+      look : Plan Said
+      look = find_plan l s k.index k.serial >>= if_found now reply.NoKey plan
+
+      by_selector : (b : Bool)
+          → perform me (unless (refused now) look (if b then None else Some reply.NoSelector)) st
+          ≡ perform me (unless (refused now) plan
+          (if b then (if was_published (st.key s.0 k.index) k.serial then None else Some reply.NoKey)
+          else Some reply.NoSelector)) st
+      by_selector true =
+          found-done (find_plan l s k.index k.serial) (was_published (st.key s.0 k.index) k.serial)
+          (named_key s k.index k.serial) reply.NoKey plan (key-found s k.index k.serial)
+      by_selector false = refl
+
+  -- how the documented call looks up a name
+  abbrev with_name : LineName → Replied → Replied
+  with_name (Caller n) inner = if nat_lt n.0 l.callers then inner else unchanged ds reply.NoCaller
+  with_name (Selector s) inner = with_named_selector ds s inner
+  with_name (Channel c) inner = with_named_channel ds c inner
+  with_name (Key s k) inner = with_named_key ds s k inner
+
+  with-done : (a : LineName) (inner : Replied) → with_name a inner ≡ unless (unchanged ds) inner (missing l st a)
+  with-done a inner = by_name a
+    where
+      by_test : (b : Bool) (r : Reply)
+          → (if b then inner else unchanged ds r) ≡ unless (unchanged ds) inner (if b then None else Some r)
+      by_test true r = refl
+      by_test false r = refl
+
+      by_name : (a' : LineName) → with_name a' inner ≡ unless (unchanged ds) inner (missing l st a')
+      by_name (Caller n) = by_test (nat_lt n.0 l.callers) reply.NoCaller
+      by_name (Selector s) = by_test (st.selector s.0) reply.NoSelector
+      by_name (Channel c) = by_test (st.chan c.0).made reply.NoChannel
+      by_name (Key s k) = by_selector (st.selector s.0)
+        where
+          by_selector : (b : Bool)
+              → (if b
+              then (if was_published (st.key s.0 k.index) k.serial then inner else unchanged ds reply.NoKey)
+              else unchanged ds reply.NoSelector)
+              ≡ unless (unchanged ds) inner
+              (if b then (if was_published (st.key s.0 k.index) k.serial then None else Some reply.NoKey)
+              else Some reply.NoSelector)
+          by_selector true = by_test (was_published (st.key s.0 k.index) k.serial) reply.NoKey
+          by_selector false = refl
+
+  with-through : (a : LineName) (inner : Replied) → IsThere l st a → with_name a inner ≡ inner
+  with-through a inner there =
+      with-done a inner ∙ ap (unless (unchanged ds) inner) (none-missing l st a there)
 
   -- `whole` is the documented call, and `inner` what it does once the name is found
-  selector-line : (s : SelNo) (whole inner : Replied) (plan : Plan Said) → whole ≡ with_named_selector ds s inner
-      → (st.selector s.0 ≡ true → whole ≡ comes_to (perform me plan st))
-      → whole ≡ comes_to (perform me (if_selector l now s plan) st)
-  selector-line s whole inner plan is named =
-      by_made (st.selector s.0) refl
-      ∙ sym (ap comes_to (perform_then_on me (find_selector_plan l s.0) (if_found now reply.NoSelector plan) st _ st
-      (selector-found s.0) ∙ found-is (st.selector s.0) (selector s.0) reply.NoSelector plan))
+  name-line : (a : LineName) (whole inner : Replied) (plan : Plan Said) → whole ≡ with_name a inner
+      → (IsThere l st a → whole ≡ comes_to (perform me plan st))
+      → whole ≡ comes_to (perform me (if_name l now a plan) st)
+  name-line a whole inner plan is named =
+      by_missing (missing l st a) refl ∙ sym (ap comes_to (name-done a plan))
     where
-      by_made : (b : Bool) → st.selector s.0 ≡ b
-          → whole ≡ comes_to (perform me (if st.selector s.0 then plan else refused now reply.NoSelector) st)
-      by_made true e =
-          named e ∙ ap (λ (b : Bool). comes_to (perform me (if b then plan else refused now reply.NoSelector) st))
-          (sym e)
-      by_made false e =
-          is ∙ (selector-refused ds s e inner
-          ∙ ap (λ (b : Bool). comes_to (perform me (if b then plan else refused now reply.NoSelector) st)) (sym e))
+      by_missing : (o : Option Reply) → missing l st a ≡ o
+          → whole ≡ comes_to (perform me (unless (refused now) plan o) st)
+      by_missing None e = named (is-there l st a e)
+      by_missing (Some r) e = is ∙ (with-done a inner ∙ ap (unless (unchanged ds) inner) e)
 
-  channel-line : (c : ChanNo) (whole inner : Replied) (plan : Plan Said) → whole ≡ with_named_channel ds c inner
-      → ((st.chan c.0).made ≡ true → whole ≡ comes_to (perform me plan st))
-      → whole ≡ comes_to (perform me (if_channel l now c plan) st)
-  channel-line c whole inner plan is named =
-      by_made (st.chan c.0).made refl
-      ∙ sym (ap comes_to (perform_then_on me (find_channel_plan l c.0) (if_found now reply.NoChannel plan) st _ st
-      (channel-found c.0) ∙ found-is (st.chan c.0).made (channel c.0) reply.NoChannel plan))
-    where
-      by_made : (b : Bool) → (st.chan c.0).made ≡ b
-          → whole ≡ comes_to (perform me (if (st.chan c.0).made then plan else refused now reply.NoChannel) st)
-      by_made true e =
-          named e ∙ ap (λ (b : Bool). comes_to (perform me (if b then plan else refused now reply.NoChannel) st))
-          (sym e)
-      by_made false e =
-          is ∙ (channel-refused ds c e inner
-          ∙ ap (λ (b : Bool). comes_to (perform me (if b then plan else refused now reply.NoChannel) st)) (sym e))
-
-  key-line : (s : SelNo) (k : KeyId) (whole inner : Replied) (plan : Plan Said) → whole ≡ with_named_key ds s k inner
-      → ((st.selector s.0 ≡ true) × (was_published (st.key s.0 k.index) k.serial ≡ true)
-      → whole ≡ comes_to (perform me plan st))
-      → whole ≡ comes_to (perform me (if_key l now s k plan) st)
-  key-line s k whole inner plan is named =
-      selector-line s whole _ (find_plan l s k.index k.serial >>= if_found now reply.NoKey plan) is
-      (λ made. by_published made (was_published (st.key s.0 k.index) k.serial) refl
-      ∙ sym (ap comes_to (perform_then_on me (find_plan l s k.index k.serial) (if_found now reply.NoKey plan) st _ st
-      (key-found s k.index k.serial)
-      ∙ found-is (was_published (st.key s.0 k.index) k.serial) (named_key s k.index k.serial) reply.NoKey plan)))
-    where
-      by_published : st.selector s.0 ≡ true → (b : Bool) → was_published (st.key s.0 k.index) k.serial ≡ b
-          → whole ≡ comes_to (perform me (if was_published (st.key s.0 k.index) k.serial then plan
-          else refused now reply.NoKey) st)
-      by_published made true e =
-          named (made, e) ∙ ap (λ (b : Bool). comes_to (perform me (if b then plan else refused now reply.NoKey) st))
-          (sym e)
-      by_published made false e =
-          is ∙ (selector-through ds s made _
-          ∙ (cond-false (was_published (st.key s.0 k.index) k.serial) inner (unchanged ds reply.NoKey) e
-          ∙ ap (λ (b : Bool). comes_to (perform me (if b then plan else refused now reply.NoKey) st)) (sym e)))
+  names-line : (names : LineNames) (whole inner : Replied) (plan : Plan Said) → whole ≡ by_names with_name names inner
+      → (EachName (IsThere l st) names → whole ≡ comes_to (perform me plan st))
+      → whole ≡ comes_to (perform me (by_names (if_name l now) names plan) st)
+  names-line line.None whole inner plan is named = named tt
+  names-line (One a) whole inner plan is named = name-line a whole inner plan is named
+  names-line (Two a b) whole inner plan is named =
+      name-line a whole (with_name b inner) (if_name l now b plan) is
+      (λ there. name-line b whole inner plan (is ∙ with-through a (with_name b inner) there)
+      (λ there'. named (there, there')))
 
   -- ---- every line
 
-  abbrev made : Call → Plan Said
-  made word = call_plan l now me word
-
-  pub named-amounts : (word : Call) → call_of Now l ds me word
-      ≡ comes_to (perform me (if_named l now word (call_plan l now me word)) st)
-  unfolding call_of if_named blocking_call is_blocking_call is_open_call is_registered_call key_for_call register_call
+  -- each documented call looks up the names of its word
+  looks_up : (word : Call)
+      → (inner : Replied) × (call_of Now l ds me word ≡ by_names with_name (word_row word).names inner)
+  unfolding call_of blocking_call is_blocking_call is_open_call is_registered_call key_for_call register_call
       closec_call valid_call interest_call ready_call iset_call ior_call iand_call cancel_call unselect_call attach_call
       attachment_call begin_call told_call failed_call wakeup_call close_call close_end_call keys_call selected_call
       interrupt_call pipe_call pwrite_call pread_call
-  named-amounts call.Selector = call-amounts l st now me between call.Selector tt
-  named-amounts (call.Channel kind) = call-amounts l st now me between (call.Channel kind) tt
-  named-amounts (call.Blocking c on) =
-      channel-line c _ _ (made (call.Blocking c on)) refl (call-amounts l st now me between (call.Blocking c on))
-  named-amounts (call.IsBlocking c) =
-      channel-line c _ _ (made (call.IsBlocking c)) refl (call-amounts l st now me between (call.IsBlocking c))
-  named-amounts (call.IsOpen c) =
-      channel-line c _ _ (made (call.IsOpen c)) refl (call-amounts l st now me between (call.IsOpen c))
-  named-amounts (call.IsRegistered c) =
-      channel-line c _ _ (made (call.IsRegistered c)) refl (call-amounts l st now me between (call.IsRegistered c))
-  named-amounts (call.KeyFor c s) =
-      channel-line c _ _ (if_selector l now s (made (call.KeyFor c s))) refl
-      (λ there. selector-line s _ _ (made (call.KeyFor c s)) (channel-through ds c there _)
-      (λ named. call-amounts l st now me between (call.KeyFor c s) (there, named)))
-  named-amounts (call.Register s c ops att) =
-      selector-line s _ _ (if_channel l now c (made (call.Register s c ops att))) refl
-      (λ there. channel-line c _ _ (made (call.Register s c ops att)) (selector-through ds s there _)
-      (λ named. call-amounts l st now me between (call.Register s c ops att) (there, named)))
-  named-amounts (call.Closec c) =
-      channel-line c _ _ (made (call.Closec c)) refl (call-amounts l st now me between (call.Closec c))
-  named-amounts (call.Valid s k) =
-      key-line s k _ _ (made (call.Valid s k)) refl (call-amounts l st now me between (call.Valid s k))
-  named-amounts (call.Interest s k) =
-      key-line s k _ _ (made (call.Interest s k)) refl (call-amounts l st now me between (call.Interest s k))
-  named-amounts (call.Ready s k) =
-      key-line s k _ _ (made (call.Ready s k)) refl (call-amounts l st now me between (call.Ready s k))
-  named-amounts (call.Iset s k ops) =
-      key-line s k _ _ (made (call.Iset s k ops)) refl (call-amounts l st now me between (call.Iset s k ops))
-  named-amounts (call.Ior s k ops) =
-      key-line s k _ _ (made (call.Ior s k ops)) refl (call-amounts l st now me between (call.Ior s k ops))
-  named-amounts (call.Iand s k ops) =
-      key-line s k _ _ (made (call.Iand s k ops)) refl (call-amounts l st now me between (call.Iand s k ops))
-  named-amounts (call.Cancel s k) =
-      key-line s k _ _ (made (call.Cancel s k)) refl (call-amounts l st now me between (call.Cancel s k))
-  named-amounts (call.Unselect s k) =
-      key-line s k _ _ (made (call.Unselect s k)) refl (call-amounts l st now me between (call.Unselect s k))
-  named-amounts (call.Attach s k att) =
-      key-line s k _ _ (made (call.Attach s k att)) refl (call-amounts l st now me between (call.Attach s k att))
-  named-amounts (call.Attachment s k) =
-      key-line s k _ _ (made (call.Attachment s k)) refl (call-amounts l st now me between (call.Attachment s k))
-  named-amounts (call.Begin s waiting) =
-      selector-line s _ _ (made (call.Begin s waiting)) refl (call-amounts l st now me between (call.Begin s waiting))
-  named-amounts (call.Told s elapsed pairs) =
-      selector-line s _ _ (made (call.Told s elapsed pairs)) refl
-      (call-amounts l st now me between (call.Told s elapsed pairs))
-  named-amounts (call.Failed s) =
-      selector-line s _ _ (made (call.Failed s)) refl (call-amounts l st now me between (call.Failed s))
-  named-amounts (call.Wakeup s) =
-      selector-line s _ _ (made (call.Wakeup s)) refl (call-amounts l st now me between (call.Wakeup s))
-  named-amounts (call.Close s) =
-      selector-line s _ _ (made (call.Close s)) refl (call-amounts l st now me between (call.Close s))
-  named-amounts (call.CloseEnd s) =
-      selector-line s _ _ (made (call.CloseEnd s)) refl (call-amounts l st now me between (call.CloseEnd s))
-  named-amounts (call.Keys s) =
-      selector-line s _ _ (made (call.Keys s)) refl (call-amounts l st now me between (call.Keys s))
-  named-amounts (call.Selected s) =
-      selector-line s _ _ (made (call.Selected s)) refl (call-amounts l st now me between (call.Selected s))
-  named-amounts (call.Interrupt target) = by_target (nat_lt target.0 l.callers) refl
-    where
-      by_target : (b : Bool) → nat_lt target.0 l.callers ≡ b
-          → interrupt_call l ds target ≡ comes_to (perform me
-          (if b then call_plan l now me (call.Interrupt target) else refused now reply.NoCaller) st)
-      by_target true e = call-amounts l st now me between (call.Interrupt target) (ltb-true target.0 l.callers e)
-      by_target false e = cond-false (nat_lt target.0 l.callers) _ _ e
-  named-amounts call.Interrupted = call-amounts l st now me between call.Interrupted tt
-  named-amounts (call.Pipe target) = by_target (nat_lt target.0 l.callers) refl
-    where
-      by_target : (b : Bool) → nat_lt target.0 l.callers ≡ b
-          → pipe_call l ds me target
-          ≡ comes_to (perform me (if b then call_plan l now me (call.Pipe target) else refused now reply.NoCaller) st)
-      by_target true e = call-amounts l st now me between (call.Pipe target) (ltb-true target.0 l.callers e)
-      by_target false e = cond-false (nat_lt target.0 l.callers) _ _ e
-  named-amounts (call.Pwrite c bytes) =
-      channel-line c _ _ (made (call.Pwrite c bytes)) refl (call-amounts l st now me between (call.Pwrite c bytes))
-  named-amounts (call.Pread c n) =
-      channel-line c _ _ (made (call.Pread c n)) refl (call-amounts l st now me between (call.Pread c n))
-  named-amounts (call.Group g) = call-amounts l st now me between (call.Group g) tt
+  looks_up call.Selector = (_, refl)
+  looks_up _ = (_, refl)
+
+  pub named-amounts : (word : Call) → call_of Now l ds me word
+      ≡ comes_to (perform me (if_named l now word (call_plan l now me word)) st)
+  unfolding if_named
+  named-amounts word =
+      names-line (word_row word).names (call_of Now l ds me word) (looks_up word).0 (call_plan l now me word)
+      (looks_up word).1 (call-amounts l st now me between word)
 
   pub line-amounts : (word : Call) → seq Now l ds me word ≡ comes_to (perform me (line_plan l now me word) st)
   unfolding seq line_plan
-  line-amounts word = by_caller (nat_lt me.0 l.callers)
-    where
-      by_caller : (b : Bool) → cond b (call_of Now l ds me word) (unchanged ds reply.NoCaller)
-          ≡ comes_to (perform me (if b then if_named l now word (call_plan l now me word)
-          else refused now reply.NoCaller) st)
-      by_caller true = named-amounts word
-      by_caller false = refl
+  line-amounts word =
+      let inner = call_of Now l ds me word in
+      name-line (Caller me) (with_name (Caller me) inner) inner (if_named l now word (call_plan l now me word)) refl
+      (λ there. with-through (Caller me) inner there ∙ named-amounts word)

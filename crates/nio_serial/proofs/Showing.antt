@@ -53,6 +53,22 @@ pub record ShowsAsBefore (before after : Progress) : Type 0 where
   pub selection : after.selection ≡ before.selection
   pub closing : after.closing ≡ before.closing
 
+-- the caller's own selection is one of those in progress
+pub record Own (me : CallerNo) (o : Option Selecting) (x : Selection) : Type 0 where
+  pub its : Selecting
+  pub is : o ≡ Some its
+  pub by : (its.caller.0 == me.0) ≡ true
+  pub same : its.selection ≡ x
+
+pub own-is : (me : CallerNo) (o : Option Selecting) (x : Selection) → if_own me o ≡ Some x → Own me o x
+own-is me None x is = absurd (cc is)
+own-is me (Some y) x is = by_test (y.caller.0 == me.0) refl is
+  where
+    by_test : (b : Bool) → (y.caller.0 == me.0) ≡ b → (if b then Some y.selection else None) ≡ Some x
+        → Own me (Some y) x
+    by_test true by is' = record { its = y; is = refl; by = by; same = cc is' }
+    by_test false by is' = absurd (cc is')
+
 pub shows-on : (st : State) (before after : Progress) (t : ℕ) → ShowsAsBefore before after
     → IsShownBy st before t → IsShownBy st after t
 shows-on st before after t same was = record {

@@ -88,7 +88,7 @@ sealed-whole chan (Some i) pipes all =
 -- ---- calls that change no channel's kind and no pipe
 
 -- the others are told apart
-abbrev is_apart : Call → Bool
+abbrev pub is_apart : Call → Bool
 is_apart (call.Channel kind) = false
 is_apart (call.Blocking c on) = false
 is_apart (call.Closec c) = false
@@ -97,10 +97,10 @@ is_apart (call.Pwrite c bytes) = false
 is_apart (call.Pread c n) = false
 is_apart _ = true
 
-abbrev Leaves : ScriptState → Call → Replied → Type 0
+abbrev pub Leaves : ScriptState → Call → Replied → Type 0
 Leaves st word a = is_apart word ≡ true → (a.left.shared.chan ≡ st.shared.chan) × (a.left.pipes ≡ st.pipes)
 
-leaves : (st : ScriptState) (me : CallerNo) → HoldsOfChanges Now st me (Leaves st)
+pub leaves : (st : ScriptState) (me : CallerNo) → HoldsOfChanges Now st me (Leaves st)
 leaves st me = record {
   nothing = λ _ _ _ _. (refl, refl);
   selector = λ _ _. (refl, refl);
@@ -136,7 +136,7 @@ leaves st me = record {
 
 -- ---- each call
 
-next-unmade : (l : Limits) (st : ScriptState) (c : ℕ) → next_channel l st ≡ Some c → (st.shared.chan c).made ≡ false
+pub next-unmade : (l : Limits) (st : ScriptState) (c : ℕ) → next_channel l st ≡ Some c → (st.shared.chan c).made ≡ false
 next-unmade l st c e =
     not-true (st.shared.chan c).made (found_below (λ n. not (st.shared.chan n).made) l.channels c e).0
 

@@ -1,5 +1,5 @@
 -- The laws of calls that don't overlap.
-use Rattle.std.specs.Prelude.{◌≡◌, ℕ, ◌<◌, Bool, true, Some, List, ◌++◌, map, IsTrue, ⊤}
+use Rattle.std.specs.Prelude.{◌≡◌, ℕ, Bool, true, Some, List, ◌++◌, map, IsTrue}
 use Rattle.std.specs.List.{All}
 use Rattle.nio_base.specs.Limits.{IsFit}
 use Rattle.nio_base.specs.declared.limits.Limits.{Limits}
@@ -12,12 +12,15 @@ use Rattle.nio_event.specs.Histories.{state_after, event_of, IsLegal}
 use Rattle.nio_event.specs.PassViews.{PassView, known}
 use Rattle.nio_event.specs.Sets.{was_published}
 use Rattle.nio_event.specs.State.{State, opening, with_drawn}
+use Rattle.nio_event.specs.WordRows.{EachName, word_row}
 use Rattle.nio_event.specs.declared.act.Act.{Act}
 use Rattle.nio_event.specs.declared.call.Call.{Call}
 use Rattle.nio_event.specs.declared.call.Call.TheVariants as call
 use Rattle.nio_plain.specs.Seq.{call_of, seq}
 use Rattle.nio_event.specs.declared.event.Event.{Event}
 use Rattle.nio_event.specs.declared.found.Mode.{Mode}
+use Rattle.nio_event.specs.declared.word_row.LineName.{LineName}
+use Rattle.nio_event.specs.declared.word_row.LineName.TheVariants.{Caller, Selector, Channel, Key}
 use Rattle.nio_plain.specs.Seq.Replies.{Replied}
 use Rattle.nio_plain.specs.declared.rules.Rules.TheVariants.{Now}
 use Rattle.nio_steps.specs.Calls.{CallClause}
@@ -41,41 +44,15 @@ IsMadeChannel st c = IsTrue (st.chan c.0).made
 abbrev pub IsMadeKey : State → SelNo → KeyId → Type 0
 IsMadeKey st s k = IsMadeSelector st s × IsTrue (was_published (st.key s.0 k.index) k.serial)
 
--- the selector and the channel that the call names are made, its key was published, and its caller may be drawn
+-- what is named is there: a selector or a channel is made, a key was published, a caller may be drawn
+abbrev pub IsThere : Limits → State → LineName → Type 0
+IsThere l st (Caller n) = IsCaller l n
+IsThere l st (Selector s) = IsMadeSelector st s
+IsThere l st (Channel c) = IsMadeChannel st c
+IsThere l st (Key s k) = IsMadeKey st s k
+
 abbrev pub IsNamed : Limits → State → Call → Type 0
-IsNamed l st call.Selector = ⊤
-IsNamed l st (call.Channel kind) = ⊤
-IsNamed l st (call.Blocking c on) = IsMadeChannel st c
-IsNamed l st (call.IsBlocking c) = IsMadeChannel st c
-IsNamed l st (call.IsOpen c) = IsMadeChannel st c
-IsNamed l st (call.IsRegistered c) = IsMadeChannel st c
-IsNamed l st (call.KeyFor c s) = IsMadeChannel st c × IsMadeSelector st s
-IsNamed l st (call.Register s c ops att) = IsMadeSelector st s × IsMadeChannel st c
-IsNamed l st (call.Closec c) = IsMadeChannel st c
-IsNamed l st (call.Valid s k) = IsMadeKey st s k
-IsNamed l st (call.Interest s k) = IsMadeKey st s k
-IsNamed l st (call.Ready s k) = IsMadeKey st s k
-IsNamed l st (call.Iset s k ops) = IsMadeKey st s k
-IsNamed l st (call.Ior s k ops) = IsMadeKey st s k
-IsNamed l st (call.Iand s k ops) = IsMadeKey st s k
-IsNamed l st (call.Cancel s k) = IsMadeKey st s k
-IsNamed l st (call.Unselect s k) = IsMadeKey st s k
-IsNamed l st (call.Attach s k att) = IsMadeKey st s k
-IsNamed l st (call.Attachment s k) = IsMadeKey st s k
-IsNamed l st (call.Begin s waiting) = IsMadeSelector st s
-IsNamed l st (call.Told s elapsed pairs) = IsMadeSelector st s
-IsNamed l st (call.Failed s) = IsMadeSelector st s
-IsNamed l st (call.Wakeup s) = IsMadeSelector st s
-IsNamed l st (call.Close s) = IsMadeSelector st s
-IsNamed l st (call.CloseEnd s) = IsMadeSelector st s
-IsNamed l st (call.Keys s) = IsMadeSelector st s
-IsNamed l st (call.Selected s) = IsMadeSelector st s
-IsNamed l st (call.Interrupt target) = target.0 < l.callers
-IsNamed l st call.Interrupted = ⊤
-IsNamed l st (call.Pipe target) = target.0 < l.callers
-IsNamed l st (call.Pwrite c bytes) = IsMadeChannel st c
-IsNamed l st (call.Pread c n) = IsMadeChannel st c
-IsNamed l st (call.Group g) = ⊤
+IsNamed l st word = EachName (IsThere l st) (word_row word).names
 
 -- ---- the laws
 

@@ -8,12 +8,15 @@ use Rattle.nio_base.specs.declared.numbers.ChanNo.{ChanNo}
 use Rattle.nio_base.specs.declared.numbers.KeyId.{KeyId}
 use Rattle.nio_base.specs.declared.numbers.SelNo.{SelNo}
 use Rattle.nio_event.specs.State.{put}
+use Rattle.nio_event.specs.WordRows.{by_names, word_row}
 use Rattle.nio_event.specs.declared.call.Call.{Call}
 use Rattle.nio_event.specs.declared.call.Call.TheVariants as call
 use Rattle.nio_event.specs.declared.found.Mode.{Mode}
 use Rattle.nio_event.specs.declared.group_call.GroupCall.{GroupCall}
 use Rattle.nio_event.specs.declared.reply.Reply.{Reply}
 use Rattle.nio_event.specs.declared.reply.Reply.TheVariants as reply
+use Rattle.nio_event.specs.declared.word_row.LineName.{LineName}
+use Rattle.nio_event.specs.declared.word_row.LineName.TheVariants.{Caller, Selector, Channel, Key}
 use Rattle.nio_plain.specs.ScriptState.{Pipe}
 use Rattle.nio_plain.specs.Seq.Replies.{Replied, yes_or_no}
 use Rattle.nio_plain.specs.Seq.Grouping.{group_reply, group_left}
@@ -193,42 +196,15 @@ if_channel l now c plan = find_channel_plan l c.0 >>= if_found now reply.NoChann
 abbrev pub if_key : Limits → Progress → SelNo → KeyId → Plan Said → Plan Said
 if_key l now s k plan = if_selector l now s (find_plan l s k.index k.serial >>= if_found now reply.NoKey plan)
 
--- The names of a line are looked up in their order. The channels of a group aren't the table's: a call on the group
--- finds its channel itself.
+abbrev pub if_name : Limits → Progress → LineName → Plan Said → Plan Said
+if_name l now (Caller n) plan = if_caller l now n plan
+if_name l now (Selector s) plan = if_selector l now s plan
+if_name l now (Channel c) plan = if_channel l now c plan
+if_name l now (Key s k) plan = if_key l now s k plan
+
+-- the names of a line are looked up in their order
 unfoldable pub if_named : Limits → Progress → Call → Plan Said → Plan Said
-if_named l now call.Selector plan = plan
-if_named l now (call.Channel kind) plan = plan
-if_named l now (call.Blocking c on) plan = if_channel l now c plan
-if_named l now (call.IsBlocking c) plan = if_channel l now c plan
-if_named l now (call.IsOpen c) plan = if_channel l now c plan
-if_named l now (call.IsRegistered c) plan = if_channel l now c plan
-if_named l now (call.KeyFor c s) plan = if_channel l now c (if_selector l now s plan)
-if_named l now (call.Register s c ops att) plan = if_selector l now s (if_channel l now c plan)
-if_named l now (call.Closec c) plan = if_channel l now c plan
-if_named l now (call.Valid s k) plan = if_key l now s k plan
-if_named l now (call.Interest s k) plan = if_key l now s k plan
-if_named l now (call.Ready s k) plan = if_key l now s k plan
-if_named l now (call.Iset s k ops) plan = if_key l now s k plan
-if_named l now (call.Ior s k ops) plan = if_key l now s k plan
-if_named l now (call.Iand s k ops) plan = if_key l now s k plan
-if_named l now (call.Cancel s k) plan = if_key l now s k plan
-if_named l now (call.Unselect s k) plan = if_key l now s k plan
-if_named l now (call.Attach s k att) plan = if_key l now s k plan
-if_named l now (call.Attachment s k) plan = if_key l now s k plan
-if_named l now (call.Begin s waiting) plan = if_selector l now s plan
-if_named l now (call.Told s elapsed pairs) plan = if_selector l now s plan
-if_named l now (call.Failed s) plan = if_selector l now s plan
-if_named l now (call.Wakeup s) plan = if_selector l now s plan
-if_named l now (call.Close s) plan = if_selector l now s plan
-if_named l now (call.CloseEnd s) plan = if_selector l now s plan
-if_named l now (call.Keys s) plan = if_selector l now s plan
-if_named l now (call.Selected s) plan = if_selector l now s plan
-if_named l now (call.Interrupt target) plan = if_caller l now target plan
-if_named l now call.Interrupted plan = plan
-if_named l now (call.Pipe target) plan = if_caller l now target plan
-if_named l now (call.Pwrite c bytes) plan = if_channel l now c plan
-if_named l now (call.Pread c n) plan = if_channel l now c plan
-if_named l now (call.Group g) plan = plan
+if_named l now word plan = by_names (if_name l now) (word_row word).names plan
 
 -- a line of a script
 unfoldable pub line_plan : Limits → Progress → CallerNo → Call → Plan Said

@@ -45,7 +45,3 @@ pub write_keeps_read : (result : Result Put Failed) (before now : ℕ) → Ready
 write_keeps_read (Ok (put.Bytes n)) before now ready within = same_within 1 before now ready within
 write_keeps_read (Ok put.NotYet) before now ready within = lost_read before now ready within
 write_keeps_read (Err failed) before now ready within = same_within 1 before now ready within
-
-pub within_trans : (a b c : ℕ) → bit_and a b ≡ a → IsTrue (is_within b c) → IsTrue (is_within a c)
-within_trans a b c first second = eq-eqb (bit_and a c) a
-    (ap (λ x. bit_and x c) (sym first) ∙ and_assoc c a b ∙ ap (bit_and a) (eqb-true (bit_and b c) b second) ∙ first)

@@ -1,45 +1,44 @@
 -- What a call on the table adds to the calls that a board's caller has made.
-use Rattle.std.proofs.Common.{◌≡◌, ℕ, ◌+◌, Bool, false, if◌then◌else◌, Option, Some, Ok, List, [], ◌∷◌}
-use Rattle.std.proofs.Common.{◌++◌, refl, ap, sym, ◌∙◌, subst, append_assoc, add-one, eq-eqb}
+use Rattle.std.proofs.Common.{◌≡◌, ℕ, ◌+◌, false, Option, Some, Ok, List, [], ◌∷◌}
+use Rattle.std.proofs.Common.{◌++◌, refl, ap, sym, ◌∙◌, subst, append_assoc, add-one}
 use Rattle.std.proofs.lemmas.List.{append-nil}
 use Rattle.nio_base.specs.declared.limits.Limits.{Limits}
 use Rattle.nio_base.specs.declared.numbers.CallerNo.{CallerNo}
 use Rattle.nio_base.specs.declared.numbers.ChanNo.{ChanNo}
 use Rattle.nio_base.specs.declared.numbers.KeyNo.{KeyNo}
 use Rattle.nio_base.specs.declared.numbers.SelNo.{SelNo}
+use Rattle.nio_event.proofs.Put.{put-same}
 use Rattle.nio_event.specs.Histories.{mine}
 use Rattle.nio_event.specs.PassViews.{ActsClause, HasNoPin, done_between}
-use Rattle.nio_event.specs.Questions.{answer_of}
 use Rattle.nio_event.specs.State.{put}
 use Rattle.nio_event.specs.declared.act.Act.{Act}
 use Rattle.nio_event.specs.declared.act.Act.TheVariants.{DrawBit}
 use Rattle.nio_event.specs.declared.found.Mode.{Mode}
-use Rattle.nio_orderly.proofs.CallLists.{one_call_more}
-use Rattle.nio_orderly.specs.Made.{Made, IsRun, Ongoing, nothing_ongoing, after_call, after_calls, MayCome}
-use Rattle.nio_orderly.specs.Made.{draw, register, try_begin, told, leave}
+use Rattle.nio_orderly.proofs.CallLists.{one_call_more, run_one}
+use Rattle.nio_orderly.specs.Made.{Made, IsRun, after_call, after_calls, MayCome}
+use Rattle.nio_orderly.specs.Made.{draw}
+use Rattle.nio_orderly.proofs.WaitedCalls.{GoesOn, after_calls-append, told-goes_on}
+use Rattle.nio_orderly.specs.Made.{table_call, waiting_call}
 use Rattle.nio_orderly.specs.Orderly.{AreCallsOf}
 use Rattle.nio_select.specs.InProgress.{Selects}
+use Rattle.nio_serve.proofs.Idle.{idle_after}
+use Rattle.nio_serve.specs.Board.{IsAtRest, IsSelecting, board_of, next_channel, one_more}
+use Rattle.nio_serve.specs.BoardLaws.{DrawnIsUnregistered}
+use Rattle.nio_serve.specs.Called.{HasRegistered, IsUnregistered, channel_in, registration, registrations, seats}
+use Rattle.nio_serve.specs.declared.board.Station.{Station}
+use Rattle.nio_serve.specs.declared.deal.Deal.{Deal}
 use Rattle.nio_steps.proofs.BeginLaws.{begin-parts}
 use Rattle.nio_steps.proofs.PinBack.{no_pin_after}
-use Rattle.nio_steps.proofs.Walks.{Always, always_bind, always_if, always_any, always_run}
+use Rattle.nio_steps.proofs.Walks.{always_run}
 use Rattle.nio_steps.specs.Calls.{CallClause}
+use Rattle.nio_steps.specs.Ongoing.{Ongoing, nothing_ongoing}
 use Rattle.nio_steps.specs.PinLaws.{GivesPinsBack}
-use Rattle.nio_steps.specs.Plan.{reply, ◌>>◌}
-use Rattle.nio_steps.specs.SelectCalls.{Selection, Poll, ToldReply, done, again, told_plan, mark_entry, after_marks}
-use Rattle.nio_steps.specs.SelectCalls.{is_again, why_ended, remove_if_cancelled, end_selection}
-use Rattle.nio_steps.specs.Steps.{flag_in, gate_in, end_wake, give_turn}
-use Rattle.nio_steps.specs.Sweeps.{sweep_over}
-use Rattle.nio_steps.specs.declared.selected.Selected.{Selected}
+use Rattle.nio_steps.specs.SelectCalls.{Selection, Poll, ToldReply, again, told_plan}
+use Rattle.nio_steps.specs.TableCalls.{register, try_begin, told, leave}
 use Rattle.nio_words.specs.Passes.{IsReady, acts_seen, limits_of}
 use Rattle.nio_words.specs.Views.{view}
 use Rattle.nio_words.specs.declared.words.Pass.{Pass}
 use Rattle.nio_words.specs.declared.words.Words.{Words}
-use Rattle.nio_serve.proofs.Idle.{idle_after}
-use Rattle.nio_serve.specs.Board.{IsAtRest, IsSelecting, board_of, next_channel, one_more}
-use Rattle.nio_serve.specs.BoardLaws.{DrawnIsUnregistered}
-use Rattle.nio_serve.specs.Called.{HasRegistered, channel_in, registration, registrations, seats}
-use Rattle.nio_serve.specs.declared.board.Station.{Station}
-use Rattle.nio_serve.specs.declared.deal.Deal.{Deal}
 
 -- ---- one call more
 
@@ -49,11 +48,6 @@ registrations-append [] later = refl
 registrations-append (call ∷ calls) later =
     ap (λ those. registration call ++ those) (registrations-append calls later)
     ∙ sym (append_assoc (registration call) (registrations calls) (registrations later))
-
-after_calls-append : (now : Ongoing) (calls later : List Made)
-    → after_calls now (calls ++ later) ≡ after_calls (after_calls now calls) later
-after_calls-append now [] later = refl
-after_calls-append now (call ∷ calls) later = after_calls-append (after_call now call) calls later
 
 call_more : (l : Limits) (own acts : List Act) (those : List (SelNo × ChanNo)) (call : Made)
     (has : HasRegistered l own those) → MayCome (after_calls nothing_ongoing has.calls) call → IsRun l call acts
@@ -138,20 +132,17 @@ seats-more : (deal : Option Deal) (s : SelNo) (n : ℕ)
 seats-more deal s n = ap (seats deal s) (sym (add-one n))
 
 pub rest_registered : {w : Words} {p q : Pass} {at : Station} (c : ChanNo) (ops att : ℕ) (k : KeyNo)
-    → c ≡ next_channel at → DidCall w p q at.caller (register at.selector c ops att (Ok k))
+    → c ≡ next_channel at → DidCall w p q at.caller (waiting_call (register at.selector c ops att) (Ok k))
     → IsAtRest (board_of w p at) → IsAtRest (board_of w q (one_more at))
 rest_registered {at = at} c ops att k next did rest = record {
   idle = idle_after did.did did.ready did.unpinned rest.idle;
   watched = those_are
       (ap (λ (x : ChanNo). seats at.deal at.selector at.registered ++ (at.selector, x) ∷ []) next
       ∙ seats-more at.deal at.selector at.registered)
-      (has_after (register at.selector c ops att (Ok k)) rest.watched did tt);
+      (has_after (waiting_call (register at.selector c ops att) (Ok k)) rest.watched did tt);
 }
 
 -- ---- a selection
-
-put-there : {A : Type 0} (f : ℕ → A) (i : ℕ) (x : A) → put f i x i ≡ x
-put-there f i x = ap (λ b. if b then x else f i) (eq-eqb i i refl)
 
 -- after one call more
 ongoing-more : (calls : List Made) (call : Made) (s : ℕ)
@@ -160,11 +151,12 @@ ongoing-more : (calls : List Made) (call : Made) (s : ℕ)
 ongoing-more calls call s = ap (λ (o : Ongoing). o.selection s) (after_calls-append nothing_ongoing calls (call ∷ []))
 
 pub selecting_begun : {w : Words} {p q : Pass} {at : Station} (mode : Mode) (selection : Selection)
-    → DidCall w p q at.caller (try_begin at.selector mode (Ok selection)) → Selects (view w q) at.caller selection
+    → DidCall w p q at.caller (table_call (try_begin at.selector mode) (Ok selection))
+    → Selects (view w q) at.caller selection
     → IsAtRest (board_of w p at) → IsSelecting (board_of w q at) selection
 unfolding quiet_after those_are has_after call_more
 selecting_begun {w} {p} {q} {at} mode selection did begun rest =
-    let call = try_begin at.selector mode (Ok selection) in
+    let call = table_call (try_begin at.selector mode) (Ok selection) in
     let same : selection.selector ≡ at.selector = (begin-parts at.selector mode _ selection did.runs).selector in
     record {
       begun = begun;
@@ -172,59 +164,31 @@ selecting_begun {w} {p} {q} {at} mode selection did begun rest =
       ongoing = ongoing-more rest.watched.calls call selection.selector.0
           ∙ (ap (λ (s : SelNo). put (after_calls nothing_ongoing rest.watched.calls).selection s.0 (Some selection)
           selection.selector.0) (sym same)
-          ∙ put-there (after_calls nothing_ongoing rest.watched.calls).selection selection.selector.0 (Some selection));
+          ∙ put-same (after_calls nothing_ongoing rest.watched.calls).selection selection.selector.0 (Some selection));
     }
 
 pub rest_left : {w : Words} {p q : Pass} {at : Station} {selection : Selection}
-    → DidCall w p q at.caller (leave selection) → IsSelecting (board_of w p at) selection
+    → DidCall w p q at.caller (table_call (leave selection) tt) → IsSelecting (board_of w p at) selection
     → IsAtRest (board_of w p at) → IsAtRest (board_of w q at)
 rest_left {selection = selection} did selecting rest = record {
   idle = idle_after did.did did.ready did.unpinned rest.idle;
-  watched = quiet_after (leave selection) selecting.watched refl did selecting.ongoing;
+  watched = quiet_after (table_call (leave selection) tt) selecting.watched refl did selecting.ongoing;
 }
 
 pub rest_told : {w : Words} {p q : Pass} {at : Station} {selection : Selection} (poll : Poll) (answer : ToldReply)
-    → DidCall w p q at.caller (told selection poll answer) → IsSelecting (board_of w p at) selection
+    → DidCall w p q at.caller (table_call (told selection poll) answer) → IsSelecting (board_of w p at) selection
     → IsAtRest (board_of w p at) → IsAtRest (board_of w q at)
 rest_told {selection = selection} poll answer did selecting rest = record {
   idle = idle_after did.did did.ready did.unpinned rest.idle;
-  watched = quiet_after (told selection poll answer) selecting.watched refl did selecting.ongoing;
+  watched = quiet_after (table_call (told selection poll) answer) selecting.watched refl did selecting.ongoing;
 }
 
--- a `told` that answers Again goes on with the same selection
-abbrev GoesOn : Selection → ToldReply → Type 0
-GoesOn selection (done answer) = Unit {0}
-GoesOn selection (again next) = next ≡ selection
-
-ends-over : (selection : Selection) (answer : Selected)
-    → Always (λ _ r. GoesOn selection r) (end_selection selection answer)
-ends-over selection answer =
-    always_bind (λ _ _. Unit {0}) (λ _ r. GoesOn selection r)
-    (sweep_over selection.kept (λ i _. remove_if_cancelled selection.selector i) tt)
-    (λ _. (end_wake selection.selector >> give_turn selection.selector >> reply (done answer))) (always_any _)
-    (λ _ _ _ woken asks given asks'. tt)
-
-told-goes_on : (selection : Selection) (pairs : List (ℕ × ℕ)) (elapsed : Bool)
-    → Always (λ _ r. GoesOn selection r) (told_plan selection pairs elapsed)
-unfolding told_plan
-told-goes_on selection pairs elapsed =
-    always_bind (λ _ _. Unit {0}) (λ _ r. GoesOn selection r)
-    (sweep_over selection.looked (mark_entry selection.selector pairs) 0) (after_marks selection elapsed)
-    (always_any _)
-    (λ xs count _ look asks look' asks'.
-    let gate = gate_in (answer_of look) in
-    let is_interrupted = flag_in (answer_of look') in
-    let answer : Selected = record { count = count; why = why_ended selection.mode count gate is_interrupted } in
-    always_if (λ _ r. GoesOn selection r) (is_again selection.mode count gate is_interrupted elapsed)
-    (reply (again selection)) (end_selection selection answer) (λ _. refl)
-    (λ _. ends-over selection answer))
-
 pub selecting_again : {w : Words} {p q : Pass} {at : Station} {selection : Selection} (poll : Poll) (next : Selection)
-    → DidCall w p q at.caller (told selection poll (again next)) → Selects (view w q) at.caller next
+    → DidCall w p q at.caller (table_call (told selection poll) (again next)) → Selects (view w q) at.caller next
     → IsSelecting (board_of w p at) selection → IsSelecting (board_of w q at) next
 unfolding quiet_after those_are has_after call_more
 selecting_again {w} {p} {q} {at} {selection} poll next did begun selecting =
-    let call = told selection poll (again next) in
+    let call = table_call (told selection poll) (again next) in
     let before : ℕ → Option Selection = (after_calls nothing_ongoing selecting.watched.calls).selection in
     let same : next ≡ selection = always_run (λ _ r. GoesOn selection r) (told_plan selection poll.pairs poll.elapsed)
     _ (again next) (told-goes_on selection poll.pairs poll.elapsed) did.runs in
@@ -233,27 +197,20 @@ selecting_again {w} {p} {q} {at} {selection} poll next did begun selecting =
       watched = quiet_after call selecting.watched refl did selecting.ongoing;
       ongoing = ongoing-more selecting.watched.calls call next.selector.0
           ∙ (ap (λ (x : Selection). put before x.selector.0 (Some next) next.selector.0) (sym same)
-          ∙ put-there before next.selector.0 (Some next));
+          ∙ put-same before next.selector.0 (Some next));
     }
 
 -- ---- before there is a board
 
+-- where a caller only drew its number
+pub only_drawn : (l : Limits) (me : CallerNo) (own : List Act) → own ≡ DrawBit me false ∷ [] → IsUnregistered l own
+only_drawn l me own is = record {
+  calls = draw me ∷ [];
+  are = record { runs = run_one l (draw me) own is; in_order = (tt, tt) };
+  registered = refl;
+}
+
 pub drawn_is_unregistered : DrawnIsUnregistered
 drawn_is_unregistered w p q me first draws =
-    let own : acts_seen q me ≡ acts_seen p me ++ DrawBit me false ∷ [] = draws.clause.own in
     let none : acts_seen p me ≡ [] = ap (mine me) first.unseen in
-    let acts : acts_seen q me ≡ DrawBit me false ∷ [] = own ∙ ap (λ xs. xs ++ DrawBit me false ∷ []) none in
-    record {
-      calls = draw me ∷ [];
-      are = record {
-        runs = record {
-          first = acts_seen q me;
-          second = [];
-          parts = sym (append-nil _);
-          is_first = acts;
-          is_second = refl;
-        };
-        in_order = (tt, tt);
-      };
-      registered = refl;
-    }
+    only_drawn (limits_of w) me (acts_seen q me) (draws.clause.own ∙ ap (λ xs. xs ++ DrawBit me false ∷ []) none)

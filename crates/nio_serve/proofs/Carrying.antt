@@ -1,18 +1,19 @@
 -- Pieces of work on one direction, one after the other.
-use Rattle.std.proofs.Common.{◌≡◌, ◌≢◌, inl, inr, ℕ, ◌≤◌, List, [], ◌++◌, length, take, drop, IsTrue, refl, sym, ap}
+use Rattle.std.proofs.Common.{◌≡◌, ◌≢◌, ℕ, ◌≤◌, List, [], ◌++◌, length, take, drop, IsTrue, sym, ap}
 use Rattle.std.proofs.Common.{subst, ◌∙◌, arith, length-append, length-drop}
 use Rattle.std.proofs.Math.ListN.{drop_of_length-le}
 use Rattle.std.proofs.Math.Seq.{drop-append_seam}
 use Rattle.std.proofs.lemmas.List.{append-nil, length-take}
 use Rattle.nio_base.specs.declared.numbers.ChanNo.{ChanNo}
+use Rattle.nio_link.proofs.Channels.{all_same}
 use Rattle.nio_relay.specs.Flow.{Flow, IsLawful, buffered, takes, writes}
 use Rattle.nio_steps.specs.KeyCalls.{is_within}
 use Rattle.nio_serve.specs.declared.way.Way.{Ghosts}
 use Rattle.nio_serve.specs.Nets.{Works}
-use Rattle.nio_serve.specs.Passing.{BothSame, OneRose, Passes}
+use Rattle.nio_serve.specs.Passing.{Passes}
 use Rattle.nio_serve.specs.Relaying.{KeepsSink, KeepsSource, SameSink, SameSource}
 use Rattle.nio_serve.proofs.Ends.{end_moved, end_sink, end_source}
-use Rattle.nio_serve.proofs.Working.{all_same, rose_from, works_first, works_none, works_second, works_then}
+use Rattle.nio_serve.proofs.Working.{works_first, works_second, works_then}
 
 -- where nothing was buffered and all that was read was written, nothing is buffered
 pub buffered_passed : (f : Flow) (bytes : List ℕ) (n : ℕ) → buffered f ≡ [] → n ≡ length bytes
@@ -43,53 +44,7 @@ buffered_new f bytes lawful none =
     let all : f.taken ≡ w = sym begins ∙ ap (λ xs. w ++ xs) (sym rest_is ∙ none) ∙ append-nil w in
     ap (λ xs. drop (length w) (xs ++ bytes)) all ∙ drop-append_seam w bytes
 
--- ---- counts of faults
-
-pub one_rose_from : (before mid now : ChanNo → ℕ) (a b : ChanNo) → ((c : ChanNo) → before c ≤ mid c)
-    → OneRose mid now a b → OneRose before now a b
-one_rose_from before mid now a b later (inl rose) = inl (rose_from (before a) (mid a) (now a) (later a) rose)
-one_rose_from before mid now a b later (inr rose) = inr (rose_from (before b) (mid b) (now b) (later b) rose)
-
-pub one_rose_swapped : (before now : ChanNo → ℕ) (a b : ChanNo) → OneRose before now a b → OneRose before now b a
-one_rose_swapped before now a b (inl rose) = inr rose
-one_rose_swapped before now a b (inr rose) = inl rose
-
-pub both_same : (before : ChanNo → ℕ) (a b : ChanNo) → BothSame before before a b
-both_same before a b = record { first = refl; second = refl }
-
-pub both_then : (before mid now : ChanNo → ℕ) (a b : ChanNo) → BothSame before mid a b → BothSame mid now a b
-    → BothSame before now a b
-both_then before mid now a b first second = record {
-  first = second.first ∙ first.first;
-  second = second.second ∙ first.second;
-}
-
-pub both_swapped : (before now : ChanNo → ℕ) (a b : ChanNo) → BothSame before now a b → BothSame before now b a
-both_swapped before now a b both = record { first = both.second; second = both.first }
-
 module _ {W N : Type 0} (n : Ghosts W N) where
-  -- where only one of the two links was worked on
-  pub calm_first : (a b : ChanNo) (x y : N) → a ≢ b → Works n a a x y → n.faults y a ≡ n.faults x a
-      → BothSame (n.faults x) (n.faults y) a b
-  calm_first a b x y apart work calm =
-      let not : b ≢ a = λ at. apart (sym at) in
-      record { first = calm; second = work.faults b not not }
-
-  pub calm_second : (a b : ChanNo) (x y : N) → a ≢ b → Works n b b x y → n.faults y b ≡ n.faults x b
-      → BothSame (n.faults x) (n.faults y) a b
-  calm_second a b x y apart work calm = record { first = work.faults a apart apart; second = calm }
-
-  pub passes_none : (a b : ChanNo) (f : Flow) (x : N) → Passes n a b f f x x
-  passes_none a b f x = record {
-    work = works_none n a b x;
-    source = λ incoming is. is;
-    sink = λ outgoing is. is;
-    places = λ c. refl;
-    shut = refl;
-    write = λ ready. ready;
-    read = λ ready. ready;
-  }
-
   pub passes_then : (a b : ChanNo) (f g h : Flow) (x y z : N) → Passes n a b f g x y → Passes n a b g h y z
       → Passes n a b f h x z
   passes_then a b f g h x y z first second = record {

@@ -1,23 +1,21 @@
--- A connection whose target is connected: before, while and after its connecting is begun.
+-- A connection whose target is asked for.
 use Rattle.std.proofs.Common.{◌≡◌, Bool, true, false, Some, Result, Ok, Err, IsTrue, refl, sym, ap, subst, ◌∙◌}
 use Rattle.nio_base.specs.declared.numbers.Addr.{Addr}
-use Rattle.nio_link.specs.Links.{Link, IsUnused}
-use Rattle.nio_link.specs.Places.{unused, IsVacant, place_after_close, place_after_connect}
+use Rattle.nio_link.specs.Links.{Link}
+use Rattle.nio_link.specs.Places.{IsVacant, place_after_close, place_after_connect}
 use Rattle.nio_link.specs.declared.net.Failed.{Failed}
 use Rattle.nio_link.specs.declared.place.Place.{Place}
 use Rattle.nio_link.specs.declared.place.Role.{Role}
 use Rattle.nio_link.specs.declared.place.Role.TheVariants as role
-use Rattle.nio_link.specs.declared.place.Standing.TheVariants as standing
-use Rattle.nio_relay.specs.Flow.{Flow, fresh}
+use Rattle.nio_relay.specs.Flow.{Flow}
 use Rattle.nio_serve.specs.Nets.{OnlyCloses}
-use Rattle.nio_serve.specs.Relaying.{carried, stage_after, target_role, IsAsked, IsTarget}
+use Rattle.nio_serve.specs.Relaying.{carried, target_role, IsAsked, IsTarget}
 use Rattle.nio_serve.specs.Serving.{listener}
 use Rattle.nio_serve.specs.Slots.{HasRoles, IsLive, IsSlotOf}
 use Rattle.nio_serve.specs.declared.slot.Relay.{Relay}
 use Rattle.nio_serve.specs.declared.slot.Slot.TheVariants.{Live, Faulted}
 use Rattle.nio_serve.specs.declared.slot.Stage.{Stage}
 use Rattle.nio_serve.specs.declared.slot.Stage.TheVariants as stage
-use Rattle.nio_serve.proofs.Begun.{accepted_live, made_live}
 use Rattle.nio_serve.proofs.Promise.{ended_faulty}
 use Rattle.nio_serve.proofs.Working.{role_stays}
 
@@ -40,26 +38,7 @@ shut_asked stage.Accepted there back l p is shut = let never : true ≡ false = 
 shut_asked stage.Connecting there back l p is shut = tt
 shut_asked stage.Connected there back l p is shut = tt
 
--- ---- a connection whose client was accepted
-
-pub accepted_slot : (relay : Relay) (to : Addr) (client target : Link) (p q : Place) → relay.there ≡ fresh
-    → relay.back ≡ fresh → relay.stage ≡ stage.Accepted → IsUnused client → IsUnused target
-    → p ≡ record { role = role.Accepted listener; standing = standing.Linked } → q ≡ unused
-    → IsSlotOf to (Some (Live relay)) client target p q
-accepted_slot relay to client target p q there back at c t accepted none =
-    let live : IsLive stage.Accepted fresh fresh client target p q =
-    accepted_live client target p q c t (ap (λ (x : Place). x.standing) accepted) none in
-    record {
-      is_slot = subst (λ s. IsLive s relay.there relay.back client target p q) (sym at)
-          (subst (λ f. IsLive stage.Accepted f relay.back client target p q) (sym there)
-          (subst (λ f. IsLive stage.Accepted fresh f client target p q) (sym back) live));
-      roles = (
-        ap (λ (x : Place). x.role) accepted,
-        ap (λ (x : Place). x.role) none ∙ ap (λ s. target_role s to) (sym at),
-      );
-    }
-
--- ---- a connection whose target is asked for
+-- ---- its target can't be connected
 
 module _ (relay : Relay) (to : Addr) (c0 c1 t0 t1 : Link) (p0 p1 q0 q1 : Place)
     (at : relay.stage ≡ stage.Accepted) (is : IsSlotOf to (Some (Live relay)) c0 t0 p0 q0) (clients : c1 ≡ c0)
@@ -67,34 +46,12 @@ module _ (relay : Relay) (to : Addr) (c0 c1 t0 t1 : Link) (p0 p1 q0 q1 : Place)
   live : IsLive stage.Accepted relay.there relay.back c0 t0 p0 q0
   live = subst (λ s. IsLive s relay.there relay.back c0 t0 p0 q0) at is.is_slot
 
-  made_role : (made : Bool) → target_role (stage_after made) to ≡ role.Connected to
-  made_role true = refl
-  made_role false = refl
-
   answered_role : (result : Result Bool Failed) → q1 ≡ place_after_connect result to → q1.role ≡ role.Connected to
   answered_role (Ok true) place = ap (λ (x : Place). x.role) place
   answered_role (Ok false) place = ap (λ (x : Place). x.role) place
   answered_role (Err failed) place = ap (λ (x : Place). x.role) place
 
-  -- it is connected, or is being connected
-  pub made_slot : (now : Relay) (made : Bool) → now.there ≡ relay.there → now.back ≡ relay.back
-      → now.stage ≡ stage_after made → p1 ≡ p0 → q1 ≡ place_after_connect (Ok made) to
-      → IsSlotOf to (Some (Live now)) c1 t1 p1 q1
-  made_slot now made there back stages at_client at_target =
-      let here : IsLive (stage_after made) relay.there relay.back c1 t1 p1 q1 =
-      made_live made to relay.there relay.back c0 c1 t0 t1 p0 p1 q0 q1 live clients targets at_client at_target in
-      record {
-        is_slot = subst (λ s. IsLive s now.there now.back c1 t1 p1 q1) (sym stages)
-            (subst (λ f. IsLive (stage_after made) f now.back c1 t1 p1 q1) (sym there)
-            (subst (λ f. IsLive (stage_after made) relay.there f c1 t1 p1 q1) (sym back) here));
-        roles = (
-          ap (λ (x : Place). x.role) at_client ∙ is.roles.0,
-          answered_role (Ok made) at_target
-              ∙ sym (ap (λ s. target_role s to) stages ∙ made_role made),
-        );
-      }
-
-  -- it can't be connected, and its links were closed
+  -- its links were closed
   pub unmade_slot : (failed : Failed) (p2 q2 : Place) → p1 ≡ p0 → q1 ≡ place_after_connect (Err failed) to
       → p2 ≡ place_after_close p1 → OnlyCloses q1 q2 → IsVacant q2.standing → IsSlotOf to (Some Faulted) c1 t1 p2 q2
   unmade_slot failed p2 q2 at_client at_target closed closes vacant = record {

@@ -1,23 +1,17 @@
 -- The ends of a connection, from piece of work to piece of work.
-use Rattle.std.proofs.Common.{◌≡◌, Bool, true, false, Result, Ok, Err, OnOk, OnErr, is_err, refl, sym, ap, subst, ◌∙◌}
+use Rattle.std.proofs.Common.{◌≡◌, Bool, true, false, Result, OnOk, is_err, refl, sym, ap, subst, ◌∙◌}
 use Rattle.nio_link.specs.Links.{Link}
-use Rattle.nio_link.specs.Places.{IsLinked, closed, place_after_close}
+use Rattle.nio_link.specs.Places.{closed, place_after_close}
 use Rattle.nio_link.specs.declared.place.Place.{Place}
 use Rattle.nio_link.specs.declared.place.Standing.TheVariants.{Gone}
 use Rattle.nio_relay.specs.Connection.{Carried}
 use Rattle.nio_relay.specs.Flow.{Flow, IsLawful}
+use Rattle.nio_serve.proofs.Watching.{where_done}
 use Rattle.nio_serve.specs.Relaying.{IsEnd, IsTarget, SameSink, SameSource, carried, open_or_shut}
 use Rattle.nio_serve.specs.Serving.{HasCarried}
-use Rattle.nio_serve.specs.Slots.{IsBroken, IsLive, IsRelaying}
+use Rattle.nio_serve.specs.Slots.{IsLive, IsRelaying}
 use Rattle.nio_serve.specs.declared.slot.Stage.{Stage}
 use Rattle.nio_serve.specs.declared.slot.Stage.TheVariants as stage
-
-open_linked : (b : Bool) → IsLinked (open_or_shut b)
-open_linked true = tt
-open_linked false = tt
-
-pub end_linked : {l : Link} {p : Place} {c : Carried} → IsEnd l p c → IsLinked p.standing
-end_linked {c = c} is = subst IsLinked (sym is.stands) (open_linked c.shut)
 
 open_gone : (b : Bool) → closed (open_or_shut b) ≡ Gone
 open_gone true = refl
@@ -50,15 +44,6 @@ end_sink {l} {p} {f} {g} outgoing same is =
     (subst (λ shut. IsEnd l p (record { got = outgoing.taken; ended = outgoing.ended; put = f.written; shut = shut }))
     (sym same.shut) is)
 
--- what holds where a call failed, or where it didn't
-pub where_failed : {T E P : Type 0} (result : Result T E) → is_err result ≡ true → OnErr result P → P
-where_failed (Ok value) failed holds = absurd (cc)
-where_failed (Err error) failed holds = holds
-
-where_done : {T E P : Type 0} (result : Result T E) → is_err result ≡ false → OnOk result P → P
-where_done (Ok value) done holds = holds
-where_done (Err error) done holds = absurd (cc)
-
 -- a connection of which no call has failed is relayed still
 pub still_live : {T E : Type 0} (result : Result T E) (made : Stage) (there back : Flow) (client target : Link)
     (p q : Place) → is_err result ≡ false → OnOk result (IsRelaying made there back client target p q)
@@ -73,14 +58,3 @@ pub target_carried : (made : Stage) (l : Link) (p : Place) (c : Carried) → IsT
 target_carried stage.Accepted l p c is = is.carried
 target_carried stage.Connecting l p c is = is.carried
 target_carried stage.Connected l p c is = is.carried
-
--- a connection that was relayed, and of which only the target's place has changed
-pub relaying_broken : {T E : Type 0} (result : Result T E) {made : Stage} {there back : Flow} {c0 c1 t0 t1 : Link}
-    {p0 p1 q0 : Place} → IsRelaying made there back c0 t0 p0 q0 → c1 ≡ c0 → t1 ≡ t0 → p1 ≡ p0
-    → OnErr result (IsBroken there back c1 t1 p1)
-relaying_broken (Ok value) is clients targets places = tt
-relaying_broken (Err error) {made} {there} {back} {t0 = t0} {q0 = q0} is clients targets places = record {
-  by_client = end_moved clients places is.by_client;
-  by_target = subst (λ t. HasCarried t (carried back there)) (sym targets)
-      (target_carried made t0 q0 (carried back there) is.by_target);
-}

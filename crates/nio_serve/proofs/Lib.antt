@@ -1,16 +1,15 @@
 mod Begun
-mod Bits
+pub mod Bits
 pub mod Calls
 mod Carrying
 mod Connecting
-mod Counts
-mod Dealt
+pub mod Counts
 mod Ends
-mod Idle
+pub mod Idle
 pub mod Promise
 mod Ordered
 mod Resolved
-mod Slotting
+pub mod Slotting
 mod TableCalls
-mod Watching
-mod Working
+pub mod Watching
+pub mod Working

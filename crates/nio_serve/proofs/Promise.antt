@@ -1,13 +1,14 @@
 -- What the proxy promises, from what stands of its connections.
-use Rattle.std.proofs.Common.{◌≡◌, ◌≢◌, ℕ, zero, suc, ◌+◌, ◌-◌, ◌*◌, ◌/◌, ◌<◌, ◌≤◌, ◌⊎◌, inl, inr, Bool, true, false}
-use Rattle.std.proofs.Common.{IsTrue, IsFalse, Option, Some, None, IsSome, Result, Ok, Err, is_err, List, [], ◌∷◌, ◌++◌}
-use Rattle.std.proofs.Common.{length, get_or, slice_get, vec_capacity, refl, sym, ap, subst, ◌∙◌, arith}
-use Rattle.std.proofs.lemmas.Bool.{cases_order}
+use Rattle.std.proofs.Common.{◌≡◌, ◌≢◌, ℕ, zero, ◌+◌, ◌-◌, ◌*◌, ◌/◌, ◌<◌, ◌≤◌, ◌⊎◌, inl, inr, Bool, true, false}
+use Rattle.std.proofs.Common.{IsTrue, IsFalse, Option, Some, None, IsSome, Result, Ok, Err, is_err, List, [], ◌++◌}
+use Rattle.std.proofs.Common.{length, slice_get, vec_capacity, refl, sym, ap, subst, ◌∙◌, arith}
+use Rattle.std.proofs.lemmas.Bool.{cases_lt, cases_order, false_from_ne_true}
 use Rattle.std.proofs.lemmas.List.{append-nil}
 use Rattle.std.proofs.lemmas.Option.{slice_get_past}
 use Rattle.nio_base.specs.declared.numbers.Addr.{Addr}
 use Rattle.nio_base.specs.declared.numbers.ChanNo.{ChanNo}
 use Rattle.nio_bytes.specs.Cause.{Rose}
+use Rattle.nio_link.proofs.Channels.{chan_as, is_or_not}
 use Rattle.nio_link.specs.Links.{Link, IsUnused, IsSameBut}
 use Rattle.nio_link.specs.Places.{unused, IsVacant, place_after_close, place_after_listen}
 use Rattle.nio_link.specs.declared.net.Failed.{Failed}
@@ -25,8 +26,7 @@ use Rattle.nio_serve.proofs.Begun.{unused_relayed}
 use Rattle.nio_serve.proofs.Counts.{count_all, count_few, count_full, count_none}
 use Rattle.nio_serve.proofs.Ends.{end_gone, target_carried}
 use Rattle.nio_serve.proofs.Slotting.{faulted_from, client_listener, target_listener}
-use Rattle.nio_serve.proofs.Working.{chan_as, gone_stays, is_or_not, later_all, quiet_then, role_stays, rose_from}
-use Rattle.nio_serve.proofs.Working.{vacant_stays}
+use Rattle.nio_serve.proofs.Working.{gone_stays, later_all, quiet_then, role_stays, rose_from, vacant_stays}
 use Rattle.nio_serve.specs.declared.way.Way.{Ghosts}
 use Rattle.nio_serve.specs.Nets.{IsQuiet, OnlyCloses}
 use Rattle.nio_serve.specs.Relaying.{carried, target_role}
@@ -186,7 +186,8 @@ ended_accepted (Some Faulted) ended = refl
 ended_accepted (Some Dropped) ended = absurd (cc)
 ended_accepted (Some Unaccepted) ended = absurd (cc)
 
-place_as : (p : Place) (r : Role) (s : Standing) → p.role ≡ r → p.standing ≡ s → p ≡ record { role = r; standing = s }
+pub place_as : (p : Place) (r : Role) (s : Standing) → p.role ≡ r → p.standing ≡ s
+    → p ≡ record { role = r; standing = s }
 place_as p r s roles stands =
     ap (λ (x : Role). let q : Place = record { role = x; standing = p.standing } in q) roles
     ∙ ap (λ (x : Standing). let q : Place = record { role = r; standing = x } in q) stands
@@ -275,14 +276,11 @@ all_vacant link p0 p1 p2 c served first second closed listens x = elim (whose x)
   | a_target k at ↦ vacant_stays (p1 x) (p2 x) (second x) (subst (λ y. IsVacant (p1 y).standing) (sym at) (both k).1)
 ]
   where
-    few_or_past : (m n : ℕ) → (m < n) ⊎ (n ≤ m)
-    few_or_past m n = grind arith
-
     vacant_unused : (p q : Place) → OnlyCloses p q → p ≡ unused → IsVacant q.standing
     vacant_unused p q closes is = vacant_stays p q closes (subst (λ (u : Place). IsVacant u.standing) (sym is) tt)
 
     both : (k : ℕ) → IsVacant (p1 (client_of k)).standing × IsVacant (p1 (target_of k)).standing
-    both k = elim (few_or_past k (length c.slots.items)) [
+    both k = elim (cases_lt k (length c.slots.items)) [
       | inl few ↦ closed k few
       | inr past ↦
           let none = unbegun_past link p0 c served k past in (
@@ -290,12 +288,6 @@ all_vacant link p0 p1 p2 c served first second closed listens x = elim (whose x)
             vacant_unused (p0 (target_of k)) (p1 (target_of k)) (first (target_of k)) none.target_unasked,
           )
     ]
-
--- what stands under an index
-pub get_is : {X : Type 0} (xs : List X) (i : ℕ) (x : X) → i < length xs → x ≡ get_or xs i x → slice_get xs i ≡ Some x
-get_is [] i x few is = absurd (omega arith)
-get_is (y ∷ ys) zero x few is = ap Some (sym is)
-get_is (y ∷ ys) (suc i) x few is = get_is ys i x (omega arith) is
 
 -- where the links of one more connection are closed, unless it has ended
 module _ {W N : Type 0} (n : Ghosts W N) (net0 net1 net2 : N) (c : Connections) (i : ℕ) (slot : Slot)
@@ -337,10 +329,6 @@ module _ {W N : Type 0} (n : Ghosts W N) (net0 net1 net2 : N) (c : Connections) 
 
 -- ---- the answers
 
-not_counted : (b : Bool) → (IsTrue b → ⊥) → IsFalse b
-not_counted true never = absurd (never refl)
-not_counted false never = refl
-
 never_faulted : (before now : ChanNo → ℕ) (pb pn k : ℕ) → NoneRose before now pb pn → HasFaulted before now k → ⊥
 never_faulted before now pb pn k none (inl rose) = none.links (client_of k) rose
 never_faulted before now pb pn k none (inr rose) = none.links (target_of k) rose
@@ -350,7 +338,7 @@ pub serves_all : (plan : ProxyPlan) (link : ChanNo → Link) (place : ChanNo →
     → Serves plan link place before now pb pn result → NoneRose before now pb pn → ServesAllOr plan.conns link result
 serves_all plan link place before now pb pn (Ok served) serves none =
     let nobody : (k : ℕ) → k < plan.conns
-    → IsFalse (serves.counted k) = λ k few. not_counted (serves.counted k)
+    → IsFalse (serves.counted k) = λ k few. false_from_ne_true (serves.counted k)
     (λ is. never_faulted before now pb pn k none (serves.faulty k few is)) in
     record {
       connections = serves.connections;
@@ -372,18 +360,18 @@ serves_err plan link place before now pb pn Memory cause = tt
 
 pub listen_role : (r : Result (Unit {0}) Failed) (at : Addr) (p : Place) → p ≡ place_after_listen r at
     → p.role ≡ role.Listener at
-listen_role (Ok _) at p is = ap (λ (x : Place). x.role) is
-listen_role (Err _) at p is = ap (λ (x : Place). x.role) is
+listen_role (Ok done) at p is = ap (λ (x : Place). x.role) is
+listen_role (Err failed) at p is = ap (λ (x : Place). x.role) is
 
 pub listen_stands : (r : Result (Unit {0}) Failed) (at : Addr) (p : Place) → false ≡ is_err r
     → p ≡ place_after_listen r at → p.standing ≡ Listening
-listen_stands (Ok _) at p made is = ap (λ (x : Place). x.standing) is
-listen_stands (Err _) at p made is = absurd (cc)
+listen_stands (Ok done) at p made is = ap (λ (x : Place). x.standing) is
+listen_stands (Err failed) at p made is = absurd (cc)
 
 pub listen_failed : (r : Result (Unit {0}) Failed) (at : Addr) (p : Place) → true ≡ is_err r
     → p ≡ place_after_listen r at → IsVacant p.standing
-listen_failed (Ok _) at p failed is = absurd (cc)
-listen_failed (Err _) at p failed is = subst (λ (x : Place). IsVacant x.standing) (sym is) tt
+listen_failed (Ok done) at p failed is = absurd (cc)
+listen_failed (Err error) at p failed is = subst (λ (x : Place). IsVacant x.standing) (sym is) tt
 
 pub listens_first : (o : Option Port) (s : Standing) → IsSome o → s ≡ Listening → ListensAt o s
 listens_first (Some port) s some is = is

@@ -1,8 +1,9 @@
 -- One connection's slot changes, and the others stay.
 use Rattle.std.proofs.Common.{◌≡◌, ◌≢◌, ℕ, zero, suc, ◌+◌, ◌*◌, ◌<◌, ◌≤◌, ◌⊎◌, inl, inr, Bool, true, false, IsTrue}
-use Rattle.std.proofs.Common.{IsFalse, Option, Some, None, List, [], ◌∷◌, ◌++◌, length, set, slice_get, vec_capacity}
+use Rattle.std.proofs.Common.{IsFalse, Option, Some, None, List, [], ◌∷◌, ◌++◌, length, slice_get, vec_capacity}
 use Rattle.std.proofs.Common.{refl, sym, ap, subst, ◌∙◌, arith, add-one, append_assoc, length-append}
-use Rattle.std.proofs.lemmas.Bool.{cases_order}
+use Rattle.std.proofs.Math.Path.{subst₂}
+use Rattle.std.proofs.lemmas.Bool.{both_ways, cases_eq}
 use Rattle.std.proofs.lemmas.Option.{slice_get_past, slice_get_within}
 use Rattle.nio_base.specs.declared.numbers.Addr.{Addr}
 use Rattle.nio_base.specs.declared.numbers.ChanNo.{ChanNo}
@@ -15,37 +16,27 @@ use Rattle.nio_link.specs.declared.place.Role.TheVariants as role
 use Rattle.nio_link.specs.declared.place.Standing.TheVariants.{Nothing}
 use Rattle.nio_serve.specs.Serving.{HasFaulted, IsUnfaulted, client_of, target_of, listener, clients_below, count_below}
 use Rattle.nio_serve.specs.declared.way.Way.{Ghosts}
-use Rattle.nio_serve.specs.Nets.{Begins, FailsToAccept, IsQuiet, IsStill, Works}
+use Rattle.nio_serve.specs.Nets.{Begins, FailsToAccept, IsQuiet, Works}
 use Rattle.nio_serve.specs.Passing.{BothSame, OneRose}
-use Rattle.nio_serve.specs.Slots.{IsSlot, IsUnbegun, HasRoles, IsSlotOf, AreSlots, AreServed, ListensAt, Serving}
+use Rattle.nio_serve.specs.Slots.{IsSlot, IsUnbegun, HasRoles, IsSlotOf, IsSameButOne, AreSlots, AreServed}
+use Rattle.nio_serve.specs.Slots.{ListensAt, Serving}
 use Rattle.nio_serve.specs.Slots.{has_ended, has_faulted, was_accepted}
 use Rattle.nio_serve.specs.declared.board.Port.{Port}
 use Rattle.nio_serve.specs.declared.connections.Connections.{Connections}
 use Rattle.nio_serve.specs.declared.slot.Relay.{Relay}
 use Rattle.nio_serve.specs.declared.slot.Slot.{Slot}
 use Rattle.nio_serve.specs.declared.slot.Slot.TheVariants.{Live, Unaccepted}
-use Rattle.nio_serve.proofs.Counts.{one_if, count-same, count_one}
+use Rattle.nio_serve.specs.declared.spare.Spare.{Spare}
+use Rattle.nio_serve.proofs.Counts.{one_if, count-same, count_few, count_one}
 use Rattle.nio_serve.proofs.Working.{rose_from, rose_on}
 
 -- ---- lists
 
-pub get-set_same : {X : Type 0} (xs : List X) (k : ℕ) (x : X) → k < length xs → slice_get (set xs k x) k ≡ Some x
-get-set_same [] k x few = absurd (omega arith)
-get-set_same (y ∷ ys) zero x few = refl
-get-set_same (y ∷ ys) (suc k) x few = get-set_same ys k x (omega arith)
-
-pub get-set_other : {X : Type 0} (xs : List X) (k j : ℕ) (x : X) → j ≢ k → slice_get (set xs k x) j ≡ slice_get xs j
-get-set_other [] k j x other = refl
-get-set_other (y ∷ ys) zero zero x other = absurd (other refl)
-get-set_other (y ∷ ys) zero (suc j) x other = refl
-get-set_other (y ∷ ys) (suc k) zero x other = refl
-get-set_other (y ∷ ys) (suc k) (suc j) x other = get-set_other ys k j x (λ same. other (ap suc same))
-
-pub get-push_same : {X : Type 0} (xs : List X) (x : X) → slice_get (xs ++ x ∷ []) (length xs) ≡ Some x
+get-push_same : {X : Type 0} (xs : List X) (x : X) → slice_get (xs ++ x ∷ []) (length xs) ≡ Some x
 get-push_same [] x = refl
 get-push_same (y ∷ ys) x = get-push_same ys x
 
-pub get-push_other : {X : Type 0} (xs : List X) (j : ℕ) (x : X) → j ≢ length xs
+get-push_other : {X : Type 0} (xs : List X) (j : ℕ) (x : X) → j ≢ length xs
     → slice_get (xs ++ x ∷ []) j ≡ slice_get xs j
 get-push_other [] zero x other = absurd (other refl)
 get-push_other [] (suc j) x other = refl
@@ -89,59 +80,56 @@ pub record Changes (before now : List Slot) (k : ℕ) (slot : Slot) : Type 0 whe
   pub here : slice_get now k ≡ Some slot
   pub else_ : (j : ℕ) → j ≢ k → slice_get now j ≡ slice_get before j
 
-pub changes_set : (slots : List Slot) (k : ℕ) (slot : Slot) → k < length slots → Changes slots (set slots k slot) k slot
-changes_set slots k slot few =
-    record { here = get-set_same slots k slot few; else_ = λ j other. get-set_other slots k j slot other }
-
-pub changes_push : (slots : List Slot) (slot : Slot) → Changes slots (slots ++ slot ∷ []) (length slots) slot
+changes_push : (slots : List Slot) (slot : Slot) → Changes slots (slots ++ slot ∷ []) (length slots) slot
 changes_push slots slot =
     record { here = get-push_same slots slot; else_ = λ j other. get-push_other slots j slot other }
 
-is_slot_as : (to : Addr) (a b : Option Slot) (c0 c1 t0 t1 : Link) (p0 p1 q0 q1 : Place) → b ≡ a → c1 ≡ c0 → t1 ≡ t0
-    → p1 ≡ p0 → q1 ≡ q0
-    → IsSlotOf to a c0 t0 p0 q0 → IsSlotOf to b c1 t1 p1 q1
-is_slot_as to a b c0 c1 t0 t1 p0 p1 q0 q1 slots clients targets at_clients at_targets is =
-    subst (λ s. IsSlotOf to s c1 t1 p1 q1) (sym slots)
-    (subst (λ c. IsSlotOf to a c t1 p1 q1) (sym clients) (subst (λ t. IsSlotOf to a c0 t p1 q1) (sym targets)
-    (subst (λ p. IsSlotOf to a c0 t0 p q1) (sym at_clients)
-    (subst (λ q. IsSlotOf to a c0 t0 p0 q) (sym at_targets) is))))
+-- a slot was taken out and another put in, whatever was kept of directions between
+pub others_then : {k : ℕ} {a c : Connections} (b : Connections) (spare : Spare) → IsSameButOne k a b
+    → IsSameButOne k (record b { spare = spare }) c → IsSameButOne k a c
+others_then b spare first second = record {
+  others = λ j other. second.others j other ∙ first.others j other;
+  length = second.length ∙ first.length;
+  room = second.room ∙ first.room;
+  conns = second.conns ∙ first.conns;
+  target = second.target ∙ first.target;
+  accepted = second.accepted ∙ first.accepted;
+  listening = second.listening ∙ first.listening;
+}
 
-module _ (to : Addr) (link0 link1 : ChanNo → Link) (place0 place1 : ChanNo → Place) (before now : List Slot) (k : ℕ)
-    (slot : Slot) where
-  pub slots_change : AreSlots to link0 place0 before → Changes before now k slot
-      → IsSameElse (client_of k) (target_of k) link0 link1 → IsSameElse (client_of k) (target_of k) place0 place1
-      → IsSlotOf to (Some slot) (link1 (client_of k)) (link1 (target_of k)) (place1 (client_of k))
-      (place1 (target_of k)) → AreSlots to link1 place1 now
-  slots_change slots changes links places is j = elim (cases_order j k) [
-    | inl at ↦ subst
-        (λ i. IsSlotOf to (slice_get now i) (link1 (client_of i)) (link1 (target_of i)) (place1 (client_of i))
-        (place1 (target_of i))) (sym at)
-        (subst (λ s. IsSlotOf to s (link1 (client_of k)) (link1 (target_of k)) (place1 (client_of k))
-        (place1 (target_of k))) (sym changes.here) is)
-    | inr (inl less) ↦ stays (λ at. absurd (omega arith))
-    | inr (inr more) ↦ stays (λ at. absurd (omega arith))
-  ]
-    where
-      stays : j ≢ k
-          → IsSlotOf to (slice_get now j) (link1 (client_of j)) (link1 (target_of j)) (place1 (client_of j))
-          (place1 (target_of j))
-      stays other =
-          is_slot_as to (slice_get before j) (slice_get now j) (link0 (client_of j)) (link1 (client_of j))
-          (link0 (target_of j)) (link1 (target_of j))
-          (place0 (client_of j)) (place1 (client_of j)) (place0 (target_of j)) (place1 (target_of j))
-          (changes.else_ j other)
-          (same_client link0 link1 k j links other) (same_target link0 link1 k j links other)
-          (same_client place0 place1 k j places other) (same_target place0 place1 k j places other) (slots j)
+-- what holds where a slot changed, and everywhere else, holds of every connection
+by_change : (P : ℕ → Option Slot → Type 0) {before now : List Slot} {k : ℕ} {slot : Slot} → Changes before now k slot
+    → P k (Some slot) → ((j : ℕ) → j ≢ k → P j (slice_get before j)) → (j : ℕ) → P j (slice_get now j)
+by_change P {now = now} {k = k} changes here others j = elim (cases_eq j k) [
+  | inl at ↦ subst (λ i. P i (slice_get now i)) (sym at) (subst (P k) (sym changes.here) here)
+  | inr other ↦ subst (P j) (sym (changes.else_ j other)) (others j other)
+]
+
+is_slot_as : (to : Addr) (s : Option Slot) {c0 c1 t0 t1 : Link} {p0 p1 q0 q1 : Place} → c1 ≡ c0 → t1 ≡ t0 → p1 ≡ p0
+    → q1 ≡ q0 → IsSlotOf to s c0 t0 p0 q0 → IsSlotOf to s c1 t1 p1 q1
+is_slot_as to s {c0} {c1} {t0} {t1} {p0} {p1} {q0} {q1} clients targets at_clients at_targets is =
+    subst₂ (λ c t. IsSlotOf to s c t p1 q1) (sym clients) (sym targets)
+    (subst₂ (λ p q. IsSlotOf to s c0 t0 p q) (sym at_clients) (sym at_targets) is)
+
+slots_change : (to : Addr) (link0 link1 : ChanNo → Link) (place0 place1 : ChanNo → Place) (before now : List Slot)
+    (k : ℕ) (slot : Slot) → AreSlots to link0 place0 before → Changes before now k slot
+    → IsSameElse (client_of k) (target_of k) link0 link1 → IsSameElse (client_of k) (target_of k) place0 place1
+    → IsSlotOf to (Some slot) (link1 (client_of k)) (link1 (target_of k)) (place1 (client_of k))
+    (place1 (target_of k)) → AreSlots to link1 place1 now
+slots_change to link0 link1 place0 place1 before now k slot slots changes links places is =
+    by_change
+    (λ j s. IsSlotOf to s (link1 (client_of j)) (link1 (target_of j)) (place1 (client_of j)) (place1 (target_of j)))
+    changes is
+    (λ j other. is_slot_as to (slice_get before j)
+    (same_client link0 link1 k j links other) (same_target link0 link1 k j links other)
+    (same_client place0 place1 k j places other) (same_target place0 place1 k j places other) (slots j))
 
 -- the work left the links of connections alone
-pub slots_still : (to : Addr) (link0 link1 : ChanNo → Link) (place0 place1 : ChanNo → Place) (slots : List Slot)
+slots_still : (to : Addr) (link0 link1 : ChanNo → Link) (place0 place1 : ChanNo → Place) (slots : List Slot)
     → ((c : ChanNo) → link1 c ≡ link0 c) → IsSameBut listener place0 place1
     → AreSlots to link0 place0 slots → AreSlots to link1 place1 slots
 slots_still to link0 link1 place0 place1 slots links places are j =
-    is_slot_as to (slice_get slots j) (slice_get slots j) (link0 (client_of j)) (link1 (client_of j))
-    (link0 (target_of j)) (link1 (target_of j))
-    (place0 (client_of j)) (place1 (client_of j)) (place0 (target_of j)) (place1 (target_of j)) refl
-    (links (client_of j)) (links (target_of j))
+    is_slot_as to (slice_get slots j) (links (client_of j)) (links (target_of j))
     (places (client_of j) (client_listener j)) (places (target_of j) (target_listener j)) (are j)
 
 -- ---- faults
@@ -163,15 +151,34 @@ pub unfaulted_then : (before mid now : ChanNo → ℕ) (k : ℕ) → IsUnfaulted
 unfaulted_then before mid now k first second =
     record { client = second.client ∙ first.client; target = second.target ∙ first.target }
 
-pub not_true : (b : Bool) → IsFalse b → IsTrue b → ⊥
-not_true true is_false is_true = cc
-not_true false is_false is_true = cc
-
 false_before : (a b : Bool) → (IsTrue a → IsTrue b) → IsFalse b → IsFalse a
-false_before true b lasts is = absurd (not_true b is (lasts refl))
+false_before true b lasts is = absurd (both_ways b is (lasts refl))
 false_before false b lasts is = refl
 
 -- ---- all connections
+
+-- how many slots pass a test, where one changed that didn't pass it
+recount : (test : Option Slot → Bool) (before now : List Slot) (k m n : ℕ) (slot : Slot) (a b : ℕ) → k < m
+    → test (slice_get before k) ≡ false → Changes before now k slot
+    → a ≡ count_below (λ j. test (slice_get before j)) m → b ≡ a + one_if (test (Some slot)) → n ≡ m
+    → b ≡ count_below (λ j. test (slice_get now j)) n
+recount test before now k m n slot a b few was changes count more same =
+    let one : count_below (λ j. test (slice_get now j)) m
+    ≡ count_below (λ j. test (slice_get before j)) m + one_if (test (slice_get now k)) =
+    count_one (λ j. test (slice_get before j)) (λ j. test (slice_get now j)) k m few was
+    (λ j other. ap test (changes.else_ j other)) in
+    let here : one_if (test (slice_get now k)) ≡ one_if (test (Some slot)) =
+    ap (λ s. one_if (test s)) changes.here in
+    omega (arith, more, count, one, here) ∙ ap (count_below (λ j. test (slice_get now j))) (sym same)
+
+-- the counts are small
+pub few_counted : {link : ChanNo → Link} {place : ChanNo → Place} {c : Connections} → AreServed link place c
+    → (c.accepted ≤ 16000) × (c.ended ≤ 16000) × (c.faulted ≤ 16000)
+few_counted {c = c} served = (
+  omega (arith, served.accepted, served.bound, count_few (λ k. was_accepted (slice_get c.slots.items k)) c.conns),
+  omega (arith, served.ended, served.bound, count_few (λ k. has_ended (slice_get c.slots.items k)) c.conns),
+  omega (arith, served.faulted, served.bound, count_few (λ k. has_faulted (slice_get c.slots.items k)) c.conns),
+)
 
 module _ (k : ℕ) (slot : Slot) (link0 link1 : ChanNo → Link) (place0 place1 : ChanNo → Place)
     (c0 c1 : Connections) where
@@ -197,20 +204,10 @@ module _ (k : ℕ) (slot : Slot) (link0 link1 : ChanNo → Link) (place0 place1 
         bound = omega (arith, served.bound, conns);
         accepted = accepted;
         whole = whole;
-        ended = ended ∙ ap (λ n. n + one_if (has_ended (Some slot))) served.ended
-            ∙ sym (count_one (λ j. has_ended (slice_get c0.slots.items j)) (λ j. has_ended (slice_get c1.slots.items j))
-            k
-            c0.conns few not_ended (λ j other. ap has_ended (changes.else_ j other))
-            ∙ ap (λ (s : Option Slot). count_below (λ j. has_ended (slice_get c0.slots.items j)) c0.conns
-            + one_if (has_ended s)) changes.here)
-            ∙ ap (count_below (λ j. has_ended (slice_get c1.slots.items j))) (sym conns);
-        faulted = faulted ∙ ap (λ n. n + one_if (has_faulted (Some slot))) served.faulted
-            ∙ sym (count_one (λ j. has_faulted (slice_get c0.slots.items j))
-            (λ j. has_faulted (slice_get c1.slots.items j))
-            k c0.conns few not_faulted (λ j other. ap has_faulted (changes.else_ j other))
-            ∙ ap (λ (s : Option Slot). count_below (λ j. has_faulted (slice_get c0.slots.items j)) c0.conns
-            + one_if (has_faulted s)) changes.here)
-            ∙ ap (count_below (λ j. has_faulted (slice_get c1.slots.items j))) (sym conns);
+        ended = recount has_ended c0.slots.items c1.slots.items k c0.conns c1.conns slot c0.ended c1.ended few not_ended
+            changes served.ended ended conns;
+        faulted = recount has_faulted c0.slots.items c1.slots.items k c0.conns c1.conns slot c0.faulted c1.faulted few
+            not_faulted changes served.faulted faulted conns;
       }
 
 -- how many were accepted, where one connection changed that was accepted before
@@ -226,77 +223,37 @@ accepted_set k slot relay c0 c1 count was changes stands same conns =
     c0.conns (λ j _. at j))
     ∙ ap (count_below (λ j. was_accepted (slice_get c1.slots.items j))) (sym conns)))
   where
-    here : was_accepted (slice_get c1.slots.items k) ≡ was_accepted (slice_get c0.slots.items k)
-    here = ap was_accepted changes.here ∙ (stands ∙ sym (ap was_accepted was))
-
     at : (j : ℕ) → was_accepted (slice_get c1.slots.items j) ≡ was_accepted (slice_get c0.slots.items j)
-    at j = elim (cases_order j k) [
-      | inl same_index ↦ subst
-          (λ i. was_accepted (slice_get c1.slots.items i) ≡ was_accepted (slice_get c0.slots.items i)) (sym same_index)
-          here
-      | inr (inl less) ↦ ap was_accepted (changes.else_ j (λ is. absurd (omega arith)))
-      | inr (inr more) ↦ ap was_accepted (changes.else_ j (λ is. absurd (omega arith)))
-    ]
-
--- where the next one came, accepted or not
-pub accepted_push : (k : ℕ) (slot : Slot) (c0 c1 : Connections)
-    → c0.accepted ≡ count_below (λ j. was_accepted (slice_get c0.slots.items j)) c0.conns
-    → k < c0.conns → slice_get c0.slots.items k ≡ None → Changes c0.slots.items c1.slots.items k slot
-    → c1.accepted ≡ c0.accepted + one_if (was_accepted (Some slot)) → c1.conns ≡ c0.conns
-    → c1.accepted ≡ count_below (λ j. was_accepted (slice_get c1.slots.items j)) c1.conns
-accepted_push k slot c0 c1 count few none changes more conns =
-    more
-    ∙ (ap (λ n. n + one_if (was_accepted (Some slot))) count
-    ∙ (sym (count_one (λ j. was_accepted (slice_get c0.slots.items j))
-    (λ j. was_accepted (slice_get c1.slots.items j)) k
-    c0.conns few (ap was_accepted none) (λ j other. ap was_accepted (changes.else_ j other))
-    ∙ ap (λ (s : Option Slot). count_below (λ j. was_accepted (slice_get c0.slots.items j)) c0.conns
-    + one_if (was_accepted s)) changes.here)
-    ∙ ap (count_below (λ j. was_accepted (slice_get c1.slots.items j))) (sym conns)))
+    at = by_change (λ j s. was_accepted s ≡ was_accepted (slice_get c0.slots.items j)) changes
+        (stands ∙ sym (ap was_accepted was)) (λ j other. refl)
 
 module _ (k : ℕ) (slot : Slot) (faults0 faults1 : ChanNo → ℕ) (c0 c1 : Connections) where
-  pub faulty_change : Changes c0.slots.items c1.slots.items k slot
+  faulty_change : Changes c0.slots.items c1.slots.items k slot
       → (IsTrue (has_faulted (Some slot)) → HasFaulted faults0 faults1 k)
       → (j : ℕ) → IsTrue (has_faulted (slice_get c1.slots.items j)) → IsTrue (has_faulted (slice_get c0.slots.items j))
       ⊎ HasFaulted faults0 faults1 j
-  faulty_change changes faulty j is = elim (cases_order j k) [
-    | inl at ↦ inr
-        (subst (HasFaulted faults0 faults1) (sym at)
-        (faulty (ap has_faulted (sym changes.here) ∙ ap (λ i. has_faulted (slice_get c1.slots.items i)) (sym at)
-        ∙ is)))
-    | inr (inl less) ↦ inl (ap has_faulted (sym (changes.else_ j (λ at. absurd (omega arith)))) ∙ is)
-    | inr (inr more) ↦ inl (ap has_faulted (sym (changes.else_ j (λ at. absurd (omega arith)))) ∙ is)
-  ]
+  faulty_change changes faulty =
+      by_change
+      (λ j s. IsTrue (has_faulted s) → IsTrue (has_faulted (slice_get c0.slots.items j)) ⊎ HasFaulted faults0 faults1 j)
+      changes (λ is. inr (faulty is)) (λ j other is. inl is)
 
   -- the connection hadn't ended by a fault
-  pub lasting_change : Changes c0.slots.items c1.slots.items k slot → has_faulted (slice_get c0.slots.items k) ≡ false
+  lasting_change : Changes c0.slots.items c1.slots.items k slot → has_faulted (slice_get c0.slots.items k) ≡ false
       → (j : ℕ) → IsTrue (has_faulted (slice_get c0.slots.items j)) → IsTrue (has_faulted (slice_get c1.slots.items j))
-  lasting_change changes was j is = elim (cases_order j k) [
-    | inl at ↦ absurd
-        (not_true (has_faulted (slice_get c0.slots.items j))
-        (ap (λ i. has_faulted (slice_get c0.slots.items i)) at ∙ was) is)
-    | inr (inl less) ↦ ap has_faulted (changes.else_ j (λ at. absurd (omega arith))) ∙ is
-    | inr (inr more) ↦ ap has_faulted (changes.else_ j (λ at. absurd (omega arith))) ∙ is
-  ]
+  lasting_change changes was =
+      by_change (λ j s. IsTrue (has_faulted (slice_get c0.slots.items j)) → IsTrue (has_faulted s)) changes
+      (λ is. absurd (both_ways (has_faulted (slice_get c0.slots.items k)) was is)) (λ j other is. is)
 
-  pub unfaulted_change : Changes c0.slots.items c1.slots.items k slot
+  unfaulted_change : Changes c0.slots.items c1.slots.items k slot
       → (IsFalse (has_faulted (Some slot)) → IsUnfaulted faults0 faults1 k)
       → IsSameElse (client_of k) (target_of k) faults0 faults1 → (j : ℕ)
       → IsFalse (has_faulted (slice_get c1.slots.items j)) → IsUnfaulted faults0 faults1 j
-  unfaulted_change changes unfaulted same j is = elim (cases_order j k) [
-    | inl at ↦ subst (IsUnfaulted faults0 faults1) (sym at)
-        (unfaulted (ap has_faulted (sym changes.here) ∙ ap (λ i. has_faulted (slice_get c1.slots.items i)) (sym at)
-        ∙ is))
-    | inr (inl less) ↦ stays (λ at. absurd (omega arith))
-    | inr (inr more) ↦ stays (λ at. absurd (omega arith))
-  ]
-    where
-      stays : j ≢ k → IsUnfaulted faults0 faults1 j
-      stays other =
-          record {
-            client = same_client faults0 faults1 k j same other;
-            target = same_target faults0 faults1 k j same other;
-          }
+  unfaulted_change changes unfaulted same =
+      by_change (λ j s. IsFalse (has_faulted s) → IsUnfaulted faults0 faults1 j) changes unfaulted
+      (λ j other _. record {
+        client = same_client faults0 faults1 k j same other;
+        target = same_target faults0 faults1 k j same other;
+      })
 
 -- no connection has carried more, and they are the same
 pub served_still : (link0 link1 : ChanNo → Link) (place0 place1 : ChanNo → Place) (c : Connections)
@@ -324,8 +281,7 @@ next_unbegun link place c client target served is_client is_target =
     let next : IsUnbegun (link (client_of k)) (link (target_of k)) (place (client_of k)) (place (target_of k)) =
     subst (λ s. IsSlot s (link (client_of k)) (link (target_of k)) (place (client_of k)) (place (target_of k))) none
     (served.slots k).is_slot in
-    subst (λ a. IsUnbegun (link a) (link target) (place a) (place target)) (sym is_client)
-    (subst (λ b. IsUnbegun (link (client_of k)) (link b) (place (client_of k)) (place b)) (sym is_target) next)
+    subst₂ (λ a b. IsUnbegun (link a) (link b) (place a) (place b)) (sym is_client) (sym is_target) next
 
 module _ {W N : Type 0} (n : Ghosts W N) where
   -- what stands of a connection that hasn't ended
@@ -333,12 +289,10 @@ module _ {W N : Type 0} (n : Ghosts W N) where
       → target ≡ target_of k → AreServed (n.link x) (n.place x) c → slice_get c.slots.items k ≡ Some (Live relay)
       → IsSlotOf c.target (Some (Live relay)) (n.link x client) (n.link x target) (n.place x client) (n.place x target)
   slot_is k relay client target x c is_client is_target served was =
-      subst (λ a. IsSlotOf c.target (Some (Live relay)) (n.link x a) (n.link x target) (n.place x a)
-      (n.place x target)) (sym is_client)
-      (subst (λ b. IsSlotOf c.target (Some (Live relay)) (n.link x (client_of k)) (n.link x b)
-      (n.place x (client_of k)) (n.place x b)) (sym is_target)
+      subst₂ (λ a b. IsSlotOf c.target (Some (Live relay)) (n.link x a) (n.link x b) (n.place x a) (n.place x b))
+      (sym is_client) (sym is_target)
       (subst (λ s. IsSlotOf c.target s (n.link x (client_of k)) (n.link x (target_of k)) (n.place x (client_of k))
-      (n.place x (target_of k))) was (served.slots k)))
+      (n.place x (target_of k))) was (served.slots k))
 
   -- the accepted links stay those of the first connections
   abbrev KeepsOrder : N → N → Connections → Connections → Type 0
@@ -423,58 +377,6 @@ module _ {W N : Type 0} (n : Ghosts W N) where
     polls = polls;
   }
 
-  pub serving_still : (x y : N) (c : Connections) → AreServed (n.link x) (n.place x) c → IsStill n x y
-      → Serving n x y c c
-  serving_still x y c served still =
-      serving_alone x y c served still.links (λ k _. still.places k) (λ k _. still.faults k)
-      (λ k. omega (arith, still.faults k)) (omega (arith, still.polls)) still.accepted
-
-  -- where work was done on the links of one connection
-  pub serving_step : (k : ℕ) (slot : Slot) (relay : Relay) (x y : N) (c0 c1 : Connections)
-      → AreServed (n.link x) (n.place x) c0
-      → slice_get c0.slots.items k ≡ Some (Live relay) → Works n (client_of k) (target_of k) x y
-      → Changes c0.slots.items c1.slots.items k slot
-      → length c1.slots.items ≡ length c0.slots.items → vec_capacity c1.slots ≡ vec_capacity c0.slots
-      → c1.conns ≡ c0.conns → c1.target ≡ c0.target
-      → IsSlot (Some slot) (n.link y (client_of k)) (n.link y (target_of k)) (n.place y (client_of k))
-      (n.place y (target_of k))
-      → ((to : Addr) (r s : Role) → HasRoles to (Some (Live relay)) r s → HasRoles to (Some slot) r s)
-      → c1.ended ≡ c0.ended + one_if (has_ended (Some slot))
-      → c1.faulted ≡ c0.faulted + one_if (has_faulted (Some slot))
-      → (IsTrue (has_faulted (Some slot)) → HasFaulted (n.faults x) (n.faults y) k)
-      → (IsFalse (has_faulted (Some slot)) → IsUnfaulted (n.faults x) (n.faults y) k)
-      → IsTrue (was_accepted (Some slot)) → c1.accepted ≡ c0.accepted → c1.is_listening ≡ c0.is_listening
-      → Serving n x y c0 c1
-  serving_step k slot relay x y c0 c1 served was work changes short room conns target is roles ended faulted faulty
-      unfaulted stands accepted listening =
-      let before : HasRoles c0.target (Some (Live relay)) (n.place x (client_of k)).role
-      (n.place x (target_of k)).role =
-      subst (λ s. HasRoles c0.target s (n.place x (client_of k)).role (n.place x (target_of k)).role) was
-      (served.slots k).roles in
-      let now : HasRoles c0.target (Some (Live relay)) (n.place y (client_of k)).role (n.place y (target_of k)).role =
-      (work.roles (client_of k) ∙ before.0, work.roles (target_of k) ∙ before.1) in
-      record {
-        served = served_change k slot (n.link x) (n.link y) (n.place x) (n.place y) c0 c1 served
-            (omega (arith, served.few, slice_get_within c0.slots.items k (Live relay) was)) conns target
-            (omega (arith, served.room, room)) (omega (arith, served.few, short)) changes work.links work.places
-            (record {
-              is_slot = is;
-              roles = roles c0.target (n.place y (client_of k)).role
-                  (n.place y (target_of k)).role now;
-            }) (ap has_ended was) (ap has_faulted was) ended faulted
-            (accepted_set k slot relay c0 c1 served.accepted was changes stands accepted conns)
-            (whole_still c0 c1 served.whole accepted listening short);
-        conns = conns;
-        target = target;
-        faulty = faulty_change k slot (n.faults x) (n.faults y) c0 c1 changes faulty;
-        lasting = lasting_change k slot (n.faults x) (n.faults y) c0 c1 changes (ap has_faulted was);
-        unfaulted = unfaulted_change k slot (n.faults x) (n.faults y) c0 c1 changes unfaulted work.faults;
-        order = order_still x y c0 c1 work.accepted accepted;
-        no_bytes = work.links listener (λ at. client_listener k (sym at)) (λ at. target_listener k (sym at));
-        later = work.later;
-        polls = omega (arith, work.polls);
-      }
-
   -- where a connection was begun, or connecting its target
   pub serving_begun : (k : ℕ) (slot : Slot) (client target : ChanNo) (x y : N) (c0 c1 : Connections)
       → client ≡ client_of k → target ≡ target_of k → AreServed (n.link x) (n.place x) c0 → k < c0.conns
@@ -490,14 +392,12 @@ module _ {W N : Type 0} (n : Ghosts W N) where
       → (IsTrue c1.is_listening → c1.accepted ≡ length c1.slots.items) → KeepsOrder x y c0 c1 → Serving n x y c0 c1
   serving_begun k slot client target x y c0 c1 is_client is_target served few not_ended not_faulted begins changes room
       short conns to is ended faulted faulty calm accepted whole order =
-      let begun : Begins n (client_of k) (target_of k) x y = subst (λ a. Begins n a (target_of k) x y) is_client
-      (subst (λ b. Begins n client b x y) is_target begins) in
+      let begun : Begins n (client_of k) (target_of k) x y = subst₂ (λ a b. Begins n a b x y) is_client is_target begins
+      in
       let here : IsSlotOf c0.target (Some slot) (n.link y (client_of k)) (n.link y (target_of k))
       (n.place y (client_of k)) (n.place y (target_of k)) =
-      subst (λ a. IsSlotOf c0.target (Some slot) (n.link y a) (n.link y (target_of k)) (n.place y a)
-      (n.place y (target_of k))) is_client
-      (subst (λ b. IsSlotOf c0.target (Some slot) (n.link y client) (n.link y b) (n.place y client) (n.place y b))
-      is_target is) in
+      subst₂ (λ a b. IsSlotOf c0.target (Some slot) (n.link y a) (n.link y b) (n.place y a) (n.place y b)) is_client
+      is_target is in
       let has : IsTrue (has_faulted (Some slot)) → HasFaulted (n.faults x) (n.faults y) k =
       λ f. inr (subst (λ b. Rose (n.faults x b) (n.faults y b)) is_target (faulty f)) in
       let hasnt : IsFalse (has_faulted (Some slot)) → IsUnfaulted (n.faults x) (n.faults y) k = λ f. record {
@@ -523,54 +423,74 @@ module _ {W N : Type 0} (n : Ghosts W N) where
   pub serving_connected : (k : ℕ) (slot : Slot) (relay : Relay) (client target : ChanNo) (x y : N)
       (c0 c1 : Connections) → client ≡ client_of k → target ≡ target_of k → AreServed (n.link x) (n.place x) c0
       → slice_get c0.slots.items k ≡ Some (Live relay) → Begins n client target x y
-      → Changes c0.slots.items c1.slots.items k slot → length c1.slots.items ≡ length c0.slots.items
-      → vec_capacity c1.slots ≡ vec_capacity c0.slots → c1.conns ≡ c0.conns → c1.target ≡ c0.target
+      → slice_get c1.slots.items k ≡ Some slot → IsSameButOne k c0 c1
       → IsSlotOf c0.target (Some slot) (n.link y client) (n.link y target) (n.place y client) (n.place y target)
       → c1.ended ≡ c0.ended + one_if (has_ended (Some slot))
       → c1.faulted ≡ c0.faulted + one_if (has_faulted (Some slot))
       → (IsTrue (has_faulted (Some slot)) → Rose (n.faults x target) (n.faults y target))
       → (IsFalse (has_faulted (Some slot)) → n.faults y target ≡ n.faults x target)
-      → IsTrue (was_accepted (Some slot)) → c1.accepted ≡ c0.accepted → c1.is_listening ≡ c0.is_listening
-      → n.accepted y ≡ n.accepted x → Serving n x y c0 c1
-  serving_connected k slot relay client target x y c0 c1 is_client is_target served was begins changes short room conns
-      to is ended faulted faulty calm stands accepted listening none =
+      → IsTrue (was_accepted (Some slot)) → n.accepted y ≡ n.accepted x → Serving n x y c0 c1
+  serving_connected k slot relay client target x y c0 c1 is_client is_target served was begins here rest is ended
+      faulted faulty calm stands none =
+      let changes : Changes c0.slots.items c1.slots.items k slot = record { here = here; else_ = rest.others } in
       serving_begun k slot client target x y c0 c1 is_client is_target served
       (omega (arith, served.few, slice_get_within c0.slots.items k (Live relay) was)) (ap has_ended was)
-      (ap has_faulted was) begins changes (omega (arith, served.room, room)) (omega (arith, served.few, short)) conns to
-      is ended faulted faulty calm
-      (accepted_set k slot relay c0 c1 served.accepted was changes stands accepted conns)
-      (whole_still c0 c1 served.whole accepted listening short) (order_still x y c0 c1 none accepted)
+      (ap has_faulted was) begins changes (omega (arith, served.room, rest.room))
+      (omega (arith, served.few, rest.length)) rest.conns rest.target is ended faulted faulty calm
+      (accepted_set k slot relay c0 c1 served.accepted was changes stands rest.accepted rest.conns)
+      (whole_still c0 c1 served.whole rest.accepted rest.listening rest.length)
+      (order_still x y c0 c1 none rest.accepted)
 
-  -- the same, where the two links have other names
+  -- where work was done on the links of one connection
   pub serving_told : (k : ℕ) (slot : Slot) (relay : Relay) (client target : ChanNo) (x y : N) (c0 c1 : Connections)
       → client ≡ client_of k → target ≡ target_of k → AreServed (n.link x) (n.place x) c0
       → slice_get c0.slots.items k ≡ Some (Live relay) → Works n client target x y
-      → Changes c0.slots.items c1.slots.items k slot → length c1.slots.items ≡ length c0.slots.items
-      → vec_capacity c1.slots ≡ vec_capacity c0.slots → c1.conns ≡ c0.conns → c1.target ≡ c0.target
+      → slice_get c1.slots.items k ≡ Some slot → IsSameButOne k c0 c1
       → IsSlot (Some slot) (n.link y client) (n.link y target) (n.place y client) (n.place y target)
       → ((to : Addr) (r s : Role) → HasRoles to (Some (Live relay)) r s → HasRoles to (Some slot) r s)
       → c1.ended ≡ c0.ended + one_if (has_ended (Some slot))
       → c1.faulted ≡ c0.faulted + one_if (has_faulted (Some slot))
       → (IsTrue (has_faulted (Some slot)) → OneRose (n.faults x) (n.faults y) client target)
       → (IsFalse (has_faulted (Some slot)) → BothSame (n.faults x) (n.faults y) client target)
-      → IsTrue (was_accepted (Some slot)) → c1.accepted ≡ c0.accepted → c1.is_listening ≡ c0.is_listening
-      → Serving n x y c0 c1
-  serving_told k slot relay client target x y c0 c1 is_client is_target served was work changes short room conns to is
-      roles ended faulted faulty calm stands accepted listening =
-      serving_step k slot relay x y c0 c1 served was
-      (subst (λ a. Works n a (target_of k) x y) is_client (subst (λ b. Works n client b x y) is_target work))
-      changes short room conns to
-      (subst (λ a. IsSlot (Some slot) (n.link y a) (n.link y (target_of k)) (n.place y a) (n.place y (target_of k)))
-      is_client
-      (subst (λ b. IsSlot (Some slot) (n.link y client) (n.link y b) (n.place y client) (n.place y b)) is_target is))
-      roles ended faulted
-      (λ f. subst (λ a. OneRose (n.faults x) (n.faults y) a (target_of k)) is_client
-      (subst (λ b. OneRose (n.faults x) (n.faults y) client b) is_target (faulty f)))
-      (λ f. record {
-        client = subst (λ a. n.faults y a ≡ n.faults x a) is_client (calm f).first;
-        target = subst (λ b. n.faults y b ≡ n.faults x b) is_target (calm f).second;
-      })
-      stands accepted listening
+      → IsTrue (was_accepted (Some slot)) → Serving n x y c0 c1
+  serving_told k slot relay client target x y c0 c1 is_client is_target served was works here rest slots roles ended
+      faulted faulty calm stands =
+      let changes : Changes c0.slots.items c1.slots.items k slot = record { here = here; else_ = rest.others } in
+      let work : Works n (client_of k) (target_of k) x y = subst₂ (λ a b. Works n a b x y) is_client is_target works in
+      let is : IsSlot (Some slot) (n.link y (client_of k)) (n.link y (target_of k)) (n.place y (client_of k))
+      (n.place y (target_of k)) =
+      subst₂ (λ a b. IsSlot (Some slot) (n.link y a) (n.link y b) (n.place y a) (n.place y b)) is_client is_target slots
+      in
+      let before : HasRoles c0.target (Some (Live relay)) (n.place x (client_of k)).role
+      (n.place x (target_of k)).role =
+      subst (λ s. HasRoles c0.target s (n.place x (client_of k)).role (n.place x (target_of k)).role) was
+      (served.slots k).roles in
+      let now : HasRoles c0.target (Some (Live relay)) (n.place y (client_of k)).role (n.place y (target_of k)).role =
+      (work.roles (client_of k) ∙ before.0, work.roles (target_of k) ∙ before.1) in
+      record {
+        served = served_change k slot (n.link x) (n.link y) (n.place x) (n.place y) c0 c1 served
+            (omega (arith, served.few, slice_get_within c0.slots.items k (Live relay) was)) rest.conns rest.target
+            (omega (arith, served.room, rest.room)) (omega (arith, served.few, rest.length)) changes work.links
+            work.places (record {
+              is_slot = is;
+              roles = roles c0.target (n.place y (client_of k)).role (n.place y (target_of k)).role now;
+            }) (ap has_ended was) (ap has_faulted was) ended faulted
+            (accepted_set k slot relay c0 c1 served.accepted was changes stands rest.accepted rest.conns)
+            (whole_still c0 c1 served.whole rest.accepted rest.listening rest.length);
+        conns = rest.conns;
+        target = rest.target;
+        faulty = faulty_change k slot (n.faults x) (n.faults y) c0 c1 changes
+            (λ f. subst₂ (OneRose (n.faults x) (n.faults y)) is_client is_target (faulty f));
+        lasting = lasting_change k slot (n.faults x) (n.faults y) c0 c1 changes (ap has_faulted was);
+        unfaulted = unfaulted_change k slot (n.faults x) (n.faults y) c0 c1 changes (λ f. record {
+          client = subst (λ a. n.faults y a ≡ n.faults x a) is_client (calm f).first;
+          target = subst (λ b. n.faults y b ≡ n.faults x b) is_target (calm f).second;
+        }) work.faults;
+        order = order_still x y c0 c1 work.accepted rest.accepted;
+        no_bytes = work.links listener (λ at. client_listener k (sym at)) (λ at. target_listener k (sym at));
+        later = work.later;
+        polls = omega (arith, work.polls);
+      }
 
   -- where the next connection was begun
   pub serving_new : (slot : Slot) (client target : ChanNo) (x y : N) (c0 c1 : Connections)
@@ -595,8 +515,8 @@ module _ {W N : Type 0} (n : Ghosts W N) where
       (ap has_faulted none) begins changes (omega (arith, served.room, room))
       (omega (arith, few, ap length slots, length-append c0.slots.items (slot ∷ []))) conns to is ended faulted faulty
       calm
-      (accepted_push k slot c0 c1 served.accepted few none changes
-      (accepted ∙ ap (λ b. c0.accepted + one_if b) (sym stands)) conns)
+      (recount was_accepted c0.slots.items c1.slots.items k c0.conns c1.conns slot c0.accepted c1.accepted few
+      (ap was_accepted none) changes served.accepted (accepted ∙ ap (λ b. c0.accepted + one_if b) (sym stands)) conns)
       (λ _. omega (
         arith,
         accepted,
@@ -646,12 +566,13 @@ module _ {W N : Type 0} (n : Ghosts W N) where
             (omega (arith, few, ap length slots, length-append c0.slots.items (Unaccepted ∷ []))) changes
             (λ c _ _. fails.links c) (λ c not_client _. places c not_client) is
             (ap has_ended none) (ap has_faulted none) (omega (arith, ended)) (omega (arith, faulted))
-            (accepted_push k Unaccepted c0 c1 served.accepted few none changes (omega (arith, accepted)) conns)
-            (λ is_true. absurd (not_true c1.is_listening stopped is_true));
+            (recount was_accepted c0.slots.items c1.slots.items k c0.conns c1.conns Unaccepted c0.accepted c1.accepted
+            few (ap was_accepted none) changes served.accepted (omega (arith, accepted)) conns)
+            (λ is_true. absurd (both_ways c1.is_listening stopped is_true));
         conns = conns;
         target = target;
         faulty = faulty_change k Unaccepted (n.faults x) (n.faults y) c0 c1 changes
-            (λ never. absurd (not_true false refl never));
+            (λ never. absurd (both_ways false refl never));
         lasting = lasting_change k Unaccepted (n.faults x) (n.faults y) c0 c1 changes (ap has_faulted none);
         unfaulted = λ j _. record {
           client = fails.faults (client_of j) (client_listener j);

@@ -1,5 +1,6 @@
 -- What work on a proxy leaves of the count of registered channels.
-use Rattle.std.proofs.Common.{◌≡◌, ℕ, ◌+◌, ◌*◌, ◌≤◌, Bool, true, false, IsTrue, None, Result, Ok, Err, OnOk}
+use Rattle.std.proofs.Common.{◌≡◌, ℕ, ◌+◌, ◌*◌, ◌≤◌, Bool, true, false}
+use Rattle.std.proofs.Common.{IsTrue, None, Result, Ok, Err, OnOk, OnErr, is_err}
 use Rattle.std.proofs.Common.{List, [], ◌∷◌, ◌++◌, length, slice_get}
 use Rattle.std.proofs.Common.{refl, sym, ap, ◌∙◌, subst, arith, length-append}
 use Rattle.std.specs.Prelude.{nat_lt}
@@ -49,6 +50,15 @@ pub watching_then : {A E : Type 0} {r : Result A E} {a b d : BoardView} {c : Con
 watching_then seat watching =
     record { seat = seat_then seat watching.seat; all = watching.all; within = watching.within }
 
+-- what holds where a call failed, or where it didn't
+pub where_failed : {T E P : Type 0} (result : Result T E) → is_err result ≡ true → OnErr result P → P
+where_failed (Ok value) failed holds = absurd (cc)
+where_failed (Err error) failed holds = holds
+
+pub where_done : {T E P : Type 0} (result : Result T E) → is_err result ≡ false → OnOk result P → P
+where_done (Ok value) done holds = holds
+where_done (Err error) done holds = absurd (cc)
+
 pub where_ok : {T E P : Type 0} {r : Result T E} {x : T} → r ≡ Ok x → OnOk r P → P
 where_ok {P = P} is on = subst (λ q. OnOk q P) is on
 
@@ -63,8 +73,8 @@ pub watched_on : {a b : BoardView} (c0 c1 : Connections) → IsSameBoard a b →
 watched_on c0 c1 same is before =
     same.registered ∙ (before ∙ ap (λ (c : Connections). channels_of (length c.slots.items)) (sym is))
 
-longer : (slots more : List Slot) (slot : Slot) → more ≡ slots ++ slot ∷ [] → length more ≡ length slots + 1
-longer slots more slot is = ap length is ∙ length-append slots (slot ∷ [])
+pub longer : {A : Type 0} (xs more : List A) (x : A) → more ≡ xs ++ x ∷ [] → length more ≡ length xs + 1
+longer xs more x is = ap length is ∙ length-append xs (x ∷ [])
 
 -- a connection was added, and both of its channels registered
 pub watching_added : {A E : Type 0} (r : Result A E) {a b : BoardView} (c0 c1 : Connections) (slot : Slot) (n : ℕ)

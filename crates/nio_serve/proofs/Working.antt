@@ -1,10 +1,10 @@
 -- Pieces of work one after the other.
-use Rattle.std.proofs.Common.{◌≡◌, ◌≢◌, ℕ, ◌≤◌, ◌⊎◌, inl, inr, true, false, Result, Ok, Err, OnOk, OnErr, is_err, refl}
+use Rattle.std.proofs.Common.{◌≡◌, ◌≢◌, ℕ, ◌≤◌, inl, inr, refl}
 use Rattle.std.proofs.Common.{sym, ap, subst, ◌∙◌, arith}
-use Rattle.std.proofs.lemmas.Bool.{cases_order}
 use Rattle.std.proofs.Math.Nat.{eq-or-lt_of_le}
 use Rattle.nio_base.specs.declared.numbers.ChanNo.{ChanNo}
 use Rattle.nio_bytes.specs.Cause.{Rose}
+use Rattle.nio_link.proofs.Channels.{is_or_not}
 use Rattle.nio_link.specs.Links.{IsSameBut}
 use Rattle.nio_link.specs.Places.{IsVacant, closed, place_after_close}
 use Rattle.nio_link.specs.declared.place.Place.{Place}
@@ -23,24 +23,6 @@ rose_on before mid now later (inr full) more =
     elim (eq-or-lt_of_le more) [ inl same ↦ inr (sym same ∙ full) | inr less ↦ inl (omega arith) ]
 
 -- ---- channels
-
-pub chan_as : (a b : ChanNo) → a.0 ≡ b.0 → a ≡ b
-chan_as a b same = ap (λ (n : ℕ). let c : ChanNo = record { 0 = n } in c) same
-
-pub is_or_not : (a b : ChanNo) → (a ≡ b) ⊎ (a ≢ b)
-is_or_not a b = elim (cases_order a.0 b.0) [
-  | inl same ↦ inl (chan_as a b same)
-  | inr (inl less) ↦ inr (λ at. let n : a.0 ≡ b.0 = ap (λ x. x.0) at in absurd (omega arith))
-  | inr (inr more) ↦ inr (λ at. let n : a.0 ≡ b.0 = ap (λ x. x.0) at in absurd (omega arith))
-]
-
--- where one channel has the same, and each other one has
-pub all_same : {A : Type 0} (own : ChanNo) (before now : ChanNo → A) → now own ≡ before own → IsSameBut own before now
-    → (c : ChanNo) → now c ≡ before c
-all_same own before now here others c = elim (is_or_not c own) [
-  | inl same ↦ ap now same ∙ here ∙ ap before (sym same)
-  | inr other ↦ others c other
-]
 
 pub later_all : (before now : ChanNo → ℕ) (own : ChanNo) → before own ≤ now own → IsSameBut own before now
     → (c : ChanNo) → before c ≤ now c
@@ -80,11 +62,7 @@ pub gone_stays : (before now : Place) → OnlyCloses before now → before.stand
 gone_stays before now (inl same) gone = ap (λ (p : Place). p.standing) same ∙ gone
 gone_stays before now (inr is) gone = ap (λ (p : Place). p.standing) is ∙ ap closed gone
 
--- a link that was closed
-pub linked_gone : (before now : Place) → before.standing ≡ standing.Linked → now ≡ place_after_close before
-    → now.standing ≡ standing.Gone
-linked_gone before now linked is = ap (λ (p : Place). p.standing) is ∙ ap closed linked
-
+-- closing keeps what a channel was asked to be
 pub role_stays : (before now : Place) → OnlyCloses before now → now.role ≡ before.role
 role_stays before now (inl same) = ap (λ (p : Place). p.role) same
 role_stays before now (inr is) = ap (λ (p : Place). p.role) is
@@ -98,11 +76,6 @@ closes_then before mid now (inr is) (inr again) =
     ap (λ (s : Standing). let p : Place = record { role = before.role; standing = s } in p)
     (closed_again before.standing) in
     inr (again ∙ (twice ∙ once))
-
--- closing keeps what a channel was asked to be
-closes_role : (before now : Place) → OnlyCloses before now → now.role ≡ before.role
-closes_role before now (inl same) = ap (λ (p : Place). p.role) same
-closes_role before now (inr is) = ap (λ (p : Place). p.role) is
 
 module _ {W N : Type 0} (n : Ghosts W N) where
   pub works_none : (a b : ChanNo) (x : N) → Works n a b x x
@@ -169,16 +142,6 @@ module _ {W N : Type 0} (n : Ghosts W N) where
     polls = second.polls ∙ first.polls;
   }
 
-  pub quiet_none : (x : N) → IsQuiet n x x
-  quiet_none x = record {
-    links = λ c. refl;
-    places = λ c. inl refl;
-    ready = λ c. refl;
-    faults = λ c. refl;
-    polls = refl;
-    accepted = refl;
-  }
-
   pub quiet_then : (x y z : N) → IsQuiet n x y → IsQuiet n y z → IsQuiet n x z
   quiet_then x y z first second = record {
     links = λ c. second.links c ∙ first.links c;
@@ -198,7 +161,7 @@ module _ {W N : Type 0} (n : Ghosts W N) where
     faults = λ c not_a not_b. quiet.faults c ∙ work.faults c not_a not_b;
     ready = λ c not_a not_b. quiet.ready c ∙ work.ready c not_a not_b;
     later = λ c. omega (arith, work.later c, quiet.faults c);
-    roles = λ c. closes_role (n.place y c) (n.place z c) (quiet.places c) ∙ work.roles c;
+    roles = λ c. role_stays (n.place y c) (n.place z c) (quiet.places c) ∙ work.roles c;
     polls = quiet.polls ∙ work.polls;
     accepted = quiet.accepted ∙ work.accepted;
   }
@@ -223,11 +186,3 @@ module _ {W N : Type 0} (n : Ghosts W N) where
     polls = polls;
     accepted = accepted;
   }
-
-pub on_ok_of : {T E P : Type 0} (r : Result T E) → false ≡ is_err r → OnOk r P → P
-on_ok_of (Ok x) is p = p
-on_ok_of (Err e) is p = cc
-
-pub on_err_of : {T E P : Type 0} (r : Result T E) → true ≡ is_err r → OnErr r P → P
-on_err_of (Ok x) is p = cc
-on_err_of (Err e) is p = p

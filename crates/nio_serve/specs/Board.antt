@@ -6,18 +6,19 @@ use Rattle.nio_base.specs.declared.numbers.CallerNo.{CallerNo}
 use Rattle.nio_base.specs.declared.numbers.ChanNo.{ChanNo}
 use Rattle.nio_base.specs.declared.numbers.SelNo.{SelNo}
 use Rattle.nio_event.specs.PassViews.{HasNoPin, HasSelector}
-use Rattle.nio_orderly.specs.Made.{nothing_ongoing, after_calls}
+use Rattle.nio_orderly.specs.Made.{after_calls}
 use Rattle.nio_select.specs.InProgress.{Selects}
+use Rattle.nio_serve.specs.Called.{HasCalled, channel_in}
+use Rattle.nio_serve.specs.declared.board.Station.{Station}
+use Rattle.nio_serve.specs.declared.deal.Deal.{Deal}
 use Rattle.nio_steps.specs.KeyCalls.{is_within}
+use Rattle.nio_steps.specs.Ongoing.{nothing_ongoing}
 use Rattle.nio_steps.specs.SelectCalls.{Selection}
 use Rattle.nio_steps.specs.declared.looked.LookedKey.{LookedKey}
 use Rattle.nio_words.specs.Passes.{IsReady, acts_seen, limits_of}
 use Rattle.nio_words.specs.Views.{view}
 use Rattle.nio_words.specs.declared.words.Pass.{Pass}
 use Rattle.nio_words.specs.declared.words.Words.{Words}
-use Rattle.nio_serve.specs.Called.{HasCalled, channel_in}
-use Rattle.nio_serve.specs.declared.board.Station.{Station}
-use Rattle.nio_serve.specs.declared.deal.Deal.{Deal}
 
 -- what contracts see of a board. Its channels are numbered from 0 on in the order in which they are registered, and so
 -- many were; the deal says which channels of the table they are

@@ -1,18 +1,14 @@
 -- The channels of a board, as its table numbers them, and the calls that its caller made on the table.
 use Rattle.std.specs.Prelude.{◌≡◌, ℕ, zero, suc, ◌+◌, ◌-◌, ◌*◌, ◌/◌, ◌%◌, ◌==◌, if◌then◌else◌, max, Option, Some, None}
-use Rattle.std.specs.Prelude.{Ok, Err, List, [], ◌∷◌, ◌++◌}
+use Rattle.std.specs.Prelude.{List, [], ◌∷◌, ◌++◌}
 use Rattle.nio_base.specs.declared.limits.Limits.{Limits}
 use Rattle.nio_base.specs.declared.numbers.ChanNo.{ChanNo}
 use Rattle.nio_base.specs.declared.numbers.SelNo.{SelNo}
 use Rattle.nio_event.specs.declared.act.Act.{Act}
-use Rattle.nio_orderly.specs.Made.{Made, draw, find_selector, find_channel, find, is_valid, interest, set_interest}
-use Rattle.nio_orderly.specs.Made.{interest_or, interest_and, ready, cancel, unselect, attach, attachment, open_channel}
-use Rattle.nio_orderly.specs.Made.{is_open, is_blocking, is_registered, key_for, try_set_blocking, try_register}
-use Rattle.nio_orderly.specs.Made.{close_channel, open_selector, try_begin, told, leave, shut, try_finish, keys}
-use Rattle.nio_orderly.specs.Made.{selected_keys, wakeup, interrupt, interrupted, pipe, try_read, try_write}
-use Rattle.nio_orderly.specs.Made.{set_blocking, register, select, close, read, write}
+use Rattle.nio_orderly.specs.Made.{Made, draw, table_call, waiting_call}
 use Rattle.nio_orderly.specs.Orderly.{AreCallsOf}
 use Rattle.nio_serve.specs.declared.deal.Deal.{Deal}
+use Rattle.nio_steps.specs.TableCalls.{row_of, wait_row_of}
 
 -- ---- the channels of a board
 
@@ -44,49 +40,8 @@ seats deal s (suc n) = seats deal s n ++ (s, channel_in deal (record { 0 = n }))
 -- the selector and the channel, where the call registered a channel
 abbrev pub registration : Made → List (SelNo × ChanNo)
 registration (draw n) = []
-registration (find_selector n answer) = []
-registration (find_channel n answer) = []
-registration (find s i serial answer) = []
-registration (is_valid k answer) = []
-registration (interest k answer) = []
-registration (set_interest k ops answer) = []
-registration (interest_or k ops answer) = []
-registration (interest_and k ops answer) = []
-registration (ready k answer) = []
-registration (cancel k) = []
-registration (unselect k answer) = []
-registration (attach k att answer) = []
-registration (attachment k answer) = []
-registration (open_channel kind answer) = []
-registration (is_open c answer) = []
-registration (is_blocking c answer) = []
-registration (is_registered c answer) = []
-registration (key_for c s answer) = []
-registration (try_set_blocking c on answer) = []
-registration (try_register s c ops att (Ok k)) = (s, c) ∷ []
-registration (try_register s c ops att (Err refusal)) = []
-registration (close_channel c answer) = []
-registration (open_selector answer) = []
-registration (try_begin s mode answer) = []
-registration (told selection poll answer) = []
-registration (leave selection) = []
-registration (shut s answer) = []
-registration (try_finish s answer) = []
-registration (keys s answer) = []
-registration (selected_keys s answer) = []
-registration (wakeup s) = []
-registration (interrupt n) = []
-registration (interrupted answer) = []
-registration (pipe answer) = []
-registration (try_read source answer) = []
-registration (try_write source sink answer) = []
-registration (set_blocking c on answer) = []
-registration (register s c ops att (Ok k)) = (s, c) ∷ []
-registration (register s c ops att (Err refusal)) = []
-registration (select s mode polls answer) = []
-registration (close s answer) = []
-registration (read source none answer) = []
-registration (write source sink none answer) = []
+registration (table_call call answer) = (row_of call).registers answer
+registration (waiting_call call answer) = (wait_row_of call).registers answer
 
 -- those of all calls, in their order
 abbrev pub registrations : List Made → List (SelNo × ChanNo)

@@ -28,7 +28,7 @@ abbrev pub flow_after_read : Result Got Failed → List ℕ → Flow → Flow
 flow_after_read (Ok (got.Bytes n)) buffer f = takes f (take n buffer)
 flow_after_read (Ok got.End) buffer f = ends f
 flow_after_read (Ok got.NotYet) buffer f = f
-flow_after_read (Err _) buffer f = f
+flow_after_read (Err failed) buffer f = f
 
 -- the count of faults of one of two links rose
 abbrev pub OneRose : (ChanNo → ℕ) → (ChanNo → ℕ) → ChanNo → ChanNo → Type 0

@@ -17,22 +17,22 @@ abbrev pub ReadyAfterRead : Result Got Failed → ℕ → ℕ → Type 0
 ReadyAfterRead (Ok (got.Bytes n)) before now = now ≡ before
 ReadyAfterRead (Ok got.End) before now = now ≡ before
 ReadyAfterRead (Ok got.NotYet) before now = MayLose 1 before now
-ReadyAfterRead (Err _) before now = now ≡ before
+ReadyAfterRead (Err failed) before now = now ≡ before
 
 -- WRITE is 4
 abbrev pub ReadyAfterWrite : Result Put Failed → ℕ → ℕ → Type 0
 ReadyAfterWrite (Ok (put.Bytes n)) before now = now ≡ before
 ReadyAfterWrite (Ok put.NotYet) before now = MayLose 4 before now
-ReadyAfterWrite (Err _) before now = now ≡ before
+ReadyAfterWrite (Err failed) before now = now ≡ before
 
 -- CONNECT is 8
 abbrev pub ReadyAfterConnect : Result Bool Failed → ℕ → ℕ → Type 0
 ReadyAfterConnect (Ok true) before now = now ≡ before
 ReadyAfterConnect (Ok false) before now = MayLose 8 before now
-ReadyAfterConnect (Err _) before now = now ≡ before
+ReadyAfterConnect (Err failed) before now = now ≡ before
 
 -- ACCEPT is 16
 abbrev pub ReadyAfterAccept : Result Bool Failed → ℕ → ℕ → Type 0
 ReadyAfterAccept (Ok true) before now = now ≡ before
 ReadyAfterAccept (Ok false) before now = MayLose 16 before now
-ReadyAfterAccept (Err _) before now = now ≡ before
+ReadyAfterAccept (Err failed) before now = now ≡ before

@@ -36,6 +36,12 @@ asks_ran {me = me} {plan = plan} {v0 = v0} {v1 = v1} said now call same =
     subst (λ (x : Reply). CallClause me (Completes (asks now plan said)) v0 v1 (record { reply = x; left = now }))
     (sym same) (makes_ran said (λ _. now) call)
 
+-- a call on a key, by its name
+pub on_key : {R : Type 0} {me : CallerNo} {k k' : KeyNo} {answer : R} {v0 v1 : PassView} (plan : KeyNo → Plan R)
+    → k ≡ k' → CallClause me (Completes (plan k)) v0 v1 answer → CallClause me (Completes (plan k')) v0 v1 answer
+on_key {me = me} {answer = answer} {v0 = v0} {v1 = v1} plan is call =
+    subst (λ (x : KeyNo). CallClause me (Completes (plan x)) v0 v1 answer) is call
+
 -- ---- lists
 
 pub lists_ran : {me : CallerNo} (s : SelNo) {answer : Result (List KeyNo) ListError} {v0 v1 : PassView}

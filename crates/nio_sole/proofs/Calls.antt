@@ -1,5 +1,4 @@
 -- A line of a script is whole calls of its caller, and leaves what other callers have in progress.
-use Rattle.nio_plain.specs.Seq.Pipes.{own_source, own_sink, pipe_at}
 use Rattle.std.proofs.Common.{◌≡◌, ℕ, ◌==◌, nat_lt, Bool, true, false, ◌||◌, if◌then◌else◌, Option, Some, None, Result}
 use Rattle.std.proofs.Common.{Ok, Err, List, [], ◌∷◌, ◌++◌, refl, ap, sym, ◌∙◌, subst, append_assoc, eqb-true, eq-eqb}
 use Rattle.std.proofs.Common.{◌⊎◌, inl, inr}
@@ -12,10 +11,12 @@ use Rattle.nio_base.specs.declared.numbers.ChanNo.{ChanNo}
 use Rattle.nio_base.specs.declared.numbers.KeyId.{KeyId}
 use Rattle.nio_base.specs.declared.numbers.KeyNo.{KeyNo}
 use Rattle.nio_base.specs.declared.numbers.SelNo.{SelNo}
+use Rattle.nio_event.proofs.KeptNames.{kept_by_names}
 use Rattle.nio_event.proofs.Put.{put_keeps, put_both}
 use Rattle.nio_event.specs.OwnEvents.{has}
 use Rattle.nio_event.specs.Questions.{Question, question_of, answer_of}
 use Rattle.nio_event.specs.State.{State, put}
+use Rattle.nio_event.specs.WordRows.{word_row}
 use Rattle.nio_event.specs.declared.act.Act.{Act}
 use Rattle.nio_event.specs.declared.act.Act.TheVariants.{TakeTurn, ShutBit}
 use Rattle.nio_event.specs.declared.call.Call.{Call}
@@ -23,26 +24,27 @@ use Rattle.nio_event.specs.declared.call.Call.TheVariants as call
 use Rattle.nio_event.specs.declared.found.Mode.{Mode}
 use Rattle.nio_event.specs.declared.reply.Reply.{Reply}
 use Rattle.nio_event.specs.declared.reply.Reply.TheVariants as reply
+use Rattle.nio_event.specs.declared.word_row.LineName.{LineName}
+use Rattle.nio_event.specs.declared.word_row.LineName.TheVariants.{Caller, Selector, Channel, Key}
 use Rattle.nio_orderly.proofs.CallLists.{one_call_more}
 use Rattle.nio_orderly.proofs.ListWords.{has-first, has-second}
-use Rattle.nio_orderly.specs.Made.{Made, IsRun, Ongoing, nothing_ongoing, after_call, after_calls, MayCome}
-use Rattle.nio_orderly.specs.Made.{find_selector, find_channel, find, is_valid, interest, set_interest, interest_or}
-use Rattle.nio_orderly.specs.Made.{interest_and, ready, cancel, unselect, attach, attachment, open_channel, is_open}
-use Rattle.nio_orderly.specs.Made.{is_blocking, is_registered, key_for, try_set_blocking, try_register, close_channel}
-use Rattle.nio_orderly.specs.Made.{open_selector, try_begin, told, leave, shut, try_finish, keys, selected_keys, wakeup}
-use Rattle.nio_orderly.specs.Made.{interrupt, interrupted, pipe, try_read, try_write}
-use Rattle.nio_plain.specs.Seq.Replies.{yes_or_no}
+use Rattle.nio_orderly.proofs.WaitedCalls.{after_calls-append}
+use Rattle.nio_orderly.specs.Made.{Made, IsRun, after_call, after_calls, MayCome, table_call}
 use Rattle.nio_plain.specs.Seq.Grouping.{group_reply, group_left}
+use Rattle.nio_plain.specs.Seq.Pipes.{own_source, own_sink, pipe_at}
 use Rattle.nio_plain.specs.Seq.Registering.{given_or_none}
+use Rattle.nio_plain.specs.Seq.Replies.{yes_or_no}
 use Rattle.nio_plain.specs.Seq.Selections.{mode_of, is_caller}
+use Rattle.nio_serial.proofs.Showing.{ShowsAsBefore, Own, own-is}
+use Rattle.nio_serial.proofs.Staying.{pipe-quiet}
 use Rattle.nio_serial.specs.Between.{IsBetween}
 use Rattle.nio_serial.specs.Documented.{Progress, Selecting}
 use Rattle.nio_serial.specs.Lines.{Said, makes, asks, refused, with_selection, with_closing, if_own, own_selection}
 use Rattle.nio_serial.specs.Lines.{after_begin, after_told, after_shut, after_finish, begin_line, by_index, told_line}
 use Rattle.nio_serial.specs.Lines.{failed_line, close_end_line, read_line, write_line, call_plan, if_caller, if_found}
 use Rattle.nio_serial.specs.Lines.{if_selector, if_channel, if_key, if_named, line_plan}
-use Rattle.nio_serial.specs.PipeLines.{with_seal, with_pipe, after_pipe, read_gives}
-use Rattle.nio_serial.specs.PipeLines.{write_gives}
+use Rattle.nio_serial.specs.PipeLines.{with_seal, with_pipe, after_pipe, read_gives, write_gives}
+use Rattle.nio_serial.specs.Lines.{if_name}
 use Rattle.nio_serial.specs.Replies.{ends_reply, find_reply, set_reply, put_reply, channel_reply, mode_reply}
 use Rattle.nio_serial.specs.Replies.{register_reply, closed_reply, selector_reply, begin_reply, told_reply, shut_reply}
 use Rattle.nio_serial.specs.Replies.{finish_reply, list_reply}
@@ -57,6 +59,7 @@ use Rattle.nio_steps.specs.KeyCalls.{find_selector_plan, find_channel_plan, find
 use Rattle.nio_steps.specs.KeyCalls.{set_interest_plan, interest_or_plan, interest_and_plan, ready_plan, cancel_plan}
 use Rattle.nio_steps.specs.KeyCalls.{unselect_plan, attach_plan, attachment_plan}
 use Rattle.nio_steps.specs.Names.{selector, key}
+use Rattle.nio_steps.specs.Ongoing.{Ongoing, nothing_ongoing}
 use Rattle.nio_steps.specs.PipeCalls.{PipeEnds, pipe_lacks_memory, pipe_plan, try_read_plan, try_write_plan, with_sink}
 use Rattle.nio_steps.specs.PipeCalls.{with_source, without_sink}
 use Rattle.nio_steps.specs.Plan.{Plan, ◌>>=◌}
@@ -69,6 +72,11 @@ use Rattle.nio_steps.specs.SelectCalls.{selected_keys_plan, list_lacks_memory, l
 use Rattle.nio_steps.specs.SelectCalls.{list_selected, wakeup_plan, interrupt_plan, interrupted_plan}
 use Rattle.nio_steps.specs.Steps.{flag_in, gate_in, holder_in, number_in}
 use Rattle.nio_steps.specs.Sweeps.{sweep_over, sweep_to}
+use Rattle.nio_steps.specs.TableCalls.{find_selector, find_channel, find, is_valid, interest, set_interest, interest_or}
+use Rattle.nio_steps.specs.TableCalls.{interest_and, ready, cancel, unselect, attach, attachment, open_channel, is_open}
+use Rattle.nio_steps.specs.TableCalls.{is_blocking, is_registered, key_for, try_set_blocking, try_register}
+use Rattle.nio_steps.specs.TableCalls.{close_channel, open_selector, try_begin, told, leave, shut, try_finish, keys}
+use Rattle.nio_steps.specs.TableCalls.{selected_keys, wakeup, interrupt, interrupted, pipe, try_read, try_write}
 use Rattle.nio_steps.specs.declared.refusal.BeginError.{BeginError}
 use Rattle.nio_steps.specs.declared.refusal.ChannelError.{ChannelError}
 use Rattle.nio_steps.specs.declared.refusal.ListError.{ListError}
@@ -131,19 +139,14 @@ leaves_then n now middle left xs ys first second = record {
 
 -- ---- what stands beside the table
 
--- what is left shows the same selections and closings in progress: the group and the pipes may be others
-pub record IsBeside (now left : Progress) : Type 0 where
-  pub selection : left.selection ≡ now.selection
-  pub closing : left.closing ≡ now.closing
-
-ongoing_beside : (n : CallerNo) (now left : Progress) (ongoing : Ongoing) → IsBeside now left → IsOngoing n now ongoing
-    → IsOngoing n left ongoing
+ongoing_beside : (n : CallerNo) (now left : Progress) (ongoing : Ongoing) → ShowsAsBefore now left
+    → IsOngoing n now ongoing → IsOngoing n left ongoing
 ongoing_beside n now left ongoing beside at = record {
   selection = λ s. at.selection s ∙ ap (λ (f : ℕ → Option Selecting). if_own n (f s)) (sym beside.selection);
   closes = λ s. at.closes s ∙ ap (λ (f : ℕ → Option CallerNo). is_caller n (f s)) (sym beside.closing);
 }
 
-pub made_beside : (l : Limits) (own : List Act) (n : CallerNo) (now left : Progress) → IsBeside now left
+pub made_beside : (l : Limits) (own : List Act) (n : CallerNo) (now left : Progress) → ShowsAsBefore now left
     → HasMade l own n now → HasMade l own n left
 made_beside l own n now left beside made = record {
   calls = made.calls;
@@ -151,18 +154,14 @@ made_beside l own n now left beside made = record {
   ongoing = ongoing_beside n now left (after_calls nothing_ongoing made.calls) beside made.ongoing;
 }
 
-leaves_beside : (n : CallerNo) (now left : Progress) (acts : List Act) → IsBeside now left → LeavesTo n now acts left
+leaves_beside : (n : CallerNo) (now left : Progress) (acts : List Act) → ShowsAsBefore now left
+    → LeavesTo n now acts left
 leaves_beside n now left acts beside = record {
   selection = λ s. inl (ap (λ (f : ℕ → Option Selecting). if_own n (f s)) beside.selection);
   closes = λ s. inl (ap (λ (f : ℕ → Option CallerNo). is_caller n (f s)) beside.closing);
 }
 
 -- ---- one call more
-
-after-more : (now : Ongoing) (calls : List Made) (call : Made)
-    → after_calls now (calls ++ call ∷ []) ≡ after_call (after_calls now calls) call
-after-more now [] call = refl
-after-more now (first ∷ calls) call = after-more (after_call now first) calls call
 
 pub made_more : (l : Limits) (own acts : List Act) (n : CallerNo) (now left : Progress) (call : Made)
     (made : HasMade l own n now)
@@ -172,7 +171,7 @@ pub made_more : (l : Limits) (own acts : List Act) (n : CallerNo) (now left : Pr
 made_more l own acts n now left call made run may after = record {
   calls = made.calls ++ call ∷ [];
   are = one_call_more l own acts made.calls call made.are may run;
-  ongoing = subst (IsOngoing n left) (sym (after-more nothing_ongoing made.calls call)) after;
+  ongoing = subst (IsOngoing n left) (sym (after_calls-append nothing_ongoing made.calls (call ∷ []))) after;
 }
 
 -- ---- lines
@@ -561,22 +560,6 @@ list_without_memory list_one s = λ gate asks_gate.
 
 -- ---- each call
 
--- the caller's own selection is one of those in progress
-pub record Own (me : CallerNo) (o : Option Selecting) (x : Selection) : Type 0 where
-  pub its : Selecting
-  pub is : o ≡ Some its
-  pub by : (its.caller.0 == me.0) ≡ true
-  pub same : its.selection ≡ x
-
-pub own-is : (me : CallerNo) (o : Option Selecting) (x : Selection) → if_own me o ≡ Some x → Own me o x
-own-is me None x is = absurd (cc is)
-own-is me (Some y) x is = by_test (y.caller.0 == me.0) refl is
-  where
-    by_test : (b : Bool) → (y.caller.0 == me.0) ≡ b → (if b then Some y.selection else None) ≡ Some x
-        → Own me (Some y) x
-    by_test true by is' = record { its = y; is = refl; by = by; same = cc is' }
-    by_test false by is' = absurd (cc is')
-
 -- the selections in progress are on their selectors
 abbrev pub AreOn : Progress → Type 0
 AreOn now = (s : ℕ) (x : Selecting) → now.selection s ≡ Some x → x.selection.selector.0 ≡ s
@@ -592,12 +575,13 @@ module _ (l : Limits) (me : CallerNo) (now : Progress) where
   leads_begin : (s : SelNo) (mode : Option Mode) → Leads l me now (begin_line now me s mode)
   leads_begin s None = leads_refused l me now _
   leads_begin s (Some mode) =
-      leads_call l me now (try_begin_plan s mode false) (λ a. try_begin s mode a) (after_begin now me s) _ comes
+      leads_call l me now (try_begin_plan s mode false) (λ a. table_call (try_begin s mode) a) (after_begin now me s) _
+      comes
       (λ a. leads_answer l me (after_begin now me s a) (begin_reply a))
     where
       comes : (ongoing : Ongoing) (acts : List Act) (a : Result Selection BeginError)
           → Completes (try_begin_plan s mode false) acts a → IsOngoing me now ongoing
-          → Comes l me now ongoing (try_begin s mode a) acts (after_begin now me s a)
+          → Comes l me now ongoing (table_call (try_begin s mode) a) acts (after_begin now me s a)
       comes ongoing acts (Ok x) run at = record {
         run = run;
         may = tt;
@@ -608,7 +592,7 @@ module _ (l : Limits) (me : CallerNo) (now : Progress) where
             (try_begin_plan s mode false) acts (Ok x) (begin_takes s mode false) run refl);
       }
       comes ongoing acts (Err refusal) run at =
-          quiet l me now ongoing (try_begin s mode (Err refusal)) acts
+          quiet l me now ongoing (table_call (try_begin s mode) (Err refusal)) acts
           (subst (λ b. Completes (try_begin_plan s mode b) acts (Err refusal))
           (sym (always_run (λ _ r. begin_lacks_memory r ≡ false) (try_begin_plan s mode false) acts (Err refusal)
           (begin_has_memory s mode) run)) run) tt at
@@ -617,7 +601,8 @@ module _ (l : Limits) (me : CallerNo) (now : Progress) where
       → own_selection now me s ≡ o → Leads l me now (told_line now s elapsed pairs o)
   leads_told s elapsed pairs None on own = leads_refused l me now _
   leads_told s elapsed pairs (Some x) on own =
-      leads_call l me now (told_plan x (by_index x pairs) elapsed) (λ a. told x poll a) (after_told now s) _ comes
+      leads_call l me now (told_plan x (by_index x pairs) elapsed) (λ a. table_call (told x poll) a) (after_told now s)
+      _ comes
       (λ a. leads_answer l me (after_told now s a) (told_reply a))
     where
       poll : Poll
@@ -634,7 +619,7 @@ module _ (l : Limits) (me : CallerNo) (now : Progress) where
 
       comes : (ongoing : Ongoing) (acts : List Act) (a : ToldReply)
           → Completes (told_plan x (by_index x pairs) elapsed) acts a → IsOngoing me now ongoing
-          → Comes l me now ongoing (told x poll a) acts (after_told now s a)
+          → Comes l me now ongoing (table_call (told x poll) a) acts (after_told now s a)
       comes ongoing acts (done answer) run at = record {
         run = run;
         may = may_come ongoing at;
@@ -645,7 +630,7 @@ module _ (l : Limits) (me : CallerNo) (now : Progress) where
         others = λ n other. leaves_ended me n now s its.its acts other its.is its.by;
       }
       comes ongoing acts (again next) run at =
-          quiet l me now ongoing (told x poll (again next)) acts run (may_come ongoing at)
+          quiet l me now ongoing (table_call (told x poll) (again next)) acts run (may_come ongoing at)
           (record {
             selection =
                 λ t. put_keeps (λ k y. y ≡ if_own me (now.selection k)) ongoing.selection x.selector.0 (Some next)
@@ -658,7 +643,7 @@ module _ (l : Limits) (me : CallerNo) (now : Progress) where
       → Leads l me now (failed_line now s o)
   leads_failed s None on own = leads_refused l me now _
   leads_failed s (Some x) on own =
-      leads_call l me now (leave_plan x) (λ _. leave x) (λ _. with_selection now s None) _
+      leads_call l me now (leave_plan x) (λ _. table_call (leave x) tt) (λ _. with_selection now s None) _
       (λ ongoing acts a run at. record {
         run = run;
         may = ap ongoing.selection on_it ∙ (at.selection s.0 ∙ own);
@@ -678,11 +663,11 @@ module _ (l : Limits) (me : CallerNo) (now : Progress) where
 
   leads_close : (s : SelNo) → Leads l me now (makes (shut_plan s) shut_reply (after_shut now me s))
   leads_close s =
-      leads_call l me now (shut_plan s) (λ a. shut s a) (after_shut now me s) _ comes
+      leads_call l me now (shut_plan s) (λ a. table_call (shut s) a) (after_shut now me s) _ comes
       (λ a. leads_answer l me (after_shut now me s a) (shut_reply a))
     where
       comes : (ongoing : Ongoing) (acts : List Act) (a : ShutReply) → Completes (shut_plan s) acts a
-          → IsOngoing me now ongoing → Comes l me now ongoing (shut s a) acts (after_shut now me s a)
+          → IsOngoing me now ongoing → Comes l me now ongoing (table_call (shut s) a) acts (after_shut now me s a)
       comes ongoing acts closing run at = record {
         run = run;
         may = tt;
@@ -691,7 +676,8 @@ module _ (l : Limits) (me : CallerNo) (now : Progress) where
             (always_run (λ acts' r. r ≡ closing → has (shuts s.0) acts' ≡ true) (shut_plan s) acts closing
             (shut_shuts s) run refl);
       }
-      comes ongoing acts already_closed run at = quiet l me now ongoing (shut s already_closed) acts run tt at
+      comes ongoing acts already_closed run at =
+          quiet l me now ongoing (table_call (shut s) already_closed) acts run tt at
 
   leads_close_end : (s : SelNo) → Leads l me now (close_end_line now me s)
   leads_close_end s = leads_if l me now (is_caller me (now.closing s.0)) _ _ finishes (λ _. leads_refused l me now _)
@@ -699,28 +685,31 @@ module _ (l : Limits) (me : CallerNo) (now : Progress) where
       finishes : is_caller me (now.closing s.0) ≡ true
           → Leads l me now (makes (try_finish_plan s) finish_reply (after_finish now s))
       finishes by =
-          leads_call l me now (try_finish_plan s) (λ a. try_finish s a) (after_finish now s) _ comes
+          leads_call l me now (try_finish_plan s) (λ a. table_call (try_finish s) a) (after_finish now s) _ comes
           (λ a. leads_answer l me (after_finish now s a) (finish_reply a))
         where
           comes : (ongoing : Ongoing) (acts : List Act) (a : FinishReply) → Completes (try_finish_plan s) acts a
-              → IsOngoing me now ongoing → Comes l me now ongoing (try_finish s a) acts (after_finish now s a)
+              → IsOngoing me now ongoing
+              → Comes l me now ongoing (table_call (try_finish s) a) acts (after_finish now s a)
           comes ongoing acts closed run at = record {
             run = run;
             may = at.closes s.0 ∙ by;
             after = put_closing me now ongoing s.0 false None refl at;
             others = λ n other. leaves_closed me n now s acts other by;
           }
-          comes ongoing acts busy run at = quiet l me now ongoing (try_finish s busy) acts run (at.closes s.0 ∙ by) at
+          comes ongoing acts busy run at =
+              quiet l me now ongoing (table_call (try_finish s) busy) acts run (at.closes s.0 ∙ by) at
 
   -- want of memory
 
   pub leads_begin_memory : (s : SelNo) (mode : Mode) (said : Result Selection BeginError → Reply)
       → Leads l me now (asks now (try_begin_plan s mode true) said)
-  leads_begin_memory s mode said = leads_ask (try_begin_plan s mode true) (λ a. try_begin s mode a) said comes
+  leads_begin_memory s mode said =
+      leads_ask (try_begin_plan s mode true) (λ a. table_call (try_begin s mode) a) said comes
     where
       comes : (ongoing : Ongoing) (acts : List Act) (a : Result Selection BeginError)
           → Completes (try_begin_plan s mode true) acts a → IsOngoing me now ongoing
-          → Comes l me now ongoing (try_begin s mode a) acts now
+          → Comes l me now ongoing (table_call (try_begin s mode) a) acts now
       comes ongoing acts a run at =
           by_answer a
           (always_run (λ acts' r. Completes (try_begin_plan s mode (begin_lacks_memory r)) acts' r
@@ -728,16 +717,17 @@ module _ (l : Limits) (me : CallerNo) (now : Progress) where
         where
           by_answer : (r : Result Selection BeginError)
               → Completes (try_begin_plan s mode (begin_lacks_memory r)) acts r × (is_ok r ≡ false)
-              → Comes l me now ongoing (try_begin s mode r) acts now
+              → Comes l me now ongoing (table_call (try_begin s mode) r) acts now
           by_answer (Ok x) without = absurd (cc without.1)
-          by_answer (Err refusal) without = quiet l me now ongoing (try_begin s mode (Err refusal)) acts without.0 tt at
+          by_answer (Err refusal) without =
+              quiet l me now ongoing (table_call (try_begin s mode) (Err refusal)) acts without.0 tt at
 
   pub leads_keys_memory : (s : SelNo) (said : Result (List KeyNo) ListError → Reply)
       → Leads l me now (asks now (keys_plan s true) said)
   unfolding keys_plan
   leads_keys_memory s said =
-      leads_ask (keys_plan s true) (λ a. keys s a) said
-      (λ ongoing acts a run at. quiet l me now ongoing (keys s a) acts
+      leads_ask (keys_plan s true) (λ a. table_call (keys s) a) said
+      (λ ongoing acts a run at. quiet l me now ongoing (table_call (keys s) a) acts
       (always_run (λ acts' r. Completes (list_plan list_key s (list_lacks_memory r)) acts' r)
       (list_plan list_key s true) acts a (list_without_memory list_key s) run) tt at)
 
@@ -745,18 +735,18 @@ module _ (l : Limits) (me : CallerNo) (now : Progress) where
       → Leads l me now (asks now (selected_keys_plan s true) said)
   unfolding selected_keys_plan
   leads_selected_memory s said =
-      leads_ask (selected_keys_plan s true) (λ a. selected_keys s a) said
+      leads_ask (selected_keys_plan s true) (λ a. table_call (selected_keys s) a) said
       (λ ongoing acts a run at.
-      quiet l me now ongoing (selected_keys s a) acts
+      quiet l me now ongoing (table_call (selected_keys s) a) acts
       (always_run (λ acts' r. Completes (list_plan list_selected s (list_lacks_memory r)) acts' r)
       (list_plan list_selected s true) acts a (list_without_memory list_selected s) run) tt at)
 
   leads_keys : (s : SelNo) → Leads l me now (asks now (keys_plan s false) list_reply)
   unfolding keys_plan
   leads_keys s =
-      leads_ask (keys_plan s false) (λ a. keys s a) list_reply
+      leads_ask (keys_plan s false) (λ a. table_call (keys s) a) list_reply
       (λ ongoing acts a run at.
-      quiet l me now ongoing (keys s a) acts
+      quiet l me now ongoing (table_call (keys s) a) acts
       (subst (λ b. Completes (list_plan list_key s b) acts a)
       (sym (always_run (λ _ r. list_lacks_memory r ≡ false) (list_plan list_key s false) acts a
       (list_has_memory list_key s) run)) run) tt at)
@@ -764,9 +754,9 @@ module _ (l : Limits) (me : CallerNo) (now : Progress) where
   leads_selected : (s : SelNo) → Leads l me now (asks now (selected_keys_plan s false) list_reply)
   unfolding selected_keys_plan
   leads_selected s =
-      leads_ask (selected_keys_plan s false) (λ a. selected_keys s a) list_reply
+      leads_ask (selected_keys_plan s false) (λ a. table_call (selected_keys s) a) list_reply
       (λ ongoing acts a run at.
-      quiet l me now ongoing (selected_keys s a) acts
+      quiet l me now ongoing (table_call (selected_keys s) a) acts
       (subst (λ b. Completes (list_plan list_selected s b) acts a)
       (sym (always_run (λ _ r. list_lacks_memory r ≡ false) (list_plan list_selected s false) acts a
       (list_has_memory list_selected s) run)) run) tt at)
@@ -774,7 +764,7 @@ module _ (l : Limits) (me : CallerNo) (now : Progress) where
   -- ---- what stands beside the table
 
   -- what is left shows the same selections and closings in progress
-  leads_beside : (r : Reply) (left : Progress) → IsBeside now left
+  leads_beside : (r : Reply) (left : Progress) → ShowsAsBefore now left
       → Leads l me now (Plan.reply (record { reply = r; left = left }))
   leads_beside r left beside = record {
     always = λ own made. record {
@@ -785,7 +775,7 @@ module _ (l : Limits) (me : CallerNo) (now : Progress) where
 
   -- a call that leaves so what is in progress
   leads_leaving : {R : Type 0} (plan : Plan R) (call : R → Made) (said : R → Reply) (left : R → Progress)
-      → ((a : R) → IsBeside now (left a))
+      → ((a : R) → ShowsAsBefore now (left a))
       → ((ongoing : Ongoing) (acts : List Act) (a : R) → Completes plan acts a → IsOngoing me now ongoing
       → Comes l me now ongoing (call a) acts now)
       → Leads l me now (makes plan said left)
@@ -803,15 +793,11 @@ module _ (l : Limits) (me : CallerNo) (now : Progress) where
 
   leads_pipe : (target : CallerNo) → Leads l me now (makes (pipe_plan l false) ends_reply (after_pipe now me target))
   leads_pipe target =
-      leads_leaving (pipe_plan l false) (λ a. pipe a) ends_reply (after_pipe now me target) beside
-      (λ o acts a run at. quiet l me now o (pipe a) acts (makes_pipe acts a run) tt at)
+      leads_leaving (pipe_plan l false) (λ a. table_call pipe a) ends_reply (after_pipe now me target) (pipe-quiet now me target)
+      (λ o acts a run at. quiet l me now o (table_call pipe a) acts (makes_pipe acts a run) tt at)
     where
-      beside : (a : Result PipeEnds PipeMakeError) → IsBeside now (after_pipe now me target a)
-      beside (Ok ends) = record { selection = refl; closing = refl }
-      beside (Err refusal) = record { selection = refl; closing = refl }
-
       makes_pipe : (acts : List Act) (a : Result PipeEnds PipeMakeError) → Completes (pipe_plan l false) acts a
-          → IsRun l (pipe a) acts
+          → IsRun l (table_call pipe a) acts
       makes_pipe acts a run =
           subst (λ b. Completes (pipe_plan l b) acts a)
           (sym (always_run (λ _ r. pipe_lacks_memory r ≡ false) (pipe_plan l false) acts a (pipe_has_memory l) run)) run
@@ -819,99 +805,101 @@ module _ (l : Limits) (me : CallerNo) (now : Progress) where
   leads_read : (c : ChanNo) (n : ℕ) (place : Option ℕ) → Leads l me now (read_line l now c n place)
   leads_read c n None = leads_refused l me now _
   leads_read c n (Some i) =
-      leads_leaving (try_read_plan l c) (λ a. try_read c a) (λ a. (read_gives n (pipe_at now.pipes i) a).reply)
+      leads_leaving (try_read_plan l c) (λ a. table_call (try_read c) a)
+      (λ a. (read_gives n (pipe_at now.pipes i) a).reply)
       (λ a. with_pipe now i (read_gives n (pipe_at now.pipes i) a).left)
       (λ _. record { selection = refl; closing = refl })
-      (λ o acts a run at. quiet l me now o (try_read c a) acts run tt at)
+      (λ o acts a run at. quiet l me now o (table_call (try_read c) a) acts run tt at)
 
   leads_write : (c : ChanNo) (bytes : List ℕ) (place : Option ℕ) → Leads l me now (write_line l now c bytes place)
   leads_write c bytes None = leads_refused l me now _
   leads_write c bytes (Some i) =
       let source = (pipe_at now.pipes i).source in
-      leads_leaving (try_write_plan l source c) (λ a. try_write source c a)
+      leads_leaving (try_write_plan l source c) (λ a. table_call (try_write source c) a)
       (λ a. (write_gives bytes (pipe_at now.pipes i) a).reply)
       (λ a. with_pipe now i (write_gives bytes (pipe_at now.pipes i) a).left)
       (λ _. record { selection = refl; closing = refl })
-      (λ o acts a run at. quiet l me now o (try_write source c a) acts run tt at)
+      (λ o acts a run at. quiet l me now o (table_call (try_write source c) a) acts run tt at)
 
   -- the call of a line
   leads_plan : (word : Call) → AreOn now → Leads l me now (call_plan l now me word)
   unfolding call_plan
   leads_plan call.Selector on =
-      leads_ask (open_selector_plan l) (λ a. open_selector a) selector_reply
-      (λ o acts a run at. quiet l me now o (open_selector a) acts run tt at)
+      leads_ask (open_selector_plan l) (λ a. table_call open_selector a) selector_reply
+      (λ o acts a run at. quiet l me now o (table_call open_selector a) acts run tt at)
   leads_plan (call.Channel kind) on =
-      leads_ask (open_channel_plan l kind) (λ a. open_channel kind a) channel_reply
-      (λ o acts a run at. quiet l me now o (open_channel kind a) acts run tt at)
+      leads_ask (open_channel_plan l kind) (λ a. table_call (open_channel kind) a) channel_reply
+      (λ o acts a run at. quiet l me now o (table_call (open_channel kind) a) acts run tt at)
   leads_plan (call.Blocking c on') on =
-      leads_ask (try_set_blocking_plan l c on') (λ a. try_set_blocking c on' a) mode_reply
-      (λ o acts a run at. quiet l me now o (try_set_blocking c on' a) acts run tt at)
+      leads_ask (try_set_blocking_plan l c on') (λ a. table_call (try_set_blocking c on') a) mode_reply
+      (λ o acts a run at. quiet l me now o (table_call (try_set_blocking c on') a) acts run tt at)
   leads_plan (call.IsBlocking c) on =
-      leads_ask (is_blocking_plan c) (λ a. is_blocking c a) yes_or_no
-      (λ o acts a run at. quiet l me now o (is_blocking c a) acts run tt at)
+      leads_ask (is_blocking_plan c) (λ a. table_call (is_blocking c) a) yes_or_no
+      (λ o acts a run at. quiet l me now o (table_call (is_blocking c) a) acts run tt at)
   leads_plan (call.IsOpen c) on =
-      leads_ask (is_open_plan c) (λ a. is_open c a) yes_or_no
-      (λ o acts a run at. quiet l me now o (is_open c a) acts run tt at)
+      leads_ask (is_open_plan c) (λ a. table_call (is_open c) a) yes_or_no
+      (λ o acts a run at. quiet l me now o (table_call (is_open c) a) acts run tt at)
   leads_plan (call.IsRegistered c) on =
-      leads_ask (is_registered_plan l c) (λ a. is_registered c a) yes_or_no
-      (λ o acts a run at. quiet l me now o (is_registered c a) acts run tt at)
+      leads_ask (is_registered_plan l c) (λ a. table_call (is_registered c) a) yes_or_no
+      (λ o acts a run at. quiet l me now o (table_call (is_registered c) a) acts run tt at)
   leads_plan (call.KeyFor c s) on =
-      leads_ask (key_for_plan c s) (λ a. key_for c s a) find_reply
-      (λ o acts a run at. quiet l me now o (key_for c s a) acts run tt at)
+      leads_ask (key_for_plan c s) (λ a. table_call (key_for c s) a) find_reply
+      (λ o acts a run at. quiet l me now o (table_call (key_for c s) a) acts run tt at)
   leads_plan (call.Register s c ops att) on =
-      leads_ask (try_register_plan l s c ops (given_or_none att)) (λ a. try_register s c ops (given_or_none att) a)
+      leads_ask (try_register_plan l s c ops (given_or_none att)) (λ a. table_call
+      (try_register s c ops (given_or_none att)) a)
       register_reply
-      (λ o acts a run at. quiet l me now o (try_register s c ops (given_or_none att) a) acts run tt at)
+      (λ o acts a run at. quiet l me now o (table_call (try_register s c ops (given_or_none att)) a) acts run tt at)
   leads_plan (call.Closec c) on =
-      leads_leaving (close_channel_plan l c) (λ a. close_channel c a) closed_reply
+      leads_leaving (close_channel_plan l c) (λ a. table_call (close_channel c) a) closed_reply
       (λ _. with_seal now (own_sink now.pipes me c)) (λ _. record { selection = refl; closing = refl })
-      (λ o acts a run at. quiet l me now o (close_channel c a) acts run tt at)
+      (λ o acts a run at. quiet l me now o (table_call (close_channel c) a) acts run tt at)
   leads_plan (call.Valid s k) on =
-      leads_ask (is_valid_plan (key s k)) (λ a. is_valid (key s k) a) yes_or_no
-      (λ o acts a run at. quiet l me now o (is_valid (key s k) a) acts run tt at)
+      leads_ask (is_valid_plan (key s k)) (λ a. table_call (is_valid (key s k)) a) yes_or_no
+      (λ o acts a run at. quiet l me now o (table_call (is_valid (key s k)) a) acts run tt at)
   leads_plan (call.Interest s k) on =
-      leads_ask (interest_plan (key s k)) (λ a. interest (key s k) a) set_reply
-      (λ o acts a run at. quiet l me now o (interest (key s k) a) acts run tt at)
+      leads_ask (interest_plan (key s k)) (λ a. table_call (interest (key s k)) a) set_reply
+      (λ o acts a run at. quiet l me now o (table_call (interest (key s k)) a) acts run tt at)
   leads_plan (call.Ready s k) on =
-      leads_ask (ready_plan (key s k)) (λ a. ready (key s k) a) set_reply
-      (λ o acts a run at. quiet l me now o (ready (key s k) a) acts run tt at)
+      leads_ask (ready_plan (key s k)) (λ a. table_call (ready (key s k)) a) set_reply
+      (λ o acts a run at. quiet l me now o (table_call (ready (key s k)) a) acts run tt at)
   leads_plan (call.Iset s k ops) on =
-      leads_ask (set_interest_plan (key s k) ops) (λ a. set_interest (key s k) ops a) put_reply
-      (λ o acts a run at. quiet l me now o (set_interest (key s k) ops a) acts run tt at)
+      leads_ask (set_interest_plan (key s k) ops) (λ a. table_call (set_interest (key s k) ops) a) put_reply
+      (λ o acts a run at. quiet l me now o (table_call (set_interest (key s k) ops) a) acts run tt at)
   leads_plan (call.Ior s k ops) on =
-      leads_ask (interest_or_plan (key s k) ops) (λ a. interest_or (key s k) ops a) set_reply
-      (λ o acts a run at. quiet l me now o (interest_or (key s k) ops a) acts run tt at)
+      leads_ask (interest_or_plan (key s k) ops) (λ a. table_call (interest_or (key s k) ops) a) set_reply
+      (λ o acts a run at. quiet l me now o (table_call (interest_or (key s k) ops) a) acts run tt at)
   leads_plan (call.Iand s k ops) on =
-      leads_ask (interest_and_plan (key s k) ops) (λ a. interest_and (key s k) ops a) set_reply
-      (λ o acts a run at. quiet l me now o (interest_and (key s k) ops a) acts run tt at)
+      leads_ask (interest_and_plan (key s k) ops) (λ a. table_call (interest_and (key s k) ops) a) set_reply
+      (λ o acts a run at. quiet l me now o (table_call (interest_and (key s k) ops) a) acts run tt at)
   leads_plan (call.Cancel s k) on =
-      leads_ask (cancel_plan (key s k)) (λ _. cancel (key s k)) (λ _. reply.«Ok»)
-      (λ o acts a run at. quiet l me now o (cancel (key s k)) acts run tt at)
+      leads_ask (cancel_plan (key s k)) (λ _. table_call (cancel (key s k)) tt) (λ _. reply.«Ok»)
+      (λ o acts a run at. quiet l me now o (table_call (cancel (key s k)) tt) acts run tt at)
   leads_plan (call.Unselect s k) on =
-      leads_ask (unselect_plan (key s k)) (λ a. unselect (key s k) a) yes_or_no
-      (λ o acts a run at. quiet l me now o (unselect (key s k) a) acts run tt at)
+      leads_ask (unselect_plan (key s k)) (λ a. table_call (unselect (key s k)) a) yes_or_no
+      (λ o acts a run at. quiet l me now o (table_call (unselect (key s k)) a) acts run tt at)
   leads_plan (call.Attach s k att) on =
-      leads_ask (attach_plan (key s k) att) (λ a. attach (key s k) att a) (λ before. reply.Number before)
-      (λ o acts a run at. quiet l me now o (attach (key s k) att a) acts run tt at)
+      leads_ask (attach_plan (key s k) att) (λ a. table_call (attach (key s k) att) a) (λ before. reply.Number before)
+      (λ o acts a run at. quiet l me now o (table_call (attach (key s k) att) a) acts run tt at)
   leads_plan (call.Attachment s k) on =
-      leads_ask (attachment_plan (key s k)) (λ a. attachment (key s k) a) (λ att. reply.Number att)
-      (λ o acts a run at. quiet l me now o (attachment (key s k) a) acts run tt at)
+      leads_ask (attachment_plan (key s k)) (λ a. table_call (attachment (key s k)) a) (λ att. reply.Number att)
+      (λ o acts a run at. quiet l me now o (table_call (attachment (key s k)) a) acts run tt at)
   leads_plan (call.Begin s waiting) on = leads_begin s (mode_of waiting)
   leads_plan (call.Told s elapsed pairs) on = leads_told s elapsed pairs (own_selection now me s) on refl
   leads_plan (call.Failed s) on = leads_failed s (own_selection now me s) on refl
   leads_plan (call.Wakeup s) on =
-      leads_ask (wakeup_plan s) (λ _. wakeup s) (λ _. reply.«Ok»)
-      (λ o acts a run at. quiet l me now o (wakeup s) acts run tt at)
+      leads_ask (wakeup_plan s) (λ _. table_call (wakeup s) tt) (λ _. reply.«Ok»)
+      (λ o acts a run at. quiet l me now o (table_call (wakeup s) tt) acts run tt at)
   leads_plan (call.Close s) on = leads_close s
   leads_plan (call.CloseEnd s) on = leads_close_end s
   leads_plan (call.Keys s) on = leads_keys s
   leads_plan (call.Selected s) on = leads_selected s
   leads_plan (call.Interrupt target) on =
-      leads_ask (interrupt_plan target) (λ _. interrupt target) (λ _. reply.«Ok»)
-      (λ o acts a run at. quiet l me now o (interrupt target) acts run tt at)
+      leads_ask (interrupt_plan target) (λ _. table_call (interrupt target) tt) (λ _. reply.«Ok»)
+      (λ o acts a run at. quiet l me now o (table_call (interrupt target) tt) acts run tt at)
   leads_plan call.Interrupted on =
-      leads_ask interrupted_plan (λ a. interrupted a) yes_or_no
-      (λ o acts a run at. quiet l me now o (interrupted a) acts run tt at)
+      leads_ask interrupted_plan (λ a. table_call interrupted a) yes_or_no
+      (λ o acts a run at. quiet l me now o (table_call interrupted a) acts run tt at)
   leads_plan (call.Pipe target) on = leads_pipe target
   leads_plan (call.Pwrite c bytes) on = leads_write c bytes (own_sink now.pipes me c)
   leads_plan (call.Pread c n) on = leads_read c n (own_source now.pipes me c)
@@ -931,60 +919,36 @@ module _ (l : Limits) (me : CallerNo) (now : Progress) where
 
   leads_selector : (s : SelNo) (plan : Plan Said) → Leads l me now plan → Leads l me now (if_selector l now s plan)
   leads_selector s plan later =
-      leads_call l me now (find_selector_plan l s.0) (λ a. find_selector s.0 a) (λ _. now)
+      leads_call l me now (find_selector_plan l s.0) (λ a. table_call (find_selector s.0) a) (λ _. now)
       (if_found now reply.NoSelector plan)
-      (λ o acts a run at. quiet l me now o (find_selector s.0 a) acts run tt at)
+      (λ o acts a run at. quiet l me now o (table_call (find_selector s.0) a) acts run tt at)
       (leads_found reply.NoSelector plan later)
 
   leads_channel : (c : ChanNo) (plan : Plan Said) → Leads l me now plan → Leads l me now (if_channel l now c plan)
   leads_channel c plan later =
-      leads_call l me now (find_channel_plan l c.0) (λ a. find_channel c.0 a) (λ _. now)
+      leads_call l me now (find_channel_plan l c.0) (λ a. table_call (find_channel c.0) a) (λ _. now)
       (if_found now reply.NoChannel plan)
-      (λ o acts a run at. quiet l me now o (find_channel c.0 a) acts run tt at) (leads_found reply.NoChannel plan later)
+      (λ o acts a run at. quiet l me now o (table_call (find_channel c.0) a) acts run tt at)
+      (leads_found reply.NoChannel plan later)
 
   leads_key : (s : SelNo) (k : KeyId) (plan : Plan Said) → Leads l me now plan → Leads l me now (if_key l now s k plan)
   leads_key s k plan later =
       leads_selector s _
-      (leads_call l me now (find_plan l s k.index k.serial) (λ a. find s k.index k.serial a) (λ _. now)
+      (leads_call l me now (find_plan l s k.index k.serial) (λ a. table_call (find s k.index k.serial) a) (λ _. now)
       (if_found now reply.NoKey plan)
-      (λ o acts a run at. quiet l me now o (find s k.index k.serial a) acts run tt at)
+      (λ o acts a run at. quiet l me now o (table_call (find s k.index k.serial) a) acts run tt at)
       (leads_found reply.NoKey plan later))
+
+  leads_name : (a : LineName) (plan : Plan Said) → Leads l me now plan → Leads l me now (if_name l now a plan)
+  leads_name (Caller n) plan later = leads_caller n plan later
+  leads_name (Selector s) plan later = leads_selector s plan later
+  leads_name (Channel c) plan later = leads_channel c plan later
+  leads_name (Key s k) plan later = leads_key s k plan later
 
   pub leads_named : (word : Call) (plan : Plan Said) → Leads l me now plan → Leads l me now (if_named l now word plan)
   unfolding if_named
-  leads_named call.Selector plan later = later
-  leads_named (call.Channel kind) plan later = later
-  leads_named (call.Blocking c on) plan later = leads_channel c plan later
-  leads_named (call.IsBlocking c) plan later = leads_channel c plan later
-  leads_named (call.IsOpen c) plan later = leads_channel c plan later
-  leads_named (call.IsRegistered c) plan later = leads_channel c plan later
-  leads_named (call.KeyFor c s) plan later = leads_channel c _ (leads_selector s plan later)
-  leads_named (call.Register s c ops att) plan later = leads_selector s _ (leads_channel c plan later)
-  leads_named (call.Closec c) plan later = leads_channel c plan later
-  leads_named (call.Valid s k) plan later = leads_key s k plan later
-  leads_named (call.Interest s k) plan later = leads_key s k plan later
-  leads_named (call.Ready s k) plan later = leads_key s k plan later
-  leads_named (call.Iset s k ops) plan later = leads_key s k plan later
-  leads_named (call.Ior s k ops) plan later = leads_key s k plan later
-  leads_named (call.Iand s k ops) plan later = leads_key s k plan later
-  leads_named (call.Cancel s k) plan later = leads_key s k plan later
-  leads_named (call.Unselect s k) plan later = leads_key s k plan later
-  leads_named (call.Attach s k att) plan later = leads_key s k plan later
-  leads_named (call.Attachment s k) plan later = leads_key s k plan later
-  leads_named (call.Begin s waiting) plan later = leads_selector s plan later
-  leads_named (call.Told s elapsed pairs) plan later = leads_selector s plan later
-  leads_named (call.Failed s) plan later = leads_selector s plan later
-  leads_named (call.Wakeup s) plan later = leads_selector s plan later
-  leads_named (call.Close s) plan later = leads_selector s plan later
-  leads_named (call.CloseEnd s) plan later = leads_selector s plan later
-  leads_named (call.Keys s) plan later = leads_selector s plan later
-  leads_named (call.Selected s) plan later = leads_selector s plan later
-  leads_named (call.Interrupt target) plan later = leads_caller target plan later
-  leads_named call.Interrupted plan later = later
-  leads_named (call.Pipe target) plan later = leads_caller target plan later
-  leads_named (call.Pwrite c bytes) plan later = leads_channel c plan later
-  leads_named (call.Pread c n) plan later = leads_channel c plan later
-  leads_named (call.Group g) plan later = later
+  leads_named word plan later =
+      kept_by_names (λ p. Leads l me now p) (if_name l now) leads_name (word_row word).names plan later
 
   -- a whole line
   pub leads_line : (word : Call) → AreOn now → Leads l me now (line_plan l now me word)

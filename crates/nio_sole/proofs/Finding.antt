@@ -7,15 +7,21 @@ use Rattle.nio_base.specs.declared.numbers.CallerNo.{CallerNo}
 use Rattle.nio_base.specs.declared.numbers.ChanNo.{ChanNo}
 use Rattle.nio_base.specs.declared.numbers.KeyNo.{KeyNo}
 use Rattle.nio_base.specs.declared.numbers.SelNo.{SelNo}
+use Rattle.nio_event.proofs.PassViews.{selector_after, channel_after, key_after}
+use Rattle.nio_event.specs.Conditions.{IsCaller}
 use Rattle.nio_event.specs.PassViews.{PassView, done_between, ActsClause, HasNoPin}
 use Rattle.nio_event.specs.Questions.{Question, Answer, answer_of}
+use Rattle.nio_event.specs.WordRows.{EachName, by_names, word_row}
 use Rattle.nio_event.specs.declared.act.Act.{Act}
 use Rattle.nio_event.specs.declared.call.Call.{Call}
 use Rattle.nio_event.specs.declared.reply.Reply.{Reply}
 use Rattle.nio_event.specs.declared.reply.Reply.TheVariants as reply
+use Rattle.nio_event.specs.declared.word_row.LineName.{LineName}
+use Rattle.nio_event.specs.declared.word_row.LineName.TheVariants.{Caller, Selector, Channel, Key}
+use Rattle.nio_event.specs.declared.word_row.LineNames.{LineNames}
 use Rattle.nio_serial.specs.Documented.{Progress, nothing_yet}
-use Rattle.nio_serial.specs.Lines.{Said, refused, if_named}
-use Rattle.nio_sole.specs.Named.{HasNames, Finds, after_names}
+use Rattle.nio_serial.specs.Lines.{Said, refused, if_name, if_named}
+use Rattle.nio_sole.specs.Named.{HasName, HasNames, Finds, after_names}
 use Rattle.nio_steps.proofs.CallLaws.{left_more, left_start}
 use Rattle.nio_steps.specs.Calls.{PartClause}
 use Rattle.nio_steps.specs.KeyCalls.{find_selector_plan, find_channel_plan, find_plan}
@@ -71,12 +77,23 @@ key_found l s i serial acts k run =
 
 -- ---- by the word of the line
 
-pub names_of : {w : Words} {p q : Pass} {me : CallerNo} {word it : Call} {missing : Option Reply}
-    → word ≡ it → Finds (λ now plan. if_named (limits_of w) now it plan) (λ pass. HasNames pass it) w p q me missing
+pub names_of : {w : Words} {p q : Pass} {me : CallerNo} (word : Call) {names : LineNames} {missing : Option Reply}
+    → (word_row word).names ≡ names
+    → Finds (λ now plan. by_names (if_name (limits_of w) now) names plan) (λ pass. EachName (HasName pass) names) w p q
+    me missing
     → Finds (λ now plan. if_named (limits_of w) now word plan) (λ pass. HasNames pass word) w p q me missing
-names_of {w = w} {p = p} {q = q} {me = me} {missing = missing} is finds =
-    subst (λ (x : Call). Finds (λ now plan. if_named (limits_of w) now x plan)
-    (λ pass. HasNames pass x) w p q me missing) (sym is) finds
+unfolding if_named
+names_of {w = w} {p = p} {q = q} {me = me} word {missing = missing} is finds =
+    subst (λ (x : LineNames). Finds (λ now plan. by_names (if_name (limits_of w) now) x plan)
+    (λ pass. EachName (HasName pass) x) w p q me missing) (sym is) finds
+
+-- what was there is there still
+pub name_after : {me : CallerNo} {acts : List Act} {old new : PassView} (a : LineName) → ActsClause me acts old new
+    → HasName old a → HasName new a
+name_after (Caller n) clause has = subst (λ (l : Limits). IsCaller l n) (sym clause.limits) has
+name_after (Selector s) clause has = selector_after clause has
+name_after (Channel c) clause has = channel_after clause has
+name_after (Key s k) clause has = key_after clause has
 
 -- ---- look-ups one after the other
 

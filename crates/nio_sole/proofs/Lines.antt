@@ -1,21 +1,23 @@
 -- What stands between two lines stands after each line, and after a call that lacked memory.
-use Rattle.std.proofs.Common.{◌≡◌, ℕ, nat_lt, Bool, true, false, not, if◌then◌else◌, Option, Some, None, is_some, refl}
-use Rattle.std.proofs.Common.{sym, subst}
+use Rattle.std.proofs.Common.{◌≡◌, ℕ, nat_lt, Bool, true, false, not, if◌then◌else◌, Option, Some, None, refl, sym}
+use Rattle.std.proofs.Common.{subst}
 use Rattle.nio_base.specs.Limits.{IsFit}
 use Rattle.nio_base.specs.declared.limits.Limits.{Limits}
 use Rattle.nio_base.specs.declared.numbers.CallerNo.{CallerNo}
-use Rattle.nio_base.specs.declared.numbers.ChanNo.{ChanNo}
-use Rattle.nio_base.specs.declared.numbers.KeyId.{KeyId}
 use Rattle.nio_base.specs.declared.numbers.KeyNo.{KeyNo}
 use Rattle.nio_base.specs.declared.numbers.SelNo.{SelNo}
+use Rattle.nio_event.proofs.KeptNames.{kept_by_names}
 use Rattle.nio_event.specs.Histories.{mine}
 use Rattle.nio_event.specs.PassViews.{PassView, known}
 use Rattle.nio_event.specs.Sets.{was_published}
 use Rattle.nio_event.specs.State.{State}
+use Rattle.nio_event.specs.WordRows.{word_row}
 use Rattle.nio_event.specs.declared.call.Call.{Call}
 use Rattle.nio_event.specs.declared.call.Call.TheVariants as call
 use Rattle.nio_event.specs.declared.reply.Reply.{Reply}
 use Rattle.nio_event.specs.declared.reply.Reply.TheVariants as reply
+use Rattle.nio_event.specs.declared.word_row.LineName.{LineName}
+use Rattle.nio_event.specs.declared.word_row.LineName.TheVariants.{Caller, Selector, Channel, Key}
 use Rattle.nio_plain.specs.ScriptState.{ScriptState}
 use Rattle.nio_plain.specs.Seq.{seq, call_of}
 use Rattle.nio_plain.specs.Seq.Replies.{unchanged}
@@ -24,9 +26,8 @@ use Rattle.nio_plain.specs.declared.rules.Rules.TheVariants.{Now}
 use Rattle.nio_serial.specs.Between.{IsBetween}
 use Rattle.nio_serial.specs.Documented.{Progress, documented}
 use Rattle.nio_serial.proofs.Histories.{pass-lines-amount}
-use Rattle.nio_serial.specs.Lines.{Said, refused, call_plan, if_found, if_selector, if_channel, if_key, if_named}
-use Rattle.nio_serial.specs.Lines.{line_plan}
-use Rattle.nio_sole.proofs.Memory.{Rests, rests_then, selector-rests}
+use Rattle.nio_serial.specs.Lines.{Said, refused, call_plan, if_name, if_named, line_plan}
+use Rattle.nio_sole.proofs.Memory.{Rests, if-rests, found-rests, selector-rests}
 use Rattle.nio_sole.proofs.Others.{line_made}
 use Rattle.nio_sole.specs.Made.{HasMade}
 use Rattle.nio_steps.specs.Calls.{CallClause}
@@ -64,62 +65,22 @@ find-rests l me s i serial st = by_test (not (nat_lt i l.keys))
     by_test true = refl
     by_test false = refl
 
-module _ (l : Limits) (me : CallerNo) (now : Progress) (plan : Plan Said) (st : State) (here : Rests me plan st) where
-  if-rests : (r : Reply) (b : Bool) → Rests me (if b then plan else refused now r) st
-  if-rests r true = here
-  if-rests r false = refl
-
-  channel-rests : (c : ChanNo) → Rests me (if_channel l now c plan) st
-  channel-rests c =
-      rests_then me (find_channel_plan l c.0) (if_found now reply.NoChannel plan) st (find_channel-rests l me c.0 st)
-      (λ found. if-rests reply.NoChannel (is_some found))
-
-  key-rests : (s : SelNo) (k : KeyId) → Rests me (if_key l now s k plan) st
-  key-rests s k =
-      selector-rests l me now s (find_plan l s k.index k.serial >>= if_found now reply.NoKey plan) st
-      (rests_then me (find_plan l s k.index k.serial) (if_found now reply.NoKey plan) st
-      (find-rests l me s k.index k.serial st) (λ found. if-rests reply.NoKey (is_some found)))
+module _ (l : Limits) (me : CallerNo) (now : Progress) (st : State) where
+  name-rests : (a : LineName) (plan : Plan Said) → Rests me plan st → Rests me (if_name l now a plan) st
+  name-rests (Caller n) plan here = if-rests me now reply.NoCaller (nat_lt n.0 l.callers) plan st here
+  name-rests (Selector s) plan here = selector-rests l me now s plan st here
+  name-rests (Channel c) plan here =
+      found-rests me now (find_channel_plan l c.0) reply.NoChannel plan st (find_channel-rests l me c.0 st) here
+  name-rests (Key s k) plan here =
+      selector-rests l me now s _ st
+      (found-rests me now (find_plan l s k.index k.serial) reply.NoKey plan st
+      (find-rests l me s k.index k.serial st) here)
 
 pub named-rests : (l : Limits) (me : CallerNo) (now : Progress) (word : Call) (plan : Plan Said) (st : State)
     → Rests me plan st → Rests me (if_named l now word plan) st
 unfolding if_named
-named-rests l me now call.Selector plan st here = here
-named-rests l me now (call.Channel kind) plan st here = here
-named-rests l me now (call.Blocking c on) plan st here = channel-rests l me now plan st here c
-named-rests l me now (call.IsBlocking c) plan st here = channel-rests l me now plan st here c
-named-rests l me now (call.IsOpen c) plan st here = channel-rests l me now plan st here c
-named-rests l me now (call.IsRegistered c) plan st here = channel-rests l me now plan st here c
-named-rests l me now (call.KeyFor c s) plan st here =
-    channel-rests l me now (if_selector l now s plan) st (selector-rests l me now s plan st here) c
-named-rests l me now (call.Register s c ops att) plan st here =
-    selector-rests l me now s (if_channel l now c plan) st (channel-rests l me now plan st here c)
-named-rests l me now (call.Closec c) plan st here = channel-rests l me now plan st here c
-named-rests l me now (call.Valid s k) plan st here = key-rests l me now plan st here s k
-named-rests l me now (call.Interest s k) plan st here = key-rests l me now plan st here s k
-named-rests l me now (call.Ready s k) plan st here = key-rests l me now plan st here s k
-named-rests l me now (call.Iset s k ops) plan st here = key-rests l me now plan st here s k
-named-rests l me now (call.Ior s k ops) plan st here = key-rests l me now plan st here s k
-named-rests l me now (call.Iand s k ops) plan st here = key-rests l me now plan st here s k
-named-rests l me now (call.Cancel s k) plan st here = key-rests l me now plan st here s k
-named-rests l me now (call.Unselect s k) plan st here = key-rests l me now plan st here s k
-named-rests l me now (call.Attach s k att) plan st here = key-rests l me now plan st here s k
-named-rests l me now (call.Attachment s k) plan st here = key-rests l me now plan st here s k
-named-rests l me now (call.Begin s waiting) plan st here = selector-rests l me now s plan st here
-named-rests l me now (call.Told s elapsed pairs) plan st here = selector-rests l me now s plan st here
-named-rests l me now (call.Failed s) plan st here = selector-rests l me now s plan st here
-named-rests l me now (call.Wakeup s) plan st here = selector-rests l me now s plan st here
-named-rests l me now (call.Close s) plan st here = selector-rests l me now s plan st here
-named-rests l me now (call.CloseEnd s) plan st here = selector-rests l me now s plan st here
-named-rests l me now (call.Keys s) plan st here = selector-rests l me now s plan st here
-named-rests l me now (call.Selected s) plan st here = selector-rests l me now s plan st here
-named-rests l me now (call.Interrupt target) plan st here =
-    if-rests l me now plan st here reply.NoCaller (nat_lt target.0 l.callers)
-named-rests l me now call.Interrupted plan st here = here
-named-rests l me now (call.Pipe target) plan st here =
-    if-rests l me now plan st here reply.NoCaller (nat_lt target.0 l.callers)
-named-rests l me now (call.Pwrite c bytes) plan st here = channel-rests l me now plan st here c
-named-rests l me now (call.Pread c n) plan st here = channel-rests l me now plan st here c
-named-rests l me now (call.Group g) plan st here = here
+named-rests l me now word plan st here =
+    kept_by_names (λ p. Rests me p st) (if_name l now) (name-rests l me now st) (word_row word).names plan here
 
 -- ---- what stands between two lines
 

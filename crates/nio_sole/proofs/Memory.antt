@@ -125,15 +125,22 @@ find_selector-rests l me n st = by_test (not (nat_lt n l.selectors))
     by_test true = refl
     by_test false = refl
 
+pub if-rests : (me : CallerNo) (now : Progress) (r : Reply) (b : Bool) (plan : Plan Said) (st : State)
+    → Rests me plan st → Rests me (if b then plan else refused now r) st
+if-rests me now r true plan st here = here
+if-rests me now r false plan st here = refl
+
+-- a look-up
+pub found-rests : {A : Type 0} (me : CallerNo) (now : Progress) (look : Plan (Option A)) (r : Reply) (plan : Plan Said)
+    (st : State)
+    → Rests me look st → Rests me plan st → Rests me (look >>= if_found now r plan) st
+found-rests me now look r plan st looks here =
+    rests_then me look (if_found now r plan) st looks (λ found. if-rests me now r (is_some found) plan st here)
+
 pub selector-rests : (l : Limits) (me : CallerNo) (now : Progress) (s : SelNo) (plan : Plan Said) (st : State)
     → Rests me plan st → Rests me (if_selector l now s plan) st
 selector-rests l me now s plan st here =
-    rests_then me (find_selector_plan l s.0) (if_found now reply.NoSelector plan) st (find_selector-rests l me s.0 st)
-    (λ found. by_test (is_some found))
-  where
-    by_test : (b : Bool) → Rests me (if b then plan else refused now reply.NoSelector) st
-    by_test true = here
-    by_test false = refl
+    found-rests me now (find_selector_plan l s.0) reply.NoSelector plan st (find_selector-rests l me s.0 st) here
 
 pub asks-rests : {R : Type 0} (me : CallerNo) (now : Progress) (plan : Plan R) (said : R → Reply) (st : State)
     → Rests me plan st → Rests me (asks now plan said) st

@@ -1,10 +1,9 @@
 -- What a line leaves of what the other callers have in progress, in a legal history; and what each caller made after
 -- it.
-use Rattle.std.proofs.Common.{◌≡◌, ℕ, ◌==◌, Bool, true, false, cond, if◌then◌else◌, Option, Some, None, option_map}
+use Rattle.std.proofs.Common.{◌≡◌, ℕ, ◌==◌, Bool, true, false, if◌then◌else◌, Option, Some, None, option_map}
 use Rattle.std.proofs.Common.{List, [], ◌∷◌, ◌++◌, map, refl, ap, sym, ◌∙◌, subst, append_assoc, eqb-true, eq-eqb, ◌⊎◌}
 use Rattle.std.proofs.Common.{inl, inr}
 use Rattle.std.specs.Prelude.{◌≢◌}
-use Rattle.std.specs.List.{filter}
 use Rattle.std.proofs.lemmas.List.{append-nil, map-append}
 use Rattle.nio_base.specs.declared.limits.Limits.{Limits}
 use Rattle.nio_base.specs.declared.numbers.CallerNo.{CallerNo}
@@ -12,7 +11,7 @@ use Rattle.nio_event.proofs.Legal.{legal_beginning, legal_next}
 use Rattle.nio_event.proofs.Soundness.{legal-sound, held_some, both_ways}
 use Rattle.nio_event.proofs.Stays.{facts_are_permanent, only_itself_gives_back}
 use Rattle.nio_event.specs.Conditions.{is_held_by, has_turn, is_closer}
-use Rattle.nio_event.specs.Histories.{state_after, is_by, mine, event_of, IsStep, IsLegal}
+use Rattle.nio_event.specs.Histories.{state_after, mine, event_of, IsStep, IsLegal}
 use Rattle.nio_event.specs.OwnEvents.{has, since_first}
 use Rattle.nio_event.specs.PassViews.{PassView, known, done_between}
 use Rattle.nio_event.specs.Permanent.{the_turn, gives_back, selector_shut}
@@ -23,11 +22,12 @@ use Rattle.nio_event.specs.declared.call.Call.{Call}
 use Rattle.nio_event.specs.declared.event.Event.{Event}
 use Rattle.nio_orderly.proofs.OrderlyCare.{first_opened}
 use Rattle.nio_plain.specs.Seq.Selections.{is_caller}
+use Rattle.nio_serial.proofs.Showing.{own-is}
 use Rattle.nio_serial.specs.Between.{IsBetween}
 use Rattle.nio_serial.specs.Documented.{Progress}
 use Rattle.nio_serial.specs.Lines.{Said, own_selection, line_plan}
 use Rattle.nio_sole.proofs.Calls.{takes_turn, shuts, IsTakenFrom, IsShutFrom, LeavesTo, Leads, leads_line, made_along}
-use Rattle.nio_sole.proofs.Calls.{leaves_along, between_on, own-is}
+use Rattle.nio_sole.proofs.Calls.{leaves_along, between_on}
 use Rattle.nio_sole.specs.Made.{HasMade}
 use Rattle.nio_steps.proofs.OwnActs.{mine-append}
 use Rattle.nio_steps.specs.Calls.{CallClause}
@@ -35,20 +35,9 @@ use Rattle.nio_steps.specs.Names.{selector}
 use Rattle.nio_steps.specs.Plan.{Plan}
 use Rattle.nio_steps.specs.Runs.{Completes}
 use Rattle.nio_steps.specs.SelectCalls.{Selection}
+use Rattle.nio_orderly.proofs.CallLists.{mine-by}
 
 -- ---- what a caller did among the events of one
-
-pub mine-of : (n m : CallerNo) (acts : List Act) (b : Bool) → (m.0 == n.0) ≡ b
-    → mine n (map (event_of m) acts) ≡ (if b then acts else [])
-mine-of n m [] true by = refl
-mine-of n m [] false by = refl
-mine-of n m (act ∷ acts) true by =
-    let rest = filter (is_by n) (map (event_of m) acts) in
-    ap (λ (b : Bool). map (λ (e : Event). e.act) (cond b (event_of m act ∷ rest) rest)) by
-    ∙ ap (λ xs. act ∷ xs) (mine-of n m acts true by)
-mine-of n m (act ∷ acts) false by =
-    let rest = filter (is_by n) (map (event_of m) acts) in
-    ap (λ (b : Bool). map (λ (e : Event). e.act) (cond b (event_of m act ∷ rest) rest)) by ∙ mine-of n m acts false by
 
 other-by : (n m : CallerNo) → n ≢ m → (m.0 == n.0) ≡ false
 other-by n m other = by_test (m.0 == n.0) refl
@@ -58,7 +47,7 @@ other-by n m other = by_test (m.0 == n.0) refl
     by_test false same = refl
 
 mine-of_other : (n m : CallerNo) → n ≢ m → (acts : List Act) → mine n (map (event_of m) acts) ≡ []
-mine-of_other n m other acts = mine-of n m acts false (other-by n m other)
+mine-of_other n m other acts = mine-by n m acts false (other-by n m other)
 
 -- ---- steps that another caller's turn or closing rules out
 
@@ -221,7 +210,7 @@ call_made me now plan old new said leads only between call made n = by_caller (m
     by_caller true by =
         let same : me ≡ n = ap (λ (k : ℕ). record { 0 = k }) (eqb-true me.0 n.0 by) in
         subst (λ xs. HasMade old.limits xs n said.left)
-        (sym (mine_new ∙ ap (λ xs. mine n old.seen ++ xs) (mine-of n me acts true by)))
+        (sym (mine_new ∙ ap (λ xs. mine n old.seen ++ xs) (mine-by n me acts true by)))
         (subst (λ m. HasMade old.limits (mine m old.seen ++ acts) m said.left) same
         (made_along old.limits me now plan (mine me old.seen) acts said leads (made me) call.shape))
     by_caller false by =
@@ -229,7 +218,7 @@ call_made me now plan old new said leads only between call made n = by_caller (m
         by in
         subst (λ xs. HasMade old.limits xs n said.left)
         (sym (mine_new
-        ∙ (ap (λ xs. mine n old.seen ++ xs) (mine-of n me acts false by) ∙ append-nil (mine n old.seen))))
+        ∙ (ap (λ xs. mine n old.seen ++ xs) (mine-by n me acts false by) ∙ append-nil (mine n old.seen))))
         (others_go_on old.limits me n now said.left (mine n old.seen) acts old.seen other legal between
         (leaves_along old.limits me n now plan (mine me old.seen) acts said leads (made me) call.shape other)
         (made n))

@@ -5,7 +5,7 @@ use Rattle.std.proofs.Common.{inl, inr}
 use Rattle.std.specs.List.{Contains}
 use Rattle.std.proofs.lemmas.Bool.{and_parts}
 use Rattle.std.proofs.lemmas.List.{append-nil}
-use Rattle.std.proofs.lemmas.List.Elements.{All-nil, All-cons, All-head, All-tail, Contains-append_left}
+use Rattle.std.proofs.lemmas.List.Elements.{All-head, All-tail, Contains-append_left}
 use Rattle.std.proofs.lemmas.List.Elements.{Contains-append_right}
 use Rattle.nio_base.specs.declared.limits.Limits.{Limits}
 use Rattle.nio_base.specs.declared.numbers.CallerNo.{CallerNo}
@@ -23,9 +23,8 @@ use Rattle.nio_event.specs.declared.act.Act.TheVariants.{TakeTurn, Enter, ShutBi
 use Rattle.nio_event.specs.declared.event.Event.{Event}
 use Rattle.nio_event.specs.declared.found.Mode.{Mode}
 use Rattle.nio_orderly.proofs.ListWords.{has-neither}
-use Rattle.nio_orderly.specs.Made.{Made, IsRun, Ongoing, nothing_ongoing, after_call, after_calls, MayCome, AreInOrder}
-use Rattle.nio_orderly.specs.Made.{try_begin, told, leave, shut, try_finish, select, close}
 use Rattle.nio_orderly.proofs.WaitedCalls.{calls_without_waiting}
+use Rattle.nio_orderly.specs.Made.{Made, IsRun, after_call, after_calls, MayCome, AreInOrder, table_call, waiting_call}
 use Rattle.nio_orderly.specs.Orderly.{AreRuns}
 use Rattle.nio_orderly.specs.Waited.{waits}
 use Rattle.nio_plain.specs.Seq.Selections.{is_caller}
@@ -33,8 +32,8 @@ use Rattle.nio_serial.specs.Documented.{Progress}
 use Rattle.nio_serial.specs.Lines.{own_selection}
 use Rattle.nio_sole.proofs.Calls.{again-same}
 use Rattle.nio_sole.proofs.Others.{held_not_free}
-use Rattle.nio_sole.proofs.CallsLeave.{is_on, call-leaves}
-use Rattle.nio_sole.proofs.Spared.{touches, Spared, LeavesSelection, leaves_selection}
+use Rattle.nio_sole.proofs.Spared.{touches, Spared, LeavesSelection, none-leaves, one-leaves, leaves-append, is_on}
+use Rattle.nio_sole.proofs.Spared.{call-leaves}
 use Rattle.nio_sole.specs.Made.{HasMade}
 use Rattle.nio_sole.specs.MadeLaws.{OngoingIsBegun, OngoingIsClosing}
 use Rattle.nio_steps.proofs.BeginLaws.{begin-parts}
@@ -43,12 +42,14 @@ use Rattle.nio_steps.proofs.OwnActs.{cut_at}
 use Rattle.nio_steps.proofs.SelectionLaws.{begins_selection, again_goes_on}
 use Rattle.nio_steps.proofs.StandLaws.{selections_stand}
 use Rattle.nio_steps.proofs.Walks.{Always, always_weaker, always_if, always_any, always_run}
+use Rattle.nio_steps.specs.Ongoing.{Ongoing, nothing_ongoing}
 use Rattle.nio_steps.specs.Plan.{reply}
 use Rattle.nio_steps.specs.SelectCalls.{Selection, try_begin_plan, begin_lacks_memory, begin_open, begin_with_turn}
 use Rattle.nio_steps.specs.SelectCalls.{done, again, shut_plan, closing, already_closed, try_finish_plan, closed, busy}
 use Rattle.nio_steps.specs.SelectCalls.{remove_keys}
 use Rattle.nio_steps.specs.Selections.{marks_on, IsBegun, IsClosing}
 use Rattle.nio_steps.specs.Steps.{flag_in, gate_in, holder_in}
+use Rattle.nio_steps.specs.TableCalls.{try_begin, told, leave, shut, try_finish, select, close}
 use Rattle.nio_steps.specs.declared.refusal.BeginError.{BeginError}
 
 -- ---- numbers
@@ -105,20 +106,10 @@ record FindsFree (s : SelNo) (found : Act) (acts : List Act) : Type 0 where
   parts : acts ≡ before ++ found ∷ rest
   leaves : LeavesSelection s.0 before
 
-one-leaves : (t : ℕ) (act : Act) → Spared t (question_of act) → LeavesSelection t (act ∷ [])
-one-leaves t act spared =
-    leaves_selection t (act ∷ [])
-    (All-cons (λ a. Spared t (question_of a)) act [] spared (All-nil (λ a. Spared t (question_of a))))
-
 two-leaves : (t : ℕ) (first second : Act) → Spared t (question_of first) → Spared t (question_of second)
     → LeavesSelection t (first ∷ second ∷ [])
 two-leaves t first second spared spared' =
-    leaves_selection t (first ∷ second ∷ [])
-    (All-cons (λ a. Spared t (question_of a)) first (second ∷ []) spared
-    (All-cons (λ a. Spared t (question_of a)) second [] spared' (All-nil (λ a. Spared t (question_of a)))))
-
-none-leaves : (t : ℕ) → LeavesSelection t []
-none-leaves t = record { gives = refl; marks = refl; removes = refl }
+    leaves-append t (first ∷ []) (second ∷ []) (one-leaves t first spared) (one-leaves t second spared')
 
 begin-finds : (s : SelNo) (mode : Mode) (lacks : Bool)
     → Always (λ acts _. LeavesSelection s.0 acts ⊎ FindsFree s (TakeTurn s None) acts) (try_begin_plan s mode lacks)
@@ -230,18 +221,20 @@ module _ (l : Limits) (events : List Event) (n : CallerNo) (legal : IsLegal l ev
 
   selection-kept : (now : Ongoing) (call : Made) (t : ℕ) → is_on t call ≡ false → waits call ≡ false
       → (after_call now call).selection t ≡ now.selection t
-  selection-kept now (try_begin s mode (Ok x)) t off at_once = put-elsewhere now.selection s.0 (Some x) t off
-  selection-kept now (try_begin s mode (Err refusal)) t off at_once = refl
-  selection-kept now (told x poll (done answer)) t off at_once = put-elsewhere now.selection x.selector.0 None t off
-  selection-kept now (told x poll (again next)) t off at_once =
+  selection-kept now (table_call (try_begin s mode) (Ok x)) t off at_once =
+      put-elsewhere now.selection s.0 (Some x) t off
+  selection-kept now (table_call (try_begin s mode) (Err refusal)) t off at_once = refl
+  selection-kept now (table_call (told x poll) (done answer)) t off at_once =
+      put-elsewhere now.selection x.selector.0 None t off
+  selection-kept now (table_call (told x poll) (again next)) t off at_once =
       put-elsewhere now.selection x.selector.0 (Some next) t off
-  selection-kept now (leave x) t off at_once = put-elsewhere now.selection x.selector.0 None t off
-  selection-kept now (shut s closing) t off at_once = refl
-  selection-kept now (shut s already_closed) t off at_once = refl
-  selection-kept now (try_finish s closed) t off at_once = refl
-  selection-kept now (try_finish s busy) t off at_once = refl
-  selection-kept now (select s mode polls answer) t off at_once = absurd (cc at_once)
-  selection-kept now (close s answer) t off at_once = absurd (cc at_once)
+  selection-kept now (table_call (leave x) tt) t off at_once = put-elsewhere now.selection x.selector.0 None t off
+  selection-kept now (table_call (shut s) closing) t off at_once = refl
+  selection-kept now (table_call (shut s) already_closed) t off at_once = refl
+  selection-kept now (table_call (try_finish s) closed) t off at_once = refl
+  selection-kept now (table_call (try_finish s) busy) t off at_once = refl
+  selection-kept now (waiting_call (select s mode polls) answer) t off at_once = absurd (cc at_once)
+  selection-kept now (waiting_call (close s) answer) t off at_once = absurd (cc at_once)
   selection-kept now _ t off at_once = refl
 
   module _ (own acts later : List Act) (did : mine n events ≡ own ++ (acts ++ later)) (now : Ongoing)
@@ -258,21 +251,21 @@ module _ (l : Limits) (events : List Event) (n : CallerNo) (legal : IsLegal l ev
 
     on-it : (call : Made) → MayCome now call → IsRun l call acts → (t : ℕ) (y : Selection) → is_on t call ≡ true
         → (after_call now call).selection t ≡ Some y → IsBegunOn t (own ++ acts) y
-    on-it (try_begin s mode (Ok x)) may run t y on is =
+    on-it (table_call (try_begin s mode) (Ok x)) may run t y on is =
         let same : x ≡ y = cc (sym (put-there now.selection s.0 (Some x) t on) ∙ is) in
         record {
           begun = subst (IsBegun (own ++ acts)) same (begins_selection s mode own acts x run);
           on = ap (λ (z : Selection). z.selector.0) (sym same)
               ∙ (ap (λ (z : SelNo). z.0) (begin-parts s mode acts x run).selector ∙ eqb-true s.0 t on);
         }
-    on-it (try_begin s mode (Err refusal)) may run t y on is =
+    on-it (table_call (try_begin s mode) (Err refusal)) may run t y on is =
         goes_on s t y (TakeTurn s None) on is (no_free_turn s)
         (always_run (λ xs _. LeavesSelection s.0 xs ⊎ FindsFree s (TakeTurn s None) xs)
         (try_begin_plan s mode (begin_lacks_memory {A = Selection} (Err refusal))) acts (Err refusal)
         (begin-finds s mode (begin_lacks_memory {A = Selection} (Err refusal))) run)
-    on-it (told x poll (done answer)) may run t y on is =
+    on-it (table_call (told x poll) (done answer)) may run t y on is =
         absurd (cc (sym (put-there now.selection x.selector.0 None t on) ∙ is))
-    on-it (told x poll (again next)) may run t y on is =
+    on-it (table_call (told x poll) (again next)) may run t y on is =
         let same : next ≡ y = cc (sym (put-there now.selection x.selector.0 (Some next) t on) ∙ is) in
         record {
           begun = subst (IsBegun (own ++ acts)) same
@@ -280,12 +273,13 @@ module _ (l : Limits) (events : List Event) (n : CallerNo) (legal : IsLegal l ev
           on = ap (λ (z : Selection). z.selector.0) (sym same ∙ again-same x next poll.pairs poll.elapsed acts run)
               ∙ eqb-true x.selector.0 t on;
         }
-    on-it (leave x) may run t y on is = absurd (cc (sym (put-there now.selection x.selector.0 None t on) ∙ is))
-    on-it (try_finish s closed) may run t y on is =
+    on-it (table_call (leave x) tt) may run t y on is =
+        absurd (cc (sym (put-there now.selection x.selector.0 None t on) ∙ is))
+    on-it (table_call (try_finish s) closed) may run t y on is =
         goes_on s t y (Enter s None) on is (no_free_entry s)
         (always_run (λ xs _. LeavesSelection s.0 xs ⊎ FindsFree s (Enter s None) xs) (try_finish_plan s) acts closed
         (finish-finds s) run)
-    on-it (try_finish s busy) may run t y on is =
+    on-it (table_call (try_finish s) busy) may run t y on is =
         goes_on s t y (Enter s None) on is (no_free_entry s)
         (always_run (λ xs _. LeavesSelection s.0 xs ⊎ FindsFree s (Enter s None) xs) (try_finish_plan s) acts busy
         (finish-finds s) run)
@@ -349,7 +343,7 @@ module _ (l : Limits) where
 
   call-closing : (own acts : List Act) (now : Ongoing) (call : Made) → IsRun l call acts → waits call ≡ false
       → AreClosing own now → AreClosing (own ++ acts) (after_call now call)
-  call-closing own acts now (shut s closing) run at_once before t is = by_test (s.0 == t.0) refl
+  call-closing own acts now (table_call (shut s) closing) run at_once before t is = by_test (s.0 == t.0) refl
     where
       by_test : (b : Bool) → (s.0 == t.0) ≡ b → IsClosing (own ++ acts) t
       by_test true same =
@@ -361,22 +355,26 @@ module _ (l : Limits) where
       by_test false other =
           closing-longer own acts now before t
           (sym (ap (λ b. if b then true else now.closes t.0) (other_number s.0 t.0 other)) ∙ is)
-  call-closing own acts now (try_finish s closed) run at_once before t is =
+  call-closing own acts now (table_call (try_finish s) closed) run at_once before t is =
       closing-longer own acts now before t (by_test (t.0 == s.0) is)
     where
       by_test : (b : Bool) → (if b then false else now.closes t.0) ≡ true → now.closes t.0 ≡ true
       by_test true none = absurd (cc none)
       by_test false is' = is'
-  call-closing own acts now (try_begin s mode (Ok x)) run at_once before t is = closing-longer own acts now before t is
-  call-closing own acts now (try_begin s mode (Err refusal)) run at_once before t is =
+  call-closing own acts now (table_call (try_begin s mode) (Ok x)) run at_once before t is =
       closing-longer own acts now before t is
-  call-closing own acts now (told x poll (done answer)) run at_once before t is =
+  call-closing own acts now (table_call (try_begin s mode) (Err refusal)) run at_once before t is =
       closing-longer own acts now before t is
-  call-closing own acts now (told x poll (again next)) run at_once before t is = closing-longer own acts now before t is
-  call-closing own acts now (shut s already_closed) run at_once before t is = closing-longer own acts now before t is
-  call-closing own acts now (try_finish s busy) run at_once before t is = closing-longer own acts now before t is
-  call-closing own acts now (select s mode polls answer) run at_once before t is = absurd (cc at_once)
-  call-closing own acts now (close s answer) run at_once before t is = absurd (cc at_once)
+  call-closing own acts now (table_call (told x poll) (done answer)) run at_once before t is =
+      closing-longer own acts now before t is
+  call-closing own acts now (table_call (told x poll) (again next)) run at_once before t is =
+      closing-longer own acts now before t is
+  call-closing own acts now (table_call (shut s) already_closed) run at_once before t is =
+      closing-longer own acts now before t is
+  call-closing own acts now (table_call (try_finish s) busy) run at_once before t is =
+      closing-longer own acts now before t is
+  call-closing own acts now (waiting_call (select s mode polls) answer) run at_once before t is = absurd (cc at_once)
+  call-closing own acts now (waiting_call (close s) answer) run at_once before t is = absurd (cc at_once)
   call-closing own acts now _ run at_once before t is = closing-longer own acts now before t is
 
   calls-closing : (own rest : List Act) (now : Ongoing) (calls : List Made) → All (λ call. IsFalse (waits call)) calls

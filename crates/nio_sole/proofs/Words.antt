@@ -36,3 +36,6 @@ asked_by {w = w} {d = d} {q = q} {me = me} {r = r} is places asked =
       ready = asked.ready;
       places = places_same q (asked.call (progress_of d)) places;
     })
+
+-- that the call of a word may be made, and that a word's call was made
+pub ruleset by_word = (may_make, may_ask, makes_by)

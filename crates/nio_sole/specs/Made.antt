@@ -3,12 +3,13 @@ use Rattle.std.specs.Prelude.{◌≡◌, ℕ, List}
 use Rattle.nio_base.specs.declared.limits.Limits.{Limits}
 use Rattle.nio_base.specs.declared.numbers.CallerNo.{CallerNo}
 use Rattle.nio_event.specs.declared.act.Act.{Act}
-use Rattle.nio_orderly.specs.Made.{Made, Ongoing, nothing_ongoing, after_calls}
+use Rattle.nio_orderly.specs.Made.{Made, after_calls}
 use Rattle.nio_orderly.specs.Orderly.{AreCallsOf}
 use Rattle.nio_plain.specs.Seq.Selections.{is_caller}
 use Rattle.nio_serial.specs.Documented.{Progress}
 use Rattle.nio_serial.specs.Lines.{own_selection}
 use Rattle.nio_steps.specs.Names.{selector}
+use Rattle.nio_steps.specs.Ongoing.{Ongoing, nothing_ongoing}
 
 -- what caller n has in progress is what the progress shows of it
 pub record IsOngoing (n : CallerNo) (now : Progress) (ongoing : Ongoing) : Type 0 where

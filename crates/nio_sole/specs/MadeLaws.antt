@@ -8,12 +8,13 @@ use Rattle.nio_event.specs.State.{State}
 use Rattle.nio_event.specs.declared.act.Act.{Act}
 use Rattle.nio_event.specs.declared.call.Call.{Call}
 use Rattle.nio_event.specs.declared.event.Event.{Event}
-use Rattle.nio_orderly.specs.Made.{Made, nothing_ongoing, after_calls}
+use Rattle.nio_orderly.specs.Made.{Made, after_calls}
 use Rattle.nio_orderly.specs.Orderly.{AreCallsOf}
 use Rattle.nio_serial.specs.Between.{IsBetween}
 use Rattle.nio_serial.specs.Documented.{Progress}
 use Rattle.nio_serial.specs.Lines.{Said, line_plan}
 use Rattle.nio_sole.specs.Made.{HasMade}
+use Rattle.nio_steps.specs.Ongoing.{nothing_ongoing}
 use Rattle.nio_steps.specs.Runs.{Completes}
 use Rattle.nio_steps.specs.SelectCalls.{Selection}
 use Rattle.nio_steps.specs.Selections.{IsBegun, IsClosing}

@@ -68,6 +68,7 @@ pub fn make_line(
 }
 
 // The call of a line, once its names are found.
+#[tactic(auto, using(crate::proofs::Words::by_word))]
 fn call_of(
     alloc: Global,
     w: &Words,

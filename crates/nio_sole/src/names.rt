@@ -1,14 +1,14 @@
 //! The look-ups of a line: what it names has to be made.
 ghost use Rattle.nio_event.specs.Conditions.{IsCaller};
 ghost use Rattle.nio_event.specs.PassViews.{HasSelector, HasChannel, HasKey, HasNoPin};
-ghost use Rattle.nio_serial.specs.Lines.{if_caller, if_channel, if_key, if_named, if_selector};
-ghost use Rattle.nio_sole.specs.Named.{Finds, HasNames, if_present};
+ghost use Rattle.nio_serial.specs.Lines.{if_caller, if_channel, if_key, if_name, if_named, if_selector};
+ghost use Rattle.nio_sole.specs.Named.{Finds, HasName, HasNames, if_present};
 ghost use Rattle.nio_steps.specs.Names.{key};
 ghost use Rattle.nio_words.specs.Passes.{IsReady, limits_of};
 ghost use Rattle.nio_words.specs.Views.{view};
 
 use nio_base::{CallerNo, ChanNo, KeyId, SelNo};
-use nio_event::{Call, Reply};
+use nio_event::{Call, LineName, LineNames, Reply};
 use nio_keys::{find, find_channel, find_selector};
 use nio_words::{Pass, Words};
 
@@ -19,40 +19,27 @@ pub(crate) fn find_names(w: &Words, p: &mut Pass, me: CallerNo, call: &Call) -> 
     ensures { Finds (λ now plan. if_named (limits_of w.now) now call.now plan) (λ pass. HasNames pass call.now) w.now
         p.old p.new me result }
 {
-    match call {
-        Call::Selector => None,
-        Call::Channel(_) => None,
-        Call::Blocking(chan, _) => look_up_channel(w, p, me, *chan),
-        Call::IsBlocking(chan) => look_up_channel(w, p, me, *chan),
-        Call::IsOpen(chan) => look_up_channel(w, p, me, *chan),
-        Call::IsRegistered(chan) => look_up_channel(w, p, me, *chan),
-        Call::KeyFor(chan, sel) => look_up_channel_first(w, p, me, *chan, *sel),
-        Call::Register(sel, chan, _, _) => look_up_selector_first(w, p, me, *sel, *chan),
-        Call::Closec(chan) => look_up_channel(w, p, me, *chan),
-        Call::Valid(sel, id) => look_up_key(w, p, me, *sel, *id),
-        Call::Interest(sel, id) => look_up_key(w, p, me, *sel, *id),
-        Call::Ready(sel, id) => look_up_key(w, p, me, *sel, *id),
-        Call::Iset(sel, id, _) => look_up_key(w, p, me, *sel, *id),
-        Call::Ior(sel, id, _) => look_up_key(w, p, me, *sel, *id),
-        Call::Iand(sel, id, _) => look_up_key(w, p, me, *sel, *id),
-        Call::Cancel(sel, id) => look_up_key(w, p, me, *sel, *id),
-        Call::Unselect(sel, id) => look_up_key(w, p, me, *sel, *id),
-        Call::Attach(sel, id, _) => look_up_key(w, p, me, *sel, *id),
-        Call::Attachment(sel, id) => look_up_key(w, p, me, *sel, *id),
-        Call::Begin(sel, _) => look_up_selector(w, p, me, *sel),
-        Call::Told(sel, _, _) => look_up_selector(w, p, me, *sel),
-        Call::Failed(sel) => look_up_selector(w, p, me, *sel),
-        Call::Wakeup(sel) => look_up_selector(w, p, me, *sel),
-        Call::Close(sel) => look_up_selector(w, p, me, *sel),
-        Call::CloseEnd(sel) => look_up_selector(w, p, me, *sel),
-        Call::Keys(sel) => look_up_selector(w, p, me, *sel),
-        Call::Selected(sel) => look_up_selector(w, p, me, *sel),
-        Call::Interrupt(target) => look_up_caller(w, p, me, *target),
-        Call::Interrupted => None,
-        Call::Pipe(target) => look_up_caller(w, p, me, *target),
-        Call::Pwrite(chan, _) => look_up_channel(w, p, me, *chan),
-        Call::Pread(chan, _) => look_up_channel(w, p, me, *chan),
-        Call::Group(_) => None,
+    match call.names() {
+        LineNames::None => None,
+        LineNames::One(name) => find_name(w, p, me, name),
+        LineNames::Two(first, second) => match find_name(w, p, me, first) {
+            Some(missing) => Some(missing),
+            None => find_name(w, p, me, second),
+        },
+    }
+}
+
+fn find_name(w: &Words, p: &mut Pass, me: CallerNo, name: LineName) -> Option<Reply>
+    requires ready { IsReady w.now p.old me }
+    requires unpinned { HasNoPin (view w.now p.old) me }
+    ensures { Finds (λ now plan. if_name (limits_of w.now) now name plan) (λ pass. HasName pass name) w.now p.old p.new
+        me result }
+{
+    match name {
+        LineName::Caller(target) => look_up_caller(w, p, me, target),
+        LineName::Selector(sel) => look_up_selector(w, p, me, sel),
+        LineName::Channel(chan) => look_up_channel(w, p, me, chan),
+        LineName::Key(sel, id) => look_up_key(w, p, me, sel, id),
     }
 }
 
@@ -91,42 +78,6 @@ fn look_up_channel(w: &Words, p: &mut Pass, me: CallerNo, chan: ChanNo) -> Optio
     match find_channel(w, p, me, chan.0) {
         Some(_) => None,
         None => Some(Reply::NoChannel),
-    }
-}
-
-fn look_up_channel_first(
-    w: &Words,
-    p: &mut Pass,
-    me: CallerNo,
-    chan: ChanNo,
-    sel: SelNo,
-) -> Option<Reply>
-    requires ready { IsReady w.now p.old me }
-    requires unpinned { HasNoPin (view w.now p.old) me }
-    ensures { Finds (λ now plan. if_channel (limits_of w.now) now chan (if_selector (limits_of w.now) now sel plan))
-        (λ pass. HasChannel pass chan × HasSelector pass sel) w.now p.old p.new me result }
-{
-    match look_up_channel(w, p, me, chan) {
-        Some(missing) => Some(missing),
-        None => look_up_selector(w, p, me, sel),
-    }
-}
-
-fn look_up_selector_first(
-    w: &Words,
-    p: &mut Pass,
-    me: CallerNo,
-    sel: SelNo,
-    chan: ChanNo,
-) -> Option<Reply>
-    requires ready { IsReady w.now p.old me }
-    requires unpinned { HasNoPin (view w.now p.old) me }
-    ensures { Finds (λ now plan. if_selector (limits_of w.now) now sel (if_channel (limits_of w.now) now chan plan))
-        (λ pass. HasSelector pass sel × HasChannel pass chan) w.now p.old p.new me result }
-{
-    match look_up_selector(w, p, me, sel) {
-        Some(missing) => Some(missing),
-        None => look_up_channel(w, p, me, chan),
     }
 }
 

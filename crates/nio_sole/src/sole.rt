@@ -66,7 +66,8 @@ impl<'a> System for Sole<'a> {
     ghost use Rattle.std.proofs.Common.{ap, ◌∙◌};
     ghost use Rattle.std.specs.Prelude.{refl};
     ghost use Rattle.nio_sole.specs.Sole.{Kept, limits_of, rules_of, state_of};
-    ghost use Rattle.nio_words.proofs.Beginnings.{prefix_self, prefix_trans};
+    ghost use Rattle.nio_event.proofs.Clauses.{prefix_trans};
+    ghost use Rattle.nio_words.proofs.Beginnings.{prefix_self};
     ghost use Rattle.nio_words.specs.Passes as passes;
 
     ghost limits = { limits_of };

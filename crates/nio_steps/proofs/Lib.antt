@@ -6,6 +6,8 @@ pub mod PerformLaws
 pub mod Each
 pub mod EachLaws
 pub mod Walks
+pub mod PlanWalks
+pub mod CallWalks
 pub mod Lists
 pub mod Either
 mod Worked

@@ -4,6 +4,7 @@ use Rattle.std.specs.List.{filter, Contains}
 use Rattle.std.proofs.lemmas.List.{map-append}
 use Rattle.std.proofs.lemmas.List.Elements.{filter-append}
 use Rattle.nio_base.specs.declared.numbers.CallerNo.{CallerNo}
+use Rattle.nio_event.proofs.Legal.{not_empty}
 use Rattle.nio_event.specs.Histories.{is_by, mine, event_of}
 use Rattle.nio_event.specs.declared.act.Act.{Act}
 use Rattle.nio_event.specs.declared.event.Event.{Event}
@@ -26,10 +27,6 @@ pub record Cut (n : CallerNo) (events : List Event) (xs : List Act) (act : Act) 
   pub parts : events ≡ past ++ event_of n act ∷ later
   pub mine_past : mine n past ≡ xs
   pub mine_later : mine n later ≡ ys
-
-not_empty : {A : Type 0} (xs : List A) (y : A) (ys : List A) → [] ≡ xs ++ y ∷ ys → ⊥
-not_empty [] y ys eq = cc
-not_empty (x ∷ xs) y ys eq = cc
 
 pub cut_at : (n : CallerNo) (events : List Event) (xs : List Act) (act : Act) (ys : List Act)
     → mine n events ≡ xs ++ act ∷ ys → Cut n events xs act ys

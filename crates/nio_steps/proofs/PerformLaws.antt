@@ -72,49 +72,6 @@ pub perform_sweep : {A : Type 0} (me : CallerNo) (b i : ℕ) (f : ℕ → A → 
     → perform me (sweep_to b i f (left i)) (stands i) ≡ record { answer = left b; state = stands b }
 perform_sweep me b i f left stands within each = from_closed me b i (b - i) f left stands (omega arith) each
 
--- the steps give nothing at each index from i below j, and something at j
-pub perform_seek_yes : {A : Type 0} (me : CallerNo) (b i j : ℕ) (f : ℕ → Plan (Option A)) (x : A) (stands : ℕ → State)
-    → i ≤ j → j < b
-    → ((k : ℕ) → i ≤ k → k < j → perform me (f k) (stands k) ≡ record { answer = None; state = stands (k + 1) })
-    → perform me (f j) (stands j) ≡ record { answer = Some x; state = stands (j + 1) }
-    → perform me (seek_to b i f) (stands i) ≡ record { answer = Some x; state = stands (j + 1) }
-perform_seek_yes {A = A} me b i j f x stands low high each there =
-    by_count (j - i) i (omega arith) (λ k from below. each k from below)
-  where
-    by_count : (n i' : ℕ) → i' + n ≡ j
-        → ((k : ℕ) → i' ≤ k → k < j → perform me (f k) (stands k) ≡ record { answer = None; state = stands (k + 1) })
-        → perform me (seek_to b i' f) (stands i') ≡ record { answer = Some x; state = stands (j + 1) }
-    by_count zero i' total each' =
-        let here : i' ≡ j = omega arith in
-        subst (λ (k : ℕ). perform me (seek_to b k f) (stands k) ≡ record { answer = Some x; state = stands (j + 1) })
-        (sym here)
-        (ap (λ p. perform me p (stands j)) (seek_to-turn b j f high)
-        ∙ perform_then_on me (f j) (found_or (seek_to b (j + 1) f)) (stands j) (Some x) (stands (j + 1)) there)
-    by_count (suc n) i' total each' =
-        ap (λ p. perform me p (stands i')) (seek_to-turn b i' f (omega arith))
-        ∙ (perform_then_on me (f i') (found_or (seek_to b (i' + 1) f)) (stands i') None (stands (i' + 1))
-        (each' i' (omega arith) (omega arith))
-        ∙ by_count n (i' + 1) (omega arith) (λ k from below. each' k (omega arith) below))
-
--- the steps give nothing at each index
-pub perform_seek_no : {A : Type 0} (me : CallerNo) (b i : ℕ) (f : ℕ → Plan (Option A)) (stands : ℕ → State) → i ≤ b
-    → ((k : ℕ) → i ≤ k → k < b → perform me (f k) (stands k) ≡ record { answer = None; state = stands (k + 1) })
-    → perform me (seek_to b i f) (stands i) ≡ record { answer = None; state = stands b }
-perform_seek_no me b i f stands within each = by_count (b - i) i (omega arith) (λ k from below. each k from below)
-  where
-    by_count : (n i' : ℕ) → i' + n ≡ b
-        → ((k : ℕ) → i' ≤ k → k < b → perform me (f k) (stands k) ≡ record { answer = None; state = stands (k + 1) })
-        → perform me (seek_to b i' f) (stands i') ≡ record { answer = None; state = stands b }
-    by_count zero i' total each' =
-        let here : i' ≡ b = omega arith in
-        ap (λ p. perform me p (stands i')) (seek_to-done b i' f (omega arith))
-        ∙ ap (λ (k : ℕ). record { answer = None; state = stands k }) here
-    by_count (suc n) i' total each' =
-        ap (λ p. perform me p (stands i')) (seek_to-turn b i' f (omega arith))
-        ∙ (perform_then_on me (f i') (found_or (seek_to b (i' + 1) f)) (stands i') None (stands (i' + 1))
-        (each' i' (omega arith) (omega arith))
-        ∙ by_count n (i' + 1) (omega arith) (λ k from below. each' k (omega arith) below))
-
 -- n numbers from i on, in rising order
 unfoldable pub indexes : ℕ → ℕ → List ℕ
 indexes i zero = []

@@ -13,18 +13,15 @@ use Rattle.nio_event.proofs.Stays.{beginnings_are_legal}
 use Rattle.nio_event.specs.Histories.{mine, IsLegal}
 use Rattle.nio_event.specs.OwnEvents.{is_yes, last, pin_changed, keeps_pin}
 use Rattle.nio_event.specs.PassViews.{PassView, done_between, HasNoPin}
-use Rattle.nio_event.specs.Questions.{Question, Answer, question_of, answer_of}
+use Rattle.nio_event.specs.Questions.{Question, question_of, answer_of}
 use Rattle.nio_event.specs.declared.act.Act.{Act}
 use Rattle.nio_event.specs.declared.act.Act.TheVariants.{Pin, Unpin, Claim, ClaimAgain}
 use Rattle.nio_event.specs.declared.found.Stage.{Stage}
-use Rattle.nio_steps.proofs.Walks.{Always, always_weaker, always_bind, always_if, always_run}
+use Rattle.nio_steps.proofs.Walks.{Always, always_weaker, always_bind}
 use Rattle.nio_steps.specs.Calls.{CallClause}
-use Rattle.nio_steps.specs.KeyCalls.{under_pin}
-use Rattle.nio_steps.specs.PinLaws.{GivesPinsBack}
-use Rattle.nio_steps.specs.Runs.{Completes}
-use Rattle.nio_steps.specs.Plan.{Plan, reply, ask, ◌>>=◌, ◌>>◌}
-use Rattle.nio_steps.specs.Steps.{unpin, flag_in, stage_in}
-use Rattle.nio_steps.specs.Sweeps.{sweep, sweep_to, found_or, seek, seek_to, sweep_over}
+use Rattle.nio_steps.specs.Plan.{Plan, reply, ◌>>=◌, ◌>>◌}
+use Rattle.nio_steps.specs.Steps.{unpin, flag_in}
+use Rattle.nio_steps.specs.Sweeps.{found_or, seek, seek_to}
 
 -- the caller keeps no pin that it took in these acts, or none but one on this index
 abbrev pub NoPins : List Act → Type 0
@@ -174,60 +171,8 @@ unpinned s i acts act asks only s' i' =
 
 -- ---- plans
 
--- each run of the plan keeps no pin
-pub record Leaves {R : Type 0} (plan : Plan R) : Type 0 where
-  pub always : Always (λ acts _. NoPins acts) plan
-
 pub no_pins : NoPins []
 no_pins s i = refl
-
-pub leaves_reply : {R : Type 0} (r : R) → Leaves (reply r)
-leaves_reply r = record { always = no_pins }
-
-pub leaves_ask : {R : Type 0} (question : Question) (next : Answer → Plan R) → leaves_pins question ≡ true
-    → ((answer : Answer) → Leaves (next answer)) → Leaves (ask question next)
-leaves_ask question next quiet later = record {
-  always = λ act asks.
-      always_weaker (λ acts _. NoPins acts) (λ acts _. NoPins (act ∷ acts)) (next (answer_of act))
-      (λ acts _ none. no_pins-append (act ∷ []) acts (leaves-none act (ap leaves_pins asks ∙ quiet)) none)
-      (later (answer_of act)).always;
-}
-
--- after acts that keep no pin
-pub leaves_after : {R : Type 0} (xs : List Act) (plan : Plan R) → NoPins xs → Leaves plan
-    → Always (λ acts _. NoPins (xs ++ acts)) plan
-leaves_after xs plan none here =
-    always_weaker (λ acts _. NoPins acts) (λ acts _. NoPins (xs ++ acts)) plan
-    (λ acts _ more. no_pins-append xs acts none more) here.always
-
-pub leaves_bind : {A B : Type 0} (plan : Plan A) (f : A → Plan B) → Leaves plan → ((a : A) → Leaves (f a))
-    → Leaves (plan >>= f)
-leaves_bind plan f here later = record {
-  always = always_bind (λ acts _. NoPins acts) (λ acts _. NoPins acts) plan f here.always
-      (λ xs a none. leaves_after xs (f a) none (later a));
-}
-
-pub leaves_if : {R : Type 0} (b : Bool) (x y : Plan R) → Leaves x → Leaves y → Leaves (if b then x else y)
-leaves_if b x y this that =
-    record { always = always_if (λ acts _. NoPins acts) b x y (λ _. this.always) (λ _. that.always) }
-
-leaves_turns : {A : Type 0} (n i : ℕ) (f : ℕ → A → Plan A) (x : A) → ((k : ℕ) (y : A) → Leaves (f k y))
-    → Leaves (sweep n i f x)
-unfolding sweep
-leaves_turns zero i f x each = leaves_reply x
-leaves_turns (suc n) i f x each =
-    leaves_bind (f i x) (λ y. sweep n (i + 1) f y) (each i x) (λ y. leaves_turns n (i + 1) f y each)
-
-pub leaves_sweep : {A : Type 0} (b i : ℕ) (f : ℕ → A → Plan A) (x : A) → ((k : ℕ) (y : A) → Leaves (f k y))
-    → Leaves (sweep_to b i f x)
-leaves_sweep b i f x each = leaves_turns (b - i) i f x each
-
-pub leaves_over : {X A : Type 0} (xs : List X) (f : X → A → Plan A) (x : A) → ((e : X) (y : A) → Leaves (f e y))
-    → Leaves (sweep_over xs f x)
-unfolding sweep_over
-leaves_over [] f x each = leaves_reply x
-leaves_over (e ∷ later) f x each =
-    leaves_bind (f e x) (λ y. sweep_over later f y) (each e x) (λ y. leaves_over later f y each)
 
 -- ---- plans that may claim an index: a run that gives one keeps a pin on it alone
 
@@ -263,35 +208,15 @@ pub found_seek : {A : Type 0} (s : SelNo) (index : A → ℕ) (b i : ℕ) (f : �
     → ((k : ℕ) → Always (PinsFound s index) (f k)) → Always (PinsFound s index) (seek_to b i f)
 found_seek s index b i f each = found_turns s index (b - i) i f each
 
-leaves_tries : {A : Type 0} (n i : ℕ) (f : ℕ → Plan (Option A)) → ((k : ℕ) → Leaves (f k)) → Leaves (seek n i f)
-unfolding seek
-leaves_tries zero i f each = leaves_reply None
-leaves_tries {A = A} (suc n) i f each =
-    leaves_bind (f i) (found_or (seek n (i + 1) f)) (each i) (by_found (leaves_tries n (i + 1) f each))
-  where
-    by_found : Leaves (seek n (i + 1) f) → (here : Option A) → Leaves (found_or (seek n (i + 1) f) here)
-    by_found later (Some x) = leaves_reply (Some x)
-    by_found later None = later
-
-pub leaves_seek : {A : Type 0} (b i : ℕ) (f : ℕ → Plan (Option A)) → ((k : ℕ) → Leaves (f k)) → Leaves (seek_to b i f)
-leaves_seek b i f each = leaves_tries (b - i) i f each
-
 -- what is done with a pin on an index, which is then given back
 pub leaves_pinned : {A : Type 0} (s : SelNo) (i : ℕ) (before : List Act) (plan : Plan A) → OnlyPin s i before
-    → Leaves plan
+    → Always (λ acts _. NoPins acts) plan
     → Always (λ acts _. NoPins (before ++ acts)) (plan >>= λ answer. (unpin s i >> reply answer))
 leaves_pinned s i before plan only here =
     always_bind (λ acts _. NoPins acts) (λ acts _. NoPins (before ++ acts)) plan
-    (λ answer. unpin s i >> reply answer) here.always
+    (λ answer. unpin s i >> reply answer) here
     (λ xs a none act asks. subst NoPins (append_assoc before xs (act ∷ []))
     (unpinned s i (before ++ xs) act asks (only_pin-append s i before xs only (λ s' i' _. none s' i'))))
-
-pub leaves_under_pin : {A : Type 0} (s : SelNo) (i : ℕ) (steps : Stage → Plan A)
-    → ((stage : Stage) → Leaves (steps stage)) → Leaves (under_pin s i steps)
-leaves_under_pin s i steps each = record {
-  always = λ act asks. leaves_pinned s i (act ∷ []) (steps (stage_in (answer_of act))) (pin-only s i act asks)
-      (each (stage_in (answer_of act)));
-}
 
 -- after one act more
 pub again : {R : Type 0} (before : List Act) (act : Act) (plan : Plan R)
@@ -300,11 +225,6 @@ pub again : {R : Type 0} (before : List Act) (act : Act) (plan : Plan R)
 again before act plan here =
     always_weaker (λ acts _. NoPins ((before ++ act ∷ []) ++ acts)) (λ acts _. NoPins (before ++ act ∷ acts)) plan
     (λ acts _ none. subst NoPins (append_assoc before (act ∷ []) acts) none) here
-
--- ---- of a whole run
-
-pub gives_back : {R : Type 0} (plan : Plan R) → Leaves plan → GivesPinsBack (Completes plan)
-gives_back plan here acts answer run = always_run (λ xs _. NoPins xs) plan acts answer here.always run
 
 -- ---- of a call on a pass
 

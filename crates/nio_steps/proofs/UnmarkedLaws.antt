@@ -1,7 +1,6 @@
 -- What marks no key: the beginning of a selection, and a `told` after which it goes on.
-use Rattle.std.proofs.Common.{◌≡◌, ℕ, Bool, false, Result, Ok, Err, List, refl, ap, ◌∙◌}
+use Rattle.std.proofs.Common.{◌≡◌, ℕ, Bool, false, Result, Err, List, refl, ap, ◌∙◌}
 use Rattle.std.specs.Prelude.{⊤, is_some}
-use Rattle.std.specs.List.{All}
 use Rattle.nio_base.specs.declared.numbers.SelNo.{SelNo}
 use Rattle.nio_event.specs.OwnEvents.{has, count}
 use Rattle.nio_event.specs.declared.act.Act.{Act}

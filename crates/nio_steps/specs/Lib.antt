@@ -10,6 +10,8 @@ pub mod KeyCalls
 pub mod ChannelCalls
 pub mod SelectCalls
 pub mod PipeCalls
+pub mod Ongoing
+pub mod TableCalls
 pub mod Selections
 pub mod Laws
 pub mod PinLaws

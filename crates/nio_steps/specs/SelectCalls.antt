@@ -405,6 +405,14 @@ pub data SelectReply : Type 0 where
   not_begun : BeginError → SelectReply
   left : SelectReply
 
+-- the answer is that there was no memory
+abbrev pub select_lacks_memory : SelectReply → Bool
+select_lacks_memory (selected answer) = false
+select_lacks_memory (not_begun BeginError.ClosedSelector) = false
+select_lacks_memory (not_begun BeginError.Busy) = false
+select_lacks_memory (not_begun BeginError.Memory) = true
+select_lacks_memory left = false
+
 -- how a whole selection goes on after its beginning
 abbrev pub SelectsRest : List Poll → Result Selection BeginError → List Act → SelectReply → Type 0
 SelectsRest polls (Ok selection) acts (selected answer) = TellsAll selection polls acts answer

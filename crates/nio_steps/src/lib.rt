@@ -3,7 +3,8 @@
 //!
 //! A plan is a reply, or a question to the shared state and how the call goes on with each answer.
 //! `specs/KeyCalls`, `specs/ChannelCalls`, `specs/SelectCalls` and `specs/PipeCalls` have the plan of each
-//! call, and what a call that waits does: runs of a plan, one after the other. A call ensures
+//! call, and what a call that waits does: runs of a plan, one after the other. `specs/TableCalls` lists the
+//! calls, each with a row that has its plan and what else laws ask of it. A call ensures
 //! `CallClause`: what its pass has seen grew by acts of the caller that have the call's shape, as a whole
 //! run of its plan, and by what other callers did. `specs/Laws` has what follows from the plans alone.
 #![tactic(auto)]

@@ -8,12 +8,10 @@ use Rattle.nio_base.specs.declared.numbers.SelNo.{SelNo}
 use Rattle.nio_event.specs.Conditions.{IsSelector}
 use Rattle.nio_event.specs.PassViews.{PassView, Holds as HoldsNumber, ActsClause}
 use Rattle.nio_event.specs.declared.act.Act.{Act}
-use Rattle.nio_event.specs.declared.found.Mode.{Mode}
 use Rattle.nio_steps.proofs.PinBack.{no_pin_after}
-use Rattle.nio_steps.proofs.PinLaws.{pins_are_given_back}
 use Rattle.nio_steps.specs.Calls.{CallClause}
 use Rattle.nio_steps.specs.PinLaws.{GivesPinsBack}
-use Rattle.nio_steps.specs.SelectCalls.{Selection, Begins, ListsKeys}
+use Rattle.nio_steps.specs.SelectCalls.{Selection}
 use Rattle.nio_steps.specs.Selections.{IsBegun, IsClosing}
 use Rattle.nio_words.specs.Passes.{IsReady, numbers_of}
 use Rattle.nio_words.specs.Views.{view}
@@ -22,14 +20,6 @@ use Rattle.nio_words.specs.declared.words.Words.{Words}
 use Rattle.nio_channel.proofs.Idle.{idle_after, idle_after_other, zero_other}
 use Rattle.nio_channel.specs.Idle.{AreIdle, zero, one}
 use Rattle.nio_select.specs.InProgress.{Selects, Closes}
-
--- ---- which calls give their pins back
-
-pub begin_gives : (s : SelNo) (mode : Mode) → GivesPinsBack (Begins s mode)
-begin_gives s mode = λ acts answer shape. pins_are_given_back.try_begin s mode _ acts answer shape
-
-pub keys_give : (s : SelNo) → GivesPinsBack (ListsKeys s)
-keys_give s = λ acts answer shape. pins_are_given_back.keys s _ acts answer shape
 
 -- ---- after a call of the first, and of the other
 

@@ -1,7 +1,7 @@
 -- The words of the lines that scripts don't have.
-use Rattle.std.proofs.Common.{◌≡◌, ◌≢◌, ℕ, ◌==◌, nat_le, not, ◌&&◌, Bool, true, List, ◌∷◌, ◌++◌, codes}
+use Rattle.std.proofs.Common.{◌≡◌, ◌≢◌, ℕ, ◌==◌, nat_le, not, ◌&&◌, Bool, true, List, ◌∷◌, ◌++◌, codes, None, drop, inl}
+use Rattle.std.proofs.Common.{inr, refl, sym, ap, ◌∙◌, arith}
 use Rattle.std.specs.Prelude.{⊤}
-use Rattle.std.proofs.Common.{None, drop, inl, inr, refl, sym, ap, ◌∙◌, arith}
 use Rattle.std.specs.Fmt.{decimal}
 use Rattle.std.specs.List.{AllByRecursion, list_all, slice_split}
 use Rattle.std.proofs.lemmas.Bool.{and_parts, eq-eqb, false≢true, leb-true}
@@ -22,12 +22,13 @@ use Rattle.nio_event.proofs.CallWordTable.{reads_call_word}
 use Rattle.nio_event.proofs.JoinedWords.{join_spaced}
 use Rattle.nio_event.proofs.Ones.{word_at}
 use Rattle.nio_event.proofs.PlainWords.{IsPlain, IsPlainByte, call_plain, words_weaker}
-use Rattle.nio_event.proofs.Spaces.{Spaceless, split_join, caller_spaceless, call_spaceless}
+use Rattle.nio_event.proofs.Spaces.{Spaceless, split_join, caller_spaceless}
 use Rattle.nio_timed.specs.Lines.{IsTimedLine, timed_line_words, timed_words}
 use Rattle.nio_timed.specs.Reading.{IsOwnCall}
 use Rattle.nio_timed.specs.declared.call.TimedCall.{TimedCall}
 use Rattle.nio_timed.specs.declared.call.TimedCall.TheVariants.{Group, StartTimed, Expire, Next}
 use Rattle.nio_timed.specs.declared.call.TimedLine.{TimedLine}
+use Rattle.nio_script.proofs.Lines.{line_words_of}
 
 -- ---- a line of either sort begins with `t`
 
@@ -79,13 +80,6 @@ own_words_of {l = l} is own =
     ap (slice_split (λ b. b == 32)) is.text
     ∙ split_join (caller_word l.caller) (timed_words l.call) (caller_spaceless l.caller.0 is.caller_fits)
     (own_spaceless l.call own)
-
-line_words_of : {caller : CallerNo} {c : Call} {line : List ℕ} → IsLine caller c line
-    → slice_split (λ b. b == 32) line ≡ caller_word caller ∷ call_words c
-line_words_of {caller = caller} {c = c} is =
-    ap (slice_split (λ b. b == 32)) is.text
-    ∙ split_join (caller_word caller) (call_words c) (caller_spaceless caller.0 is.caller_fits)
-    (call_spaceless c is.call_fits)
 
 -- ---- no call of a script has one of these words
 

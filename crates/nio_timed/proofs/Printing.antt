@@ -1,6 +1,6 @@
 -- The line within a history of one call.
-use Rattle.std.proofs.Common.{◌≡◌, ℕ, ◌-◌, List, [], ◌∷◌, ◌++◌, codes, drop, length, take, refl, sym, ap, ◌∙◌}
-use Rattle.std.proofs.Common.{OnOk, Result, Ok, Err, append_assoc, length-append, arith}
+use Rattle.std.proofs.Common.{◌≡◌, ℕ, ◌-◌, List, [], ◌∷◌, ◌++◌, codes, drop, length, take, refl, sym, ap, ◌∙◌, OnOk}
+use Rattle.std.proofs.Common.{Result, Ok, Err, append_assoc, length-append, arith}
 use Rattle.std.specs.Bool.{if◌then◌else◌}
 use Rattle.std.specs.Fmt.{decimal, digits}
 use Rattle.std.specs.Result.{is_ok}

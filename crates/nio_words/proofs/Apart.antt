@@ -1,13 +1,13 @@
 -- A step changes no word but that of its own part. Of each sort of part only the kinds of step that
 -- change such a part are looked at; of the others the last line speaks.
 use Rattle.std.proofs.Common.{◌≡◌, ◌≢◌, ℕ, ◌+◌, ◌*◌, ◌/◌, ◌^◌, ◌<◌, ◌==◌, Bool, true, false, cond, ◌&&◌, refl, ap, sym}
-use Rattle.std.proofs.Common.{◌∙◌, subst, arith, eqb-true, ne_eqb}
+use Rattle.std.proofs.Common.{◌∙◌, subst, arith, eqb-true}
 use Rattle.std.specs.Option.{IfSome}
 use Rattle.std.proofs.lemmas.Bool.{and_parts}
 use Rattle.nio_base.specs.declared.numbers.CallerNo.{CallerNo}
 use Rattle.nio_event.specs.Acts.{effect}
 use Rattle.nio_event.specs.Answers.{bits_below, count_below}
-use Rattle.nio_event.specs.State.{State, put, put_at}
+use Rattle.nio_event.specs.State.{State, put_at}
 use Rattle.nio_event.specs.declared.act.Act.{Act}
 use Rattle.nio_event.specs.declared.act.Act.TheVariants.{DrawBit, MakeSelector, Wake, SetInterrupt, TakeInterrupt}
 use Rattle.nio_event.specs.declared.act.Act.TheVariants.{CancelKey, SwapInterest, OrInterest, AndInterest, SwapNote}
@@ -16,20 +16,17 @@ use Rattle.nio_event.specs.declared.act.Act.TheVariants.{GiveTurn, Remove, Mark 
 use Rattle.nio_event.specs.declared.act.Act.TheVariants.{RaiseChannels, TryHoldBit, Release, SetMode, CloseBit, ShutBit}
 use Rattle.nio_event.specs.declared.act.Act.TheVariants.{Pin, Unpin, ClearMark, ClaimAgain, PutFree, TakeFree}
 use Rattle.nio_event.specs.declared.found.Stage.{Stage}
+use Rattle.nio_event.proofs.Put.{put-other}
 use Rattle.nio_words.proofs.Bits.{bits_below-same}
 use Rattle.nio_words.specs.Encodings.{encoding, IsProper, channel_word, holder_word, enrolled_word, gate_word}
-use Rattle.nio_words.specs.Encodings.{stage_word}
-use Rattle.nio_words.specs.Encodings.{mark_word}
+use Rattle.nio_words.specs.Encodings.{stage_word, mark_word}
 use Rattle.nio_words.specs.Parts.{part_of}
 use Rattle.nio_words.specs.declared.part.Part.{Part}
 use Rattle.nio_words.specs.declared.part.Part.TheVariants.{Callers, Interrupts, Selectors, ChannelsHigh, Chan, Hold}
 use Rattle.nio_words.specs.declared.part.Part.TheVariants.{Enrolled, Gate, Turn, KeysHigh, Key, Interest, Mark, Note}
 use Rattle.nio_words.specs.declared.part.Part.TheVariants.{Free}
 
--- at another number a changed function is what it was
-put-other : {A : Type 0} (f : ℕ → A) (i : ℕ) (x : A) (n : ℕ) → n ≢ i → put f i x n ≡ f n
-put-other f i x n ne = ap (λ b. cond b x (f n)) (ne_eqb n i ne)
-
+-- at another pair of numbers a changed function is what it was
 put_at-other : {A : Type 0} (f : ℕ → ℕ → A) (i j : ℕ) (x : A) (m n : ℕ) → ((m ≡ i) → (n ≡ j) → ⊥)
     → put_at f i j x m n ≡ f m n
 put_at-other {A = A} f i j x m n ne = by_test ((m == i) && (n == j)) refl

@@ -1,19 +1,14 @@
 -- Beginnings of a history, and the events of one caller in them.
-use Rattle.std.proofs.Common.{◌≡◌, ℕ, ◌≤◌, List, [], ◌∷◌, ◌++◌, map, length, refl, ap, sym, ◌∙◌, subst, arith}
-use Rattle.std.proofs.Common.{append_assoc, length-append}
-use Rattle.std.specs.List.{filter}
-use Rattle.std.proofs.lemmas.List.{append-nil, map-append}
-use Rattle.std.proofs.lemmas.List.Elements.{filter-append}
+use Rattle.std.proofs.Common.{◌≡◌, ℕ, ◌≤◌, List, [], ◌∷◌, length, refl, ap, sym, ◌∙◌, subst, arith, length-append}
+use Rattle.std.proofs.lemmas.List.{append-nil}
 use mathlib.Core.List.{IsPrefix}
 use Rattle.nio_base.specs.declared.numbers.CallerNo.{CallerNo}
-use Rattle.nio_event.specs.Histories.{is_by, mine}
+use Rattle.nio_event.specs.Histories.{mine}
 use Rattle.nio_event.specs.declared.event.Event.{Event}
+use Rattle.nio_event.proofs.OneMore.{mine-append}
 
 pub prefix_self : {A : Type 0} (xs : List A) → IsPrefix xs xs
 prefix_self xs = ([], append-nil xs)
-
-pub prefix_trans : {A : Type 0} (xs ys zs : List A) → IsPrefix xs ys → IsPrefix ys zs → IsPrefix xs zs
-prefix_trans xs ys zs p q = (p.0 ++ q.0, sym (append_assoc xs p.0 q.0) ∙ (ap (λ w. w ++ q.0) p.1 ∙ q.1))
 
 -- of two beginnings of one list the shorter begins the longer
 pub prefix_shorter : {A : Type 0} (xs ys zs : List A) → IsPrefix xs zs → IsPrefix ys zs → length xs ≤ length ys
@@ -40,11 +35,6 @@ prefix_length xs ys p = omega (arith, sym (ap length p.1) ∙ length-append xs p
 -- what begins a list that begins with it is that list
 pub prefix_both : {A : Type 0} (xs ys : List A) → IsPrefix xs ys → IsPrefix ys xs → xs ≡ ys
 prefix_both xs ys p q = prefix_whole xs ys p (prefix_length ys xs q)
-
-pub mine-append : (n : CallerNo) (xs ys : List Event) → mine n (xs ++ ys) ≡ mine n xs ++ mine n ys
-mine-append n xs ys =
-    ap (map (λ x. x.act)) (filter-append (is_by n) xs ys)
-    ∙ map-append (λ x. x.act) (filter (is_by n) xs) (filter (is_by n) ys)
 
 pub mine_begins : (n : CallerNo) (xs ys : List Event) → IsPrefix xs ys → IsPrefix (mine n xs) (mine n ys)
 mine_begins n xs ys p = (mine n p.0, sym (mine-append n xs p.0) ∙ ap (mine n) p.1)

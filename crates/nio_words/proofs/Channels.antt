@@ -5,7 +5,7 @@ use Rattle.std.specs.Prelude.{bit_and, bit_or}
 use Rattle.std.specs.Int.{bit_not, w64}
 use Rattle.std.proofs.lemmas.Nat.{or_lt, and_le_l}
 use Rattle.nio_base.specs.declared.kind.Kind.{Kind}
-use Rattle.nio_base.specs.declared.kind.Kind.TheVariants.{Stream, Listener, Source, Sink, Datagram}
+use Rattle.nio_base.specs.declared.kind.Kind.TheVariants.{Stream}
 use Rattle.nio_base.specs.declared.limits.Limits.{Limits}
 use Rattle.nio_base.specs.declared.numbers.CallerNo.{CallerNo}
 use Rattle.nio_base.specs.declared.numbers.ChanNo.{ChanNo}
@@ -25,20 +25,15 @@ use Rattle.nio_words.specs.Instructions.{applied, put_bit}
 use Rattle.nio_words.specs.Moves.{IsMoment, Moves}
 use Rattle.nio_words.specs.declared.instruction.Instruction.TheVariants.{Load, SetBit, Exchange}
 use Rattle.nio_words.specs.declared.part.Part.TheVariants.{Chan}
+use Rattle.nio_words.proofs.Looks.{looks}
 
 kind_code-lt : (k : Kind) → kind_code k < 5
 kind_code-lt Stream = omega arith
-kind_code-lt Listener = omega arith
-kind_code-lt Source = omega arith
-kind_code-lt Sink = omega arith
-kind_code-lt Datagram = omega arith
+kind_code-lt _ = omega arith
 
 reads_kind : (k : Kind) → kind_of (kind_code k) ≡ k
 reads_kind Stream = refl
-reads_kind Listener = refl
-reads_kind Source = refl
-reads_kind Sink = refl
-reads_kind Datagram = refl
+reads_kind _ = refl
 
 -- the fields of a channel's word
 module _ (c : Channel) where
@@ -140,15 +135,9 @@ make_channel_moves l me c kind below = record {
 
 pub look_channel_moves : (l : Limits) (me : CallerNo) (c : ChanNo) → IsChannel l c
     → Moves l me (Chan c.0) Load (λ n. LookChannel c (chan_of n))
-look_channel_moves l me c below = record {
-  within = below;
-  bit = tt;
-  part = λ n. refl;
-  word = λ st now. refl;
-  small = λ n small. small;
-  proper = λ st now. tt;
-  answers = λ st now. ap channel (reads_channel (st.chan c.0));
-}
+look_channel_moves l me c below =
+    looks below (λ n. refl) (λ st n. refl) (λ st n proper. proper)
+    (λ st now. ap channel (reads_channel (st.chan c.0)))
 
 pub close_bit_moves : (l : Limits) (me : CallerNo) (c : ChanNo) → IsChannel l c
     → Moves l me (Chan c.0) (SetBit 4) (λ n. CloseBit c (is_set n 4))

@@ -1,9 +1,10 @@
 -- How many numbers pass a test that is changed at one number, and how many pins are on an index.
 use Rattle.std.proofs.Common.{◌≡◌, ◌≢◌, ℕ, zero, suc, ◌+◌, ◌<◌, ◌≤◌, ◌==◌, Bool, true, false, cond, ◌||◌, not, refl, ap}
-use Rattle.std.proofs.Common.{arith, eqb-true, ne_eqb}
+use Rattle.std.proofs.Common.{arith, eqb-true}
 use Rattle.std.proofs.lemmas.Bool.{eqb-false}
 use Rattle.nio_event.specs.Answers.{count_below}
 use Rattle.nio_event.specs.State.{put}
+use Rattle.nio_event.proofs.Put.{put-other}
 use Rattle.nio_words.proofs.Fields.{bit-lt}
 use Rattle.nio_words.specs.Encodings.{bit}
 
@@ -18,7 +19,7 @@ unfolding count_below
 count_below-beyond zero f n x beyond = refl
 count_below-beyond (suc k) f n x beyond =
     let rest = count_below-beyond k f n x (omega arith) in
-    let other : put f n x k ≡ f k = ap (λ b. cond b x (f k)) (ne_eqb k n (λ e. omega arith)) in
+    let other : put f n x k ≡ f k = put-other f n x k (λ e. omega arith) in
     let same : bit (put f n x k) ≡ bit (f k) = ap bit other in
     omega (arith, rest, same)
 
@@ -44,32 +45,16 @@ count_below-put (suc k) f n x below = by_test (k == n) refl (λ lower. count_bel
         let same : bit (put f n x k) ≡ bit (f k) = ap bit other in
         omega (arith, below_it, same)
 
--- who passes the test is counted
-pub count_below-some : (k : ℕ) (f : ℕ → Bool) (n : ℕ) → n < k → bit (f n) ≤ count_below k f
-count_below-some k f n below =
-    let without : count_below k (put f n false) + bit (f n) ≡ count_below k f
-    + bit false = count_below-put k f n false below in
-    let none : bit false ≡ 0 = refl in
-    omega (arith, without, none)
-
--- where nobody passes the test the count is 0
-pub count_below-none : (k : ℕ) (f : ℕ → Bool) → ((n : ℕ) → f n ≡ false) → count_below k f ≡ 0
-unfolding count_below
-count_below-none zero f none = refl
-count_below-none (suc k) f none =
-    let rest = count_below-none k f none in
-    let last : bit (f k) ≡ 0 = ap bit (none k) in
-    omega (arith, rest, last)
-
 -- ---- a claim's pin: where the index wasn't claimed, the caller has one more
 
 pub claimed_pins : (f : ℕ → Bool) (me : ℕ) → me < 64 → count_below 64 f ≡ 0
     → count_below 64 (put f me (f me || not false)) ≡ 1
 claimed_pins f me below none =
-    let some = count_below-some 64 f me below in
+    let without = count_below-put 64 f me false below in
     let count = count_below-put 64 f me (f me || not false) below in
     let new : bit (f me || not false) ≡ 1 = with_true (f me) in
-    omega (arith, some, count, new)
+    let no : bit false ≡ 0 = refl in
+    omega (arith, without, count, new, no)
   where
     with_true : (b : Bool) → bit (b || not false) ≡ 1
     with_true true = refl

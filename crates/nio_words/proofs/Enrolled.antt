@@ -16,18 +16,13 @@ use Rattle.nio_words.specs.Encodings.{enrolled_word}
 use Rattle.nio_words.specs.Moves.{Moves}
 use Rattle.nio_words.specs.declared.instruction.Instruction.TheVariants.{Load, Swap}
 use Rattle.nio_words.specs.declared.part.Part.TheVariants.{Enrolled}
+use Rattle.nio_words.proofs.Looks.{looks}
 
 pub look_reg_moves : (l : Limits) (me : CallerNo) (c : ChanNo) (s : SelNo) → IsChannel l c → IsSelector l s
     → Moves l me (Enrolled c.0 s.0) Load (λ n. LookReg c s (enrolled_of n))
-look_reg_moves l me c s is_channel is_selector = record {
-  within = (is_channel, is_selector);
-  bit = tt;
-  part = λ n. refl;
-  word = λ st now. refl;
-  small = λ n small. small;
-  proper = λ st now. now.proper;
-  answers = λ st now. ap enrolled_key (reads_enrolled (st.enrolled c.0 s.0) now.proper);
-}
+look_reg_moves l me c s is_channel is_selector =
+    looks (is_channel, is_selector) (λ n. refl) (λ st n. refl) (λ st n proper. proper)
+    (λ st now. ap enrolled_key (reads_enrolled (st.enrolled c.0 s.0) now.proper))
 
 pub enrol_moves : (l : Limits) (me : CallerNo) (c : ChanNo) (s : SelNo) (k : KeyId) → IsChannel l c → IsSelector l s
     → k.index + 1 < 2 ^ 32 → k.serial < 2 ^ 32

@@ -19,6 +19,7 @@ use Rattle.nio_words.specs.Moves.{Moves}
 use Rattle.nio_words.specs.Places.{free_words}
 use Rattle.nio_words.specs.declared.instruction.Instruction.TheVariants.{Load, SetBit, ClearBit}
 use Rattle.nio_words.specs.declared.part.Part.TheVariants.{Free}
+use Rattle.nio_words.proofs.Looks.{looks}
 
 -- an index is below the limit where its word is one of the selector's
 pub word_within : (l : Limits) (i : ℕ) → i < l.keys → i / 64 < free_words l
@@ -49,15 +50,9 @@ word_changed free s i x = bits_below-same 64 _ _ (one_changed free s i x)
 
 pub look_free_moves : (l : Limits) (me : CallerNo) (s : SelNo) (j : ℕ) → IsSelector l s → 64 * j < l.keys
     → Moves l me (Free s.0 j) Load (λ n. LookFree s j n)
-look_free_moves l me s j is_selector below = record {
-  within = (is_selector, omega arith);
-  bit = tt;
-  part = λ n. refl;
-  word = λ st now. refl;
-  small = λ n small. small;
-  proper = λ st now. tt;
-  answers = λ st now. refl;
-}
+look_free_moves l me s j is_selector below =
+    looks (is_selector, omega arith) (λ n. refl) (λ st n. refl) (λ st n proper. proper)
+    (λ st now. refl)
 
 pub put_free_moves : (l : Limits) (me : CallerNo) (s : SelNo) (i : ℕ) → IsKey l s i
     → Moves l me (Free s.0 (i / 64)) (SetBit (i % 64)) (λ n. PutFree s i)

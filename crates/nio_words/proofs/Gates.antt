@@ -16,6 +16,7 @@ use Rattle.nio_words.specs.Encodings.{bit, gate_word}
 use Rattle.nio_words.specs.Moves.{Moves}
 use Rattle.nio_words.specs.declared.instruction.Instruction.TheVariants.{Load, SetBit, ClearBit}
 use Rattle.nio_words.specs.declared.part.Part.TheVariants.{Gate}
+use Rattle.nio_words.proofs.Looks.{looks}
 
 sets_woken : (woken shut : Bool) → bit_or (bit woken + 2 * bit shut) 1 ≡ 1 + 2 * bit shut
 sets_woken true true = refl
@@ -65,27 +66,15 @@ wake_moves l me s below = record {
 
 pub look_gate_moves : (l : Limits) (me : CallerNo) (s : SelNo) → IsSelector l s
     → Moves l me (Gate s.0) Load (λ n. LookGate s (gate_of n))
-look_gate_moves l me s below = record {
-  within = below;
-  bit = tt;
-  part = λ n. refl;
-  word = λ st now. refl;
-  small = λ n small. small;
-  proper = λ st now. tt;
-  answers = λ st now. ap found_gate (reads_gate (st.gate s.0));
-}
+look_gate_moves l me s below =
+    looks below (λ n. refl) (λ st n. refl) (λ st n proper. proper)
+    (λ st now. ap found_gate (reads_gate (st.gate s.0)))
 
 pub begin_look_moves : (l : Limits) (me : CallerNo) (s : SelNo) → IsSelector l s
     → Moves l me (Gate s.0) Load (λ n. BeginLook s (gate_of n))
-begin_look_moves l me s below = record {
-  within = below;
-  bit = tt;
-  part = λ n. refl;
-  word = λ st now. refl;
-  small = λ n small. small;
-  proper = λ st now. tt;
-  answers = λ st now. ap found_gate (reads_gate (st.gate s.0));
-}
+begin_look_moves l me s below =
+    looks below (λ n. refl) (λ st n. refl) (λ st n proper. proper)
+    (λ st now. ap found_gate (reads_gate (st.gate s.0)))
 
 pub end_wake_moves : (l : Limits) (me : CallerNo) (s : SelNo) → IsSelector l s
     → Moves l me (Gate s.0) (ClearBit 0) (λ n. EndWake s (gate_of n))

@@ -1,9 +1,7 @@
 -- How a caller goes on from one pass to a later one, and what stands meanwhile: the laws of histories, said
 -- of passes.
 use Rattle.std.proofs.Common.{◌≡◌, Bool, true, false, List, [], ◌∷◌, ◌++◌, append_assoc, ap, sym, ◌∙◌, subst}
-use Rattle.std.proofs.lemmas.Bool.{or_parts}
 use Rattle.std.proofs.lemmas.List.{append-nil, append_cancel_left}
-use Rattle.std.proofs.lemmas.List.Folds.{list_any-append}
 use Rattle.std.specs.Option.{ForSome}
 use Rattle.nio_base.specs.declared.numbers.CallerNo.{CallerNo}
 use Rattle.nio_event.proofs.Holds.{mode_stays, enrolled_stays, found_enrolled_stays, outside_stays, found_clear_stays}
@@ -21,7 +19,8 @@ use Rattle.nio_event.specs.Sets.{is_in_key_set}
 use Rattle.nio_event.specs.State.{State}
 use Rattle.nio_event.specs.declared.act.Act.{Act}
 use Rattle.nio_event.specs.declared.event.Event.{Event}
-use Rattle.nio_words.proofs.Beginnings.{prefix_trans, mine-append}
+use Rattle.nio_event.proofs.OneMore.{has_none-append, mine-append}
+use Rattle.nio_event.proofs.Clauses.{prefix_trans}
 use Rattle.nio_words.specs.Laws.{IsLater, GoesOn, KeepsBetween, CallsGoOn, DrawsGoOn, SplitsGoOn, JoinsGoOn}
 use Rattle.nio_words.specs.Laws.{GoingOnChains, HistoriesGoOn, FactsStand, InvalidKeysStand, OwnStands, PinnedKeysStand}
 use Rattle.nio_words.specs.Laws.{ModeStands, EnrolledStands, FoundEnrolledStands, OutsideStands, FoundClearStands}
@@ -122,12 +121,6 @@ pinned_keys_stand w me s i acts before after keeps =
     (pinned_keys_stay w.limits me s i (seen before) there.later w.fit there.keeps.legal there.keeps.has_it
     there.keeps.kept)
 
--- of two lists of acts of which none is such, none of the first is
-has-append : (p : Act → Bool) (first second : List Act) → has p (first ++ second) ≡ false
-    → (has p first ≡ false) × (has p second ≡ false)
-has-append p first second nowhere =
-    or_parts (has p first) (has p second) (sym (list_any-append p first second) ∙ nowhere)
-
 -- ---- what a law of histories says of what was seen in between, it says of the passes
 
 module _ {w : Words} {me : CallerNo} {what : OwnFact} {acts : List Act} {before after : Pass}
@@ -191,7 +184,7 @@ selects_alone w me s acts before after keeps between e rest parts on =
     record {
       legal = legal_beginning w.limits (seen before ++ (between ++ e ∷ [])) rest legal;
       has_it = keeps.has_it;
-      kept = (has-append (gives_back (a_selection s)) (mine me (between ++ e ∷ [])) (mine me rest) kept).0;
+      kept = (has_none-append (gives_back (a_selection s)) (mine me (between ++ e ∷ [])) (mine me rest) kept).0;
     }
     on
 

@@ -12,20 +12,15 @@ use Rattle.nio_words.specs.Decodings.{number_of}
 use Rattle.nio_words.specs.Moves.{Moves}
 use Rattle.nio_words.specs.declared.instruction.Instruction.TheVariants.{Load, Max}
 use Rattle.nio_words.specs.declared.part.Part.TheVariants.{ChannelsHigh, KeysHigh}
+use Rattle.nio_words.proofs.Looks.{looks}
 
 reads_number : (n : ℕ) → n < 2 ^ 32 → number_of n ≡ n
 reads_number n small = omega arith
 
 pub look_channels_moves : (l : Limits) (me : CallerNo) → Moves l me ChannelsHigh Load (λ n. LookChannels (number_of n))
-look_channels_moves l me = record {
-  within = tt;
-  bit = tt;
-  part = λ n. refl;
-  word = λ st now. refl;
-  small = λ n small. small;
-  proper = λ st now. tt;
-  answers = λ st now. ap number (reads_number st.channels_high now.small);
-}
+look_channels_moves l me =
+    looks tt (λ n. refl) (λ st n. refl) (λ st n proper. proper)
+    (λ st now. ap number (reads_number st.channels_high now.small))
 
 pub raise_channels_moves : (l : Limits) (me : CallerNo) (k : ℕ) → k < 2 ^ 32
     → Moves l me ChannelsHigh (Max k) (λ n. RaiseChannels k (number_of n))
@@ -41,15 +36,9 @@ raise_channels_moves l me k few = record {
 
 pub look_keys_moves : (l : Limits) (me : CallerNo) (s : SelNo) → IsSelector l s
     → Moves l me (KeysHigh s.0) Load (λ n. LookKeys s (number_of n))
-look_keys_moves l me s below = record {
-  within = below;
-  bit = tt;
-  part = λ n. refl;
-  word = λ st now. refl;
-  small = λ n small. small;
-  proper = λ st now. tt;
-  answers = λ st now. ap number (reads_number (st.keys_high s.0) now.small);
-}
+look_keys_moves l me s below =
+    looks below (λ n. refl) (λ st n. refl) (λ st n proper. proper)
+    (λ st now. ap number (reads_number (st.keys_high s.0) now.small))
 
 pub raise_keys_moves : (l : Limits) (me : CallerNo) (s : SelNo) (k : ℕ) → IsSelector l s → k < 2 ^ 32
     → Moves l me (KeysHigh s.0) (Max k) (λ n. RaiseKeys s k (number_of n))

@@ -18,6 +18,7 @@ use Rattle.nio_words.specs.Instructions.{applied}
 use Rattle.nio_words.specs.Moves.{Moves}
 use Rattle.nio_words.specs.declared.instruction.Instruction.TheVariants.{Load, Swap, Exchange}
 use Rattle.nio_words.specs.declared.part.Part.TheVariants.{Hold, Turn}
+use Rattle.nio_words.proofs.Looks.{looks}
 
 -- ---- who has number `i` of what `has` says: the exchange takes it where nobody has it, the swap gives it back
 
@@ -90,12 +91,6 @@ give_turn_moves l me s below = record {
 
 pub enter_moves : (l : Limits) (me : CallerNo) (s : SelNo) → IsSelector l s
     → Moves l me (Turn s.0) Load (λ n. Enter s (holder_of n))
-enter_moves l me s below = record {
-  within = below;
-  bit = tt;
-  part = λ n. refl;
-  word = λ st now. refl;
-  small = λ n small. small;
-  proper = λ st now. tt;
-  answers = λ st now. ap holder (reads_holder (st.turn s.0) now.small);
-}
+enter_moves l me s below =
+    looks below (λ n. refl) (λ st n. refl) (λ st n proper. proper)
+    (λ st now. ap holder (reads_holder (st.turn s.0) now.small))

@@ -13,21 +13,16 @@ use Rattle.nio_words.specs.Decodings.{operations_of}
 use Rattle.nio_words.specs.Moves.{Moves}
 use Rattle.nio_words.specs.declared.instruction.Instruction.TheVariants.{Load, Or, And, Swap}
 use Rattle.nio_words.specs.declared.part.Part.TheVariants.{Interest}
+use Rattle.nio_words.proofs.Looks.{looks}
 
 reads_operations : (n : ℕ) → n < 256 → operations_of n ≡ n
 reads_operations n small = omega arith
 
 pub look_interest_moves : (l : Limits) (me : CallerNo) (s : SelNo) (i : ℕ) → IsKey l s i
     → Moves l me (Interest s.0 i) Load (λ n. LookInterest s i (operations_of n))
-look_interest_moves l me s i is_key = record {
-  within = is_key;
-  bit = tt;
-  part = λ n. refl;
-  word = λ st now. refl;
-  small = λ n small. small;
-  proper = λ st now. tt;
-  answers = λ st now. ap operations (reads_operations (st.interest s.0 i) now.small);
-}
+look_interest_moves l me s i is_key =
+    looks is_key (λ n. refl) (λ st n. refl) (λ st n proper. proper)
+    (λ st now. ap operations (reads_operations (st.interest s.0 i) now.small))
 
 pub swap_interest_moves : (l : Limits) (me : CallerNo) (s : SelNo) (i ops : ℕ) → IsKey l s i → ops < 256
     → Moves l me (Interest s.0 i) (Swap ops) (λ n. SwapInterest s i ops (operations_of n))

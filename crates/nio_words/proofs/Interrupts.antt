@@ -12,6 +12,7 @@ use Rattle.nio_words.specs.Instructions.{one_bit}
 use Rattle.nio_words.specs.Moves.{Moves}
 use Rattle.nio_words.specs.declared.instruction.Instruction.TheVariants.{Load, SetBit, ClearBit}
 use Rattle.nio_words.specs.declared.part.Part.TheVariants.{Interrupts}
+use Rattle.nio_words.proofs.Looks.{looks}
 
 pub set_interrupt_moves : (l : Limits) (me target : CallerNo) → target.0 < 64
     → Moves l me Interrupts (SetBit target.0) (λ n. SetInterrupt target (is_set n target.0))
@@ -39,12 +40,6 @@ take_interrupt_moves l me below = record {
 
 pub look_interrupt_moves : (l : Limits) (me : CallerNo) → me.0 < 64
     → Moves l me Interrupts Load (λ n. LookInterrupt (is_set n me.0))
-look_interrupt_moves l me below = record {
-  within = tt;
-  bit = tt;
-  part = λ n. refl;
-  word = λ st now. refl;
-  small = λ n small. small;
-  proper = λ st now. tt;
-  answers = λ st now. ap flag (reads_bit st.interrupted me.0 below);
-}
+look_interrupt_moves l me below =
+    looks tt (λ n. refl) (λ st n. refl) (λ st n proper. proper)
+    (λ st now. ap flag (reads_bit st.interrupted me.0 below))

@@ -17,8 +17,9 @@ use Rattle.nio_event.proofs.OneMore.{state_after-more, mine-other}
 use Rattle.nio_event.specs.Acts.{effect}
 use Rattle.nio_event.specs.Histories.{state_after, is_by, mine, IsStep, IsLegal}
 use Rattle.nio_event.specs.declared.event.Event.{Event}
+use Rattle.nio_event.proofs.Clauses.{prefix_trans}
 use Rattle.nio_words.proofs.Apart.{apart, proper-apart}
-use Rattle.nio_words.proofs.Beginnings.{prefix_self, prefix_trans, prefix_both}
+use Rattle.nio_words.proofs.Beginnings.{prefix_self, prefix_both}
 use Rattle.nio_words.proofs.Places.{place_inside, same_part, place-limits}
 use Rattle.nio_words.specs.Encodings.{encoding, bound, IsProper}
 use Rattle.nio_words.specs.Parts.{part_of}
@@ -72,6 +73,26 @@ module _ (l : Limits) (s : Table (Unit {0}) View) (kept : IsKept l s) (id : ℕ)
       let spent : v.spent ≡ true = kept.others_spent j id u v at alone here (λ e. ne (sym e)) in
       let clash : true ≡ false = sym spent ∙ unspent in
       cc
+
+  -- a new view of the seat, which isn't spent, and alone where the old one is
+  module _ (w : View) (same_alone : w.alone ≡ v.alone) (live : w.spent ≡ false) where
+    spent_empty : (j : ℕ) (u : View) → get_elem? (set s.views id w) j ≡ some u → u.spent ≡ true → u.numbers ≡ 0
+    spent_empty j u at is_spent = elim (at_set s.views id j w u at) [
+      | inl same ↦ let clash : true ≡ false = sym is_spent ∙ (ap (λ x. x.spent) (sym same.1) ∙ live) in
+          absurd cc
+      | inr other ↦ kept.spent_empty j u other.1 is_spent
+    ]
+
+    others_spent : (i j : ℕ) (x y : View) → get_elem? (set s.views id w) i ≡ some x → x.alone ≡ true
+        → get_elem? (set s.views id w) j ≡ some y → j ≢ i → y.spent ≡ true
+    others_spent i j x y at_i is_alone at_j ne = elim (at_set s.views id i w x at_i) [
+      | inl same ↦ elim (at_set s.views id j w y at_j) [
+        | inl same' ↦ absurd (ne (same'.0 ∙ sym same.0))
+        | inr other' ↦ kept.others_spent id j v y here (sym same_alone ∙ (ap (λ u. u.alone) same.1 ∙ is_alone)) other'.1
+            other'.0
+      ]
+      | inr other ↦ absurd (not_alone i x other.0 other.1 is_alone)
+    ]
 
   module _ (w : View) (e : Event) (p : Part) (new : ℕ) (adds : AddsTo l s kept.history id v w e) (within : IsWithin l p)
       (part : part_of e.act ≡ p) (word : new ≡ encoding (effect (state_after kept.history) e.caller e.act) p)
@@ -172,13 +193,6 @@ module _ (l : Limits) (s : Table (Unit {0}) View) (kept : IsKept l s) (id : ℕ)
       ]
     ]
 
-    spent_empty : (j : ℕ) (u : View) → get_elem? (set s.views id w) j ≡ some u → u.spent ≡ true → u.numbers ≡ 0
-    spent_empty j u at is_spent = elim (at_set s.views id j w u at) [
-      | inl same ↦ let clash : true ≡ false = sym is_spent ∙ (ap (λ x. x.spent) (sym same.1) ∙ adds.unspent) in
-          absurd cc
-      | inr other ↦ kept.spent_empty j u other.1 is_spent
-    ]
-
     undrawn : (n : CallerNo) → (state_after (kept.history ++ e ∷ [])).drawn n.0 ≡ false
         → mine n (kept.history ++ e ∷ []) ≡ []
     undrawn n h =
@@ -202,17 +216,6 @@ module _ (l : Limits) (s : Table (Unit {0}) View) (kept : IsKept l s) (id : ℕ)
       | inr other ↦ absurd (not_alone j u other.0 other.1 is_alone)
     ]
 
-    others_spent : (i j : ℕ) (x y : View) → get_elem? (set s.views id w) i ≡ some x → x.alone ≡ true
-        → get_elem? (set s.views id w) j ≡ some y → j ≢ i → y.spent ≡ true
-    others_spent i j x y at_i is_alone at_j ne = elim (at_set s.views id i w x at_i) [
-      | inl same ↦ elim (at_set s.views id j w y at_j) [
-        | inl same' ↦ absurd (ne (same'.0 ∙ sym same.0))
-        | inr other' ↦ kept.others_spent id j v y here (sym adds.alone ∙ (ap (λ u. u.alone) same.1 ∙ is_alone)) other'.1
-            other'.0
-      ]
-      | inr other ↦ absurd (not_alone i x other.0 other.1 is_alone)
-    ]
-
     -- one event more keeps the rule
     pub added : (homes : _)
         → IsKept l record { words = set s.words (place l p) new; homes = homes; views = set s.views id w }
@@ -226,10 +229,10 @@ module _ (l : Limits) (s : Table (Unit {0}) View) (kept : IsKept l s) (id : ℕ)
       limits = get_or-set_other s.words (place l p) 1 new 0 (λ same. place-limits l p within (sym same)) ∙ kept.limits;
       each = each;
       one_seat = one_seat;
-      spent_empty = spent_empty;
+      spent_empty = spent_empty w adds.alone adds.unspent;
       undrawn = undrawn;
       alone = alone;
-      others_spent = others_spent;
+      others_spent = others_spent w adds.alone adds.unspent;
     }
       where
         set_here' : get_elem? (set s.views id w) id ≡ some w
@@ -280,24 +283,14 @@ module _ (l : Limits) (s : Table (Unit {0}) View) (kept : IsKept l s) (id : ℕ)
       ];
       one_seat = λ i j x y n at_i at_j has_i has_j. kept.one_seat i j (before i x at_i).0 (before j y at_j).0 n
           (was_at i x at_i) (was_at j y at_j) (was_has i x at_i n has_i) (was_has j y at_j n has_j);
-      spent_empty = λ j u at is_spent. elim (at_set s.views id j w u at) [
-        | inl same ↦ let clash : true ≡ false = sym is_spent ∙ (ap (λ x. x.spent) (sym same.1) ∙ live) in absurd cc
-        | inr other ↦ kept.spent_empty j u other.1 is_spent
-      ];
+      spent_empty = spent_empty w same_alone live;
       undrawn = kept.undrawn;
       alone = λ j u at is_alone. elim (at_set s.views id j w u at) [
         | inl same ↦ ap (λ x. x.seen) (sym same.1)
             ∙ seen_whole (kept.alone id v here (sym same_alone ∙ (ap (λ x. x.alone) same.1 ∙ is_alone)))
         | inr other ↦ absurd (not_alone j u other.0 other.1 is_alone)
       ];
-      others_spent = λ i j x y at_i is_alone at_j ne. elim (at_set s.views id i w x at_i) [
-        | inl same ↦ elim (at_set s.views id j w y at_j) [
-          | inl same' ↦ absurd (ne (same'.0 ∙ sym same.0))
-          | inr other' ↦ kept.others_spent id j v y here (sym same_alone ∙ (ap (λ u. u.alone) same.1 ∙ is_alone))
-              other'.1 other'.0
-        ]
-        | inr other ↦ absurd (not_alone i x other.0 other.1 is_alone)
-      ];
+      others_spent = others_spent w same_alone live;
     }
       where
         before : (j : ℕ) (u : View) → get_elem? (set s.views id w) j ≡ some u

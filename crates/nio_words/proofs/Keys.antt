@@ -23,9 +23,10 @@ use Rattle.nio_event.specs.State.{State, put, put_at, unclaimed}
 use Rattle.nio_event.specs.declared.act.Act.TheVariants.{LookKey, CancelKey, Claim, Publish, Remove, Pin, Unpin}
 use Rattle.nio_event.specs.declared.act.Act.TheVariants.{ClaimAgain}
 use Rattle.nio_event.specs.declared.found.Stage.{Stage}
-use Rattle.nio_words.proofs.Counting.{count_below-le, count_below-put, count_below-none, claimed_pins, same_pins}
+use Rattle.nio_words.proofs.Counting.{count_below-le, count_below-put, claimed_pins, same_pins}
 use Rattle.nio_words.proofs.Fields.{exchanges, exchange_small}
 use Rattle.nio_event.proofs.PinLaws.{claims_again_the_removed}
+use Rattle.nio_event.proofs.Counts.{count_none}
 use Rattle.nio_words.proofs.Stages.{reads_claimed, reads_stage, publishes_stage, cancels_stage, removes_stage}
 use Rattle.nio_words.proofs.Stages.{pins_stage, unpins_stage, claimed_some, stage_word-lt}
 use Rattle.nio_words.specs.Decodings.{is_set, stage_of, was_pinned}
@@ -34,6 +35,7 @@ use Rattle.nio_words.specs.Instructions.{applied}
 use Rattle.nio_words.specs.Moves.{IsMoment, Moves}
 use Rattle.nio_words.specs.declared.instruction.Instruction.TheVariants.{Load, SetBit, Add, Subtract, Exchange}
 use Rattle.nio_words.specs.declared.part.Part.TheVariants.{Key}
+use Rattle.nio_words.proofs.Looks.{looks}
 
 -- there are at most 64 pins
 few_pins : (st : State) (s i : ℕ) → pins st s i < 2 ^ 8
@@ -64,15 +66,9 @@ reads st s i fits = reads_stage (st.key s i) (pins st s i) (few_pins st s i) fit
 
 pub look_key_moves : (l : Limits) (me : CallerNo) (s : SelNo) (i : ℕ) → IsKey l s i
     → Moves l me (Key s.0 i) Load (λ n. LookKey s i (stage_of n))
-look_key_moves l me s i is_key = record {
-  within = is_key;
-  bit = tt;
-  part = λ n. refl;
-  word = λ st now. refl;
-  small = λ n small. small;
-  proper = λ st now. now.proper;
-  answers = λ st now. ap stage (reads st s.0 i now.proper);
-}
+look_key_moves l me s i is_key =
+    looks is_key (λ n. refl) (λ st n. refl) (λ st n proper. proper)
+    (λ st now. ap stage (reads st s.0 i now.proper))
 
 pub cancel_key_moves : (l : Limits) (me : CallerNo) (s : SelNo) (i : ℕ) → IsKey l s i
     → Moves l me (Key s.0 i) (SetBit 2) (λ n. CancelKey s i (stage_of n))
@@ -211,7 +207,7 @@ claim_moves l me s i c is_key below few = record {
       let is : found ≡ k.claimed = claimed st now in
       let is_sound = sound l me _ _ st now in
       claims_word me c k f below found (sym is) (λ e. is_sound.unclaimed_bare s.0 i (sym is ∙ e))
-      (λ e. count_below-none 64 f (λ n. is_sound.unclaimed_unpinned s.0 i n (sym is ∙ e)))
+      (λ e. count_none 64 f (λ n _. is_sound.unclaimed_unpinned s.0 i n (sym is ∙ e)))
       ∙ both_word st.key st.pinned s.0 i (if found then k else new_key c 0) (put f me.0 (f me.0 || not found));
   small = λ n small. exchange_small 0 (stage_word (new_key c 0) 1) n (2 ^ 64) (omega arith) small;
   proper = λ st now. proper_key st s.0 i

@@ -11,6 +11,7 @@ pub mod Joining
 pub mod Stepping
 pub mod Details
 pub mod Draws
+pub mod Looks
 pub mod Gates
 pub mod Channels
 pub mod Holders

@@ -24,6 +24,7 @@ use Rattle.nio_words.specs.Encodings.{bit, mark_word}
 use Rattle.nio_words.specs.Moves.{Moves}
 use Rattle.nio_words.specs.declared.instruction.Instruction.TheVariants.{Load, ClearBit, Swap, Exchange}
 use Rattle.nio_words.specs.declared.part.Part.TheVariants.{Mark}
+use Rattle.nio_words.proofs.Looks.{looks}
 
 reads_selected : (m : KeyMark) → m.ready < 256 → is_set (mark_word m) 8 ≡ m.selected
 reads_selected m fits = let selected = bit-lt m.selected in reads (mark_word m) 8 m.selected (omega arith)
@@ -46,15 +47,9 @@ unselects m fits =
 
 pub look_mark_moves : (l : Limits) (me : CallerNo) (s : SelNo) (i : ℕ) → IsKey l s i
     → Moves l me (Mark s.0 i) Load (λ n. LookMark s i (mark_of n))
-look_mark_moves l me s i is_key = record {
-  within = is_key;
-  bit = tt;
-  part = λ n. refl;
-  word = λ st now. refl;
-  small = λ n small. small;
-  proper = λ st now. now.proper;
-  answers = λ st now. ap key_mark (reads_mark (st.mark s.0 i) now.proper);
-}
+look_mark_moves l me s i is_key =
+    looks is_key (λ n. refl) (λ st n. refl) (λ st n proper. proper)
+    (λ st now. ap key_mark (reads_mark (st.mark s.0 i) now.proper))
 
 pub unselect_bit_moves : (l : Limits) (me : CallerNo) (s : SelNo) (i : ℕ) → IsKey l s i
     → Moves l me (Mark s.0 i) (ClearBit 8) (λ n. UnselectBit s i (is_set n 8))

@@ -9,6 +9,7 @@ use Rattle.nio_event.specs.declared.act.Act.TheVariants.{SwapNote, LookNote}
 use Rattle.nio_words.specs.Moves.{Moves}
 use Rattle.nio_words.specs.declared.instruction.Instruction.TheVariants.{Load, Swap}
 use Rattle.nio_words.specs.declared.part.Part.TheVariants.{Note}
+use Rattle.nio_words.proofs.Looks.{looks}
 
 pub swap_note_moves : (l : Limits) (me : CallerNo) (s : SelNo) (i att : ℕ) → IsKey l s i → att < 2 ^ 64
     → Moves l me (Note s.0 i) (Swap att) (λ n. SwapNote s i att n)
@@ -24,12 +25,6 @@ swap_note_moves l me s i att is_key fits = record {
 
 pub look_note_moves : (l : Limits) (me : CallerNo) (s : SelNo) (i : ℕ) → IsKey l s i
     → Moves l me (Note s.0 i) Load (λ n. LookNote s i n)
-look_note_moves l me s i is_key = record {
-  within = is_key;
-  bit = tt;
-  part = λ n. refl;
-  word = λ st now. refl;
-  small = λ n small. small;
-  proper = λ st now. tt;
-  answers = λ st now. refl;
-}
+look_note_moves l me s i is_key =
+    looks is_key (λ n. refl) (λ st n. refl) (λ st n proper. proper)
+    (λ st now. refl)

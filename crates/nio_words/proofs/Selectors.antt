@@ -12,6 +12,7 @@ use Rattle.nio_words.specs.Instructions.{one_bit}
 use Rattle.nio_words.specs.Moves.{Moves}
 use Rattle.nio_words.specs.declared.instruction.Instruction.TheVariants.{Load, SetBit}
 use Rattle.nio_words.specs.declared.part.Part.TheVariants.{Selectors}
+use Rattle.nio_words.proofs.Looks.{looks}
 
 pub make_selector_moves : (l : Limits) (me : CallerNo) (s : SelNo) → s.0 < 64
     → Moves l me Selectors (SetBit s.0) (λ n. MakeSelector s (is_set n s.0))
@@ -26,12 +27,6 @@ make_selector_moves l me s below = record {
 }
 
 pub look_selectors_moves : (l : Limits) (me : CallerNo) → Moves l me Selectors Load (λ n. LookSelectors n)
-look_selectors_moves l me = record {
-  within = tt;
-  bit = tt;
-  part = λ n. refl;
-  word = λ st now. refl;
-  small = λ n small. small;
-  proper = λ st now. tt;
-  answers = λ st now. refl;
-}
+look_selectors_moves l me =
+    looks tt (λ n. refl) (λ st n. refl) (λ st n proper. proper)
+    (λ st now. refl)

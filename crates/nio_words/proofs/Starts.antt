@@ -11,7 +11,7 @@ use Rattle.nio_event.proofs.Legal.{legal_empty}
 use Rattle.nio_event.specs.State.{opening, unclaimed}
 use Rattle.nio_words.proofs.Beginnings.{prefix_self}
 use Rattle.nio_words.proofs.Bits.{none_has, bits_below-none}
-use Rattle.nio_words.proofs.Counting.{count_below-none}
+use Rattle.nio_event.proofs.Counts.{count_none}
 use Rattle.nio_words.proofs.Places.{place_inside, place-limits, limits_inside}
 use Rattle.nio_words.specs.Encodings.{encoding, bound, IsProper, limits_word, stage_word}
 use Rattle.nio_words.specs.Places.{IsWithin, place, word_count}
@@ -25,7 +25,7 @@ encoding-opening : (p : Part) → encoding opening p ≡ 0
 encoding-opening Callers = bits_below-none 64
 encoding-opening Interrupts = bits_below-none 64
 encoding-opening Selectors = bits_below-none 64
-encoding-opening (Key s i) = ap (stage_word unclaimed) (count_below-none 64 (λ _. false) (λ _. refl))
+encoding-opening (Key s i) = ap (stage_word unclaimed) (count_none 64 (λ _. false) (λ _ _. refl))
 encoding-opening (Free s j) = bits_below-none 64
 encoding-opening p = refl
 

@@ -1,9 +1,10 @@
 -- From the steps on a table to the acts that calls are made of.
-use Rattle.std.proofs.Common.{◌≡◌, ℕ, ◌<◌, ◌==◌, ◌&&◌, ◌||◌, Bool, true, false, [], ◌∷◌, ◌++◌, refl, ap, sym, ◌∙◌}
-use Rattle.std.proofs.Common.{subst, arith, append_assoc, eqb-true, eq-eqb}
+use Rattle.std.proofs.Common.{◌≡◌, ℕ, ◌==◌, ◌&&◌, ◌||◌, Bool, true, false, [], ◌∷◌, ◌++◌, refl, ap, sym, ◌∙◌, subst}
+use Rattle.std.proofs.Common.{append_assoc, eqb-true, eq-eqb, Option, None, not}
 use Rattle.std.specs.Int.{bit_at}
-use Rattle.std.specs.Prelude.{IsTrue, nat_lt}
-use Rattle.std.proofs.lemmas.Bool.{ltb-true}
+use Rattle.std.specs.Prelude.{IsTrue}
+use Rattle.std.proofs.lemmas.Bool.{or_right}
+use Rattle.std.proofs.lemmas.Bool.{and_from}
 use Rattle.nio_base.specs.declared.numbers.CallerNo.{CallerNo}
 use Rattle.nio_base.specs.declared.numbers.ChanNo.{ChanNo}
 use Rattle.nio_base.specs.declared.numbers.KeyNo.{KeyNo}
@@ -11,20 +12,23 @@ use Rattle.nio_base.specs.declared.numbers.SelNo.{SelNo}
 use Rattle.nio_event.proofs.Finds.{step_leaves, looks_tell, found_stands}
 use Rattle.nio_event.proofs.OneMore.{has-more}
 use Rattle.nio_event.proofs.Soundness.{legal-sound}
-use Rattle.nio_event.proofs.Told.{or_right}
 use Rattle.nio_event.specs.Answers.{Answers}
-use Rattle.nio_event.specs.Conditions.{is_made, is_claimed}
+use Rattle.nio_event.specs.Conditions.{is_made, is_claimed, is_held_by, has_turn, has_begun}
 use Rattle.nio_event.specs.Found.{is_look, finds}
 use Rattle.nio_event.specs.Histories.{state_after, event_of, mine, HistoryClause, IsLegal}
 use Rattle.nio_event.specs.Permanent.{PermanentFact, stands, channel_made, key_published}
 use Rattle.nio_event.specs.OwnEvents.{has}
 use Rattle.nio_event.specs.PassViews.{PassView, Holds as HoldsNumber, known, ActsClause, HasKey}
 use Rattle.nio_event.specs.Sets.{was_published}
-use Rattle.nio_event.specs.State.{unclaimed}
+use Rattle.nio_event.specs.State.{State, put}
 use Rattle.nio_event.specs.declared.act.Act.{Act}
-use Rattle.nio_event.specs.declared.act.Act.TheVariants.{DrawBit, LookKey, LookChannel}
+use Rattle.nio_event.specs.declared.act.Act.TheVariants.{DrawBit, LookKey, LookChannel, TakeTurn, BeginLook}
 use Rattle.nio_event.specs.declared.found.Chan.{Chan}
 use Rattle.nio_event.specs.declared.found.Stage.{Stage}
+use Rattle.nio_event.proofs.LastsOnceSound.{unclaimed_reached}
+use Rattle.nio_event.proofs.Put.{put-same}
+use Rattle.nio_event.specs.Acts.{taken_by}
+use Rattle.nio_event.specs.declared.found.GateWord.{GateWord}
 use Rattle.nio_words.specs.Passes.{seen, state_seen, numbers_of, Holds, IsPassOf, limits_of}
 use Rattle.nio_words.specs.Steps.{Steps}
 use Rattle.nio_words.specs.Views.{view}
@@ -94,15 +98,30 @@ key_found {s = s} {i = i} {found = found} serial clause published =
     (ap (λ b. b && (i == i) && was_published found serial) (eq-eqb s.0 s.0 refl)
     ∙ (ap (λ b. b && was_published found serial) (eq-eqb i i refl) ∙ published))
 
--- ---- keys
+-- ---- the turn of a selector
 
-bare_unpublished : (k : Stage) (serial : ℕ) → k ≡ unclaimed → was_published k serial ≡ false
-bare_unpublished k serial bare =
-    ap (λ x. was_published x serial) bare ∙ ap (λ b. b || false) (by_test (nat_lt serial 0) refl)
-  where
-    by_test : (b : Bool) → nat_lt serial 0 ≡ b → nat_lt serial 0 ≡ false
-    by_test true below = let less : serial < 0 = ltb-true serial 0 below in absurd (omega arith)
-    by_test false below = below
+-- who just took the turn when it was free has it
+pub turn_taken : {me : CallerNo} {s : SelNo} {found : Option CallerNo} {v0 v1 : PassView}
+    → ActsClause me (TakeTurn s found ∷ []) v0 v1 → found ≡ None → has_turn (known v1) me s ≡ true
+turn_taken {me = me} {s = s} {found = found} {v0 = v0} {v1 = v1} clause free =
+    let leaves = step_leaves v0.limits (HoldsNumber v0) me (TakeTurn s found) v0.seen v1.seen clause.history in
+    let before : State = state_after (v0.seen ++ leaves.between) in
+    ap (λ st. has_turn st me s) leaves.state
+    ∙ (ap (is_held_by me) (put-same before.turn s.0 (taken_by me found))
+    ∙ (ap (λ (o : Option CallerNo). is_held_by me (taken_by me o)) free ∙ eq-eqb me.0 me.0 refl))
+
+-- who has the turn and just found the gate not shut has begun
+pub selection_begun : {me : CallerNo} {s : SelNo} {found : GateWord} {v0 v1 : PassView}
+    → ActsClause me (BeginLook s found ∷ []) v0 v1 → found.shut ≡ false → has_begun (known v1) me s ≡ true
+selection_begun {me = me} {s = s} {found = found} {v0 = v0} {v1 = v1} clause unshut =
+    let leaves = step_leaves v0.limits (HoldsNumber v0) me (BeginLook s found) v0.seen v1.seen clause.history in
+    let before : State = state_after (v0.seen ++ leaves.between) in
+    let here : Bool = before.begun s.0 || not found.shut in
+    ap (λ st. has_begun st me s) leaves.state
+    ∙ and_from (has_turn before me s) (put before.begun s.0 here s.0) leaves.step.condition.1
+    (put-same before.begun s.0 here ∙ or_right (before.begun s.0) (not found.shut) (ap not unshut))
+
+-- ---- keys
 
 -- the index of a key that was published is claimed
 pub key_claimed : {w : Words} {p : Pass} {k : KeyNo} → IsPassOf w p → HasKey (view w p) k
@@ -112,7 +131,5 @@ key_claimed {w = w} {p = p} {k = k} pass has = by_test (is_claimed (state_seen p
     by_test : (b : Bool) → is_claimed (state_seen p) k.sel k.index ≡ b → is_claimed (state_seen p) k.sel k.index ≡ true
     by_test true claimed = claimed
     by_test false claimed =
-        let bare = (legal-sound (limits_of w) (seen p) pass.legal).unclaimed_bare k.sel.0 k.index claimed in
-        let clash : true ≡ false = sym has.published
-        ∙ bare_unpublished ((state_seen p).key k.sel.0 k.index) k.serial bare in
-        absurd cc
+        absurd (unclaimed_reached (λ stage. stage.published) ((state_seen p).key k.sel.0 k.index) k.serial
+        ((legal-sound (limits_of w) (seen p) pass.legal).unclaimed_bare k.sel.0 k.index claimed) has.published)

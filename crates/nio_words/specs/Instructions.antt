@@ -40,14 +40,15 @@ IsInWord (Max k) = ⊤
 IsInWord (Swap new) = ⊤
 IsInWord (Exchange old new) = ⊤
 
--- the bit that it is on, and the word that it brings
-abbrev pub bit_in : Instruction → ℕ
-bit_in (SetBit k) = k
-bit_in (ClearBit k) = k
-bit_in _ = 0
-
-abbrev pub word_in : Instruction → ℕ
-word_in (Or bits) = bits
-word_in (And bits) = bits
-word_in (Swap new) = new
-word_in _ = 0
+-- the bit that it is on, or the number that it brings
+abbrev pub operand : Instruction → ℕ
+operand Load = 0
+operand (SetBit k) = k
+operand (ClearBit k) = k
+operand (Or bits) = bits
+operand (And bits) = bits
+operand (Add k) = k
+operand (Subtract k) = k
+operand (Max k) = k
+operand (Swap new) = new
+operand (Exchange old new) = new

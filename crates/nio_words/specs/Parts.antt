@@ -66,29 +66,35 @@ part_of (LookFree s j found) = Free s.0 j
 part_of (PutFree s i) = Free s.0 (i / 64)
 part_of (TakeFree s i found) = Free s.0 (i / 64)
 
--- the selector of a part, the channel, and the index of a key or the number of a word of free indexes
+-- the numbers that a part is of: a selector, a channel, and the index of a key or the number of a word of free indexes;
+-- 0 where it is of none
+pub record PartNumbers : Type 0 where
+  pub selector : ℕ
+  pub channel : ℕ
+  pub index : ℕ
+
+abbrev pub numbers_in : Part → PartNumbers
+numbers_in Callers = record { selector = 0; channel = 0; index = 0 }
+numbers_in Interrupts = record { selector = 0; channel = 0; index = 0 }
+numbers_in Selectors = record { selector = 0; channel = 0; index = 0 }
+numbers_in ChannelsHigh = record { selector = 0; channel = 0; index = 0 }
+numbers_in (Chan c) = record { selector = 0; channel = c; index = 0 }
+numbers_in (Hold c) = record { selector = 0; channel = c; index = 0 }
+numbers_in (Enrolled c s) = record { selector = s; channel = c; index = 0 }
+numbers_in (Gate s) = record { selector = s; channel = 0; index = 0 }
+numbers_in (Turn s) = record { selector = s; channel = 0; index = 0 }
+numbers_in (KeysHigh s) = record { selector = s; channel = 0; index = 0 }
+numbers_in (Key s i) = record { selector = s; channel = 0; index = i }
+numbers_in (Interest s i) = record { selector = s; channel = 0; index = i }
+numbers_in (Mark s i) = record { selector = s; channel = 0; index = i }
+numbers_in (Note s i) = record { selector = s; channel = 0; index = i }
+numbers_in (Free s j) = record { selector = s; channel = 0; index = j }
+
 abbrev pub selector_in : Part → SelNo
-selector_in (Enrolled c s) = record { 0 = s }
-selector_in (Gate s) = record { 0 = s }
-selector_in (Turn s) = record { 0 = s }
-selector_in (KeysHigh s) = record { 0 = s }
-selector_in (Key s i) = record { 0 = s }
-selector_in (Interest s i) = record { 0 = s }
-selector_in (Mark s i) = record { 0 = s }
-selector_in (Note s i) = record { 0 = s }
-selector_in (Free s j) = record { 0 = s }
-selector_in _ = record { 0 = 0 }
+selector_in part = record { 0 = (numbers_in part).selector }
 
 abbrev pub channel_in : Part → ChanNo
-channel_in (Chan c) = record { 0 = c }
-channel_in (Hold c) = record { 0 = c }
-channel_in (Enrolled c s) = record { 0 = c }
-channel_in _ = record { 0 = 0 }
+channel_in part = record { 0 = (numbers_in part).channel }
 
 abbrev pub index_in : Part → ℕ
-index_in (Key s i) = i
-index_in (Interest s i) = i
-index_in (Mark s i) = i
-index_in (Note s i) = i
-index_in (Free s j) = j
-index_in _ = 0
+index_in part = (numbers_in part).index

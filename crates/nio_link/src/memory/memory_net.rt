@@ -453,6 +453,7 @@ impl<'a> Reading<PollAnswer<'a>, Finding> for OnePoll {
     }) ∷ [] };
 }
 
+#[tactic(auto, using(crate::proofs::Changes::accepted_here, crate::proofs::Changes::changed_here, crate::proofs::Changes::changed_else))]
 impl Net for MemoryNet {
     ghost use Rattle.std.proofs.Common.{ap};
     ghost use Rattle.nio_base.specs.declared.numbers.ChanNo.{ChanNo};

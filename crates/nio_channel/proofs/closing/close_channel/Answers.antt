@@ -1,10 +1,11 @@
 use Rattle.std.proofs.Common.{refl}
 use Rattle.nio_event.specs.Permanent.{channel_closed}
+use Rattle.nio_event.proofs.PassViews.{lasts_over}
 use Rattle.nio_steps.proofs.CallLaws.{returned, left_ask, left_else, left_of_call}
 use Rattle.nio_steps.specs.ChannelCalls.{close_channel_plan}
 use Rattle.nio_words.proofs.Pins.{no_pin_stays}
 use Rattle.nio_words.proofs.Views.{step_acts}
-use Rattle.nio_channel.proofs.Made.{closed_now, lasts_over}
+use Rattle.nio_channel.proofs.Made.{closed_now}
 use Rattle.nio_channel.proofs.closing.close_channel.Goals as goal
 
 pub returns-then-close_bit-clause-closed : goal.returns-then-close_bit-clause-closed

@@ -1,5 +1,6 @@
 use Rattle.std.proofs.Common.{refl}
 use Rattle.nio_event.specs.Permanent.{index_claimed}
+use Rattle.nio_event.proofs.PassViews.{lasts_over}
 use Rattle.nio_steps.proofs.CallLaws.{returned, left_ask, ran_then, left_of_call}
 use Rattle.nio_steps.specs.ChannelCalls.{register_next}
 use Rattle.nio_words.proofs.Pins.{no_pin_stays}
@@ -7,7 +8,6 @@ use Rattle.nio_words.proofs.Views.{step_acts}
 use Rattle.nio_words.specs.Passes.{limits_of}
 use Rattle.nio_channel.proofs.Claimed.{all_claimed_below, mark_inside}
 use Rattle.nio_channel.proofs.Held.{may_enrol_stays}
-use Rattle.nio_channel.proofs.Made.{lasts_over}
 use Rattle.nio_channel.proofs.registering.register_new.Goals as goal
 
 pub search_free-claimed-requires-clause-may : goal.search_free-claimed-requires-clause-may

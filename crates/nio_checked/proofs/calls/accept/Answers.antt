@@ -1,11 +1,12 @@
 use Rattle.std.proofs.Common.{◌≡◌, ℕ, Bool, false, Ok, Err, Some, refl, sym, subst}
 use Rattle.nio_base.specs.declared.numbers.ChanNo.{ChanNo}
+use Rattle.nio_link.proofs.Channels.{all_same}
 use Rattle.nio_link.specs.Places.{place_after_accept}
 use Rattle.nio_link.specs.Readiness.{ready_after_accept, without}
 use Rattle.nio_link.specs.declared.net.Failed.{Failed}
 use Rattle.nio_link.specs.declared.place.Place.{Place}
 use Rattle.nio_link.specs.declared.place.Standing.TheVariants.{Nothing}
-use Rattle.nio_checked.proofs.Keeping.{kept_changed, kept_same, ready_after, ready_same, same_all, told_ready}
+use Rattle.nio_checked.proofs.Keeping.{kept_changed, kept_same, ready_after, ready_same, told_ready}
 use Rattle.nio_checked.proofs.Keeping.{told_still}
 use Rattle.nio_checked.specs.Checked.{IsKept}
 use Rattle.nio_checked.proofs.calls.accept.Goals as goal
@@ -26,7 +27,7 @@ not_ready b ops ops' is after = subst (λ (x : Bool). ops' ≡ ready_after_accep
 pub returns-in-Ok-false-clause-checked : goal.returns-in-Ok-false-clause-checked
 returns-in-Ok-false-clause-checked g c = record {
   kept = kept_same (g.N.Net.place c.args.net.now) (g.N.Net.place c.accept.new.self) c.args.standings.now
-      (same_all (g.N.Net.place c.args.net.now) (g.N.Net.place c.accept.new.self) c.args.chan
+      (all_same c.args.chan (g.N.Net.place c.args.net.now) (g.N.Net.place c.accept.new.self)
       (none_came c.in-Ok-false.field-0 c.args.listener (g.N.Net.place c.args.net.now c.args.chan)
       (g.N.Net.place c.accept.new.self c.args.chan) c.in-Ok-false.field-0-test c.in-Ok-false.ensures.place)
       c.in-Ok-false.ensures.places) c.requires.kept;
@@ -50,7 +51,7 @@ returns-in-Err-clause-checked g c = record {
       (none_made c.args.listener (g.N.Net.place c.args.net.now c.args.chan)
       (g.N.Net.place c.accept.new.self c.args.chan) c.in-Err.field-0 c.in-Err.ensures.place) c.requires.kept);
   ready = ready_same (g.N.Poller.ready c.args.net.now) (g.N.Poller.ready c.accept.new.self) c.args.told.now
-      (same_all (g.N.Poller.ready c.args.net.now) (g.N.Poller.ready c.accept.new.self) c.args.listener
+      (all_same c.args.listener (g.N.Poller.ready c.args.net.now) (g.N.Poller.ready c.accept.new.self)
       c.in-Err.ensures.ready c.accept.ensures.ready_else) c.requires.ready;
 }
 

@@ -1,4 +1,4 @@
-use Rattle.nio_datagram.proofs.Bits.{within_trans}
+use Rattle.nio_poller.proofs.Marks.{within_trans}
 use Rattle.nio_datagram.proofs.relay.known.Goals as goal
 
 pub returns-clause-read : goal.returns-clause-read

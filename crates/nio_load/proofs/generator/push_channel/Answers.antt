@@ -1,11 +1,12 @@
 use Rattle.std.proofs.Common.{◌++◌, ◌∙◌, codes}
 use Rattle.std.specs.Fmt.{decimal}
-use Rattle.nio_load.proofs.Pushing.{on_ok_map, pushed_three}
+use Rattle.nio_load.proofs.Pushing.{pushed_three}
 use Rattle.nio_load.proofs.generator.push_channel.Goals as goal
+use Rattle.std.proofs.lemmas.Result.{on_ok_weaker}
 
 pub returns : goal.returns
 returns c =
-    on_ok_map c.push_line-3.result (λ third.
+    on_ok_weaker c.push_line-3.result (λ third.
     pushed_three c.args.text.now.items c.push_line.new.text.items c.push_line-2.new.text.items
     c.push_line-3.new.text.items
     (codes "t1 channel source") (codes "t1 blocking c" ++ decimal c.args.channel ++ codes " off") c.deref.result.now

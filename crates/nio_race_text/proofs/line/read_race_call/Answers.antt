@@ -1,4 +1,4 @@
-use Rattle.std.proofs.Common.{ap, refl}
+use Rattle.std.proofs.Common.{ap, sym, ◌∙◌}
 use Rattle.std.specs.Prelude.{Ok, Err}
 use Rattle.std.proofs.lemmas.Bool.{false≢true}
 use Rattle.nio_race_text.specs.RaceLines.{script_line, block_line}
@@ -9,13 +9,13 @@ pub returns-then-may_race : goal.returns-then-may_race
 returns-then-may_race c =
     let read = c.in-Ok-Line in
     finds_race
-    (script_line (read.ensures.found read.caller read.call (ap Ok read.field-0-is)) (c.if-may_race.ensures.0 refl))
+    (script_line (read.ensures.found read.caller read.call (ap Ok read.field-0-is)) (sym c.if-may_race.ensures))
 
 pub returns-else-may_race : goal.returns-else-may_race
 returns-else-may_race c =
     let read = c.in-Ok-Line in
     finds_barred (read.ensures.found read.caller read.call (ap Ok read.field-0-is))
-    (λ may. false≢true (c.if-may_race.ensures.1 may))
+    (λ may. false≢true (c.if-may_race.ensures ∙ may))
 
 pub returns-in-Some : goal.returns-in-Some
 returns-in-Some c = finds_race (block_line c.in-Some.ensures.found)

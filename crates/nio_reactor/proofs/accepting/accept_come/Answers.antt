@@ -8,13 +8,13 @@ use Rattle.nio_reactor.proofs.accepting.accept_come.Goals as goal
 
 pub returns-in-Ok-false-clause-asked : goal.returns-in-Ok-false-clause-asked
 returns-in-Ok-false-clause-asked g c =
-    asked_more (meanings g.N.Net.link g.N.Net.place g.N.Net.faults g.N.Poller.poll_faults) c.loop-next.next c.args.conns
-    _ (omega (arith, c.loop-next-test.true)) (c.in-Ok-false.ensures.early c.in-Ok-false.field-0-test)
+    asked_more _ c.loop-next.next c.args.conns _ (omega (arith, c.loop-next-test.true))
+    (c.in-Ok-false.ensures.early c.in-Ok-false.field-0-test)
 
 pub returns-in-Err-clause-asked : goal.returns-in-Err-clause-asked
 returns-in-Err-clause-asked g c =
-    asked_more (meanings g.N.Net.link g.N.Net.place g.N.Net.faults g.N.Poller.poll_faults) (c.loop-next.next + 1)
-    c.args.conns _ (omega (arith, c.loop-next-test.true)) c.accept_one.ensures.asked
+    asked_more _ (c.loop-next.next + 1) c.args.conns _ (omega (arith, c.loop-next-test.true))
+    c.accept_one.ensures.asked
 
 pub loop-next-preserved : goal.loop-next-preserved
 loop-next-preserved g c = record {
@@ -23,7 +23,7 @@ loop-next-preserved g c = record {
   listens = c.accept_one.ensures.listens ∙ c.loop-next.invariant.listens;
   accepting = c.accept_one.ensures.asked;
   number = refl;
-  accepted = accepts_then (meanings g.N.Net.link g.N.Net.place g.N.Net.faults g.N.Poller.poll_faults) g.N.Net.accepted
+  accepted = accepts_then _ _
       c.args.number.now c.loop-next.next (c.loop-next.next + 1) c.args.net.now c.loop-next.net c.accept_one.new.net
       (subst (λ n. Accepts (meanings g.N.Net.link g.N.Net.place g.N.Net.faults g.N.Poller.poll_faults) g.N.Net.accepted
       c.args.number.now n c.args.net.now c.loop-next.net) c.loop-next.invariant.number c.loop-next.invariant.accepted)
@@ -36,5 +36,5 @@ loop-next-preserved g c = record {
 
 pub returns-clause-asked : goal.returns-clause-asked
 returns-clause-asked g c =
-    asked_more (meanings g.N.Net.link g.N.Net.place g.N.Net.faults g.N.Poller.poll_faults) c.loop-next.next c.args.conns
-    _ (c.loop-next.auto.next-end c.requires.few.0) c.loop-next.invariant.accepting
+    asked_more _ c.loop-next.next c.args.conns _ (c.loop-next.auto.next-end c.requires.few.0)
+    c.loop-next.invariant.accepting

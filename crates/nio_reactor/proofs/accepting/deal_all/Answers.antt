@@ -1,8 +1,7 @@
 use Rattle.std.proofs.Common.{refl, ◌∙◌, arith}
+use Rattle.nio_serve.proofs.Watching.{board_none, board_then}
 use Rattle.nio_reactor.proofs.Asked.{accepts_none, accepts_then, fault_then}
 use Rattle.nio_reactor.proofs.Dealing.{deals_none, deals_then}
-use Rattle.nio_reactor.proofs.Seating.{board_same, board_then}
-use Rattle.nio_reactor.specs.Many.{meanings}
 use Rattle.nio_reactor.proofs.accepting.deal_all.Goals as goal
 
 pub loop-init : goal.loop-init
@@ -10,10 +9,10 @@ loop-init g c = record {
   listens = refl;
   accepting = c.requires.accepting;
   within = c.requires.few.0;
-  accepted = accepts_none (meanings g.N.Net.link g.N.Net.place g.N.Net.faults g.N.Poller.poll_faults) g.N.Net.accepted
+  accepted = accepts_none _ _
       c.args.number.now c.args.net.now c.args.net.now (λ k. refl) refl (omega arith) (omega arith);
   dealt = deals_none c.args.number.now c.args.lines.now;
-  board = board_same c.args.board.now;
+  board = board_none c.args.board.now;
 }
 
 pub loop-preserved : goal.loop-preserved
@@ -21,16 +20,15 @@ loop-preserved g c = record {
   listens = c.turn.ensures.listens ∙ c.loop.invariant.listens;
   accepting = c.in-Ok.ensures.accepting;
   within = c.turn.ensures.within;
-  accepted = accepts_then (meanings g.N.Net.link g.N.Net.place g.N.Net.faults g.N.Poller.poll_faults) g.N.Net.accepted
+  accepted = accepts_then _ _
       _ _ _ _ _ _ c.loop.invariant.accepted c.turn.ensures.accepted;
   dealt = deals_then _ _ _ _ _ _ c.loop.invariant.dealt c.turn.ensures.dealt;
-  board = board_then c.args.board.now c.loop.board c.turn.new.board c.loop.invariant.board c.turn.ensures.board;
+  board = board_then c.loop.invariant.board c.turn.ensures.board;
 }
 
 pub returns-in-Err-clause-accepted : goal.returns-in-Err-clause-accepted
 returns-in-Err-clause-accepted g c =
-    accepts_then (meanings g.N.Net.link g.N.Net.place g.N.Net.faults g.N.Poller.poll_faults) g.N.Net.accepted
-    _ _ _ _ _ _ c.loop.invariant.accepted c.turn.ensures.accepted
+    accepts_then _ _ _ _ _ _ _ _ c.loop.invariant.accepted c.turn.ensures.accepted
 
 pub returns-in-Err-clause-dealt : goal.returns-in-Err-clause-dealt
 returns-in-Err-clause-dealt g c = deals_then _ _ _ _ _ _ c.loop.invariant.dealt c.turn.ensures.dealt
@@ -40,10 +38,9 @@ returns-in-Err-clause-listens g c = c.turn.ensures.listens ∙ c.loop.invariant.
 
 pub returns-in-Err-clause-cause : goal.returns-in-Err-clause-cause
 returns-in-Err-clause-cause g c failed =
-    fault_then (meanings g.N.Net.link g.N.Net.place g.N.Net.faults g.N.Poller.poll_faults) g.N.Net.accepted
-    c.args.number.now c.loop.number c.turn.new.number c.args.net.now c.loop.net c.turn.new.net
+    fault_then _ _ c.args.number.now c.loop.number c.turn.new.number c.args.net.now c.loop.net c.turn.new.net
     c.loop.invariant.accepted (c.in-Err.ensures.cause failed)
 
 pub returns-in-Err-clause-board : goal.returns-in-Err-clause-board
 returns-in-Err-clause-board g c =
-    board_then c.args.board.now c.loop.board c.turn.new.board c.loop.invariant.board c.turn.ensures.board
+    board_then c.loop.invariant.board c.turn.ensures.board

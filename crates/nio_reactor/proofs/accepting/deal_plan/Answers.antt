@@ -5,10 +5,10 @@ use Rattle.nio_reactor.proofs.accepting.deal_plan.Goals as goal
 
 pub returns-clause-accepted : goal.returns-clause-accepted
 returns-clause-accepted g c =
-    has_accepted (meanings g.N.Net.link g.N.Net.place g.N.Net.faults g.N.Poller.poll_faults) g.N.Net.accepted
-    c.args.plan c.args.net.now c.accept_seated-outcome.new.net c.accept_seated-outcome.new.number
-    c.accept_seated-outcome.ensures.within c.accept_seated-outcome.ensures.accepted c.accept_seated-outcome.ensures.leaves
-    c.accept_seated-outcome.result c.accept_seated-outcome.ensures.all c.accept_seated-outcome.ensures.cause
+    has_accepted _ _ c.args.plan c.args.net.now c.accept_seated-outcome.new.net c.accept_seated-outcome.new.number
+    c.accept_seated-outcome.ensures.within c.accept_seated-outcome.ensures.accepted
+    c.accept_seated-outcome.ensures.leaves c.accept_seated-outcome.result c.accept_seated-outcome.ensures.all
+    c.accept_seated-outcome.ensures.cause
 
 pub returns-clause-sent : goal.returns-clause-sent
 returns-clause-sent g c =

@@ -1,16 +1,19 @@
 use Rattle.std.proofs.Common.{◌≡◌, ◌∙◌, length, refl, ap, subst, sym, arith}
 use Rattle.std.proofs.lemmas.Grind.{common_steps}
+use Rattle.std.proofs.Common.{IfOk}
 use Rattle.std.proofs.lemmas.List.{length-map}
-use Rattle.nio_orderly.specs.Orderly.{IsOrderly, IsWhole}
+use Rattle.std.proofs.lemmas.Result.{IfOk-weaker}
+use Rattle.nio_orderly.proofs.CallLists.{whole_is_orderly}
 use Rattle.nio_words.specs.Passes.{seen}
-use Rattle.nio_reactor.specs.Placing.{ArePlaced, HoldsAll, table_for}
+use Rattle.nio_reactor.specs.Placing.{table_for}
 use Rattle.nio_reactor.proofs.Concluding.{accepts_of, complete_of, fresh_lanes, none_relay, none_workers, relays_of, serves_of}
 use Rattle.nio_reactor.proofs.Concluding.{workers_of}
-use Rattle.nio_reactor.proofs.Gathered.{answered_with, holds_all, orderly_of, passes_after, placed_of, seats_of, whole_of}
+use Rattle.nio_reactor.proofs.Gathered.{Settled, answered_with, passes_after, seats_of, settled}
 use Rattle.nio_reactor.proofs.Handing.{handed_of, none_handed}
 use Rattle.nio_reactor.specs.Handing.{AreHanded}
 use Rattle.nio_reactor.specs.Many.{AreAccepted, ServesAllCleanOr, ServesMany, meanings}
 use Rattle.nio_reactor.specs.declared.many.ManyError.TheVariants.{Memory}
+use Rattle.nio_reactor.proofs.many.serve_many.Given.{Over}
 use Rattle.nio_reactor.proofs.many.serve_many.Goals as goal
 
 pub returns-in_default-clause-relays : goal.returns-in_default-clause-relays
@@ -129,61 +132,33 @@ give_back-requires-clause-passes g c κs within =
     passes_after _ c.args.plan (λ x. x.pass) (λ x. x.lane.outcome) _ _ c.serve_lanes-accepted.ensures.count
     c.serve_lanes-accepted.ensures.leaves
 
-pub returns-clause-pass : goal.returns-clause-pass
-returns-clause-pass g c =
+-- what the pass that is answered shows
+settled_of : (g : Over) (c : goal.After-drop-words-2 g)
+    → IfOk c.answer.result (λ done. Settled (length c.args.more.now.items) c.args.plan.conns done.1)
+settled_of g c =
     let count : c.len-count.result ≡ length c.args.more.now.items = grind (arith, common_steps, c.len-count.ensures) in
     let workers : length c.in-Ok-staff.workers.items ≡ length c.args.more.now.items
     = sym (length-map c.in-Ok-staff.workers.items (λ x. x.lane.net)) ∙ ap length c.in-Ok-staff.ensures.nets in
-    answered_with (λ p. HoldsAll (table_for (length c.args.more.now.items)) p) c.give_back.new.pass
+    answered_with (Settled (length c.args.more.now.items) c.args.plan.conns) c.give_back.new.pass
     c.conclude-outcome.result c.answer.result c.answer.ensures.served c.answer.ensures.pass
-    (λ served is. holds_all c.in-Ok.words c.args.plan (λ x. x.lane.is_early) (λ x. x.lane.outcome) (λ x. x.pass)
-    (length c.args.more.now.items) (c.in-Ok.ensures.limits ∙ (c.limits_for.ensures.limits ∙ ap table_for count))
-    c.in-Ok-staff.workers.items c.serve_lanes-accepted.new.workers.items workers c.serve_lanes-accepted.ensures.count
-    c.serve_lanes-accepted.ensures.leaves c.serve_lanes-accepted.new.outgoing.pass c.give_back.new.pass
-    c.give_back.ensures.pass c.give_back.ensures.own c.give_back.ensures.each c.serve_lanes-accepted.result
-    c.serve_lanes-accepted.ensures.seat)
-
-pub returns-clause-whole : goal.returns-clause-whole
-returns-clause-whole g c =
-    let count : c.len-count.result ≡ length c.args.more.now.items = grind (arith, common_steps, c.len-count.ensures) in
-    let workers : length c.in-Ok-staff.workers.items ≡ length c.args.more.now.items
-    = sym (length-map c.in-Ok-staff.workers.items (λ x. x.lane.net)) ∙ ap length c.in-Ok-staff.ensures.nets in
-    answered_with (λ p. IsWhole (table_for (length c.args.more.now.items)) (seen p)) c.give_back.new.pass
-    c.conclude-outcome.result c.answer.result c.answer.ensures.served c.answer.ensures.pass
-    (λ served is. whole_of c.in-Ok.words c.args.plan (λ x. x.lane.is_early) (λ x. x.lane.outcome) (λ x. x.pass)
+    (settled c.in-Ok.words c.args.plan (λ x. x.lane.is_early) (λ x. x.lane.outcome) (λ x. x.pass)
     (length c.args.more.now.items) (c.in-Ok.ensures.limits ∙ (c.limits_for.ensures.limits ∙ ap table_for count))
     c.in-Ok-staff.workers.items c.serve_lanes-accepted.new.workers.items workers c.serve_lanes-accepted.ensures.count
     c.serve_lanes-accepted.ensures.leaves c.serve_lanes-accepted.new.outgoing.pass c.give_back.new.pass
     c.give_back.ensures.pass c.give_back.ensures.own c.give_back.ensures.each c.serve_lanes-accepted.result
     c.serve_lanes-accepted.ensures.seat c.conclude-outcome.result c.conclude-outcome.ensures
-    (omega (arith, c.requires.workers.0)) served is)
+    (omega (arith, c.requires.workers.0)))
+
+pub returns-clause-pass : goal.returns-clause-pass
+returns-clause-pass g c = IfOk-weaker c.answer.result _ _ (λ done is. is.holds) (settled_of g c)
+
+pub returns-clause-whole : goal.returns-clause-whole
+returns-clause-whole g c = IfOk-weaker c.answer.result _ _ (λ done is. is.whole) (settled_of g c)
 
 pub returns-clause-orderly : goal.returns-clause-orderly
 returns-clause-orderly g c =
-    let count : c.len-count.result ≡ length c.args.more.now.items = grind (arith, common_steps, c.len-count.ensures) in
-    let workers : length c.in-Ok-staff.workers.items ≡ length c.args.more.now.items
-    = sym (length-map c.in-Ok-staff.workers.items (λ x. x.lane.net)) ∙ ap length c.in-Ok-staff.ensures.nets in
-    answered_with (λ p. IsOrderly (table_for (length c.args.more.now.items)) (seen p)) c.give_back.new.pass
-    c.conclude-outcome.result c.answer.result c.answer.ensures.served c.answer.ensures.pass
-    (λ served is. orderly_of c.in-Ok.words c.args.plan (λ x. x.lane.is_early) (λ x. x.lane.outcome) (λ x. x.pass)
-    (length c.args.more.now.items) (c.in-Ok.ensures.limits ∙ (c.limits_for.ensures.limits ∙ ap table_for count))
-    c.in-Ok-staff.workers.items c.serve_lanes-accepted.new.workers.items workers c.serve_lanes-accepted.ensures.count
-    c.serve_lanes-accepted.ensures.leaves c.serve_lanes-accepted.new.outgoing.pass c.give_back.new.pass
-    c.give_back.ensures.pass c.give_back.ensures.own c.give_back.ensures.each c.serve_lanes-accepted.result
-    c.serve_lanes-accepted.ensures.seat c.conclude-outcome.result c.conclude-outcome.ensures
-    (omega (arith, c.requires.workers.0)) served is)
+    IfOk-weaker c.answer.result _ _
+    (λ done is. whole_is_orderly (table_for (length c.args.more.now.items)) (seen done.1) is.whole) (settled_of g c)
 
 pub returns-clause-placed : goal.returns-clause-placed
-returns-clause-placed g c =
-    let count : c.len-count.result ≡ length c.args.more.now.items = grind (arith, common_steps, c.len-count.ensures) in
-    let workers : length c.in-Ok-staff.workers.items ≡ length c.args.more.now.items
-    = sym (length-map c.in-Ok-staff.workers.items (λ x. x.lane.net)) ∙ ap length c.in-Ok-staff.ensures.nets in
-    answered_with (λ p. ArePlaced (length c.args.more.now.items) c.args.plan.conns (seen p)) c.give_back.new.pass
-    c.conclude-outcome.result c.answer.result c.answer.ensures.served c.answer.ensures.pass
-    (λ served is. placed_of c.in-Ok.words c.args.plan (λ x. x.lane.is_early) (λ x. x.lane.outcome) (λ x. x.pass)
-    (length c.args.more.now.items) (c.in-Ok.ensures.limits ∙ (c.limits_for.ensures.limits ∙ ap table_for count))
-    c.in-Ok-staff.workers.items c.serve_lanes-accepted.new.workers.items workers c.serve_lanes-accepted.ensures.count
-    c.serve_lanes-accepted.ensures.leaves c.serve_lanes-accepted.new.outgoing.pass c.give_back.new.pass
-    c.give_back.ensures.pass c.give_back.ensures.own c.give_back.ensures.each c.serve_lanes-accepted.result
-    c.serve_lanes-accepted.ensures.seat c.conclude-outcome.result c.conclude-outcome.ensures
-    (omega (arith, c.requires.workers.0)) served is)
+returns-clause-placed g c = IfOk-weaker c.answer.result _ _ (λ done is. is.placed) (settled_of g c)

@@ -1,8 +1,10 @@
-use Rattle.std.proofs.Common.{◌≡◌, ◌<◌, false, length, ◌∙◌, arith, refl}
+use Rattle.std.proofs.Common.{◌≡◌, ◌<◌, false, All, length, ◌∙◌, ap, arith, refl, subst}
 use Rattle.std.proofs.lemmas.Grind.{common_steps}
+use Rattle.std.proofs.lemmas.List.Elements.{All-tail}
 use Rattle.nio_link.specs.Places.{unused}
+use Rattle.nio_serve.proofs.Watching.{longer}
 use Rattle.nio_serve.specs.Serving.{listener}
-use Rattle.nio_reactor.proofs.Adding.{moved, one_less, one_more, all_less, all_more, nets_end}
+use Rattle.nio_reactor.proofs.Lists.{all_more, first_taken, moved, nets_end}
 use Rattle.nio_reactor.specs.declared.door.Door.TheVariants.{Unasked}
 use Rattle.nio_reactor.specs.declared.lane.Worker.{Worker}
 use Rattle.nio_reactor.proofs.many.staff.Goals as goal
@@ -21,26 +23,26 @@ loop-preserved g c =
     = grind (arith, c.loop.invariant.rest, c.loop-test.true, c.len-count.ensures) in
     let some_lines : 0 < length c.loop.lines.items = omega (arith, some, c.loop.invariant.lines) in
     let some_passes : 0 < length c.loop.passes.items = omega (arith, some, c.loop.invariant.left) in
-    let less = one_less c.loop.more.items c.remove.new.self.items some c.remove.ensures.by_index.2 in
-    let less_lines = one_less c.loop.lines.items c.remove-in-loop.new.self.items some_lines
-    c.remove-in-loop.ensures.by_index.2 in
-    let less_passes = one_less c.loop.passes.items c.remove-in-loop-2.new.self.items some_passes
-    c.remove-in-loop-2.ensures.by_index.2 in
-    let more = one_more c.loop.workers.items c.push_reserved.new.self.items worker c.push_reserved.ensures.items in
+    let first = first_taken c.loop.more.items c.remove.new.self.items c.remove.result some c.remove.ensures.value
+    c.remove.ensures.by_index.2 in
+    let first_line = first_taken c.loop.lines.items c.remove-in-loop.new.self.items c.remove-in-loop.result some_lines
+    c.remove-in-loop.ensures.value c.remove-in-loop.ensures.by_index.2 in
+    let first_pass = first_taken c.loop.passes.items c.remove-in-loop-2.new.self.items c.remove-in-loop-2.result
+    some_passes c.remove-in-loop-2.ensures.value c.remove-in-loop-2.ensures.by_index.2 in
+    let more = longer c.loop.workers.items c.push_reserved.new.self.items worker c.push_reserved.ensures.items in
     record {
       nets = moved _ c.loop.workers.items c.push_reserved.new.self.items c.loop.more.items c.remove.new.self.items
-          c.args.more.now.items worker c.remove.result c.loop.invariant.nets some c.remove.ensures.value
-          c.remove.ensures.by_index.2 c.over-lane.ensures.net c.push_reserved.ensures.items;
+          c.args.more.now.items worker c.remove.result c.loop.invariant.nets first c.over-lane.ensures.net
+          c.push_reserved.ensures.items;
       count = omega (arith, more, c.loop.invariant.count);
-      rest = omega (arith, less, c.loop.invariant.rest);
-      lines = omega (arith, less, less_lines, c.loop.invariant.lines);
+      rest = omega (arith, ap length first, c.loop.invariant.rest);
+      lines = omega (arith, ap length first, ap length first_line, c.loop.invariant.lines);
       passes = moved _ c.loop.workers.items c.push_reserved.new.self.items c.loop.passes.items
           c.remove-in-loop-2.new.self.items c.args.passes.items worker c.remove-in-loop-2.result
-          c.loop.invariant.passes some_passes c.remove-in-loop-2.ensures.value
-          c.remove-in-loop-2.ensures.by_index.2 refl c.push_reserved.ensures.items;
-      left = omega (arith, less, less_passes, c.loop.invariant.left);
-      unasked = all_less (λ net. g.N.Net.place net listener ≡ unused) c.loop.more.items c.remove.new.self.items some
-          c.remove.ensures.by_index.2 c.loop.invariant.unasked;
+          c.loop.invariant.passes first_pass refl c.push_reserved.ensures.items;
+      left = omega (arith, ap length first, ap length first_pass, c.loop.invariant.left);
+      unasked = All-tail (λ net. g.N.Net.place net listener ≡ unused) c.remove.result c.remove.new.self.items
+          (subst (All (λ net. g.N.Net.place net listener ≡ unused)) first c.loop.invariant.unasked);
       doors = all_more (λ x. x.lane.door ≡ Unasked) c.loop.workers.items c.push_reserved.new.self.items worker
           c.push_reserved.ensures.items c.loop.invariant.doors c.over-lane.ensures.door;
       on_time = all_more (λ x. x.lane.is_early ≡ false) c.loop.workers.items c.push_reserved.new.self.items worker

@@ -1,5 +1,5 @@
 use Rattle.std.proofs.Common.{◌≡◌, ◌+◌, false, length, arith, rules, subst, sym}
-use Rattle.nio_reactor.proofs.Adding.{at_each, of_each}
+use Rattle.nio_reactor.proofs.Lists.{at_each, of_each}
 use Rattle.nio_reactor.specs.Dealing.{share}
 use Rattle.nio_reactor.specs.Handing.{HasHanded}
 use Rattle.nio_reactor.specs.Many.{meanings}

@@ -2,14 +2,13 @@ use Rattle.std.proofs.Common.{refl}
 use Rattle.nio_reactor.proofs.Handing.{handed, handed_none, handed_not}
 use Rattle.nio_reactor.proofs.Seating.{left_idle, left_served, left_unseated}
 use Rattle.nio_reactor.proofs.Worked.{worked, worked_none, worked_not}
-use Rattle.nio_reactor.specs.Many.{meanings}
 use Rattle.nio_serve.specs.declared.serving.ServeError.TheVariants.{Memory}
 use Rattle.nio_reactor.proofs.working.work_share.Goals as goal
 
 pub returns-then-plan-eq0-clause-worked : goal.returns-then-plan-eq0-clause-worked
 returns-then-plan-eq0-clause-worked g c =
-    worked_none (meanings g.N.Net.link g.N.Net.place g.N.Net.faults g.N.Poller.poll_faults) c.args.plan
-    c.args.worker.now.lane.net c.args.worker.now.lane.is_early _ c.if-plan-eq0.true refl c.requires.fresh
+    worked_none _ c.args.plan c.args.worker.now.lane.net c.args.worker.now.lane.is_early _ c.if-plan-eq0.true refl
+    c.requires.fresh
 
 pub returns-then-plan-eq0-clause-handed : goal.returns-then-plan-eq0-clause-handed
 returns-then-plan-eq0-clause-handed g c =
@@ -23,8 +22,7 @@ returns-then-plan-eq0-clause-leaves g c =
 
 pub returns-in_default-clause-worked : goal.returns-in_default-clause-worked
 returns-in_default-clause-worked g c =
-    worked_not (meanings g.N.Net.link g.N.Net.place g.N.Net.faults g.N.Poller.poll_faults) c.args.plan
-    c.args.worker.now.lane.net c.args.worker.now.lane.is_early c.requires.fresh
+    worked_not _ c.args.plan c.args.worker.now.lane.net c.args.worker.now.lane.is_early c.requires.fresh
 
 pub returns-in_default-clause-handed : goal.returns-in_default-clause-handed
 returns-in_default-clause-handed g c =
@@ -37,10 +35,10 @@ returns-in_default-clause-leaves g c = left_unseated c.args.words.now _ c.args.d
 
 pub returns-clause-worked : goal.returns-clause-worked
 returns-clause-worked g c =
-    worked (meanings g.N.Net.link g.N.Net.place g.N.Net.faults g.N.Poller.poll_faults) c.args.plan
-    c.args.worker.now.lane.net c.serve_on-outcome.new.net.net c.serve_on-outcome.new.net.door c.serve_on-outcome.result.0
-    c.args.worker.now.lane.is_early c.serve_on-outcome.new.net.is_early c.requires.on_time c.serve_on-outcome.ensures.serves
-    c.serve_on-outcome.ensures.relays c.serve_on-outcome.ensures.leaves c.serve_on-outcome.new.net.spare
+    worked _ c.args.plan c.args.worker.now.lane.net c.serve_on-outcome.new.net.net c.serve_on-outcome.new.net.door
+    c.serve_on-outcome.result.0 c.args.worker.now.lane.is_early c.serve_on-outcome.new.net.is_early c.requires.on_time
+    c.serve_on-outcome.ensures.serves c.serve_on-outcome.ensures.relays c.serve_on-outcome.ensures.leaves
+    c.serve_on-outcome.new.net.spare
 
 pub returns-clause-handed : goal.returns-clause-handed
 returns-clause-handed g c =

@@ -1,9 +1,11 @@
 use Rattle.std.proofs.Common.{◌≡◌, ◌+◌, ◌∷◌, drop, suc, sym, ap, subst, drop-cons, add-one}
 use Rattle.nio_script.specs.Output.{WritesPrefix}
-use Rattle.nio_script.proofs.Writing.{on_err, on_err_map, writes_prefix_after}
+use Rattle.nio_script.proofs.Writing.{writes_prefix_after}
 use Rattle.nio_script.proofs.Running.{IsRunning, stops, goes_on}
 use Rattle.nio_script.proofs.run.run_calls.Goals as goal
 use Rattle.nio_script.proofs.run.run_calls.Goals.{After-answer_call}
+use Rattle.nio_plain.proofs.Replying.{on_err}
+use Rattle.std.proofs.lemmas.Result.{on_err_weaker}
 
 -- the next call and those after it are left
 next_is : (g : _) (c : After-answer_call g)
@@ -48,7 +50,7 @@ returns-in_err-answer_call-clause-kept g c =
 pub returns-clause-err : goal.returns-clause-err
 returns-clause-err g c =
     let before = c.loop-index.invariant in
-    on_err_map c.write_out.result
+    on_err_weaker c.write_out.result
     (λ some. subst (WritesPrefix g.K.Sink c.args.output.now c.write_out.new.sink) before.answer
     (writes_prefix_after g.K.Sink c.args.output.now c.loop-index.output c.write_out.new.sink before.bytes
     c.loop-index.kept.items _ before.written

@@ -4,16 +4,15 @@ use Rattle.nio_steps.proofs.CallLaws.{returned, left_ask, left_else, left_of_cal
 use Rattle.nio_steps.specs.Calls.{CallClause}
 use Rattle.nio_steps.specs.Runs.{Completes}
 use Rattle.nio_steps.specs.SelectCalls.{begin_with_turn, begin_open, begin_lacks_memory}
-use Rattle.nio_words.proofs.Views.{step_acts}
+use Rattle.nio_words.proofs.Views.{step_acts, turn_taken}
 use Rattle.nio_words.specs.Views.{view}
 use Rattle.nio_select.specs.Beginning.{BeginsOpen}
-use Rattle.nio_select.proofs.Begun.{turn_now}
 use Rattle.nio_select.proofs.beginning.begin_open.Goals as goal
 
 pub begin_with_turn-requires-clause-turn : goal.begin_with_turn-requires-clause-turn
 begin_with_turn-requires-clause-turn c =
     let free : c.take_turn.result ≡ None = search rules in
-    turn_now (step_acts c.take_turn.ensures refl) free
+    turn_taken (step_acts c.take_turn.ensures refl) free
 
 pub returns-clause-call : goal.returns-clause-call
 returns-clause-call c =

@@ -8,8 +8,10 @@ use Rattle.nio_steps.specs.declared.refusal.BeginError.{BeginError}
 use Rattle.nio_words.proofs.Views.{step_acts}
 use Rattle.nio_words.specs.Views.{view}
 use Rattle.nio_select.specs.Beginning.{BeginsWithTurn}
-use Rattle.nio_select.proofs.Begun.{had_stays, begun_stays, begins, mark_inside}
+use Rattle.nio_select.proofs.Begun.{begun_stays, begins}
 use Rattle.nio_select.proofs.beginning.begin_with_turn.Goals as goal
+use Rattle.nio_channel.proofs.Held.{had_stays}
+use Rattle.nio_channel.proofs.Claimed.{mark_inside}
 
 pub give_turn-requires-clause-turn : goal.give_turn-requires-clause-turn
 give_turn-requires-clause-turn c =

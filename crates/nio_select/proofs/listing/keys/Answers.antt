@@ -1,7 +1,7 @@
 use Rattle.std.proofs.Common.{refl}
 use Rattle.nio_steps.specs.SelectCalls.{keys_plan, list_key}
 use Rattle.nio_words.proofs.Views.{step_acts}
-use Rattle.nio_select.proofs.Claimed.{mark_inside}
+use Rattle.nio_channel.proofs.Claimed.{mark_inside}
 use Rattle.nio_select.proofs.Listings.{lists_all}
 use Rattle.nio_select.proofs.listing.keys.Goals as goal
 

@@ -2,7 +2,7 @@ use Rattle.std.proofs.Common.{Ok, arith, rules}
 use Rattle.nio_steps.proofs.CallLaws.{returned}
 use Rattle.nio_steps.proofs.SweepLaws.{sweep_turn, sweep_done}
 use Rattle.nio_steps.specs.Plan.{reply}
-use Rattle.nio_select.proofs.Claimed.{all_claimed_after}
+use Rattle.nio_channel.proofs.Claimed.{all_claimed_after}
 use Rattle.nio_select.proofs.listing.list_selected_below.Goals as goal
 
 pub loop-i-preserved : goal.loop-i-preserved

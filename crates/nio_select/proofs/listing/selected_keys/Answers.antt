@@ -3,7 +3,7 @@ use Rattle.nio_steps.specs.Calls.{CallClause}
 use Rattle.nio_steps.specs.SelectCalls.{selected_keys_plan, list_selected, ListsSelected}
 use Rattle.nio_words.proofs.Pins.{no_pin_stays}
 use Rattle.nio_words.proofs.Views.{step_acts}
-use Rattle.nio_select.proofs.Claimed.{mark_inside, all_claimed_below}
+use Rattle.nio_channel.proofs.Claimed.{mark_inside, all_claimed_below}
 use Rattle.nio_words.specs.Views.{view}
 use Rattle.nio_select.proofs.Listings.{lists_all, lists_none, refused}
 use Rattle.nio_select.proofs.listing.selected_keys.Goals as goal

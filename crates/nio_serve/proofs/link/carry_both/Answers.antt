@@ -1,4 +1,4 @@
-use Rattle.nio_serve.proofs.Bits.{within_trans}
+use Rattle.nio_poller.proofs.Marks.{within_trans}
 use Rattle.nio_serve.proofs.link.carry_both.Goals as goal
 
 pub carry-requires-clause-read : goal.carry-requires-clause-read

@@ -1,5 +1,5 @@
 use Rattle.std.proofs.Common.{refl}
-use Rattle.nio_serve.proofs.Bits.{within_trans}
+use Rattle.nio_poller.proofs.Marks.{within_trans}
 use Rattle.nio_serve.proofs.slot.connect.Goals as goal
 
 pub finish_connect-requires : goal.finish_connect-requires

@@ -1,7 +1,8 @@
 use Rattle.std.proofs.Common.{sym, ◌∙◌}
 use Rattle.nio_serve.proofs.Connecting.{ended_roles, shut_asked}
-use Rattle.nio_serve.proofs.Ends.{still_live, where_failed}
+use Rattle.nio_serve.proofs.Ends.{still_live}
 use Rattle.nio_serve.proofs.Promise.{ended_clean, ended_faulty}
+use Rattle.nio_serve.proofs.Watching.{where_failed}
 use Rattle.nio_serve.proofs.slot.settle.Goals as goal
 
 pub returns-then-is_err-clause-slot : goal.returns-then-is_err-clause-slot

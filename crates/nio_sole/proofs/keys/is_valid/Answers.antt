@@ -1,11 +1,13 @@
 use Rattle.nio_plain.specs.Seq.Replies.{yes_or_no}
 use Rattle.nio_serial.specs.Lines.{call_plan}
-use Rattle.nio_sole.proofs.Asking.{asks_ran}
+use Rattle.nio_sole.proofs.Asking.{asks_ran, on_key}
+use Rattle.nio_steps.specs.KeyCalls.{is_valid_plan}
 use Rattle.nio_sole.proofs.keys.is_valid.Goals as goal
 
 pub returns : goal.returns
 unfolding call_plan
 returns c = record {
-  call = λ now. asks_ran yes_or_no now c.is_valid.ensures.call c.yes_or_no.ensures;
+  call = λ now. asks_ran yes_or_no now
+      (on_key is_valid_plan c.key_no.ensures c.is_valid.ensures.call) c.yes_or_no.ensures;
   ready = c.is_valid.ensures.ready;
 }

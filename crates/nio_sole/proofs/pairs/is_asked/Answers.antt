@@ -1,4 +1,4 @@
-use Rattle.std.proofs.Common.{◌≡◌, ◌<◌, ◌==◌, ◌&&◌, Bool, All, List, length, sym, ap, ◌∙◌, subst, eq-eqb, rules}
+use Rattle.std.proofs.Common.{◌<◌, ◌==◌, ◌&&◌, Bool, All, List, length, sym, ap, ◌∙◌, subst, eq-eqb, rules}
 use Rattle.std.proofs.lemmas.Bool.{ne_eqb}
 use Rattle.std.proofs.lemmas.List.{take_all}
 use Rattle.nio_select.specs.Asked.{key_at, serial_of}

@@ -1,4 +1,4 @@
-use Rattle.std.proofs.Common.{◌≡◌, ℕ, suc, ◌+◌, ◌-◌, ◌/◌, ◌<◌, ◌≤◌, All, length, take, ap, subst, rules, arith}
+use Rattle.std.proofs.Common.{◌≡◌, ℕ, suc, ◌+◌, ◌-◌, ◌/◌, ◌<◌, ◌≤◌, All, take, ap, subst, rules, arith}
 use Rattle.nio_select.specs.Asked.{key_at}
 use Rattle.nio_sole.proofs.Looked.{below_to, from_on}
 use Rattle.nio_sole.proofs.pairs.place_of.Goals as goal

@@ -3,7 +3,8 @@ use Rattle.nio_steps.proofs.PinLaws.{pins_are_given_back}
 use Rattle.nio_words.proofs.Pins.{no_pin_stays}
 use Rattle.nio_words.proofs.Views.{step_acts}
 use Rattle.nio_channel.proofs.Idle.{idle_after, idle_after_other, idle_step}
-use Rattle.nio_table_tests.proofs.Idle.{idle_call, keys_give}
+use Rattle.nio_caller.proofs.Calls.{keys_give}
+use Rattle.nio_table_tests.proofs.Idle.{idle_call}
 use Rattle.nio_table_tests.proofs.calls.answer.Goals as goal
 
 pub returns-in-OpenSelector : goal.returns-in-OpenSelector

@@ -1,5 +1,6 @@
 use Rattle.nio_steps.proofs.PinLaws.{pins_are_given_back}
-use Rattle.nio_table_tests.proofs.Idle.{idle_call, begin_gives}
+use Rattle.nio_poller.proofs.Trying.{begin_gives}
+use Rattle.nio_table_tests.proofs.Idle.{idle_call}
 use Rattle.nio_table_tests.proofs.calls.begins.Goals as goal
 
 pub returns-in-Ok : goal.returns-in-Ok

@@ -1,4 +1,5 @@
-use Rattle.nio_table_tests.proofs.Idle.{idle_call, begin_gives}
+use Rattle.nio_poller.proofs.Trying.{begin_gives}
+use Rattle.nio_table_tests.proofs.Idle.{idle_call}
 use Rattle.nio_table_tests.proofs.calls.selects.Goals as goal
 
 pub is_told-requires-clause-idle : goal.is_told-requires-clause-idle

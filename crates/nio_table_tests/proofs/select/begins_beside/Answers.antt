@@ -1,5 +1,6 @@
 use Rattle.nio_steps.proofs.PinLaws.{pins_are_given_back}
-use Rattle.nio_table_tests.proofs.Idle.{idle_call_other, begin_gives, selects_beside, zero_held}
+use Rattle.nio_poller.proofs.Trying.{begin_gives}
+use Rattle.nio_table_tests.proofs.Idle.{idle_call_other, selects_beside, zero_held}
 use Rattle.nio_table_tests.proofs.select.begins_beside.Goals as goal
 
 pub returns-in-Ok-clause-idle : goal.returns-in-Ok-clause-idle

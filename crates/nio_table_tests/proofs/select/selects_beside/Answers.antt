@@ -1,4 +1,5 @@
-use Rattle.nio_table_tests.proofs.Idle.{idle_call, begin_gives}
+use Rattle.nio_poller.proofs.Trying.{begin_gives}
+use Rattle.nio_table_tests.proofs.Idle.{idle_call}
 use Rattle.nio_table_tests.proofs.select.selects_beside.Goals as goal
 
 pub begins_beside-busy-requires : goal.begins_beside-busy-requires

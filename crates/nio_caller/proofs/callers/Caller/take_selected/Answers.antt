@@ -1,12 +1,14 @@
 use Rattle.std.proofs.Common.{Some, refl, subst}
 use Rattle.nio_base.specs.declared.numbers.ChanNo.{ChanNo}
 use Rattle.nio_event.specs.PassViews.{HasChannel}
+use Rattle.nio_poller.proofs.Trying.{then_nothing}
+use Rattle.nio_steps.proofs.WaitingLaws.{then_call}
 use Rattle.nio_steps.specs.ChannelCalls.{key_for_plan}
 use Rattle.nio_steps.specs.KeyCalls.{unselect_plan}
 use Rattle.nio_steps.specs.Runs.{Completes}
 use Rattle.nio_caller.specs.Callers.{sees}
 use Rattle.nio_caller.specs.Several.{Answers, LooksForKey, UnselectsFound}
-use Rattle.nio_caller.proofs.Several.{call_moved, found_is, same_then, still_then, then_call, then_nothing}
+use Rattle.nio_caller.proofs.Several.{call_moved, found_is, same_then, still_then}
 use Rattle.nio_caller.proofs.callers.Caller.take_selected.Goals as goal
 
 pub returns-in_err-found-clause-call : goal.returns-in_err-found-clause-call
@@ -15,7 +17,7 @@ returns-in_err-found-clause-call c =
 
 pub returns-in_err-key-clause-call : goal.returns-in_err-key-clause-call
 returns-in_err-key-clause-call c =
-    then_call (LooksForKey c.args.sel) c.from_residual-in_err-key.result c.in_ok-found.ensures.call
+    then_call {Second = LooksForKey c.args.sel} {answer = c.from_residual-in_err-key.result} c.in_ok-found.ensures.call
     (then_nothing UnselectsFound c.from_residual-in_err-key.result
     (call_moved (λ l. Completes (key_for_plan c.in_ok-found.found c.args.sel)) _ c.find_channel.ensures.same
     c.in_err-key.ensures.call) (refl, search))
@@ -23,8 +25,8 @@ returns-in_err-key-clause-call c =
 pub returns-clause-call : goal.returns-clause-call
 returns-clause-call c =
     let key = c.in_ok-key.key in
-    then_call (LooksForKey c.args.sel) (Some key) c.in_ok-found.ensures.call
-    (then_call UnselectsFound (Some key)
+    then_call {Second = LooksForKey c.args.sel} {answer = Some key} c.in_ok-found.ensures.call
+    (then_call {Second = UnselectsFound} {answer = Some key}
     (call_moved (λ l. Completes (key_for_plan c.in_ok-found.found c.args.sel)) (Some key) c.find_channel.ensures.same
     c.in_ok-key.ensures.call)
     (then_nothing (λ out. Answers (Some key)) (Some key)

@@ -1,4 +1,5 @@
-use Rattle.nio_caller.proofs.Calls.{begin_gives, may_call_after, still_has}
+use Rattle.nio_caller.proofs.Calls.{may_call_after, still_has}
+use Rattle.nio_poller.proofs.Trying.{begin_gives}
 use Rattle.nio_caller.proofs.callers.Caller.try_begin.Goals as goal
 
 pub invariant_of-self : goal.invariant_of-self

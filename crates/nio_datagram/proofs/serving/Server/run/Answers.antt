@@ -1,5 +1,6 @@
 use Rattle.std.proofs.Common.{◌∙◌, refl, sym}
-use Rattle.nio_datagram.proofs.PassLaws.{none_failed, none_failed_then, on_ok}
+use Rattle.nio_serve.proofs.Watching.{where_done}
+use Rattle.nio_datagram.proofs.PassLaws.{none_failed, none_failed_then}
 use Rattle.nio_datagram.proofs.ServeLaws.{moves_none, moves_then, one_rose_from}
 use Rattle.nio_datagram.proofs.serving.Server.run.Goals as goal
 
@@ -27,6 +28,7 @@ loop-preserved g c = record {
   relaying = c.select-ended.ensures.relaying;
   server = c.select-ended.ensures.server ∙ c.loop.invariant.server;
   moves = moves_then _ _ _ c.loop.invariant.moves c.select-ended.ensures.moves;
-  still = none_failed_then _ _ _ _ _ _ c.loop.invariant.still (on_ok c.select-ended.result _ (sym c.is_err.ensures.value ∙ c.if-is_err.false) c.select-ended.ensures.still);
+  still = none_failed_then _ _ _ _ _ _ c.loop.invariant.still
+      (where_done c.select-ended.result (sym c.is_err.ensures.value ∙ c.if-is_err.false) c.select-ended.ensures.still);
   count = c.select-ended.ensures.count;
 }

@@ -4,10 +4,8 @@ use Rattle.nio_group.specs.Group.{Group, channel_at}
 use Rattle.nio_group.specs.Refusals.{bind_refusal}
 use Rattle.nio_group.specs.Run.{bind}
 use Rattle.nio_group.specs.Steps.{after_bind, with_endpoint}
-use Rattle.nio_group.proofs.RunLemmas.{lawful-after}
-use Rattle.nio_group.proofs.StageLemmas.{stepped-after}
 use Rattle.nio_deadline.specs.Kept.{timed_of}
-use Rattle.nio_deadline.proofs.TimedLemmas.{all-stay, kept-with_group, refused-keeps}
+use Rattle.nio_deadline.proofs.TimedLemmas.{all-stay, kept-call, refused-keeps}
 use Rattle.nio_deadline.proofs.PendingLemmas.{stays-bind}
 use Rattle.nio_deadline.proofs.QueueLemmas.{keeps-bind}
 use Rattle.nio_deadline.proofs.timed.TimedCore.bind.Goals as goal
@@ -17,14 +15,10 @@ invariant_of-self c =
     let i = c.self.inside in
     let g : Group = i.core in
     let within : c.args.chan.0 < length g.channels = rw (← c.self.view_is) at c.requires in
-    let same = all-stay g (after_bind g c.args.chan.0) i.deadlines
-    (stays-bind g c.args.chan.0) c.self.invariant.lawful.pending in
-    rw (c.bind.ensures.after, same)
-    (kept-with_group (timed_of g i.deadlines i.timed_out.items i.kinds.items) (after_bind g c.args.chan.0)
-    (deque_len i.timed_out)
-    (deque_capacity i.timed_out) c.self.invariant (lawful-after g
-    (bind c.args.chan) c.self.invariant.lawful.group within)
-    (stepped-after g (bind c.args.chan) c.self.invariant.lawful.group) (keeps-bind g c.args.chan.0))
+    rw c.bind.ensures.after
+    (kept-call (timed_of g i.deadlines i.timed_out.items i.kinds.items) (bind c.args.chan) _ (deque_len i.timed_out)
+    (deque_capacity i.timed_out) c.self.invariant within (keeps-bind g c.args.chan.0)
+    (all-stay g (after_bind g c.args.chan.0) i.deadlines (stays-bind g c.args.chan.0) c.self.invariant.lawful.pending))
 
 pub returns-clause-after : goal.returns-clause-after
 returns-clause-after c =

@@ -1,13 +1,11 @@
 use Rattle.std.proofs.Common.{ap, ◌∙◌, deque_len, deque_capacity, ◌<◌, length, List}
 use Rattle.nio_group.specs.Group.{Group}
 use Rattle.nio_group.specs.Run as run
-use Rattle.nio_group.proofs.RunLemmas.{lawful-after}
-use Rattle.nio_group.proofs.StageLemmas.{stepped-after}
 use Rattle.nio_deadline.specs.Deadlines.{Deadline}
 use Rattle.nio_deadline.specs.Kept.{timed_of, without_job}
 use Rattle.nio_group.specs.Steps.{after_close}
 use Rattle.nio_deadline.proofs.QueueLemmas.{keeps-close}
-use Rattle.nio_deadline.proofs.TimedLemmas.{kept-with_group, closed-deadlines}
+use Rattle.nio_deadline.proofs.TimedLemmas.{kept-call, closed-deadlines}
 use Rattle.nio_deadline.proofs.timed.TimedCore.close_channel.Goals as goal
 
 pub invariant_of-self : goal.invariant_of-self
@@ -20,12 +18,10 @@ invariant_of-self c =
     ∙ closed-deadlines g c.args.chan.0 i.deadlines c.job.result c.job-2.result c.self.invariant.lawful.group
     c.self.invariant.lawful.pending (record { some = c.job.ensures.some; none = c.job.ensures.none })
     (record { some = c.job-2.ensures.some; none = c.job-2.ensures.none }) in
-    rw (c.close_channel.ensures.after, same)
-    (kept-with_group (timed_of g i.deadlines i.timed_out.items i.kinds.items) (after_close g c.args.chan.0)
+    rw c.close_channel.ensures.after
+    (kept-call (timed_of g i.deadlines i.timed_out.items i.kinds.items) (run.close_channel c.args.chan) _
     (deque_len i.timed_out)
-    (deque_capacity i.timed_out) c.self.invariant (lawful-after g
-    (run.close_channel c.args.chan) c.self.invariant.lawful.group within)
-    (stepped-after g (run.close_channel c.args.chan) c.self.invariant.lawful.group) (keeps-close g c.args.chan.0))
+    (deque_capacity i.timed_out) c.self.invariant within (keeps-close g c.args.chan.0) same)
 
 pub returns-clause-after : goal.returns-clause-after
 returns-clause-after c =

@@ -4,10 +4,8 @@ use Rattle.nio_group.specs.Group.{Group}
 use Rattle.nio_group.specs.Stages.{is_running}
 use Rattle.nio_group.specs.Run.{finish}
 use Rattle.nio_group.specs.Steps.{after_finish, finish_refusal}
-use Rattle.nio_group.proofs.RunLemmas.{lawful-after}
-use Rattle.nio_group.proofs.StageLemmas.{stepped-after}
 use Rattle.nio_deadline.specs.Kept.{timed_of}
-use Rattle.nio_deadline.proofs.TimedLemmas.{all-stay, kept-with_group, refused-keeps}
+use Rattle.nio_deadline.proofs.TimedLemmas.{all-stay, kept-call, refused-keeps}
 use Rattle.nio_deadline.proofs.PendingLemmas.{stays-finish}
 use Rattle.nio_deadline.proofs.QueueLemmas.{keeps-finish}
 use Rattle.nio_deadline.proofs.timed.TimedCore.finish.Goals as goal
@@ -16,13 +14,10 @@ pub invariant_of-self : goal.invariant_of-self
 invariant_of-self c =
     let i = c.self.inside in
     let g : Group = i.core in
-    let same = all-stay g (after_finish g c.args.op.0) i.deadlines
-    (stays-finish g c.args.op.0) c.self.invariant.lawful.pending in
-    rw (c.finish.ensures.after, same)
-    (kept-with_group (timed_of g i.deadlines i.timed_out.items i.kinds.items) (after_finish g c.args.op.0)
-    (deque_len i.timed_out)
-    (deque_capacity i.timed_out) c.self.invariant (lawful-after g (finish c.args.op) c.self.invariant.lawful.group tt)
-    (stepped-after g (finish c.args.op) c.self.invariant.lawful.group) (keeps-finish g c.args.op.0))
+    rw c.finish.ensures.after
+    (kept-call (timed_of g i.deadlines i.timed_out.items i.kinds.items) (finish c.args.op) _ (deque_len i.timed_out)
+    (deque_capacity i.timed_out) c.self.invariant tt (keeps-finish g c.args.op.0)
+    (all-stay g (after_finish g c.args.op.0) i.deadlines (stays-finish g c.args.op.0) c.self.invariant.lawful.pending))
 
 pub returns-clause-after : goal.returns-clause-after
 returns-clause-after c =

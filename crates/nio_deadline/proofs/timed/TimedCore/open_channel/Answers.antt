@@ -3,10 +3,8 @@ use Rattle.nio_group.specs.Group.{Group, new_channel}
 use Rattle.nio_group.specs.Refusals.{open_refusal}
 use Rattle.nio_group.specs.Run.{open_channel}
 use Rattle.nio_group.specs.Steps.{after_open}
-use Rattle.nio_group.proofs.RunLemmas.{lawful-after}
-use Rattle.nio_group.proofs.StageLemmas.{stepped-after}
 use Rattle.nio_deadline.specs.Kept.{timed_of}
-use Rattle.nio_deadline.proofs.TimedLemmas.{all-stay, kept-with_group, refused-keeps}
+use Rattle.nio_deadline.proofs.TimedLemmas.{all-stay, kept-call, refused-keeps}
 use Rattle.nio_deadline.proofs.PendingLemmas.{stays-open}
 use Rattle.nio_deadline.proofs.QueueLemmas.{keeps-open}
 use Rattle.nio_deadline.proofs.timed.TimedCore.open_channel.Goals as goal
@@ -15,14 +13,11 @@ pub invariant_of-self : goal.invariant_of-self
 invariant_of-self c =
     let i = c.self.inside in
     let g : Group = i.core in
-    let same = all-stay g (after_open g c.args.kind) i.deadlines
-    (stays-open g c.args.kind) c.self.invariant.lawful.pending in
-    rw (c.open_channel.ensures.after, same)
-    (kept-with_group (timed_of g i.deadlines i.timed_out.items i.kinds.items) (after_open g c.args.kind)
+    rw c.open_channel.ensures.after
+    (kept-call (timed_of g i.deadlines i.timed_out.items i.kinds.items) (open_channel c.args.kind) _
     (deque_len i.timed_out)
-    (deque_capacity i.timed_out) c.self.invariant (lawful-after g
-    (open_channel c.args.kind) c.self.invariant.lawful.group tt)
-    (stepped-after g (open_channel c.args.kind) c.self.invariant.lawful.group) (keeps-open g c.args.kind))
+    (deque_capacity i.timed_out) c.self.invariant tt (keeps-open g c.args.kind)
+    (all-stay g (after_open g c.args.kind) i.deadlines (stays-open g c.args.kind) c.self.invariant.lawful.pending))
 
 pub returns-clause-after : goal.returns-clause-after
 returns-clause-after c =

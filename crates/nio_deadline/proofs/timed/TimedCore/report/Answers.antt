@@ -1,8 +1,6 @@
 use Rattle.std.proofs.Common.{ap, ◌∙◌, deque_len, deque_capacity, List, Err}
 use Rattle.nio_group.specs.Group.{Group}
 use Rattle.nio_group.specs.Run as run
-use Rattle.nio_group.proofs.RunLemmas.{lawful-after}
-use Rattle.nio_group.proofs.StageLemmas.{stepped-after}
 use Rattle.nio_deadline.specs.Deadlines.{Deadline}
 use Rattle.nio_deadline.specs.Kept.{timed_of}
 use Rattle.nio_group.specs.Refusals.{report_refusal}
@@ -10,9 +8,10 @@ use Rattle.nio_group.specs.Flight.{op_at}
 use Rattle.nio_group.specs.Steps.{after_report, reported}
 use Rattle.nio_deadline.proofs.PendingLemmas.{Stays}
 use Rattle.nio_deadline.proofs.QueueLemmas.{keeps-report}
-use Rattle.nio_deadline.proofs.TimedLemmas.{all-stay, kept-with_group, reported-deadlines, ok-free, err-refused}
-use Rattle.nio_deadline.proofs.TimedLemmas.{on-err, refused-keeps, when-refused}
+use Rattle.nio_deadline.proofs.TimedLemmas.{all-stay, kept-call, reported-deadlines, ok-free, err-refused}
+use Rattle.nio_deadline.proofs.TimedLemmas.{refused-keeps, when-refused}
 use Rattle.nio_deadline.proofs.timed.TimedCore.report.Goals as goal
+use Rattle.nio_group.proofs.TableLemmas.{on_err}
 
 pub invariant_of-self : goal.invariant_of-self
 invariant_of-self c =
@@ -27,13 +26,11 @@ invariant_of-self c =
     (λ n p. p) in
     let same = all-stay g (after_report g c.args.op.0 c.args.outcome) i.deadlines stays
     c.self.invariant.lawful.pending in
-    rw (c.report.ensures.after, same)
-    (kept-with_group (timed_of g i.deadlines i.timed_out.items i.kinds.items)
-    (after_report g c.args.op.0 c.args.outcome) (deque_len i.timed_out)
-    (deque_capacity i.timed_out) c.self.invariant (lawful-after g
-    (run.report c.args.op c.args.outcome) c.self.invariant.lawful.group tt)
-    (stepped-after g (run.report c.args.op c.args.outcome) c.self.invariant.lawful.group)
-    (keeps-report g c.args.op.0 c.args.outcome))
+    rw c.report.ensures.after
+    (kept-call (timed_of g i.deadlines i.timed_out.items i.kinds.items) (run.report c.args.op c.args.outcome) _
+    (deque_len i.timed_out)
+    (deque_capacity i.timed_out) c.self.invariant tt
+    (keeps-report g c.args.op.0 c.args.outcome) same)
 
 pub returns-in_err-report-clause-after : goal.returns-in_err-report-clause-after
 returns-in_err-report-clause-after c =
@@ -60,13 +57,11 @@ invariant_of-self-2 c =
     c.in_ok-report.ensures.answer in
     let same = c.remove.ensures
     ∙ reported-deadlines g c.args.op.0 c.args.outcome i.deadlines free c.self.invariant.lawful.pending in
-    rw (c.report.ensures.after, same)
-    (kept-with_group (timed_of g i.deadlines i.timed_out.items i.kinds.items)
-    (after_report g c.args.op.0 c.args.outcome) (deque_len i.timed_out)
-    (deque_capacity i.timed_out) c.self.invariant (lawful-after g
-    (run.report c.args.op c.args.outcome) c.self.invariant.lawful.group tt)
-    (stepped-after g (run.report c.args.op c.args.outcome) c.self.invariant.lawful.group)
-    (keeps-report g c.args.op.0 c.args.outcome))
+    rw c.report.ensures.after
+    (kept-call (timed_of g i.deadlines i.timed_out.items i.kinds.items) (run.report c.args.op c.args.outcome) _
+    (deque_len i.timed_out)
+    (deque_capacity i.timed_out) c.self.invariant tt
+    (keeps-report g c.args.op.0 c.args.outcome) same)
 
 pub returns-clause-after : goal.returns-clause-after
 returns-clause-after c =
@@ -84,7 +79,7 @@ pub returns-in_err-report-clause-refused : goal.returns-in_err-report-clause-ref
 returns-in_err-report-clause-refused c =
     let i = c.self.inside in
     let g : Group = i.core in
-    on-err c.from_residual.result
+    on_err c.from_residual.result
     (refused-keeps (report_refusal (op_at g.flight c.args.op.0) c.args.outcome) tt (Err c.in_err-report.field-0.0)
     (timed_of i.core i.deadlines i.timed_out.items i.kinds.items)
     (reported g c.args.op.0 c.args.outcome (op_at g.flight c.args.op.0)) c.in_err-report.ensures.answer

@@ -2,10 +2,8 @@ use Rattle.std.proofs.Common.{ap, deque_len, deque_capacity}
 use Rattle.nio_group.specs.Group.{Group}
 use Rattle.nio_group.specs.Run.{shutdown}
 use Rattle.nio_group.specs.Steps.{after_shutdown}
-use Rattle.nio_group.proofs.RunLemmas.{lawful-after}
-use Rattle.nio_group.proofs.StageLemmas.{stepped-after}
 use Rattle.nio_deadline.specs.Kept.{timed_of}
-use Rattle.nio_deadline.proofs.TimedLemmas.{all-stay, kept-with_group}
+use Rattle.nio_deadline.proofs.TimedLemmas.{all-stay, kept-call}
 use Rattle.nio_deadline.proofs.PendingLemmas.{stays-shutdown}
 use Rattle.nio_deadline.proofs.QueueLemmas.{keeps-shutdown}
 use Rattle.nio_deadline.proofs.timed.TimedCore.shutdown.Goals as goal
@@ -14,12 +12,10 @@ pub invariant_of-self : goal.invariant_of-self
 invariant_of-self c =
     let i = c.self.inside in
     let g : Group = i.core in
-    let same = all-stay g (after_shutdown g) i.deadlines (stays-shutdown g) c.self.invariant.lawful.pending in
-    rw (c.shutdown.ensures, same)
-    (kept-with_group (timed_of g i.deadlines i.timed_out.items i.kinds.items) (after_shutdown g)
-    (deque_len i.timed_out)
-    (deque_capacity i.timed_out) c.self.invariant (lawful-after g shutdown c.self.invariant.lawful.group tt)
-    (stepped-after g shutdown c.self.invariant.lawful.group) (keeps-shutdown g))
+    rw c.shutdown.ensures
+    (kept-call (timed_of g i.deadlines i.timed_out.items i.kinds.items) shutdown _ (deque_len i.timed_out)
+    (deque_capacity i.timed_out) c.self.invariant tt (keeps-shutdown g)
+    (all-stay g (after_shutdown g) i.deadlines (stays-shutdown g) c.self.invariant.lawful.pending))
 
 pub returns : goal.returns
 returns c =

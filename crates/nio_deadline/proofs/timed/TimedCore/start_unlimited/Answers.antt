@@ -1,8 +1,6 @@
 use Rattle.std.proofs.Common.{ap, deque_len, deque_capacity, ◌<◌, length, List}
 use Rattle.nio_group.specs.Group.{Group}
 use Rattle.nio_group.specs.Run as run
-use Rattle.nio_group.proofs.RunLemmas.{lawful-after}
-use Rattle.nio_group.proofs.StageLemmas.{stepped-after}
 use Rattle.nio_deadline.specs.Deadlines.{Deadline}
 use Rattle.nio_deadline.specs.Kept.{timed_of}
 use Rattle.nio_group.specs.Flight.{accepted}
@@ -10,7 +8,7 @@ use Rattle.nio_group.specs.Refusals.{start_refusal}
 use Rattle.nio_group.specs.Steps.{after_start, started}
 use Rattle.nio_deadline.proofs.PendingLemmas.{stays-start}
 use Rattle.nio_deadline.proofs.QueueLemmas.{keeps-start}
-use Rattle.nio_deadline.proofs.TimedLemmas.{all-stay, kept-with_group, refused-keeps}
+use Rattle.nio_deadline.proofs.TimedLemmas.{all-stay, kept-call, refused-keeps}
 use Rattle.nio_deadline.proofs.timed.TimedCore.start_unlimited.Goals as goal
 
 pub invariant_of-self : goal.invariant_of-self
@@ -18,15 +16,12 @@ invariant_of-self c =
     let i = c.self.inside in
     let g : Group = i.core in
     let within : c.args.chan.0 < length g.channels = rw (← c.self.view_is) at c.requires in
-    let same = all-stay g (after_start g c.args.chan c.args.kind c.args.len) i.deadlines
-    (stays-start g c.args.chan c.args.kind c.args.len) c.self.invariant.lawful.pending in
-    rw (c.start.ensures.after, same)
-    (kept-with_group (timed_of g i.deadlines i.timed_out.items i.kinds.items)
-    (after_start g c.args.chan c.args.kind c.args.len) (deque_len i.timed_out) (deque_capacity i.timed_out)
-    c.self.invariant
-    (lawful-after g (run.start c.args.chan c.args.kind c.args.len) c.self.invariant.lawful.group within)
-    (stepped-after g (run.start c.args.chan c.args.kind c.args.len) c.self.invariant.lawful.group)
-    (keeps-start g c.args.chan c.args.kind c.args.len))
+    rw c.start.ensures.after
+    (kept-call (timed_of g i.deadlines i.timed_out.items i.kinds.items) (run.start c.args.chan c.args.kind c.args.len) _
+    (deque_len i.timed_out) (deque_capacity i.timed_out) c.self.invariant within
+    (keeps-start g c.args.chan c.args.kind c.args.len)
+    (all-stay g (after_start g c.args.chan c.args.kind c.args.len) i.deadlines
+    (stays-start g c.args.chan c.args.kind c.args.len) c.self.invariant.lawful.pending))
 
 pub returns-clause-after : goal.returns-clause-after
 returns-clause-after c =

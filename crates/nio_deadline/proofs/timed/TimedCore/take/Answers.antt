@@ -1,10 +1,9 @@
-use Rattle.std.proofs.Common.{◌≡◌, ap, sym, ◌∙◌, deque_len, deque_capacity, length, Some, None}
+use Rattle.std.proofs.Common.{◌≡◌, ap, sym, ◌∙◌, deque_len, deque_capacity, length, Some, None, ℕ, List}
 use Rattle.nio_group.specs.Completion.{CompletionFields}
 use Rattle.nio_group.specs.Steps.{answer_to_take}
 use Rattle.nio_deadline.specs.Kept.{timed_of}
 use Rattle.nio_deadline.specs.Timed.{Timed}
 use Rattle.nio_deadline.proofs.TakeLemmas.{kept-take, late-first, nothing-same, taken-nothing, taken-one}
-use Rattle.std.proofs.Common.{ℕ, List}
 use Rattle.nio_base.specs.declared.numbers.OpNo.{OpNo}
 use Rattle.nio_group.specs.Group.{Group}
 use Rattle.nio_group.specs.Steps as group_steps

@@ -1,13 +1,13 @@
-use Rattle.std.proofs.Common.{true}
+use Rattle.std.proofs.Common.{true, refl, ◌<◌, length}
 use Rattle.nio_group.specs.declared.channel.Endpoint.TheVariants.{Listener}
 use Rattle.nio_group.specs.Group.{Group, channel_at}
 use Rattle.nio_group.specs.Refusals.{bind_refusal}
 use Rattle.nio_group.specs.Steps.{with_endpoint}
-use Rattle.std.proofs.Common.{refl, ◌<◌, length}
 use Rattle.nio_group.specs.Run.{bind}
-use Rattle.nio_future.proofs.CallLemmas.{called, refused-keeps, settles-call}
+use Rattle.nio_future.proofs.CallLemmas.{called, refused-keeps, settles-call, IsCalled}
 use Rattle.nio_future.proofs.SettleLemmas.{desk_of}
 use Rattle.nio_future.proofs.desk.Desk.bind.Goals as goal
+use Rattle.nio_future.proofs.desk.Desk.bind.Goals.{After-settle}
 
 pub settle-requires : goal.settle-requires
 settle-requires c =
@@ -16,37 +16,31 @@ settle-requires c =
     settles-call (desk_of i.core i.out i.source.id) (bind c.args.chan) _ c.self.invariant made refl
     c.bind-answer.ensures.after
 
-pub returns-clause-after : goal.returns-clause-after
-returns-clause-after c =
+-- what the call leaves
+leaves : (c : After-settle) → IsCalled c.args.self.now
+    (desk_of c.settle.new.core c.settle.new.out c.self.inside.source.id) (bind c.args.chan)
+leaves c =
     let i = c.self.inside in
     let made : c.args.chan.0 < length i.core.channels = rw (← c.self.view_is) at c.requires in
-    let call = called (desk_of i.core i.out i.source.id) _ _ (bind c.args.chan) _ c.self.view_is c.self.invariant made
-    refl c.bind-answer.ensures.after c.settle.ensures.settles in
-    call.after
+    called (desk_of i.core i.out i.source.id) _ _ (bind c.args.chan) _ c.self.view_is
+    c.self.invariant made refl c.bind-answer.ensures.after c.settle.ensures.settles
+
+pub returns-clause-after : goal.returns-clause-after
+returns-clause-after c = (leaves (goal.at.returns-clause-after c).After-settle).after
 
 pub returns-clause-made : goal.returns-clause-made
-returns-clause-made c =
-    let i = c.self.inside in
-    let made : c.args.chan.0 < length i.core.channels = rw (← c.self.view_is) at c.requires in
-    let call = called (desk_of i.core i.out i.source.id) _ _ (bind c.args.chan) _ c.self.view_is c.self.invariant made
-    refl c.bind-answer.ensures.after c.settle.ensures.settles in
-    call.made
+returns-clause-made c = (leaves (goal.at.returns-clause-made c).After-settle).made
 
 pub returns-clause-tickets : goal.returns-clause-tickets
-returns-clause-tickets c =
-    let i = c.self.inside in
-    let made : c.args.chan.0 < length i.core.channels = rw (← c.self.view_is) at c.requires in
-    let call = called (desk_of i.core i.out i.source.id) _ _ (bind c.args.chan) _ c.self.view_is c.self.invariant made
-    refl c.bind-answer.ensures.after c.settle.ensures.settles in
-    call.tickets
+returns-clause-tickets c = (leaves (goal.at.returns-clause-tickets c).After-settle).tickets
 
 pub returns-clause-refused : goal.returns-clause-refused
 returns-clause-refused c =
     let i = c.self.inside in
     let g : Group = i.core in
-    let made : c.args.chan.0 < length i.core.channels = rw (← c.self.view_is) at c.requires in
-    let call = called (desk_of i.core i.out i.source.id) _ _ (bind c.args.chan) _ c.self.view_is c.self.invariant made
-    refl c.bind-answer.ensures.after c.settle.ensures.settles in
-    refused-keeps (bind_refusal (channel_at g c.args.chan.0).is_open (channel_at g c.args.chan.0).endpoint) tt c.bind-answer.result (desk_of i.core i.out i.source.id) _ _
+    let call = leaves (goal.at.returns-clause-refused c).After-settle in
+    refused-keeps
+    (bind_refusal (channel_at g c.args.chan.0).is_open (channel_at g c.args.chan.0).endpoint) tt c.bind-answer.result
+    (desk_of i.core i.out i.source.id) _ _
     (with_endpoint g c.args.chan.0 (Listener true)) (bind c.args.chan)
     c.bind-answer.ensures.answer refl c.self.invariant c.self.view_is call.after

@@ -1,10 +1,9 @@
-use Rattle.std.proofs.Common.{ap, ◌∙◌, subst, length, ◌≤◌}
+use Rattle.std.proofs.Common.{ap, ◌∙◌, subst, length, ◌≤◌, sym}
 use Rattle.nio_group.specs.Flight.{op_at}
 use Rattle.nio_future.specs.Desk.{DeskState, is_out}
 use Rattle.nio_future.specs.Tickets.{KeepsTickets}
 use Rattle.nio_future.proofs.SettleLemmas.{desk_of}
 use Rattle.nio_future.proofs.TicketLemmas.{cancelled, IsCancelled}
-use Rattle.std.proofs.Common.{sym}
 use Rattle.nio_future.proofs.desk.Desk.cancel.Goals as goal
 
 left : (c : goal.After-end) → IsCancelled c.args.self.now

@@ -1,11 +1,11 @@
-use Rattle.std.proofs.Common.{length, ◌++◌, ◌∷◌, []}
+use Rattle.std.proofs.Common.{length, ◌++◌, ◌∷◌, [], refl}
 use Rattle.nio_group.specs.Group.{Group, new_channel}
 use Rattle.nio_group.specs.Refusals.{open_refusal}
-use Rattle.std.proofs.Common.{refl}
 use Rattle.nio_group.specs.Run.{open_channel}
-use Rattle.nio_future.proofs.CallLemmas.{called, refused-keeps, opened-made, settles-call}
+use Rattle.nio_future.proofs.CallLemmas.{called, refused-keeps, opened-made, settles-call, IsCalled}
 use Rattle.nio_future.proofs.SettleLemmas.{desk_of}
 use Rattle.nio_future.proofs.desk.Desk.open_channel.Goals as goal
+use Rattle.nio_future.proofs.desk.Desk.open_channel.Goals.{After-settle}
 
 pub settle-requires : goal.settle-requires
 settle-requires c =
@@ -13,26 +13,22 @@ settle-requires c =
     settles-call (desk_of i.core i.out i.source.id) (open_channel c.args.kind) _ c.self.invariant tt refl
     c.open_channel-answer.ensures.after
 
-pub returns-clause-after : goal.returns-clause-after
-returns-clause-after c =
+-- what the call leaves
+leaves : (c : After-settle) → IsCalled c.args.self.now
+    (desk_of c.settle.new.core c.settle.new.out c.self.inside.source.id) (open_channel c.args.kind)
+leaves c =
     let i = c.self.inside in
-    let call = called (desk_of i.core i.out i.source.id) _ _ (open_channel c.args.kind) _ c.self.view_is c.self.invariant tt
-    refl c.open_channel-answer.ensures.after c.settle.ensures.settles in
-    call.after
+    called (desk_of i.core i.out i.source.id) _ _ (open_channel c.args.kind) _ c.self.view_is
+    c.self.invariant tt refl c.open_channel-answer.ensures.after c.settle.ensures.settles
+
+pub returns-clause-after : goal.returns-clause-after
+returns-clause-after c = (leaves (goal.at.returns-clause-after c).After-settle).after
 
 pub returns-clause-made : goal.returns-clause-made
-returns-clause-made c =
-    let i = c.self.inside in
-    let call = called (desk_of i.core i.out i.source.id) _ _ (open_channel c.args.kind) _ c.self.view_is c.self.invariant tt
-    refl c.open_channel-answer.ensures.after c.settle.ensures.settles in
-    call.made
+returns-clause-made c = (leaves (goal.at.returns-clause-made c).After-settle).made
 
 pub returns-clause-tickets : goal.returns-clause-tickets
-returns-clause-tickets c =
-    let i = c.self.inside in
-    let call = called (desk_of i.core i.out i.source.id) _ _ (open_channel c.args.kind) _ c.self.view_is c.self.invariant tt
-    refl c.open_channel-answer.ensures.after c.settle.ensures.settles in
-    call.tickets
+returns-clause-tickets c = (leaves (goal.at.returns-clause-tickets c).After-settle).tickets
 
 pub returns-clause-opened : goal.returns-clause-opened
 returns-clause-opened c =
@@ -44,8 +40,8 @@ pub returns-clause-refused : goal.returns-clause-refused
 returns-clause-refused c =
     let i = c.self.inside in
     let g : Group = i.core in
-    let call = called (desk_of i.core i.out i.source.id) _ _ (open_channel c.args.kind) _ c.self.view_is c.self.invariant tt
-    refl c.open_channel-answer.ensures.after c.settle.ensures.settles in
-    refused-keeps (open_refusal g) (record { 0 = length g.channels }) c.open_channel-answer.result (desk_of i.core i.out i.source.id) _ _
+    let call = leaves (goal.at.returns-clause-refused c).After-settle in
+    refused-keeps (open_refusal g) (record { 0 = length g.channels }) c.open_channel-answer.result
+    (desk_of i.core i.out i.source.id) _ _
     (record g { channels = g.channels ++ new_channel c.args.kind ∷ [] }) (open_channel c.args.kind)
     c.open_channel-answer.ensures.answer refl c.self.invariant c.self.view_is call.after

@@ -4,9 +4,10 @@ use Rattle.nio_group.specs.Refusals.{report_refusal}
 use Rattle.nio_group.specs.Steps.{reported}
 use Rattle.std.proofs.Common.{refl}
 use Rattle.nio_group.specs.Run.{report}
-use Rattle.nio_future.proofs.CallLemmas.{called, refused-keeps, settles-call}
+use Rattle.nio_future.proofs.CallLemmas.{called, refused-keeps, settles-call, IsCalled}
 use Rattle.nio_future.proofs.SettleLemmas.{desk_of}
 use Rattle.nio_future.proofs.desk.Desk.report.Goals as goal
+use Rattle.nio_future.proofs.desk.Desk.report.Goals.{After-settle}
 
 pub settle-requires : goal.settle-requires
 settle-requires c =
@@ -14,33 +15,29 @@ settle-requires c =
     settles-call (desk_of i.core i.out i.source.id) (report c.args.op c.args.outcome) _ c.self.invariant tt refl
     c.report-answer.ensures.after
 
-pub returns-clause-after : goal.returns-clause-after
-returns-clause-after c =
+-- what the call leaves
+leaves : (c : After-settle) → IsCalled c.args.self.now
+    (desk_of c.settle.new.core c.settle.new.out c.self.inside.source.id) (report c.args.op c.args.outcome)
+leaves c =
     let i = c.self.inside in
-    let call = called (desk_of i.core i.out i.source.id) _ _ (report c.args.op c.args.outcome) _ c.self.view_is c.self.invariant tt
-    refl c.report-answer.ensures.after c.settle.ensures.settles in
-    call.after
+    called (desk_of i.core i.out i.source.id) _ _ (report c.args.op c.args.outcome) _ c.self.view_is
+    c.self.invariant tt refl c.report-answer.ensures.after c.settle.ensures.settles
+
+pub returns-clause-after : goal.returns-clause-after
+returns-clause-after c = (leaves (goal.at.returns-clause-after c).After-settle).after
 
 pub returns-clause-made : goal.returns-clause-made
-returns-clause-made c =
-    let i = c.self.inside in
-    let call = called (desk_of i.core i.out i.source.id) _ _ (report c.args.op c.args.outcome) _ c.self.view_is c.self.invariant tt
-    refl c.report-answer.ensures.after c.settle.ensures.settles in
-    call.made
+returns-clause-made c = (leaves (goal.at.returns-clause-made c).After-settle).made
 
 pub returns-clause-tickets : goal.returns-clause-tickets
-returns-clause-tickets c =
-    let i = c.self.inside in
-    let call = called (desk_of i.core i.out i.source.id) _ _ (report c.args.op c.args.outcome) _ c.self.view_is c.self.invariant tt
-    refl c.report-answer.ensures.after c.settle.ensures.settles in
-    call.tickets
+returns-clause-tickets c = (leaves (goal.at.returns-clause-tickets c).After-settle).tickets
 
 pub returns-clause-refused : goal.returns-clause-refused
 returns-clause-refused c =
     let i = c.self.inside in
     let g : Group = i.core in
-    let call = called (desk_of i.core i.out i.source.id) _ _ (report c.args.op c.args.outcome) _ c.self.view_is c.self.invariant tt
-    refl c.report-answer.ensures.after c.settle.ensures.settles in
-    refused-keeps (report_refusal (op_at g.flight c.args.op.0) c.args.outcome) tt c.report-answer.result (desk_of i.core i.out i.source.id) _ _
+    let call = leaves (goal.at.returns-clause-refused c).After-settle in
+    refused-keeps (report_refusal (op_at g.flight c.args.op.0) c.args.outcome) tt c.report-answer.result
+    (desk_of i.core i.out i.source.id) _ _
     (reported g c.args.op.0 c.args.outcome (op_at g.flight c.args.op.0)) (report c.args.op c.args.outcome)
     c.report-answer.ensures.answer refl c.self.invariant c.self.view_is call.after

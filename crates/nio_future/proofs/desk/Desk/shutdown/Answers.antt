@@ -1,8 +1,9 @@
 use Rattle.std.proofs.Common.{refl}
 use Rattle.nio_group.specs.Run.{shutdown}
-use Rattle.nio_future.proofs.CallLemmas.{called, settles-call}
+use Rattle.nio_future.proofs.CallLemmas.{called, settles-call, IsCalled}
 use Rattle.nio_future.proofs.SettleLemmas.{desk_of}
 use Rattle.nio_future.proofs.desk.Desk.shutdown.Goals as goal
+use Rattle.nio_future.proofs.desk.Desk.shutdown.Goals.{After-settle}
 
 pub settle-requires : goal.settle-requires
 settle-requires c =
@@ -10,23 +11,19 @@ settle-requires c =
     settles-call (desk_of i.core i.out i.source.id) shutdown _ c.self.invariant tt refl
     c.shutdown.ensures
 
-pub returns-clause-after : goal.returns-clause-after
-returns-clause-after c =
+-- what the call leaves
+leaves : (c : After-settle) → IsCalled c.args.self.now
+    (desk_of c.settle.new.core c.settle.new.out c.self.inside.source.id) shutdown
+leaves c =
     let i = c.self.inside in
-    let call = called (desk_of i.core i.out i.source.id) _ _ shutdown _ c.self.view_is c.self.invariant tt
-    refl c.shutdown.ensures c.settle.ensures.settles in
-    call.after
+    called (desk_of i.core i.out i.source.id) _ _ shutdown _ c.self.view_is
+    c.self.invariant tt refl c.shutdown.ensures c.settle.ensures.settles
+
+pub returns-clause-after : goal.returns-clause-after
+returns-clause-after c = (leaves (goal.at.returns-clause-after c).After-settle).after
 
 pub returns-clause-made : goal.returns-clause-made
-returns-clause-made c =
-    let i = c.self.inside in
-    let call = called (desk_of i.core i.out i.source.id) _ _ shutdown _ c.self.view_is c.self.invariant tt
-    refl c.shutdown.ensures c.settle.ensures.settles in
-    call.made
+returns-clause-made c = (leaves (goal.at.returns-clause-made c).After-settle).made
 
 pub returns-clause-tickets : goal.returns-clause-tickets
-returns-clause-tickets c =
-    let i = c.self.inside in
-    let call = called (desk_of i.core i.out i.source.id) _ _ shutdown _ c.self.view_is c.self.invariant tt
-    refl c.shutdown.ensures c.settle.ensures.settles in
-    call.tickets
+returns-clause-tickets c = (leaves (goal.at.returns-clause-tickets c).After-settle).tickets

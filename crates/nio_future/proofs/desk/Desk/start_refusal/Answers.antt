@@ -1,5 +1,5 @@
+use Rattle.std.proofs.lemmas.Bool.{ne_eqb}
 use Rattle.std.proofs.Common.{◌≡◌, Bool, true, false, ap, sym, ◌∙◌, Some, None, eqb, eq-eqb}
-use Rattle.nio_group.proofs.ListLemmas.{eqb-other}
 use Rattle.nio_future.specs.Desk.{tickets_out}
 use Rattle.nio_future.proofs.StartLemmas.{or_full, refusal-answer}
 use Rattle.nio_future.proofs.SettleLemmas.{desk_of}
@@ -25,7 +25,7 @@ returns c =
     let i = c.self.inside in
     let d = desk_of i.core i.out i.source.id in
     let room : eqb (tickets_out d) d.out.limit ≡ false =
-    eqb-other (tickets_out d) d.out.limit
+    ne_eqb (tickets_out d) d.out.limit
     (λ e. c.if-in_flight-limit.false (c.in_flight.ensures ∙ e ∙ sym c.limit.ensures)) in
     ap (λ (b : Bool). or_full b None) (sym room)
     ∙ refusal-answer d _ c.args.chan.0 c.args.kind None c.self.invariant c.self.view_is c.in_default.ensures

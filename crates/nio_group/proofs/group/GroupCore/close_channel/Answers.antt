@@ -1,4 +1,5 @@
-use Rattle.nio_group.proofs.EndLemmas.{kept-closed, not-false}
+use Rattle.std.proofs.lemmas.Bool.{not-false}
+use Rattle.nio_group.proofs.EndLemmas.{kept-closed}
 use Rattle.nio_group.proofs.group.GroupCore.close_channel.Goals as goal
 
 pub invariant_of-self : goal.invariant_of-self

@@ -15,7 +15,7 @@ use Rattle.nio_group.specs.Pending.{with_slot}
 use Rattle.nio_group.specs.Refusals.{is_allowed}
 use Rattle.nio_group.specs.Stages.{is_pending}
 use Rattle.nio_group.proofs.ReportLemmas.{report-allowed, pending-made, kept-completed, kept-connected, some-open}
-use Rattle.nio_group.proofs.ReportLemmas.{connected-connect, accepted-accept, count-other, end-other, accepted-room}
+use Rattle.nio_group.proofs.ReportLemmas.{connected-connect, not_connect, accepted-room}
 use Rattle.nio_group.proofs.GroupLemmas.{kept-channel_made}
 use Rattle.nio_group.proofs.group.GroupCore.complete.Goals as goal
 use Rattle.nio_group.proofs.group.GroupCore.complete.Goals.{After-with}
@@ -94,7 +94,8 @@ invariant_of-self-in-Accepted-finished c =
     let i = c.self.inside in
     let at = (goal.at.invariant_of-self-in-Accepted-finished c).After-with in
     let kept = completed at
-    (accepted-accept c.args.operation.kind c.args.operation.len (allowed at outcome.Accepted c.in-Accepted.is)) in
+    (not_connect c.args.operation.kind c.args.operation.len outcome.Accepted refl
+    (allowed at outcome.Accepted c.in-Accepted.is)) in
     let room = accepted-room (group_of i.flight i.channels.items i.shut i.limits) c.args.outcome
     c.in-Accepted-finished.field-0 c.self.invariant.lawful c.in-Accepted.is
     (rw (← c.self.view_is) at (sym c.result_of-finished.ensures ∙ c.in-Accepted-finished.is)) in
@@ -107,13 +108,15 @@ pub invariant_of-self-in-Accepted : goal.invariant_of-self-in-Accepted
 invariant_of-self-in-Accepted c =
     let at = (goal.at.invariant_of-self-in-Accepted c).After-with in
     completed at
-    (accepted-accept c.args.operation.kind c.args.operation.len (allowed at outcome.Accepted c.in-Accepted.is))
+    (not_connect c.args.operation.kind c.args.operation.len outcome.Accepted refl
+    (allowed at outcome.Accepted c.in-Accepted.is))
 
 pub invariant_of-self-in-Count : goal.invariant_of-self-in-Count
 invariant_of-self-in-Count c =
     let at = (goal.at.invariant_of-self-in-Count c).After-with in
     let op = c.args.operation in
     elim c.in-Count.is [
-      | inl count ↦ completed at (count-other op.kind op.len count.0 (allowed at (outcome.Count count.0) count.1))
-      | inr end ↦ completed at (end-other op.kind op.len (allowed at outcome.End end))
+      | inl count ↦ completed at
+          (not_connect op.kind op.len (outcome.Count count.0) refl (allowed at (outcome.Count count.0) count.1))
+      | inr end ↦ completed at (not_connect op.kind op.len outcome.End refl (allowed at outcome.End end))
     ]

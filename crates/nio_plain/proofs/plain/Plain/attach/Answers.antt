@@ -1,11 +1,9 @@
-use Rattle.std.proofs.Common.{sym, ap, ◌∙◌}
-use Rattle.std.proofs.lemmas.Bool.{cond-true, cond-false}
+use Rattle.std.proofs.Common.{sym, ap, ◌∙◌, refl}
 use Rattle.nio_event.specs.Sets.{fits}
 use Rattle.nio_event.specs.declared.reply.Reply.TheVariants as reply
 use Rattle.nio_plain.proofs.Replying.{unchanged_without_memory, replied_without_memory}
 use Rattle.nio_plain.proofs.KeyChange.{key-note}
 use Rattle.nio_plain.specs.PlainState.{KeyRow, key_row, state_of}
-use Rattle.nio_plain.specs.Seq.Replies.{unchanged}
 use Rattle.nio_plain.specs.Seq.Keys.{attach_call}
 use Rattle.nio_plain.proofs.plain.Plain.attach.Goals as goal
 
@@ -18,7 +16,7 @@ returns-then-not-fits c =
     let other = ap (λ (k : KeyRow). fits k.stage id.serial) c.in-Ok.ensures.row ∙ sym c.if-not-fits.ensures in
     unchanged_without_memory p _ _
     (c.in-Ok.ensures.through _
-    ∙ cond-false (fits (st.shared.key c.args.sel.0 id.index) id.serial) _ (unchanged st (reply.Number 0)) other)
+    ∙ rw other refl)
 
 pub returns : goal.returns
 unfolding attach_call
@@ -30,7 +28,7 @@ returns c =
     let same = ap (λ (k : KeyRow). fits k.stage id.serial) row ∙ sym c.if-not-fits.ensures in
     replied_without_memory p _ _ _ _
     (c.in-Ok.ensures.through _
-    ∙ cond-true (fits (st.shared.key c.args.sel.0 id.index) id.serial) _ (unchanged st (reply.Number 0)) same)
+    ∙ rw same refl)
     (ap (λ (k : KeyRow). reply.Number k.note) (sym row))
     (c.put_key.ensures.left ∙ key-note p c.args.sel.0 id.index (key_row c.in-Ok.key) row c.args.note)
     c.put_key.ensures.kept

@@ -1,5 +1,4 @@
-use Rattle.std.proofs.Common.{sym, ap, ◌∙◌}
-use Rattle.std.proofs.lemmas.Bool.{cond-true, cond-false}
+use Rattle.std.proofs.Common.{sym, ap, ◌∙◌, refl}
 use Rattle.nio_event.specs.Sets.{fits}
 use Rattle.nio_event.specs.declared.reply.Reply.TheVariants as reply
 use Rattle.nio_plain.proofs.Replying.{unchanged_without_memory}
@@ -18,8 +17,7 @@ returns-then-not-fits c =
     unchanged_without_memory p _ _
     (c.in-Ok.ensures.through _
     ∙ ap (λ n. unchanged st (reply.Number n))
-    (cond-false (fits (st.shared.key c.args.sel.0 id.index) id.serial) (st.shared.note c.args.sel.0 id.index) 0
-    other))
+    (rw other refl))
 
 pub returns : goal.returns
 unfolding attachment_call
@@ -32,8 +30,7 @@ returns c =
     unchanged_without_memory p _ _
     (c.in-Ok.ensures.through _
     ∙ ap (λ n. unchanged st (reply.Number n))
-    (cond-true (fits (st.shared.key c.args.sel.0 id.index) id.serial) (st.shared.note c.args.sel.0 id.index) 0
-    same ∙ ap (λ (k : KeyRow). k.note) row))
+    (rw same (ap (λ (k : KeyRow). k.note) row)))
 
 pub returns-in-Err : goal.returns-in-Err
 unfolding attachment_call

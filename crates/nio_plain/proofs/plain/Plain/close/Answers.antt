@@ -1,13 +1,10 @@
 use Rattle.std.proofs.Common.{◌<◌, true, Some, length, refl, sym, ap, ◌∙◌, arith}
-use Rattle.std.proofs.lemmas.Bool.{cond-true, cond-false}
 use Rattle.nio_event.specs.State.{with_gate, with_closer}
-use Rattle.nio_event.specs.declared.reply.Reply.TheVariants as reply
 use Rattle.nio_plain.proofs.Replying.{unchanged_without_memory, replied_without_memory}
 use Rattle.nio_plain.proofs.Closing.{changed_selector, read_row, not_finished}
 use Rattle.nio_plain.proofs.Parts.{then, makes-gate, makes-closer}
-use Rattle.nio_plain.specs.PlainState.{SelectorRow, state_of, selector_row}
+use Rattle.nio_plain.specs.PlainState.{SelectorRow, selector_row}
 use Rattle.nio_plain.specs.ScriptState.{ScriptState, with_shared}
-use Rattle.nio_plain.specs.Seq.Replies.{unchanged}
 use Rattle.nio_plain.specs.Seq.Closing.{close_call}
 use Rattle.nio_plain.proofs.plain.Plain.close.Goals as goal
 
@@ -26,7 +23,7 @@ returns-then-is_shut c =
     let shut = ap (λ (r : SelectorRow). r.gate.shut) row ∙ sym c.if-is_shut.ensures in
     unchanged_without_memory p _ _
     (c.in-Ok.ensures.through _
-    ∙ cond-true ((state_of p).shared.gate s).shut (unchanged (state_of p) reply.Already) _ shut)
+    ∙ rw shut refl)
 
 pub returns : goal.returns
 unfolding close_call
@@ -48,7 +45,7 @@ returns c =
     (makes-closer _ _ _ _ _ s (Some c.args.me)) in
     replied_without_memory p _ _ _ _
     (c.in-Ok.ensures.through _
-    ∙ cond-false ((state_of p).shared.gate s).shut (unchanged (state_of p) reply.Already) _ opened)
+    ∙ rw opened refl)
     refl
     (changed_selector p s c.in-Ok.place x _ (λ r. closes (shuts r))
     (λ st. closes' (shuts' st)) both c.in-Ok.ensures.place within c.index_mut.ensures.value

@@ -1,11 +1,8 @@
 use Rattle.std.proofs.Common.{refl, ap, ◌∙◌}
-use Rattle.std.proofs.lemmas.Bool.{cond-true, cond-false}
 use Rattle.nio_event.specs.declared.found.Chan.{Chan}
-use Rattle.nio_event.specs.declared.reply.Reply.TheVariants as reply
 use Rattle.nio_plain.proofs.Replying.{unchanged_without_memory, replied_without_memory}
 use Rattle.nio_plain.specs.PlainState.{state_of}
 use Rattle.nio_plain.specs.ScriptState.{ScriptState}
-use Rattle.nio_plain.specs.Seq.Replies.{unchanged}
 use Rattle.nio_plain.specs.Seq.Cancelling.{closec_call}
 use Rattle.nio_plain.specs.Seq.Pipes.{sealing, own_sink, with_seal}
 use Rattle.nio_plain.proofs.plain.Plain.close_channel.Goals as goal
@@ -24,7 +21,7 @@ returns-then-channel c =
     replied_without_memory p _ _ _ _
     (c.in-Ok.ensures.through _
     ∙ ap (sealing (own_sink st.pipes c.args.me c.args.chan))
-    (cond-true (st.shared.chan c.args.chan.0).closed (unchanged st reply.Already) _ closed))
+    (rw closed refl))
     refl
     c.leave_seal.ensures.left
     (record { limits = c.leave_seal.ensures.kept.limits; rules = c.leave_seal.ensures.kept.rules })
@@ -38,7 +35,7 @@ returns c =
     replied_without_memory p _ _ _ _
     (c.in-Ok.ensures.through _
     ∙ ap (sealing (own_sink st.pipes c.args.me c.args.chan))
-    (cond-false (st.shared.chan c.args.chan.0).closed (unchanged st reply.Already) _ opened))
+    (rw opened refl))
     refl
     (c.leave_seal-2.ensures.left
     ∙ ap (λ (m : ScriptState). with_seal (own_sink m.pipes c.args.me c.args.chan) m) c.shut_channel.ensures.left)

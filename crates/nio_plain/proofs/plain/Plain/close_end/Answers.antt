@@ -1,8 +1,7 @@
 use Rattle.std.proofs.Common.{◌<◌, Bool, true, not, ◌||◌, Option, is_some, length, refl, sym, ap, ◌∙◌, arith}
-use Rattle.std.proofs.lemmas.Bool.{cond-true, cond-false, eq-eqb, ne_eqb, or_right}
+use Rattle.std.proofs.lemmas.Bool.{eq-eqb, ne_eqb, or_right}
 use Rattle.std.proofs.lemmas.List.{get_or_default}
 use Rattle.nio_event.specs.State.{with_entered}
-use Rattle.nio_event.specs.declared.reply.Reply.TheVariants as reply
 use Rattle.nio_plain.proofs.Replying.{is_some-caller_of, unchanged_without_memory, replied_without_memory}
 use Rattle.nio_plain.proofs.Closing.{changed_selector, read_row, makes-emptied}
 use Rattle.nio_plain.proofs.Parts.{then, makes-entered}
@@ -10,7 +9,6 @@ use Rattle.nio_plain.specs.PlainState.{SelectorRow, state_of, selector_row, empt
 use Rattle.nio_plain.specs.declared.plain.selector.Closing.{Closing}
 use Rattle.nio_plain.specs.declared.plain.selector.Selector.{Selector}
 use Rattle.nio_plain.specs.ScriptState.{ScriptState, with_shared}
-use Rattle.nio_plain.specs.Seq.Replies.{unchanged}
 use Rattle.nio_plain.specs.Seq.Closing.{close_end_call, without_keys}
 use Rattle.nio_plain.specs.Seq.Selections.{is_caller}
 use Rattle.nio_plain.proofs.plain.Plain.close_end.Goals as goal
@@ -34,8 +32,7 @@ returns-in_default c =
     ∙ ap is_other c.in_default.is in
     unchanged_without_memory p _ _
     (c.in-Ok.ensures.through _
-    ∙ cond-true (not (is_caller c.args.me (st.shared.closer s)) || st.shared.entered s)
-    (unchanged st reply.NotClosing) _ other)
+    ∙ rw other refl)
 
 pub returns-then-closing-me : goal.returns-then-closing-me
 unfolding close_end_call
@@ -53,8 +50,7 @@ returns-then-closing-me c =
     (ne_eqb c.in-Some.closing.closer.0 c.args.me.0 c.if-closing-me.true)) in
     unchanged_without_memory p _ _
     (c.in-Ok.ensures.through _
-    ∙ cond-true (not (is_caller c.args.me (st.shared.closer s)) || st.shared.entered s)
-    (unchanged st reply.NotClosing) _ other)
+    ∙ rw other refl)
 
 pub returns-then-closing : goal.returns-then-closing
 unfolding close_end_call
@@ -70,8 +66,7 @@ returns-then-closing c =
     ∙ (ap is_other c.in-Some.is ∙ or_right _ _ c.if-closing.true) in
     unchanged_without_memory p _ _
     (c.in-Ok.ensures.through _
-    ∙ cond-true (not (is_caller c.args.me (st.shared.closer s)) || st.shared.entered s)
-    (unchanged st reply.NotClosing) _ other)
+    ∙ rw other refl)
 
 pub returns-then-is_some : goal.returns-then-is_some
 unfolding close_end_call
@@ -91,9 +86,7 @@ returns-then-is_some c =
     ∙ (is_some-caller_of x.selecting ∙ sym c.if-is_some.ensures) in
     unchanged_without_memory p _ _
     (c.in-Ok.ensures.through _
-    ∙ (cond-false (not (is_caller c.args.me (st.shared.closer s)) || st.shared.entered s)
-    (unchanged st reply.NotClosing) _ own
-    ∙ cond-true (is_some (st.shared.turn s)) (unchanged st reply.Busy) _ taken))
+    ∙ (rw (own, taken) refl))
 
 pub returns : goal.returns
 unfolding close_end_call
@@ -124,9 +117,7 @@ returns c =
     (makes-entered _ _ _ _ _ s true) in
     replied_without_memory p _ _ _ _
     (c.in-Ok.ensures.through _
-    ∙ (cond-false (not (is_caller c.args.me (st.shared.closer s)) || st.shared.entered s)
-    (unchanged st reply.NotClosing) _ own
-    ∙ cond-false (is_some (st.shared.turn s)) (unchanged st reply.Busy) _ free))
+    ∙ (rw (own, free) refl))
     refl
     (changed_selector p s c.in-Ok.place y c.finish_closing.new.self (λ r. enters (empties r))
     (λ m. enters' (empties' m)) both c.in-Ok.ensures.place within c.index_mut.ensures.value

@@ -1,13 +1,11 @@
-use Rattle.std.proofs.Common.{bit_or, sym, ap, ◌∙◌}
-use Rattle.std.proofs.lemmas.Bool.{cond-true, cond-false}
+use Rattle.std.proofs.Common.{bit_or, sym, ap, ◌∙◌, refl}
 use Rattle.nio_event.specs.State.{with_interest}
 use Rattle.nio_event.specs.declared.reply.Reply.TheVariants as reply
 use Rattle.nio_plain.proofs.Replying.{unchanged_without_memory, replied_without_memory}
 use Rattle.nio_plain.proofs.KeyChange.{key-interest}
 use Rattle.nio_plain.specs.PlainState.{KeyRow, key_row, state_of}
 use Rattle.nio_plain.specs.ScriptState.{with_shared}
-use Rattle.nio_plain.specs.Seq.Replies.{unchanged}
-use Rattle.nio_plain.specs.Seq.Keys.{ior_call, are_legal_at}
+use Rattle.nio_plain.specs.Seq.Keys.{ior_call}
 use Rattle.nio_plain.specs.Seq.Registering.{are_legal}
 use Rattle.nio_plain.proofs.plain.Plain.interest_or.Goals as goal
 
@@ -20,8 +18,7 @@ returns-then-not-are_legal c =
     ∙ sym c.if-not-are_legal.ensures in
     unchanged_without_memory p _ _
     (c.in-Ok.ensures.through _
-    ∙ cond-false (are_legal_at st.shared c.args.sel.0 c.args.id.index c.args.ops) _
-    (unchanged st reply.IllegalOps) illegal)
+    ∙ rw illegal refl)
 
 pub returns : goal.returns
 unfolding ior_call
@@ -36,7 +33,7 @@ returns c =
     let changed = c.union-interest.ensures ∙ ap (λ (k : KeyRow). bit_or k.interest c.args.ops) (sym row) in
     replied_without_memory p _ _ _ _
     (c.in-Ok.ensures.through _
-    ∙ cond-true (are_legal_at st.shared s i c.args.ops) _ (unchanged st reply.IllegalOps) legal)
+    ∙ rw legal refl)
     (ap reply.Number ((c.from.ensures ∙ c.bits.ensures.bits) ∙ ap (λ (k : KeyRow). k.interest) (sym row)))
     ((c.put_key.ensures.left ∙ key-interest p s i (key_row c.in-Ok.key) row c.union-interest.result)
     ∙ ap (λ n. with_shared st (with_interest st.shared s i n)) changed)

@@ -1,6 +1,6 @@
-use Rattle.std.proofs.Common.{◌≡◌, ◌+◌, ◌<◌, ◌≤◌, false, nat_lt, Some, None, List, [], ◌∷◌, ◌++◌, length, refl, sym, ap}
-use Rattle.std.proofs.Common.{◌∙◌, arith}
-use Rattle.std.proofs.lemmas.Bool.{cond-true, cond-false, le-ltb, lt-ltb}
+use Rattle.std.proofs.Common.{◌≡◌, ◌+◌, ◌<◌, ◌≤◌, false, Some, None, List, [], ◌∷◌, ◌++◌, length, refl, sym, ap, ◌∙◌}
+use Rattle.std.proofs.Common.{arith}
+use Rattle.std.proofs.lemmas.Bool.{le-ltb, lt-ltb}
 use Rattle.std.proofs.lemmas.List.{length_push}
 use Rattle.nio_base.specs.declared.kind.Kind.TheVariants.{Source, Sink}
 use Rattle.nio_event.specs.declared.reply.Reply.TheVariants as reply
@@ -20,8 +20,7 @@ unfolding pipe_call
 returns-then-target-self c =
     let p = c.args.self.now in
     unchanged_as p _ _
-    (cond-false (nat_lt c.args.target.0 p.limits.callers) _ _
-    (le-ltb c.args.target.0 p.limits.callers c.if-target-self.true))
+    (rw (le-ltb c.args.target.0 p.limits.callers c.if-target-self.true) refl)
 
 pub returns-then-number-self : goal.returns-then-number-self
 unfolding pipe_call
@@ -32,11 +31,8 @@ returns-then-number-self c =
     let within : c.args.target.0 < l.callers = omega arith in
     let full : l.channels ≤ length xs = omega (arith, p.channels.ok.0) in
     unchanged_as p _ _
-    (cond-true (nat_lt c.args.target.0 l.callers)
-    (with_source l (state_of p) c.args.me c.args.target (next_channel l (state_of p))) _
-    (lt-ltb c.args.target.0 l.callers within)
-    ∙ ap (with_source l (state_of p) c.args.me c.args.target)
-    (no_next_end p p.pipes.items xs full))
+    (rw (lt-ltb c.args.target.0 l.callers within) (ap (with_source l (state_of p) c.args.me c.args.target)
+    (no_next_end p p.pipes.items xs full)))
 
 pub returns-then-number-self-2 : goal.returns-then-number-self-2
 returns-then-number-self-2 c =

@@ -1,14 +1,11 @@
-use Rattle.std.proofs.Common.{◌<◌, ◌==◌, ◌&&◌, length, refl, sym, ap, ◌∙◌, arith}
-use Rattle.std.proofs.lemmas.Bool.{cond-true, cond-false, eq-eqb, ne_eqb}
+use Rattle.std.proofs.Common.{◌<◌, ◌&&◌, length, refl, sym, ap, ◌∙◌, arith}
+use Rattle.std.proofs.lemmas.Bool.{eq-eqb, ne_eqb}
 use Rattle.nio_event.specs.declared.found.Chan.{Chan}
-use Rattle.nio_event.specs.declared.reply.Reply.TheVariants as reply
 use Rattle.nio_plain.proofs.Replying.{unchanged_as, replied_as, of_word}
 use Rattle.nio_plain.proofs.Piping.{place_within}
 use Rattle.nio_plain.specs.PlainState.{state_of}
-use Rattle.nio_plain.specs.Seq.Replies.{unchanged, replied}
-use Rattle.nio_plain.specs.Seq.Cancelling.{channel_closed}
 use Rattle.nio_plain.specs.Seq.Pipes.{owns_source, pipe_at}
-use Rattle.nio_plain.specs.Seq.Piping.{finds_interrupt, pread_call, read_first, read_from}
+use Rattle.nio_plain.specs.Seq.Piping.{pread_call, read_first, read_from}
 use Rattle.nio_plain.proofs.plain.Plain.pread.Goals as goal
 
 pub returns-in-Err : goal.returns-in-Err
@@ -31,7 +28,7 @@ returns-then-channel c =
     let closed = ap (λ (x : Chan). x.closed) c.in-Ok.ensures.row ∙ c.if-channel.true in
     unchanged_as p _ _
     (c.in-Ok.ensures.through _ ∙ (ap (read_from st c.args.me c.args.chan c.args.most) (sym c.in-Some.ensures)
-    ∙ cond-true (st.shared.chan c.args.chan.0).closed (unchanged st reply.ClosedChannel) _ closed))
+    ∙ rw closed refl))
 
 pub returns-then-finds_interrupt : goal.returns-then-finds_interrupt
 unfolding pread_call
@@ -44,9 +41,7 @@ returns-then-finds_interrupt c =
     ∙ sym c.if-finds_interrupt.ensures in
     replied_as p _ _ _ _
     (c.in-Ok.ensures.through _ ∙ (ap (read_from st c.args.me c.args.chan c.args.most) (sym c.in-Some.ensures)
-    ∙ (cond-false (st.shared.chan c.args.chan.0).closed (unchanged st reply.ClosedChannel) _ opened
-    ∙ cond-true (finds_interrupt st c.args.me c.args.chan)
-    (replied st reply.ClosedByInterrupt (channel_closed st.shared c.args.chan.0)) _ found)))
+    ∙ (rw (opened, found) refl)))
     refl
     c.shut_channel.ensures.left
     c.shut_channel.ensures.kept
@@ -62,10 +57,7 @@ returns-then-most-eq0 c =
     ∙ sym c.if-finds_interrupt.ensures in
     unchanged_as p _ _
     (c.in-Ok.ensures.through _ ∙ (ap (read_from st c.args.me c.args.chan c.args.most) (sym c.in-Some.ensures)
-    ∙ (cond-false (st.shared.chan c.args.chan.0).closed (unchanged st reply.ClosedChannel) _ opened
-    ∙ (cond-false (finds_interrupt st c.args.me c.args.chan)
-    (replied st reply.ClosedByInterrupt (channel_closed st.shared c.args.chan.0)) _ none
-    ∙ cond-true (c.args.most == 0) (unchanged st (reply.Number 0)) _ (eq-eqb c.args.most 0 c.if-most-eq0.true)))))
+    ∙ (rw (opened, none, eq-eqb c.args.most 0 c.if-most-eq0.true) refl)))
 
 pub read_from-requires : goal.read_from-requires
 read_from-requires c =
@@ -85,10 +77,7 @@ returns c =
     ∙ sym c.if-finds_interrupt.ensures in
     of_word _ _ _ _ _
     (c.in-Ok.ensures.through _ ∙ (ap (read_from st c.args.me c.args.chan c.args.most) (sym c.in-Some.ensures)
-    ∙ (cond-false (st.shared.chan c.args.chan.0).closed (unchanged st reply.ClosedChannel) _ opened
-    ∙ (cond-false (finds_interrupt st c.args.me c.args.chan)
-    (replied st reply.ClosedByInterrupt (channel_closed st.shared c.args.chan.0)) _ none
-    ∙ (cond-false (c.args.most == 0) (unchanged st (reply.Number 0)) _ (ne_eqb c.args.most 0 c.if-most-eq0.false)
-    ∙ ap (λ (x : Chan). read_first st x.blocking c.args.most c.in-Some.place (pipe_at st.pipes c.in-Some.place).waiting
-    (pipe_at st.pipes c.in-Some.place).sealed) c.in-Ok.ensures.row)))))
+    ∙ (rw (opened, none, ne_eqb c.args.most 0 c.if-most-eq0.false)
+    (ap (λ (x : Chan). read_first st x.blocking c.args.most c.in-Some.place (pipe_at st.pipes c.in-Some.place).waiting
+    (pipe_at st.pipes c.in-Some.place).sealed) c.in-Ok.ensures.row))))
     c.read_from.ensures

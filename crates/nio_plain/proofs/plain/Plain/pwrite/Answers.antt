@@ -1,15 +1,11 @@
-use Rattle.std.proofs.Common.{◌<◌, ◌==◌, ◌&&◌, Some, length, refl, sym, ap, ◌∙◌, arith}
-use Rattle.std.proofs.lemmas.Bool.{cond-true, cond-false}
+use Rattle.std.proofs.Common.{◌<◌, ◌&&◌, Some, length, refl, sym, ap, ◌∙◌, arith}
 use Rattle.nio_event.specs.declared.found.Chan.{Chan}
-use Rattle.nio_event.specs.declared.reply.Reply.TheVariants as reply
 use Rattle.nio_plain.proofs.Replying.{unchanged_as, replied_as, of_word}
 use Rattle.nio_plain.proofs.Piping.{pipe_at-is, place_within}
 use Rattle.nio_plain.specs.PlainState.{state_of}
 use Rattle.nio_plain.specs.ScriptState.{Pipe}
-use Rattle.nio_plain.specs.Seq.Replies.{unchanged, replied}
-use Rattle.nio_plain.specs.Seq.Cancelling.{channel_closed}
-use Rattle.nio_plain.specs.Seq.Pipes.{sealing, owns_sink, pipe_at, with_seal}
-use Rattle.nio_plain.specs.Seq.Piping.{finds_interrupt, pwrite_call, room_for, write_first, write_to}
+use Rattle.nio_plain.specs.Seq.Pipes.{owns_sink, pipe_at, with_seal}
+use Rattle.nio_plain.specs.Seq.Piping.{pwrite_call, room_for, write_first, write_to}
 use Rattle.nio_plain.proofs.plain.Plain.pwrite.Goals as goal
 
 pub returns-in-Err : goal.returns-in-Err
@@ -39,8 +35,7 @@ returns-then-channel c =
     let closed = ap (λ (x : Chan). x.closed) c.in-Ok.ensures.row ∙ c.if-channel.true in
     replied_as p _ _ _ _
     (c.in-Ok.ensures.through _ ∙ (ap (write_to st c.args.me c.args.chan c.args.bytes.now) (sym c.in-Some.ensures)
-    ∙ cond-true (st.shared.chan c.args.chan.0).closed
-    (sealing (Some c.in-Some.place) (unchanged st reply.ClosedChannel)) _ closed))
+    ∙ rw closed refl))
     refl
     c.seal.ensures.left
     c.seal.ensures.kept
@@ -56,11 +51,7 @@ returns-then-finds_interrupt c =
     ∙ sym c.if-finds_interrupt.ensures in
     replied_as p _ _ _ _
     (c.in-Ok.ensures.through _ ∙ (ap (write_to st c.args.me c.args.chan c.args.bytes.now) (sym c.in-Some.ensures)
-    ∙ (cond-false (st.shared.chan c.args.chan.0).closed
-    (sealing (Some c.in-Some.place) (unchanged st reply.ClosedChannel)) _ opened
-    ∙ cond-true (finds_interrupt st c.args.me c.args.chan)
-    (sealing (Some c.in-Some.place)
-    (replied st reply.ClosedByInterrupt (channel_closed st.shared c.args.chan.0))) _ found)))
+    ∙ (rw (opened, found) refl)))
     refl
     (c.seal-then-finds_interrupt.ensures.left ∙ ap (with_seal (Some c.in-Some.place)) c.shut_channel.ensures.left)
     (record {
@@ -93,11 +84,7 @@ returns-then-is_closed c =
     ∙ sym c.if-is_closed.ensures in
     unchanged_as p _ _
     (c.in-Ok.ensures.through _ ∙ (ap (write_to st c.args.me c.args.chan c.args.bytes.now) (sym c.in-Some.ensures)
-    ∙ (cond-false (st.shared.chan c.args.chan.0).closed
-    (sealing (Some place) (unchanged st reply.ClosedChannel)) _ opened
-    ∙ (cond-false (finds_interrupt st c.args.me c.args.chan)
-    (sealing (Some place) (replied st reply.ClosedByInterrupt (channel_closed st.shared c.args.chan.0))) _ none
-    ∙ cond-true (st.shared.chan (pipe_at st.pipes place).source.0).closed (unchanged st reply.BrokenPipe) _ broken))))
+    ∙ (rw (opened, none, broken) refl)))
 
 pub returns-then-is_empty : goal.returns-then-is_empty
 unfolding pwrite_call
@@ -117,12 +104,7 @@ returns-then-is_empty c =
     ∙ sym c.if-is_closed.ensures in
     unchanged_as p _ _
     (c.in-Ok.ensures.through _ ∙ (ap (write_to st c.args.me c.args.chan c.args.bytes.now) (sym c.in-Some.ensures)
-    ∙ (cond-false (st.shared.chan c.args.chan.0).closed
-    (sealing (Some place) (unchanged st reply.ClosedChannel)) _ opened
-    ∙ (cond-false (finds_interrupt st c.args.me c.args.chan)
-    (sealing (Some place) (replied st reply.ClosedByInterrupt (channel_closed st.shared c.args.chan.0))) _ none
-    ∙ (cond-false (st.shared.chan (pipe_at st.pipes place).source.0).closed (unchanged st reply.BrokenPipe) _ whole
-    ∙ cond-true (length c.args.bytes.now == 0) (unchanged st (reply.Number 0)) _ (sym c.if-is_empty.ensures))))))
+    ∙ (rw (opened, none, whole, sym c.if-is_empty.ensures) refl)))
 
 pub write_to-requires : goal.write_to-requires
 write_to-requires c =
@@ -149,12 +131,7 @@ returns c =
     ∙ sym c.if-is_closed.ensures in
     of_word _ _ _ _ _
     (c.in-Ok.ensures.through _ ∙ (ap (write_to st c.args.me c.args.chan c.args.bytes.now) (sym c.in-Some.ensures)
-    ∙ (cond-false (st.shared.chan c.args.chan.0).closed
-    (sealing (Some place) (unchanged st reply.ClosedChannel)) _ opened
-    ∙ (cond-false (finds_interrupt st c.args.me c.args.chan)
-    (sealing (Some place) (replied st reply.ClosedByInterrupt (channel_closed st.shared c.args.chan.0))) _ none
-    ∙ (cond-false (st.shared.chan (pipe_at st.pipes place).source.0).closed (unchanged st reply.BrokenPipe) _ whole
-    ∙ (cond-false (length c.args.bytes.now == 0) (unchanged st (reply.Number 0)) _ (sym c.if-is_empty.ensures)
-    ∙ ap (λ (x : Chan). write_first st x.blocking c.args.bytes.now place
-    (room_for c.args.bytes.now (pipe_at st.pipes place))) c.in-Ok.ensures.row))))))
+    ∙ (rw (opened, none, whole, sym c.if-is_empty.ensures)
+    (ap (λ (x : Chan). write_first st x.blocking c.args.bytes.now place
+    (room_for c.args.bytes.now (pipe_at st.pipes place))) c.in-Ok.ensures.row))))
     c.write_to.ensures

@@ -1,11 +1,8 @@
 use Rattle.std.proofs.Common.{refl, sym, ap, ◌∙◌}
-use Rattle.std.proofs.lemmas.Bool.{cond-true, cond-false}
-use Rattle.nio_event.specs.declared.reply.Reply.TheVariants as reply
 use Rattle.nio_plain.proofs.Replying.{unchanged_without_memory, replied_without_memory}
 use Rattle.nio_plain.proofs.KeyChange.{key-interest}
 use Rattle.nio_plain.specs.PlainState.{KeyRow, key_row, state_of}
-use Rattle.nio_plain.specs.Seq.Replies.{unchanged}
-use Rattle.nio_plain.specs.Seq.Keys.{iset_call, are_legal_at}
+use Rattle.nio_plain.specs.Seq.Keys.{iset_call}
 use Rattle.nio_plain.specs.Seq.Registering.{are_legal}
 use Rattle.nio_plain.proofs.plain.Plain.set_interest.Goals as goal
 
@@ -18,8 +15,7 @@ returns-then-not-are_legal c =
     ∙ sym c.if-not-are_legal.ensures in
     unchanged_without_memory p _ _
     (c.in-Ok.ensures.through _
-    ∙ cond-false (are_legal_at st.shared c.args.sel.0 c.args.id.index c.args.ops) _
-    (unchanged st reply.IllegalOps) illegal)
+    ∙ rw illegal refl)
 
 pub returns : goal.returns
 unfolding iset_call
@@ -31,8 +27,7 @@ returns c =
     ∙ sym c.if-not-are_legal.ensures in
     replied_without_memory p _ _ _ _
     (c.in-Ok.ensures.through _
-    ∙ cond-true (are_legal_at st.shared c.args.sel.0 c.args.id.index c.args.ops) _
-    (unchanged st reply.IllegalOps) legal)
+    ∙ rw legal refl)
     refl
     (c.put_key.ensures.left ∙ key-interest p c.args.sel.0 c.args.id.index (key_row c.in-Ok.key) row c.args.ops)
     c.put_key.ensures.kept

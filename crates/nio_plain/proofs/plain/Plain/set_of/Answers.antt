@@ -1,7 +1,5 @@
-use Rattle.std.proofs.Common.{◌<◌, List, filter, map, length, sym, ap, ◌∙◌, arith}
-use Rattle.std.proofs.lemmas.Bool.{cond-true, cond-false}
+use Rattle.std.proofs.Common.{◌<◌, List, filter, map, length, sym, ap, ◌∙◌, arith, refl}
 use Rattle.nio_base.specs.declared.numbers.KeyId.{KeyId}
-use Rattle.nio_event.specs.declared.reply.Reply.TheVariants as reply
 use Rattle.nio_plain.proofs.Replying.{unchanged_as}
 use Rattle.nio_plain.proofs.Closing.{read_row}
 use Rattle.nio_plain.specs.PlainState.{SelectorRow, state_of, places, key_row, no_key, key_id, is_listed, listed_below}
@@ -24,7 +22,7 @@ returns-then-is_shut c =
     let shut = ap (λ (r : SelectorRow). r.gate.shut) row ∙ sym c.if-is_shut.ensures in
     unchanged_as p _ _
     (c.in-Ok.ensures.through _
-    ∙ cond-true ((state_of p).shared.gate s).shut (unchanged (state_of p) reply.ClosedSelector) _ shut)
+    ∙ rw shut refl)
 
 pub returns : goal.returns
 returns c =
@@ -43,5 +41,4 @@ returns c =
     let told = c.names_or_none.ensures ∙ ap names_or_none (c.in_ok-names.ensures ∙ read) in
     unchanged_as p _ _
     (c.in-Ok.ensures.through _
-    ∙ (cond-false ((state_of p).shared.gate s).shut (unchanged (state_of p) reply.ClosedSelector) _ opened
-    ∙ (of_row ∙ ap (unchanged (state_of p)) (sym told))))
+    ∙ (rw opened (of_row ∙ ap (unchanged (state_of p)) (sym told))))

@@ -1,14 +1,11 @@
 use Rattle.std.proofs.Common.{true, ◌&&◌, refl, sym, ap, ◌∙◌}
-use Rattle.std.proofs.lemmas.Bool.{cond-true, cond-false}
 use Rattle.nio_event.specs.Sets.{fits}
 use Rattle.nio_event.specs.State.{with_mark}
-use Rattle.nio_event.specs.declared.reply.Reply.TheVariants as reply
 use Rattle.nio_plain.proofs.Replying.{unchanged_without_memory, replied_without_memory}
 use Rattle.nio_plain.proofs.KeyChange.{key-mark}
 use Rattle.nio_plain.specs.PlainState.{KeyRow, is_listed, key_row, state_of}
 use Rattle.nio_plain.specs.ScriptState.{with_shared}
-use Rattle.nio_plain.specs.Seq.Replies.{unchanged}
-use Rattle.nio_plain.specs.Seq.Keys.{is_in_selected_set, unselect_call}
+use Rattle.nio_plain.specs.Seq.Keys.{unselect_call}
 use Rattle.nio_plain.specs.Seq.Removing.{unselected}
 use Rattle.nio_plain.proofs.plain.Plain.unselect.Goals as goal
 
@@ -22,7 +19,7 @@ returns-then-not-is_selected_key c =
     ∙ sym c.if-not-is_selected_key.ensures in
     unchanged_without_memory p _ _
     (c.in-Ok.ensures.through _
-    ∙ cond-false (is_in_selected_set st.shared c.args.sel.0 id) _ (unchanged st reply.No) out)
+    ∙ rw out refl)
 
 pub returns : goal.returns
 unfolding unselect_call
@@ -37,7 +34,7 @@ returns c =
     ∙ sym c.if-not-is_selected_key.ensures in
     let marked = ap (λ (k : KeyRow). with_shared st (with_mark st.shared s id.index (unselected k.mark))) (sym row) in
     replied_without_memory p _ _ _ _
-    (c.in-Ok.ensures.through _ ∙ cond-true (is_in_selected_set st.shared s id) _ (unchanged st reply.No) is_in)
+    (c.in-Ok.ensures.through _ ∙ rw is_in refl)
     refl
     ((c.put_key.ensures.left ∙ key-mark p s id.index (key_row key) row (unselected key.mark)) ∙ marked)
     c.put_key.ensures.kept

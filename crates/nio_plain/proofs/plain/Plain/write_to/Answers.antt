@@ -1,6 +1,6 @@
-use Rattle.std.proofs.Common.{◌≡◌, ℕ, ◌-◌, ◌<◌, ◌==◌, ◌++◌, length, min, take, refl, sym, ap, ◌∙◌, arith}
+use Rattle.std.proofs.Common.{◌≡◌, ℕ, ◌-◌, ◌<◌, ◌++◌, length, min, take, refl, sym, ap, ◌∙◌, arith}
 use Rattle.std.proofs.Math.Seq.{map-set_same}
-use Rattle.std.proofs.lemmas.Bool.{cond-true, cond-false, eq-eqb, ne_eqb}
+use Rattle.std.proofs.lemmas.Bool.{eq-eqb, ne_eqb}
 use Rattle.nio_event.specs.declared.reply.Reply.TheVariants as reply
 use Rattle.nio_plain.proofs.Replying.{unchanged_as, replied_as, failed_as}
 use Rattle.nio_plain.proofs.Piping.{changed_pipe, pipe_at-is}
@@ -8,7 +8,7 @@ use Rattle.nio_plain.specs.PlainState.{pipe_of, state_of}
 use Rattle.nio_plain.specs.ScriptState.{Pipe, with_pipes}
 use Rattle.nio_plain.specs.Seq.Replies.{unchanged}
 use Rattle.nio_plain.specs.Seq.Pipes.{pipe_at}
-use Rattle.nio_plain.specs.Seq.Piping.{not_now, room_for}
+use Rattle.nio_plain.specs.Seq.Piping.{room_for}
 use Rattle.nio_plain.proofs.plain.Plain.write_to.Goals as goal
 
 pub returns-then-room-eq0 : goal.returns-then-room-eq0
@@ -24,8 +24,7 @@ returns-then-room-eq0 c =
     let none = ap (room_for bytes) at ∙ (sym room ∙ c.if-room-eq0.true) in
     let size = room_for bytes (pipe_at st.pipes c.args.place) in
     unchanged_as p _ _
-    (cond-true (size == 0) (unchanged st (not_now c.args.channel.blocking)) _ (eq-eqb size 0 none)
-    ∙ ap (unchanged st) (sym c.not_now.ensures))
+    (rw (eq-eqb size 0 none) (ap (unchanged st) (sym c.not_now.ensures)))
 
 pub returns-in_err-put : goal.returns-in_err-put
 returns-in_err-put c =
@@ -50,8 +49,7 @@ returns c =
     omega (arith, x.waiting.ok.0) in
     let all : c.min-room.result ≡ size = room ∙ sym (ap (room_for bytes) at) in
     replied_as p _ _ _ _
-    (cond-false (size == 0) (unchanged st (not_now c.args.channel.blocking)) _
-    (ne_eqb size 0 (λ e. c.if-room-eq0.false (all ∙ e))))
+    (rw (ne_eqb size 0 (λ e. c.if-room-eq0.false (all ∙ e))) refl)
     (ap reply.Number all)
     (ap (with_pipes st)
     (changed_pipe p.pipes.items c.args.place y c.put.new.self

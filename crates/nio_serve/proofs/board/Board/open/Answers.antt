@@ -1,9 +1,10 @@
 use Rattle.std.proofs.Common.{refl}
-use Rattle.nio_orderly.specs.Made.{open_selector}
-use Rattle.nio_steps.proofs.PinBack.{no_pin_after}
-use Rattle.nio_steps.proofs.PinLaws.{pins_are_given_back}
+use Rattle.nio_orderly.specs.Made.{table_call}
 use Rattle.nio_serve.proofs.Calls.{did_unpinned, unregistered_after}
 use Rattle.nio_serve.proofs.board.Board.open.Goals as goal
+use Rattle.nio_steps.proofs.PinBack.{no_pin_after}
+use Rattle.nio_steps.proofs.PinLaws.{pins_are_given_back}
+use Rattle.nio_steps.specs.TableCalls.{open_selector}
 
 pub over-requires-clause-idle : goal.over-requires-clause-idle
 over-requires-clause-idle c = record {
@@ -15,7 +16,7 @@ over-requires-clause-idle c = record {
 
 pub over-requires-clause-called : goal.over-requires-clause-called
 over-requires-clause-called c =
-    unregistered_after (open_selector _) (record { may_come = λ _. tt; registers_nothing = refl })
-    (did_unpinned {p = c.args.pass} (open_selector c.open_selector.result) (λ _ run. run)
+    unregistered_after (table_call open_selector _) (record { may_come = λ _. tt; registers_nothing = refl })
+    (did_unpinned {p = c.args.pass} (table_call open_selector c.open_selector.result) (λ _ run. run)
     (pins_are_given_back.open_selector _) c.open_selector.ensures.call c.open_selector.ensures.ready
     c.requires.unpinned) c.requires.called

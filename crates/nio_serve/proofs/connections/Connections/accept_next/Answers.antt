@@ -1,10 +1,10 @@
-use Rattle.std.proofs.Common.{◌≡◌, Some, refl, sym, subst, ap, ◌∙◌, arith, length, rules, slice_get}
+use Rattle.std.proofs.Common.{◌≡◌, Some, refl, sym, subst, ap, ◌∙◌, arith, length, rules}
+use Rattle.std.proofs.lemmas.Bool.{both_ways}
 use Rattle.nio_link.specs.Links.{IsUnused}
 use Rattle.nio_serve.specs.Serving.{client_of, target_of}
-use Rattle.nio_serve.specs.Slots.{has_ended, has_faulted, was_accepted}
+use Rattle.nio_serve.specs.Slots.{has_faulted}
 use Rattle.nio_serve.specs.declared.slot.Slot.TheVariants.{Unaccepted}
-use Rattle.nio_serve.proofs.Counts.{count_few}
-use Rattle.nio_serve.proofs.Slotting.{next_unbegun, not_true, serving_new, serving_unaccepted}
+use Rattle.nio_serve.proofs.Slotting.{few_counted, next_unbegun, serving_new, serving_unaccepted}
 use Rattle.nio_serve.proofs.Watching.{seat_none, watching_added, where_ok, watching_dropped}
 use Rattle.nio_serve.proofs.Working.{begins_then}
 use Rattle.nio_serve.proofs.connections.Connections.accept_next.Goals as goal
@@ -33,27 +33,13 @@ take_on-slot-requires g c =
     }
 
 pub add-requires : goal.add-requires
-add-requires g c = record {
-  room = omega (arith, c.requires.few, c.requires.served.room);
-  few = omega (
-    arith,
-    c.requires.served.ended,
-    c.requires.served.bound,
-    count_few (λ k. has_ended (slice_get c.args.self.now.slots.items k)) c.args.self.now.conns,
-  );
-  few_accepted = omega (
-    arith,
-    c.requires.served.accepted,
-    c.requires.served.bound,
-    count_few (λ k. was_accepted (slice_get c.args.self.now.slots.items k)) c.args.self.now.conns,
-  );
-  few_faulted = omega (
-    arith,
-    c.requires.served.faulted,
-    c.requires.served.bound,
-    count_few (λ k. has_faulted (slice_get c.args.self.now.slots.items k)) c.args.self.now.conns,
-  );
-}
+add-requires g c =
+    let counts = few_counted c.requires.served in record {
+      room = omega (arith, c.requires.few, c.requires.served.room);
+      few = omega (arith, counts.1);
+      few_accepted = omega (arith, counts.0);
+      few_faulted = omega (arith, counts.2);
+    }
 
 pub returns-in-Ok-clause-serving : goal.returns-in-Ok-clause-serving
 returns-in-Ok-clause-serving g c =
@@ -69,7 +55,7 @@ returns-in-Ok-clause-serving g c =
     c.add.ensures.slots c.add.ensures.room c.add.ensures.conns c.add.ensures.target
     (c.take_on-slot.ensures.slot c.args.self.now.target)
     c.add.ensures.ended c.add.ensures.faulted
-    (λ f. absurd (not_true (has_faulted (Some c.take_on-slot.result.0)) c.take_on-slot.ensures.unfaulted f))
+    (λ f. absurd (both_ways (has_faulted (Some c.take_on-slot.result.0)) c.take_on-slot.ensures.unfaulted f))
     (λ _. c.take_on-slot.ensures.calm ∙ accepts.faults c.links_of.result.1)
     c.take_on-slot.ensures.stands c.add.ensures.accepted c.requires.listening
     (c.take_on-slot.ensures.accepted ∙ accepts.accepted)
@@ -88,7 +74,7 @@ returns-in-Err-taken-clause-serving g c =
     c.add.ensures.slots c.add.ensures.room c.add.ensures.conns c.add.ensures.target
     (c.take_on-slot.ensures.slot c.args.self.now.target)
     c.add.ensures.ended c.add.ensures.faulted
-    (λ f. absurd (not_true (has_faulted (Some c.take_on-slot.result.0)) c.take_on-slot.ensures.unfaulted f))
+    (λ f. absurd (both_ways (has_faulted (Some c.take_on-slot.result.0)) c.take_on-slot.ensures.unfaulted f))
     (λ _. c.take_on-slot.ensures.calm ∙ accepts.faults c.links_of.result.1)
     c.take_on-slot.ensures.stands c.add.ensures.accepted c.requires.listening
     (c.take_on-slot.ensures.accepted ∙ accepts.accepted)

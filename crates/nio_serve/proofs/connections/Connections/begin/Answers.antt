@@ -1,9 +1,10 @@
-use Rattle.std.proofs.Common.{◌≡◌, sym, ap, subst, ◌∙◌, ◌+◌, Some, arith, slice_get}
+use Rattle.std.proofs.Common.{◌≡◌, sym, ap, subst, ◌∙◌, ◌+◌, Some, arith}
 use Rattle.nio_serve.specs.Serving.{listener}
 use Rattle.nio_serve.specs.Slots.{has_ended, has_faulted, IsSlotOf}
 use Rattle.nio_serve.specs.declared.slot.Slot.TheVariants.{Live}
-use Rattle.nio_serve.proofs.Counts.{one_if, count_few}
-use Rattle.nio_serve.proofs.Slotting.{serving_connected, slot_is, client_listener, target_listener}
+use Rattle.nio_serve.proofs.Counts.{one_if}
+use Rattle.nio_serve.proofs.Slotting.{client_listener, few_counted, others_then, serving_connected, slot_is}
+use Rattle.nio_serve.proofs.Slotting.{target_listener}
 use Rattle.nio_serve.proofs.connections.Connections.begin.Goals as goal
 
 pub begin_relay-slot-requires : goal.begin_relay-slot-requires
@@ -19,24 +20,10 @@ begin_relay-slot-requires g c = record {
 }
 
 pub put-requires-clause-few : goal.put-requires-clause-few
-put-requires-clause-few g c =
-    omega (
-      arith,
-      c.take.ensures.ended,
-      c.requires.served.ended,
-      c.requires.served.bound,
-      count_few (λ k. has_ended (slice_get c.args.self.now.slots.items k)) c.args.self.now.conns,
-    )
+put-requires-clause-few g c = omega (arith, c.take.ensures.ended, (few_counted c.requires.served).1)
 
 pub put-requires-clause-few_faulted : goal.put-requires-clause-few_faulted
-put-requires-clause-few_faulted g c =
-    omega (
-      arith,
-      c.take.ensures.faulted,
-      c.requires.served.faulted,
-      c.requires.served.bound,
-      count_few (λ k. has_faulted (slice_get c.args.self.now.slots.items k)) c.args.self.now.conns,
-    )
+put-requires-clause-few_faulted g c = omega (arith, c.take.ensures.faulted, (few_counted c.requires.served).2)
 
 pub returns-clause-serving : goal.returns-clause-serving
 returns-clause-serving g c =
@@ -47,14 +34,8 @@ returns-clause-serving g c =
     serving_connected g.W.Way _ slot c.in-Some.relay c.links_of.result.0 c.links_of.result.1 c.args.net.now
     c.begin_relay-slot.new.net c.args.self.now c.put.new.self
     c.links_of.ensures.client c.links_of.ensures.target c.requires.served c.in-Some.ensures.taken begun.begins
-    (record {
-      here = c.put.ensures.slot;
-      else_ = λ j other. c.put.ensures.others.others j other ∙ c.take.ensures.others.others j other;
-    })
-    (c.put.ensures.others.length ∙ c.take.ensures.others.length)
-    (c.put.ensures.others.room ∙ c.take.ensures.others.room)
-    (c.put.ensures.others.conns ∙ c.take.ensures.others.conns)
-    (c.put.ensures.others.target ∙ c.take.ensures.others.target)
+    c.put.ensures.slot
+    (others_then c.take.new.self c.begin_relay-slot.new.spare c.take.ensures.others c.put.ensures.others)
     (subst
     (λ a. IsSlotOf a (Some slot) (g.W.Way.link c.begin_relay-slot.new.net c.links_of.result.0)
     (g.W.Way.link c.begin_relay-slot.new.net c.links_of.result.1)
@@ -68,10 +49,7 @@ returns-clause-serving g c =
     (c.put.ensures.faulted ∙ ap (λ m. m + one_if (has_faulted (Some slot))) c.take.ensures.faulted)
     (λ f. begun.faulty (sym c.follow-followed.ensures.faulted ∙ f))
     (λ f. begun.calm (sym c.follow-followed.ensures.faulted ∙ f))
-    (c.follow-followed.ensures.stands ∙ begun.stands)
-    (c.put.ensures.others.accepted ∙ c.take.ensures.others.accepted)
-    (c.put.ensures.others.listening ∙ c.take.ensures.others.listening)
-    begun.accepted
+    (c.follow-followed.ensures.stands ∙ begun.stands) begun.accepted
 
 pub returns-clause-listens : goal.returns-clause-listens
 returns-clause-listens g c =

@@ -1,5 +1,6 @@
-use Rattle.std.proofs.Common.{◌<◌, ◌∙◌, length, rules, sym}
-use Rattle.nio_serve.proofs.Promise.{closed_next, get_is}
+use Rattle.std.proofs.Common.{◌<◌, ◌∙◌, length, refl, rules, sym}
+use Rattle.std.proofs.lemmas.Option.{slice_get_read}
+use Rattle.nio_serve.proofs.Promise.{closed_next}
 use Rattle.nio_serve.proofs.Slotting.{client_listener, target_listener}
 use Rattle.nio_serve.proofs.Working.{quiet_then}
 use Rattle.nio_serve.specs.Serving.{listener}
@@ -15,7 +16,8 @@ loop-number-preserved g c =
       closed = closed_next n c.args.net.now c.loop-number.net c.close_unended.new.net c.args.self.now
           c.loop-number.number c.index.result.now c.links_of.result.0 c.links_of.result.1 c.requires.served
           c.links_of.ensures.client c.links_of.ensures.target
-          (get_is c.args.self.now.slots.items c.loop-number.number c.index.result.now within c.index.ensures)
+          (slice_get_read c.args.self.now.slots.items _ c.loop-number.number c.index.result.now refl within
+          c.index.ensures)
           c.loop-number.invariant.quiet closes.quiet c.loop-number.invariant.closed closes.closed;
       listens = closes.places listener (λ at. client_listener _ (sym (at ∙ c.links_of.ensures.client)))
           (λ at. target_listener _ (sym (at ∙ c.links_of.ensures.target))) ∙ c.loop-number.invariant.listens;

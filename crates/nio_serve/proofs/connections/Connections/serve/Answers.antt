@@ -1,31 +1,17 @@
-use Rattle.std.proofs.Common.{sym, ap, ◌∙◌, ◌+◌, Some, arith, slice_get}
+use Rattle.std.proofs.Common.{sym, ap, ◌∙◌, ◌+◌, Some, arith}
 use Rattle.nio_base.specs.declared.numbers.Addr.{Addr}
 use Rattle.nio_link.specs.declared.place.Role.{Role}
 use Rattle.nio_serve.specs.Serving.{listener}
 use Rattle.nio_serve.specs.Slots.{has_ended, has_faulted}
-use Rattle.nio_serve.proofs.Counts.{one_if, count_few}
-use Rattle.nio_serve.proofs.Slotting.{serving_told, client_listener, target_listener}
+use Rattle.nio_serve.proofs.Counts.{one_if}
+use Rattle.nio_serve.proofs.Slotting.{few_counted, others_then, serving_told, client_listener, target_listener}
 use Rattle.nio_serve.proofs.connections.Connections.serve.Goals as goal
 
 pub put-requires-clause-few : goal.put-requires-clause-few
-put-requires-clause-few g c =
-    omega (
-      arith,
-      c.take.ensures.ended,
-      c.requires.served.ended,
-      c.requires.served.bound,
-      count_few (λ k. has_ended (slice_get c.args.self.now.slots.items k)) c.args.self.now.conns,
-    )
+put-requires-clause-few g c = omega (arith, c.take.ensures.ended, (few_counted c.requires.served).1)
 
 pub put-requires-clause-few_faulted : goal.put-requires-clause-few_faulted
-put-requires-clause-few_faulted g c =
-    omega (
-      arith,
-      c.take.ensures.faulted,
-      c.requires.served.faulted,
-      c.requires.served.bound,
-      count_few (λ k. has_faulted (slice_get c.args.self.now.slots.items k)) c.args.self.now.conns,
-    )
+put-requires-clause-few_faulted g c = omega (arith, c.take.ensures.faulted, (few_counted c.requires.served).2)
 
 pub returns-clause-serving : goal.returns-clause-serving
 returns-clause-serving g c =
@@ -34,14 +20,8 @@ returns-clause-serving g c =
     serving_told g.W.Way _ slot c.in-Some.relay c.links_of.result.0 c.links_of.result.1 c.args.net.now
     c.serve_relay-slot.new.net c.args.self.now c.put.new.self
     c.links_of.ensures.client c.links_of.ensures.target c.requires.served c.in-Some.ensures.taken served.work
-    (record {
-      here = c.put.ensures.slot;
-      else_ = λ j other. c.put.ensures.others.others j other ∙ c.take.ensures.others.others j other;
-    })
-    (c.put.ensures.others.length ∙ c.take.ensures.others.length)
-    (c.put.ensures.others.room ∙ c.take.ensures.others.room)
-    (c.put.ensures.others.conns ∙ c.take.ensures.others.conns)
-    (c.put.ensures.others.target ∙ c.take.ensures.others.target)
+    c.put.ensures.slot
+    (others_then c.take.new.self c.serve_relay-slot.new.spare c.take.ensures.others c.put.ensures.others)
     (c.follow-followed.ensures.slot _ _ _ _ served.slot)
     (λ (to : Addr) (r s : Role) roles. c.follow-followed.ensures.roles to r s (served.roles to r s roles))
     (c.put.ensures.ended ∙ ap (λ m. m + one_if (has_ended (Some slot))) c.take.ensures.ended)
@@ -49,8 +29,6 @@ returns-clause-serving g c =
     (λ f. served.faulty (sym c.follow-followed.ensures.faulted ∙ f))
     (λ f. served.calm (sym c.follow-followed.ensures.faulted ∙ f))
     (c.follow-followed.ensures.stands ∙ served.stands)
-    (c.put.ensures.others.accepted ∙ c.take.ensures.others.accepted)
-    (c.put.ensures.others.listening ∙ c.take.ensures.others.listening)
 
 pub returns-clause-ready : goal.returns-clause-ready
 returns-clause-ready g c =

@@ -1,5 +1,5 @@
 use Rattle.std.proofs.Common.{refl}
-use Rattle.nio_serve.proofs.Bits.{within_trans}
+use Rattle.nio_poller.proofs.Marks.{within_trans}
 use Rattle.nio_serve.proofs.proxy.Proxy.accept_told.Goals as goal
 
 pub accept_all-requires-clause-ready : goal.accept_all-requires-clause-ready

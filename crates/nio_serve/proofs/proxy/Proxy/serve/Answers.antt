@@ -2,8 +2,8 @@ use Rattle.std.proofs.Common.{refl, ap, sym, ◌∙◌}
 use Rattle.nio_link.specs.declared.place.Place.{Place}
 use Rattle.nio_serve.specs.Serving.{listener}
 use Rattle.nio_serve.proofs.Slotting.{serving_none, serving_then, serving_quiet, cause_on, listens_on}
-use Rattle.nio_serve.proofs.Watching.{seat_none, seat_then, watched_on, watching_then}
-use Rattle.nio_serve.proofs.Working.{on_ok_of, role_stays}
+use Rattle.nio_serve.proofs.Watching.{seat_none, seat_then, watched_on, watching_then, where_done}
+use Rattle.nio_serve.proofs.Working.{role_stays}
 use Rattle.nio_serve.proofs.proxy.Proxy.serve.Goals as goal
 
 pub loop-init : goal.loop-init
@@ -46,7 +46,7 @@ loop-preserved g c = record {
       c.stop_listening.ensures.board.seat;
   watched = watched_on c.turn-turned.new.self.connections c.stop_listening.new.self.connections
       c.stop_listening.ensures.board c.stop_listening.ensures.connections
-      (on_ok_of c.turn-turned.result (sym (sym c.is_err.ensures.value ∙ c.if-is_err.false))
+      (where_done c.turn-turned.result (sym c.is_err.ensures.value ∙ c.if-is_err.false)
       c.turn-turned.ensures.watching.all);
 }
 

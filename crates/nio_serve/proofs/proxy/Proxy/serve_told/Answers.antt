@@ -1,7 +1,7 @@
 use Rattle.std.proofs.Common.{IsTrue, subst}
+use Rattle.nio_link.proofs.Channels.{chan_as}
 use Rattle.nio_steps.specs.KeyCalls.{is_within}
 use Rattle.nio_serve.specs.Serving.{listener}
-use Rattle.nio_serve.proofs.Working.{chan_as}
 use Rattle.nio_serve.proofs.proxy.Proxy.serve_told.Goals as goal
 
 pub accept_told-requires-clause-ready : goal.accept_told-requires-clause-ready

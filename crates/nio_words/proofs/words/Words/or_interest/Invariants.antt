@@ -1,6 +1,6 @@
 use Rattle.nio_event.specs.declared.act.Act.TheVariants.{OrInterest}
 use Rattle.nio_words.specs.Decodings.{operations_of}
-use Rattle.nio_words.specs.Instructions.{word_in}
+use Rattle.nio_words.specs.Instructions.{operand}
 use Rattle.nio_words.specs.Parts.{selector_in, index_in}
 use Rattle.nio_words.proofs.words.Words.or_interest.Given as goal
 
@@ -8,6 +8,6 @@ abbrev pub ghost-step : goal.ghost-step
 ghost-step a =
     record {
       who = a._me;
-      act = λ n. OrInterest (selector_in a.part) (index_in a.part) (word_in a.instruction)
+      act = λ n. OrInterest (selector_in a.part) (index_in a.part) (operand a.instruction)
           (operations_of n);
     }

@@ -1,6 +1,6 @@
 use Rattle.nio_event.specs.declared.act.Act.TheVariants.{SetInterrupt}
 use Rattle.nio_words.specs.Decodings.{is_set}
-use Rattle.nio_words.specs.Instructions.{bit_in}
+use Rattle.nio_words.specs.Instructions.{operand}
 use Rattle.nio_words.proofs.words.Words.set_interrupt.Given as goal
 
 abbrev pub ghost-step : goal.ghost-step
@@ -8,6 +8,6 @@ ghost-step a =
     record {
       who = a._me;
       act = λ n. SetInterrupt (record {
-        0 = bit_in a.instruction;
-      }) (is_set n (bit_in a.instruction));
+        0 = operand a.instruction;
+      }) (is_set n (operand a.instruction));
     }

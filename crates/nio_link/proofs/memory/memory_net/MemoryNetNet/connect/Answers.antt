@@ -1,5 +1,3 @@
-use Rattle.nio_link.proofs.Changes.{accepted_here, changed_here, changed_else}
-use Rattle.nio_link.specs.declared.place.Change.TheVariants as change
 use Rattle.nio_link.proofs.MemoryLaws.{cause_after, cause_else, connects}
 use Rattle.nio_link.specs.MemoryNet.{connect_answer}
 use Rattle.nio_link.proofs.memory.memory_net.MemoryNetNet.connect.Goals as goal
@@ -29,18 +27,3 @@ pub returns-clause-polls : goal.returns-clause-polls
 returns-clause-polls c =
     let made = connects c.args.self.now c.args.chan c.connect_link.ensures.fresh in
     rw (c.connect_link.ensures.after, made.polls)
-
-pub returns-clause-place : goal.returns-clause-place
-returns-clause-place c =
-    rw c.connect_link.ensures.changes
-    (changed_here c.args.self.now.changes c.args.chan (change.Connect c.args.to c.connect_link.result))
-
-pub returns-clause-places : goal.returns-clause-places
-returns-clause-places c =
-    rw c.connect_link.ensures.changes
-    (changed_else c.args.self.now.changes c.args.chan (change.Connect c.args.to c.connect_link.result))
-
-pub returns-clause-accepted : goal.returns-clause-accepted
-returns-clause-accepted c =
-    rw c.connect_link.ensures.changes
-    (accepted_here c.args.self.now.changes c.args.chan (change.Connect c.args.to c.connect_link.result))

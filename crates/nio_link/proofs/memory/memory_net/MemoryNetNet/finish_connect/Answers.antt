@@ -1,5 +1,3 @@
-use Rattle.nio_link.proofs.Changes.{accepted_here, changed_here, changed_else}
-use Rattle.nio_link.specs.declared.place.Change.TheVariants as change
 use Rattle.nio_link.proofs.MemoryLaws.{cause_after, cause_else, finish_carried, connect_ready}
 use Rattle.nio_link.specs.Slots.{connecting, slot_at, finish_answer}
 use Rattle.nio_link.proofs.memory.memory_net.MemoryNetNet.finish_connect.Goals as goal
@@ -23,18 +21,3 @@ pub returns-clause-ready : goal.returns-clause-ready
 returns-clause-ready c =
     rw (c.finish_link.ensures.answer, c.finish_link.ensures.after)
     (connect_ready (connecting (slot_at c.args.self.now.slots c.args.chan)) _)
-
-pub returns-clause-place : goal.returns-clause-place
-returns-clause-place c =
-    rw c.finish_link.ensures.changes
-    (changed_here c.args.self.now.changes c.args.chan (change.FinishConnect c.finish_link.result))
-
-pub returns-clause-places : goal.returns-clause-places
-returns-clause-places c =
-    rw c.finish_link.ensures.changes
-    (changed_else c.args.self.now.changes c.args.chan (change.FinishConnect c.finish_link.result))
-
-pub returns-clause-accepted : goal.returns-clause-accepted
-returns-clause-accepted c =
-    rw c.finish_link.ensures.changes
-    (accepted_here c.args.self.now.changes c.args.chan (change.FinishConnect c.finish_link.result))

@@ -1,5 +1,3 @@
-use Rattle.nio_link.proofs.Changes.{accepted_here, changed_here, changed_else}
-use Rattle.nio_link.specs.declared.place.Change.TheVariants as change
 use Rattle.nio_link.proofs.MemoryLaws.{cause_after, cause_else, shut_carried, shut_else}
 use Rattle.nio_link.specs.Slots.{connected, slot_at, shut_answer}
 use Rattle.nio_link.proofs.memory.memory_net.MemoryNetNet.shut_write.Goals as goal
@@ -22,18 +20,3 @@ returns-clause-link c =
 
 pub returns-clause-links : goal.returns-clause-links
 returns-clause-links c = rw c.shut_link.ensures.after (shut_else c.args.self.now.slots c.args.chan)
-
-pub returns-clause-place : goal.returns-clause-place
-returns-clause-place c =
-    rw c.shut_link.ensures.changes
-    (changed_here c.args.self.now.changes c.args.chan (change.ShutWrite c.shut_link.result))
-
-pub returns-clause-places : goal.returns-clause-places
-returns-clause-places c =
-    rw c.shut_link.ensures.changes
-    (changed_else c.args.self.now.changes c.args.chan (change.ShutWrite c.shut_link.result))
-
-pub returns-clause-accepted : goal.returns-clause-accepted
-returns-clause-accepted c =
-    rw c.shut_link.ensures.changes
-    (accepted_here c.args.self.now.changes c.args.chan (change.ShutWrite c.shut_link.result))

@@ -1,0 +1,302 @@
+-- The walk over the plan of each call on the table.
+use Rattle.std.proofs.Common.{◌≡◌, ℕ, Bool, not, Option, Some, None, Result, Ok, Err, List, [], refl}
+use Rattle.nio_base.specs.Kind.{valid_operations}
+use Rattle.nio_base.specs.declared.kind.Kind.{Kind}
+use Rattle.nio_base.specs.declared.kind.Kind.TheVariants.{Source, Sink}
+use Rattle.nio_base.specs.declared.limits.Limits.{Limits}
+use Rattle.nio_base.specs.declared.numbers.ChanNo.{ChanNo}
+use Rattle.nio_base.specs.declared.numbers.KeyId.{KeyId}
+use Rattle.nio_base.specs.declared.numbers.KeyNo.{KeyNo}
+use Rattle.nio_base.specs.declared.numbers.SelNo.{SelNo}
+use Rattle.nio_event.specs.Questions.{Question}
+use Rattle.nio_event.specs.declared.found.Chan.{Chan}
+use Rattle.nio_event.specs.declared.found.Mark.{Mark as KeyMark}
+use Rattle.nio_event.specs.declared.found.Mode.{Mode}
+use Rattle.nio_event.specs.declared.found.Stage.{Stage}
+use Rattle.nio_steps.proofs.PlanWalks.{Walk, Walks, walks_reply, walks_calm, walks_ask, walks_bind, walks_if}
+use Rattle.nio_steps.proofs.PlanWalks.{walks_sweep, walks_under_pin, walking, IsCalmOn}
+use Rattle.nio_steps.specs.ChannelCalls.{open_channel_plan, opened_channel, is_open_plan, is_blocking_plan}
+use Rattle.nio_steps.specs.ChannelCalls.{is_registered_plan, enrolled_in_set, key_for_plan, under_hold, set_mode_held}
+use Rattle.nio_steps.specs.ChannelCalls.{try_set_blocking_plan, register_enrolled, register_over, make_key}
+use Rattle.nio_steps.specs.ChannelCalls.{register_new, register_rest, register_held, try_register_plan, cancel_at}
+use Rattle.nio_steps.specs.ChannelCalls.{close_channel_plan}
+use Rattle.nio_steps.specs.KeyCalls.{is_within, find_selector_plan, find_channel_plan, find_plan, is_valid_plan}
+use Rattle.nio_steps.specs.KeyCalls.{on_valid, if_valid, on_supported, look_set, put_set, add_set, keep_set, look_ready}
+use Rattle.nio_steps.specs.KeyCalls.{interest_plan, set_interest_plan, interest_or_plan, interest_and_plan, ready_plan}
+use Rattle.nio_steps.specs.KeyCalls.{cancel_plan, cancel_present, unselect_plan, unselect_present, attach_plan}
+use Rattle.nio_steps.specs.KeyCalls.{attach_present, attachment_plan, attachment_present}
+use Rattle.nio_steps.specs.Names.{key}
+use Rattle.nio_steps.specs.PipeCalls.{pipe_plan, without_sink, with_sink, with_source, if_interrupted, if_open}
+use Rattle.nio_steps.specs.PipeCalls.{if_unbroken, try_read_plan, try_write_plan}
+use Rattle.nio_steps.specs.Plan.{Plan, reply, when}
+use Rattle.nio_steps.specs.SelectCalls.{Selection, LookedOver, open_selector_plan, try_begin_plan, begin_below}
+use Rattle.nio_steps.specs.SelectCalls.{look_over, told_plan, mark_entry, mark_again, after_marks, leave_plan}
+use Rattle.nio_steps.specs.SelectCalls.{shut_plan, try_finish_plan, keys_plan, list_selected, list_present}
+use Rattle.nio_steps.specs.SelectCalls.{selected_keys_plan, wakeup_plan, interrupt_plan, interrupted_plan}
+use Rattle.nio_steps.specs.Steps.{cancel_key, flag_in, channel_in, number_in}
+use Rattle.nio_steps.specs.TableCalls.{TableCall, find_selector, find_channel, find, is_valid, interest, set_interest}
+use Rattle.nio_steps.specs.TableCalls.{interest_or, interest_and, ready, cancel, unselect, attach, attachment}
+use Rattle.nio_steps.specs.TableCalls.{open_channel, is_open, is_blocking, is_registered, key_for, try_set_blocking}
+use Rattle.nio_steps.specs.TableCalls.{try_register, close_channel, open_selector, try_begin, told, leave, shut}
+use Rattle.nio_steps.specs.TableCalls.{try_finish, keys, selected_keys, wakeup, interrupt, interrupted, pipe, try_read}
+use Rattle.nio_steps.specs.TableCalls.{try_write, row_of}
+use Rattle.nio_steps.specs.declared.looked.LookedKey.{LookedKey}
+use Rattle.nio_steps.specs.declared.refusal.ChannelError.{ChannelError}
+use Rattle.nio_steps.specs.declared.refusal.KeyError.{KeyError}
+use Rattle.nio_steps.specs.declared.refusal.PipeError.{PipeError}
+
+-- ---- keys
+
+on_valid-walks : {A : Type 0} {w : Walk} (k : KeyNo) (steps : Stage → Plan (Result A KeyError))
+    → ((stage : Stage) → Walks w (steps stage)) → Walks w (on_valid k steps)
+on_valid-walks k steps each =
+    walks_under_pin k.sel k.index (if_valid k steps)
+    (λ stage. walks_if _ _ (steps stage) (walks_reply _) (each stage))
+
+cancel-walks : {w : Walk} (k : KeyNo) → Walks w (cancel_plan k)
+unfolding cancel_plan
+cancel-walks k = walks_under_pin k.sel k.index (cancel_present k) (λ stage. search walking depth 12)
+
+-- ---- channels
+
+opened_channel-walks : {w : Walk} (made : Option ChanNo) → Walks w (opened_channel made)
+opened_channel-walks None = search walking
+opened_channel-walks (Some c) = search walking
+
+open_channel-walks : {w : Walk} (l : Limits) (kind : Kind) → Walks w (open_channel_plan l kind)
+unfolding open_channel_plan
+open_channel-walks l kind = search (walking, opened_channel-walks) depth 12
+
+enrolled-walks : {w : Walk} (s : SelNo) (enrolled : Option KeyId) → Walks w (enrolled_in_set s enrolled)
+enrolled-walks s None = search walking
+enrolled-walks s (Some k) = search walking
+
+key_for-walks : {w : Walk} (c : ChanNo) (s : SelNo) → Walks w (key_for_plan c s)
+unfolding key_for_plan
+key_for-walks c s = search (walking, enrolled-walks) depth 12
+
+under_hold-walks : {A : Type 0} {w : Walk} (c : ChanNo) (steps : Plan (Result A ChannelError)) → Walks w steps
+    → Walks w (under_hold c steps)
+under_hold-walks c steps here =
+    walks_ask _ _ refl
+    (λ answer. walks_if _ _ _ (walks_reply _)
+    (walks_bind steps _ here (λ a. walks_ask _ _ refl (λ _. walks_reply a))))
+
+mode_held-walks : {w : Walk} (l : Limits) (c : ChanNo) (on : Bool) → Walks w (set_mode_held l c on)
+mode_held-walks l c on = search (walking, key_for-walks) depth 12
+
+over-walks : {w : Walk} (s : SelNo) (ops att : ℕ) (enrolled : Option KeyId) → Walks w (register_over s ops att enrolled)
+over-walks s ops att None = search walking depth 12
+over-walks s ops att (Some k) =
+    walks_under_pin s k.index (register_enrolled s ops att k) (λ stage. search walking depth 16)
+
+cancel_at-walks : {w : Walk} (s : SelNo) (enrolled : Option KeyId) → Walks w (cancel_at s enrolled)
+cancel_at-walks s None = walks_reply tt
+cancel_at-walks s (Some k) = cancel-walks (key s k)
+
+-- ---- selections
+
+module _ {w : Walk} (s : SelNo) (calm : IsCalmOn w s) where
+  look_over-walks : (i : ℕ) (found : LookedOver) → Walks w (look_over s i found)
+  look_over-walks i found = search (walking, walks_calm, calm.removes) depth 16
+
+  below-walks : (mode : Mode) (bound : ℕ) (lacks : Bool) → Walks w (begin_below s mode bound lacks)
+  below-walks mode bound lacks = search (walking, walks_calm, calm.gives, look_over-walks) depth 12
+
+  begin-walks : (mode : Mode) (lacks : Bool) → Walks w (try_begin_plan s mode lacks)
+  unfolding try_begin_plan
+  begin-walks mode lacks = search (walking, walks_calm, calm.gives, below-walks) depth 16
+
+  again-walks : (i bits : ℕ) (found : Result (Unit {0}) KeyMark) → Walks w (mark_again s i bits found)
+  again-walks i bits (Ok u) = search walking
+  again-walks i bits (Err stands) = search (walking, walks_calm, calm.marks)
+
+  entry-walks : (pairs : List (ℕ × ℕ)) (entry : LookedKey) (count : ℕ) → Walks w (mark_entry s pairs entry count)
+  entry-walks pairs entry count = search (walking, walks_calm, calm.marks, again-walks) depth 16
+
+module _ {w : Walk} (selection : Selection) (calm : IsCalmOn w selection.selector) where
+  marked-walks : (elapsed : Bool) (count : ℕ) → Walks w (after_marks selection elapsed count)
+  marked-walks elapsed count = search (walking, walks_calm, calm.removes, calm.gives) depth 20
+
+  told-walks : (pairs : List (ℕ × ℕ)) (elapsed : Bool) → Walks w (told_plan selection pairs elapsed)
+  unfolding told_plan
+  told-walks pairs elapsed = search (walking, entry-walks selection.selector calm, marked-walks) depth 12
+
+  leave-walks : Walks w (leave_plan selection)
+  unfolding leave_plan
+  leave-walks = search (walking, walks_calm, calm.gives)
+
+list_selected-walks : {w : Walk} (s : SelNo) (i : ℕ) (listed : List KeyNo) → Walks w (list_selected s i listed)
+list_selected-walks s i listed = walks_under_pin s i (list_present s i listed) (λ stage. search walking depth 12)
+
+selected_keys-walks : {w : Walk} (s : SelNo) (lacks : Bool) → Walks w (selected_keys_plan s lacks)
+unfolding selected_keys_plan
+selected_keys-walks s lacks =
+    walks_ask _ _ refl
+    (λ gate. walks_if _ _ _ (walks_reply _) (walks_ask _ _ refl (λ bound. walks_if _ _ _ (walks_reply _)
+    (walks_bind _ _
+    (walks_sweep (number_in bound) 0 (list_selected s) [] (λ i listed. list_selected-walks s i listed))
+    (λ listed. walks_reply _)))))
+
+-- ---- pipes
+
+module _ {w : Walk} (l : Limits) (closes : (c : ChanNo) → Walks w (close_channel_plan l c)) where
+  without_sink-walks : (source : ChanNo) → Walks w (without_sink l source)
+  without_sink-walks source = walks_bind (close_channel_plan l source) _ (closes source) (λ _. walks_reply _)
+
+  sink-walks : (source : ChanNo) (made : Result ChanNo ChannelError) → Walks w (with_sink l source made)
+  sink-walks source (Ok sink) = walks_reply _
+  sink-walks source (Err ChannelError.ChannelsSpent) = without_sink-walks source
+  sink-walks source (Err ChannelError.IllegalOps) = without_sink-walks source
+  sink-walks source (Err ChannelError.ClosedChannel) = without_sink-walks source
+  sink-walks source (Err ChannelError.Busy) = without_sink-walks source
+  sink-walks source (Err ChannelError.IllegalBlockingMode) = without_sink-walks source
+  sink-walks source (Err ChannelError.CancelledKey) = without_sink-walks source
+  sink-walks source (Err ChannelError.ClosedSelector) = without_sink-walks source
+  sink-walks source (Err ChannelError.Full) = without_sink-walks source
+
+  source-walks : (made : Result ChanNo ChannelError) → Walks w (with_source l made)
+  source-walks (Ok source) =
+      walks_bind (open_channel_plan l Sink) (with_sink l source) (open_channel-walks l Sink) (sink-walks source)
+  source-walks (Err ChannelError.ChannelsSpent) = walks_reply _
+  source-walks (Err ChannelError.IllegalOps) = walks_reply _
+  source-walks (Err ChannelError.ClosedChannel) = walks_reply _
+  source-walks (Err ChannelError.Busy) = walks_reply _
+  source-walks (Err ChannelError.IllegalBlockingMode) = walks_reply _
+  source-walks (Err ChannelError.CancelledKey) = walks_reply _
+  source-walks (Err ChannelError.ClosedSelector) = walks_reply _
+  source-walks (Err ChannelError.Full) = walks_reply _
+
+  pipe-walks : (lacks : Bool) → Walks w (pipe_plan l lacks)
+  unfolding pipe_plan
+  pipe-walks lacks =
+      walks_if lacks _ _ (walks_reply _)
+      (walks_bind (open_channel_plan l Source) (with_source l) (open_channel-walks l Source) source-walks)
+
+  interrupted_there-walks : (c : ChanNo) (found : Bool) → Walks w (if_interrupted l c found)
+  interrupted_there-walks c found =
+      walks_if found _ _ (walks_bind (close_channel_plan l c) _ (closes c) (λ _. walks_reply _)) (walks_reply _)
+
+  open-walks : (c : ChanNo) (found : Chan) → Walks w (if_open l c found)
+  open-walks c found =
+      walks_if found.closed _ _ (walks_reply _)
+      (walks_if found.blocking _ _ (walks_ask _ _ refl (λ answer. interrupted_there-walks c (flag_in answer)))
+      (walks_reply _))
+
+  try_read-walks : (source : ChanNo) → Walks w (try_read_plan l source)
+  unfolding try_read_plan
+  try_read-walks source = walks_ask _ _ refl (λ answer. open-walks source (channel_in answer))
+
+  unbroken-walks : (source : ChanNo) (found : Result Bool PipeError) → Walks w (if_unbroken source found)
+  unbroken-walks source (Ok blocking) = walks_ask _ _ refl (λ answer. walks_reply _)
+  unbroken-walks source (Err refusal) = walks_reply _
+
+  try_write-walks : (source sink : ChanNo) → Walks w (try_write_plan l source sink)
+  unfolding try_write_plan
+  try_write-walks source sink =
+      walks_ask _ _ refl
+      (λ answer. walks_bind (if_open l sink (channel_in answer)) (if_unbroken source)
+      (open-walks sink (channel_in answer)) (unbroken-walks source))
+
+-- ---- each call
+
+-- the calls that a law may mind: registering, closing a channel, and finishing the closing of a selector
+pub record Blocks (w : Walk) (l : Limits) : Type 0 where
+  pub registers : (s : SelNo) (c : ChanNo) (ops att : ℕ) → Walks w (try_register_plan l s c ops att)
+  pub closes : (c : ChanNo) → Walks w (close_channel_plan l c)
+  pub finishes : (s : SelNo) → IsCalmOn w s → Walks w (try_finish_plan s)
+
+pub each_call : {w : Walk} (l : Limits) (lacks : Bool) (call : TableCall) → Blocks w l
+    → ((s : SelNo) → (row_of call).selects_on ≡ Some s → IsCalmOn w s) → Walks w ((row_of call).plan l lacks)
+unfolding find_selector_plan find_channel_plan find_plan is_valid_plan interest_plan set_interest_plan
+    interest_or_plan interest_and_plan ready_plan unselect_plan attach_plan attachment_plan is_open_plan
+    is_blocking_plan is_registered_plan try_set_blocking_plan open_selector_plan shut_plan keys_plan wakeup_plan
+    interrupt_plan interrupted_plan
+each_call l lacks (find_selector n) blocks calm = search walking depth 12
+each_call l lacks (find_channel n) blocks calm = search walking depth 12
+each_call l lacks (find s i serial) blocks calm = search walking depth 12
+each_call l lacks (is_valid k) blocks calm = search walking depth 12
+each_call l lacks (interest k) blocks calm = on_valid-walks k (λ _. look_set k) (λ stage. search walking depth 12)
+each_call l lacks (set_interest k ops) blocks calm =
+    on_valid-walks k (on_supported ops (put_set k ops)) (λ stage. search walking depth 12)
+each_call l lacks (interest_or k ops) blocks calm =
+    on_valid-walks k (on_supported ops (add_set k ops)) (λ stage. search walking depth 12)
+each_call l lacks (interest_and k ops) blocks calm =
+    on_valid-walks k (λ _. keep_set k ops) (λ stage. search walking depth 12)
+each_call l lacks (ready k) blocks calm = on_valid-walks k (λ _. look_ready k) (λ stage. search walking depth 12)
+each_call l lacks (cancel k) blocks calm = cancel-walks k
+each_call l lacks (unselect k) blocks calm =
+    walks_under_pin k.sel k.index (unselect_present k) (λ stage. search walking depth 12)
+each_call l lacks (attach k att) blocks calm =
+    walks_under_pin k.sel k.index (attach_present k att) (λ stage. search walking depth 12)
+each_call l lacks (attachment k) blocks calm =
+    walks_under_pin k.sel k.index (attachment_present k) (λ stage. search walking depth 12)
+each_call l lacks (open_channel kind) blocks calm = open_channel-walks l kind
+each_call l lacks (is_open c) blocks calm = search walking depth 12
+each_call l lacks (is_blocking c) blocks calm = search walking depth 12
+each_call l lacks (is_registered c) blocks calm = search (walking, key_for-walks) depth 12
+each_call l lacks (key_for c s) blocks calm = key_for-walks c s
+each_call l lacks (try_set_blocking c on) blocks calm =
+    walks_ask _ _ refl
+    (λ answer. walks_if _ _ _ (walks_reply _)
+    (under_hold-walks c (set_mode_held l c on) (mode_held-walks l c on)))
+each_call l lacks (try_register s c ops att) blocks calm = blocks.registers s c ops att
+each_call l lacks (close_channel c) blocks calm = blocks.closes c
+each_call l lacks open_selector blocks calm = search walking depth 12
+each_call l lacks (try_begin s mode) blocks calm = begin-walks s (calm s refl) mode lacks
+each_call l lacks (told selection poll) blocks calm =
+    told-walks selection (calm selection.selector refl) poll.pairs poll.elapsed
+each_call l lacks (leave selection) blocks calm = leave-walks selection (calm selection.selector refl)
+each_call l lacks (shut s) blocks calm = search walking
+each_call l lacks (try_finish s) blocks calm = blocks.finishes s (calm s refl)
+each_call l lacks (keys s) blocks calm = search walking depth 12
+each_call l lacks (selected_keys s) blocks calm = selected_keys-walks s lacks
+each_call l lacks (wakeup s) blocks calm = search walking
+each_call l lacks (interrupt target) blocks calm = search walking
+each_call l lacks interrupted blocks calm = search walking
+each_call l lacks pipe blocks calm = pipe-walks l blocks.closes lacks
+each_call l lacks (try_read source) blocks calm = try_read-walks l blocks.closes source
+each_call l lacks (try_write source sink) blocks calm = try_write-walks l blocks.closes source sink
+
+-- ---- where the calls that a law may mind are calm, or partly so
+
+pub close_channel-walks : {w : Walk} (l : Limits) (c : ChanNo) → w.Calm (Question.close_bit c)
+    → Walks w (close_channel_plan l c)
+unfolding close_channel_plan
+close_channel-walks l c calm = walks_calm _ _ calm (λ answer. search (walking, cancel_at-walks) depth 12)
+
+pub finish-walks : {w : Walk} (s : SelNo) → w.Calm (Question.enter s) → IsCalmOn w s → Walks w (try_finish_plan s)
+unfolding try_finish_plan
+finish-walks s enters calm = walks_calm _ _ enters (λ answer. search (walking, walks_calm, calm.removes) depth 12)
+
+pub make_key-walks : {w : Walk} (s : SelNo) (c : ChanNo) (ops att : ℕ) (k : KeyId)
+    → w.Calm (Question.publish s k.index) → Walks w (make_key s c ops att k)
+make_key-walks s c ops att k calm =
+    walks_ask _ _ refl (λ gate. walks_if _ _ _ (walks_reply _)
+    (walks_ask _ _ refl
+    (λ _. walks_ask _ _ refl
+    (λ _. walks_ask _ _ refl (λ _. walks_calm _ _ calm (λ before. walks_if _ _ _ (walks_reply _)
+    (walks_ask _ _ refl
+    (λ found. walks_bind (when (channel_in found).closed (cancel_key s k.index)) _ (search walking)
+    (λ _. walks_reply _)))))))))
+
+rest-walks : {w : Walk} (l : Limits) (s : SelNo) (c : ChanNo) (ops att : ℕ)
+    → Walks w (register_new l s c ops att)
+    → (over : Option (Result KeyNo ChannelError)) → Walks w (register_rest l s c ops att over)
+rest-walks l s c ops att makes None = makes
+rest-walks l s c ops att makes (Some answer) = walks_reply answer
+
+-- where a new key may be made
+pub register-walks : {w : Walk} (l : Limits) (s : SelNo) (c : ChanNo) (ops att : ℕ)
+    → Walks w (register_new l s c ops att) → Walks w (try_register_plan l s c ops att)
+unfolding try_register_plan
+register-walks {w = w} l s c ops att makes =
+    walks_ask _ _ refl (λ answer.
+    let found = channel_in answer in
+    walks_if (not (is_within ops (valid_operations found.kind))) (reply (Err ChannelError.IllegalOps)) _
+    (walks_reply (Err ChannelError.IllegalOps))
+    (walks_if found.closed (reply (Err ChannelError.ClosedChannel)) (under_hold c (register_held l s c ops att))
+    (walks_reply (Err ChannelError.ClosedChannel)) (under_hold-walks c (register_held l s c ops att) held)))
+  where
+    held : Walks w (register_held l s c ops att)
+    held = search (walking, over-walks, rest-walks l s c ops att makes) depth 12
