@@ -1,8 +1,8 @@
 pub use Rattle.nio_base.specs.Limits
 pub use Rattle.nio_caller.specs.Callers
 pub use Rattle.nio_caller.specs.Several
-pub use Rattle.nio_event.specs.Conditions
-pub use Rattle.nio_event.specs.PassViews
+pub use Rattle.nio_history.specs.Conditions
+pub use Rattle.nio_history.specs.PassViews
 pub use Rattle.nio_pool.specs.Queues
 pub use Rattle.nio_steps.specs.Calls
 pub use Rattle.nio_steps.specs.ChannelCalls

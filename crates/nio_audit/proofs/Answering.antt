@@ -1,7 +1,7 @@
 -- A test of an answer, and that the answer is the one that stands there.
 use Rattle.std.proofs.Common.{◌≡◌, ℕ, Bool, true, false, ◌==◌, ◌↔◌, IsTrue, refl, ap, sym, ◌∙◌, eqb-true, eq-eqb}
 use Rattle.std.specs.Bool.{beq}
-use Rattle.nio_event.specs.Questions.{flag, word}
+use Rattle.nio_history.specs.Questions.{flag, word}
 
 pub flag_iff : (found r x : Bool) → r ≡ x → IsTrue (beq found r) ↔ (flag found ≡ flag x)
 flag_iff true true x e = (λ h. ap flag e, λ h. refl)

@@ -4,7 +4,7 @@ use Rattle.std.proofs.Common.{add-one}
 use Rattle.std.specs.Prelude.{bit_or}
 use Rattle.std.specs.Int.Bits.{or_zero_r}
 use Rattle.std.proofs.lemmas.Nat.{one_shl}
-use Rattle.nio_event.specs.Answers.{bits_below}
+use Rattle.nio_history.specs.Answers.{bits_below}
 
 pub bits_below-more : (test : ℕ → Bool) (bit word : ℕ) → word ≡ bits_below bit test
     → bit_or word (if test bit then 2 ^ bit else 0) ≡ bits_below (bit + 1) test

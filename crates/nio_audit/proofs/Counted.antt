@@ -6,19 +6,19 @@ use Rattle.nio_audit.specs.Counting.{IsCounted, channels_after, keys_after}
 use Rattle.nio_base.specs.declared.limits.Limits.{Limits}
 use Rattle.nio_base.specs.declared.numbers.CallerNo.{CallerNo}
 use Rattle.nio_base.specs.declared.numbers.SelNo.{SelNo}
-use Rattle.nio_event.proofs.Put.{put_keeps, put_at_keeps}
-use Rattle.nio_event.specs.Acts.{effect, new_key}
-use Rattle.nio_event.specs.Answers.{Answers}
-use Rattle.nio_event.specs.Conditions.{Condition, AllMade, AllClaimed}
-use Rattle.nio_event.specs.Questions.{flag}
-use Rattle.nio_event.specs.Sound.{IsSound}
-use Rattle.nio_event.specs.State.{State, put, put_at}
-use Rattle.nio_event.specs.declared.act.Act.{Act}
-use Rattle.nio_event.specs.declared.act.Act.TheVariants.{CancelKey, MakeChannel, Claim, Publish, Remove, SetMode}
-use Rattle.nio_event.specs.declared.act.Act.TheVariants.{CloseBit, ClaimAgain}
-use Rattle.nio_event.proofs.Soundness.{held_some}
-use Rattle.nio_event.proofs.KeyChanges.{back_parts}
-use Rattle.nio_event.specs.declared.found.Stage.{Stage}
+use Rattle.nio_history.proofs.Put.{put_keeps, put_at_keeps}
+use Rattle.nio_history.specs.Acts.{effect, new_key}
+use Rattle.nio_history.specs.Answers.{Answers}
+use Rattle.nio_history.specs.Conditions.{Condition, AllMade, AllClaimed}
+use Rattle.nio_history.specs.Questions.{flag}
+use Rattle.nio_history.specs.Sound.{IsSound}
+use Rattle.nio_history.specs.State.{State, put, put_at}
+use Rattle.nio_history.specs.declared.act.Act.{Act}
+use Rattle.nio_history.specs.declared.act.Act.TheVariants.{CancelKey, MakeChannel, Claim, Publish, Remove, SetMode}
+use Rattle.nio_history.specs.declared.act.Act.TheVariants.{CloseBit, ClaimAgain}
+use Rattle.nio_history.proofs.Soundness.{held_some}
+use Rattle.nio_history.proofs.KeyChanges.{back_parts}
+use Rattle.nio_history.specs.declared.found.Stage.{Stage}
 use Rattle.std.specs.Prelude.{List}
 
 -- where the numbers below one pass a test and no others, all below another pass it where that is no larger

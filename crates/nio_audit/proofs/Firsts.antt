@@ -5,11 +5,11 @@ use Rattle.std.proofs.lemmas.Bool.{cases_order}
 use Rattle.std.proofs.lemmas.List.{take-append-drop, length-take-le, take_more}
 use Rattle.nio_audit.specs.Following.{Follows, HasJudged}
 use Rattle.nio_audit.specs.declared.judge.Judge.{Judge}
-use Rattle.nio_event.proofs.Legal.{legal_empty, legal_more}
 use Rattle.nio_audit.specs.Audit.{IsFirstNoStep}
 use Rattle.nio_base.specs.declared.limits.Limits.{Limits}
-use Rattle.nio_event.specs.Histories.{IsStep, IsLegal}
-use Rattle.nio_event.specs.declared.event.Event.{Event}
+use Rattle.nio_history.proofs.Legal.{legal_empty, legal_more}
+use Rattle.nio_history.specs.Histories.{IsStep, IsLegal}
+use Rattle.nio_history.specs.declared.event.Event.{Event}
 
 pub judged-none : {j : Judge} {l : Limits} → j.limits ≡ l → Follows j [] → HasJudged j l []
 judged-none {l = l} limits follows = record { limits = limits; legal = legal_empty l; follows = follows }

@@ -17,17 +17,17 @@ use Rattle.nio_audit.specs.declared.memory.IndexMemory.{IndexMemory}
 use Rattle.nio_audit.specs.declared.memory.EnrolledMemory.{EnrolledMemory}
 use Rattle.nio_base.specs.declared.numbers.CallerNo.{CallerNo}
 use Rattle.nio_base.specs.declared.numbers.KeyId.{KeyId}
-use Rattle.nio_event.proofs.OneMore.{mine-own, mine-other, has-more, last-more, since_first-none, since_first-more}
-use Rattle.nio_event.specs.Histories.{is_by, mine}
-use Rattle.nio_event.specs.OwnEvents.{OwnClaim, has, last, since_first, since_entered, takes_hold, finds_unblocked}
-use Rattle.nio_event.specs.OwnEvents.{enrolled_found, enrols_key, publishes, stage_found, is_outside, takes_free}
-use Rattle.nio_event.specs.OwnEvents.{own_claim, claim_changed, or_none, is_unpublished, leaves_unpublished, is_yes}
-use Rattle.nio_event.specs.OwnEvents.{enters, finds_below}
-use Rattle.nio_event.specs.Sets.{is_in_key_set}
-use Rattle.nio_event.specs.declared.act.Act.{Act}
-use Rattle.nio_event.specs.declared.act.Act.TheVariants.{LookKeys}
-use Rattle.nio_event.specs.declared.event.Event.{Event}
-use Rattle.nio_event.specs.declared.found.Stage.{Stage}
+use Rattle.nio_history.proofs.OneMore.{mine-own, mine-other, has-more, last-more, since_first-none, since_first-more}
+use Rattle.nio_history.specs.Histories.{is_by, mine}
+use Rattle.nio_history.specs.OwnEvents.{OwnClaim, has, last, since_first, since_entered, takes_hold, finds_unblocked}
+use Rattle.nio_history.specs.OwnEvents.{enrolled_found, enrols_key, publishes, stage_found, is_outside, takes_free}
+use Rattle.nio_history.specs.OwnEvents.{own_claim, claim_changed, or_none, is_unpublished, leaves_unpublished, is_yes}
+use Rattle.nio_history.specs.OwnEvents.{enters, finds_below}
+use Rattle.nio_history.specs.Sets.{is_in_key_set}
+use Rattle.nio_history.specs.declared.act.Act.{Act}
+use Rattle.nio_history.specs.declared.act.Act.TheVariants.{LookKeys}
+use Rattle.nio_history.specs.declared.event.Event.{Event}
+use Rattle.nio_history.specs.declared.found.Stage.{Stage}
 
 -- ---- channels
 

@@ -10,26 +10,26 @@ use Rattle.nio_audit.specs.Bounds.{IsBounded}
 use Rattle.nio_audit.specs.Counting.{IsCounted, channels_after, keys_after}
 use Rattle.nio_audit.specs.DueIndexes.{IsBefore}
 use Rattle.nio_audit.specs.Following.{Follows, HasJudged}
-use Rattle.nio_base.specs.declared.limits.Limits.{Limits}
-use Rattle.nio_base.specs.declared.numbers.CallerNo.{CallerNo}
 use Rattle.nio_audit.specs.Remembering.{Knowledge, knowledge_of, learned}
 use Rattle.nio_audit.specs.Remembers.{Remembers}
 use Rattle.nio_audit.specs.TableWords.{row}
 use Rattle.nio_audit.specs.declared.judge.Judge.{Judge}
-use Rattle.nio_event.proofs.Legal.{legal_more}
-use Rattle.nio_event.proofs.OneMore.{state_after-more}
-use Rattle.nio_event.proofs.PinLaws.{claims_again_the_removed}
-use Rattle.nio_event.proofs.Soundness.{legal-sound}
-use Rattle.nio_event.specs.Acts.{effect}
-use Rattle.nio_event.specs.Answers.{Answers}
-use Rattle.nio_event.specs.Conditions.{Condition, IsCaller}
-use Rattle.nio_event.specs.Histories.{state_after, mine, event_of, IsStep, IsLegal}
-use Rattle.nio_event.specs.Sound.{IsSound}
-use Rattle.nio_event.specs.State.{State, last_serial}
-use Rattle.nio_event.specs.declared.act.Act.{Act}
-use Rattle.nio_event.specs.declared.act.Act.TheVariants.{ClaimAgain}
-use Rattle.nio_event.specs.declared.event.Event.{Event}
-use Rattle.nio_event.specs.declared.found.Stage.{Stage}
+use Rattle.nio_base.specs.declared.limits.Limits.{Limits}
+use Rattle.nio_base.specs.declared.numbers.CallerNo.{CallerNo}
+use Rattle.nio_history.proofs.Legal.{legal_more}
+use Rattle.nio_history.proofs.OneMore.{state_after-more}
+use Rattle.nio_history.proofs.PinLaws.{claims_again_the_removed}
+use Rattle.nio_history.proofs.Soundness.{legal-sound}
+use Rattle.nio_history.specs.Acts.{effect}
+use Rattle.nio_history.specs.Answers.{Answers}
+use Rattle.nio_history.specs.Conditions.{Condition, IsCaller}
+use Rattle.nio_history.specs.Histories.{state_after, mine, event_of, IsStep, IsLegal}
+use Rattle.nio_history.specs.Sound.{IsSound}
+use Rattle.nio_history.specs.State.{State, last_serial}
+use Rattle.nio_history.specs.declared.act.Act.{Act}
+use Rattle.nio_history.specs.declared.act.Act.TheVariants.{ClaimAgain}
+use Rattle.nio_history.specs.declared.event.Event.{Event}
+use Rattle.nio_history.specs.declared.found.Stage.{Stage}
 
 -- what the judge tests
 abbrev pub IsPassed : Judge → Event → Type 0

@@ -7,7 +7,6 @@ use Rattle.nio_audit.proofs.Hearing.{index-own, index-other, closing-own, closin
 use Rattle.nio_audit.proofs.Latest.{latest-none}
 use Rattle.std.proofs.lemmas.Bool.{le-ltb}
 use Rattle.std.proofs.Math.Bool.{or-false}
-use Rattle.nio_base.specs.declared.numbers.KeyId.{KeyId}
 use Rattle.nio_audit.specs.Remembering.{Knowledge, learned, nothing_known, learned_enrolled, learned_index}
 use Rattle.nio_audit.specs.Remembering.{learned_closing}
 use Rattle.nio_audit.specs.Remembers.{RemembersHold, RemembersEnrolled, RemembersIndex, RemembersClosing, Remembers}
@@ -16,14 +15,15 @@ use Rattle.nio_audit.specs.declared.memory.ClosingMemory.{ClosingMemory}
 use Rattle.nio_audit.specs.declared.memory.HoldMemory.{HoldMemory}
 use Rattle.nio_audit.specs.declared.memory.IndexMemory.{IndexMemory}
 use Rattle.nio_audit.specs.declared.memory.EnrolledMemory.{EnrolledMemory}
+use Rattle.nio_base.specs.declared.numbers.KeyId.{KeyId}
 use Rattle.nio_base.specs.declared.numbers.CallerNo.{CallerNo}
-use Rattle.nio_event.specs.Histories.{is_by}
-use Rattle.nio_event.specs.State.{put, put_at}
-use Rattle.nio_event.specs.declared.act.Act.{Act}
-use Rattle.nio_event.specs.declared.act.Act.TheVariants.{LookKey, LookChannel, Claim, LookKeys, LookReg, Enrol}
-use Rattle.nio_event.specs.declared.act.Act.TheVariants.{TryHoldBit, Enter, Publish, Pin, Unpin, ClaimAgain, TakeFree}
-use Rattle.nio_event.specs.declared.event.Event.{Event}
-use Rattle.nio_event.proofs.OwnPins.{swapped}
+use Rattle.nio_history.specs.Histories.{is_by}
+use Rattle.nio_history.specs.State.{put, put_at}
+use Rattle.nio_history.specs.declared.act.Act.{Act}
+use Rattle.nio_history.specs.declared.act.Act.TheVariants.{LookKey, LookChannel, Claim, LookKeys, LookReg, Enrol}
+use Rattle.nio_history.specs.declared.act.Act.TheVariants.{TryHoldBit, Enter, Publish, Pin, Unpin, ClaimAgain, TakeFree}
+use Rattle.nio_history.specs.declared.event.Event.{Event}
+use Rattle.nio_history.proofs.OwnPins.{swapped}
 
 pub same_knowledge : {h h' : ℕ → ℕ → HoldMemory} {n n' : ℕ → ℕ → ℕ → EnrolledMemory} {i i' : ℕ → ℕ → ℕ → IndexMemory}
     {c c' : ℕ → ℕ → ClosingMemory}

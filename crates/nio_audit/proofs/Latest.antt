@@ -9,11 +9,11 @@ use Rattle.std.proofs.lemmas.List.Sums.{fold-append}
 use Rattle.std.proofs.Math.Bool.{or-true, or-false}
 use Rattle.nio_audit.specs.Latest.{counted, latest}
 use Rattle.nio_base.specs.declared.numbers.CallerNo.{CallerNo}
-use Rattle.nio_event.proofs.OneMore.{mine-own, mine-other, has-more, last-more, since_from-more}
-use Rattle.nio_event.specs.Histories.{is_by, mine}
-use Rattle.nio_event.specs.OwnEvents.{has, last, since_from}
-use Rattle.nio_event.specs.declared.act.Act.{Act}
-use Rattle.nio_event.specs.declared.event.Event.{Event}
+use Rattle.nio_history.proofs.OneMore.{mine-own, mine-other, has-more, last-more, since_from-more}
+use Rattle.nio_history.specs.Histories.{is_by, mine}
+use Rattle.nio_history.specs.OwnEvents.{has, last, since_from}
+use Rattle.nio_history.specs.declared.act.Act.{Act}
+use Rattle.nio_history.specs.declared.event.Event.{Event}
 
 -- what holds of the empty list, and of each list with one more at its end, holds of every list
 pub induction : {A : Type 0} (P : List A → Type 0) → P [] → ((xs : List A) (x : A) → P xs → P (xs ++ x ∷ []))

@@ -12,7 +12,7 @@ use Rattle.nio_audit.specs.StateOf.{state_with}
 use Rattle.nio_audit.specs.TableWords.{row, grid, cube}
 use Rattle.nio_audit.specs.declared.judge.Judge.{Judge}
 use Rattle.nio_audit.specs.declared.state.StateTables.{StateTables}
-use Rattle.nio_event.specs.State.{State, opening}
+use Rattle.nio_history.specs.State.{State, opening}
 
 -- the state is the opening one where each of its parts is
 pub same_state : (t : StateTables)

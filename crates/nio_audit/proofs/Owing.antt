@@ -7,7 +7,7 @@ use mathlib.Core.Path.{fun_ext}
 use Rattle.nio_audit.specs.DueIndexes.{due_of, IsBefore}
 use Rattle.nio_audit.specs.TableWords.{row, grid}
 use Rattle.nio_audit.specs.declared.dues.Dues.{Dues}
-use Rattle.nio_event.specs.State.{put, put_at}
+use Rattle.nio_history.specs.State.{put, put_at}
 
 pub due_of-new : (d : Dues) → row d.ended ≡ (λ _. 0) → grid d.removed ≡ (λ _ _. 0) → due_of d ≡ (λ _ _. false)
 unfolding due_of

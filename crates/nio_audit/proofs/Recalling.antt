@@ -18,16 +18,18 @@ use Rattle.nio_base.specs.declared.numbers.CallerNo.{CallerNo}
 use Rattle.nio_base.specs.declared.numbers.ChanNo.{ChanNo}
 use Rattle.nio_base.specs.declared.numbers.KeyId.{KeyId}
 use Rattle.nio_base.specs.declared.numbers.SelNo.{SelNo}
-use Rattle.nio_event.specs.Conditions.{Condition, may_publish, may_clear_out, may_remove_cancelled, holds, has_entered}
-use Rattle.nio_event.specs.Histories.{mine}
-use Rattle.nio_event.specs.OwnEvents.{OwnClaim, has, last, under, since_taken, takes_hold, takes_free, finds_unblocked}
-use Rattle.nio_event.specs.OwnEvents.{finds_outside, enrolled_found, enrols_key, publishes, stage_found, is_clear}
-use Rattle.nio_event.specs.OwnEvents.{is_clear_by, own_claim}
-use Rattle.nio_event.specs.State.{State}
-use Rattle.nio_event.specs.declared.act.Act.{Act}
-use Rattle.nio_event.specs.declared.act.Act.TheVariants.{MakeChannel, Claim as ClaimAct, RaiseKeys, RaiseChannels}
-use Rattle.nio_event.specs.declared.act.Act.TheVariants.{Publish, Enrol, Remove, SetMode, ClearMark, ClaimAgain}
-use Rattle.nio_event.specs.declared.event.Event.{Event}
+use Rattle.nio_history.specs.Conditions.{Condition, may_publish, may_clear_out, may_remove_cancelled, holds}
+use Rattle.nio_history.specs.Conditions.{has_entered}
+use Rattle.nio_history.specs.Histories.{mine}
+use Rattle.nio_history.specs.OwnEvents.{OwnClaim, has, last, under, since_taken, takes_hold, takes_free}
+use Rattle.nio_history.specs.OwnEvents.{finds_unblocked}
+use Rattle.nio_history.specs.OwnEvents.{finds_outside, enrolled_found, enrols_key, publishes, stage_found, is_clear}
+use Rattle.nio_history.specs.OwnEvents.{is_clear_by, own_claim}
+use Rattle.nio_history.specs.State.{State}
+use Rattle.nio_history.specs.declared.act.Act.{Act}
+use Rattle.nio_history.specs.declared.act.Act.TheVariants.{MakeChannel, Claim as ClaimAct, RaiseKeys, RaiseChannels}
+use Rattle.nio_history.specs.declared.act.Act.TheVariants.{Publish, Enrol, Remove, SetMode, ClearMark, ClaimAgain}
+use Rattle.nio_history.specs.declared.event.Event.{Event}
 
 module _ {k : Knowledge} {past : List Event} (h : Remembers k past) where
   unblocked-found : (n : CallerNo) (c : ℕ)

@@ -5,7 +5,7 @@ use Rattle.nio_audit.specs.TableWords.{value_at, row, grid, cube, put_at_three}
 use Rattle.nio_audit.specs.declared.table.Cube.{Cube}
 use Rattle.nio_audit.specs.declared.table.Grid.{Grid}
 use Rattle.nio_audit.specs.declared.table.Row.{Row}
-use Rattle.nio_event.specs.State.{put, put_at}
+use Rattle.nio_history.specs.State.{put, put_at}
 
 pub row-set : {V : Type 0} (t t' : Row V) (n : ℕ) (x : V)
     → ((q : ℕ) → value_at nat_eq t'.0 q ≡ (if nat_eq q n then x else value_at nat_eq t.0 q))

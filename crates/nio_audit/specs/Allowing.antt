@@ -10,12 +10,12 @@ use Rattle.nio_audit.specs.declared.memory.Claim.{Claim}
 use Rattle.nio_base.specs.declared.limits.Limits.{Limits}
 use Rattle.nio_base.specs.declared.numbers.CallerNo.{CallerNo}
 use Rattle.nio_base.specs.declared.numbers.SelNo.{SelNo}
-use Rattle.nio_event.specs.Conditions.{Condition, IsChannel, IsKey, IsSelector, holds, has_entered, has_taken}
-use Rattle.nio_event.specs.Conditions.{may_remove_cancelled}
-use Rattle.nio_event.specs.State.{State, last_serial}
-use Rattle.nio_event.specs.declared.act.Act.{Act}
-use Rattle.nio_event.specs.declared.act.Act.TheVariants.{MakeChannel, Claim as ClaimAct, RaiseKeys, RaiseChannels}
-use Rattle.nio_event.specs.declared.act.Act.TheVariants.{Publish, Enrol, Remove, SetMode, ClearMark, ClaimAgain}
+use Rattle.nio_history.specs.Conditions.{Condition, IsChannel, IsKey, IsSelector, holds, has_entered, has_taken}
+use Rattle.nio_history.specs.Conditions.{may_remove_cancelled}
+use Rattle.nio_history.specs.State.{State, last_serial}
+use Rattle.nio_history.specs.declared.act.Act.{Act}
+use Rattle.nio_history.specs.declared.act.Act.TheVariants.{MakeChannel, Claim as ClaimAct, RaiseKeys, RaiseChannels}
+use Rattle.nio_history.specs.declared.act.Act.TheVariants.{Publish, Enrol, Remove, SetMode, ClearMark, ClaimAgain}
 
 -- the state that a judge has
 abbrev pub state_of : Judge → State

@@ -2,10 +2,10 @@
 use Rattle.std.specs.Prelude.{◌≡◌, ℕ, List, ◌∷◌, ◌++◌, length}
 use Rattle.nio_base.specs.declared.limits.Limits.{Limits}
 use Rattle.nio_base.specs.declared.numbers.CallerNo.{CallerNo}
-use Rattle.nio_event.specs.Conditions.{Condition, IsCaller}
-use Rattle.nio_event.specs.Histories.{state_after, mine, IsStep, IsLegal}
-use Rattle.nio_event.specs.declared.act.Act.{Act}
-use Rattle.nio_event.specs.declared.event.Event.{Event}
+use Rattle.nio_history.specs.Conditions.{Condition, IsCaller}
+use Rattle.nio_history.specs.Histories.{state_after, mine, IsStep, IsLegal}
+use Rattle.nio_history.specs.declared.act.Act.{Act}
+use Rattle.nio_history.specs.declared.event.Event.{Event}
 
 -- the event at this place, counted from 0, isn't a step after those before it, and each of those is one
 pub record IsFirstNoStep (l : Limits) (events : List Event) (place : ℕ) : Type 0 where

@@ -1,8 +1,8 @@
 -- Numbers of a step with which the judge counts on are within their types. A step's condition says more.
 use Rattle.std.specs.Prelude.{◌*◌, ◌<◌, ⊤}
-use Rattle.nio_event.specs.State.{State, last_serial}
-use Rattle.nio_event.specs.declared.act.Act.{Act}
-use Rattle.nio_event.specs.declared.act.Act.TheVariants.{Claim, ClaimAgain, LookFree, MakeChannel}
+use Rattle.nio_history.specs.State.{State, last_serial}
+use Rattle.nio_history.specs.declared.act.Act.{Act}
+use Rattle.nio_history.specs.declared.act.Act.TheVariants.{Claim, ClaimAgain, LookFree, MakeChannel}
 
 -- an index that is claimed again has a next serial
 abbrev pub IsBounded : State → Act → Type 0

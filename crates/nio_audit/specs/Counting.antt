@@ -1,8 +1,8 @@
 -- How many channels are made and how many indexes of each selector are claimed, after an act.
 use Rattle.std.specs.Prelude.{◌≡◌, ℕ, ◌+◌, max, nat_lt}
-use Rattle.nio_event.specs.State.{State, put}
-use Rattle.nio_event.specs.declared.act.Act.{Act}
-use Rattle.nio_event.specs.declared.act.Act.TheVariants.{Claim, MakeChannel}
+use Rattle.nio_history.specs.State.{State, put}
+use Rattle.nio_history.specs.declared.act.Act.{Act}
+use Rattle.nio_history.specs.declared.act.Act.TheVariants.{Claim, MakeChannel}
 
 abbrev pub channels_after : ℕ → Act → ℕ
 channels_after n (MakeChannel c kind found) = max n (c.0 + 1)

@@ -8,8 +8,8 @@ use Rattle.nio_audit.specs.Remembers.{Remembers}
 use Rattle.nio_audit.specs.TableWords.{row}
 use Rattle.nio_audit.specs.declared.judge.Judge.{Judge}
 use Rattle.nio_base.specs.declared.limits.Limits.{Limits}
-use Rattle.nio_event.specs.Histories.{state_after, IsLegal}
-use Rattle.nio_event.specs.declared.event.Event.{Event}
+use Rattle.nio_history.specs.Histories.{state_after, IsLegal}
+use Rattle.nio_history.specs.declared.event.Event.{Event}
 
 pub record Follows (j : Judge) (past : List Event) : Type 0 where
   pub state : state_of j ≡ state_after past

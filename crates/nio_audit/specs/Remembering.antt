@@ -8,13 +8,13 @@ use Rattle.nio_audit.specs.declared.memory.IndexMemory.{IndexMemory}
 use Rattle.nio_audit.specs.declared.memory.Memory.{Memory}
 use Rattle.nio_audit.specs.declared.memory.EnrolledMemory.{EnrolledMemory}
 use Rattle.nio_base.specs.declared.numbers.CallerNo.{CallerNo}
-use Rattle.nio_event.specs.Sets.{is_in_key_set}
-use Rattle.nio_event.specs.State.{put_at, unclaimed}
-use Rattle.nio_event.specs.declared.act.Act.{Act}
-use Rattle.nio_event.specs.declared.act.Act.TheVariants.{LookKey, LookChannel, Claim as ClaimAct, LookKeys, LookReg}
-use Rattle.nio_event.specs.declared.act.Act.TheVariants.{Enrol, TryHoldBit, Enter, Publish, Pin, Unpin, ClaimAgain}
-use Rattle.nio_event.specs.declared.act.Act.TheVariants.{TakeFree}
-use Rattle.nio_event.specs.declared.found.Stage.{Stage}
+use Rattle.nio_history.specs.Sets.{is_in_key_set}
+use Rattle.nio_history.specs.State.{put_at, unclaimed}
+use Rattle.nio_history.specs.declared.act.Act.{Act}
+use Rattle.nio_history.specs.declared.act.Act.TheVariants.{LookKey, LookChannel, Claim as ClaimAct, LookKeys, LookReg}
+use Rattle.nio_history.specs.declared.act.Act.TheVariants.{Enrol, TryHoldBit, Enter, Publish, Pin, Unpin, ClaimAgain}
+use Rattle.nio_history.specs.declared.act.Act.TheVariants.{TakeFree}
+use Rattle.nio_history.specs.declared.found.Stage.{Stage}
 
 -- by the caller, and then by the channel; the channel and the selector; the selector and the index; the selector
 pub record Knowledge : Type 0 where

@@ -8,11 +8,11 @@ use Rattle.nio_audit.specs.declared.memory.HoldMemory.{HoldMemory}
 use Rattle.nio_audit.specs.declared.memory.IndexMemory.{IndexMemory}
 use Rattle.nio_audit.specs.declared.memory.EnrolledMemory.{EnrolledMemory}
 use Rattle.nio_base.specs.declared.numbers.CallerNo.{CallerNo}
-use Rattle.nio_event.specs.Histories.{mine}
-use Rattle.nio_event.specs.OwnEvents.{OwnClaim, has, last, since_entered, takes_hold, finds_unblocked, enrolled_found}
-use Rattle.nio_event.specs.OwnEvents.{enrols_key, publishes, stage_found, is_outside, takes_free, own_claim}
-use Rattle.nio_event.specs.OwnEvents.{is_unpublished, enters, finds_below}
-use Rattle.nio_event.specs.declared.event.Event.{Event}
+use Rattle.nio_history.specs.Histories.{mine}
+use Rattle.nio_history.specs.OwnEvents.{OwnClaim, has, last, since_entered, takes_hold, finds_unblocked, enrolled_found}
+use Rattle.nio_history.specs.OwnEvents.{enrols_key, publishes, stage_found, is_outside, takes_free, own_claim}
+use Rattle.nio_history.specs.OwnEvents.{is_unpublished, enters, finds_below}
+use Rattle.nio_history.specs.declared.event.Event.{Event}
 
 pub record RemembersHold (m : HoldMemory) (n : CallerNo) (c : ℕ) (past : List Event) : Type 0 where
   pub taken : m.taken ≡ latest n (takes_hold c) past

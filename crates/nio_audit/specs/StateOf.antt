@@ -2,10 +2,10 @@
 use Rattle.std.specs.Prelude.{ℕ, Bool, false, ◌==◌, ◌&&◌, ◌||◌, if◌then◌else◌}
 use Rattle.nio_audit.specs.TableWords.{row, grid, cube}
 use Rattle.nio_audit.specs.declared.state.StateTables.{StateTables}
-use Rattle.nio_event.specs.Acts.{frees_index}
-use Rattle.nio_event.specs.State.{State, put_at}
-use Rattle.nio_event.specs.declared.act.Act.{Act}
-use Rattle.nio_event.specs.declared.act.Act.TheVariants.{GiveTurn, Remove, PutFree}
+use Rattle.nio_history.specs.Acts.{frees_index}
+use Rattle.nio_history.specs.State.{State, put_at}
+use Rattle.nio_history.specs.declared.act.Act.{Act}
+use Rattle.nio_history.specs.declared.act.Act.TheVariants.{GiveTurn, Remove, PutFree}
 
 -- the state with these parts, where selections have these indexes still to put
 abbrev pub state_with : StateTables → (ℕ → ℕ → Bool) → State

@@ -7,7 +7,7 @@ use Rattle.nio_audit.specs.declared.table.Cube.{Cube}
 use Rattle.nio_audit.specs.declared.table.Grid.{Grid}
 use Rattle.nio_audit.specs.declared.table.Row.{Row}
 use Rattle.nio_audit.specs.declared.table.Table.{Table}
-use Rattle.nio_event.specs.State.{put, put_at}
+use Rattle.nio_history.specs.State.{put, put_at}
 
 -- the value at a key
 abbrev pub value_at : {K V : Type 0} → (K → K → Bool) → Table K V → K → V

@@ -1,14 +1,14 @@
 //! Whether a list of events is a legal history, and which step may come next.
 ghost use Rattle.std.specs.Prelude.{◌≡◌, ◌≢◌, ◌↔◌, ℕ, IsOk, IfOk, IsTrue};
+ghost use Rattle.nio_base.specs.Limits.{IsFit};
+ghost use Rattle.nio_history.specs.Histories.{IsLegal};
 ghost use Rattle.nio_audit.specs.Audit.{IsFirstNoStep, MayStep};
 ghost use Rattle.nio_audit.specs.Following.{HasJudged};
 ghost use Rattle.nio_audit.specs.declared.auditing.AuditError.TheVariants.{Memory, NotAStep};
-ghost use Rattle.nio_base.specs.Limits.{IsFit};
-ghost use Rattle.nio_event.specs.Histories.{IsLegal};
 
 use crate::judge::Judge;
 use nio_base::{CallerNo, Limits};
-use nio_event::{Act, Event};
+use nio_history::{Act, Event};
 use std::alloc::{AllocError, Global};
 use thiserror::Error;
 

@@ -3,7 +3,7 @@ ghost use Rattle.std.specs.Prelude.{◌≡◌, OnOk};
 
 use crate::table::Row;
 use nio_base::SelNo;
-use nio_event::Act;
+use nio_history::Act;
 use std::alloc::{AllocError, Global};
 
 /// The channels that are made, and the indexes of each selector that are claimed, are those below these numbers.

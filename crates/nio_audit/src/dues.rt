@@ -1,11 +1,11 @@
 //! Which indexes selections have still to put among the free ones.
 ghost use Rattle.std.specs.Prelude.{◌≡◌, ◌+◌, ◌||◌, false, OnOk};
-ghost use Rattle.nio_event.specs.State.{put_at};
+ghost use Rattle.nio_history.specs.State.{put_at};
 
 use crate::state::StateTables;
 use crate::table::{Grid, Row};
 use nio_base::SelNo;
-use nio_event::Act;
+use nio_history::Act;
 use std::alloc::{AllocError, Global};
 
 /// Which indexes selections have still to put. A removal counts while no turn of the selector ended since.

@@ -7,7 +7,7 @@ use crate::dues::Dues;
 use crate::memory::Memory;
 use crate::state::StateTables;
 use nio_base::{CallerNo, Limits};
-use nio_event::{Act, Event};
+use nio_history::{Act, Event};
 use std::alloc::{AllocError, Global};
 
 mod conditions;
@@ -23,6 +23,11 @@ pub(crate) struct Judge {
 }
 
 impl Judge {
+    ghost use Rattle.nio_base.specs.Limits.{IsFit};
+    ghost use Rattle.nio_history.specs.Acts.{effect};
+    ghost use Rattle.nio_history.specs.Answers.{Answers};
+    ghost use Rattle.nio_history.specs.Conditions.{IsCaller};
+    ghost use Rattle.nio_history.specs.Histories.{IsLegal, IsStep};
     ghost use Rattle.nio_audit.specs.Allowing.{state_of, IsAllowed};
     ghost use Rattle.nio_audit.specs.Bounds.{IsBounded};
     ghost use Rattle.nio_audit.specs.Counting.{channels_after, keys_after};
@@ -30,11 +35,6 @@ impl Judge {
     ghost use Rattle.nio_audit.specs.Following.{Follows};
     ghost use Rattle.nio_audit.specs.Remembering.{knowledge_of, learned};
     ghost use Rattle.nio_audit.specs.TableWords.{row};
-    ghost use Rattle.nio_base.specs.Limits.{IsFit};
-    ghost use Rattle.nio_event.specs.Acts.{effect};
-    ghost use Rattle.nio_event.specs.Answers.{Answers};
-    ghost use Rattle.nio_event.specs.Conditions.{IsCaller};
-    ghost use Rattle.nio_event.specs.Histories.{IsLegal, IsStep};
 
     /// A judge before the first event.
     pub(crate) fn new(alloc: Global, limits: Limits) -> Judge

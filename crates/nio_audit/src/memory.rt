@@ -6,7 +6,7 @@ ghost use Rattle.std.specs.Prelude.{◌≡◌, nat_lt, OnOk};
 use crate::state::UNCLAIMED;
 use crate::table::{Cube, Grid};
 use nio_base::{CallerNo, ChanNo, KeyId, SelNo};
-use nio_event::{Act, Stage};
+use nio_history::{Act, Stage};
 use std::alloc::{AllocError, Global};
 
 /// What a caller knows of a channel: when it took the hold last, and when it found the channel in non-blocking mode

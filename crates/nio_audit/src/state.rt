@@ -1,13 +1,13 @@
 //! The state after the events so far, each part in a table of its own.
 ghost use Rattle.std.specs.Prelude.{◌≡◌, ◌<◌, OnOk, ℕ, Bool, false, ◌&&◌};
 ghost use Rattle.nio_base.specs.declared.numbers.CallerNo.{CallerNo};
-ghost use Rattle.nio_event.specs.Acts.{effect, frees_index, new_key, taken_by};
-ghost use Rattle.nio_event.specs.State.{last_serial, opening};
-ghost use Rattle.nio_event.specs.declared.found.Stage.{Stage};
+ghost use Rattle.nio_history.specs.Acts.{effect, frees_index, new_key, taken_by};
+ghost use Rattle.nio_history.specs.State.{last_serial, opening};
+ghost use Rattle.nio_history.specs.declared.found.Stage.{Stage};
 
 use crate::table::{Cube, Grid, Row};
 use nio_base::{CallerNo, ChanNo, KeyId, Kind, Ops, SelNo};
-use nio_event::{Act, Chan, GateWord, Mark, Stage};
+use nio_history::{Act, Chan, GateWord, Mark, Stage};
 use std::alloc::{AllocError, Global};
 
 mod answers;

@@ -44,8 +44,8 @@ impl<K: Eq + Hash + Copy, V: Copy> Table<K, V> {
 pub(crate) struct Row<V: Copy>(Table<u32, V>);
 
 impl<V: Copy> Row<V> {
+    ghost use Rattle.nio_history.specs.State.{put};
     ghost use Rattle.nio_audit.specs.TableWords.{row};
-    ghost use Rattle.nio_event.specs.State.{put};
 
     pub(crate) fn new(alloc: Global, rest: V) -> Self
         ensures { row result ≡ (λ _. rest) }
@@ -71,8 +71,8 @@ impl<V: Copy> Row<V> {
 pub(crate) struct Grid<V: Copy>(Table<(u32, u32), V>);
 
 impl<V: Copy> Grid<V> {
+    ghost use Rattle.nio_history.specs.State.{put_at};
     ghost use Rattle.nio_audit.specs.TableWords.{grid};
-    ghost use Rattle.nio_event.specs.State.{put_at};
 
     pub(crate) fn new(alloc: Global, rest: V) -> Self
         ensures { grid result ≡ (λ _ _. rest) }

@@ -4,15 +4,15 @@ use Rattle.std.proofs.lemmas.List.Elements.{All-weaker, All-append}
 use Rattle.nio_base.specs.declared.numbers.CallerNo.{CallerNo}
 use Rattle.nio_base.specs.declared.numbers.ChanNo.{ChanNo}
 use Rattle.nio_base.specs.declared.numbers.SelNo.{SelNo}
-use Rattle.nio_event.proofs.Finds.{step_leaves}
-use Rattle.nio_event.proofs.PassViews.{selector_after, channel_after}
-use Rattle.nio_event.proofs.Put.{put-same}
-use Rattle.nio_event.specs.Conditions.{IsSelector, has_pin}
-use Rattle.nio_event.specs.Histories.{state_after}
-use Rattle.nio_event.specs.PassViews.{Holds as HoldsNumber, known, ActsClause, HasChannel, HasNoPin}
-use Rattle.nio_event.specs.State.{State}
-use Rattle.nio_event.specs.declared.act.Act.{Act}
-use Rattle.nio_event.specs.declared.act.Act.TheVariants.{MakeSelector}
+use Rattle.nio_history.proofs.Finds.{step_leaves}
+use Rattle.nio_history.proofs.PassViews.{selector_after, channel_after}
+use Rattle.nio_history.proofs.Put.{put-same}
+use Rattle.nio_history.specs.Conditions.{IsSelector, has_pin}
+use Rattle.nio_history.specs.Histories.{state_after}
+use Rattle.nio_history.specs.PassViews.{Holds as HoldsNumber, known, ActsClause, HasChannel, HasNoPin}
+use Rattle.nio_history.specs.State.{State}
+use Rattle.nio_history.specs.declared.act.Act.{Act}
+use Rattle.nio_history.specs.declared.act.Act.TheVariants.{MakeSelector}
 use Rattle.nio_steps.proofs.Lists.{all-one}
 use Rattle.nio_steps.proofs.PinBack.{no_pin_after}
 use Rattle.nio_steps.specs.Calls.{CallClause}

@@ -4,10 +4,10 @@ use Rattle.std.specs.List.{All}
 use Rattle.nio_base.specs.declared.numbers.CallerNo.{CallerNo}
 use Rattle.nio_base.specs.declared.numbers.ChanNo.{ChanNo}
 use Rattle.nio_base.specs.declared.numbers.SelNo.{SelNo}
-use Rattle.nio_event.specs.Histories.{event_of}
-use Rattle.nio_event.specs.PassViews.{HasChannel, HasNoPin, HasSelector}
-use Rattle.nio_event.specs.declared.act.Act.TheVariants.{DrawBit}
-use Rattle.nio_event.specs.declared.event.Event.{Event}
+use Rattle.nio_history.specs.Histories.{event_of}
+use Rattle.nio_history.specs.PassViews.{HasChannel, HasNoPin, HasSelector}
+use Rattle.nio_history.specs.declared.act.Act.TheVariants.{DrawBit}
+use Rattle.nio_history.specs.declared.event.Event.{Event}
 use Rattle.nio_words.specs.Passes.{IsReady}
 use Rattle.nio_words.specs.Views.{view}
 use Rattle.nio_words.specs.declared.words.Pass.{Pass}

@@ -1,8 +1,8 @@
 //! Registering channels and cancelling their keys, by one caller in one thread, where each index had keys before.
 ghost use Rattle.std.specs.Prelude.{◌≡◌, IfOk, []};
-ghost use Rattle.nio_bench.specs.SetUp.{IsIdle, IsSetUp, StaysIdle, drawn};
-ghost use Rattle.nio_event.specs.Conditions.{IsKey, IsSelector};
+ghost use Rattle.nio_history.specs.Conditions.{IsKey, IsSelector};
 ghost use Rattle.nio_words.specs.Passes.{IsReady, limits_of, seen};
+ghost use Rattle.nio_bench.specs.SetUp.{IsIdle, IsSetUp, StaysIdle, drawn};
 
 use anyhow::ensure;
 use nio_base::{CallerNo, ChanNo, Kind, Limits, Ops, SelNo};

@@ -1,7 +1,7 @@
 //! A table for two callers, each in a thread of its own.
 ghost use Rattle.std.specs.Prelude.{◌≡◌, IfOk};
 ghost use Rattle.nio_channel.specs.Idle.{AreIdle, drawn};
-ghost use Rattle.nio_event.specs.Conditions.{IsSelector};
+ghost use Rattle.nio_history.specs.Conditions.{IsSelector};
 ghost use Rattle.nio_words.specs.Passes.{IsReady, limits_of, seen};
 
 use crate::channels::S;

@@ -1,6 +1,6 @@
 //! The calls that may wait: how long they take where nothing is to wait for, and how long a sleeping caller takes to
 //! return once another thread has woken it.
-ghost use Rattle.nio_event.specs.PassViews.{HasSelector};
+ghost use Rattle.nio_history.specs.PassViews.{HasSelector};
 ghost use Rattle.nio_words.specs.Passes.{IsReady};
 ghost use Rattle.nio_words.specs.Views.{view};
 

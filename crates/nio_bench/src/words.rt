@@ -1,6 +1,6 @@
 //! Steps on the shared table, by one caller in one thread.
 ghost use Rattle.std.specs.Prelude.{◌≡◌, true, IsTrue};
-ghost use Rattle.nio_event.specs.Conditions.{IsChannel, IsKey, IsSelector, has_pin};
+ghost use Rattle.nio_history.specs.Conditions.{IsChannel, IsKey, IsSelector, has_pin};
 ghost use Rattle.nio_words.specs.Passes.{IsReady, limits_of, state_seen};
 
 use anyhow::bail;

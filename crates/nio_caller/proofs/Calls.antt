@@ -6,15 +6,15 @@ use Rattle.nio_base.specs.declared.limits.Limits.{Limits}
 use Rattle.nio_base.specs.declared.numbers.CallerNo.{CallerNo}
 use Rattle.nio_base.specs.declared.numbers.ChanNo.{ChanNo}
 use Rattle.nio_base.specs.declared.numbers.SelNo.{SelNo}
-use Rattle.nio_event.proofs.OwnPins.{pins_are_own}
-use Rattle.nio_event.proofs.PassViews.{selector_after, channel_after, key_after}
-use Rattle.nio_event.proofs.Stays.{beginnings_are_legal}
-use Rattle.nio_event.specs.Histories.{mine, IsLegal}
-use Rattle.nio_event.specs.OwnEvents.{keeps_pin}
-use Rattle.nio_event.specs.PassViews.{PassView, Holds, HasNoPin, ActsClause}
-use Rattle.nio_event.specs.declared.act.Act.{Act}
-use Rattle.nio_event.specs.declared.found.Mode.{Mode}
-use Rattle.nio_event.specs.declared.timeout.NegativeTimeout.{NegativeTimeout}
+use Rattle.nio_history.proofs.OwnPins.{pins_are_own}
+use Rattle.nio_history.proofs.PassViews.{selector_after, channel_after, key_after}
+use Rattle.nio_history.proofs.Stays.{beginnings_are_legal}
+use Rattle.nio_history.specs.Histories.{mine, IsLegal}
+use Rattle.nio_history.specs.OwnEvents.{keeps_pin}
+use Rattle.nio_history.specs.PassViews.{PassView, Holds, HasNoPin, ActsClause}
+use Rattle.nio_history.specs.declared.act.Act.{Act}
+use Rattle.nio_history.specs.declared.found.Mode.{Mode}
+use Rattle.nio_history.specs.declared.timeout.NegativeTimeout.{NegativeTimeout}
 use Rattle.nio_poller.specs.Polled.{Polled}
 use Rattle.nio_poller.specs.Selecting.{SelectClause, TimedBy, told_from}
 use Rattle.nio_poller.specs.declared.selecting.SelectError.{SelectError}

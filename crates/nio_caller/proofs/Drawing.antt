@@ -4,12 +4,12 @@ use Rattle.std.proofs.Common.{List, refl, ap, sym, ◌∙◌, subst, eqb-true, e
 use Rattle.std.proofs.lemmas.List.{append-nil}
 use Rattle.nio_base.specs.declared.numbers.CallerNo.{CallerNo}
 use Rattle.nio_base.specs.declared.numbers.SelNo.{SelNo}
-use Rattle.nio_event.proofs.OneMore.{state_after-more}
-use Rattle.nio_event.specs.Conditions.{has_pin}
-use Rattle.nio_event.specs.Histories.{state_after, event_of}
-use Rattle.nio_event.specs.State.{State}
-use Rattle.nio_event.specs.declared.act.Act.TheVariants.{DrawBit}
-use Rattle.nio_event.specs.declared.event.Event.{Event}
+use Rattle.nio_history.proofs.OneMore.{state_after-more}
+use Rattle.nio_history.specs.Conditions.{has_pin}
+use Rattle.nio_history.specs.Histories.{state_after, event_of}
+use Rattle.nio_history.specs.State.{State}
+use Rattle.nio_history.specs.declared.act.Act.TheVariants.{DrawBit}
+use Rattle.nio_history.specs.declared.event.Event.{Event}
 use Rattle.nio_words.specs.Drawing.{Draws}
 use Rattle.nio_words.specs.Passes.{Holds, IsFirstPass, seen}
 use Rattle.nio_words.specs.declared.words.Pass.{Pass}

@@ -3,9 +3,9 @@ use Rattle.std.proofs.Common.{◌⊎◌, eqb-true, eq-eqb, inl, inr}
 use Rattle.std.specs.Int.{bit_at}
 use mathlib.Core.List.{IsPrefix}
 use Rattle.nio_base.specs.declared.numbers.CallerNo.{CallerNo}
-use Rattle.nio_event.proofs.Stays.{facts_are_permanent}
-use Rattle.nio_event.specs.Permanent.{selector_made, channel_made, key_published}
-use Rattle.nio_event.specs.PassViews.{Holds, HasNoPin}
+use Rattle.nio_history.proofs.Stays.{facts_are_permanent}
+use Rattle.nio_history.specs.Permanent.{selector_made, channel_made, key_published}
+use Rattle.nio_history.specs.PassViews.{Holds, HasNoPin}
 use Rattle.nio_words.specs.Passes.{Holds as HoldsNumber, IsPassOf, limits_of, numbers_of, seen}
 use Rattle.nio_words.specs.Sharing.{Joins as JoinsPasses, StandsAfter}
 use Rattle.nio_words.specs.Views.{view}

@@ -4,9 +4,9 @@ use Rattle.std.proofs.Common.{not, nat_lt, ◌∙◌, subst}
 use Rattle.nio_base.specs.declared.limits.Limits.{Limits}
 use Rattle.nio_base.specs.declared.numbers.CallerNo.{CallerNo}
 use Rattle.nio_base.specs.declared.numbers.ChanNo.{ChanNo}
-use Rattle.nio_event.specs.PassViews.{PassView}
-use Rattle.nio_event.specs.Questions.{answer_of}
-use Rattle.nio_event.specs.declared.act.Act.{Act}
+use Rattle.nio_history.specs.PassViews.{PassView}
+use Rattle.nio_history.specs.Questions.{answer_of}
+use Rattle.nio_history.specs.declared.act.Act.{Act}
 use Rattle.nio_steps.specs.Calls.{CallClause}
 use Rattle.nio_steps.specs.KeyCalls.{find_channel_plan}
 use Rattle.nio_steps.specs.Plan.{Plan, reply, ◌>>=◌}

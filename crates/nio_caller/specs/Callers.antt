@@ -5,10 +5,10 @@ use Rattle.nio_base.specs.declared.numbers.CallerNo.{CallerNo}
 use Rattle.nio_base.specs.declared.numbers.ChanNo.{ChanNo}
 use Rattle.nio_base.specs.declared.numbers.KeyNo.{KeyNo}
 use Rattle.nio_base.specs.declared.numbers.SelNo.{SelNo}
-use Rattle.nio_event.specs.Histories.{event_of, mine}
-use Rattle.nio_event.specs.PassViews.{PassView, Holds, HasNoPin, HasSelector, HasChannel, HasKey}
-use Rattle.nio_event.specs.declared.act.Act.TheVariants.{DrawBit}
-use Rattle.nio_event.specs.declared.event.Event.{Event}
+use Rattle.nio_history.specs.Histories.{event_of, mine}
+use Rattle.nio_history.specs.PassViews.{PassView, Holds, HasNoPin, HasSelector, HasChannel, HasKey}
+use Rattle.nio_history.specs.declared.act.Act.TheVariants.{DrawBit}
+use Rattle.nio_history.specs.declared.event.Event.{Event}
 use Rattle.nio_words.specs.Passes.{IsOnly, IsPassOf, IsReady, Holds as HoldsNumber, seen}
 use Rattle.nio_words.specs.Rule.{longer}
 use Rattle.nio_words.specs.Views.{view}

@@ -4,7 +4,7 @@ use Rattle.nio_base.specs.declared.limits.Limits.{Limits}
 use Rattle.nio_base.specs.declared.numbers.ChanNo.{ChanNo}
 use Rattle.nio_base.specs.declared.numbers.KeyNo.{KeyNo}
 use Rattle.nio_base.specs.declared.numbers.SelNo.{SelNo}
-use Rattle.nio_event.specs.declared.act.Act.{Act}
+use Rattle.nio_history.specs.declared.act.Act.{Act}
 use Rattle.nio_steps.specs.ChannelCalls.{SetsBlocking, Registers, key_for_plan}
 use Rattle.nio_steps.specs.KeyCalls.{find_channel_plan, unselect_plan}
 use Rattle.nio_steps.specs.Runs.{Completes}

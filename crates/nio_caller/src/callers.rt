@@ -1,8 +1,8 @@
 //! Callers: a number, a pass that acts for it, and the table.
 ghost use Rattle.std.specs.Prelude.{◌≡◌, ◌≢◌, ◌↔◌, ◌+◌, ◌<◌, IsOk, IsTrue, IfOk, OnErr};
 ghost use Rattle.nio_base.specs.declared.numbers.CallerNo.{CallerNo as Number};
-ghost use Rattle.nio_event.specs.Conditions.{IsCaller};
-ghost use Rattle.nio_event.specs.PassViews.{Holds};
+ghost use Rattle.nio_history.specs.Conditions.{IsCaller};
+ghost use Rattle.nio_history.specs.PassViews.{Holds};
 ghost use Rattle.nio_words.specs.Passes.{IsFirstPass, limits_of};
 ghost use Rattle.nio_caller.specs.Callers.{GivesNumber, HasDrawn, IsSameCaller, Joins, MayCall, StillHas, draws};
 ghost use Rattle.nio_caller.specs.Callers.{sees};

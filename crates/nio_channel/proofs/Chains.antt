@@ -1,8 +1,8 @@
 -- What ends a call along its plan.
 use Rattle.std.proofs.Common.{◌≡◌, Bool, Option, Some, None, Result, Ok, Err, IfOk, IfSome, List, subst, sym}
 use Rattle.nio_base.specs.declared.numbers.CallerNo.{CallerNo}
-use Rattle.nio_event.specs.PassViews.{PassView, ActsClause}
-use Rattle.nio_event.specs.declared.act.Act.{Act}
+use Rattle.nio_history.specs.PassViews.{PassView, ActsClause}
+use Rattle.nio_history.specs.declared.act.Act.{Act}
 use Rattle.nio_steps.proofs.CallLaws.{left_after}
 use Rattle.nio_steps.specs.Calls.{CallClause, PartClause}
 use Rattle.nio_steps.specs.Plan.{Plan}

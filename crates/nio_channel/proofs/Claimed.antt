@@ -8,23 +8,23 @@ use Rattle.nio_base.specs.declared.numbers.CallerNo.{CallerNo}
 use Rattle.nio_base.specs.declared.numbers.ChanNo.{ChanNo}
 use Rattle.nio_base.specs.declared.numbers.KeyId.{KeyId}
 use Rattle.nio_base.specs.declared.numbers.SelNo.{SelNo}
-use Rattle.nio_event.proofs.Finds.{step_leaves}
-use Rattle.nio_event.proofs.KeyChanges.{back_parts}
-use Rattle.nio_event.proofs.Put.{put_at-same}
-use Rattle.nio_event.proofs.Soundness.{legal-sound, held_some}
-use Rattle.nio_event.proofs.Within.{legal-within}
-use Rattle.nio_event.specs.Acts.{new_key}
-use Rattle.nio_event.specs.Conditions.{IsKey, AllClaimed, is_claimed, is_held_by, has_taken}
-use Rattle.nio_event.specs.Histories.{state_after}
-use Rattle.nio_event.specs.Permanent.{index_claimed}
-use Rattle.nio_event.specs.OwnEvents.{own_claim, is_unpublished}
-use Rattle.nio_event.specs.PassViews.{PassView, Holds, known, ActsClause, HasNoPin}
-use Rattle.nio_event.specs.Sets.{can_come_back}
-use Rattle.nio_event.specs.State.{State, last_serial}
-use Rattle.nio_event.specs.declared.act.Act.{Act}
-use Rattle.nio_event.specs.declared.act.Act.TheVariants.{LookKey, Claim, LookKeys, TakeFree, ClaimAgain}
-use Rattle.nio_event.specs.declared.found.Stage.{Stage}
-use Rattle.nio_event.proofs.PassViews.{lasts_over}
+use Rattle.nio_history.proofs.Finds.{step_leaves}
+use Rattle.nio_history.proofs.KeyChanges.{back_parts}
+use Rattle.nio_history.proofs.Put.{put_at-same}
+use Rattle.nio_history.proofs.Soundness.{legal-sound, held_some}
+use Rattle.nio_history.proofs.Within.{legal-within}
+use Rattle.nio_history.specs.Acts.{new_key}
+use Rattle.nio_history.specs.Conditions.{IsKey, AllClaimed, is_claimed, is_held_by, has_taken}
+use Rattle.nio_history.specs.Histories.{state_after}
+use Rattle.nio_history.specs.Permanent.{index_claimed}
+use Rattle.nio_history.specs.OwnEvents.{own_claim, is_unpublished}
+use Rattle.nio_history.specs.PassViews.{PassView, Holds, known, ActsClause, HasNoPin}
+use Rattle.nio_history.specs.Sets.{can_come_back}
+use Rattle.nio_history.specs.State.{State, last_serial}
+use Rattle.nio_history.specs.declared.act.Act.{Act}
+use Rattle.nio_history.specs.declared.act.Act.TheVariants.{LookKey, Claim, LookKeys, TakeFree, ClaimAgain}
+use Rattle.nio_history.specs.declared.found.Stage.{Stage}
+use Rattle.nio_history.proofs.PassViews.{lasts_over}
 use Rattle.nio_steps.specs.ChannelCalls.{claim_free, claim_at_bit}
 use Rattle.nio_steps.specs.Plan.{reply, ◌>>=◌}
 use Rattle.nio_steps.specs.Sweeps.{found_or, seek, seek_to}

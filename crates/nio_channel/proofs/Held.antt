@@ -8,25 +8,26 @@ use Rattle.nio_base.specs.declared.numbers.CallerNo.{CallerNo}
 use Rattle.nio_base.specs.declared.numbers.ChanNo.{ChanNo}
 use Rattle.nio_base.specs.declared.numbers.KeyId.{KeyId}
 use Rattle.nio_base.specs.declared.numbers.SelNo.{SelNo}
-use Rattle.nio_event.proofs.Finds.{step_leaves}
-use Rattle.nio_event.proofs.LastsAlone.{same_two}
-use Rattle.nio_event.proofs.OneMore.{since_from-more}
-use Rattle.nio_event.proofs.PinLaws.{enrolled_keys_are_claimed}
-use Rattle.nio_event.proofs.Put.{put-same}
-use Rattle.nio_event.proofs.Within.{legal-within}
-use Rattle.nio_event.specs.Conditions.{IsChannel, IsSelector, IsKey, is_held_by, holds, is_claimed}
-use Rattle.nio_event.specs.Found.{finds}
-use Rattle.nio_event.specs.Histories.{state_after}
-use Rattle.nio_event.specs.Permanent.{OwnFact, the_hold, is_had_by, gives_back, channel_closed, key_published}
-use Rattle.nio_event.specs.OwnEvents.{has, last, under, takes_hold, releases, finds_unblocked, enrolled_found, is_clear}
-use Rattle.nio_event.specs.PassViews.{PassView, Holds as HoldsNumber, known, ActsClause, HasKey}
-use Rattle.nio_event.specs.Sets.{fits, in_key_set, is_valid, was_published, is_in_key_set, is_valid_key}
-use Rattle.nio_event.specs.Sound.{IsWithin}
-use Rattle.nio_event.specs.State.{State}
-use Rattle.nio_event.specs.declared.act.Act.{Act}
-use Rattle.nio_event.specs.declared.act.Act.TheVariants.{LookKey, LookChannel, LookReg, TryHoldBit}
-use Rattle.nio_event.specs.declared.found.Chan.{Chan}
-use Rattle.nio_event.specs.declared.found.Stage.{Stage}
+use Rattle.nio_history.proofs.Finds.{step_leaves}
+use Rattle.nio_history.proofs.LastsAlone.{same_two}
+use Rattle.nio_history.proofs.OneMore.{since_from-more}
+use Rattle.nio_history.proofs.PinLaws.{enrolled_keys_are_claimed}
+use Rattle.nio_history.proofs.Put.{put-same}
+use Rattle.nio_history.proofs.Within.{legal-within}
+use Rattle.nio_history.specs.Conditions.{IsChannel, IsSelector, IsKey, is_held_by, holds, is_claimed}
+use Rattle.nio_history.specs.Found.{finds}
+use Rattle.nio_history.specs.Histories.{state_after}
+use Rattle.nio_history.specs.Permanent.{OwnFact, the_hold, is_had_by, gives_back, channel_closed, key_published}
+use Rattle.nio_history.specs.OwnEvents.{has, last, under, takes_hold, releases, finds_unblocked, enrolled_found}
+use Rattle.nio_history.specs.OwnEvents.{is_clear}
+use Rattle.nio_history.specs.PassViews.{PassView, Holds as HoldsNumber, known, ActsClause, HasKey}
+use Rattle.nio_history.specs.Sets.{fits, in_key_set, is_valid, was_published, is_in_key_set, is_valid_key}
+use Rattle.nio_history.specs.Sound.{IsWithin}
+use Rattle.nio_history.specs.State.{State}
+use Rattle.nio_history.specs.declared.act.Act.{Act}
+use Rattle.nio_history.specs.declared.act.Act.TheVariants.{LookKey, LookChannel, LookReg, TryHoldBit}
+use Rattle.nio_history.specs.declared.found.Chan.{Chan}
+use Rattle.nio_history.specs.declared.found.Stage.{Stage}
 use Rattle.nio_steps.specs.Names.{key}
 use Rattle.nio_words.proofs.GoingOn.{own_stands}
 use Rattle.nio_words.proofs.Stepping.{still_ready}

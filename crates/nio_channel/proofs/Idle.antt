@@ -6,25 +6,26 @@ use Rattle.std.proofs.lemmas.Bool.{and_parts, and_from, or_left, or_right}
 use Rattle.nio_base.specs.declared.numbers.CallerNo.{CallerNo}
 use Rattle.nio_base.specs.declared.numbers.ChanNo.{ChanNo}
 use Rattle.nio_base.specs.declared.numbers.SelNo.{SelNo}
-use Rattle.nio_event.proofs.Finds.{step_leaves}
-use Rattle.nio_event.proofs.OwnPins.{pins_are_own}
-use Rattle.nio_event.proofs.PassViews.{selector_after}
-use Rattle.nio_event.proofs.Put.{put-same, put_at-same}
-use Rattle.nio_event.proofs.Stays.{beginnings_are_legal}
-use Rattle.nio_event.specs.Acts.{frees_index}
-use Rattle.nio_event.specs.Conditions.{IsSelector, is_made, has_pin, has_turn, has_begun, has_taken}
-use Rattle.nio_event.specs.Conditions.{may_remove_cancelled, may_clear_out, may_put_due}
-use Rattle.nio_event.specs.Histories.{state_after}
-use Rattle.nio_event.specs.Permanent.{a_selection}
-use Rattle.nio_event.specs.OwnEvents.{keeps_pin}
-use Rattle.nio_event.specs.PassViews.{PassView, Holds as HoldsNumber, known, ActsClause, HasNoPin, HasSelector}
-use Rattle.nio_event.specs.PassViews.{HasChannel}
-use Rattle.nio_event.specs.Sets.{in_cancelled_set}
-use Rattle.nio_event.specs.State.{State}
-use Rattle.nio_event.specs.declared.act.Act.{Act}
-use Rattle.nio_event.specs.declared.act.Act.TheVariants.{MakeSelector, LookKey, TakeTurn, BeginLook, Remove, Pin, Unpin}
-use Rattle.nio_event.specs.declared.found.GateWord.{GateWord}
-use Rattle.nio_event.specs.declared.found.Stage.{Stage}
+use Rattle.nio_history.proofs.Finds.{step_leaves}
+use Rattle.nio_history.proofs.OwnPins.{pins_are_own}
+use Rattle.nio_history.proofs.PassViews.{selector_after}
+use Rattle.nio_history.proofs.Put.{put-same, put_at-same}
+use Rattle.nio_history.proofs.Stays.{beginnings_are_legal}
+use Rattle.nio_history.specs.Acts.{frees_index}
+use Rattle.nio_history.specs.Conditions.{IsSelector, is_made, has_pin, has_turn, has_begun, has_taken}
+use Rattle.nio_history.specs.Conditions.{may_remove_cancelled, may_clear_out, may_put_due}
+use Rattle.nio_history.specs.Histories.{state_after}
+use Rattle.nio_history.specs.Permanent.{a_selection}
+use Rattle.nio_history.specs.OwnEvents.{keeps_pin}
+use Rattle.nio_history.specs.PassViews.{PassView, Holds as HoldsNumber, known, ActsClause, HasNoPin, HasSelector}
+use Rattle.nio_history.specs.PassViews.{HasChannel}
+use Rattle.nio_history.specs.Sets.{in_cancelled_set}
+use Rattle.nio_history.specs.State.{State}
+use Rattle.nio_history.specs.declared.act.Act.{Act}
+use Rattle.nio_history.specs.declared.act.Act.TheVariants.{MakeSelector, LookKey, TakeTurn, BeginLook, Remove, Pin}
+use Rattle.nio_history.specs.declared.act.Act.TheVariants.{Unpin}
+use Rattle.nio_history.specs.declared.found.GateWord.{GateWord}
+use Rattle.nio_history.specs.declared.found.Stage.{Stage}
 use Rattle.nio_words.proofs.Pins.{changes_pins, no_pin_stays, only_pinned, none_unpinned}
 use Rattle.nio_words.proofs.Stepping.{still_ready}
 use Rattle.nio_words.proofs.Views.{finds_drawn, step_acts, look_tells, turn_taken, selection_begun}

@@ -4,19 +4,19 @@ use Rattle.std.proofs.Common.{sym, ◌∙◌, below_more}
 use Rattle.nio_base.specs.declared.kind.Kind.{Kind}
 use Rattle.nio_base.specs.declared.numbers.CallerNo.{CallerNo}
 use Rattle.nio_base.specs.declared.numbers.ChanNo.{ChanNo}
-use Rattle.nio_event.proofs.Finds.{step_leaves}
-use Rattle.nio_event.proofs.Put.{put-same}
-use Rattle.nio_event.proofs.Soundness.{legal-sound}
-use Rattle.nio_event.specs.Acts.{new_channel}
-use Rattle.nio_event.specs.Conditions.{AllMade}
-use Rattle.nio_event.specs.Histories.{state_after}
-use Rattle.nio_event.specs.Permanent.{channel_made}
-use Rattle.nio_event.specs.PassViews.{PassView, Holds, known, ActsClause}
-use Rattle.nio_event.specs.State.{State}
-use Rattle.nio_event.specs.declared.act.Act.{Act}
-use Rattle.nio_event.specs.declared.act.Act.TheVariants.{MakeChannel, LookChannels, CloseBit}
-use Rattle.nio_event.specs.declared.found.Chan.{Chan}
-use Rattle.nio_event.proofs.PassViews.{lasts_over}
+use Rattle.nio_history.proofs.Finds.{step_leaves}
+use Rattle.nio_history.proofs.Put.{put-same}
+use Rattle.nio_history.proofs.Soundness.{legal-sound}
+use Rattle.nio_history.specs.Acts.{new_channel}
+use Rattle.nio_history.specs.Conditions.{AllMade}
+use Rattle.nio_history.specs.Histories.{state_after}
+use Rattle.nio_history.specs.Permanent.{channel_made}
+use Rattle.nio_history.specs.PassViews.{PassView, Holds, known, ActsClause}
+use Rattle.nio_history.specs.State.{State}
+use Rattle.nio_history.specs.declared.act.Act.{Act}
+use Rattle.nio_history.specs.declared.act.Act.TheVariants.{MakeChannel, LookChannels, CloseBit}
+use Rattle.nio_history.specs.declared.found.Chan.{Chan}
+use Rattle.nio_history.proofs.PassViews.{lasts_over}
 use Rattle.nio_words.proofs.Views.{look_tells}
 
 all_made_after : {me : CallerNo} {acts : List Act} {v0 v1 : PassView} {n : ℕ} → ActsClause me acts v0 v1

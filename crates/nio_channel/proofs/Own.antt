@@ -7,21 +7,21 @@ use Rattle.std.proofs.Math.Bool.{and-false}
 use Rattle.nio_base.specs.declared.numbers.ChanNo.{ChanNo}
 use Rattle.nio_base.specs.declared.numbers.KeyId.{KeyId}
 use Rattle.nio_base.specs.declared.numbers.SelNo.{SelNo}
-use Rattle.nio_event.proofs.Claims.{claim_after, own_claim-more}
-use Rattle.nio_event.proofs.LastsAlone.{same_two}
-use Rattle.nio_event.proofs.OneMore.{has-more, last-more, since_from-more}
-use Rattle.nio_event.specs.Found.{finds}
-use Rattle.nio_event.specs.Permanent.{channel_closed}
-use Rattle.nio_event.specs.OwnEvents.{OwnClaim, is_yes, has, last, under, takes_hold, releases, finds_outside}
-use Rattle.nio_event.specs.OwnEvents.{is_outside, enrolled_found, enrols_key, publishes, since_key_enrolled}
-use Rattle.nio_event.specs.OwnEvents.{claim_changed, own_claim, leaves_unpublished, is_unpublished, is_clear}
-use Rattle.nio_event.specs.OwnEvents.{is_clear_by}
-use Rattle.nio_event.specs.Sets.{is_in_key_set}
-use Rattle.nio_event.specs.declared.act.Act.{Act}
-use Rattle.nio_event.specs.declared.act.Act.TheVariants.{LookChannel, Claim, Publish, LookReg, Enrol, TryHoldBit}
-use Rattle.nio_event.specs.declared.act.Act.TheVariants.{Release, SetMode, Pin, Unpin, ClaimAgain, LookKey}
-use Rattle.nio_event.specs.declared.found.Stage.{Stage}
-use Rattle.nio_event.proofs.Unpublished.{is_unpublished-more}
+use Rattle.nio_history.proofs.Claims.{claim_after, own_claim-more}
+use Rattle.nio_history.proofs.LastsAlone.{same_two}
+use Rattle.nio_history.proofs.OneMore.{has-more, last-more, since_from-more}
+use Rattle.nio_history.specs.Found.{finds}
+use Rattle.nio_history.specs.Permanent.{channel_closed}
+use Rattle.nio_history.specs.OwnEvents.{OwnClaim, is_yes, has, last, under, takes_hold, releases, finds_outside}
+use Rattle.nio_history.specs.OwnEvents.{is_outside, enrolled_found, enrols_key, publishes, since_key_enrolled}
+use Rattle.nio_history.specs.OwnEvents.{claim_changed, own_claim, leaves_unpublished, is_unpublished, is_clear}
+use Rattle.nio_history.specs.OwnEvents.{is_clear_by}
+use Rattle.nio_history.specs.Sets.{is_in_key_set}
+use Rattle.nio_history.specs.declared.act.Act.{Act}
+use Rattle.nio_history.specs.declared.act.Act.TheVariants.{LookChannel, Claim, Publish, LookReg, Enrol, TryHoldBit}
+use Rattle.nio_history.specs.declared.act.Act.TheVariants.{Release, SetMode, Pin, Unpin, ClaimAgain, LookKey}
+use Rattle.nio_history.specs.declared.found.Stage.{Stage}
+use Rattle.nio_history.proofs.Unpublished.{is_unpublished-more}
 
 -- ---- acts of no consequence to a hold and its channel, to enrolled keys and to publishing
 

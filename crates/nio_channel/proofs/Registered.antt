@@ -10,30 +10,30 @@ use Rattle.nio_base.specs.declared.numbers.ChanNo.{ChanNo}
 use Rattle.nio_base.specs.declared.numbers.KeyId.{KeyId}
 use Rattle.nio_base.specs.declared.numbers.KeyNo.{KeyNo}
 use Rattle.nio_base.specs.declared.numbers.SelNo.{SelNo}
-use Rattle.nio_event.proofs.Finds.{step_leaves}
-use Rattle.nio_event.proofs.Holder.{held_since}
-use Rattle.nio_event.proofs.Holds.{found_enrolled_stays}
-use Rattle.nio_event.proofs.LastsAlone.{same_two}
-use Rattle.nio_event.proofs.OneMore.{has-more, mine-append}
-use Rattle.nio_event.proofs.PassViews.{key_after, lasts_over}
-use Rattle.nio_event.proofs.PinLaws.{own_claims_stand, enrolled_keys_are_claimed}
-use Rattle.nio_event.proofs.Put.{put_at-same}
-use Rattle.nio_event.proofs.Stays.{beginnings_are_legal}
-use Rattle.nio_event.specs.Conditions.{IsKey, holds, may_publish}
-use Rattle.nio_event.specs.Found.{finds, Leaves}
-use Rattle.nio_event.specs.Histories.{state_after, event_of, mine, IsLegal}
-use Rattle.nio_event.specs.Permanent.{channel_closed, key_published, key_cancelled}
-use Rattle.nio_event.specs.OwnEvents.{has, last, under, takes_hold, finds_unblocked, enrolled_found, own_claim}
-use Rattle.nio_event.specs.OwnEvents.{is_clear}
-use Rattle.nio_event.specs.PassViews.{Holds as HoldsNumber, HasKey}
-use Rattle.nio_event.specs.Pins.{IsOfClaim}
-use Rattle.nio_event.specs.Sets.{fits, is_in_key_set, was_published}
-use Rattle.nio_event.specs.State.{State}
-use Rattle.nio_event.specs.declared.act.Act.{Act}
-use Rattle.nio_event.specs.declared.act.Act.TheVariants.{LookChannel, CancelKey, Enrol, Publish, Pin, Release}
-use Rattle.nio_event.specs.declared.event.Event.{Event}
-use Rattle.nio_event.specs.declared.found.Chan.{Chan}
-use Rattle.nio_event.specs.declared.found.Stage.{Stage}
+use Rattle.nio_history.proofs.Finds.{step_leaves}
+use Rattle.nio_history.proofs.Holder.{held_since}
+use Rattle.nio_history.proofs.Holds.{found_enrolled_stays}
+use Rattle.nio_history.proofs.LastsAlone.{same_two}
+use Rattle.nio_history.proofs.OneMore.{has-more, mine-append}
+use Rattle.nio_history.proofs.PassViews.{key_after, lasts_over}
+use Rattle.nio_history.proofs.PinLaws.{own_claims_stand, enrolled_keys_are_claimed}
+use Rattle.nio_history.proofs.Put.{put_at-same}
+use Rattle.nio_history.proofs.Stays.{beginnings_are_legal}
+use Rattle.nio_history.specs.Conditions.{IsKey, holds, may_publish}
+use Rattle.nio_history.specs.Found.{finds, Leaves}
+use Rattle.nio_history.specs.Histories.{state_after, event_of, mine, IsLegal}
+use Rattle.nio_history.specs.Permanent.{channel_closed, key_published, key_cancelled}
+use Rattle.nio_history.specs.OwnEvents.{has, last, under, takes_hold, finds_unblocked, enrolled_found, own_claim}
+use Rattle.nio_history.specs.OwnEvents.{is_clear}
+use Rattle.nio_history.specs.PassViews.{Holds as HoldsNumber, HasKey}
+use Rattle.nio_history.specs.Pins.{IsOfClaim}
+use Rattle.nio_history.specs.Sets.{fits, is_in_key_set, was_published}
+use Rattle.nio_history.specs.State.{State}
+use Rattle.nio_history.specs.declared.act.Act.{Act}
+use Rattle.nio_history.specs.declared.act.Act.TheVariants.{LookChannel, CancelKey, Enrol, Publish, Pin, Release}
+use Rattle.nio_history.specs.declared.event.Event.{Event}
+use Rattle.nio_history.specs.declared.found.Chan.{Chan}
+use Rattle.nio_history.specs.declared.found.Stage.{Stage}
 use Rattle.nio_steps.specs.Names.{key}
 use Rattle.nio_words.proofs.Pins.{changes_pins, stays_pinned}
 use Rattle.nio_words.proofs.Views.{finds_drawn, step_acts, found_now}

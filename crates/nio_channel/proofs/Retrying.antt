@@ -1,10 +1,10 @@
 -- Calls that wait for a hold.
 use Rattle.std.proofs.Common.{Bool, List, []}
 use Rattle.nio_base.specs.declared.numbers.CallerNo.{CallerNo}
-use Rattle.nio_event.proofs.PassViews.{acts_nothing}
-use Rattle.nio_event.specs.Histories.{IsLegal}
-use Rattle.nio_event.specs.PassViews.{PassView}
-use Rattle.nio_event.specs.declared.act.Act.{Act}
+use Rattle.nio_history.proofs.PassViews.{acts_nothing}
+use Rattle.nio_history.specs.Histories.{IsLegal}
+use Rattle.nio_history.specs.PassViews.{PassView}
+use Rattle.nio_history.specs.declared.act.Act.{Act}
 use Rattle.nio_steps.proofs.CallLaws.{call_of_acts}
 use Rattle.nio_steps.proofs.WaitingLaws.{TryingClause, tries_none}
 use Rattle.nio_steps.specs.Waiting.{Tries}

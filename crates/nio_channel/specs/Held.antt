@@ -5,10 +5,10 @@ use Rattle.nio_base.specs.declared.numbers.ChanNo.{ChanNo}
 use Rattle.nio_base.specs.declared.numbers.KeyId.{KeyId}
 use Rattle.nio_base.specs.declared.numbers.KeyNo.{KeyNo}
 use Rattle.nio_base.specs.declared.numbers.SelNo.{SelNo}
-use Rattle.nio_event.specs.Conditions.{IsChannel, holds}
-use Rattle.nio_event.specs.OwnEvents.{has, last, under, finds_unblocked, enrolled_found, own_claim, is_unpublished}
-use Rattle.nio_event.specs.OwnEvents.{is_clear}
-use Rattle.nio_event.specs.PassViews.{HasKey}
+use Rattle.nio_history.specs.Conditions.{IsChannel, holds}
+use Rattle.nio_history.specs.OwnEvents.{has, last, under, finds_unblocked, enrolled_found, own_claim, is_unpublished}
+use Rattle.nio_history.specs.OwnEvents.{is_clear}
+use Rattle.nio_history.specs.PassViews.{HasKey}
 use Rattle.nio_steps.specs.Names.{key}
 use Rattle.nio_words.specs.Passes.{IsReady, acts_seen, limits_of, state_seen}
 use Rattle.nio_words.specs.Views.{view, IsPinned}

@@ -3,12 +3,12 @@ use Rattle.std.specs.Prelude.{◌≡◌, Bool, IsTrue}
 use Rattle.nio_base.specs.declared.numbers.CallerNo.{CallerNo}
 use Rattle.nio_base.specs.declared.numbers.ChanNo.{ChanNo}
 use Rattle.nio_base.specs.declared.numbers.KeyNo.{KeyNo}
-use Rattle.nio_event.specs.Found.{finds}
-use Rattle.nio_event.specs.Histories.{mine}
-use Rattle.nio_event.specs.Permanent.{channel_closed}
-use Rattle.nio_event.specs.OwnEvents.{has, under}
-use Rattle.nio_event.specs.PassViews.{PassView, known}
-use Rattle.nio_event.specs.Sets.{was_cancelled}
+use Rattle.nio_history.specs.Found.{finds}
+use Rattle.nio_history.specs.Histories.{mine}
+use Rattle.nio_history.specs.Permanent.{channel_closed}
+use Rattle.nio_history.specs.OwnEvents.{has, under}
+use Rattle.nio_history.specs.PassViews.{PassView, known}
+use Rattle.nio_history.specs.Sets.{was_cancelled}
 
 -- the caller found the channel closed under the hold of it that it took last
 abbrev pub found_closed : PassView → CallerNo → ChanNo → Bool

@@ -1,7 +1,7 @@
 //! An index for a new key of a channel.
 ghost use Rattle.std.specs.Prelude.{◌≡◌, ◌+◌, ◌*◌, ◌<◌, ◌≤◌, ◌&&◌, nat_lt, if◌then◌else◌, None, IfSome, IsTrue};
-ghost use Rattle.nio_event.specs.Conditions.{AllClaimed, IsKey, IsSelector, has_taken};
-ghost use Rattle.nio_event.specs.PassViews.{HasNoPin};
+ghost use Rattle.nio_history.specs.Conditions.{AllClaimed, IsKey, IsSelector, has_taken};
+ghost use Rattle.nio_history.specs.PassViews.{HasNoPin};
 ghost use Rattle.nio_steps.specs.Calls.{CallClause};
 ghost use Rattle.nio_steps.specs.ChannelCalls.{claim_taken as claims_taken, claim_free as claims_free, claim_at_bit};
 ghost use Rattle.nio_steps.specs.ChannelCalls.{claim_in_word, search_free as searches_free};

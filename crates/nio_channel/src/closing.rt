@@ -1,7 +1,7 @@
 //! Closing a channel.
 ghost use Rattle.std.specs.Prelude.{IfSome, IsTrue, [], ◌∷◌};
-ghost use Rattle.nio_event.specs.Conditions.{IsChannel, IsSelector, IsKey, is_claimed};
-ghost use Rattle.nio_event.specs.PassViews.{HasChannel, HasNoPin, known};
+ghost use Rattle.nio_history.specs.Conditions.{IsChannel, IsSelector, IsKey, is_claimed};
+ghost use Rattle.nio_history.specs.PassViews.{HasChannel, HasNoPin, known};
 ghost use Rattle.nio_steps.specs.Calls.{CallClause};
 ghost use Rattle.nio_steps.specs.ChannelCalls.{cancel_at, cancel_enrolled, cancel_keys, close_channel_plan};
 ghost use Rattle.nio_steps.specs.KeyCalls.{cancel_present};
@@ -12,7 +12,7 @@ ghost use Rattle.nio_words.specs.Views.{view, IsPinned};
 
 use crate::keys::look_enrolled;
 use nio_base::{CallerNo, ChanNo, KeyId, SelNo};
-use nio_event::Stage;
+use nio_history::Stage;
 use nio_words::{Pass, Words};
 
 /// Closes the channel and cancels its keys: Java's `close`. Says whether this call closed it; where it was

@@ -1,8 +1,8 @@
 //! Calls that look for a channel's keys.
 ghost use Rattle.std.specs.Prelude.{◌≡◌, ◌+◌, IfSome, IsTrue};
-ghost use Rattle.nio_event.specs.Conditions.{IsChannel, IsSelector, IsKey, is_claimed};
-ghost use Rattle.nio_event.specs.PassViews.{HasChannel, HasSelector, HasKey};
-ghost use Rattle.nio_event.specs.declared.act.Act.TheVariants.{LookReg};
+ghost use Rattle.nio_history.specs.Conditions.{IsChannel, IsSelector, IsKey, is_claimed};
+ghost use Rattle.nio_history.specs.PassViews.{HasChannel, HasSelector, HasKey};
+ghost use Rattle.nio_history.specs.declared.act.Act.TheVariants.{LookReg};
 ghost use Rattle.nio_steps.specs.Calls.{CallClause};
 ghost use Rattle.nio_steps.specs.ChannelCalls.{key_for_plan, registered_or, is_registered_plan};
 ghost use Rattle.nio_steps.specs.Runs.{Completes};

@@ -1,5 +1,5 @@
 //! Calls that look once at a channel.
-ghost use Rattle.nio_event.specs.PassViews.{HasChannel};
+ghost use Rattle.nio_history.specs.PassViews.{HasChannel};
 ghost use Rattle.nio_steps.specs.Calls.{CallClause};
 ghost use Rattle.nio_steps.specs.ChannelCalls.{is_open_plan, is_blocking_plan};
 ghost use Rattle.nio_steps.specs.Runs.{Completes};

@@ -1,6 +1,6 @@
 //! Calls that set a channel's mode.
 ghost use Rattle.std.specs.Prelude.{◌≡◌, if◌then◌else◌, None, IsTrue};
-ghost use Rattle.nio_event.specs.PassViews.{HasChannel};
+ghost use Rattle.nio_history.specs.PassViews.{HasChannel};
 ghost use Rattle.nio_steps.specs.Calls.{CallClause};
 ghost use Rattle.nio_steps.specs.ChannelCalls.{first_key as finds_first_key, key_where_blocking};
 ghost use Rattle.nio_steps.specs.ChannelCalls.{set_mode_clear as sets_mode_clear, set_mode_open as sets_mode_open};

@@ -1,7 +1,7 @@
 //! Opening a channel.
 ghost use Rattle.std.specs.Prelude.{◌≡◌, ◌+◌, IsTrue, IfOk, IfSome};
-ghost use Rattle.nio_event.specs.Conditions.{AllMade, IsChannel, is_made};
-ghost use Rattle.nio_event.specs.PassViews.{HasChannel};
+ghost use Rattle.nio_history.specs.Conditions.{AllMade, IsChannel, is_made};
+ghost use Rattle.nio_history.specs.PassViews.{HasChannel};
 ghost use Rattle.nio_steps.specs.Calls.{CallClause};
 ghost use Rattle.nio_steps.specs.ChannelCalls.{makes_channel, opened_channel, open_channel_plan};
 ghost use Rattle.nio_steps.specs.Names.{channel};

@@ -1,9 +1,9 @@
 //! Registering a channel with a selector.
 ghost use Rattle.std.specs.Prelude.{◌≡◌, ◌+◌, ◌≤◌, Some, None, IfSome, IfOk, IsTrue, IsFalse};
-ghost use Rattle.nio_event.specs.Conditions.{AllClaimed, IsKey, IsSelector, is_claimed};
-ghost use Rattle.nio_event.specs.OwnEvents.{last, enrolled_found, under};
-ghost use Rattle.nio_event.specs.PassViews.{HasChannel, HasKey, HasNoPin, HasSelector};
-ghost use Rattle.nio_event.specs.Sets.{is_in_key_set as is_in_set};
+ghost use Rattle.nio_history.specs.Conditions.{AllClaimed, IsKey, IsSelector, is_claimed};
+ghost use Rattle.nio_history.specs.OwnEvents.{last, enrolled_found, under};
+ghost use Rattle.nio_history.specs.PassViews.{HasChannel, HasKey, HasNoPin, HasSelector};
+ghost use Rattle.nio_history.specs.Sets.{is_in_key_set as is_in_set};
 ghost use Rattle.nio_steps.specs.Calls.{CallClause};
 ghost use Rattle.nio_steps.specs.ChannelCalls.{update_key as updates_key, register_enrolled as registers_enrolled};
 ghost use Rattle.nio_steps.specs.ChannelCalls.{register_unenrolled as registers_unenrolled};
@@ -25,7 +25,7 @@ ghost use Rattle.nio_channel.specs.Registered.{found_closed, IsKeyOf, IsCancelle
 use crate::claiming::{claim_first, search_free};
 use crate::keys::look_enrolled;
 use nio_base::{CallerNo, ChanNo, KeyId, KeyNo, Ops, SelNo};
-use nio_event::Stage;
+use nio_history::Stage;
 use nio_steps::{ChannelError, supports};
 use nio_words::{Pass, Words};
 

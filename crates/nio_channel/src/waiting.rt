@@ -1,6 +1,6 @@
 //! Calls that wait for the hold of a channel.
 ghost use Rattle.std.specs.Prelude.{◌≡◌, ◌≢◌, Err, IfOk};
-ghost use Rattle.nio_event.specs.PassViews.{HasChannel, HasKey, HasNoPin, HasSelector};
+ghost use Rattle.nio_history.specs.PassViews.{HasChannel, HasKey, HasNoPin, HasSelector};
 ghost use Rattle.nio_steps.specs.Calls.{CallClause};
 ghost use Rattle.nio_steps.specs.ChannelCalls.{finds_held, Registers, SetsBlocking};
 ghost use Rattle.nio_steps.specs.declared.refusal.ChannelError.TheVariants.{Busy};

@@ -18,7 +18,7 @@ use crate::calls;
 use crate::calls::{NetError, no_standings};
 use crate::told::list;
 use nio_base::{Addr, ChanNo, Ops};
-use nio_event::Mode;
+use nio_history::Mode;
 use nio_link::{Got, Net, Put, Standing};
 use nio_poller::{PollError, Poller};
 use nio_select::{Asked, Told};
@@ -251,10 +251,10 @@ impl<N: Net + Drop> CheckedNet<N> {
 
 impl<N: Net + Drop> Poller for CheckedNet<N> {
     ghost use Rattle.nio_base.specs.declared.numbers.ChanNo.{ChanNo};
-    ghost use Rattle.nio_checked.specs.Checked.{ready_of};
-    ghost use Rattle.nio_checked.specs.Listed.{listed};
     ghost use Rattle.nio_poller.specs.Polls.{AddsPoll, told_of_channel};
     ghost use Rattle.nio_poller.specs.declared.poller.PollError.TheVariants as failure;
+    ghost use Rattle.nio_checked.specs.Checked.{ready_of};
+    ghost use Rattle.nio_checked.specs.Listed.{listed};
 
     ghost poll_faults = { λ c. N.poll_faults c.net };
 

@@ -5,8 +5,8 @@ ghost use Rattle.nio_jobs.specs.Reports.{done_of_made, done_of_read, done_of_wri
 use crate::exchange::{Done, Exchange};
 use crate::jobs::Jobs;
 use nio_base::{Addr, ChanNo, OpKind, OpNo, Ops, Outcome};
-use nio_event::Mode;
 use nio_group::Job;
+use nio_history::Mode;
 use nio_link::{Failed, Got, JobNet, Net, Put};
 use nio_poller::{PollError, Poller};
 use nio_select::{Asked, Told};

@@ -6,7 +6,7 @@ ghost use Rattle.nio_link.specs.Readiness.{without};
 ghost use Rattle.nio_poller.specs.Polls.{told_of_channel};
 
 use nio_base::{ChanNo, Ops};
-use nio_event::Mode;
+use nio_history::Mode;
 use nio_poller::ToldPoll;
 use nio_select::{Asked, Told};
 use nio_trace::{Reading, Trace};

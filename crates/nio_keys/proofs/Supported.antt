@@ -4,10 +4,10 @@ use Rattle.std.specs.Prelude.{Result, Ok, Err}
 use Rattle.nio_base.specs.Kind.{valid_operations}
 use Rattle.nio_base.specs.declared.numbers.CallerNo.{CallerNo}
 use Rattle.nio_base.specs.declared.numbers.KeyNo.{KeyNo}
-use Rattle.nio_event.specs.PassViews.{PassView}
-use Rattle.nio_event.specs.Questions.{Question}
-use Rattle.nio_event.specs.Sets.{is_valid_key}
-use Rattle.nio_event.specs.declared.found.Stage.{Stage}
+use Rattle.nio_history.specs.PassViews.{PassView}
+use Rattle.nio_history.specs.Questions.{Question}
+use Rattle.nio_history.specs.Sets.{is_valid_key}
+use Rattle.nio_history.specs.declared.found.Stage.{Stage}
 use Rattle.nio_steps.proofs.CallLaws.{ran_then, left_of_call, left_after_call, returned}
 use Rattle.nio_steps.specs.Calls.{CallClause}
 use Rattle.nio_steps.specs.KeyCalls.{if_valid, is_within, on_supported}

@@ -1,6 +1,6 @@
 //! Calls that find selectors, channels and keys by their numbers.
 ghost use Rattle.std.specs.Prelude.{IfSome};
-ghost use Rattle.nio_event.specs.PassViews.{HasSelector, HasChannel, HasKey};
+ghost use Rattle.nio_history.specs.PassViews.{HasSelector, HasChannel, HasKey};
 ghost use Rattle.nio_steps.specs.Calls.{CallClause};
 ghost use Rattle.nio_steps.specs.KeyCalls.{find_selector_plan, find_channel_plan, find_plan};
 ghost use Rattle.nio_steps.specs.Runs.{Completes};

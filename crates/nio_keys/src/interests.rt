@@ -1,7 +1,7 @@
 //! Calls on a key's interest set.
 ghost use Rattle.std.specs.Prelude.{Ok};
-ghost use Rattle.nio_event.specs.Conditions.{IsChannel};
-ghost use Rattle.nio_event.specs.PassViews.{HasKey, HasNoPin};
+ghost use Rattle.nio_history.specs.Conditions.{IsChannel};
+ghost use Rattle.nio_history.specs.PassViews.{HasKey, HasNoPin};
 ghost use Rattle.nio_steps.specs.Calls.{CallClause};
 ghost use Rattle.nio_steps.specs.KeyCalls.{if_valid, on_supported, look_set, put_set, add_set, keep_set, interest_plan};
 ghost use Rattle.nio_steps.specs.KeyCalls.{set_interest_plan, interest_or_plan, interest_and_plan};
@@ -12,7 +12,7 @@ ghost use Rattle.nio_words.specs.Views.{view, IsPinned};
 
 use crate::pinned::{pin, unpin};
 use nio_base::{CallerNo, KeyNo, Ops};
-use nio_event::Stage;
+use nio_history::Stage;
 use nio_steps::{KeyError, supports};
 use nio_words::{Pass, Words};
 

@@ -1,13 +1,13 @@
 //! The index of a key is pinned while a call works on the key.
 ghost use Rattle.std.specs.Prelude.{[], ◌∷◌};
-ghost use Rattle.nio_event.specs.Conditions.{IsChannel};
-ghost use Rattle.nio_event.specs.PassViews.{ActsClause, HasKey, HasNoPin};
-ghost use Rattle.nio_event.specs.declared.act.Act.TheVariants.{Pin, Unpin};
+ghost use Rattle.nio_history.specs.Conditions.{IsChannel};
+ghost use Rattle.nio_history.specs.PassViews.{ActsClause, HasKey, HasNoPin};
+ghost use Rattle.nio_history.specs.declared.act.Act.TheVariants.{Pin, Unpin};
 ghost use Rattle.nio_words.specs.Passes.{IsReady, limits_of};
 ghost use Rattle.nio_words.specs.Views.{view, IsPinned};
 
 use nio_base::{CallerNo, KeyNo};
-use nio_event::Stage;
+use nio_history::Stage;
 use nio_words::{Pass, Words};
 
 /// Pins the key's index. Answers its stage.

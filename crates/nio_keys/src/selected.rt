@@ -1,5 +1,5 @@
 //! Calls on a key's ready set, and on its place in the selected set.
-ghost use Rattle.nio_event.specs.PassViews.{HasKey, HasNoPin};
+ghost use Rattle.nio_history.specs.PassViews.{HasKey, HasNoPin};
 ghost use Rattle.nio_steps.specs.Calls.{CallClause};
 ghost use Rattle.nio_steps.specs.KeyCalls.{if_valid, look_ready, ready_plan, unselect_present, unselect_plan};
 ghost use Rattle.nio_steps.specs.Runs.{Completes};
@@ -8,7 +8,7 @@ ghost use Rattle.nio_words.specs.Views.{view, IsPinned};
 
 use crate::pinned::{pin, unpin};
 use nio_base::{CallerNo, KeyNo, Ops};
-use nio_event::Stage;
+use nio_history::Stage;
 use nio_steps::KeyError;
 use nio_words::{Pass, Words};
 

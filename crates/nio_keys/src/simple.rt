@@ -1,5 +1,5 @@
 //! Calls that are never refused.
-ghost use Rattle.nio_event.specs.PassViews.{HasKey, HasNoPin};
+ghost use Rattle.nio_history.specs.PassViews.{HasKey, HasNoPin};
 ghost use Rattle.nio_steps.specs.Calls.{CallClause};
 ghost use Rattle.nio_steps.specs.KeyCalls.{is_valid_plan, cancel_present, cancel_plan, attach_present, attach_plan};
 ghost use Rattle.nio_steps.specs.KeyCalls.{attachment_present, attachment_plan};
@@ -9,7 +9,7 @@ ghost use Rattle.nio_words.specs.Views.{view, IsPinned};
 
 use crate::pinned::{pin, unpin};
 use nio_base::{CallerNo, KeyNo};
-use nio_event::Stage;
+use nio_history::Stage;
 use nio_words::{Pass, Words};
 
 /// Whether the key is valid: Java's `isValid`.

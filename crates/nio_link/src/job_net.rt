@@ -9,8 +9,8 @@ ghost use Rattle.nio_link.specs.declared.place.Standing.TheVariants as standing;
 
 use crate::net::{Failed, Got, Net, Put};
 use nio_base::{Addr, ChanNo};
-use nio_event::Mode;
 use nio_group::Job;
+use nio_history::Mode;
 use nio_poller::{PollError, Poller};
 use nio_select::{Asked, Told};
 use std::alloc::Global;

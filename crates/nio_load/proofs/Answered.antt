@@ -1,8 +1,8 @@
 -- The answer to calls has the replies to them.
 use Rattle.std.proofs.Common.{◌≡◌, ℕ, ◌+◌, List, [], ◌∷◌, ◌++◌, refl, ap}
 use Rattle.nio_base.specs.declared.limits.Limits.{Limits}
-use Rattle.nio_event.specs.Replies.{history_line}
-use Rattle.nio_event.specs.declared.call.ScriptCall.{ScriptCall}
+use Rattle.nio_language.specs.Replies.{history_line}
+use Rattle.nio_language.specs.declared.call.ScriptCall.{ScriptCall}
 use Rattle.nio_plain.specs.Answer.{answer_from}
 use Rattle.nio_plain.specs.ScriptState.{ScriptState}
 use Rattle.nio_plain.specs.Seq.{seq}

@@ -15,15 +15,15 @@ use Rattle.nio_base.specs.declared.numbers.CallerNo.{CallerNo}
 use Rattle.nio_base.specs.declared.numbers.ChanNo.{ChanNo}
 use Rattle.nio_base.specs.declared.numbers.KeyId.{KeyId}
 use Rattle.nio_base.specs.declared.numbers.SelNo.{SelNo}
-use Rattle.nio_event.specs.Arguments.{IsPair}
-use Rattle.nio_event.specs.Calls.{IsLine}
-use Rattle.nio_event.specs.Script.{lines_of, AreCalls, IsScript}
-use Rattle.nio_event.specs.declared.call.Call.{Call}
-use Rattle.nio_event.specs.declared.call.Call.TheVariants as call
-use Rattle.nio_event.specs.declared.call.ScriptCall.{ScriptCall}
-use Rattle.nio_event.specs.declared.call.Waiting.TheVariants.{Now}
-use Rattle.nio_event.proofs.OneReading.{calls_one}
-use Rattle.nio_event.proofs.PlainTexts.{line_plain}
+use Rattle.nio_language.specs.Arguments.{IsPair}
+use Rattle.nio_language.specs.Calls.{IsLine}
+use Rattle.nio_language.specs.Script.{lines_of, AreCalls, IsScript}
+use Rattle.nio_language.specs.declared.call.Call.{Call}
+use Rattle.nio_language.specs.declared.call.Call.TheVariants as call
+use Rattle.nio_language.specs.declared.call.ScriptCall.{ScriptCall}
+use Rattle.nio_language.specs.declared.call.Waiting.TheVariants.{Now}
+use Rattle.nio_language.proofs.OneReading.{calls_one}
+use Rattle.nio_language.proofs.PlainTexts.{line_plain}
 use Rattle.nio_load.specs.Generator.{channel_lines, generated, generated_lines, key_of_round, lines_below, round_lines}
 use Rattle.nio_load.specs.Generator.{selection_lines, text_of, wakeup_lines}
 

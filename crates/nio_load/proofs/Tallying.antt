@@ -1,6 +1,6 @@
 -- What is kept while the calls of a script are summed up.
 use Rattle.std.proofs.Common.{◌≡◌, ℕ, ◌+◌, ◌*◌, ◌^◌, ◌≤◌, List, length, sum}
-use Rattle.nio_event.specs.declared.call.ScriptCall.{ScriptCall}
+use Rattle.nio_language.specs.declared.call.ScriptCall.{ScriptCall}
 use Rattle.nio_plain.specs.Answer.{left_from}
 use Rattle.nio_plain.specs.declared.system.System as system
 use Rattle.nio_load.specs.Summary.{counts_from}

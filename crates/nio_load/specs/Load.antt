@@ -1,8 +1,8 @@
 -- What a load does to its sink and its system.
 use Rattle.std.specs.Prelude.{◌≡◌, ℕ, List}
 use Rattle.nio_bytes.specs.declared.sink.Sink as sink
-use Rattle.nio_event.specs.Script.{IsScript}
-use Rattle.nio_event.specs.declared.call.ScriptCall.{ScriptCall}
+use Rattle.nio_language.specs.Script.{IsScript}
+use Rattle.nio_language.specs.declared.call.ScriptCall.{ScriptCall}
 use Rattle.nio_plain.specs.Answer.{left_by_script}
 use Rattle.nio_plain.specs.declared.system.System as system
 use Rattle.nio_script.specs.Output.{IsWritten, WritesPrefix}

@@ -1,7 +1,7 @@
 //! Loads, from the number of rounds to the bytes that go out.
 ghost use Rattle.std.specs.Prelude.{◌≡◌, ◌≤◌, ◌+◌, ◌*◌, ◌⊎◌, IfOk, length};
 ghost use Rattle.nio_bytes.specs.Cause.{Rose};
-ghost use Rattle.nio_event.specs.Script.{IsScript};
+ghost use Rattle.nio_language.specs.Script.{IsScript};
 ghost use Rattle.nio_plain.specs.ScriptState.{script_opening};
 ghost use Rattle.nio_load.specs.Generator.{generated};
 ghost use Rattle.nio_load.specs.Load.{IsSummed, IsHalfSummed, EndsLoad};
@@ -9,7 +9,7 @@ ghost use Rattle.nio_load.specs.Load.{IsSummed, IsHalfSummed, EndsLoad};
 use crate::generator::generate;
 use crate::summary::summarize;
 use nio_bytes::Sink;
-use nio_event::ScriptCall;
+use nio_language::ScriptCall;
 use nio_plain::System;
 use nio_script::{ScriptError, Status, parse_script, write_out};
 use std::alloc::{AllocError, Global};

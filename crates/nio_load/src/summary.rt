@@ -8,7 +8,7 @@ ghost use Rattle.nio_script.specs.Run.{left_by_call};
 ghost use Rattle.nio_load.specs.Summary.{count_of, counts_from, summary_of};
 ghost use Rattle.nio_load.specs.Tally.{with_count};
 
-use nio_event::{Reply, ScriptCall};
+use nio_language::{Reply, ScriptCall};
 use nio_plain::System;
 use std::alloc::{AllocError, Global};
 

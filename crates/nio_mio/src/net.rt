@@ -5,7 +5,7 @@ use crate::bell::MioBell;
 use crate::loose::LooseSocket;
 use crate::sockets::{PLACES, Sockets};
 use nio_base::{Addr, ChanNo, Ops};
-use nio_event::Mode;
+use nio_history::Mode;
 use nio_kept::{Counts, Readiness, raise};
 use nio_link::{Change, Failed, Got, Net, Passable, PlaceLog, Put};
 use nio_poller::{PollError, Poller};
@@ -111,9 +111,9 @@ impl<S: System + Clock + Copy> Poller for MioNet<S> {
 impl<S: System + Clock + Copy> Net for MioNet<S> {
     ghost use Rattle.std.proofs.Common.{ap};
     ghost use Rattle.std.specs.Prelude.{None, refl};
+    ghost use Rattle.nio_kept.specs.Counts.{count_of};
     ghost use Rattle.nio_link.specs.Accepts.{accepted_by};
     ghost use Rattle.nio_link.specs.Places.{places_after};
-    ghost use Rattle.nio_kept.specs.Counts.{count_of};
 
     ghost link = { λ m c. record { got = None; ended = None; put = None; shut = None } };
 

@@ -11,7 +11,7 @@ use mio::event::Event;
 use mio::net::TcpStream;
 use mio::{Events, Poll, Registry, Token, Waker};
 use nio_base::{Addr, ChanNo, Ops};
-use nio_event::Mode;
+use nio_history::Mode;
 use nio_kept::News;
 use nio_link::{Failed, Got, Put};
 use nio_poller::PollError;

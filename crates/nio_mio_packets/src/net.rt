@@ -5,7 +5,7 @@ use crate::side::{Side, add, new_sides};
 use crate::sockets::Sockets;
 use nio_base::{Addr, ChanNo, Ops};
 use nio_datagram::{Came, PacketNet, Place};
-use nio_event::Mode;
+use nio_history::Mode;
 use nio_kept::{Counts, Readiness, raise};
 use nio_link::Failed;
 use nio_poller::{PollError, Poller};

@@ -7,7 +7,7 @@ use mio::net::UdpSocket;
 use mio::{Events, Interest, Poll, Token};
 use nio_base::{Addr, ChanNo, Ops};
 use nio_datagram::{Came, LONGEST};
-use nio_event::Mode;
+use nio_history::Mode;
 use nio_link::Failed;
 use nio_select::{Asked, Told};
 use std::alloc::{AllocError, Global};

@@ -1,10 +1,10 @@
 -- The first caller has no pin once its number is drawn.
 use Rattle.std.proofs.Common.{false, [], ◌∷◌, ◌++◌, ap, ◌∙◌}
 use Rattle.nio_base.specs.declared.numbers.CallerNo.{CallerNo}
-use Rattle.nio_event.specs.Conditions.{has_pin}
-use Rattle.nio_event.specs.Histories.{event_of, state_after}
-use Rattle.nio_event.specs.PassViews.{HasNoPin}
-use Rattle.nio_event.specs.declared.act.Act.TheVariants.{DrawBit}
+use Rattle.nio_history.specs.Conditions.{has_pin}
+use Rattle.nio_history.specs.Histories.{event_of, state_after}
+use Rattle.nio_history.specs.PassViews.{HasNoPin}
+use Rattle.nio_history.specs.declared.act.Act.TheVariants.{DrawBit}
 use Rattle.nio_words.specs.Drawing.{Draws}
 use Rattle.nio_words.specs.Passes.{IsFirstPass}
 use Rattle.nio_words.specs.Views.{view}

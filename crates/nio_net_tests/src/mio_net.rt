@@ -1,14 +1,14 @@
 //! A net of the system's sockets: listening, and the ends of its polls.
 ghost use Rattle.std.specs.Prelude.{◌≡◌, IfOk};
 ghost use Rattle.nio_base.specs.declared.numbers.ChanNo.{ChanNo as Channel};
-ghost use Rattle.nio_event.specs.PassViews.{HasNoPin};
+ghost use Rattle.nio_history.specs.PassViews.{HasNoPin};
 ghost use Rattle.nio_link.specs.Places.{unused};
 ghost use Rattle.nio_words.specs.Passes.{IsReady};
 ghost use Rattle.nio_words.specs.Views.{view};
 
 use nio_base::{Addr, CallerNo, ChanNo, Kind, Limits, Ops};
 use nio_channel::{open_channel, register, set_blocking};
-use nio_event::Mode;
+use nio_history::Mode;
 use nio_link::Net;
 use nio_mio::{MioBell, MioNet};
 use nio_poller::{Bell, PollError, Poller};

@@ -4,10 +4,10 @@ use Rattle.std.proofs.Common.{List, [], ◌∷◌, ◌++◌, refl, ap, sym, ◌�
 use Rattle.std.proofs.lemmas.Bool.{or_parts, or_cases}
 use Rattle.std.proofs.lemmas.List.Folds.{list_any-append}
 use Rattle.std.proofs.lemmas.List.Sums.{sum_by_push}
-use Rattle.nio_event.proofs.Legal.{not_empty}
-use Rattle.nio_event.proofs.OneMore.{has-more, since_from-more}
-use Rattle.nio_event.specs.OwnEvents.{has, count, since_from, since_first, releases}
-use Rattle.nio_event.specs.declared.act.Act.{Act}
+use Rattle.nio_history.proofs.Legal.{not_empty}
+use Rattle.nio_history.proofs.OneMore.{has-more, since_from-more}
+use Rattle.nio_history.specs.OwnEvents.{has, count, since_from, since_first, releases}
+use Rattle.nio_history.specs.declared.act.Act.{Act}
 use Rattle.nio_orderly.specs.Careful.{claims, leaves_below, finds_open, until_released, is_prepared}
 use Rattle.nio_orderly.specs.Owed.{Duty, owes}
 use Rattle.nio_steps.proofs.SelectionLaws.{count-cons}

@@ -8,26 +8,26 @@ use Rattle.nio_base.specs.declared.numbers.CallerNo.{CallerNo}
 use Rattle.nio_base.specs.declared.numbers.ChanNo.{ChanNo}
 use Rattle.nio_base.specs.declared.numbers.KeyId.{KeyId}
 use Rattle.nio_base.specs.declared.numbers.SelNo.{SelNo}
-use Rattle.nio_event.proofs.LastsOnceSound.{permanent_stands}
-use Rattle.nio_event.proofs.Legal.{legal_beginning, legal_next, legal_more, legal_induction}
-use Rattle.nio_event.proofs.OneMore.{state_after-more, mine-own, mine-other, has-more}
-use Rattle.nio_event.proofs.PinLaws.{own_claims_stand}
-use Rattle.nio_event.proofs.Put.{put_keeps}
-use Rattle.nio_event.proofs.Soundness.{legal-sound, both_ways}
-use Rattle.nio_event.proofs.Within.{legal-within}
-use Rattle.nio_event.specs.Acts.{effect}
-use Rattle.nio_event.specs.Answers.{Answers}
-use Rattle.nio_event.specs.Conditions.{Condition, is_held_by}
-use Rattle.nio_event.specs.Histories.{state_after, event_of, is_by, mine, IsStep, IsLegal}
-use Rattle.nio_event.specs.OwnEvents.{has, enters, since_entered, own_claim}
-use Rattle.nio_event.specs.Permanent.{selector_closed_by}
-use Rattle.nio_event.specs.Pins.{IsOfClaim}
-use Rattle.nio_event.specs.Sets.{in_key_set, is_valid}
-use Rattle.nio_event.specs.State.{State}
-use Rattle.nio_event.specs.declared.act.Act.{Act}
-use Rattle.nio_event.specs.declared.act.Act.TheVariants.{Publish, Enter, CloseBit}
-use Rattle.nio_event.specs.declared.event.Event.{Event}
-use Rattle.nio_event.specs.declared.found.Stage.{Stage}
+use Rattle.nio_history.proofs.LastsOnceSound.{permanent_stands}
+use Rattle.nio_history.proofs.Legal.{legal_beginning, legal_next, legal_more, legal_induction}
+use Rattle.nio_history.proofs.OneMore.{state_after-more, mine-own, mine-other, has-more}
+use Rattle.nio_history.proofs.PinLaws.{own_claims_stand}
+use Rattle.nio_history.proofs.Put.{put_keeps}
+use Rattle.nio_history.proofs.Soundness.{legal-sound, both_ways}
+use Rattle.nio_history.proofs.Within.{legal-within}
+use Rattle.nio_history.specs.Acts.{effect}
+use Rattle.nio_history.specs.Answers.{Answers}
+use Rattle.nio_history.specs.Conditions.{Condition, is_held_by}
+use Rattle.nio_history.specs.Histories.{state_after, event_of, is_by, mine, IsStep, IsLegal}
+use Rattle.nio_history.specs.OwnEvents.{has, enters, since_entered, own_claim}
+use Rattle.nio_history.specs.Permanent.{selector_closed_by}
+use Rattle.nio_history.specs.Pins.{IsOfClaim}
+use Rattle.nio_history.specs.Sets.{in_key_set, is_valid}
+use Rattle.nio_history.specs.State.{State}
+use Rattle.nio_history.specs.declared.act.Act.{Act}
+use Rattle.nio_history.specs.declared.act.Act.TheVariants.{Publish, Enter, CloseBit}
+use Rattle.nio_history.specs.declared.event.Event.{Event}
+use Rattle.nio_history.specs.declared.found.Stage.{Stage}
 use Rattle.nio_orderly.proofs.ActLists.{owes-settled, since_first-append}
 use Rattle.nio_orderly.proofs.Cancelling.{ClosedBy, closed_by, owed_by}
 use Rattle.nio_orderly.proofs.Clearing.{clearing_owed}

@@ -9,24 +9,24 @@ use Rattle.nio_base.specs.declared.limits.Limits.{Limits}
 use Rattle.nio_base.specs.declared.numbers.CallerNo.{CallerNo}
 use Rattle.nio_base.specs.declared.numbers.ChanNo.{ChanNo}
 use Rattle.nio_base.specs.declared.numbers.KeyId.{KeyId}
-use Rattle.nio_event.proofs.Claims.{if_some}
-use Rattle.nio_event.proofs.LastsOnceSound.{permanent_stands}
-use Rattle.nio_event.proofs.Legal.{legal_more, legal_induction}
-use Rattle.nio_event.proofs.OneMore.{state_after-more, mine-own, mine-other}
-use Rattle.nio_event.proofs.Put.{put-same, put_at-there}
-use Rattle.nio_event.proofs.Soundness.{legal-sound, both_ways}
-use Rattle.nio_event.specs.Acts.{effect}
-use Rattle.nio_event.specs.Answers.{Answers}
-use Rattle.nio_event.specs.Histories.{state_after, event_of, is_by, mine, IsStep, IsLegal}
-use Rattle.nio_event.specs.OwnEvents.{stage_found, is_outside, finds_outside}
-use Rattle.nio_event.specs.Permanent.{channel_closed}
-use Rattle.nio_event.specs.Sets.{in_key_set, is_in_key_set, is_valid}
-use Rattle.nio_event.specs.Sound.{IsSound}
-use Rattle.nio_event.specs.State.{State}
-use Rattle.nio_event.specs.declared.act.Act.{Act}
-use Rattle.nio_event.specs.declared.act.Act.TheVariants.{LookKey, CancelKey, LookChannel, LookReg, CloseBit, Pin}
-use Rattle.nio_event.specs.declared.event.Event.{Event}
-use Rattle.nio_event.specs.declared.found.Stage.{Stage}
+use Rattle.nio_history.proofs.Claims.{if_some}
+use Rattle.nio_history.proofs.LastsOnceSound.{permanent_stands}
+use Rattle.nio_history.proofs.Legal.{legal_more, legal_induction}
+use Rattle.nio_history.proofs.OneMore.{state_after-more, mine-own, mine-other}
+use Rattle.nio_history.proofs.Put.{put-same, put_at-there}
+use Rattle.nio_history.proofs.Soundness.{legal-sound, both_ways}
+use Rattle.nio_history.specs.Acts.{effect}
+use Rattle.nio_history.specs.Answers.{Answers}
+use Rattle.nio_history.specs.Histories.{state_after, event_of, is_by, mine, IsStep, IsLegal}
+use Rattle.nio_history.specs.OwnEvents.{stage_found, is_outside, finds_outside}
+use Rattle.nio_history.specs.Permanent.{channel_closed}
+use Rattle.nio_history.specs.Sets.{in_key_set, is_in_key_set, is_valid}
+use Rattle.nio_history.specs.Sound.{IsSound}
+use Rattle.nio_history.specs.State.{State}
+use Rattle.nio_history.specs.declared.act.Act.{Act}
+use Rattle.nio_history.specs.declared.act.Act.TheVariants.{LookKey, CancelKey, LookChannel, LookReg, CloseBit, Pin}
+use Rattle.nio_history.specs.declared.event.Event.{Event}
+use Rattle.nio_history.specs.declared.found.Stage.{Stage}
 use Rattle.nio_orderly.proofs.ActLists.{owes-more, AtEnd, Within, split_last}
 use Rattle.nio_orderly.proofs.Careful.{beginnings_are_careful}
 use Rattle.nio_orderly.proofs.KeySet.{is_false, WasThere, was_valid, came, came_closed}

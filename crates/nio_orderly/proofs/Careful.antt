@@ -3,13 +3,13 @@ use Rattle.std.proofs.Common.{◌≡◌, ℕ, ◌==◌, ◌+◌, ◌≤◌, true
 use Rattle.std.proofs.Common.{sym, ◌∙◌, arith, eq-eqb}
 use Rattle.std.proofs.lemmas.Bool.{and_parts}
 use Rattle.nio_base.specs.declared.numbers.SelNo.{SelNo}
-use Rattle.nio_event.proofs.OneMore.{mine-own}
-use Rattle.nio_event.specs.Histories.{mine}
-use Rattle.nio_event.specs.OwnEvents.{OwnClaim, has, count, under, sets_mode, own_claim}
-use Rattle.nio_event.specs.declared.act.Act.{Act}
-use Rattle.nio_event.specs.declared.act.Act.TheVariants.{Publish, Enrol}
-use Rattle.nio_event.specs.declared.event.Event.{Event}
-use Rattle.nio_event.specs.declared.found.Stage.{Stage}
+use Rattle.nio_history.proofs.OneMore.{mine-own}
+use Rattle.nio_history.specs.Histories.{mine}
+use Rattle.nio_history.specs.OwnEvents.{OwnClaim, has, count, under, sets_mode, own_claim}
+use Rattle.nio_history.specs.declared.act.Act.{Act}
+use Rattle.nio_history.specs.declared.act.Act.TheVariants.{Publish, Enrol}
+use Rattle.nio_history.specs.declared.event.Event.{Event}
+use Rattle.nio_history.specs.declared.found.Stage.{Stage}
 use Rattle.nio_orderly.proofs.ActLists.{has_no_first, has_counts, until_released-append}
 use Rattle.nio_orderly.proofs.LookingBack.{MayPublish}
 use Rattle.nio_orderly.specs.Careful.{enrols_for, enrols_this_key, until_released, its_hold, KeepsRules, IsCareful}

@@ -7,26 +7,27 @@ use Rattle.std.proofs.lemmas.Bool.{and_parts, and_from, false_from_ne_true}
 use Rattle.nio_base.specs.Limits.{IsFit}
 use Rattle.nio_base.specs.declared.limits.Limits.{Limits}
 use Rattle.nio_base.specs.declared.numbers.CallerNo.{CallerNo}
-use Rattle.nio_event.proofs.Claims.{claim_after, own_claim-more, if_some}
-use Rattle.nio_event.proofs.Counts.{pinned_by}
-use Rattle.nio_event.proofs.KeyChanges.{KeepsStages, stages_keep}
-use Rattle.nio_event.proofs.Legal.{legal_more, legal_induction}
-use Rattle.nio_event.proofs.OneMore.{state_after-more, mine-own, mine-other, has-more}
-use Rattle.nio_event.proofs.PinLaws.{own_claims_stand}
-use Rattle.nio_event.proofs.Put.{put_keeps, put_at-there}
-use Rattle.nio_event.proofs.Soundness.{legal-sound, both_ways, pinned-claimed}
-use Rattle.nio_event.proofs.Within.{legal-within}
-use Rattle.nio_event.specs.Acts.{effect}
-use Rattle.nio_event.specs.Answers.{Answers}
-use Rattle.nio_event.specs.Histories.{state_after, is_by, mine, IsStep, IsLegal}
-use Rattle.nio_event.specs.OwnEvents.{OwnClaim, has, since_entered, enters, finds_below, claim_changed, own_claim}
-use Rattle.nio_event.specs.Pins.{removes}
-use Rattle.nio_event.specs.Sets.{in_key_set}
-use Rattle.nio_event.specs.Sound.{IsSound}
-use Rattle.nio_event.specs.State.{State}
-use Rattle.nio_event.specs.declared.act.Act.{Act}
-use Rattle.nio_event.specs.declared.act.Act.TheVariants.{LookGate, Claim, LookKeys, Remove, ShutBit, Unpin, ClaimAgain}
-use Rattle.nio_event.specs.declared.event.Event.{Event}
+use Rattle.nio_history.proofs.Claims.{claim_after, own_claim-more, if_some}
+use Rattle.nio_history.proofs.Counts.{pinned_by}
+use Rattle.nio_history.proofs.KeyChanges.{KeepsStages, stages_keep}
+use Rattle.nio_history.proofs.Legal.{legal_more, legal_induction}
+use Rattle.nio_history.proofs.OneMore.{state_after-more, mine-own, mine-other, has-more}
+use Rattle.nio_history.proofs.PinLaws.{own_claims_stand}
+use Rattle.nio_history.proofs.Put.{put_keeps, put_at-there}
+use Rattle.nio_history.proofs.Soundness.{legal-sound, both_ways, pinned-claimed}
+use Rattle.nio_history.proofs.Within.{legal-within}
+use Rattle.nio_history.specs.Acts.{effect}
+use Rattle.nio_history.specs.Answers.{Answers}
+use Rattle.nio_history.specs.Histories.{state_after, is_by, mine, IsStep, IsLegal}
+use Rattle.nio_history.specs.OwnEvents.{OwnClaim, has, since_entered, enters, finds_below, claim_changed, own_claim}
+use Rattle.nio_history.specs.Pins.{removes}
+use Rattle.nio_history.specs.Sets.{in_key_set}
+use Rattle.nio_history.specs.Sound.{IsSound}
+use Rattle.nio_history.specs.State.{State}
+use Rattle.nio_history.specs.declared.act.Act.{Act}
+use Rattle.nio_history.specs.declared.act.Act.TheVariants.{LookGate, Claim, LookKeys, Remove, ShutBit, Unpin}
+use Rattle.nio_history.specs.declared.act.Act.TheVariants.{ClaimAgain}
+use Rattle.nio_history.specs.declared.event.Event.{Event}
 use Rattle.nio_orderly.proofs.ActLists.{since_first-more, since_first_none, owes-more, prepared-more}
 use Rattle.nio_orderly.proofs.Careful.{beginnings_are_careful}
 use Rattle.nio_orderly.proofs.KeySet.{is_false, is_not, WasThere, came}

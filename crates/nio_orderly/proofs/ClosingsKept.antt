@@ -8,14 +8,14 @@ use Rattle.nio_base.specs.declared.limits.Limits.{Limits}
 use Rattle.nio_base.specs.declared.numbers.ChanNo.{ChanNo}
 use Rattle.nio_base.specs.declared.numbers.KeyId.{KeyId}
 use Rattle.nio_base.specs.declared.numbers.SelNo.{SelNo}
-use Rattle.nio_event.proofs.LastsAlone.{same_two}
-use Rattle.nio_event.specs.OwnEvents.{has, is_outside, enters}
-use Rattle.nio_event.specs.Pins.{removes}
-use Rattle.nio_event.specs.Questions.{Question, question_of, answer_of}
-use Rattle.nio_event.specs.Sets.{fits, is_in_key_set}
-use Rattle.nio_event.specs.declared.act.Act.{Act}
-use Rattle.nio_event.specs.declared.act.Act.TheVariants.{CancelKey, LookKeys, LookReg, Remove, CloseBit, Enter, Pin}
-use Rattle.nio_event.specs.declared.found.Stage.{Stage}
+use Rattle.nio_history.proofs.LastsAlone.{same_two}
+use Rattle.nio_history.specs.OwnEvents.{has, is_outside, enters}
+use Rattle.nio_history.specs.Pins.{removes}
+use Rattle.nio_history.specs.Questions.{Question, question_of, answer_of}
+use Rattle.nio_history.specs.Sets.{fits, is_in_key_set}
+use Rattle.nio_history.specs.declared.act.Act.{Act}
+use Rattle.nio_history.specs.declared.act.Act.TheVariants.{CancelKey, LookKeys, LookReg, Remove, CloseBit, Enter, Pin}
+use Rattle.nio_history.specs.declared.found.Stage.{Stage}
 use Rattle.nio_orderly.proofs.ActLists.{owes-settled}
 use Rattle.nio_orderly.proofs.Kept.{Kept, kept-append, kept-one, kept-none, kept-calm, kept-closing, kept-entering}
 use Rattle.nio_orderly.proofs.Kept.{calm, keeping}

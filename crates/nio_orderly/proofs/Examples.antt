@@ -8,16 +8,16 @@ use Rattle.std.proofs.lemmas.Bool.{and_parts, and_from, ltb-true, eqb-false, ne_
 use Rattle.std.proofs.lemmas.List.{append-nil}
 use Rattle.nio_base.specs.Limits.{IsFit}
 use Rattle.nio_base.specs.declared.numbers.CallerNo.{CallerNo}
-use Rattle.nio_event.proofs.Legal.{not_empty, legal_beginning, legal_more}
-use Rattle.nio_event.proofs.OneMore.{mine-other}
-use Rattle.nio_event.proofs.Soundness.{both_ways}
-use Rattle.nio_event.proofs.WorkedSteps.{worked_history_is_legal}
-use Rattle.nio_event.specs.Histories.{event_of, mine, IsLegal}
-use Rattle.nio_event.specs.OwnEvents.{OwnClaim, own_claim}
-use Rattle.nio_event.specs.Worked.{u, v, s, c, chan, stage, enrolled, small_limits, worked_history}
-use Rattle.nio_event.specs.declared.act.Act.{Act}
-use Rattle.nio_event.specs.declared.act.Act.TheVariants.{LookChannel, Publish, LookReg, CloseBit}
-use Rattle.nio_event.specs.declared.event.Event.{Event}
+use Rattle.nio_history.proofs.Legal.{not_empty, legal_beginning, legal_more}
+use Rattle.nio_history.proofs.OneMore.{mine-other}
+use Rattle.nio_history.proofs.Soundness.{both_ways}
+use Rattle.nio_history.proofs.WorkedSteps.{worked_history_is_legal}
+use Rattle.nio_history.specs.Histories.{event_of, mine, IsLegal}
+use Rattle.nio_history.specs.OwnEvents.{OwnClaim, own_claim}
+use Rattle.nio_history.specs.Worked.{u, v, s, c, chan, stage, enrolled, small_limits, worked_history}
+use Rattle.nio_history.specs.declared.act.Act.{Act}
+use Rattle.nio_history.specs.declared.act.Act.TheVariants.{LookChannel, Publish, LookReg, CloseBit}
+use Rattle.nio_history.specs.declared.event.Event.{Event}
 use Rattle.nio_orderly.proofs.ActLists.{split_last}
 use Rattle.nio_orderly.proofs.LookingBack.{MayPublish, CarefulAct, AreCarefulActs}
 use Rattle.nio_orderly.proofs.LookingBackLaw.{careful_from_acts}

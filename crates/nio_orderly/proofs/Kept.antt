@@ -7,11 +7,11 @@ use Rattle.nio_base.specs.declared.limits.Limits.{Limits}
 use Rattle.nio_base.specs.declared.numbers.ChanNo.{ChanNo}
 use Rattle.nio_base.specs.declared.numbers.KeyId.{KeyId}
 use Rattle.nio_base.specs.declared.numbers.SelNo.{SelNo}
-use Rattle.nio_event.specs.OwnEvents.{OwnClaim, has, count, under, takes_hold, enters, releases, sets_mode, own_claim}
-use Rattle.nio_event.specs.Questions.{Question, question_of}
-use Rattle.nio_event.specs.declared.act.Act.{Act}
-use Rattle.nio_event.specs.declared.act.Act.TheVariants.{Publish, CloseBit, Enter}
-use Rattle.nio_event.specs.declared.found.Stage.{Stage}
+use Rattle.nio_history.specs.OwnEvents.{OwnClaim, has, count, under, takes_hold, enters, releases, sets_mode, own_claim}
+use Rattle.nio_history.specs.Questions.{Question, question_of}
+use Rattle.nio_history.specs.declared.act.Act.{Act}
+use Rattle.nio_history.specs.declared.act.Act.TheVariants.{Publish, CloseBit, Enter}
+use Rattle.nio_history.specs.declared.found.Stage.{Stage}
 use Rattle.nio_orderly.proofs.ActLists.{owes-settled}
 use Rattle.nio_orderly.proofs.ListWords.{InFirst, InSecond, split_at, has-first, has-second, no_such_act}
 use Rattle.nio_orderly.proofs.ListWords.{since_from-opened, until_released-append, is_prepared-grows, own_claim-later}

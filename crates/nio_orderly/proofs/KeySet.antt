@@ -3,15 +3,15 @@ use Rattle.std.proofs.Common.{◌≡◌, ℕ, ◌==◌, suc, Bool, true, false, 
 use Rattle.std.proofs.Common.{eq-eqb}
 use Rattle.std.proofs.lemmas.Bool.{and_parts, and_from}
 use Rattle.nio_base.specs.declared.numbers.CallerNo.{CallerNo}
-use Rattle.nio_event.proofs.Put.{put_keeps, put_at_keeps}
-use Rattle.nio_event.specs.Acts.{effect, new_key}
-use Rattle.nio_event.specs.Answers.{Answers}
-use Rattle.nio_event.specs.Sets.{in_key_set, is_valid}
-use Rattle.nio_event.specs.State.{State}
-use Rattle.nio_event.specs.declared.act.Act.{Act}
-use Rattle.nio_event.specs.declared.act.Act.TheVariants.{CancelKey, MakeChannel, Claim, Publish, Remove, SetMode}
-use Rattle.nio_event.specs.declared.act.Act.TheVariants.{CloseBit, ClaimAgain}
-use Rattle.nio_event.specs.declared.found.Stage.{Stage}
+use Rattle.nio_history.proofs.Put.{put_keeps, put_at_keeps}
+use Rattle.nio_history.specs.Acts.{effect, new_key}
+use Rattle.nio_history.specs.Answers.{Answers}
+use Rattle.nio_history.specs.Sets.{in_key_set, is_valid}
+use Rattle.nio_history.specs.State.{State}
+use Rattle.nio_history.specs.declared.act.Act.{Act}
+use Rattle.nio_history.specs.declared.act.Act.TheVariants.{CancelKey, MakeChannel, Claim, Publish, Remove, SetMode}
+use Rattle.nio_history.specs.declared.act.Act.TheVariants.{CloseBit, ClaimAgain}
+use Rattle.nio_history.specs.declared.found.Stage.{Stage}
 use Rattle.nio_orderly.specs.Owed.{publishes_key, closes}
 
 pub is_false : (b : Bool) → not b ≡ true → b ≡ false

@@ -9,25 +9,25 @@ use Rattle.nio_base.specs.declared.limits.Limits.{Limits}
 use Rattle.nio_base.specs.declared.numbers.CallerNo.{CallerNo}
 use Rattle.nio_base.specs.declared.numbers.ChanNo.{ChanNo}
 use Rattle.nio_base.specs.declared.numbers.KeyId.{KeyId}
-use Rattle.nio_event.proofs.Holds.{clear_is_true}
-use Rattle.nio_event.proofs.Lasts.{keys_high_lasts}
-use Rattle.nio_event.proofs.Legal.{legal_induction}
-use Rattle.nio_event.proofs.OneMore.{state_after-more}
-use Rattle.nio_event.proofs.Put.{put_keeps}
-use Rattle.nio_event.proofs.Soundness.{legal-sound, both_ways, beyond-claimed}
-use Rattle.nio_event.proofs.Within.{legal-within}
-use Rattle.nio_event.specs.Acts.{effect}
-use Rattle.nio_event.specs.Answers.{Answers}
-use Rattle.nio_event.specs.Conditions.{Condition, holds}
-use Rattle.nio_event.specs.Histories.{state_after, mine, IsStep, IsLegal}
-use Rattle.nio_event.specs.OwnEvents.{OwnClaim, enrols_key, is_clear, own_claim}
-use Rattle.nio_event.specs.Sets.{in_key_set, is_in_key_set}
-use Rattle.nio_event.specs.Sound.{IsSound}
-use Rattle.nio_event.specs.State.{State}
-use Rattle.nio_event.specs.declared.act.Act.{Act}
-use Rattle.nio_event.specs.declared.act.Act.TheVariants.{MakeChannel, Publish, Enrol, SetMode, CloseBit}
-use Rattle.nio_event.specs.declared.event.Event.{Event}
-use Rattle.nio_event.specs.declared.found.Stage.{Stage}
+use Rattle.nio_history.proofs.Holds.{clear_is_true}
+use Rattle.nio_history.proofs.Lasts.{keys_high_lasts}
+use Rattle.nio_history.proofs.Legal.{legal_induction}
+use Rattle.nio_history.proofs.OneMore.{state_after-more}
+use Rattle.nio_history.proofs.Put.{put_keeps}
+use Rattle.nio_history.proofs.Soundness.{legal-sound, both_ways, beyond-claimed}
+use Rattle.nio_history.proofs.Within.{legal-within}
+use Rattle.nio_history.specs.Acts.{effect}
+use Rattle.nio_history.specs.Answers.{Answers}
+use Rattle.nio_history.specs.Conditions.{Condition, holds}
+use Rattle.nio_history.specs.Histories.{state_after, mine, IsStep, IsLegal}
+use Rattle.nio_history.specs.OwnEvents.{OwnClaim, enrols_key, is_clear, own_claim}
+use Rattle.nio_history.specs.Sets.{in_key_set, is_in_key_set}
+use Rattle.nio_history.specs.Sound.{IsSound}
+use Rattle.nio_history.specs.State.{State}
+use Rattle.nio_history.specs.declared.act.Act.{Act}
+use Rattle.nio_history.specs.declared.act.Act.TheVariants.{MakeChannel, Publish, Enrol, SetMode, CloseBit}
+use Rattle.nio_history.specs.declared.event.Event.{Event}
+use Rattle.nio_history.specs.declared.found.Stage.{Stage}
 use Rattle.nio_orderly.proofs.ActLists.{prepared_left}
 use Rattle.nio_orderly.proofs.Careful.{beginnings_are_careful}
 use Rattle.nio_orderly.proofs.KeySet.{came}

@@ -4,9 +4,9 @@ use Rattle.std.proofs.Common.{[], ◌∷◌, ◌++◌, refl, ap, sym, ◌∙◌,
 use Rattle.std.specs.Prelude.{fold}
 use Rattle.std.specs.Option.{option_or}
 use Rattle.std.proofs.lemmas.List.Sums.{fold-append, sum_by-cons}
-use Rattle.nio_event.specs.OwnEvents.{has, count, last, since_from, since_first, releases, OwnClaim, own_claim}
-use Rattle.nio_event.specs.OwnEvents.{claim_changed, or_none}
-use Rattle.nio_event.specs.declared.act.Act.{Act}
+use Rattle.nio_history.specs.OwnEvents.{has, count, last, since_from, since_first, releases, OwnClaim, own_claim}
+use Rattle.nio_history.specs.OwnEvents.{claim_changed, or_none}
+use Rattle.nio_history.specs.declared.act.Act.{Act}
 use Rattle.nio_orderly.proofs.ActLists.{has-append}
 use Rattle.nio_orderly.specs.Careful.{until_released, finds_open, claims, leaves_below, is_prepared}
 use Rattle.nio_orderly.specs.Owed.{Duty, owes}

@@ -1,9 +1,9 @@
 -- The rules of careful histories, looking back: at each act by what its caller did before it alone. A legal
 -- history whose acts keep them is careful.
 use Rattle.std.proofs.Common.{◌≡◌, ℕ, Bool, true, false, Some, List, ◌∷◌, ◌++◌}
-use Rattle.nio_event.specs.OwnEvents.{OwnClaim, has, count, under, sets_mode, own_claim}
-use Rattle.nio_event.specs.declared.act.Act.{Act}
-use Rattle.nio_event.specs.declared.act.Act.TheVariants.{Publish, Enrol, SetMode}
+use Rattle.nio_history.specs.OwnEvents.{OwnClaim, has, count, under, sets_mode, own_claim}
+use Rattle.nio_history.specs.declared.act.Act.{Act}
+use Rattle.nio_history.specs.declared.act.Act.TheVariants.{Publish, Enrol, SetMode}
 use Rattle.nio_orderly.specs.Careful.{enrols_for, enrols_this_key, is_prepared}
 
 -- it published a key

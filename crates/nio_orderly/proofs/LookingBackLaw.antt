@@ -6,20 +6,20 @@ use Rattle.std.proofs.lemmas.List.{append-nil}
 use Rattle.nio_base.specs.declared.limits.Limits.{Limits}
 use Rattle.nio_base.specs.declared.numbers.CallerNo.{CallerNo}
 use Rattle.nio_base.specs.declared.numbers.SelNo.{SelNo}
-use Rattle.nio_event.proofs.LastsAlone.{had_stands}
-use Rattle.nio_event.proofs.Legal.{legal_beginning, legal_next}
-use Rattle.nio_event.proofs.OneMore.{since_from-more}
-use Rattle.nio_event.proofs.Soundness.{both_ways}
-use Rattle.nio_event.specs.Answers.{Answers}
-use Rattle.nio_event.specs.Conditions.{is_held_by}
-use Rattle.nio_event.specs.Histories.{state_after, event_of, mine, IsStep, IsLegal}
-use Rattle.nio_event.specs.OwnEvents.{OwnClaim, has, count, under, takes_hold, sets_mode, releases, own_claim}
-use Rattle.nio_event.specs.Permanent.{the_hold}
-use Rattle.nio_event.specs.State.{State}
-use Rattle.nio_event.specs.declared.act.Act.{Act}
-use Rattle.nio_event.specs.declared.act.Act.TheVariants.{Publish, Enrol, TryHoldBit, SetMode}
-use Rattle.nio_event.specs.declared.event.Event.{Event}
-use Rattle.nio_event.specs.declared.found.Stage.{Stage}
+use Rattle.nio_history.proofs.LastsAlone.{had_stands}
+use Rattle.nio_history.proofs.Legal.{legal_beginning, legal_next}
+use Rattle.nio_history.proofs.OneMore.{since_from-more}
+use Rattle.nio_history.proofs.Soundness.{both_ways}
+use Rattle.nio_history.specs.Answers.{Answers}
+use Rattle.nio_history.specs.Conditions.{is_held_by}
+use Rattle.nio_history.specs.Histories.{state_after, event_of, mine, IsStep, IsLegal}
+use Rattle.nio_history.specs.OwnEvents.{OwnClaim, has, count, under, takes_hold, sets_mode, releases, own_claim}
+use Rattle.nio_history.specs.Permanent.{the_hold}
+use Rattle.nio_history.specs.State.{State}
+use Rattle.nio_history.specs.declared.act.Act.{Act}
+use Rattle.nio_history.specs.declared.act.Act.TheVariants.{Publish, Enrol, TryHoldBit, SetMode}
+use Rattle.nio_history.specs.declared.event.Event.{Event}
+use Rattle.nio_history.specs.declared.found.Stage.{Stage}
 use Rattle.nio_orderly.proofs.ActLists.{has-append}
 use Rattle.nio_orderly.proofs.LookingBack.{publishes_any, MayPublish, CarefulAct, AreCarefulActs}
 use Rattle.nio_orderly.proofs.Published.{MayClaim, may_claim}

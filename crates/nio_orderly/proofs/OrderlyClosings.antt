@@ -5,15 +5,15 @@ use Rattle.std.proofs.lemmas.Bool.{false_from_ne_true}
 use Rattle.nio_base.specs.declared.limits.Limits.{Limits}
 use Rattle.nio_base.specs.declared.numbers.ChanNo.{ChanNo}
 use Rattle.nio_base.specs.declared.numbers.SelNo.{SelNo}
-use Rattle.nio_event.proofs.LastsOnceSound.{permanent_stands}
-use Rattle.nio_event.proofs.Stays.{beginnings_are_legal}
-use Rattle.nio_event.specs.Conditions.{is_closer, is_held_by}
-use Rattle.nio_event.specs.Histories.{state_after, mine, event_of, IsLegal}
-use Rattle.nio_event.specs.OwnEvents.{has, since_first, since_entered, enters}
-use Rattle.nio_event.specs.Permanent.{selector_closed_by}
-use Rattle.nio_event.specs.Sets.{is_valid}
-use Rattle.nio_event.specs.declared.act.Act.{Act}
-use Rattle.nio_event.specs.declared.act.Act.TheVariants.{CloseBit, Enter}
+use Rattle.nio_history.proofs.LastsOnceSound.{permanent_stands}
+use Rattle.nio_history.proofs.Stays.{beginnings_are_legal}
+use Rattle.nio_history.specs.Conditions.{is_closer, is_held_by}
+use Rattle.nio_history.specs.Histories.{state_after, mine, event_of, IsLegal}
+use Rattle.nio_history.specs.OwnEvents.{has, since_first, since_entered, enters}
+use Rattle.nio_history.specs.Permanent.{selector_closed_by}
+use Rattle.nio_history.specs.Sets.{is_valid}
+use Rattle.nio_history.specs.declared.act.Act.{Act}
+use Rattle.nio_history.specs.declared.act.Act.TheVariants.{CloseBit, Enter}
 use Rattle.nio_orderly.proofs.ActLists.{owes-settled}
 use Rattle.nio_orderly.proofs.AfterClosing.{only_publishers_owe, closed_selectors_have_no_key, publisher_settled}
 use Rattle.nio_orderly.proofs.AfterClosing.{settled_loses_no_key}

@@ -4,12 +4,12 @@ use Rattle.std.proofs.Common.{subst, arith, lit<, lit≤}
 use Rattle.std.proofs.lemmas.List.{append-nil}
 use Rattle.nio_base.specs.declared.kind.Kind.TheVariants.{Source}
 use Rattle.nio_base.specs.declared.limits.Limits.{Limits}
-use Rattle.nio_event.proofs.Legal.{legal_empty, legal_more}
-use Rattle.nio_event.specs.Answers.{bits_below, count_below}
-use Rattle.nio_event.specs.Histories.{state_after, mine, IsStep, IsLegal}
-use Rattle.nio_event.specs.Worked.{u, v, s, c, small_limits}
-use Rattle.nio_event.specs.declared.act.Act.{Act}
-use Rattle.nio_event.specs.declared.event.Event.{Event}
+use Rattle.nio_history.proofs.Legal.{legal_empty, legal_more}
+use Rattle.nio_history.specs.Answers.{bits_below, count_below}
+use Rattle.nio_history.specs.Histories.{state_after, mine, IsStep, IsLegal}
+use Rattle.nio_history.specs.Worked.{u, v, s, c, small_limits}
+use Rattle.nio_history.specs.declared.act.Act.{Act}
+use Rattle.nio_history.specs.declared.event.Event.{Event}
 use Rattle.nio_orderly.proofs.CallLists.{run_one}
 use Rattle.nio_orderly.proofs.Examples.{for_each_caller, cancellation_is_lost}
 use Rattle.nio_orderly.proofs.OrderlyCare.{orderly_is_careful}

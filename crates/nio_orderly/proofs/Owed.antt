@@ -3,12 +3,12 @@ use Rattle.std.proofs.Common.{◌≡◌, ℕ, true, false, not, inl, Option, Som
 use Rattle.std.proofs.Common.{subst}
 use Rattle.std.proofs.lemmas.Bool.{and_parts, or_right}
 use Rattle.nio_base.specs.declared.numbers.CallerNo.{CallerNo}
-use Rattle.nio_event.proofs.Soundness.{legal-sound}
-use Rattle.nio_event.specs.Histories.{state_after, mine}
-use Rattle.nio_event.specs.OwnEvents.{since_entered}
-use Rattle.nio_event.specs.Sets.{in_key_set, is_valid}
-use Rattle.nio_event.specs.declared.event.Event.{Event}
-use Rattle.nio_event.specs.declared.found.Stage.{Stage}
+use Rattle.nio_history.proofs.Soundness.{legal-sound}
+use Rattle.nio_history.specs.Histories.{state_after, mine}
+use Rattle.nio_history.specs.OwnEvents.{since_entered}
+use Rattle.nio_history.specs.Sets.{in_key_set, is_valid}
+use Rattle.nio_history.specs.declared.event.Event.{Event}
+use Rattle.nio_history.specs.declared.found.Stage.{Stage}
 use Rattle.nio_orderly.proofs.Cancelling.{cancelling_owed}
 use Rattle.nio_orderly.proofs.Clearing.{IsComing, clearing_owed}
 use Rattle.nio_orderly.proofs.KeySet.{is_false}

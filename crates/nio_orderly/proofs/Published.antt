@@ -9,24 +9,24 @@ use Rattle.nio_base.specs.declared.numbers.CallerNo.{CallerNo}
 use Rattle.nio_base.specs.declared.numbers.ChanNo.{ChanNo}
 use Rattle.nio_base.specs.declared.numbers.KeyId.{KeyId}
 use Rattle.nio_base.specs.declared.numbers.SelNo.{SelNo}
-use Rattle.nio_event.proofs.Holder.{held_since, holder_knows_mode}
-use Rattle.nio_event.proofs.Keeping.{knows_while}
-use Rattle.nio_event.proofs.LastsAlone.{one_holder, spares_not, same_two}
-use Rattle.nio_event.proofs.OneMore.{has-more}
-use Rattle.nio_event.proofs.PinLaws.{own_claims_stand}
-use Rattle.nio_event.proofs.Put.{put_at_keeps, put_at-there}
-use Rattle.nio_event.proofs.Soundness.{both_ways}
-use Rattle.nio_event.specs.Acts.{effect}
-use Rattle.nio_event.specs.Conditions.{Condition, is_held_by, holds, may_publish}
-use Rattle.nio_event.specs.Histories.{state_after, mine, IsStep, IsLegal}
-use Rattle.nio_event.specs.OwnEvents.{OwnClaim, has, count, under, own_claim, enrols_key, finds_unblocked}
-use Rattle.nio_event.specs.Permanent.{the_hold}
-use Rattle.nio_event.specs.Pins.{IsOfClaim}
-use Rattle.nio_event.specs.State.{State}
-use Rattle.nio_event.specs.declared.act.Act.{Act}
-use Rattle.nio_event.specs.declared.act.Act.TheVariants.{Publish, Enrol}
-use Rattle.nio_event.specs.declared.event.Event.{Event}
-use Rattle.nio_event.specs.declared.found.Stage.{Stage}
+use Rattle.nio_history.proofs.Holder.{held_since, holder_knows_mode}
+use Rattle.nio_history.proofs.Keeping.{knows_while}
+use Rattle.nio_history.proofs.LastsAlone.{one_holder, spares_not, same_two}
+use Rattle.nio_history.proofs.OneMore.{has-more}
+use Rattle.nio_history.proofs.PinLaws.{own_claims_stand}
+use Rattle.nio_history.proofs.Put.{put_at_keeps, put_at-there}
+use Rattle.nio_history.proofs.Soundness.{both_ways}
+use Rattle.nio_history.specs.Acts.{effect}
+use Rattle.nio_history.specs.Conditions.{Condition, is_held_by, holds, may_publish}
+use Rattle.nio_history.specs.Histories.{state_after, mine, IsStep, IsLegal}
+use Rattle.nio_history.specs.OwnEvents.{OwnClaim, has, count, under, own_claim, enrols_key, finds_unblocked}
+use Rattle.nio_history.specs.Permanent.{the_hold}
+use Rattle.nio_history.specs.Pins.{IsOfClaim}
+use Rattle.nio_history.specs.State.{State}
+use Rattle.nio_history.specs.declared.act.Act.{Act}
+use Rattle.nio_history.specs.declared.act.Act.TheVariants.{Publish, Enrol}
+use Rattle.nio_history.specs.declared.event.Event.{Event}
+use Rattle.nio_history.specs.declared.found.Stage.{Stage}
 use Rattle.nio_orderly.proofs.ActLists.{count-more, has_counts}
 use Rattle.nio_orderly.proofs.Careful.{key_enrolled_for, careful_last}
 use Rattle.nio_orderly.proofs.KeySet.{is_false}

@@ -10,16 +10,17 @@ use Rattle.nio_base.specs.declared.numbers.ChanNo.{ChanNo}
 use Rattle.nio_base.specs.declared.numbers.KeyId.{KeyId}
 use Rattle.nio_base.specs.declared.numbers.KeyNo.{KeyNo}
 use Rattle.nio_base.specs.declared.numbers.SelNo.{SelNo}
-use Rattle.nio_event.proofs.Claims.{claim_after, own_claim-more}
-use Rattle.nio_event.proofs.OneMore.{since_from-more}
-use Rattle.nio_event.specs.OwnEvents.{OwnClaim, has, count, under, since_from, since_first, takes_hold, releases}
-use Rattle.nio_event.specs.OwnEvents.{sets_mode, claim_changed, own_claim}
-use Rattle.nio_event.specs.Questions.{Question, Answer, question_of, answer_of}
-use Rattle.nio_event.specs.declared.act.Act.{Act}
-use Rattle.nio_event.specs.declared.act.Act.TheVariants.{LookGate, CancelKey, LookChannel, Claim, RaiseKeys, LookKeys}
-use Rattle.nio_event.specs.declared.act.Act.TheVariants.{Publish, Enrol, TryHoldBit, Release, SetMode, CloseBit, Enter}
-use Rattle.nio_event.specs.declared.act.Act.TheVariants.{Unpin, ClaimAgain}
-use Rattle.nio_event.specs.declared.found.Stage.{Stage}
+use Rattle.nio_history.proofs.Claims.{claim_after, own_claim-more}
+use Rattle.nio_history.proofs.OneMore.{since_from-more}
+use Rattle.nio_history.specs.OwnEvents.{OwnClaim, has, count, under, since_from, since_first, takes_hold, releases}
+use Rattle.nio_history.specs.OwnEvents.{sets_mode, claim_changed, own_claim}
+use Rattle.nio_history.specs.Questions.{Question, Answer, question_of, answer_of}
+use Rattle.nio_history.specs.declared.act.Act.{Act}
+use Rattle.nio_history.specs.declared.act.Act.TheVariants.{LookGate, CancelKey, LookChannel, Claim, RaiseKeys, LookKeys}
+use Rattle.nio_history.specs.declared.act.Act.TheVariants.{Publish, Enrol, TryHoldBit, Release, SetMode, CloseBit}
+use Rattle.nio_history.specs.declared.act.Act.TheVariants.{Enter}
+use Rattle.nio_history.specs.declared.act.Act.TheVariants.{Unpin, ClaimAgain}
+use Rattle.nio_history.specs.declared.found.Stage.{Stage}
 use Rattle.nio_orderly.proofs.ActLists.{owes-settled, since_first_none}
 use Rattle.nio_orderly.proofs.Kept.{PublishKept, Kept, kept-calm, is_loud, first_or_later}
 use Rattle.nio_orderly.proofs.ListWords.{InFirst, InSecond, split_at, has-first, has-second, has-neither, no_such_act}

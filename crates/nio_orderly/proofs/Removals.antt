@@ -10,18 +10,18 @@ use Rattle.std.proofs.lemmas.List.Elements.{All-contains, All-head, All-tail, Al
 use Rattle.nio_base.specs.declared.limits.Limits.{Limits}
 use Rattle.nio_base.specs.declared.numbers.CallerNo.{CallerNo}
 use Rattle.nio_base.specs.declared.numbers.SelNo.{SelNo}
-use Rattle.nio_event.proofs.Legal.{legal_beginning, legal_next}
-use Rattle.nio_event.proofs.Stays.{facts_are_permanent}
-use Rattle.nio_event.specs.Histories.{state_after, mine, event_of, IsLegal}
-use Rattle.nio_event.specs.OwnEvents.{has}
-use Rattle.nio_event.specs.Permanent.{key_claimed, key_published, key_cancelled, key_removed, below_keys_high}
-use Rattle.nio_event.specs.Questions.{Question, question_of, answer_of}
-use Rattle.nio_event.specs.Sets.{in_key_set, is_in_key_set, fits, was_claimed, was_published, was_removed}
-use Rattle.nio_event.specs.declared.act.Act.{Act}
-use Rattle.nio_event.specs.declared.act.Act.TheVariants.{LookKeys, ShutBit}
-use Rattle.nio_event.specs.declared.event.Event.{Event}
-use Rattle.nio_event.specs.declared.found.Mode.{Mode}
-use Rattle.nio_event.specs.declared.found.Stage.{Stage}
+use Rattle.nio_history.proofs.Legal.{legal_beginning, legal_next}
+use Rattle.nio_history.proofs.Stays.{facts_are_permanent}
+use Rattle.nio_history.specs.Histories.{state_after, mine, event_of, IsLegal}
+use Rattle.nio_history.specs.OwnEvents.{has}
+use Rattle.nio_history.specs.Permanent.{key_claimed, key_published, key_cancelled, key_removed, below_keys_high}
+use Rattle.nio_history.specs.Questions.{Question, question_of, answer_of}
+use Rattle.nio_history.specs.Sets.{in_key_set, is_in_key_set, fits, was_claimed, was_published, was_removed}
+use Rattle.nio_history.specs.declared.act.Act.{Act}
+use Rattle.nio_history.specs.declared.act.Act.TheVariants.{LookKeys, ShutBit}
+use Rattle.nio_history.specs.declared.event.Event.{Event}
+use Rattle.nio_history.specs.declared.found.Mode.{Mode}
+use Rattle.nio_history.specs.declared.found.Stage.{Stage}
 use Rattle.nio_orderly.proofs.CallLists.{beginnings_are_orderly}
 use Rattle.nio_orderly.proofs.Careful.{beginnings_are_careful}
 use Rattle.nio_orderly.proofs.KeysStand.{keys_stand}

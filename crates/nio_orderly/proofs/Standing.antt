@@ -6,24 +6,24 @@ use Rattle.std.specs.Prelude.{nat_lt}
 use Rattle.std.proofs.lemmas.Bool.{and_parts, ltb-true, lt-ltb, or_right}
 use Rattle.nio_base.specs.declared.limits.Limits.{Limits}
 use Rattle.nio_base.specs.declared.numbers.CallerNo.{CallerNo}
-use Rattle.nio_event.proofs.Lasts.{keys_high_lasts, entered_lasts, made_lasts}
-use Rattle.nio_event.proofs.Legal.{legal_induction}
-use Rattle.nio_event.proofs.OneMore.{state_after-more}
-use Rattle.nio_event.proofs.Put.{put_keeps, put_both, put-same, put_at_keeps}
-use Rattle.nio_event.proofs.Soundness.{legal-sound, held_some}
-use Rattle.nio_event.proofs.Told.{has_told}
-use Rattle.nio_event.specs.Acts.{effect, new_key}
-use Rattle.nio_event.specs.Answers.{Answers}
-use Rattle.nio_event.specs.Conditions.{Condition}
-use Rattle.nio_event.specs.Histories.{state_after, mine, IsLegal}
-use Rattle.nio_event.specs.OwnEvents.{has, enters}
-use Rattle.nio_event.specs.Sound.{IsSound}
-use Rattle.nio_event.specs.State.{State}
-use Rattle.nio_event.specs.declared.act.Act.{Act}
-use Rattle.nio_event.specs.declared.act.Act.TheVariants.{CancelKey, Claim, RaiseKeys, LookKeys, Publish, Remove}
-use Rattle.nio_event.specs.declared.act.Act.TheVariants.{ShutBit, Wake, EndWake, Enter, ClaimAgain}
-use Rattle.nio_event.specs.declared.event.Event.{Event}
-use Rattle.nio_event.specs.declared.found.Stage.{Stage}
+use Rattle.nio_history.proofs.Lasts.{keys_high_lasts, entered_lasts, made_lasts}
+use Rattle.nio_history.proofs.Legal.{legal_induction}
+use Rattle.nio_history.proofs.OneMore.{state_after-more}
+use Rattle.nio_history.proofs.Put.{put_keeps, put_both, put-same, put_at_keeps}
+use Rattle.nio_history.proofs.Soundness.{legal-sound, held_some}
+use Rattle.nio_history.proofs.Told.{has_told}
+use Rattle.nio_history.specs.Acts.{effect, new_key}
+use Rattle.nio_history.specs.Answers.{Answers}
+use Rattle.nio_history.specs.Conditions.{Condition}
+use Rattle.nio_history.specs.Histories.{state_after, mine, IsLegal}
+use Rattle.nio_history.specs.OwnEvents.{has, enters}
+use Rattle.nio_history.specs.Sound.{IsSound}
+use Rattle.nio_history.specs.State.{State}
+use Rattle.nio_history.specs.declared.act.Act.{Act}
+use Rattle.nio_history.specs.declared.act.Act.TheVariants.{CancelKey, Claim, RaiseKeys, LookKeys, Publish, Remove}
+use Rattle.nio_history.specs.declared.act.Act.TheVariants.{ShutBit, Wake, EndWake, Enter, ClaimAgain}
+use Rattle.nio_history.specs.declared.event.Event.{Event}
+use Rattle.nio_history.specs.declared.found.Stage.{Stage}
 use Rattle.nio_orderly.specs.Careful.{leaves_below}
 
 -- ---- the channel of a claimed key is made

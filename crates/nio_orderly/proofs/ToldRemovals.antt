@@ -8,16 +8,16 @@ use Rattle.std.proofs.lemmas.List.{append-nil}
 use Rattle.std.proofs.lemmas.List.Elements.{All-contains, Contains-append_left, Contains-append_right}
 use Rattle.std.proofs.lemmas.List.Elements.{Contains-push_cases}
 use Rattle.nio_base.specs.declared.numbers.SelNo.{SelNo}
-use Rattle.nio_event.proofs.Legal.{legal_beginning, legal_next}
-use Rattle.nio_event.proofs.Soundness.{legal-sound}
-use Rattle.nio_event.proofs.Stays.{facts_are_permanent}
-use Rattle.nio_event.specs.Histories.{state_after, mine, event_of, IsLegal}
-use Rattle.nio_event.specs.Permanent.{key_published, key_cancelled, key_removed}
-use Rattle.nio_event.specs.Questions.{answer_of}
-use Rattle.nio_event.specs.Sets.{in_key_set, in_cancelled_set, fits, was_published, was_removed}
-use Rattle.nio_event.specs.declared.act.Act.{Act}
-use Rattle.nio_event.specs.declared.act.Act.TheVariants.{LookKey, Remove}
-use Rattle.nio_event.specs.declared.found.Stage.{Stage}
+use Rattle.nio_history.proofs.Legal.{legal_beginning, legal_next}
+use Rattle.nio_history.proofs.Soundness.{legal-sound}
+use Rattle.nio_history.proofs.Stays.{facts_are_permanent}
+use Rattle.nio_history.specs.Histories.{state_after, mine, event_of, IsLegal}
+use Rattle.nio_history.specs.Permanent.{key_published, key_cancelled, key_removed}
+use Rattle.nio_history.specs.Questions.{answer_of}
+use Rattle.nio_history.specs.Sets.{in_key_set, in_cancelled_set, fits, was_published, was_removed}
+use Rattle.nio_history.specs.declared.act.Act.{Act}
+use Rattle.nio_history.specs.declared.act.Act.TheVariants.{LookKey, Remove}
+use Rattle.nio_history.specs.declared.found.Stage.{Stage}
 use Rattle.nio_orderly.proofs.KeysStand.{set_claimed}
 use Rattle.nio_orderly.specs.Removals.{ToldRemovesCancelled}
 use Rattle.nio_steps.proofs.GoneLaws.{also_removed, outside_removed, step_in, removal_stands}

@@ -8,14 +8,14 @@ use Rattle.std.specs.Prelude.{[], ◌∷◌, ◌++◌}
 use mathlib.Core.List.{IsPrefix}
 use Rattle.nio_base.specs.declared.numbers.CallerNo.{CallerNo}
 use Rattle.nio_base.specs.declared.numbers.SelNo.{SelNo}
-use Rattle.nio_event.specs.Histories.{mine}
-use Rattle.nio_event.specs.OwnEvents.{OwnClaim, has, count, since_from, since_first, under, sets_mode, releases}
-use Rattle.nio_event.specs.OwnEvents.{own_claim}
-use Rattle.nio_event.specs.declared.act.Act.{Act}
-use Rattle.nio_event.specs.declared.act.Act.TheVariants.{LookGate, Claim, RaiseKeys, LookKeys, Publish, Enrol}
-use Rattle.nio_event.specs.declared.act.Act.TheVariants.{ClaimAgain}
-use Rattle.nio_event.specs.declared.event.Event.{Event}
-use Rattle.nio_event.specs.declared.found.Stage.{Stage}
+use Rattle.nio_history.specs.Histories.{mine}
+use Rattle.nio_history.specs.OwnEvents.{OwnClaim, has, count, since_from, since_first, under, sets_mode, releases}
+use Rattle.nio_history.specs.OwnEvents.{own_claim}
+use Rattle.nio_history.specs.declared.act.Act.{Act}
+use Rattle.nio_history.specs.declared.act.Act.TheVariants.{LookGate, Claim, RaiseKeys, LookKeys, Publish, Enrol}
+use Rattle.nio_history.specs.declared.act.Act.TheVariants.{ClaimAgain}
+use Rattle.nio_history.specs.declared.event.Event.{Event}
+use Rattle.nio_history.specs.declared.found.Stage.{Stage}
 
 -- ---- tests of one act
 

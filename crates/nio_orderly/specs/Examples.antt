@@ -1,11 +1,11 @@
 -- Two histories in which a channel is closed while another caller registers it. They begin as the worked history of
--- `nio_event` does: caller u registers channel c with selector s.
+-- `nio_history` does: caller u registers channel c with selector s.
 use Rattle.std.specs.Prelude.{false, None, IsTrue, List, [], ◌∷◌, ◌++◌, take}
-use Rattle.nio_event.specs.Histories.{state_after, event_of, IsLegal}
-use Rattle.nio_event.specs.Sets.{is_valid}
-use Rattle.nio_event.specs.Worked.{u, v, s, c, chan, stage, enrolled, small_limits, worked_history}
-use Rattle.nio_event.specs.declared.act.Act.TheVariants.{LookChannel, Publish, LookReg, CloseBit}
-use Rattle.nio_event.specs.declared.event.Event.{Event}
+use Rattle.nio_history.specs.Histories.{state_after, event_of, IsLegal}
+use Rattle.nio_history.specs.Sets.{is_valid}
+use Rattle.nio_history.specs.Worked.{u, v, s, c, chan, stage, enrolled, small_limits, worked_history}
+use Rattle.nio_history.specs.declared.act.Act.TheVariants.{LookChannel, Publish, LookReg, CloseBit}
+use Rattle.nio_history.specs.declared.event.Event.{Event}
 use Rattle.nio_orderly.specs.Careful.{IsCareful}
 use Rattle.nio_orderly.specs.Owed.{publishes_key, publisher_duty, OwesSince, Owed}
 

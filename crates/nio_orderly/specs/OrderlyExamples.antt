@@ -3,13 +3,14 @@ use Rattle.std.specs.Prelude.{◌≡◌, true, false, Some, None, Ok, List, [], 
 use Rattle.nio_base.specs.declared.kind.Kind.TheVariants.{Source}
 use Rattle.nio_base.specs.declared.limits.Limits.{Limits}
 use Rattle.nio_base.specs.declared.numbers.KeyNo.{KeyNo}
-use Rattle.nio_event.specs.Histories.{state_after, mine, event_of, IsLegal}
-use Rattle.nio_event.specs.Worked.{u, v, s, c, chan, gate, stage, enrolled, small_limits}
-use Rattle.nio_event.specs.declared.act.Act.TheVariants.{DrawBit, MakeSelector, LookGate, CancelKey, SwapInterest}
-use Rattle.nio_event.specs.declared.act.Act.TheVariants.{SwapNote, MakeChannel, LookChannel, Claim, RaiseKeys, LookKeys}
-use Rattle.nio_event.specs.declared.act.Act.TheVariants.{Publish, LookReg, Enrol, LookChannels, RaiseChannels}
-use Rattle.nio_event.specs.declared.act.Act.TheVariants.{TryHoldBit, Release, SetMode, CloseBit, Pin, Unpin}
-use Rattle.nio_event.specs.declared.event.Event.{Event}
+use Rattle.nio_history.specs.Histories.{state_after, mine, event_of, IsLegal}
+use Rattle.nio_history.specs.Worked.{u, v, s, c, chan, gate, stage, enrolled, small_limits}
+use Rattle.nio_history.specs.declared.act.Act.TheVariants.{DrawBit, MakeSelector, LookGate, CancelKey, SwapInterest}
+use Rattle.nio_history.specs.declared.act.Act.TheVariants.{SwapNote, MakeChannel, LookChannel, Claim, RaiseKeys}
+use Rattle.nio_history.specs.declared.act.Act.TheVariants.{LookKeys}
+use Rattle.nio_history.specs.declared.act.Act.TheVariants.{Publish, LookReg, Enrol, LookChannels, RaiseChannels}
+use Rattle.nio_history.specs.declared.act.Act.TheVariants.{TryHoldBit, Release, SetMode, CloseBit, Pin, Unpin}
+use Rattle.nio_history.specs.declared.event.Event.{Event}
 use Rattle.nio_orderly.specs.Examples.{unenrolled_key}
 use Rattle.nio_orderly.specs.Made.{Made, draw, table_call}
 use Rattle.nio_orderly.specs.Orderly.{AreCallsOf, IsWhole, IsOrderly}

@@ -8,14 +8,14 @@ use Rattle.nio_base.specs.Limits.{IsFit}
 use Rattle.nio_base.specs.declared.limits.Limits.{Limits}
 use Rattle.nio_base.specs.declared.numbers.CallerNo.{CallerNo}
 use Rattle.nio_base.specs.declared.numbers.KeyId.{KeyId}
-use Rattle.nio_event.specs.Histories.{state_after, mine, IsLegal}
-use Rattle.nio_event.specs.OwnEvents.{has, since_entered, finds_outside, finds_below}
-use Rattle.nio_event.specs.Pins.{removes}
-use Rattle.nio_event.specs.Sets.{is_valid, IsRegistered}
-use Rattle.nio_event.specs.State.{State}
-use Rattle.nio_event.specs.declared.act.Act.{Act}
-use Rattle.nio_event.specs.declared.act.Act.TheVariants.{CancelKey, LookChannel, LookKeys, Publish, LookReg, CloseBit}
-use Rattle.nio_event.specs.declared.event.Event.{Event}
+use Rattle.nio_history.specs.Histories.{state_after, mine, IsLegal}
+use Rattle.nio_history.specs.OwnEvents.{has, since_entered, finds_outside, finds_below}
+use Rattle.nio_history.specs.Pins.{removes}
+use Rattle.nio_history.specs.Sets.{is_valid, IsRegistered}
+use Rattle.nio_history.specs.State.{State}
+use Rattle.nio_history.specs.declared.act.Act.{Act}
+use Rattle.nio_history.specs.declared.act.Act.TheVariants.{CancelKey, LookChannel, LookKeys, Publish, LookReg, CloseBit}
+use Rattle.nio_history.specs.declared.event.Event.{Event}
 use Rattle.nio_orderly.specs.Careful.{IsCareful}
 
 -- ---- tests of one act

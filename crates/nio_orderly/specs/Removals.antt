@@ -8,11 +8,11 @@ use Rattle.nio_base.specs.Limits.{IsFit}
 use Rattle.nio_base.specs.declared.limits.Limits.{Limits}
 use Rattle.nio_base.specs.declared.numbers.CallerNo.{CallerNo}
 use Rattle.nio_base.specs.declared.numbers.SelNo.{SelNo}
-use Rattle.nio_event.specs.Histories.{state_after, mine, event_of, IsLegal}
-use Rattle.nio_event.specs.Sets.{was_claimed, was_published, was_cancelled, was_removed}
-use Rattle.nio_event.specs.declared.act.Act.TheVariants.{LookKeys}
-use Rattle.nio_event.specs.declared.event.Event.{Event}
-use Rattle.nio_event.specs.declared.found.Mode.{Mode}
+use Rattle.nio_history.specs.Histories.{state_after, mine, event_of, IsLegal}
+use Rattle.nio_history.specs.Sets.{was_claimed, was_published, was_cancelled, was_removed}
+use Rattle.nio_history.specs.declared.act.Act.TheVariants.{LookKeys}
+use Rattle.nio_history.specs.declared.event.Event.{Event}
+use Rattle.nio_history.specs.declared.found.Mode.{Mode}
 use Rattle.nio_orderly.specs.Made.{Made, IsRun, table_call, waiting_call}
 use Rattle.nio_orderly.specs.Orderly.{IsOrderly}
 use Rattle.nio_steps.specs.SelectCalls.{Selection, Poll, done, SelectReply, selected, not_begun, left, closed}

@@ -2,7 +2,7 @@
 use Rattle.std.specs.Prelude.{◌≡◌, Bool, true, false, IsTrue, IsFalse, List}
 use Rattle.std.specs.List.{All}
 use Rattle.nio_base.specs.declared.limits.Limits.{Limits}
-use Rattle.nio_event.specs.declared.act.Act.{Act}
+use Rattle.nio_history.specs.declared.act.Act.{Act}
 use Rattle.nio_orderly.specs.Made.{Made, draw, table_call, waiting_call, IsRun, after_call, after_calls, AreInOrder}
 use Rattle.nio_orderly.specs.Orderly.{AreRuns, AreCallsOf}
 use Rattle.nio_steps.specs.Ongoing.{Ongoing, nothing_ongoing}

@@ -1,14 +1,14 @@
 //! A net in memory of which each other send finds no room.
 ghost use Rattle.std.specs.Prelude.{◌≡◌, IfOk, OnErr};
-ghost use Rattle.nio_poller.specs.Polls.{CountsFaults, AddsPoll, told_of_channel};
-ghost use Rattle.nio_poller.specs.declared.poller.PollError.TheVariants.{Fault};
-ghost use Rattle.nio_kept.specs.Readiness.{ready_of};
 ghost use Rattle.nio_base.specs.declared.numbers.ChanNo.{ChanNo as Channel};
 ghost use Rattle.nio_datagram.specs.MemoryPackets.{KeepsPackets};
+ghost use Rattle.nio_kept.specs.Readiness.{ready_of};
+ghost use Rattle.nio_poller.specs.Polls.{CountsFaults, AddsPoll, told_of_channel};
+ghost use Rattle.nio_poller.specs.declared.poller.PollError.TheVariants.{Fault};
 
 use nio_base::{Addr, ChanNo, Ops};
 use nio_datagram::{Came, Failed, MemoryPackets, PacketNet};
-use nio_event::Mode;
+use nio_history::Mode;
 use nio_kept::Readiness;
 use nio_poller::{PollError, Poller};
 use nio_select::{Asked, Told};

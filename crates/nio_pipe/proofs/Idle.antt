@@ -4,9 +4,9 @@ use Rattle.nio_base.specs.declared.numbers.CallerNo.{CallerNo}
 use Rattle.nio_base.specs.declared.numbers.ChanNo.{ChanNo}
 use Rattle.nio_channel.proofs.Idle.{unpinned_same, channel_same, zero_other}
 use Rattle.nio_channel.specs.Idle.{AreIdle, zero, one}
-use Rattle.nio_event.proofs.PassViews.{channel_after}
-use Rattle.nio_event.specs.PassViews.{ActsClause, HasNoPin}
-use Rattle.nio_event.specs.declared.act.Act.{Act}
+use Rattle.nio_history.proofs.PassViews.{channel_after}
+use Rattle.nio_history.specs.PassViews.{ActsClause, HasNoPin}
+use Rattle.nio_history.specs.declared.act.Act.{Act}
 use Rattle.nio_words.specs.Passes.{IsReady, seen}
 use Rattle.nio_words.specs.Sharing.{HandsOver}
 use Rattle.nio_words.specs.Views.{view}

@@ -6,10 +6,10 @@ use Rattle.std.proofs.lemmas.List.Elements.{All-nil, All-push}
 use Rattle.nio_base.specs.declared.limits.Limits.{Limits}
 use Rattle.nio_base.specs.declared.numbers.ChanNo.{ChanNo}
 use Rattle.nio_base.specs.declared.numbers.CallerNo.{CallerNo}
-use Rattle.nio_event.proofs.PassViews.{acts_nothing}
-use Rattle.nio_event.specs.Histories.{IsLegal}
-use Rattle.nio_event.specs.PassViews.{PassView}
-use Rattle.nio_event.specs.declared.act.Act.{Act}
+use Rattle.nio_history.proofs.PassViews.{acts_nothing}
+use Rattle.nio_history.specs.Histories.{IsLegal}
+use Rattle.nio_history.specs.PassViews.{PassView}
+use Rattle.nio_history.specs.declared.act.Act.{Act}
 use Rattle.nio_steps.proofs.CallLaws.{call_of_acts, calls_then, call_as}
 use Rattle.nio_steps.proofs.WaitingLaws.{acts_of-push}
 use Rattle.nio_steps.specs.Calls.{CallClause}

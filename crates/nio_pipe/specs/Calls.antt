@@ -2,8 +2,8 @@
 use Rattle.std.specs.Prelude.{◌≢◌, Bool, Result, Ok, Err, IsTrue, List, []}
 use Rattle.nio_base.specs.declared.limits.Limits.{Limits}
 use Rattle.nio_base.specs.declared.numbers.ChanNo.{ChanNo}
-use Rattle.nio_event.specs.PassViews.{PassView, known, HasChannel}
-use Rattle.nio_event.specs.declared.act.Act.{Act}
+use Rattle.nio_history.specs.PassViews.{PassView, known, HasChannel}
+use Rattle.nio_history.specs.declared.act.Act.{Act}
 use Rattle.nio_steps.specs.PipeCalls.{try_read_plan, try_write_plan, Waits}
 use Rattle.nio_steps.specs.Plan.{Plan}
 use Rattle.nio_steps.specs.Runs.{Completes}

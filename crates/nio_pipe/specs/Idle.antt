@@ -1,12 +1,12 @@
 -- For the tests: a caller between its calls on a pipe.
 use Rattle.nio_base.specs.declared.numbers.CallerNo.{CallerNo}
 use Rattle.nio_base.specs.declared.numbers.ChanNo.{ChanNo}
-use Rattle.nio_event.specs.PassViews.{HasNoPin}
+use Rattle.nio_channel.specs.Idle.{zero}
+use Rattle.nio_history.specs.PassViews.{HasNoPin}
 use Rattle.nio_words.specs.Passes.{IsReady}
 use Rattle.nio_words.specs.Views.{view}
 use Rattle.nio_words.specs.declared.words.Pass.{Pass}
 use Rattle.nio_words.specs.declared.words.Words.{Words}
-use Rattle.nio_channel.specs.Idle.{zero}
 use Rattle.nio_pipe.specs.Calls.{HasEnds}
 use Rattle.nio_pipe.specs.Ends.{AreEnds}
 use Rattle.nio_pipe.specs.declared.sink.PipeSink.{PipeSink}

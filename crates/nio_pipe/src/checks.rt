@@ -1,6 +1,6 @@
 //! The steps of reading and writing, and of opening the two channels of a pipe.
 ghost use Rattle.std.specs.Prelude.{◌≡◌, ◌≢◌, false, Err, IfOk};
-ghost use Rattle.nio_event.specs.PassViews.{HasChannel, HasNoPin};
+ghost use Rattle.nio_history.specs.PassViews.{HasChannel, HasNoPin};
 ghost use Rattle.nio_steps.specs.Calls.{CallClause};
 ghost use Rattle.nio_steps.specs.PipeCalls.{pipe_plan, try_read_plan, try_write_plan};
 ghost use Rattle.nio_steps.specs.Runs.{Completes};

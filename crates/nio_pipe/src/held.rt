@@ -1,6 +1,6 @@
 //! A pipe whose two ends are in one hand.
 ghost use Rattle.std.specs.Prelude.{◌≡◌, [], length, min, take, drop, ◌++◌, IfOk, Ok, Err};
-ghost use Rattle.nio_event.specs.PassViews.{HasChannel, HasNoPin};
+ghost use Rattle.nio_history.specs.PassViews.{HasChannel, HasNoPin};
 ghost use Rattle.nio_steps.specs.Calls.{CallClause};
 ghost use Rattle.nio_steps.specs.ChannelCalls.{close_channel_plan};
 ghost use Rattle.nio_steps.specs.PipeCalls.{MakesPipe, try_read_plan, try_write_plan};

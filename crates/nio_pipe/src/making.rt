@@ -1,6 +1,6 @@
 //! Making a pipe with two ends.
 ghost use Rattle.std.specs.Prelude.{◌≡◌, IfOk};
-ghost use Rattle.nio_event.specs.PassViews.{HasNoPin};
+ghost use Rattle.nio_history.specs.PassViews.{HasNoPin};
 ghost use Rattle.nio_steps.specs.Calls.{CallClause};
 ghost use Rattle.nio_steps.specs.PipeCalls.{MakesPipe};
 ghost use Rattle.nio_words.specs.Passes.{IsReady, limits_of};

@@ -32,7 +32,7 @@ pub struct PipeSink {
 
 impl PipeSink {
     ghost use Rattle.std.specs.Prelude.{◌≤◌, ◌+◌, ◌++◌, ◌||◌, [], length, min, true, IsFalse, OnOk, IfOk, Ok, Err};
-    ghost use Rattle.nio_event.specs.PassViews.{HasChannel, HasNoPin};
+    ghost use Rattle.nio_history.specs.PassViews.{HasChannel, HasNoPin};
     ghost use Rattle.nio_steps.specs.Calls.{CallClause};
     ghost use Rattle.nio_steps.specs.ChannelCalls.{close_channel_plan};
     ghost use Rattle.nio_steps.specs.Runs.{Completes};

@@ -37,7 +37,7 @@ pub struct PipeSource {
 impl PipeSource {
     ghost use Rattle.std.specs.Prelude.{◌<◌, ◌≤◌, ◌++◌, [], length, true, None, Some, IfNone, IfSome, IsSome, OnOk};
     ghost use Rattle.std.specs.Prelude.{IfOk, Ok, Err};
-    ghost use Rattle.nio_event.specs.PassViews.{HasChannel, HasNoPin};
+    ghost use Rattle.nio_history.specs.PassViews.{HasChannel, HasNoPin};
     ghost use Rattle.nio_steps.specs.Calls.{CallClause};
     ghost use Rattle.nio_steps.specs.ChannelCalls.{close_channel_plan};
     ghost use Rattle.nio_steps.specs.Runs.{Completes};

@@ -9,19 +9,20 @@ use Rattle.nio_base.specs.declared.numbers.CallerNo.{CallerNo}
 use Rattle.nio_base.specs.declared.numbers.ChanNo.{ChanNo}
 use Rattle.nio_base.specs.declared.numbers.KeyId.{KeyId}
 use Rattle.nio_base.specs.declared.numbers.SelNo.{SelNo}
-use Rattle.nio_event.specs.State.{with_interrupted, with_chan, with_gate, with_key, with_interest, with_mark, with_note}
-use Rattle.nio_event.specs.State.{with_closer, with_entered}
-use Rattle.nio_event.specs.declared.call.Call.{Call}
-use Rattle.nio_event.specs.declared.call.Call.TheVariants as call
-use Rattle.nio_event.specs.declared.call.Waiting.{Waiting}
-use Rattle.nio_event.specs.declared.found.Mode.{Mode}
-use Rattle.nio_event.specs.declared.group_call.GroupCall.{GroupCall}
-use Rattle.nio_event.specs.declared.group_call.GroupCall.TheVariants as asked
-use Rattle.nio_event.specs.declared.reply.Reply.{Reply}
-use Rattle.nio_event.specs.declared.reply.Reply.TheVariants as reply
-use Rattle.nio_event.specs.declared.reply.Why.{Why}
 use Rattle.nio_group.specs.Run as step
 use Rattle.nio_group.specs.Run.{IsCallOf}
+use Rattle.nio_history.specs.State.{with_interrupted, with_chan, with_gate, with_key, with_interest, with_mark}
+use Rattle.nio_history.specs.State.{with_note}
+use Rattle.nio_history.specs.State.{with_closer, with_entered}
+use Rattle.nio_history.specs.declared.found.Mode.{Mode}
+use Rattle.nio_history.specs.declared.why.Why.{Why}
+use Rattle.nio_language.specs.declared.call.Call.{Call}
+use Rattle.nio_language.specs.declared.call.Call.TheVariants as call
+use Rattle.nio_language.specs.declared.call.Waiting.{Waiting}
+use Rattle.nio_language.specs.declared.group_call.GroupCall.{GroupCall}
+use Rattle.nio_language.specs.declared.group_call.GroupCall.TheVariants as asked
+use Rattle.nio_language.specs.declared.reply.Reply.{Reply}
+use Rattle.nio_language.specs.declared.reply.Reply.TheVariants as reply
 use Rattle.nio_plain.specs.ScriptState.{ScriptState, Selection, with_shared, with_selection}
 use Rattle.nio_plain.specs.Seq.Replies.{Replied, unchanged, replied, yes_or_no}
 use Rattle.nio_plain.specs.Seq.Cancelling.{channel_closed, cancelled_in_set}

@@ -8,11 +8,12 @@ use Rattle.std.specs.Int.{bit_at}
 use Rattle.nio_base.specs.declared.numbers.CallerNo.{CallerNo}
 use Rattle.nio_base.specs.declared.numbers.KeyId.{KeyId}
 use Rattle.nio_base.specs.declared.numbers.SelNo.{SelNo}
-use Rattle.nio_event.proofs.Put.{put_at_keeps}
-use Rattle.nio_event.specs.State.{unmarked}
-use Rattle.nio_event.specs.declared.call.Call.{Call}
-use Rattle.nio_event.specs.declared.call.Call.TheVariants as call
-use Rattle.nio_event.specs.declared.found.Mark.{Mark}
+use Rattle.nio_base.specs.declared.limits.Limits.{Limits}
+use Rattle.nio_history.proofs.Put.{put_at_keeps}
+use Rattle.nio_history.specs.State.{unmarked}
+use Rattle.nio_history.specs.declared.found.Mark.{Mark}
+use Rattle.nio_language.specs.declared.call.Call.{Call}
+use Rattle.nio_language.specs.declared.call.Call.TheVariants as call
 use Rattle.nio_plain.proofs.CallChanges as change
 use Rattle.nio_plain.proofs.CallChanges.{Change}
 use Rattle.nio_plain.proofs.CallLawsCases.{change_of}
@@ -25,7 +26,6 @@ use Rattle.nio_plain.specs.Seq.Names.{key_at, is_same_key}
 use Rattle.nio_plain.specs.Seq.Removing.{unselected}
 use Rattle.nio_plain.specs.declared.rules.Rules.{Rules}
 use Rattle.nio_plain.proofs.Lists.{same-is}
-use Rattle.nio_base.specs.declared.limits.Limits.{Limits}
 
 -- bits of a union and of a meet
 one_of_max : (x y : ℕ) → x ≢ 1 → x < 2 → max x y ≡ 1 → y ≡ 1

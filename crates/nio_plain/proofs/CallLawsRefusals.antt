@@ -1,11 +1,12 @@
 -- A refused call changes nothing.
 use Rattle.std.proofs.Common.{◌≡◌, ℕ, Bool, true, false, Option, Some, None, is_some, refl, sym, ap, ◌∙◌}
 use Rattle.nio_base.specs.declared.numbers.CallerNo.{CallerNo}
-use Rattle.nio_event.specs.declared.call.Call.{Call}
+use Rattle.nio_base.specs.declared.limits.Limits.{Limits}
+use Rattle.nio_group.specs.Run.{reply_to}
+use Rattle.nio_language.specs.declared.call.Call.{Call}
 use Rattle.nio_plain.proofs.CallChanges as change
 use Rattle.nio_plain.proofs.CallChanges.{Change}
 use Rattle.nio_plain.proofs.CallLawsCases.{change_of}
-use Rattle.nio_group.specs.Run.{reply_to}
 use Rattle.nio_plain.proofs.GroupSteps.{refused_step, same_effect}
 use Rattle.nio_plain.specs.CallLaws.{changes_pipe, refuses, is_without_effect, RefusalsChangeNothing}
 use Rattle.nio_plain.specs.ScriptState.{ScriptState, with_group}
@@ -13,7 +14,6 @@ use Rattle.nio_plain.specs.Seq.Replies.{Replied, yes_or_no}
 use Rattle.nio_plain.specs.Seq.Grouping.{line_reply}
 use Rattle.nio_plain.specs.Seq.Pipes.{own_sink, with_seal}
 use Rattle.nio_plain.specs.declared.rules.Rules.{Rules}
-use Rattle.nio_base.specs.declared.limits.Limits.{Limits}
 
 abbrev Keeps : ScriptState → CallerNo → Call → Replied → Type 0
 Keeps st me c done = is_without_effect c done.reply ≡ true → changes_pipe st me c done.reply ≡ false → done.left ≡ st

@@ -10,14 +10,15 @@ use Rattle.std.specs.List.{All, Contains, filter}
 use Rattle.nio_base.specs.declared.numbers.CallerNo.{CallerNo}
 use Rattle.nio_base.specs.declared.numbers.KeyId.{KeyId}
 use Rattle.nio_base.specs.declared.numbers.SelNo.{SelNo}
-use Rattle.nio_event.proofs.Put.{put-same, put_gave}
-use Rattle.nio_event.specs.Sets.{in_key_set, in_cancelled_set, is_valid}
-use Rattle.nio_event.specs.State.{State, put}
-use Rattle.nio_event.specs.declared.call.Call.{Call}
-use Rattle.nio_event.specs.declared.call.Call.TheVariants as call
-use Rattle.nio_event.specs.declared.call.Waiting.{Waiting}
-use Rattle.nio_event.specs.declared.found.Mode.{Mode}
-use Rattle.nio_event.specs.declared.found.Stage.{Stage}
+use Rattle.nio_base.specs.declared.limits.Limits.{Limits}
+use Rattle.nio_history.proofs.Put.{put-same, put_gave}
+use Rattle.nio_history.specs.Sets.{in_key_set, in_cancelled_set, is_valid}
+use Rattle.nio_history.specs.State.{State, put}
+use Rattle.nio_history.specs.declared.found.Mode.{Mode}
+use Rattle.nio_history.specs.declared.found.Stage.{Stage}
+use Rattle.nio_language.specs.declared.call.Call.{Call}
+use Rattle.nio_language.specs.declared.call.Call.TheVariants as call
+use Rattle.nio_language.specs.declared.call.Waiting.{Waiting}
 use Rattle.nio_plain.proofs.Found.{below_contains}
 use Rattle.nio_plain.proofs.CallChanges as change
 use Rattle.nio_plain.proofs.CallChanges.{Change}
@@ -30,7 +31,6 @@ use Rattle.nio_plain.specs.Seq.Names.{below, key_at}
 use Rattle.nio_plain.specs.Seq.Removing.{removed_key}
 use Rattle.nio_plain.specs.declared.rules.Rules.{Rules}
 use Rattle.nio_plain.specs.Seq.Selections.{without_cancelled, looked_keys, selection_begun, is_caller, own_selection}
-use Rattle.nio_base.specs.declared.limits.Limits.{Limits}
 
 -- an element that passes is kept, and so is its image
 contains_later : {X : Type 0} (y : X) (xs : List X) (x : X) → Contains xs x → Contains (y ∷ xs) x

@@ -5,14 +5,14 @@ use Rattle.std.proofs.lemmas.Bool.{cases_eq, and_from, or_left, or_right, eq-eqb
 use Rattle.nio_base.specs.declared.limits.Limits.{Limits}
 use Rattle.nio_base.specs.declared.numbers.CallerNo.{CallerNo}
 use Rattle.nio_base.specs.declared.numbers.SelNo.{SelNo}
-use Rattle.nio_event.proofs.Put.{put-same}
-use Rattle.nio_event.specs.State.{put, with_gate}
-use Rattle.nio_event.specs.declared.call.Call.{Call}
-use Rattle.nio_event.specs.declared.call.Call.TheVariants as call
-use Rattle.nio_event.specs.declared.call.ScriptCall.{ScriptCall}
-use Rattle.nio_event.specs.declared.found.GateWord.{GateWord}
-use Rattle.nio_event.specs.declared.reply.Reply.{Reply}
-use Rattle.nio_event.specs.declared.reply.Reply.TheVariants as reply
+use Rattle.nio_history.proofs.Put.{put-same}
+use Rattle.nio_history.specs.State.{put, with_gate}
+use Rattle.nio_history.specs.declared.found.GateWord.{GateWord}
+use Rattle.nio_language.specs.declared.call.Call.{Call}
+use Rattle.nio_language.specs.declared.call.Call.TheVariants as call
+use Rattle.nio_language.specs.declared.call.ScriptCall.{ScriptCall}
+use Rattle.nio_language.specs.declared.reply.Reply.{Reply}
+use Rattle.nio_language.specs.declared.reply.Reply.TheVariants as reply
 use Rattle.nio_plain.proofs.CallChanges as change
 use Rattle.nio_plain.proofs.CallChanges.{Change, may_keep}
 use Rattle.nio_plain.proofs.CallLawsCases.{change_of}

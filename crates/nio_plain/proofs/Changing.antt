@@ -1,7 +1,7 @@
 -- What stands below a bound is changed, place by place.
 use Rattle.std.proofs.Common.{◌≡◌, ℕ, ◌+◌, ◌<◌, ◌≤◌, ltb, List, length, get_or, set, sym, ap, ◌∙◌, arith, ⊎_elim}
 use Rattle.std.proofs.lemmas.Bool.{cond-true, cond-false, lt-ltb, le-ltb, cases_lt}
-use Rattle.nio_event.specs.State.{put}
+use Rattle.nio_history.specs.State.{put}
 use Rattle.nio_plain.proofs.Places.{same_function, put_is, places-set, places_at, places_past}
 use Rattle.nio_plain.specs.PlainState.{places, changed}
 

@@ -3,10 +3,10 @@
 use Rattle.std.proofs.Common.{◌≡◌, ℕ, ◌<◌, ◌≤◌, eqb, Bool, true, false, cond, Option, Some, None, is_some, List, length}
 use Rattle.std.proofs.Common.{get_or, set, refl, sym, ap, ◌∙◌, ⊎_elim, map}
 use Rattle.std.proofs.lemmas.Bool.{cases_lt, eq-eqb, ne_eqb, cond-true, cond-false, true≢false}
-use Rattle.nio_event.specs.State.{put, unmade_channel}
-use Rattle.nio_event.specs.declared.found.Chan.{Chan}
-use Rattle.nio_event.specs.declared.found.Stage.{Stage}
 use Rattle.nio_group.specs.Group.{Group}
+use Rattle.nio_history.specs.State.{put, unmade_channel}
+use Rattle.nio_history.specs.declared.found.Chan.{Chan}
+use Rattle.nio_history.specs.declared.found.Stage.{Stage}
 use Rattle.nio_plain.proofs.Replying.{rows_of, with_rows, state-set_selector}
 use Rattle.nio_plain.proofs.Changing.{changed-below, changed-past}
 use Rattle.nio_plain.proofs.Parts.{Makes, state-removed, part_cond, cond_stays}

@@ -1,9 +1,6 @@
 -- A step of the group with a reply that refuses leaves the group as it was.
 use Rattle.std.proofs.Common.{◌≡◌, Bool, true, false, cond, Option, Some, None, Result, Ok, refl, sym, ◌∙◌}
 use Rattle.std.proofs.lemmas.Bool.{false≢true}
-use Rattle.nio_event.specs.declared.group_call.GroupCall.{GroupCall}
-use Rattle.nio_event.specs.declared.group_call.GroupCall.TheVariants as group
-use Rattle.nio_event.specs.declared.reply.Reply.{Reply}
 use Rattle.nio_group.specs.Completion.{CompletionFields}
 use Rattle.nio_group.specs.Group.{Group, channel_at}
 use Rattle.nio_group.specs.Refusals.{open_refusal, bind_refusal, start_refusal, report_refusal}
@@ -12,6 +9,9 @@ use Rattle.nio_group.specs.Run.{after, reply_to}
 use Rattle.nio_group.specs.Stages.{is_running}
 use Rattle.nio_group.specs.Flight.{op_at}
 use Rattle.nio_group.specs.Steps.{answer_to_take, finish_refusal, kept_if_refused, unless_refused}
+use Rattle.nio_language.specs.declared.group_call.GroupCall.{GroupCall}
+use Rattle.nio_language.specs.declared.group_call.GroupCall.TheVariants as group
+use Rattle.nio_language.specs.declared.reply.Reply.{Reply}
 use Rattle.nio_plain.proofs.CallChanges.{step_of}
 use Rattle.nio_plain.specs.CallLaws.{is_without_group_effect, refuses}
 use Rattle.nio_plain.specs.Seq.Grouping.{line_reply}

@@ -1,7 +1,7 @@
 -- How a call on the group is shown to answer as the documented one.
 use Rattle.std.proofs.Common.{◌≡◌, Ok}
-use Rattle.nio_event.specs.declared.group_call.GroupCall.{GroupCall}
-use Rattle.nio_event.specs.declared.reply.Reply.{Reply}
+use Rattle.nio_language.specs.declared.group_call.GroupCall.{GroupCall}
+use Rattle.nio_language.specs.declared.reply.Reply.{Reply}
 use Rattle.nio_plain.specs.Plain.{RepliesAs, Kept}
 use Rattle.nio_plain.specs.PlainState.{state_of}
 use Rattle.nio_plain.specs.ScriptState.{with_group}

@@ -1,11 +1,11 @@
 -- Another key in the place of one, and the changes of a state that it is.
 use Rattle.std.proofs.Common.{◌≡◌, ℕ, ◌<◌, ◌≤◌, eqb, Bool, cond, ◌&&◌, length, refl, ap, ◌∙◌, arith, ⊎_elim, List}
 use Rattle.std.proofs.lemmas.Bool.{cases_lt}
-use Rattle.nio_event.specs.State.{put, put_at, with_key, with_interest, with_mark, with_note}
-use Rattle.nio_event.specs.declared.found.Chan.{Chan}
-use Rattle.nio_event.specs.declared.found.Mark.{Mark}
-use Rattle.nio_event.specs.declared.found.Stage.{Stage}
 use Rattle.nio_group.specs.Group.{Group}
+use Rattle.nio_history.specs.State.{put, put_at, with_key, with_interest, with_mark, with_note}
+use Rattle.nio_history.specs.declared.found.Chan.{Chan}
+use Rattle.nio_history.specs.declared.found.Mark.{Mark}
+use Rattle.nio_history.specs.declared.found.Stage.{Stage}
 use Rattle.nio_plain.proofs.Replying.{rows_of}
 use Rattle.nio_plain.proofs.Parts.{keys_changed}
 use Rattle.nio_plain.proofs.Places.{put_part, put_by, put_at_same, places_past}

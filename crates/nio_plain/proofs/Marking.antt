@@ -8,7 +8,8 @@ use Rattle.std.proofs.lemmas.Nat.Bits.{bit_at_or, same_from_bits}
 use Rattle.std.specs.List.{All}
 use lib.Bits.{and_zero_r, or_zero_r}
 use Rattle.nio_base.specs.declared.numbers.KeyId.{KeyId}
-use Rattle.nio_event.specs.State.{put}
+use Rattle.nio_group.proofs.IndexLemmas.{count_by-cons}
+use Rattle.nio_history.specs.State.{put}
 use Rattle.nio_plain.proofs.Lists.{same-key, same-is, other-index, other-serial, Rise, AreBelow, rising-before}
 use Rattle.nio_plain.proofs.Lists.{looked_interest-absent, looked_interest-last, looked_interest-others}
 use Rattle.nio_plain.proofs.Lists.{looked_interest-at}
@@ -17,7 +18,6 @@ use Rattle.nio_plain.specs.PlainState.{KeyRow, places, key_row, no_key, key_id, 
 use Rattle.nio_plain.specs.Seq.Names.{is_same_key}
 use Rattle.nio_plain.specs.Seq.Selections.{all_told, looked_interest, told_bits, marked, is_updated}
 use Rattle.nio_plain.specs.declared.plain.selector.Key.{Key}
-use Rattle.nio_group.proofs.IndexLemmas.{count_by-cons}
 
 or_assoc : (a b c : ℕ) → bit_or a (bit_or b c) ≡ bit_or (bit_or a b) c
 or_assoc a b c =

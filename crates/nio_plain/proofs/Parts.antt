@@ -2,17 +2,17 @@
 use Rattle.std.proofs.Common.{◌≡◌, ℕ, eqb, Bool, true, false, cond, ◌&&◌, ◌||◌, Option, is_some, refl, sym, ap, ◌∙◌}
 use Rattle.std.proofs.Common.{List}
 use Rattle.nio_base.specs.declared.numbers.CallerNo.{CallerNo}
-use Rattle.nio_event.specs.State.{put}
-use Rattle.nio_event.specs.declared.found.Chan.{Chan}
-use Rattle.nio_event.specs.declared.found.GateWord.{GateWord}
-use Rattle.nio_event.specs.declared.found.Mark.{Mark}
-use Rattle.nio_event.specs.declared.found.Stage.{Stage}
 use Rattle.nio_group.specs.Group.{Group}
+use Rattle.nio_history.specs.State.{put}
+use Rattle.nio_history.specs.declared.found.Chan.{Chan}
+use Rattle.nio_history.specs.declared.found.GateWord.{GateWord}
+use Rattle.nio_history.specs.declared.found.Mark.{Mark}
+use Rattle.nio_history.specs.declared.found.Stage.{Stage}
+use Rattle.nio_history.proofs.Put.{put-same}
 use Rattle.nio_plain.proofs.Places.{same_function, put_part, put_same, put_by, put-twice}
 use Rattle.nio_plain.specs.PlainState.{SelectorRow, KeyRow, state_from, removed_row}
 use Rattle.nio_plain.specs.ScriptState.{ScriptState, Selection, with_shared, Pipe}
 use Rattle.nio_plain.specs.Seq.Removing.{removed_key, unselected, without_keys_where}
-use Rattle.nio_event.proofs.Put.{put-same}
 
 -- the state in which the parts of the selector are these
 abbrev pub with_row : ScriptState → ℕ → SelectorRow → ScriptState

@@ -8,9 +8,9 @@ use Rattle.std.proofs.lemmas.List.{get_or_past, length_push, get_or_append_left,
 use Rattle.std.proofs.lemmas.List.{get_or-replicate, length-replicate}
 use mathlib.Core.Path.{fun_ext}
 use lib.ListN.{replicate}
-use Rattle.nio_event.specs.State.{put, put_at}
+use Rattle.nio_history.specs.State.{put, put_at}
+use Rattle.nio_history.proofs.Put.{put-same}
 use Rattle.nio_plain.specs.PlainState.{places}
-use Rattle.nio_event.proofs.Put.{put-same}
 
 -- two functions are one where they agree everywhere
 pub same_function : {A B : Type 0} {f g : A → B} → ((x : A) → f x ≡ g x) → f ≡ g

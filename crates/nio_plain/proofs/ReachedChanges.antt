@@ -5,13 +5,13 @@ use Rattle.std.proofs.lemmas.Bool.{and_parts, both_ways}
 use Rattle.nio_base.specs.declared.limits.Limits.{Limits}
 use Rattle.nio_base.specs.declared.numbers.CallerNo.{CallerNo}
 use Rattle.nio_base.specs.declared.numbers.KeyId.{KeyId}
-use Rattle.nio_event.proofs.Put.{put_keeps, put_at_keeps}
-use Rattle.nio_event.specs.Sets.{fits, in_key_set, is_in_key_set}
-use Rattle.nio_event.specs.State.{put_at, with_gate, with_mark, with_key, with_closer, with_turn, with_begun}
-use Rattle.nio_event.specs.declared.found.GateWord.{GateWord}
-use Rattle.nio_event.specs.declared.found.Mark.{Mark}
-use Rattle.nio_event.specs.declared.found.Stage.{Stage}
-use Rattle.nio_event.specs.declared.reply.Reply.{Reply}
+use Rattle.nio_history.proofs.Put.{put_keeps, put_at_keeps}
+use Rattle.nio_history.specs.Sets.{fits, in_key_set, is_in_key_set}
+use Rattle.nio_history.specs.State.{put_at, with_gate, with_mark, with_key, with_closer, with_turn, with_begun}
+use Rattle.nio_history.specs.declared.found.GateWord.{GateWord}
+use Rattle.nio_history.specs.declared.found.Mark.{Mark}
+use Rattle.nio_history.specs.declared.found.Stage.{Stage}
+use Rattle.nio_language.specs.declared.reply.Reply.{Reply}
 use Rattle.nio_plain.proofs.ReachedRemoving.{look-none, bound-none}
 use Rattle.nio_plain.proofs.ReachedSound.{ClosingSound, LookSound, BoundSound, Sound, Keeps, Aged, here_or_there}
 use Rattle.nio_plain.proofs.ReachedSound.{aged-same, aged-cancelled, in_set-cancelled, same_stays, keeps_cancelled}

@@ -5,12 +5,12 @@ use Rattle.std.proofs.Common.{ap, ◌∙◌, subst, eqb-true, eq-eqb}
 use Rattle.std.proofs.lemmas.Bool.{and_parts, and_from, both_ways, false_from_ne_true}
 use Rattle.nio_base.specs.declared.limits.Limits.{Limits}
 use Rattle.nio_base.specs.declared.numbers.KeyId.{KeyId}
-use Rattle.nio_event.proofs.Put.{put_keeps}
-use Rattle.nio_event.specs.Sets.{fits, in_key_set, is_in_key_set, is_valid}
-use Rattle.nio_event.specs.State.{State, put, with_selector, with_chan, with_channels_high}
-use Rattle.nio_event.specs.declared.found.Chan.{Chan}
-use Rattle.nio_event.specs.declared.found.Stage.{Stage}
-use Rattle.nio_event.specs.declared.reply.Reply.{Reply}
+use Rattle.nio_history.proofs.Put.{put_keeps}
+use Rattle.nio_history.specs.Sets.{fits, in_key_set, is_in_key_set, is_valid}
+use Rattle.nio_history.specs.State.{State, put, with_selector, with_chan, with_channels_high}
+use Rattle.nio_history.specs.declared.found.Chan.{Chan}
+use Rattle.nio_history.specs.declared.found.Stage.{Stage}
+use Rattle.nio_language.specs.declared.reply.Reply.{Reply}
 use Rattle.nio_plain.proofs.ReachedSound.{ChannelsSound, Sound, Keeps, Aged, aged-same, aged-cancelled}
 use Rattle.nio_plain.proofs.ReachedSound.{not_valid_cancelled, in_set-cancelled, same_stays, keeps_cancelled}
 use Rattle.nio_plain.proofs.Registered.{any-some, key_of-some, key_of-is}

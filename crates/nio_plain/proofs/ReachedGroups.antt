@@ -2,13 +2,13 @@
 use Rattle.std.proofs.Common.{◌≡◌, ◌⊎◌, inl, inr, List, [], ◌∷◌, refl, sym, subst}
 use Rattle.nio_base.specs.declared.limits.Limits.{Limits}
 use Rattle.nio_base.specs.declared.numbers.CallerNo.{CallerNo}
-use Rattle.nio_event.specs.declared.call.Call.{Call}
-use Rattle.nio_event.specs.declared.call.ScriptCall.{ScriptCall}
 use Rattle.nio_group.proofs.RestLemmas.{lawful-empty}
 use Rattle.nio_group.proofs.RunLemmas.{lawful-after}
 use Rattle.nio_group.specs.Group.{Group, IsLawful, empty_group}
 use Rattle.nio_group.specs.Run as step
 use Rattle.nio_group.specs.Run.{IsCallOf, IsRunOf, after, left_by}
+use Rattle.nio_language.specs.declared.call.Call.{Call}
+use Rattle.nio_language.specs.declared.call.ScriptCall.{ScriptCall}
 use Rattle.nio_plain.proofs.CallChanges as change
 use Rattle.nio_plain.proofs.CallChanges.{Change}
 use Rattle.nio_plain.proofs.CallLawsCases.{change_of}

@@ -8,14 +8,14 @@ use Rattle.nio_base.specs.declared.numbers.CallerNo.{CallerNo}
 use Rattle.nio_base.specs.declared.numbers.ChanNo.{ChanNo}
 use Rattle.nio_base.specs.declared.numbers.KeyId.{KeyId}
 use Rattle.nio_base.specs.declared.numbers.SelNo.{SelNo}
-use Rattle.nio_event.proofs.Put.{put-same, put_at-same}
-use Rattle.nio_event.specs.Sets.{fits, in_key_set, is_valid, was_published, is_in_key_set, is_valid_key}
-use Rattle.nio_event.specs.State.{State, put}
-use Rattle.nio_event.specs.declared.call.Call.{Call}
-use Rattle.nio_event.specs.declared.call.Call.TheVariants as call
-use Rattle.nio_event.specs.declared.call.ScriptCall.{ScriptCall}
-use Rattle.nio_event.specs.declared.found.Stage.{Stage}
-use Rattle.nio_event.specs.declared.reply.Reply.TheVariants as reply
+use Rattle.nio_history.proofs.Put.{put-same, put_at-same}
+use Rattle.nio_history.specs.Sets.{fits, in_key_set, is_valid, was_published, is_in_key_set, is_valid_key}
+use Rattle.nio_history.specs.State.{State, put}
+use Rattle.nio_history.specs.declared.found.Stage.{Stage}
+use Rattle.nio_language.specs.declared.call.Call.{Call}
+use Rattle.nio_language.specs.declared.call.Call.TheVariants as call
+use Rattle.nio_language.specs.declared.call.ScriptCall.{ScriptCall}
+use Rattle.nio_language.specs.declared.reply.Reply.TheVariants as reply
 use Rattle.nio_plain.proofs.CallChanges as change
 use Rattle.nio_plain.proofs.CallChanges.{Change, may_keep}
 use Rattle.nio_plain.proofs.CallLawsCases.{change_of}

@@ -3,7 +3,8 @@ use Rattle.std.proofs.Common.{◌≡◌, ℕ, true, false, Some, refl, not}
 use Rattle.nio_base.specs.declared.kind.Kind.TheVariants.{Source, Sink}
 use Rattle.nio_base.specs.declared.limits.Limits.{Limits}
 use Rattle.nio_base.specs.declared.numbers.CallerNo.{CallerNo}
-use Rattle.nio_event.specs.declared.reply.Reply.TheVariants as reply
+use Rattle.nio_base.specs.declared.kind.Kind.{Kind}
+use Rattle.nio_language.specs.declared.reply.Reply.TheVariants as reply
 use Rattle.nio_plain.proofs.ReachedChannels.{keeps_channel, keeps_closed_channel}
 use Rattle.nio_plain.proofs.ReachedSound.{Keeps, Sound, stays_then}
 use Rattle.nio_plain.specs.ScriptState.{ScriptState}
@@ -12,7 +13,6 @@ use Rattle.nio_plain.specs.Seq.Cancelling.{channel_closed}
 use Rattle.nio_plain.specs.Seq.Opening.{channel_made, next_channel}
 use Rattle.nio_plain.specs.Seq.Piping.{with_sink}
 use Rattle.nio_plain.specs.declared.rules.Rules.{Rules}
-use Rattle.nio_base.specs.declared.kind.Kind.{Kind}
 use Rattle.nio_plain.proofs.Found.{found_below}
 use Rattle.std.proofs.lemmas.Bool.{not-true}
 

@@ -5,12 +5,12 @@ use Rattle.std.proofs.lemmas.Bool.{and_parts, and_from, and_left, or_left, or_ri
 use Rattle.std.proofs.lemmas.Bool.{false_from_ne_true, ne_eqb, ltb-true}
 use Rattle.nio_base.specs.declared.limits.Limits.{Limits}
 use Rattle.nio_base.specs.declared.numbers.KeyId.{KeyId}
-use Rattle.nio_event.proofs.Put.{put_keeps, put_at_keeps, put-same, put_at-same}
-use Rattle.nio_event.specs.Sets.{fits, in_key_set, is_valid, was_published, is_in_key_set}
-use Rattle.nio_event.specs.State.{put, put_at, unmarked}
-use Rattle.nio_event.specs.declared.found.Mark.{Mark}
-use Rattle.nio_event.specs.declared.found.Stage.{Stage}
-use Rattle.nio_event.specs.declared.reply.Reply.{Reply}
+use Rattle.nio_history.proofs.Put.{put_keeps, put_at_keeps, put-same, put_at-same}
+use Rattle.nio_history.specs.Sets.{fits, in_key_set, is_valid, was_published, is_in_key_set}
+use Rattle.nio_history.specs.State.{put, put_at, unmarked}
+use Rattle.nio_history.specs.declared.found.Mark.{Mark}
+use Rattle.nio_history.specs.declared.found.Stage.{Stage}
+use Rattle.nio_language.specs.declared.reply.Reply.{Reply}
 use Rattle.nio_plain.proofs.Found.{found_below}
 use Rattle.nio_plain.proofs.ReachedChannels.{present-in_set}
 use Rattle.nio_plain.proofs.ReachedSound.{IndexesSound, EnrolledSound, ChannelsSound, SelectedSound, ClosingSound}

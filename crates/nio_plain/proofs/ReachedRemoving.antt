@@ -10,14 +10,14 @@ use lib.Bits.{and_zero_r}
 use Rattle.nio_base.specs.declared.limits.Limits.{Limits}
 use Rattle.nio_base.specs.declared.numbers.CallerNo.{CallerNo}
 use Rattle.nio_base.specs.declared.numbers.KeyId.{KeyId}
-use Rattle.nio_event.proofs.Put.{put_keeps}
-use Rattle.nio_event.specs.Sets.{fits, in_key_set, in_cancelled_set, is_in_key_set}
-use Rattle.nio_event.specs.State.{State, put, with_entered}
-use Rattle.nio_event.specs.declared.found.GateWord.{GateWord}
-use Rattle.nio_event.specs.declared.found.Mark.{Mark}
-use Rattle.nio_event.specs.declared.found.Mode.{Mode}
-use Rattle.nio_event.specs.declared.found.Stage.{Stage}
-use Rattle.nio_event.specs.declared.reply.Reply.{Reply}
+use Rattle.nio_history.proofs.Put.{put_keeps}
+use Rattle.nio_history.specs.Sets.{fits, in_key_set, in_cancelled_set, is_in_key_set}
+use Rattle.nio_history.specs.State.{State, put, with_entered}
+use Rattle.nio_history.specs.declared.found.GateWord.{GateWord}
+use Rattle.nio_history.specs.declared.found.Mark.{Mark}
+use Rattle.nio_history.specs.declared.found.Mode.{Mode}
+use Rattle.nio_history.specs.declared.found.Stage.{Stage}
+use Rattle.nio_language.specs.declared.reply.Reply.{Reply}
 use Rattle.nio_plain.proofs.Found.{below_all, below_contains}
 use Rattle.nio_plain.proofs.Lists.{same-key, same-is, looked-interested}
 use Rattle.nio_plain.proofs.ReachedSound.{SelectedSound, ClosingSound, LookSound, BoundSound, FreeSound, Sound, Keeps}

@@ -6,11 +6,12 @@ use Rattle.std.proofs.lemmas.Bool.{and_parts, and_from, both_ways, false_from_ne
 use Rattle.nio_base.specs.declared.limits.Limits.{Limits}
 use Rattle.nio_base.specs.declared.numbers.CallerNo.{CallerNo}
 use Rattle.nio_base.specs.declared.numbers.KeyId.{KeyId}
-use Rattle.nio_event.specs.Sets.{fits, in_key_set, is_valid, was_published, is_in_key_set, is_valid_key}
-use Rattle.nio_event.specs.declared.found.Chan.{Chan}
-use Rattle.nio_event.specs.declared.found.Mark.{Mark}
-use Rattle.nio_event.specs.declared.found.Stage.{Stage}
-use Rattle.nio_event.specs.declared.reply.Reply.{Reply}
+use Rattle.nio_history.specs.Sets.{fits, in_key_set, is_valid, was_published, is_in_key_set, is_valid_key}
+use Rattle.nio_history.specs.declared.found.Chan.{Chan}
+use Rattle.nio_history.specs.declared.found.Mark.{Mark}
+use Rattle.nio_history.specs.declared.found.Stage.{Stage}
+use Rattle.nio_history.specs.declared.found.GateWord.{GateWord}
+use Rattle.nio_language.specs.declared.reply.Reply.{Reply}
 use Rattle.nio_plain.specs.ScriptState.{ScriptState, Selection, script_opening, with_shared}
 use Rattle.nio_plain.specs.Seq.Replies.{Replied}
 use Rattle.nio_plain.specs.Seq.Cancelling.{cancelled_key}
@@ -18,7 +19,6 @@ use Rattle.nio_plain.specs.Seq.Removing.{removed_key}
 use Rattle.nio_plain.specs.Seq.Selections.{is_looked}
 use Rattle.nio_plain.specs.declared.rules.Rules.{Rules}
 use Rattle.nio_plain.specs.declared.rules.Rules.TheVariants.{First}
-use Rattle.nio_event.specs.declared.found.GateWord.{GateWord}
 
 -- ---- the parts
 

@@ -5,10 +5,10 @@ use Rattle.std.proofs.lemmas.Bool.{cases_lt, or_right, or_cases, cond-true}
 use Rattle.std.specs.List.{list_any}
 use Rattle.nio_base.specs.declared.limits.Limits.{Limits}
 use Rattle.nio_base.specs.declared.numbers.KeyId.{KeyId}
-use Rattle.nio_event.specs.Sets.{is_in_key_set}
-use Rattle.nio_event.specs.State.{State, unmade_channel}
-use Rattle.nio_event.specs.declared.found.Chan.{Chan}
 use Rattle.nio_group.specs.Group.{Group}
+use Rattle.nio_history.specs.Sets.{is_in_key_set}
+use Rattle.nio_history.specs.State.{State, unmade_channel}
+use Rattle.nio_history.specs.declared.found.Chan.{Chan}
 use Rattle.nio_plain.proofs.Replying.{rows_of}
 use Rattle.nio_plain.proofs.Places.{places_past, places_at}
 use Rattle.nio_plain.specs.PlainState.{SelectorRow, key_in, if_in_set, state_from, state_of, limits_of, places}

@@ -5,8 +5,8 @@ use Rattle.std.proofs.Common.{set, get_or, map}
 use Rattle.nio_base.specs.declared.numbers.ChanNo.{ChanNo}
 use Rattle.nio_base.specs.declared.numbers.KeyId.{KeyId}
 use Rattle.nio_base.specs.declared.numbers.SelNo.{SelNo}
-use Rattle.nio_event.specs.State.{put, unmade_channel, with_interest, with_note}
-use Rattle.nio_event.specs.declared.reply.Reply.TheVariants as reply
+use Rattle.nio_history.specs.State.{put, unmade_channel, with_interest, with_note}
+use Rattle.nio_language.specs.declared.reply.Reply.TheVariants as reply
 use Rattle.nio_plain.proofs.Replying.{unchanged_as, replied_as, rows_of, with_rows, state-set_selector}
 use Rattle.nio_plain.proofs.KeyChange.{state-key, key-registered}
 use Rattle.nio_plain.proofs.Places.{places_at}

@@ -6,9 +6,9 @@ use Rattle.std.proofs.lemmas.Result.{IfOk-from_err}
 use Rattle.std.specs.Result.{IsErr}
 use Rattle.std.specs.declared.alloc.AllocError.{AllocError}
 use lib.ListN.{replicate}
-use Rattle.nio_event.specs.State.{unmade_channel, put, with_interrupted}
-use Rattle.nio_event.specs.declared.reply.Reply.{Reply}
 use Rattle.nio_group.specs.Group.{Group, empty_group}
+use Rattle.nio_history.specs.State.{unmade_channel, put, with_interrupted}
+use Rattle.nio_language.specs.declared.reply.Reply.{Reply}
 use Rattle.nio_plain.proofs.Places.{places-nil, places-replicate, places_all, places_past, places-set, places-push}
 use Rattle.nio_plain.proofs.Places.{places_at, part_kept}
 use Rattle.nio_plain.specs.Plain.{Replies, RepliesAs, Kept}

@@ -4,8 +4,8 @@ use Rattle.std.proofs.Common.{set, map, filter, refl, sym, ap, ◌∙◌, add-on
 use Rattle.std.proofs.lemmas.Bool.{cases_eq, cond-true, cond-false, eq-eqb, ne_eqb}
 use Rattle.std.proofs.lemmas.List.{map-append, append-nil, take_more}
 use Rattle.nio_base.specs.declared.numbers.KeyId.{KeyId}
-use Rattle.nio_event.specs.Sets.{is_valid}
-use Rattle.nio_event.specs.State.{put}
+use Rattle.nio_history.specs.Sets.{is_valid}
+use Rattle.nio_history.specs.State.{put}
 use Rattle.nio_plain.proofs.Lists.{same-key, other-index, other-serial, Rise, AreBelow, rising-before, looked-absent}
 use Rattle.nio_plain.proofs.Lists.{looked-last, looked-others}
 use Rattle.nio_plain.proofs.Places.{same_function, put_is, put_same, places-set, places_at}

@@ -4,10 +4,10 @@ use Rattle.std.proofs.Common.{refl, sym, ap, ◌∙◌, map}
 use Rattle.nio_base.specs.declared.numbers.CallerNo.{CallerNo}
 use Rattle.nio_base.specs.declared.numbers.KeyId.{KeyId}
 use Rattle.nio_base.specs.declared.numbers.SelNo.{SelNo}
-use Rattle.nio_event.specs.State.{put, unmade_channel}
-use Rattle.nio_event.specs.declared.found.GateWord.{GateWord}
-use Rattle.nio_event.specs.declared.reply.Reply.TheVariants as reply
-use Rattle.nio_event.specs.declared.reply.Why.{Why}
+use Rattle.nio_history.specs.State.{put, unmade_channel}
+use Rattle.nio_history.specs.declared.found.GateWord.{GateWord}
+use Rattle.nio_history.specs.declared.why.Why.{Why}
+use Rattle.nio_language.specs.declared.reply.Reply.TheVariants as reply
 use Rattle.nio_plain.proofs.Replying.{unchanged_as, replied_as, state-set_selector, rows_of, with_rows}
 use Rattle.nio_plain.proofs.Replying.{selector_made-below}
 use Rattle.nio_plain.proofs.Marking.{TellsLooked, marked_keys-told, counted-at}

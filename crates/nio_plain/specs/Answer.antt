@@ -2,8 +2,8 @@
 -- leaves.
 use Rattle.std.specs.Prelude.{ℕ, ◌+◌, List, [], ◌∷◌, ◌++◌}
 use Rattle.nio_base.specs.declared.limits.Limits.{Limits}
-use Rattle.nio_event.specs.Replies.{history_line}
-use Rattle.nio_event.specs.declared.call.ScriptCall.{ScriptCall}
+use Rattle.nio_language.specs.Replies.{history_line}
+use Rattle.nio_language.specs.declared.call.ScriptCall.{ScriptCall}
 use Rattle.nio_plain.specs.ScriptState.{ScriptState, script_opening}
 use Rattle.nio_plain.specs.Seq.{seq}
 use Rattle.nio_plain.specs.declared.rules.Rules.{Rules}

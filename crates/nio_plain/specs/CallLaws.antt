@@ -9,18 +9,18 @@ use Rattle.nio_base.specs.declared.limits.Limits.{Limits}
 use Rattle.nio_base.specs.declared.numbers.CallerNo.{CallerNo}
 use Rattle.nio_base.specs.declared.numbers.KeyId.{KeyId}
 use Rattle.nio_base.specs.declared.numbers.SelNo.{SelNo}
-use Rattle.nio_event.specs.Sets.{in_key_set, is_valid}
-use Rattle.nio_event.specs.declared.call.Call.{Call}
-use Rattle.nio_event.specs.declared.call.Call.TheVariants as call
-use Rattle.nio_event.specs.declared.call.ScriptCall.{ScriptCall}
-use Rattle.nio_event.specs.declared.call.Waiting.{Waiting}
-use Rattle.nio_event.specs.declared.found.Mark.{Mark}
-use Rattle.nio_event.specs.declared.group_call.GroupCall.{GroupCall}
-use Rattle.nio_event.specs.declared.group_call.GroupCall.TheVariants as group
-use Rattle.nio_event.specs.declared.group_reply.GroupReply.{GroupReply}
-use Rattle.nio_event.specs.declared.group_reply.GroupReply.TheVariants as of_group
-use Rattle.nio_event.specs.declared.reply.Reply.{Reply}
-use Rattle.nio_event.specs.declared.reply.Reply.TheVariants as reply
+use Rattle.nio_history.specs.Sets.{in_key_set, is_valid}
+use Rattle.nio_history.specs.declared.found.Mark.{Mark}
+use Rattle.nio_language.specs.declared.call.Call.{Call}
+use Rattle.nio_language.specs.declared.call.Call.TheVariants as call
+use Rattle.nio_language.specs.declared.call.ScriptCall.{ScriptCall}
+use Rattle.nio_language.specs.declared.call.Waiting.{Waiting}
+use Rattle.nio_language.specs.declared.group_call.GroupCall.{GroupCall}
+use Rattle.nio_language.specs.declared.group_call.GroupCall.TheVariants as group
+use Rattle.nio_language.specs.declared.group_reply.GroupReply.{GroupReply}
+use Rattle.nio_language.specs.declared.group_reply.GroupReply.TheVariants as of_group
+use Rattle.nio_language.specs.declared.reply.Reply.{Reply}
+use Rattle.nio_language.specs.declared.reply.Reply.TheVariants as reply
 use Rattle.nio_plain.specs.Answer.{left_from}
 use Rattle.nio_plain.specs.ScriptState.{ScriptState, Selection}
 use Rattle.nio_plain.specs.Seq.{seq}

@@ -1,6 +1,6 @@
 -- What a test of the names of a line comes to, over the calls that are made with these names.
 use Rattle.std.specs.Prelude.{◌≡◌}
-use Rattle.nio_event.specs.declared.reply.Reply.{Reply}
+use Rattle.nio_language.specs.declared.reply.Reply.{Reply}
 use Rattle.nio_plain.specs.ScriptState.{ScriptState}
 use Rattle.nio_plain.specs.Seq.Replies.{Replied, unchanged}
 

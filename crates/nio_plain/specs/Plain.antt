@@ -1,7 +1,7 @@
 -- What the calls of a plain system reply and leave.
 use Rattle.std.specs.Prelude.{◌≡◌, Result, IfOk, OnErr}
 use Rattle.std.specs.declared.alloc.AllocError.{AllocError}
-use Rattle.nio_event.specs.declared.reply.Reply.{Reply}
+use Rattle.nio_language.specs.declared.reply.Reply.{Reply}
 use Rattle.nio_plain.specs.PlainState.{limits_of, rules_of, state_of}
 use Rattle.nio_plain.specs.Seq.Replies.{Replied}
 use Rattle.nio_plain.specs.declared.plain.Plain.{Plain}

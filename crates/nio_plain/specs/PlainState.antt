@@ -6,15 +6,15 @@ use Rattle.std.specs.Ordering.{nat_cmp}
 use Rattle.nio_base.specs.declared.limits.Limits.{Limits}
 use Rattle.nio_base.specs.declared.numbers.CallerNo.{CallerNo}
 use Rattle.nio_base.specs.declared.numbers.KeyId.{KeyId}
-use Rattle.nio_event.specs.State.{unmade_channel, open_gate, unclaimed, unmarked, last_serial, put, with_key}
-use Rattle.nio_event.specs.State.{with_interest, with_mark, with_note, with_free}
-use Rattle.nio_event.specs.Sets.{in_key_set, in_cancelled_set, is_in_key_set, is_valid}
-use Rattle.nio_event.specs.declared.found.Mode.{Mode}
-use Rattle.nio_event.specs.declared.found.Chan.{Chan}
-use Rattle.nio_event.specs.declared.found.GateWord.{GateWord}
-use Rattle.nio_event.specs.declared.found.Mark.{Mark}
-use Rattle.nio_event.specs.declared.found.Stage.{Stage}
 use Rattle.nio_group.specs.Group.{Group}
+use Rattle.nio_history.specs.State.{unmade_channel, open_gate, unclaimed, unmarked, last_serial, put, with_key}
+use Rattle.nio_history.specs.State.{with_interest, with_mark, with_note, with_free}
+use Rattle.nio_history.specs.Sets.{in_key_set, in_cancelled_set, is_in_key_set, is_valid}
+use Rattle.nio_history.specs.declared.found.Mode.{Mode}
+use Rattle.nio_history.specs.declared.found.Chan.{Chan}
+use Rattle.nio_history.specs.declared.found.GateWord.{GateWord}
+use Rattle.nio_history.specs.declared.found.Mark.{Mark}
+use Rattle.nio_history.specs.declared.found.Stage.{Stage}
 use Rattle.nio_plain.specs.ScriptState.{Pipe, ScriptState, Selection, with_shared}
 use Rattle.nio_plain.specs.Seq.Cancelling.{cancelled_key, has_index}
 use Rattle.nio_plain.specs.Seq.Names.{below}

@@ -7,15 +7,16 @@ use Rattle.nio_base.specs.declared.numbers.CallerNo.{CallerNo}
 use Rattle.nio_base.specs.declared.numbers.ChanNo.{ChanNo}
 use Rattle.nio_base.specs.declared.numbers.KeyId.{KeyId}
 use Rattle.nio_base.specs.declared.numbers.SelNo.{SelNo}
-use Rattle.nio_event.specs.Sets.{in_key_set, in_cancelled_set, in_selected_set, is_valid, was_published, is_in_key_set}
-use Rattle.nio_event.specs.Sets.{is_valid_key, IsRegistered}
-use Rattle.nio_event.specs.State.{State}
-use Rattle.nio_event.specs.declared.call.Call.TheVariants as call
-use Rattle.nio_event.specs.declared.call.ScriptCall.{ScriptCall}
-use Rattle.nio_event.specs.declared.reply.Reply.TheVariants as reply
 use Rattle.nio_group.specs.Group.{Group, IsLawful, empty_group}
 use Rattle.nio_group.specs.Run as step
 use Rattle.nio_group.specs.Run.{IsRunOf, left_by}
+use Rattle.nio_history.specs.Sets.{in_key_set, in_cancelled_set, in_selected_set, is_valid, was_published}
+use Rattle.nio_history.specs.Sets.{is_in_key_set}
+use Rattle.nio_history.specs.Sets.{is_valid_key, IsRegistered}
+use Rattle.nio_history.specs.State.{State}
+use Rattle.nio_language.specs.declared.call.Call.TheVariants as call
+use Rattle.nio_language.specs.declared.call.ScriptCall.{ScriptCall}
+use Rattle.nio_language.specs.declared.reply.Reply.TheVariants as reply
 use Rattle.nio_plain.specs.Answer.{left_by_script}
 use Rattle.nio_plain.specs.Seq.{seq}
 use Rattle.nio_plain.specs.ScriptState.{ScriptState, Selection, group_limits}

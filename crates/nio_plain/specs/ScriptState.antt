@@ -7,10 +7,10 @@ use Rattle.std.specs.Prelude.{ℕ, ◌^◌, Bool, List, [], Option, None}
 use Rattle.nio_base.specs.declared.numbers.CallerNo.{CallerNo}
 use Rattle.nio_base.specs.declared.numbers.ChanNo.{ChanNo}
 use Rattle.nio_base.specs.declared.numbers.KeyId.{KeyId}
-use Rattle.nio_event.specs.State.{State, opening, put}
-use Rattle.nio_event.specs.declared.found.Mode.{Mode}
 use Rattle.nio_group.specs.Group.{Group, empty_group}
 use Rattle.nio_group.specs.declared.limits.GroupLimits.{GroupLimits}
+use Rattle.nio_history.specs.State.{State, opening, put}
+use Rattle.nio_history.specs.declared.found.Mode.{Mode}
 
 -- a selection in progress: how long it waits, the number of indexes that were claimed when it began,
 -- and the keys that it looked at with the interest that each had then. Its caller has the selector's turn

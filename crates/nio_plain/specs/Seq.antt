@@ -25,9 +25,9 @@ pub mod Piping
 use Rattle.std.specs.Prelude.{nat_lt, if◌then◌else◌}
 use Rattle.nio_base.specs.declared.limits.Limits.{Limits}
 use Rattle.nio_base.specs.declared.numbers.CallerNo.{CallerNo}
-use Rattle.nio_event.specs.declared.call.Call.{Call}
-use Rattle.nio_event.specs.declared.call.Call.TheVariants as call
-use Rattle.nio_event.specs.declared.reply.Reply.TheVariants as reply
+use Rattle.nio_language.specs.declared.call.Call.{Call}
+use Rattle.nio_language.specs.declared.call.Call.TheVariants as call
+use Rattle.nio_language.specs.declared.reply.Reply.TheVariants as reply
 use Rattle.nio_plain.specs.ScriptState.{ScriptState}
 use Rattle.nio_plain.specs.Seq.Replies.{Replied, unchanged}
 use Rattle.nio_plain.specs.Seq.Cancelling.{closec_call, cancel_call}

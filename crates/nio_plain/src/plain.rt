@@ -10,8 +10,8 @@ use self::selector::Selector;
 use crate::rules::Rules;
 use crate::system::System;
 use nio_base::{CallerNo, Limits};
-use nio_event::{Call, Reply};
 use nio_group::{GroupCore, GroupLimits};
+use nio_language::{Call, Reply};
 use std::alloc::{AllocError, Global};
 
 mod blocking;

@@ -2,7 +2,7 @@
 ghost use Rattle.std.specs.Prelude.{◌≡◌, IfOk, OnErr};
 
 use nio_base::CallerNo;
-use nio_event::{Call, Reply};
+use nio_language::{Call, Reply};
 use std::alloc::{AllocError, Global};
 
 /// A system of selectors, keys and channels, a group and pipes, which replies as the documented one.

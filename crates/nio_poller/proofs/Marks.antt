@@ -11,12 +11,12 @@ use Rattle.std.proofs.lemmas.Nat.{and_assoc}
 use Rattle.std.proofs.lemmas.Nat.Bits.{bit_at_or, bit_at_and, same_from_bits}
 use Rattle.nio_base.specs.declared.numbers.ChanNo.{ChanNo}
 use Rattle.nio_base.specs.declared.numbers.SelNo.{SelNo}
-use Rattle.nio_event.proofs.Soundness.{both_ways}
-use Rattle.nio_event.specs.OwnEvents.{has}
-use Rattle.nio_event.specs.declared.act.Act.{Act}
-use Rattle.nio_event.specs.declared.act.Act.TheVariants.{Mark}
-use Rattle.nio_event.specs.declared.found.Mark.{Mark as KeyMark}
-use Rattle.nio_event.specs.declared.found.Mode.{Mode}
+use Rattle.nio_history.proofs.Soundness.{both_ways}
+use Rattle.nio_history.specs.OwnEvents.{has}
+use Rattle.nio_history.specs.declared.act.Act.{Act}
+use Rattle.nio_history.specs.declared.act.Act.TheVariants.{Mark}
+use Rattle.nio_history.specs.declared.found.Mark.{Mark as KeyMark}
+use Rattle.nio_history.specs.declared.found.Mode.{Mode}
 use Rattle.nio_steps.proofs.Lists.{parted, contains-none}
 use Rattle.nio_steps.proofs.ToldLaws.{marks_only_as_told}
 use Rattle.nio_steps.proofs.UnmarkedLaws.{begin_unmarked, again_unmarked}

@@ -3,12 +3,12 @@ use Rattle.std.proofs.Common.{◌≡◌, ℕ, ℤ, Option, Result, Ok, Err, List
 use Rattle.nio_base.specs.declared.numbers.CallerNo.{CallerNo}
 use Rattle.nio_base.specs.declared.numbers.ChanNo.{ChanNo}
 use Rattle.nio_base.specs.declared.numbers.SelNo.{SelNo}
-use Rattle.nio_event.proofs.PassViews.{selector_after}
-use Rattle.nio_event.specs.Histories.{state_after}
-use Rattle.nio_event.specs.PassViews.{PassView, HasSelector}
-use Rattle.nio_event.specs.Timeout.{mode_for}
-use Rattle.nio_event.specs.declared.found.Mode.{Mode}
-use Rattle.nio_event.specs.declared.timeout.NegativeTimeout.{NegativeTimeout}
+use Rattle.nio_history.proofs.PassViews.{selector_after}
+use Rattle.nio_history.specs.Histories.{state_after}
+use Rattle.nio_history.specs.PassViews.{PassView, HasSelector}
+use Rattle.nio_history.specs.Timeout.{mode_for}
+use Rattle.nio_history.specs.declared.found.Mode.{Mode}
+use Rattle.nio_history.specs.declared.timeout.NegativeTimeout.{NegativeTimeout}
 use Rattle.nio_steps.specs.declared.selected.Selected.{Selected}
 use Rattle.nio_words.specs.Passes.{seen}
 use Rattle.nio_words.specs.Views.{view}

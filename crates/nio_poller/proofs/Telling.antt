@@ -7,14 +7,14 @@ use Rattle.std.proofs.lemmas.List.Elements.{Contains-append_cases}
 use Rattle.nio_base.specs.declared.numbers.CallerNo.{CallerNo}
 use Rattle.nio_base.specs.declared.numbers.ChanNo.{ChanNo}
 use Rattle.nio_base.specs.declared.numbers.SelNo.{SelNo}
-use Rattle.nio_event.proofs.PassViews.{acts_nothing}
-use Rattle.nio_event.specs.Histories.{IsLegal}
-use Rattle.nio_event.specs.PassViews.{PassView}
-use Rattle.nio_event.specs.declared.act.Act.{Act}
-use Rattle.nio_event.specs.declared.act.Act.TheVariants.{Mark}
-use Rattle.nio_event.specs.declared.found.Mark.{Mark as KeyMark}
-use Rattle.nio_event.specs.declared.found.Mode.{Mode}
-use Rattle.nio_event.specs.declared.found.Mode.TheVariants.{Now as WithoutWaiting}
+use Rattle.nio_history.proofs.PassViews.{acts_nothing}
+use Rattle.nio_history.specs.Histories.{IsLegal}
+use Rattle.nio_history.specs.PassViews.{PassView}
+use Rattle.nio_history.specs.declared.act.Act.{Act}
+use Rattle.nio_history.specs.declared.act.Act.TheVariants.{Mark}
+use Rattle.nio_history.specs.declared.found.Mark.{Mark as KeyMark}
+use Rattle.nio_history.specs.declared.found.Mode.{Mode}
+use Rattle.nio_history.specs.declared.found.Mode.TheVariants.{Now as WithoutWaiting}
 use Rattle.nio_select.specs.InProgress.{IfAgain, poll_of}
 use Rattle.nio_select.specs.declared.selecting.After.{After}
 use Rattle.nio_select.specs.declared.selecting.After.TheVariants as after

@@ -1,6 +1,6 @@
 -- A poll that answered.
 use Rattle.std.specs.Prelude.{List}
-use Rattle.nio_event.specs.declared.found.Mode.{Mode}
+use Rattle.nio_history.specs.declared.found.Mode.{Mode}
 use Rattle.nio_steps.specs.SelectCalls.{Poll}
 use Rattle.nio_steps.specs.declared.looked.LookedKey.{LookedKey}
 

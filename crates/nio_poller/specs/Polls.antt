@@ -3,7 +3,7 @@ use Rattle.std.specs.Prelude.{◌≡◌, ◌≢◌, ℕ, ◌≤◌, ◌==◌, if
 use Rattle.std.specs.Prelude.{◌++◌, fold, bit_or}
 use Rattle.nio_base.specs.declared.numbers.ChanNo.{ChanNo}
 use Rattle.nio_bytes.specs.Cause.{Rose}
-use Rattle.nio_event.specs.declared.found.Mode.{Mode}
+use Rattle.nio_history.specs.declared.found.Mode.{Mode}
 use Rattle.nio_select.specs.InProgress.{poll_of}
 use Rattle.nio_select.specs.declared.told.Told.{Told}
 use Rattle.nio_steps.specs.SelectCalls.{told_of}

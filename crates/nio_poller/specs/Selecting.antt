@@ -5,14 +5,14 @@ use Rattle.std.specs.List.{Contains}
 use Rattle.nio_base.specs.declared.numbers.CallerNo.{CallerNo}
 use Rattle.nio_base.specs.declared.numbers.ChanNo.{ChanNo}
 use Rattle.nio_base.specs.declared.numbers.SelNo.{SelNo}
-use Rattle.nio_event.specs.PassViews.{PassView, done_between}
-use Rattle.nio_event.specs.Timeout.{mode_for}
-use Rattle.nio_event.specs.declared.act.Act.{Act}
-use Rattle.nio_event.specs.declared.act.Act.TheVariants.{Mark as MarkKey}
-use Rattle.nio_event.specs.declared.found.Mark.{Mark as KeyMark}
-use Rattle.nio_event.specs.declared.found.Mode.{Mode}
-use Rattle.nio_event.specs.declared.found.Mode.TheVariants.{Now as WithoutWaiting}
-use Rattle.nio_event.specs.declared.timeout.NegativeTimeout.{NegativeTimeout as TooLow}
+use Rattle.nio_history.specs.PassViews.{PassView, done_between}
+use Rattle.nio_history.specs.Timeout.{mode_for}
+use Rattle.nio_history.specs.declared.act.Act.{Act}
+use Rattle.nio_history.specs.declared.act.Act.TheVariants.{Mark as MarkKey}
+use Rattle.nio_history.specs.declared.found.Mark.{Mark as KeyMark}
+use Rattle.nio_history.specs.declared.found.Mode.{Mode}
+use Rattle.nio_history.specs.declared.found.Mode.TheVariants.{Now as WithoutWaiting}
+use Rattle.nio_history.specs.declared.timeout.NegativeTimeout.{NegativeTimeout as TooLow}
 use Rattle.nio_steps.specs.Calls.{CallClause}
 use Rattle.nio_steps.specs.KeyCalls.{is_within}
 use Rattle.nio_steps.specs.SelectCalls.{Selection, Poll, Selects, SelectReply, selected, not_begun, left}

@@ -2,9 +2,9 @@
 use Rattle.std.specs.Prelude.{◌≡◌, ℕ, Bool, true, false, not, ◌&&◌, Option, Result, Ok, Err, List, [], ◌∷◌}
 use Rattle.nio_base.specs.declared.numbers.CallerNo.{CallerNo}
 use Rattle.nio_base.specs.declared.numbers.ChanNo.{ChanNo}
-use Rattle.nio_event.specs.PassViews.{PassView, done_between}
-use Rattle.nio_event.specs.declared.found.Mode.{Mode}
-use Rattle.nio_event.specs.declared.found.Mode.TheVariants.{Now as WithoutWaiting}
+use Rattle.nio_history.specs.PassViews.{PassView, done_between}
+use Rattle.nio_history.specs.declared.found.Mode.{Mode}
+use Rattle.nio_history.specs.declared.found.Mode.TheVariants.{Now as WithoutWaiting}
 use Rattle.nio_select.specs.InProgress.{told_reply}
 use Rattle.nio_select.specs.declared.selecting.After.{After}
 use Rattle.nio_steps.specs.Calls.{CallClause}

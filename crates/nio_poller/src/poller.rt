@@ -3,7 +3,7 @@ ghost use Rattle.std.specs.Prelude.{◌≡◌, IfOk, OnErr};
 ghost use Rattle.nio_poller.specs.Polls.{CountsFaults, AddsPoll, told_of_channel};
 ghost use Rattle.nio_poller.specs.declared.poller.PollError.TheVariants.{Fault};
 
-use nio_event::Mode;
+use nio_history::Mode;
 use nio_select::{Asked, Told};
 use std::alloc::Global;
 use std::sync::Wait;

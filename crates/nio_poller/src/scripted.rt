@@ -7,7 +7,7 @@ ghost use Rattle.nio_poller.specs.declared.poller.PollError.TheVariants.{Fault};
 use crate::poller::{PollError, Poller};
 use crate::told_poll::ToldPoll;
 use nio_bytes::Calls;
-use nio_event::Mode;
+use nio_history::Mode;
 use nio_select::{Asked, Told};
 use nio_trace::{Reading, Trace};
 use std::alloc::Global;

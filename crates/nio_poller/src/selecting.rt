@@ -1,7 +1,7 @@
 //! Whole selections.
 ghost use Rattle.std.specs.Prelude.{◌≡◌, ◌≢◌, Err, Ok, IfOk};
-ghost use Rattle.nio_event.specs.PassViews.{HasSelector};
-ghost use Rattle.nio_event.specs.declared.found.Mode.TheVariants as mode;
+ghost use Rattle.nio_history.specs.PassViews.{HasSelector};
+ghost use Rattle.nio_history.specs.declared.found.Mode.TheVariants as mode;
 ghost use Rattle.nio_select.specs.InProgress.{Selects, IfAgain};
 ghost use Rattle.nio_steps.specs.Calls.{CallClause};
 ghost use Rattle.nio_steps.specs.SelectCalls.{Begins, begin_finds_busy};
@@ -17,7 +17,7 @@ ghost use Rattle.nio_poller.specs.declared.selecting.SelectError.TheVariants.{Po
 
 use crate::poller::{PollError, Poller};
 use nio_base::{CallerNo, SelNo};
-use nio_event::{Mode, NegativeTimeout};
+use nio_history::{Mode, NegativeTimeout};
 use nio_select::{After, Selecting, Told, try_begin};
 use nio_steps::{BeginError, Selected};
 use nio_words::{Pass, Words};

@@ -1,12 +1,12 @@
 //! A poller that only waits for its bell.
 ghost use Rattle.std.specs.Prelude.{◌≡◌, ◌≢◌, ◌↔◌, true, [], refl, None, IfOk};
-ghost use Rattle.nio_event.specs.declared.found.Mode.TheVariants.{Wait as WithoutLimit};
+ghost use Rattle.nio_history.specs.declared.found.Mode.TheVariants.{Wait as WithoutLimit};
 ghost use Rattle.nio_poller.specs.Polls.{CountsFaults, AddsPoll, told_of_channel};
 ghost use Rattle.nio_poller.specs.declared.poller.PollError.TheVariants.{Fault};
 
 use crate::bell::Bell;
 use crate::poller::{PollError, Poller};
-use nio_event::Mode;
+use nio_history::Mode;
 use nio_select::{Asked, Told};
 use std::alloc::{AllocError, Global};
 use std::sync::{Arc, Wait};

@@ -1,5 +1,5 @@
 //! A poll that answered.
-use nio_event::Mode;
+use nio_history::Mode;
 use nio_select::{Asked, Told};
 use std::marker::Model;
 

@@ -1,9 +1,9 @@
 //! Calls that end a selection's wait: waking, closing, interrupting.
-ghost use Rattle.nio_event.specs.Conditions.{IsCaller};
-ghost use Rattle.nio_event.specs.PassViews.{HasSelector};
+ghost use Rattle.nio_history.specs.Conditions.{IsCaller};
+ghost use Rattle.nio_history.specs.PassViews.{HasSelector};
+ghost use Rattle.nio_select.specs.InProgress.{Closes as IsClosingIt};
 ghost use Rattle.nio_steps.specs.Calls.{CallClause};
 ghost use Rattle.nio_steps.specs.Runs.{Completes};
-ghost use Rattle.nio_select.specs.InProgress.{Closes as IsClosingIt};
 ghost use Rattle.nio_steps.specs.SelectCalls.{wakeup_plan, interrupt_plan, interrupted_plan, Closes, try_finish_plan};
 ghost use Rattle.nio_steps.specs.SelectCalls.{finish_finds_busy, closed};
 ghost use Rattle.nio_steps.specs.Waiting.{Retries};

@@ -9,10 +9,10 @@ use mathlib.Core.List.{IsPrefix}
 use Rattle.nio_base.specs.declared.limits.Limits.{Limits}
 use Rattle.nio_base.specs.declared.numbers.CallerNo.{CallerNo}
 use Rattle.nio_base.specs.declared.numbers.ChanNo.{ChanNo}
-use Rattle.nio_event.specs.declared.call.Call.TheVariants as call
-use Rattle.nio_event.specs.declared.call.ScriptCall.{ScriptCall}
-use Rattle.nio_event.specs.declared.reply.Reply.{Reply}
-use Rattle.nio_event.specs.declared.reply.Reply.TheVariants as reply
+use Rattle.nio_language.specs.declared.call.Call.TheVariants as call
+use Rattle.nio_language.specs.declared.call.ScriptCall.{ScriptCall}
+use Rattle.nio_language.specs.declared.reply.Reply.{Reply}
+use Rattle.nio_language.specs.declared.reply.Reply.TheVariants as reply
 use Rattle.nio_pipe.proofs.EndLemmas.{no_front}
 use Rattle.nio_pipe.specs.Ends.{IsAtEnd, is_sealed, received, sent, sink_chan, source_chan}
 use Rattle.nio_plain.specs.ScriptState.{Pipe}

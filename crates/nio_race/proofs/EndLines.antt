@@ -12,11 +12,11 @@ use Rattle.std.specs.Prelude.{OnOk, Vec}
 use Rattle.std.specs.declared.alloc.Global.{Global}
 use mathlib.Core.List.{IsPrefix}
 use Rattle.nio_base.specs.declared.numbers.ChanNo.{ChanNo}
-use Rattle.nio_event.proofs.Clauses.{prefix_trans}
-use Rattle.nio_event.specs.declared.call.Call.{Call}
-use Rattle.nio_event.specs.declared.call.Call.TheVariants as call
-use Rattle.nio_event.specs.declared.reply.Reply.{Reply}
-use Rattle.nio_event.specs.declared.reply.Reply.TheVariants as reply
+use Rattle.nio_history.proofs.Clauses.{prefix_trans}
+use Rattle.nio_language.specs.declared.call.Call.{Call}
+use Rattle.nio_language.specs.declared.call.Call.TheVariants as call
+use Rattle.nio_language.specs.declared.reply.Reply.{Reply}
+use Rattle.nio_language.specs.declared.reply.Reply.TheVariants as reply
 use Rattle.nio_pipe.proofs.EndLemmas.{no_front}
 use Rattle.nio_pipe.specs.Answers.{bytes_read, bytes_written, leaves_seal}
 use Rattle.nio_pipe.specs.Ends.{GivesBytes, HadNoByte, HadNoPlace, IsAtEnd, IsSameSink, IsSameSource, KnowsNothing}

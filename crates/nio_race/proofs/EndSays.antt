@@ -6,9 +6,9 @@ use Rattle.std.proofs.lemmas.Bool.{cond-false, ne_eqb}
 use Rattle.std.proofs.lemmas.List.{length-take-le, nil_from_length}
 use Rattle.nio_base.specs.declared.limits.Limits.{Limits}
 use Rattle.nio_base.specs.declared.numbers.ChanNo.{ChanNo}
-use Rattle.nio_event.specs.declared.act.Act.{Act}
-use Rattle.nio_event.specs.declared.reply.Reply.{Reply}
-use Rattle.nio_event.specs.declared.reply.Reply.TheVariants as reply
+use Rattle.nio_history.specs.declared.act.Act.{Act}
+use Rattle.nio_language.specs.declared.reply.Reply.{Reply}
+use Rattle.nio_language.specs.declared.reply.Reply.TheVariants as reply
 use Rattle.nio_pipe.proofs.Waits.{read_some, write_some}
 use Rattle.nio_pipe.specs.Answers.{bytes_read, bytes_written, read_answer, write_answer}
 use Rattle.nio_pipe.specs.Calls.{WaitsToRead, WaitsToWrite, WaitsWhere}

@@ -4,10 +4,10 @@ use Rattle.std.proofs.Common.{refl, sym, ap, subst, arith, ⊎_elim}
 use Rattle.std.proofs.lemmas.Bool.{cases_eq}
 use mathlib.Core.List.{IsPrefix}
 use Rattle.nio_base.specs.declared.numbers.ChanNo.{ChanNo}
-use Rattle.nio_event.specs.WordRows.{PipeUse, neither}
-use Rattle.nio_event.specs.declared.call.Call.{Call}
-use Rattle.nio_event.specs.declared.call.Call.TheVariants as call
-use Rattle.nio_event.specs.declared.reply.Reply.{Reply}
+use Rattle.nio_language.specs.WordRows.{PipeUse, neither}
+use Rattle.nio_language.specs.declared.call.Call.{Call}
+use Rattle.nio_language.specs.declared.call.Call.TheVariants as call
+use Rattle.nio_language.specs.declared.reply.Reply.{Reply}
 use Rattle.nio_race_text.specs.declared.call.RaceCall.{RaceCall}
 use Rattle.nio_race_text.specs.declared.call.RaceCall.TheVariants.{Script, Block}
 use Rattle.nio_race.specs.PipeFinds.{Awaited, LineFinds, LineTakes, LinesFind, LinesTake, ReadFinds, UseFinds, UseTakes}

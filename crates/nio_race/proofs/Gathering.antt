@@ -4,7 +4,7 @@ use Rattle.std.proofs.Common.{append_assoc, arith}
 use Rattle.std.proofs.Math.Seq.{get_or-append_seam}
 use Rattle.std.proofs.lemmas.List.{get_or_append_left, length-append, nil_from_length}
 use Rattle.std.proofs.lemmas.List.Elements.{All-cons, All-weaker}
-use Rattle.nio_event.proofs.Clauses.{prefix_trans}
+use Rattle.nio_history.proofs.Clauses.{prefix_trans}
 use Rattle.nio_words.specs.Passes.{IsPassOf}
 use Rattle.nio_words.specs.Sharing.{Joins}
 use Rattle.nio_words.specs.declared.words.Pass.{Pass}

@@ -5,8 +5,8 @@ use Rattle.std.proofs.lemmas.List.{get_or_past, length-map}
 use Rattle.std.specs.List.{slice_index_or}
 use Rattle.std.specs.Prelude.{zip}
 use Rattle.nio_base.specs.declared.numbers.CallerNo.{CallerNo}
-use Rattle.nio_event.specs.declared.event.Event.{Event}
-use Rattle.nio_event.specs.declared.reply.Reply.{Reply}
+use Rattle.nio_history.specs.declared.event.Event.{Event}
+use Rattle.nio_language.specs.declared.reply.Reply.{Reply}
 use Rattle.nio_pipe.specs.declared.sink.PipeSink.{PipeSink}
 use Rattle.nio_pipe.specs.declared.source.PipeSource.{PipeSource}
 use Rattle.nio_race_text.specs.declared.call.RaceCall.{RaceCall}

@@ -3,7 +3,7 @@
 use Rattle.std.proofs.Common.{◌≡◌, ℕ, ◌==◌, List, [], ◌∷◌, map, All, refl, ap, ◌∙◌, subst, arith}
 use Rattle.std.specs.Prelude.{filter}
 use Rattle.nio_base.specs.declared.numbers.CallerNo.{CallerNo}
-use Rattle.nio_event.specs.declared.reply.Reply.{Reply}
+use Rattle.nio_language.specs.declared.reply.Reply.{Reply}
 use Rattle.nio_pipe.proofs.Idle.{pair_read, pair_written}
 use Rattle.nio_pipe.specs.Ends.{AreEnds}
 use Rattle.nio_pipe.specs.declared.sink.PipeSink.{PipeSink}

@@ -8,8 +8,8 @@ use Rattle.std.proofs.lemmas.List.Elements.{All-filter, All-map, All-weaker}
 use Rattle.std.proofs.lemmas.Simd.{map-map}
 use Rattle.nio_base.specs.declared.numbers.CallerNo.{CallerNo}
 use Rattle.nio_base.specs.declared.numbers.ChanNo.{ChanNo}
-use Rattle.nio_event.specs.PassViews.{HasChannel}
-use Rattle.nio_event.specs.declared.event.Event.{Event}
+use Rattle.nio_history.specs.PassViews.{HasChannel}
+use Rattle.nio_history.specs.declared.event.Event.{Event}
 use Rattle.nio_pipe.specs.Calls.{HasEnds}
 use Rattle.nio_pipe.specs.Ends.{source_chan}
 use Rattle.nio_plain.specs.ScriptState.{Pipe}

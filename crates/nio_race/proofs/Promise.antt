@@ -10,12 +10,12 @@ use mathlib.Core.List.{IsPrefix}
 use Rattle.nio_base.specs.Limits.{IsFit}
 use Rattle.nio_base.specs.declared.limits.Limits.{Limits}
 use Rattle.nio_base.specs.declared.numbers.CallerNo.{CallerNo}
-use Rattle.nio_event.proofs.Clauses.{prefix_trans}
-use Rattle.nio_event.proofs.Legal.{legal_beginning}
-use Rattle.nio_event.specs.Histories.{IsLegal, mine, is_by}
-use Rattle.nio_event.specs.declared.call.ScriptCall.{ScriptCall}
-use Rattle.nio_event.specs.declared.event.Event.{Event}
-use Rattle.nio_event.specs.declared.reply.Reply.{Reply}
+use Rattle.nio_history.proofs.Clauses.{prefix_trans}
+use Rattle.nio_history.proofs.Legal.{legal_beginning}
+use Rattle.nio_history.specs.Histories.{IsLegal, mine, is_by}
+use Rattle.nio_history.specs.declared.event.Event.{Event}
+use Rattle.nio_language.specs.declared.call.ScriptCall.{ScriptCall}
+use Rattle.nio_language.specs.declared.reply.Reply.{Reply}
 use Rattle.nio_orderly.proofs.CallLists.{beginnings_are_orderly, whole_is_orderly}
 use Rattle.nio_orderly.proofs.OrderlyClosings.{orderly_owes}
 use Rattle.nio_orderly.specs.Orderly.{HasMadeCalls, IsOrderly, IsWhole}

@@ -1,9 +1,9 @@
 -- A line that is made again while its channel is held.
 use Rattle.std.proofs.Common.{◌≡◌, true, false, subst}
 use Rattle.nio_base.specs.declared.numbers.CallerNo.{CallerNo}
-use Rattle.nio_event.proofs.Clauses.{prefix_trans}
-use Rattle.nio_event.specs.declared.call.Call.{Call}
-use Rattle.nio_event.specs.declared.reply.Reply.{Reply}
+use Rattle.nio_history.proofs.Clauses.{prefix_trans}
+use Rattle.nio_language.specs.declared.call.Call.{Call}
+use Rattle.nio_language.specs.declared.reply.Reply.{Reply}
 use Rattle.nio_serial.specs.Documented.{Progress}
 use Rattle.nio_serial.specs.Lines.{line_plan}
 use Rattle.nio_sole.specs.Stands.{progress_of}

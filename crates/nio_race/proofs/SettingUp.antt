@@ -3,13 +3,13 @@ use Rattle.std.proofs.Common.{◌≡◌, ℕ, zero, suc, ◌+◌, List, [], ◌�
 use Rattle.std.proofs.Common.{◌∙◌, subst, append_assoc}
 use Rattle.std.proofs.lemmas.List.{append-nil}
 use Rattle.nio_base.specs.declared.limits.Limits.{Limits}
-use Rattle.nio_event.proofs.Stays.{facts_are_permanent}
-use Rattle.nio_event.specs.Histories.{event_of}
-use Rattle.nio_event.specs.Permanent.{caller_drawn}
-use Rattle.nio_event.specs.Replies.{history_line}
-use Rattle.nio_event.specs.declared.act.Act.TheVariants.{DrawBit}
-use Rattle.nio_event.specs.declared.call.ScriptCall.{ScriptCall}
-use Rattle.nio_event.specs.declared.event.Event.{Event}
+use Rattle.nio_history.proofs.Stays.{facts_are_permanent}
+use Rattle.nio_history.specs.Histories.{event_of}
+use Rattle.nio_history.specs.Permanent.{caller_drawn}
+use Rattle.nio_history.specs.declared.act.Act.TheVariants.{DrawBit}
+use Rattle.nio_history.specs.declared.event.Event.{Event}
+use Rattle.nio_language.specs.Replies.{history_line}
+use Rattle.nio_language.specs.declared.call.ScriptCall.{ScriptCall}
 use Rattle.nio_plain.specs.Answer.{answer_from, answer_to}
 use Rattle.nio_plain.specs.ScriptState.{ScriptState}
 use Rattle.nio_plain.specs.Seq.{seq}

@@ -6,9 +6,9 @@ use Rattle.std.proofs.lemmas.List.Elements.{All-from_get_or}
 use Rattle.std.specs.List.{AllPairs}
 use Rattle.nio_base.specs.declared.limits.Limits.{Limits}
 use Rattle.nio_base.specs.declared.numbers.ChanNo.{ChanNo}
-use Rattle.nio_event.specs.Histories.{IsLegal}
-use Rattle.nio_event.specs.declared.call.ScriptCall.{ScriptCall}
-use Rattle.nio_event.specs.declared.reply.Reply.{Reply}
+use Rattle.nio_history.specs.Histories.{IsLegal}
+use Rattle.nio_language.specs.declared.call.ScriptCall.{ScriptCall}
+use Rattle.nio_language.specs.declared.reply.Reply.{Reply}
 use Rattle.nio_plain.specs.Answer.{left_by_script, left_from}
 use Rattle.nio_plain.specs.ScriptState.{Pipe, ScriptState, script_opening}
 use Rattle.nio_plain.specs.Seq.{seq}

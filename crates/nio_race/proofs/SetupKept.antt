@@ -9,9 +9,9 @@ use Rattle.std.proofs.Math.Seq.{get_or-append_seam}
 use Rattle.nio_base.specs.declared.limits.Limits.{Limits}
 use Rattle.nio_base.specs.declared.numbers.CallerNo.{CallerNo}
 use Rattle.nio_base.specs.declared.numbers.ChanNo.{ChanNo}
-use Rattle.nio_event.specs.declared.call.ScriptCall.{ScriptCall}
-use Rattle.nio_event.specs.declared.found.Chan.{Chan}
-use Rattle.nio_event.specs.declared.reply.Reply.{Reply}
+use Rattle.nio_history.specs.declared.found.Chan.{Chan}
+use Rattle.nio_language.specs.declared.call.ScriptCall.{ScriptCall}
+use Rattle.nio_language.specs.declared.reply.Reply.{Reply}
 use Rattle.nio_plain.specs.ScriptState.{Pipe, ScriptState}
 use Rattle.nio_plain.specs.Seq.Pipes.{pipe_at}
 use Rattle.nio_plain.specs.Seq.Piping.{new_pipe}

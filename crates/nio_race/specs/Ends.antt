@@ -5,8 +5,8 @@ use Rattle.std.specs.List.{slice_index_or}
 use mathlib.Core.List.{IsPrefix}
 use Rattle.nio_base.specs.declared.limits.Limits.{Limits}
 use Rattle.nio_base.specs.declared.numbers.CallerNo.{CallerNo}
-use Rattle.nio_event.specs.PassViews.{HasChannel}
-use Rattle.nio_event.specs.declared.reply.Reply.{Reply}
+use Rattle.nio_history.specs.PassViews.{HasChannel}
+use Rattle.nio_language.specs.declared.reply.Reply.{Reply}
 use Rattle.nio_pipe.specs.Calls.{HasEnds}
 use Rattle.nio_pipe.specs.Ends.{AreEnds, IsAtEnd, IsSameSink, IsSameSource, is_sealed, other_chan, received, sent}
 use Rattle.nio_pipe.specs.Ends.{sink_chan, source_chan, free, known, knows_end}

@@ -4,11 +4,11 @@ use Rattle.std.specs.Prelude.{List, [], length, map, filter, find}
 use Rattle.nio_base.specs.declared.limits.Limits.{Limits}
 use Rattle.nio_base.specs.declared.numbers.CallerNo.{CallerNo}
 use Rattle.nio_base.specs.declared.numbers.ChanNo.{ChanNo}
-use Rattle.nio_event.specs.WordRows.{PipeUse, word_row}
-use Rattle.nio_event.specs.declared.act.Act.{Act}
-use Rattle.nio_event.specs.declared.call.Call.{Call}
-use Rattle.nio_event.specs.declared.reply.Reply.{Reply}
-use Rattle.nio_event.specs.declared.reply.Reply.TheVariants as reply
+use Rattle.nio_history.specs.declared.act.Act.{Act}
+use Rattle.nio_language.specs.WordRows.{PipeUse, word_row}
+use Rattle.nio_language.specs.declared.call.Call.{Call}
+use Rattle.nio_language.specs.declared.reply.Reply.{Reply}
+use Rattle.nio_language.specs.declared.reply.Reply.TheVariants as reply
 use Rattle.nio_pipe.specs.Calls.{WaitsWhere}
 use Rattle.nio_plain.specs.ScriptState.{Pipe}
 use Rattle.nio_serial.specs.Documented.{Progress}

@@ -3,19 +3,19 @@ use Rattle.std.specs.Prelude.{◌≡◌, ◌++◌, IsFalse, List, [], ◌∷◌,
 use Rattle.std.specs.List.{slice_index_or}
 use mathlib.Core.List.{IsPrefix}
 use Rattle.nio_base.specs.declared.numbers.SelNo.{SelNo}
-use Rattle.nio_event.specs.Conditions.{IsCaller}
-use Rattle.nio_event.specs.PassViews.{HasNoPin}
 use Rattle.nio_base.specs.declared.numbers.CallerNo.{CallerNo}
-use Rattle.nio_event.specs.declared.act.Act.{Act}
-use Rattle.nio_event.specs.declared.call.Call.{Call}
-use Rattle.nio_event.specs.declared.reply.Reply.{Reply}
+use Rattle.nio_history.specs.Conditions.{IsCaller}
+use Rattle.nio_history.specs.PassViews.{HasNoPin}
+use Rattle.nio_history.specs.declared.act.Act.{Act}
+use Rattle.nio_language.specs.declared.call.Call.{Call}
+use Rattle.nio_language.specs.declared.reply.Reply.{Reply}
 use Rattle.nio_race_text.specs.declared.call.RaceCall.{RaceCall}
 use Rattle.nio_race_text.specs.declared.call.RaceCall.TheVariants.{Script}
 use Rattle.nio_race_text.specs.declared.call.RaceLine.{RaceLine}
+use Rattle.nio_serial.specs.Lines.{line_plan}
 use Rattle.nio_sole.specs.Made.{HasMade}
 use Rattle.nio_sole.specs.Stands.{HasPlaces, progress_of}
 use Rattle.nio_sole.specs.declared.desk.Desk.{Desk}
-use Rattle.nio_serial.specs.Lines.{line_plan}
 use Rattle.nio_steps.specs.Calls.{CallClause}
 use Rattle.nio_steps.specs.Runs.{Completes}
 use Rattle.nio_words.specs.Passes.{IsPassOf, IsReady, acts_seen, limits_of, seen}

@@ -4,14 +4,14 @@ use Rattle.std.specs.List.{Contains}
 use Rattle.nio_base.specs.declared.limits.Limits.{Limits}
 use Rattle.nio_base.specs.declared.numbers.CallerNo.{CallerNo}
 use Rattle.nio_base.specs.declared.numbers.SelNo.{SelNo}
-use Rattle.nio_event.specs.WordRows.{PipeUse, closes, neither, reads, word_row, writes}
-use Rattle.nio_event.specs.declared.act.Act.{Act}
-use Rattle.nio_event.specs.declared.act.Act.TheVariants.{Mark}
-use Rattle.nio_event.specs.declared.call.Call.{Call}
-use Rattle.nio_event.specs.declared.found.Mark.{Mark as KeyMark}
-use Rattle.nio_event.specs.declared.found.Mode.TheVariants.{Wait}
-use Rattle.nio_event.specs.declared.reply.Reply.{Reply}
-use Rattle.nio_event.specs.declared.reply.Reply.TheVariants as reply
+use Rattle.nio_history.specs.declared.act.Act.{Act}
+use Rattle.nio_history.specs.declared.act.Act.TheVariants.{Mark}
+use Rattle.nio_history.specs.declared.found.Mark.{Mark as KeyMark}
+use Rattle.nio_history.specs.declared.found.Mode.TheVariants.{Wait}
+use Rattle.nio_language.specs.WordRows.{PipeUse, closes, neither, reads, word_row, writes}
+use Rattle.nio_language.specs.declared.call.Call.{Call}
+use Rattle.nio_language.specs.declared.reply.Reply.{Reply}
+use Rattle.nio_language.specs.declared.reply.Reply.TheVariants as reply
 use Rattle.nio_race_text.specs.RaceLines.{MayRace}
 use Rattle.nio_race_text.specs.declared.call.RaceCall.{RaceCall}
 use Rattle.nio_race_text.specs.declared.call.RaceCall.TheVariants.{Script, Block}

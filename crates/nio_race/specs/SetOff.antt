@@ -3,7 +3,7 @@ use Rattle.std.specs.Prelude.{◌≡◌, ◌≢◌, ℕ, ◌<◌, ◌≤◌, ◌
 use Rattle.std.specs.Prelude.{◌∷◌, length, All}
 use Rattle.std.specs.List.{slice_index_or}
 use Rattle.nio_base.specs.declared.numbers.CallerNo.{CallerNo}
-use Rattle.nio_event.specs.declared.event.Event.{Event}
+use Rattle.nio_history.specs.declared.event.Event.{Event}
 use Rattle.nio_serial.specs.Documented.{Progress}
 use Rattle.nio_sole.specs.Stands.{HasPlaces, progress_of, slot}
 use Rattle.nio_sole.specs.declared.desk.Begun.{Begun}

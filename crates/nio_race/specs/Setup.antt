@@ -1,9 +1,9 @@
 -- What the setup of a race leaves.
 use Rattle.std.specs.Prelude.{◌≡◌, ℕ, ◌++◌, IsTrue, List, [], All, Ok}
 use Rattle.nio_base.specs.declared.limits.Limits.{Limits}
-use Rattle.nio_event.specs.Replies.{history_line}
-use Rattle.nio_event.specs.declared.call.ScriptCall.{ScriptCall}
-use Rattle.nio_event.specs.declared.reply.Reply.{Reply}
+use Rattle.nio_language.specs.Replies.{history_line}
+use Rattle.nio_language.specs.declared.call.ScriptCall.{ScriptCall}
+use Rattle.nio_language.specs.declared.reply.Reply.{Reply}
 use Rattle.nio_plain.specs.ScriptState.{Pipe}
 use Rattle.nio_sole.specs.Said.{SaysLine}
 use Rattle.nio_sole.specs.Stands.{Stands, progress_of}

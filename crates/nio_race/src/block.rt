@@ -1,15 +1,15 @@
 //! The line `block`: a whole selection over the caller's own sleeper.
 ghost use Rattle.std.specs.Prelude.{◌≡◌, IfOk};
 ghost use mathlib.Core.List.{IsPrefix};
-ghost use Rattle.nio_event.specs.PassViews.{HasSelector};
+ghost use Rattle.nio_history.specs.PassViews.{HasSelector};
 ghost use Rattle.nio_words.specs.Passes.{IsPassOf, seen};
 ghost use Rattle.nio_words.specs.Views.{view};
 ghost use Rattle.nio_race.specs.Racers.{BlocksOn, LooksAndBlocksOn, StandsFor};
 
 use crate::quiet::Quiet;
 use nio_base::{CallerNo, SelNo};
-use nio_event::Reply;
 use nio_keys::find_selector;
+use nio_language::Reply;
 use nio_poller::{SelectError, Sleeper, select};
 use nio_sole::{Desk, drop_selection};
 use nio_words::Words;

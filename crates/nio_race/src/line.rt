@@ -6,7 +6,7 @@ ghost use Rattle.nio_race.specs.Racers.{MakesAsScript, MakesOnce, StandsFor};
 ghost use Rattle.nio_race.specs.Runs.{is_busy as says_busy, waits_for_hold as is_to_wait};
 
 use nio_base::CallerNo;
-use nio_event::{Call, Reply};
+use nio_language::{Call, Reply};
 use nio_sole::{Desk, make_line};
 use nio_words::Words;
 use std::alloc::{AllocError, Global};

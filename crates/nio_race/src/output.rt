@@ -1,6 +1,6 @@
 //! The lines of a race's callers, with their replies.
 ghost use Rattle.std.specs.Prelude.{◌≡◌, ◌++◌, ◌∷◌, IfOk};
-ghost use Rattle.nio_event.specs.declared.reply.Reply.TheVariants.{NoCaller};
+ghost use Rattle.nio_language.specs.declared.reply.Reply.TheVariants.{NoCaller};
 ghost use Rattle.nio_race_text.specs.RaceOutput.{race_line_text};
 ghost use Rattle.nio_race.specs.Race.{callers_text, caller_text, calls_by, strange_replies};
 ghost use Rattle.nio_race.specs.Racers.{replies_by};
@@ -8,7 +8,7 @@ ghost use Rattle.nio_race.specs.Output.{WritesCaller, WritesLine};
 
 use crate::racer::Racer;
 use nio_base::CallerNo;
-use nio_event::Reply;
+use nio_language::Reply;
 use nio_race_text::{RaceLine, print_race_line};
 use std::alloc::{AllocError, Global};
 

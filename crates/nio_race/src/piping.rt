@@ -1,7 +1,7 @@
 //! Lines after `go` on the ends of pipes that the caller owns.
 ghost use Rattle.std.specs.Prelude.{◌≡◌, ◌==◌, IfOk, position};
 ghost use mathlib.Core.List.{IsPrefix};
-ghost use Rattle.nio_event.specs.declared.call.Call.TheVariants.{Closec, Pread, Pwrite};
+ghost use Rattle.nio_language.specs.declared.call.Call.TheVariants.{Closec, Pread, Pwrite};
 ghost use Rattle.nio_pipe.specs.Ends.{sink_chan, source_chan};
 ghost use Rattle.nio_words.specs.Passes.{IsPassOf, seen};
 ghost use Rattle.nio_race.specs.Racers.{CalledOn, StandsWith};
@@ -9,8 +9,8 @@ ghost use Rattle.nio_race.specs.Racers.{CalledOn, StandsWith};
 use crate::ends::OwnEnds;
 use crate::line::script_line;
 use nio_base::{CallerNo, ChanNo};
-use nio_event::{Bytes, Call, Reply};
 use nio_keys::find_channel;
+use nio_language::{Bytes, Call, Reply};
 use nio_pipe::{CAPACITY, PipeSink, PipeSource};
 use nio_sole::{Desk, closed_reply, read_reply, write_reply};
 use nio_words::Words;

@@ -4,7 +4,7 @@ ghost use Rattle.nio_poller.specs.Polls.{CountsFaults, AddsPoll, told_of_channel
 ghost use Rattle.nio_poller.specs.declared.poller.PollError.TheVariants.{Fault};
 ghost use Rattle.nio_race.specs.Quiet.{AreStillUntold};
 
-use nio_event::Mode;
+use nio_history::Mode;
 use nio_poller::{PollError, Poller, Sleeper, ToldPoll};
 use nio_select::{Asked, Told};
 use nio_trace::{Reading, Trace};

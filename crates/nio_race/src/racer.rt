@@ -1,8 +1,8 @@
 //! A caller of a race: its lines after `go`, in a thread of its own.
 ghost use Rattle.std.specs.Prelude.{◌≡◌, ◌==◌, true, false, [], IfOk};
 ghost use mathlib.Core.List.{IsPrefix};
-ghost use Rattle.nio_words.specs.Passes.{IsPassOf, seen};
 ghost use Rattle.nio_race_text.specs.RaceLines.{MayRace};
+ghost use Rattle.nio_words.specs.Passes.{IsPassOf, seen};
 ghost use Rattle.nio_race.specs.Runs.{MayRaceLine, MayRaceLines};
 ghost use Rattle.nio_race.specs.Racers.{CalledOn, HasRaced, IsSetOff, LineOn, MadeLines, RepliesLine, StandsWith};
 
@@ -12,7 +12,7 @@ use crate::ends::OwnEnds;
 use crate::line::script_line;
 use crate::piping::{close_line, read_line, write_line};
 use nio_base::{CallerNo, Gate};
-use nio_event::{Call, Reply};
+use nio_language::{Call, Reply};
 use nio_poller::{Sleeper, SleeperBell};
 use nio_race_text::{RaceCall, RaceLine};
 use nio_sole::Desk;

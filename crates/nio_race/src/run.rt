@@ -2,7 +2,7 @@
 ghost use Rattle.std.specs.Prelude.{◌≡◌, ◌<◌, ◌≤◌, ◌⊎◌, ◌↔◌, ◌++◌, [], ℕ, List, All, length, IfOk, IfSome, IsFalse};
 ghost use Rattle.std.specs.Prelude.{IsTrue};
 ghost use Rattle.nio_bytes.specs.Cause.{Rose};
-ghost use Rattle.nio_event.specs.declared.call.ScriptCall.{ScriptCall};
+ghost use Rattle.nio_language.specs.declared.call.ScriptCall.{ScriptCall};
 ghost use Rattle.nio_race_text.specs.RaceText.{IsFirstBadRace, IsRaceText};
 ghost use Rattle.nio_race_text.specs.declared.call.RaceLine.{RaceLine};
 ghost use Rattle.nio_script.specs.Input.{CausesFault, StopsPastLongest};
@@ -26,7 +26,7 @@ use crate::set_off::set_off;
 use crate::setup::set_up;
 use nio_base::Gate;
 use nio_bytes::{Sink, Source};
-use nio_event::ScriptCall;
+use nio_language::ScriptCall;
 use nio_poller::SleeperBell;
 use nio_race_text::{RaceLine, parse_race};
 use nio_script::{LONGEST_INPUT, ScriptError, Status, read_input, refuse, write_out};

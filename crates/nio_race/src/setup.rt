@@ -8,7 +8,7 @@ ghost use Rattle.nio_sole.specs.Stands.{Stands, progress_of};
 ghost use Rattle.nio_words.specs.Passes.{IsFirstPass, IsPassOf, limits_of};
 ghost use Rattle.nio_race.specs.Setup.{HasSetUp, KeepsSetup, SaysAndWrites};
 
-use nio_event::{ScriptCall, print_line};
+use nio_language::{ScriptCall, print_line};
 use nio_sole::{Desk, open_desk, say_line};
 use nio_words::{Pass, Words};
 use std::alloc::{AllocError, Global};

@@ -5,14 +5,14 @@ use Rattle.std.proofs.lemmas.List.{append_cancel_left}
 use Rattle.std.proofs.lemmas.Option.{none-some, same_Some}
 use Rattle.nio_base.specs.declared.numbers.CallerNo.{CallerNo}
 use Rattle.nio_base.specs.declared.numbers.SelNo.{SelNo}
-use Rattle.nio_event.specs.Calls.{IsBlank, IsLine}
-use Rattle.nio_event.specs.Reading.{Reads}
-use Rattle.nio_event.specs.Script.{IsInGrammar, is_call}
-use Rattle.nio_event.specs.Words.{caller_word, selector_word}
-use Rattle.nio_event.specs.declared.call.Call.{Call}
-use Rattle.nio_event.proofs.NameWords.{NoCut, OnlyCut}
-use Rattle.nio_event.proofs.OneReading.{line_one}
-use Rattle.nio_event.proofs.Spaces.{caller_spaceless}
+use Rattle.nio_language.specs.Calls.{IsBlank, IsLine}
+use Rattle.nio_language.specs.Reading.{Reads}
+use Rattle.nio_language.specs.Script.{IsInGrammar, is_call}
+use Rattle.nio_language.specs.Words.{caller_word, selector_word}
+use Rattle.nio_language.specs.declared.call.Call.{Call}
+use Rattle.nio_language.proofs.NameWords.{NoCut, OnlyCut}
+use Rattle.nio_language.proofs.OneReading.{line_one}
+use Rattle.nio_language.proofs.Spaces.{caller_spaceless}
 use Rattle.nio_race_text.specs.RaceLines.{IsBlockLine, IsRaceLine, MayRace, script_line, block_line}
 use Rattle.nio_race_text.specs.declared.call.RaceCall.{RaceCall}
 use Rattle.nio_race_text.specs.declared.call.RaceCall.TheVariants.{Script, Block}

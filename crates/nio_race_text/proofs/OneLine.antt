@@ -7,15 +7,16 @@ use Rattle.std.proofs.lemmas.List.Elements.{All-cons, All-nil}
 use Rattle.std.proofs.lemmas.Option.{none-some, same_Some}
 use Rattle.nio_base.specs.declared.numbers.CallerNo.{CallerNo}
 use Rattle.nio_base.specs.declared.numbers.SelNo.{SelNo}
-use Rattle.nio_event.proofs.Ones.{numbered_one, word_at}
-use Rattle.nio_event.specs.Calls.{IsBlank, IsLine, call_words}
-use Rattle.nio_event.specs.CallWords.{call_word, call_word_text}
-use Rattle.nio_event.specs.Words.{caller_word}
-use Rattle.nio_event.specs.declared.call.Call.{Call}
-use Rattle.nio_event.proofs.CallWordTable.{reads_call_word}
-use Rattle.nio_event.proofs.NameWords.{decimal_lacks}
-use Rattle.nio_event.proofs.OneReading.{line_one}
-use Rattle.nio_event.proofs.Spaces.{Spaceless, split_join, caller_spaceless}
+use Rattle.nio_language.proofs.Ones.{numbered_one, word_at}
+use Rattle.nio_language.specs.Calls.{IsBlank, IsLine, call_words}
+use Rattle.nio_language.specs.CallWords.{call_word, call_word_text}
+use Rattle.nio_language.specs.Words.{caller_word}
+use Rattle.nio_language.specs.declared.call.Call.{Call}
+use Rattle.nio_language.proofs.CallWordTable.{reads_call_word}
+use Rattle.nio_language.proofs.NameWords.{decimal_lacks}
+use Rattle.nio_language.proofs.OneReading.{line_one}
+use Rattle.nio_language.proofs.Spaces.{Spaceless, split_join, caller_spaceless}
+use Rattle.nio_language.proofs.Ones.{word_at, numbered_one}
 use Rattle.nio_race_text.specs.RaceLines.{IsBlockLine, IsRaceLine, script_line, block_line, AreRaceLines, no_lines}
 use Rattle.nio_race_text.specs.RaceLines.{blank_line, race_line, race_words}
 use Rattle.nio_race_text.specs.RaceText.{go_line}
@@ -23,7 +24,6 @@ use Rattle.nio_race_text.specs.declared.call.RaceCall.{RaceCall}
 use Rattle.nio_race_text.specs.declared.call.RaceCall.TheVariants.{Script, Block}
 use Rattle.nio_race_text.specs.declared.call.RaceLine.{RaceLine}
 use Rattle.nio_script.proofs.Lines.{line_words_of}
-use Rattle.nio_event.proofs.Ones.{word_at, numbered_one}
 
 -- ---- how a line begins
 

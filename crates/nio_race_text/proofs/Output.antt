@@ -5,11 +5,11 @@ use Rattle.std.specs.Fmt.{decimal}
 use Rattle.std.specs.List.{join_with_byte}
 use Rattle.std.proofs.Math.Seq.{drop-append_seam}
 use Rattle.nio_base.specs.declared.numbers.CallerNo.{CallerNo}
-use Rattle.nio_event.specs.Calls.{call_words}
-use Rattle.nio_event.specs.Replies.{history_line, reply_text}
-use Rattle.nio_event.specs.Words.{caller_word}
-use Rattle.nio_event.specs.declared.call.Call.{Call}
-use Rattle.nio_event.specs.declared.reply.Reply.{Reply}
+use Rattle.nio_language.specs.Calls.{call_words}
+use Rattle.nio_language.specs.Replies.{history_line, reply_text}
+use Rattle.nio_language.specs.Words.{caller_word}
+use Rattle.nio_language.specs.declared.call.Call.{Call}
+use Rattle.nio_language.specs.declared.reply.Reply.{Reply}
 use Rattle.nio_race_text.specs.RaceOutput.{race_line_text}
 use Rattle.nio_race_text.specs.declared.call.RaceCall.TheVariants.{Script}
 

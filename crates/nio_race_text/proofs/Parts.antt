@@ -1,8 +1,8 @@
 -- How the parts of a race text grow by a line, and where they stop.
 use Rattle.std.proofs.Common.{◌≡◌, ℕ, ◌+◌, List, [], ◌∷◌, ◌++◌, drop, take, arith}
-use Rattle.nio_event.specs.Calls.{IsBlank}
-use Rattle.nio_event.specs.Script as script
-use Rattle.nio_event.specs.declared.call.ScriptCall.{ScriptCall}
+use Rattle.nio_language.specs.Calls.{IsBlank}
+use Rattle.nio_language.specs.Script as script
+use Rattle.nio_language.specs.declared.call.ScriptCall.{ScriptCall}
 use Rattle.nio_race_text.specs.RaceLines.{IsRaceLine, AreRaceLines, no_lines, blank_line, race_line}
 use Rattle.nio_race_text.specs.Reading.{IsNoLine, StopsAt}
 use Rattle.nio_race_text.specs.declared.call.RaceLine.{RaceLine}

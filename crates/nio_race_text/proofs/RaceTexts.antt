@@ -4,12 +4,12 @@ use Rattle.std.proofs.Common.{refl, sym, ap, ◌∙◌, subst, append_assoc, len
 use Rattle.std.specs.Prelude.{MatchResult}
 use Rattle.std.proofs.lemmas.List.Elements.{All-head, All-tail}
 use Rattle.nio_base.specs.declared.numbers.CallerNo.{CallerNo}
-use Rattle.nio_event.specs.Calls.{IsBlank, IsLine}
-use Rattle.nio_event.specs.Script as script
-use Rattle.nio_event.specs.Script.{AreCalls, lines_of}
-use Rattle.nio_event.specs.declared.call.Call.{Call}
-use Rattle.nio_event.specs.declared.call.ScriptCall.{ScriptCall}
-use Rattle.nio_event.proofs.OneReading.{line_one}
+use Rattle.nio_language.specs.Calls.{IsBlank, IsLine}
+use Rattle.nio_language.specs.Script as script
+use Rattle.nio_language.specs.Script.{AreCalls, lines_of}
+use Rattle.nio_language.specs.declared.call.Call.{Call}
+use Rattle.nio_language.specs.declared.call.ScriptCall.{ScriptCall}
+use Rattle.nio_language.proofs.OneReading.{line_one}
 use Rattle.nio_race_text.specs.RaceLines.{AreRaceLines, no_lines, blank_line, race_line}
 use Rattle.nio_race_text.specs.RaceText.{RaceCalls, AreRaceText, IsRaceText, AreSomeRaceText, IsFirstBadRace, IsInRace}
 use Rattle.nio_race_text.specs.RaceText.{IsInSetup, setup_alone, with_go, go_line}

@@ -3,10 +3,10 @@ use Rattle.std.specs.Prelude.{◌≡◌, ℕ, ◌<◌, IsTrue, List, [], ◌∷�
 use Rattle.std.specs.List.{join_with_byte}
 use Rattle.nio_base.specs.declared.numbers.CallerNo.{CallerNo}
 use Rattle.nio_base.specs.declared.numbers.SelNo.{SelNo}
-use Rattle.nio_event.specs.Calls.{IsBlank, IsLine, call_words}
-use Rattle.nio_event.specs.WordRows.{word_row}
-use Rattle.nio_event.specs.Words.{IsNumber, caller_word, selector_word}
-use Rattle.nio_event.specs.declared.call.Call.{Call}
+use Rattle.nio_language.specs.Calls.{IsBlank, IsLine, call_words}
+use Rattle.nio_language.specs.WordRows.{word_row}
+use Rattle.nio_language.specs.Words.{IsNumber, caller_word, selector_word}
+use Rattle.nio_language.specs.declared.call.Call.{Call}
 use Rattle.nio_race_text.specs.declared.call.RaceCall.{RaceCall}
 use Rattle.nio_race_text.specs.declared.call.RaceCall.TheVariants.{Script, Block}
 use Rattle.nio_race_text.specs.declared.call.RaceLine.{RaceLine}

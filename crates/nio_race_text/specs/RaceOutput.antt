@@ -3,9 +3,9 @@ use Rattle.std.specs.Prelude.{ℕ, List, [], ◌∷◌, ◌++◌, codes}
 use Rattle.std.specs.Fmt.{decimal}
 use Rattle.std.specs.List.{join_with_byte}
 use Rattle.nio_base.specs.declared.numbers.CallerNo.{CallerNo}
-use Rattle.nio_event.specs.Replies.{reply_text}
-use Rattle.nio_event.specs.Words.{caller_word}
-use Rattle.nio_event.specs.declared.reply.Reply.{Reply}
+use Rattle.nio_language.specs.Replies.{reply_text}
+use Rattle.nio_language.specs.Words.{caller_word}
+use Rattle.nio_language.specs.declared.reply.Reply.{Reply}
 use Rattle.nio_race_text.specs.RaceLines.{race_words}
 use Rattle.nio_race_text.specs.declared.call.RaceCall.{RaceCall}
 

@@ -1,9 +1,9 @@
 -- Race texts: which bytes are a race text of which calls, and where the first line stands that isn't
 -- in the grammar at its place.
 use Rattle.std.specs.Prelude.{◌≡◌, ◌⊎◌, ℕ, ◌+◌, List, [], ◌∷◌, ◌++◌, length, codes}
-use Rattle.nio_event.specs.Calls.{IsBlank}
-use Rattle.nio_event.specs.Script.{AreCalls, IsInGrammar, lines_of}
-use Rattle.nio_event.specs.declared.call.ScriptCall.{ScriptCall}
+use Rattle.nio_language.specs.Calls.{IsBlank}
+use Rattle.nio_language.specs.Script.{AreCalls, IsInGrammar, lines_of}
+use Rattle.nio_language.specs.declared.call.ScriptCall.{ScriptCall}
 use Rattle.nio_race_text.specs.RaceLines.{AreRaceLines, IsRaceLine}
 use Rattle.nio_race_text.specs.declared.call.RaceLine.{RaceLine}
 

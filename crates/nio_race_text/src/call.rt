@@ -1,6 +1,6 @@
 //! The calls of callers that run in threads.
 use nio_base::{CallerNo, SelNo};
-use nio_event::Call;
+use nio_language::Call;
 
 /// A call behind `go`.
 #[derive(Debug, Drop)]

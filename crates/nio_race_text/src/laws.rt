@@ -1,7 +1,7 @@
 //! Laws of race texts. Each is the contract of a function that does nothing.
 ghost use Rattle.std.specs.Prelude.{◌≡◌, ◌↔◌, ◌∷◌, ◌++◌, [], ℕ, List};
-ghost use Rattle.nio_event.specs.Script.{AreCalls};
-ghost use Rattle.nio_event.specs.declared.call.ScriptCall.{ScriptCall};
+ghost use Rattle.nio_language.specs.Script.{AreCalls};
+ghost use Rattle.nio_language.specs.declared.call.ScriptCall.{ScriptCall};
 ghost use Rattle.nio_race_text.specs.RaceLines.{AreRaceLines};
 ghost use Rattle.nio_race_text.specs.RaceText.{AreSomeRaceText, IsFirstBadRace, IsInRace, IsInSetup, IsRaceText};
 ghost use Rattle.nio_race_text.specs.RaceText.{go_line};

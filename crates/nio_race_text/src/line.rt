@@ -1,13 +1,13 @@
 //! Reading a line behind `go`: a script's, or `block`.
 ghost use Rattle.std.specs.Prelude.{◌≡◌, ◌≤◌, ◌∷◌, IfOk};
 ghost use Rattle.std.specs.Fmt.{decimal};
-ghost use Rattle.nio_event.specs.Reading.{Reads};
-ghost use Rattle.nio_race_text.specs.RaceLines.{IsBlockLine, IsRaceLine};
+ghost use Rattle.nio_language.specs.Reading.{Reads};
 ghost use Rattle.nio_script.specs.Entries.{Finds};
+ghost use Rattle.nio_race_text.specs.RaceLines.{IsBlockLine, IsRaceLine};
 
 use crate::call::{RaceCall, RaceLine};
 use nio_base::{CallerNo, SelNo};
-use nio_event::{ParseError, Parsed, cut_at, parse_line, read_number};
+use nio_language::{ParseError, Parsed, cut_at, parse_line, read_number};
 use std::alloc::{AllocError, Global};
 
 // The largest number of a caller.

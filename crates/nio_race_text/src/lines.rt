@@ -1,15 +1,15 @@
 //! The lines of a race text: the setup, the line `go`, and the race.
 ghost use Rattle.std.specs.Prelude.{◌≡◌, ◌+◌, ◌<◌, ◌^◌, ◌∷◌, ◌++◌, ◌↔◌, [], ℕ, IsTrue, map, length, IfOk, OnOk};
 ghost use Rattle.std.specs.Prelude.{MatchOption};
-ghost use Rattle.nio_event.specs.Script.{lines_of, AreCalls};
+ghost use Rattle.nio_language.specs.Script.{lines_of, AreCalls};
+ghost use Rattle.nio_script.specs.Entries.{Adds};
 ghost use Rattle.nio_race_text.specs.RaceLines.{AreRaceLines};
 ghost use Rattle.nio_race_text.specs.RaceText.{go_line};
 ghost use Rattle.nio_race_text.specs.Reading.{AreGoless, IsCutAtGo, IsNoLine, StopsAt};
-ghost use Rattle.nio_script.specs.Entries.{Adds};
 
 use crate::call::RaceLine;
 use crate::line::read_race_call;
-use nio_event::{ParseError, Parsed, ScriptCall, is_blank, parse_line};
+use nio_language::{ParseError, Parsed, ScriptCall, is_blank, parse_line};
 use nio_script::ScriptError;
 use std::alloc::{AllocError, Global};
 

@@ -1,14 +1,14 @@
 //! Printing the calls of a race with their replies.
 ghost use Rattle.std.specs.Prelude.{◌≡◌, ◌++◌, ◌∷◌, codes, IfOk, OnOk};
 ghost use Rattle.std.specs.Fmt.{decimal};
-ghost use Rattle.nio_event.specs.Words.{caller_word};
+ghost use Rattle.nio_language.specs.Words.{caller_word};
 ghost use Rattle.nio_race_text.specs.RaceOutput.{race_line_text};
 ghost use Rattle.nio_race_text.specs.declared.call.RaceCall.TheVariants.{Block, Script};
 
 use crate::call::RaceCall;
 use itoa::Buffer;
 use nio_base::{CallerNo, SelNo};
-use nio_event::{Call, Reply, print_line, print_reply};
+use nio_language::{Call, Reply, print_line, print_reply};
 use std::alloc::{AllocError, Global};
 
 // Most lines have fewer bytes.

@@ -1,13 +1,13 @@
 //! A whole text, read as a race text.
 ghost use Rattle.std.specs.Prelude.{◌≡◌, ◌⊎◌, ◌<◌, ◌^◌, ℕ, List, map, length, IfOk, MatchResult};
-ghost use Rattle.nio_event.specs.Script.{lines_of};
-ghost use Rattle.nio_event.specs.declared.call.ScriptCall.{ScriptCall};
+ghost use Rattle.nio_language.specs.Script.{lines_of};
+ghost use Rattle.nio_language.specs.declared.call.ScriptCall.{ScriptCall};
 ghost use Rattle.nio_race_text.specs.RaceText.{AreRaceText, IsFirstBadRace, IsRaceText};
 ghost use Rattle.nio_race_text.specs.declared.call.RaceLine.{RaceLine};
 
 use crate::call::RaceLine;
 use crate::lines::{cut_at_go, lines, read_race, read_setup};
-use nio_event::ScriptCall;
+use nio_language::ScriptCall;
 use nio_script::ScriptError;
 use std::alloc::Global;
 use std::marker::Model;

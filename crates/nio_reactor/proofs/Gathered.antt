@@ -11,9 +11,9 @@ use Rattle.nio_base.specs.declared.limits.Limits.{Limits}
 use Rattle.nio_base.specs.declared.numbers.CallerNo.{CallerNo}
 use Rattle.nio_base.specs.declared.numbers.ChanNo.{ChanNo}
 use Rattle.nio_base.specs.declared.numbers.SelNo.{SelNo}
-use Rattle.nio_event.specs.Histories.{mine, is_by, IsLegal}
-use Rattle.nio_event.specs.declared.act.Act.{Act}
-use Rattle.nio_event.specs.declared.event.Event.{Event}
+use Rattle.nio_history.specs.Histories.{mine, is_by, IsLegal}
+use Rattle.nio_history.specs.declared.act.Act.{Act}
+use Rattle.nio_history.specs.declared.event.Event.{Event}
 use Rattle.nio_orderly.specs.Made.{Made}
 use Rattle.nio_orderly.specs.Orderly.{IsWhole}
 use Rattle.nio_reactor.proofs.Placed.{IsLinkOf, placed_behind, placed_elsewhere, placed_here}
@@ -24,6 +24,7 @@ use Rattle.nio_reactor.specs.Seats.{HaveSeats, IsNewcomer, LeavesSeat, LeaveSeat
 use Rattle.nio_reactor.specs.Seats.{channels_for, deal_of}
 use Rattle.nio_reactor.specs.Working.{Concludes}
 use Rattle.nio_reactor.specs.declared.many.ManyError.{ManyError}
+use Rattle.nio_reactor.proofs.Lists.{element, nets_end}
 use Rattle.nio_relay.specs.declared.plan.ProxyPlan.{ProxyPlan}
 use Rattle.nio_relay.specs.declared.plan.Served.{Served}
 use Rattle.nio_serve.specs.Called.{HasRegistered, registrations, seats}
@@ -34,7 +35,6 @@ use Rattle.nio_words.specs.Passes.{Holds, IsPassOf, IsReady, acts_seen, limits_o
 use Rattle.nio_words.specs.Sharing.{Joins}
 use Rattle.nio_words.specs.declared.words.Pass.{Pass}
 use Rattle.nio_words.specs.declared.words.Words.{Words}
-use Rattle.nio_reactor.proofs.Lists.{element, nets_end}
 
 -- ---- joining
 

@@ -10,17 +10,22 @@ use Rattle.std.proofs.lemmas.Result.{on_ok_weaker}
 use Rattle.nio_base.specs.declared.limits.Limits.{Limits}
 use Rattle.nio_base.specs.declared.numbers.CallerNo.{CallerNo}
 use Rattle.nio_base.specs.declared.numbers.SelNo.{SelNo}
-use Rattle.nio_event.proofs.OneMore.{mine-own, mine-other}
-use Rattle.nio_event.proofs.OwnPins.{pins_are_own}
-use Rattle.nio_event.specs.Histories.{event_of, mine}
-use Rattle.nio_event.specs.OwnEvents.{keeps_pin}
-use Rattle.nio_event.specs.PassViews.{HasSelector}
-use Rattle.nio_event.specs.Questions.{Question, Answer, answer_of}
-use Rattle.nio_event.specs.declared.act.Act.{Act}
-use Rattle.nio_event.specs.declared.act.Act.TheVariants.{DrawBit}
-use Rattle.nio_event.specs.declared.event.Event.{Event}
 use Rattle.nio_base.specs.declared.kind.Kind.{Kind}
+use Rattle.nio_base.specs.declared.numbers.ChanNo.{ChanNo}
+use Rattle.nio_history.proofs.OneMore.{mine-own, mine-other}
+use Rattle.nio_history.proofs.OwnPins.{pins_are_own}
+use Rattle.nio_history.specs.Histories.{event_of, mine}
+use Rattle.nio_history.specs.OwnEvents.{keeps_pin}
+use Rattle.nio_history.specs.PassViews.{HasSelector}
+use Rattle.nio_history.specs.Questions.{Question, Answer, answer_of}
+use Rattle.nio_history.specs.declared.act.Act.{Act}
+use Rattle.nio_history.specs.declared.act.Act.TheVariants.{DrawBit}
+use Rattle.nio_history.specs.declared.event.Event.{Event}
+use Rattle.nio_orderly.specs.Made.{Made, table_call}
 use Rattle.nio_poller.proofs.Ready.{selector_same}
+use Rattle.nio_reactor.specs.Placing.{caller}
+use Rattle.nio_reactor.specs.Seats.{AreNewcomers, HaveDrawn, HaveSeats, IsHandingOut, IsNewcomer, IsSeat, LeavesSeat}
+use Rattle.nio_reactor.specs.Seats.{channels_for}
 use Rattle.nio_serve.proofs.Calls.{DidCall, IsFree, did_unpinned, only_drawn, unregistered_after}
 use Rattle.nio_serve.proofs.Watching.{on_ok_any}
 use Rattle.nio_serve.specs.Board.{BoardView, IsIdle, IsSameSeat}
@@ -36,7 +41,7 @@ use Rattle.nio_steps.specs.Runs.{Completes}
 use Rattle.nio_steps.specs.SelectCalls.{open_selector_plan}
 use Rattle.nio_steps.specs.declared.refusal.ChannelError.{ChannelError}
 use Rattle.nio_steps.specs.declared.refusal.SelectorsSpent.{SelectorsSpent}
-use Rattle.nio_base.specs.declared.numbers.ChanNo.{ChanNo}
+use Rattle.nio_steps.specs.TableCalls.{find_selector, open_channel, open_selector}
 use Rattle.nio_words.specs.Drawing.{Drawn, Draws}
 use Rattle.nio_words.specs.declared.drawing.DrawError.{DrawError}
 use Rattle.nio_words.specs.Passes.{Holds, IsPassOf, IsReady, acts_seen, limits_of, seen}
@@ -44,11 +49,6 @@ use Rattle.nio_words.specs.Sharing.{HandsOver}
 use Rattle.nio_words.specs.Views.{view}
 use Rattle.nio_words.specs.declared.words.Pass.{Pass}
 use Rattle.nio_words.specs.declared.words.Words.{Words}
-use Rattle.nio_reactor.specs.Placing.{caller}
-use Rattle.nio_reactor.specs.Seats.{AreNewcomers, HaveDrawn, HaveSeats, IsHandingOut, IsNewcomer, IsSeat, LeavesSeat}
-use Rattle.nio_reactor.specs.Seats.{channels_for}
-use Rattle.nio_orderly.specs.Made.{Made, table_call}
-use Rattle.nio_steps.specs.TableCalls.{find_selector, open_channel, open_selector}
 
 -- ---- a caller that goes on
 

@@ -2,7 +2,8 @@
 use Rattle.std.specs.Prelude.{◌≡◌, ℕ, zero, suc, ◌+◌, ◌*◌, ◌<◌, ◌≤◌, Some, OnOk, Result, List, [], length}
 use Rattle.std.specs.Prelude.{slice_index_or}
 use Rattle.nio_base.specs.declared.numbers.CallerNo.{CallerNo}
-use Rattle.nio_event.specs.PassViews.{HasNoPin}
+use Rattle.nio_history.specs.PassViews.{HasNoPin}
+use Rattle.nio_history.specs.Histories.{mine}
 use Rattle.nio_relay.specs.declared.plan.ProxyPlan.{ProxyPlan}
 use Rattle.nio_relay.specs.declared.plan.Served.{Served}
 use Rattle.nio_serve.specs.Board.{BoardView}
@@ -15,7 +16,6 @@ use Rattle.nio_words.specs.Passes.{Holds, IsOnly, IsPassOf, IsReady, acts_seen, 
 use Rattle.nio_words.specs.Views.{view}
 use Rattle.nio_words.specs.declared.words.Pass.{Pass}
 use Rattle.nio_words.specs.declared.words.Words.{Words}
-use Rattle.nio_event.specs.Histories.{mine}
 use Rattle.nio_reactor.specs.Dealing.{share}
 use Rattle.nio_reactor.specs.Placing.{caller}
 

@@ -6,7 +6,7 @@ use crate::handover::Handover;
 use crate::lane::{Heard, Lane};
 use crate::message::Message;
 use nio_base::{Addr, ChanNo, Gate, Ops};
-use nio_event::{Milliseconds, Mode};
+use nio_history::{Milliseconds, Mode};
 use nio_line::LineOut;
 use nio_link::{Failed, Got, Net, Passable, Put};
 use nio_poller::{PollError, Poller};

@@ -1,7 +1,7 @@
 //! A net that may have no memory for links that are put in.
 
 use nio_base::{Addr, ChanNo};
-use nio_event::Mode;
+use nio_history::Mode;
 use nio_link::{Failed, Got, Net, Passable, Put};
 use nio_poller::{PollError, Poller};
 use nio_select::{Asked, Told};

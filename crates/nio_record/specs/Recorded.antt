@@ -3,10 +3,10 @@ use Rattle.std.specs.Prelude.{◌≡◌, Bool, false, List, [], ◌∷◌}
 use Rattle.nio_audit.specs.Audit.{MayStep}
 use Rattle.nio_base.specs.declared.limits.Limits.{Limits}
 use Rattle.nio_base.specs.declared.numbers.CallerNo.{CallerNo}
-use Rattle.nio_event.specs.declared.act.Act.{Act}
-use Rattle.nio_event.specs.declared.act.Act.TheVariants.{DrawBit}
-use Rattle.nio_event.specs.Histories.{event_of}
-use Rattle.nio_event.specs.declared.event.Event.{Event}
+use Rattle.nio_history.specs.declared.act.Act.{Act}
+use Rattle.nio_history.specs.declared.act.Act.TheVariants.{DrawBit}
+use Rattle.nio_history.specs.Histories.{event_of}
+use Rattle.nio_history.specs.declared.event.Event.{Event}
 use Rattle.nio_words.specs.Passes.{Holds, IsOnly, IsPassOf, limits_of, seen}
 use Rattle.nio_record.specs.declared.recorder.Recorder.{Recorder}
 

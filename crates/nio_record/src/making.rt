@@ -1,13 +1,13 @@
 //! The step that an act names, and the act with what the step found.
 ghost use Rattle.std.specs.Prelude.{◌≡◌, None, IfSome};
-ghost use Rattle.nio_event.specs.Conditions.{Condition};
-ghost use Rattle.nio_event.specs.Questions.{question_of};
-ghost use Rattle.nio_record.specs.Recorded.{IsDraw};
+ghost use Rattle.nio_history.specs.Conditions.{Condition};
+ghost use Rattle.nio_history.specs.Questions.{question_of};
 ghost use Rattle.nio_words.specs.Passes.{IsReady, acts_seen, limits_of, state_seen};
 ghost use Rattle.nio_words.specs.Steps.{Steps};
+ghost use Rattle.nio_record.specs.Recorded.{IsDraw};
 
 use nio_base::CallerNo;
-use nio_event::{Act, Mark};
+use nio_history::{Act, Mark};
 use nio_words::{Pass, Words};
 
 /// Makes the step, and answers the act with what it found, whatever `act` says of that. A draw is not made.

@@ -2,16 +2,16 @@
 ghost use Rattle.std.specs.Prelude.{◌≡◌, ◌≢◌, ◌+◌, ◌<◌, ◌≤◌, [], ◌∷◌, ◌++◌, IfOk, OnErr, Err, ◌⊎◌};
 ghost use Rattle.nio_record.specs.declared.recorder.RecordError.TheVariants.{NoStep};
 ghost use Rattle.std.specs.Vec.{vec_len, vec_capacity};
-ghost use Rattle.nio_event.specs.Histories.{event_of};
+ghost use Rattle.nio_history.specs.Histories.{event_of};
+ghost use Rattle.nio_history.specs.Questions.{question_of};
+ghost use Rattle.nio_words.specs.Passes.{Holds, IsFirstPass, IsOnly, IsPassOf, limits_of, seen};
 ghost use Rattle.nio_record.specs.Recorded.{IsDraw, IsRecorded, MayMake, acts_for, both_drawn, one, table_limits};
 ghost use Rattle.nio_record.specs.Recorded.{written, zero};
-ghost use Rattle.nio_words.specs.Passes.{Holds, IsFirstPass, IsOnly, IsPassOf, limits_of, seen};
-ghost use Rattle.nio_event.specs.Questions.{question_of};
 
 use crate::making::make_step;
 use nio_audit::{AuditError, may_step};
 use nio_base::{CallerNo, Limits};
-use nio_event::{Act, Event};
+use nio_history::{Act, Event};
 use nio_words::{Pass, Words};
 use std::alloc::{AllocError, Global};
 use thiserror::Error;

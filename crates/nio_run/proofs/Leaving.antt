@@ -6,10 +6,10 @@ use Rattle.std.proofs.lemmas.List.{append-nil, length-append}
 use mathlib.Core.List.{IsPrefix}
 use Rattle.nio_base.specs.Limits.{IsFit}
 use Rattle.nio_base.specs.declared.numbers.CallerNo.{CallerNo}
-use Rattle.nio_event.proofs.Stays.{facts_are_permanent}
-use Rattle.nio_event.specs.Histories.{state_after, IsLegal}
-use Rattle.nio_event.specs.Permanent.{caller_drawn}
-use Rattle.nio_event.specs.declared.event.Event.{Event}
+use Rattle.nio_history.proofs.Stays.{facts_are_permanent}
+use Rattle.nio_history.specs.Histories.{state_after, IsLegal}
+use Rattle.nio_history.specs.Permanent.{caller_drawn}
+use Rattle.nio_history.specs.declared.event.Event.{Event}
 use Rattle.nio_orderly.specs.Orderly.{IsWhole}
 use Rattle.nio_plain.specs.ScriptState.{ScriptState}
 use Rattle.nio_race.proofs.Promise.{owed_before}

@@ -6,11 +6,11 @@ use Rattle.nio_base.specs.declared.numbers.CallerNo.{CallerNo}
 use Rattle.nio_bytes.specs.Cause.{Rose}
 use Rattle.nio_bytes.specs.declared.source.Source as source
 use Rattle.nio_bytes.specs.declared.sink.Sink as sink
-use Rattle.nio_event.specs.Script.{IsScript, IsFirstBad}
-use Rattle.nio_event.specs.State.{State}
-use Rattle.nio_event.specs.declared.call.ScriptCall.{ScriptCall}
-use Rattle.nio_event.specs.declared.event.Event.{Event}
-use Rattle.nio_event.specs.declared.reply.Reply.{Reply}
+use Rattle.nio_history.specs.State.{State}
+use Rattle.nio_history.specs.declared.event.Event.{Event}
+use Rattle.nio_language.specs.Script.{IsScript, IsFirstBad}
+use Rattle.nio_language.specs.declared.call.ScriptCall.{ScriptCall}
+use Rattle.nio_language.specs.declared.reply.Reply.{Reply}
 use Rattle.nio_orderly.specs.Orderly.{IsWhole}
 use Rattle.nio_orderly.specs.Owed.{Owed}
 use Rattle.nio_plain.specs.Answer.{answer_to, left_by_script}

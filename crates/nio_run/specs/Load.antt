@@ -2,8 +2,8 @@
 use Rattle.std.specs.Prelude.{◌≡◌, ◌⊎◌, ℕ, List}
 use Rattle.nio_bytes.specs.Cause.{Rose}
 use Rattle.nio_bytes.specs.declared.sink.Sink as sink
-use Rattle.nio_event.specs.Script.{IsScript}
-use Rattle.nio_event.specs.declared.call.ScriptCall.{ScriptCall}
+use Rattle.nio_language.specs.Script.{IsScript}
+use Rattle.nio_language.specs.declared.call.ScriptCall.{ScriptCall}
 use Rattle.nio_load.specs.Generator.{generated}
 use Rattle.nio_load.specs.Load.{EndsLoad}
 use Rattle.nio_load.specs.Summary.{summary_of}

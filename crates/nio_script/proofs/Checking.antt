@@ -4,11 +4,12 @@ use Rattle.std.proofs.Common.{◌≡◌, ◌≢◌, inl, inr, ◌⊎◌, ℕ, �
 use Rattle.std.proofs.Common.{subst}
 use Rattle.std.proofs.lemmas.List.{map-append}
 use Rattle.nio_base.specs.declared.limits.Limits.{Limits}
-use Rattle.nio_event.specs.Replies.{reply_text}
-use Rattle.nio_event.specs.declared.reply.Reply.{Reply}
+use Rattle.nio_language.specs.Replies.{reply_text}
+use Rattle.nio_language.specs.declared.reply.Reply.{Reply}
 use Rattle.nio_plain.specs.Answer.{left_from, left_by_script}
 use Rattle.nio_plain.specs.ScriptState.{ScriptState, script_opening}
 use Rattle.nio_plain.specs.declared.rules.Rules.{Rules}
+use Rattle.nio_plain.proofs.CallLawsWakeups.{left_from-append}
 use Rattle.nio_script.specs.Check.{calls_of, right_reply, IsLegalFrom, IsLegalHistory, IsFirstIllegal, IsVerdict}
 use Rattle.nio_script.specs.Check.{all_right, one_wrong, EndsEntries, EndsCheckText}
 use Rattle.nio_script.specs.History.{Entry}
@@ -17,7 +18,6 @@ use Rattle.nio_script.specs.declared.status.Status.{Status}
 use Rattle.nio_script.specs.declared.status.Status.TheVariants.{Done, BadScript, ReadFault, WriteFault, Memory, Illegal}
 use Rattle.nio_script.proofs.FirstBreak.{IsBreak, unbroken, one_break}
 use Rattle.nio_script.proofs.Lines.{IsNext, take_one_more, parts, number_of_next}
-use Rattle.nio_plain.proofs.CallLawsWakeups.{left_from-append}
 
 -- entries that are legal, and then more
 IsLegalFrom-append : (rules : Rules) (l : Limits) (st : ScriptState) (xs ys : List Entry) → IsLegalFrom rules l st xs

@@ -5,10 +5,10 @@ use Rattle.std.specs.Fmt.{decimal}
 use Rattle.std.specs.Int.{IsInRange}
 use Rattle.std.proofs.lemmas.List.Elements.{All-head}
 use Rattle.std.proofs.lemmas.Option.{same_Some}
-use Rattle.nio_event.specs.Calls.{IsBlank}
-use Rattle.nio_event.specs.Script.{lines_of}
-use Rattle.nio_event.specs.declared.call.ScriptCall.{ScriptCall}
-use Rattle.nio_event.proofs.PlainWords.{decimal_digits}
+use Rattle.nio_language.specs.Calls.{IsBlank}
+use Rattle.nio_language.specs.Script.{lines_of}
+use Rattle.nio_language.specs.declared.call.ScriptCall.{ScriptCall}
+use Rattle.nio_language.proofs.PlainWords.{decimal_digits}
 use Rattle.nio_plain.specs.declared.rules.Rules.{Rules}
 use Rattle.nio_script.specs.Entries.{IsNoEntry}
 use Rattle.nio_script.specs.History.{Entry, IsEntry, AreEntries, IsFirstBadEntry, no_lines, blank_line, entry_line}

@@ -5,16 +5,16 @@ use Rattle.std.specs.Fmt.{decimal}
 use Rattle.std.proofs.lemmas.List.Elements.{All-append, All-cons, All-nil, All-weaker}
 use Rattle.std.proofs.lemmas.Option.{none-some, same_Some}
 use Rattle.nio_base.specs.declared.numbers.CallerNo.{CallerNo}
-use Rattle.nio_event.specs.Calls.{IsLine}
-use Rattle.nio_event.specs.Reading.{Reads}
-use Rattle.nio_event.specs.declared.call.Call.{Call}
-use Rattle.nio_event.specs.declared.call.ScriptCall.{ScriptCall}
-use Rattle.nio_event.specs.declared.parse.ParseError.{ParseError}
-use Rattle.nio_event.specs.declared.parse.ParseError.TheVariants.{Memory}
-use Rattle.nio_event.specs.declared.parse.Parsed.{Parsed}
-use Rattle.nio_event.specs.declared.parse.Parsed.TheVariants.{Line}
-use Rattle.nio_event.proofs.NameWords.{NoCut, OnlyCut, decimal_lacks}
-use Rattle.nio_event.proofs.PlainTexts.{line_plain}
+use Rattle.nio_language.specs.Calls.{IsLine}
+use Rattle.nio_language.specs.Reading.{Reads}
+use Rattle.nio_language.specs.declared.call.Call.{Call}
+use Rattle.nio_language.specs.declared.call.ScriptCall.{ScriptCall}
+use Rattle.nio_language.specs.declared.parse.ParseError.{ParseError}
+use Rattle.nio_language.specs.declared.parse.ParseError.TheVariants.{Memory}
+use Rattle.nio_language.specs.declared.parse.Parsed.{Parsed}
+use Rattle.nio_language.specs.declared.parse.Parsed.TheVariants.{Line}
+use Rattle.nio_language.proofs.NameWords.{NoCut, OnlyCut, decimal_lacks}
+use Rattle.nio_language.proofs.PlainTexts.{line_plain}
 use Rattle.nio_plain.specs.declared.rules.Rules.{Rules}
 use Rattle.nio_script.specs.Entries.{Finds}
 use Rattle.nio_script.specs.History.{Entry, IsCallOf, IsEntry, call_text}

@@ -5,9 +5,9 @@ use Rattle.std.proofs.Common.{arith}
 use Rattle.std.specs.Prelude.{All}
 use Rattle.std.proofs.Math.Seq.{get_or-append_seam}
 use Rattle.std.proofs.lemmas.List.Elements.{All-nil, All-cons}
-use Rattle.nio_event.specs.Script.{lines_of, IsScript, IsFirstBad, AreCalls, no_lines, blank_line, call_line}
-use Rattle.nio_event.specs.Script.{IsInGrammar, is_blank, is_call}
-use Rattle.nio_event.specs.declared.call.ScriptCall.{ScriptCall}
+use Rattle.nio_language.specs.Script.{lines_of, IsScript, IsFirstBad, AreCalls, no_lines, blank_line, call_line}
+use Rattle.nio_language.specs.Script.{IsInGrammar, is_blank, is_call}
+use Rattle.nio_language.specs.declared.call.ScriptCall.{ScriptCall}
 use Rattle.nio_script.proofs.FirstBreak.{IsBreak, unbroken, one_break}
 use Rattle.nio_script.proofs.Lines.{IsNext, parts, number_of_next}
 

@@ -1,7 +1,7 @@
 -- By each of the rules a text is a history, or has one first line that isn't in its grammar, and not
 -- both.
 use Rattle.std.proofs.Common.{◌≡◌, ℕ, ◌+◌, List, length, arith}
-use Rattle.nio_event.specs.Script.{lines_of}
+use Rattle.nio_language.specs.Script.{lines_of}
 use Rattle.nio_plain.specs.declared.rules.Rules.{Rules}
 use Rattle.nio_script.specs.Entries.{IsNoEntry}
 use Rattle.nio_script.specs.History.{Entry, AreEntries, IsHistory, IsFirstBadEntry}

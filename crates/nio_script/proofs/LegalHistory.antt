@@ -7,12 +7,12 @@ use Rattle.std.proofs.lemmas.Bool.{ne_eqb}
 use Rattle.std.proofs.lemmas.List.Elements.{All-append, All-cons, All-head, All-tail, All-weaker}
 use Rattle.std.proofs.lemmas.List.Splits.{slice_split_at}
 use Rattle.nio_base.specs.declared.limits.Limits.{Limits}
-use Rattle.nio_event.specs.Calls.{IsLine, line_text}
-use Rattle.nio_event.specs.Replies.{reply_text}
-use Rattle.nio_event.specs.Script.{lines_of, AreCalls, IsScript, no_lines, blank_line, call_line}
-use Rattle.nio_event.specs.declared.call.ScriptCall.{ScriptCall}
-use Rattle.nio_event.proofs.PlainTexts.{line_plain, reply_plain}
-use Rattle.nio_event.proofs.PlainWords.{decimal_digits}
+use Rattle.nio_language.specs.Calls.{IsLine, line_text}
+use Rattle.nio_language.specs.Replies.{reply_text}
+use Rattle.nio_language.specs.Script.{lines_of, AreCalls, IsScript, no_lines, blank_line, call_line}
+use Rattle.nio_language.specs.declared.call.ScriptCall.{ScriptCall}
+use Rattle.nio_language.proofs.PlainTexts.{line_plain, reply_plain}
+use Rattle.nio_language.proofs.PlainWords.{decimal_digits}
 use Rattle.nio_plain.specs.Answer.{answer_from}
 use Rattle.nio_plain.specs.ScriptState.{ScriptState, script_opening}
 use Rattle.nio_plain.specs.Seq.{seq}

@@ -6,14 +6,14 @@ use Rattle.std.specs.Borrow.{Bor}
 use Rattle.std.proofs.Math.ListN.{get_or-map}
 use Rattle.std.proofs.Math.Seq.{take-suc}
 use Rattle.std.proofs.lemmas.List.{take-append-drop, length-map, length-take-le, get_or_default}
+use Rattle.nio_base.specs.declared.numbers.CallerNo.{CallerNo}
+use Rattle.nio_language.proofs.Spaces.{split_join, caller_spaceless, call_spaceless}
+use Rattle.nio_language.specs.Calls.{IsLine, call_words}
+use Rattle.nio_language.specs.Words.{caller_word}
+use Rattle.nio_language.specs.declared.call.Call.{Call}
 use Rattle.nio_script.specs.Entries.{Adds}
 use Rattle.nio_script.specs.declared.script.ScriptError.{ScriptError}
 use Rattle.nio_script.specs.declared.script.ScriptError.TheVariants.{BadLine, Memory}
-use Rattle.nio_event.proofs.Spaces.{split_join, caller_spaceless, call_spaceless}
-use Rattle.nio_event.specs.Calls.{IsLine, call_words}
-use Rattle.nio_event.specs.Words.{caller_word}
-use Rattle.nio_event.specs.declared.call.Call.{Call}
-use Rattle.nio_base.specs.declared.numbers.CallerNo.{CallerNo}
 use Rattle.std.specs.List.{slice_split}
 
 -- Behind the first i items stands this one.

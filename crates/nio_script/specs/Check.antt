@@ -3,9 +3,9 @@ use Rattle.std.specs.Prelude.{◌≡◌, ◌≢◌, ⊤, ◌⊎◌, ℕ, ◌+◌
 use Rattle.std.specs.Fmt.{decimal}
 use Rattle.nio_base.specs.declared.limits.Limits.{Limits}
 use Rattle.nio_bytes.specs.declared.sink.Sink as sink
-use Rattle.nio_event.specs.Replies.{reply_text}
-use Rattle.nio_event.specs.declared.call.ScriptCall.{ScriptCall}
-use Rattle.nio_event.specs.declared.reply.Reply.{Reply}
+use Rattle.nio_language.specs.Replies.{reply_text}
+use Rattle.nio_language.specs.declared.call.ScriptCall.{ScriptCall}
+use Rattle.nio_language.specs.declared.reply.Reply.{Reply}
 use Rattle.nio_plain.specs.Answer.{answer_to, left_from, left_by_script}
 use Rattle.nio_plain.specs.ScriptState.{ScriptState, script_opening}
 use Rattle.nio_plain.specs.Seq.{seq}

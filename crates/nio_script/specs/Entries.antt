@@ -1,6 +1,6 @@
 -- How the lines of a text become calls or entries.
 use Rattle.std.specs.Prelude.{◌≡◌, ℕ, Option, Some, IfSome, List, ◌++◌}
-use Rattle.nio_event.specs.Calls.{IsBlank}
+use Rattle.nio_language.specs.Calls.{IsBlank}
 use Rattle.nio_plain.specs.declared.rules.Rules.{Rules}
 use Rattle.nio_script.specs.History.{Entry, IsEntry}
 

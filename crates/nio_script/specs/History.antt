@@ -2,10 +2,10 @@
 -- where the first line stands that isn't in its grammar.
 use Rattle.std.specs.Prelude.{◌≡◌, ℕ, ◌+◌, List, [], ◌∷◌, ◌++◌, length, codes}
 use Rattle.std.specs.Fmt.{decimal}
-use Rattle.nio_event.specs.Calls.{IsBlank, IsLaterCall, IsLine, line_text}
-use Rattle.nio_event.specs.Script.{lines_of}
-use Rattle.nio_event.specs.declared.call.Call.{Call}
-use Rattle.nio_event.specs.declared.call.ScriptCall.{ScriptCall}
+use Rattle.nio_language.specs.Calls.{IsBlank, IsLaterCall, IsLine, line_text}
+use Rattle.nio_language.specs.Script.{lines_of}
+use Rattle.nio_language.specs.declared.call.Call.{Call}
+use Rattle.nio_language.specs.declared.call.ScriptCall.{ScriptCall}
 use Rattle.nio_plain.specs.declared.rules.Rules.{Rules}
 use Rattle.nio_plain.specs.declared.rules.Rules.TheVariants.{First, Now}
 

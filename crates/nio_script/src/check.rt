@@ -2,8 +2,8 @@
 ghost use Rattle.std.specs.Prelude.{◌≡◌, ◌≢◌, ℕ, ◌<◌, ◌≤◌, ◌⊎◌, List, map, length, IfOk, IfNone, IfSome, OnOk};
 ghost use Rattle.nio_base.specs.Limits.{IsFit};
 ghost use Rattle.nio_bytes.specs.Cause.{Rose};
-ghost use Rattle.nio_event.specs.Replies.{reply_text};
-ghost use Rattle.nio_event.specs.declared.reply.Reply.{Reply};
+ghost use Rattle.nio_language.specs.Replies.{reply_text};
+ghost use Rattle.nio_language.specs.declared.reply.Reply.{Reply};
 ghost use Rattle.nio_plain.specs.ScriptState.{script_opening};
 ghost use Rattle.nio_script.specs.Check.{right_reply, IsLegalHistory, IsFirstIllegal, IsVerdict, EndsEntries};
 ghost use Rattle.nio_script.specs.Check.{IsSaidIllegal, legal_text, illegal_text, IsFoundLegal, IsHalfSaid};
@@ -22,7 +22,7 @@ use crate::script::ScriptError;
 use crate::status::Status;
 use nio_base::Limits;
 use nio_bytes::{Sink, Source};
-use nio_event::{Reply, print_reply};
+use nio_language::{Reply, print_reply};
 use nio_plain::{Plain, Rules, System};
 use std::alloc::{AllocError, Global};
 

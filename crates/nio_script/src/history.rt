@@ -2,13 +2,15 @@
 ghost use Rattle.std.specs.Prelude.{◌≡◌, ◌≢◌, ◌++◌, ◌+◌, ◌∷◌, ◌↔◌, [], ℕ, List, All, codes, map, option_map};
 ghost use Rattle.std.specs.Prelude.{option_copied, vec_len, IfOk, IfSome, IsSomeAnd, IsTrue, OnOk, MatchResult};
 ghost use Rattle.std.specs.Fmt.{decimal};
-ghost use Rattle.nio_event.specs.Calls.{IsLine};
+ghost use Rattle.nio_language.specs.Calls.{IsLine};
 ghost use Rattle.nio_script.specs.Entries.{Finds, Adds, IsNoEntry};
 ghost use Rattle.nio_script.specs.History.{Entry, IsCallOf, IsEntry, AreEntries, IsHistory, IsFirstBadEntry};
 ghost use Rattle.nio_script.specs.HistoryCall.{entry_of};
 
 use crate::script::{ScriptError, lines};
-use nio_event::{Call, ParseError, Parsed, ScriptCall, cut_at, is_blank, parse_line, read_number};
+use nio_language::{
+    Call, ParseError, Parsed, ScriptCall, cut_at, is_blank, parse_line, read_number,
+};
 use nio_plain::Rules;
 use std::alloc::{AllocError, AllocFailed, Global};
 

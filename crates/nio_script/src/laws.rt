@@ -1,9 +1,9 @@
 //! Laws of scripts and histories. Each is the contract of a function that does nothing.
 ghost use Rattle.std.specs.Prelude.{◌≡◌, ℕ, List, All};
 ghost use Rattle.nio_base.specs.declared.limits.Limits.{Limits};
-ghost use Rattle.nio_event.specs.Calls.{IsLaterCall};
-ghost use Rattle.nio_event.specs.Script.{IsScript};
-ghost use Rattle.nio_event.specs.declared.call.ScriptCall.{ScriptCall};
+ghost use Rattle.nio_language.specs.Calls.{IsLaterCall};
+ghost use Rattle.nio_language.specs.Script.{IsScript};
+ghost use Rattle.nio_language.specs.declared.call.ScriptCall.{ScriptCall};
 ghost use Rattle.nio_plain.specs.declared.rules.Rules.{Rules};
 ghost use Rattle.nio_plain.specs.declared.rules.Rules.TheVariants.{First, Now};
 ghost use Rattle.nio_script.specs.Check.{HasLegalHistory};

@@ -1,8 +1,8 @@
 //! Scripts, from the bytes that come in to the bytes that go out.
 ghost use Rattle.std.specs.Prelude.{◌≡◌, ℕ, ◌<◌, ◌≤◌, ◌⊎◌, ◌++◌, List, length, IfSome, IfErr, IsErrOf, OnOk, OnErr};
 ghost use Rattle.nio_bytes.specs.Cause.{Rose};
-ghost use Rattle.nio_event.specs.Script.{IsScript, IsFirstBad};
-ghost use Rattle.nio_event.specs.declared.call.ScriptCall.{ScriptCall};
+ghost use Rattle.nio_language.specs.Script.{IsScript, IsFirstBad};
+ghost use Rattle.nio_language.specs.declared.call.ScriptCall.{ScriptCall};
 ghost use Rattle.nio_plain.specs.Answer.{answer_from, left_from};
 ghost use Rattle.nio_plain.specs.ScriptState.{script_opening};
 ghost use Rattle.nio_script.specs.Input.{CausesFault, StopsPastLongest};
@@ -15,7 +15,7 @@ use crate::output::{offer, put_line, write_out};
 use crate::script::{ScriptError, parse_script};
 use crate::status::Status;
 use nio_bytes::{Sink, Source};
-use nio_event::{ScriptCall, print_line};
+use nio_language::{ScriptCall, print_line};
 use nio_plain::System;
 use std::alloc::Global;
 

@@ -1,10 +1,10 @@
 //! A whole text, read as a script.
 ghost use Rattle.std.specs.Prelude.{◌≡◌, ◌∷◌, [], ℕ, List, map, IfOk, OnOk, MatchResult};
-ghost use Rattle.nio_event.specs.Script.{lines_of, AreCalls, IsScript, IsFirstBad, IsInGrammar};
-ghost use Rattle.nio_event.specs.declared.call.ScriptCall.{ScriptCall};
+ghost use Rattle.nio_language.specs.Script.{lines_of, AreCalls, IsScript, IsFirstBad, IsInGrammar};
+ghost use Rattle.nio_language.specs.declared.call.ScriptCall.{ScriptCall};
 ghost use Rattle.nio_script.specs.Entries.{Adds};
 
-use nio_event::{ParseError, Parsed, ScriptCall, parse_line};
+use nio_language::{ParseError, Parsed, ScriptCall, parse_line};
 use std::alloc::{AllocError, AllocFailed, Global};
 
 /// Why a text isn't read as a script.

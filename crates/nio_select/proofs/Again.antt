@@ -2,10 +2,10 @@
 use Rattle.std.proofs.Common.{◌≡◌, ℕ, List, ap, sym, subst}
 use Rattle.nio_base.specs.declared.numbers.CallerNo.{CallerNo}
 use Rattle.nio_base.specs.declared.numbers.SelNo.{SelNo}
-use Rattle.nio_event.specs.Conditions.{IsSelector}
-use Rattle.nio_event.specs.PassViews.{PassView, done_between}
-use Rattle.nio_event.specs.Histories.{mine}
-use Rattle.nio_event.specs.declared.act.Act.{Act}
+use Rattle.nio_history.specs.Conditions.{IsSelector}
+use Rattle.nio_history.specs.PassViews.{PassView, done_between}
+use Rattle.nio_history.specs.Histories.{mine}
+use Rattle.nio_history.specs.declared.act.Act.{Act}
 use Rattle.nio_steps.proofs.CallLaws.{call_as, returned, ran_then, left_of_call}
 use Rattle.nio_steps.proofs.EachLaws.{each_run, split}
 use Rattle.nio_steps.proofs.SelectionLaws.{NoMark, Replies, after-replies, again_goes_on}

@@ -1,11 +1,11 @@
 -- Only the selecting caller does what only it does.
 use Rattle.std.proofs.Common.{◌≡◌, [], ◌∷◌, ◌++◌, ap, sym, ◌∙◌, subst, append_assoc}
-use Rattle.nio_event.proofs.Legal.{legal_beginning}
-use Rattle.nio_event.proofs.Selections.{selects_alone}
-use Rattle.nio_event.specs.Histories.{mine, IsLegal}
-use Rattle.nio_event.specs.OwnEvents.{has, gives_turn}
-use Rattle.nio_event.specs.PassViews.{done_between}
-use Rattle.nio_event.proofs.OneMore.{has_none-append, mine-append}
+use Rattle.nio_history.proofs.Legal.{legal_beginning}
+use Rattle.nio_history.proofs.Selections.{selects_alone}
+use Rattle.nio_history.specs.Histories.{mine, IsLegal}
+use Rattle.nio_history.specs.OwnEvents.{has, gives_turn}
+use Rattle.nio_history.specs.PassViews.{done_between}
+use Rattle.nio_history.proofs.OneMore.{has_none-append, mine-append}
 use Rattle.nio_steps.proofs.StandLaws.{selections_stand}
 use Rattle.nio_select.proofs.GoneOn.{done_in}
 use Rattle.nio_select.specs.Laws.{SelectionsAreAlone}

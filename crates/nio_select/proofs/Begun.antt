@@ -5,33 +5,33 @@ use Rattle.std.specs.Prelude.{nat_lt}
 use Rattle.std.proofs.lemmas.Bool.{and_parts, and_from, or_right}
 use Rattle.nio_base.specs.declared.numbers.CallerNo.{CallerNo}
 use Rattle.nio_base.specs.declared.numbers.SelNo.{SelNo}
-use Rattle.nio_event.proofs.Finds.{step_leaves}
-use Rattle.nio_event.proofs.LastsAlone.{own_stands}
-use Rattle.nio_event.proofs.Legal.{legal_beginning}
-use Rattle.nio_event.proofs.Put.{put_at-same}
-use Rattle.nio_event.proofs.SelectedKeys.{selections_keep_keys}
-use Rattle.nio_event.proofs.Soundness.{cancelled_parts}
-use Rattle.nio_event.specs.Acts.{frees_index}
-use Rattle.nio_event.specs.Conditions.{IsSelector, has_begun, has_turn, may_put_due, may_remove_cancelled}
-use Rattle.nio_event.specs.Histories.{state_after, event_of, IsLegal}
-use Rattle.nio_event.specs.OwnEvents.{gives_turn, has}
-use Rattle.nio_event.specs.Permanent.{a_selection}
-use Rattle.nio_event.specs.Pins.{removes, IsKeptInSelection}
-use Rattle.nio_event.specs.PassViews.{PassView, Holds, known, ActsClause}
-use Rattle.nio_event.specs.Sets.{in_cancelled_set}
-use Rattle.nio_event.specs.State.{State, last_serial}
-use Rattle.nio_event.specs.declared.act.Act.{Act}
-use Rattle.nio_event.specs.declared.act.Act.TheVariants.{LookKey, BeginLook, Remove}
-use Rattle.nio_event.specs.declared.found.GateWord.{GateWord}
-use Rattle.nio_event.specs.declared.found.Stage.{Stage}
+use Rattle.nio_channel.proofs.Held.{had_stays}
+use Rattle.nio_history.proofs.Finds.{step_leaves}
+use Rattle.nio_history.proofs.LastsAlone.{own_stands}
+use Rattle.nio_history.proofs.Legal.{legal_beginning}
+use Rattle.nio_history.proofs.Put.{put_at-same}
+use Rattle.nio_history.proofs.SelectedKeys.{selections_keep_keys}
+use Rattle.nio_history.proofs.Soundness.{cancelled_parts}
+use Rattle.nio_history.specs.Acts.{frees_index}
+use Rattle.nio_history.specs.Conditions.{IsSelector, has_begun, has_turn, may_put_due, may_remove_cancelled}
+use Rattle.nio_history.specs.Histories.{state_after, event_of, IsLegal}
+use Rattle.nio_history.specs.OwnEvents.{gives_turn, has}
+use Rattle.nio_history.specs.Permanent.{a_selection}
+use Rattle.nio_history.specs.Pins.{removes, IsKeptInSelection}
+use Rattle.nio_history.specs.PassViews.{PassView, Holds, known, ActsClause}
+use Rattle.nio_history.specs.Sets.{in_cancelled_set}
+use Rattle.nio_history.specs.State.{State, last_serial}
+use Rattle.nio_history.specs.declared.act.Act.{Act}
+use Rattle.nio_history.specs.declared.act.Act.TheVariants.{LookKey, BeginLook, Remove}
+use Rattle.nio_history.specs.declared.found.GateWord.{GateWord}
+use Rattle.nio_history.specs.declared.found.Stage.{Stage}
+use Rattle.nio_select.specs.Begun.{HasBegun}
 use Rattle.nio_words.proofs.Stepping.{still_ready}
 use Rattle.nio_words.proofs.Views.{finds_drawn, step_acts, look_tells, selection_begun}
 use Rattle.nio_words.specs.Passes.{state_seen, limits_of, IsReady}
 use Rattle.nio_words.specs.Steps.{Steps}
 use Rattle.nio_words.specs.declared.words.Pass.{Pass}
 use Rattle.nio_words.specs.declared.words.Words.{Words}
-use Rattle.nio_select.specs.Begun.{HasBegun}
-use Rattle.nio_channel.proofs.Held.{had_stays}
 
 -- a step that doesn't give the turn back leaves the selection begun
 pub begun_stays : {w : Words} {p q : Pass} {me : CallerNo} {act : Act} {s : SelNo} → Steps w p q me act

@@ -2,12 +2,12 @@
 use Rattle.std.proofs.Common.{◌≡◌, ℕ, true, List, [], ◌∷◌, ◌++◌, refl, ap, sym, ◌∙◌, subst, append_assoc}
 use Rattle.std.specs.Prelude.{⊤, is_some}
 use Rattle.nio_base.specs.declared.numbers.SelNo.{SelNo}
-use Rattle.nio_event.specs.Histories.{state_after, mine, event_of, IsLegal}
-use Rattle.nio_event.specs.PassViews.{done_between}
-use Rattle.nio_event.specs.Questions.{answer_of}
-use Rattle.nio_event.specs.Sets.{was_claimed, was_removed}
-use Rattle.nio_event.specs.declared.act.Act.{Act}
-use Rattle.nio_event.specs.declared.act.Act.TheVariants.{LookKeys}
+use Rattle.nio_history.specs.Histories.{state_after, mine, event_of, IsLegal}
+use Rattle.nio_history.specs.PassViews.{done_between}
+use Rattle.nio_history.specs.Questions.{answer_of}
+use Rattle.nio_history.specs.Sets.{was_claimed, was_removed}
+use Rattle.nio_history.specs.declared.act.Act.{Act}
+use Rattle.nio_history.specs.declared.act.Act.TheVariants.{LookKeys}
 use Rattle.nio_steps.proofs.OwnActs.{cut_at}
 use Rattle.nio_steps.proofs.Walks.{Always, always_run, always_bind, always_if, always_any}
 use Rattle.nio_steps.specs.Laws.{ClosedRemovesKeys}

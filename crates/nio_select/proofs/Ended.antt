@@ -3,12 +3,12 @@ use Rattle.std.proofs.Common.{◌≡◌, ℕ, Bool, true, false, List, [], ◌�
 use Rattle.std.proofs.lemmas.Bool.{and_parts}
 use Rattle.nio_base.specs.declared.numbers.CallerNo.{CallerNo}
 use Rattle.nio_base.specs.declared.numbers.SelNo.{SelNo}
-use Rattle.nio_event.specs.Conditions.{has_turn}
-use Rattle.nio_event.specs.PassViews.{PassView, ActsClause}
-use Rattle.nio_event.specs.declared.act.Act.TheVariants.{LookGate, LookInterrupt, EndWake, GiveTurn}
-use Rattle.nio_event.specs.declared.found.GateWord.{GateWord}
-use Rattle.nio_event.specs.declared.found.Mode.{Mode}
-use Rattle.nio_event.specs.declared.reply.Why.{Why}
+use Rattle.nio_history.specs.Conditions.{has_turn}
+use Rattle.nio_history.specs.PassViews.{PassView, ActsClause}
+use Rattle.nio_history.specs.declared.act.Act.TheVariants.{LookGate, LookInterrupt, EndWake, GiveTurn}
+use Rattle.nio_history.specs.declared.found.GateWord.{GateWord}
+use Rattle.nio_history.specs.declared.found.Mode.{Mode}
+use Rattle.nio_history.specs.declared.why.Why.{Why}
 use Rattle.nio_steps.proofs.CallLaws.{returned, left_ask, left_else, left_after, left_of_call, ran_then}
 use Rattle.nio_steps.proofs.StandLaws.{selections_stand}
 use Rattle.nio_steps.specs.Calls.{CallClause}

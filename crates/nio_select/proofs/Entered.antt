@@ -5,18 +5,19 @@ use Rattle.std.specs.Prelude.{nat_lt, is_some, IsTrue}
 use Rattle.std.proofs.lemmas.Bool.{and_parts, and_from, or_left, or_right, lt-ltb}
 use Rattle.nio_base.specs.declared.numbers.CallerNo.{CallerNo}
 use Rattle.nio_base.specs.declared.numbers.SelNo.{SelNo}
-use Rattle.nio_event.proofs.Finds.{step_leaves}
-use Rattle.nio_event.proofs.OneMore.{has-more, since_first-append}
-use Rattle.nio_event.proofs.Put.{put-same}
-use Rattle.nio_event.specs.Conditions.{IsSelector, is_closer, has_entered, may_remove_cancelled, may_clear_out}
-use Rattle.nio_event.specs.Histories.{state_after}
-use Rattle.nio_event.specs.OwnEvents.{has, enters, since_entered, finds_below}
-use Rattle.nio_event.specs.PassViews.{Holds, ActsClause}
-use Rattle.nio_event.specs.Permanent.{selector_closed_by, selector_entered}
-use Rattle.nio_event.specs.State.{State}
-use Rattle.nio_event.specs.declared.act.Act.{Act}
-use Rattle.nio_event.specs.declared.act.Act.TheVariants.{LookKeys, Enter}
-use Rattle.nio_event.proofs.PassViews.{lasts_over}
+use Rattle.nio_channel.proofs.Claimed.{mark_inside}
+use Rattle.nio_history.proofs.Finds.{step_leaves}
+use Rattle.nio_history.proofs.OneMore.{has-more, since_first-append}
+use Rattle.nio_history.proofs.Put.{put-same}
+use Rattle.nio_history.specs.Conditions.{IsSelector, is_closer, has_entered, may_remove_cancelled, may_clear_out}
+use Rattle.nio_history.specs.Histories.{state_after}
+use Rattle.nio_history.specs.OwnEvents.{has, enters, since_entered, finds_below}
+use Rattle.nio_history.specs.PassViews.{Holds, ActsClause}
+use Rattle.nio_history.specs.Permanent.{selector_closed_by, selector_entered}
+use Rattle.nio_history.specs.State.{State}
+use Rattle.nio_history.specs.declared.act.Act.{Act}
+use Rattle.nio_history.specs.declared.act.Act.TheVariants.{LookKeys, Enter}
+use Rattle.nio_history.proofs.PassViews.{lasts_over}
 use Rattle.nio_words.proofs.Stepping.{still_ready}
 use Rattle.nio_words.proofs.Views.{finds_drawn, step_acts}
 use Rattle.nio_words.specs.Passes.{IsReady, acts_seen, limits_of, seen, state_seen}
@@ -24,7 +25,6 @@ use Rattle.nio_words.specs.Steps.{Steps}
 use Rattle.nio_words.specs.Views.{view}
 use Rattle.nio_words.specs.declared.words.Pass.{Pass}
 use Rattle.nio_words.specs.declared.words.Words.{Words}
-use Rattle.nio_channel.proofs.Claimed.{mark_inside}
 use Rattle.nio_select.specs.Entered.{HasEntered}
 
 -- ---- the finishing caller

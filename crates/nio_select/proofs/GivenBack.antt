@@ -6,27 +6,27 @@ use Rattle.std.proofs.lemmas.Bool.{and_parts, and_from}
 use Rattle.nio_base.specs.declared.limits.Limits.{Limits}
 use Rattle.nio_base.specs.declared.numbers.CallerNo.{CallerNo}
 use Rattle.nio_base.specs.declared.numbers.SelNo.{SelNo}
-use Rattle.nio_event.proofs.Clauses.{last_of-later}
-use Rattle.nio_event.proofs.Finds.{last_event, step_leaves}
-use Rattle.nio_event.proofs.Keeping.{stands_while}
-use Rattle.nio_event.proofs.LastsAlone.{one_holder}
-use Rattle.nio_event.proofs.Legal.{not_empty, legal_beginning}
-use Rattle.nio_event.proofs.OneMore.{state_after-more}
-use Rattle.nio_event.proofs.Put.{put_keeps, put-same}
-use Rattle.nio_event.specs.Acts.{effect}
-use Rattle.nio_event.specs.Conditions.{Condition, is_held_by, has_turn}
-use Rattle.nio_event.specs.Histories.{state_after, mine, event_of, last_of, EndsWith, IsLegal}
-use Rattle.nio_event.specs.Holders.{Keeps, ends_wakeup}
-use Rattle.nio_event.specs.OwnEvents.{has, gives_turn}
-use Rattle.nio_event.specs.PassViews.{PassView, Holds, known, done_between, ActsClause}
-use Rattle.nio_event.specs.Permanent.{the_turn}
-use Rattle.nio_event.specs.Questions.{Question, question_of, answer_of}
-use Rattle.nio_event.specs.State.{State}
-use Rattle.nio_event.specs.declared.act.Act.{Act}
-use Rattle.nio_event.specs.declared.act.Act.TheVariants.{LookKeys, TakeTurn, BeginLook, GiveTurn, Wake, EndWake}
-use Rattle.nio_event.specs.declared.act.Act.TheVariants.{ShutBit}
-use Rattle.nio_event.specs.declared.event.Event.{Event}
-use Rattle.nio_event.specs.declared.found.Mode.{Mode}
+use Rattle.nio_history.proofs.Clauses.{last_of-later}
+use Rattle.nio_history.proofs.Finds.{last_event, step_leaves}
+use Rattle.nio_history.proofs.Keeping.{stands_while}
+use Rattle.nio_history.proofs.LastsAlone.{one_holder}
+use Rattle.nio_history.proofs.Legal.{not_empty, legal_beginning}
+use Rattle.nio_history.proofs.OneMore.{state_after-more}
+use Rattle.nio_history.proofs.Put.{put_keeps, put-same}
+use Rattle.nio_history.specs.Acts.{effect}
+use Rattle.nio_history.specs.Conditions.{Condition, is_held_by, has_turn}
+use Rattle.nio_history.specs.Histories.{state_after, mine, event_of, last_of, EndsWith, IsLegal}
+use Rattle.nio_history.specs.Holders.{Keeps, ends_wakeup}
+use Rattle.nio_history.specs.OwnEvents.{has, gives_turn}
+use Rattle.nio_history.specs.PassViews.{PassView, Holds, known, done_between, ActsClause}
+use Rattle.nio_history.specs.Permanent.{the_turn}
+use Rattle.nio_history.specs.Questions.{Question, question_of, answer_of}
+use Rattle.nio_history.specs.State.{State}
+use Rattle.nio_history.specs.declared.act.Act.{Act}
+use Rattle.nio_history.specs.declared.act.Act.TheVariants.{LookKeys, TakeTurn, BeginLook, GiveTurn, Wake, EndWake}
+use Rattle.nio_history.specs.declared.act.Act.TheVariants.{ShutBit}
+use Rattle.nio_history.specs.declared.event.Event.{Event}
+use Rattle.nio_history.specs.declared.found.Mode.{Mode}
 use Rattle.nio_steps.proofs.OwnActs.{Cut, cut_at}
 use Rattle.nio_steps.proofs.StandLaws.{look-act, selections_stand}
 use Rattle.nio_steps.proofs.Walks.{Always, always_run, always_if}

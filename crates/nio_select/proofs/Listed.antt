@@ -6,7 +6,7 @@ use Rattle.std.proofs.lemmas.List.{length-map}
 use Rattle.std.specs.List.{All, AllPairs}
 use Rattle.nio_base.specs.declared.numbers.CallerNo.{CallerNo}
 use Rattle.nio_base.specs.declared.numbers.SelNo.{SelNo}
-use Rattle.nio_event.specs.PassViews.{PassView, done_between}
+use Rattle.nio_history.specs.PassViews.{PassView, done_between}
 use Rattle.nio_steps.proofs.EachLaws.{each_run}
 use Rattle.nio_steps.proofs.OrderLaws.{IsListed, list-rises, Rises, over-rises}
 use Rattle.nio_steps.specs.Calls.{CallClause}

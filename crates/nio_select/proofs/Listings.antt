@@ -4,10 +4,10 @@ use Rattle.std.specs.Prelude.{IsErrAnd}
 use Rattle.nio_base.specs.declared.numbers.CallerNo.{CallerNo}
 use Rattle.nio_base.specs.declared.numbers.KeyNo.{KeyNo}
 use Rattle.nio_base.specs.declared.numbers.SelNo.{SelNo}
-use Rattle.nio_event.specs.PassViews.{PassView, ActsClause}
-use Rattle.nio_event.specs.declared.act.Act.{Act}
-use Rattle.nio_event.specs.declared.act.Act.TheVariants.{LookGate, LookKeys}
-use Rattle.nio_event.specs.declared.found.GateWord.{GateWord}
+use Rattle.nio_history.specs.PassViews.{PassView, ActsClause}
+use Rattle.nio_history.specs.declared.act.Act.{Act}
+use Rattle.nio_history.specs.declared.act.Act.TheVariants.{LookGate, LookKeys}
+use Rattle.nio_history.specs.declared.found.GateWord.{GateWord}
 use Rattle.nio_steps.proofs.CallLaws.{call_as, returned, left_ask, left_else, left_after, left_of_call}
 use Rattle.nio_steps.specs.Calls.{CallClause}
 use Rattle.nio_steps.specs.Plan.{Plan}

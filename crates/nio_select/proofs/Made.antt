@@ -2,12 +2,12 @@
 use Rattle.std.proofs.Common.{◌≡◌, Bool, true, [], ◌∷◌, ◌++◌, ap, ◌∙◌}
 use Rattle.nio_base.specs.declared.numbers.CallerNo.{CallerNo}
 use Rattle.nio_base.specs.declared.numbers.SelNo.{SelNo}
-use Rattle.nio_event.proofs.Finds.{step_leaves}
-use Rattle.nio_event.proofs.Put.{put-same}
-use Rattle.nio_event.specs.Histories.{state_after}
-use Rattle.nio_event.specs.PassViews.{PassView, Holds, known, ActsClause}
-use Rattle.nio_event.specs.State.{State}
-use Rattle.nio_event.specs.declared.act.Act.TheVariants.{MakeSelector}
+use Rattle.nio_history.proofs.Finds.{step_leaves}
+use Rattle.nio_history.proofs.Put.{put-same}
+use Rattle.nio_history.specs.Histories.{state_after}
+use Rattle.nio_history.specs.PassViews.{PassView, Holds, known, ActsClause}
+use Rattle.nio_history.specs.State.{State}
+use Rattle.nio_history.specs.declared.act.Act.TheVariants.{MakeSelector}
 
 -- a selector that was just made is made
 pub made_now : {me : CallerNo} {s : SelNo} {found : Bool} {v0 v1 : PassView}

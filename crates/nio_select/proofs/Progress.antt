@@ -3,10 +3,10 @@ use Rattle.std.proofs.Common.{Result, Ok, Err, IfOk, sym, subst}
 use Rattle.nio_base.specs.declared.numbers.CallerNo.{CallerNo}
 use Rattle.nio_base.specs.declared.numbers.SelNo.{SelNo}
 use Rattle.nio_base.specs.declared.limits.Limits.{Limits}
-use Rattle.nio_event.specs.Conditions.{IsSelector}
-use Rattle.nio_event.specs.Histories.{mine}
-use Rattle.nio_event.specs.PassViews.{PassView, done_between}
-use Rattle.nio_event.specs.declared.found.Mode.{Mode}
+use Rattle.nio_history.specs.Conditions.{IsSelector}
+use Rattle.nio_history.specs.Histories.{mine}
+use Rattle.nio_history.specs.PassViews.{PassView, done_between}
+use Rattle.nio_history.specs.declared.found.Mode.{Mode}
 use Rattle.nio_steps.proofs.BeginLaws.{begin-parts}
 use Rattle.nio_steps.proofs.SelectionLaws.{begins_selection}
 use Rattle.nio_steps.specs.Calls.{CallClause}

@@ -7,16 +7,16 @@ use Rattle.std.proofs.lemmas.List.{append_cancel_left}
 use Rattle.std.proofs.lemmas.List.Folds.{list_any-append}
 use Rattle.nio_base.specs.Limits.{IsFit}
 use Rattle.nio_base.specs.declared.numbers.SelNo.{SelNo}
-use Rattle.nio_event.specs.Answers.{count_below}
-use Rattle.nio_event.specs.Histories.{state_after, mine, event_of, IsLegal}
-use Rattle.nio_event.specs.OwnEvents.{has, count, gives_turn}
-use Rattle.nio_event.specs.PassViews.{done_between}
-use Rattle.nio_event.specs.Sets.{was_removed}
-use Rattle.nio_event.specs.Turns.{removes_on}
-use Rattle.nio_event.specs.declared.act.Act.{Act}
-use Rattle.nio_event.specs.declared.act.Act.TheVariants.{BeginLook, EndWake}
-use Rattle.nio_event.specs.declared.event.Event.{Event}
-use Rattle.nio_event.proofs.OneMore.{mine-append}
+use Rattle.nio_history.specs.Answers.{count_below}
+use Rattle.nio_history.specs.Histories.{state_after, mine, event_of, IsLegal}
+use Rattle.nio_history.specs.OwnEvents.{has, count, gives_turn}
+use Rattle.nio_history.specs.PassViews.{done_between}
+use Rattle.nio_history.specs.Sets.{was_removed}
+use Rattle.nio_history.specs.Turns.{removes_on}
+use Rattle.nio_history.specs.declared.act.Act.{Act}
+use Rattle.nio_history.specs.declared.act.Act.TheVariants.{BeginLook, EndWake}
+use Rattle.nio_history.specs.declared.event.Event.{Event}
+use Rattle.nio_history.proofs.OneMore.{mine-append}
 use Rattle.nio_steps.specs.Bound.{disturbs, finds_listed, IsWhole, SelectionIsBounded}
 use Rattle.nio_steps.specs.ChannelCalls.{words_below}
 use Rattle.nio_steps.specs.Laws.{CancelledKeysGo}

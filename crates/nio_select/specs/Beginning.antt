@@ -1,8 +1,8 @@
 -- The parts of the beginning of a selection, each with this answer.
 use Rattle.std.specs.Prelude.{ℕ, List, Result}
 use Rattle.nio_base.specs.declared.numbers.SelNo.{SelNo}
-use Rattle.nio_event.specs.declared.act.Act.{Act}
-use Rattle.nio_event.specs.declared.found.Mode.{Mode}
+use Rattle.nio_history.specs.declared.act.Act.{Act}
+use Rattle.nio_history.specs.declared.found.Mode.{Mode}
 use Rattle.nio_steps.specs.Runs.{Completes}
 use Rattle.nio_steps.specs.SelectCalls.{Selection, begin_open, begin_with_turn, begin_below, begin_lacks_memory}
 use Rattle.nio_steps.specs.declared.refusal.BeginError.{BeginError}

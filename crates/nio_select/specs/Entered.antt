@@ -2,8 +2,8 @@
 use Rattle.std.specs.Prelude.{IsTrue}
 use Rattle.nio_base.specs.declared.numbers.CallerNo.{CallerNo}
 use Rattle.nio_base.specs.declared.numbers.SelNo.{SelNo}
-use Rattle.nio_event.specs.Conditions.{IsSelector, has_entered}
-use Rattle.nio_event.specs.OwnEvents.{has, enters}
+use Rattle.nio_history.specs.Conditions.{IsSelector, has_entered}
+use Rattle.nio_history.specs.OwnEvents.{has, enters}
 use Rattle.nio_words.specs.Passes.{IsReady, limits_of, state_seen, acts_seen}
 use Rattle.nio_words.specs.declared.words.Pass.{Pass}
 use Rattle.nio_words.specs.declared.words.Words.{Words}

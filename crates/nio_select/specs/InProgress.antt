@@ -2,9 +2,9 @@
 use Rattle.std.specs.Prelude.{⊤}
 use Rattle.nio_base.specs.declared.numbers.CallerNo.{CallerNo}
 use Rattle.nio_base.specs.declared.numbers.SelNo.{SelNo}
-use Rattle.nio_event.specs.Conditions.{IsSelector}
-use Rattle.nio_event.specs.Histories.{mine}
-use Rattle.nio_event.specs.PassViews.{PassView}
+use Rattle.nio_history.specs.Conditions.{IsSelector}
+use Rattle.nio_history.specs.Histories.{mine}
+use Rattle.nio_history.specs.PassViews.{PassView}
 use Rattle.nio_steps.specs.SelectCalls.{Selection, Poll, ToldReply, done, again, ShutReply, closing, already_closed}
 use Rattle.nio_steps.specs.SelectCalls.{FinishReply, closed, busy}
 use Rattle.nio_steps.specs.Selections.{IsBegun, IsClosing}

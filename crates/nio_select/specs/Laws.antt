@@ -6,16 +6,16 @@ use mathlib.Core.List.{IsPrefix}
 use Rattle.nio_base.specs.Limits.{IsFit}
 use Rattle.nio_base.specs.declared.numbers.CallerNo.{CallerNo}
 use Rattle.nio_base.specs.declared.numbers.SelNo.{SelNo}
-use Rattle.nio_event.specs.Answers.{count_below}
-use Rattle.nio_event.specs.Histories.{state_after, event_of, IsLegal}
-use Rattle.nio_event.specs.OwnEvents.{has, count, gives_turn}
-use Rattle.nio_event.specs.PassViews.{PassView, known, done_between}
-use Rattle.nio_event.specs.Sets.{was_claimed, was_published, was_cancelled, was_removed}
-use Rattle.nio_event.specs.Turns.{removes_on, selects_on}
-use Rattle.nio_event.specs.declared.act.Act.TheVariants.{TakeTurn, BeginLook, EndWake, LookKeys}
-use Rattle.nio_event.specs.declared.event.Event.{Event}
-use Rattle.nio_event.specs.declared.found.GateWord.{GateWord}
-use Rattle.nio_event.specs.declared.found.Mode.{Mode}
+use Rattle.nio_history.specs.Answers.{count_below}
+use Rattle.nio_history.specs.Histories.{state_after, event_of, IsLegal}
+use Rattle.nio_history.specs.OwnEvents.{has, count, gives_turn}
+use Rattle.nio_history.specs.PassViews.{PassView, known, done_between}
+use Rattle.nio_history.specs.Sets.{was_claimed, was_published, was_cancelled, was_removed}
+use Rattle.nio_history.specs.Turns.{removes_on, selects_on}
+use Rattle.nio_history.specs.declared.act.Act.TheVariants.{TakeTurn, BeginLook, EndWake, LookKeys}
+use Rattle.nio_history.specs.declared.event.Event.{Event}
+use Rattle.nio_history.specs.declared.found.GateWord.{GateWord}
+use Rattle.nio_history.specs.declared.found.Mode.{Mode}
 use Rattle.nio_steps.specs.Bound.{disturbs, finds_listed}
 use Rattle.nio_steps.specs.Calls.{CallClause}
 use Rattle.nio_steps.specs.ChannelCalls.{words_below}

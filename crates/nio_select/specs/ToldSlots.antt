@@ -3,7 +3,7 @@ use Rattle.std.specs.Prelude.{ℕ, ◌+◌, ◌==◌, ◌<◌, ◌^◌, List, le
 use Rattle.std.specs.List.{All, AllPairs}
 use Rattle.nio_base.specs.declared.limits.Limits.{Limits}
 use Rattle.nio_base.specs.declared.numbers.SelNo.{SelNo}
-use Rattle.nio_event.specs.Conditions.{IsKey}
+use Rattle.nio_history.specs.Conditions.{IsKey}
 use Rattle.nio_steps.specs.Plan.{Plan, reply, ◌>>=◌}
 use Rattle.nio_steps.specs.SelectCalls.{mark_told, told_of}
 use Rattle.nio_select.specs.declared.asked.Slot.{Slot}

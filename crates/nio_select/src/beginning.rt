@@ -1,8 +1,8 @@
 //! Beginning a selection.
 ghost use Rattle.std.specs.Prelude.{◌≡◌, ◌+◌, ◌*◌, ◌<◌, ◌≤◌, ◌++◌, [], IfOk, IsTrue, All, length};
 ghost use Rattle.std.specs.Vec.{vec_len, vec_capacity};
-ghost use Rattle.nio_event.specs.Conditions.{IsKey, IsSelector, has_turn};
-ghost use Rattle.nio_event.specs.PassViews.{HasSelector};
+ghost use Rattle.nio_history.specs.Conditions.{IsKey, IsSelector, has_turn};
+ghost use Rattle.nio_history.specs.PassViews.{HasSelector};
 ghost use Rattle.nio_steps.specs.Calls.{CallClause};
 ghost use Rattle.nio_steps.specs.ChannelCalls.{words_below as count_words_below};
 ghost use Rattle.nio_steps.specs.Runs.{Completes};
@@ -22,7 +22,7 @@ use crate::removing::remove_cancelled;
 use crate::selecting::Selecting;
 use crate::stages::{is_in_cancelled_set, is_valid};
 use nio_base::{CallerNo, Ops, SelNo};
-use nio_event::{Mode, Stage};
+use nio_history::{Mode, Stage};
 use nio_steps::{BeginError, LookedKey};
 use nio_words::{Pass, Words};
 use std::alloc::Global;

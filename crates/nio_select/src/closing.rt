@@ -1,6 +1,6 @@
 //! Closing a selector.
 ghost use Rattle.std.specs.Prelude.{◌≡◌};
-ghost use Rattle.nio_event.specs.PassViews.{HasSelector};
+ghost use Rattle.nio_history.specs.PassViews.{HasSelector};
 ghost use Rattle.nio_steps.specs.Calls.{CallClause};
 ghost use Rattle.nio_steps.specs.Runs.{Completes};
 ghost use Rattle.nio_steps.specs.SelectCalls.{shut_plan, try_finish_plan, closed, remove_keys as removes_keys};

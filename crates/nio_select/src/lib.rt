@@ -15,7 +15,7 @@ pub use beginning::try_begin;
 pub use closing::{Closing, Finish, Shutting, shut};
 pub use laws::{alone_law, closed_law, gone_law, steps_law, turn_law};
 pub use listing::{keys, selected_keys};
-pub use nio_event::Mode;
+pub use nio_history::Mode;
 pub use nio_steps::{BeginError, ListError, LookedKey, Selected, SelectorsSpent};
 pub use opening::open_selector;
 pub use selecting::{After, Selecting};

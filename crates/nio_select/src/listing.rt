@@ -1,8 +1,8 @@
 //! Listing a selector's keys.
 ghost use Rattle.std.specs.Prelude.{◌≡◌, ◌+◌, ◌<◌, ◌≤◌, [], Ok, IsTrue};
 ghost use Rattle.std.specs.Vec.{vec_len, vec_capacity};
-ghost use Rattle.nio_event.specs.Conditions.{AllClaimed, IsKey, IsSelector, is_claimed};
-ghost use Rattle.nio_event.specs.PassViews.{HasSelector, HasNoPin};
+ghost use Rattle.nio_history.specs.Conditions.{AllClaimed, IsKey, IsSelector, is_claimed};
+ghost use Rattle.nio_history.specs.PassViews.{HasSelector, HasNoPin};
 ghost use Rattle.nio_steps.specs.Calls.{CallClause};
 ghost use Rattle.nio_steps.specs.SelectCalls.{ListsKeys, ListsSelected, list_key as lists_key};
 ghost use Rattle.nio_steps.specs.SelectCalls.{list_selected as lists_selected, list_present, list_all};
@@ -15,7 +15,7 @@ ghost use Rattle.nio_select.specs.Listed.{ok_seen};
 use crate::lists::add;
 use crate::stages::is_in_key_set;
 use nio_base::{CallerNo, KeyNo, SelNo};
-use nio_event::Stage;
+use nio_history::Stage;
 use nio_steps::ListError;
 use nio_words::{Pass, Words};
 use std::alloc::Global;

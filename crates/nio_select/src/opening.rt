@@ -1,7 +1,7 @@
 //! Opening a selector.
 ghost use Rattle.std.specs.Prelude.{IfOk, IfSome};
-ghost use Rattle.nio_event.specs.Conditions.{IsSelector};
-ghost use Rattle.nio_event.specs.PassViews.{HasSelector};
+ghost use Rattle.nio_history.specs.Conditions.{IsSelector};
+ghost use Rattle.nio_history.specs.PassViews.{HasSelector};
 ghost use Rattle.nio_steps.specs.Calls.{CallClause};
 ghost use Rattle.nio_steps.specs.Names.{selector};
 ghost use Rattle.nio_steps.specs.Runs.{Completes};

@@ -1,6 +1,6 @@
 //! Removing cancelled keys within a selection.
 ghost use Rattle.std.specs.Prelude.{◌≡◌, IsTrue};
-ghost use Rattle.nio_event.specs.Conditions.{IsKey, has_begun, may_remove_cancelled};
+ghost use Rattle.nio_history.specs.Conditions.{IsKey, has_begun, may_remove_cancelled};
 ghost use Rattle.nio_steps.specs.Calls.{CallClause};
 ghost use Rattle.nio_steps.specs.Runs.{Completes};
 ghost use Rattle.nio_steps.specs.SelectCalls.{remove_cancelled as removes_cancelled};
@@ -11,7 +11,7 @@ ghost use Rattle.nio_select.specs.Begun.{HasBegun};
 
 use crate::stages::is_in_cancelled_set;
 use nio_base::{CallerNo, SelNo};
-use nio_event::Stage;
+use nio_history::Stage;
 use nio_words::{Pass, Words};
 
 // Removes the key that the index has, where it is in the cancelled set.

@@ -1,6 +1,6 @@
 //! A selection in progress.
 ghost use Rattle.std.specs.Prelude.{◌≡◌, ◌<◌, All};
-ghost use Rattle.nio_event.specs.PassViews.{ActsClause};
+ghost use Rattle.nio_history.specs.PassViews.{ActsClause};
 ghost use Rattle.nio_steps.specs.Calls.{CallClause};
 ghost use Rattle.nio_steps.specs.Runs.{Completes};
 ghost use Rattle.nio_steps.specs.SelectCalls.{Tells, leave_plan, after_marks as after_marks_plan, end_selection};
@@ -15,7 +15,7 @@ use crate::removing::remove_if_cancelled;
 use crate::telling::{is_again, mark_asked, why_ended};
 use crate::told::Told;
 use nio_base::{CallerNo, SelNo};
-use nio_event::Mode;
+use nio_history::Mode;
 use nio_steps::Selected;
 use nio_words::{Pass, Words};
 use std::marker::Model;

@@ -1,8 +1,8 @@
 //! In which sets the key is that an index has.
 ghost use Rattle.std.specs.Prelude.{◌≡◌};
-ghost use Rattle.nio_event.specs.Sets.{in_key_set, in_cancelled_set, is_valid as is_valid_stage};
+ghost use Rattle.nio_history.specs.Sets.{in_key_set, in_cancelled_set, is_valid as is_valid_stage};
 
-use nio_event::Stage;
+use nio_history::Stage;
 
 // Whether it is in the key set: published and not removed.
 pub(crate) fn is_in_key_set(stage: Stage) -> bool

@@ -1,7 +1,7 @@
 //! The steps of a selection that is told what its poller answered.
 ghost use Rattle.std.specs.Prelude.{◌≡◌, ◌≢◌, ◌<◌, ◌≤◌, ◌==◌, not, [], All, IsTrue, MatchOption, length};
 ghost use Rattle.std.specs.List.{HoldsAt};
-ghost use Rattle.nio_event.specs.Conditions.{IsKey};
+ghost use Rattle.nio_history.specs.Conditions.{IsKey};
 ghost use Rattle.nio_steps.specs.Calls.{CallClause};
 ghost use Rattle.nio_steps.specs.Runs.{Completes};
 ghost use Rattle.nio_steps.specs.SelectCalls.{is_again as goes_on, why_ended as why, mark_entry as marks_entry};
@@ -15,7 +15,7 @@ ghost use Rattle.nio_select.specs.ToldSlots.{Rise, AreCountable, told_slots, tol
 
 use crate::asked::{Asked, Slot};
 use nio_base::{CallerNo, Ops, SelNo};
-use nio_event::{GateWord, Mark, Mode, Why};
+use nio_history::{GateWord, Mark, Mode, Why};
 use nio_words::{Pass, Words};
 
 // Marks the keys of which something was told that they are interested in. Answers how many marks succeeded.

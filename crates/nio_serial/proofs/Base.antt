@@ -5,12 +5,12 @@ use Rattle.std.proofs.Common.{is_some, Result, Err, refl, ap, sym, ◌∙◌}
 use Rattle.nio_base.specs.declared.numbers.CallerNo.{CallerNo}
 use Rattle.nio_base.specs.declared.numbers.ChanNo.{ChanNo}
 use Rattle.nio_base.specs.declared.numbers.SelNo.{SelNo}
-use Rattle.nio_event.proofs.Put.{put_keeps, put_at_keeps, put_both, put_at_both, put_at-same}
-use Rattle.nio_event.specs.Acts.{taken_by}
-use Rattle.nio_event.specs.Sets.{fits, in_key_set, is_in_key_set, in_cancelled_set, is_valid, is_valid_key}
-use Rattle.nio_event.specs.State.{State, put, put_at, with_hold, with_pin, with_key, with_mark}
-use Rattle.nio_event.specs.declared.found.Mark.{Mark}
-use Rattle.nio_event.specs.declared.found.Stage.{Stage}
+use Rattle.nio_history.proofs.Put.{put_keeps, put_at_keeps, put_both, put_at_both, put_at-same}
+use Rattle.nio_history.specs.Acts.{taken_by}
+use Rattle.nio_history.specs.Sets.{fits, in_key_set, is_in_key_set, in_cancelled_set, is_valid, is_valid_key}
+use Rattle.nio_history.specs.State.{State, put, put_at, with_hold, with_pin, with_key, with_mark}
+use Rattle.nio_history.specs.declared.found.Mark.{Mark}
+use Rattle.nio_history.specs.declared.found.Stage.{Stage}
 use Rattle.nio_plain.specs.Seq.Replies.{Replied}
 use Rattle.nio_steps.proofs.PerformLaws.{perform-bind}
 use Rattle.nio_steps.specs.ChannelCalls.{under_hold}

@@ -10,12 +10,12 @@ use Rattle.std.proofs.lemmas.List.Folds.{list_any-append}
 use Rattle.std.specs.List.{AllPairs, Contains, list_any}
 use Rattle.nio_base.specs.declared.numbers.CallerNo.{CallerNo}
 use Rattle.nio_base.specs.declared.numbers.SelNo.{SelNo}
-use Rattle.nio_event.specs.Acts.{taken_by}
-use Rattle.nio_event.specs.Sets.{in_key_set, in_cancelled_set, is_valid}
-use Rattle.nio_event.specs.State.{State, put, with_turn, with_begun}
-use Rattle.nio_event.specs.declared.found.Mode.{Mode}
-use Rattle.nio_event.specs.declared.found.Stage.{Stage}
-use Rattle.nio_event.specs.declared.reply.Reply.TheVariants as reply
+use Rattle.nio_history.specs.Acts.{taken_by}
+use Rattle.nio_history.specs.Sets.{in_key_set, in_cancelled_set, is_valid}
+use Rattle.nio_history.specs.State.{State, put, with_turn, with_begun}
+use Rattle.nio_history.specs.declared.found.Mode.{Mode}
+use Rattle.nio_history.specs.declared.found.Stage.{Stage}
+use Rattle.nio_language.specs.declared.reply.Reply.TheVariants as reply
 use Rattle.nio_plain.proofs.Found.{below_all}
 use Rattle.nio_plain.specs.ScriptState.{ScriptState}
 use Rattle.nio_plain.specs.Seq.Replies.{unchanged}

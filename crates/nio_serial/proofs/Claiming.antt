@@ -9,9 +9,9 @@ use Rattle.nio_base.specs.declared.numbers.CallerNo.{CallerNo}
 use Rattle.nio_base.specs.declared.numbers.ChanNo.{ChanNo}
 use Rattle.nio_base.specs.declared.numbers.KeyId.{KeyId}
 use Rattle.nio_base.specs.declared.numbers.SelNo.{SelNo}
-use Rattle.nio_event.specs.Acts.{new_key}
-use Rattle.nio_event.specs.Answers.{count_below, is_pinned, free_word}
-use Rattle.nio_event.specs.State.{State, put, put_at, with_key, with_pin, with_free, with_taker}
+use Rattle.nio_history.specs.Acts.{new_key}
+use Rattle.nio_history.specs.Answers.{count_below, is_pinned, free_word}
+use Rattle.nio_history.specs.State.{State, put, put_at, with_key, with_pin, with_free, with_taker}
 use Rattle.nio_plain.specs.Seq.Names.{below}
 use Rattle.nio_steps.proofs.PerformLaws.{perform_then_on, perform_seek, indexes, indexes-push, found_at}
 use Rattle.nio_steps.proofs.SweepLaws.{seek_to-turn, seek_to-done}

@@ -4,10 +4,10 @@ use Rattle.std.proofs.Common.{Option, Some, None, is_some, is_none, ⊎_elim, re
 use Rattle.std.proofs.lemmas.Bool.{both_ways, and_right, and_from, cases_lt, lt-ltb, le-ltb}
 use Rattle.nio_base.specs.declared.numbers.CallerNo.{CallerNo}
 use Rattle.nio_base.specs.declared.numbers.SelNo.{SelNo}
-use Rattle.nio_event.specs.Acts.{frees_index}
-use Rattle.nio_event.specs.State.{State, put_at, with_entered}
-use Rattle.nio_event.specs.declared.found.Stage.{Stage}
-use Rattle.nio_event.specs.declared.reply.Reply.TheVariants as reply
+use Rattle.nio_history.specs.Acts.{frees_index}
+use Rattle.nio_history.specs.State.{State, put_at, with_entered}
+use Rattle.nio_history.specs.declared.found.Stage.{Stage}
+use Rattle.nio_language.specs.declared.reply.Reply.TheVariants as reply
 use Rattle.nio_plain.proofs.Naming.{selector-through}
 use Rattle.nio_plain.specs.ScriptState.{ScriptState}
 use Rattle.nio_plain.specs.Seq.Replies.{unchanged, replied}

@@ -6,10 +6,10 @@ use Rattle.nio_base.specs.declared.limits.Limits.{Limits}
 use Rattle.nio_base.specs.declared.numbers.CallerNo.{CallerNo}
 use Rattle.nio_base.specs.declared.numbers.KeyId.{KeyId}
 use Rattle.nio_base.specs.declared.numbers.SelNo.{SelNo}
-use Rattle.nio_event.specs.Sets.{in_key_set, is_in_key_set}
-use Rattle.nio_event.specs.State.{State, unmarked, unclaimed}
-use Rattle.nio_event.specs.declared.found.Mark.{Mark}
-use Rattle.nio_event.specs.declared.found.Stage.{Stage}
+use Rattle.nio_history.specs.Sets.{in_key_set, is_in_key_set}
+use Rattle.nio_history.specs.State.{State, unmarked, unclaimed}
+use Rattle.nio_history.specs.declared.found.Mark.{Mark}
+use Rattle.nio_history.specs.declared.found.Stage.{Stage}
 use Rattle.nio_plain.proofs.ReachedCalls.{sound-left}
 use Rattle.nio_plain.proofs.ReachedSound.{Sound, sound-opening}
 use Rattle.nio_plain.specs.ScriptState.{ScriptState, script_opening}

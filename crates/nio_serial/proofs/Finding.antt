@@ -9,8 +9,8 @@ use Rattle.nio_base.specs.declared.numbers.ChanNo.{ChanNo}
 use Rattle.nio_base.specs.declared.numbers.KeyId.{KeyId}
 use Rattle.nio_base.specs.declared.numbers.KeyNo.{KeyNo}
 use Rattle.nio_base.specs.declared.numbers.SelNo.{SelNo}
-use Rattle.nio_event.specs.Sets.{is_in_key_set}
-use Rattle.nio_event.specs.State.{State}
+use Rattle.nio_history.specs.Sets.{is_in_key_set}
+use Rattle.nio_history.specs.State.{State}
 use Rattle.nio_plain.specs.Seq.Modes.{if_in_key_set, key_of, is_registered}
 use Rattle.nio_plain.specs.Seq.Names.{below}
 use Rattle.nio_steps.proofs.PerformLaws.{perform_then_on, perform_sweep, perform_seek, indexes, indexes-push, found_at}

@@ -7,9 +7,9 @@ use Rattle.std.proofs.lemmas.List.{append-nil}
 use Rattle.std.proofs.lemmas.List.Elements.{filter-append}
 use Rattle.nio_base.specs.declared.numbers.CallerNo.{CallerNo}
 use Rattle.nio_base.specs.declared.numbers.SelNo.{SelNo}
-use Rattle.nio_event.proofs.Bits.{bits_below-at}
-use Rattle.nio_event.specs.Answers.{free_word}
-use Rattle.nio_event.specs.State.{State}
+use Rattle.nio_history.proofs.Bits.{bits_below-at}
+use Rattle.nio_history.specs.Answers.{free_word}
+use Rattle.nio_history.specs.State.{State}
 use Rattle.nio_plain.specs.Seq.Names.{below}
 use Rattle.nio_steps.proofs.PerformLaws.{perform_sweep, indexes, indexes-push}
 use Rattle.nio_steps.specs.ChannelCalls.{words_below}

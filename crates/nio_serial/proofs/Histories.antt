@@ -1,31 +1,31 @@
 -- Calls whose names are found, and runs of calls and lines in legal histories.
+use Rattle.nio_plain.specs.ScriptState.{ScriptState}
+use Rattle.nio_plain.specs.Seq.Replies.{Replied, unchanged}
 use Rattle.nio_serial.proofs.Showing.{told-index-shows}
 use Rattle.nio_serial.proofs.RestingCalls.{rests-seq}
 use Rattle.nio_serial.proofs.Resting.{rests-from, rests-is}
 use Rattle.nio_serial.specs.Replies.{told_reply}
-use Rattle.nio_plain.specs.ScriptState.{ScriptState}
-use Rattle.nio_plain.specs.Seq.Replies.{Replied, unchanged}
 use Rattle.std.proofs.Common.{List, sym, ◌≡◌, Option, refl, ap, ◌∙◌, subst, nat_lt}
 use Rattle.std.proofs.lemmas.Bool.{lt-ltb, cond-true}
 use Rattle.nio_base.specs.Limits.{IsFit}
 use Rattle.nio_base.specs.declared.limits.Limits.{Limits}
 use Rattle.nio_base.specs.declared.numbers.CallerNo.{CallerNo}
-use Rattle.nio_event.specs.Conditions.{IsCaller}
-use Rattle.nio_event.specs.Histories.{state_after}
-use Rattle.nio_event.specs.Histories.{IsLegal}
-use Rattle.nio_event.specs.PassViews.{known, done_between}
-use Rattle.nio_event.specs.State.{State}
-use Rattle.nio_event.specs.WordRows.{EachName, by_names, word_row}
-use Rattle.nio_event.specs.declared.call.Call.{Call}
-use Rattle.nio_event.specs.declared.call.Call.TheVariants as call
-use Rattle.nio_event.specs.declared.reply.Reply.{Reply}
-use Rattle.nio_event.specs.declared.reply.Reply.TheVariants as reply
-use Rattle.nio_event.specs.declared.event.Event.{Event}
-use Rattle.nio_event.specs.declared.word_row.LineName.{LineName}
-use Rattle.nio_event.specs.declared.word_row.LineName.TheVariants.{Caller}
-use Rattle.nio_event.specs.declared.word_row.LineNames.{LineNames}
-use Rattle.nio_event.specs.declared.word_row.LineNames.TheVariants.{One, Two}
-use Rattle.nio_event.specs.declared.word_row.LineNames.TheVariants as line
+use Rattle.nio_history.specs.Conditions.{IsCaller}
+use Rattle.nio_history.specs.Histories.{state_after}
+use Rattle.nio_history.specs.Histories.{IsLegal}
+use Rattle.nio_history.specs.PassViews.{known, done_between}
+use Rattle.nio_history.specs.State.{State}
+use Rattle.nio_history.specs.declared.event.Event.{Event}
+use Rattle.nio_language.specs.WordRows.{EachName, by_names, word_row}
+use Rattle.nio_language.specs.declared.call.Call.{Call}
+use Rattle.nio_language.specs.declared.call.Call.TheVariants as call
+use Rattle.nio_language.specs.declared.reply.Reply.{Reply}
+use Rattle.nio_language.specs.declared.reply.Reply.TheVariants as reply
+use Rattle.nio_language.specs.declared.word_row.LineName.{LineName}
+use Rattle.nio_language.specs.declared.word_row.LineName.TheVariants.{Caller}
+use Rattle.nio_language.specs.declared.word_row.LineNames.{LineNames}
+use Rattle.nio_language.specs.declared.word_row.LineNames.TheVariants.{One, Two}
+use Rattle.nio_language.specs.declared.word_row.LineNames.TheVariants as line
 use Rattle.nio_plain.specs.Seq.{seq, call_of}
 use Rattle.nio_plain.specs.declared.rules.Rules.TheVariants.{Now}
 use Rattle.nio_steps.proofs.PerformLaws.{perform_ran}

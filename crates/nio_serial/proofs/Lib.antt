@@ -30,3 +30,8 @@ pub mod Staying
 pub mod WholePipes
 pub mod Histories
 pub mod Serial
+pub mod Progress
+pub mod SequencePipes
+pub mod SequenceCalls
+pub mod SequenceWaiting
+pub mod Sequences

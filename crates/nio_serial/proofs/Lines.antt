@@ -8,21 +8,21 @@ use Rattle.nio_base.specs.declared.numbers.CallerNo.{CallerNo}
 use Rattle.nio_base.specs.declared.numbers.ChanNo.{ChanNo}
 use Rattle.nio_base.specs.declared.numbers.KeyNo.{KeyNo}
 use Rattle.nio_base.specs.declared.numbers.SelNo.{SelNo}
-use Rattle.nio_event.proofs.Bits.{bits_below-at}
-use Rattle.nio_event.specs.Answers.{selectors_word}
-use Rattle.nio_event.specs.Sets.{was_published}
-use Rattle.nio_event.specs.State.{State, unclaimed}
-use Rattle.nio_event.specs.WordRows.{EachName, by_names, word_row}
-use Rattle.nio_event.specs.declared.call.Call.{Call}
-use Rattle.nio_event.specs.declared.call.Call.TheVariants as call
-use Rattle.nio_event.specs.declared.found.Stage.{Stage}
-use Rattle.nio_event.specs.declared.reply.Reply.{Reply}
-use Rattle.nio_event.specs.declared.reply.Reply.TheVariants as reply
-use Rattle.nio_event.specs.declared.word_row.LineName.{LineName}
-use Rattle.nio_event.specs.declared.word_row.LineName.TheVariants.{Caller, Selector, Channel, Key}
-use Rattle.nio_event.specs.declared.word_row.LineNames.{LineNames}
-use Rattle.nio_event.specs.declared.word_row.LineNames.TheVariants.{One, Two}
-use Rattle.nio_event.specs.declared.word_row.LineNames.TheVariants as line
+use Rattle.nio_history.proofs.Bits.{bits_below-at}
+use Rattle.nio_history.specs.Answers.{selectors_word}
+use Rattle.nio_history.specs.Sets.{was_published}
+use Rattle.nio_history.specs.State.{State, unclaimed}
+use Rattle.nio_history.specs.declared.found.Stage.{Stage}
+use Rattle.nio_language.specs.WordRows.{EachName, by_names, word_row}
+use Rattle.nio_language.specs.declared.call.Call.{Call}
+use Rattle.nio_language.specs.declared.call.Call.TheVariants as call
+use Rattle.nio_language.specs.declared.reply.Reply.{Reply}
+use Rattle.nio_language.specs.declared.reply.Reply.TheVariants as reply
+use Rattle.nio_language.specs.declared.word_row.LineName.{LineName}
+use Rattle.nio_language.specs.declared.word_row.LineName.TheVariants.{Caller, Selector, Channel, Key}
+use Rattle.nio_language.specs.declared.word_row.LineNames.{LineNames}
+use Rattle.nio_language.specs.declared.word_row.LineNames.TheVariants.{One, Two}
+use Rattle.nio_language.specs.declared.word_row.LineNames.TheVariants as line
 use Rattle.nio_plain.specs.ScriptState.{ScriptState}
 use Rattle.nio_plain.specs.Seq.{call_of, seq}
 use Rattle.nio_plain.specs.Seq.Replies.{Replied, unchanged}

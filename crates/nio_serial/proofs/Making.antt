@@ -8,11 +8,12 @@ use Rattle.nio_base.specs.declared.numbers.ChanNo.{ChanNo}
 use Rattle.nio_base.specs.declared.numbers.KeyId.{KeyId}
 use Rattle.nio_base.specs.declared.numbers.KeyNo.{KeyNo}
 use Rattle.nio_base.specs.declared.numbers.SelNo.{SelNo}
-use Rattle.nio_event.proofs.Put.{put_at-same}
-use Rattle.nio_event.specs.Acts.{new_key}
-use Rattle.nio_event.specs.State.{State, unmarked, put, put_at, with_enrolled, with_keys_high, with_interest, with_mark}
-use Rattle.nio_event.specs.State.{with_note}
-use Rattle.nio_event.specs.declared.found.Stage.{Stage}
+use Rattle.nio_history.proofs.Put.{put_at-same}
+use Rattle.nio_history.specs.Acts.{new_key}
+use Rattle.nio_history.specs.State.{State, unmarked, put, put_at, with_enrolled, with_keys_high, with_interest}
+use Rattle.nio_history.specs.State.{with_mark}
+use Rattle.nio_history.specs.State.{with_note}
+use Rattle.nio_history.specs.declared.found.Stage.{Stage}
 use Rattle.nio_plain.proofs.Found.{found_below}
 use Rattle.nio_plain.specs.Seq.Registering.{free_index, next_by, next_key, new_stage, with_new_key}
 use Rattle.nio_steps.proofs.PerformLaws.{perform_else, perform_then_on}

@@ -11,9 +11,9 @@ use Rattle.std.specs.List.{AllPairs, list_any}
 use lib.Bits.{and_zero_r, or_zero_l, or_zero_r}
 use Rattle.nio_base.specs.declared.numbers.CallerNo.{CallerNo}
 use Rattle.nio_base.specs.declared.numbers.KeyId.{KeyId}
-use Rattle.nio_event.specs.Sets.{fits, in_key_set, is_in_key_set}
-use Rattle.nio_event.specs.State.{State, with_mark}
-use Rattle.nio_event.specs.declared.found.Mark.{Mark}
+use Rattle.nio_history.specs.Sets.{fits, in_key_set, is_in_key_set}
+use Rattle.nio_history.specs.State.{State, with_mark}
+use Rattle.nio_history.specs.declared.found.Mark.{Mark}
 use Rattle.nio_plain.proofs.Lists.{same-is, same-key, other-index, AreBelow, looked_interest-absent}
 use Rattle.nio_plain.proofs.Lists.{looked_interest-last, looked_interest-others}
 use Rattle.nio_plain.specs.Seq.Names.{is_same_key, key_at}

@@ -9,10 +9,10 @@ use lib.Bits.{or_zero_l, or_zero_r}
 use Rattle.nio_base.specs.declared.numbers.CallerNo.{CallerNo}
 use Rattle.nio_base.specs.declared.numbers.KeyId.{KeyId}
 use Rattle.nio_base.specs.declared.numbers.SelNo.{SelNo}
-use Rattle.nio_event.specs.Acts.{selected_with, exchanged}
-use Rattle.nio_event.specs.Answers.{is_same_mark}
-use Rattle.nio_event.specs.State.{State, with_mark}
-use Rattle.nio_event.specs.declared.found.Mark.{Mark}
+use Rattle.nio_history.specs.Acts.{selected_with, exchanged}
+use Rattle.nio_history.specs.Answers.{is_same_mark}
+use Rattle.nio_history.specs.State.{State, with_mark}
+use Rattle.nio_history.specs.declared.found.Mark.{Mark}
 use Rattle.nio_plain.proofs.Lists.{same-is}
 use Rattle.nio_plain.specs.Seq.Names.{is_same_key}
 use Rattle.nio_plain.specs.Seq.Selections.{all_told, is_looked, marked, is_updated}

@@ -5,11 +5,11 @@ use Rattle.nio_base.specs.declared.kind.Kind.TheVariants.{Source, Sink}
 use Rattle.nio_base.specs.declared.limits.Limits.{Limits}
 use Rattle.nio_base.specs.declared.numbers.CallerNo.{CallerNo}
 use Rattle.nio_base.specs.declared.numbers.ChanNo.{ChanNo}
-use Rattle.nio_event.proofs.Put.{put-same}
-use Rattle.nio_event.specs.Acts.{new_channel}
-use Rattle.nio_event.specs.Sets.{in_key_set}
-use Rattle.nio_event.specs.State.{State}
-use Rattle.nio_event.specs.declared.reply.Reply.TheVariants as reply
+use Rattle.nio_history.proofs.Put.{put-same}
+use Rattle.nio_history.specs.Acts.{new_channel}
+use Rattle.nio_history.specs.Sets.{in_key_set}
+use Rattle.nio_history.specs.State.{State}
+use Rattle.nio_language.specs.declared.reply.Reply.TheVariants as reply
 use Rattle.nio_plain.specs.ScriptState.{ScriptState}
 use Rattle.nio_plain.specs.Seq.Replies.{Replied, replied}
 use Rattle.nio_plain.specs.Seq.Cancelling.{channel_closed}

@@ -6,12 +6,12 @@ use Rattle.std.proofs.lemmas.Bool.{ltb-false, cases_lt}
 use Rattle.nio_base.specs.declared.limits.Limits.{Limits}
 use Rattle.nio_base.specs.declared.numbers.CallerNo.{CallerNo}
 use Rattle.nio_base.specs.declared.numbers.KeyId.{KeyId}
-use Rattle.nio_event.proofs.Put.{put_keeps, put_at_keeps}
-use Rattle.nio_event.specs.Sets.{in_key_set, is_in_key_set}
-use Rattle.nio_event.specs.State.{State, unclaimed, unmarked, last_serial, put, put_at}
-use Rattle.nio_event.specs.declared.found.Chan.{Chan}
-use Rattle.nio_event.specs.declared.found.Mark.{Mark}
-use Rattle.nio_event.specs.declared.found.Stage.{Stage}
+use Rattle.nio_history.proofs.Put.{put_keeps, put_at_keeps}
+use Rattle.nio_history.specs.Sets.{in_key_set, is_in_key_set}
+use Rattle.nio_history.specs.State.{State, unclaimed, unmarked, last_serial, put, put_at}
+use Rattle.nio_history.specs.declared.found.Chan.{Chan}
+use Rattle.nio_history.specs.declared.found.Mark.{Mark}
+use Rattle.nio_history.specs.declared.found.Stage.{Stage}
 use Rattle.nio_plain.specs.Seq.Cancelling.{cancelled_key, cancelled_in_set}
 use Rattle.nio_plain.specs.Seq.Registering.{new_stage}
 use Rattle.nio_plain.specs.Seq.Removing.{removed_key, unselected}

@@ -12,15 +12,15 @@ use Rattle.nio_base.specs.declared.kind.Kind.TheVariants.{Source, Sink}
 use Rattle.nio_base.specs.declared.limits.Limits.{Limits}
 use Rattle.nio_base.specs.declared.numbers.CallerNo.{CallerNo}
 use Rattle.nio_base.specs.declared.numbers.ChanNo.{ChanNo}
-use Rattle.nio_event.proofs.Put.{put_keeps, put-same}
-use Rattle.nio_event.specs.Acts.{new_channel}
-use Rattle.nio_event.specs.State.{put}
-use Rattle.nio_event.specs.declared.call.Call.{Call}
-use Rattle.nio_event.specs.declared.call.Call.TheVariants as call
-use Rattle.nio_event.specs.declared.call.ScriptCall.{ScriptCall}
-use Rattle.nio_event.specs.declared.found.Chan.{Chan}
-use Rattle.nio_event.specs.declared.reply.Reply.{Reply}
-use Rattle.nio_event.specs.declared.reply.Reply.TheVariants as reply
+use Rattle.nio_history.proofs.Put.{put_keeps, put-same}
+use Rattle.nio_history.specs.Acts.{new_channel}
+use Rattle.nio_history.specs.State.{put}
+use Rattle.nio_history.specs.declared.found.Chan.{Chan}
+use Rattle.nio_language.specs.declared.call.Call.{Call}
+use Rattle.nio_language.specs.declared.call.Call.TheVariants as call
+use Rattle.nio_language.specs.declared.call.ScriptCall.{ScriptCall}
+use Rattle.nio_language.specs.declared.reply.Reply.{Reply}
+use Rattle.nio_language.specs.declared.reply.Reply.TheVariants as reply
 use Rattle.nio_plain.proofs.CallLawsCases.{HoldsOfChanges, holds_of_calls}
 use Rattle.nio_plain.proofs.Found.{found_below}
 use Rattle.nio_plain.proofs.ReachedSound.{by_test}

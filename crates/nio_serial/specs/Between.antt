@@ -6,9 +6,9 @@ use Rattle.nio_base.specs.declared.kind.Kind.{Kind}
 use Rattle.nio_base.specs.declared.kind.Kind.TheVariants.{Source, Sink}
 use Rattle.nio_base.specs.declared.limits.Limits.{Limits}
 use Rattle.nio_base.specs.declared.numbers.ChanNo.{ChanNo}
-use Rattle.nio_event.specs.State.{State, unclaimed, unmarked, last_serial}
-use Rattle.nio_event.specs.declared.call.ScriptCall.{ScriptCall}
-use Rattle.nio_event.specs.declared.found.Chan.{Chan}
+use Rattle.nio_history.specs.State.{State, unclaimed, unmarked, last_serial}
+use Rattle.nio_history.specs.declared.found.Chan.{Chan}
+use Rattle.nio_language.specs.declared.call.ScriptCall.{ScriptCall}
 use Rattle.nio_plain.specs.Answer.{left_by_script}
 use Rattle.nio_plain.specs.ScriptState.{Pipe, ScriptState}
 use Rattle.nio_plain.specs.declared.rules.Rules.TheVariants.{Now}

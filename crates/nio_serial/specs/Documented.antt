@@ -3,11 +3,11 @@
 use Rattle.std.specs.Prelude.{ℕ, false, not, ◌&&◌, Option, None, option_map, List, [], map}
 use Rattle.nio_base.specs.declared.numbers.CallerNo.{CallerNo}
 use Rattle.nio_base.specs.declared.numbers.KeyId.{KeyId}
-use Rattle.nio_event.specs.State.{State}
-use Rattle.nio_event.specs.declared.found.Mark.{Mark}
-use Rattle.nio_event.specs.declared.found.Stage.{Stage}
-use Rattle.nio_event.specs.declared.reply.Reply.{Reply}
 use Rattle.nio_group.specs.Group.{Group, empty_group}
+use Rattle.nio_history.specs.State.{State}
+use Rattle.nio_history.specs.declared.found.Mark.{Mark}
+use Rattle.nio_history.specs.declared.found.Stage.{Stage}
+use Rattle.nio_language.specs.declared.reply.Reply.{Reply}
 use Rattle.nio_plain.specs.ScriptState.{Pipe, ScriptState, Selection as ScriptSelection, group_limits}
 use Rattle.nio_plain.specs.Seq.Replies.{Replied}
 use Rattle.nio_steps.specs.Perform.{Performed}

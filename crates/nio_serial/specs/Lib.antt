@@ -5,3 +5,6 @@ pub mod Lines
 pub mod Between
 pub mod Laws
 pub mod Serial
+pub mod Called
+pub mod Left
+pub mod SequenceLaws

@@ -7,16 +7,16 @@ use Rattle.nio_base.specs.declared.numbers.CallerNo.{CallerNo}
 use Rattle.nio_base.specs.declared.numbers.ChanNo.{ChanNo}
 use Rattle.nio_base.specs.declared.numbers.KeyId.{KeyId}
 use Rattle.nio_base.specs.declared.numbers.SelNo.{SelNo}
-use Rattle.nio_event.specs.State.{put}
-use Rattle.nio_event.specs.WordRows.{by_names, word_row}
-use Rattle.nio_event.specs.declared.call.Call.{Call}
-use Rattle.nio_event.specs.declared.call.Call.TheVariants as call
-use Rattle.nio_event.specs.declared.found.Mode.{Mode}
-use Rattle.nio_event.specs.declared.group_call.GroupCall.{GroupCall}
-use Rattle.nio_event.specs.declared.reply.Reply.{Reply}
-use Rattle.nio_event.specs.declared.reply.Reply.TheVariants as reply
-use Rattle.nio_event.specs.declared.word_row.LineName.{LineName}
-use Rattle.nio_event.specs.declared.word_row.LineName.TheVariants.{Caller, Selector, Channel, Key}
+use Rattle.nio_history.specs.State.{put}
+use Rattle.nio_history.specs.declared.found.Mode.{Mode}
+use Rattle.nio_language.specs.WordRows.{by_names, word_row}
+use Rattle.nio_language.specs.declared.call.Call.{Call}
+use Rattle.nio_language.specs.declared.call.Call.TheVariants as call
+use Rattle.nio_language.specs.declared.group_call.GroupCall.{GroupCall}
+use Rattle.nio_language.specs.declared.reply.Reply.{Reply}
+use Rattle.nio_language.specs.declared.reply.Reply.TheVariants as reply
+use Rattle.nio_language.specs.declared.word_row.LineName.{LineName}
+use Rattle.nio_language.specs.declared.word_row.LineName.TheVariants.{Caller, Selector, Channel, Key}
 use Rattle.nio_plain.specs.ScriptState.{Pipe}
 use Rattle.nio_plain.specs.Seq.Replies.{Replied, yes_or_no}
 use Rattle.nio_plain.specs.Seq.Grouping.{group_reply, group_left}

@@ -4,8 +4,8 @@ use Rattle.nio_base.specs.declared.numbers.ChanNo.{ChanNo}
 use Rattle.nio_base.specs.declared.numbers.KeyId.{KeyId}
 use Rattle.nio_base.specs.declared.numbers.KeyNo.{KeyNo}
 use Rattle.nio_base.specs.declared.numbers.SelNo.{SelNo}
-use Rattle.nio_event.specs.declared.reply.Reply.{Reply}
-use Rattle.nio_event.specs.declared.reply.Reply.TheVariants as reply
+use Rattle.nio_language.specs.declared.reply.Reply.{Reply}
+use Rattle.nio_language.specs.declared.reply.Reply.TheVariants as reply
 use Rattle.nio_plain.specs.Seq.Listing.{names_or_none}
 use Rattle.nio_steps.specs.PipeCalls.{PipeEnds}
 use Rattle.nio_steps.specs.SelectCalls.{Selection, ToldReply, done, again, ShutReply, closing, already_closed}

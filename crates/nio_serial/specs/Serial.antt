@@ -4,13 +4,13 @@ use Rattle.std.specs.Prelude.{◌≡◌, ⊤, false, List, [], ◌∷◌, ◌++�
 use Rattle.nio_base.specs.Limits.{IsFit}
 use Rattle.nio_base.specs.declared.limits.Limits.{Limits}
 use Rattle.nio_base.specs.declared.numbers.CallerNo.{CallerNo}
-use Rattle.nio_event.specs.Histories.{state_after, event_of, IsLegal}
-use Rattle.nio_event.specs.declared.act.Act.{Act}
-use Rattle.nio_event.specs.declared.act.Act.TheVariants.{DrawBit}
-use Rattle.nio_event.specs.declared.call.Call.{Call}
-use Rattle.nio_event.specs.declared.call.ScriptCall.{ScriptCall}
-use Rattle.nio_event.specs.declared.event.Event.{Event}
-use Rattle.nio_event.specs.declared.reply.Reply.{Reply}
+use Rattle.nio_history.specs.Histories.{state_after, event_of, IsLegal}
+use Rattle.nio_history.specs.declared.act.Act.{Act}
+use Rattle.nio_history.specs.declared.act.Act.TheVariants.{DrawBit}
+use Rattle.nio_history.specs.declared.event.Event.{Event}
+use Rattle.nio_language.specs.declared.call.Call.{Call}
+use Rattle.nio_language.specs.declared.call.ScriptCall.{ScriptCall}
+use Rattle.nio_language.specs.declared.reply.Reply.{Reply}
 use Rattle.nio_plain.specs.Answer.{left_by_script}
 use Rattle.nio_plain.specs.ScriptState.{ScriptState, script_opening}
 use Rattle.nio_plain.specs.Seq.{seq}

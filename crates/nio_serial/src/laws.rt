@@ -3,6 +3,8 @@ ghost use Rattle.nio_serial.specs.Laws.{CallsAmount, ToldAmounts, LinesAmount, B
 ghost use Rattle.nio_serial.specs.Laws.{CallsStayBetween, ToldStaysBetween, LinesStayBetween, PipesAreWhole};
 ghost use Rattle.nio_serial.specs.Laws.{CallRunsAmount, ToldRunsAmount, LineRunsAmount, PassLinesAmount, LackingLeaves};
 ghost use Rattle.nio_serial.specs.Serial.{SerialLinesAmount};
+ghost use Rattle.nio_serial.specs.SequenceLaws.{SequencesStand, NextCallIsDocumented, SequencesGrow, NothingIsSequence};
+ghost use Rattle.nio_serial.specs.SequenceLaws.{SequencesAreScripts};
 
 /// The steps of a call between which nobody comes amount to the documented call: the reply and the state
 /// are its own. So do those of a `told` by index, which names the looked keys, and those of a script's line
@@ -40,4 +42,16 @@ pub fn runs_law()
 /// the rules of now: each line has its reply, and the state that is left is the script's.
 pub fn serial_law()
     ensures { SerialLinesAmount }
+{}
+
+/// Where calls don't overlap, the table is the sequential selector of Java. A legal serial history leaves a
+/// state between two calls, whatever its calls are. One call more that has a word in a script has the reply of the
+/// documented system in that state, and leaves its next state. So a history of such calls has the replies of its
+/// script, and leaves the state that the script leaves. A history with one call more is serial again.
+pub fn seq_law()
+    ensures stands { SequencesStand }
+    ensures next { NextCallIsDocumented }
+    ensures grows { SequencesGrow }
+    ensures nothing { NothingIsSequence }
+    ensures scripts { SequencesAreScripts }
 {}

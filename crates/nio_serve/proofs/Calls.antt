@@ -7,13 +7,13 @@ use Rattle.nio_base.specs.declared.numbers.CallerNo.{CallerNo}
 use Rattle.nio_base.specs.declared.numbers.ChanNo.{ChanNo}
 use Rattle.nio_base.specs.declared.numbers.KeyNo.{KeyNo}
 use Rattle.nio_base.specs.declared.numbers.SelNo.{SelNo}
-use Rattle.nio_event.proofs.Put.{put-same}
-use Rattle.nio_event.specs.Histories.{mine}
-use Rattle.nio_event.specs.PassViews.{ActsClause, HasNoPin, done_between}
-use Rattle.nio_event.specs.State.{put}
-use Rattle.nio_event.specs.declared.act.Act.{Act}
-use Rattle.nio_event.specs.declared.act.Act.TheVariants.{DrawBit}
-use Rattle.nio_event.specs.declared.found.Mode.{Mode}
+use Rattle.nio_history.proofs.Put.{put-same}
+use Rattle.nio_history.specs.Histories.{mine}
+use Rattle.nio_history.specs.PassViews.{ActsClause, HasNoPin, done_between}
+use Rattle.nio_history.specs.State.{put}
+use Rattle.nio_history.specs.declared.act.Act.{Act}
+use Rattle.nio_history.specs.declared.act.Act.TheVariants.{DrawBit}
+use Rattle.nio_history.specs.declared.found.Mode.{Mode}
 use Rattle.nio_orderly.proofs.CallLists.{one_call_more, run_one}
 use Rattle.nio_orderly.specs.Made.{Made, IsRun, after_call, after_calls, MayCome}
 use Rattle.nio_orderly.specs.Made.{draw}

@@ -1,18 +1,18 @@
 -- What stands between two calls on the table stays.
 use Rattle.std.proofs.Common.{false, List, [], ◌∷◌, ◌++◌, ap, ◌∙◌}
 use Rattle.nio_base.specs.declared.numbers.SelNo.{SelNo}
-use Rattle.nio_event.proofs.PassViews.{selector_after}
-use Rattle.nio_event.specs.Conditions.{has_pin}
-use Rattle.nio_event.specs.Histories.{event_of, state_after}
-use Rattle.nio_event.specs.PassViews.{ActsClause, HasNoPin}
-use Rattle.nio_event.specs.declared.act.Act.{Act}
-use Rattle.nio_event.specs.declared.act.Act.TheVariants.{DrawBit}
+use Rattle.nio_base.specs.declared.numbers.CallerNo.{CallerNo}
+use Rattle.nio_history.proofs.PassViews.{selector_after}
+use Rattle.nio_history.specs.Conditions.{has_pin}
+use Rattle.nio_history.specs.Histories.{event_of, state_after}
+use Rattle.nio_history.specs.PassViews.{ActsClause, HasNoPin}
+use Rattle.nio_history.specs.declared.act.Act.{Act}
+use Rattle.nio_history.specs.declared.act.Act.TheVariants.{DrawBit}
 use Rattle.nio_words.specs.Drawing.{Draws}
 use Rattle.nio_words.specs.Passes.{IsFirstPass, IsReady}
 use Rattle.nio_words.specs.Views.{view}
 use Rattle.nio_words.specs.declared.words.Pass.{Pass}
 use Rattle.nio_words.specs.declared.words.Words.{Words}
-use Rattle.nio_base.specs.declared.numbers.CallerNo.{CallerNo}
 use Rattle.nio_serve.specs.Board.{IsIdle}
 
 -- after a call that leaves the caller without a pin

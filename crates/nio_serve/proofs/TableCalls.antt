@@ -3,10 +3,10 @@ use Rattle.std.proofs.Common.{◌≡◌, ℕ, Bool, Option, Result, Ok, Err, ref
 use Rattle.nio_base.specs.declared.kind.Kind.{Kind}
 use Rattle.nio_base.specs.declared.numbers.ChanNo.{ChanNo}
 use Rattle.nio_base.specs.declared.numbers.KeyNo.{KeyNo}
-use Rattle.nio_event.specs.PassViews.{HasNoPin}
-use Rattle.nio_event.specs.declared.found.Mode.{Mode}
-use Rattle.nio_poller.proofs.Trying.{begin_gives}
+use Rattle.nio_history.specs.PassViews.{HasNoPin}
+use Rattle.nio_history.specs.declared.found.Mode.{Mode}
 use Rattle.nio_orderly.specs.Made.{table_call, waiting_call}
+use Rattle.nio_poller.proofs.Trying.{begin_gives}
 use Rattle.nio_select.specs.InProgress.{Selects}
 use Rattle.nio_serve.proofs.Calls.{did_call, did_unpinned, rest_after, rest_registered, rest_left, rest_told}
 use Rattle.nio_serve.proofs.Calls.{selecting_begun, selecting_again}

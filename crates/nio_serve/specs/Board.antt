@@ -5,7 +5,7 @@ use Rattle.std.specs.List.Sorted.{IsNonDecreasingBy}
 use Rattle.nio_base.specs.declared.numbers.CallerNo.{CallerNo}
 use Rattle.nio_base.specs.declared.numbers.ChanNo.{ChanNo}
 use Rattle.nio_base.specs.declared.numbers.SelNo.{SelNo}
-use Rattle.nio_event.specs.PassViews.{HasNoPin, HasSelector}
+use Rattle.nio_history.specs.PassViews.{HasNoPin, HasSelector}
 use Rattle.nio_orderly.specs.Made.{after_calls}
 use Rattle.nio_select.specs.InProgress.{Selects}
 use Rattle.nio_serve.specs.Called.{HasCalled, channel_in}

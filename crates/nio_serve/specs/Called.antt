@@ -4,7 +4,7 @@ use Rattle.std.specs.Prelude.{List, [], ◌∷◌, ◌++◌}
 use Rattle.nio_base.specs.declared.limits.Limits.{Limits}
 use Rattle.nio_base.specs.declared.numbers.ChanNo.{ChanNo}
 use Rattle.nio_base.specs.declared.numbers.SelNo.{SelNo}
-use Rattle.nio_event.specs.declared.act.Act.{Act}
+use Rattle.nio_history.specs.declared.act.Act.{Act}
 use Rattle.nio_orderly.specs.Made.{Made, draw, table_call, waiting_call}
 use Rattle.nio_orderly.specs.Orderly.{AreCallsOf}
 use Rattle.nio_serve.specs.declared.deal.Deal.{Deal}

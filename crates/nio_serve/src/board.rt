@@ -1,6 +1,6 @@
 //! What one caller of a table serves by.
 ghost use Rattle.std.specs.Prelude.{◌≡◌, ◌+◌, None, IfOk, OnErr};
-ghost use Rattle.nio_event.specs.PassViews.{HasNoPin};
+ghost use Rattle.nio_history.specs.PassViews.{HasNoPin};
 ghost use Rattle.nio_poller.specs.Polls.{CountsFaults, told_of_channel};
 ghost use Rattle.nio_poller.specs.declared.poller.PollError.TheVariants.{Fault};
 ghost use Rattle.nio_words.specs.Passes.{IsReady, acts_seen, limits_of};

@@ -3,7 +3,7 @@ ghost use Rattle.std.specs.Prelude.{◌≡◌};
 
 use crate::way::Way;
 use nio_base::{Addr, ChanNo, Ops};
-use nio_event::Mode;
+use nio_history::Mode;
 use nio_link::{Failed, Got, Net, Put};
 use nio_poller::PollError;
 use nio_select::{Asked, Told};

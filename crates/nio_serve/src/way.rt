@@ -12,7 +12,7 @@ ghost use Rattle.nio_steps.specs.KeyCalls.{is_within};
 ghost use Rattle.nio_serve.specs.Ways.{ReadyAfterAccept, ReadyAfterConnect, ReadyAfterRead, ReadyAfterWrite};
 
 use nio_base::{Addr, ChanNo, Ops};
-use nio_event::Mode;
+use nio_history::Mode;
 use nio_link::{Failed, Got, Net, Put};
 use nio_poller::PollError;
 use nio_select::{Asked, Told};

@@ -11,21 +11,21 @@ use Rattle.nio_base.specs.declared.numbers.ChanNo.{ChanNo}
 use Rattle.nio_base.specs.declared.numbers.KeyId.{KeyId}
 use Rattle.nio_base.specs.declared.numbers.KeyNo.{KeyNo}
 use Rattle.nio_base.specs.declared.numbers.SelNo.{SelNo}
-use Rattle.nio_event.proofs.KeptNames.{kept_by_names}
-use Rattle.nio_event.proofs.Put.{put_keeps, put_both}
-use Rattle.nio_event.specs.OwnEvents.{has}
-use Rattle.nio_event.specs.Questions.{Question, question_of, answer_of}
-use Rattle.nio_event.specs.State.{State, put}
-use Rattle.nio_event.specs.WordRows.{word_row}
-use Rattle.nio_event.specs.declared.act.Act.{Act}
-use Rattle.nio_event.specs.declared.act.Act.TheVariants.{TakeTurn, ShutBit}
-use Rattle.nio_event.specs.declared.call.Call.{Call}
-use Rattle.nio_event.specs.declared.call.Call.TheVariants as call
-use Rattle.nio_event.specs.declared.found.Mode.{Mode}
-use Rattle.nio_event.specs.declared.reply.Reply.{Reply}
-use Rattle.nio_event.specs.declared.reply.Reply.TheVariants as reply
-use Rattle.nio_event.specs.declared.word_row.LineName.{LineName}
-use Rattle.nio_event.specs.declared.word_row.LineName.TheVariants.{Caller, Selector, Channel, Key}
+use Rattle.nio_history.proofs.Put.{put_keeps, put_both}
+use Rattle.nio_history.specs.OwnEvents.{has}
+use Rattle.nio_history.specs.Questions.{Question, question_of, answer_of}
+use Rattle.nio_history.specs.State.{State, put}
+use Rattle.nio_history.specs.declared.act.Act.{Act}
+use Rattle.nio_history.specs.declared.act.Act.TheVariants.{TakeTurn, ShutBit}
+use Rattle.nio_history.specs.declared.found.Mode.{Mode}
+use Rattle.nio_language.proofs.KeptNames.{kept_by_names}
+use Rattle.nio_language.specs.WordRows.{word_row}
+use Rattle.nio_language.specs.declared.call.Call.{Call}
+use Rattle.nio_language.specs.declared.call.Call.TheVariants as call
+use Rattle.nio_language.specs.declared.reply.Reply.{Reply}
+use Rattle.nio_language.specs.declared.reply.Reply.TheVariants as reply
+use Rattle.nio_language.specs.declared.word_row.LineName.{LineName}
+use Rattle.nio_language.specs.declared.word_row.LineName.TheVariants.{Caller, Selector, Channel, Key}
 use Rattle.nio_orderly.proofs.CallLists.{one_call_more}
 use Rattle.nio_orderly.proofs.ListWords.{has-first, has-second}
 use Rattle.nio_orderly.proofs.WaitedCalls.{after_calls-append}

@@ -7,15 +7,15 @@ use Rattle.std.proofs.lemmas.List.{get_or-set_same, get_or-set_other, length-set
 use Rattle.std.proofs.lemmas.List.Elements.{All-nil, All-weaker}
 use Rattle.std.specs.Prelude.{option_map, Vec}
 use Rattle.std.specs.declared.alloc.Global.{Global}
-use Rattle.nio_channel.proofs.Idle.{channel_same}
-use Rattle.nio_event.proofs.PassViews.{channel_after}
-use Rattle.nio_event.specs.PassViews.{PassView}
-use Rattle.nio_event.specs.State.{put}
-use Rattle.nio_event.specs.declared.act.Act.{Act}
-use Rattle.nio_event.specs.declared.reply.Reply.{Reply}
-use Rattle.nio_pipe.specs.Calls.{HasEnds}
 use Rattle.nio_base.specs.declared.numbers.CallerNo.{CallerNo}
 use Rattle.nio_base.specs.declared.numbers.SelNo.{SelNo}
+use Rattle.nio_channel.proofs.Idle.{channel_same}
+use Rattle.nio_history.proofs.PassViews.{channel_after}
+use Rattle.nio_history.specs.PassViews.{PassView}
+use Rattle.nio_history.specs.State.{put}
+use Rattle.nio_history.specs.declared.act.Act.{Act}
+use Rattle.nio_language.specs.declared.reply.Reply.{Reply}
+use Rattle.nio_pipe.specs.Calls.{HasEnds}
 use Rattle.nio_plain.proofs.Places.{put_is}
 use Rattle.nio_plain.specs.Seq.Selections.{is_caller}
 use Rattle.nio_serial.proofs.Base.{put-back}

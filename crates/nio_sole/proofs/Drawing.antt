@@ -4,17 +4,17 @@ use Rattle.std.proofs.Common.{List, [], ◌∷◌, ◌++◌, refl, ap, sym, ◌�
 use Rattle.std.proofs.lemmas.List.{append-nil}
 use Rattle.nio_base.specs.declared.limits.Limits.{Limits}
 use Rattle.nio_base.specs.declared.numbers.CallerNo.{CallerNo}
-use Rattle.nio_event.proofs.OneMore.{state_after-more, mine-own, mine-other}
-use Rattle.nio_event.specs.Histories.{state_after, mine, event_of}
-use Rattle.nio_event.specs.State.{State}
-use Rattle.nio_event.specs.declared.act.Act.TheVariants.{DrawBit}
-use Rattle.nio_event.specs.declared.event.Event.{Event}
+use Rattle.nio_history.proofs.OneMore.{state_after-more, mine-own, mine-other}
+use Rattle.nio_history.specs.Histories.{state_after, mine, event_of}
+use Rattle.nio_history.specs.State.{State}
+use Rattle.nio_history.specs.declared.act.Act.TheVariants.{DrawBit}
+use Rattle.nio_history.specs.declared.event.Event.{Event}
 use Rattle.nio_serial.proofs.Histories.{draws-stay}
 use Rattle.nio_serial.proofs.Staying.{begins-between}
 use Rattle.nio_serial.specs.Between.{IsBetween}
 use Rattle.nio_serial.specs.Documented.{nothing_yet, documented}
-use Rattle.nio_sole.proofs.Beginnings.{made_nothing, made_draw}
 use Rattle.nio_serial.specs.Serial.{Entry, draw, line, history_of}
+use Rattle.nio_sole.proofs.Beginnings.{made_nothing, made_draw}
 use Rattle.nio_sole.specs.Drawn.{AreDrawn, HasDrawn, draws}
 use Rattle.nio_sole.specs.Made.{HasMade}
 use Rattle.nio_words.specs.Drawing.{Draws}

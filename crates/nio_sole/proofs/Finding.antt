@@ -7,18 +7,18 @@ use Rattle.nio_base.specs.declared.numbers.CallerNo.{CallerNo}
 use Rattle.nio_base.specs.declared.numbers.ChanNo.{ChanNo}
 use Rattle.nio_base.specs.declared.numbers.KeyNo.{KeyNo}
 use Rattle.nio_base.specs.declared.numbers.SelNo.{SelNo}
-use Rattle.nio_event.proofs.PassViews.{selector_after, channel_after, key_after}
-use Rattle.nio_event.specs.Conditions.{IsCaller}
-use Rattle.nio_event.specs.PassViews.{PassView, done_between, ActsClause, HasNoPin}
-use Rattle.nio_event.specs.Questions.{Question, Answer, answer_of}
-use Rattle.nio_event.specs.WordRows.{EachName, by_names, word_row}
-use Rattle.nio_event.specs.declared.act.Act.{Act}
-use Rattle.nio_event.specs.declared.call.Call.{Call}
-use Rattle.nio_event.specs.declared.reply.Reply.{Reply}
-use Rattle.nio_event.specs.declared.reply.Reply.TheVariants as reply
-use Rattle.nio_event.specs.declared.word_row.LineName.{LineName}
-use Rattle.nio_event.specs.declared.word_row.LineName.TheVariants.{Caller, Selector, Channel, Key}
-use Rattle.nio_event.specs.declared.word_row.LineNames.{LineNames}
+use Rattle.nio_history.proofs.PassViews.{selector_after, channel_after, key_after}
+use Rattle.nio_history.specs.Conditions.{IsCaller}
+use Rattle.nio_history.specs.PassViews.{PassView, done_between, ActsClause, HasNoPin}
+use Rattle.nio_history.specs.Questions.{Question, Answer, answer_of}
+use Rattle.nio_history.specs.declared.act.Act.{Act}
+use Rattle.nio_language.specs.WordRows.{EachName, by_names, word_row}
+use Rattle.nio_language.specs.declared.call.Call.{Call}
+use Rattle.nio_language.specs.declared.reply.Reply.{Reply}
+use Rattle.nio_language.specs.declared.reply.Reply.TheVariants as reply
+use Rattle.nio_language.specs.declared.word_row.LineName.{LineName}
+use Rattle.nio_language.specs.declared.word_row.LineName.TheVariants.{Caller, Selector, Channel, Key}
+use Rattle.nio_language.specs.declared.word_row.LineNames.{LineNames}
 use Rattle.nio_serial.specs.Documented.{Progress, nothing_yet}
 use Rattle.nio_serial.specs.Lines.{Said, refused, if_name, if_named}
 use Rattle.nio_sole.specs.Named.{HasName, HasNames, Finds, after_names}

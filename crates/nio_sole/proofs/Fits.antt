@@ -6,14 +6,14 @@ use Rattle.std.proofs.lemmas.List.Elements.{All-head, All-tail, All-weaker, All-
 use Rattle.nio_base.specs.declared.limits.Limits.{Limits}
 use Rattle.nio_base.specs.declared.numbers.CallerNo.{CallerNo}
 use Rattle.nio_base.specs.declared.numbers.SelNo.{SelNo}
-use Rattle.nio_event.proofs.Legal.{legal_beginning, legal_next}
-use Rattle.nio_event.proofs.Within.{legal-within}
-use Rattle.nio_event.specs.Histories.{state_after, mine, event_of, IsLegal}
-use Rattle.nio_event.specs.PassViews.{PassView, done_between}
-use Rattle.nio_event.specs.declared.act.Act.{Act}
-use Rattle.nio_event.specs.declared.act.Act.TheVariants.{LookKeys}
-use Rattle.nio_event.specs.declared.event.Event.{Event}
-use Rattle.nio_event.specs.declared.found.Mode.{Mode}
+use Rattle.nio_history.proofs.Legal.{legal_beginning, legal_next}
+use Rattle.nio_history.proofs.Within.{legal-within}
+use Rattle.nio_history.specs.Histories.{state_after, mine, event_of, IsLegal}
+use Rattle.nio_history.specs.PassViews.{PassView, done_between}
+use Rattle.nio_history.specs.declared.act.Act.{Act}
+use Rattle.nio_history.specs.declared.act.Act.TheVariants.{LookKeys}
+use Rattle.nio_history.specs.declared.event.Event.{Event}
+use Rattle.nio_history.specs.declared.found.Mode.{Mode}
 use Rattle.nio_select.proofs.Inside.{keys-act}
 use Rattle.nio_steps.proofs.BeginLaws.{begin-parts}
 use Rattle.nio_steps.proofs.Lists.{pairs-head, pairs-tail}

@@ -13,17 +13,17 @@ use mathlib.Core.Sum.{⊎_set}
 use Rattle.nio_base.specs.declared.limits.Limits.{Limits}
 use Rattle.nio_base.specs.declared.numbers.CallerNo.{CallerNo}
 use Rattle.nio_base.specs.declared.numbers.SelNo.{SelNo}
-use Rattle.nio_event.specs.Histories.{mine, event_of, IsLegal}
-use Rattle.nio_event.specs.OwnEvents.{has, since_first, gives_turn}
-use Rattle.nio_event.specs.Questions.{Question, question_of, answer_of}
-use Rattle.nio_event.specs.Turns.{removes_on}
-use Rattle.nio_event.proofs.Legal.{not_empty, legal_beginning}
-use Rattle.nio_event.proofs.TurnLaws.{turn_has_one_holder}
-use Rattle.nio_event.proofs.Soundness.{both_ways}
-use Rattle.nio_event.specs.declared.act.Act.{Act}
-use Rattle.nio_event.specs.declared.act.Act.TheVariants.{TakeTurn, ShutBit}
-use Rattle.nio_event.specs.declared.event.Event.{Event}
-use Rattle.nio_event.specs.declared.found.Mode.{Mode}
+use Rattle.nio_history.specs.Histories.{mine, event_of, IsLegal}
+use Rattle.nio_history.specs.OwnEvents.{has, since_first, gives_turn}
+use Rattle.nio_history.specs.Questions.{Question, question_of, answer_of}
+use Rattle.nio_history.specs.Turns.{removes_on}
+use Rattle.nio_history.proofs.Legal.{not_empty, legal_beginning}
+use Rattle.nio_history.proofs.TurnLaws.{turn_has_one_holder}
+use Rattle.nio_history.proofs.Soundness.{both_ways}
+use Rattle.nio_history.specs.declared.act.Act.{Act}
+use Rattle.nio_history.specs.declared.act.Act.TheVariants.{TakeTurn, ShutBit}
+use Rattle.nio_history.specs.declared.event.Event.{Event}
+use Rattle.nio_history.specs.declared.found.Mode.{Mode}
 use Rattle.nio_orderly.proofs.ListWords.{has-neither, has-not_first, has-at, no_such_act}
 use Rattle.nio_orderly.proofs.OrderlyCare.{first_opened}
 use Rattle.nio_sole.proofs.Calls.{takes_turn, shuts}

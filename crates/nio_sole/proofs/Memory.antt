@@ -5,15 +5,15 @@ use Rattle.nio_base.specs.declared.limits.Limits.{Limits}
 use Rattle.nio_base.specs.declared.numbers.CallerNo.{CallerNo}
 use Rattle.nio_base.specs.declared.numbers.KeyNo.{KeyNo}
 use Rattle.nio_base.specs.declared.numbers.SelNo.{SelNo}
-use Rattle.nio_event.proofs.Put.{put_keeps}
-use Rattle.nio_event.specs.Acts.{taken_by}
-use Rattle.nio_event.specs.PassViews.{PassView, known}
-use Rattle.nio_event.specs.State.{State, put, with_turn, with_begun}
-use Rattle.nio_event.specs.declared.call.Call.TheVariants as call
-use Rattle.nio_event.specs.declared.call.Waiting.{Waiting}
-use Rattle.nio_event.specs.declared.found.Mode.{Mode}
-use Rattle.nio_event.specs.declared.reply.Reply.{Reply}
-use Rattle.nio_event.specs.declared.reply.Reply.TheVariants as reply
+use Rattle.nio_history.proofs.Put.{put_keeps}
+use Rattle.nio_history.specs.Acts.{taken_by}
+use Rattle.nio_history.specs.PassViews.{PassView, known}
+use Rattle.nio_history.specs.State.{State, put, with_turn, with_begun}
+use Rattle.nio_history.specs.declared.found.Mode.{Mode}
+use Rattle.nio_language.specs.declared.call.Call.TheVariants as call
+use Rattle.nio_language.specs.declared.call.Waiting.{Waiting}
+use Rattle.nio_language.specs.declared.reply.Reply.{Reply}
+use Rattle.nio_language.specs.declared.reply.Reply.TheVariants as reply
 use Rattle.nio_serial.proofs.Base.{put-here, put-twice, put-back}
 use Rattle.nio_serial.specs.Between.{IsBetween}
 use Rattle.nio_serial.specs.Documented.{Progress, Selecting}

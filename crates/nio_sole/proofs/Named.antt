@@ -3,9 +3,9 @@ use Rattle.std.proofs.Common.{Option, None, Some, Result, Ok, Err, List, sym, su
 use Rattle.std.proofs.Math.Logic.{∥∥₁_map}
 use Rattle.std.specs.declared.alloc.AllocError.{AllocError}
 use Rattle.nio_base.specs.declared.numbers.CallerNo.{CallerNo}
-use Rattle.nio_event.specs.declared.call.Call.{Call}
-use Rattle.nio_event.specs.declared.reply.Reply.{Reply}
-use Rattle.nio_event.specs.declared.reply.Reply.TheVariants as reply
+use Rattle.nio_language.specs.declared.call.Call.{Call}
+use Rattle.nio_language.specs.declared.reply.Reply.{Reply}
+use Rattle.nio_language.specs.declared.reply.Reply.TheVariants as reply
 use Rattle.nio_serial.specs.Documented.{Progress}
 use Rattle.nio_serial.specs.Lines.{Said, refused, if_named, call_plan}
 use Rattle.nio_sole.proofs.Calls.{made_along, leads_named, leads_refused}

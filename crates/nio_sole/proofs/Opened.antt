@@ -3,8 +3,8 @@ use Rattle.std.proofs.Common.{◌≡◌, ℕ, Option, None, List, [], option_map
 use mathlib.Core.Path.{fun_ext}
 use Rattle.nio_base.specs.Limits.{IsFit}
 use Rattle.nio_base.specs.declared.numbers.CallerNo.{CallerNo}
-use Rattle.nio_event.specs.Histories.{state_after, mine}
-use Rattle.nio_event.specs.declared.event.Event.{Event}
+use Rattle.nio_history.specs.Histories.{state_after, mine}
+use Rattle.nio_history.specs.declared.event.Event.{Event}
 use Rattle.nio_plain.specs.ScriptState.{script_opening}
 use Rattle.nio_serial.specs.Between.{IsBetween}
 use Rattle.nio_serial.specs.Documented.{Progress, Selecting, documented, nothing_yet}
@@ -12,7 +12,8 @@ use Rattle.nio_sole.proofs.Desks.{none_made, nothing_there}
 use Rattle.nio_sole.specs.Drawn.{AreEmpty, HasDrawn}
 use Rattle.nio_sole.specs.Made.{HasMade}
 use Rattle.nio_sole.specs.Said.{state_at}
-use Rattle.nio_sole.specs.Stands.{Stands, closings_of, group_of, pipes_of, progress_of, selecting_of, selections_of, slot}
+use Rattle.nio_sole.specs.Stands.{Stands, closings_of, group_of, pipes_of, progress_of, selecting_of, selections_of}
+use Rattle.nio_sole.specs.Stands.{slot}
 use Rattle.nio_sole.specs.declared.desk.Desk.{Desk}
 use Rattle.nio_sole.specs.declared.desk.Shut.{Shut}
 use Rattle.nio_words.specs.Rule.{HasBit}

@@ -7,20 +7,21 @@ use Rattle.std.specs.Prelude.{◌≢◌}
 use Rattle.std.proofs.lemmas.List.{append-nil, map-append}
 use Rattle.nio_base.specs.declared.limits.Limits.{Limits}
 use Rattle.nio_base.specs.declared.numbers.CallerNo.{CallerNo}
-use Rattle.nio_event.proofs.Legal.{legal_beginning, legal_next}
-use Rattle.nio_event.proofs.Soundness.{legal-sound, held_some, both_ways}
-use Rattle.nio_event.proofs.Stays.{facts_are_permanent, only_itself_gives_back}
-use Rattle.nio_event.specs.Conditions.{is_held_by, has_turn, is_closer}
-use Rattle.nio_event.specs.Histories.{state_after, mine, event_of, IsStep, IsLegal}
-use Rattle.nio_event.specs.OwnEvents.{has, since_first}
-use Rattle.nio_event.specs.PassViews.{PassView, known, done_between}
-use Rattle.nio_event.specs.Permanent.{the_turn, gives_back, selector_shut}
-use Rattle.nio_event.specs.State.{State}
-use Rattle.nio_event.specs.declared.act.Act.{Act}
-use Rattle.nio_event.specs.declared.act.Act.TheVariants.{TakeTurn, ShutBit}
-use Rattle.nio_event.specs.declared.call.Call.{Call}
-use Rattle.nio_event.specs.declared.event.Event.{Event}
+use Rattle.nio_history.proofs.Legal.{legal_beginning, legal_next}
+use Rattle.nio_history.proofs.Soundness.{legal-sound, held_some, both_ways}
+use Rattle.nio_history.proofs.Stays.{facts_are_permanent, only_itself_gives_back}
+use Rattle.nio_history.specs.Conditions.{is_held_by, has_turn, is_closer}
+use Rattle.nio_history.specs.Histories.{state_after, mine, event_of, IsStep, IsLegal}
+use Rattle.nio_history.specs.OwnEvents.{has, since_first}
+use Rattle.nio_history.specs.PassViews.{PassView, known, done_between}
+use Rattle.nio_history.specs.Permanent.{the_turn, gives_back, selector_shut}
+use Rattle.nio_history.specs.State.{State}
+use Rattle.nio_history.specs.declared.act.Act.{Act}
+use Rattle.nio_history.specs.declared.act.Act.TheVariants.{TakeTurn, ShutBit}
+use Rattle.nio_history.specs.declared.event.Event.{Event}
+use Rattle.nio_language.specs.declared.call.Call.{Call}
 use Rattle.nio_orderly.proofs.OrderlyCare.{first_opened}
+use Rattle.nio_orderly.proofs.CallLists.{mine-by}
 use Rattle.nio_plain.specs.Seq.Selections.{is_caller}
 use Rattle.nio_serial.proofs.Showing.{own-is}
 use Rattle.nio_serial.specs.Between.{IsBetween}
@@ -35,7 +36,6 @@ use Rattle.nio_steps.specs.Names.{selector}
 use Rattle.nio_steps.specs.Plan.{Plan}
 use Rattle.nio_steps.specs.Runs.{Completes}
 use Rattle.nio_steps.specs.SelectCalls.{Selection}
-use Rattle.nio_orderly.proofs.CallLists.{mine-by}
 
 -- ---- what a caller did among the events of one
 

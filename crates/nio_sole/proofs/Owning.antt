@@ -4,8 +4,8 @@ use Rattle.std.specs.List.{AllPairs}
 use Rattle.std.proofs.Math.Logic.{∥∥₁_map}
 use Rattle.nio_base.specs.declared.numbers.CallerNo.{CallerNo}
 use Rattle.nio_base.specs.declared.numbers.SelNo.{SelNo}
-use Rattle.nio_event.specs.Conditions.{IsSelector}
-use Rattle.nio_event.specs.PassViews.{HasSelector}
+use Rattle.nio_history.specs.Conditions.{IsSelector}
+use Rattle.nio_history.specs.PassViews.{HasSelector}
 use Rattle.nio_select.specs.InProgress.{Selects}
 use Rattle.nio_serial.specs.Lines.{if_own}
 use Rattle.nio_sole.proofs.Desks.{own_on}

@@ -7,8 +7,8 @@ use Rattle.std.proofs.lemmas.Bool.{cond-false, cond-true, eq-eqb, eqb-true, le-l
 use Rattle.std.proofs.lemmas.List.{append-nil, drop-append-le, drop_min, get_or-map, length-append, length-take}
 use Rattle.std.proofs.lemmas.List.{length-take-le, map-set, take_min}
 use Rattle.std.proofs.Math.Seq.{drop-append-add, drop-append_seam, take-append_seam}
-use Rattle.nio_event.specs.declared.reply.Reply.{Reply}
-use Rattle.nio_event.specs.declared.reply.Reply.TheVariants as reply
+use Rattle.nio_language.specs.declared.reply.Reply.{Reply}
+use Rattle.nio_language.specs.declared.reply.Reply.TheVariants as reply
 use Rattle.nio_pipe.specs.Answers.{bytes_read, bytes_written, read_answer, write_answer}
 use Rattle.nio_pipe.specs.Pipe.{Pipe as Held, IsLawful, after_read, after_write, waiting}
 use Rattle.nio_pipe.specs.declared.answers.PipeRead.{PipeRead}

@@ -6,11 +6,11 @@ use Rattle.nio_base.specs.declared.limits.Limits.{Limits}
 use Rattle.nio_base.specs.declared.numbers.ChanNo.{ChanNo}
 use Rattle.nio_base.specs.declared.numbers.KeyId.{KeyId}
 use Rattle.nio_base.specs.declared.numbers.SelNo.{SelNo}
-use Rattle.nio_event.specs.OwnEvents.{has, gives_turn}
-use Rattle.nio_event.specs.Questions.{Question, question_of}
-use Rattle.nio_event.specs.Turns.{removes_on}
-use Rattle.nio_event.specs.declared.act.Act.{Act}
-use Rattle.nio_event.specs.declared.act.Act.TheVariants.{DrawBit, GiveTurn, Remove, Mark}
+use Rattle.nio_history.specs.OwnEvents.{has, gives_turn}
+use Rattle.nio_history.specs.Questions.{Question, question_of}
+use Rattle.nio_history.specs.Turns.{removes_on}
+use Rattle.nio_history.specs.declared.act.Act.{Act}
+use Rattle.nio_history.specs.declared.act.Act.TheVariants.{DrawBit, GiveTurn, Remove, Mark}
 use Rattle.nio_orderly.specs.Made.{Made, draw, table_call, waiting_call, IsRun}
 use Rattle.nio_orderly.specs.Waited.{waits}
 use Rattle.nio_steps.proofs.CallWalks.{each_call, close_channel-walks, finish-walks, make_key-walks, register-walks}

@@ -6,15 +6,15 @@ use mathlib.Core.List as lists
 use mathlib.Core.Sum.{⊎_set}
 use Rattle.nio_base.specs.declared.group.Finished.{Finished}
 use Rattle.nio_base.specs.declared.numbers.KeyId.{KeyId}
-use Rattle.nio_event.specs.declared.found.Mode.{Mode}
-use Rattle.nio_event.specs.declared.group_reply.GroupReply.{GroupReply}
-use Rattle.nio_event.specs.declared.reply.Reply.{Reply}
 use Rattle.nio_group.specs.Flight.{Flight}
 use Rattle.nio_group.specs.Group.{Group}
 use Rattle.nio_group.specs.declared.channel.Channel.{Channel}
 use Rattle.nio_group.specs.declared.channel.Endpoint.{Endpoint}
 use Rattle.nio_group.specs.declared.operation.Operation.{Operation}
 use Rattle.nio_group.specs.declared.operation.Stage.{Stage}
+use Rattle.nio_history.specs.declared.found.Mode.{Mode}
+use Rattle.nio_language.specs.declared.group_reply.GroupReply.{GroupReply}
+use Rattle.nio_language.specs.declared.reply.Reply.{Reply}
 use Rattle.nio_plain.specs.ScriptState.{Pipe, ScriptState}
 
 option_set : {A : Type 0} → IsSet A → IsSet (Option A)

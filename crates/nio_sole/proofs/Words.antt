@@ -2,8 +2,8 @@
 use Rattle.std.proofs.Common.{◌≡◌, Result, sym, subst}
 use Rattle.std.specs.declared.alloc.AllocError.{AllocError}
 use Rattle.nio_base.specs.declared.numbers.CallerNo.{CallerNo}
-use Rattle.nio_event.specs.declared.call.Call.{Call}
-use Rattle.nio_event.specs.declared.reply.Reply.{Reply}
+use Rattle.nio_language.specs.declared.call.Call.{Call}
+use Rattle.nio_language.specs.declared.reply.Reply.{Reply}
 use Rattle.nio_serial.specs.Lines.{call_plan}
 use Rattle.nio_sole.proofs.Desks.{places_same}
 use Rattle.nio_sole.specs.Asked.{MayAsk, Asks}

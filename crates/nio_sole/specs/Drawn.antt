@@ -4,9 +4,9 @@ use Rattle.std.specs.Prelude.{vec_len}
 use Rattle.std.specs.declared.alloc.Global.{Global}
 use Rattle.nio_base.specs.declared.limits.Limits.{Limits}
 use Rattle.nio_base.specs.declared.numbers.CallerNo.{CallerNo}
-use Rattle.nio_event.specs.Histories.{state_after, mine}
-use Rattle.nio_event.specs.State.{State}
-use Rattle.nio_event.specs.declared.event.Event.{Event}
+use Rattle.nio_history.specs.Histories.{state_after, mine}
+use Rattle.nio_history.specs.State.{State}
+use Rattle.nio_history.specs.declared.event.Event.{Event}
 use Rattle.nio_plain.specs.ScriptState.{script_opening}
 use Rattle.nio_serial.specs.Between.{IsBetween}
 use Rattle.nio_serial.specs.Documented.{nothing_yet, documented}

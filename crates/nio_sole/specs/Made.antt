@@ -2,7 +2,7 @@
 use Rattle.std.specs.Prelude.{◌≡◌, ℕ, List}
 use Rattle.nio_base.specs.declared.limits.Limits.{Limits}
 use Rattle.nio_base.specs.declared.numbers.CallerNo.{CallerNo}
-use Rattle.nio_event.specs.declared.act.Act.{Act}
+use Rattle.nio_history.specs.declared.act.Act.{Act}
 use Rattle.nio_orderly.specs.Made.{Made, after_calls}
 use Rattle.nio_orderly.specs.Orderly.{AreCallsOf}
 use Rattle.nio_plain.specs.Seq.Selections.{is_caller}

@@ -3,11 +3,11 @@ use Rattle.std.specs.Prelude.{◌≡◌, IsTrue, Some, List, ◌++◌}
 use Rattle.nio_base.specs.declared.limits.Limits.{Limits}
 use Rattle.nio_base.specs.declared.numbers.CallerNo.{CallerNo}
 use Rattle.nio_base.specs.declared.numbers.SelNo.{SelNo}
-use Rattle.nio_event.specs.Histories.{mine, IsLegal}
-use Rattle.nio_event.specs.State.{State}
-use Rattle.nio_event.specs.declared.act.Act.{Act}
-use Rattle.nio_event.specs.declared.call.Call.{Call}
-use Rattle.nio_event.specs.declared.event.Event.{Event}
+use Rattle.nio_history.specs.Histories.{mine, IsLegal}
+use Rattle.nio_history.specs.State.{State}
+use Rattle.nio_history.specs.declared.act.Act.{Act}
+use Rattle.nio_history.specs.declared.event.Event.{Event}
+use Rattle.nio_language.specs.declared.call.Call.{Call}
 use Rattle.nio_orderly.specs.Made.{Made, after_calls}
 use Rattle.nio_orderly.specs.Orderly.{AreCallsOf}
 use Rattle.nio_serial.specs.Between.{IsBetween}

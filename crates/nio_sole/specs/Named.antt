@@ -4,14 +4,14 @@ use Rattle.nio_base.specs.declared.limits.Limits.{Limits}
 use Rattle.nio_base.specs.declared.numbers.CallerNo.{CallerNo}
 use Rattle.nio_base.specs.declared.numbers.KeyId.{KeyId}
 use Rattle.nio_base.specs.declared.numbers.SelNo.{SelNo}
-use Rattle.nio_event.specs.Conditions.{IsCaller}
-use Rattle.nio_event.specs.PassViews.{PassView, HasSelector, HasChannel, HasKey, HasNoPin}
-use Rattle.nio_event.specs.WordRows.{EachName, word_row}
-use Rattle.nio_event.specs.declared.call.Call.{Call}
-use Rattle.nio_event.specs.declared.reply.Reply.{Reply}
-use Rattle.nio_event.specs.declared.reply.Reply.TheVariants as reply
-use Rattle.nio_event.specs.declared.word_row.LineName.{LineName}
-use Rattle.nio_event.specs.declared.word_row.LineName.TheVariants.{Caller, Selector, Channel, Key}
+use Rattle.nio_history.specs.Conditions.{IsCaller}
+use Rattle.nio_history.specs.PassViews.{PassView, HasSelector, HasChannel, HasKey, HasNoPin}
+use Rattle.nio_language.specs.WordRows.{EachName, word_row}
+use Rattle.nio_language.specs.declared.call.Call.{Call}
+use Rattle.nio_language.specs.declared.reply.Reply.{Reply}
+use Rattle.nio_language.specs.declared.reply.Reply.TheVariants as reply
+use Rattle.nio_language.specs.declared.word_row.LineName.{LineName}
+use Rattle.nio_language.specs.declared.word_row.LineName.TheVariants.{Caller, Selector, Channel, Key}
 use Rattle.nio_serial.specs.Documented.{Progress}
 use Rattle.nio_serial.specs.Lines.{Said, refused, if_found}
 use Rattle.nio_steps.specs.Calls.{PartClause}

@@ -6,24 +6,29 @@ use Rattle.std.proofs.Props.{props}
 use mathlib.Core.Sum.{⊎_set}
 use Rattle.nio_base.specs.declared.limits.Limits.{Limits}
 use Rattle.nio_base.specs.declared.numbers.CallerNo.{CallerNo}
-use Rattle.nio_event.specs.Answers.{Answers}
-use Rattle.nio_event.specs.Conditions.{Condition}
-use Rattle.nio_event.specs.Histories.{IsLegal}
-use Rattle.nio_event.specs.OwnEvents.{OwnClaim}
-use Rattle.nio_event.specs.Questions.{Answer}
-use Rattle.nio_event.specs.State.{State}
-use Rattle.nio_event.specs.declared.act.Act.{Act}
-use Rattle.nio_event.specs.declared.act.Act.TheVariants.{DrawBit, MakeSelector, LookSelectors, Wake, LookGate}
-use Rattle.nio_event.specs.declared.act.Act.TheVariants.{SetInterrupt, TakeInterrupt, LookInterrupt, LookKey, CancelKey}
-use Rattle.nio_event.specs.declared.act.Act.TheVariants.{LookInterest, SwapInterest, OrInterest, AndInterest, SwapNote}
-use Rattle.nio_event.specs.declared.act.Act.TheVariants.{LookNote, MakeChannel, LookChannel, Claim, RaiseKeys, LookKeys}
-use Rattle.nio_event.specs.declared.act.Act.TheVariants.{Publish, LookReg, Enrol, TakeTurn, BeginLook, GiveTurn, Remove}
-use Rattle.nio_event.specs.declared.act.Act.TheVariants.{LookMark, Mark, UnselectBit, EndWake, LookChannels}
-use Rattle.nio_event.specs.declared.act.Act.TheVariants.{RaiseChannels, TryHoldBit, Release, SetMode, CloseBit, ShutBit}
-use Rattle.nio_event.specs.declared.act.Act.TheVariants.{Enter, Pin, Unpin, ClearMark, ClaimAgain, LookFree, PutFree}
-use Rattle.nio_event.specs.declared.act.Act.TheVariants.{TakeFree}
-use Rattle.nio_event.specs.declared.event.Event.{Event}
-use Rattle.nio_event.specs.declared.found.Stage.{Stage}
+use Rattle.nio_history.specs.Answers.{Answers}
+use Rattle.nio_history.specs.Conditions.{Condition}
+use Rattle.nio_history.specs.Histories.{IsLegal}
+use Rattle.nio_history.specs.OwnEvents.{OwnClaim}
+use Rattle.nio_history.specs.Questions.{Answer}
+use Rattle.nio_history.specs.State.{State}
+use Rattle.nio_history.specs.declared.act.Act.{Act}
+use Rattle.nio_history.specs.declared.act.Act.TheVariants.{DrawBit, MakeSelector, LookSelectors, Wake, LookGate}
+use Rattle.nio_history.specs.declared.act.Act.TheVariants.{SetInterrupt, TakeInterrupt, LookInterrupt, LookKey}
+use Rattle.nio_history.specs.declared.act.Act.TheVariants.{CancelKey}
+use Rattle.nio_history.specs.declared.act.Act.TheVariants.{LookInterest, SwapInterest, OrInterest, AndInterest}
+use Rattle.nio_history.specs.declared.act.Act.TheVariants.{SwapNote}
+use Rattle.nio_history.specs.declared.act.Act.TheVariants.{LookNote, MakeChannel, LookChannel, Claim, RaiseKeys}
+use Rattle.nio_history.specs.declared.act.Act.TheVariants.{LookKeys}
+use Rattle.nio_history.specs.declared.act.Act.TheVariants.{Publish, LookReg, Enrol, TakeTurn, BeginLook, GiveTurn}
+use Rattle.nio_history.specs.declared.act.Act.TheVariants.{Remove}
+use Rattle.nio_history.specs.declared.act.Act.TheVariants.{LookMark, Mark, UnselectBit, EndWake, LookChannels}
+use Rattle.nio_history.specs.declared.act.Act.TheVariants.{RaiseChannels, TryHoldBit, Release, SetMode, CloseBit}
+use Rattle.nio_history.specs.declared.act.Act.TheVariants.{ShutBit}
+use Rattle.nio_history.specs.declared.act.Act.TheVariants.{Enter, Pin, Unpin, ClearMark, ClaimAgain, LookFree, PutFree}
+use Rattle.nio_history.specs.declared.act.Act.TheVariants.{TakeFree}
+use Rattle.nio_history.specs.declared.event.Event.{Event}
+use Rattle.nio_history.specs.declared.found.Stage.{Stage}
 use Rattle.nio_sole.specs.Stands.{Stands}
 use Rattle.nio_sole.specs.declared.desk.Desk.{Desk}
 use Rattle.nio_words.specs.Passes.{IsReady}

@@ -1,7 +1,7 @@
 -- The reply of a line to what a read or a write answers, with the mode that it found its channel in.
 use Rattle.std.specs.Prelude.{ℕ, ◌==◌, Bool, if◌then◌else◌, List, take, Result, Ok, Err}
-use Rattle.nio_event.specs.declared.reply.Reply.{Reply}
-use Rattle.nio_event.specs.declared.reply.Reply.TheVariants as reply
+use Rattle.nio_language.specs.declared.reply.Reply.{Reply}
+use Rattle.nio_language.specs.declared.reply.Reply.TheVariants as reply
 use Rattle.nio_pipe.specs.declared.answers.PipeRead.{PipeRead}
 use Rattle.nio_pipe.specs.declared.answers.PipeWrite.{PipeWrite}
 use Rattle.nio_plain.specs.Seq.Piping.{not_now}

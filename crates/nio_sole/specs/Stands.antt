@@ -3,8 +3,8 @@ use Rattle.std.specs.Prelude.{◌≡◌, ℕ, ◌<◌, Option, Some, None, optio
 use Rattle.std.specs.List.{slice_index_or}
 use Rattle.nio_base.specs.Limits.{IsFit}
 use Rattle.nio_base.specs.declared.numbers.CallerNo.{CallerNo}
-use Rattle.nio_event.specs.PassViews.{PassView}
 use Rattle.nio_group.specs.Group.{Group, empty_group}
+use Rattle.nio_history.specs.PassViews.{PassView}
 use Rattle.nio_pipe.specs.Calls.{HasEnds}
 use Rattle.nio_pipe.specs.Pipe.{waiting}
 use Rattle.nio_plain.specs.ScriptState.{Pipe, group_limits}

@@ -6,7 +6,7 @@ ghost use Rattle.nio_sole.specs.Asked.{MayAsk, Asks};
 use crate::replies::{channel_reply, find_reply, mode_reply, register_reply, yes_or_no};
 use nio_base::{CallerNo, ChanNo, Kind, Ops, SelNo};
 use nio_channel::{try_register, try_set_blocking};
-use nio_event::{Call, Reply};
+use nio_language::{Call, Reply};
 use nio_words::{Pass, Words};
 
 #[tactic(auto, unfolding(nio_serial::specs::Lines::call_plan))]

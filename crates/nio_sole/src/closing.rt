@@ -3,7 +3,7 @@ ghost use Rattle.nio_sole.specs.Makes.{MayMake, MakesCall};
 
 use crate::desk::{Desk, Shut, put_closing, take_closing};
 use nio_base::{CallerNo, SelNo};
-use nio_event::{Call, Reply};
+use nio_language::{Call, Reply};
 use nio_select::{Finish, Shutting, shut};
 use nio_words::Words;
 use std::alloc::AllocError;

@@ -3,8 +3,8 @@ ghost use Rattle.std.specs.Prelude.{◌≡◌, IfOk, OnErr};
 ghost use Rattle.nio_plain.specs.Seq.Grouping.{group_left, group_reply};
 ghost use Rattle.nio_sole.specs.Stands.{group_of};
 
-use nio_event::{GroupCall, Reply};
 use nio_group::GroupCore;
+use nio_language::{GroupCall, Reply};
 use nio_plain::{GROUP_LIMITS, call_group};
 use std::alloc::{AllocError, Global};
 

@@ -1,11 +1,11 @@
 //! The calls of lines on keys.
 ghost use Rattle.std.specs.Prelude.{◌≡◌};
-ghost use Rattle.nio_sole.specs.Asked.{MayAsk, Asks};
 ghost use Rattle.nio_steps.specs.Names.{key};
+ghost use Rattle.nio_sole.specs.Asked.{MayAsk, Asks};
 
 use crate::replies::{put_reply, set_reply, yes_or_no};
 use nio_base::{CallerNo, KeyId, KeyNo, Ops, SelNo};
-use nio_event::{Call, Reply};
+use nio_language::{Call, Reply};
 use nio_words::{Pass, Words};
 
 // The key that is named so.

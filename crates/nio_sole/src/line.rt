@@ -1,13 +1,13 @@
 //! A line of a script: its look-ups, and its call by its word.
 ghost use Rattle.std.specs.Prelude.{◌<◌};
-ghost use Rattle.nio_event.specs.PassViews.{HasNoPin};
+ghost use Rattle.nio_history.specs.PassViews.{HasNoPin};
 ghost use Rattle.nio_serial.specs.Lines.{if_named};
+ghost use Rattle.nio_words.specs.Passes.{IsReady, limits_of, acts_seen};
+ghost use Rattle.nio_words.specs.Views.{view};
 ghost use Rattle.nio_sole.specs.Made.{HasMade};
 ghost use Rattle.nio_sole.specs.Makes.{MayMake, MakesCall};
 ghost use Rattle.nio_sole.specs.Said.{SaysLine};
 ghost use Rattle.nio_sole.specs.Stands.{HasPlaces, Stands, progress_of};
-ghost use Rattle.nio_words.specs.Passes.{IsReady, limits_of, acts_seen};
-ghost use Rattle.nio_words.specs.Views.{view};
 
 use crate::channels::{
     is_blocking, is_open, is_registered, key_for, open_channel, register, set_blocking,
@@ -25,7 +25,7 @@ use crate::pipes::{close_channel, pipe, pread, pwrite};
 use crate::selections::{begin, failed, told};
 use crate::selectors::{interrupt, interrupted, open_selector, wakeup};
 use nio_base::CallerNo;
-use nio_event::{Call, Reply};
+use nio_language::{Call, Reply};
 use nio_words::Words;
 use std::alloc::{AllocError, Global};
 

@@ -6,7 +6,7 @@ ghost use Rattle.nio_sole.specs.Makes.{MayMake, MakesCall};
 
 use crate::desk::Desk;
 use nio_base::{CallerNo, KeyId, KeyNo, SelNo};
-use nio_event::{Call, Names, Reply};
+use nio_language::{Call, Names, Reply};
 use nio_select::ListError;
 use nio_words::Words;
 use std::alloc::{AllocError, Global};

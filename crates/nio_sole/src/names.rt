@@ -1,15 +1,15 @@
 //! The look-ups of a line: what it names has to be made.
-ghost use Rattle.nio_event.specs.Conditions.{IsCaller};
-ghost use Rattle.nio_event.specs.PassViews.{HasSelector, HasChannel, HasKey, HasNoPin};
+ghost use Rattle.nio_history.specs.Conditions.{IsCaller};
+ghost use Rattle.nio_history.specs.PassViews.{HasSelector, HasChannel, HasKey, HasNoPin};
 ghost use Rattle.nio_serial.specs.Lines.{if_caller, if_channel, if_key, if_name, if_named, if_selector};
-ghost use Rattle.nio_sole.specs.Named.{Finds, HasName, HasNames, if_present};
 ghost use Rattle.nio_steps.specs.Names.{key};
 ghost use Rattle.nio_words.specs.Passes.{IsReady, limits_of};
 ghost use Rattle.nio_words.specs.Views.{view};
+ghost use Rattle.nio_sole.specs.Named.{Finds, HasName, HasNames, if_present};
 
 use nio_base::{CallerNo, ChanNo, KeyId, SelNo};
-use nio_event::{Call, LineName, LineNames, Reply};
 use nio_keys::{find, find_channel, find_selector};
+use nio_language::{Call, LineName, LineNames, Reply};
 use nio_words::{Pass, Words};
 
 // Looks up what the line names, and answers the refusal where something is missing.

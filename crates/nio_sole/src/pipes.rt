@@ -5,7 +5,7 @@ ghost use Rattle.nio_sole.specs.Makes.{MayMake, MakesCall};
 use crate::desk::{Desk, OwnedPipe};
 use crate::replies::{closed_reply, read_reply, write_reply};
 use nio_base::{CallerNo, ChanNo};
-use nio_event::{Bytes, Call, Reply};
+use nio_language::{Bytes, Call, Reply};
 use nio_pipe::{CAPACITY, PipeMakeError, held_pipe};
 use nio_words::Words;
 use std::alloc::{AllocError, Global};

@@ -8,7 +8,7 @@ ghost use Rattle.nio_serial.specs.Replies.{selector_reply};
 ghost use Rattle.nio_sole.specs.PipeReplies.{read_reply, read_says, write_reply, write_says};
 
 use nio_base::{ChanNo, KeyId, KeyNo, Ops, SelNo};
-use nio_event::{Bytes, Reply};
+use nio_language::{Bytes, Reply};
 use nio_pipe::{PipeError, PipeRead, PipeWrite};
 use nio_steps::{ChannelError, KeyError, SelectorsSpent};
 

@@ -2,13 +2,14 @@
 ghost use Rattle.std.specs.Prelude.{◌≡◌, ◌≤◌, [], Some, length};
 ghost use Rattle.std.specs.Vec.{vec_capacity};
 ghost use Rattle.nio_plain.specs.Seq.Selections.{mode_of};
-ghost use Rattle.nio_sole.specs.Makes.{MayMake, MakesCall};
 ghost use Rattle.nio_words.specs.Passes.{limits_of};
+ghost use Rattle.nio_sole.specs.Makes.{MayMake, MakesCall};
 
 use crate::desk::{Begun, Desk, put_selection, take_selection};
 use crate::pairs::{list_pairs, pairs_by_index};
 use nio_base::{CallerNo, KeyId, Ops, SelNo};
-use nio_event::{Call, Mode, Pairs, Reply, Waiting};
+use nio_history::Mode;
+use nio_language::{Call, Pairs, Reply, Waiting};
 use nio_select::{After, BeginError, Told, try_begin};
 use nio_words::Words;
 use std::alloc::{AllocError, Global};

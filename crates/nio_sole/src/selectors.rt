@@ -3,7 +3,7 @@ ghost use Rattle.nio_sole.specs.Asked.{MayAsk, Asks};
 
 use crate::replies::{selector_reply, yes_or_no};
 use nio_base::{CallerNo, SelNo};
-use nio_event::{Call, Reply};
+use nio_language::{Call, Reply};
 use nio_words::{Pass, Words};
 
 #[tactic(auto, unfolding(nio_serial::specs::Lines::call_plan))]

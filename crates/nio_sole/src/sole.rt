@@ -6,7 +6,7 @@ use crate::desk::Desk;
 use crate::line::say_line;
 use crate::making::open_desk;
 use nio_base::CallerNo;
-use nio_event::{Call, Reply};
+use nio_language::{Call, Reply};
 use nio_plain::System;
 use nio_words::{Pass, Words};
 use std::alloc::{AllocError, Global};
@@ -21,14 +21,14 @@ pub struct Sole<'a> {
 impl<'a> Sole<'a> {
     ghost use Rattle.std.specs.Prelude.{◌≡◌, ◌<◌, IfOk, OnErr};
     ghost use Rattle.nio_base.specs.declared.numbers.CallerNo.{CallerNo};
-    ghost use Rattle.nio_event.specs.PassViews.{HasNoPin};
+    ghost use Rattle.nio_history.specs.PassViews.{HasNoPin};
     ghost use Rattle.nio_orderly.specs.Orderly.{IsWhole};
     ghost use Rattle.nio_plain.specs.ScriptState.{script_opening};
     ghost use Rattle.nio_serial.specs.Serial.{history_of};
-    ghost use Rattle.nio_sole.specs.Drawn.{AreAllDrawn, draws};
-    ghost use Rattle.nio_sole.specs.Sole.{limits_of, pass_of, state_of, words_of};
     ghost use Rattle.nio_words.specs.Passes.{IsFirstPass, IsPassOf, IsReady, seen, state_seen};
     ghost use Rattle.nio_words.specs.Views.{view};
+    ghost use Rattle.nio_sole.specs.Drawn.{AreAllDrawn, draws};
+    ghost use Rattle.nio_sole.specs.Sole.{limits_of, pass_of, state_of, words_of};
 
     /// Draws every number with the pass, and hands all of them over to a pass of its own. The pass that is left acts
     /// for nobody. Want of memory leaves the pass as it was.
@@ -65,10 +65,10 @@ impl<'a> Sole<'a> {
 impl<'a> System for Sole<'a> {
     ghost use Rattle.std.proofs.Common.{ap, ◌∙◌};
     ghost use Rattle.std.specs.Prelude.{refl};
-    ghost use Rattle.nio_sole.specs.Sole.{Kept, limits_of, rules_of, state_of};
-    ghost use Rattle.nio_event.proofs.Clauses.{prefix_trans};
+    ghost use Rattle.nio_history.proofs.Clauses.{prefix_trans};
     ghost use Rattle.nio_words.proofs.Beginnings.{prefix_self};
     ghost use Rattle.nio_words.specs.Passes as passes;
+    ghost use Rattle.nio_sole.specs.Sole.{Kept, limits_of, rules_of, state_of};
 
     ghost limits = { limits_of };
 

@@ -10,32 +10,32 @@ use Rattle.nio_base.specs.Limits.{IsFit}
 use Rattle.nio_base.specs.declared.limits.Limits.{Limits}
 use Rattle.nio_base.specs.declared.numbers.CallerNo.{CallerNo}
 use Rattle.nio_base.specs.declared.numbers.SelNo.{SelNo}
-use Rattle.nio_event.proofs.LastsAlone.{same_two}
-use Rattle.nio_event.proofs.Legal.{legal_beginning, legal_next}
-use Rattle.nio_event.proofs.OneMore.{state_after-more}
-use Rattle.nio_event.proofs.Put.{put-same, put_at_keeps}
-use Rattle.nio_event.proofs.Selections.{key_set_stays, selects_alone}
-use Rattle.nio_event.proofs.Soundness.{legal-sound, beyond-claimed}
-use Rattle.nio_event.proofs.Stays.{only_itself_gives_back}
-use Rattle.nio_event.proofs.Unpublished.{unpublished_keys_stay}
-use Rattle.nio_event.specs.Acts.{effect, new_key}
-use Rattle.nio_event.specs.Answers.{is_same_mark, exchange_from}
-use Rattle.nio_event.specs.Conditions.{Condition, has_turn, has_begun}
-use Rattle.nio_event.specs.Histories.{state_after, mine, event_of, IsStep, IsLegal}
-use Rattle.nio_event.specs.Holders.{Keeps}
-use Rattle.nio_event.specs.Permanent.{a_selection}
-use Rattle.nio_event.specs.OwnEvents.{has, count, gives_turn}
-use Rattle.nio_event.specs.Pins.{removes}
-use Rattle.nio_event.specs.Sets.{fits, in_key_set, in_cancelled_set, is_valid, is_in_key_set}
-use Rattle.nio_event.specs.State.{State, put}
-use Rattle.nio_event.specs.Turns.{selects_on}
-use Rattle.nio_event.specs.declared.act.Act.{Act}
-use Rattle.nio_event.specs.declared.act.Act.TheVariants.{LookKey, CancelKey, Claim, Publish, BeginLook, Remove}
-use Rattle.nio_event.specs.declared.act.Act.TheVariants.{LookMark, Mark, UnselectBit, EndWake, ClearMark, ClaimAgain}
-use Rattle.nio_event.specs.declared.event.Event.{Event}
-use Rattle.nio_event.specs.declared.found.GateWord.{GateWord}
-use Rattle.nio_event.specs.declared.found.Mark.{Mark as KeyMark}
-use Rattle.nio_event.specs.declared.found.Stage.{Stage}
+use Rattle.nio_history.proofs.LastsAlone.{same_two}
+use Rattle.nio_history.proofs.Legal.{legal_beginning, legal_next}
+use Rattle.nio_history.proofs.OneMore.{state_after-more}
+use Rattle.nio_history.proofs.Put.{put-same, put_at_keeps}
+use Rattle.nio_history.proofs.Selections.{key_set_stays, selects_alone}
+use Rattle.nio_history.proofs.Soundness.{legal-sound, beyond-claimed}
+use Rattle.nio_history.proofs.Stays.{only_itself_gives_back}
+use Rattle.nio_history.proofs.Unpublished.{unpublished_keys_stay}
+use Rattle.nio_history.specs.Acts.{effect, new_key}
+use Rattle.nio_history.specs.Answers.{is_same_mark, exchange_from}
+use Rattle.nio_history.specs.Conditions.{Condition, has_turn, has_begun}
+use Rattle.nio_history.specs.Histories.{state_after, mine, event_of, IsStep, IsLegal}
+use Rattle.nio_history.specs.Holders.{Keeps}
+use Rattle.nio_history.specs.Permanent.{a_selection}
+use Rattle.nio_history.specs.OwnEvents.{has, count, gives_turn}
+use Rattle.nio_history.specs.Pins.{removes}
+use Rattle.nio_history.specs.Sets.{fits, in_key_set, in_cancelled_set, is_valid, is_in_key_set}
+use Rattle.nio_history.specs.State.{State, put}
+use Rattle.nio_history.specs.Turns.{selects_on}
+use Rattle.nio_history.specs.declared.act.Act.{Act}
+use Rattle.nio_history.specs.declared.act.Act.TheVariants.{LookKey, CancelKey, Claim, Publish, BeginLook, Remove}
+use Rattle.nio_history.specs.declared.act.Act.TheVariants.{LookMark, Mark, UnselectBit, EndWake, ClearMark, ClaimAgain}
+use Rattle.nio_history.specs.declared.event.Event.{Event}
+use Rattle.nio_history.specs.declared.found.GateWord.{GateWord}
+use Rattle.nio_history.specs.declared.found.Mark.{Mark as KeyMark}
+use Rattle.nio_history.specs.declared.found.Stage.{Stage}
 use Rattle.nio_steps.proofs.Either.{neither, by_second, not_first, not_second}
 use Rattle.nio_steps.proofs.OwnActs.{cut_at, mine-own_first, mine-append}
 use Rattle.nio_steps.proofs.SelectionLaws.{count-append, count-cons}

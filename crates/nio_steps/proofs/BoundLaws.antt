@@ -13,16 +13,16 @@ use Rattle.nio_base.specs.Limits.{IsFit}
 use Rattle.nio_base.specs.declared.limits.Limits.{Limits}
 use Rattle.nio_base.specs.declared.numbers.CallerNo.{CallerNo}
 use Rattle.nio_base.specs.declared.numbers.SelNo.{SelNo}
-use Rattle.nio_event.proofs.LastsAlone.{same_two}
-use Rattle.nio_event.specs.Answers.{count_below}
-use Rattle.nio_event.specs.Histories.{mine, event_of, IsLegal}
-use Rattle.nio_event.specs.OwnEvents.{has, count, gives_turn}
-use Rattle.nio_event.specs.Pins.{removes}
-use Rattle.nio_event.specs.Questions.{Question, question_of, answer_of}
-use Rattle.nio_event.specs.declared.act.Act.{Act}
-use Rattle.nio_event.specs.declared.act.Act.TheVariants.{LookKey, BeginLook, LookMark, Mark, EndWake, LookFree}
-use Rattle.nio_event.specs.declared.event.Event.{Event}
-use Rattle.nio_event.specs.declared.found.GateWord.{GateWord}
+use Rattle.nio_history.proofs.LastsAlone.{same_two}
+use Rattle.nio_history.specs.Answers.{count_below}
+use Rattle.nio_history.specs.Histories.{mine, event_of, IsLegal}
+use Rattle.nio_history.specs.OwnEvents.{has, count, gives_turn}
+use Rattle.nio_history.specs.Pins.{removes}
+use Rattle.nio_history.specs.Questions.{Question, question_of, answer_of}
+use Rattle.nio_history.specs.declared.act.Act.{Act}
+use Rattle.nio_history.specs.declared.act.Act.TheVariants.{LookKey, BeginLook, LookMark, Mark, EndWake, LookFree}
+use Rattle.nio_history.specs.declared.event.Event.{Event}
+use Rattle.nio_history.specs.declared.found.GateWord.{GateWord}
 use Rattle.nio_steps.proofs.BeginLaws.{Begun, none_yet, begin-parts}
 use Rattle.nio_steps.proofs.BoundActs.{asks_at, acts_at, FoundValid, FoundChanged, FoundCancelled, Unseen, Seen}
 use Rattle.nio_steps.proofs.BoundActs.{is_dropped, is_kept, is_looked, Unmarked, Marked, is_marked, is_failed, Unswept}

@@ -6,10 +6,10 @@ use Rattle.std.specs.List.{All, AllPairs, Contains}
 use Rattle.std.proofs.lemmas.Bool.{and_parts, and_from, lt-ltb, eqb-false}
 use Rattle.std.proofs.lemmas.List.Elements.{All-head, All-tail, Contains-append_cases, Contains-push_cases}
 use Rattle.nio_base.specs.declared.numbers.SelNo.{SelNo}
-use Rattle.nio_event.specs.Answers.{count_below}
-use Rattle.nio_event.specs.OwnEvents.{count}
-use Rattle.nio_event.specs.declared.act.Act.{Act}
-use Rattle.nio_event.specs.declared.act.Act.TheVariants.{CancelKey, UnselectBit}
+use Rattle.nio_history.specs.Answers.{count_below}
+use Rattle.nio_history.specs.OwnEvents.{count}
+use Rattle.nio_history.specs.declared.act.Act.{Act}
+use Rattle.nio_history.specs.declared.act.Act.TheVariants.{CancelKey, UnselectBit}
 use Rattle.nio_steps.proofs.BoundActs.{acts_at}
 use Rattle.nio_steps.proofs.BoundEvents.{cancels_at, unselects_at}
 use Rattle.nio_steps.proofs.Lists.{pairs-head, pairs-tail, contains-none}

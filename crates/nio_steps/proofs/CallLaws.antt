@@ -2,13 +2,13 @@
 use Rattle.std.proofs.Common.{◌≡◌, ℕ, Bool, true, false, if◌then◌else◌, List, [], ◌∷◌, ◌++◌, refl, sym, subst}
 use Rattle.nio_base.specs.declared.numbers.CallerNo.{CallerNo}
 use Rattle.nio_base.specs.declared.numbers.SelNo.{SelNo}
-use Rattle.nio_event.proofs.PassViews.{done-is, acts_nothing, acts_then}
-use Rattle.nio_event.specs.Histories.{IsLegal}
-use Rattle.nio_event.specs.PassViews.{PassView, done_between, ActsClause}
-use Rattle.nio_event.specs.Questions.{Answer, question_of, answer_of}
-use Rattle.nio_event.specs.declared.act.Act.{Act}
-use Rattle.nio_event.specs.declared.act.Act.TheVariants.{Pin, Unpin}
-use Rattle.nio_event.specs.declared.found.Stage.{Stage}
+use Rattle.nio_history.proofs.PassViews.{done-is, acts_nothing, acts_then}
+use Rattle.nio_history.specs.Histories.{IsLegal}
+use Rattle.nio_history.specs.PassViews.{PassView, done_between, ActsClause}
+use Rattle.nio_history.specs.Questions.{Answer, question_of, answer_of}
+use Rattle.nio_history.specs.declared.act.Act.{Act}
+use Rattle.nio_history.specs.declared.act.Act.TheVariants.{Pin, Unpin}
+use Rattle.nio_history.specs.declared.found.Stage.{Stage}
 use Rattle.nio_steps.proofs.RunLaws.{bind-reply, follows_more, follows_bind}
 use Rattle.nio_steps.specs.Calls.{CallClause, PartClause}
 use Rattle.nio_steps.specs.KeyCalls.{under_pin}

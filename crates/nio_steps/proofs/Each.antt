@@ -1,5 +1,5 @@
 -- What a plan does whatever the answers are.
-use Rattle.nio_event.specs.Questions.{Question, Answer}
+use Rattle.nio_history.specs.Questions.{Question, Answer}
 use Rattle.nio_steps.specs.Plan.{Plan, reply, ask}
 
 -- each question of the plan is such a one, and each reply

@@ -5,8 +5,8 @@ use Rattle.std.specs.Prelude.{⊤}
 use Rattle.std.specs.List.{All}
 use Rattle.std.proofs.lemmas.List.{append-nil}
 use Rattle.std.proofs.lemmas.List.Elements.{All-nil, All-cons, All-head, All-tail}
-use Rattle.nio_event.specs.Questions.{Question, question_of, answer_of}
-use Rattle.nio_event.specs.declared.act.Act.{Act}
+use Rattle.nio_history.specs.Questions.{Question, question_of, answer_of}
+use Rattle.nio_history.specs.declared.act.Act.{Act}
 use Rattle.nio_steps.proofs.Each.{Each}
 use Rattle.nio_steps.specs.Plan.{Plan, reply, ask, ◌>>=◌, when}
 use Rattle.nio_steps.specs.Runs.{Follows, Completes}

@@ -8,23 +8,23 @@ use mathlib.Core.List.{IsPrefix}
 use Rattle.nio_base.specs.declared.limits.Limits.{Limits}
 use Rattle.nio_base.specs.declared.numbers.CallerNo.{CallerNo}
 use Rattle.nio_base.specs.declared.numbers.SelNo.{SelNo}
-use Rattle.nio_event.proofs.Bits.{bits_below-at}
-use Rattle.nio_event.proofs.KeyChanges.{back_parts}
-use Rattle.nio_event.proofs.Legal.{legal_beginning, legal_next}
-use Rattle.nio_event.proofs.OneMore.{state_after-more}
-use Rattle.nio_event.proofs.Put.{put_at-same}
-use Rattle.nio_event.proofs.Soundness.{legal-sound}
-use Rattle.nio_event.proofs.Stays.{facts_are_permanent}
-use Rattle.nio_event.specs.Answers.{free_word}
-use Rattle.nio_event.specs.Histories.{state_after, mine, event_of, IsStep, IsLegal}
-use Rattle.nio_event.specs.Permanent.{key_published, key_cancelled, key_removed}
-use Rattle.nio_event.specs.Sets.{in_cancelled_set, is_valid, fits, was_claimed, was_published, was_cancelled}
-use Rattle.nio_event.specs.Sets.{was_removed}
-use Rattle.nio_event.specs.State.{State}
-use Rattle.nio_event.specs.declared.act.Act.{Act}
-use Rattle.nio_event.specs.declared.act.Act.TheVariants.{LookKey, LookFree, Remove}
-use Rattle.nio_event.specs.declared.event.Event.{Event}
-use Rattle.nio_event.specs.declared.found.Stage.{Stage}
+use Rattle.nio_history.proofs.Bits.{bits_below-at}
+use Rattle.nio_history.proofs.KeyChanges.{back_parts}
+use Rattle.nio_history.proofs.Legal.{legal_beginning, legal_next}
+use Rattle.nio_history.proofs.OneMore.{state_after-more}
+use Rattle.nio_history.proofs.Put.{put_at-same}
+use Rattle.nio_history.proofs.Soundness.{legal-sound}
+use Rattle.nio_history.proofs.Stays.{facts_are_permanent}
+use Rattle.nio_history.specs.Answers.{free_word}
+use Rattle.nio_history.specs.Histories.{state_after, mine, event_of, IsStep, IsLegal}
+use Rattle.nio_history.specs.Permanent.{key_published, key_cancelled, key_removed}
+use Rattle.nio_history.specs.Sets.{in_cancelled_set, is_valid, fits, was_claimed, was_published, was_cancelled}
+use Rattle.nio_history.specs.Sets.{was_removed}
+use Rattle.nio_history.specs.State.{State}
+use Rattle.nio_history.specs.declared.act.Act.{Act}
+use Rattle.nio_history.specs.declared.act.Act.TheVariants.{LookKey, LookFree, Remove}
+use Rattle.nio_history.specs.declared.event.Event.{Event}
+use Rattle.nio_history.specs.declared.found.Stage.{Stage}
 use Rattle.nio_steps.proofs.LookedLaws.{Settled, is_free, stands_outside, is_gone, begin-settles, looks_at_valid_keys}
 use Rattle.nio_steps.proofs.OwnActs.{at_own}
 use Rattle.nio_steps.specs.KeyCalls.{has_bit}

@@ -9,24 +9,24 @@ use Rattle.std.proofs.lemmas.List.Folds.{list_any-append}
 use Rattle.nio_base.specs.declared.limits.Limits.{Limits}
 use Rattle.nio_base.specs.declared.numbers.CallerNo.{CallerNo}
 use Rattle.nio_base.specs.declared.numbers.SelNo.{SelNo}
-use Rattle.nio_event.proofs.KeyChanges.{KeepsStages, stages_keep}
-use Rattle.nio_event.proofs.Legal.{legal_beginning, legal_next}
-use Rattle.nio_event.proofs.OneMore.{state_after-more}
-use Rattle.nio_event.proofs.Selections.{key_set_stays}
-use Rattle.nio_event.proofs.Soundness.{legal-sound, beyond-claimed}
-use Rattle.nio_event.specs.Histories.{state_after, mine, event_of, IsLegal}
-use Rattle.nio_event.specs.Holders.{Keeps}
-use Rattle.nio_event.specs.Permanent.{a_selection}
-use Rattle.nio_event.specs.OwnEvents.{has, gives_turn}
-use Rattle.nio_event.specs.Pins.{removes}
-use Rattle.nio_event.specs.Questions.{question_of, answer_of}
-use Rattle.nio_event.specs.Sets.{fits, in_key_set, is_in_key_set}
-use Rattle.nio_event.specs.State.{State}
-use Rattle.nio_event.specs.Turns.{removes_on}
-use Rattle.nio_event.specs.declared.act.Act.{Act}
-use Rattle.nio_event.specs.declared.act.Act.TheVariants.{LookKey, BeginLook, Mark}
-use Rattle.nio_event.specs.declared.event.Event.{Event}
-use Rattle.nio_event.specs.declared.found.Stage.{Stage}
+use Rattle.nio_history.proofs.KeyChanges.{KeepsStages, stages_keep}
+use Rattle.nio_history.proofs.Legal.{legal_beginning, legal_next}
+use Rattle.nio_history.proofs.OneMore.{state_after-more}
+use Rattle.nio_history.proofs.Selections.{key_set_stays}
+use Rattle.nio_history.proofs.Soundness.{legal-sound, beyond-claimed}
+use Rattle.nio_history.specs.Histories.{state_after, mine, event_of, IsLegal}
+use Rattle.nio_history.specs.Holders.{Keeps}
+use Rattle.nio_history.specs.Permanent.{a_selection}
+use Rattle.nio_history.specs.OwnEvents.{has, gives_turn}
+use Rattle.nio_history.specs.Pins.{removes}
+use Rattle.nio_history.specs.Questions.{question_of, answer_of}
+use Rattle.nio_history.specs.Sets.{fits, in_key_set, is_in_key_set}
+use Rattle.nio_history.specs.State.{State}
+use Rattle.nio_history.specs.Turns.{removes_on}
+use Rattle.nio_history.specs.declared.act.Act.{Act}
+use Rattle.nio_history.specs.declared.act.Act.TheVariants.{LookKey, BeginLook, Mark}
+use Rattle.nio_history.specs.declared.event.Event.{Event}
+use Rattle.nio_history.specs.declared.found.Stage.{Stage}
 use Rattle.nio_steps.proofs.BeginLaws.{Begun, none_yet, begin-parts}
 use Rattle.nio_steps.proofs.BoundActs.{FoundValid, IsOf, Unseen, Seen, is_dropped, is_kept, is_looked, over-visits}
 use Rattle.nio_steps.proofs.BoundEvents.{has_first, has_last}

@@ -4,10 +4,10 @@ use Rattle.std.specs.List.{filter, Contains}
 use Rattle.std.proofs.lemmas.List.{map-append}
 use Rattle.std.proofs.lemmas.List.Elements.{filter-append}
 use Rattle.nio_base.specs.declared.numbers.CallerNo.{CallerNo}
-use Rattle.nio_event.proofs.Legal.{not_empty}
-use Rattle.nio_event.specs.Histories.{is_by, mine, event_of}
-use Rattle.nio_event.specs.declared.act.Act.{Act}
-use Rattle.nio_event.specs.declared.event.Event.{Event}
+use Rattle.nio_history.proofs.Legal.{not_empty}
+use Rattle.nio_history.specs.Histories.{is_by, mine, event_of}
+use Rattle.nio_history.specs.declared.act.Act.{Act}
+use Rattle.nio_history.specs.declared.event.Event.{Event}
 use Rattle.nio_steps.proofs.Lists.{parted}
 
 pub mine-own_first : (n : CallerNo) (e : Event) (events : List Event) → is_by n e ≡ true

@@ -6,17 +6,17 @@ use Rattle.std.specs.List.{find}
 use Rattle.std.proofs.lemmas.List.{append-nil}
 use Rattle.nio_base.specs.declared.limits.Limits.{Limits}
 use Rattle.nio_base.specs.declared.numbers.CallerNo.{CallerNo}
-use Rattle.nio_event.proofs.Asked.{act_from-question_of}
-use Rattle.nio_event.proofs.Legal.{legal_next}
-use Rattle.nio_event.proofs.OneMore.{state_after-more}
-use Rattle.nio_event.specs.Acts.{effect}
-use Rattle.nio_event.specs.Answers.{act_from}
-use Rattle.nio_event.specs.Histories.{state_after, event_of, IsStep, IsLegal}
-use Rattle.nio_event.specs.PassViews.{PassView, known, done_between}
-use Rattle.nio_event.specs.Questions.{Question, Answer, question_of, answer_of}
-use Rattle.nio_event.specs.State.{State}
-use Rattle.nio_event.specs.declared.act.Act.{Act}
-use Rattle.nio_event.specs.declared.event.Event.{Event}
+use Rattle.nio_history.proofs.Asked.{act_from-question_of}
+use Rattle.nio_history.proofs.Legal.{legal_next}
+use Rattle.nio_history.proofs.OneMore.{state_after-more}
+use Rattle.nio_history.specs.Acts.{effect}
+use Rattle.nio_history.specs.Answers.{act_from}
+use Rattle.nio_history.specs.Histories.{state_after, event_of, IsStep, IsLegal}
+use Rattle.nio_history.specs.PassViews.{PassView, known, done_between}
+use Rattle.nio_history.specs.Questions.{Question, Answer, question_of, answer_of}
+use Rattle.nio_history.specs.State.{State}
+use Rattle.nio_history.specs.declared.act.Act.{Act}
+use Rattle.nio_history.specs.declared.event.Event.{Event}
 use Rattle.nio_steps.proofs.SweepLaws.{sweep_to-turn, sweep_to-done, seek_to-turn, seek_to-done, sweep_over-turn}
 use Rattle.nio_steps.proofs.SweepLaws.{sweep_over-done}
 use Rattle.nio_steps.specs.Calls.{CallClause}

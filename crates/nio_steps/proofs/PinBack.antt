@@ -8,15 +8,15 @@ use Rattle.std.proofs.lemmas.List.Sums.{fold-append}
 use Rattle.nio_base.specs.declared.numbers.CallerNo.{CallerNo}
 use Rattle.nio_base.specs.declared.numbers.ChanNo.{ChanNo}
 use Rattle.nio_base.specs.declared.numbers.SelNo.{SelNo}
-use Rattle.nio_event.proofs.OwnPins.{pins_are_own}
-use Rattle.nio_event.proofs.Stays.{beginnings_are_legal}
-use Rattle.nio_event.specs.Histories.{mine, IsLegal}
-use Rattle.nio_event.specs.OwnEvents.{is_yes, last, pin_changed, keeps_pin}
-use Rattle.nio_event.specs.PassViews.{PassView, done_between, HasNoPin}
-use Rattle.nio_event.specs.Questions.{Question, question_of, answer_of}
-use Rattle.nio_event.specs.declared.act.Act.{Act}
-use Rattle.nio_event.specs.declared.act.Act.TheVariants.{Pin, Unpin, Claim, ClaimAgain}
-use Rattle.nio_event.specs.declared.found.Stage.{Stage}
+use Rattle.nio_history.proofs.OwnPins.{pins_are_own}
+use Rattle.nio_history.proofs.Stays.{beginnings_are_legal}
+use Rattle.nio_history.specs.Histories.{mine, IsLegal}
+use Rattle.nio_history.specs.OwnEvents.{is_yes, last, pin_changed, keeps_pin}
+use Rattle.nio_history.specs.PassViews.{PassView, done_between, HasNoPin}
+use Rattle.nio_history.specs.Questions.{Question, question_of, answer_of}
+use Rattle.nio_history.specs.declared.act.Act.{Act}
+use Rattle.nio_history.specs.declared.act.Act.TheVariants.{Pin, Unpin, Claim, ClaimAgain}
+use Rattle.nio_history.specs.declared.found.Stage.{Stage}
 use Rattle.nio_steps.proofs.Walks.{Always, always_weaker, always_bind}
 use Rattle.nio_steps.specs.Calls.{CallClause}
 use Rattle.nio_steps.specs.Plan.{Plan, reply, ◌>>=◌, ◌>>◌}

@@ -1,7 +1,7 @@
 -- Plans after one another, and what follows them.
 use Rattle.std.proofs.Common.{◌≡◌, List, [], ◌∷◌, ◌++◌, refl, ap, sym, subst}
-use Rattle.nio_event.specs.Questions.{answer_of}
-use Rattle.nio_event.specs.declared.act.Act.{Act}
+use Rattle.nio_history.specs.Questions.{answer_of}
+use Rattle.nio_history.specs.declared.act.Act.{Act}
 use Rattle.nio_steps.specs.Plan.{Plan, reply, ask, ◌>>=◌}
 use Rattle.nio_steps.specs.Runs.{Follows}
 

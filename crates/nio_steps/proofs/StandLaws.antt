@@ -7,21 +7,21 @@ use Rattle.std.proofs.lemmas.List.Folds.{list_any-append}
 use Rattle.nio_base.specs.declared.limits.Limits.{Limits}
 use Rattle.nio_base.specs.declared.numbers.CallerNo.{CallerNo}
 use Rattle.nio_base.specs.declared.numbers.SelNo.{SelNo}
-use Rattle.nio_event.proofs.Legal.{legal_next}
-use Rattle.nio_event.proofs.OneMore.{state_after-more}
-use Rattle.nio_event.proofs.Put.{put-same}
-use Rattle.nio_event.proofs.Stays.{facts_are_permanent, only_itself_gives_back}
-use Rattle.nio_event.specs.Acts.{effect}
-use Rattle.nio_event.specs.Conditions.{has_turn, has_begun, is_held_by, is_closer}
-use Rattle.nio_event.specs.Histories.{state_after, mine, event_of, IsLegal}
-use Rattle.nio_event.specs.Permanent.{a_selection, selector_closed_by}
-use Rattle.nio_event.specs.OwnEvents.{has, gives_turn}
-use Rattle.nio_event.specs.Questions.{Question, question_of, answer_of}
-use Rattle.nio_event.specs.State.{put}
-use Rattle.nio_event.specs.declared.act.Act.{Act}
-use Rattle.nio_event.specs.declared.act.Act.TheVariants.{BeginLook, ShutBit}
-use Rattle.nio_event.specs.declared.event.Event.{Event}
-use Rattle.nio_event.specs.declared.found.GateWord.{GateWord}
+use Rattle.nio_history.proofs.Legal.{legal_next}
+use Rattle.nio_history.proofs.OneMore.{state_after-more}
+use Rattle.nio_history.proofs.Put.{put-same}
+use Rattle.nio_history.proofs.Stays.{facts_are_permanent, only_itself_gives_back}
+use Rattle.nio_history.specs.Acts.{effect}
+use Rattle.nio_history.specs.Conditions.{has_turn, has_begun, is_held_by, is_closer}
+use Rattle.nio_history.specs.Histories.{state_after, mine, event_of, IsLegal}
+use Rattle.nio_history.specs.Permanent.{a_selection, selector_closed_by}
+use Rattle.nio_history.specs.OwnEvents.{has, gives_turn}
+use Rattle.nio_history.specs.Questions.{Question, question_of, answer_of}
+use Rattle.nio_history.specs.State.{put}
+use Rattle.nio_history.specs.declared.act.Act.{Act}
+use Rattle.nio_history.specs.declared.act.Act.TheVariants.{BeginLook, ShutBit}
+use Rattle.nio_history.specs.declared.event.Event.{Event}
+use Rattle.nio_history.specs.declared.found.GateWord.{GateWord}
 use Rattle.nio_steps.proofs.BeginLaws.{none_yet, begin-parts}
 use Rattle.nio_steps.proofs.EachLaws.{each_over, each_run}
 use Rattle.nio_steps.proofs.Either.{neither, by_second}

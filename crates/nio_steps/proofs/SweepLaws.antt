@@ -3,7 +3,7 @@ use Rattle.std.proofs.Common.{◌≡◌, ℕ, suc, ◌+◌, ◌-◌, ◌<◌, �
 use Rattle.std.proofs.Common.{arith, get_or, drop, length}
 use Rattle.std.proofs.lemmas.List.{drop_more, drop_all}
 use Rattle.nio_base.specs.declared.numbers.CallerNo.{CallerNo}
-use Rattle.nio_event.specs.PassViews.{PassView}
+use Rattle.nio_history.specs.PassViews.{PassView}
 use Rattle.nio_steps.proofs.CallLaws.{left_of_call, left_more, left_bind}
 use Rattle.nio_steps.proofs.RunLaws.{bind-bind}
 use Rattle.nio_steps.specs.Calls.{CallClause, PartClause}

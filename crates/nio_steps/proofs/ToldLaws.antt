@@ -3,9 +3,9 @@ use Rattle.std.proofs.Common.{◌≡◌, ℕ, ◌==◌, Bool, true, false, not, 
 use Rattle.std.specs.Prelude.{⊤}
 use Rattle.std.specs.List.{Contains}
 use Rattle.std.proofs.lemmas.List.Elements.{All-contains, All-contains_itself}
-use Rattle.nio_event.specs.Questions.{Question, question_of}
-use Rattle.nio_event.specs.declared.act.Act.TheVariants.{Mark}
-use Rattle.nio_event.specs.declared.found.Mark.{Mark as KeyMark}
+use Rattle.nio_history.specs.Questions.{Question, question_of}
+use Rattle.nio_history.specs.declared.act.Act.TheVariants.{Mark}
+use Rattle.nio_history.specs.declared.found.Mark.{Mark as KeyMark}
 use Rattle.nio_steps.proofs.EachLaws.{each_bind, each_if, each_over, each_run}
 use Rattle.nio_steps.proofs.SelectionAsks.{each_end}
 use Rattle.nio_steps.proofs.Each.{Each}

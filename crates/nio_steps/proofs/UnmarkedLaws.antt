@@ -2,9 +2,9 @@
 use Rattle.std.proofs.Common.{◌≡◌, ℕ, Bool, false, Result, Err, List, refl, ap, ◌∙◌}
 use Rattle.std.specs.Prelude.{⊤, is_some}
 use Rattle.nio_base.specs.declared.numbers.SelNo.{SelNo}
-use Rattle.nio_event.specs.OwnEvents.{has, count}
-use Rattle.nio_event.specs.declared.act.Act.{Act}
-use Rattle.nio_event.specs.declared.found.Mode.{Mode}
+use Rattle.nio_history.specs.OwnEvents.{has, count}
+use Rattle.nio_history.specs.declared.act.Act.{Act}
+use Rattle.nio_history.specs.declared.found.Mode.{Mode}
 use Rattle.nio_steps.proofs.BeginLaws.{none_yet}
 use Rattle.nio_steps.proofs.Each.{Each}
 use Rattle.nio_steps.proofs.EachLaws.{each_bind, each_if, each_over, each_run, split}

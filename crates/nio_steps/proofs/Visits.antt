@@ -4,7 +4,7 @@ use Rattle.std.proofs.Common.{eqb-true, arith}
 use Rattle.std.specs.List.{All, AllPairs, Contains}
 use Rattle.std.proofs.lemmas.Bool.{eqb-false}
 use Rattle.std.proofs.lemmas.List.Elements.{All-nil, All-push, All-contains, Contains-push, Contains-append_left}
-use Rattle.nio_event.specs.declared.act.Act.{Act}
+use Rattle.nio_history.specs.declared.act.Act.{Act}
 use Rattle.nio_steps.proofs.Lists.{pairs-before}
 use Rattle.nio_steps.proofs.Walks.{Always, always_over, always_weaker}
 use Rattle.nio_steps.specs.Plan.{Plan}

@@ -3,8 +3,8 @@ use Rattle.std.proofs.Common.{Bool, Result, Ok, Err, List, [], ◌∷◌, sym, s
 use Rattle.std.specs.List.{All}
 use Rattle.std.proofs.lemmas.List.Elements.{All-head, All-tail}
 use Rattle.nio_base.specs.declared.numbers.SelNo.{SelNo}
-use Rattle.nio_event.specs.declared.act.Act.{Act}
-use Rattle.nio_event.specs.declared.found.Mode.{Mode}
+use Rattle.nio_history.specs.declared.act.Act.{Act}
+use Rattle.nio_history.specs.declared.found.Mode.{Mode}
 use Rattle.nio_steps.proofs.PinBack.{NoPins, no_pins, no_pins-append}
 use Rattle.nio_steps.specs.PinLaws.{GivesPinsBack}
 use Rattle.nio_steps.specs.PipeCalls.{Waits}

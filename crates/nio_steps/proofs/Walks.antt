@@ -2,8 +2,8 @@
 use Rattle.std.proofs.Common.{◌≡◌, ℕ, zero, suc, ◌+◌, ◌-◌, ◌<◌, ◌≤◌, Bool, true, false, if◌then◌else◌, List, [], ◌∷◌}
 use Rattle.std.proofs.Common.{◌++◌, refl, sym, ◌∙◌, subst, append_assoc, arith}
 use Rattle.std.proofs.lemmas.List.{append-nil}
-use Rattle.nio_event.specs.Questions.{question_of, answer_of}
-use Rattle.nio_event.specs.declared.act.Act.{Act}
+use Rattle.nio_history.specs.Questions.{question_of, answer_of}
+use Rattle.nio_history.specs.declared.act.Act.{Act}
 use Rattle.nio_steps.specs.Plan.{Plan, reply, ask, ◌>>=◌}
 use Rattle.nio_steps.specs.Runs.{Completes}
 use Rattle.nio_steps.specs.Sweeps.{sweep, sweep_to, sweep_over}

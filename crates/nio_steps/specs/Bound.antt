@@ -4,22 +4,27 @@ use Rattle.std.specs.Prelude.{◌++◌, length, map}
 use Rattle.nio_base.specs.Limits.{IsFit}
 use Rattle.nio_base.specs.declared.limits.Limits.{Limits}
 use Rattle.nio_base.specs.declared.numbers.CallerNo.{CallerNo}
-use Rattle.nio_event.specs.Answers.{count_below}
-use Rattle.nio_event.specs.Histories.{mine, event_of, IsLegal}
-use Rattle.nio_event.specs.OwnEvents.{has, count, gives_turn}
-use Rattle.nio_event.specs.Turns.{removes_on}
-use Rattle.nio_event.specs.declared.act.Act.{Act}
-use Rattle.nio_event.specs.declared.act.Act.TheVariants.{DrawBit, MakeSelector, LookSelectors, Wake, LookGate}
-use Rattle.nio_event.specs.declared.act.Act.TheVariants.{SetInterrupt, TakeInterrupt, LookInterrupt, LookKey, CancelKey}
-use Rattle.nio_event.specs.declared.act.Act.TheVariants.{LookInterest, SwapInterest, OrInterest, AndInterest, SwapNote}
-use Rattle.nio_event.specs.declared.act.Act.TheVariants.{LookNote, MakeChannel, LookChannel, Claim, RaiseKeys, LookKeys}
-use Rattle.nio_event.specs.declared.act.Act.TheVariants.{Publish, LookReg, Enrol, TakeTurn, BeginLook, GiveTurn, Remove}
-use Rattle.nio_event.specs.declared.act.Act.TheVariants.{LookMark, Mark, UnselectBit, EndWake, LookChannels}
-use Rattle.nio_event.specs.declared.act.Act.TheVariants.{RaiseChannels, TryHoldBit, Release, SetMode, CloseBit, ShutBit}
-use Rattle.nio_event.specs.declared.act.Act.TheVariants.{Enter, Pin, Unpin, ClearMark, ClaimAgain, LookFree, PutFree}
-use Rattle.nio_event.specs.declared.act.Act.TheVariants.{TakeFree}
-use Rattle.nio_event.specs.declared.event.Event.{Event}
-use Rattle.nio_event.specs.declared.found.GateWord.{GateWord}
+use Rattle.nio_history.specs.Answers.{count_below}
+use Rattle.nio_history.specs.Histories.{mine, event_of, IsLegal}
+use Rattle.nio_history.specs.OwnEvents.{has, count, gives_turn}
+use Rattle.nio_history.specs.Turns.{removes_on}
+use Rattle.nio_history.specs.declared.act.Act.{Act}
+use Rattle.nio_history.specs.declared.act.Act.TheVariants.{DrawBit, MakeSelector, LookSelectors, Wake, LookGate}
+use Rattle.nio_history.specs.declared.act.Act.TheVariants.{SetInterrupt, TakeInterrupt, LookInterrupt, LookKey}
+use Rattle.nio_history.specs.declared.act.Act.TheVariants.{CancelKey}
+use Rattle.nio_history.specs.declared.act.Act.TheVariants.{LookInterest, SwapInterest, OrInterest, AndInterest}
+use Rattle.nio_history.specs.declared.act.Act.TheVariants.{SwapNote}
+use Rattle.nio_history.specs.declared.act.Act.TheVariants.{LookNote, MakeChannel, LookChannel, Claim, RaiseKeys}
+use Rattle.nio_history.specs.declared.act.Act.TheVariants.{LookKeys}
+use Rattle.nio_history.specs.declared.act.Act.TheVariants.{Publish, LookReg, Enrol, TakeTurn, BeginLook, GiveTurn}
+use Rattle.nio_history.specs.declared.act.Act.TheVariants.{Remove}
+use Rattle.nio_history.specs.declared.act.Act.TheVariants.{LookMark, Mark, UnselectBit, EndWake, LookChannels}
+use Rattle.nio_history.specs.declared.act.Act.TheVariants.{RaiseChannels, TryHoldBit, Release, SetMode, CloseBit}
+use Rattle.nio_history.specs.declared.act.Act.TheVariants.{ShutBit}
+use Rattle.nio_history.specs.declared.act.Act.TheVariants.{Enter, Pin, Unpin, ClearMark, ClaimAgain, LookFree, PutFree}
+use Rattle.nio_history.specs.declared.act.Act.TheVariants.{TakeFree}
+use Rattle.nio_history.specs.declared.event.Event.{Event}
+use Rattle.nio_history.specs.declared.found.GateWord.{GateWord}
 use Rattle.nio_steps.specs.ChannelCalls.{words_below}
 use Rattle.nio_steps.specs.KeyCalls.{has_bit}
 use Rattle.nio_steps.specs.SelectCalls.{Selection, Begins, Poll, Tells, done}

@@ -2,8 +2,8 @@
 -- of the call, and by what other callers did.
 use Rattle.std.specs.Prelude.{List}
 use Rattle.nio_base.specs.declared.numbers.CallerNo.{CallerNo}
-use Rattle.nio_event.specs.PassViews.{PassView, done_between, ActsClause}
-use Rattle.nio_event.specs.declared.act.Act.{Act}
+use Rattle.nio_history.specs.PassViews.{PassView, done_between, ActsClause}
+use Rattle.nio_history.specs.declared.act.Act.{Act}
 use Rattle.nio_steps.specs.Plan.{Plan}
 use Rattle.nio_steps.specs.Runs.{Follows}
 

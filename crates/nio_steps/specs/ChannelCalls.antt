@@ -8,9 +8,9 @@ use Rattle.nio_base.specs.declared.numbers.ChanNo.{ChanNo}
 use Rattle.nio_base.specs.declared.numbers.KeyId.{KeyId}
 use Rattle.nio_base.specs.declared.numbers.KeyNo.{KeyNo}
 use Rattle.nio_base.specs.declared.numbers.SelNo.{SelNo}
-use Rattle.nio_event.specs.Sets.{is_in_key_set, is_valid_key}
-use Rattle.nio_event.specs.declared.act.Act.{Act}
-use Rattle.nio_event.specs.declared.found.Stage.{Stage}
+use Rattle.nio_history.specs.Sets.{is_in_key_set, is_valid_key}
+use Rattle.nio_history.specs.declared.act.Act.{Act}
+use Rattle.nio_history.specs.declared.found.Stage.{Stage}
 use Rattle.nio_steps.specs.KeyCalls.{has_bit, is_within, under_pin, cancel_plan}
 use Rattle.nio_steps.specs.Names.{selector, channel, key}
 use Rattle.nio_steps.specs.Plan.{Plan, reply, ◌>>=◌, ◌>>◌, when}

@@ -1,7 +1,7 @@
 -- What a caller has in progress between its calls, and how a call changes it.
 use Rattle.std.specs.Prelude.{ℕ, Bool, true, false, Option, Some, None, Result, Ok, Err}
 use Rattle.nio_base.specs.declared.numbers.SelNo.{SelNo}
-use Rattle.nio_event.specs.State.{put}
+use Rattle.nio_history.specs.State.{put}
 use Rattle.nio_steps.specs.SelectCalls.{Selection, ToldReply, done, again, ShutReply, closing, already_closed}
 use Rattle.nio_steps.specs.SelectCalls.{FinishReply, closed, busy, SelectReply, selected, not_begun, left}
 use Rattle.nio_steps.specs.declared.refusal.BeginError.{BeginError}

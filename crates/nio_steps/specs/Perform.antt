@@ -1,10 +1,10 @@
 -- A call that nobody comes between: each question comes to the step that the state answers, and the
 -- state takes its effect.
 use Rattle.nio_base.specs.declared.numbers.CallerNo.{CallerNo}
-use Rattle.nio_event.specs.Acts.{effect}
-use Rattle.nio_event.specs.Answers.{act_from}
-use Rattle.nio_event.specs.Questions.{answer_of}
-use Rattle.nio_event.specs.State.{State}
+use Rattle.nio_history.specs.Acts.{effect}
+use Rattle.nio_history.specs.Answers.{act_from}
+use Rattle.nio_history.specs.Questions.{answer_of}
+use Rattle.nio_history.specs.State.{State}
 use Rattle.nio_steps.specs.Plan.{Plan, reply, ask}
 
 -- what a call leaves: its reply, and the state

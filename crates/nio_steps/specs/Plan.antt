@@ -2,7 +2,7 @@
 -- with each answer. So it is the table of a call's steps, in their order, with each refusal where it
 -- comes.
 use Rattle.std.specs.Prelude.{Bool, if◌then◌else◌}
-use Rattle.nio_event.specs.Questions.{Question, Answer}
+use Rattle.nio_history.specs.Questions.{Question, Answer}
 
 pub data Plan (R : Type 0) : Type 0 where
   reply : R → Plan R

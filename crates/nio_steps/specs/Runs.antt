@@ -1,7 +1,7 @@
 -- What follows a plan: the acts of a caller that are steps along it.
 use Rattle.std.specs.Prelude.{◌≡◌, List, [], ◌∷◌}
-use Rattle.nio_event.specs.Questions.{question_of, answer_of}
-use Rattle.nio_event.specs.declared.act.Act.{Act}
+use Rattle.nio_history.specs.Questions.{question_of, answer_of}
+use Rattle.nio_history.specs.declared.act.Act.{Act}
 use Rattle.nio_steps.specs.Plan.{Plan, reply, ask}
 
 -- these acts ask what the plan asks, one after the other, each with the answer that decides what comes

@@ -5,13 +5,13 @@ use Rattle.nio_base.specs.declared.numbers.CallerNo.{CallerNo}
 use Rattle.nio_base.specs.declared.numbers.ChanNo.{ChanNo}
 use Rattle.nio_base.specs.declared.numbers.KeyId.{KeyId}
 use Rattle.nio_base.specs.declared.numbers.SelNo.{SelNo}
-use Rattle.nio_event.specs.Questions.{Question, Answer, flag, word, gate_word, stage, operations, channel, number}
-use Rattle.nio_event.specs.Questions.{enrolled_key, holder, key_mark, exchange}
-use Rattle.nio_event.specs.State.{open_gate, unclaimed, unmade_channel, unmarked}
-use Rattle.nio_event.specs.declared.found.Chan.{Chan}
-use Rattle.nio_event.specs.declared.found.GateWord.{GateWord}
-use Rattle.nio_event.specs.declared.found.Mark.{Mark}
-use Rattle.nio_event.specs.declared.found.Stage.{Stage}
+use Rattle.nio_history.specs.Questions.{Question, Answer, flag, word, gate_word, stage, operations, channel, number}
+use Rattle.nio_history.specs.Questions.{enrolled_key, holder, key_mark, exchange}
+use Rattle.nio_history.specs.State.{open_gate, unclaimed, unmade_channel, unmarked}
+use Rattle.nio_history.specs.declared.found.Chan.{Chan}
+use Rattle.nio_history.specs.declared.found.GateWord.{GateWord}
+use Rattle.nio_history.specs.declared.found.Mark.{Mark}
+use Rattle.nio_history.specs.declared.found.Stage.{Stage}
 use Rattle.nio_steps.specs.Plan.{Plan, reply, ask}
 
 -- ---- what an answer holds

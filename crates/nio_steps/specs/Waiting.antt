@@ -5,7 +5,7 @@
 -- answer. `Completes` of a plan is one.
 use Rattle.std.specs.Prelude.{◌≡◌, Bool, IsTrue, IsFalse, List, [], ◌∷◌, ◌++◌}
 use Rattle.std.specs.List.{All}
-use Rattle.nio_event.specs.declared.act.Act.{Act}
+use Rattle.nio_history.specs.declared.act.Act.{Act}
 
 -- the acts are those of one call and then those of another, which takes the answer of the first
 pub record Then {A R : Type 0} (First : List Act → A → Type 0) (Second : A → List Act → R → Type 0) (acts : List Act)

@@ -1,5 +1,5 @@
 //! What a selection answers.
-use nio_event::Why;
+use nio_history::Why;
 
 /// What a selection answers.
 #[derive(Clone, Copy, Debug, PartialEq, Eq)]

@@ -4,20 +4,20 @@ use Rattle.nio_base.specs.Limits.{IsFit}
 use Rattle.nio_base.specs.declared.limits.Limits.{Limits}
 use Rattle.nio_base.specs.declared.numbers.CallerNo.{CallerNo}
 use Rattle.nio_base.specs.declared.numbers.ChanNo.{ChanNo}
-use Rattle.nio_event.proofs.PassViews.{selector_after}
-use Rattle.nio_event.specs.Conditions.{IsSelector}
-use Rattle.nio_event.specs.Histories.{event_of}
-use Rattle.nio_event.specs.PassViews.{ActsClause, HasChannel, HasNoPin}
-use Rattle.nio_event.specs.declared.act.Act.{Act}
-use Rattle.nio_event.specs.declared.act.Act.TheVariants.{DrawBit}
+use Rattle.nio_channel.proofs.Idle.{zero_other, unpinned_same, selector_same, channel_same}
+use Rattle.nio_channel.specs.Idle.{AreIdle, zero, one, first_selector}
+use Rattle.nio_history.proofs.PassViews.{selector_after}
+use Rattle.nio_history.specs.Conditions.{IsSelector}
+use Rattle.nio_history.specs.Histories.{event_of}
+use Rattle.nio_history.specs.PassViews.{ActsClause, HasChannel, HasNoPin}
+use Rattle.nio_history.specs.declared.act.Act.{Act}
+use Rattle.nio_history.specs.declared.act.Act.TheVariants.{DrawBit}
 use Rattle.nio_words.specs.Drawing.{Draws}
 use Rattle.nio_words.specs.Passes.{IsFirstPass, IsReady, limits_of}
 use Rattle.nio_words.specs.Sharing.{HandsOver}
 use Rattle.nio_words.specs.Views.{view}
 use Rattle.nio_words.specs.declared.words.Pass.{Pass}
 use Rattle.nio_words.specs.declared.words.Words.{Words}
-use Rattle.nio_channel.proofs.Idle.{zero_other, unpinned_same, selector_same, channel_same}
-use Rattle.nio_channel.specs.Idle.{AreIdle, zero, one, first_selector}
 use Rattle.nio_table_tests.specs.Callers.{AreDrawn, MayCall}
 
 pub both_drawn : {w : Words} {p q r : Pass} → IsFirstPass w p → Draws w p q zero false → Draws w q r one false

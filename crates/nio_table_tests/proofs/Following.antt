@@ -5,19 +5,19 @@ use Rattle.std.proofs.Math.ListN.{get_or-map}
 use Rattle.std.proofs.Math.Seq.{take-suc, drop-cons}
 use Rattle.std.proofs.lemmas.List.{length-map, get_or-take, get_or-drop, length-take, length-drop, take-append-drop}
 use Rattle.nio_base.specs.declared.numbers.CallerNo.{CallerNo}
-use Rattle.nio_event.proofs.WorkedSteps.{worked_history_is_legal}
-use Rattle.nio_event.specs.Conditions.{Condition}
-use Rattle.nio_event.specs.Histories.{state_after, mine, event_of, IsStep}
-use Rattle.nio_event.specs.Worked.{small_limits, worked_history}
-use Rattle.nio_event.specs.declared.act.Act.{Act}
-use Rattle.nio_event.specs.declared.event.Event.{Event}
+use Rattle.nio_history.proofs.WorkedSteps.{worked_history_is_legal}
+use Rattle.nio_history.specs.Conditions.{Condition}
+use Rattle.nio_history.specs.Histories.{state_after, mine, event_of, IsStep}
+use Rattle.nio_history.specs.Worked.{small_limits, worked_history}
+use Rattle.nio_history.specs.declared.act.Act.{Act}
+use Rattle.nio_history.specs.declared.event.Event.{Event}
 use Rattle.nio_table_tests.specs.Following.{Follows, step_of, worked_steps, IsPart}
+use Rattle.nio_table_tests.specs.Callers.{AreDrawn}
 use Rattle.nio_words.specs.Passes.{numbers_of, IsReady, limits_of, acts_seen, state_seen}
 use Rattle.nio_words.specs.Rule.{HasBit}
 use Rattle.nio_words.specs.Steps.{Steps}
 use Rattle.nio_words.specs.declared.words.Pass.{Pass}
 use Rattle.nio_words.specs.declared.words.Words.{Words}
-use Rattle.nio_table_tests.specs.Callers.{AreDrawn}
 
 -- the worked history has this event after so many others
 pub record IsAt (count : ℕ) (e : Event) : Type 0 where

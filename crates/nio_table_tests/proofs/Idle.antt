@@ -5,9 +5,12 @@ use Rattle.std.specs.Prelude.{IfSome}
 use Rattle.std.specs.Int.{bit_at}
 use Rattle.nio_base.specs.declared.limits.Limits.{Limits}
 use Rattle.nio_base.specs.declared.numbers.SelNo.{SelNo}
-use Rattle.nio_event.specs.Conditions.{IsSelector}
-use Rattle.nio_event.specs.PassViews.{PassView, Holds as HoldsNumber, ActsClause}
-use Rattle.nio_event.specs.declared.act.Act.{Act}
+use Rattle.nio_channel.proofs.Idle.{idle_after, idle_after_other, zero_other}
+use Rattle.nio_channel.specs.Idle.{AreIdle, zero, one}
+use Rattle.nio_history.specs.Conditions.{IsSelector}
+use Rattle.nio_history.specs.PassViews.{PassView, Holds as HoldsNumber, ActsClause}
+use Rattle.nio_history.specs.declared.act.Act.{Act}
+use Rattle.nio_select.specs.InProgress.{Selects, Closes}
 use Rattle.nio_steps.proofs.PinBack.{no_pin_after}
 use Rattle.nio_steps.specs.Calls.{CallClause}
 use Rattle.nio_steps.specs.PinLaws.{GivesPinsBack}
@@ -17,9 +20,6 @@ use Rattle.nio_words.specs.Passes.{IsReady, numbers_of}
 use Rattle.nio_words.specs.Views.{view}
 use Rattle.nio_words.specs.declared.words.Pass.{Pass}
 use Rattle.nio_words.specs.declared.words.Words.{Words}
-use Rattle.nio_channel.proofs.Idle.{idle_after, idle_after_other, zero_other}
-use Rattle.nio_channel.specs.Idle.{AreIdle, zero, one}
-use Rattle.nio_select.specs.InProgress.{Selects, Closes}
 
 -- ---- after a call of the first, and of the other
 

@@ -1,12 +1,12 @@
 -- What callers have on the tables that tests begin with.
 use Rattle.std.specs.Prelude.{◌≡◌}
 use Rattle.nio_base.specs.declared.numbers.CallerNo.{CallerNo}
-use Rattle.nio_event.specs.PassViews.{HasNoPin, HasSelector}
+use Rattle.nio_channel.specs.Idle.{zero, one, first_selector, drawn}
+use Rattle.nio_history.specs.PassViews.{HasNoPin, HasSelector}
 use Rattle.nio_words.specs.Passes.{IsOnly, IsReady, seen}
 use Rattle.nio_words.specs.Views.{view}
 use Rattle.nio_words.specs.declared.words.Pass.{Pass}
 use Rattle.nio_words.specs.declared.words.Words.{Words}
-use Rattle.nio_channel.specs.Idle.{zero, one, first_selector, drawn}
 
 -- both callers are drawn on the table's only pass, and nothing else was done
 pub record AreDrawn (w : Words) (p : Pass) : Type 0 where

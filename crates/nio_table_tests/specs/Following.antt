@@ -1,9 +1,9 @@
 -- For the tests: a table on which two callers do, step by step, what the worked history says.
 use Rattle.std.specs.Prelude.{◌≡◌, ℕ, List, map, take, drop, length}
 use Rattle.nio_base.specs.declared.numbers.CallerNo.{CallerNo}
-use Rattle.nio_event.specs.Worked.{small_limits, u, v, worked_history}
-use Rattle.nio_event.specs.declared.act.Act.{Act}
-use Rattle.nio_event.specs.declared.event.Event.{Event}
+use Rattle.nio_history.specs.Worked.{small_limits, u, v, worked_history}
+use Rattle.nio_history.specs.declared.act.Act.{Act}
+use Rattle.nio_history.specs.declared.event.Event.{Event}
 use Rattle.nio_words.specs.Passes.{seen, Holds, IsOnly, IsPassOf, limits_of}
 use Rattle.nio_words.specs.declared.words.Pass.{Pass}
 use Rattle.nio_words.specs.declared.words.Words.{Words}

@@ -7,7 +7,7 @@ use crate::words::history::{
 };
 use nio_audit::{AuditError, audit};
 use nio_base::{CallerNo, Ops};
-use nio_event::{Act, Event, Mark};
+use nio_history::{Act, Event, Mark};
 use std::alloc::{AllocError, Global};
 use std::process::Abort;
 

@@ -3,7 +3,7 @@ ghost use Rattle.std.specs.Prelude.{IfOk, IfSome};
 ghost use Rattle.nio_base.specs.Limits.{IsFit};
 ghost use Rattle.nio_base.specs.declared.numbers.SelNo.{SelNo as Selector};
 ghost use Rattle.nio_channel.specs.Idle.{AreIdle, zero, one};
-ghost use Rattle.nio_event.specs.PassViews.{HasChannel, HasKey};
+ghost use Rattle.nio_history.specs.PassViews.{HasChannel, HasKey};
 ghost use Rattle.nio_select.specs.InProgress.{Selects, Closes};
 ghost use Rattle.nio_words.specs.Views.{view};
 
@@ -13,7 +13,7 @@ use nio_channel::{
     ChannelError, close_channel, is_blocking, is_open, is_registered, key_for, open_channel,
     try_register, try_set_blocking,
 };
-use nio_event::Why;
+use nio_history::Why;
 use nio_keys::{
     KeyError, attach, attachment, cancel, find, find_channel, find_selector, interest,
     interest_and, interest_or, is_valid, ready, set_interest, unselect,

@@ -2,8 +2,8 @@
 //! table; calls that wait for the hold of a channel; and two threads that register and close one channel.
 ghost use Rattle.std.specs.Prelude.{IsTrue};
 ghost use Rattle.nio_channel.specs.Held.{HoldsChannel};
-ghost use Rattle.nio_event.specs.Conditions.{IsKey};
-ghost use Rattle.nio_event.specs.PassViews.{HasChannel};
+ghost use Rattle.nio_history.specs.Conditions.{IsKey};
+ghost use Rattle.nio_history.specs.PassViews.{HasChannel};
 ghost use Rattle.nio_words.specs.Passes.{IsReady, limits_of};
 ghost use Rattle.nio_words.specs.Views.{view};
 ghost use Rattle.nio_table_tests.specs.Callers.{MayCall};
@@ -12,7 +12,7 @@ use crate::calls::{Call, NOTHING, OnChannel, OnKey, Reply, follow, open_stream, 
 use crate::tables::{ONE, S, ZERO, hand_over, is_invalid, table};
 use nio_base::{CallerNo, ChanNo, KeyNo, Kind, Limits, Ops};
 use nio_channel::{ChannelError, close_channel, register, set_blocking, try_register};
-use nio_event::Why;
+use nio_history::Why;
 use nio_keys::cancel;
 use nio_select::Mode;
 use nio_words::{Pass, Words};

@@ -4,7 +4,7 @@ use crate::calls::{Call, NOTHING, OnChannel, OnKey, Reply, follow};
 use crate::tables::S;
 use nio_base::{ChanNo, KeyNo, Kind, Limits, SelNo};
 use nio_channel::ChannelError;
-use nio_event::Why;
+use nio_history::Why;
 use nio_keys::KeyError;
 use nio_select::{Mode, SelectorsSpent};
 use std::test::Fail;

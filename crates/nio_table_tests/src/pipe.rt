@@ -2,13 +2,13 @@
 //! that is parted with bytes in it; two ends in two threads; and readers that an interrupt or a close ends.
 ghost use Rattle.std.specs.Prelude.{◌≡◌, ◌≤◌, length, IfOk};
 ghost use Rattle.nio_channel.specs.Idle.{AreIdle};
-ghost use Rattle.nio_event.specs.Conditions.{IsCaller};
-ghost use Rattle.nio_words.specs.Passes.{limits_of};
-ghost use Rattle.nio_words.specs.Views.{view};
+ghost use Rattle.nio_history.specs.Conditions.{IsCaller};
 ghost use Rattle.nio_pipe.specs.Answers.{bytes_written};
 ghost use Rattle.nio_pipe.specs.Calls.{HasEnds};
 ghost use Rattle.nio_pipe.specs.Ends.{AreEnds, IsSameSource, IsSameSink};
 ghost use Rattle.nio_pipe.specs.Idle.{HasBoth, MayUse};
+ghost use Rattle.nio_words.specs.Passes.{limits_of};
+ghost use Rattle.nio_words.specs.Views.{view};
 
 use crate::tables::{ONE, ZERO, table};
 use nio_base::{CallerNo, ChanNo, Limits};

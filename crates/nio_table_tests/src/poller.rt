@@ -1,17 +1,17 @@
 //! Each call with its answers and the rings of its bell, in one hand; how long the polls of selections may wait; and a
 //! selection that waits while a second thread wakes it, interrupts its caller or closes its selector.
 ghost use Rattle.std.specs.Prelude.{◌≡◌, None, IfOk};
-ghost use Rattle.nio_event.specs.Conditions.{IsCaller};
-ghost use Rattle.nio_event.specs.PassViews.{HasSelector};
+ghost use Rattle.nio_history.specs.Conditions.{IsCaller};
+ghost use Rattle.nio_history.specs.PassViews.{HasSelector};
+ghost use Rattle.nio_poller.specs.Polls.{CountsFaults, AddsPoll, told_of_channel};
+ghost use Rattle.nio_poller.specs.declared.poller.PollError.TheVariants.{Fault};
 ghost use Rattle.nio_words.specs.Passes.{IsPassOf, IsReady, limits_of};
 ghost use Rattle.nio_words.specs.Views.{view};
 ghost use Rattle.nio_table_tests.specs.Callers.{MayCall};
-ghost use Rattle.nio_poller.specs.Polls.{CountsFaults, AddsPoll, told_of_channel};
-ghost use Rattle.nio_poller.specs.declared.poller.PollError.TheVariants.{Fault};
 
 use crate::tables::{ONE, S, ZERO, hand_over, table};
 use nio_base::Limits;
-use nio_event::{Mode, Why};
+use nio_history::{Mode, Why};
 use nio_poller::{
     Bell, PollError, Poller, Scripted, SelectError, Sleeper, SleeperBell, close, interrupt,
     interrupted, select, select_for, select_now, wakeup,

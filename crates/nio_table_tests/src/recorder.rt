@@ -9,7 +9,7 @@ use crate::words::SMALL as TABLE;
 use crate::words::history::C;
 use nio_audit::{AuditError, audit};
 use nio_base::{CallerNo, ChanNo, Kind, Limits, Ops};
-use nio_event::{Act, Chan, Event, GateWord, Mark, Stage};
+use nio_history::{Act, Chan, Event, GateWord, Mark, Stage};
 use nio_record::{RecordError, Recorder};
 use std::alloc::{AllocError, Global};
 use std::process::Abort;

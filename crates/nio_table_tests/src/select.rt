@@ -2,8 +2,8 @@
 //! channel; keys that are cancelled before a selection; closing beside one; and two threads, one of which selects.
 ghost use Rattle.std.specs.Prelude.{IfSome};
 ghost use Rattle.nio_channel.specs.Idle.{AreIdle, zero, one};
-ghost use Rattle.nio_event.specs.Conditions.{IsKey};
-ghost use Rattle.nio_event.specs.PassViews.{HasChannel, HasSelector};
+ghost use Rattle.nio_history.specs.Conditions.{IsKey};
+ghost use Rattle.nio_history.specs.PassViews.{HasChannel, HasSelector};
 ghost use Rattle.nio_select.specs.InProgress.{Selects, Closes};
 ghost use Rattle.nio_steps.specs.SelectCalls.{Selection};
 ghost use Rattle.nio_words.specs.Passes.{IsReady, limits_of};
@@ -17,7 +17,7 @@ use crate::channel::registers_and_closes;
 use crate::tables::{ONE, S, ZERO, hand_over, is_invalid, table};
 use nio_base::{ChanNo, KeyNo, Limits};
 use nio_channel::ChannelError;
-use nio_event::{Milliseconds, Why};
+use nio_history::{Milliseconds, Why};
 use nio_keys::KeyError;
 use nio_select::{
     After, BeginError, Closing, Finish, ListError, Mode, Selecting, Shutting, Told, shut, try_begin,

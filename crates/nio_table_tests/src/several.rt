@@ -1,14 +1,14 @@
 //! The two calls of a caller that are several calls, with each answer and each refusal that one thread can bring about.
 //! (`IllegalBlockingMode` takes a second one, which makes the channel blocking in between.)
 ghost use Rattle.nio_caller.specs.Callers.{sees};
-ghost use Rattle.nio_event.specs.PassViews.{HasSelector};
+ghost use Rattle.nio_history.specs.PassViews.{HasSelector};
 
 use crate::calls::{Reply, listed, told};
 use crate::tables::S;
 use nio_base::{ChanNo, KeyNo, Kind, Limits, Ops, SelNo};
 use nio_caller::Caller;
 use nio_channel::ChannelError;
-use nio_event::Why;
+use nio_history::Why;
 use nio_poller::NoBell;
 use nio_select::{After, BeginError, Mode};
 use nio_words::Words;

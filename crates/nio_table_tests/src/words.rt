@@ -1,5 +1,5 @@
 //! Passes in one hand and in several, and two callers who do on a table what the worked history of
-//! `nio_event` says, in which each kind of step stands.
+//! `nio_history` says, in which each kind of step stands.
 use crate::tables::{ONE, ZERO};
 use nio_base::{CallerNo, Limits};
 use nio_words::{DrawError, Words};

@@ -8,9 +8,9 @@ mod bytes;
 #[cfg(test)]
 mod command;
 #[cfg(test)]
-mod event;
-#[cfg(test)]
 mod group;
+#[cfg(test)]
+mod language;
 #[cfg(test)]
 mod lines;
 #[cfg(test)]

@@ -1,7 +1,7 @@
 //! Lines of scripts, each with the reply that a user of Java's selectors would expect. The worked rows of whole scripts
 //! are tests of `run`, in `nio_net_tests`.
 use nio_base::{CallerNo, Limits};
-use nio_event::{Call, Parsed, parse_line, print_line};
+use nio_language::{Call, Parsed, parse_line, print_line};
 use nio_plain::System;
 use std::alloc::Global;
 use std::process::Abort;

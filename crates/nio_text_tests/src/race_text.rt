@@ -1,6 +1,7 @@
 //! Race texts and the lines of their output, as tables of worked rows.
 use nio_base::{CallerNo, ChanNo, KeyId, Ops, SelNo};
-use nio_event::{Call, Reply, Why};
+use nio_history::Why;
+use nio_language::{Call, Reply};
 use nio_race_text::{RaceCall, RaceLine, parse_race, print_race_line};
 use nio_script::ScriptError;
 use std::alloc::Global;

@@ -1,14 +1,14 @@
 //! Reading and writing at their limits, and scripts over a system that knows no caller.
 ghost use Rattle.std.specs.Prelude.{◌≡◌, ◌-◌, ◌^◌, ◌≤◌, ◌⊎◌, ⊤, List, None, length};
 ghost use Rattle.nio_bytes.specs.Cause.{Rose};
-ghost use Rattle.nio_event.specs.Script.{IsScript};
-ghost use Rattle.nio_event.specs.declared.call.ScriptCall.{ScriptCall};
+ghost use Rattle.nio_language.specs.Script.{IsScript};
+ghost use Rattle.nio_language.specs.declared.call.ScriptCall.{ScriptCall};
 ghost use Rattle.nio_plain.specs.ScriptState.{script_opening};
 ghost use Rattle.nio_plain.specs.declared.rules.Rules.TheVariants.{Now};
 
 use nio_base::{CallerNo, Limits};
 use nio_bytes::{Failed, MemorySink, MemorySource, Sink, Source, SteadySource};
-use nio_event::{Call, Reply};
+use nio_language::{Call, Reply};
 use nio_plain::{Rules, System};
 use nio_script::*;
 use std::alloc::{AllocError, Global};

@@ -5,7 +5,7 @@ use Rattle.std.proofs.Common.{length-append, arith}
 use Rattle.std.specs.Prelude.{All}
 use Rattle.std.proofs.Math.Seq.{get_or-append_seam}
 use Rattle.std.proofs.lemmas.List.Elements.{All-nil, All-cons}
-use Rattle.nio_event.specs.Script.{lines_of}
+use Rattle.nio_language.specs.Script.{lines_of}
 use Rattle.nio_script.proofs.FirstBreak.{IsBreak, unbroken, one_break}
 use Rattle.nio_script.proofs.Lines.{IsNext, parts, number_of_next}
 use Rattle.nio_timed.specs.Lines.{AreTimedLines, no_lines, blank_line, timed_line, IsFirstBadTimed, IsInTimedGrammar}

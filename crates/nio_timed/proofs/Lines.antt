@@ -4,13 +4,13 @@ use Rattle.std.specs.List.{join_with_byte, slice_split}
 use Rattle.std.proofs.lemmas.List.Splits.{join_with_byte-slice_split}
 use Rattle.std.proofs.lemmas.Option.{none-some}
 use Rattle.nio_base.specs.declared.numbers.CallerNo.{CallerNo}
-use Rattle.nio_event.specs.Calls.{IsBlank, IsLine}
-use Rattle.nio_event.specs.Reading.{Reads}
-use Rattle.nio_event.specs.Script.{IsInGrammar, is_call}
-use Rattle.nio_event.specs.declared.call.Call.{Call}
-use Rattle.nio_event.specs.declared.call.Call.TheVariants as call
-use Rattle.nio_event.specs.declared.group_call.GroupCall.{GroupCall}
-use Rattle.nio_event.proofs.OneReading.{line_one}
+use Rattle.nio_language.specs.Calls.{IsBlank, IsLine}
+use Rattle.nio_language.specs.Reading.{Reads}
+use Rattle.nio_language.specs.Script.{IsInGrammar, is_call}
+use Rattle.nio_language.specs.declared.call.Call.{Call}
+use Rattle.nio_language.specs.declared.call.Call.TheVariants as call
+use Rattle.nio_language.specs.declared.group_call.GroupCall.{GroupCall}
+use Rattle.nio_language.proofs.OneReading.{line_one}
 use Rattle.nio_script.specs.Entries.{Finds}
 use Rattle.nio_timed.specs.Lines.{IsTimedCall, IsTimedLine, timed_line_words}
 use Rattle.nio_timed.specs.Reading.{IsGroupLineOf, IsOwnCall, IsOwnLine}

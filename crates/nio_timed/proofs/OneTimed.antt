@@ -2,11 +2,11 @@
 use Rattle.std.proofs.Common.{◌≡◌, ℕ, List, ◌∷◌, drop, take, refl, sym, ap, ◌∙◌, arith}
 use Rattle.std.proofs.lemmas.Fmt.{decimal_injective}
 use Rattle.nio_base.specs.declared.numbers.CallerNo.{CallerNo}
-use Rattle.nio_event.specs.declared.group_call.GroupCall.TheVariants as group
-use Rattle.nio_event.specs.declared.group_word.GroupWord.TheVariants as word
-use Rattle.nio_event.proofs.OneGroupCall.{group_call_one}
-use Rattle.nio_event.proofs.OneReading.{line_one}
-use Rattle.nio_event.proofs.Ones.{byte_at, numbered_one, word_at}
+use Rattle.nio_language.specs.declared.group_call.GroupCall.TheVariants as group
+use Rattle.nio_language.specs.declared.group_word.GroupWord.TheVariants as word
+use Rattle.nio_language.proofs.OneGroupCall.{group_call_one}
+use Rattle.nio_language.proofs.OneReading.{line_one}
+use Rattle.nio_language.proofs.Ones.{byte_at, numbered_one, word_at}
 use Rattle.nio_timed.specs.Lines.{AreTimedLines, no_lines, blank_line, timed_line, IsTimedLine, timed_words}
 use Rattle.nio_timed.specs.Reading.{IsOwnCall}
 use Rattle.nio_timed.specs.declared.call.TimedCall.{TimedCall}

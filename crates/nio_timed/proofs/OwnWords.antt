@@ -10,25 +10,25 @@ use Rattle.std.proofs.lemmas.List.Sums.{AllPass-from_list_all}
 use Rattle.std.proofs.lemmas.Option.{none-some, same_Some}
 use Rattle.nio_base.specs.declared.group.OpKind.TheVariants.{Read}
 use Rattle.nio_base.specs.declared.numbers.CallerNo.{CallerNo}
-use Rattle.nio_event.specs.Calls.{IsBlank, IsLine, call_words}
-use Rattle.nio_event.specs.CallWords.{call_word, call_word_text}
-use Rattle.nio_event.specs.Printing.{spaced}
-use Rattle.nio_event.specs.Reading.{Reads}
-use Rattle.nio_event.specs.Words.{caller_word}
-use Rattle.nio_event.specs.declared.call.Call.{Call}
-use Rattle.nio_event.specs.declared.call.Call.TheVariants as call
-use Rattle.nio_event.specs.declared.group_call.GroupCall.TheVariants as group
-use Rattle.nio_event.proofs.CallWordTable.{reads_call_word}
-use Rattle.nio_event.proofs.JoinedWords.{join_spaced}
-use Rattle.nio_event.proofs.Ones.{word_at}
-use Rattle.nio_event.proofs.PlainWords.{IsPlain, IsPlainByte, call_plain, words_weaker}
-use Rattle.nio_event.proofs.Spaces.{Spaceless, split_join, caller_spaceless}
+use Rattle.nio_language.specs.Calls.{IsBlank, IsLine, call_words}
+use Rattle.nio_language.specs.CallWords.{call_word, call_word_text}
+use Rattle.nio_language.specs.Printing.{spaced}
+use Rattle.nio_language.specs.Reading.{Reads}
+use Rattle.nio_language.specs.Words.{caller_word}
+use Rattle.nio_language.specs.declared.call.Call.{Call}
+use Rattle.nio_language.specs.declared.call.Call.TheVariants as call
+use Rattle.nio_language.specs.declared.group_call.GroupCall.TheVariants as group
+use Rattle.nio_language.proofs.CallWordTable.{reads_call_word}
+use Rattle.nio_language.proofs.JoinedWords.{join_spaced}
+use Rattle.nio_language.proofs.Ones.{word_at}
+use Rattle.nio_language.proofs.PlainWords.{IsPlain, IsPlainByte, call_plain, words_weaker}
+use Rattle.nio_language.proofs.Spaces.{Spaceless, split_join, caller_spaceless}
+use Rattle.nio_script.proofs.Lines.{line_words_of}
 use Rattle.nio_timed.specs.Lines.{IsTimedLine, timed_line_words, timed_words}
 use Rattle.nio_timed.specs.Reading.{IsOwnCall}
 use Rattle.nio_timed.specs.declared.call.TimedCall.{TimedCall}
 use Rattle.nio_timed.specs.declared.call.TimedCall.TheVariants.{Group, StartTimed, Expire, Next}
 use Rattle.nio_timed.specs.declared.call.TimedLine.{TimedLine}
-use Rattle.nio_script.proofs.Lines.{line_words_of}
 
 -- ---- a line of either sort begins with `t`
 

@@ -6,10 +6,10 @@ use Rattle.std.specs.Fmt.{decimal, digits}
 use Rattle.std.specs.Result.{is_ok}
 use Rattle.std.proofs.Math.Seq.{drop-append_seam, take-append_seam}
 use Rattle.nio_base.specs.declared.numbers.CallerNo.{CallerNo}
-use Rattle.nio_event.specs.Calls.{line_text}
-use Rattle.nio_event.specs.Replies.{history_line, reply_text}
-use Rattle.nio_event.specs.declared.call.Call.{Call}
-use Rattle.nio_event.specs.declared.reply.Reply.TheVariants as reply
+use Rattle.nio_language.specs.Calls.{line_text}
+use Rattle.nio_language.specs.Replies.{history_line, reply_text}
+use Rattle.nio_language.specs.declared.call.Call.{Call}
+use Rattle.nio_language.specs.declared.reply.Reply.TheVariants as reply
 
 grouped : (number space text arrow reply newline : List ℕ)
     → number ++ space ++ text ++ arrow ++ reply ++ newline

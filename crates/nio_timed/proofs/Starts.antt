@@ -6,10 +6,10 @@ use Rattle.std.specs.Fmt.{decimal}
 use Rattle.std.proofs.lemmas.Option.{same_Some}
 use Rattle.nio_base.specs.declared.group.OpKind.{OpKind}
 use Rattle.nio_base.specs.declared.numbers.GChan.{GChan}
-use Rattle.nio_event.specs.GroupWords.{group_channel_word, operation_kind_word}
-use Rattle.nio_event.specs.Reading.{Reads}
-use Rattle.nio_event.specs.Words.{IsNumber}
-use Rattle.nio_event.proofs.Ones.{word_at}
+use Rattle.nio_language.specs.GroupWords.{group_channel_word, operation_kind_word}
+use Rattle.nio_language.specs.Reading.{Reads}
+use Rattle.nio_language.specs.Words.{IsNumber}
+use Rattle.nio_language.proofs.Ones.{word_at}
 use Rattle.nio_timed.specs.Lines.{IsTimedStart, start_words}
 use Rattle.nio_timed.specs.declared.call.TimedStart.{TimedStart}
 

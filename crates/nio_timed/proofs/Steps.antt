@@ -5,9 +5,6 @@ use Rattle.std.specs.Prelude.{IsTrue}
 use Rattle.std.proofs.lemmas.Bool.{ltb-true}
 use Rattle.nio_base.specs.declared.numbers.GChan.{GChan}
 use Rattle.nio_base.specs.declared.numbers.OpNo.{OpNo}
-use Rattle.nio_event.specs.declared.group_call.GroupCall.TheVariants as group
-use Rattle.nio_event.specs.declared.reply.Reply.TheVariants as plain
-use Rattle.nio_plain.specs.ScriptState.{group_limits}
 use Rattle.nio_deadline.specs.Run as step
 use Rattle.nio_deadline.specs.Run.{IsCallOf, IsRunOf, after, left_by, was_due}
 use Rattle.nio_deadline.specs.Steps.{answer_to_take}
@@ -16,6 +13,9 @@ use Rattle.nio_deadline.specs.declared.done.TimedDone.{TimedDone}
 use Rattle.nio_deadline.specs.declared.done.TimedResult.{TimedResult}
 use Rattle.nio_deadline.specs.declared.done.TimedResult.TheVariants.{Core, InterruptedByTimeout}
 use Rattle.nio_deadline.proofs.TimeoutLemmas.{times-out-exactly}
+use Rattle.nio_language.specs.declared.group_call.GroupCall.TheVariants as group
+use Rattle.nio_language.specs.declared.reply.Reply.TheVariants as plain
+use Rattle.nio_plain.specs.ScriptState.{group_limits}
 use Rattle.nio_timed.specs.Called.{done_reply, kept, stepped, taken_reply, timed_left, timed_left_from, timed_opening}
 use Rattle.nio_timed.specs.Called.{timed_reply, with_named_channel}
 use Rattle.nio_timed.specs.Laws.{AreRuns, HandsOut, TimesOutInScripts, if_made, steps_from, steps_of, steps_to}

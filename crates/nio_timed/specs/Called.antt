@@ -3,15 +3,6 @@
 use Rattle.std.specs.Prelude.{◌≡◌, ◌≢◌, ℕ, ◌+◌, ◌<◌, List, [], ◌∷◌, ◌++◌, length, nat_lt, if◌then◌else◌, Option}
 use Rattle.std.specs.Prelude.{Some, None, Ok, Err, IsTrue}
 use Rattle.nio_base.specs.declared.numbers.GChan.{GChan}
-use Rattle.nio_event.specs.declared.group_call.GroupCall.TheVariants as group
-use Rattle.nio_event.specs.declared.group_reply.GroupReply.TheVariants as of_group
-use Rattle.nio_event.specs.declared.reply.Reply.{Reply}
-use Rattle.nio_event.specs.declared.reply.Reply.TheVariants as plain
-use Rattle.nio_group.specs.Group.{channel_at, is_terminated}
-use Rattle.nio_group.specs.Run as group_step
-use Rattle.nio_plain.specs.ScriptState.{group_limits}
-use Rattle.nio_plain.specs.Seq.Grouping.{line_reply, start_refused}
-use Rattle.nio_plain.specs.Seq.Replies.{yes_or_no}
 use Rattle.nio_deadline.specs.Deadlines.{first_moment}
 use Rattle.nio_deadline.specs.Run as step
 use Rattle.nio_deadline.specs.Run.{after, reply_to}
@@ -21,6 +12,15 @@ use Rattle.nio_deadline.specs.declared.done.TimedResult.{TimedResult}
 use Rattle.nio_deadline.specs.declared.done.TimedResult.TheVariants.{Core, InterruptedByTimeout}
 use Rattle.nio_deadline.specs.declared.refusal.TimedError.{TimedError}
 use Rattle.nio_deadline.specs.declared.refusal.TimedError.TheVariants as refused
+use Rattle.nio_group.specs.Group.{channel_at, is_terminated}
+use Rattle.nio_group.specs.Run as group_step
+use Rattle.nio_language.specs.declared.group_call.GroupCall.TheVariants as group
+use Rattle.nio_language.specs.declared.group_reply.GroupReply.TheVariants as of_group
+use Rattle.nio_language.specs.declared.reply.Reply.{Reply}
+use Rattle.nio_language.specs.declared.reply.Reply.TheVariants as plain
+use Rattle.nio_plain.specs.ScriptState.{group_limits}
+use Rattle.nio_plain.specs.Seq.Grouping.{line_reply, start_refused}
+use Rattle.nio_plain.specs.Seq.Replies.{yes_or_no}
 use Rattle.nio_timed.specs.Replies.{timed_history_line}
 use Rattle.nio_timed.specs.declared.call.TimedCall.{TimedCall}
 use Rattle.nio_timed.specs.declared.call.TimedCall.TheVariants.{Group, StartTimed, Expire, Next}

@@ -3,12 +3,12 @@ use Rattle.std.specs.Prelude.{◌≡◌, ◌⊎◌, ◌↔◌, ℕ, List, [], �
 use Rattle.nio_base.specs.declared.group.Finished.{Finished}
 use Rattle.nio_base.specs.declared.numbers.GChan.{GChan}
 use Rattle.nio_base.specs.declared.numbers.OpNo.{OpNo}
-use Rattle.nio_event.specs.declared.group_call.GroupCall.TheVariants as group
-use Rattle.nio_event.specs.declared.group_reply.GroupReply.TheVariants.{Completed}
-use Rattle.nio_event.specs.declared.reply.Reply.TheVariants as plain
 use Rattle.nio_deadline.specs.Run as step
 use Rattle.nio_deadline.specs.Run.{IsRunOf, left_by, was_due}
 use Rattle.nio_deadline.specs.Timed.{Timed}
+use Rattle.nio_language.specs.declared.group_call.GroupCall.TheVariants as group
+use Rattle.nio_language.specs.declared.group_reply.GroupReply.TheVariants.{Completed}
+use Rattle.nio_language.specs.declared.reply.Reply.TheVariants as plain
 use Rattle.nio_timed.specs.Called.{timed_left, timed_left_from, timed_opening, timed_reply}
 use Rattle.nio_timed.specs.Lines.{IsTimedScript}
 use Rattle.nio_timed.specs.declared.call.TimedCall.{TimedCall}

@@ -3,12 +3,12 @@
 use Rattle.std.specs.Prelude.{◌≡◌, ⊤, ℕ, ◌+◌, ◌<◌, ◌≤◌, ◌^◌, ◌⊎◌, List, [], ◌∷◌, ◌++◌, length, All, codes}
 use Rattle.std.specs.Fmt.{decimal}
 use Rattle.std.specs.List.{join_with_byte}
-use Rattle.nio_event.specs.Calls.{IsBlank, call_words}
-use Rattle.nio_event.specs.GroupCalls.{IsGroupCall}
-use Rattle.nio_event.specs.GroupWords.{group_channel_word, operation_kind_word}
-use Rattle.nio_event.specs.Script.{lines_of}
-use Rattle.nio_event.specs.Words.{IsNumber, caller_word}
-use Rattle.nio_event.specs.declared.call.Call.TheVariants as call
+use Rattle.nio_language.specs.Calls.{IsBlank, call_words}
+use Rattle.nio_language.specs.GroupCalls.{IsGroupCall}
+use Rattle.nio_language.specs.GroupWords.{group_channel_word, operation_kind_word}
+use Rattle.nio_language.specs.Script.{lines_of}
+use Rattle.nio_language.specs.Words.{IsNumber, caller_word}
+use Rattle.nio_language.specs.declared.call.Call.TheVariants as call
 use Rattle.nio_timed.specs.declared.call.TimedCall.{TimedCall}
 use Rattle.nio_timed.specs.declared.call.TimedCall.TheVariants.{Group, StartTimed, Expire, Next}
 use Rattle.nio_timed.specs.declared.call.TimedLine.{TimedLine}

@@ -2,8 +2,8 @@
 use Rattle.std.specs.Prelude.{ℕ, List, [], ◌∷◌, ◌++◌, codes}
 use Rattle.std.specs.Fmt.{decimal}
 use Rattle.std.specs.List.{join_with_byte}
-use Rattle.nio_event.specs.GroupWords.{operation_word}
-use Rattle.nio_event.specs.Replies.{reply_words}
+use Rattle.nio_language.specs.GroupWords.{operation_word}
+use Rattle.nio_language.specs.Replies.{reply_words}
 use Rattle.nio_timed.specs.Lines.{timed_line_text}
 use Rattle.nio_timed.specs.declared.call.TimedLine.{TimedLine}
 use Rattle.nio_timed.specs.declared.reply.TimedReply.{TimedReply}

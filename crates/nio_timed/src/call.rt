@@ -1,6 +1,6 @@
 //! The calls of timed scripts.
 use nio_base::{CallerNo, GChan, OpKind};
-use nio_event::GroupCall;
+use nio_language::GroupCall;
 
 /// The arguments of `start-timed G KIND LEN NOW LIMIT`: an operation that reads or writes up to `len` bytes, started at
 /// the moment `now`. Where it is pending `limit` milliseconds later, it may time out; a limit of 0 is none.

@@ -11,7 +11,7 @@ use crate::reply::{
 };
 use nio_base::{GChan, OpKind};
 use nio_deadline::TimedCore;
-use nio_event::{GroupCall, Reply};
+use nio_language::{GroupCall, Reply};
 use std::alloc::AllocError;
 
 /// Makes a call, and answers with its reply. Only a `start-timed` with a limit takes memory.

@@ -1,6 +1,6 @@
 //! Reading a line of a timed script that isn't blank.
 ghost use Rattle.std.specs.Prelude.{IfOk};
-ghost use Rattle.nio_event.specs.Script.{IsInGrammar};
+ghost use Rattle.nio_language.specs.Script.{IsInGrammar};
 ghost use Rattle.nio_script.specs.Entries.{Finds};
 ghost use Rattle.nio_timed.specs.Lines.{IsTimedLine};
 ghost use Rattle.nio_timed.specs.Reading.{IsGroupLineOf};
@@ -8,7 +8,7 @@ ghost use Rattle.nio_timed.specs.Reading.{IsGroupLineOf};
 use crate::call::{TimedCall, TimedLine};
 use crate::own::{read_words, words_of};
 use nio_base::CallerNo;
-use nio_event::{Call, ParseError, Parsed, parse_line};
+use nio_language::{Call, ParseError, Parsed, parse_line};
 use std::alloc::{AllocError, Global};
 
 /// The most bytes of a line that isn't blank.

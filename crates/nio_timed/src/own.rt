@@ -2,15 +2,15 @@
 ghost use Rattle.std.specs.Prelude.{◌≡◌, ◌==◌, ◌≤◌, ◌<◌, ◌∷◌, ◌↔◌, ⊤, IfOk, IsTrue, map};
 ghost use Rattle.std.specs.Fmt.{decimal};
 ghost use Rattle.std.specs.List.{slice_split};
-ghost use Rattle.nio_event.specs.GroupWords.{group_channel_word, operation_kind_word};
-ghost use Rattle.nio_event.specs.Reading.{Reads};
-ghost use Rattle.nio_event.specs.Words.{IsNumber, caller_word};
+ghost use Rattle.nio_language.specs.GroupWords.{group_channel_word, operation_kind_word};
+ghost use Rattle.nio_language.specs.Reading.{Reads};
+ghost use Rattle.nio_language.specs.Words.{IsNumber, caller_word};
 ghost use Rattle.nio_timed.specs.Lines.{IsTimedStart, start_words, timed_line_words, timed_words};
 ghost use Rattle.nio_timed.specs.Reading.{IsOwnCall, IsOwnLine};
 
 use crate::call::{TimedCall, TimedLine, TimedStart};
 use nio_base::{CallerNo, GChan, OpKind};
-use nio_event::read_number;
+use nio_language::read_number;
 use std::alloc::{AllocError, Global};
 
 /// The largest number of a caller.

@@ -2,7 +2,7 @@
 ghost use Rattle.std.specs.Prelude.{◌≡◌, ◌∷◌, ◌++◌, [], codes, IfOk, OnOk};
 ghost use Rattle.std.specs.Fmt.{decimal};
 ghost use Rattle.std.specs.List.{join_with_byte};
-ghost use Rattle.nio_event.specs.GroupWords.{group_channel_word, operation_kind_word};
+ghost use Rattle.nio_language.specs.GroupWords.{group_channel_word, operation_kind_word};
 ghost use Rattle.nio_timed.specs.Lines.{start_words, timed_line_text};
 ghost use Rattle.nio_timed.specs.Replies.{timed_history_line, timed_reply_text};
 ghost use Rattle.nio_timed.specs.declared.call.TimedCall.TheVariants.{Group, StartTimed};
@@ -11,7 +11,7 @@ use crate::call::{TimedCall, TimedLine, TimedStart};
 use crate::reply::TimedReply;
 use itoa::Buffer;
 use nio_base::{CallerNo, OpKind, OpNo};
-use nio_event::{Call, GroupCall, Reply, print_line, print_reply};
+use nio_language::{Call, GroupCall, Reply, print_line, print_reply};
 use std::alloc::{AllocError, Global};
 
 /// Most lines of a history have fewer bytes.

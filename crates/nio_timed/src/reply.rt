@@ -1,15 +1,15 @@
 //! The replies of timed scripts, and which reply an answer of the group is.
 ghost use Rattle.std.specs.Prelude.{◌≡◌, ◌≢◌, IfOk, OnErr, OnOk};
+ghost use Rattle.nio_deadline.specs.Run as step;
 ghost use Rattle.nio_plain.specs.Seq.Grouping.{start_refused};
 ghost use Rattle.nio_plain.specs.Seq.Replies as plain;
-ghost use Rattle.nio_deadline.specs.Run as step;
 ghost use Rattle.nio_timed.specs.Called.{next_reply, timed_line_reply};
 ghost use Rattle.nio_timed.specs.declared.reply.TimedReply.TheVariants.{Script};
 
 use nio_base::{GChan, OpNo};
 use nio_deadline::{TimedDone, TimedError, TimedResult};
-use nio_event::{GroupReply, Reply};
 use nio_group::{NotRunning, ReportError, StartError};
+use nio_language::{GroupReply, Reply};
 use std::alloc::AllocError;
 
 /// A reply of a timed script.

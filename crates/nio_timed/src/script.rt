@@ -1,12 +1,12 @@
 //! A whole text, read as a timed script.
 ghost use Rattle.std.specs.Prelude.{◌≡◌, ◌∷◌, ◌++◌, [], ℕ, map, IfOk, OnOk};
-ghost use Rattle.nio_event.specs.Script.{lines_of};
+ghost use Rattle.nio_language.specs.Script.{lines_of};
 ghost use Rattle.nio_script.specs.Entries.{Adds};
 ghost use Rattle.nio_timed.specs.Lines.{AreTimedLines, IsFirstBadTimed, IsInTimedGrammar, IsTimedScript};
 
 use crate::call::TimedLine;
 use crate::line::read_timed_line;
-use nio_event::is_blank;
+use nio_language::is_blank;
 use nio_script::ScriptError;
 use std::alloc::{AllocError, Global};
 

@@ -5,18 +5,19 @@ use Rattle.std.proofs.Common.{◌∙◌, subst, arith, eqb-true}
 use Rattle.std.specs.Option.{IfSome}
 use Rattle.std.proofs.lemmas.Bool.{and_parts}
 use Rattle.nio_base.specs.declared.numbers.CallerNo.{CallerNo}
-use Rattle.nio_event.specs.Acts.{effect}
-use Rattle.nio_event.specs.Answers.{bits_below, count_below}
-use Rattle.nio_event.specs.State.{State, put_at}
-use Rattle.nio_event.specs.declared.act.Act.{Act}
-use Rattle.nio_event.specs.declared.act.Act.TheVariants.{DrawBit, MakeSelector, Wake, SetInterrupt, TakeInterrupt}
-use Rattle.nio_event.specs.declared.act.Act.TheVariants.{CancelKey, SwapInterest, OrInterest, AndInterest, SwapNote}
-use Rattle.nio_event.specs.declared.act.Act.TheVariants.{MakeChannel, Claim, RaiseKeys, Publish, Enrol, TakeTurn}
-use Rattle.nio_event.specs.declared.act.Act.TheVariants.{GiveTurn, Remove, Mark as MarkKey, UnselectBit, EndWake}
-use Rattle.nio_event.specs.declared.act.Act.TheVariants.{RaiseChannels, TryHoldBit, Release, SetMode, CloseBit, ShutBit}
-use Rattle.nio_event.specs.declared.act.Act.TheVariants.{Pin, Unpin, ClearMark, ClaimAgain, PutFree, TakeFree}
-use Rattle.nio_event.specs.declared.found.Stage.{Stage}
-use Rattle.nio_event.proofs.Put.{put-other}
+use Rattle.nio_history.specs.Acts.{effect}
+use Rattle.nio_history.specs.Answers.{bits_below, count_below}
+use Rattle.nio_history.specs.State.{State, put_at}
+use Rattle.nio_history.specs.declared.act.Act.{Act}
+use Rattle.nio_history.specs.declared.act.Act.TheVariants.{DrawBit, MakeSelector, Wake, SetInterrupt, TakeInterrupt}
+use Rattle.nio_history.specs.declared.act.Act.TheVariants.{CancelKey, SwapInterest, OrInterest, AndInterest, SwapNote}
+use Rattle.nio_history.specs.declared.act.Act.TheVariants.{MakeChannel, Claim, RaiseKeys, Publish, Enrol, TakeTurn}
+use Rattle.nio_history.specs.declared.act.Act.TheVariants.{GiveTurn, Remove, Mark as MarkKey, UnselectBit, EndWake}
+use Rattle.nio_history.specs.declared.act.Act.TheVariants.{RaiseChannels, TryHoldBit, Release, SetMode, CloseBit}
+use Rattle.nio_history.specs.declared.act.Act.TheVariants.{ShutBit}
+use Rattle.nio_history.specs.declared.act.Act.TheVariants.{Pin, Unpin, ClearMark, ClaimAgain, PutFree, TakeFree}
+use Rattle.nio_history.specs.declared.found.Stage.{Stage}
+use Rattle.nio_history.proofs.Put.{put-other}
 use Rattle.nio_words.proofs.Bits.{bits_below-same}
 use Rattle.nio_words.specs.Encodings.{encoding, IsProper, channel_word, holder_word, enrolled_word, gate_word}
 use Rattle.nio_words.specs.Encodings.{stage_word, mark_word}

@@ -3,9 +3,9 @@ use Rattle.std.proofs.Common.{◌≡◌, ℕ, ◌≤◌, List, [], ◌∷◌, le
 use Rattle.std.proofs.lemmas.List.{append-nil}
 use mathlib.Core.List.{IsPrefix}
 use Rattle.nio_base.specs.declared.numbers.CallerNo.{CallerNo}
-use Rattle.nio_event.specs.Histories.{mine}
-use Rattle.nio_event.specs.declared.event.Event.{Event}
-use Rattle.nio_event.proofs.OneMore.{mine-append}
+use Rattle.nio_history.specs.Histories.{mine}
+use Rattle.nio_history.specs.declared.event.Event.{Event}
+use Rattle.nio_history.proofs.OneMore.{mine-append}
 
 pub prefix_self : {A : Type 0} (xs : List A) → IsPrefix xs xs
 prefix_self xs = ([], append-nil xs)

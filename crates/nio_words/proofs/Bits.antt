@@ -8,10 +8,10 @@ use Rattle.std.proofs.lemmas.Nat.{or_lt, or_comm, and_le_l, and_mask}
 use Rattle.std.proofs.lemmas.Nat.Bits.{bit_at_set_same, bit_at_set_other, bit_at_clear_same, bit_at_clear_other}
 use Rattle.std.proofs.lemmas.Nat.Bits.{bit_at-zero, bit_at-lt, bit_at_or, bit_at_and, bit_at_not, bit_at_above}
 use Rattle.std.proofs.lemmas.Nat.Bits.{same_from_bits_below}
-use Rattle.nio_event.specs.Answers.{bits_below}
-use Rattle.nio_event.specs.State.{put}
-use Rattle.nio_event.proofs.Put.{put-same, put-other, put_keeps}
-use Rattle.nio_event.proofs.Bits.{bits_below-at}
+use Rattle.nio_history.specs.Answers.{bits_below}
+use Rattle.nio_history.specs.State.{put}
+use Rattle.nio_history.proofs.Put.{put-same, put-other, put_keeps}
+use Rattle.nio_history.proofs.Bits.{bits_below-at}
 use Rattle.nio_words.specs.Decodings.{is_set}
 use Rattle.nio_words.specs.Encodings.{bit}
 use Rattle.nio_words.specs.Instructions.{one_bit}

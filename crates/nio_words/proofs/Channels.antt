@@ -9,15 +9,15 @@ use Rattle.nio_base.specs.declared.kind.Kind.TheVariants.{Stream}
 use Rattle.nio_base.specs.declared.limits.Limits.{Limits}
 use Rattle.nio_base.specs.declared.numbers.CallerNo.{CallerNo}
 use Rattle.nio_base.specs.declared.numbers.ChanNo.{ChanNo}
-use Rattle.nio_event.proofs.Put.{put-same}
-use Rattle.nio_event.proofs.Soundness.{legal-sound}
-use Rattle.nio_event.specs.Acts.{new_channel}
-use Rattle.nio_event.specs.Conditions.{IsChannel}
-use Rattle.nio_event.specs.Questions.{flag, channel}
-use Rattle.nio_event.specs.Sound.{IsSound}
-use Rattle.nio_event.specs.State.{State, unmade_channel}
-use Rattle.nio_event.specs.declared.act.Act.TheVariants.{MakeChannel, LookChannel, SetMode, CloseBit}
-use Rattle.nio_event.specs.declared.found.Chan.{Chan as Channel}
+use Rattle.nio_history.proofs.Put.{put-same}
+use Rattle.nio_history.proofs.Soundness.{legal-sound}
+use Rattle.nio_history.specs.Acts.{new_channel}
+use Rattle.nio_history.specs.Conditions.{IsChannel}
+use Rattle.nio_history.specs.Questions.{flag, channel}
+use Rattle.nio_history.specs.Sound.{IsSound}
+use Rattle.nio_history.specs.State.{State, unmade_channel}
+use Rattle.nio_history.specs.declared.act.Act.TheVariants.{MakeChannel, LookChannel, SetMode, CloseBit}
+use Rattle.nio_history.specs.declared.found.Chan.{Chan as Channel}
 use Rattle.nio_words.proofs.Fields.{bit-lt, reads, sets, clears_top, exchanges, if_ap, exchange_small}
 use Rattle.nio_words.specs.Decodings.{is_set, kind_of, chan_of}
 use Rattle.nio_words.specs.Encodings.{bit, kind_code, channel_word}

@@ -2,9 +2,9 @@
 use Rattle.std.proofs.Common.{◌≡◌, ◌≢◌, ℕ, zero, suc, ◌+◌, ◌<◌, ◌≤◌, ◌==◌, Bool, true, false, cond, ◌||◌, not, refl, ap}
 use Rattle.std.proofs.Common.{arith, eqb-true}
 use Rattle.std.proofs.lemmas.Bool.{eqb-false}
-use Rattle.nio_event.specs.Answers.{count_below}
-use Rattle.nio_event.specs.State.{put}
-use Rattle.nio_event.proofs.Put.{put-other}
+use Rattle.nio_history.specs.Answers.{count_below}
+use Rattle.nio_history.specs.State.{put}
+use Rattle.nio_history.proofs.Put.{put-other}
 use Rattle.nio_words.proofs.Fields.{bit-lt}
 use Rattle.nio_words.specs.Encodings.{bit}
 

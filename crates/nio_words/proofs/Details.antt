@@ -4,9 +4,9 @@ use Rattle.nio_base.specs.declared.kind.Kind.{Kind}
 use Rattle.nio_base.specs.declared.kind.Kind.TheVariants.{Stream}
 use Rattle.nio_base.specs.declared.numbers.ChanNo.{ChanNo}
 use Rattle.nio_base.specs.declared.numbers.KeyId.{KeyId}
-use Rattle.nio_event.specs.State.{unclaimed, unmarked}
-use Rattle.nio_event.specs.declared.found.Mark.{Mark as KeyMark}
-use Rattle.nio_event.specs.declared.found.Stage.{Stage}
+use Rattle.nio_history.specs.State.{unclaimed, unmarked}
+use Rattle.nio_history.specs.declared.found.Mark.{Mark as KeyMark}
+use Rattle.nio_history.specs.declared.found.Stage.{Stage}
 use Rattle.nio_words.specs.declared.step.Details.{Details}
 use Rattle.nio_words.specs.declared.step.Details.TheVariants.{OfKind, ForChannel, Again, Number, Enrolled, Mode, Told}
 

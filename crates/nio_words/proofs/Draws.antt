@@ -10,16 +10,16 @@ use lib.ListN.{get_elem?}
 use Rattle.atomic_table.specs.Table.{State as Table, Act as TableAct, Valid, carried_after, stepped, keeps, Allows}
 use Rattle.nio_base.specs.declared.limits.Limits.{Limits}
 use Rattle.nio_base.specs.declared.numbers.CallerNo.{CallerNo}
-use Rattle.nio_event.proofs.Lasts.{drawn_lasts}
-use Rattle.nio_event.proofs.Legal.{legal_more}
-use Rattle.nio_event.proofs.Put.{put-same}
-use Rattle.nio_event.specs.Answers.{bits_below}
-use Rattle.nio_event.specs.Conditions.{IsCaller}
-use Rattle.nio_event.specs.Histories.{state_after, mine, event_of, IsStep, IsLegal, HistoryClause}
-use Rattle.nio_event.specs.Questions.{flag}
-use Rattle.nio_event.specs.State.{put}
-use Rattle.nio_event.specs.declared.act.Act.TheVariants.{DrawBit}
-use Rattle.nio_event.specs.declared.event.Event.{Event}
+use Rattle.nio_history.proofs.Lasts.{drawn_lasts}
+use Rattle.nio_history.proofs.Legal.{legal_more}
+use Rattle.nio_history.proofs.Put.{put-same}
+use Rattle.nio_history.specs.Answers.{bits_below}
+use Rattle.nio_history.specs.Conditions.{IsCaller}
+use Rattle.nio_history.specs.Histories.{state_after, mine, event_of, IsStep, IsLegal, HistoryClause}
+use Rattle.nio_history.specs.Questions.{flag}
+use Rattle.nio_history.specs.State.{put}
+use Rattle.nio_history.specs.declared.act.Act.TheVariants.{DrawBit}
+use Rattle.nio_history.specs.declared.event.Event.{Event}
 use Rattle.nio_words.proofs.Beginnings.{prefix_self, prefix_whole, mine_begins, same_number}
 use Rattle.nio_words.proofs.Bits.{none_has, more_has, new_has, left_has, reads_bit, sets_bit, sets_again, one_bit-lt}
 use Rattle.nio_words.proofs.Keeps.{AddsTo, added, looked, held_here}

@@ -6,10 +6,10 @@ use Rattle.nio_base.specs.declared.numbers.CallerNo.{CallerNo}
 use Rattle.nio_base.specs.declared.numbers.ChanNo.{ChanNo}
 use Rattle.nio_base.specs.declared.numbers.KeyId.{KeyId}
 use Rattle.nio_base.specs.declared.numbers.SelNo.{SelNo}
-use Rattle.nio_event.proofs.Put.{put_at-same}
-use Rattle.nio_event.specs.Conditions.{IsChannel, IsSelector}
-use Rattle.nio_event.specs.Questions.{enrolled_key}
-use Rattle.nio_event.specs.declared.act.Act.TheVariants.{LookReg, Enrol}
+use Rattle.nio_history.proofs.Put.{put_at-same}
+use Rattle.nio_history.specs.Conditions.{IsChannel, IsSelector}
+use Rattle.nio_history.specs.Questions.{enrolled_key}
+use Rattle.nio_history.specs.declared.act.Act.TheVariants.{LookReg, Enrol}
 use Rattle.nio_words.proofs.Fields.{reads_enrolled}
 use Rattle.nio_words.specs.Decodings.{enrolled_of}
 use Rattle.nio_words.specs.Encodings.{enrolled_word}

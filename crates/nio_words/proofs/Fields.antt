@@ -7,7 +7,7 @@ use prog.Atomic.{either}
 use Rattle.std.specs.Option.{IfSome}
 use Rattle.nio_base.specs.declared.numbers.CallerNo.{CallerNo}
 use Rattle.nio_base.specs.declared.numbers.KeyId.{KeyId}
-use Rattle.nio_event.specs.Acts.{taken_by}
+use Rattle.nio_history.specs.Acts.{taken_by}
 use Rattle.nio_words.specs.Decodings.{is_set, holder_of, enrolled_of, number_of}
 use Rattle.nio_words.specs.Encodings.{bit, holder_word, enrolled_word}
 use Rattle.nio_words.specs.Instructions.{applied}

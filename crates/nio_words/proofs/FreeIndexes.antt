@@ -7,11 +7,11 @@ use Rattle.std.proofs.lemmas.Nat.{or_lt, and_le_l}
 use Rattle.nio_base.specs.declared.limits.Limits.{Limits}
 use Rattle.nio_base.specs.declared.numbers.CallerNo.{CallerNo}
 use Rattle.nio_base.specs.declared.numbers.SelNo.{SelNo}
-use Rattle.nio_event.specs.Answers.{bits_below}
-use Rattle.nio_event.specs.Conditions.{IsKey, IsSelector}
-use Rattle.nio_event.specs.Questions.{flag}
-use Rattle.nio_event.specs.State.{put, put_at}
-use Rattle.nio_event.specs.declared.act.Act.TheVariants.{LookFree, PutFree, TakeFree}
+use Rattle.nio_history.specs.Answers.{bits_below}
+use Rattle.nio_history.specs.Conditions.{IsKey, IsSelector}
+use Rattle.nio_history.specs.Questions.{flag}
+use Rattle.nio_history.specs.State.{put, put_at}
+use Rattle.nio_history.specs.declared.act.Act.TheVariants.{LookFree, PutFree, TakeFree}
 use Rattle.nio_words.proofs.Bits.{reads_bit, sets_bit, clears_bit, one_bit-lt, bits_below-same}
 use Rattle.nio_words.specs.Decodings.{is_set}
 use Rattle.nio_words.specs.Instructions.{one_bit}

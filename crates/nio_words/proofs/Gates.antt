@@ -6,11 +6,11 @@ use Rattle.std.proofs.lemmas.Nat.{or_lt, and_le_l}
 use Rattle.nio_base.specs.declared.limits.Limits.{Limits}
 use Rattle.nio_base.specs.declared.numbers.CallerNo.{CallerNo}
 use Rattle.nio_base.specs.declared.numbers.SelNo.{SelNo}
-use Rattle.nio_event.proofs.Put.{put-same}
-use Rattle.nio_event.specs.Conditions.{IsSelector}
-use Rattle.nio_event.specs.Questions.{flag, gate_word as found_gate}
-use Rattle.nio_event.specs.declared.act.Act.TheVariants.{Wake, LookGate, BeginLook, EndWake, ShutBit}
-use Rattle.nio_event.specs.declared.found.GateWord.{GateWord}
+use Rattle.nio_history.proofs.Put.{put-same}
+use Rattle.nio_history.specs.Conditions.{IsSelector}
+use Rattle.nio_history.specs.Questions.{flag, gate_word as found_gate}
+use Rattle.nio_history.specs.declared.act.Act.TheVariants.{Wake, LookGate, BeginLook, EndWake, ShutBit}
+use Rattle.nio_history.specs.declared.found.GateWord.{GateWord}
 use Rattle.nio_words.specs.Decodings.{is_set, gate_of}
 use Rattle.nio_words.specs.Encodings.{bit, gate_word}
 use Rattle.nio_words.specs.Moves.{Moves}

@@ -4,23 +4,23 @@ use Rattle.std.proofs.Common.{◌≡◌, Bool, true, false, List, [], ◌∷◌,
 use Rattle.std.proofs.lemmas.List.{append-nil, append_cancel_left}
 use Rattle.std.specs.Option.{ForSome}
 use Rattle.nio_base.specs.declared.numbers.CallerNo.{CallerNo}
-use Rattle.nio_event.proofs.Holds.{mode_stays, enrolled_stays, found_enrolled_stays, outside_stays, found_clear_stays}
-use Rattle.nio_event.proofs.Legal.{legal_beginning}
-use Rattle.nio_event.proofs.PinLaws.{pinned_keys_stay}
-use Rattle.nio_event.proofs.SelectedKeys.{selections_keep_keys}
-use Rattle.nio_event.proofs.Selections.{selects_alone as selects_alone_there, key_set_stays, marks_stay, wakeup_stays}
-use Rattle.nio_event.proofs.Stays.{facts_are_permanent, invalid_keys_stay_invalid, only_itself_gives_back}
-use Rattle.nio_event.specs.Histories.{state_after, mine, IsLegal}
-use Rattle.nio_event.specs.Permanent.{OwnFact, a_selection, is_had_by, gives_back}
-use Rattle.nio_event.specs.Holders.{IsAtMostUnselected}
-use Rattle.nio_event.specs.OwnEvents.{has, last, enrolled_found, is_clear_by}
-use Rattle.nio_event.specs.Pins.{IsSameKey, IsKeptInSelection}
-use Rattle.nio_event.specs.Sets.{is_in_key_set}
-use Rattle.nio_event.specs.State.{State}
-use Rattle.nio_event.specs.declared.act.Act.{Act}
-use Rattle.nio_event.specs.declared.event.Event.{Event}
-use Rattle.nio_event.proofs.OneMore.{has_none-append, mine-append}
-use Rattle.nio_event.proofs.Clauses.{prefix_trans}
+use Rattle.nio_history.proofs.Holds.{mode_stays, enrolled_stays, found_enrolled_stays, outside_stays, found_clear_stays}
+use Rattle.nio_history.proofs.Legal.{legal_beginning}
+use Rattle.nio_history.proofs.PinLaws.{pinned_keys_stay}
+use Rattle.nio_history.proofs.SelectedKeys.{selections_keep_keys}
+use Rattle.nio_history.proofs.Selections.{selects_alone as selects_alone_there, key_set_stays, marks_stay, wakeup_stays}
+use Rattle.nio_history.proofs.Stays.{facts_are_permanent, invalid_keys_stay_invalid, only_itself_gives_back}
+use Rattle.nio_history.specs.Histories.{state_after, mine, IsLegal}
+use Rattle.nio_history.specs.Permanent.{OwnFact, a_selection, is_had_by, gives_back}
+use Rattle.nio_history.specs.Holders.{IsAtMostUnselected}
+use Rattle.nio_history.specs.OwnEvents.{has, last, enrolled_found, is_clear_by}
+use Rattle.nio_history.specs.Pins.{IsSameKey, IsKeptInSelection}
+use Rattle.nio_history.specs.Sets.{is_in_key_set}
+use Rattle.nio_history.specs.State.{State}
+use Rattle.nio_history.specs.declared.act.Act.{Act}
+use Rattle.nio_history.specs.declared.event.Event.{Event}
+use Rattle.nio_history.proofs.OneMore.{has_none-append, mine-append}
+use Rattle.nio_history.proofs.Clauses.{prefix_trans}
 use Rattle.nio_words.specs.Laws.{IsLater, GoesOn, KeepsBetween, CallsGoOn, DrawsGoOn, SplitsGoOn, JoinsGoOn}
 use Rattle.nio_words.specs.Laws.{GoingOnChains, HistoriesGoOn, FactsStand, InvalidKeysStand, OwnStands, PinnedKeysStand}
 use Rattle.nio_words.specs.Laws.{ModeStands, EnrolledStands, FoundEnrolledStands, OutsideStands, FoundClearStands}

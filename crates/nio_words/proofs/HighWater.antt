@@ -4,10 +4,10 @@ use Rattle.std.proofs.Common.{◌≡◌, ℕ, max, ◌^◌, ◌<◌, refl, ap, s
 use Rattle.nio_base.specs.declared.limits.Limits.{Limits}
 use Rattle.nio_base.specs.declared.numbers.CallerNo.{CallerNo}
 use Rattle.nio_base.specs.declared.numbers.SelNo.{SelNo}
-use Rattle.nio_event.proofs.Put.{put-same}
-use Rattle.nio_event.specs.Conditions.{IsSelector}
-use Rattle.nio_event.specs.Questions.{number}
-use Rattle.nio_event.specs.declared.act.Act.TheVariants.{LookChannels, RaiseChannels, LookKeys, RaiseKeys}
+use Rattle.nio_history.proofs.Put.{put-same}
+use Rattle.nio_history.specs.Conditions.{IsSelector}
+use Rattle.nio_history.specs.Questions.{number}
+use Rattle.nio_history.specs.declared.act.Act.TheVariants.{LookChannels, RaiseChannels, LookKeys, RaiseKeys}
 use Rattle.nio_words.specs.Decodings.{number_of}
 use Rattle.nio_words.specs.Moves.{Moves}
 use Rattle.nio_words.specs.declared.instruction.Instruction.TheVariants.{Load, Max}

@@ -5,12 +5,12 @@ use Rattle.nio_base.specs.declared.limits.Limits.{Limits}
 use Rattle.nio_base.specs.declared.numbers.CallerNo.{CallerNo}
 use Rattle.nio_base.specs.declared.numbers.ChanNo.{ChanNo}
 use Rattle.nio_base.specs.declared.numbers.SelNo.{SelNo}
-use Rattle.nio_event.proofs.Put.{put-same}
-use Rattle.nio_event.specs.Acts.{taken_by}
-use Rattle.nio_event.specs.Conditions.{IsChannel, IsSelector}
-use Rattle.nio_event.specs.Questions.{holder}
-use Rattle.nio_event.specs.State.{put}
-use Rattle.nio_event.specs.declared.act.Act.TheVariants.{TryHoldBit, Release, TakeTurn, GiveTurn, Enter}
+use Rattle.nio_history.proofs.Put.{put-same}
+use Rattle.nio_history.specs.Acts.{taken_by}
+use Rattle.nio_history.specs.Conditions.{IsChannel, IsSelector}
+use Rattle.nio_history.specs.Questions.{holder}
+use Rattle.nio_history.specs.State.{put}
+use Rattle.nio_history.specs.declared.act.Act.TheVariants.{TryHoldBit, Release, TakeTurn, GiveTurn, Enter}
 use Rattle.nio_words.proofs.Fields.{reads_holder, takes, exchange_small}
 use Rattle.nio_words.specs.Decodings.{holder_of}
 use Rattle.nio_words.specs.Encodings.{holder_word}

@@ -5,10 +5,10 @@ use Rattle.std.proofs.lemmas.Nat.{or_lt, and_le_l}
 use Rattle.nio_base.specs.declared.limits.Limits.{Limits}
 use Rattle.nio_base.specs.declared.numbers.CallerNo.{CallerNo}
 use Rattle.nio_base.specs.declared.numbers.SelNo.{SelNo}
-use Rattle.nio_event.proofs.Put.{put_at-same}
-use Rattle.nio_event.specs.Conditions.{IsKey}
-use Rattle.nio_event.specs.Questions.{operations}
-use Rattle.nio_event.specs.declared.act.Act.TheVariants.{LookInterest, SwapInterest, OrInterest, AndInterest}
+use Rattle.nio_history.proofs.Put.{put_at-same}
+use Rattle.nio_history.specs.Conditions.{IsKey}
+use Rattle.nio_history.specs.Questions.{operations}
+use Rattle.nio_history.specs.declared.act.Act.TheVariants.{LookInterest, SwapInterest, OrInterest, AndInterest}
 use Rattle.nio_words.specs.Decodings.{operations_of}
 use Rattle.nio_words.specs.Moves.{Moves}
 use Rattle.nio_words.specs.declared.instruction.Instruction.TheVariants.{Load, Or, And, Swap}

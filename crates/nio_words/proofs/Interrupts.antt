@@ -4,8 +4,8 @@ use Rattle.std.specs.Int.{bit_not, w64}
 use Rattle.std.proofs.lemmas.Nat.{or_lt, and_le_l}
 use Rattle.nio_base.specs.declared.limits.Limits.{Limits}
 use Rattle.nio_base.specs.declared.numbers.CallerNo.{CallerNo}
-use Rattle.nio_event.specs.Questions.{flag}
-use Rattle.nio_event.specs.declared.act.Act.TheVariants.{SetInterrupt, TakeInterrupt, LookInterrupt}
+use Rattle.nio_history.specs.Questions.{flag}
+use Rattle.nio_history.specs.declared.act.Act.TheVariants.{SetInterrupt, TakeInterrupt, LookInterrupt}
 use Rattle.nio_words.proofs.Bits.{reads_bit, sets_bit, clears_bit, one_bit-lt}
 use Rattle.nio_words.specs.Decodings.{is_set}
 use Rattle.nio_words.specs.Instructions.{one_bit}

@@ -11,9 +11,9 @@ use Rattle.atomic_table.specs.Table.{State as Table, Joins, Allows, keeps}
 use Rattle.atomic_table.proofs.Lists.{at_set, set_else}
 use Rattle.nio_base.specs.declared.limits.Limits.{Limits}
 use Rattle.nio_base.specs.declared.numbers.CallerNo.{CallerNo}
-use Rattle.nio_event.specs.Histories.{mine, IsLegal}
-use Rattle.nio_event.proofs.Legal.{legal_beginning}
-use Rattle.nio_event.specs.declared.event.Event.{Event}
+use Rattle.nio_history.specs.Histories.{mine, IsLegal}
+use Rattle.nio_history.proofs.Legal.{legal_beginning}
+use Rattle.nio_history.specs.declared.event.Event.{Event}
 use Rattle.nio_words.proofs.Beginnings.{prefix_self, prefix_shorter, prefix_both, mine_between}
 use Rattle.nio_words.proofs.Bits.{none_has, both_has, left_has, right_has}
 use Rattle.nio_words.proofs.Keeps.{set_at_own, its_own, not_alone, looked}

@@ -11,13 +11,13 @@ use Rattle.atomic_table.specs.Table.{State as Table}
 use Rattle.atomic_table.proofs.Lists.{at_set, set_else}
 use Rattle.nio_base.specs.declared.limits.Limits.{Limits}
 use Rattle.nio_base.specs.declared.numbers.CallerNo.{CallerNo}
-use Rattle.nio_event.proofs.Lasts.{drawn_lasts}
-use Rattle.nio_event.proofs.Legal.{legal_more}
-use Rattle.nio_event.proofs.OneMore.{state_after-more, mine-other}
-use Rattle.nio_event.specs.Acts.{effect}
-use Rattle.nio_event.specs.Histories.{state_after, is_by, mine, IsStep, IsLegal}
-use Rattle.nio_event.specs.declared.event.Event.{Event}
-use Rattle.nio_event.proofs.Clauses.{prefix_trans}
+use Rattle.nio_history.proofs.Lasts.{drawn_lasts}
+use Rattle.nio_history.proofs.Legal.{legal_more}
+use Rattle.nio_history.proofs.OneMore.{state_after-more, mine-other}
+use Rattle.nio_history.specs.Acts.{effect}
+use Rattle.nio_history.specs.Histories.{state_after, is_by, mine, IsStep, IsLegal}
+use Rattle.nio_history.specs.declared.event.Event.{Event}
+use Rattle.nio_history.proofs.Clauses.{prefix_trans}
 use Rattle.nio_words.proofs.Apart.{apart, proper-apart}
 use Rattle.nio_words.proofs.Beginnings.{prefix_self, prefix_both}
 use Rattle.nio_words.proofs.Places.{place_inside, same_part, place-limits}

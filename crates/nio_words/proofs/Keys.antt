@@ -9,24 +9,24 @@ use Rattle.nio_base.specs.declared.limits.Limits.{Limits}
 use Rattle.nio_base.specs.declared.numbers.CallerNo.{CallerNo}
 use Rattle.nio_base.specs.declared.numbers.ChanNo.{ChanNo}
 use Rattle.nio_base.specs.declared.numbers.SelNo.{SelNo}
-use Rattle.nio_event.proofs.Legal.{legal_more}
-use Rattle.nio_event.proofs.Put.{put_at-same}
-use Rattle.nio_event.proofs.Soundness.{legal-sound}
-use Rattle.nio_event.proofs.Within.{legal-within}
-use Rattle.nio_event.specs.Acts.{new_key}
-use Rattle.nio_event.specs.Answers.{count_below, pins, is_pinned}
-use Rattle.nio_event.specs.Conditions.{Condition, IsCaller, IsKey}
-use Rattle.nio_event.specs.Histories.{state_after, mine, event_of, IsStep, IsLegal}
-use Rattle.nio_event.specs.Questions.{flag, stage}
-use Rattle.nio_event.specs.Sound.{IsSound}
-use Rattle.nio_event.specs.State.{State, put, put_at, unclaimed}
-use Rattle.nio_event.specs.declared.act.Act.TheVariants.{LookKey, CancelKey, Claim, Publish, Remove, Pin, Unpin}
-use Rattle.nio_event.specs.declared.act.Act.TheVariants.{ClaimAgain}
-use Rattle.nio_event.specs.declared.found.Stage.{Stage}
+use Rattle.nio_history.proofs.Legal.{legal_more}
+use Rattle.nio_history.proofs.Put.{put_at-same}
+use Rattle.nio_history.proofs.Soundness.{legal-sound}
+use Rattle.nio_history.proofs.Within.{legal-within}
+use Rattle.nio_history.specs.Acts.{new_key}
+use Rattle.nio_history.specs.Answers.{count_below, pins, is_pinned}
+use Rattle.nio_history.specs.Conditions.{Condition, IsCaller, IsKey}
+use Rattle.nio_history.specs.Histories.{state_after, mine, event_of, IsStep, IsLegal}
+use Rattle.nio_history.specs.Questions.{flag, stage}
+use Rattle.nio_history.specs.Sound.{IsSound}
+use Rattle.nio_history.specs.State.{State, put, put_at, unclaimed}
+use Rattle.nio_history.specs.declared.act.Act.TheVariants.{LookKey, CancelKey, Claim, Publish, Remove, Pin, Unpin}
+use Rattle.nio_history.specs.declared.act.Act.TheVariants.{ClaimAgain}
+use Rattle.nio_history.specs.declared.found.Stage.{Stage}
+use Rattle.nio_history.proofs.PinLaws.{claims_again_the_removed}
+use Rattle.nio_history.proofs.Counts.{count_none}
 use Rattle.nio_words.proofs.Counting.{count_below-le, count_below-put, claimed_pins, same_pins}
 use Rattle.nio_words.proofs.Fields.{exchanges, exchange_small}
-use Rattle.nio_event.proofs.PinLaws.{claims_again_the_removed}
-use Rattle.nio_event.proofs.Counts.{count_none}
 use Rattle.nio_words.proofs.Stages.{reads_claimed, reads_stage, publishes_stage, cancels_stage, removes_stage}
 use Rattle.nio_words.proofs.Stages.{pins_stage, unpins_stage, claimed_some, stage_word-lt}
 use Rattle.nio_words.specs.Decodings.{is_set, stage_of, was_pinned}

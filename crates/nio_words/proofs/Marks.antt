@@ -10,14 +10,14 @@ use Rattle.std.proofs.lemmas.Nat.{or_lt, and_le_l}
 use Rattle.nio_base.specs.declared.limits.Limits.{Limits}
 use Rattle.nio_base.specs.declared.numbers.CallerNo.{CallerNo}
 use Rattle.nio_base.specs.declared.numbers.SelNo.{SelNo}
-use Rattle.nio_event.proofs.Put.{put_at-same}
-use Rattle.nio_event.specs.Acts.{selected_with, exchanged}
-use Rattle.nio_event.specs.Answers.{is_same_mark}
-use Rattle.nio_event.specs.Conditions.{IsKey}
-use Rattle.nio_event.specs.Questions.{flag, key_mark, exchange}
-use Rattle.nio_event.specs.State.{unmarked}
-use Rattle.nio_event.specs.declared.act.Act.TheVariants.{LookMark, Mark as MarkKey, UnselectBit, ClearMark}
-use Rattle.nio_event.specs.declared.found.Mark.{Mark as KeyMark}
+use Rattle.nio_history.proofs.Put.{put_at-same}
+use Rattle.nio_history.specs.Acts.{selected_with, exchanged}
+use Rattle.nio_history.specs.Answers.{is_same_mark}
+use Rattle.nio_history.specs.Conditions.{IsKey}
+use Rattle.nio_history.specs.Questions.{flag, key_mark, exchange}
+use Rattle.nio_history.specs.State.{unmarked}
+use Rattle.nio_history.specs.declared.act.Act.TheVariants.{LookMark, Mark as MarkKey, UnselectBit, ClearMark}
+use Rattle.nio_history.specs.declared.found.Mark.{Mark as KeyMark}
 use Rattle.nio_words.proofs.Fields.{bit-lt, reads, clears_top, exchange_small}
 use Rattle.nio_words.specs.Decodings.{is_set, mark_of, exchange_found}
 use Rattle.nio_words.specs.Encodings.{bit, mark_word}

@@ -3,9 +3,9 @@ use Rattle.std.proofs.Common.{ℕ, ◌^◌, ◌<◌, refl, sym}
 use Rattle.nio_base.specs.declared.limits.Limits.{Limits}
 use Rattle.nio_base.specs.declared.numbers.CallerNo.{CallerNo}
 use Rattle.nio_base.specs.declared.numbers.SelNo.{SelNo}
-use Rattle.nio_event.proofs.Put.{put_at-same}
-use Rattle.nio_event.specs.Conditions.{IsKey}
-use Rattle.nio_event.specs.declared.act.Act.TheVariants.{SwapNote, LookNote}
+use Rattle.nio_history.proofs.Put.{put_at-same}
+use Rattle.nio_history.specs.Conditions.{IsKey}
+use Rattle.nio_history.specs.declared.act.Act.TheVariants.{SwapNote, LookNote}
 use Rattle.nio_words.specs.Moves.{Moves}
 use Rattle.nio_words.specs.declared.instruction.Instruction.TheVariants.{Load, Swap}
 use Rattle.nio_words.specs.declared.part.Part.TheVariants.{Note}

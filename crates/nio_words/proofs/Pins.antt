@@ -7,17 +7,17 @@ use Rattle.std.proofs.lemmas.Bool.{and_parts}
 use Rattle.nio_base.specs.declared.numbers.CallerNo.{CallerNo}
 use Rattle.nio_base.specs.declared.numbers.ChanNo.{ChanNo}
 use Rattle.nio_base.specs.declared.numbers.SelNo.{SelNo}
-use Rattle.nio_event.proofs.OneMore.{last-more}
-use Rattle.nio_event.proofs.OwnPins.{pins_are_own}
-use Rattle.nio_event.proofs.Soundness.{legal-sound, pinned-claimed}
-use Rattle.nio_event.proofs.Stays.{beginnings_are_legal}
-use Rattle.nio_event.specs.Conditions.{has_pin, is_claimed}
-use Rattle.nio_event.specs.Histories.{mine}
-use Rattle.nio_event.specs.OwnEvents.{is_yes, last, pin_changed, keeps_pin}
-use Rattle.nio_event.specs.PassViews.{PassView, known, ActsClause, HasNoPin}
-use Rattle.nio_event.specs.declared.act.Act.{Act}
-use Rattle.nio_event.specs.declared.act.Act.TheVariants.{Claim, Pin, Unpin, ClaimAgain}
-use Rattle.nio_event.specs.declared.found.Stage.{Stage}
+use Rattle.nio_history.proofs.OneMore.{last-more}
+use Rattle.nio_history.proofs.OwnPins.{pins_are_own}
+use Rattle.nio_history.proofs.Soundness.{legal-sound, pinned-claimed}
+use Rattle.nio_history.proofs.Stays.{beginnings_are_legal}
+use Rattle.nio_history.specs.Conditions.{has_pin, is_claimed}
+use Rattle.nio_history.specs.Histories.{mine}
+use Rattle.nio_history.specs.OwnEvents.{is_yes, last, pin_changed, keeps_pin}
+use Rattle.nio_history.specs.PassViews.{PassView, known, ActsClause, HasNoPin}
+use Rattle.nio_history.specs.declared.act.Act.{Act}
+use Rattle.nio_history.specs.declared.act.Act.TheVariants.{Claim, Pin, Unpin, ClaimAgain}
+use Rattle.nio_history.specs.declared.found.Stage.{Stage}
 use Rattle.nio_words.proofs.Stepping.{still_ready}
 use Rattle.nio_words.proofs.Views.{finds_drawn, step_acts}
 use Rattle.nio_words.specs.Passes.{seen, state_seen, limits_of}

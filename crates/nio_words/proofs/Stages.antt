@@ -1,7 +1,7 @@
 -- The word of an index: its fields are read, each of its stages is set, a pin is added and subtracted.
 use Rattle.std.proofs.Common.{◌≡◌, ◌≢◌, ℕ, ◌+◌, ◌-◌, ◌*◌, ◌/◌, ◌%◌, ◌^◌, ◌<◌, true, ap, ◌∙◌, arith}
 use Rattle.std.specs.Prelude.{bit_or}
-use Rattle.nio_event.specs.declared.found.Stage.{Stage}
+use Rattle.nio_history.specs.declared.found.Stage.{Stage}
 use Rattle.nio_words.proofs.Fields.{bit-lt, reads, sets}
 use Rattle.nio_words.specs.Decodings.{is_set, stage_of}
 use Rattle.nio_words.specs.Encodings.{bit, stage_word}

@@ -7,11 +7,11 @@ use lib.ListN.{get_elem?}
 use Rattle.atomic_table.specs.Table.{opening as first_table}
 use Rattle.nio_base.specs.Limits.{IsFit}
 use Rattle.nio_base.specs.declared.limits.Limits.{Limits}
-use Rattle.nio_event.proofs.Legal.{legal_empty}
-use Rattle.nio_event.specs.State.{opening, unclaimed}
+use Rattle.nio_history.proofs.Legal.{legal_empty}
+use Rattle.nio_history.specs.State.{opening, unclaimed}
+use Rattle.nio_history.proofs.Counts.{count_none}
 use Rattle.nio_words.proofs.Beginnings.{prefix_self}
 use Rattle.nio_words.proofs.Bits.{none_has, bits_below-none}
-use Rattle.nio_event.proofs.Counts.{count_none}
 use Rattle.nio_words.proofs.Places.{place_inside, place-limits, limits_inside}
 use Rattle.nio_words.specs.Encodings.{encoding, bound, IsProper, limits_word, stage_word}
 use Rattle.nio_words.specs.Places.{IsWithin, place, word_count}

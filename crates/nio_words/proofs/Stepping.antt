@@ -7,17 +7,17 @@ use Rattle.std.proofs.lemmas.List.Sums.{fold-append}
 use Rattle.atomic_table.specs.Table.{keeps, Allows}
 use Rattle.nio_base.specs.declared.limits.Limits.{Limits}
 use Rattle.nio_base.specs.declared.numbers.CallerNo.{CallerNo}
-use Rattle.nio_event.proofs.Lasts.{drawn_lasts}
-use Rattle.nio_event.proofs.Legal.{legal_more, legal_next}
-use Rattle.nio_event.proofs.OneMore.{mine-own, mine-other}
-use Rattle.nio_event.proofs.Stays.{conditions_stay}
-use Rattle.nio_event.specs.Acts.{effect}
-use Rattle.nio_event.specs.Answers.{Answers}
-use Rattle.nio_event.specs.Conditions.{Condition}
-use Rattle.nio_event.specs.Histories.{state_after, mine, event_of, IsStep, IsLegal, HistoryClause, StepClause}
-use Rattle.nio_event.specs.declared.act.Act.{Act}
-use Rattle.nio_event.specs.declared.act.Act.TheVariants.{DrawBit}
-use Rattle.nio_event.specs.declared.event.Event.{Event}
+use Rattle.nio_history.proofs.Lasts.{drawn_lasts}
+use Rattle.nio_history.proofs.Legal.{legal_more, legal_next}
+use Rattle.nio_history.proofs.OneMore.{mine-own, mine-other}
+use Rattle.nio_history.proofs.Stays.{conditions_stay}
+use Rattle.nio_history.specs.Acts.{effect}
+use Rattle.nio_history.specs.Answers.{Answers}
+use Rattle.nio_history.specs.Conditions.{Condition}
+use Rattle.nio_history.specs.Histories.{state_after, mine, event_of, IsStep, IsLegal, HistoryClause, StepClause}
+use Rattle.nio_history.specs.declared.act.Act.{Act}
+use Rattle.nio_history.specs.declared.act.Act.TheVariants.{DrawBit}
+use Rattle.nio_history.specs.declared.event.Event.{Event}
 use Rattle.nio_words.proofs.Beginnings.{same_number}
 use Rattle.nio_words.proofs.Keeps.{AddsTo, added, held_here}
 use Rattle.nio_words.specs.Encodings.{encoding, bound, IsProper}

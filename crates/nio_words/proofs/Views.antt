@@ -9,26 +9,26 @@ use Rattle.nio_base.specs.declared.numbers.CallerNo.{CallerNo}
 use Rattle.nio_base.specs.declared.numbers.ChanNo.{ChanNo}
 use Rattle.nio_base.specs.declared.numbers.KeyNo.{KeyNo}
 use Rattle.nio_base.specs.declared.numbers.SelNo.{SelNo}
-use Rattle.nio_event.proofs.Finds.{step_leaves, looks_tell, found_stands}
-use Rattle.nio_event.proofs.OneMore.{has-more}
-use Rattle.nio_event.proofs.Soundness.{legal-sound}
-use Rattle.nio_event.specs.Answers.{Answers}
-use Rattle.nio_event.specs.Conditions.{is_made, is_claimed, is_held_by, has_turn, has_begun}
-use Rattle.nio_event.specs.Found.{is_look, finds}
-use Rattle.nio_event.specs.Histories.{state_after, event_of, mine, HistoryClause, IsLegal}
-use Rattle.nio_event.specs.Permanent.{PermanentFact, stands, channel_made, key_published}
-use Rattle.nio_event.specs.OwnEvents.{has}
-use Rattle.nio_event.specs.PassViews.{PassView, Holds as HoldsNumber, known, ActsClause, HasKey}
-use Rattle.nio_event.specs.Sets.{was_published}
-use Rattle.nio_event.specs.State.{State, put}
-use Rattle.nio_event.specs.declared.act.Act.{Act}
-use Rattle.nio_event.specs.declared.act.Act.TheVariants.{DrawBit, LookKey, LookChannel, TakeTurn, BeginLook}
-use Rattle.nio_event.specs.declared.found.Chan.{Chan}
-use Rattle.nio_event.specs.declared.found.Stage.{Stage}
-use Rattle.nio_event.proofs.LastsOnceSound.{unclaimed_reached}
-use Rattle.nio_event.proofs.Put.{put-same}
-use Rattle.nio_event.specs.Acts.{taken_by}
-use Rattle.nio_event.specs.declared.found.GateWord.{GateWord}
+use Rattle.nio_history.proofs.Finds.{step_leaves, looks_tell, found_stands}
+use Rattle.nio_history.proofs.OneMore.{has-more}
+use Rattle.nio_history.proofs.Soundness.{legal-sound}
+use Rattle.nio_history.specs.Answers.{Answers}
+use Rattle.nio_history.specs.Conditions.{is_made, is_claimed, is_held_by, has_turn, has_begun}
+use Rattle.nio_history.specs.Found.{is_look, finds}
+use Rattle.nio_history.specs.Histories.{state_after, event_of, mine, HistoryClause, IsLegal}
+use Rattle.nio_history.specs.Permanent.{PermanentFact, stands, channel_made, key_published}
+use Rattle.nio_history.specs.OwnEvents.{has}
+use Rattle.nio_history.specs.PassViews.{PassView, Holds as HoldsNumber, known, ActsClause, HasKey}
+use Rattle.nio_history.specs.Sets.{was_published}
+use Rattle.nio_history.specs.State.{State, put}
+use Rattle.nio_history.specs.declared.act.Act.{Act}
+use Rattle.nio_history.specs.declared.act.Act.TheVariants.{DrawBit, LookKey, LookChannel, TakeTurn, BeginLook}
+use Rattle.nio_history.specs.declared.found.Chan.{Chan}
+use Rattle.nio_history.specs.declared.found.Stage.{Stage}
+use Rattle.nio_history.proofs.LastsOnceSound.{unclaimed_reached}
+use Rattle.nio_history.proofs.Put.{put-same}
+use Rattle.nio_history.specs.Acts.{taken_by}
+use Rattle.nio_history.specs.declared.found.GateWord.{GateWord}
 use Rattle.nio_words.specs.Passes.{seen, state_seen, numbers_of, Holds, IsPassOf, limits_of}
 use Rattle.nio_words.specs.Steps.{Steps}
 use Rattle.nio_words.specs.Views.{view}

@@ -6,10 +6,10 @@ use Rattle.std.specs.List.{filter}
 use Rattle.std.proofs.lemmas.List.{append-nil}
 use Rattle.nio_base.specs.declared.limits.Limits.{Limits}
 use Rattle.nio_base.specs.declared.numbers.CallerNo.{CallerNo}
-use Rattle.nio_event.proofs.Legal.{legal_next}
-use Rattle.nio_event.proofs.LastsAlone.{none_further}
-use Rattle.nio_event.specs.Histories.{is_by, mine, IsLegal}
-use Rattle.nio_event.specs.declared.event.Event.{Event}
+use Rattle.nio_history.proofs.Legal.{legal_next}
+use Rattle.nio_history.proofs.LastsAlone.{none_further}
+use Rattle.nio_history.specs.Histories.{is_by, mine, IsLegal}
+use Rattle.nio_history.specs.declared.event.Event.{Event}
 use Rattle.nio_words.specs.Whole.{HoldersOfAllSeeAll}
 
 has_event : (e : Event) (later : List Event) → mine e.caller (e ∷ later) ≡ [] → ⊥

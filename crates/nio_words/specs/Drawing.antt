@@ -1,9 +1,9 @@
 -- What drawing a caller's number does.
 use Rattle.std.specs.Prelude.{◌≡◌, ◌≢◌, Bool, true, false, [], ◌∷◌, ◌++◌, if◌then◌else◌, Result, Ok, Err}
 use Rattle.nio_base.specs.declared.numbers.CallerNo.{CallerNo}
-use Rattle.nio_event.specs.Conditions.{IsCaller}
-use Rattle.nio_event.specs.Histories.{event_of, StepClause}
-use Rattle.nio_event.specs.declared.act.Act.TheVariants.{DrawBit}
+use Rattle.nio_history.specs.Conditions.{IsCaller}
+use Rattle.nio_history.specs.Histories.{event_of, StepClause}
+use Rattle.nio_history.specs.declared.act.Act.TheVariants.{DrawBit}
 use Rattle.nio_words.specs.Passes.{seen, Holds, HoldSame, IsOnly, IsPassOf, limits_of}
 use Rattle.nio_words.specs.declared.drawing.DrawError.{DrawError}
 use Rattle.nio_words.specs.declared.drawing.DrawError.TheVariants.{NoSuchCaller, CallerTaken}

@@ -7,12 +7,12 @@ use Rattle.nio_base.specs.declared.kind.Kind.TheVariants.{Stream, Listener, Sour
 use Rattle.nio_base.specs.declared.limits.Limits.{Limits}
 use Rattle.nio_base.specs.declared.numbers.CallerNo.{CallerNo}
 use Rattle.nio_base.specs.declared.numbers.KeyId.{KeyId}
-use Rattle.nio_event.specs.Answers.{bits_below, selectors_word, pins, free_word}
-use Rattle.nio_event.specs.State.{State}
-use Rattle.nio_event.specs.declared.found.Chan.{Chan as Channel}
-use Rattle.nio_event.specs.declared.found.GateWord.{GateWord}
-use Rattle.nio_event.specs.declared.found.Mark.{Mark as KeyMark}
-use Rattle.nio_event.specs.declared.found.Stage.{Stage}
+use Rattle.nio_history.specs.Answers.{bits_below, selectors_word, pins, free_word}
+use Rattle.nio_history.specs.State.{State}
+use Rattle.nio_history.specs.declared.found.Chan.{Chan as Channel}
+use Rattle.nio_history.specs.declared.found.GateWord.{GateWord}
+use Rattle.nio_history.specs.declared.found.Mark.{Mark as KeyMark}
+use Rattle.nio_history.specs.declared.found.Stage.{Stage}
 use Rattle.nio_words.specs.declared.part.Part.{Part}
 use Rattle.nio_words.specs.declared.part.Part.TheVariants.{Callers, Interrupts, Selectors, ChannelsHigh, Chan, Hold}
 use Rattle.nio_words.specs.declared.part.Part.TheVariants.{Enrolled, Gate, Turn, KeysHigh, Key, Interest, Mark, Note}

@@ -1,5 +1,5 @@
 -- Laws of passes, as a caller needs them: what was seen to stand, and what a caller has, stands in what
--- is seen later too, whatever others do in between. They follow from the laws of histories in `nio_event`.
+-- is seen later too, whatever others do in between. They follow from the laws of histories in `nio_history`.
 use Rattle.std.specs.Prelude.{◌≡◌, ◌≢◌, ℕ, Bool, Option, Some, IsTrue, IsFalse, List, [], ◌∷◌, ◌++◌}
 use Rattle.std.specs.Option.{ForSome}
 use mathlib.Core.List.{IsPrefix}
@@ -7,16 +7,16 @@ use Rattle.nio_base.specs.declared.numbers.CallerNo.{CallerNo}
 use Rattle.nio_base.specs.declared.numbers.ChanNo.{ChanNo}
 use Rattle.nio_base.specs.declared.numbers.KeyId.{KeyId}
 use Rattle.nio_base.specs.declared.numbers.SelNo.{SelNo}
-use Rattle.nio_event.specs.Histories.{mine, HistoryClause}
-use Rattle.nio_event.specs.Holders.{Keeps as KeepsHistory, marks, ends_wakeup, IsAtMostUnselected}
-use Rattle.nio_event.specs.Permanent.{PermanentFact, stands, OwnFact, a_selection, the_hold, a_pin, is_had_by}
-use Rattle.nio_event.specs.Permanent.{gives_back}
-use Rattle.nio_event.specs.OwnEvents.{has, last, sets_mode, enrols_key, publishes, enrolled_found, is_clear_by}
-use Rattle.nio_event.specs.Pins.{IsSameKey, IsKeptInSelection, removes}
-use Rattle.nio_event.specs.Sets.{was_published, is_valid_key, is_in_key_set}
-use Rattle.nio_event.specs.Turns.{selects_on}
-use Rattle.nio_event.specs.declared.act.Act.{Act}
-use Rattle.nio_event.specs.declared.event.Event.{Event}
+use Rattle.nio_history.specs.Histories.{mine, HistoryClause}
+use Rattle.nio_history.specs.Holders.{Keeps as KeepsHistory, marks, ends_wakeup, IsAtMostUnselected}
+use Rattle.nio_history.specs.Permanent.{PermanentFact, stands, OwnFact, a_selection, the_hold, a_pin, is_had_by}
+use Rattle.nio_history.specs.Permanent.{gives_back}
+use Rattle.nio_history.specs.OwnEvents.{has, last, sets_mode, enrols_key, publishes, enrolled_found, is_clear_by}
+use Rattle.nio_history.specs.Pins.{IsSameKey, IsKeptInSelection, removes}
+use Rattle.nio_history.specs.Sets.{was_published, is_valid_key, is_in_key_set}
+use Rattle.nio_history.specs.Turns.{selects_on}
+use Rattle.nio_history.specs.declared.act.Act.{Act}
+use Rattle.nio_history.specs.declared.event.Event.{Event}
 use Rattle.nio_words.specs.Drawing.{Draws}
 use Rattle.nio_words.specs.Passes.{seen, state_seen, acts_seen, Holds, IsPassOf, limits_of}
 use Rattle.nio_words.specs.Sharing.{SeesSame, Joins}

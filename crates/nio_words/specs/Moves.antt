@@ -2,13 +2,13 @@
 use Rattle.std.specs.Prelude.{◌≡◌, ℕ, ◌<◌, List}
 use Rattle.nio_base.specs.declared.limits.Limits.{Limits}
 use Rattle.nio_base.specs.declared.numbers.CallerNo.{CallerNo}
-use Rattle.nio_event.specs.Acts.{effect}
-use Rattle.nio_event.specs.Answers.{Answers}
-use Rattle.nio_event.specs.Conditions.{Condition}
-use Rattle.nio_event.specs.Histories.{state_after, mine, IsLegal}
-use Rattle.nio_event.specs.State.{State}
-use Rattle.nio_event.specs.declared.act.Act.{Act}
-use Rattle.nio_event.specs.declared.event.Event.{Event}
+use Rattle.nio_history.specs.Acts.{effect}
+use Rattle.nio_history.specs.Answers.{Answers}
+use Rattle.nio_history.specs.Conditions.{Condition}
+use Rattle.nio_history.specs.Histories.{state_after, mine, IsLegal}
+use Rattle.nio_history.specs.State.{State}
+use Rattle.nio_history.specs.declared.act.Act.{Act}
+use Rattle.nio_history.specs.declared.event.Event.{Event}
 use Rattle.nio_words.specs.Encodings.{encoding, bound, IsProper}
 use Rattle.nio_words.specs.Instructions.{applied, IsInWord}
 use Rattle.nio_words.specs.Parts.{part_of}

@@ -2,11 +2,11 @@
 use Rattle.std.specs.Prelude.{◌≡◌, ℕ, IsTrue, List, []}
 use Rattle.nio_base.specs.declared.limits.Limits.{Limits}
 use Rattle.nio_base.specs.declared.numbers.CallerNo.{CallerNo}
-use Rattle.nio_event.specs.Conditions.{IsCaller}
-use Rattle.nio_event.specs.Histories.{state_after, mine, IsLegal}
-use Rattle.nio_event.specs.State.{State}
-use Rattle.nio_event.specs.declared.act.Act.{Act}
-use Rattle.nio_event.specs.declared.event.Event.{Event}
+use Rattle.nio_history.specs.Conditions.{IsCaller}
+use Rattle.nio_history.specs.Histories.{state_after, mine, IsLegal}
+use Rattle.nio_history.specs.State.{State}
+use Rattle.nio_history.specs.declared.act.Act.{Act}
+use Rattle.nio_history.specs.declared.event.Event.{Event}
 use Rattle.nio_words.specs.Rule.{HasBit}
 use Rattle.nio_words.specs.declared.view.View.{View}
 use Rattle.nio_words.specs.declared.words.Pass.{Pass}

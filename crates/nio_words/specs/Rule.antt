@@ -9,8 +9,8 @@ use Rattle.atomic_table.specs.Table.{State as Table}
 use Rattle.nio_base.specs.Limits.{IsFit}
 use Rattle.nio_base.specs.declared.limits.Limits.{Limits}
 use Rattle.nio_base.specs.declared.numbers.CallerNo.{CallerNo}
-use Rattle.nio_event.specs.Histories.{state_after, mine, IsLegal}
-use Rattle.nio_event.specs.declared.event.Event.{Event}
+use Rattle.nio_history.specs.Histories.{state_after, mine, IsLegal}
+use Rattle.nio_history.specs.declared.event.Event.{Event}
 use Rattle.nio_words.specs.Encodings.{encoding, bound, IsProper, limits_word}
 use Rattle.nio_words.specs.Places.{IsWithin, place, word_count}
 use Rattle.nio_words.specs.declared.part.Part.{Part}

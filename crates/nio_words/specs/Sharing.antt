@@ -2,7 +2,7 @@
 use Rattle.std.specs.Prelude.{◌≡◌, ◌≢◌, ◌↔◌, ◌⊎◌}
 use mathlib.Core.List.{IsPrefix}
 use Rattle.nio_base.specs.declared.numbers.CallerNo.{CallerNo}
-use Rattle.nio_event.specs.Histories.{mine}
+use Rattle.nio_history.specs.Histories.{mine}
 use Rattle.nio_words.specs.Passes.{seen, Holds, HoldSame, IsPassOf}
 use Rattle.nio_words.specs.Rule.{longer}
 use Rattle.nio_words.specs.declared.words.Pass.{Pass}

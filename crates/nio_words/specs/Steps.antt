@@ -1,8 +1,8 @@
 -- What a step on the table does.
 use Rattle.std.specs.Prelude.{◌≡◌, [], ◌∷◌, ◌++◌}
 use Rattle.nio_base.specs.declared.numbers.CallerNo.{CallerNo}
-use Rattle.nio_event.specs.Histories.{event_of, StepClause}
-use Rattle.nio_event.specs.declared.act.Act.{Act}
+use Rattle.nio_history.specs.Histories.{event_of, StepClause}
+use Rattle.nio_history.specs.declared.act.Act.{Act}
 use Rattle.nio_words.specs.Passes.{seen, Holds, HoldSame, IsOnly, IsPassOf, limits_of}
 use Rattle.nio_words.specs.declared.words.Pass.{Pass}
 use Rattle.nio_words.specs.declared.words.Words.{Words}

@@ -3,8 +3,8 @@ use Rattle.std.specs.Prelude.{◌≡◌, ℕ, ◌==◌, IsTrue}
 use Rattle.std.specs.Int.{bit_at}
 use Rattle.nio_base.specs.declared.numbers.CallerNo.{CallerNo}
 use Rattle.nio_base.specs.declared.numbers.SelNo.{SelNo}
-use Rattle.nio_event.specs.Conditions.{IsKey, has_pin}
-use Rattle.nio_event.specs.PassViews.{PassView, known}
+use Rattle.nio_history.specs.Conditions.{IsKey, has_pin}
+use Rattle.nio_history.specs.PassViews.{PassView, known}
 use Rattle.nio_words.specs.Passes.{seen, numbers_of, view_of, limits_of, IsReady}
 use Rattle.nio_words.specs.declared.words.Pass.{Pass}
 use Rattle.nio_words.specs.declared.words.Words.{Words}

@@ -4,7 +4,7 @@ ghost use Rattle.nio_words.specs.Decodings.{is_set, gate_of, stage_of, operation
 ghost use Rattle.nio_words.specs.Decodings.{mark_of, holder_of, enrolled_of};
 
 use nio_base::{CallerNo, ChanNo, KeyId, Kind, Ops};
-use nio_event::{Chan, GateWord, Mark, Stage};
+use nio_history::{Chan, GateWord, Mark, Stage};
 
 /// Whether bit `k` is set.
 #[inline(always)]

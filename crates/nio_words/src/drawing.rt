@@ -1,7 +1,7 @@
 //! Drawing a caller's number, after which the pass acts for that caller.
 ghost use Rattle.std.specs.Prelude.{◌≡◌};
 ghost use Rattle.nio_base.specs.declared.numbers.CallerNo.{CallerNo as Number};
-ghost use Rattle.nio_event.specs.Conditions.{IsCaller};
+ghost use Rattle.nio_history.specs.Conditions.{IsCaller};
 ghost use Rattle.nio_words.specs.Drawing.{Drawn, Draws};
 ghost use Rattle.nio_words.specs.Passes.{IsPassOf, limits_of};
 

@@ -1,11 +1,11 @@
 //! Parts of the state as words.
 ghost use Rattle.std.specs.Prelude.{◌≡◌, ◌+◌, ◌^◌, ◌<◌, Some};
-ghost use Rattle.nio_event.specs.Acts.{new_channel, new_key, selected_with};
+ghost use Rattle.nio_history.specs.Acts.{new_channel, new_key, selected_with};
 ghost use Rattle.nio_words.specs.Encodings.{bit, kind_code, channel_word, stage_word, mark_word, holder_word};
 ghost use Rattle.nio_words.specs.Encodings.{enrolled_word};
 
 use nio_base::{CallerNo, ChanNo, KeyId, Kind, Ops};
-use nio_event::Stage;
+use nio_history::Stage;
 
 #[inline(always)]
 fn bit(set: bool) -> u64

@@ -13,7 +13,7 @@ pub fn whole_law()
 
 /// The other laws speak of a pass and a later one. A later pass is what a call, a draw, a split or a joining
 /// leaves, and what several of them leave one after the other. The events that were seen in between are a
-/// history, so the laws of `nio_event` apply to them.
+/// history, so the laws of `nio_history` apply to them.
 pub fn going_on_law()
     ensures calls { CallsGoOn }
     ensures draws { DrawsGoOn }

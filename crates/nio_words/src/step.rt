@@ -14,7 +14,7 @@ use crate::view::View;
 use crate::words::{Pass, Words};
 use atomic_table::{Play, Seat};
 use nio_base::{CallerNo, ChanNo, KeyId, Kind, Ops};
-use nio_event::Stage;
+use nio_history::Stage;
 use std::marker::Brand;
 
 /// What the part and the instruction of a step leave out of the event that it adds.

@@ -12,7 +12,7 @@
 //!   `specs/Decodings.antt`, or the word, in `encode.rt`;
 //! - where its event has numbers that the part and the instruction don't tell, a line of `Details`.
 //!
-//! That its condition stays true while others step is proved of all kinds in `nio_event`.
+//! That its condition stays true while others step is proved of all kinds in `nio_history`.
 
 mod channels;
 mod enrolled;

@@ -1,7 +1,7 @@
 //! What a seat at the table knows, and the table's rule. No value of these types is made.
 use atomic_table::TableRule;
 use nio_base::Limits;
-use nio_event::Event;
+use nio_history::Event;
 
 /// What one of two joined passes knew. A clause reads an array as a list of any length.
 pub struct Half {

@@ -5,15 +5,15 @@ use crate::judge::Judge;
 use crate::memory::Claim;
 use crate::state::LAST_SERIAL;
 use nio_base::{CallerNo, ChanNo, SelNo};
-use nio_event::{Act, Stage};
+use nio_history::{Act, Stage};
 
 impl Judge {
+    ghost use Rattle.nio_history.specs.Conditions.{has_begun, has_entered, has_pin, has_taken, has_turn, holds};
+    ghost use Rattle.nio_history.specs.Conditions.{is_claimed, is_closer, is_made, may_put_due, may_remove_cancelled};
+    ghost use Rattle.nio_history.specs.Conditions.{IsChannel, IsKey, IsSelector};
     ghost use Rattle.nio_audit.specs.Allowing.{may_clear_out_by, may_publish_by, state_of, IsAllowed};
     ghost use Rattle.nio_audit.specs.Found.{is_clear_for};
     ghost use Rattle.nio_audit.specs.Remembering.{knowledge_of};
-    ghost use Rattle.nio_event.specs.Conditions.{has_begun, has_entered, has_pin, has_taken, has_turn, holds};
-    ghost use Rattle.nio_event.specs.Conditions.{is_claimed, is_closer, is_made, may_put_due, may_remove_cancelled};
-    ghost use Rattle.nio_event.specs.Conditions.{IsChannel, IsKey, IsSelector};
 
     /// Whether the caller may make the step.
     pub(crate) fn allows(&self, me: CallerNo, act: &Act) -> bool

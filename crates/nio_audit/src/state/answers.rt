@@ -3,13 +3,13 @@ ghost use Rattle.std.specs.Prelude.{◌≡◌, ◌<◌, ◌+◌, ◌*◌, ◌↔
 
 use crate::state::StateTables;
 use nio_base::{CallerNo, SelNo};
-use nio_event::{Act, Mark};
+use nio_history::{Act, Mark};
 
 impl StateTables {
+    ghost use Rattle.nio_history.specs.Answers.{Answers, bits_below, exchange_from, is_pinned};
     ghost use Rattle.nio_audit.specs.Bounds.{IsReadable};
     ghost use Rattle.nio_audit.specs.StateOf.{state_with};
     ghost use Rattle.nio_audit.specs.TableWords.{grid, row};
-    ghost use Rattle.nio_event.specs.Answers.{Answers, bits_below, exchange_from, is_pinned};
 
     /// Whether the act found what the state answers.
     pub(crate) fn answers(&self, me: CallerNo, act: &Act) -> bool

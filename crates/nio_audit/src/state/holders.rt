@@ -1,13 +1,13 @@
 //! Who has what in the state.
 ghost use Rattle.std.specs.Prelude.{◌≡◌, ◌&&◌};
-ghost use Rattle.nio_event.specs.Conditions.{is_held_by};
+ghost use Rattle.nio_history.specs.Conditions.{is_held_by};
 
 use crate::state::StateTables;
 use nio_base::{CallerNo, ChanNo, SelNo};
 
 impl StateTables {
+    ghost use Rattle.nio_history.specs.Sets.{in_cancelled_set};
     ghost use Rattle.nio_audit.specs.TableWords.{cube, grid, row};
-    ghost use Rattle.nio_event.specs.Sets.{in_cancelled_set};
 
     pub(crate) fn is_selector_made(&self, sel: SelNo) -> bool
         ensures { result ≡ row self.now.selector sel.0 }

@@ -1,13 +1,13 @@
 //! The calls of a caller on channels.
 ghost use Rattle.std.specs.Prelude.{◌≡◌, ◌≢◌, Err, IfOk, IfSome, IsTrue};
-ghost use Rattle.nio_event.specs.PassViews.{HasChannel, HasKey, HasSelector, known};
+ghost use Rattle.nio_channel.specs.Registered.{IsKeyOf, IsCancelledWhereClosed};
+ghost use Rattle.nio_history.specs.PassViews.{HasChannel, HasKey, HasSelector, known};
 ghost use Rattle.nio_steps.specs.Calls.{CallClause};
 ghost use Rattle.nio_steps.specs.ChannelCalls.{open_channel_plan, is_open_plan, is_blocking_plan, SetsBlocking};
 ghost use Rattle.nio_steps.specs.ChannelCalls.{try_set_blocking_plan, Registers, try_register_plan, key_for_plan};
 ghost use Rattle.nio_steps.specs.ChannelCalls.{is_registered_plan, close_channel_plan};
 ghost use Rattle.nio_steps.specs.Runs.{Completes};
 ghost use Rattle.nio_steps.specs.declared.refusal.ChannelError.TheVariants.{Busy};
-ghost use Rattle.nio_channel.specs.Registered.{IsKeyOf, IsCancelledWhereClosed};
 ghost use Rattle.nio_words.specs.Passes.{limits_of};
 ghost use Rattle.nio_caller.specs.Callers.{IsSameCaller, StillHas, sees};
 ghost use Rattle.nio_caller.specs.Several.{RegistersNonBlocking};

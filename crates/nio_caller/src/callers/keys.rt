@@ -1,6 +1,6 @@
 //! The calls of a caller on keys, and those that find what is known by its number.
 ghost use Rattle.std.specs.Prelude.{IfSome};
-ghost use Rattle.nio_event.specs.PassViews.{HasChannel, HasKey, HasSelector};
+ghost use Rattle.nio_history.specs.PassViews.{HasChannel, HasKey, HasSelector};
 ghost use Rattle.nio_steps.specs.Calls.{CallClause};
 ghost use Rattle.nio_steps.specs.KeyCalls.{find_selector_plan, find_channel_plan, find_plan, is_valid_plan};
 ghost use Rattle.nio_steps.specs.KeyCalls.{cancel_plan, interest_plan, set_interest_plan, interest_or_plan};

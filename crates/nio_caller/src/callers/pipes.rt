@@ -1,6 +1,6 @@
 //! The calls of a caller on pipes. What the ends of a pipe hold stands in no part of the table.
 ghost use Rattle.std.specs.Prelude.{◌≡◌, ◌+◌, ◌<◌, ◌≤◌, ◌||◌, [], length, min, true, Err, IfOk, Ok, OnOk};
-ghost use Rattle.nio_event.specs.PassViews.{HasChannel};
+ghost use Rattle.nio_history.specs.PassViews.{HasChannel};
 ghost use Rattle.nio_pipe.specs.Answers.{bytes_read, bytes_written, leaves_seal, read_answer, write_answer};
 ghost use Rattle.nio_pipe.specs.Calls.{HasEnds, IsClosed, TriesRead, TriesWrite, WaitsToRead, WaitsToWrite};
 ghost use Rattle.nio_pipe.specs.Ends.{GivesBytes, HadNoByte, HadNoPlace, IsAtEnd, IsSameSink, IsSameSource};

@@ -1,20 +1,20 @@
 //! The selections of a caller: whole ones, and the calls that they are made of.
 ghost use Rattle.std.specs.Prelude.{◌≡◌, IfOk};
-ghost use Rattle.nio_event.specs.PassViews.{HasSelector};
-ghost use Rattle.nio_event.specs.declared.found.Mode.TheVariants as mode;
+ghost use Rattle.nio_history.specs.PassViews.{HasSelector};
+ghost use Rattle.nio_history.specs.declared.found.Mode.TheVariants as mode;
+ghost use Rattle.nio_poller.specs.Polls.{CountsFaults};
+ghost use Rattle.nio_poller.specs.Selecting.{SelectClause, TimedClause};
+ghost use Rattle.nio_poller.specs.declared.selecting.SelectError.TheVariants.{PollFault};
 ghost use Rattle.nio_select.specs.InProgress.{Closes as IsClosingIt, IfAgain, IfBusy, IfClosing, Selects, finish_reply};
 ghost use Rattle.nio_select.specs.InProgress.{poll_of, shut_reply, told_reply};
 ghost use Rattle.nio_steps.specs.Calls.{CallClause};
 ghost use Rattle.nio_steps.specs.Runs.{Completes};
 ghost use Rattle.nio_steps.specs.SelectCalls.{Begins, Tells, leave_plan, shut_plan, try_finish_plan};
-ghost use Rattle.nio_poller.specs.Polls.{CountsFaults};
-ghost use Rattle.nio_poller.specs.Selecting.{SelectClause, TimedClause};
-ghost use Rattle.nio_poller.specs.declared.selecting.SelectError.TheVariants.{PollFault};
 ghost use Rattle.nio_caller.specs.Callers.{IsSameCaller, StillHas, sees};
 
 use super::Caller;
 use nio_base::SelNo;
-use nio_event::Mode;
+use nio_history::Mode;
 use nio_poller::{Poller, SelectError};
 use nio_select::{After, Closing, Finish, Selecting, Shutting, Told};
 use nio_steps::{BeginError, Selected};

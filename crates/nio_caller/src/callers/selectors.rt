@@ -1,12 +1,12 @@
 //! The calls of a caller that open, list, wake and close selectors, and those on interrupts.
 ghost use Rattle.std.specs.Prelude.{IfOk};
-ghost use Rattle.nio_event.specs.Conditions.{IsCaller};
-ghost use Rattle.nio_event.specs.PassViews.{HasSelector};
+ghost use Rattle.nio_history.specs.Conditions.{IsCaller};
+ghost use Rattle.nio_history.specs.PassViews.{HasSelector};
+ghost use Rattle.nio_select.specs.Listed.{ok_seen};
 ghost use Rattle.nio_steps.specs.Calls.{CallClause};
 ghost use Rattle.nio_steps.specs.Runs.{Completes};
 ghost use Rattle.nio_steps.specs.SelectCalls.{open_selector_plan, ListsKeys, ListsSelected, wakeup_plan, Closes};
 ghost use Rattle.nio_steps.specs.SelectCalls.{interrupt_plan, interrupted_plan};
-ghost use Rattle.nio_select.specs.Listed.{ok_seen};
 ghost use Rattle.nio_words.specs.Passes.{limits_of};
 ghost use Rattle.nio_caller.specs.Callers.{IsSameCaller, StillHas, sees};
 

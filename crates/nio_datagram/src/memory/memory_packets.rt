@@ -25,7 +25,7 @@ use crate::memory::side::{SentPacket, Side};
 use crate::net::{Came, LONGEST, PacketNet};
 use nio_base::{Addr, ChanNo, Ops};
 use nio_bytes::Calls;
-use nio_event::Mode;
+use nio_history::Mode;
 use nio_link::Failed;
 use nio_poller::{PollError, Poller};
 use nio_select::{Asked, Told};
@@ -384,8 +384,8 @@ struct OnePoll;
 
 impl<'a> Reading<PollAnswer<'a>, Finding> for OnePoll {
     ghost use Rattle.std.specs.Prelude.{[], ◌∷◌};
-    ghost use Rattle.nio_datagram.specs.declared.memory.finding.Finding.TheVariants.{Told as WasTold};
     ghost use Rattle.nio_select.specs.InProgress.{poll_of};
+    ghost use Rattle.nio_datagram.specs.declared.memory.finding.Finding.TheVariants.{Told as WasTold};
 
     ghost items = { λ answer. WasTold (record {
       asked = answer.asked.now;

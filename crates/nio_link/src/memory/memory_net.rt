@@ -3,6 +3,10 @@ ghost use Rattle.std.specs.Prelude.{◌≡◌, ◌≢◌, ◌⊎◌, ◌↔◌, 
 ghost use Rattle.std.specs.Prelude.{OnErr, IsOk, IsTrue, ◌<◌, length, refl};
 ghost use Rattle.nio_bytes.specs.Calls.{FailsNext};
 ghost use Rattle.nio_bytes.specs.Cause.{HasCause};
+ghost use Rattle.nio_poller.specs.Polls.{CountsFaults, AddsPoll, told_of_channel};
+ghost use Rattle.nio_poller.specs.declared.poller.PollError.TheVariants.{Fault, Memory};
+ghost use Rattle.nio_select.specs.InProgress.{poll_of};
+ghost use Rattle.nio_steps.specs.KeyCalls.{is_within};
 ghost use Rattle.nio_link.specs.Accepts.{accepted_after, accepted_by};
 ghost use Rattle.nio_link.specs.Links.{Link, IsSameBut, IsGot, IsPut, after_read as carried_after_read};
 ghost use Rattle.nio_link.specs.Links.{after_write as carried_after_write, after_shut as carried_after_shut};
@@ -19,10 +23,6 @@ ghost use Rattle.nio_link.specs.MemoryNet.{ready_told, faulted_after, findings_a
 ghost use Rattle.nio_link.specs.MemoryNet.{answer_of, after_poll, after_lost_poll, after_failed_poll, KeepsLinks};
 ghost use Rattle.nio_link.specs.MemoryNet.{can_accept, after_accept, after_failed_accept, connect_answer};
 ghost use Rattle.nio_link.specs.MemoryNet.{after_connect, listen_answer, after_listen, is_free, is_listener, AreFresh};
-ghost use Rattle.nio_poller.specs.Polls.{CountsFaults, AddsPoll, told_of_channel};
-ghost use Rattle.nio_poller.specs.declared.poller.PollError.TheVariants.{Fault, Memory};
-ghost use Rattle.nio_select.specs.InProgress.{poll_of};
-ghost use Rattle.nio_steps.specs.KeyCalls.{is_within};
 
 use crate::memory::finding::Finding;
 use crate::memory::link::MemoryLink;
@@ -34,7 +34,7 @@ use crate::place::Change;
 use crate::place_log::PlaceLog;
 use nio_base::{Addr, ChanNo, Ops};
 use nio_bytes::Calls;
-use nio_event::Mode;
+use nio_history::Mode;
 use nio_poller::{PollError, Poller};
 use nio_select::{Asked, Told};
 use nio_trace::{Reading, Trace};
@@ -443,8 +443,8 @@ struct OnePoll;
 
 impl<'a> Reading<PollAnswer<'a>, Finding> for OnePoll {
     ghost use Rattle.std.specs.Prelude.{[], ◌∷◌};
-    ghost use Rattle.nio_link.specs.declared.memory.finding.Finding.TheVariants.{Told as WasTold};
     ghost use Rattle.nio_select.specs.InProgress.{poll_of};
+    ghost use Rattle.nio_link.specs.declared.memory.finding.Finding.TheVariants.{Told as WasTold};
 
     ghost items = { λ answer. WasTold (record {
       asked = answer.asked.now;

@@ -3,11 +3,6 @@
 -- the group alone.
 use Rattle.std.specs.Prelude.{length, nat_lt, true, false, if◌then◌else◌, Ok, Err, Some, None}
 use Rattle.nio_base.specs.declared.numbers.GChan.{GChan}
-use Rattle.nio_event.specs.declared.group_call.GroupCall.{GroupCall}
-use Rattle.nio_event.specs.declared.group_call.GroupCall.TheVariants as group
-use Rattle.nio_event.specs.declared.group_reply.GroupReply.TheVariants as of_group
-use Rattle.nio_event.specs.declared.reply.Reply.{Reply}
-use Rattle.nio_event.specs.declared.reply.Reply.TheVariants as reply
 use Rattle.nio_group.specs.Group.{Group, is_terminated}
 use Rattle.nio_group.specs.Run as step
 use Rattle.nio_group.specs.Run.{after, reply_to}
@@ -15,6 +10,11 @@ use Rattle.nio_group.specs.declared.refusal.ReportError.{ReportError}
 use Rattle.nio_group.specs.declared.refusal.ReportError.TheVariants as unreported
 use Rattle.nio_group.specs.declared.refusal.StartError.{StartError}
 use Rattle.nio_group.specs.declared.refusal.StartError.TheVariants as refused
+use Rattle.nio_language.specs.declared.group_call.GroupCall.{GroupCall}
+use Rattle.nio_language.specs.declared.group_call.GroupCall.TheVariants as group
+use Rattle.nio_language.specs.declared.group_reply.GroupReply.TheVariants as of_group
+use Rattle.nio_language.specs.declared.reply.Reply.{Reply}
+use Rattle.nio_language.specs.declared.reply.Reply.TheVariants as reply
 use Rattle.nio_plain.specs.ScriptState.{ScriptState, with_group}
 use Rattle.nio_plain.specs.Seq.Replies.{Replied, yes_or_no}
 

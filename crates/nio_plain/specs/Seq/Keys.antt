@@ -4,9 +4,9 @@
 use Rattle.std.specs.Prelude.{ℕ, Bool, ◌&&◌, if◌then◌else◌, bit_and, bit_or}
 use Rattle.nio_base.specs.declared.numbers.KeyId.{KeyId}
 use Rattle.nio_base.specs.declared.numbers.SelNo.{SelNo}
-use Rattle.nio_event.specs.Sets.{fits, in_selected_set, is_valid_key}
-use Rattle.nio_event.specs.State.{State, with_interest, with_mark, with_note}
-use Rattle.nio_event.specs.declared.reply.Reply.TheVariants as reply
+use Rattle.nio_history.specs.Sets.{fits, in_selected_set, is_valid_key}
+use Rattle.nio_history.specs.State.{State, with_interest, with_mark, with_note}
+use Rattle.nio_language.specs.declared.reply.Reply.TheVariants as reply
 use Rattle.nio_plain.specs.ScriptState.{ScriptState}
 use Rattle.nio_plain.specs.Seq.Replies.{Replied, unchanged, replied, yes_or_no}
 use Rattle.nio_plain.specs.Seq.Names.{with_named_key}

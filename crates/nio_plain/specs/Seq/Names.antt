@@ -4,9 +4,9 @@ use Rattle.std.specs.Prelude.{ℕ, zero, suc, ◌==◌, Bool, ◌&&◌, if◌the
 use Rattle.nio_base.specs.declared.numbers.ChanNo.{ChanNo}
 use Rattle.nio_base.specs.declared.numbers.KeyId.{KeyId}
 use Rattle.nio_base.specs.declared.numbers.SelNo.{SelNo}
-use Rattle.nio_event.specs.Sets.{was_published}
-use Rattle.nio_event.specs.State.{State}
-use Rattle.nio_event.specs.declared.reply.Reply.TheVariants as reply
+use Rattle.nio_history.specs.Sets.{was_published}
+use Rattle.nio_history.specs.State.{State}
+use Rattle.nio_language.specs.declared.reply.Reply.TheVariants as reply
 use Rattle.nio_plain.specs.ScriptState.{ScriptState}
 use Rattle.nio_plain.specs.Seq.Replies.{Replied, unchanged}
 

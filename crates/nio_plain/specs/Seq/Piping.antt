@@ -11,8 +11,8 @@ use Rattle.nio_base.specs.declared.kind.Kind.TheVariants.{Source, Sink}
 use Rattle.nio_base.specs.declared.limits.Limits.{Limits}
 use Rattle.nio_base.specs.declared.numbers.CallerNo.{CallerNo}
 use Rattle.nio_base.specs.declared.numbers.ChanNo.{ChanNo}
-use Rattle.nio_event.specs.declared.reply.Reply.{Reply}
-use Rattle.nio_event.specs.declared.reply.Reply.TheVariants as reply
+use Rattle.nio_language.specs.declared.reply.Reply.{Reply}
+use Rattle.nio_language.specs.declared.reply.Reply.TheVariants as reply
 use Rattle.nio_plain.specs.ScriptState.{Pipe, ScriptState, with_pipes}
 use Rattle.nio_plain.specs.Seq.Replies.{Replied, unchanged, replied}
 use Rattle.nio_plain.specs.Seq.Cancelling.{channel_closed}

@@ -1,8 +1,8 @@
 -- What comes of a call: its reply, and the state that it leaves.
 use Rattle.std.specs.Prelude.{Bool, true, false}
-use Rattle.nio_event.specs.State.{State}
-use Rattle.nio_event.specs.declared.reply.Reply.{Reply}
-use Rattle.nio_event.specs.declared.reply.Reply.TheVariants as reply
+use Rattle.nio_history.specs.State.{State}
+use Rattle.nio_language.specs.declared.reply.Reply.{Reply}
+use Rattle.nio_language.specs.declared.reply.Reply.TheVariants as reply
 use Rattle.nio_plain.specs.ScriptState.{ScriptState, with_shared}
 
 -- a reply, and the state that the call leaves

@@ -6,18 +6,18 @@ use Rattle.std.specs.Result.{result_ok}
 use Rattle.nio_base.specs.declared.numbers.CallerNo.{CallerNo}
 use Rattle.nio_base.specs.declared.numbers.KeyId.{KeyId}
 use Rattle.nio_base.specs.declared.numbers.SelNo.{SelNo}
-use Rattle.nio_event.specs.Sets.{in_key_set, in_cancelled_set}
-use Rattle.nio_event.specs.State.{State, with_gate, with_turn, with_begun}
-use Rattle.nio_event.specs.Timeout.{mode_for}
-use Rattle.nio_event.specs.declared.call.Waiting.{Waiting}
-use Rattle.nio_event.specs.declared.call.Waiting.TheVariants as waiting
-use Rattle.nio_event.specs.declared.found.GateWord.{GateWord}
-use Rattle.nio_event.specs.declared.found.Mark.{Mark}
-use Rattle.nio_event.specs.declared.found.Mode.{Mode}
-use Rattle.nio_event.specs.declared.found.Mode.TheVariants as mode
-use Rattle.nio_event.specs.declared.reply.Reply.TheVariants as reply
-use Rattle.nio_event.specs.declared.reply.Why.{Why}
-use Rattle.nio_event.specs.declared.reply.Why.TheVariants as why
+use Rattle.nio_history.specs.Sets.{in_key_set, in_cancelled_set}
+use Rattle.nio_history.specs.State.{State, with_gate, with_turn, with_begun}
+use Rattle.nio_history.specs.Timeout.{mode_for}
+use Rattle.nio_history.specs.declared.found.GateWord.{GateWord}
+use Rattle.nio_history.specs.declared.found.Mark.{Mark}
+use Rattle.nio_history.specs.declared.found.Mode.{Mode}
+use Rattle.nio_history.specs.declared.found.Mode.TheVariants as mode
+use Rattle.nio_history.specs.declared.why.Why.{Why}
+use Rattle.nio_history.specs.declared.why.Why.TheVariants as why
+use Rattle.nio_language.specs.declared.call.Waiting.{Waiting}
+use Rattle.nio_language.specs.declared.call.Waiting.TheVariants as waiting
+use Rattle.nio_language.specs.declared.reply.Reply.TheVariants as reply
 use Rattle.nio_plain.specs.ScriptState.{ScriptState, Selection, with_shared, with_selection}
 use Rattle.nio_plain.specs.Seq.Replies.{Replied, unchanged}
 use Rattle.nio_plain.specs.Seq.Names.{below, key_at, is_same_key, with_named_selector}

@@ -6,7 +6,7 @@ ghost use Rattle.nio_plain.specs.Seq.Modes.{blocking_call, is_registered};
 
 use super::Plain;
 use nio_base::ChanNo;
-use nio_event::Reply;
+use nio_language::Reply;
 
 impl Plain {
     pub(super) fn set_blocking(&mut self, chan: ChanNo, on: bool) -> Reply

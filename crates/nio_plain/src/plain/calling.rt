@@ -7,7 +7,7 @@ ghost use Rattle.nio_plain.specs.Seq.{call_of};
 use super::Plain;
 use super::grouping::call_group;
 use nio_base::CallerNo;
-use nio_event::{Call, Reply};
+use nio_language::{Call, Reply};
 use std::alloc::{AllocError, Global};
 
 impl Plain {

@@ -7,7 +7,7 @@ ghost use Rattle.nio_plain.specs.Seq.Modes.{is_blocking_call, is_open_call, is_r
 
 use super::Plain;
 use nio_base::{ChanNo, SelNo};
-use nio_event::Reply;
+use nio_language::Reply;
 
 impl Plain {
     pub(super) fn is_blocking_channel(&self, chan: ChanNo) -> Reply

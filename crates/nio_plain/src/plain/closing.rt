@@ -9,7 +9,7 @@ ghost use Rattle.nio_plain.specs.Seq.Closing.{close_call, close_end_call};
 use super::Plain;
 use super::selector::Closing;
 use nio_base::{CallerNo, ChanNo, SelNo};
-use nio_event::Reply;
+use nio_language::Reply;
 
 impl Plain {
     /// Begins to close the selector: from now on selections and registrations are refused.

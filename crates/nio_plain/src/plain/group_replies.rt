@@ -4,8 +4,8 @@ ghost use Rattle.nio_group.specs.Run as step;
 ghost use Rattle.nio_plain.specs.Seq.Grouping.{line_reply, report_refused, start_refused};
 
 use nio_base::{GChan, OpNo};
-use nio_event::{GroupReply, Reply};
 use nio_group::{Completion, NotRunning, ReportError, StartError};
+use nio_language::{GroupReply, Reply};
 
 pub(super) fn opened(answer: Result<GChan, StartError>) -> Reply
     ensures { result ≡ line_reply (step.opened answer) }

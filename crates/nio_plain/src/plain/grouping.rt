@@ -6,8 +6,8 @@ ghost use Rattle.nio_plain.specs.Seq.Grouping.{group_left, group_reply, stepped,
 use super::channels::yes_or_no;
 use super::group_replies::{bound, closed, finished, opened, reported, started, taken};
 use nio_base::{GChan, OpKind};
-use nio_event::{GroupCall, Reply};
 use nio_group::GroupCore;
+use nio_language::{GroupCall, Reply};
 
 /// Makes one of the group's calls, and answers with its reply. It allocates nothing: the group took its memory when
 /// it was made.

@@ -8,7 +8,7 @@ ghost use Rattle.nio_plain.specs.Seq.Registering.{are_legal};
 use super::Plain;
 use super::selector::Key;
 use nio_base::{ChanNo, KeyId, Kind, Ops, SelNo};
-use nio_event::Reply;
+use nio_language::Reply;
 
 impl Plain {
     pub(super) fn interest(&self, sel: SelNo, id: KeyId) -> Reply

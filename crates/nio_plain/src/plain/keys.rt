@@ -9,7 +9,8 @@ use super::Plain;
 use super::channels::yes_or_no;
 use super::selector::Key;
 use nio_base::{KeyId, SelNo};
-use nio_event::{Mark, Reply};
+use nio_history::Mark;
+use nio_language::Reply;
 
 impl Plain {
     pub(super) fn is_valid_key(&self, sel: SelNo, id: KeyId) -> Reply

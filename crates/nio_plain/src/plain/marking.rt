@@ -6,7 +6,7 @@ ghost use Rattle.nio_plain.specs.Seq.Selections.{all_told, is_updated, marked};
 
 use super::selector::Key;
 use nio_base::{KeyId, Ops};
-use nio_event::Mark;
+use nio_history::Mark;
 use std::alloc::{AllocError, Global};
 
 /// The serial of each index that the selection looks at, and 0 of the others below the bound.

@@ -11,7 +11,7 @@ use super::Plain;
 use super::channel::Channel;
 use super::selector::Key;
 use nio_base::{ChanNo, KeyId, SelNo};
-use nio_event::Reply;
+use nio_language::Reply;
 
 impl Plain {
     /// The channel of this name.

@@ -7,7 +7,7 @@ use super::Plain;
 use super::channel::Channel;
 use super::selector::Selector;
 use nio_base::{ChanNo, Kind, SelNo};
-use nio_event::Reply;
+use nio_language::Reply;
 use std::alloc::{AllocError, Global};
 
 impl Plain {

@@ -10,7 +10,7 @@ use super::Plain;
 use super::channel::Channel;
 use super::pipe::Pipe;
 use nio_base::{CallerNo, ChanNo, Kind};
-use nio_event::{Bytes, Reply};
+use nio_language::{Bytes, Reply};
 use std::alloc::{AllocError, Global};
 
 /// The most bytes that wait in a pipe.

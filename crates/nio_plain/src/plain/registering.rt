@@ -10,7 +10,7 @@ ghost use Rattle.nio_plain.specs.Seq.Registering.{given_or_kept, register_call, 
 use super::Plain;
 use super::selector::Key;
 use nio_base::{ChanNo, Ops, SelNo};
-use nio_event::Reply;
+use nio_language::Reply;
 use std::alloc::AllocError;
 
 impl Plain {

@@ -6,7 +6,8 @@ ghost use Rattle.nio_plain.specs.Seq.Selections.{begin_call, mode_of};
 
 use super::Plain;
 use nio_base::{CallerNo, SelNo};
-use nio_event::{Mode, Reply, Waiting};
+use nio_history::Mode;
+use nio_language::{Reply, Waiting};
 use std::alloc::{AllocError, Global};
 
 impl Plain {

@@ -7,7 +7,8 @@ use super::looking::valid_keys;
 use super::marking::marked;
 use crate::rules::Rules;
 use nio_base::{CallerNo, ChanNo, KeyId, Ops};
-use nio_event::{GateWord, Mark, Mode, Pairs};
+use nio_history::{GateWord, Mark, Mode};
+use nio_language::Pairs;
 use std::alloc::{AllocError, Global};
 use std::collections::BTreeMap;
 
@@ -30,8 +31,8 @@ pub(super) struct Key {
 impl Key {
     ghost use Rattle.nio_plain.specs.PlainState.{is_listed, key_row, new_key_row, removed_row, swept_key};
     ghost use Rattle.std.specs.Prelude.{◌&&◌, false, if◌then◌else◌, true};
+    ghost use Rattle.nio_history.specs.Sets.{fits, is_in_key_set, is_valid, is_valid_key};
     ghost use Rattle.nio_plain.specs.Seq.Selections.{marked};
-    ghost use Rattle.nio_event.specs.Sets.{fits, is_in_key_set, is_valid, is_valid_key};
 
     /// A key as it is registered: valid and not selected.
     pub(super) fn new(chan: ChanNo, serial: u32, interest: Ops, note: u64) -> Key

@@ -7,7 +7,7 @@ ghost use Rattle.nio_plain.specs.Seq.Listing.{keys_call, listed, names_or_none, 
 use super::Plain;
 use super::selector::Key;
 use nio_base::{KeyId, SelNo};
-use nio_event::{Names, Reply};
+use nio_language::{Names, Reply};
 use std::alloc::{AllocError, Global};
 
 impl Plain {

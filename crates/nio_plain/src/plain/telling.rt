@@ -7,7 +7,8 @@ ghost use Rattle.nio_plain.specs.Seq.Selections.{failed_call, goes_on, is_again,
 use super::Plain;
 use super::marking::{all_told, looked_serials, updated_count};
 use nio_base::{CallerNo, SelNo};
-use nio_event::{GateWord, Mode, Pairs, Reply, Why};
+use nio_history::{GateWord, Mode, Why};
+use nio_language::{Pairs, Reply};
 use std::alloc::{AllocError, Global};
 
 impl Plain {

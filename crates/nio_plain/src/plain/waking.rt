@@ -7,7 +7,7 @@ ghost use Rattle.nio_plain.specs.Seq.Wakeups.{interrupt_call, interrupted_call, 
 use super::Plain;
 use super::channels::yes_or_no;
 use nio_base::{CallerNo, SelNo};
-use nio_event::Reply;
+use nio_language::Reply;
 
 impl Plain {
     /// Leaves a wakeup, also where no caller selects.

@@ -8,7 +8,7 @@ use super::Station;
 use crate::deal::Deal;
 use crate::way::Way;
 use nio_base::{ChanNo, Ops};
-use nio_event::Mode;
+use nio_history::Mode;
 use nio_poller::PollError;
 use nio_select::{After, Asked, Selecting, Told, try_begin};
 use nio_words::{Pass, Words};

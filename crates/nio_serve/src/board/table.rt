@@ -1,6 +1,6 @@
 //! The calls on the table: watching a channel, and leaving it.
 ghost use Rattle.std.specs.Prelude.{◌≡◌, IfOk, IfSome, OnErr, OnOk};
-ghost use Rattle.nio_event.specs.PassViews.{HasChannel};
+ghost use Rattle.nio_history.specs.PassViews.{HasChannel};
 ghost use Rattle.nio_words.specs.Views.{view};
 ghost use Rattle.nio_serve.specs.Board.{IsAtRest, board_of, next_channel, one_more};
 ghost use Rattle.nio_serve.specs.Called.{channel_in};

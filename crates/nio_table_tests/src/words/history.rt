@@ -1,9 +1,9 @@
-//! The worked history of `nio_event`, in which each kind of step stands, in parts, without its two draws.
+//! The worked history of `nio_history`, in which each kind of step stands, in parts, without its two draws.
 ghost use Rattle.nio_table_tests.specs.Following.{IsPart};
 
 use crate::tables::{ONE, S, ZERO};
 use nio_base::{CallerNo, ChanNo, KeyId, Kind, Ops};
-use nio_event::{Act, Chan, GateWord, Mark, Stage};
+use nio_history::{Act, Chan, GateWord, Mark, Stage};
 
 pub(crate) const C: ChanNo = ChanNo(0);
 

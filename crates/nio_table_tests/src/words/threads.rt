@@ -1,5 +1,5 @@
 //! Two threads that step beside each other on one table.
-ghost use Rattle.nio_event.specs.Conditions.{IsKey};
+ghost use Rattle.nio_history.specs.Conditions.{IsKey};
 ghost use Rattle.nio_words.specs.Passes.{IsPassOf, IsReady, limits_of};
 ghost use Rattle.nio_table_tests.specs.Callers.{MayCall};
 

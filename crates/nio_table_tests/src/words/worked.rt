@@ -1,15 +1,15 @@
 //! Two callers do, step by step on a table, what the worked history says. In it a caller's pin holds back the
 //! other's claim of a free index; once it is taken off, the index is given again, with the next serial.
 ghost use Rattle.std.specs.Prelude.{◌≡◌, ◌+◌, IsTrue, length};
-ghost use Rattle.nio_event.specs.Conditions.{Condition};
-ghost use Rattle.nio_table_tests.specs.Following.{Follows, IsPart};
+ghost use Rattle.nio_history.specs.Conditions.{Condition};
 ghost use Rattle.nio_words.specs.Passes.{IsReady, acts_seen, limits_of, state_seen};
 ghost use Rattle.nio_words.specs.Steps.{Steps};
+ghost use Rattle.nio_table_tests.specs.Following.{Follows, IsPart};
 
 use super::{SMALL, history};
 use crate::tables::drawn_table;
 use nio_base::CallerNo;
-use nio_event::{Act, Chan, Stage};
+use nio_history::{Act, Chan, Stage};
 use nio_words::{Pass, Words};
 use std::process::Abort;
 use std::test::Fail;

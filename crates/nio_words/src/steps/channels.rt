@@ -1,8 +1,8 @@
 //! Steps on a channel: whether it is made, its kind, whether it is closed, and its mode.
 ghost use Rattle.std.specs.Prelude.{◌≡◌, ℕ, ◌<◌, IsTrue};
-ghost use Rattle.nio_event.specs.Conditions.{IsChannel, AllMade, is_made, holds};
-ghost use Rattle.nio_event.specs.OwnEvents.{is_clear};
-ghost use Rattle.nio_event.specs.declared.act.Act.TheVariants.{MakeChannel, LookChannel, SetMode, CloseBit};
+ghost use Rattle.nio_history.specs.Conditions.{IsChannel, AllMade, is_made, holds};
+ghost use Rattle.nio_history.specs.OwnEvents.{is_clear};
+ghost use Rattle.nio_history.specs.declared.act.Act.TheVariants.{MakeChannel, LookChannel, SetMode, CloseBit};
 ghost use Rattle.nio_words.specs.Passes.{IsReady, acts_seen, limits_of, state_seen};
 ghost use Rattle.nio_words.specs.Steps.{Steps};
 
@@ -13,7 +13,7 @@ use crate::part::Part;
 use crate::step::Details;
 use crate::words::{Pass, Words};
 use nio_base::{CallerNo, ChanNo, Kind};
-use nio_event::Chan;
+use nio_history::Chan;
 
 // The bits of a channel that is closed, and of one that is in blocking mode.
 const CLOSED: u32 = 4;

@@ -1,8 +1,8 @@
 //! Steps on which key is enrolled for a channel in a selector.
 ghost use Rattle.std.specs.Prelude.{◌≡◌, IsTrue, Some};
-ghost use Rattle.nio_event.specs.Conditions.{IsChannel, IsSelector, IsKey, holds};
-ghost use Rattle.nio_event.specs.OwnEvents.{own_claim, is_clear};
-ghost use Rattle.nio_event.specs.declared.act.Act.TheVariants.{LookReg, Enrol};
+ghost use Rattle.nio_history.specs.Conditions.{IsChannel, IsSelector, IsKey, holds};
+ghost use Rattle.nio_history.specs.OwnEvents.{own_claim, is_clear};
+ghost use Rattle.nio_history.specs.declared.act.Act.TheVariants.{LookReg, Enrol};
 ghost use Rattle.nio_words.specs.Passes.{IsReady, acts_seen, limits_of, state_seen};
 ghost use Rattle.nio_words.specs.Steps.{Steps};
 

@@ -1,7 +1,7 @@
 //! Steps on the words that say which indexes of a selector are free.
 ghost use Rattle.std.specs.Prelude.{◌*◌, ◌<◌, ◌||◌, IsTrue};
-ghost use Rattle.nio_event.specs.Conditions.{IsKey, IsSelector, has_taken, may_put_due};
-ghost use Rattle.nio_event.specs.declared.act.Act.TheVariants.{LookFree, PutFree, TakeFree};
+ghost use Rattle.nio_history.specs.Conditions.{IsKey, IsSelector, has_taken, may_put_due};
+ghost use Rattle.nio_history.specs.declared.act.Act.TheVariants.{LookFree, PutFree, TakeFree};
 ghost use Rattle.nio_words.specs.Passes.{IsReady, limits_of, state_seen};
 ghost use Rattle.nio_words.specs.Steps.{Steps};
 

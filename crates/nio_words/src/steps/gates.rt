@@ -1,7 +1,7 @@
 //! Steps on a selector's gate.
 ghost use Rattle.std.specs.Prelude.{◌≡◌, IsTrue};
-ghost use Rattle.nio_event.specs.Conditions.{IsSelector, has_turn, has_begun};
-ghost use Rattle.nio_event.specs.declared.act.Act.TheVariants.{Wake, LookGate, BeginLook, EndWake, ShutBit};
+ghost use Rattle.nio_history.specs.Conditions.{IsSelector, has_turn, has_begun};
+ghost use Rattle.nio_history.specs.declared.act.Act.TheVariants.{Wake, LookGate, BeginLook, EndWake, ShutBit};
 ghost use Rattle.nio_words.specs.Passes.{IsReady, limits_of, state_seen};
 ghost use Rattle.nio_words.specs.Steps.{Steps};
 
@@ -10,7 +10,7 @@ use crate::instruction::Instruction;
 use crate::part::Part;
 use crate::words::{Pass, Words};
 use nio_base::{CallerNo, SelNo};
-use nio_event::GateWord;
+use nio_history::GateWord;
 
 // The bits of a gate with a pending wakeup, and of one that is shut.
 const WOKEN: u32 = 0;

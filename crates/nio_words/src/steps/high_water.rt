@@ -1,7 +1,7 @@
 //! Steps on the high-water marks, below which every channel is made, and every index of a selector claimed.
 ghost use Rattle.std.specs.Prelude.{◌≤◌};
-ghost use Rattle.nio_event.specs.Conditions.{IsSelector, AllMade, AllClaimed};
-ghost use Rattle.nio_event.specs.declared.act.Act.TheVariants.{LookChannels, RaiseChannels, LookKeys, RaiseKeys};
+ghost use Rattle.nio_history.specs.Conditions.{IsSelector, AllMade, AllClaimed};
+ghost use Rattle.nio_history.specs.declared.act.Act.TheVariants.{LookChannels, RaiseChannels, LookKeys, RaiseKeys};
 ghost use Rattle.nio_words.specs.Passes.{IsReady, limits_of, state_seen};
 ghost use Rattle.nio_words.specs.Steps.{Steps};
 

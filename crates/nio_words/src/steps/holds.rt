@@ -1,7 +1,7 @@
 //! Steps on the hold of a channel, which its registering and its mode need.
 ghost use Rattle.std.specs.Prelude.{IsTrue};
-ghost use Rattle.nio_event.specs.Conditions.{IsChannel, is_made, holds};
-ghost use Rattle.nio_event.specs.declared.act.Act.TheVariants.{TryHoldBit, Release};
+ghost use Rattle.nio_history.specs.Conditions.{IsChannel, is_made, holds};
+ghost use Rattle.nio_history.specs.declared.act.Act.TheVariants.{TryHoldBit, Release};
 ghost use Rattle.nio_words.specs.Passes.{IsReady, limits_of, state_seen};
 ghost use Rattle.nio_words.specs.Steps.{Steps};
 

@@ -1,7 +1,7 @@
 //! Steps on a key's interest set.
 ghost use Rattle.std.specs.Prelude.{◌||◌, IsTrue};
-ghost use Rattle.nio_event.specs.Conditions.{IsKey, has_pin, has_begun};
-ghost use Rattle.nio_event.specs.declared.act.Act.TheVariants.{LookInterest, SwapInterest, OrInterest, AndInterest};
+ghost use Rattle.nio_history.specs.Conditions.{IsKey, has_pin, has_begun};
+ghost use Rattle.nio_history.specs.declared.act.Act.TheVariants.{LookInterest, SwapInterest, OrInterest, AndInterest};
 ghost use Rattle.nio_words.specs.Passes.{IsReady, limits_of, state_seen};
 ghost use Rattle.nio_words.specs.Steps.{Steps};
 

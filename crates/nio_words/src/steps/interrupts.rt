@@ -1,6 +1,6 @@
 //! Steps on the word of the callers' interrupt statuses.
-ghost use Rattle.nio_event.specs.Conditions.{IsCaller};
-ghost use Rattle.nio_event.specs.declared.act.Act.TheVariants.{SetInterrupt, TakeInterrupt, LookInterrupt};
+ghost use Rattle.nio_history.specs.Conditions.{IsCaller};
+ghost use Rattle.nio_history.specs.declared.act.Act.TheVariants.{SetInterrupt, TakeInterrupt, LookInterrupt};
 ghost use Rattle.nio_words.specs.Passes.{IsReady, limits_of};
 ghost use Rattle.nio_words.specs.Steps.{Steps};
 

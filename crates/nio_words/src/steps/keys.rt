@@ -1,11 +1,12 @@
 //! Steps on the word of an index: the stage of its key, and the pins on it.
 ghost use Rattle.std.specs.Prelude.{◌≡◌, ◌<◌, ◌||◌, not, IsTrue, Some};
-ghost use Rattle.nio_event.specs.Conditions.{IsChannel, IsKey, AllClaimed, is_claimed, holds, has_pin, has_taken};
-ghost use Rattle.nio_event.specs.Conditions.{may_publish, may_remove_cancelled, may_clear_out};
-ghost use Rattle.nio_event.specs.OwnEvents.{last, own_claim, since_taken, stage_found};
-ghost use Rattle.nio_event.specs.State.{last_serial};
-ghost use Rattle.nio_event.specs.declared.act.Act.TheVariants.{LookKey, CancelKey, Claim, Publish, Remove, Pin, Unpin};
-ghost use Rattle.nio_event.specs.declared.act.Act.TheVariants.{ClaimAgain};
+ghost use Rattle.nio_history.specs.Conditions.{IsChannel, IsKey, AllClaimed, is_claimed, holds, has_pin, has_taken};
+ghost use Rattle.nio_history.specs.Conditions.{may_publish, may_remove_cancelled, may_clear_out};
+ghost use Rattle.nio_history.specs.OwnEvents.{last, own_claim, since_taken, stage_found};
+ghost use Rattle.nio_history.specs.State.{last_serial};
+ghost use Rattle.nio_history.specs.declared.act.Act.TheVariants.{LookKey, CancelKey, Claim, Publish, Remove, Pin};
+ghost use Rattle.nio_history.specs.declared.act.Act.TheVariants.{Unpin};
+ghost use Rattle.nio_history.specs.declared.act.Act.TheVariants.{ClaimAgain};
 ghost use Rattle.nio_words.specs.Passes.{IsReady, acts_seen, limits_of, state_seen};
 ghost use Rattle.nio_words.specs.Steps.{Steps};
 
@@ -16,7 +17,7 @@ use crate::part::Part;
 use crate::step::Details;
 use crate::words::{Pass, Words};
 use nio_base::{CallerNo, ChanNo, SelNo};
-use nio_event::Stage;
+use nio_history::Stage;
 
 // The bits of a key that is published, cancelled or removed.
 const PUBLISHED: u32 = 1;

@@ -1,8 +1,8 @@
 //! Steps on whether a key is selected, and on its ready set.
 ghost use Rattle.std.specs.Prelude.{◌==◌, ◌||◌, not, IsTrue};
-ghost use Rattle.nio_event.specs.Conditions.{IsKey, has_pin, has_begun};
-ghost use Rattle.nio_event.specs.OwnEvents.{is_unpublished};
-ghost use Rattle.nio_event.specs.declared.act.Act.TheVariants.{LookMark, Mark as MarkKey, UnselectBit, ClearMark};
+ghost use Rattle.nio_history.specs.Conditions.{IsKey, has_pin, has_begun};
+ghost use Rattle.nio_history.specs.OwnEvents.{is_unpublished};
+ghost use Rattle.nio_history.specs.declared.act.Act.TheVariants.{LookMark, Mark as MarkKey, UnselectBit, ClearMark};
 ghost use Rattle.nio_words.specs.Passes.{IsReady, acts_seen, limits_of, state_seen};
 ghost use Rattle.nio_words.specs.Steps.{Steps};
 
@@ -13,7 +13,7 @@ use crate::part::Part;
 use crate::step::Details;
 use crate::words::{Pass, Words};
 use nio_base::{CallerNo, Ops, SelNo};
-use nio_event::Mark;
+use nio_history::Mark;
 
 // The bit of a key that is selected.
 const SELECTED: u32 = 8;

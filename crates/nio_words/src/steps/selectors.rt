@@ -1,6 +1,6 @@
 //! Steps on the word of the selectors.
-ghost use Rattle.nio_event.specs.Conditions.{IsSelector};
-ghost use Rattle.nio_event.specs.declared.act.Act.TheVariants.{MakeSelector, LookSelectors};
+ghost use Rattle.nio_history.specs.Conditions.{IsSelector};
+ghost use Rattle.nio_history.specs.declared.act.Act.TheVariants.{MakeSelector, LookSelectors};
 ghost use Rattle.nio_words.specs.Passes.{IsReady, limits_of};
 ghost use Rattle.nio_words.specs.Steps.{Steps};
 

@@ -1,7 +1,7 @@
 //! Steps on the turn to select on a selector.
 ghost use Rattle.std.specs.Prelude.{IsTrue};
-ghost use Rattle.nio_event.specs.Conditions.{IsSelector, has_turn, is_closer};
-ghost use Rattle.nio_event.specs.declared.act.Act.TheVariants.{TakeTurn, GiveTurn, Enter};
+ghost use Rattle.nio_history.specs.Conditions.{IsSelector, has_turn, is_closer};
+ghost use Rattle.nio_history.specs.declared.act.Act.TheVariants.{TakeTurn, GiveTurn, Enter};
 ghost use Rattle.nio_words.specs.Passes.{IsReady, limits_of, state_seen};
 ghost use Rattle.nio_words.specs.Steps.{Steps};
 

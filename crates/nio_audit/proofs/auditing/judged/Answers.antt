@@ -6,10 +6,10 @@ use Rattle.nio_audit.proofs.Firsts.{judged-none, judged-more, first-illegal, fir
 use Rattle.nio_audit.specs.Audit.{IsFirstNoStep}
 use Rattle.nio_audit.specs.Following.{HasJudged}
 use Rattle.nio_audit.specs.declared.auditing.AuditError.TheVariants.{NotAStep}
+use Rattle.nio_audit.proofs.auditing.judged.Goals as goal
 use Rattle.nio_base.specs.Limits.{IsFit}
 use Rattle.nio_base.specs.declared.limits.Limits.{Limits}
-use Rattle.nio_event.specs.Histories.{IsLegal, IsStep}
-use Rattle.nio_audit.proofs.auditing.judged.Goals as goal
+use Rattle.nio_history.specs.Histories.{IsLegal, IsStep}
 
 refused : (b : Bool) → b ≡ false → b ≡ true → ⊥
 refused b e f = cc

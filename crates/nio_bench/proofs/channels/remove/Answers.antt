@@ -1,11 +1,11 @@
 use Rattle.std.proofs.Common.{◌≡◌, true, false, None, refl, rules}
-use Rattle.nio_event.specs.Acts.{frees_index}
-use Rattle.nio_event.specs.Conditions.{has_turn, has_begun}
-use Rattle.nio_event.specs.Permanent.{the_turn, a_selection}
-use Rattle.nio_event.specs.Sets.{in_cancelled_set}
-use Rattle.nio_words.specs.Passes.{state_seen}
 use Rattle.nio_channel.proofs.Held.{had_stays}
 use Rattle.nio_channel.proofs.Idle.{turn_now, begun_now, may_remove_found, may_put_removed}
+use Rattle.nio_history.specs.Acts.{frees_index}
+use Rattle.nio_history.specs.Conditions.{has_turn, has_begun}
+use Rattle.nio_history.specs.Permanent.{the_turn, a_selection}
+use Rattle.nio_history.specs.Sets.{in_cancelled_set}
+use Rattle.nio_words.specs.Passes.{state_seen}
 use Rattle.nio_bench.specs.SetUp.{caller, selector}
 use Rattle.nio_bench.proofs.SetUp.{stays_step, stays_then}
 use Rattle.nio_bench.proofs.channels.remove.Goals as goal

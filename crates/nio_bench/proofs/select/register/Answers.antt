@@ -1,4 +1,4 @@
-use Rattle.nio_event.proofs.PassViews.{channel_after}
+use Rattle.nio_history.proofs.PassViews.{channel_after}
 use Rattle.nio_steps.proofs.PinLaws.{pins_are_given_back}
 use Rattle.nio_bench.proofs.SetUp.{idle_call, stays_after}
 use Rattle.nio_bench.proofs.select.register.Goals as goal

@@ -1,4 +1,4 @@
-use Rattle.nio_event.proofs.PassViews.{selector_after}
+use Rattle.nio_history.proofs.PassViews.{selector_after}
 use Rattle.nio_bench.proofs.waiting.pairs.Goals as goal
 
 pub select_now-requires-clause-selector : goal.select_now-requires-clause-selector

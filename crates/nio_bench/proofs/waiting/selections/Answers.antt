@@ -1,4 +1,4 @@
-use Rattle.nio_event.proofs.PassViews.{selector_after}
+use Rattle.nio_history.proofs.PassViews.{selector_after}
 use Rattle.nio_bench.proofs.waiting.selections.Goals as goal
 
 pub loop-preserved : goal.loop-preserved

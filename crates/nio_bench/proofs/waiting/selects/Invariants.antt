@@ -1,5 +1,5 @@
 use Rattle.nio_channel.specs.Idle.{zero}
-use Rattle.nio_event.specs.PassViews.{HasSelector}
+use Rattle.nio_history.specs.PassViews.{HasSelector}
 use Rattle.nio_words.specs.Passes.{IsReady}
 use Rattle.nio_words.specs.Views.{view}
 use Rattle.nio_bench.specs.SetUp.{selector}

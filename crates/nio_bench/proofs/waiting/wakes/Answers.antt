@@ -1,4 +1,4 @@
-use Rattle.nio_event.proofs.PassViews.{selector_after}
+use Rattle.nio_history.proofs.PassViews.{selector_after}
 use Rattle.nio_bench.proofs.waiting.wakes.Goals as goal
 
 pub loop-number-preserved : goal.loop-number-preserved

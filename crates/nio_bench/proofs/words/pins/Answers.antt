@@ -5,13 +5,13 @@ use Rattle.std.specs.Prelude.{IsTrue}
 use Rattle.nio_base.specs.declared.numbers.CallerNo.{CallerNo}
 use Rattle.nio_base.specs.declared.numbers.ChanNo.{ChanNo}
 use Rattle.nio_base.specs.declared.numbers.SelNo.{SelNo}
-use Rattle.nio_event.proofs.Finds.{step_leaves}
-use Rattle.nio_event.proofs.Put.{put-same}
-use Rattle.nio_event.specs.Conditions.{holds, is_held_by, has_pin}
-use Rattle.nio_event.specs.Histories.{state_after}
-use Rattle.nio_event.specs.Permanent.{channel_made}
-use Rattle.nio_event.specs.PassViews.{PassView, Holds, known, ActsClause}
-use Rattle.nio_event.specs.declared.act.Act.TheVariants.{TryHoldBit, Claim}
+use Rattle.nio_history.proofs.Finds.{step_leaves}
+use Rattle.nio_history.proofs.Put.{put-same}
+use Rattle.nio_history.specs.Conditions.{holds, is_held_by, has_pin}
+use Rattle.nio_history.specs.Histories.{state_after}
+use Rattle.nio_history.specs.Permanent.{channel_made}
+use Rattle.nio_history.specs.PassViews.{PassView, Holds, known, ActsClause}
+use Rattle.nio_history.specs.declared.act.Act.TheVariants.{TryHoldBit, Claim}
 use Rattle.nio_words.proofs.Pins.{pin_then, pin_after}
 use Rattle.nio_words.proofs.Views.{step_acts, found_now}
 use Rattle.nio_bench.proofs.words.pins.Goals as goal

@@ -1,5 +1,5 @@
 use Rattle.std.specs.Prelude.{IsTrue}
-use Rattle.nio_event.specs.Conditions.{has_pin}
+use Rattle.nio_history.specs.Conditions.{has_pin}
 use Rattle.nio_words.specs.Passes.{IsReady, state_seen}
 use Rattle.nio_bench.proofs.words.swaps.Given as goal
 

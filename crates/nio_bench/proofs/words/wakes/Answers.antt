@@ -1,5 +1,5 @@
-use Rattle.nio_event.proofs.Stays.{facts_are_permanent}
-use Rattle.nio_event.specs.Permanent.{selector_made}
+use Rattle.nio_history.proofs.Stays.{facts_are_permanent}
+use Rattle.nio_history.specs.Permanent.{selector_made}
 use Rattle.nio_bench.proofs.words.wakes.Goals as goal
 
 pub loop-preserved : goal.loop-preserved

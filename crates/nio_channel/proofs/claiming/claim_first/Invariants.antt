@@ -1,13 +1,13 @@
+use Rattle.nio_channel.specs.Held.{MayEnrol}
+use Rattle.nio_channel.proofs.claiming.claim_first.Given as goal
+use Rattle.nio_history.specs.PassViews.{HasNoPin}
+use Rattle.nio_history.specs.Conditions.{AllClaimed}
 use Rattle.nio_steps.specs.Calls.{PartClause}
 use Rattle.nio_steps.specs.Plan.{reply, ◌>>=◌}
 use Rattle.nio_steps.specs.Sweeps.{seek_to}
+use Rattle.nio_steps.specs.ChannelCalls.{claim_new}
 use Rattle.nio_words.specs.Passes.{limits_of, state_seen}
 use Rattle.nio_words.specs.Views.{view}
-use Rattle.nio_event.specs.PassViews.{HasNoPin}
-use Rattle.nio_channel.specs.Held.{MayEnrol}
-use Rattle.nio_event.specs.Conditions.{AllClaimed}
-use Rattle.nio_steps.specs.ChannelCalls.{claim_new}
-use Rattle.nio_channel.proofs.claiming.claim_first.Given as goal
 
 abbrev pub invariant-loop-i : goal.invariant-loop-i
 invariant-loop-i l =

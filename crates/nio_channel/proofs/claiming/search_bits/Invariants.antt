@@ -1,11 +1,11 @@
+use Rattle.nio_channel.specs.Held.{MayEnrol}
+use Rattle.nio_channel.proofs.claiming.search_bits.Given as goal
+use Rattle.nio_history.specs.PassViews.{HasNoPin}
 use Rattle.nio_steps.specs.Calls.{PartClause}
 use Rattle.nio_steps.specs.Plan.{reply, ◌>>=◌}
 use Rattle.nio_steps.specs.Sweeps.{seek_to}
-use Rattle.nio_words.specs.Views.{view}
-use Rattle.nio_event.specs.PassViews.{HasNoPin}
-use Rattle.nio_channel.specs.Held.{MayEnrol}
 use Rattle.nio_steps.specs.ChannelCalls.{claim_at_bit}
-use Rattle.nio_channel.proofs.claiming.search_bits.Given as goal
+use Rattle.nio_words.specs.Views.{view}
 
 abbrev pub invariant-loop-b : goal.invariant-loop-b
 invariant-loop-b l =

@@ -1,4 +1,4 @@
-use Rattle.nio_event.specs.PassViews.{HasNoPin}
+use Rattle.nio_history.specs.PassViews.{HasNoPin}
 use Rattle.nio_steps.specs.Calls.{PartClause}
 use Rattle.nio_steps.specs.ChannelCalls.{cancel_enrolled, cancel_keys}
 use Rattle.nio_steps.specs.Plan.{reply, ◌>>=◌}

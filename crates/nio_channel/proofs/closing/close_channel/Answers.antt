@@ -1,6 +1,6 @@
 use Rattle.std.proofs.Common.{refl}
-use Rattle.nio_event.specs.Permanent.{channel_closed}
-use Rattle.nio_event.proofs.PassViews.{lasts_over}
+use Rattle.nio_history.specs.Permanent.{channel_closed}
+use Rattle.nio_history.proofs.PassViews.{lasts_over}
 use Rattle.nio_steps.proofs.CallLaws.{returned, left_ask, left_else, left_of_call}
 use Rattle.nio_steps.specs.ChannelCalls.{close_channel_plan}
 use Rattle.nio_words.proofs.Pins.{no_pin_stays}

@@ -1,5 +1,5 @@
 use Rattle.std.proofs.Common.{◌≡◌, true, false, if◌then◌else◌, Some, None, refl, ap, rules}
-use Rattle.nio_event.specs.Sets.{is_in_key_set}
+use Rattle.nio_history.specs.Sets.{is_in_key_set}
 use Rattle.nio_steps.proofs.CallLaws.{returned, left_ask}
 use Rattle.nio_steps.specs.ChannelCalls.{key_for_plan}
 use Rattle.nio_steps.specs.Names.{key}

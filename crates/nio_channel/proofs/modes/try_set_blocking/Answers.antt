@@ -1,6 +1,6 @@
 use Rattle.std.proofs.Common.{◌≡◌, true, false, None, refl, rules}
 use Rattle.std.specs.Prelude.{is_some}
-use Rattle.nio_event.proofs.PassViews.{channel_after}
+use Rattle.nio_history.proofs.PassViews.{channel_after}
 use Rattle.nio_steps.proofs.CallLaws.{returned, left_ask, left_then, left_else, left_after, ran_then}
 use Rattle.nio_steps.specs.ChannelCalls.{try_set_blocking_plan}
 use Rattle.nio_words.proofs.Stepping.{still_ready}

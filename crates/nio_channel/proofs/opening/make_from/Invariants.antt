@@ -1,4 +1,4 @@
-use Rattle.nio_event.specs.Conditions.{AllMade}
+use Rattle.nio_history.specs.Conditions.{AllMade}
 use Rattle.nio_steps.specs.Calls.{PartClause}
 use Rattle.nio_steps.specs.ChannelCalls.{makes_channel}
 use Rattle.nio_steps.specs.Names.{channel}

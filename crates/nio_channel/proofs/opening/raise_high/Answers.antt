@@ -1,6 +1,6 @@
 use Rattle.std.proofs.Common.{refl, rules}
-use Rattle.nio_event.specs.Permanent.{channel_made}
-use Rattle.nio_event.proofs.PassViews.{lasts_over}
+use Rattle.nio_history.specs.Permanent.{channel_made}
+use Rattle.nio_history.proofs.PassViews.{lasts_over}
 use Rattle.nio_words.proofs.Views.{step_acts}
 use Rattle.nio_channel.proofs.opening.raise_high.Goals as goal
 

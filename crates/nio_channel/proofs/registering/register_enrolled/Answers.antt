@@ -1,6 +1,6 @@
 use Rattle.std.proofs.Common.{◌≡◌, ◌&&◌, true, false, refl, rules}
-use Rattle.nio_event.proofs.PassViews.{key_after}
-use Rattle.nio_event.specs.Sets.{is_in_key_set, is_valid_key}
+use Rattle.nio_history.proofs.PassViews.{key_after}
+use Rattle.nio_history.specs.Sets.{is_in_key_set, is_valid_key}
 use Rattle.nio_steps.proofs.CallLaws.{returned, left_ask, left_then, left_else, left_after_call, ran_then}
 use Rattle.nio_words.proofs.Pins.{stays_pinned}
 use Rattle.nio_words.proofs.Views.{step_acts}

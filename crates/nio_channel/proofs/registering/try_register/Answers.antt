@@ -1,7 +1,7 @@
 use Rattle.std.proofs.Common.{◌≡◌, true, false, not, None, refl, rules}
 use Rattle.std.specs.Prelude.{is_some}
 use Rattle.nio_base.specs.Kind.{valid_operations}
-use Rattle.nio_event.proofs.PassViews.{channel_after, key_after}
+use Rattle.nio_history.proofs.PassViews.{channel_after, key_after}
 use Rattle.nio_steps.proofs.CallLaws.{returned, left_ask, left_then, left_else, left_after, ran_then}
 use Rattle.nio_steps.specs.ChannelCalls.{try_register_plan}
 use Rattle.nio_steps.specs.KeyCalls.{is_within}

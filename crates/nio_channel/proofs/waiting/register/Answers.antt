@@ -1,5 +1,5 @@
 use Rattle.std.proofs.Common.{◌≡◌, true, false, rules}
-use Rattle.nio_event.proofs.PassViews.{selector_after, channel_after}
+use Rattle.nio_history.proofs.PassViews.{selector_after, channel_after}
 use Rattle.nio_steps.proofs.WaitingLaws.{try_more, try_last}
 use Rattle.nio_steps.specs.ChannelCalls.{finds_held}
 use Rattle.nio_channel.proofs.Retrying.{trying_none}

@@ -1,4 +1,4 @@
-use Rattle.nio_event.specs.PassViews.{HasChannel, HasNoPin, HasSelector}
+use Rattle.nio_history.specs.PassViews.{HasChannel, HasNoPin, HasSelector}
 use Rattle.nio_steps.proofs.WaitingLaws.{TryingClause}
 use Rattle.nio_steps.specs.ChannelCalls.{try_register_plan, finds_held}
 use Rattle.nio_steps.specs.Runs.{Completes}

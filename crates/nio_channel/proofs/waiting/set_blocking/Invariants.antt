@@ -1,4 +1,4 @@
-use Rattle.nio_event.specs.PassViews.{HasChannel}
+use Rattle.nio_history.specs.PassViews.{HasChannel}
 use Rattle.nio_steps.proofs.WaitingLaws.{TryingClause}
 use Rattle.nio_steps.specs.ChannelCalls.{try_set_blocking_plan, finds_held}
 use Rattle.nio_steps.specs.Runs.{Completes}

@@ -1,5 +1,5 @@
 use Rattle.std.proofs.Common.{refl, rules}
-use Rattle.nio_event.specs.Permanent.{selector_made}
+use Rattle.nio_history.specs.Permanent.{selector_made}
 use Rattle.nio_words.proofs.Views.{found_now, step_acts}
 use Rattle.nio_keys.proofs.finds.find_selector.Goals as goal
 

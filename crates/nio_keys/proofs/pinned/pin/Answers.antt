@@ -1,8 +1,8 @@
 use Rattle.std.proofs.Common.{◌≡◌, refl, subst}
-use Rattle.nio_event.proofs.Within.{legal-within}
-use Rattle.nio_event.specs.Conditions.{IsChannel}
-use Rattle.nio_event.specs.Questions.{stage}
-use Rattle.nio_event.specs.declared.found.Stage.{Stage}
+use Rattle.nio_history.proofs.Within.{legal-within}
+use Rattle.nio_history.specs.Conditions.{IsChannel}
+use Rattle.nio_history.specs.Questions.{stage}
+use Rattle.nio_history.specs.declared.found.Stage.{Stage}
 use Rattle.nio_words.proofs.Pins.{only_pinned, pinned_claimed}
 use Rattle.nio_words.proofs.Stepping.{still_ready}
 use Rattle.nio_words.proofs.Views.{key_claimed, look_tells, step_acts}

@@ -1,5 +1,5 @@
 use Rattle.std.proofs.Common.{◌≡◌, ◌∙◌, subst, sym}
-use Rattle.nio_event.specs.Script.{IsScript}
+use Rattle.nio_language.specs.Script.{IsScript}
 use Rattle.nio_script.specs.declared.script.ScriptError.TheVariants.{Memory}
 use Rattle.nio_load.proofs.Calls.{few_read, generated_calls, generated_script}
 use Rattle.nio_load.proofs.run.generated_calls.Goals as goal

@@ -1,5 +1,5 @@
 use Rattle.std.proofs.Common.{◌≡◌, true, refl, rules}
-use Rattle.nio_event.proofs.PassViews.{channel_after}
+use Rattle.nio_history.proofs.PassViews.{channel_after}
 use Rattle.nio_steps.proofs.CallLaws.{returned, left_ask, left_then, left_else, left_of_call}
 use Rattle.nio_steps.specs.PipeCalls.{try_read_plan}
 use Rattle.nio_words.proofs.Pins.{no_pin_stays}

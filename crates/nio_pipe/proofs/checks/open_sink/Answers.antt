@@ -1,6 +1,6 @@
 use Rattle.std.proofs.Common.{Err}
 use Rattle.nio_base.specs.declared.kind.Kind.TheVariants.{Sink}
-use Rattle.nio_event.proofs.PassViews.{channel_after}
+use Rattle.nio_history.proofs.PassViews.{channel_after}
 use Rattle.nio_steps.proofs.CallLaws.{returned, left_after_call, ran_then}
 use Rattle.nio_steps.proofs.PinBack.{no_pin_after}
 use Rattle.nio_steps.proofs.PinLaws.{pins_are_given_back}

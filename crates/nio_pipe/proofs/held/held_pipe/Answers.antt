@@ -1,6 +1,6 @@
 use Rattle.std.proofs.Common.{[], Err, refl}
 use Rattle.std.proofs.lemmas.Result.{err_from_is_err_and}
-use Rattle.nio_event.proofs.PassViews.{acts_nothing}
+use Rattle.nio_history.proofs.PassViews.{acts_nothing}
 use Rattle.nio_steps.proofs.CallLaws.{call_of_acts}
 use Rattle.nio_steps.specs.PipeCalls.{MakesPipe, pipe_plan}
 use Rattle.nio_steps.specs.declared.refusal.PipeMakeError.TheVariants.{Memory}

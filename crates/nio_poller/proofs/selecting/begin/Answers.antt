@@ -1,5 +1,5 @@
 use Rattle.std.proofs.Common.{◌≡◌, Ok, Err, true, refl, ap, rules}
-use Rattle.nio_event.proofs.PassViews.{selector_after}
+use Rattle.nio_history.proofs.PassViews.{selector_after}
 use Rattle.nio_steps.proofs.WaitingLaws.{try_more}
 use Rattle.nio_steps.specs.SelectCalls.{begin_finds_busy}
 use Rattle.nio_steps.specs.declared.refusal.BeginError.TheVariants as begin_error

@@ -1,4 +1,4 @@
-use Rattle.nio_event.specs.PassViews.{HasSelector}
+use Rattle.nio_history.specs.PassViews.{HasSelector}
 use Rattle.nio_steps.proofs.WaitingLaws.{TryingClause}
 use Rattle.nio_steps.specs.SelectCalls.{Begins, begin_finds_busy}
 use Rattle.nio_words.specs.Passes.{IsReady}

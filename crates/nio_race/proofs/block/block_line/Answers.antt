@@ -1,6 +1,6 @@
 use Rattle.std.proofs.Common.{None, Some, refl, subst}
 use Rattle.nio_base.specs.declared.numbers.SelNo.{SelNo}
-use Rattle.nio_event.specs.PassViews.{HasSelector}
+use Rattle.nio_history.specs.PassViews.{HasSelector}
 use Rattle.nio_sole.proofs.Desks.{places_same}
 use Rattle.nio_sole.proofs.Finding.{selector_found}
 use Rattle.nio_sole.specs.declared.desk.Desk.{Desk}

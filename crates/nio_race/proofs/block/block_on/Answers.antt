@@ -1,5 +1,5 @@
 use Rattle.std.proofs.Common.{None, Some, Err, refl, subst}
-use Rattle.nio_event.specs.declared.found.Mode.TheVariants.{Wait}
+use Rattle.nio_history.specs.declared.found.Mode.TheVariants.{Wait}
 use Rattle.nio_poller.specs.Selecting.{SelectClause}
 use Rattle.nio_poller.specs.declared.selecting.SelectError.{SelectError}
 use Rattle.nio_sole.proofs.Desks.{still_made, places_same, places_selection, progress_selection}

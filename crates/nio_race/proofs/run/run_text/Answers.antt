@@ -1,6 +1,6 @@
 use Rattle.std.proofs.Common.{◌≡◌, ◌⊎◌, List, ℕ, sym, ap, ◌∙◌, subst}
 use Rattle.std.specs.Prelude.{Err}
-use Rattle.nio_event.specs.declared.call.ScriptCall.{ScriptCall}
+use Rattle.nio_language.specs.declared.call.ScriptCall.{ScriptCall}
 use Rattle.nio_race_text.proofs.RaceTexts.{first_bad_race_one, race_not_bad}
 use Rattle.nio_race_text.specs.RaceText.{IsRaceText}
 use Rattle.nio_race_text.specs.declared.call.RaceLine.{RaceLine}

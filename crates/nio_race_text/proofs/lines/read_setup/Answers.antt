@@ -1,7 +1,7 @@
 use Rattle.std.proofs.Common.{◌≡◌, Err, map, refl, sym, ◌∙◌, ap, subst, arith}
 use Rattle.std.proofs.lemmas.List.{length-map, take_all}
 use Rattle.std.proofs.lemmas.Result.{err_from_is_err_and}
-use Rattle.nio_event.specs.Script.{AreCalls, no_lines}
+use Rattle.nio_language.specs.Script.{AreCalls, no_lines}
 use Rattle.nio_script.specs.declared.script.ScriptError.TheVariants.{BadLine}
 use Rattle.nio_script.proofs.FirstBad.{AreCalls-append}
 use Rattle.nio_script.proofs.Lines.{next_now, reads_more}

@@ -1,5 +1,5 @@
 use Rattle.std.proofs.Common.{◌≡◌, map, take}
-use Rattle.nio_event.specs.Script.{AreCalls}
+use Rattle.nio_language.specs.Script.{AreCalls}
 use Rattle.nio_race_text.proofs.lines.read_setup.Given as goal
 
 abbrev pub invariant-loop-line : goal.invariant-loop-line

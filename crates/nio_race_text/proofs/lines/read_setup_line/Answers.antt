@@ -1,6 +1,6 @@
 use Rattle.std.proofs.Common.{[], ◌∷◌, ap}
 use Rattle.std.specs.Prelude.{Ok}
-use Rattle.nio_event.specs.Script.{no_lines, blank_line, call_line}
+use Rattle.nio_language.specs.Script.{no_lines, blank_line, call_line}
 use Rattle.nio_script.proofs.Lines.{adds_nothing}
 use Rattle.nio_race_text.proofs.lines.read_setup_line.Goals as goal
 

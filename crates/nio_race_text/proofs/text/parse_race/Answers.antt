@@ -1,5 +1,5 @@
 use Rattle.std.proofs.Common.{◌≡◌, IfOk, map, sym, ◌∙◌, ap, subst}
-use Rattle.nio_event.specs.Script.{lines_of}
+use Rattle.nio_language.specs.Script.{lines_of}
 use Rattle.nio_race_text.specs.RaceText.{AreRaceText}
 use Rattle.nio_race_text.proofs.RaceTexts.{only_calls, only_line}
 use Rattle.nio_race_text.proofs.text.parse_race.Goals as goal

@@ -1,7 +1,7 @@
 use Rattle.std.proofs.Common.{◌≡◌, ap, ◌∙◌, subst, List}
 use Rattle.nio_base.specs.declared.limits.Limits.{Limits}
-use Rattle.nio_event.specs.declared.call.ScriptCall.{ScriptCall}
-use Rattle.nio_event.specs.Script.{IsScript}
+use Rattle.nio_language.specs.declared.call.ScriptCall.{ScriptCall}
+use Rattle.nio_language.specs.Script.{IsScript}
 use Rattle.nio_load.specs.Generator.{generated}
 use Rattle.nio_load.specs.Summary.{summary_of}
 use Rattle.nio_plain.specs.Answer.{left_by_script}

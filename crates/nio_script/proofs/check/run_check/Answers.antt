@@ -1,6 +1,6 @@
 use Rattle.std.proofs.Common.{◌≡◌, ◌≤◌, ◌⊎◌, ℕ, List, length, inl, inr, ⊎_elim, sym, subst}
 use Rattle.std.specs.Prelude.{IfSome}
-use Rattle.nio_event.specs.declared.reply.Reply.{Reply}
+use Rattle.nio_language.specs.declared.reply.Reply.{Reply}
 use Rattle.nio_script.specs.Check.{IsLegalHistory, IsFirstIllegal}
 use Rattle.nio_script.specs.History.{Entry, IsHistory, IsFirstBadEntry}
 use Rattle.nio_script.specs.declared.input.TheConstants.{LONGEST_INPUT}

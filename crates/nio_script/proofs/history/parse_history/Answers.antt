@@ -1,7 +1,7 @@
 use Rattle.std.proofs.Common.{◌≡◌, ◌+◌, Err, Global, Vec, vec_len, length, map, refl, sym, ◌∙◌, ap, subst, arith}
 use Rattle.std.proofs.lemmas.List.{length-map, take_all}
 use Rattle.std.proofs.lemmas.Result.{err_from_is_err_and}
-use Rattle.nio_event.specs.Script.{lines_of}
+use Rattle.nio_language.specs.Script.{lines_of}
 use Rattle.nio_script.specs.History.{no_lines, AreEntries, IsFirstBadEntry}
 use Rattle.nio_script.specs.HistoryCall.{entry_of}
 use Rattle.nio_script.specs.declared.history.HistoryCall.{HistoryCall}

@@ -1,4 +1,4 @@
-use Rattle.nio_event.proofs.OneReading.{calls_one}
+use Rattle.nio_language.proofs.OneReading.{calls_one}
 use Rattle.nio_script.proofs.OneHistory.{entries_of_now, entries_one}
 use Rattle.nio_script.proofs.laws.one_reading_law.Goals as goal
 

@@ -1,6 +1,6 @@
 use Rattle.std.proofs.Common.{◌≡◌, ◌≤◌, ◌⊎◌, ℕ, length, inl, inr, ⊎_elim, sym, subst}
 use Rattle.std.specs.Prelude.{IfSome}
-use Rattle.nio_event.specs.Script.{IsFirstBad}
+use Rattle.nio_language.specs.Script.{IsFirstBad}
 use Rattle.nio_script.specs.Run.{IsRefused}
 use Rattle.nio_script.specs.declared.input.TheConstants.{LONGEST_INPUT}
 use Rattle.nio_script.specs.declared.status.Status.TheVariants.{BadScript, ReadFault, Memory}

@@ -1,5 +1,10 @@
 use Rattle.std.proofs.Common.{Err, false, refl}
-use Rattle.nio_event.specs.Permanent.{the_turn}
+use Rattle.nio_channel.proofs.Held.{had_stays}
+use Rattle.nio_channel.proofs.Claimed.{mark_inside}
+use Rattle.nio_history.specs.Permanent.{the_turn}
+use Rattle.nio_select.specs.Beginning.{BeginsWithTurn}
+use Rattle.nio_select.proofs.Begun.{begun_stays, begins}
+use Rattle.nio_select.proofs.beginning.begin_with_turn.Goals as goal
 use Rattle.nio_steps.proofs.CallLaws.{returned, left_ask, left_then, left_else, left_after, left_of_call, call_as}
 use Rattle.nio_steps.specs.Calls.{CallClause}
 use Rattle.nio_steps.specs.Runs.{Completes}
@@ -7,11 +12,6 @@ use Rattle.nio_steps.specs.SelectCalls.{begin_below, begin_with_turn, begin_lack
 use Rattle.nio_steps.specs.declared.refusal.BeginError.{BeginError}
 use Rattle.nio_words.proofs.Views.{step_acts}
 use Rattle.nio_words.specs.Views.{view}
-use Rattle.nio_select.specs.Beginning.{BeginsWithTurn}
-use Rattle.nio_select.proofs.Begun.{begun_stays, begins}
-use Rattle.nio_select.proofs.beginning.begin_with_turn.Goals as goal
-use Rattle.nio_channel.proofs.Held.{had_stays}
-use Rattle.nio_channel.proofs.Claimed.{mark_inside}
 
 pub give_turn-requires-clause-turn : goal.give_turn-requires-clause-turn
 give_turn-requires-clause-turn c =

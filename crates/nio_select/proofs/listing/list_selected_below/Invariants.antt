@@ -1,7 +1,7 @@
 use Rattle.std.proofs.Common.{◌≤◌, Ok, vec_len}
 use Rattle.std.specs.Vec.{vec_capacity}
-use Rattle.nio_event.specs.Conditions.{AllClaimed}
-use Rattle.nio_event.specs.PassViews.{HasNoPin}
+use Rattle.nio_history.specs.Conditions.{AllClaimed}
+use Rattle.nio_history.specs.PassViews.{HasNoPin}
 use Rattle.nio_steps.specs.Calls.{PartClause}
 use Rattle.nio_steps.specs.Plan.{reply, ◌>>=◌}
 use Rattle.nio_steps.specs.SelectCalls.{list_all, list_selected}

@@ -1,8 +1,8 @@
 use Rattle.std.proofs.Common.{◌≡◌, true, None, refl, sym, ap, ◌∙◌, subst}
 use Rattle.std.proofs.Math.Logic.{∥∥₁_map}
 use Rattle.nio_base.specs.declared.numbers.SelNo.{SelNo}
-use Rattle.nio_event.specs.declared.reply.Reply.TheVariants as reply
-use Rattle.nio_event.specs.Histories.{mine}
+use Rattle.nio_history.specs.Histories.{mine}
+use Rattle.nio_language.specs.declared.reply.Reply.TheVariants as reply
 use Rattle.nio_plain.specs.Seq.Selections.{is_caller}
 use Rattle.nio_select.specs.InProgress.{Closes}
 use Rattle.nio_serial.specs.Lines.{call_plan, refused, after_finish}
@@ -13,13 +13,13 @@ use Rattle.nio_sole.proofs.Desks.{places_taken, progress_put_back, places_put_ba
 use Rattle.nio_sole.proofs.Had.{closing_had}
 use Rattle.nio_sole.proofs.Progress.{made_closing}
 use Rattle.nio_sole.specs.Stands.{progress_of, closings_of}
+use Rattle.nio_sole.proofs.closing.close_end.Goals as goal
 use Rattle.nio_steps.proofs.CallLaws.{returned, left_then, left_else, left_start, left_of_call}
 use Rattle.nio_steps.specs.Calls.{CallClause}
 use Rattle.nio_steps.specs.Runs.{Completes}
 use Rattle.nio_steps.specs.SelectCalls.{try_finish_plan, closed, busy}
 use Rattle.nio_words.specs.Passes.{limits_of, seen}
 use Rattle.nio_words.specs.Views.{view}
-use Rattle.nio_sole.proofs.closing.close_end.Goals as goal
 
 pub returns-in-None : goal.returns-in-None
 unfolding call_plan

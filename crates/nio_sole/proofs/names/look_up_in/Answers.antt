@@ -1,13 +1,13 @@
 use Rattle.std.proofs.Common.{subst}
-use Rattle.nio_event.specs.PassViews.{HasKey}
-use Rattle.nio_event.specs.declared.reply.Reply.TheVariants as reply
+use Rattle.nio_history.specs.PassViews.{HasKey}
+use Rattle.nio_language.specs.declared.reply.Reply.TheVariants as reply
 use Rattle.nio_serial.specs.Lines.{if_found}
 use Rattle.nio_sole.proofs.Finding.{key_found}
+use Rattle.nio_sole.proofs.names.look_up_in.Goals as goal
 use Rattle.nio_steps.proofs.CallLaws.{left_bind, left_of_call}
 use Rattle.nio_steps.proofs.PinBack.{no_pin_after}
 use Rattle.nio_steps.proofs.PinLaws.{pins_are_given_back}
 use Rattle.nio_words.specs.Views.{view}
-use Rattle.nio_sole.proofs.names.look_up_in.Goals as goal
 
 pub returns-in-Some : goal.returns-in-Some
 returns-in-Some c = record {

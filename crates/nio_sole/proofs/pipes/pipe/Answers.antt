@@ -1,13 +1,13 @@
 use Rattle.std.proofs.Common.{List, [], ◌∷◌, ◌++◌, Err, Result, ap, ◌∙◌, subst}
-use Rattle.nio_event.specs.declared.reply.Reply.TheVariants as reply
+use Rattle.nio_language.specs.declared.reply.Reply.TheVariants as reply
 use Rattle.nio_sole.proofs.PipeLines.{pipe_lacks, pipe_made, pipe_refused, pipe_unplaced, said_so}
 use Rattle.nio_sole.specs.declared.desk.OwnedPipe.{OwnedPipe}
+use Rattle.nio_sole.proofs.pipes.pipe.Goals as goal
 use Rattle.nio_steps.specs.Calls.{CallClause}
 use Rattle.nio_steps.specs.PipeCalls.{MakesPipe, PipeEnds}
 use Rattle.nio_steps.specs.declared.refusal.PipeMakeError.{PipeMakeError}
 use Rattle.nio_words.specs.Passes.{limits_of}
 use Rattle.nio_words.specs.Views.{view}
-use Rattle.nio_sole.proofs.pipes.pipe.Goals as goal
 
 pub returns-in-Err : goal.returns-in-Err
 returns-in-Err c =

@@ -1,10 +1,10 @@
 use Rattle.std.proofs.Common.{sym}
-use Rattle.nio_event.specs.declared.reply.Reply.TheVariants as reply
+use Rattle.nio_language.specs.declared.reply.Reply.TheVariants as reply
 use Rattle.nio_serial.specs.Lines.{call_plan}
 use Rattle.nio_sole.proofs.Asking.{begin_by, refused_at}
 use Rattle.nio_sole.specs.Stands.{progress_of}
-use Rattle.nio_words.specs.Views.{view}
 use Rattle.nio_sole.proofs.selections.begin.Goals as goal
+use Rattle.nio_words.specs.Views.{view}
 
 pub returns-in-None : goal.returns-in-None
 unfolding call_plan

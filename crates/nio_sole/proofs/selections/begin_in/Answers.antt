@@ -1,6 +1,6 @@
 use Rattle.std.proofs.Common.{Err, Some, length, map, refl, sym, ap, ◌∙◌, subst, arith}
 use Rattle.nio_base.specs.declared.numbers.SelNo.{SelNo}
-use Rattle.nio_event.specs.declared.reply.Reply.TheVariants as reply
+use Rattle.nio_language.specs.declared.reply.Reply.TheVariants as reply
 use Rattle.nio_serial.specs.Documented.{looked_pair}
 use Rattle.nio_serial.specs.Lines.{call_plan, after_begin}
 use Rattle.nio_serial.specs.Replies.{begin_reply}
@@ -10,12 +10,12 @@ use Rattle.nio_sole.proofs.Fits.{looked_fits}
 use Rattle.nio_sole.specs.Makes.{begin_refused}
 use Rattle.nio_sole.specs.Stands.{progress_of}
 use Rattle.nio_sole.specs.declared.desk.Begun.{Begun}
+use Rattle.nio_sole.proofs.selections.begin_in.Goals as goal
 use Rattle.nio_steps.proofs.BeginLaws.{begin-parts}
 use Rattle.nio_steps.specs.Calls.{CallClause}
 use Rattle.nio_steps.specs.SelectCalls.{Begins}
 use Rattle.nio_steps.specs.declared.refusal.BeginError.{BeginError}
 use Rattle.nio_words.specs.Views.{view}
-use Rattle.nio_sole.proofs.selections.begin_in.Goals as goal
 
 pub list_pairs-requires-clause-room : goal.list_pairs-requires-clause-room
 list_pairs-requires-clause-room c =

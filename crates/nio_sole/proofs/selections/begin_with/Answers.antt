@@ -1,10 +1,10 @@
 use Rattle.std.proofs.Common.{refl}
-use Rattle.nio_event.specs.declared.reply.Reply.TheVariants as reply
+use Rattle.nio_language.specs.declared.reply.Reply.TheVariants as reply
 use Rattle.nio_sole.proofs.Asking.{refused_at}
 use Rattle.nio_sole.specs.Makes.{begin_unmade}
 use Rattle.nio_sole.specs.Stands.{progress_of}
-use Rattle.nio_words.specs.Views.{view}
 use Rattle.nio_sole.proofs.selections.begin_with.Goals as goal
+use Rattle.nio_words.specs.Views.{view}
 
 pub returns-in-Err : goal.returns-in-Err
 returns-in-Err c = record {

@@ -1,13 +1,13 @@
 use Rattle.std.proofs.Common.{None, sym, ap}
-use Rattle.nio_event.specs.declared.reply.Reply.TheVariants as reply
+use Rattle.nio_language.specs.declared.reply.Reply.TheVariants as reply
 use Rattle.nio_serial.specs.Lines.{call_plan, with_selection}
 use Rattle.nio_sole.proofs.Asking.{makes_ran, failed_by, refused_at}
 use Rattle.nio_sole.proofs.Desks.{left_as, with_selections, progress_selection, places_selection}
 use Rattle.nio_sole.proofs.Desks.{places_selection_taken, nothing_there, still_made}
 use Rattle.nio_sole.proofs.Owning.{its_selects}
 use Rattle.nio_sole.specs.Stands.{progress_of, selections_of}
-use Rattle.nio_words.specs.Views.{view}
 use Rattle.nio_sole.proofs.selections.failed.Goals as goal
+use Rattle.nio_words.specs.Views.{view}
 
 pub leave-requires-clause-begun : goal.leave-requires-clause-begun
 leave-requires-clause-begun c =

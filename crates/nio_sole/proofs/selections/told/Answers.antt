@@ -1,5 +1,6 @@
 use Rattle.std.proofs.Common.{◌≡◌, None, Some, refl, sym, ap, ◌∙◌}
-use Rattle.nio_event.specs.declared.reply.Reply.TheVariants as reply
+use Rattle.nio_base.specs.declared.numbers.SelNo.{SelNo}
+use Rattle.nio_language.specs.declared.reply.Reply.TheVariants as reply
 use Rattle.nio_serial.specs.Lines.{call_plan, by_index, after_told}
 use Rattle.nio_serial.specs.Replies.{told_reply}
 use Rattle.nio_sole.proofs.Asking.{makes_ran, told_by, tells_ran, refused_at}
@@ -8,13 +9,12 @@ use Rattle.nio_sole.proofs.Desks.{left_as, with_selections, progress_selection, 
 use Rattle.nio_sole.proofs.Desks.{places_selection_taken, nothing_there, progress_selection_back, places_selection_back}
 use Rattle.nio_sole.proofs.Desks.{own_on, still_made}
 use Rattle.nio_sole.proofs.Owning.{its_selects, looked_rise}
-use Rattle.nio_base.specs.declared.numbers.SelNo.{SelNo}
 use Rattle.nio_sole.specs.Makes.{told_unmade}
 use Rattle.nio_sole.specs.Stands.{progress_of, selections_of}
 use Rattle.nio_sole.specs.Told.{told_pairs}
+use Rattle.nio_sole.proofs.selections.told.Goals as goal
 use Rattle.nio_steps.specs.SelectCalls.{Selection}
 use Rattle.nio_words.specs.Views.{view}
-use Rattle.nio_sole.proofs.selections.told.Goals as goal
 
 pub returns-in-None : goal.returns-in-None
 unfolding call_plan

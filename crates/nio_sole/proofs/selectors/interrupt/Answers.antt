@@ -1,13 +1,13 @@
 use Rattle.std.proofs.Common.{refl}
-use Rattle.nio_event.specs.declared.reply.Reply.TheVariants as reply
+use Rattle.nio_language.specs.declared.reply.Reply.TheVariants as reply
 use Rattle.nio_serial.specs.Lines.{call_plan}
 use Rattle.nio_sole.proofs.Asking.{asks_ran}
+use Rattle.nio_sole.proofs.selectors.interrupt.Goals as goal
 use Rattle.nio_steps.proofs.CallLaws.{returned, left_one}
 use Rattle.nio_steps.specs.Plan.{Plan}
 use Rattle.nio_steps.specs.SelectCalls.{interrupt_plan}
 use Rattle.nio_words.proofs.Stepping.{still_ready}
 use Rattle.nio_words.proofs.Views.{step_acts}
-use Rattle.nio_sole.proofs.selectors.interrupt.Goals as goal
 
 pub returns : goal.returns
 unfolding call_plan interrupt_plan

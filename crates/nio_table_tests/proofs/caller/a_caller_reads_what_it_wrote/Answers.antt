@@ -1,6 +1,6 @@
 use Rattle.std.proofs.Common.{◌≡◌, sym, subst, ◌∙◌}
 use Rattle.nio_base.specs.declared.numbers.ChanNo.{ChanNo}
-use Rattle.nio_event.specs.PassViews.{PassView, HasChannel}
+use Rattle.nio_history.specs.PassViews.{PassView, HasChannel}
 use Rattle.nio_table_tests.proofs.caller.a_caller_reads_what_it_wrote.Goals as goal
 
 -- an end of a pipe keeps its channel

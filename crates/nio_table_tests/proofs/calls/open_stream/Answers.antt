@@ -1,4 +1,4 @@
-use Rattle.nio_event.proofs.PassViews.{channel_after}
+use Rattle.nio_history.proofs.PassViews.{channel_after}
 use Rattle.nio_steps.proofs.PinLaws.{pins_are_given_back}
 use Rattle.nio_table_tests.proofs.Idle.{idle_call}
 use Rattle.nio_table_tests.proofs.calls.open_stream.Goals as goal

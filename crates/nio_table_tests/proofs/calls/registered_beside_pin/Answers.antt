@@ -1,7 +1,7 @@
 use Rattle.std.proofs.Common.{refl, ap, not}
-use Rattle.nio_event.proofs.PassViews.{channel_after}
-use Rattle.nio_words.proofs.Views.{step_acts, key_claimed}
 use Rattle.nio_channel.proofs.Idle.{just_pinned, still_pinned, idle_unpinned}
+use Rattle.nio_history.proofs.PassViews.{channel_after}
+use Rattle.nio_words.proofs.Views.{step_acts, key_claimed}
 use Rattle.nio_table_tests.proofs.calls.registered_beside_pin.Goals as goal
 
 pub pin-requires-clause-claimed : goal.pin-requires-clause-claimed

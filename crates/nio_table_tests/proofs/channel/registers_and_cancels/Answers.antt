@@ -1,4 +1,4 @@
-use Rattle.nio_event.proofs.PassViews.{channel_after}
+use Rattle.nio_history.proofs.PassViews.{channel_after}
 use Rattle.nio_table_tests.proofs.Callers.{may_after}
 use Rattle.nio_table_tests.proofs.channel.registers_and_cancels.Goals as goal
 

@@ -1,4 +1,4 @@
-use Rattle.nio_event.proofs.PassViews.{selector_after, channel_after}
+use Rattle.nio_history.proofs.PassViews.{selector_after, channel_after}
 use Rattle.nio_steps.proofs.PinBack.{no_pin_after}
 use Rattle.nio_steps.proofs.PinLaws.{pins_are_given_back}
 use Rattle.nio_table_tests.proofs.channel.waits_and_registers.Goals as goal

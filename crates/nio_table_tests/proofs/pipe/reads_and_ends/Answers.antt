@@ -1,5 +1,5 @@
 use Rattle.std.proofs.Common.{refl}
-use Rattle.nio_event.proofs.PassViews.{channel_after}
+use Rattle.nio_history.proofs.PassViews.{channel_after}
 use Rattle.nio_pipe.proofs.Idle.{may_after, may_same}
 use Rattle.nio_table_tests.proofs.pipe.reads_and_ends.Goals as goal
 

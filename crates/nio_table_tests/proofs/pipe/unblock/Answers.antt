@@ -1,8 +1,8 @@
 use Rattle.std.proofs.Common.{false}
-use Rattle.nio_event.proofs.PassViews.{channel_after}
+use Rattle.nio_history.proofs.PassViews.{channel_after}
+use Rattle.nio_pipe.proofs.Idle.{may_after}
 use Rattle.nio_steps.proofs.PinBack.{no_pin_after}
 use Rattle.nio_steps.proofs.PinLaws.{pins_are_given_back}
-use Rattle.nio_pipe.proofs.Idle.{may_after}
 use Rattle.nio_table_tests.proofs.pipe.unblock.Goals as goal
 
 pub try_set_blocking-requires-2-clause-channel : goal.try_set_blocking-requires-2-clause-channel

@@ -1,8 +1,8 @@
 use Rattle.std.proofs.Common.{subst, sym}
-use Rattle.nio_event.proofs.PassViews.{channel_after}
-use Rattle.nio_event.specs.PassViews.{HasChannel}
-use Rattle.nio_words.specs.Views.{view}
+use Rattle.nio_history.proofs.PassViews.{channel_after}
+use Rattle.nio_history.specs.PassViews.{HasChannel}
 use Rattle.nio_pipe.proofs.Idle.{may_after, may_same}
+use Rattle.nio_words.specs.Views.{view}
 use Rattle.nio_table_tests.proofs.pipe.writes_and_ends.Goals as goal
 
 pub write-second-requires-clause-ends : goal.write-second-requires-clause-ends

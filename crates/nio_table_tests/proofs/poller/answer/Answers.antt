@@ -1,7 +1,7 @@
 use Rattle.nio_channel.specs.Idle.{zero, first_selector}
-use Rattle.nio_words.specs.Views.{view}
-use Rattle.nio_event.proofs.PassViews.{selector_after}
+use Rattle.nio_history.proofs.PassViews.{selector_after}
 use Rattle.nio_poller.proofs.Ready.{selector_timed}
+use Rattle.nio_words.specs.Views.{view}
 use Rattle.nio_table_tests.proofs.poller.answer.Goals as goal
 
 pub returns-in-Select-clause-selector : goal.returns-in-Select-clause-selector

@@ -1,4 +1,4 @@
-use Rattle.nio_event.proofs.PassViews.{selector_after}
+use Rattle.nio_history.proofs.PassViews.{selector_after}
 use Rattle.nio_table_tests.proofs.select.ends.Goals as goal
 
 pub returns-in-Done-clause-selector : goal.returns-in-Done-clause-selector

@@ -1,4 +1,4 @@
-use Rattle.nio_event.proofs.PassViews.{selector_after}
+use Rattle.nio_history.proofs.PassViews.{selector_after}
 use Rattle.nio_table_tests.proofs.select.selects_twice.Goals as goal
 
 pub ends-requires-clause-selector : goal.ends-requires-clause-selector

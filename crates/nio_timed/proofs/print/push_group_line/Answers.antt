@@ -1,5 +1,5 @@
 use Rattle.std.proofs.Common.{◌≡◌, ◌-◌, ◌∙◌, ap, drop, length, take, arith}
-use Rattle.nio_event.specs.declared.call.Call.TheVariants as call
+use Rattle.nio_language.specs.declared.call.Call.TheVariants as call
 use Rattle.nio_timed.proofs.Printing.{line_within, on_ok}
 use Rattle.nio_timed.proofs.print.push_group_line.Goals as goal
 

@@ -1,7 +1,7 @@
 use Rattle.std.proofs.Common.{◌++◌, ◌∷◌, ◌∙◌, codes, ap, append_assoc}
 use Rattle.std.specs.Fmt.{decimal}
 use Rattle.std.specs.List.{join_with_byte}
-use Rattle.nio_event.proofs.JoinedWords.{both_pushed}
+use Rattle.nio_language.proofs.JoinedWords.{both_pushed}
 use Rattle.nio_timed.specs.Lines.{start_words}
 use Rattle.nio_timed.proofs.print.push_start_line.Goals as goal
 

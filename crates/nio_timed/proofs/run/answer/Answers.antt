@@ -1,6 +1,6 @@
 use Rattle.std.proofs.Common.{◌≡◌, ◌+◌, ◌∷◌, ◌++◌, drop, get_or, refl, sym, ap, ◌∙◌, drop-cons, add-one}
 use Rattle.nio_base.specs.declared.group.GKind.TheVariants.{Stream}
-use Rattle.nio_event.specs.declared.group_call.GroupCall.TheVariants.{Gopen}
+use Rattle.nio_language.specs.declared.group_call.GroupCall.TheVariants.{Gopen}
 use Rattle.nio_timed.specs.Called.{timed_answer_from}
 use Rattle.nio_timed.specs.declared.call.TimedCall.TheVariants.{Group}
 use Rattle.nio_timed.specs.declared.call.TimedLine.{TimedLine}

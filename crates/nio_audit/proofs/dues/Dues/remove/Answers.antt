@@ -2,9 +2,9 @@ use Rattle.std.proofs.Common.{◌≡◌, cond, refl, ap, ◌∙◌, arith}
 use Rattle.nio_audit.proofs.Owing.{due_of-removed}
 use Rattle.std.proofs.lemmas.Result.{on_ok_weaker}
 use Rattle.nio_audit.specs.TableWords.{grid}
-use Rattle.nio_event.specs.State.{put_at}
 use Rattle.nio_audit.proofs.dues.Dues.remove.Goals as goal
 use Rattle.nio_audit.proofs.dues.Dues.remove.Goals.{then-frees, else-frees}
+use Rattle.nio_history.specs.State.{put_at}
 
 pub returns-clause-due : goal.returns-clause-due
 returns-clause-due c =

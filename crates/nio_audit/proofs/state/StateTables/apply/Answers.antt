@@ -1,8 +1,8 @@
 use Rattle.std.proofs.Common.{false, subst}
 use Rattle.nio_audit.specs.Bounds.{IsBounded}
 use Rattle.nio_audit.specs.StateOf.{state_with}
-use Rattle.nio_event.specs.declared.act.Act.{Act}
 use Rattle.nio_audit.proofs.state.StateTables.apply.Goals as goal
+use Rattle.nio_history.specs.declared.act.Act.{Act}
 
 pub claim_again-requires : goal.claim_again-requires
 claim_again-requires c =

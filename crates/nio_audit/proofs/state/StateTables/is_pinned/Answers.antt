@@ -1,8 +1,8 @@
 use Rattle.std.proofs.Common.{◌≡◌, Bool, true, false, refl, sym, arith, ◌∙◌}
 use Rattle.nio_audit.specs.StateOf.{state_with}
-use Rattle.nio_event.proofs.Counts.{pinned_by, pinned_by_nobody}
-use Rattle.nio_event.specs.Answers.{is_pinned}
 use Rattle.nio_audit.proofs.state.StateTables.is_pinned.Goals as goal
+use Rattle.nio_history.proofs.Counts.{pinned_by, pinned_by_nobody}
+use Rattle.nio_history.specs.Answers.{is_pinned}
 
 true_by : (b : Bool) → (b ≡ false → ⊥) → true ≡ b
 true_by true h = refl

@@ -1,9 +1,9 @@
 use Rattle.std.proofs.Common.{ℕ, ◌≡◌, sym, ◌∙◌, ap, arith}
 use Rattle.nio_audit.proofs.BitWords.{with_bit, without_bit, bits_below-none}
 use Rattle.nio_audit.specs.TableWords.{row}
-use Rattle.nio_event.specs.Answers.{bits_below}
 use Rattle.nio_audit.proofs.state.StateTables.selectors_word.Goals as goal
 use Rattle.nio_audit.proofs.state.StateTables.selectors_word.Goals.{then-get, else-get}
+use Rattle.nio_history.specs.Answers.{bits_below}
 
 pub loop-bit-init : goal.loop-bit-init
 loop-bit-init c = sym (bits_below-none (row c.args.self.now.selector))

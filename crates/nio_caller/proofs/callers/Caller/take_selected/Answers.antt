@@ -1,6 +1,6 @@
 use Rattle.std.proofs.Common.{Some, refl, subst}
 use Rattle.nio_base.specs.declared.numbers.ChanNo.{ChanNo}
-use Rattle.nio_event.specs.PassViews.{HasChannel}
+use Rattle.nio_history.specs.PassViews.{HasChannel}
 use Rattle.nio_poller.proofs.Trying.{then_nothing}
 use Rattle.nio_steps.proofs.WaitingLaws.{then_call}
 use Rattle.nio_steps.specs.ChannelCalls.{key_for_plan}

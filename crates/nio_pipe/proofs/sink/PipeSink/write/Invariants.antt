@@ -1,5 +1,5 @@
 use Rattle.std.proofs.Common.{◌≡◌, ◌<◌, true, length}
-use Rattle.nio_event.specs.PassViews.{HasNoPin}
+use Rattle.nio_history.specs.PassViews.{HasNoPin}
 use Rattle.nio_steps.specs.PipeCalls.{try_write_plan}
 use Rattle.nio_words.specs.Passes.{IsReady, limits_of}
 use Rattle.nio_words.specs.Views.{view}

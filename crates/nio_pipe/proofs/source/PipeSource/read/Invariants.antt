@@ -1,5 +1,5 @@
 use Rattle.std.proofs.Common.{◌≡◌, ◌<◌, true, length}
-use Rattle.nio_event.specs.PassViews.{HasChannel, HasNoPin}
+use Rattle.nio_history.specs.PassViews.{HasChannel, HasNoPin}
 use Rattle.nio_steps.specs.PipeCalls.{try_read_plan}
 use Rattle.nio_words.specs.Passes.{IsReady, limits_of}
 use Rattle.nio_words.specs.Views.{view}

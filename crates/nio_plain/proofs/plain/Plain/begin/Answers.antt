@@ -1,6 +1,6 @@
 use Rattle.std.proofs.Common.{◌<◌, ◌≤◌, false, is_some, refl, sym, ap, ◌∙◌, length, arith, map}
-use Rattle.nio_event.specs.State.{put, unmade_channel}
-use Rattle.nio_event.specs.declared.reply.Reply.TheVariants as reply
+use Rattle.nio_history.specs.State.{put, unmade_channel}
+use Rattle.nio_language.specs.declared.reply.Reply.TheVariants as reply
 use Rattle.nio_plain.proofs.Replying.{unchanged_as, replied_as, failed_as, state-same_selector, state-set_selector}
 use Rattle.nio_plain.proofs.Replying.{rows_of, with_rows, is_some-caller_of, selector_made-below, selector_made-past}
 use Rattle.nio_plain.proofs.Places.{places_at}

@@ -1,9 +1,9 @@
 use Rattle.std.proofs.Common.{refl, ap, ◌∙◌, sym}
 use Rattle.std.proofs.lemmas.Bool.{cond-true, cond-false}
-use Rattle.nio_event.specs.Sets.{is_in_key_set}
-use Rattle.nio_event.specs.declared.found.Stage.{Stage}
-use Rattle.nio_event.specs.State.{with_key}
-use Rattle.nio_event.specs.declared.reply.Reply.TheVariants as reply
+use Rattle.nio_history.specs.Sets.{is_in_key_set}
+use Rattle.nio_history.specs.declared.found.Stage.{Stage}
+use Rattle.nio_history.specs.State.{with_key}
+use Rattle.nio_language.specs.declared.reply.Reply.TheVariants as reply
 use Rattle.nio_plain.proofs.Replying.{unchanged_without_memory, replied_without_memory}
 use Rattle.nio_plain.proofs.KeyChange.{key-stage, stage-same}
 use Rattle.nio_plain.specs.PlainState.{KeyRow, key_row, state_of}

@@ -1,5 +1,5 @@
 use Rattle.std.proofs.Common.{◌<◌, ◌≤◌, false, length, map, refl, ◌∙◌, arith}
-use Rattle.nio_event.specs.State.{unmade_channel}
+use Rattle.nio_history.specs.State.{unmade_channel}
 use Rattle.nio_plain.proofs.Replying.{rows_of}
 use Rattle.nio_plain.proofs.Changing.{changed-step, changed-all}
 use Rattle.nio_plain.proofs.Closing.{state-cancelled}

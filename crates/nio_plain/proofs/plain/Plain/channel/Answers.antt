@@ -1,5 +1,5 @@
 use Rattle.std.proofs.Common.{◌<◌, ◌≤◌, length, arith}
-use Rattle.nio_event.specs.State.{unmade_channel}
+use Rattle.nio_history.specs.State.{unmade_channel}
 use Rattle.nio_plain.proofs.Replying.{channel_made-below, channel_made-past}
 use Rattle.nio_plain.proofs.Naming.{channel-through, channel-refused}
 use Rattle.nio_plain.proofs.Places.{places_at}

@@ -1,5 +1,5 @@
 use Rattle.std.proofs.Common.{◌<◌, true, Some, length, refl, sym, ap, ◌∙◌, arith}
-use Rattle.nio_event.specs.State.{with_gate, with_closer}
+use Rattle.nio_history.specs.State.{with_gate, with_closer}
 use Rattle.nio_plain.proofs.Replying.{unchanged_without_memory, replied_without_memory}
 use Rattle.nio_plain.proofs.Closing.{changed_selector, read_row, not_finished}
 use Rattle.nio_plain.proofs.Parts.{then, makes-gate, makes-closer}

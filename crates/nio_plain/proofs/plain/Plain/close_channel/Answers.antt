@@ -1,5 +1,5 @@
 use Rattle.std.proofs.Common.{refl, ap, ◌∙◌}
-use Rattle.nio_event.specs.declared.found.Chan.{Chan}
+use Rattle.nio_history.specs.declared.found.Chan.{Chan}
 use Rattle.nio_plain.proofs.Replying.{unchanged_without_memory, replied_without_memory}
 use Rattle.nio_plain.specs.PlainState.{state_of}
 use Rattle.nio_plain.specs.ScriptState.{ScriptState}

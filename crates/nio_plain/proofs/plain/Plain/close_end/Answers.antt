@@ -1,7 +1,7 @@
 use Rattle.std.proofs.Common.{◌<◌, Bool, true, not, ◌||◌, Option, is_some, length, refl, sym, ap, ◌∙◌, arith}
 use Rattle.std.proofs.lemmas.Bool.{eq-eqb, ne_eqb, or_right}
 use Rattle.std.proofs.lemmas.List.{get_or_default}
-use Rattle.nio_event.specs.State.{with_entered}
+use Rattle.nio_history.specs.State.{with_entered}
 use Rattle.nio_plain.proofs.Replying.{is_some-caller_of, unchanged_without_memory, replied_without_memory}
 use Rattle.nio_plain.proofs.Closing.{changed_selector, read_row, makes-emptied}
 use Rattle.nio_plain.proofs.Parts.{then, makes-entered}

@@ -1,5 +1,5 @@
 use Rattle.std.proofs.Common.{◌<◌, false, None, length, refl, ap, ◌∙◌, arith}
-use Rattle.nio_event.specs.State.{put, with_turn, with_begun}
+use Rattle.nio_history.specs.State.{put, with_turn, with_begun}
 use Rattle.nio_plain.proofs.Replying.{unchanged_without_memory, replied_without_memory}
 use Rattle.nio_plain.proofs.Closing.{changed_selector, read_row}
 use Rattle.nio_plain.proofs.Telling.{own-none, own-others, own-some}

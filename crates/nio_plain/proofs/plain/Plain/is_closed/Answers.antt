@@ -1,7 +1,7 @@
 use Rattle.std.proofs.Common.{◌<◌, ◌≤◌, length, sym, ap, ◌∙◌, arith}
 use Rattle.std.proofs.lemmas.Bool.{le-ltb}
-use Rattle.nio_event.specs.State.{unmade_channel}
-use Rattle.nio_event.specs.declared.found.Chan.{Chan}
+use Rattle.nio_history.specs.State.{unmade_channel}
+use Rattle.nio_history.specs.declared.found.Chan.{Chan}
 use Rattle.nio_plain.proofs.Places.{places_at, places_past}
 use Rattle.nio_plain.specs.PlainState.{channel_row}
 use Rattle.nio_plain.proofs.plain.Plain.is_closed.Goals as goal

@@ -1,5 +1,5 @@
 use Rattle.std.proofs.Common.{sym, ap, ◌∙◌}
-use Rattle.nio_event.specs.Sets.{is_valid_key}
+use Rattle.nio_history.specs.Sets.{is_valid_key}
 use Rattle.nio_plain.proofs.Replying.{unchanged_without_memory}
 use Rattle.nio_plain.specs.PlainState.{KeyRow, state_of}
 use Rattle.nio_plain.specs.Seq.Replies.{unchanged, yes_or_no}

@@ -1,6 +1,6 @@
 use Rattle.std.proofs.Common.{◌≡◌, ℕ, ◌<◌, ◌≤◌, ltb, eqb, true, false, ◌||◌, ◌&&◌, ap, ◌∙◌, length, arith, ⊎_elim}
 use Rattle.std.proofs.lemmas.Bool.{cases_lt, lt-ltb, le-ltb, eq-eqb, ne_eqb, or_left}
-use Rattle.nio_event.specs.Sets.{was_published}
+use Rattle.nio_history.specs.Sets.{was_published}
 use Rattle.nio_plain.proofs.Replying.{selector_made-below, selector_made-past}
 use Rattle.nio_plain.proofs.Naming.{key-through, key-no_selector, key-no_key}
 use Rattle.nio_plain.proofs.Places.{places_at, places_past}

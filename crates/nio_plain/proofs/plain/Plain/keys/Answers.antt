@@ -1,5 +1,5 @@
 use Rattle.std.proofs.Common.{ap}
-use Rattle.nio_event.specs.Sets.{in_key_set}
+use Rattle.nio_history.specs.Sets.{in_key_set}
 use Rattle.nio_plain.proofs.Replying.{of_word}
 use Rattle.nio_plain.proofs.Parts.{and_true}
 use Rattle.nio_plain.proofs.Places.{same_function}

@@ -1,5 +1,5 @@
 use Rattle.std.proofs.Common.{◌≡◌, ◌<◌, ◌≤◌, length, refl, ap, ◌∙◌, arith}
-use Rattle.nio_event.specs.declared.reply.Reply.TheVariants as reply
+use Rattle.nio_language.specs.declared.reply.Reply.TheVariants as reply
 use Rattle.nio_plain.proofs.Replying.{unchanged_as, replied_as, selector_made-below, selector_made-past}
 use Rattle.nio_plain.proofs.Replying.{state-push_selector, rows_of}
 use Rattle.nio_plain.proofs.Opening.{selector_call-spent, selector_call-found, state-new_selector}

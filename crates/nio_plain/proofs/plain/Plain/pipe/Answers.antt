@@ -3,7 +3,7 @@ use Rattle.std.proofs.Common.{arith}
 use Rattle.std.proofs.lemmas.Bool.{le-ltb, lt-ltb}
 use Rattle.std.proofs.lemmas.List.{length_push}
 use Rattle.nio_base.specs.declared.kind.Kind.TheVariants.{Source, Sink}
-use Rattle.nio_event.specs.declared.reply.Reply.TheVariants as reply
+use Rattle.nio_language.specs.declared.reply.Reply.TheVariants as reply
 use Rattle.nio_plain.proofs.Replying.{replied_as, unchanged_as}
 use Rattle.nio_plain.proofs.Piping.{channel_added, next_end, no_next_end, pipe_call-is, sink_made}
 use Rattle.nio_plain.specs.PlainState.{channel_row, pipe_of, state_of}

@@ -1,6 +1,6 @@
 use Rattle.std.proofs.Common.{◌<◌, ◌&&◌, length, refl, sym, ap, ◌∙◌, arith}
 use Rattle.std.proofs.lemmas.Bool.{eq-eqb, ne_eqb}
-use Rattle.nio_event.specs.declared.found.Chan.{Chan}
+use Rattle.nio_history.specs.declared.found.Chan.{Chan}
 use Rattle.nio_plain.proofs.Replying.{unchanged_as, replied_as, of_word}
 use Rattle.nio_plain.proofs.Piping.{place_within}
 use Rattle.nio_plain.specs.PlainState.{state_of}

@@ -1,5 +1,5 @@
 use Rattle.std.proofs.Common.{refl, ap, sym, ◌∙◌, arith}
-use Rattle.nio_event.specs.State.{put}
+use Rattle.nio_history.specs.State.{put}
 use Rattle.nio_plain.proofs.Replying.{rows_of, with_rows, state-set_selector}
 use Rattle.nio_plain.proofs.KeyChange.{claimed-made, state-key}
 use Rattle.nio_plain.proofs.Places.{places_at}

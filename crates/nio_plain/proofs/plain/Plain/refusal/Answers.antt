@@ -1,7 +1,7 @@
 use Rattle.std.proofs.Common.{◌≡◌, ◌==◌, ℕ, ◌<◌, ◌≤◌, true, false, bit_and, refl, sym, ap, ◌∙◌, length, arith}
 use Rattle.std.proofs.lemmas.Bool.{eq-eqb, ne_eqb, true≢false}
 use Rattle.nio_base.specs.Kind.{valid_operations}
-use Rattle.nio_event.specs.State.{unmade_channel}
+use Rattle.nio_history.specs.State.{unmade_channel}
 use Rattle.nio_plain.proofs.Replying.{selector_made-below, selector_made-past}
 use Rattle.nio_plain.proofs.Places.{places_at, places_past}
 use Rattle.nio_plain.proofs.Registering.{register-no_selector, register-no_channel, register-illegal_ops}

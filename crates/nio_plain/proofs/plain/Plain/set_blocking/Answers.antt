@@ -1,7 +1,7 @@
 use Rattle.std.proofs.Common.{◌≡◌, ◌<◌, ◌≤◌, false, ◌&&◌, refl, sym, ap, ◌∙◌, length, arith}
 use Rattle.std.proofs.lemmas.Bool.{and_from, and_left, and_right}
-use Rattle.nio_event.specs.State.{unmade_channel}
-use Rattle.nio_event.specs.declared.reply.Reply.TheVariants as reply
+use Rattle.nio_history.specs.State.{unmade_channel}
+use Rattle.nio_language.specs.declared.reply.Reply.TheVariants as reply
 use Rattle.nio_plain.proofs.Replying.{unchanged_without_memory, replied_without_memory, state-set_channel, rows_of}
 use Rattle.nio_plain.proofs.Blocking.{blocking-no_channel, blocking-closed, blocking-registered, blocking-set}
 use Rattle.nio_plain.proofs.Places.{places_at, places_past}

@@ -1,6 +1,6 @@
 use Rattle.std.proofs.Common.{◌<◌, true, length, refl, sym, ap, ◌∙◌, arith}
-use Rattle.nio_event.specs.State.{unmade_channel, with_chan}
-use Rattle.nio_event.specs.declared.found.Chan.{Chan}
+use Rattle.nio_history.specs.State.{unmade_channel, with_chan}
+use Rattle.nio_history.specs.declared.found.Chan.{Chan}
 use Rattle.nio_plain.proofs.Replying.{state-set_channel, rows_of}
 use Rattle.nio_plain.proofs.Places.{places_at}
 use Rattle.nio_plain.specs.PlainState.{state_of, channel_row}

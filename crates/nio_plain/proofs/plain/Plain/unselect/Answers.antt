@@ -1,6 +1,6 @@
 use Rattle.std.proofs.Common.{true, ◌&&◌, refl, sym, ap, ◌∙◌}
-use Rattle.nio_event.specs.Sets.{fits}
-use Rattle.nio_event.specs.State.{with_mark}
+use Rattle.nio_history.specs.Sets.{fits}
+use Rattle.nio_history.specs.State.{with_mark}
 use Rattle.nio_plain.proofs.Replying.{unchanged_without_memory, replied_without_memory}
 use Rattle.nio_plain.proofs.KeyChange.{key-mark}
 use Rattle.nio_plain.specs.PlainState.{KeyRow, is_listed, key_row, state_of}

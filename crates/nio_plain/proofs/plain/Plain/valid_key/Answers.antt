@@ -1,5 +1,5 @@
 use Rattle.std.proofs.Common.{ap, sym, ◌∙◌}
-use Rattle.nio_event.specs.Sets.{is_valid_key}
+use Rattle.nio_history.specs.Sets.{is_valid_key}
 use Rattle.nio_plain.proofs.Naming.{valid-refused, valid-through, valid-cancelled}
 use Rattle.nio_plain.specs.PlainState.{KeyRow, state_of}
 use Rattle.nio_plain.proofs.plain.Plain.valid_key.Goals as goal

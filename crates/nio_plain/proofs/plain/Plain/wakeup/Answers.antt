@@ -1,5 +1,5 @@
 use Rattle.std.proofs.Common.{◌<◌, true, length, refl, arith}
-use Rattle.nio_event.specs.State.{with_gate}
+use Rattle.nio_history.specs.State.{with_gate}
 use Rattle.nio_plain.proofs.Replying.{unchanged_without_memory, replied_without_memory}
 use Rattle.nio_plain.proofs.Closing.{changed_selector}
 use Rattle.nio_plain.proofs.Parts.{makes-gate}

@@ -1,8 +1,8 @@
 use Rattle.std.proofs.Common.{◌≡◌, refl, sym, ap, ◌∙◌}
-use Rattle.nio_event.specs.declared.group_call.GroupCall.{GroupCall}
-use Rattle.nio_event.specs.declared.reply.Reply.{Reply}
 use Rattle.nio_group.specs.Group.{Group}
 use Rattle.nio_group.specs.Run as step
+use Rattle.nio_language.specs.declared.group_call.GroupCall.{GroupCall}
+use Rattle.nio_language.specs.declared.reply.Reply.{Reply}
 use Rattle.nio_plain.specs.Seq.Replies.{yes_or_no}
 use Rattle.nio_plain.specs.Seq.Grouping.{line_reply, group_replied, group_left, group_reply}
 use Rattle.nio_plain.proofs.plain.grouping.call_group.Goals as goal

@@ -1,6 +1,6 @@
 use Rattle.std.proofs.Common.{◌≡◌, true, false, refl, subst, sym, ◌∙◌}
 use Rattle.std.specs.Prelude.{is_some}
-use Rattle.nio_event.specs.Conditions.{is_closer, IsSelector}
+use Rattle.nio_history.specs.Conditions.{is_closer, IsSelector}
 use Rattle.nio_steps.proofs.CallLaws.{returned, left_ask, left_then, left_else, left_after, left_of_call}
 use Rattle.nio_steps.proofs.StandLaws.{closings_stand}
 use Rattle.nio_steps.specs.Calls.{CallClause}

@@ -1,5 +1,5 @@
 use Rattle.std.proofs.Common.{◌≡◌, true, refl, ap, sym, subst}
-use Rattle.nio_event.specs.Conditions.{has_turn}
+use Rattle.nio_history.specs.Conditions.{has_turn}
 use Rattle.nio_steps.proofs.CallLaws.{returned, left_ask, left_after}
 use Rattle.nio_steps.specs.Calls.{CallClause}
 use Rattle.nio_steps.specs.Runs.{Completes}

@@ -1,4 +1,4 @@
-use Rattle.nio_event.proofs.PassViews.{channel_after}
+use Rattle.nio_history.proofs.PassViews.{channel_after}
 use Rattle.nio_serve.proofs.TableCalls.{rest_closed, rest_refused, rest_watched}
 use Rattle.nio_serve.proofs.board.table.register_made.Goals as goal
 

@@ -1,16 +1,16 @@
 use Rattle.std.proofs.Common.{◌<◌, sym, subst}
 use Rattle.std.proofs.Math.Logic.{∥∥₁_map}
 use Rattle.nio_base.specs.declared.numbers.CallerNo.{CallerNo}
+use Rattle.nio_history.specs.PassViews.{HasNoPin}
 use Rattle.nio_orderly.specs.Orderly.{IsWhole}
-use Rattle.nio_event.specs.PassViews.{HasNoPin}
 use Rattle.nio_sole.proofs.After.{has_no_pin}
 use Rattle.nio_sole.proofs.Beginnings.{made_whole}
 use Rattle.nio_sole.specs.Sole.{limits_of, words_of}
 use Rattle.nio_sole.specs.Stands.{progress_of}
+use Rattle.nio_sole.proofs.sole.Sole.into_pass.Goals as goal
 use Rattle.nio_words.specs.Passes.{IsReady, acts_seen, seen}
 use Rattle.nio_words.specs.Views.{view}
 use Rattle.nio_words.specs.declared.words.Pass.{Pass}
-use Rattle.nio_sole.proofs.sole.Sole.into_pass.Goals as goal
 
 pub returns-clause-ready : goal.returns-clause-ready
 returns-clause-ready c =

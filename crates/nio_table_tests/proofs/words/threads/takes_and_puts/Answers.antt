@@ -1,16 +1,16 @@
 use Rattle.std.proofs.Common.{◌≡◌, ℕ, ◌++◌, true, Some, ◌||◌, refl, ap, ◌∙◌, eq-eqb}
 use Rattle.nio_base.specs.declared.numbers.CallerNo.{CallerNo}
 use Rattle.nio_base.specs.declared.numbers.SelNo.{SelNo}
-use Rattle.nio_event.proofs.Finds.{step_leaves}
-use Rattle.nio_event.proofs.Put.{put_at-same}
-use Rattle.nio_event.specs.Conditions.{is_held_by, has_taken, may_put_due}
-use Rattle.nio_event.specs.Histories.{state_after}
-use Rattle.nio_event.specs.declared.act.Act.TheVariants.{TakeFree}
+use Rattle.nio_channel.specs.Idle.{first_selector}
+use Rattle.nio_history.proofs.Finds.{step_leaves}
+use Rattle.nio_history.proofs.Put.{put_at-same}
+use Rattle.nio_history.specs.Conditions.{is_held_by, has_taken, may_put_due}
+use Rattle.nio_history.specs.Histories.{state_after}
+use Rattle.nio_history.specs.declared.act.Act.TheVariants.{TakeFree}
 use Rattle.nio_words.specs.Passes.{seen, state_seen}
 use Rattle.nio_words.specs.Steps.{Steps}
 use Rattle.nio_words.specs.declared.words.Pass.{Pass}
 use Rattle.nio_words.specs.declared.words.Words.{Words}
-use Rattle.nio_channel.specs.Idle.{first_selector}
 use Rattle.nio_table_tests.proofs.words.threads.takes_and_puts.Goals as goal
 
 -- who just took an index that was free has it

@@ -1,5 +1,5 @@
 use Rattle.std.proofs.Common.{◌^◌, ◌<◌, arith}
-use Rattle.nio_event.specs.Conditions.{IsCaller}
+use Rattle.nio_history.specs.Conditions.{IsCaller}
 use Rattle.nio_words.proofs.Keys.{claim_again_moves, claims_from_small}
 use Rattle.nio_words.proofs.words.Words.claim_again.Goals as goal
 

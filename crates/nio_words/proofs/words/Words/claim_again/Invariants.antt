@@ -1,4 +1,4 @@
-use Rattle.nio_event.specs.declared.act.Act.TheVariants.{ClaimAgain}
+use Rattle.nio_history.specs.declared.act.Act.TheVariants.{ClaimAgain}
 use Rattle.nio_words.specs.Decodings.{was_pinned}
 use Rattle.nio_words.specs.Parts.{selector_in, index_in}
 use Rattle.nio_words.proofs.Details.{channel_of_details, stage_of_details}

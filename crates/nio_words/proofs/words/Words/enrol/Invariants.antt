@@ -1,4 +1,4 @@
-use Rattle.nio_event.specs.declared.act.Act.TheVariants.{Enrol}
+use Rattle.nio_history.specs.declared.act.Act.TheVariants.{Enrol}
 use Rattle.nio_words.specs.Decodings.{enrolled_of}
 use Rattle.nio_words.specs.Parts.{channel_in, selector_in}
 use Rattle.nio_words.proofs.Details.{key_of_details}

@@ -1,4 +1,4 @@
-use Rattle.nio_event.specs.declared.act.Act.TheVariants.{Enter}
+use Rattle.nio_history.specs.declared.act.Act.TheVariants.{Enter}
 use Rattle.nio_words.specs.Decodings.{holder_of}
 use Rattle.nio_words.specs.Parts.{selector_in}
 use Rattle.nio_words.proofs.words.Words.enter.Given as goal

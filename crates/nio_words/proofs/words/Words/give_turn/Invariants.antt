@@ -1,4 +1,4 @@
-use Rattle.nio_event.specs.declared.act.Act.TheVariants.{GiveTurn}
+use Rattle.nio_history.specs.declared.act.Act.TheVariants.{GiveTurn}
 use Rattle.nio_words.specs.Parts.{selector_in}
 use Rattle.nio_words.proofs.words.Words.give_turn.Given as goal
 

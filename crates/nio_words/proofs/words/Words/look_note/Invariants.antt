@@ -1,4 +1,4 @@
-use Rattle.nio_event.specs.declared.act.Act.TheVariants.{LookNote}
+use Rattle.nio_history.specs.declared.act.Act.TheVariants.{LookNote}
 use Rattle.nio_words.specs.Parts.{selector_in, index_in}
 use Rattle.nio_words.proofs.words.Words.look_note.Given as goal
 

@@ -1,4 +1,4 @@
-use Rattle.nio_event.specs.declared.act.Act.TheVariants.{LookSelectors}
+use Rattle.nio_history.specs.declared.act.Act.TheVariants.{LookSelectors}
 use Rattle.nio_words.proofs.words.Words.look_selectors.Given as goal
 
 abbrev pub ghost-step : goal.ghost-step

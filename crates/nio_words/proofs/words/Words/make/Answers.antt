@@ -1,6 +1,6 @@
 use Rattle.std.proofs.Common.{◌≡◌, set, replicate, ap, sym, ◌∙◌, subst, rules}
-use Rattle.nio_event.proofs.Legal.{legal_empty}
-use Rattle.nio_event.specs.Histories.{IsLegal}
+use Rattle.nio_history.proofs.Legal.{legal_empty}
+use Rattle.nio_history.specs.Histories.{IsLegal}
 use Rattle.nio_words.proofs.Bits.{none_has}
 use Rattle.nio_words.proofs.Starts.{starts}
 use Rattle.nio_words.specs.Encodings.{limits_word}

@@ -1,4 +1,4 @@
-use Rattle.nio_event.specs.declared.act.Act.TheVariants.{MakeChannel}
+use Rattle.nio_history.specs.declared.act.Act.TheVariants.{MakeChannel}
 use Rattle.nio_words.specs.Decodings.{is_set}
 use Rattle.nio_words.specs.Parts.{channel_in}
 use Rattle.nio_words.proofs.Details.{kind_of_details}

@@ -1,4 +1,4 @@
-use Rattle.nio_event.specs.declared.act.Act.TheVariants.{MakeSelector}
+use Rattle.nio_history.specs.declared.act.Act.TheVariants.{MakeSelector}
 use Rattle.nio_words.specs.Decodings.{is_set}
 use Rattle.nio_words.specs.Instructions.{operand}
 use Rattle.nio_words.proofs.words.Words.make_selector.Given as goal

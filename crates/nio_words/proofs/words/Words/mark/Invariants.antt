@@ -1,4 +1,4 @@
-use Rattle.nio_event.specs.declared.act.Act.TheVariants.{Mark}
+use Rattle.nio_history.specs.declared.act.Act.TheVariants.{Mark}
 use Rattle.nio_words.specs.Decodings.{exchange_found}
 use Rattle.nio_words.specs.Parts.{selector_in, index_in}
 use Rattle.nio_words.proofs.Details.{mark_of_details, told_of_details}

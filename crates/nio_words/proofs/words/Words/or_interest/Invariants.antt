@@ -1,4 +1,4 @@
-use Rattle.nio_event.specs.declared.act.Act.TheVariants.{OrInterest}
+use Rattle.nio_history.specs.declared.act.Act.TheVariants.{OrInterest}
 use Rattle.nio_words.specs.Decodings.{operations_of}
 use Rattle.nio_words.specs.Instructions.{operand}
 use Rattle.nio_words.specs.Parts.{selector_in, index_in}

@@ -1,4 +1,4 @@
-use Rattle.nio_event.specs.declared.act.Act.TheVariants.{PutFree}
+use Rattle.nio_history.specs.declared.act.Act.TheVariants.{PutFree}
 use Rattle.nio_words.specs.Parts.{selector_in}
 use Rattle.nio_words.proofs.Details.{number_of_details}
 use Rattle.nio_words.proofs.words.Words.put_free.Given as goal

@@ -1,4 +1,4 @@
-use Rattle.nio_event.specs.declared.act.Act.TheVariants.{RaiseChannels}
+use Rattle.nio_history.specs.declared.act.Act.TheVariants.{RaiseChannels}
 use Rattle.nio_words.specs.Decodings.{number_of}
 use Rattle.nio_words.proofs.Details.{number_of_details}
 use Rattle.nio_words.proofs.words.Words.raise_channels.Given as goal

@@ -1,4 +1,4 @@
-use Rattle.nio_event.specs.declared.act.Act.TheVariants.{Release}
+use Rattle.nio_history.specs.declared.act.Act.TheVariants.{Release}
 use Rattle.nio_words.specs.Parts.{channel_in}
 use Rattle.nio_words.proofs.words.Words.release.Given as goal
 

@@ -1,4 +1,4 @@
-use Rattle.nio_event.specs.declared.act.Act.TheVariants.{Remove}
+use Rattle.nio_history.specs.declared.act.Act.TheVariants.{Remove}
 use Rattle.nio_words.specs.Decodings.{stage_of}
 use Rattle.nio_words.specs.Parts.{selector_in, index_in}
 use Rattle.nio_words.proofs.words.Words.remove.Given as goal

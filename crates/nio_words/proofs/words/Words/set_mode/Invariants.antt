@@ -1,4 +1,4 @@
-use Rattle.nio_event.specs.declared.act.Act.TheVariants.{SetMode}
+use Rattle.nio_history.specs.declared.act.Act.TheVariants.{SetMode}
 use Rattle.nio_words.specs.Decodings.{chan_of}
 use Rattle.nio_words.specs.Parts.{channel_in}
 use Rattle.nio_words.proofs.Details.{mode_of_details}

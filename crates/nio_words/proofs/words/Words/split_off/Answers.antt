@@ -1,7 +1,7 @@
 use Rattle.std.proofs.Common.{◌≡◌, ℕ, ◌^◌, ◌<◌, sym, ap, ◌∙◌, subst, arith}
 use Rattle.std.specs.Prelude.{bit_and}
 use Rattle.std.specs.Int.{bit_not, w64}
-use Rattle.nio_event.specs.Histories.{IsLegal}
+use Rattle.nio_history.specs.Histories.{IsLegal}
 use Rattle.nio_words.proofs.Bits.{kept_has, kept_not}
 use Rattle.nio_words.proofs.Places.{limits_inside}
 use Rattle.nio_words.proofs.Splitting.{splits}

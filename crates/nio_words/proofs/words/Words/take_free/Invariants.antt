@@ -1,5 +1,5 @@
 use Rattle.std.specs.Prelude.{◌%◌}
-use Rattle.nio_event.specs.declared.act.Act.TheVariants.{TakeFree}
+use Rattle.nio_history.specs.declared.act.Act.TheVariants.{TakeFree}
 use Rattle.nio_words.specs.Decodings.{is_set}
 use Rattle.nio_words.specs.Parts.{selector_in}
 use Rattle.nio_words.proofs.Details.{number_of_details}

@@ -1,4 +1,4 @@
-use Rattle.nio_event.specs.declared.act.Act.TheVariants.{TakeTurn}
+use Rattle.nio_history.specs.declared.act.Act.TheVariants.{TakeTurn}
 use Rattle.nio_words.specs.Decodings.{holder_of}
 use Rattle.nio_words.specs.Parts.{selector_in}
 use Rattle.nio_words.proofs.words.Words.take_turn.Given as goal

@@ -1,4 +1,4 @@
-use Rattle.nio_event.specs.declared.act.Act.TheVariants.{UnselectBit}
+use Rattle.nio_history.specs.declared.act.Act.TheVariants.{UnselectBit}
 use Rattle.nio_words.specs.Decodings.{is_set}
 use Rattle.nio_words.specs.Parts.{selector_in, index_in}
 use Rattle.nio_words.proofs.words.Words.unselect_bit.Given as goal

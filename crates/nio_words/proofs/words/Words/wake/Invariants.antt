@@ -1,4 +1,4 @@
-use Rattle.nio_event.specs.declared.act.Act.TheVariants.{Wake}
+use Rattle.nio_history.specs.declared.act.Act.TheVariants.{Wake}
 use Rattle.nio_words.specs.Decodings.{is_set}
 use Rattle.nio_words.specs.Parts.{selector_in}
 use Rattle.nio_words.proofs.words.Words.wake.Given as goal

@@ -1,6 +1,6 @@
 use Rattle.std.proofs.Common.{◌≡◌, ◌<◌, ap, ◌∙◌, suc, max, ◌++◌, ◌∷◌, [], length, arith}
 use Rattle.std.proofs.lemmas.List.{length_push, length-set}
-use Rattle.nio_event.specs.State.{put}
+use Rattle.nio_history.specs.State.{put}
 use Rattle.nio_plain.proofs.Places.{places-push, places-set}
 use Rattle.nio_plain.proofs.Rows.{get-insert}
 use Rattle.nio_plain.specs.PlainState.{places, key_row, no_key, selector_row}

@@ -1,7 +1,7 @@
 use Rattle.std.proofs.Common.{true, ◌<◌, cond, ℕ, Option, length, ap, sym, ◌∙◌, arith}
 use Rattle.std.proofs.lemmas.List.{length-set}
 use Rattle.nio_base.specs.declared.numbers.KeyId.{KeyId}
-use Rattle.nio_event.specs.State.{put}
+use Rattle.nio_history.specs.State.{put}
 use Rattle.nio_plain.proofs.Closing.{cancelled-one}
 use Rattle.nio_plain.proofs.Places.{places-set, places_at}
 use Rattle.nio_plain.specs.PlainState.{places, key_row, no_key, selector_row, cancelled_row}

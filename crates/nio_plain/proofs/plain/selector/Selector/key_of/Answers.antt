@@ -1,6 +1,6 @@
 use Rattle.std.proofs.Common.{ap, sym, ◌∙◌, length, is_some}
 use Rattle.std.proofs.lemmas.Bool.{ltb-false}
-use Rattle.nio_event.specs.Sets.{is_in_key_set}
+use Rattle.nio_history.specs.Sets.{is_in_key_set}
 use Rattle.nio_plain.proofs.Places.{places_at, places_past}
 use Rattle.nio_plain.proofs.Rows.{key_in-gone, key_in-some}
 use Rattle.nio_plain.specs.PlainState.{places, key_row, no_key, selector_row}

@@ -1,8 +1,0 @@
-use Rattle.nio_event.proofs.TurnLaws.{one_selection_at_a_time, only_who_may_selects}
-use Rattle.nio_event.proofs.laws.one_selection_law.Goals as goal
-
-pub returns-clause-at_a_time : goal.returns-clause-at_a_time
-returns-clause-at_a_time c = one_selection_at_a_time
-
-pub returns-clause-allowed : goal.returns-clause-allowed
-returns-clause-allowed c = only_who_may_selects

@@ -1,9 +1,0 @@
-use Rattle.nio_event.proofs.OwnPins.{pins_are_own}
-use Rattle.nio_event.proofs.OwnTaken.{taken_is_own}
-use Rattle.nio_event.proofs.laws.own_pins_law.Goals as goal
-
-pub returns-clause-pins : goal.returns-clause-pins
-returns-clause-pins c = pins_are_own
-
-pub returns-clause-taken : goal.returns-clause-taken
-returns-clause-taken c = taken_is_own

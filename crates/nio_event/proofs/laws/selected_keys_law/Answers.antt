@@ -1,5 +1,0 @@
-use Rattle.nio_event.proofs.SelectedKeys.{selections_keep_keys}
-use Rattle.nio_event.proofs.laws.selected_keys_law.Goals as goal
-
-pub returns : goal.returns
-returns c = selections_keep_keys

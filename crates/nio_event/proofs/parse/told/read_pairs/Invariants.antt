@@ -1,6 +1,0 @@
-use Rattle.std.proofs.Common.{map}
-use Rattle.nio_event.proofs.PairLists.{AreRead}
-use Rattle.nio_event.proofs.parse.told.read_pairs.Given as goal
-
-abbrev pub invariant-loop-word : goal.invariant-loop-word
-invariant-loop-word l = AreRead (map (λ w. w.now) l.words) l.word-index l.pairs.items

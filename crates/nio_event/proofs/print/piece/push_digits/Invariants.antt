@@ -1,6 +1,0 @@
-use Rattle.std.proofs.Common.{◌≡◌, ◌++◌, take}
-use Rattle.nio_event.specs.Words.{hex_digits}
-use Rattle.nio_event.proofs.print.piece.push_digits.Given as goal
-
-abbrev pub invariant-loop-byte : goal.invariant-loop-byte
-invariant-loop-byte l = l.line.items ≡ l.initial.line.items ++ hex_digits (take l.byte-index l.bytes)

@@ -1,8 +1,0 @@
-use Rattle.std.proofs.Common.{◌≡◌, ◌++◌, map, take}
-use Rattle.nio_event.specs.Printing.{spaced}
-use Rattle.nio_event.specs.Words.{key_word}
-use Rattle.nio_event.proofs.print.piece.push_keys.Given as goal
-
-abbrev pub invariant-loop-key : goal.invariant-loop-key
-invariant-loop-key l =
-    l.line.items ≡ l.initial.line.items ++ spaced (map key_word (take l.key-index l.keys))

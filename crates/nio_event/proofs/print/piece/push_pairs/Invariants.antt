@@ -1,8 +1,0 @@
-use Rattle.std.proofs.Common.{◌≡◌, ◌++◌, map, take}
-use Rattle.nio_event.specs.Printing.{spaced}
-use Rattle.nio_event.specs.Words.{pair_word}
-use Rattle.nio_event.proofs.print.piece.push_pairs.Given as goal
-
-abbrev pub invariant-loop-pair : goal.invariant-loop-pair
-invariant-loop-pair l =
-    l.line.items ≡ l.initial.line.items ++ spaced (map pair_word (take l.pair-index l.pairs))

@@ -1,0 +1,119 @@
+-- Laws of turns and holds: each has one holder at a time, and only the holder of a turn selects.
+use Rattle.std.specs.Prelude.{◌≡◌, ℕ, ◌==◌, Bool, false, ◌&&◌, ◌||◌, IsTrue, IsFalse, None, List, [], ◌∷◌, ◌++◌}
+use Rattle.nio_base.specs.declared.limits.Limits.{Limits}
+use Rattle.nio_base.specs.declared.numbers.CallerNo.{CallerNo}
+use Rattle.nio_base.specs.declared.numbers.ChanNo.{ChanNo}
+use Rattle.nio_base.specs.declared.numbers.SelNo.{SelNo}
+use Rattle.nio_history.specs.Conditions.{holds, has_begun, has_entered}
+use Rattle.nio_history.specs.Histories.{state_after, event_of, mine, IsLegal}
+use Rattle.nio_history.specs.OwnEvents.{has, under, finds_unblocked, sets_mode, gives_turn, releases}
+use Rattle.nio_history.specs.declared.act.Act.{Act}
+use Rattle.nio_history.specs.declared.act.Act.TheVariants.{DrawBit, MakeSelector, LookSelectors, Wake, LookGate}
+use Rattle.nio_history.specs.declared.act.Act.TheVariants.{SetInterrupt, TakeInterrupt, LookInterrupt, LookKey}
+use Rattle.nio_history.specs.declared.act.Act.TheVariants.{CancelKey}
+use Rattle.nio_history.specs.declared.act.Act.TheVariants.{LookInterest, SwapInterest, OrInterest, AndInterest}
+use Rattle.nio_history.specs.declared.act.Act.TheVariants.{SwapNote}
+use Rattle.nio_history.specs.declared.act.Act.TheVariants.{LookNote, MakeChannel, LookChannel, Claim, RaiseKeys}
+use Rattle.nio_history.specs.declared.act.Act.TheVariants.{LookKeys}
+use Rattle.nio_history.specs.declared.act.Act.TheVariants.{Publish, LookReg, Enrol, TakeTurn, BeginLook, GiveTurn}
+use Rattle.nio_history.specs.declared.act.Act.TheVariants.{Remove}
+use Rattle.nio_history.specs.declared.act.Act.TheVariants.{LookMark, Mark, UnselectBit, EndWake, LookChannels}
+use Rattle.nio_history.specs.declared.act.Act.TheVariants.{RaiseChannels, TryHoldBit, Release, SetMode, CloseBit}
+use Rattle.nio_history.specs.declared.act.Act.TheVariants.{ShutBit}
+use Rattle.nio_history.specs.declared.act.Act.TheVariants.{Enter, Pin, Unpin, ClearMark, ClaimAgain, LookFree, PutFree}
+use Rattle.nio_history.specs.declared.act.Act.TheVariants.{TakeFree}
+use Rattle.nio_history.specs.declared.event.Event.{Event}
+use Rattle.nio_history.specs.declared.found.GateWord.{GateWord}
+
+-- what only the selecting caller does to selector s: it marks and removes keys and ends the wakeup
+abbrev pub selects_on : ℕ → Act → Bool
+selects_on s (DrawBit n found) = false
+selects_on s (MakeSelector s' found) = false
+selects_on s (LookSelectors found) = false
+selects_on s (Wake s' found) = false
+selects_on s (LookGate s' found) = false
+selects_on s (SetInterrupt n found) = false
+selects_on s (TakeInterrupt found) = false
+selects_on s (LookInterrupt found) = false
+selects_on s (LookKey s' i found) = false
+selects_on s (CancelKey s' i found) = false
+selects_on s (LookInterest s' i found) = false
+selects_on s (SwapInterest s' i ops found) = false
+selects_on s (OrInterest s' i ops found) = false
+selects_on s (AndInterest s' i ops found) = false
+selects_on s (SwapNote s' i att found) = false
+selects_on s (LookNote s' i found) = false
+selects_on s (MakeChannel c kind found) = false
+selects_on s (LookChannel c found) = false
+selects_on s (Claim s' i c found) = false
+selects_on s (RaiseKeys s' n found) = false
+selects_on s (LookKeys s' found) = false
+selects_on s (Publish s' i found) = false
+selects_on s (LookReg c s' found) = false
+selects_on s (Enrol c s' i serial found) = false
+selects_on s (TakeTurn s' found) = false
+selects_on s (BeginLook s' found) = false
+selects_on s (GiveTurn s') = false
+selects_on s (Remove s' i found) = s'.0 == s
+selects_on s (LookMark s' i found) = false
+selects_on s (Mark s' i from told found) = s'.0 == s
+selects_on s (UnselectBit s' i found) = false
+selects_on s (EndWake s' found) = s'.0 == s
+selects_on s (LookChannels found) = false
+selects_on s (RaiseChannels n found) = false
+selects_on s (TryHoldBit c found) = false
+selects_on s (Release c) = false
+selects_on s (SetMode c blocking found) = false
+selects_on s (CloseBit c found) = false
+selects_on s (ShutBit s' found) = false
+selects_on s (Enter s' found) = false
+selects_on s (Pin s' i found) = false
+selects_on s (Unpin s' i) = false
+selects_on s (ClearMark s' i found) = false
+selects_on s (ClaimAgain s' i c from found) = false
+selects_on s (LookFree s' j found) = false
+selects_on s (PutFree s' i) = false
+selects_on s (TakeFree s' i found) = false
+
+-- it removes a key of selector s
+abbrev pub removes_on : ℕ → Act → Bool
+removes_on s (Remove s' i found) = s'.0 == s
+removes_on s _ = false
+
+-- whoever took the turn of a selector gives it back before anybody takes it again
+abbrev pub TurnHasOneHolder : Type 0
+TurnHasOneHolder = (l : Limits) (s : SelNo) (m n : CallerNo) (past between : List Event)
+    → IsLegal l (past ++ event_of m (TakeTurn s None) ∷ (between ++ event_of n (TakeTurn s None) ∷ []))
+    → IsTrue (has (gives_turn s.0) (mine m between))
+
+-- whoever took the hold of a channel releases it before anybody takes it again
+abbrev pub HoldHasOneHolder : Type 0
+HoldHasOneHolder = (l : Limits) (c : ChanNo) (m n : CallerNo) (past between : List Event)
+    → IsLegal l (past ++ event_of m (TryHoldBit c None) ∷ (between ++ event_of n (TryHoldBit c None) ∷ []))
+    → IsTrue (has (releases c.0) (mine m between))
+
+-- a caller that holds a channel, found it non-blocking under this hold and didn't set its mode since
+-- it took the hold, knows that it is non-blocking
+abbrev pub HolderKnowsMode : Type 0
+HolderKnowsMode = (l : Limits) (n : CallerNo) (c : ChanNo) (events : List Event) → IsLegal l events
+    → IsTrue (holds (state_after events) n c)
+    → IsTrue (has (finds_unblocked c.0) (under c.0 (mine n events)))
+    → IsFalse (has (sets_mode c.0) (under c.0 (mine n events)))
+    → IsFalse ((state_after events).chan c.0).blocking
+
+-- from a caller's look that found the gate not shut until it gives its turn back, nobody else marks
+-- or removes a key of the selector or ends its wakeup
+abbrev pub OneSelectionAtATime : Type 0
+OneSelectionAtATime = (l : Limits) (s : SelNo) (n : CallerNo) (found : GateWord) (past between : List Event) (e : Event)
+    → IsLegal l (past ++ event_of n (BeginLook s found) ∷ (between ++ e ∷ []))
+    → IsFalse found.shut → IsFalse (has (gives_turn s.0) (mine n between)) → IsTrue (selects_on s.0 e.act)
+    → e.caller ≡ n
+
+-- only a caller that has begun marks a key or ends the wakeup, and only such a caller, or the
+-- selector's closer once it has entered, removes a key
+abbrev pub OnlyWhoMaySelects : Type 0
+OnlyWhoMaySelects = (l : Limits) (s : SelNo) (past : List Event) (e : Event) (later : List Event)
+    → IsLegal l (past ++ e ∷ later)
+    → IsTrue (selects_on s.0 e.act)
+    → IsTrue (has_begun (state_after past) e.caller s
+    || (removes_on s.0 e.act && has_entered (state_after past) e.caller s))

@@ -1,0 +1,127 @@
+//! Laws of legal histories. Each is the contract of a function that does nothing.
+ghost use Rattle.nio_history.specs.Staying.{BeginningsAreLegal, FactsArePermanent, InvalidKeysStayInvalid};
+ghost use Rattle.nio_history.specs.Staying.{OnlyItselfGivesBack, ConditionsStay, StatesAreSound, StatesAreWithin};
+ghost use Rattle.nio_history.specs.Found.{StepsLeave, LooksTell, FoundStands};
+ghost use Rattle.nio_history.specs.Holders.{ModeStays, EnrolledStays, FoundEnrolledStays, OutsideStays};
+ghost use Rattle.nio_history.specs.Holders.{FoundClearStays};
+ghost use Rattle.nio_history.specs.Holders.{ClearIsTrue, SelectsAlone, KeySetStays, MarksStay, WakeupStays};
+ghost use Rattle.nio_history.specs.Pins.{PinsAreOwn, TakenIsOwn, PinnedKeysStay, ClaimsAgainWhereUnpinned};
+ghost use Rattle.nio_history.specs.Pins.{ClaimsAgainTheRemoved, OwnClaimsStand, UnpublishedKeysStay};
+ghost use Rattle.nio_history.specs.Pins.{EnrolledKeysAreClaimed, SelectionsKeepKeys};
+ghost use Rattle.nio_history.specs.Turns.{TurnHasOneHolder, HoldHasOneHolder, HolderKnowsMode, OneSelectionAtATime};
+ghost use Rattle.nio_history.specs.Turns.{OnlyWhoMaySelects};
+ghost use Rattle.nio_history.specs.Worked.{WorkedHistoryIsLegal, RefusedEventsAreNoSteps};
+
+/// Each beginning of a legal history is legal.
+pub fn beginnings_law()
+    ensures { BeginningsAreLegal }
+{}
+
+/// What is drawn, made, claimed, published, cancelled, removed, closed or shut stays so, the high-water
+/// marks don't fall, and a closer stays the closer. So an invalid key stays invalid, also where its index is
+/// given to a new key.
+pub fn permanent_law()
+    ensures permanent { FactsArePermanent }
+    ensures invalid { InvalidKeysStayInvalid }
+{}
+
+/// A turn, a selection, a hold, a pin and a taken index last until their caller itself gives them back.
+pub fn own_law()
+    ensures { OnlyItselfGivesBack }
+{}
+
+/// A caller whose step is allowed by what its pass has seen may take it later too, whatever others
+/// did in between.
+pub fn condition_law()
+    ensures { ConditionsStay }
+{}
+
+/// The state after a legal history is sound: an index below a selector's high-water mark is claimed, what is
+/// held is made, a channel that isn't made and the stage of an index that isn't claimed are as they were
+/// at the opening, and more. And every number that it speaks of is within the limits.
+pub fn soundness_law()
+    ensures sound { StatesAreSound }
+    ensures within { StatesAreWithin }
+{}
+
+/// Nobody takes a turn or a hold before whoever has it gives it back; and a holder that found its channel
+/// non-blocking under its hold, and set no mode since, is right.
+pub fn one_holder_law()
+    ensures turn { TurnHasOneHolder }
+    ensures hold { HoldHasOneHolder }
+    ensures mode { HolderKnowsMode }
+{}
+
+/// One selection at a time: while a caller selects, nobody else marks or removes a key of the
+/// selector or ends its wakeup. Only a caller that has begun does so; the selector's closer, once it has
+/// entered, removes keys too.
+pub fn one_selection_law()
+    ensures at_a_time { OneSelectionAtATime }
+    ensures allowed { OnlyWhoMaySelects }
+{}
+
+/// A caller has a pin on an index where it pinned or claimed it and didn't take the pin off since, and has
+/// taken an index where it took it when it was free and neither put it back nor claimed it since. So the state
+/// says of both what the caller's own acts say.
+pub fn own_pins_law()
+    ensures pins { PinsAreOwn }
+    ensures taken { TakenIsOwn }
+{}
+
+/// A `claim_again` succeeds exactly where nobody has a pin on the index, and only from a key that was removed.
+/// So an index keeps its key until a pin on it is taken off, and while a caller has the pin of its claim, the
+/// key is the one that it claimed; nobody else publishes that key. A key that is enrolled for a channel was
+/// claimed for it.
+pub fn pins_law()
+    ensures stays { PinnedKeysStay }
+    ensures where_unpinned { ClaimsAgainWhereUnpinned }
+    ensures removed_before { ClaimsAgainTheRemoved }
+    ensures own_claim { OwnClaimsStand }
+    ensures unpublished { UnpublishedKeysStay }
+    ensures enrolled { EnrolledKeysAreClaimed }
+{}
+
+/// While a caller selects, a key that isn't removed yet, and that the caller doesn't remove, keeps its index
+/// and its serial.
+pub fn selected_keys_law()
+    ensures { SelectionsKeepKeys }
+{}
+
+/// What one step leaves: what was seen before, then events of others alone, then the step. It found what
+/// the state before it gives, and the state after it is its effect.
+pub fn step_law()
+    ensures { StepsLeave }
+{}
+
+/// What a look found is what the state gives just after it. And what is permanent and was found stands ever
+/// after.
+pub fn found_law()
+    ensures looks { LooksTell }
+    ensures stands { FoundStands }
+{}
+
+/// While a caller holds a channel, nobody else sets its mode, enrols a key for it or publishes a key of it.
+/// So what the caller last found enrolled is enrolled, and a key that it found outside the key set is outside.
+pub fn hold_law()
+    ensures mode { ModeStays }
+    ensures enrolled { EnrolledStays }
+    ensures found_enrolled { FoundEnrolledStays }
+    ensures outside { OutsideStays }
+    ensures found_clear { FoundClearStays }
+    ensures clear { ClearIsTrue }
+{}
+
+/// While a caller selects, nobody else marks or removes a key of the selector or ends its wakeup; all that
+/// can happen to the mark of a key is that the key is taken out of the selected set.
+pub fn selection_law()
+    ensures alone { SelectsAlone }
+    ensures key_set { KeySetStays }
+    ensures marks { MarksStay }
+    ensures wakeup { WakeupStays }
+{}
+
+/// There are legal histories in which every kind of step stands, and events that can't follow.
+pub fn worked_history_law()
+    ensures legal { WorkedHistoryIsLegal }
+    ensures refused { RefusedEventsAreNoSteps }
+{}

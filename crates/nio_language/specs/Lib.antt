@@ -1,0 +1,13 @@
+pub mod Reading
+pub mod Words
+pub mod GroupWords
+pub mod GroupCalls
+pub mod Arguments
+pub mod CallWords
+pub mod Calls
+pub mod WordRows
+pub mod GroupReplies
+pub mod Replies
+pub mod Script
+pub mod Lines
+pub mod Printing

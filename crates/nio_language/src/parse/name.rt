@@ -1,0 +1,111 @@
+//! The words of a line that name something: `t1`, `s0`, `c2`, `g0`, `k3`, `k3.1`, and `k3:5`.
+ghost use Rattle.std.specs.Prelude.{◌≡◌, ℕ, ◌<◌, ◌≤◌, ◌^◌, ◌∷◌, ◌++◌, All, ◌≢◌, IfSome};
+ghost use Rattle.std.specs.Fmt.{decimal};
+ghost use Rattle.nio_language.specs.Arguments.{IsKeyName, IsPair, IsSerial};
+ghost use Rattle.nio_language.specs.GroupWords.{group_channel_word, operation_word};
+ghost use Rattle.nio_language.specs.Reading.{Reads};
+ghost use Rattle.nio_language.specs.Words.{IsNumber, caller_word, selector_word, channel_word, key_word, pair_word};
+
+use super::cut::cut_at;
+use super::number::read_number;
+use nio_base::{CallerNo, ChanNo, GChan, KeyId, OpNo, Ops, SelNo};
+
+/// A caller.
+pub fn read_caller(word: &[u8]) -> Option<CallerNo>
+    ensures { Reads (λ t. t.0 < 64) caller_word word.now result }
+{
+    read_numbered(word, b't', 63).map(CallerNo)
+}
+
+/// A selector.
+pub fn read_selector(word: &[u8]) -> Option<SelNo>
+    ensures { Reads (λ s. s.0 < 2 ^ 32) selector_word word.now result }
+{
+    read_numbered(word, b's', u32::MAX).map(SelNo)
+}
+
+/// A channel.
+pub fn read_channel(word: &[u8]) -> Option<ChanNo>
+    ensures { Reads (λ c. c.0 < 2 ^ 32) channel_word word.now result }
+{
+    read_numbered(word, b'c', u32::MAX).map(ChanNo)
+}
+
+/// A channel of the group.
+pub fn read_group_channel(word: &[u8]) -> Option<GChan>
+    ensures { Reads (λ g. IsNumber g.0) group_channel_word word.now result }
+{
+    read_numbered(word, b'g', u32::MAX).map(GChan)
+}
+
+/// The number of an operation of the group.
+pub fn read_operation(word: &[u8]) -> Option<OpNo>
+    ensures { Reads (λ n. IsNumber n.0) operation_word word.now result }
+{
+    read_number(word, u64::from(u32::MAX)).map(OpNo)
+}
+
+/// A key's index, and its serial behind a point, where that isn't 0.
+pub fn read_key(word: &[u8]) -> Option<KeyId>
+    ensures { Reads IsKeyName key_word word.now result }
+{
+    match cut_at(word, b'.') {
+        None => {
+            let index = read_index(word)?;
+            Some(KeyId { index, serial: 0 })
+        }
+        Some((index, serial)) => {
+            let index = read_index(index)?;
+            let serial = read_serial(serial)?;
+            Some(KeyId { index, serial })
+        }
+    }
+}
+
+fn read_index(word: &[u8]) -> Option<u32>
+    ensures { Reads IsNumber (λ i. 107 ∷ decimal i) word.now result }
+{
+    read_numbered(word, b'k', u32::MAX)
+}
+
+/// A serial that isn't 0.
+fn read_serial(digits: &[u8]) -> Option<u32>
+    ensures { Reads IsSerial decimal digits.now result }
+{
+    let serial = read_number(digits, u64::from(u32::MAX))?;
+    if serial == 0 {
+        None
+    } else {
+        Some(serial as u32)
+    }
+}
+
+/// A set of operations, as a decimal number.
+pub fn read_ops(word: &[u8]) -> Option<Ops>
+    ensures { Reads (λ ops. ops < 256) decimal word.now result }
+{
+    let bits = read_number(word, 255)?;
+    Some(Ops::of(bits as u8))
+}
+
+/// A letter and a number that is at most `max`.
+fn read_numbered(word: &[u8], letter: u8, max: u32) -> Option<u32>
+    ensures { Reads (λ n. n ≤ max) (λ n. letter ∷ decimal n) word.now result }
+{
+    let (first, digits) = word.split_first()?;
+    if *first != letter {
+        return None;
+    }
+    let number = read_number(digits, u64::from(max))?;
+    Some(number as u32)
+}
+
+/// A key with operations.
+pub fn read_pair(word: &[u8]) -> Option<(KeyId, Ops)>
+    ensures { Reads IsPair pair_word word.now result }
+{
+    let (key, ops) = cut_at(word, b':')?;
+    let key = read_key(key)?;
+    let ops = read_ops(ops)?;
+    Some((key, ops))
+}

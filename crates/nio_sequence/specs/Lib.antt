@@ -1,3 +1,0 @@
-pub mod Called
-pub mod Left
-pub mod Laws
