@@ -16,8 +16,10 @@ const TABLE: Limits = Limits {
     keys: 1,
 };
 
+/// Sets up, and then selects or reads.
 pub const ZERO: CallerNo = CallerNo(0);
 
+/// Wakes or writes, in a thread of its own.
 pub const ONE: CallerNo = CallerNo(1);
 
 /// A new table with a selector, and the pass that holds both callers' numbers.

@@ -72,7 +72,7 @@ pub fn measure<R: Runtime<A = Global> + Threads + Wait + Sync>(rt: &R) -> anyhow
     Ok(())
 }
 
-/// A small run.
+/// Carries a small load through a pipe and through a ring.
 pub fn run<R: Runtime<A = Global> + Threads + Wait + Sync>(rt: &R) -> anyhow::Result<()> {
     time_pipe(rt, SMALL)?;
     time_ring(rt, SMALL)?;
@@ -97,6 +97,7 @@ fn time_pipe<R: Runtime<A = Global> + Threads + Wait + Sync>(
     Ok(took)
 }
 
+/// A new pipe, made by `ZERO`. Nothing was sent through it.
 pub fn open(alloc: Global, w: &Words, p: &mut Pass) -> Result<(PipeSource, PipeSink), PipeMakeError>
     requires { AreIdle w.now p.old }
     ensures idle { AreIdle w.now p.new }
@@ -171,6 +172,7 @@ fn read_to_end<R: Wait>(
     Ok(count)
 }
 
+/// One read of the reader, as much as `into` has room for.
 pub fn read<R: Wait>(
     rt: &R,
     w: &Words,

@@ -28,6 +28,7 @@ const FEW: Load = Load {
     every: 1,
 };
 
+/// Each index that was ever claimed has a key.
 pub const MANY: Load = Load {
     indexes: 1_000,
     live: 1_000,

@@ -56,7 +56,7 @@ pub fn measure<R: Runtime<A = Global> + Threads + Wait + Sync>(rt: &R) -> anyhow
     Ok(())
 }
 
-/// A small run.
+/// Makes a few calls of each kind that is measured.
 pub fn run<R: Runtime<A = Global> + Threads + Wait + Sync>(rt: &R) -> anyhow::Result<()> {
     time_pairs(rt, 4)?;
     time_selections(rt, 2)?;

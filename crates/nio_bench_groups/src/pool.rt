@@ -49,7 +49,7 @@ pub fn measure<R: Runtime<A = Global> + Threads + Wait + Sync>(rt: &R) -> anyhow
     Ok(())
 }
 
-/// A small run.
+/// A hundred operations, with two workers.
 pub fn run<R: Runtime<A = Global> + Threads + Wait + Sync>(rt: &R) -> anyhow::Result<()> {
     time_workers(rt, 2, 100)?;
     Ok(())

@@ -65,8 +65,8 @@ impl ByteBuffer {
         if first.is_empty() { second } else { first }
     }
 
-    /// What a link that writes what it has read is to be ready for next: to write while bytes are to be written, else to
-    /// read.
+    /// What a link that writes what it has read is to be ready for next: to write while bytes are to be written, else
+    /// to read.
     pub fn interest(&self) -> Ops
         ensures read { self.now.items ≡ [] → result ≡ 1 }
         ensures write { self.now.items ≢ [] → result ≡ 4 }

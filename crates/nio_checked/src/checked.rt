@@ -76,7 +76,7 @@ impl<N: Net + Drop> CheckedNet<N> {
         })
     }
 
-    /// The net.
+    /// The net that its calls reach.
     pub fn net(&self) -> &N
         ensures { result.now ≡ self.now.net }
     {

@@ -1,26 +1,28 @@
--- What the turns of a relay come to.
+-- What the rounds of a relay come to.
 use Rattle.std.proofs.Common.{ℕ, ◌≤◌, inl, inr}
 use Rattle.std.proofs.Common.{refl, ◌∙◌, arith}
 use Rattle.nio_base.specs.declared.numbers.ChanNo.{ChanNo}
 use Rattle.nio_serve.proofs.Working.{rose_from}
 use Rattle.nio_datagram.specs.Nets.{PacketView}
 use Rattle.nio_datagram.specs.Relaying.{Moves}
-use Rattle.nio_datagram.specs.Serving.{front, back, OneRose}
+use Rattle.nio_datagram.specs.Serving.{client_chan, target_chan, OneRose}
 
 -- ---- counts
 
 pub one_rose_from : (f g h : ChanNo → ℕ) (p q r : ℕ) → ((c : ChanNo) → f c ≤ g c) → p ≤ q → OneRose g h q r
     → OneRose f h p r
 one_rose_from f g h p q r later polls (inl rose) = inl (rose_from p q r polls rose)
-one_rose_from f g h p q r later polls (inr (inl rose)) = inr (inl (rose_from (f front) (g front) (h front) (later front) rose))
-one_rose_from f g h p q r later polls (inr (inr rose)) = inr (inr (rose_from (f back) (g back) (h back) (later back) rose))
+one_rose_from f g h p q r later polls (inr (inl rose)) =
+    inr (inl (rose_from (f client_chan) (g client_chan) (h client_chan) (later client_chan) rose))
+one_rose_from f g h p q r later polls (inr (inr rose)) =
+    inr (inr (rose_from (f target_chan) (g target_chan) (h target_chan) (later target_chan) rose))
 
 -- ---- moves
 
 pub moves_none : (x : PacketView) → Moves x x
 moves_none x = record {
-  traffic = λ c not_front not_back. refl;
-  faults = λ c not_front not_back. refl;
+  traffic = λ c not_client not_target. refl;
+  faults = λ c not_client not_target. refl;
   later = λ c. omega arith;
   places = λ c. refl;
   polls = omega arith;
@@ -28,8 +30,8 @@ moves_none x = record {
 
 pub moves_then : (x y z : PacketView) → Moves x y → Moves y z → Moves x z
 moves_then x y z one two = record {
-  traffic = λ c not_front not_back. two.traffic c not_front not_back ∙ one.traffic c not_front not_back;
-  faults = λ c not_front not_back. two.faults c not_front not_back ∙ one.faults c not_front not_back;
+  traffic = λ c not_client not_target. two.traffic c not_client not_target ∙ one.traffic c not_client not_target;
+  faults = λ c not_client not_target. two.faults c not_client not_target ∙ one.faults c not_client not_target;
   later = λ c. let first = one.later c in let second = two.later c in omega arith;
   places = λ c. two.places c ∙ one.places c;
   polls = let first = one.polls in let second = two.polls in omega arith;

@@ -47,8 +47,8 @@ abbrev pub place_at : List SideState → ChanNo → Place
 place_at sides c = (side_at sides c).place
 
 abbrev pub planned : List (Addr × Vec ℕ Global) → List (Addr × Vec ℕ Global) → Option ℕ → PacketsState
-planned front back fail_send = record {
-  sides = planned_side front ∷ planned_side back ∷ [];
+planned client target fail_send = record {
+  sides = planned_side client ∷ planned_side target ∷ [];
   sends = no_calls (numbers_of fail_send);
   faulted = [];
   findings = [];

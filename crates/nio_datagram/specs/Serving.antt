@@ -20,11 +20,11 @@ pub record IsRelayable (plan : PacketPlan) : Type 0 where
   pub few_packets : plan.count ≤ 1000000
 
 -- the channel to which the client sends, and that to which the target answers
-abbrev pub front : ChanNo
-front = record { 0 = 0 }
+abbrev pub client_chan : ChanNo
+client_chan = record { 0 = 0 }
 
-abbrev pub back : ChanNo
-back = record { 0 = 1 }
+abbrev pub target_chan : ChanNo
+target_chan = record { 0 = 1 }
 
 -- ---- what was passed on
 
@@ -42,9 +42,9 @@ pub record IsPassedOn (to : Option Addr) (heard : List (List ℕ)) (went : List 
 -- What was received from the client went to the target, in its order, but for at most one packet; the same of the
 -- target's packets and the client.
 pub record RelaysPackets (target : Addr) (traffic : ChanNo → Traffic) : Type 0 where
-  pub to_target : IsPassedOn (Some target) (heard_first (traffic front).came) (traffic back).went
-  pub to_client : IsPassedOn (first_sender (traffic front).came) (heard_from target (traffic back).came)
-      (traffic front).went
+  pub to_target : IsPassedOn (Some target) (heard_first (traffic client_chan).came) (traffic target_chan).went
+  pub to_client : IsPassedOn (first_sender (traffic client_chan).came) (heard_from target (traffic target_chan).came)
+      (traffic client_chan).went
 
 -- ---- what is answered
 
@@ -52,22 +52,23 @@ pub record RelaysPackets (target : Addr) (traffic : ChanNo → Traffic) : Type 0
 -- channels were bound where the plan says.
 pub record HasRelayed (plan : PacketPlan) (traffic : ChanNo → Traffic) (place : ChanNo → Place) (served : PacketsServed)
     : Type 0 where
-  pub all_went : length (traffic back).went ≡ plan.count
+  pub all_went : length (traffic target_chan).went ≡ plan.count
   pub forth_count : served.forth ≡ plan.count
-  pub back_count : served.back ≡ min (length (traffic front).went) (2 ^ 32 - 1)
-  pub listened : place front ≡ Closed plan.listen
-  pub bound : place back ≡ Closed plan.local
+  pub back_count : served.back ≡ min (length (traffic client_chan).went) (2 ^ 32 - 1)
+  pub listened : place client_chan ≡ Closed plan.listen
+  pub bound : place target_chan ≡ Closed plan.local
 
 -- a poll failed, or a call on one of the two channels
 abbrev pub OneRose : (ChanNo → ℕ) → (ChanNo → ℕ) → ℕ → ℕ → Type 0
 OneRose before now polls_before polls_now =
-    Rose polls_before polls_now ⊎ (Rose (before front) (now front) ⊎ Rose (before back) (now back))
+    Rose polls_before polls_now
+    ⊎ (Rose (before client_chan) (now client_chan) ⊎ Rose (before target_chan) (now target_chan))
 
 -- none of these counts rose
 pub record NoneRose (before now : ChanNo → ℕ) (polls_before polls_now : ℕ) : Type 0 where
   pub polls : Rose polls_before polls_now → ⊥
-  pub on_front : Rose (before front) (now front) → ⊥
-  pub on_back : Rose (before back) (now back) → ⊥
+  pub on_client : Rose (before client_chan) (now client_chan) → ⊥
+  pub on_target : Rose (before target_chan) (now target_chan) → ⊥
 
 -- what the call answers: all were sent, and nothing failed; or the net failed; or memory lacked
 abbrev pub Serves : PacketPlan → (ChanNo → Traffic) → (ChanNo → Place) → (ChanNo → ℕ) → (ChanNo → ℕ) → ℕ → ℕ
@@ -96,10 +97,10 @@ IsLeft wanted (Closed at) = at ≡ wanted
 -- they were. No count of faults fell.
 pub record LeavesNothing (plan : PacketPlan) (traffic0 traffic : ChanNo → Traffic) (place0 place : ChanNo → Place)
     (before now : ChanNo → ℕ) (polls_before polls_now : ℕ) : Type 0 where
-  pub listened : IsLeft plan.listen (place front)
-  pub bound : IsLeft plan.local (place back)
-  pub other_traffic : (c : ChanNo) → c ≢ front → c ≢ back → traffic c ≡ traffic0 c
-  pub other_places : (c : ChanNo) → c ≢ front → c ≢ back → place c ≡ place0 c
-  pub other_faults : (c : ChanNo) → c ≢ front → c ≢ back → now c ≡ before c
+  pub listened : IsLeft plan.listen (place client_chan)
+  pub bound : IsLeft plan.local (place target_chan)
+  pub other_traffic : (c : ChanNo) → c ≢ client_chan → c ≢ target_chan → traffic c ≡ traffic0 c
+  pub other_places : (c : ChanNo) → c ≢ client_chan → c ≢ target_chan → place c ≡ place0 c
+  pub other_faults : (c : ChanNo) → c ≢ client_chan → c ≢ target_chan → now c ≡ before c
   pub later : (c : ChanNo) → before c ≤ now c
   pub polls : polls_before ≤ polls_now

@@ -16,7 +16,7 @@ use nio_base::Addr;
 use std::alloc::{AllocError, Global};
 use std::marker::Model;
 
-/// How many receives and sends a direction makes in a turn at most, so that the other one isn't kept waiting.
+/// How many receives and sends a direction makes in a round at most, so that the other one isn't kept waiting.
 const BURST: u32 = 128;
 
 /// What is known of a direction's readiness.
@@ -76,8 +76,8 @@ impl Direction {
         self.held.is_some()
     }
 
-    /// Whether its source is to be watched. Not while a packet waits for the sink: else each poll would tell of the next
-    /// one at once.
+    /// Whether its source is to be watched. Not while a packet waits for the sink: else each poll would tell of the
+    /// next one at once.
     pub(crate) fn is_reading(&self) -> bool {
         self.held.is_none() || !self.is_waiting
     }

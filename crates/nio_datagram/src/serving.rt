@@ -7,8 +7,8 @@ ghost use Rattle.nio_words.specs.Passes.{IsFirstPass};
 ghost use Rattle.nio_datagram.specs.Nets.{view_by, NoneFailed};
 ghost use Rattle.nio_datagram.specs.Packets.{no_traffic};
 ghost use Rattle.nio_datagram.specs.Relaying.{fresh_relay, IsDone, IsRelaying, Moves, Ran};
-ghost use Rattle.nio_datagram.specs.Serving.{front, back, IsRelayable, LeavesNothing, NoneRose, OneRose, RelaysPackets};
-ghost use Rattle.nio_datagram.specs.Serving.{Serves, ServesAllOr};
+ghost use Rattle.nio_datagram.specs.Serving.{client_chan, target_chan, IsRelayable, LeavesNothing, NoneRose};
+ghost use Rattle.nio_datagram.specs.Serving.{OneRose, RelaysPackets, Serves, ServesAllOr};
 ghost use Rattle.nio_datagram.specs.declared.net.Place.TheVariants as place_is;
 ghost use Rattle.nio_datagram.specs.declared.serving.PacketServeError.TheVariants.{NetFault};
 
@@ -68,17 +68,17 @@ const LIMITS: Limits = Limits {
 const ME: CallerNo = CallerNo(0);
 
 /// The channel to which the client sends.
-const FRONT: ChanNo = ChanNo(0);
+const CLIENT: ChanNo = ChanNo(0);
 
 /// The channel to which the target answers.
-pub(crate) const BACK: ChanNo = ChanNo(1);
+pub(crate) const TARGET: ChanNo = ChanNo(1);
 
 /// What a relay serves by: a board on which both of its channels are watched.
 #[derive(Drop)]
 struct Server<'a> {
     board: Board<'a>,
-    front: Watched,
-    back: Watched,
+    client: Watched,
+    target: Watched,
 }
 
 impl<'a> Server<'a> {
@@ -92,16 +92,20 @@ impl<'a> Server<'a> {
             return Err(Refused);
         }
         let mut board = Board::open(words, pass, ME)?;
-        let front = watch(&mut board, rt, FRONT)?;
-        let back = watch(&mut board, rt, BACK)?;
-        Ok(Server { board, front, back })
+        let client = watch(&mut board, rt, CLIENT)?;
+        let target = watch(&mut board, rt, TARGET)?;
+        Ok(Server {
+            board,
+            client,
+            target,
+        })
     }
 
     // Watches both channels for what the relay can use.
     fn watch(&mut self, relay: &Relay) -> Result<(), Refused> {
         let interests = relay.interests();
-        set(&mut self.board, &mut self.front, interests.front)?;
-        set(&mut self.board, &mut self.back, interests.back)
+        set(&mut self.board, &mut self.client, interests.client)?;
+        set(&mut self.board, &mut self.target, interests.target)
     }
 
     // One selection. It goes on, poll by poll, while the relay can use the operations that both channels are watched
@@ -120,7 +124,7 @@ impl<'a> Server<'a> {
         requires count { relay.old.forth.sent < count }
         ensures relaying { IsRelaying relay.new
             (view_by N.traffic N.packet_faults N.place N.ready N.poll_faults net.new) }
-        ensures server { relay.new.back.peer ≡ relay.old.back.peer }
+        ensures target { relay.new.target.peer ≡ relay.old.target.peer }
         ensures moves { Moves (view_by N.traffic N.packet_faults N.place N.ready N.poll_faults net.old)
             (view_by N.traffic N.packet_faults N.place N.ready N.poll_faults net.new) }
         ensures count { relay.new.forth.sent ≤ count }
@@ -147,8 +151,8 @@ impl<'a> Server<'a> {
         }
     }
 
-    // Binds channel 0 to `plan.listen` and channel 1 to `plan.local`, and serves until `plan.count` packets have gone to
-    // the target.
+    // Binds channel 0 to `plan.listen` and channel 1 to `plan.local`, and serves until `plan.count` packets have gone
+    // to the target.
     fn serve<R: Wait, N: PacketNet>(
         &mut self,
         rt: &R,
@@ -159,10 +163,10 @@ impl<'a> Server<'a> {
     ) -> Result<(), PacketServeError>
         requires plan { IsRelayable plan }
         requires fresh { relay.old ≡ fresh_relay }
-        requires front_unused { N.traffic net.old front ≡ no_traffic }
-        requires back_unused { N.traffic net.old back ≡ no_traffic }
-        requires front_unbound { N.place net.old front ≡ place_is.Unbound }
-        requires back_unbound { N.place net.old back ≡ place_is.Unbound }
+        requires client_unused { N.traffic net.old client_chan ≡ no_traffic }
+        requires target_unused { N.traffic net.old target_chan ≡ no_traffic }
+        requires client_unbound { N.place net.old client_chan ≡ place_is.Unbound }
+        requires target_unbound { N.place net.old target_chan ≡ place_is.Unbound }
         ensures ran { Ran plan relay.new (view_by N.traffic N.packet_faults N.place N.ready N.poll_faults net.old)
             (view_by N.traffic N.packet_faults N.place N.ready N.poll_faults net.new) }
         ensures done { OnOk result (IsDone plan relay.new
@@ -192,7 +196,7 @@ impl<'a> Server<'a> {
         requires count { relay.old.forth.sent ≤ count }
         ensures relaying { IsRelaying relay.new
             (view_by N.traffic N.packet_faults N.place N.ready N.poll_faults net.new) }
-        ensures server { relay.new.back.peer ≡ relay.old.back.peer }
+        ensures target { relay.new.target.peer ≡ relay.old.target.peer }
         ensures moves { Moves (view_by N.traffic N.packet_faults N.place N.ready N.poll_faults net.old)
             (view_by N.traffic N.packet_faults N.place N.ready N.poll_faults net.new) }
         ensures all { OnOk result (relay.new.forth.sent ≡ count) }
@@ -230,7 +234,7 @@ fn poll_on<R: Wait, N: PacketNet>(
     requires count { relay.old.forth.sent < count }
     ensures relaying { IsRelaying relay.new
         (view_by N.traffic N.packet_faults N.place N.ready N.poll_faults net.new) }
-    ensures server { relay.new.back.peer ≡ relay.old.back.peer }
+    ensures target { relay.new.target.peer ≡ relay.old.target.peer }
     ensures moves { Moves (view_by N.traffic N.packet_faults N.place N.ready N.poll_faults net.old)
         (view_by N.traffic N.packet_faults N.place N.ready N.poll_faults net.new) }
     ensures count { relay.new.forth.sent ≤ count }
@@ -241,7 +245,7 @@ fn poll_on<R: Wait, N: PacketNet>(
 {
     let watched = relay.interests();
     for _ in rt.forever() {
-        let told = turn(rt, alloc, net, relay, selection, count);
+        let told = round(rt, alloc, net, relay, selection, count);
         if told.is_err() || relay.forth.sent() == count || relay.interests() != watched {
             return told;
         }
@@ -249,8 +253,8 @@ fn poll_on<R: Wait, N: PacketNet>(
     unreachable!()
 }
 
-// One turn: one poll, and both directions as far as it told them ready. Answers what it told.
-fn turn<R: Wait, N: PacketNet>(
+// One round: one poll, and both directions as far as it told them ready. Answers what it told.
+fn round<R: Wait, N: PacketNet>(
     rt: &R,
     alloc: Global,
     net: &mut N,
@@ -262,7 +266,7 @@ fn turn<R: Wait, N: PacketNet>(
         (view_by N.traffic N.packet_faults N.place N.ready N.poll_faults net.old) }
     ensures relaying { IsRelaying relay.new
         (view_by N.traffic N.packet_faults N.place N.ready N.poll_faults net.new) }
-    ensures server { relay.new.back.peer ≡ relay.old.back.peer }
+    ensures target { relay.new.target.peer ≡ relay.old.target.peer }
     ensures moves { Moves (view_by N.traffic N.packet_faults N.place N.ready N.poll_faults net.old)
         (view_by N.traffic N.packet_faults N.place N.ready N.poll_faults net.new) }
     ensures count { relay.old.forth.sent < count → relay.new.forth.sent ≤ count }
@@ -283,12 +287,12 @@ fn turn<R: Wait, N: PacketNet>(
 
 // What a poll told of both channels, which may be more than they are watched for.
 fn ready_of(asked: &Asked, told: &Told) -> BothOps
-    ensures front { result.front ≡ told_of_channel asked.now told.now.pairs.items front }
-    ensures back { result.back ≡ told_of_channel asked.now told.now.pairs.items back }
+    ensures client { result.client ≡ told_of_channel asked.now told.now.pairs.items client_chan }
+    ensures target { result.target ≡ told_of_channel asked.now told.now.pairs.items target_chan }
 {
     BothOps {
-        front: told_of(asked, told, FRONT),
-        back: told_of(asked, told, BACK),
+        client: told_of(asked, told, CLIENT),
+        target: told_of(asked, told, TARGET),
     }
 }
 
@@ -299,22 +303,23 @@ fn pass_ready<N: PacketNet>(
     ready: BothOps,
     count: u32,
 ) -> Result<(), PacketServeError>
-    requires ready_front { IsTrue (is_within ready.front (N.ready net.old front)) }
-    requires ready_back { IsTrue (is_within ready.back (N.ready net.old back)) }
+    requires ready_client { IsTrue (is_within ready.client (N.ready net.old client_chan)) }
+    requires ready_target { IsTrue (is_within ready.target (N.ready net.old target_chan)) }
     requires relaying { IsRelaying relay.old
         (view_by N.traffic N.packet_faults N.place N.ready N.poll_faults net.old) }
     ensures relaying { IsRelaying relay.new
         (view_by N.traffic N.packet_faults N.place N.ready N.poll_faults net.new) }
-    ensures server { relay.new.back.peer ≡ relay.old.back.peer }
+    ensures target { relay.new.target.peer ≡ relay.old.target.peer }
     ensures moves { Moves (view_by N.traffic N.packet_faults N.place N.ready N.poll_faults net.old)
         (view_by N.traffic N.packet_faults N.place N.ready N.poll_faults net.new) }
     ensures count { relay.old.forth.sent < count → relay.new.forth.sent ≤ count }
     ensures still { OnOk result (NoneFailed (N.packet_faults net.old) (N.packet_faults net.new)
         (N.poll_faults net.old) (N.poll_faults net.new)) }
-    ensures cause { result ≡ Err NetFault → Rose (N.packet_faults net.old front) (N.packet_faults net.new front)
-        ⊎ Rose (N.packet_faults net.old back) (N.packet_faults net.new back) }
+    ensures cause { result ≡ Err NetFault
+        → Rose (N.packet_faults net.old client_chan) (N.packet_faults net.new client_chan)
+        ⊎ Rose (N.packet_faults net.old target_chan) (N.packet_faults net.new target_chan) }
 {
-    match relay.pass_both(net, ready.front, ready.back, count) {
+    match relay.pass_both(net, ready.client, ready.target, count) {
         Ok(()) => Ok(()),
         Err(_error) => Err(PacketServeError::NetFault),
     }
@@ -331,10 +336,10 @@ pub fn serve_packets<R: Wait, N: PacketNet>(
     plan: PacketPlan,
 ) -> Result<PacketsServed, PacketServeError>
     requires plan { IsRelayable plan }
-    requires front_unused { N.traffic net.old front ≡ no_traffic }
-    requires back_unused { N.traffic net.old back ≡ no_traffic }
-    requires front_unbound { N.place net.old front ≡ place_is.Unbound }
-    requires back_unbound { N.place net.old back ≡ place_is.Unbound }
+    requires client_unused { N.traffic net.old client_chan ≡ no_traffic }
+    requires target_unused { N.traffic net.old target_chan ≡ no_traffic }
+    requires client_unbound { N.place net.old client_chan ≡ place_is.Unbound }
+    requires target_unbound { N.place net.old target_chan ≡ place_is.Unbound }
     ensures relays { RelaysPackets plan.target (N.traffic net.new) }
     ensures serves { Serves plan (N.traffic net.new) (N.place net.new) (N.packet_faults net.old)
         (N.packet_faults net.new) (N.poll_faults net.old) (N.poll_faults net.new) result }
@@ -349,7 +354,7 @@ pub fn serve_packets<R: Wait, N: PacketNet>(
     let Ok(mut server) = Server::open(rt, &words, pass) else {
         return Err(PacketServeError::Memory);
     };
-    let Ok(mut relay) = Relay::make(alloc, FRONT, BACK) else {
+    let Ok(mut relay) = Relay::make(alloc, CLIENT, TARGET) else {
         return Err(PacketServeError::Memory);
     };
     let served = server.serve(rt, alloc, net, &mut relay, plan);
@@ -357,7 +362,7 @@ pub fn serve_packets<R: Wait, N: PacketNet>(
     match served {
         Ok(()) => Ok(PacketsServed {
             forth: relay.forth.sent(),
-            back: relay.backward.sent(),
+            back: relay.back.sent(),
         }),
         Err(error) => Err(error),
     }

@@ -1,5 +1,5 @@
-//! The state of the sequential selector, what callers in threads do to it as atomic events, which histories of events are
-//! legal, and the laws of those.
+//! The state of the sequential selector, the events by which callers in threads change it, which lists of events are
+//! legal histories, and the laws of legal histories.
 #![tactic(auto)]
 
 pub use act::Act;

@@ -16,7 +16,7 @@ use std::sync::Wait;
 
 /// Makes each call that accepts, connects, reads or writes for a job of its kind and channel, and uses that up. While
 /// there is none, such a call is "not yet", and the net isn't called. What calls came to is reported to those who hand
-/// out the jobs: all at once as the next turn begins, or, if they take it then, where a call lacks its job. Once they
+/// out the jobs: all at once as the next round begins, or, if they take it then, where a call lacks its job. Once they
 /// hand out none any more, a poll answers that memory lacks.
 #[derive(Drop)]
 pub struct ByJobs<E> {
@@ -28,7 +28,7 @@ pub struct ByJobs<E> {
     arrived: Vec<Job>,
     // jobs that were just handed out; empty between calls
     fresh: Vec<Job>,
-    // the link from which the last read of this turn took all that had come
+    // the link from which the last read of this round took all that had come
     emptied: Option<ChanNo>,
     // no jobs will come any more, for want of memory
     is_refused: bool,
@@ -95,7 +95,7 @@ impl<E: Exchange + Drop> ByJobs<E> {
         self.jobs.take(chan, kind)
     }
 
-    // Reports what calls came to within a turn, where that is taken: a job of this kind for this channel is wanted.
+    // Reports what calls came to within a round, where that is taken: a job of this kind for this channel is wanted.
     fn report_early(&mut self, chan: ChanNo, kind: OpKind) {
         if self.done.is_empty() {
             return;
@@ -115,8 +115,8 @@ impl<E: Exchange + Drop> ByJobs<E> {
         }
     }
 
-    // Takes in a job that was just handed out. The proxy may use it at once if it wants that now, or if there was one of
-    // the same kind and channel before: then it watches for that. Else the next turn says that it came.
+    // Takes in a job that was just handed out. The proxy may use it at once if it wants that now, or if there was one
+    // of the same kind and channel before: then it watches for that. Else the next round says that it came.
     fn take_in(&mut self, job: Job, is_wanted: bool) {
         if is_wanted || self.jobs.had_like(&job) {
             self.jobs.put(job);
@@ -215,7 +215,7 @@ impl<N: Net, E: Exchange + Drop> Way<JobNet<N>> for ByJobs<E> {
         Some(chan)
     }
 
-    fn begin_turn<R: Wait>(&mut self, rt: &R) {
+    fn begin_round<R: Wait>(&mut self, rt: &R) {
         let exchanged = self.exchange.exchange(rt, &mut self.done, &mut self.fresh);
         self.is_refused = self.is_refused || exchanged.is_err();
         self.take_in_all(None);

@@ -11,8 +11,8 @@ use nio_relay::CAPACITY;
 /// each read after a short one would be for the rest of a buffer.
 pub(crate) const ROOM: u64 = 2 * CAPACITY as u64;
 
-/// How many bytes a direction holds, and the lengths of the operations that are due in it: a write to the peer and a read
-/// from the stream. None is due where the length is 0.
+/// How many bytes a direction holds, and the lengths of the operations that are due in it: a write to the peer and a
+/// read from the stream. None is due where the length is 0.
 #[derive(Clone, Copy, Debug, PartialEq, Eq)]
 pub(crate) struct Due {
     pub held: u64,
@@ -49,8 +49,8 @@ pub(crate) fn after_write(held: u64, count: u64) -> Due
 }
 
 /// Where a read is in flight exactly where there is room, and a write exactly where bytes are held, what is due after a
-/// read or a write keeps that. So it begins, with one read; so some operation is in flight, until the stream has ended or
-/// a start was refused. What is held and what a due read may read fit together.
+/// read or a write keeps that. So it begins, with one read; so some operation is in flight, until the stream has ended
+/// or a start was refused. What is held and what a due read may read fit together.
 pub fn directions_law()
     ensures { StaysFlowing }
 {}

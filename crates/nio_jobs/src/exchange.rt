@@ -7,7 +7,7 @@ use nio_group::Job;
 use std::alloc::AllocError;
 use std::sync::Wait;
 
-/// What the calls of a turn came to.
+/// What the calls of a round came to.
 #[derive(Clone, Copy, Debug, PartialEq, Eq)]
 pub enum Done {
     /// The operation has this outcome.
@@ -18,8 +18,8 @@ pub enum Done {
     Closed(ChanNo),
 }
 
-/// What a way by jobs reports to, and gets jobs from: a group whose handlers start the operations, or a desk whose tickets
-/// are polled.
+/// What a way by jobs reports to, and gets jobs from: a group whose handlers start the operations, or a desk whose
+/// tickets are polled.
 pub trait Exchange {
     /// Should report what the calls came to, in their order, and add the jobs that have been handed out since to the
     /// others. It waits for none. The clauses say that nothing is left to report, and that no job is lost that was
@@ -34,8 +34,8 @@ pub trait Exchange {
         ensures reported { done.new.items ≡ [] }
         ensures kept { IsPrefix arrived.old.items arrived.new.items };
 
-    /// May do the same within a turn, where a call lacks its job, so that it can be made in this turn. It may wait only
-    /// for a lock. All is taken off `done`, or nothing.
+    /// May do the same within a round, where a call lacks its job, so that it can be made in this round. It may wait
+    /// only for a lock. All is taken off `done`, or nothing.
     fn exchange_early(&mut self, done: &mut Vec<Done>, arrived: &mut Vec<Job>)
         ensures reported { (done.new.items ≡ []) ⊎ (done.new.items ≡ done.old.items) }
         ensures kept { IsPrefix arrived.old.items arrived.new.items };

@@ -68,9 +68,9 @@ impl Directions {
         })
     }
 
-    /// What is due once an operation has completed. A read that gave bytes has a write of them to the peer, if none is in
-    /// flight, and reads on where there is room. A write has the rest, and reads on from the peer where that waited for
-    /// room. A target that is connected has a read from both streams.
+    /// What is due once an operation has completed. A read that gave bytes has a write of them to the peer, if none is
+    /// in flight, and reads on where there is room. A write has the rest, and reads on from the peer where that waited
+    /// for room. A target that is connected has a read from both streams.
     pub fn next(&mut self, chan: GChan, kind: OpKind, finished: Finished) -> Next
         requires { chan.0 < 4294967295 }
         ensures next { result ≡ next_after self.old chan kind finished }

@@ -1,4 +1,4 @@
--- What is true of each word of scripts: what it names, and what a race does with its line.
+-- A row for each call of scripts: what it names, and what a race does with its line.
 use Rattle.std.specs.Prelude.{ℕ, Bool, true, false, List, ⊤}
 use Rattle.nio_base.specs.declared.numbers.ChanNo.{ChanNo}
 use Rattle.nio_language.specs.declared.call.Call.{Call}
@@ -10,13 +10,13 @@ use Rattle.nio_language.specs.declared.word_row.LineNames.TheVariants.{None, One
 
 -- ---- names
 
--- it is so of each name
+-- P holds of each name
 abbrev pub EachName : (LineName → Type 0) → LineNames → Type 0
 EachName P None = ⊤
 EachName P (One a) = P a
 EachName P (Two a b) = P a × P b
 
--- what f makes of each name, the first one outermost
+-- what f makes of each name; that of the first name is outermost, so the first one is looked up first
 abbrev pub by_names : {A : Type 0} → (LineName → A → A) → LineNames → A → A
 by_names f None x = x
 by_names f (One a) x = f a x
@@ -34,16 +34,19 @@ pub data PipeUse : Type 0 where
 pub record WordRow : Type 0 where
   -- what has to be there before its call is made
   pub names : LineNames
-  -- Its call waits for a hold: where another caller has it, a race makes the line again.
+  -- Its call waits for the channel's hold. Where another caller has that, it replies `busy`, and a race makes the
+  -- line again.
   pub waits_for_hold : Bool
-  -- It may end the wait of a caller that blocks. Once its line is made, the code rings each caller's bell; no clause
-  -- says so.
+  -- It may end the wait of a caller that blocks. Once a race has made its line, the code (nio_race's `racer.rt`) rings
+  -- each caller's bell; no clause says so.
   pub wakes : Bool
-  -- It may stand behind `go`. Those that open a selector, a channel or a pipe may not, nor those on the group.
+  -- It may stand behind a race's `go`. Those that open a selector, a channel or a pipe may not, nor those on the
+  -- group.
   pub may_race : Bool
-  -- what it does with an end of a pipe
+  -- what it does where its channel is an end of a pipe
   pub on_pipe : PipeUse
 
+-- a call with these names that doesn't wait for a hold, wakes nobody, may race, and does nothing with a pipe
 abbrev pub named : LineNames → WordRow
 named names = record { names = names; waits_for_hold = false; wakes = false; may_race = true; on_pipe = neither }
 

@@ -32,12 +32,14 @@ impl<N> Model for JobNet<N> {
 }
 
 impl<N> JobNet<N> {
+    /// A net whose calls use up jobs, over this one.
     pub fn over(net: N) -> JobNet<N>
         ensures { result ≡ net }
     {
         JobNet { net }
     }
 
+    /// The net that its calls reach.
     pub fn into_net(self) -> N
         ensures { result ≡ self }
     {

@@ -85,8 +85,8 @@ impl Sockets {
         }
     }
 
-    // Waits until a bit that is asked for is kept. What comes for other channels is kept meanwhile, and a signal ends no
-    // wait.
+    // Waits until a bit that is asked for is kept. What comes for other channels is kept meanwhile, and a signal ends
+    // no wait.
     fn wait_for<R: Wait>(&mut self, rt: &R, asked: &Asked) -> Result<(), Failed> {
         for _ in rt.forever() {
             self.poll_for(None)?;

@@ -2,7 +2,7 @@
 ghost use Rattle.std.specs.Prelude.{◌≡◌, All};
 ghost use Rattle.nio_base.specs.declared.numbers.ChanNo.{ChanNo};
 ghost use Rattle.nio_datagram.specs.Packets.{no_traffic};
-ghost use Rattle.nio_datagram.specs.Serving.{back, front};
+ghost use Rattle.nio_datagram.specs.Serving.{client_chan, target_chan};
 ghost use Rattle.nio_datagram.specs.declared.net.Place.TheVariants as place_is;
 ghost use Rattle.nio_link.specs.Links.{IsUnused};
 ghost use Rattle.nio_link.specs.Places.{unused};
@@ -411,10 +411,10 @@ where
     requires unasked { (c : ChanNo) → N.place net c ≡ unused }
     requires more_fresh { All (λ x. (c : ChanNo) → IsUnused (N.link x c)) more.old.items }
     requires more_unasked { All (λ x. (c : ChanNo) → N.place x c ≡ unused) more.old.items }
-    requires front_unused { D.traffic packets.old front ≡ no_traffic }
-    requires back_unused { D.traffic packets.old back ≡ no_traffic }
-    requires front_unbound { D.place packets.old front ≡ place_is.Unbound }
-    requires back_unbound { D.place packets.old back ≡ place_is.Unbound }
+    requires client_unused { D.traffic packets.old client_chan ≡ no_traffic }
+    requires target_unused { D.traffic packets.old target_chan ≡ no_traffic }
+    requires client_unbound { D.place packets.old client_chan ≡ place_is.Unbound }
+    requires target_unbound { D.place packets.old target_chan ≡ place_is.Unbound }
 {
     let mut given = Vec::new(alloc);
     for word in words {

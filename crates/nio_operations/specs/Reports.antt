@@ -11,7 +11,7 @@ after_done g (done.Outcome op outcome) = after_report g op.0 outcome
 after_done g (done.Again chan kind) = g
 after_done g (done.Closed chan) = if nat_lt chan.0 (length g.channels) then after_close g chan.0 else g
 
--- what the reports of a turn do, in their order
-abbrev pub after_turn : Group → List Done → Group
-after_turn g [] = g
-after_turn g (one ∷ rest) = after_turn (after_done g one) rest
+-- what the reports of a round do, in their order
+abbrev pub after_round : Group → List Done → Group
+after_round g [] = g
+after_round g (one ∷ rest) = after_round (after_done g one) rest

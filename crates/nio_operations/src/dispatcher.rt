@@ -2,7 +2,7 @@
 ghost use mathlib.Core.List.{IsPrefix};
 ghost use Rattle.std.specs.Prelude.{◌≡◌, ◌⊎◌, [], IfErr, IfSome, IsNone, OnErr, OnOk};
 ghost use Rattle.nio_base.specs.declared.group.OpKind.TheVariants.{Connect};
-ghost use Rattle.nio_operations.specs.Reports.{after_done, after_turn};
+ghost use Rattle.nio_operations.specs.Reports.{after_done, after_round};
 ghost use Rattle.nio_operations.specs.Taking.{TakesAll};
 ghost use Rattle.nio_pool.specs.Queues.{IsPassOf, with_put};
 
@@ -57,7 +57,7 @@ impl<'a> Outbox<'a> {
 }
 
 /// Exchanges jobs with a group between threads, and starts the next operations itself but for those that are due once a
-/// target is connected. For these it wakes a worker once a turn, before it polls.
+/// target is connected. For these it wakes a worker once a round, before it polls.
 #[derive(Drop)]
 pub(crate) struct Dispatcher<'a, R> {
     pub rt: &'a R,
@@ -150,7 +150,7 @@ impl<'a, R: Wait> Dispatcher<'a, R> {
 
 // Reports what calls came to, and takes the next job of each operation that is still pending.
 fn report_all(core: &mut GroupCore, done: &[Done], arrived: &mut Vec<Job>)
-    ensures core { core.new ≡ after_turn core.old done.now }
+    ensures core { core.new ≡ after_round core.old done.now }
     ensures kept { IsPrefix arrived.old.items arrived.new.items }
 {
     for one in done {

@@ -1,5 +1,6 @@
 //! Serving the connections of a proxy by the operations of an asynchronous channel group. The calling thread makes the
-//! calls on the net, each for a job that the group handed out; workers run the handlers, which start the next operations.
+//! calls on the net, each for a job that the group handed out; workers run the handlers, which start the next
+//! operations.
 #![tactic(auto)]
 
 pub use serving::serve_group;

@@ -1,6 +1,7 @@
 //! Which operations are due next on the streams of the connections.
 ghost use mathlib.Core.List.{IsPrefix};
-ghost use Rattle.std.specs.Prelude.{◌≡◌, ◌≢◌, ◌↔◌, ◌<◌, ◌++◌, [], ℕ, IfOk, IfSome, IsFalse, IsNone, IsTrue, length, replicate};
+ghost use Rattle.std.specs.Prelude.{◌≡◌, ◌≢◌, ◌↔◌, ◌<◌, ◌++◌, [], ℕ, IfOk, IfSome, IsFalse, IsNone, IsTrue};
+ghost use Rattle.std.specs.Prelude.{length, replicate};
 ghost use Rattle.nio_group.specs.Flight.{IsPendingAs};
 ghost use Rattle.nio_group.specs.Steps.{after_start, IsJobOf};
 ghost use Rattle.nio_jobs.specs.Next.{held_after_finished};
@@ -61,8 +62,8 @@ impl Streams {
         tells
     }
 
-    /// Moves the jobs that the dispatcher hasn't taken yet to the end of those that it has. Where there is no memory they
-    /// stay.
+    /// Moves the jobs that the dispatcher hasn't taken yet to the end of those that it has. Where there is no memory
+    /// they stay.
     pub(crate) fn move_started_to(&mut self, arrived: &mut Vec<Job>)
         ensures none_lost { arrived.new.items ++ self.new.started.items ≡ arrived.old.items ++ self.old.started.items }
         ensures kept { IsPrefix arrived.old.items arrived.new.items }
@@ -82,7 +83,8 @@ impl Streams {
         }
     }
 
-    /// Starts what is due once an operation has completed. Nothing is due where it failed, or where the stream has ended.
+    /// Starts what is due once an operation has completed. Nothing is due where it failed, or where the stream has
+    /// ended.
     pub(crate) fn go_on(&mut self, core: &mut GroupCore, done: &Completion)
         requires { done.now.chan.0 < 4294967295 }
         ensures core { core.new ≡ after_handling self.old.directions core.old done.now }

@@ -1,5 +1,5 @@
-//! The proxy by operations over sockets: a client, the proxy and a target, each in a thread. The proxy's polls wait, and
-//! its handlers ring.
+//! The proxy by operations over sockets: a client, the proxy and a target, each in a thread. The proxy's polls wait,
+//! and its handlers ring.
 use nio_base::{Addr, Gate, NoGate};
 use nio_link::JobNet;
 use nio_mio::MioNet;

@@ -1,11 +1,12 @@
 -- Lists of acts: what one act more does to the words of careful histories and of debts.
 use Rattle.std.proofs.Common.{◌≡◌, ℕ, ◌+◌, ◌≤◌, Bool, true, false, cond, ◌&&◌, ◌||◌, not, ◌⊎◌, inl, inr, if◌then◌else◌}
 use Rattle.std.proofs.Common.{List, [], ◌∷◌, ◌++◌, refl, ap, sym, ◌∙◌, arith}
-use Rattle.std.proofs.lemmas.Bool.{or_parts, or_cases}
+use Rattle.std.proofs.Math.Bool.{or-false}
+use Rattle.std.proofs.lemmas.Bool.{or_cases}
 use Rattle.std.proofs.lemmas.List.Folds.{list_any-append}
 use Rattle.std.proofs.lemmas.List.Sums.{sum_by_push}
 use Rattle.nio_history.proofs.Legal.{not_empty}
-use Rattle.nio_history.proofs.OneMore.{has-more, since_from-more}
+use Rattle.nio_history.proofs.OneMore.{has-more, since_from-more, since_first-none, since_first-more}
 use Rattle.nio_history.specs.OwnEvents.{has, count, since_from, since_first, releases}
 use Rattle.nio_history.specs.declared.act.Act.{Act}
 use Rattle.nio_orderly.specs.Careful.{claims, leaves_below, finds_open, until_released, is_prepared}
@@ -16,11 +17,6 @@ use Rattle.nio_steps.proofs.SelectionLaws.{count-cons}
 
 pub has-append : (p : Act → Bool) (xs ys : List Act) → has p (xs ++ ys) ≡ (has p xs || has p ys)
 has-append p xs ys = list_any-append p xs ys
-
--- what isn't among all of them isn't among the first
-pub has_no_first : (p : Act → Bool) (xs ys : List Act) → has p (xs ++ ys) ≡ false
-    → (has p xs ≡ false) × (has p ys ≡ false)
-has_no_first p xs ys none_such = or_parts (has p xs) (has p ys) (sym (has-append p xs ys) ∙ none_such)
 
 pub count-more : (p : Act → Bool) (own : List Act) (act : Act)
     → count p (own ++ act ∷ []) ≡ count p own + cond (p act) 1 0
@@ -41,22 +37,6 @@ has_counts p q wider (act ∷ own) had = by_first (q act) refl (has_counts p q w
         omega (arith, count-cons p act own, rest)
 
 -- ---- spans
-
-pub since_first-more : (opens : Act → Bool) (own : List Act) (act : Act)
-    → since_first opens (own ++ act ∷ []) ≡ (if has opens own then since_first opens own ++ act ∷ [] else [])
-since_first-more opens [] act = by_test (opens act)
-  where
-    by_test : (b : Bool) → (cond {A = List Act} b [] []) ≡ []
-    by_test true = refl
-    by_test false = refl
-since_first-more opens (x ∷ own) act = by_test (opens x) (since_first-more opens own act)
-  where
-    by_test : (b : Bool)
-        → since_first opens (own ++ act ∷ []) ≡ (if has opens own then since_first opens own ++ act ∷ [] else [])
-        → (if b then own ++ act ∷ [] else since_first opens (own ++ act ∷ []))
-        ≡ (if b || has opens own then (if b then own else since_first opens own) ++ act ∷ [] else [])
-    by_test true rest = refl
-    by_test false rest = rest
 
 pub until_released-append : (c : ℕ) (xs ys : List Act)
     → (zs : List Act) × (until_released c (xs ++ ys) ≡ until_released c xs ++ zs)
@@ -88,11 +68,7 @@ owes-more duty (x ∷ since) act finds unsettled owing =
   where
     still : (has duty.settles (since ++ act ∷ [])) ≡ has duty.settles since
     still = has-append duty.settles since (act ∷ [])
-        ∙ (ap (λ b. has duty.settles since || (b || false)) unsettled ∙ or_false (has duty.settles since))
-      where
-        or_false : (b : Bool) → (b || false) ≡ b
-        or_false true = refl
-        or_false false = refl
+        ∙ (ap (λ b. has duty.settles since || (b || false)) unsettled ∙ or-false (has duty.settles since))
 
     by_look : (b : Bool) → (if b then duty.finds x && not (has duty.settles since) else owes duty since) ≡ true
         → (owes duty since ≡ true → owes duty (since ++ act ∷ []) ≡ true)
@@ -121,12 +97,6 @@ owes-settled duty (x ∷ since) later settled = by_look (duty.looks x) settled (
 
 -- ---- preparing
 
-pub since_first_none : (opens : Act → Bool) (own : List Act) → has opens own ≡ false → since_first opens own ≡ []
-since_first_none opens [] none_such = refl
-since_first_none opens (x ∷ own) none_such =
-    let both = or_parts (opens x) (has opens own) none_such in
-    ap (λ b. if b then own else since_first opens own) both.0 ∙ since_first_none opens own both.1
-
 prepared_in : (s i : ℕ) (own since : List Act) → since_first (leaves_below s i) own ≡ since → is_prepared s i own ≡ true
     → has (finds_open s) (since_from (claims s i) since) ≡ true
 prepared_in s i own since is prepared =
@@ -139,7 +109,7 @@ prepared_left s i own prepared = by_left (has (leaves_below s i) own) refl
     by_left : (b : Bool) → has (leaves_below s i) own ≡ b → b ≡ true
     by_left true had = refl
     by_left false none_such =
-        absurd (cc (prepared_in s i own [] (since_first_none (leaves_below s i) own none_such) prepared))
+        absurd (cc (prepared_in s i own [] (since_first-none (leaves_below s i) own none_such) prepared))
 
 -- an act after which a key is prepared doesn't claim its index, and the key was prepared before or the act finds the
 -- gate not shut
@@ -198,14 +168,3 @@ split_last (v ∷ xs) x (w ∷ ys) y zs eq =
       | inl it ↦ inl (record { before = cc (heads, it.before); act = it.act; later = it.later })
       | inr it ↦ inr (record { rest = it.rest; before = cc (heads, it.before); later = it.later })
     ]
-
-pub since_first-append : (opens : Act → Bool) (xs ys : List Act) → has opens xs ≡ true
-    → since_first opens (xs ++ ys) ≡ since_first opens xs ++ ys
-since_first-append opens [] ys had = absurd cc
-since_first-append opens (x ∷ xs) ys had = by_test (opens x) had (since_first-append opens xs ys)
-  where
-    by_test : (b : Bool) → (b || has opens xs) ≡ true
-        → (has opens xs ≡ true → since_first opens (xs ++ ys) ≡ since_first opens xs ++ ys)
-        → (if b then xs ++ ys else since_first opens (xs ++ ys)) ≡ (if b then xs else since_first opens xs) ++ ys
-    by_test true had' rest = refl
-    by_test false had' rest = rest had'

@@ -1,6 +1,7 @@
 -- What is left once a closing has done all its steps, and where nobody owes anything.
 use Rattle.std.proofs.Common.{◌≡◌, ℕ, ◌<◌, Bool, true, false, not, ◌||◌, ◌⊎◌, inl, inr, Option, Some, None, List, []}
 use Rattle.std.proofs.Common.{◌∷◌, ◌++◌, append_assoc, refl, ap, sym, ◌∙◌, subst, eqb-true, eq-eqb}
+use Rattle.std.proofs.Math.Bool.{or-false}
 use Rattle.std.proofs.lemmas.Bool.{and_parts, or_right, false_from_ne_true}
 use Rattle.nio_base.specs.Limits.{IsFit}
 use Rattle.nio_base.specs.declared.limits.Limits.{Limits}
@@ -10,7 +11,8 @@ use Rattle.nio_base.specs.declared.numbers.KeyId.{KeyId}
 use Rattle.nio_base.specs.declared.numbers.SelNo.{SelNo}
 use Rattle.nio_history.proofs.LastsOnceSound.{permanent_stands}
 use Rattle.nio_history.proofs.Legal.{legal_beginning, legal_next, legal_more, legal_induction}
-use Rattle.nio_history.proofs.OneMore.{state_after-more, mine-own, mine-other, has-more}
+use Rattle.nio_history.proofs.OneMore.{state_after-more, mine-own, mine-other, has-more, mine-append}
+use Rattle.nio_history.proofs.OneMore.{since_first-append}
 use Rattle.nio_history.proofs.PinLaws.{own_claims_stand}
 use Rattle.nio_history.proofs.Put.{put_keeps}
 use Rattle.nio_history.proofs.Soundness.{legal-sound, both_ways}
@@ -28,7 +30,7 @@ use Rattle.nio_history.specs.declared.act.Act.{Act}
 use Rattle.nio_history.specs.declared.act.Act.TheVariants.{Publish, Enter, CloseBit}
 use Rattle.nio_history.specs.declared.event.Event.{Event}
 use Rattle.nio_history.specs.declared.found.Stage.{Stage}
-use Rattle.nio_orderly.proofs.ActLists.{owes-settled, since_first-append}
+use Rattle.nio_orderly.proofs.ActLists.{owes-settled}
 use Rattle.nio_orderly.proofs.Cancelling.{ClosedBy, closed_by, owed_by}
 use Rattle.nio_orderly.proofs.Clearing.{clearing_owed}
 use Rattle.nio_orderly.proofs.KeysStand.{set_claimed}
@@ -38,7 +40,7 @@ use Rattle.nio_orderly.specs.AfterClosing.{OnlyPublishersOwe, ClosedSelectorsHav
 use Rattle.nio_orderly.specs.Careful.{IsCareful}
 use Rattle.nio_orderly.specs.Owed.{publishes_key, owes, publisher_duty, closing_duty, clearing_duty, OwesSince, key_of}
 use Rattle.nio_orderly.specs.Settled.{IsSettled, SettledLosesNoKey}
-use Rattle.nio_steps.proofs.OwnActs.{Cut, cut_at, mine-append}
+use Rattle.nio_steps.proofs.OwnActs.{Cut, cut_at}
 
 -- the selector of an index that has a key is below the limit
 valid_within : (l : Limits) (events : List Event) (s i : ℕ) → IsLegal l events
@@ -118,11 +120,7 @@ came_entered st me (Enter k None) s =
     (λ old e. inr (eq-eqb k.0 k.0 refl)) s (λ e. inl e)
 came_entered st me (Enter k (Some n)) s =
     put_keeps (λ m b. b ≡ true → (st.entered m ≡ true) ⊎ (enters m (Enter k (Some n)) ≡ true)) st.entered k.0 _
-    (λ old e. inl (either_left (st.entered k.0) e)) s (λ e. inl e)
-  where
-    either_left : (b : Bool) → (b || false) ≡ true → b ≡ true
-    either_left true e = refl
-    either_left false e = e
+    (λ old e. inl (sym (or-false (st.entered k.0)) ∙ e)) s (λ e. inl e)
 came_entered st me act s = λ e. inl e
 
 entering_closer : (l : Limits) (own : List Act) (st : State) (me : CallerNo) (act : Act) (s : ℕ)

@@ -6,6 +6,7 @@ use Rattle.std.proofs.lemmas.List.{append-nil, map-append}
 use Rattle.std.proofs.lemmas.List.Elements.{filter-append}
 use Rattle.nio_base.specs.declared.limits.Limits.{Limits}
 use Rattle.nio_base.specs.declared.numbers.CallerNo.{CallerNo}
+use Rattle.nio_history.proofs.OneMore.{mine-append}
 use Rattle.nio_history.specs.Histories.{is_by, mine, event_of}
 use Rattle.nio_history.specs.declared.act.Act.{Act}
 use Rattle.nio_history.specs.declared.act.Act.TheVariants.{TakeInterrupt}
@@ -14,7 +15,6 @@ use Rattle.nio_orderly.specs.Made.{Made, IsRun, after_call, after_calls, MayCome
 use Rattle.nio_orderly.specs.Orderly.{AreRuns, HasMadeCalls, MadeBy, AreRunsBy, calls_of}
 use Rattle.nio_orderly.specs.OrderlyLaws.{BeginningsAreOrderly, WholeIsOrderly, OneCallMore, OrderlyEndsInCall}
 use Rattle.nio_orderly.specs.OrderlyLaws.{SerialIsWhole, SerialCallMore}
-use Rattle.nio_steps.proofs.OwnActs.{mine-append}
 use Rattle.nio_steps.specs.Ongoing.{Ongoing, nothing_ongoing}
 use Rattle.nio_steps.specs.SelectCalls.{interrupted_plan}
 use Rattle.nio_steps.specs.TableCalls.{interrupted}

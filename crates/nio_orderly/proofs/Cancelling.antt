@@ -1,15 +1,14 @@
 -- The debt of a cancelling: of a valid key of a closed channel, in every legal and careful history, its publisher or
 -- who closed the channel owes the cancelling.
-use Rattle.std.proofs.Common.{◌≡◌, ℕ, ◌==◌, Bool, true, false, not, ◌&&◌, ◌⊎◌, inl, inr, Option, Some, None}
-use Rattle.std.proofs.Common.{if◌then◌else◌, List, [], ◌∷◌, ◌++◌, append_assoc, refl, ap, sym, ◌∙◌, subst, eqb-true}
-use Rattle.std.proofs.Common.{eq-eqb}
-use Rattle.std.proofs.lemmas.Bool.{and_parts, and_from, or_from, false_from_ne_true}
+use Rattle.std.proofs.Common.{◌≡◌, ℕ, ◌==◌, Bool, true, false, not, ◌&&◌, ◌⊎◌, inl, inr, Option, Some, List, [], ◌∷◌}
+use Rattle.std.proofs.Common.{◌++◌, append_assoc, refl, ap, sym, ◌∙◌, subst, eqb-true, eq-eqb}
+use Rattle.std.proofs.lemmas.Bool.{and_parts, and_from, or_from, not-true, false_from_ne_true}
 use Rattle.nio_base.specs.Limits.{IsFit}
 use Rattle.nio_base.specs.declared.limits.Limits.{Limits}
 use Rattle.nio_base.specs.declared.numbers.CallerNo.{CallerNo}
 use Rattle.nio_base.specs.declared.numbers.ChanNo.{ChanNo}
 use Rattle.nio_base.specs.declared.numbers.KeyId.{KeyId}
-use Rattle.nio_history.proofs.Claims.{if_some}
+use Rattle.nio_history.proofs.Holds.{outside_told}
 use Rattle.nio_history.proofs.LastsOnceSound.{permanent_stands}
 use Rattle.nio_history.proofs.Legal.{legal_more, legal_induction}
 use Rattle.nio_history.proofs.OneMore.{state_after-more, mine-own, mine-other}
@@ -18,18 +17,18 @@ use Rattle.nio_history.proofs.Soundness.{legal-sound, both_ways}
 use Rattle.nio_history.specs.Acts.{effect}
 use Rattle.nio_history.specs.Answers.{Answers}
 use Rattle.nio_history.specs.Histories.{state_after, event_of, is_by, mine, IsStep, IsLegal}
-use Rattle.nio_history.specs.OwnEvents.{stage_found, is_outside, finds_outside}
+use Rattle.nio_history.specs.OwnEvents.{finds_outside}
 use Rattle.nio_history.specs.Permanent.{channel_closed}
 use Rattle.nio_history.specs.Sets.{in_key_set, is_in_key_set, is_valid}
 use Rattle.nio_history.specs.Sound.{IsSound}
 use Rattle.nio_history.specs.State.{State}
 use Rattle.nio_history.specs.declared.act.Act.{Act}
-use Rattle.nio_history.specs.declared.act.Act.TheVariants.{LookKey, CancelKey, LookChannel, LookReg, CloseBit, Pin}
+use Rattle.nio_history.specs.declared.act.Act.TheVariants.{CancelKey, LookChannel, LookReg, CloseBit}
 use Rattle.nio_history.specs.declared.event.Event.{Event}
 use Rattle.nio_history.specs.declared.found.Stage.{Stage}
 use Rattle.nio_orderly.proofs.ActLists.{owes-more, AtEnd, Within, split_last}
 use Rattle.nio_orderly.proofs.Careful.{beginnings_are_careful}
-use Rattle.nio_orderly.proofs.KeySet.{is_false, WasThere, was_valid, came, came_closed}
+use Rattle.nio_orderly.proofs.KeySet.{WasThere, was_valid, came, came_closed}
 use Rattle.nio_orderly.proofs.KeysStand.{keys_stand, set_fits}
 use Rattle.nio_orderly.specs.Careful.{IsCareful}
 use Rattle.nio_orderly.specs.Owed.{publishes_key, closes, looks_at_channel, finds_closed, looks_for_key, finds_key}
@@ -114,33 +113,6 @@ cancelled_now st me (CancelKey s' i' found) s i told =
     ap (λ k. k.cancelled) (put_at-there st.key s'.0 i' (record (st.key s'.0 i') { cancelled = true }) s i told)
 cancelled_now st me act s i told = absurd (cc told)
 
--- a stage that was found stands there
-stage_is : (st : State) (s' i' s i : ℕ) (there found : Stage)
-    → (if (s' == s) && (i' == i) then Some there else None) ≡ Some found → there ≡ st.key s' i' → st.key s i ≡ found
-stage_is st s' i' s i there found told is =
-    let parts = if_some ((s' == s) && (i' == i)) there found told in
-    let both = and_parts (s' == s) (i' == i) parts.0 in
-    let first : s' ≡ s = eqb-true s' s both.0 in
-    let second : i' ≡ i = eqb-true i' i both.1 in
-    subst (λ (m : ℕ). st.key m i ≡ found) first (subst (λ (m : ℕ). st.key s' m ≡ found) second (sym is ∙ parts.1))
-
-stage_told : (st : State) (me : CallerNo) (act : Act) (s i : ℕ) (found : Stage) → Answers st me act
-    → stage_found s i act ≡ Some found → (effect st me act).key s i ≡ found
-stage_told st me (LookKey s' i' there) s i found answers told = stage_is st s'.0 i' s i there found told cc
-stage_told st me (Pin s' i' there) s i found answers told = stage_is st s'.0 i' s i there found told cc
-stage_told st me act s i found answers told = absurd (cc told)
-
-outside_told : (st : State) (me : CallerNo) (act : Act) (s : ℕ) (k : KeyId) → Answers st me act
-    → finds_outside s k act ≡ true → is_in_key_set ((effect st me act).key s k.index) k.serial ≡ false
-outside_told st me act s k answers told = by_found (stage_found s k.index act) refl told
-  where
-    by_found : (o : Option Stage) → stage_found s k.index act ≡ o → is_outside k.serial o ≡ true
-        → is_in_key_set ((effect st me act).key s k.index) k.serial ≡ false
-    by_found None found outside = absurd cc
-    by_found (Some stage) found outside =
-        ap (λ x. is_in_key_set x k.serial) (stage_told st me act s k.index stage answers found)
-        ∙ is_false (is_in_key_set stage k.serial) outside
-
 -- a step after which the key is valid didn't settle it
 unsettled : (st : State) (me : CallerNo) (act : Act) (s i : ℕ) → Answers st me act → IsSound (effect st me act)
     → is_valid ((effect st me act).key s i) ≡ true
@@ -159,7 +131,7 @@ unsettled st me act s i answers sound valid =
     parts = and_parts (in_key_set now) (not now.cancelled) valid
 
     not_cancelled : cancels s i act ≡ true → ⊥
-    not_cancelled told = both_ways now.cancelled (cancelled_now st me act s i told) (is_false now.cancelled parts.1)
+    not_cancelled told = both_ways now.cancelled (cancelled_now st me act s i told) (not-true now.cancelled parts.1)
 
     not_outside : finds_outside s k act ≡ true → ⊥
     not_outside told =

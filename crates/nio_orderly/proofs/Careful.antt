@@ -3,18 +3,17 @@ use Rattle.std.proofs.Common.{◌≡◌, ℕ, ◌==◌, ◌+◌, ◌≤◌, true
 use Rattle.std.proofs.Common.{sym, ◌∙◌, arith, eq-eqb}
 use Rattle.std.proofs.lemmas.Bool.{and_parts}
 use Rattle.nio_base.specs.declared.numbers.SelNo.{SelNo}
-use Rattle.nio_history.proofs.OneMore.{mine-own}
+use Rattle.nio_history.proofs.OneMore.{mine-own, mine-append, has_none-append}
 use Rattle.nio_history.specs.Histories.{mine}
 use Rattle.nio_history.specs.OwnEvents.{OwnClaim, has, count, under, sets_mode, own_claim}
 use Rattle.nio_history.specs.declared.act.Act.{Act}
 use Rattle.nio_history.specs.declared.act.Act.TheVariants.{Publish, Enrol}
 use Rattle.nio_history.specs.declared.event.Event.{Event}
 use Rattle.nio_history.specs.declared.found.Stage.{Stage}
-use Rattle.nio_orderly.proofs.ActLists.{has_no_first, has_counts, until_released-append}
+use Rattle.nio_orderly.proofs.ActLists.{has_counts, until_released-append}
 use Rattle.nio_orderly.proofs.LookingBack.{MayPublish}
 use Rattle.nio_orderly.specs.Careful.{enrols_for, enrols_this_key, until_released, its_hold, KeepsRules, IsCareful}
 use Rattle.nio_orderly.specs.Careful.{BeginningsAreCareful}
-use Rattle.nio_steps.proofs.OwnActs.{mine-append}
 use Rattle.nio_steps.proofs.SelectionLaws.{count-append}
 
 -- who enrols a key for a channel enrols one for it
@@ -37,7 +36,7 @@ rules_before s i claim before later more rules = record {
   enrolled_alone = one_among (count (enrols_for c) (its_hold c before later)) (count (enrols_for c) rest.0) some
       (sym (count-append (enrols_for c) (its_hold c before later) rest.0)
       ∙ (ap (count (enrols_for c)) (sym whole) ∙ rules.enrolled_alone));
-  mode = (has_no_first (sets_mode c) (its_hold c before later) rest.0
+  mode = (has_none-append (sets_mode c) (its_hold c before later) rest.0
       (ap (has (sets_mode c)) (sym whole) ∙ rules.mode)).0;
   prepared = rules.prepared;
 }
@@ -77,7 +76,7 @@ rules_back s i claim before later rules = record {
       (has_counts (enrols_for c) (enrols_this_key c s i claim.serial) (key_enrolled_for c s i claim.serial)
       (under c before) rules.enrolled)
       (sym (count-append (enrols_for c) (under c before) (until_released c later)) ∙ rules.enrolled_alone);
-  mode = (has_no_first (sets_mode c) (under c before) (until_released c later) rules.mode).0;
+  mode = (has_none-append (sets_mode c) (under c before) (until_released c later) rules.mode).0;
   prepared = rules.prepared;
 }
   where

@@ -3,7 +3,7 @@
 use Rattle.std.proofs.Common.{◌≡◌, ℕ, ◌==◌, ◌<◌, Bool, true, false, cond, not, ◌&&◌, ◌||◌, ◌⊎◌, inl, inr, Option, Some}
 use Rattle.std.proofs.Common.{None, is_some, List, [], ◌∷◌, ◌++◌, refl, ap, sym, ◌∙◌, subst, eqb-true, arith}
 use Rattle.std.specs.Prelude.{nat_lt}
-use Rattle.std.proofs.lemmas.Bool.{and_parts, and_from, false_from_ne_true}
+use Rattle.std.proofs.lemmas.Bool.{and_parts, and_from, not-true, not_from_false, false_from_ne_true}
 use Rattle.nio_base.specs.Limits.{IsFit}
 use Rattle.nio_base.specs.declared.limits.Limits.{Limits}
 use Rattle.nio_base.specs.declared.numbers.CallerNo.{CallerNo}
@@ -11,7 +11,8 @@ use Rattle.nio_history.proofs.Claims.{claim_after, own_claim-more, if_some}
 use Rattle.nio_history.proofs.Counts.{pinned_by}
 use Rattle.nio_history.proofs.KeyChanges.{KeepsStages, stages_keep}
 use Rattle.nio_history.proofs.Legal.{legal_more, legal_induction}
-use Rattle.nio_history.proofs.OneMore.{state_after-more, mine-own, mine-other, has-more}
+use Rattle.nio_history.proofs.OneMore.{state_after-more, mine-own, mine-other, has-more, since_first-none}
+use Rattle.nio_history.proofs.OneMore.{since_first-more}
 use Rattle.nio_history.proofs.PinLaws.{own_claims_stand}
 use Rattle.nio_history.proofs.Put.{put_keeps, put_at-there}
 use Rattle.nio_history.proofs.Soundness.{legal-sound, both_ways, pinned-claimed}
@@ -28,9 +29,9 @@ use Rattle.nio_history.specs.declared.act.Act.{Act}
 use Rattle.nio_history.specs.declared.act.Act.TheVariants.{LookGate, Claim, LookKeys, Remove, ShutBit, Unpin}
 use Rattle.nio_history.specs.declared.act.Act.TheVariants.{ClaimAgain}
 use Rattle.nio_history.specs.declared.event.Event.{Event}
-use Rattle.nio_orderly.proofs.ActLists.{since_first-more, since_first_none, owes-more, prepared-more}
+use Rattle.nio_orderly.proofs.ActLists.{owes-more, prepared-more}
 use Rattle.nio_orderly.proofs.Careful.{beginnings_are_careful}
-use Rattle.nio_orderly.proofs.KeySet.{is_false, is_not, WasThere, came}
+use Rattle.nio_orderly.proofs.KeySet.{WasThere, came}
 use Rattle.nio_orderly.proofs.KeysStand.{keys_stand, published, prepared_below}
 use Rattle.nio_orderly.proofs.Standing.{entered_told}
 use Rattle.nio_orderly.specs.Careful.{claims, finds_open, is_prepared, IsCareful}
@@ -59,7 +60,7 @@ open_told st me (LookGate k found) s answers told =
     let both = and_parts (k.0 == s) (not found.shut) told in
     let same : k.0 ≡ s = eqb-true k.0 s both.0 in
     let found_is : found ≡ st.gate k.0 = cc in
-    subst (λ (m : ℕ). (st.gate m).shut ≡ false) same (subst (λ g. g.shut ≡ false) found_is (is_false found.shut both.1))
+    subst (λ (m : ℕ). (st.gate m).shut ≡ false) same (subst (λ g. g.shut ≡ false) found_is (not-true found.shut both.1))
 open_told st me act s answers told = absurd (cc told)
 
 -- who claims an index is one who claims it
@@ -169,13 +170,14 @@ coming_before l past e fit legal step careful s i shut coming = by_how coming.ho
 
     in_set : (st'.key s i).published ≡ true → in_key_set (st'.key s i) ≡ true
     in_set published' =
-        and_from (st'.key s i).published (not (st'.key s i).removed) published' (is_not (st'.key s i).removed unremoved)
+        and_from (st'.key s i).published (not (st'.key s i).removed) published'
+        (not_from_false (st'.key s i).removed unremoved)
 
     by_published : WasThere (st.key s i) (st'.key s i)
         ⊎ (publishes_key (st'.key s i).chan.0 s (key_of st' s i) e.act ≡ true) → IsComing past s i
     by_published (inl was) =
         let both = and_parts (st.key s i).published (not (st.key s i).removed) was.in_set in
-        record { unremoved = is_false (st.key s i).removed both.1; how = inl both.0 }
+        record { unremoved = not-true (st.key s i).removed both.1; how = inl both.0 }
     by_published (inr new) =
         let its = published l past e fit legal step careful (st'.key s i).chan.0 s (key_of st' s i) new in
         record {
@@ -225,7 +227,7 @@ coming_below l events fit legal careful s i coming = elim coming.how [
   | inl published' ↦
       (keys_stand l fit events legal careful).below s i
       (and_from ((state_after events).key s i).published (not ((state_after events).key s i).removed) published'
-      (is_not ((state_after events).key s i).removed coming.unremoved))
+      (not_from_false ((state_after events).key s i).removed coming.unremoved))
   | inr m ↦ prepared_below l m.caller events s i legal m.prepared
 ]
 
@@ -272,7 +274,7 @@ clearing_step l past e fit legal step careful s i n before closer coming =
 
     -- who hasn't entered owes
     not_in : (own : List Act) → has (enters s) own ≡ false → owes (clearing_duty s i) (since_entered s own) ≡ true
-    not_in own none_such = ap (owes (clearing_duty s i)) (since_first_none (enters s) own none_such)
+    not_in own none_such = ap (owes (clearing_duty s i)) (since_first-none (enters s) own none_such)
 
     by_entered : (b : Bool) → has (enters s) (mine n past) ≡ b → is_by n e ≡ true
         → owes (clearing_duty s i) (since_entered s (mine n past)) ≡ true

@@ -2,7 +2,7 @@
 use Rattle.std.proofs.Common.{◌≡◌, ℕ, ◌+◌, ◌<◌, ◌≤◌, ◌==◌, nat_lt, Bool, true, false, not, ◌&&◌, ◌||◌, if◌then◌else◌}
 use Rattle.std.proofs.Common.{Some, None, is_some, List, [], ◌∷◌, ◌++◌, refl, ap, sym, ◌∙◌, subst, eqb-true, eq-eqb}
 use Rattle.std.proofs.Common.{arith}
-use Rattle.std.proofs.lemmas.Bool.{ltb-true, ltb-false}
+use Rattle.std.proofs.lemmas.Bool.{ltb-true, ltb-false, ne_eqb}
 use Rattle.std.proofs.lemmas.List.{append-nil}
 use Rattle.nio_base.specs.declared.limits.Limits.{Limits}
 use Rattle.nio_base.specs.declared.numbers.ChanNo.{ChanNo}
@@ -19,9 +19,10 @@ use Rattle.nio_history.specs.declared.found.Stage.{Stage}
 use Rattle.nio_orderly.proofs.ActLists.{owes-settled}
 use Rattle.nio_orderly.proofs.Kept.{Kept, kept-append, kept-one, kept-none, kept-calm, kept-closing, kept-entering}
 use Rattle.nio_orderly.proofs.Kept.{calm, keeping}
-use Rattle.nio_orderly.proofs.ListWords.{has-first, has-second, has-neither, owes-later}
+use Rattle.nio_orderly.proofs.ListWords.{has-first, has-second, owes-later}
 use Rattle.nio_orderly.specs.Owed.{owes, closing_duty, clearing_duty, settles_key, looks_for_key}
 use Rattle.nio_steps.proofs.PlanWalks.{Walks}
+use Rattle.nio_steps.proofs.SelectionLaws.{none_of-append}
 use Rattle.nio_steps.proofs.Walks.{Always, always_weaker, always_bind, always_sweep}
 use Rattle.nio_steps.specs.ChannelCalls.{cancel_at, cancel_enrolled, cancel_keys, close_channel_plan}
 use Rattle.nio_steps.specs.KeyCalls.{cancel_plan}
@@ -115,9 +116,9 @@ cancels_key l s k =
       settles = has-second (settles_key s.0 k) (pinned ∷ []) (cancelled ∷ unpinned ∷ [])
           (has-first (settles_key s.0 k) (cancelled ∷ []) (unpinned ∷ [])
           (ap (λ b. b || false) (cancel-settles s k cancelled asks')));
-      looks = λ c t. has-neither (looks_for_key c t) (pinned ∷ []) (cancelled ∷ unpinned ∷ [])
+      looks = λ c t. none_of-append (looks_for_key c t) (pinned ∷ []) (cancelled ∷ unpinned ∷ [])
           (elsewhere-one c t pinned (ap looks_elsewhere asks))
-          (has-neither (looks_for_key c t) (cancelled ∷ []) (unpinned ∷ [])
+          (none_of-append (looks_for_key c t) (cancelled ∷ []) (unpinned ∷ [])
           (elsewhere-one c t cancelled (ap looks_elsewhere asks'))
           (elsewhere-one c t unpinned (ap looks_elsewhere asks'')));
     }
@@ -125,7 +126,7 @@ cancels_key l s k =
       kept = kept_two l pinned unpinned (ap calm asks) (ap calm asks');
       settles = has-first (settles_key s.0 k) (pinned ∷ []) (unpinned ∷ [])
           (ap (λ b. b || false) (pin-settles s k pinned asks is));
-      looks = λ c t. has-neither (looks_for_key c t) (pinned ∷ []) (unpinned ∷ [])
+      looks = λ c t. none_of-append (looks_for_key c t) (pinned ∷ []) (unpinned ∷ [])
           (elsewhere-one c t pinned (ap looks_elsewhere asks)) (elsewhere-one c t unpinned (ap looks_elsewhere asks'));
     }
 
@@ -171,7 +172,7 @@ cancels_enrolled l c s = λ looked asks. by_act looked asks
               λ k. ap (λ b. if b then (b && ((k'.index == k.index) && (k'.serial == k.serial)))
               && not (has (settles_key s k) acts) else owes (closing_duty c.0 s k) acts) (here s ∙ same_number s)
               ∙ by_key acts cancelled.settles k (k'.index == k.index) (k'.serial == k.serial) refl refl;
-          looks = λ t other. has-neither (looks_for_key c.0 t) (LookReg c' s' (Some k') ∷ []) acts
+          looks = λ t other. none_of-append (looks_for_key c.0 t) (LookReg c' s' (Some k') ∷ []) acts
               (ap (λ b. b || false) (here t ∙ other)) (cancelled.looks c.0 t);
         }) (cancels_key l (selector s) k')
       where
@@ -210,20 +211,13 @@ record Cancelled (l : Limits) (c : ChanNo) (below : ℕ) (acts : List Act) : Typ
   settled : (s : ℕ) (k : KeyId) → s < below → owes (closing_duty c.0 s k) acts ≡ false
   looks : (t : ℕ) → below ≤ t → has (looks_for_key c.0 t) acts ≡ false
 
-other_number : (m n : ℕ) → m < n → (m == n) ≡ false
-other_number m n below = by_test (m == n) refl
-  where
-    by_test : (b : Bool) → (m == n) ≡ b → b ≡ false
-    by_test true is = let same = eqb-true m n is in absurd (omega arith)
-    by_test false is = refl
-
 one_more : (l : Limits) (c : ChanNo) (s : ℕ) (xs ys : List Act) → Cancelled l c s xs → CancelsEnrolled l c s ys
     → Cancelled l c (s + 1) (xs ++ ys)
 one_more l c s xs ys before turn = record {
   kept = kept-append l xs ys before.kept turn.kept;
   settled = λ t k below. by_test t k below (s == t) refl;
-  looks = λ t above. has-neither (looks_for_key c.0 t) xs ys (before.looks t (omega arith))
-      (turn.looks t (other_number s t (omega arith)));
+  looks = λ t above. none_of-append (looks_for_key c.0 t) xs ys (before.looks t (omega arith))
+      (turn.looks t (ne_eqb s t (λ same. absurd (omega arith))));
 }
   where
     by_test : (t : ℕ) (k : KeyId) → t < s + 1 → (b : Bool) → (s == t) ≡ b
@@ -291,7 +285,7 @@ removes_one : (l : Limits) (s : SelNo) (i : ℕ) (xs : List Act) → Removed l s
     → Always (λ acts _. Removed l s (i + 1) (xs ++ acts)) (remove_key s i)
 removes_one l s i xs before = λ act asks. record {
   kept = kept-append l xs (act ∷ []) before.kept (kept-one l act (ap calm asks));
-  unentered = has-neither (enters s.0) xs (act ∷ []) before.unentered
+  unentered = none_of-append (enters s.0) xs (act ∷ []) before.unentered
       (ap (λ b. b || false) (not_entering s.0 act (ap calm asks)));
   removed = λ j below. by_side act asks j below (nat_lt j i) refl;
 }

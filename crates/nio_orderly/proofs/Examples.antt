@@ -9,7 +9,7 @@ use Rattle.std.proofs.lemmas.List.{append-nil}
 use Rattle.nio_base.specs.Limits.{IsFit}
 use Rattle.nio_base.specs.declared.numbers.CallerNo.{CallerNo}
 use Rattle.nio_history.proofs.Legal.{not_empty, legal_beginning, legal_more}
-use Rattle.nio_history.proofs.OneMore.{mine-other}
+use Rattle.nio_history.proofs.OneMore.{mine-other, mine-append}
 use Rattle.nio_history.proofs.Soundness.{both_ways}
 use Rattle.nio_history.proofs.WorkedSteps.{worked_history_is_legal}
 use Rattle.nio_history.specs.Histories.{event_of, mine, IsLegal}
@@ -25,7 +25,6 @@ use Rattle.nio_orderly.proofs.Owed.{nothing_is_lost}
 use Rattle.nio_orderly.specs.Careful.{IsCareful}
 use Rattle.nio_orderly.specs.Examples.{closed_meanwhile, DebtStands, unenrolled_key, CancellationIsLost}
 use Rattle.nio_orderly.specs.Owed.{publishes_key, closes, Duty, owes, publisher_duty, closing_duty, OwesSince, Owed}
-use Rattle.nio_steps.proofs.OwnActs.{mine-append}
 
 -- ---- for each caller
 

@@ -14,14 +14,6 @@ use Rattle.nio_history.specs.declared.act.Act.TheVariants.{CloseBit, ClaimAgain}
 use Rattle.nio_history.specs.declared.found.Stage.{Stage}
 use Rattle.nio_orderly.specs.Owed.{publishes_key, closes}
 
-pub is_false : (b : Bool) → not b ≡ true → b ≡ false
-is_false true e = absurd cc
-is_false false e = refl
-
-pub is_not : (b : Bool) → b ≡ false → not b ≡ true
-is_not true e = absurd cc
-is_not false e = refl
-
 -- the key of an index was in the key set before, and is the same key
 pub record WasThere (was now : Stage) : Type 0 where
   pub in_set : in_key_set was ≡ true

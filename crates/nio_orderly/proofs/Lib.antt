@@ -12,6 +12,7 @@ pub mod AfterClosing
 pub mod LookingBackLaw
 pub mod CallLists
 pub mod ListWords
+pub mod LookUps
 pub mod Kept
 pub mod ClosingsKept
 pub mod Registration

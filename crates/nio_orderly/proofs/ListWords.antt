@@ -3,14 +3,16 @@ use Rattle.std.proofs.Common.{◌≡◌, ℕ, Bool, true, false, cond, not, ◌&
 use Rattle.std.proofs.Common.{[], ◌∷◌, ◌++◌, refl, ap, sym, ◌∙◌, append_assoc, arith, ◌⊎◌, inl, inr}
 use Rattle.std.specs.Prelude.{fold}
 use Rattle.std.specs.Option.{option_or}
+use Rattle.std.proofs.lemmas.Bool.{or_cases, or_from, or_left, or_parts, or_right}
 use Rattle.std.proofs.lemmas.List.Sums.{fold-append, sum_by-cons}
+use Rattle.nio_history.proofs.OneMore.{has_none-append}
 use Rattle.nio_history.specs.OwnEvents.{has, count, last, since_from, since_first, releases, OwnClaim, own_claim}
 use Rattle.nio_history.specs.OwnEvents.{claim_changed, or_none}
 use Rattle.nio_history.specs.declared.act.Act.{Act}
 use Rattle.nio_orderly.proofs.ActLists.{has-append}
 use Rattle.nio_orderly.specs.Careful.{until_released, finds_open, claims, leaves_below, is_prepared}
 use Rattle.nio_orderly.specs.Owed.{Duty, owes}
-use Rattle.nio_steps.proofs.Either.{neither, not_first, not_second, by_first, by_second}
+use Rattle.nio_steps.proofs.SelectionLaws.{none_of-append}
 
 -- ---- where an element stands in two lists
 
@@ -55,31 +57,27 @@ split_at {X = X} (x ∷ first) second (y ∷ before) e later same = by_case (spl
 -- ---- whether there is such an act
 
 pub has-first : (p : Act → Bool) (xs ys : List Act) → has p xs ≡ true → has p (xs ++ ys) ≡ true
-has-first p xs ys there = has-append p xs ys ∙ by_first (has p xs) (has p ys) there
+has-first p xs ys there = has-append p xs ys ∙ or_left (has p xs) (has p ys) there
 
 pub has-second : (p : Act → Bool) (xs ys : List Act) → has p ys ≡ true → has p (xs ++ ys) ≡ true
-has-second p xs ys there = has-append p xs ys ∙ by_second (has p xs) (has p ys) there
+has-second p xs ys there = has-append p xs ys ∙ or_right (has p xs) (has p ys) there
 
 pub has-neither : (p : Act → Bool) (xs ys : List Act) → has p xs ≡ false → has p ys ≡ false → has p (xs ++ ys) ≡ false
-has-neither p xs ys first second = has-append p xs ys ∙ neither (has p xs) (has p ys) first second
+has-neither p xs ys first second = none_of-append p xs ys first second
 
 pub has-not_first : (p : Act → Bool) (xs ys : List Act) → has p (xs ++ ys) ≡ false → has p xs ≡ false
-has-not_first p xs ys none = not_first (has p xs) (has p ys) (sym (has-append p xs ys) ∙ none)
+has-not_first p xs ys none = (has_none-append p xs ys none).0
 
 -- an act that stands there is such a one, or is none where there is none
 pub has-at : (p : Act → Bool) (xs : List Act) (act : Act) (ys : List Act) → p act ≡ true → has p (xs ++ act ∷ ys) ≡ true
-has-at p xs act ys such = has-second p xs (act ∷ ys) (by_first (p act) (has p ys) such)
+has-at p xs act ys such = has-second p xs (act ∷ ys) (or_left (p act) (has p ys) such)
 
 pub no_such_act : (p : Act → Bool) (xs : List Act) (act : Act) (ys : List Act) → has p (xs ++ act ∷ ys) ≡ false
     → p act ≡ true → ⊥
 no_such_act p xs act ys none such = let clash : true ≡ false = sym (has-at p xs act ys such) ∙ none in cc
 
 either_part : (p : Act → Bool) (xs ys : List Act) → has p (xs ++ ys) ≡ true → (has p xs ≡ true) ⊎ (has p ys ≡ true)
-either_part p xs ys there = by_test (has p xs) refl (sym (has-append p xs ys) ∙ there)
-  where
-    by_test : (b : Bool) → has p xs ≡ b → (b || has p ys) ≡ true → (has p xs ≡ true) ⊎ (has p ys ≡ true)
-    by_test true is or = inl is
-    by_test false is or = inr or
+either_part p xs ys there = or_cases (has p xs) (has p ys) (sym (has-append p xs ys) ∙ there)
 
 -- ---- how many such acts there are
 
@@ -153,7 +151,7 @@ span-done : (p opens : Act → Bool) (so_far acts : List Act) → has p so_far �
 span-done p opens so_far [] before none = before
 span-done p opens so_far (x ∷ acts) before none =
     by_test (opens x) refl
-    (λ so_far' before'. span-done p opens so_far' acts before' (not_second (p x) (has p acts) none))
+    (λ so_far' before'. span-done p opens so_far' acts before' (or_parts (p x) (has p acts) none).1)
   where
     by_test : (b : Bool) → opens x ≡ b
         → ((so_far' : List Act) → has p so_far' ≡ false → has p (span opens so_far' acts) ≡ false)
@@ -162,7 +160,7 @@ span-done p opens so_far (x ∷ acts) before none =
     by_test false is later =
         ap (λ b. has p (span opens (if b then [] else so_far ++ x ∷ []) acts)) is
         ∙ later (so_far ++ x ∷ [])
-        (has-neither p so_far (x ∷ []) before (ap (λ b. b || false) (not_first (p x) (has p acts) none)))
+        (none_of-append p so_far (x ∷ []) before (ap (λ b. b || false) (or_parts (p x) (has p acts) none).0))
 
 pub since_from-none : (p opens : Act → Bool) (acts : List Act) → has p acts ≡ false
     → has p (since_from opens acts) ≡ false
@@ -173,10 +171,10 @@ pub record Ends {X : Type 0} (all end : List X) : Type 0 where
   pub before : List X
   pub parts : all ≡ before ++ end
 
-pub since_first-append : (opens : Act → Bool) (xs ys : List Act)
+pub since_first-parts : (opens : Act → Bool) (xs ys : List Act)
     → since_first opens (xs ++ ys) ≡ (if has opens xs then since_first opens xs ++ ys else since_first opens ys)
-since_first-append opens [] ys = refl
-since_first-append opens (x ∷ xs) ys = by_test (opens x) (since_first-append opens xs ys)
+since_first-parts opens [] ys = refl
+since_first-parts opens (x ∷ xs) ys = by_test (opens x) (since_first-parts opens xs ys)
   where
     by_test : (b : Bool)
         → since_first opens (xs ++ ys) ≡ (if has opens xs then since_first opens xs ++ ys else since_first opens ys)
@@ -219,17 +217,17 @@ pub until_released-done : (p : Act → Bool) (c : ℕ) (acts : List Act) → has
     → has p (until_released c acts) ≡ false
 until_released-done p c [] none = refl
 until_released-done p c (x ∷ acts) none =
-    by_test (releases c x) (until_released-done p c acts (not_second (p x) (has p acts) none))
+    by_test (releases c x) (until_released-done p c acts (or_parts (p x) (has p acts) none).1)
   where
     by_test : (b : Bool) → has p (until_released c acts) ≡ false
         → has p (if b then [] else x ∷ until_released c acts) ≡ false
     by_test true rest = refl
-    by_test false rest = neither (p x) (has p (until_released c acts)) (not_first (p x) (has p acts) none) rest
+    by_test false rest = or_from (p x) (has p (until_released c acts)) (or_parts (p x) (has p acts) none).0 rest
 
 pub is_prepared-grows : (s i : ℕ) (before acts : List Act) → is_prepared s i acts ≡ true
     → is_prepared s i (before ++ acts) ≡ true
 is_prepared-grows s i before acts there =
-    ap (λ xs. has (finds_open s) (since_from (claims s i) xs)) (since_first-append (leaves_below s i) before acts)
+    ap (λ xs. has (finds_open s) (since_from (claims s i) xs)) (since_first-parts (leaves_below s i) before acts)
     ∙ by_test (has (leaves_below s i) before)
   where
     late : List Act
@@ -291,5 +289,5 @@ pub owes-later : (duty : Duty) (xs ys : List Act) → has duty.looks xs ≡ fals
 owes-later duty [] ys none = refl
 owes-later duty (x ∷ xs) ys none =
     ap (λ b. if b then duty.finds x && not (has duty.settles (xs ++ ys)) else owes duty (xs ++ ys))
-    (not_first (duty.looks x) (has duty.looks xs) none)
-    ∙ owes-later duty xs ys (not_second (duty.looks x) (has duty.looks xs) none)
+    (or_parts (duty.looks x) (has duty.looks xs) none).0
+    ∙ owes-later duty xs ys (or_parts (duty.looks x) (has duty.looks xs) none).1

@@ -1,6 +1,7 @@
 -- A legal history whose acts keep the rules looking back is careful.
 use Rattle.std.proofs.Common.{◌≡◌, ℕ, ◌==◌, ◌+◌, Bool, true, false, cond, ◌||◌, Some, None, if◌then◌else◌, List, []}
 use Rattle.std.proofs.Common.{◌∷◌, ◌++◌, append_assoc, refl, ap, sym, ◌∙◌, subst, eqb-true, eq-eqb}
+use Rattle.std.proofs.Math.Bool.{or-false}
 use Rattle.std.proofs.lemmas.Bool.{or_parts, or_right}
 use Rattle.std.proofs.lemmas.List.{append-nil}
 use Rattle.nio_base.specs.declared.limits.Limits.{Limits}
@@ -25,7 +26,7 @@ use Rattle.nio_orderly.proofs.LookingBack.{publishes_any, MayPublish, CarefulAct
 use Rattle.nio_orderly.proofs.Published.{MayClaim, may_claim}
 use Rattle.nio_orderly.specs.Careful.{enrols_for, until_released, IsCareful}
 use Rattle.nio_steps.proofs.OwnActs.{Cut, cut_at, mine-own_first}
-use Rattle.nio_steps.proofs.SelectionLaws.{count-append, count-none}
+use Rattle.nio_steps.proofs.SelectionLaws.{count-append, count-none, none_of-append}
 
 -- ---- a caller that has a hold doesn't take it
 
@@ -119,11 +120,8 @@ spoils c act = enrols_for c act || sets_mode c act
 spoils_careful : (c : ℕ) (own : List Act) (act : Act) → CarefulAct own act → spoils c act ≡ true
     → has publishes_any (under c own) ≡ false
 spoils_careful c own (Enrol c' s i serial found) careful spoilt =
-    subst (λ (m : ℕ). has publishes_any (under m own) ≡ false) (eqb-true c'.0 c (first (c'.0 == c) spoilt)) careful
-  where
-    first : (b : Bool) → (b || false) ≡ true → b ≡ true
-    first true e = refl
-    first false e = e
+    subst (λ (m : ℕ). has publishes_any (under m own) ≡ false)
+    (eqb-true c'.0 c (sym (or-false (c'.0 == c)) ∙ spoilt)) careful
 spoils_careful c own (SetMode c' blocking found) careful spoilt =
     subst (λ (m : ℕ). has publishes_any (under m own) ≡ false) (eqb-true c'.0 c spoilt) careful
 spoils_careful c own act careful spoilt = absurd (cc spoilt)
@@ -147,8 +145,7 @@ none_spoils l n events b s i found legal careful claim its done (x ∷ later) ow
     c = claim.channel.0
 
     neither : (p : Act → Bool) → has p done ≡ false → p x ≡ false → has p (done ++ x ∷ []) ≡ false
-    neither p before now =
-        has-append p done (x ∷ []) ∙ (ap (λ t. has p done || (t || false)) now ∙ ap (λ t. t || false) before)
+    neither p before now = none_of-append p done (x ∷ []) before (ap (λ t. t || false) now)
 
     before_x : List Act
     before_x = b ++ Publish s i found ∷ done

@@ -19,7 +19,7 @@ use Rattle.nio_orderly.proofs.AfterClosing.{only_publishers_owe, closed_selector
 use Rattle.nio_orderly.proofs.AfterClosing.{settled_loses_no_key}
 use Rattle.nio_orderly.proofs.CallLists.{whole_is_orderly, beginnings_are_orderly}
 use Rattle.nio_orderly.proofs.Kept.{EnterKept}
-use Rattle.nio_orderly.proofs.ListWords.{InFirst, InSecond, split_at, no_such_act, has-second, since_first-append}
+use Rattle.nio_orderly.proofs.ListWords.{InFirst, InSecond, split_at, no_such_act, has-second, since_first-parts}
 use Rattle.nio_orderly.proofs.OrderlyCare.{table_call_is_kept, made_is_kept, orderly_is_careful, whole_is_settled}
 use Rattle.nio_orderly.proofs.OrderlyCare.{Opened, first_opened, IsEnter, is_enter, enter_settled}
 use Rattle.nio_orderly.proofs.Owed.{nothing_is_lost}
@@ -121,7 +121,7 @@ finish_closes l n s events own acts legal orderly did run = record {
       ∙ has-second (enters s.0) own (Enter s None ∷ begins.later)
       (ap (λ b. b || has (enters s.0) begins.later) (eq-eqb s.0 s.0 refl));
   settled = λ i. ap (λ acts'. owes (clearing_duty s.0 i) (since_entered s.0 acts')) did_so
-      ∙ (ap (owes (clearing_duty s.0 i)) (since_first-append (enters s.0) own (Enter s None ∷ begins.later))
+      ∙ (ap (owes (clearing_duty s.0 i)) (since_first-parts (enters s.0) own (Enter s None ∷ begins.later))
       ∙ by_test i (has (enters s.0) own) refl);
 }
   where

@@ -1,15 +1,13 @@
 -- The histories of whole calls, and of steps that no calls make, by computing.
-use Rattle.std.proofs.Common.{◌≡◌, ℕ, ◌<◌, true, false, Ok, List, [], ◌∷◌, ◌++◌, take, drop, append_assoc, refl, sym}
-use Rattle.std.proofs.Common.{subst, arith, lit<, lit≤}
-use Rattle.std.proofs.lemmas.List.{append-nil}
+use Rattle.std.proofs.Common.{◌≡◌, true, false, Ok, List, [], ◌∷◌, ◌++◌, take, drop, refl, arith, lit<, lit≤}
 use Rattle.nio_base.specs.declared.kind.Kind.TheVariants.{Source}
 use Rattle.nio_base.specs.declared.limits.Limits.{Limits}
-use Rattle.nio_history.proofs.Legal.{legal_empty, legal_more}
+use Rattle.nio_history.proofs.Legal.{legal_empty}
+use Rattle.nio_history.proofs.WorkedSteps.{AreSteps, legal_by_steps, below_one, ◌▸◌}
 use Rattle.nio_history.specs.Answers.{bits_below, count_below}
-use Rattle.nio_history.specs.Histories.{state_after, mine, IsStep, IsLegal}
+use Rattle.nio_history.specs.Histories.{state_after, mine}
 use Rattle.nio_history.specs.Worked.{u, v, s, c, small_limits}
 use Rattle.nio_history.specs.declared.act.Act.{Act}
-use Rattle.nio_history.specs.declared.event.Event.{Event}
 use Rattle.nio_orderly.proofs.CallLists.{run_one}
 use Rattle.nio_orderly.proofs.Examples.{for_each_caller, cancellation_is_lost}
 use Rattle.nio_orderly.proofs.OrderlyCare.{orderly_is_careful}
@@ -24,28 +22,6 @@ use Rattle.nio_steps.specs.KeyCalls.{cancel_plan}
 use Rattle.nio_steps.specs.SelectCalls.{open_selector_plan}
 use Rattle.nio_steps.specs.Sweeps.{sweep, seek}
 use Rattle.nio_steps.specs.TableCalls.{open_selector, open_channel, try_set_blocking, try_register, close_channel}
-
--- each of the events is a step, one after the other
-abbrev AreSteps : Limits → List Event → List Event → Type 0
-AreSteps l past [] = Unit {0}
-AreSteps l past (e ∷ later) = IsStep l past e × AreSteps l (past ++ e ∷ []) later
-
-legal_by_steps : (l : Limits) (past later : List Event) → IsLegal l past → AreSteps l past later
-    → IsLegal l (past ++ later)
-legal_by_steps l past [] legal steps = subst (IsLegal l) (sym (append-nil past)) legal
-legal_by_steps l past (e ∷ later) legal steps =
-    subst (IsLegal l) (append_assoc past (e ∷ []) later)
-    (legal_by_steps l (past ++ e ∷ []) later (legal_more l past e legal steps.0) steps.1)
-
-below_one : (P : ℕ → Type 0) → P 0 → (n : ℕ) → n < 1 → P n
-below_one P first n below =
-    let is_first : 0 ≡ n = omega arith in
-    subst P is_first first
-
--- one thing, and then the others
-infixr 5 ◌▸◌
-abbrev ◌▸◌ : {A B : Type 0} → A → B → A × B
-first ▸ later = (first, later)
 
 its_steps : AreSteps small_limits [] closed_in_registration
 unfolding bits_below count_below

@@ -1,7 +1,7 @@
 -- Nothing is lost: the debts stand in every legal and careful history.
 use Rattle.std.proofs.Common.{◌≡◌, ℕ, true, false, not, inl, Option, Some, None, is_some, List, refl, ap, sym, ◌∙◌}
 use Rattle.std.proofs.Common.{subst}
-use Rattle.std.proofs.lemmas.Bool.{and_parts, or_right}
+use Rattle.std.proofs.lemmas.Bool.{and_parts, or_right, not-true}
 use Rattle.nio_base.specs.declared.numbers.CallerNo.{CallerNo}
 use Rattle.nio_history.proofs.Soundness.{legal-sound}
 use Rattle.nio_history.specs.Histories.{state_after, mine}
@@ -11,7 +11,6 @@ use Rattle.nio_history.specs.declared.event.Event.{Event}
 use Rattle.nio_history.specs.declared.found.Stage.{Stage}
 use Rattle.nio_orderly.proofs.Cancelling.{cancelling_owed}
 use Rattle.nio_orderly.proofs.Clearing.{IsComing, clearing_owed}
-use Rattle.nio_orderly.proofs.KeySet.{is_false}
 use Rattle.nio_orderly.proofs.KeysStand.{keys_stand}
 use Rattle.nio_orderly.proofs.Standing.{shut_closer}
 use Rattle.nio_orderly.specs.Owed.{owes, clearing_duty, OwesClearing, NothingIsLost}
@@ -23,7 +22,7 @@ valid_coming events s i valid =
     let k : Stage = (state_after events).key s i in
     let set = (and_parts (in_key_set k) (not k.cancelled) valid).0 in
     let both = and_parts k.published (not k.removed) set in
-    record { unremoved = is_false k.removed both.1; how = inl both.0 }
+    record { unremoved = not-true k.removed both.1; how = inl both.0 }
 
 pub nothing_is_lost : NothingIsLost
 nothing_is_lost l events fit legal careful = record {

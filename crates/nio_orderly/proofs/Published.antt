@@ -2,7 +2,7 @@
 -- non-blocking, and it is prepared.
 use Rattle.std.proofs.Common.{◌≡◌, ℕ, ◌==◌, ◌+◌, Bool, true, false, cond, not, ◌&&◌, ◌⊎◌, inl, inr, Option, Some, None}
 use Rattle.std.proofs.Common.{List, [], ◌∷◌, ◌++◌, refl, ap, sym, ◌∙◌, subst, eqb-true, arith}
-use Rattle.std.proofs.lemmas.Bool.{and_parts, or_cases}
+use Rattle.std.proofs.lemmas.Bool.{and_parts, or_cases, not-true}
 use Rattle.nio_base.specs.Limits.{IsFit}
 use Rattle.nio_base.specs.declared.limits.Limits.{Limits}
 use Rattle.nio_base.specs.declared.numbers.CallerNo.{CallerNo}
@@ -29,7 +29,6 @@ use Rattle.nio_history.specs.declared.event.Event.{Event}
 use Rattle.nio_history.specs.declared.found.Stage.{Stage}
 use Rattle.nio_orderly.proofs.ActLists.{count-more, has_counts}
 use Rattle.nio_orderly.proofs.Careful.{key_enrolled_for, careful_last}
-use Rattle.nio_orderly.proofs.KeySet.{is_false}
 use Rattle.nio_orderly.proofs.LookingBack.{MayPublish}
 use Rattle.nio_orderly.specs.Careful.{enrols_for, enrols_this_key, is_prepared, IsCareful}
 use Rattle.nio_orderly.specs.Owed.{publishes_key}
@@ -59,8 +58,8 @@ is_publish c s k (Publish s' i' found) told =
           ∙ ap (λ (j : ℕ). Publish (record { 0 = s }) j found) (eqb-true i' k.index two.1);
       channel = eqb-true found.chan.0 c three.1;
       serial = eqb-true found.serial k.serial four.1;
-      unpublished = is_false found.published five.1;
-      unremoved = is_false found.removed six.1;
+      unpublished = not-true found.published five.1;
+      unremoved = not-true found.removed six.1;
     }
 is_publish c s k act told = absurd (cc told)
 

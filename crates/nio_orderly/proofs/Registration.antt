@@ -11,24 +11,23 @@ use Rattle.nio_base.specs.declared.numbers.KeyId.{KeyId}
 use Rattle.nio_base.specs.declared.numbers.KeyNo.{KeyNo}
 use Rattle.nio_base.specs.declared.numbers.SelNo.{SelNo}
 use Rattle.nio_history.proofs.Claims.{claim_after, own_claim-more}
-use Rattle.nio_history.proofs.OneMore.{since_from-more}
+use Rattle.nio_history.proofs.OneMore.{since_from-more, since_first-none, since_first-append}
 use Rattle.nio_history.specs.OwnEvents.{OwnClaim, has, count, under, since_from, since_first, takes_hold, releases}
 use Rattle.nio_history.specs.OwnEvents.{sets_mode, claim_changed, own_claim}
 use Rattle.nio_history.specs.Questions.{Question, Answer, question_of, answer_of}
 use Rattle.nio_history.specs.declared.act.Act.{Act}
 use Rattle.nio_history.specs.declared.act.Act.TheVariants.{LookGate, CancelKey, LookChannel, Claim, RaiseKeys, LookKeys}
 use Rattle.nio_history.specs.declared.act.Act.TheVariants.{Publish, Enrol, TryHoldBit, Release, SetMode, CloseBit}
-use Rattle.nio_history.specs.declared.act.Act.TheVariants.{Enter}
-use Rattle.nio_history.specs.declared.act.Act.TheVariants.{Unpin, ClaimAgain}
+use Rattle.nio_history.specs.declared.act.Act.TheVariants.{Enter, Unpin, ClaimAgain}
 use Rattle.nio_history.specs.declared.found.Stage.{Stage}
-use Rattle.nio_orderly.proofs.ActLists.{owes-settled, since_first_none}
+use Rattle.nio_orderly.proofs.ActLists.{owes-settled}
 use Rattle.nio_orderly.proofs.Kept.{PublishKept, Kept, kept-calm, is_loud, first_or_later}
-use Rattle.nio_orderly.proofs.ListWords.{InFirst, InSecond, split_at, has-first, has-second, has-neither, no_such_act}
-use Rattle.nio_orderly.proofs.ListWords.{count-one, since_from-none, since_first-append, until_released-done}
+use Rattle.nio_orderly.proofs.ListWords.{InFirst, InSecond, split_at, has-first, has-second, no_such_act}
+use Rattle.nio_orderly.proofs.ListWords.{count-one, since_from-none, until_released-done}
 use Rattle.nio_orderly.specs.Careful.{enrols_for, enrols_this_key, claims, leaves_below, finds_open, until_released}
 use Rattle.nio_orderly.specs.Careful.{is_prepared}
 use Rattle.nio_orderly.specs.Owed.{owes, publisher_duty, settles_key}
-use Rattle.nio_steps.proofs.SelectionLaws.{count-append, count-none}
+use Rattle.nio_steps.proofs.SelectionLaws.{count-append, count-none, none_of-append}
 use Rattle.nio_steps.specs.ChannelCalls.{under_hold, register_enrolled, register_over, claim_taken, claim_free}
 use Rattle.nio_steps.specs.ChannelCalls.{claim_at_bit, claim_in_word, search_free, words_below, claim_new, settle_key}
 use Rattle.nio_steps.specs.ChannelCalls.{publish_key, make_key, make_claimed, register_first, register_next}
@@ -134,9 +133,9 @@ quiet-one c _ is = record { unenrolled = refl; unset = refl; calm = refl }
 
 quiet-append : (c : ChanNo) (xs ys : List Act) → Quiet c xs → Quiet c ys → Quiet c (xs ++ ys)
 quiet-append c xs ys first second = record {
-  unenrolled = has-neither (enrols_for c.0) xs ys first.unenrolled second.unenrolled;
-  unset = has-neither (sets_mode c.0) xs ys first.unset second.unset;
-  calm = has-neither is_loud xs ys first.calm second.calm;
+  unenrolled = none_of-append (enrols_for c.0) xs ys first.unenrolled second.unenrolled;
+  unset = none_of-append (sets_mode c.0) xs ys first.unset second.unset;
+  calm = none_of-append is_loud xs ys first.calm second.calm;
 }
 
 quiet-more : (c : ChanNo) (own : List Act) (act : Act) → still (question_of act) ≡ true → Quiet c own
@@ -351,8 +350,7 @@ prepared-more s i own act unclaimed before = by_test (has (leaves_below s i) own
     by_test : (b : Bool) → has (leaves_below s i) own ≡ b → is_prepared s i (own ++ act ∷ []) ≡ true
     by_test true is =
         ap (λ xs. has (finds_open s) (since_from (claims s i) xs))
-        (since_first-append (leaves_below s i) own (act ∷ [])
-        ∙ ap (λ b. if b then early ++ act ∷ [] else since_first (leaves_below s i) (act ∷ [])) is)
+        (since_first-append (leaves_below s i) own (act ∷ []) is)
         ∙ (ap (has (finds_open s))
         (since_from-more (claims s i) early act
         ∙ ap (λ b. if b then [] else since_from (claims s i) early ++ act ∷ []) unclaimed)
@@ -361,15 +359,14 @@ prepared-more s i own act unclaimed before = by_test (has (leaves_below s i) own
         let clash : false
         ≡ true = sym
         (ap (λ xs. has (finds_open s) (since_from (claims s i) xs))
-        (since_first_none (leaves_below s i) own is)) ∙ before in
+        (since_first-none (leaves_below s i) own is)) ∙ before in
         absurd (cc clash)
 
 prepared-now : (s i : ℕ) (own : List Act) (act : Act) → claims s i act ≡ false → finds_open s act ≡ true
     → has (leaves_below s i) own ≡ true → is_prepared s i (own ++ act ∷ []) ≡ true
 prepared-now s i own act unclaimed open' below =
     ap (λ xs. has (finds_open s) (since_from (claims s i) xs))
-    (since_first-append (leaves_below s i) own (act ∷ [])
-    ∙ ap (λ b. if b then early ++ act ∷ [] else since_first (leaves_below s i) (act ∷ [])) below)
+    (since_first-append (leaves_below s i) own (act ∷ []) below)
     ∙ (ap (has (finds_open s))
     (since_from-more (claims s i) early act
     ∙ ap (λ b. if b then [] else since_from (claims s i) early ++ act ∷ []) unclaimed)
@@ -412,8 +409,8 @@ enrolled-now : (s : SelNo) (c : ChanNo) (k : KeyId) (own : List Act) (act : Act)
     → question_of act ≡ Question.enrol c s k.index k.serial → Prepared s c k own → Enrolled s c k (own ++ act ∷ [])
 enrolled-now s c k own (Enrol c' s' i serial found) asks before = record {
   held = has-first (takes_hold c.0) own (enrolling ∷ []) before.claimed.holding.held;
-  unset = has-neither (sets_mode c.0) own (enrolling ∷ []) quiet.unset refl;
-  calm = has-neither is_loud own (enrolling ∷ []) quiet.calm refl;
+  unset = none_of-append (sets_mode c.0) own (enrolling ∷ []) quiet.unset refl;
+  calm = none_of-append is_loud own (enrolling ∷ []) quiet.calm refl;
   claim = claim-stays s.0 k.index own enrolling (Some (record { channel = c; serial = k.serial })) refl
       before.claimed.claim;
   prepared = prepared-more s.0 k.index own enrolling refl before.prepared;
@@ -486,7 +483,7 @@ Registers s c own = (has is_loud own ≡ false) ⊎ ((k : KeyId) × Published s 
 
 registers-more : (s : SelNo) (c : ChanNo) (own : List Act) (act : Act) → still (question_of act) ≡ true
     → Registers s c own → Registers s c (own ++ act ∷ [])
-registers-more s c own act is (inl calm) = inl (has-neither is_loud own (act ∷ []) calm (quiet-one c act is).calm)
+registers-more s c own act is (inl calm) = inl (none_of-append is_loud own (act ∷ []) calm (quiet-one c act is).calm)
 registers-more s c own act is (inr there) = inr (there.0, published-more s c there.0 own act is there.1)
 
 -- what the publisher does then settles the key: it looks at the channel, and cancels the key where it is closed
@@ -727,7 +724,7 @@ publish-kept s c k own there given_back = record {
       all_one (count-append (enrols_for c.0) (under c.0 there.before) (until_released c.0 there.later)) enrolled.alone
       (count-none (enrols_for c.0) (until_released c.0 there.later)
       (until_released-done (enrols_for c.0) c.0 there.later there.quiet.unenrolled));
-  mode = has-neither (sets_mode c.0) (under c.0 there.before) (until_released c.0 there.later)
+  mode = none_of-append (sets_mode c.0) (under c.0 there.before) (until_released c.0 there.later)
       (since_from-none (sets_mode c.0) (takes_hold c.0) there.before enrolled.unset)
       (until_released-done (sets_mode c.0) c.0 there.later there.quiet.unset);
   prepared = enrolled.prepared;
@@ -744,7 +741,7 @@ registers-kept : (l : Limits) (s : SelNo) (c : ChanNo) (own : List Act) (act : A
     → question_of act ≡ Question.release c → Registers s c own → Kept l (own ++ act ∷ [])
 unfolding published-more
 registers-kept l s c own act asks (inl calm) =
-    kept-calm l (own ++ act ∷ []) (has-neither is_loud own (act ∷ []) calm (quiet-one c act (ap still asks)).calm)
+    kept-calm l (own ++ act ∷ []) (none_of-append is_loud own (act ∷ []) calm (quiet-one c act (ap still asks)).calm)
 registers-kept l s c own act asks (inr registered) = record {
   publishes = λ xs s' i found ys parts. its_publish xs s' i found ys
       (one_loud there.before there.later xs ys (Publish s k.index there.found)

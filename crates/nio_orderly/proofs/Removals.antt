@@ -11,6 +11,7 @@ use Rattle.nio_base.specs.declared.limits.Limits.{Limits}
 use Rattle.nio_base.specs.declared.numbers.CallerNo.{CallerNo}
 use Rattle.nio_base.specs.declared.numbers.SelNo.{SelNo}
 use Rattle.nio_history.proofs.Legal.{legal_beginning, legal_next}
+use Rattle.nio_history.proofs.OneMore.{mine-append}
 use Rattle.nio_history.proofs.Stays.{facts_are_permanent}
 use Rattle.nio_history.specs.Histories.{state_after, mine, event_of, IsLegal}
 use Rattle.nio_history.specs.OwnEvents.{has}
@@ -25,7 +26,7 @@ use Rattle.nio_history.specs.declared.found.Stage.{Stage}
 use Rattle.nio_orderly.proofs.CallLists.{beginnings_are_orderly}
 use Rattle.nio_orderly.proofs.Careful.{beginnings_are_careful}
 use Rattle.nio_orderly.proofs.KeysStand.{keys_stand}
-use Rattle.nio_orderly.proofs.ListWords.{InFirst, InSecond, split_at, no_such_act, has-neither}
+use Rattle.nio_orderly.proofs.ListWords.{InFirst, InSecond, split_at, no_such_act}
 use Rattle.nio_orderly.proofs.OrderlyCare.{orderly_is_careful}
 use Rattle.nio_orderly.specs.Careful.{IsCareful}
 use Rattle.nio_orderly.specs.Made.{Made, IsRun, table_call, waiting_call}
@@ -38,7 +39,8 @@ use Rattle.nio_steps.proofs.ClosedLaws.{closed_removes_keys}
 use Rattle.nio_steps.proofs.GoneLaws.{cancelled_keys_go}
 use Rattle.nio_steps.proofs.Lists.{contains-middle}
 use Rattle.nio_steps.proofs.OrderLaws.{lists_in_order}
-use Rattle.nio_steps.proofs.OwnActs.{At, at_own, cut_at, mine-own_first, mine-append}
+use Rattle.nio_steps.proofs.OwnActs.{At, at_own, cut_at, mine-own_first}
+use Rattle.nio_steps.proofs.SelectionLaws.{none_of-append}
 use Rattle.nio_steps.proofs.Walks.{Always, always_if, always_bind, always_any, always_run}
 use Rattle.nio_steps.specs.Plan.{reply}
 use Rattle.nio_steps.specs.Runs.{Completes}
@@ -304,7 +306,7 @@ tries_looked : (s : SelNo) (runs : List (Run Unit FinishReply))
     → All (λ run. finish_finds_busy run.answer ≡ true) runs → has (looks_at_high s.0) (acts_of runs) ≡ false
 tries_looked s [] made again = refl
 tries_looked s (run ∷ runs) made again =
-    has-neither (looks_at_high s.0) run.acts (acts_of runs)
+    none_of-append (looks_at_high s.0) run.acts (acts_of runs)
     (of_busy run.answer (All-head (λ r. finish_finds_busy r.answer ≡ true) run runs again)
     (always_run (Looked s) (try_finish_plan s) run.acts run.answer (finish_looked s)
     (All-head (λ r. Completes (try_finish_plan s) r.acts r.answer) run runs made)))
@@ -353,7 +355,7 @@ close_removes_below l n before looked later s mark i serial legal run claimed be
 
         no_look : has (looks_at_high s.0) (mine n cut.past) ≡ false
         no_look = ap (has (looks_at_high s.0)) cut.mine_past
-            ∙ has-neither (looks_at_high s.0) run.first tries (shut_looked s run.first closing first)
+            ∙ none_of-append (looks_at_high s.0) run.first tries (shut_looked s run.first closing first)
             (ap (has (looks_at_high s.0)) second.1.tries.parts
             ∙ tries_looked s second.1.tries.runs second.1.tries.made second.1.tries.again)
 

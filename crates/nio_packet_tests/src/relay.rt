@@ -42,8 +42,8 @@ const STRANGER: Addr = Addr {
 #[derive(Clone, Copy)]
 struct Row<'a> {
     label: &'a str,
-    front: &'a [(Addr, &'a str)],
-    back: &'a [(Addr, &'a str)],
+    at_client: &'a [(Addr, &'a str)],
+    at_target: &'a [(Addr, &'a str)],
     count: u32,
     fail_send: Option<u64>,
     answer: Result<PacketsServed, PacketServeError>,
@@ -53,8 +53,8 @@ struct Row<'a> {
 
 const STRANGERS_PACKETS: Row = Row {
     label: "strangers_packets",
-    front: &[(CLIENT, "a"), (STRANGER, "z"), (CLIENT, "bb"), (CLIENT, "")],
-    back: &[],
+    at_client: &[(CLIENT, "a"), (STRANGER, "z"), (CLIENT, "bb"), (CLIENT, "")],
+    at_target: &[],
     count: 3,
     fail_send: None,
     answer: Ok(PacketsServed { forth: 3, back: 0 }),
@@ -73,8 +73,8 @@ const FAILING_SEND: Row = Row {
 /// The target's answers go to the client, and a stranger's to nobody.
 const BOTH_WAYS: Row = Row {
     label: "both_ways",
-    front: &[(CLIENT, "a"), (CLIENT, "b")],
-    back: &[(TARGET, "A"), (STRANGER, "x"), (TARGET, "B")],
+    at_client: &[(CLIENT, "a"), (CLIENT, "b")],
+    at_target: &[(TARGET, "A"), (STRANGER, "x"), (TARGET, "B")],
     count: 2,
     fail_send: None,
     answer: Ok(PacketsServed { forth: 2, back: 2 }),
@@ -92,7 +92,7 @@ const FAILING_SEND_BACK: Row = Row {
 
 const COUNT_OF_ONE: Row = Row {
     label: "count_of_one",
-    front: &[(STRANGER, "z"), (CLIENT, "a"), (STRANGER, "y")],
+    at_client: &[(STRANGER, "z"), (CLIENT, "a"), (STRANGER, "y")],
     count: 1,
     answer: Ok(PacketsServed { forth: 1, back: 0 }),
     to_target: &["z"],
@@ -127,9 +127,9 @@ fn net_of(alloc: Global, row: &Row) -> Result<MemoryPackets, AllocError>
     ensures fresh { IfOk result (λ net. (c : Channel) → traffic_at net.sides c ≡ no_traffic) }
     ensures unbound { IfOk result (λ net. (c : Channel) → place_at net.sides c ≡ Unbound) }
 {
-    let front = packets(alloc, row.front)?;
-    let back = packets(alloc, row.back)?;
-    MemoryPackets::make(alloc, front, back, row.fail_send)
+    let at_client = packets(alloc, row.at_client)?;
+    let at_target = packets(alloc, row.at_target)?;
+    MemoryPackets::make(alloc, at_client, at_target, row.fail_send)
 }
 
 fn plan_of(count: u32) -> PacketPlan
@@ -149,7 +149,7 @@ fn is_as_planned(
     net: &MemoryPackets,
     answer: Result<PacketsServed, PacketServeError>,
 ) -> bool {
-    let client = row.front.first().map_or(CLIENT, |first| first.0);
+    let client = row.at_client.first().map_or(CLIENT, |first| first.0);
     answer == row.answer
         && has_sent(net, ChanNo(1), TARGET, row.to_target)
         && has_sent(net, ChanNo(0), client, row.to_client)

@@ -1,7 +1,7 @@
 -- What a call may change: a call refuses or only tells, or it makes the one change of its word. So a fact of all
 -- calls is shown once for each change.
-use Rattle.std.proofs.Common.{◌≡◌, ℕ, ◌<◌, Bool, true, false, ◌&&◌, Option, Some, None, is_some, List, ◌∷◌, ◌++◌, take}
-use Rattle.std.proofs.Common.{drop, bit_and, bit_or}
+use Rattle.std.proofs.Common.{◌≡◌, ℕ, ◌<◌, ◌==◌, Bool, true, false, not, ◌&&◌, ◌||◌, Option, Some, None, is_some}
+use Rattle.std.proofs.Common.{List, [], ◌∷◌, ◌++◌, take, drop, bit_and, bit_or}
 use Rattle.nio_base.specs.declared.kind.Kind.{Kind}
 use Rattle.nio_base.specs.declared.kind.Kind.TheVariants.{Source}
 use Rattle.nio_base.specs.declared.limits.Limits.{Limits}
@@ -12,8 +12,7 @@ use Rattle.nio_base.specs.declared.numbers.SelNo.{SelNo}
 use Rattle.nio_group.specs.Run as step
 use Rattle.nio_group.specs.Run.{IsCallOf}
 use Rattle.nio_history.specs.State.{with_interrupted, with_chan, with_gate, with_key, with_interest, with_mark}
-use Rattle.nio_history.specs.State.{with_note}
-use Rattle.nio_history.specs.State.{with_closer, with_entered}
+use Rattle.nio_history.specs.State.{with_note, with_closer, with_entered}
 use Rattle.nio_history.specs.declared.found.Mode.{Mode}
 use Rattle.nio_history.specs.declared.why.Why.{Why}
 use Rattle.nio_language.specs.declared.call.Call.{Call}
@@ -30,8 +29,8 @@ use Rattle.nio_plain.specs.Seq.Closing.{without_keys}
 use Rattle.nio_plain.specs.Seq.Grouping.{replied_by_group, stepped}
 use Rattle.nio_plain.specs.Seq.Modes.{key_of, is_registered}
 use Rattle.nio_plain.specs.Seq.Opening.{channel_made, selector_made, next_channel}
-use Rattle.nio_plain.specs.Seq.Pipes.{own_sink, pipe_at, with_pipe, sealing}
-use Rattle.nio_plain.specs.Seq.Piping.{with_sink}
+use Rattle.nio_plain.specs.Seq.Pipes.{own_source, own_sink, pipe_at, with_pipe, sealing}
+use Rattle.nio_plain.specs.Seq.Piping.{room_for, with_sink}
 use Rattle.nio_plain.specs.Seq.Registering.{next_key, with_new_key}
 use Rattle.nio_plain.specs.Seq.Removing.{unselected}
 use Rattle.nio_plain.specs.Seq.Selections.{selection_begun, selection_ended, own_selection, left_selection}
@@ -42,6 +41,13 @@ abbrev pub told_ended : Rules → ScriptState → ℕ → List (KeyId × ℕ) �
 told_ended rules st s pairs selection count why = record {
   reply = reply.Selected count why;
   left = with_selection (with_shared st (selection_ended rules st.shared s selection pairs)) s None;
+}
+
+-- so many of the bytes went into the pipe at the place
+abbrev pub written : ScriptState → List ℕ → ℕ → ℕ → Replied
+written st bytes i n = record {
+  reply = reply.Number n;
+  left = with_pipe st i (record (pipe_at st.pipes i) { waiting = (pipe_at st.pipes i).waiting ++ take n bytes });
 }
 
 -- the step of the group that a call makes; the two that only ask make none
@@ -58,19 +64,31 @@ step_of asked.ShutdownNow = Some step.shutdown_now
 step_of asked.IsShutdown = None
 step_of asked.Terminated = None
 
+-- a call whose caller may leave the seal of its sink
+abbrev may_seal : Call → Bool
+may_seal (call.Closec c) = true
+may_seal (call.Pwrite c bytes) = true
+may_seal _ = false
+
 -- the replies of calls that change nothing; some of them are also those of calls that do
-abbrev pub may_keep : Reply → Bool
-may_keep (reply.Selector s) = false
-may_keep (reply.Channel c) = false
-may_keep (reply.Looked pairs) = false
-may_keep (reply.Selected count why) = false
-may_keep reply.«Ok» = false
-may_keep reply.Left = false
-may_keep reply.Closing = false
-may_keep reply.Closed = false
-may_keep (reply.Ends source sink) = false
-may_keep (reply.Bytes bytes) = false
-may_keep _ = true
+abbrev pub may_keep : Call → Reply → Bool
+may_keep c (reply.Selector s) = false
+may_keep c (reply.Channel k) = false
+may_keep c (reply.Number n) = not (may_seal c) || (n == 0)
+may_keep c (reply.Looked pairs) = false
+may_keep c (reply.Selected count why) = false
+may_keep c reply.«Ok» = false
+may_keep c reply.Left = false
+may_keep c reply.Already = not (may_seal c)
+may_keep c reply.Closing = false
+may_keep c reply.Closed = false
+may_keep c reply.ClosedChannel = not (may_seal c)
+may_keep c (reply.Ends source sink) = false
+may_keep c (reply.Bytes bytes) = false
+may_keep c reply.End = false
+may_keep c reply.ClosedByInterrupt = false
+may_keep c reply.AsyncClose = false
+may_keep c _ = true
 
 -- a registration of a channel that has no key in the selector, with this new one
 pub record MayRegister (l : Limits) (st : ScriptState) (s c : ℕ) (k : KeyId) : Type 0 where
@@ -82,9 +100,18 @@ pub record MayRegister (l : Limits) (st : ScriptState) (s c : ℕ) (k : KeyId) :
   pub is_open : (st.shared.chan c).closed ≡ false
   pub non_blocking : (st.shared.chan c).blocking ≡ false
 
+-- the channel is the source, or the sink, of the pipe at the place, and the caller's own
+pub record IsOwnSource (st : ScriptState) (me : CallerNo) (c : ChanNo) (i : ℕ) : Type 0 where
+  pub made : (st.shared.chan c.0).made ≡ true
+  pub own : own_source st.pipes me c ≡ Some i
+
+pub record IsOwnSink (st : ScriptState) (me : CallerNo) (c : ChanNo) (i : ℕ) : Type 0 where
+  pub made : (st.shared.chan c.0).made ≡ true
+  pub own : own_sink st.pipes me c ≡ Some i
+
 -- a call, and what it replies and leaves
 pub data Change (rules : Rules) (l : Limits) (st : ScriptState) (me : CallerNo) : Call → Replied → Type 0 where
-  nothing : (c : Call) (r : Reply) → may_keep r ≡ true → Change rules l st me c (unchanged st r)
+  nothing : (c : Call) (r : Reply) → may_keep c r ≡ true → Change rules l st me c (unchanged st r)
   selector : (s : ℕ) → s < l.selectors → Change rules l st me call.Selector (selector_made st (Some s))
   channel : (kind : Kind) (c : ℕ) → next_channel l st ≡ Some c → Change rules l st me (call.Channel kind)
       (channel_made st kind (Some c))
@@ -98,11 +125,11 @@ pub data Change (rules : Rules) (l : Limits) (st : ScriptState) (me : CallerNo) 
   register_again : (s : SelNo) (c : ChanNo) (ops : ℕ) (att : Option ℕ) (k : KeyId) (note : ℕ)
       → Change rules l st me (call.Register s c ops att)
       (replied st (reply.Key k) (with_note (with_interest st.shared s.0 k.index ops) s.0 k.index note))
-  closec : (c : ChanNo)
+  closec : (c : ChanNo) → (st.shared.chan c.0).made ≡ true
       → Change rules l st me (call.Closec c)
       (sealing (own_sink st.pipes me c) (replied st reply.«Ok» (channel_closed st.shared c.0)))
-  closec_again : (c : ChanNo) → Change rules l st me (call.Closec c)
-      (sealing (own_sink st.pipes me c) (unchanged st reply.Already))
+  closec_again : (c : ChanNo) → (st.shared.chan c.0).made ≡ true → (st.shared.chan c.0).closed ≡ true
+      → Change rules l st me (call.Closec c) (sealing (own_sink st.pipes me c) (unchanged st reply.Already))
   cancel : (s : SelNo) (k : KeyId)
       → Change rules l st me (call.Cancel s k)
       (replied st reply.«Ok»
@@ -142,32 +169,30 @@ pub data Change (rules : Rules) (l : Limits) (st : ScriptState) (me : CallerNo) 
       (replied st reply.Closed (with_entered (without_keys st.shared s.0) s.0 true))
   interrupt : (target : CallerNo)
       → Change rules l st me (call.Interrupt target) (replied st reply.«Ok» (with_interrupted st.shared target.0 true))
-  pipe : (target : CallerNo) (source sink : ℕ) → next_channel l st ≡ Some source
+  pipe : (target : CallerNo) (source sink : ℕ) → target.0 < l.callers → next_channel l st ≡ Some source
       → next_channel l (channel_made st Source (Some source)).left ≡ Some sink
       → Change rules l st me (call.Pipe target)
       (with_sink (channel_made st Source (Some source)).left me target source (Some sink))
   pipe_spent : (target : CallerNo) (source : ℕ) → next_channel l st ≡ Some source
       → Change rules l st me (call.Pipe target)
       (with_sink (channel_made st Source (Some source)).left me target source None)
-  pread : (c : ChanNo) (n i b : ℕ) (bytes : List ℕ)
+  pread : (c : ChanNo) (n i b : ℕ) (bytes : List ℕ) → IsOwnSource st me c i
+      → (pipe_at st.pipes i).waiting ≡ b ∷ bytes
       → Change rules l st me (call.Pread c n)
       (record {
         reply = reply.Bytes (take n (b ∷ bytes));
         left =
             with_pipe st i (record (pipe_at st.pipes i) { waiting = drop n (b ∷ bytes) });
       })
+  pread_end : (c : ChanNo) (n i : ℕ) → IsOwnSource st me c i → (pipe_at st.pipes i).waiting ≡ []
+      → (pipe_at st.pipes i).sealed ≡ true → Change rules l st me (call.Pread c n) (unchanged st reply.End)
   pread_interrupted : (c : ChanNo) (n : ℕ)
       → Change rules l st me (call.Pread c n) (replied st reply.ClosedByInterrupt (channel_closed st.shared c.0))
-  pwrite : (c : ChanNo) (bytes : List ℕ) (i n : ℕ)
-      → Change rules l st me (call.Pwrite c bytes)
-      (record {
-        reply = reply.Number n;
-        left =
-            with_pipe st i (record (pipe_at st.pipes i) { waiting = (pipe_at st.pipes i).waiting ++ take n bytes });
-      })
-  pwrite_closed : (c : ChanNo) (bytes : List ℕ) (i : ℕ)
+  pwrite : (c : ChanNo) (bytes : List ℕ) (i : ℕ) → IsOwnSink st me c i → (st.shared.chan c.0).closed ≡ false
+      → Change rules l st me (call.Pwrite c bytes) (written st bytes i (room_for bytes (pipe_at st.pipes i)))
+  pwrite_closed : (c : ChanNo) (bytes : List ℕ) (i : ℕ) → IsOwnSink st me c i → (st.shared.chan c.0).closed ≡ true
       → Change rules l st me (call.Pwrite c bytes) (sealing (Some i) (unchanged st reply.ClosedChannel))
-  pwrite_interrupted : (c : ChanNo) (bytes : List ℕ) (i : ℕ)
+  pwrite_interrupted : (c : ChanNo) (bytes : List ℕ) (i : ℕ) → IsOwnSink st me c i
       → Change rules l st me (call.Pwrite c bytes)
       (sealing (Some i) (replied st reply.ClosedByInterrupt (channel_closed st.shared c.0)))
   group : (g : GroupCall) (s : step.Call) → step_of g ≡ Some s → IsCallOf st.group s

@@ -1,7 +1,6 @@
 -- Each call makes one of the changes.
 use Rattle.std.proofs.Common.{◌≡◌, ℕ, ◌<◌, ◌==◌, Bool, true, false, not, ◌&&◌, ◌||◌, cond, nat_lt, Option, Some, None}
-use Rattle.std.proofs.Common.{is_some, List, [], ◌∷◌, ◌++◌, length, take, drop, filter, map, find, refl, bit_and}
-use Rattle.std.proofs.Common.{bit_or, ◌∙◌}
+use Rattle.std.proofs.Common.{is_some, List, [], ◌∷◌, length, filter, map, find, refl, ◌∙◌}
 use Rattle.std.proofs.lemmas.Bool.{ltb-true, not-false, or_parts, both_ways}
 use Rattle.nio_base.specs.declared.kind.Kind.{Kind}
 use Rattle.nio_base.specs.declared.kind.Kind.TheVariants.{Source}
@@ -13,13 +12,8 @@ use Rattle.nio_base.specs.declared.numbers.KeyId.{KeyId}
 use Rattle.nio_base.specs.declared.numbers.SelNo.{SelNo}
 use Rattle.nio_group.specs.Group.{is_terminated}
 use Rattle.nio_group.specs.Run as step
-use Rattle.nio_group.specs.Run.{IsCallOf}
 use Rattle.nio_history.specs.Sets.{fits, in_key_set, in_selected_set, was_published, is_valid_key}
-use Rattle.nio_history.specs.State.{with_interrupted, with_chan, with_gate, with_key, with_interest, with_mark}
-use Rattle.nio_history.specs.State.{with_note}
-use Rattle.nio_history.specs.State.{with_closer, with_entered}
 use Rattle.nio_history.specs.declared.found.Mode.{Mode}
-use Rattle.nio_history.specs.declared.why.Why.{Why}
 use Rattle.nio_language.specs.declared.call.Call.{Call}
 use Rattle.nio_language.specs.declared.call.Call.TheVariants as call
 use Rattle.nio_language.specs.declared.call.Waiting.{Waiting}
@@ -30,9 +24,9 @@ use Rattle.nio_language.specs.declared.reply.Reply.TheVariants as reply
 use Rattle.nio_plain.specs.ScriptState.{ScriptState, Selection}
 use Rattle.nio_plain.specs.Seq.{call_of, seq}
 use Rattle.nio_plain.specs.Seq.Replies.{Replied, unchanged, replied, yes_or_no}
-use Rattle.nio_plain.specs.Seq.Cancelling.{channel_closed, cancelled_in_set, closec_call, cancel_call}
-use Rattle.nio_plain.specs.Seq.Closing.{without_keys, close_call, close_end_call}
-use Rattle.nio_plain.specs.Seq.Grouping.{GroupReplied, replied_by_group, group_replied, group_call, stepped}
+use Rattle.nio_plain.specs.Seq.Cancelling.{channel_closed, closec_call, cancel_call}
+use Rattle.nio_plain.specs.Seq.Closing.{close_call, close_end_call}
+use Rattle.nio_plain.specs.Seq.Grouping.{GroupReplied, replied_by_group, group_replied, group_call}
 use Rattle.nio_plain.specs.Seq.Grouping.{with_named_group_channel}
 use Rattle.nio_plain.specs.Seq.Keys.{are_legal_at, is_in_selected_set, valid_call, interest_call, ready_call, iset_call}
 use Rattle.nio_plain.specs.Seq.Keys.{ior_call, iand_call, unselect_call, attach_call, attachment_call}
@@ -41,104 +35,18 @@ use Rattle.nio_plain.specs.Seq.Modes.{name_or_none, key_of, is_registered, block
 use Rattle.nio_plain.specs.Seq.Modes.{is_open_call, is_registered_call, key_for_call}
 use Rattle.nio_plain.specs.Seq.Names.{below, key_at}
 use Rattle.nio_plain.specs.Seq.Opening.{channel_made, next_channel, selector_made, selector_call, channel_call}
-use Rattle.nio_plain.specs.Seq.Pipes.{own_source, own_sink, pipe_at, with_pipe, sealing}
+use Rattle.nio_plain.specs.Seq.Pipes.{own_source, own_sink, pipe_at, sealing}
 use Rattle.nio_plain.specs.Seq.Piping.{with_sink, with_source, finds_interrupt, not_now, read_first, read_from}
 use Rattle.nio_plain.specs.Seq.Piping.{room_for, write_to, pipe_call, pread_call, pwrite_call}
-use Rattle.nio_plain.specs.Seq.Registering.{given_or_none, given_or_kept, next_key, with_new_key, are_legal, registered}
+use Rattle.nio_plain.specs.Seq.Registering.{given_or_none, given_or_kept, next_key, are_legal, registered}
 use Rattle.nio_plain.specs.Seq.Registering.{registered_new, register_call}
-use Rattle.nio_plain.specs.Seq.Removing.{unselected}
-use Rattle.nio_plain.specs.Seq.Selections.{mode_of, selection_begun, updated_count, is_again, why_ended, own_selection}
-use Rattle.nio_plain.specs.Seq.Selections.{left_selection, is_caller, begun_with, told_selection, begin_call, told_call}
-use Rattle.nio_plain.specs.Seq.Selections.{failed_call}
+use Rattle.nio_plain.specs.Seq.Selections.{mode_of, updated_count, is_again, why_ended, own_selection, left_selection}
+use Rattle.nio_plain.specs.Seq.Selections.{is_caller, begun_with, told_selection, begin_call, told_call, failed_call}
 use Rattle.nio_plain.specs.Seq.Wakeups.{wakeup_call, interrupt_call, interrupted_call}
 use Rattle.nio_plain.specs.declared.rules.Rules.{Rules}
 use Rattle.nio_plain.proofs.CallChanges as change
-use Rattle.nio_plain.proofs.CallChanges.{Change, MayRegister, told_ended, step_of, may_keep}
+use Rattle.nio_plain.proofs.CallChanges.{Change, IsOwnSink, IsOwnSource, MayRegister, may_keep}
 use Rattle.nio_plain.proofs.Found.{found_below}
-
--- what is to be shown of each change
-pub record HoldsOfChanges (rules : Rules) (st : ScriptState) (me : CallerNo)
-    (P : Call → Replied → Type 0) : Type 0 where
-  pub nothing : (c : Call) (r : Reply) → may_keep r ≡ true → P c (unchanged st r)
-  pub selector : (s : ℕ) → P call.Selector (selector_made st (Some s))
-  pub channel : (kind : Kind) (c : ℕ) → P (call.Channel kind) (channel_made st kind (Some c))
-  pub blocking : (c : ChanNo) (on : Bool)
-      → P (call.Blocking c on)
-      (replied st reply.«Ok» (with_chan st.shared c.0 (record (st.shared.chan c.0) { blocking = on })))
-  pub register : (s : SelNo) (c : ChanNo) (ops : ℕ) (att : Option ℕ) (k : KeyId) (note : ℕ)
-      → P (call.Register s c ops att) (replied st (reply.Key k) (with_new_key st.shared s.0 c.0 k ops note))
-  pub register_again : (s : SelNo) (c : ChanNo) (ops : ℕ) (att : Option ℕ) (k : KeyId) (note : ℕ)
-      → P (call.Register s c ops att)
-      (replied st (reply.Key k) (with_note (with_interest st.shared s.0 k.index ops) s.0 k.index note))
-  pub closec : (c : ChanNo)
-      → P (call.Closec c) (sealing (own_sink st.pipes me c) (replied st reply.«Ok» (channel_closed st.shared c.0)))
-  pub closec_again : (c : ChanNo) → P (call.Closec c) (sealing (own_sink st.pipes me c) (unchanged st reply.Already))
-  pub cancel : (s : SelNo) (k : KeyId)
-      → P (call.Cancel s k)
-      (replied st reply.«Ok»
-      (with_key st.shared s.0 k.index (cancelled_in_set (st.shared.key s.0 k.index) k.serial)))
-  pub iset : (s : SelNo) (k : KeyId) (ops : ℕ)
-      → P (call.Iset s k ops) (replied st reply.«Ok» (with_interest st.shared s.0 k.index ops))
-  pub ior : (s : SelNo) (k : KeyId) (ops : ℕ)
-      → P (call.Ior s k ops)
-      (replied st (reply.Number (st.shared.interest s.0 k.index))
-      (with_interest st.shared s.0 k.index (bit_or (st.shared.interest s.0 k.index) ops)))
-  pub iand : (s : SelNo) (k : KeyId) (ops : ℕ)
-      → P (call.Iand s k ops)
-      (replied st (reply.Number (st.shared.interest s.0 k.index))
-      (with_interest st.shared s.0 k.index (bit_and (st.shared.interest s.0 k.index) ops)))
-  pub unselect : (s : SelNo) (k : KeyId)
-      → P (call.Unselect s k)
-      (replied st reply.Yes (with_mark st.shared s.0 k.index (unselected (st.shared.mark s.0 k.index))))
-  pub attach : (s : SelNo) (k : KeyId) (att : ℕ)
-      → P (call.Attach s k att)
-      (replied st (reply.Number (st.shared.note s.0 k.index)) (with_note st.shared s.0 k.index att))
-  pub begin : (s : SelNo) (waiting : Waiting) (how : Mode) → is_some (st.shared.turn s.0) ≡ false
-      → P (call.Begin s waiting) (selection_begun rules st me s.0 how)
-  pub told : (s : SelNo) (elapsed : Bool) (pairs : List (KeyId × ℕ)) (selection : Selection) (count : ℕ) (why : Why)
-      → own_selection st me s.0 ≡ Some selection
-      → P (call.Told s elapsed pairs) (told_ended rules st s.0 pairs selection count why)
-  pub failed : (s : SelNo) (selection : Selection) → own_selection st me s.0 ≡ Some selection
-      → P (call.Failed s) (left_selection st s.0 (Some selection))
-  pub wakeup : (s : SelNo)
-      → P (call.Wakeup s)
-      (replied st reply.«Ok» (with_gate st.shared s.0 (record (st.shared.gate s.0) { woken = true })))
-  pub close : (s : SelNo)
-      → P (call.Close s)
-      (replied st reply.Closing
-      (with_closer (with_gate st.shared s.0 (record (st.shared.gate s.0) { shut = true })) s.0 (Some me)))
-  pub close_end : (s : SelNo)
-      → P (call.CloseEnd s) (replied st reply.Closed (with_entered (without_keys st.shared s.0) s.0 true))
-  pub interrupt : (target : CallerNo)
-      → P (call.Interrupt target) (replied st reply.«Ok» (with_interrupted st.shared target.0 true))
-  pub pipe : (target : CallerNo) (source sink : ℕ)
-      → P (call.Pipe target) (with_sink (channel_made st Source (Some source)).left me target source (Some sink))
-  pub pipe_spent : (target : CallerNo) (source : ℕ)
-      → P (call.Pipe target) (with_sink (channel_made st Source (Some source)).left me target source None)
-  pub pread : (c : ChanNo) (n i b : ℕ) (bytes : List ℕ)
-      → P (call.Pread c n)
-      (record {
-        reply = reply.Bytes (take n (b ∷ bytes));
-        left =
-            with_pipe st i (record (pipe_at st.pipes i) { waiting = drop n (b ∷ bytes) });
-      })
-  pub pread_interrupted : (c : ChanNo) (n : ℕ)
-      → P (call.Pread c n) (replied st reply.ClosedByInterrupt (channel_closed st.shared c.0))
-  pub pwrite : (c : ChanNo) (bytes : List ℕ) (i n : ℕ)
-      → P (call.Pwrite c bytes)
-      (record {
-        reply = reply.Number n;
-        left =
-            with_pipe st i (record (pipe_at st.pipes i) { waiting = (pipe_at st.pipes i).waiting ++ take n bytes });
-      })
-  pub pwrite_closed : (c : ChanNo) (bytes : List ℕ) (i : ℕ)
-      → P (call.Pwrite c bytes) (sealing (Some i) (unchanged st reply.ClosedChannel))
-  pub pwrite_interrupted : (c : ChanNo) (bytes : List ℕ) (i : ℕ)
-      → P (call.Pwrite c bytes) (sealing (Some i) (replied st reply.ClosedByInterrupt (channel_closed st.shared c.0)))
-  pub group : (g : GroupCall) (s : step.Call) → step_of g ≡ Some s → IsCallOf st.group s
-      → P (call.Group g) (replied_by_group st (stepped st.group s))
-  pub interrupted : P call.Interrupted
-      (replied st (yes_or_no (st.shared.interrupted me.0)) (with_interrupted st.shared me.0 false))
 
 pub some_caller : (me : CallerNo) (o : Option CallerNo) → is_caller me o ≡ true → is_some o ≡ true
 some_caller me None h = absurd (both_ways false refl h)
@@ -158,7 +66,7 @@ module _ (rules : Rules) (l : Limits) (st : ScriptState) (me : CallerNo) where
   either_where false p q = q refl
 
   -- a call that changes nothing: it is unchanged, or it tells something
-  says : (c : Call) (r : Reply) → may_keep r ≡ true → C c (unchanged st r)
+  says : (c : Call) (r : Reply) → may_keep c r ≡ true → C c (unchanged st r)
   says c r keeps = change.nothing c r keeps
 
   says_whether : (c : Call) (b : Bool) → C c (unchanged st (yes_or_no b))
@@ -242,9 +150,13 @@ module _ (rules : Rules) (l : Limits) (st : ScriptState) (me : CallerNo) where
   of_failed s (Some selection) e = change.failed s selection e
 
   -- the tests of the names of a line
+  made_named : {c : Call} {x : Replied} (k : ChanNo) → ((st.shared.chan k.0).made ≡ true → C c x)
+      → C c (cond (st.shared.chan k.0).made x (unchanged st reply.NoChannel))
+  made_named {c = c} k done = either_where (st.shared.chan k.0).made done (λ _. says c reply.NoChannel refl)
+
   channel_named : {c : Call} {x : Replied} (k : ChanNo) → C c x
       → C c (cond (st.shared.chan k.0).made x (unchanged st reply.NoChannel))
-  channel_named {c = c} k done = either (st.shared.chan k.0).made done (says c reply.NoChannel refl)
+  channel_named k done = made_named k (λ _. done)
 
   selector_named : {c : Call} {x : Replied} (s : SelNo) → C c x
       → C c (cond (st.shared.selector s.0) x (unchanged st reply.NoSelector))
@@ -267,54 +179,60 @@ module _ (rules : Rules) (l : Limits) (st : ScriptState) (me : CallerNo) where
 
   -- calls on pipes
 
-  of_closec : (c : ChanNo) (closed : Bool)
+  of_closec : (c : ChanNo) (closed : Bool) → (st.shared.chan c.0).closed ≡ closed → (st.shared.chan c.0).made ≡ true
       → C (call.Closec c)
       (sealing (own_sink st.pipes me c)
       (cond closed (unchanged st reply.Already) (replied st reply.«Ok» (channel_closed st.shared c.0))))
-  of_closec c true = change.closec_again c
-  of_closec c false = change.closec c
+  of_closec c true is made = change.closec_again c made is
+  of_closec c false is made = change.closec c made
 
-  of_sink : (target : CallerNo) (source : ℕ) (sink : Option ℕ) → next_channel l st ≡ Some source
+  of_sink : (target : CallerNo) (source : ℕ) (sink : Option ℕ) → target.0 < l.callers → next_channel l st ≡ Some source
       → next_channel l (channel_made st Source (Some source)).left ≡ sink
       → C (call.Pipe target) (with_sink (channel_made st Source (Some source)).left me target source sink)
-  of_sink target source None is then_is = change.pipe_spent target source is
-  of_sink target source (Some sink) is then_is = change.pipe target source sink is then_is
+  of_sink target source None there is then_is = change.pipe_spent target source is
+  of_sink target source (Some sink) there is then_is = change.pipe target source sink there is then_is
 
-  of_pipe : (target : CallerNo) (source : Option ℕ) → next_channel l st ≡ source
+  of_pipe : (target : CallerNo) (source : Option ℕ) → target.0 < l.callers → next_channel l st ≡ source
       → C (call.Pipe target) (with_source l st me target source)
-  of_pipe target None is = says (call.Pipe target) reply.ChannelsSpent refl
-  of_pipe target (Some source) is =
-      of_sink target source (next_channel l (channel_made st Source (Some source)).left) is refl
+  of_pipe target None there is = says (call.Pipe target) reply.ChannelsSpent refl
+  of_pipe target (Some source) there is =
+      of_sink target source (next_channel l (channel_made st Source (Some source)).left) there is refl
 
-  of_not_now : (c : Call) (blocking : Bool) → C c (unchanged st (not_now blocking))
-  of_not_now c true = says c reply.Again refl
-  of_not_now c false = says c (reply.Number 0) refl
+  of_not_now : (c : Call) → may_keep c (reply.Number 0) ≡ true → (blocking : Bool)
+      → C c (unchanged st (not_now blocking))
+  of_not_now c keeps true = says c reply.Again refl
+  of_not_now c keeps false = says c (reply.Number 0) keeps
 
-  of_read : (c : ChanNo) (n i : ℕ) (blocking : Bool) (waiting : List ℕ) (sealed : Bool)
-      → C (call.Pread c n) (read_first st blocking n i waiting sealed)
-  of_read c n i blocking [] false = of_not_now (call.Pread c n) blocking
-  of_read c n i blocking [] true = says (call.Pread c n) reply.End refl
-  of_read c n i blocking (b ∷ bytes) sealed = change.pread c n i b bytes
+  of_read : (c : ChanNo) (n i : ℕ) → IsOwnSource st me c i
+      → (blocking : Bool) (waiting : List ℕ) (sealed : Bool) → (pipe_at st.pipes i).waiting ≡ waiting
+      → (pipe_at st.pipes i).sealed ≡ sealed → C (call.Pread c n) (read_first st blocking n i waiting sealed)
+  of_read c n i own blocking [] false is seal = of_not_now (call.Pread c n) refl blocking
+  of_read c n i own blocking [] true is seal = change.pread_end c n i own is seal
+  of_read c n i own blocking (b ∷ bytes) sealed is seal = change.pread c n i b bytes own is
 
-  of_pread : (c : ChanNo) (n : ℕ) (place : Option ℕ) → C (call.Pread c n) (read_from st me c n place)
-  of_pread c n None = says (call.Pread c n) reply.NotOwner refl
-  of_pread c n (Some i) =
+  of_pread : (c : ChanNo) (n : ℕ) → (st.shared.chan c.0).made ≡ true
+      → (place : Option ℕ) → own_source st.pipes me c ≡ place → C (call.Pread c n) (read_from st me c n place)
+  of_pread c n made None own = says (call.Pread c n) reply.NotOwner refl
+  of_pread c n made (Some i) own =
       let word = call.Pread c n in
       either (st.shared.chan c.0).closed (says word reply.ClosedChannel refl)
       (either (finds_interrupt st me c) (change.pread_interrupted c n)
       (either (n == 0) (says word (reply.Number 0) refl)
-      (of_read c n i (st.shared.chan c.0).blocking (pipe_at st.pipes i).waiting (pipe_at st.pipes i).sealed)))
+      (of_read c n i (record { made = made; own = own }) (st.shared.chan c.0).blocking (pipe_at st.pipes i).waiting
+      (pipe_at st.pipes i).sealed refl refl)))
 
-  of_pwrite : (c : ChanNo) (bytes : List ℕ) (place : Option ℕ) → C (call.Pwrite c bytes) (write_to st me c bytes place)
-  of_pwrite c bytes None = says (call.Pwrite c bytes) reply.NotOwner refl
-  of_pwrite c bytes (Some i) =
+  of_pwrite : (c : ChanNo) (bytes : List ℕ) → (st.shared.chan c.0).made ≡ true
+      → (place : Option ℕ) → own_sink st.pipes me c ≡ place → C (call.Pwrite c bytes) (write_to st me c bytes place)
+  of_pwrite c bytes made None own = says (call.Pwrite c bytes) reply.NotOwner refl
+  of_pwrite c bytes made (Some i) own =
       let word = call.Pwrite c bytes in
-      either (st.shared.chan c.0).closed (change.pwrite_closed c bytes i)
-      (either (finds_interrupt st me c) (change.pwrite_interrupted c bytes i)
+      let its : IsOwnSink st me c i = record { made = made; own = own } in
+      either_where (st.shared.chan c.0).closed (change.pwrite_closed c bytes i its)
+      (λ is_open. either (finds_interrupt st me c) (change.pwrite_interrupted c bytes i its)
       (either (st.shared.chan (pipe_at st.pipes i).source.0).closed (says word reply.BrokenPipe refl)
       (either (length bytes == 0) (says word (reply.Number 0) refl)
-      (either (room_for bytes (pipe_at st.pipes i) == 0) (of_not_now word (st.shared.chan c.0).blocking)
-      (change.pwrite c bytes i (room_for bytes (pipe_at st.pipes i)))))))
+      (either (room_for bytes (pipe_at st.pipes i) == 0) (of_not_now word refl (st.shared.chan c.0).blocking)
+      (change.pwrite c bytes i its is_open)))))
 
   -- calls on the group
 
@@ -345,7 +263,8 @@ module _ (rules : Rules) (l : Limits) (st : ScriptState) (me : CallerNo) where
   of_group group.IsShutdown = says_whether (call.Group group.IsShutdown) st.group.is_shut
   of_group group.Terminated = says_whether (call.Group group.Terminated) (is_terminated st.group)
 
-  each_call : (c : Call) → C c (call_of rules l st me c)
+  -- whoever the caller is
+  pub each_call : (c : Call) → C c (call_of rules l st me c)
   unfolding call_of selector_call channel_call blocking_call is_blocking_call is_open_call is_registered_call
       key_for_call register_call closec_call cancel_call valid_call interest_call ready_call iset_call ior_call
       iand_call unselect_call attach_call attachment_call begin_call told_call failed_call wakeup_call
@@ -376,7 +295,7 @@ module _ (rules : Rules) (l : Limits) (st : ScriptState) (me : CallerNo) where
       by_key s c ops att (key_of st.shared c.0 s.0) refl selector made is_open non_blocking))))
       (λ _. says word reply.NoChannel refl))
       (λ _. says word reply.NoSelector refl)
-  each_call (call.Closec c) = channel_named c (of_closec c (st.shared.chan c.0).closed)
+  each_call (call.Closec c) = made_named c (of_closec c (st.shared.chan c.0).closed refl)
   each_call (call.Valid s k) =
       key_named s k (says_whether (call.Valid s k) (is_valid_key (st.shared.key s.0 k.index) k.serial))
   each_call (call.Interest s k) =
@@ -434,49 +353,13 @@ module _ (rules : Rules) (l : Limits) (st : ScriptState) (me : CallerNo) where
       either (nat_lt target.0 l.callers) (change.interrupt target) (says (call.Interrupt target) reply.NoCaller refl)
   each_call call.Interrupted = change.interrupted
   each_call (call.Pipe target) =
-      either (nat_lt target.0 l.callers) (of_pipe target (next_channel l st) refl)
-      (says (call.Pipe target) reply.NoCaller refl)
-  each_call (call.Pwrite c bytes) = channel_named c (of_pwrite c bytes (own_sink st.pipes me c))
-  each_call (call.Pread c n) = channel_named c (of_pread c n (own_source st.pipes me c))
+      either_where (nat_lt target.0 l.callers)
+      (λ there. of_pipe target (next_channel l st) (ltb-true target.0 l.callers there) refl)
+      (λ _. says (call.Pipe target) reply.NoCaller refl)
+  each_call (call.Pwrite c bytes) = made_named c (λ made. of_pwrite c bytes made (own_sink st.pipes me c) refl)
+  each_call (call.Pread c n) = made_named c (λ made. of_pread c n made (own_source st.pipes me c) refl)
   each_call (call.Group g) = of_group g
 
   pub change_of : (c : Call) → C c (seq rules l st me c)
   unfolding seq
   change_of c = either (nat_lt me.0 l.callers) (each_call c) (says c reply.NoCaller refl)
-
--- what holds of the change of each word holds of each call
-pub holds_of_calls : (rules : Rules) (l : Limits) (st : ScriptState) (me : CallerNo) (P : (Call → Replied → Type 0))
-    → HoldsOfChanges rules st me P → (c : Call) → P c (seq rules l st me c)
-holds_of_calls rules l st me P h word = of_change (change_of rules l st me word)
-  where
-    of_change : {c : Call} {done : Replied} → Change rules l st me c done → P c done
-    of_change (change.nothing c r keeps) = h.nothing c r keeps
-    of_change (change.selector s _) = h.selector s
-    of_change (change.channel kind c _) = h.channel kind c
-    of_change (change.blocking c on _) = h.blocking c on
-    of_change (change.register s c ops att k note _) = h.register s c ops att k note
-    of_change (change.register_again s c ops att k note) = h.register_again s c ops att k note
-    of_change (change.closec c) = h.closec c
-    of_change (change.closec_again c) = h.closec_again c
-    of_change (change.cancel s k) = h.cancel s k
-    of_change (change.iset s k ops) = h.iset s k ops
-    of_change (change.ior s k ops) = h.ior s k ops
-    of_change (change.iand s k ops) = h.iand s k ops
-    of_change (change.unselect s k) = h.unselect s k
-    of_change (change.attach s k att) = h.attach s k att
-    of_change (change.begin s waiting how free) = h.begin s waiting how free
-    of_change (change.told s elapsed pairs selection count why own) = h.told s elapsed pairs selection count why own
-    of_change (change.failed s selection own) = h.failed s selection own
-    of_change (change.wakeup s) = h.wakeup s
-    of_change (change.close s) = h.close s
-    of_change (change.close_end s _ _) = h.close_end s
-    of_change (change.interrupt target) = h.interrupt target
-    of_change (change.pipe target source sink _ _) = h.pipe target source sink
-    of_change (change.pipe_spent target source _) = h.pipe_spent target source
-    of_change (change.pread c n i b bytes) = h.pread c n i b bytes
-    of_change (change.pread_interrupted c n) = h.pread_interrupted c n
-    of_change (change.pwrite c bytes i n) = h.pwrite c bytes i n
-    of_change (change.pwrite_closed c bytes i) = h.pwrite_closed c bytes i
-    of_change (change.pwrite_interrupted c bytes i) = h.pwrite_interrupted c bytes i
-    of_change (change.group g s is made) = h.group g s is made
-    of_change change.interrupted = h.interrupted

@@ -36,11 +36,11 @@ used_up true = refl
 used_up false = refl
 
 -- a call that changes nothing was neither a wakeup nor the end of a selection
-no_wakeup : (s : ℕ) (c : Call) (r : Reply) → may_keep r ≡ true → is_wakeup s c r ≡ false
+no_wakeup : (s : ℕ) (c : Call) (r : Reply) → may_keep c r ≡ true → is_wakeup s c r ≡ false
 no_wakeup s (call.Wakeup t) reply.«Ok» keeps = absurd cc
 no_wakeup s _ _ keeps = refl
 
-no_end : (s : ℕ) (c : Call) (r : Reply) → may_keep r ≡ true → is_end s c r ≡ false
+no_end : (s : ℕ) (c : Call) (r : Reply) → may_keep c r ≡ true → is_end s c r ≡ false
 no_end s (call.Told t elapsed pairs) (reply.Selected count why) keeps = absurd cc
 no_end s _ _ keeps = refl
 
@@ -54,7 +54,7 @@ module _ (rules : Rules) (st : ScriptState) (me : CallerNo) (s : ℕ) where
   same : w ≡ (false || (w && not false))
   same = kept w
 
-  nothing : (c : Call) (r : Reply) → may_keep r ≡ true → Pending c (unchanged st r)
+  nothing : (c : Call) (r : Reply) → may_keep c r ≡ true → Pending c (unchanged st r)
   nothing c r keeps =
       same ∙ (ap (λ b. b || (w && not false)) (sym (no_wakeup s c r keeps))
       ∙ ap (λ b. is_wakeup s c r || (w && not b)) (sym (no_end s c r keeps)))

@@ -35,10 +35,6 @@ with_row st s r = record st {
   selection = put st.selection s r.selection;
 }
 
-pub and_true : (b : Bool) → b ≡ (b && true)
-and_true true = refl
-and_true false = refl
-
 -- a part of what a test chooses
 pub part_cond : {R A : Type 0} (part : R → A) (b : Bool) (x y : R) → part (cond b x y) ≡ cond b (part x) (part y)
 part_cond part true x y = refl

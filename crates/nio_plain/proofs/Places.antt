@@ -39,6 +39,9 @@ twice false x y z = refl
 pub put-twice : {A : Type 0} (f : ℕ → A) (s : ℕ) (x y : A) → put (put f s x) s y ≡ put f s y
 put-twice f s x y = same_function (λ n. twice (eqb n s) x y (f n))
 
+pub put_at-twice : {A : Type 0} (f : ℕ → ℕ → A) (s i : ℕ) (x y : A) → put_at (put_at f s i x) s i y ≡ put_at f s i y
+put_at-twice f s i x y = same_function (λ t. same_function (λ j. twice (eqb t s && eqb j i) x y (f t j)))
+
 -- a part of what is put in is put in that part
 pub put_part : {R A : Type 0} (part : R → A) (f : ℕ → R) (s : ℕ) (x : R)
     → ◌≡◌ {A = ℕ → A} (λ n. part (put f s x n)) (put (λ n. part (f n)) s (part x))

@@ -24,7 +24,7 @@ use Rattle.nio_plain.proofs.CallLawsCases.{change_of}
 
 module _ (rules : Rules) (l : Limits) (st : ScriptState) (me : CallerNo) (sound : Sound rules l st) where
   -- a caller's own selection is the selector's
-  own-is : (s : ℕ) (x : Selection) → own_selection st me s ≡ Some x → st.selection s ≡ Some x
+  pub own-is : (s : ℕ) (x : Selection) → own_selection st me s ≡ Some x → st.selection s ≡ Some x
   own-is s x e = by_caller (is_caller me (st.shared.turn s)) e
     where
       by_caller : (b : Bool) → cond b (st.selection s) None ≡ Some x → st.selection s ≡ Some x
@@ -39,7 +39,7 @@ module _ (rules : Rules) (l : Limits) (st : ScriptState) (me : CallerNo) (sound 
   keeps_change (change.register s c ops att k note may) =
       keeps_new_key rules l st s.0 c.0 sound k (next-is rules l st s.0 sound k may.next) (reply.Key k) ops note
       may.selector may.not_shut may.none may.made may.non_blocking may.is_open
-  keeps_change (change.closec c) =
+  keeps_change (change.closec c _) =
       let kept = keeps_closed_channel rules l st c.0 reply.«Ok» sound in
       record { sound = kept.sound; stays = kept.stays }
   keeps_change (change.cancel s k) = keeps_cancelled_key rules l st reply.«Ok» s.0 k sound
@@ -51,11 +51,11 @@ module _ (rules : Rules) (l : Limits) (st : ScriptState) (me : CallerNo) (sound 
   keeps_change (change.wakeup s) = keeps_woken rules l st reply.«Ok» s.0 sound
   keeps_change (change.close s) = keeps_shut rules l st reply.Closing s.0 me sound
   keeps_change (change.close_end s closer free) = keeps_closed rules l st s.0 reply.Closed closer free sound
-  keeps_change (change.pipe target source sink is then_is) =
+  keeps_change (change.pipe target source sink _ is then_is) =
       keeps_pipe rules l st me target source sink is then_is sound
   keeps_change (change.pipe_spent target source is) = keeps_pipe_spent rules l st source is sound
   keeps_change (change.pread_interrupted c n) = keeps_closed_channel rules l st c.0 reply.ClosedByInterrupt sound
-  keeps_change (change.pwrite_interrupted c bytes i) =
+  keeps_change (change.pwrite_interrupted c bytes i _) =
       let kept = keeps_closed_channel rules l st c.0 reply.ClosedByInterrupt sound in
       record { sound = kept.sound; stays = kept.stays }
   -- the others change none of these parts

@@ -257,7 +257,7 @@ closed_channel_has_no_valid_key rules l calls s i closed =
 closed-ended : {rules : Rules} {l : Limits} {st : ScriptState} {me : CallerNo} {c : Call} {done : Replied} (s : SelNo)
     → Change rules l st me c done → c ≡ call.CloseEnd s → done.reply ≡ reply.Closed
     → done.left.shared.entered s.0 ≡ true
-closed-ended s (change.nothing c r keeps) is closed = absurd (both_ways (may_keep r) (ap may_keep closed) keeps)
+closed-ended s (change.nothing c r keeps) is closed = absurd (both_ways (may_keep c r) (ap (may_keep c) closed) keeps)
 closed-ended {st = st} s (change.close_end t _ _) is closed =
     let same : t ≡ s = cc in
     subst (λ (n : SelNo). put st.shared.entered t.0 true n.0 ≡ true) same (put-same st.shared.entered t.0 true)

@@ -1,7 +1,9 @@
 -- A channel's key in a selector, and whether it is registered, over the parts of a state.
-use Rattle.std.proofs.Common.{◌≡◌, ℕ, zero, suc, ◌<◌, ◌≤◌, Bool, true, false, ◌||◌, Option, Some, None, is_some, List}
-use Rattle.std.proofs.Common.{[], ◌∷◌, ◌++◌, length, get_or, cond, refl, sym, ap, ◌∙◌, subst, arith, ⊎_elim, map}
-use Rattle.std.proofs.lemmas.Bool.{cases_lt, or_right, or_cases, cond-true}
+use Rattle.std.proofs.Common.{◌≡◌, ℕ, ◌<◌, ◌≤◌, Bool, true, false, Option, Some, None, is_some, List}
+use Rattle.std.proofs.Common.{length, get_or, cond, refl, sym, ap, ◌∙◌, subst, arith, ⊎_elim, map}
+use Rattle.std.proofs.lemmas.Bool.{cases_lt, cond-true}
+use Rattle.std.proofs.lemmas.List.Elements.{All-weaker}
+use Rattle.std.proofs.lemmas.List.Folds.{Any-from_list_any, list_any_at, list_any_none}
 use Rattle.std.specs.List.{list_any}
 use Rattle.nio_base.specs.declared.limits.Limits.{Limits}
 use Rattle.nio_base.specs.declared.numbers.KeyId.{KeyId}
@@ -9,6 +11,7 @@ use Rattle.nio_group.specs.Group.{Group}
 use Rattle.nio_history.specs.Sets.{is_in_key_set}
 use Rattle.nio_history.specs.State.{State, unmade_channel}
 use Rattle.nio_history.specs.declared.found.Chan.{Chan}
+use Rattle.nio_plain.proofs.Found.{below_all, below_contains}
 use Rattle.nio_plain.proofs.Replying.{rows_of}
 use Rattle.nio_plain.proofs.Places.{places_past, places_at}
 use Rattle.nio_plain.specs.PlainState.{SelectorRow, key_in, if_in_set, state_from, state_of, limits_of, places}
@@ -19,32 +22,14 @@ use Rattle.nio_plain.specs.ScriptState.{ScriptState, Pipe}
 use Rattle.nio_plain.specs.Seq.Modes.{key_of, if_in_key_set, is_registered}
 use Rattle.nio_plain.specs.Seq.Names.{below}
 
-list_any-push : (p : ℕ → Bool) (xs : List ℕ) (y : ℕ) → list_any p (xs ++ y ∷ []) ≡ (list_any p xs || p y)
-list_any-push p [] y = elim (p y) as (λ b. (b || false) ≡ b) [ true ↦ refl | false ↦ refl ]
-list_any-push p (x ∷ xs) y =
-    elim (p x) as (λ b. (b || list_any p (xs ++ y ∷ [])) ≡ ((b || list_any p xs) || p y))
-    [ true ↦ refl | false ↦ list_any-push p xs y ]
-
 any-none : (p : ℕ → Bool) (m : ℕ) → ((k : ℕ) → k < m → p k ≡ false) → list_any p (below m) ≡ false
-any-none p zero h = refl
-any-none p (suc m) h =
-    list_any-push p (below m) m ∙ (ap (λ b. b || p m) (any-none p m (λ k l. h k (omega arith))) ∙ h m (omega arith))
+any-none p m h =
+    list_any_none p (below m) (All-weaker (λ k. k < m) (λ k. p k ≡ false) h (below m) (below_all m))
 
 pub any-some : (p : ℕ → Bool) (m n : ℕ) → n < m → p n ≡ true → list_any p (below m) ≡ true
-any-some p zero n l t = absurd (omega arith)
-any-some p (suc m) n l t =
-    list_any-push p (below m) m ∙ ⊎_elim
-    (λ (k : n < m). ap (λ b. b || p m) (any-some p m n k t))
-    (λ (k : m ≤ n).
-    let e : m ≡ n = omega arith in
-    or_right (list_any p (below m)) (p m) (ap p e ∙ t))
-    (cases_lt n m)
-
-any-witness : (p : ℕ → Bool) (m : ℕ) → list_any p (below m) ≡ true → (k : ℕ) × (p k ≡ true)
-any-witness p zero h = absurd cc
-any-witness p (suc m) h =
-    ⊎_elim (any-witness p m) (λ t. (m, t))
-    (or_cases (list_any p (below m)) (p m) (sym (list_any-push p (below m) m) ∙ h))
+any-some p m n l t =
+    let there = below_contains m n l in
+    list_any_at p (below m) there.0 n there.1 (ap p there.2 ∙ t)
 
 -- over a state
 
@@ -75,8 +60,8 @@ key_of-is st c s k e = in_set-is st s k (st.enrolled c s) e
 pub registered-key : (l : Limits) (st : State) (c : ℕ) → is_registered l st c ≡ true
     → (s : ℕ) × (k : KeyId) × (key_of st c s ≡ Some k)
 registered-key l st c h =
-    let found = any-witness (λ s. is_some (key_of st c s)) l.selectors h in
-    named found.0 (key_of st c found.0) refl found.1
+    let found = Any-from_list_any (λ s. is_some (key_of st c s)) (below l.selectors) h in
+    named found.1 (key_of st c found.1) refl found.4
   where
     named : (s : ℕ) (o : Option KeyId) → key_of st c s ≡ o → is_some o ≡ true
         → (s : ℕ) × (k : KeyId) × (key_of st c s ≡ Some k)

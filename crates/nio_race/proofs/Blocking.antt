@@ -29,9 +29,10 @@ use Rattle.nio_race.specs.Quiet.{AreStillUntold, AreUntold}
 use Rattle.nio_race.specs.Racers.{BlocksOn, LooksAndBlocksOn, StandsFor}
 use Rattle.nio_race.specs.Runs.{Blocks, LooksAndBlocks, TellsNothing}
 use Rattle.nio_serial.specs.Documented.{Progress}
+use Rattle.nio_serial.specs.Left.{IsOngoing}
 use Rattle.nio_serial.specs.Lines.{if_own, with_selection}
 use Rattle.nio_sole.proofs.Calls.{made_more}
-use Rattle.nio_sole.specs.Made.{HasMade, IsOngoing}
+use Rattle.nio_sole.specs.Made.{HasMade}
 use Rattle.nio_sole.specs.Stands.{HasPlaces, progress_of}
 use Rattle.nio_sole.specs.declared.desk.Desk.{Desk}
 use Rattle.nio_steps.proofs.CallLaws.{call_as}

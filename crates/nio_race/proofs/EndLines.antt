@@ -4,8 +4,8 @@ use Rattle.std.proofs.Common.{if◌then◌else◌, IsTrue, IsFalse, Result, Ok, 
 use Rattle.std.proofs.Common.{take, drop, position, None, refl, sym, ap, ◌∙◌, subst, eqb-true, eq-eqb, arith, ⊎_elim}
 use Rattle.std.proofs.Common.{length-append}
 use Rattle.std.proofs.Math.Bool.{or-false}
-use Rattle.std.proofs.Math.Nat.{le_refl, le_trans}
-use Rattle.std.proofs.lemmas.Bool.{cases_lt, cond-false, cond-true, ne_eqb, false_from_ne_true}
+use Rattle.std.proofs.Math.Nat.{le_refl}
+use Rattle.std.proofs.lemmas.Bool.{cases_lt, cond-false, cond-true, ne_eqb, false_from_ne_true, or_right}
 use Rattle.std.proofs.lemmas.List.{append-nil, length-take-le}
 use Rattle.std.specs.List.{AllPairs}
 use Rattle.std.specs.Prelude.{OnOk, Vec}
@@ -33,47 +33,17 @@ use Rattle.nio_steps.specs.declared.refusal.PipeError.{PipeError}
 use Rattle.nio_steps.specs.declared.refusal.PipeError.TheVariants.{AsynchronousClose}
 use Rattle.nio_words.proofs.Beginnings.{prefix_length}
 use Rattle.nio_race.proofs.EndLists.{each_itself, each_set, none_passes, other_number}
-use Rattle.nio_race.proofs.FindLines.{KeepsRoom, close_keeps_room, close_takes_here, one_finds, one_takes}
+use Rattle.nio_race.proofs.FindLines.{close_keeps_room, close_takes_here, one_finds, one_takes}
 use Rattle.nio_race.proofs.FindLines.{prefix_drop, prefix_none, read_finds_elsewhere, read_finds_here}
 use Rattle.nio_race.proofs.FindLines.{write_keeps_room, write_takes_elsewhere, write_takes_here}
-use Rattle.nio_race.proofs.LineEnds.{same_sink_self, same_source_self, told_alone}
+use Rattle.nio_race.proofs.LineEnds.{sink_stays, source_stays, told_alone}
 use Rattle.nio_race.specs.Ends.{AreEach, EndsGoOn, KnowsAwaited, SinkGoesOn, SourceGoesOn}
 use Rattle.nio_race.specs.PipeBytes.{TellsEnd, bytes_of, seals_in, number_of, read_in, says_closed, written_in}
-use Rattle.nio_race.specs.PipeFinds.{Awaited, HasToWait, LineFinds, ReadFinds, WriteFinds}
+use Rattle.nio_race.specs.PipeFinds.{Awaited, HasToWait, ReadFinds, WriteFinds}
 use Rattle.nio_race.specs.declared.ends.OwnEnds.{OwnEnds}
 
 abbrev pub the_line : Call → Reply → List (RaceCall × Reply)
 the_line word r = (Script word, r) ∷ []
-
-or_true : (b : Bool) → true ≡ (b || true)
-or_true true = refl
-or_true false = refl
-
--- ---- ends that a line leaves as they are
-
-pub source_stays : (word : Call) (r : Reply) (x : PipeSource) → read_in (source_chan x) (Script word) r ≡ []
-    → (TellsEnd (source_chan x) (the_line word r) → ⊥)
-    → ((a : Awaited) → LineFinds (source_chan x) (Script word) r a a) → SourceGoesOn (the_line word r) x x
-source_stays word r x unread untold unfound = record {
-  same = same_source_self x;
-  received = sym (ap (λ (bytes : List ℕ). received x ++ (bytes ++ [])) unread ∙ append-nil (received x));
-  tells_end = λ told. absurd (untold told);
-  stays = λ at_end. at_end;
-  finds = λ a knows. (a, (one_finds (source_chan x) (Script word) r a a (unfound a), knows));
-}
-
-pub sink_stays : (word : Call) (r : Reply) (x : PipeSink) → written_in (sink_chan x) (Script word) r ≡ []
-    → seals_in (sink_chan x) (Script word) r ≡ false → KeepsRoom (sink_chan x) word r
-    → SinkGoesOn (the_line word r) x x
-sink_stays word r x unwritten unsealed keeps = record {
-  same = same_sink_self x;
-  sent = sym (ap (λ (bytes : List ℕ). sent x ++ (bytes ++ [])) unwritten ∙ append-nil (sent x));
-  seal = sym (or-false (is_sealed x)) ∙ ap (λ (b : Bool). is_sealed x || (b || false)) (sym unsealed);
-  ended = λ _. ap (λ (bytes : List ℕ). bytes ++ []) unwritten;
-  takes = λ room few.
-      let kept = keeps room in
-      (kept.0, (one_takes (sink_chan x) (Script word) r room kept.0 kept.1.0, le_trans kept.1.1 few));
-}
 
 -- a line that is no read tells no end
 no_end : (word : Call) (r : Reply) (c : ChanNo) → ((n : ℕ) → word ≡ call.Pread c n → ⊥)
@@ -108,14 +78,14 @@ module _ (c : ChanNo) (n : ℕ) (r : Reply) where
 
   sinks_stay : (sinks : List PipeSink) (k : ℕ) (x : PipeSink) → k < length sinks → get_or sinks k x ≡ x
       → SinkGoesOn (the_line Read r) x x
-  sinks_stay sinks k x within at = sink_stays Read r x refl refl (λ room. (room, (refl, le_refl room)))
+  sinks_stay sinks k x within at = sink_stays (Script Read) r x refl refl (λ room. (room, (refl, le_refl room)))
 
   -- it read nothing, and told no end
   pub read_stays : (ends : OwnEnds) → bytes_of r ≡ [] → (r ≡ reply.End → ⊥) → ((a : Awaited) → ReadFinds n a r a)
       → EndsGoOn (the_line Read r) ends ends
   read_stays ends none untold unfound = record {
     sources = each_itself (SourceGoesOn (the_line Read r)) ends.sources.items
-        (λ k x within at. source_stays Read r x (read_nothing (source_chan x) none)
+        (λ k x within at. source_stays (Script Read) r x (read_nothing (source_chan x) none)
         (λ told. untold (end_said Read r (source_chan x) told))
         (λ a. (λ _. unfound a, λ _. refl)));
     sinks = each_itself (SinkGoesOn (the_line Read r)) ends.sinks.items (sinks_stay ends.sinks.items);
@@ -140,7 +110,7 @@ module _ (c : ChanNo) (n : ℕ) (r : Reply) where
           let apart : (source_chan x).0 ≡ c.0 → ⊥ =
           λ same. other_number (λ (s : PipeSource). (source_chan s).0) ends.sources.items place k old x differ inside
           here other within at (same ∙ ap (λ (y : ChanNo). y.0) (sym its)) in
-          source_stays Read r x (read_elsewhere (source_chan x) apart)
+          source_stays (Script Read) r x (read_elsewhere (source_chan x) apart)
           (no_end Read r (source_chan x) (λ m same. let chan : c ≡ source_chan x = cc same in
           apart (ap (λ (y : ChanNo). y.0) (sym chan))))
           (λ a. read_finds_elsewhere c n r (source_chan x) a apart)
@@ -266,7 +236,8 @@ module _ (n : ℕ) (old new : PipeSource) (before after : List ℕ) (x : Awaited
       let y : Awaited = record x { bytes = drop (length given) x.bytes } in (
         y,
         (
-          subst (λ (r : Reply). ReadFinds n x r y) says (ReadFinds.gives given (false_from_ne_true x.ended goes) enough),
+          subst (λ (r : Reply). ReadFinds n x r y) says
+              (ReadFinds.gives given (false_from_ne_true x.ended goes) enough),
           record {
             bytes = prefix_drop x.bytes given (known new) ahead;
             sealed = λ sealed. gives.end_stays (knows.sealed sealed);
@@ -389,7 +360,7 @@ module _ (c : ChanNo) (bytes : List ℕ) (r : Reply) where
   sources_stay : (sources : List PipeSource) (k : ℕ) (x : PipeSource) → k < length sources → get_or sources k x ≡ x
       → SourceGoesOn (the_line Write r) x x
   sources_stay sources k x within at =
-      source_stays Write r x refl (no_end Write r (source_chan x) (λ n same. absurd (cc same))) (λ a. refl)
+      source_stays (Script Write) r x refl (no_end Write r (source_chan x) (λ n same. absurd (cc same))) (λ a. refl)
 
   pub write_stays : (ends : OwnEnds) → number_of r ≡ 0 → says_closed r ≡ false
       → ((room : ℕ) → WriteFinds bytes room r room) → EndsGoOn (the_line Write r) ends ends
@@ -397,7 +368,7 @@ module _ (c : ChanNo) (bytes : List ℕ) (r : Reply) where
     sources = each_itself (SourceGoesOn (the_line Write r)) ends.sources.items (sources_stay ends.sources.items);
     sinks = each_itself (SinkGoesOn (the_line Write r)) ends.sinks.items
         (λ k x within at.
-        sink_stays Write r x (write_nothing (sink_chan x) none) (seal_nothing (sink_chan x) unclosed)
+        sink_stays (Script Write) r x (write_nothing (sink_chan x) none) (seal_nothing (sink_chan x) unclosed)
         (write_keeps_room c bytes r (sink_chan x) leaves));
   }
 
@@ -420,7 +391,7 @@ module _ (c : ChanNo) (bytes : List ℕ) (r : Reply) where
           let apart : (sink_chan x).0 ≡ c.0 → ⊥ =
           λ same. other_number (λ (s : PipeSink). (sink_chan s).0) ends.sinks.items place k old x differ inside here
           other within at (same ∙ ap (λ (y : ChanNo). y.0) (sym its)) in
-          sink_stays Write r x (write_elsewhere (sink_chan x) apart) (seal_elsewhere (sink_chan x) apart)
+          sink_stays (Script Write) r x (write_elsewhere (sink_chan x) apart) (seal_elsewhere (sink_chan x) apart)
           (write_takes_elsewhere c bytes r (sink_chan x) apart)
 
 -- ---- what its reply tells
@@ -522,7 +493,7 @@ module _ (c : ChanNo) (r : Reply) where
   close_sources_stay : (sources : List PipeSource) (k : ℕ) (x : PipeSource) → k < length sources
       → get_or sources k x ≡ x → SourceGoesOn (the_line Closing r) x x
   close_sources_stay sources k x within at =
-      source_stays Closing r x refl (no_end Closing r (source_chan x) (λ n same. absurd (cc same))) (λ a. refl)
+      source_stays (Script Closing) r x refl (no_end Closing r (source_chan x) (λ n same. absurd (cc same))) (λ a. refl)
 
   -- it closed nothing
   pub close_stays : (ends : OwnEnds) → says_closed r ≡ false → EndsGoOn (the_line Closing r) ends ends
@@ -531,7 +502,8 @@ module _ (c : ChanNo) (r : Reply) where
         (close_sources_stay ends.sources.items);
     sinks = each_itself (SinkGoesOn (the_line Closing r)) ends.sinks.items
         (λ k x within at.
-        sink_stays Closing r x refl (ends_nothing (sink_chan x) unclosed) (close_keeps_room c r (sink_chan x)));
+        sink_stays (Script Closing) r x refl (ends_nothing (sink_chan x) unclosed)
+        (close_keeps_room c r (sink_chan x)));
   }
 
   -- none of the sinks has the channel
@@ -542,7 +514,7 @@ module _ (c : ChanNo) (r : Reply) where
         (close_sources_stay ends.sources.items);
     sinks = each_itself (SinkGoesOn (the_line Closing r)) ends.sinks.items
         (λ k x within at.
-        sink_stays Closing r x refl (ends_elsewhere (sink_chan x) (apart k x within at))
+        sink_stays (Script Closing) r x refl (ends_elsewhere (sink_chan x) (apart k x within at))
         (close_keeps_room c r (sink_chan x)));
   }
     where
@@ -576,7 +548,7 @@ module _ (c : ChanNo) (r : Reply) where
           let apart : (sink_chan x).0 ≡ c.0 → ⊥ =
           λ same. other_number (λ (s : PipeSink). (sink_chan s).0) ends.sinks.items place k old x differ inside here
           other within at (same ∙ ap (λ (y : ChanNo). y.0) (sym its)) in
-          sink_stays Closing r x refl (ends_elsewhere (sink_chan x) apart) (close_keeps_room c r (sink_chan x))
+          sink_stays (Script Closing) r x refl (ends_elsewhere (sink_chan x) apart) (close_keeps_room c r (sink_chan x))
 
 closed_said : (closes : Bool) → says_closed (closed_reply closes) ≡ true
 closed_said true = refl
@@ -594,7 +566,7 @@ sink_closed c old new closes its same keeps seals =
       same = same;
       sent = keeps ∙ sym (append-nil (sent old));
       seal = seals
-          ∙ (or_true (is_sealed old) ∙ ap (λ (b : Bool). is_sealed old || (b || false)) (sym here));
+          ∙ (sym (or_right (is_sealed old) true refl) ∙ ap (λ (b : Bool). is_sealed old || (b || false)) (sym here));
       ended = λ _. refl;
       takes = λ room few. (
         0,

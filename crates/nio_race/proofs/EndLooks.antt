@@ -39,10 +39,11 @@ use Rattle.nio_race.specs.Piping.{LooksAndReads, LooksAndWrites, ReadsFound, Rea
 use Rattle.nio_race.specs.Piping.{own_source}
 use Rattle.nio_race.specs.Racers.{CalledOn, StandsFor, StandsWith}
 use Rattle.nio_race.specs.declared.ends.OwnEnds.{OwnEnds}
+use Rattle.nio_serial.specs.Left.{IsOngoing}
 use Rattle.nio_sole.proofs.Calls.{made_more}
 use Rattle.nio_sole.proofs.Desks.{places_same}
 use Rattle.nio_sole.proofs.PipeLines.{channel_is}
-use Rattle.nio_sole.specs.Made.{HasMade, IsOngoing}
+use Rattle.nio_sole.specs.Made.{HasMade}
 use Rattle.nio_sole.specs.Stands.{progress_of}
 use Rattle.nio_sole.specs.declared.desk.Desk.{Desk}
 use Rattle.nio_steps.proofs.CallLaws.{call_as}

@@ -5,7 +5,6 @@ use Rattle.std.proofs.lemmas.Bool.{cases_eq}
 use mathlib.Core.List.{IsPrefix}
 use Rattle.nio_base.specs.declared.numbers.ChanNo.{ChanNo}
 use Rattle.nio_language.specs.WordRows.{PipeUse, neither}
-use Rattle.nio_language.specs.declared.call.Call.{Call}
 use Rattle.nio_language.specs.declared.call.Call.TheVariants as call
 use Rattle.nio_language.specs.declared.reply.Reply.{Reply}
 use Rattle.nio_race_text.specs.declared.call.RaceCall.{RaceCall}
@@ -78,8 +77,8 @@ module _ (c : ChanNo) (n : ℕ) (r : Reply) where
 
 -- ---- lines that leave no more room than they found
 
-abbrev pub KeepsRoom : ChanNo → Call → Reply → Type 0
-KeepsRoom c word r = (room : ℕ) → (left : ℕ) × (LineTakes c (Script word) r room left × (left ≤ room))
+abbrev pub KeepsRoom : ChanNo → RaceCall → Reply → Type 0
+KeepsRoom c line r = (room : ℕ) → (left : ℕ) × (LineTakes c line r room left × (left ≤ room))
 
 module _ (c : ChanNo) (bytes : List ℕ) (r : Reply) where
   pub write_takes_here : (x : ChanNo) (before after : ℕ) → c ≡ x → WriteFinds bytes before r after
@@ -87,19 +86,19 @@ module _ (c : ChanNo) (bytes : List ℕ) (r : Reply) where
   write_takes_here x before after same finds =
       (λ _. finds, λ other. absurd (other (ap (λ (y : ChanNo). y.0) same)))
 
-  pub write_takes_elsewhere : (x : ChanNo) → (x.0 ≡ c.0 → ⊥) → KeepsRoom x (call.Pwrite c bytes) r
+  pub write_takes_elsewhere : (x : ChanNo) → (x.0 ≡ c.0 → ⊥) → KeepsRoom x (Script (call.Pwrite c bytes)) r
   write_takes_elsewhere x other = λ room. (room, ((λ same. absurd (other (sym same)), λ _. refl), omega arith))
 
   -- where the reply leaves what is known of the room
   pub write_keeps_room : (x : ChanNo) → ((room : ℕ) → WriteFinds bytes room r room)
-      → KeepsRoom x (call.Pwrite c bytes) r
+      → KeepsRoom x (Script (call.Pwrite c bytes)) r
   write_keeps_room x leaves = λ room. (room, ((λ _. leaves room, λ _. refl), omega arith))
 
 module _ (c : ChanNo) (r : Reply) where
   pub close_takes_here : (x : ChanNo) (room : ℕ) → c ≡ x → LineTakes x (Script (call.Closec c)) r room 0
   close_takes_here x room same = (λ _. refl, λ other. absurd (other (ap (λ (y : ChanNo). y.0) same)))
 
-  pub close_keeps_room : (x : ChanNo) → KeepsRoom x (call.Closec c) r
+  pub close_keeps_room : (x : ChanNo) → KeepsRoom x (Script (call.Closec c)) r
   close_keeps_room x =
       λ room. ⊎_elim
       (λ (same : c.0 ≡ x.0). by_left room 0 ((λ _. refl), (λ other. absurd (other same))) (omega arith))

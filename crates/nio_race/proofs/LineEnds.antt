@@ -1,7 +1,8 @@
 -- What lines do to the ends of pipes that their caller owns: nothing, or the one after the other.
-use Rattle.std.proofs.Common.{◌≡◌, ℕ, suc, ◌<◌, ◌++◌, true, false, ◌||◌, List, [], ◌∷◌, length, map}
+use Rattle.std.proofs.Common.{◌≡◌, ℕ, suc, ◌<◌, ◌++◌, Bool, true, false, ◌||◌, List, [], ◌∷◌, length, map}
 use Rattle.std.proofs.Common.{inl, inr, ⊎_elim, arith, refl, sym, ap, ◌∙◌, subst, append_assoc}
 use Rattle.std.proofs.Math.Bool.{or-false, or_assoc}
+use Rattle.std.proofs.Math.Nat.{le_refl, le_trans}
 use Rattle.std.specs.Prelude.{◌⊎◌, zip}
 use Rattle.std.specs.List.{slice_index_or}
 use Rattle.std.proofs.lemmas.Grind.{flat_map-append}
@@ -17,10 +18,9 @@ use Rattle.nio_language.specs.WordRows.{PipeUse, neither, reads}
 use Rattle.nio_language.specs.declared.call.Call.TheVariants as call
 use Rattle.nio_language.specs.declared.reply.Reply.{Reply}
 use Rattle.nio_language.specs.declared.reply.Reply.TheVariants as reply
-use Rattle.nio_pipe.proofs.EndLemmas.{same_source}
+use Rattle.nio_pipe.proofs.EndLemmas.{looks_none, same_sink, same_source, sink_looks_none}
 use Rattle.nio_pipe.specs.Calls.{HasEnds}
-use Rattle.nio_pipe.specs.Ends.{IsSameSink, IsSameSource, is_sealed, other_chan, received, sent, sink_chan}
-use Rattle.nio_pipe.specs.Ends.{source_chan}
+use Rattle.nio_pipe.specs.Ends.{is_sealed, other_chan, received, sent, sink_chan, source_chan}
 use Rattle.nio_pipe.specs.declared.sink.PipeSink.{PipeSink}
 use Rattle.nio_pipe.specs.declared.source.PipeSource.{PipeSource}
 use Rattle.nio_race_text.specs.declared.call.RaceCall.{RaceCall}
@@ -32,67 +32,21 @@ use Rattle.nio_steps.specs.Calls.{CallClause}
 use Rattle.nio_steps.specs.PipeCalls.{PipeEnds}
 use Rattle.nio_words.specs.Views.{view}
 use Rattle.nio_words.specs.declared.words.Words.{Words}
-use Rattle.nio_race.proofs.FindLines.{find_append, finds_none, one_finds, one_takes, take_append, takes_none, use_in}
+use Rattle.nio_race.proofs.EndLists.{each_itself}
+use Rattle.nio_race.proofs.FindLines.{KeepsRoom, find_append, finds_none, one_finds, one_takes, take_append}
+use Rattle.nio_race.proofs.FindLines.{takes_none, use_in}
+use Rattle.nio_race.proofs.PairsLists.{each-same}
 use Rattle.nio_race.proofs.SetupLines.{leave_seal-append}
 use Rattle.nio_race.specs.Ends.{AreEach, EndsGoOn, HasMadeEnds, SinkGoesOn, SourceGoesOn, ends_of, ends_of_sink}
 use Rattle.nio_race.specs.PipeBytes.{TellsEnd, all_read, all_written, seals_by, seals_in, leave_seal, read_by, read_in}
 use Rattle.nio_race.specs.PipeBytes.{written_by, written_in}
-use Rattle.nio_race.specs.PipeFinds.{Awaited, LinesFind, LinesTake}
+use Rattle.nio_race.specs.PipeFinds.{Awaited, LineFinds, LinesFind, LinesTake}
 use Rattle.nio_race.specs.Piping.{OwnedEnds}
 use Rattle.nio_race.specs.Racers.{StandsFor, StandsWith}
 use Rattle.nio_race.specs.Runs.{AreRaceLines}
 use Rattle.nio_race.specs.declared.ends.OwnEnds.{OwnEnds}
 
--- ---- the same end
-
-pub same_source_self : (s : PipeSource) → IsSameSource s s
-same_source_self s = record {
-  bytes = ((refl, refl, refl, refl), refl);
-  seals = ((refl, refl, refl, refl), refl);
-  channel = refl;
-}
-
-pub same_sink_self : (s : PipeSink) → IsSameSink s s
-same_sink_self s = record {
-  bytes = ((refl, refl, refl, refl), refl);
-  seals = ((refl, refl, refl, refl), refl);
-  channel = refl;
-  other = refl;
-}
-
-pub same_sink_then : {a b c : PipeSink} → IsSameSink a b → IsSameSink b c → IsSameSink a c
-same_sink_then p q = record {
-  bytes = (
-    (
-      q.bytes.0.0 ∙ p.bytes.0.0,
-      q.bytes.0.1 ∙ p.bytes.0.1,
-      q.bytes.0.2 ∙ p.bytes.0.2,
-      q.bytes.0.3 ∙ p.bytes.0.3,
-    ),
-    q.bytes.1 ∙ p.bytes.1,
-  );
-  seals = (
-    (
-      q.seals.0.0 ∙ p.seals.0.0,
-      q.seals.0.1 ∙ p.seals.0.1,
-      q.seals.0.2 ∙ p.seals.0.2,
-      q.seals.0.3 ∙ p.seals.0.3,
-    ),
-    q.seals.1 ∙ p.seals.1,
-  );
-  channel = q.channel ∙ p.channel;
-  other = q.other ∙ p.other;
-}
-
 -- ---- elements at one place
-
--- each element stands in the relation to itself
-pub each_self : {A : Type 0} (R : A → A → Type 0) (xs : List A) → ((x : A) → R x x) → AreEach R xs xs
-each_self R xs self = record {
-  count = refl;
-  each = λ k x y below is_x is_y.
-      let same : x ≡ y = sym is_x ∙ (get_or_default xs k x y below ∙ is_y) in subst (R x) same (self x);
-}
 
 pub each_then : {A : Type 0} (R S T : A → A → Type 0) (xs ys zs : List A)
     → ((x y z : A) → R x y → S y z → T x z) → AreEach R xs ys → AreEach S ys zs → AreEach T xs zs
@@ -104,21 +58,6 @@ each_then {A} R S T xs ys zs chain first second = record {
       let is_y : slice_index_or ys k y ≡ y = get_or_default ys k y x inside in
       chain x y z (first.each k x y below is_x is_y) (second.each k y z inside is_y is_z);
 }
-
--- what the relation keeps is the same list
-pub each_map : {A B : Type 0} (R : A → A → Type 0) (f : A → B) (xs ys : List A)
-    → ((x y : A) → R x y → f y ≡ f x) → AreEach R xs ys → map f ys ≡ map f xs
-each_map R f [] [] keeps both = refl
-each_map R f [] (y ∷ ys) keeps both = let clash : suc (length ys) ≡ 0 = both.count in absurd (omega arith)
-each_map R f (x ∷ xs) [] keeps both = let clash : 0 ≡ suc (length xs) = both.count in absurd (omega arith)
-each_map R f (x ∷ xs) (y ∷ ys) keeps both =
-    let long : suc (length ys) ≡ suc (length xs) = both.count in
-    let rest : AreEach R xs ys = record {
-      count = omega arith;
-      each = λ k a b below is_a is_b. both.each (suc k) a b (omega arith) is_a is_b;
-    } in
-    let head : f y ≡ f x = keeps x y (both.each 0 x y (omega arith) refl refl) in
-    ap (λ b. b ∷ map f ys) head ∙ ap (λ bs. f x ∷ bs) (each_map R f xs ys keeps rest)
 
 -- ---- which ends these are
 
@@ -133,10 +72,10 @@ pub same_names : (lines : List (RaceCall × Reply)) (old new : OwnEnds) → Ends
     → ends_of new ≡ ends_of old
 same_names lines old new on =
     let sources : map source_chan new.sources.items ≡ map source_chan old.sources.items =
-    each_map (SourceGoesOn lines) source_chan old.sources.items new.sources.items (λ x y goes. goes.same.channel)
-    on.sources in
+    each-same (SourceGoesOn lines) source_chan source_chan old.sources.items new.sources.items
+    (λ x y goes. goes.same.channel) on.sources in
     let sinks : map ends_of_sink new.sinks.items ≡ map ends_of_sink old.sinks.items =
-    each_map (SinkGoesOn lines) ends_of_sink old.sinks.items new.sinks.items
+    each-same (SinkGoesOn lines) ends_of_sink ends_of_sink old.sinks.items new.sinks.items
     (λ x y goes. ap (λ (c : ChanNo). this_sink c (sink_chan y)) goes.same.other
     ∙ ap (λ (c : ChanNo). this_sink (other_chan x) c) goes.same.channel) on.sinks in
     ap (λ (xs : List ChanNo). these xs (map ends_of_sink new.sinks.items)) sources
@@ -144,34 +83,29 @@ same_names lines old new on =
 
 -- ---- lines that leave them as they are
 
--- the lines read and write nothing, leave no seal, and leave what is known of the pipes
-pub ends_stay : (lines : List (RaceCall × Reply)) (ends : OwnEnds)
-    → ((c : ChanNo) → all_read c lines ≡ []) → ((c : ChanNo) → all_written c lines ≡ [])
-    → ((c : ChanNo) → leave_seal c lines ≡ false) → ((c : ChanNo) → TellsEnd c lines → ⊥)
-    → ((c : ChanNo) (x : Awaited) → LinesFind c lines x x) → ((c : ChanNo) (room : ℕ) → LinesTake c lines room room)
-    → EndsGoOn lines ends ends
-ends_stay lines ends unread unwritten unsealed untold unfound untaken = record {
-  sources = each_self (SourceGoesOn lines) ends.sources.items source_stays;
-  sinks = each_self (SinkGoesOn lines) ends.sinks.items sink_stays;
+-- a line that says nothing of an end
+pub source_stays : (line : RaceCall) (r : Reply) (x : PipeSource) → read_in (source_chan x) line r ≡ []
+    → (TellsEnd (source_chan x) ((line, r) ∷ []) → ⊥) → ((a : Awaited) → LineFinds (source_chan x) line r a a)
+    → SourceGoesOn ((line, r) ∷ []) x x
+source_stays line r x unread untold unfound = record {
+  same = (looks_none x).same;
+  received = sym (ap (λ (bytes : List ℕ). received x ++ (bytes ++ [])) unread ∙ append-nil (received x));
+  tells_end = λ told. absurd (untold told);
+  stays = λ at_end. at_end;
+  finds = λ a knows. (a, (one_finds (source_chan x) line r a a (unfound a), knows));
 }
-  where
-    source_stays : (s : PipeSource) → SourceGoesOn lines s s
-    source_stays s = record {
-      same = same_source_self s;
-      received = sym (ap (λ xs. received s ++ xs) (unread (source_chan s)) ∙ append-nil (received s));
-      tells_end = λ told. absurd (untold (source_chan s) told);
-      stays = λ at_end. at_end;
-      finds = λ x knows. (x, (unfound (source_chan s) x, knows));
-    }
 
-    sink_stays : (s : PipeSink) → SinkGoesOn lines s s
-    sink_stays s = record {
-      same = same_sink_self s;
-      sent = sym (ap (λ xs. sent s ++ xs) (unwritten (sink_chan s)) ∙ append-nil (sent s));
-      seal = sym (or-false (is_sealed s)) ∙ ap (λ b. is_sealed s || b) (sym (unsealed (sink_chan s)));
-      ended = λ _. unwritten (sink_chan s);
-      takes = λ room few. (room, (untaken (sink_chan s) room, few));
-    }
+pub sink_stays : (line : RaceCall) (r : Reply) (x : PipeSink) → written_in (sink_chan x) line r ≡ []
+    → seals_in (sink_chan x) line r ≡ false → KeepsRoom (sink_chan x) line r → SinkGoesOn ((line, r) ∷ []) x x
+sink_stays line r x unwritten unsealed keeps = record {
+  same = (sink_looks_none x).same;
+  sent = sym (ap (λ (bytes : List ℕ). sent x ++ (bytes ++ [])) unwritten ∙ append-nil (sent x));
+  seal = sym (or-false (is_sealed x)) ∙ ap (λ (b : Bool). is_sealed x || (b || false)) (sym unsealed);
+  ended = λ _. ap (λ (bytes : List ℕ). bytes ++ []) unwritten;
+  takes = λ room few.
+      let kept = keeps room in
+      (kept.0, (one_takes (sink_chan x) line r room kept.0 kept.1.0, le_trans kept.1.1 few));
+}
 
 reads-none : (c : ChanNo) (line : RaceCall) (r : Reply) → use_in line ≡ neither → read_in c line r ≡ []
 reads-none c (Script word) r is = ap (λ (u : PipeUse). read_by c u r) is
@@ -194,14 +128,21 @@ told_alone c line r told =
 
 pub neither_stays : (line : RaceCall) (r : Reply) (ends : OwnEnds) → use_in line ≡ neither
     → EndsGoOn ((line, r) ∷ []) ends ends
-neither_stays line r ends is =
-    ends_stay ((line, r) ∷ []) ends (λ c. ap (λ xs. xs ++ []) (reads-none c line r is))
-    (λ c. ap (λ xs. xs ++ []) (writes-none c line r is)) (λ c. ap (λ b. b || false) (ends-none c line r is))
-    (λ c told.
-    let does : use_in line ≡ reads c told.0 = ap (λ (x : RaceCall × Reply). use_in x.0) (told_alone c line r told) in
-    let clash : neither ≡ reads c told.0 = sym is ∙ does in absurd cc)
-    (λ c x. one_finds c line r x x (finds_none c line r x is))
-    (λ c room. one_takes c line r room room (takes_none c line r room is))
+neither_stays line r ends is = record {
+  sources = each_itself (SourceGoesOn ((line, r) ∷ [])) ends.sources.items
+      (λ k x within at.
+      let c = source_chan x in
+      source_stays line r x (reads-none c line r is)
+      (λ told.
+      let does : use_in line ≡ reads c told.0 = ap (λ (y : RaceCall × Reply). use_in y.0) (told_alone c line r told) in
+      let clash : neither ≡ reads c told.0 = sym is ∙ does in absurd cc)
+      (λ a. finds_none c line r a is));
+  sinks = each_itself (SinkGoesOn ((line, r) ∷ [])) ends.sinks.items
+      (λ k x within at.
+      let c = sink_chan x in
+      sink_stays line r x (writes-none c line r is) (ends-none c line r is)
+      (λ room. (room, (takes_none c line r room is, le_refl room))));
+}
 
 -- ---- lines and one more
 
@@ -250,7 +191,7 @@ sink_more : (xs ys : List (RaceCall × Reply)) (a b c : PipeSink) → SinkGoesOn
 sink_more xs ys a b c p q =
     let chan : sink_chan b ≡ sink_chan a = p.same.channel in
     record {
-      same = same_sink_then p.same q.same;
+      same = same_sink p.same q.same;
       sent =
           q.sent
           ∙ (ap (λ (k : ChanNo). sent b ++ all_written k ys) chan

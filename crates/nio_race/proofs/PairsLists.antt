@@ -1,6 +1,7 @@
 -- Lists whose elements are related place by place, and the lists of owners.
 use Rattle.std.proofs.Common.{◌≡◌, ℕ, zero, suc, ◌<◌, ◌==◌, Bool, true, false, if◌then◌else◌, List, [], ◌∷◌, length}
 use Rattle.std.proofs.Common.{map, All, refl, sym, ap, ◌∙◌, subst, eqb-true, eq-eqb, arith}
+use Rattle.std.proofs.lemmas.List.{get_or_default, get_or-map}
 use Rattle.std.specs.List.{slice_index_or}
 use Rattle.nio_race.specs.Ends.{AreEach}
 
@@ -15,9 +16,7 @@ standing (x ∷ xs) (suc k) below = standing xs k (omega (arith, below))
 -- what stands at a place, whatever would be said of none
 pub at_itself : {A : Type 0} (xs : List A) (k : ℕ) (d : A) → k < length xs
     → slice_index_or xs k (slice_index_or xs k d) ≡ slice_index_or xs k d
-at_itself [] k d below = absurd (omega (arith, below))
-at_itself (x ∷ xs) zero d below = refl
-at_itself (x ∷ xs) (suc k) d below = at_itself xs k d (omega (arith, below))
+at_itself xs k d below = get_or_default xs k (slice_index_or xs k d) d below
 
 -- it is met by what all items meet
 pub all-at : {A : Type 0} (P : A → Type 0) (xs : List A) (k : ℕ) (x : A) → k < length xs → slice_index_or xs k x ≡ x
@@ -26,9 +25,7 @@ all-at P xs k x below is all = subst P is (all k x below)
 
 pub map-at : {A B : Type 0} (f : A → B) (xs : List A) (k : ℕ) (x : A) (d : B) → k < length xs
     → slice_index_or xs k x ≡ x → slice_index_or (map f xs) k d ≡ f x
-map-at f [] k x d below is = absurd (omega (arith, below))
-map-at f (y ∷ ys) zero x d below is = ap f is
-map-at f (y ∷ ys) (suc k) x d below is = map-at f ys k x d (omega (arith, below)) is
+map-at f xs k x d below is = get_or-map f xs k x d below ∙ ap f is
 
 -- ---- two lists, place by place
 
@@ -102,11 +99,6 @@ pub map-front : {A B : Type 0} (f : A → B) (b : Bool) (x : A) (xs : List A)
     → map f (if b then x ∷ xs else xs) ≡ front_if b (f x) (map f xs)
 map-front f true x xs = refl
 map-front f false x xs = refl
-
-pub front-map : {A B : Type 0} (f : A → B) (b : Bool) (x : A) (xs : List A)
-    → front_if b (f x) (map f xs) ≡ map f (if b then x ∷ xs else xs)
-front-map f true x xs = refl
-front-map f false x xs = refl
 
 -- the other list begins with an element that is related to the first
 pub record IsFront {A : Type 0} (R : A → A → Type 0) (x : A) (xs ys : List A) : Type 0 where

@@ -1,6 +1,6 @@
 -- The pipes of a race after its threads: the ends of each went on by the lines of its owners, and they are still parted
 -- among the racers.
-use Rattle.std.proofs.Common.{◌≡◌, ℕ, ◌==◌, List, [], ◌∷◌, map, All, refl, ap, ◌∙◌, subst, arith}
+use Rattle.std.proofs.Common.{◌≡◌, ℕ, ◌==◌, List, [], ◌∷◌, map, All, refl, sym, ap, ◌∙◌, subst, arith}
 use Rattle.std.specs.Prelude.{filter}
 use Rattle.nio_base.specs.declared.numbers.CallerNo.{CallerNo}
 use Rattle.nio_language.specs.declared.reply.Reply.{Reply}
@@ -9,7 +9,7 @@ use Rattle.nio_pipe.specs.Ends.{AreEnds}
 use Rattle.nio_pipe.specs.declared.sink.PipeSink.{PipeSink}
 use Rattle.nio_pipe.specs.declared.source.PipeSource.{PipeSource}
 use Rattle.nio_race_text.specs.declared.call.RaceCall.{RaceCall}
-use Rattle.nio_race.proofs.PairsLists.{each-nil, each-cons, each-same, each-all, front_if, front-map}
+use Rattle.nio_race.proofs.PairsLists.{each-nil, each-cons, each-same, each-all, front_if}
 use Rattle.nio_race.proofs.PairsLists.{IsStep, map-front, step}
 use Rattle.nio_race.specs.Ends.{AreEach, PartedPipe, SinkGoesOn, SourceGoesOn, owners_of}
 
@@ -90,13 +90,13 @@ one_more lines x parted sources sinks read written rest =
       sources_are = λ n.
           read.news_are n.0
           ∙ (ap (front_if (x.owners.reader.0 == n.0) read.head) (rest.sources_are n)
-          ∙ front-map (λ (p : PartedPipe). p.source) (x.owners.reader.0 == n.0) y
-          (filter (λ (p : PartedPipe). p.owners.reader.0 == n.0) rest.after));
+          ∙ sym (map-front (λ (p : PartedPipe). p.source) (x.owners.reader.0 == n.0) y
+          (filter (λ (p : PartedPipe). p.owners.reader.0 == n.0) rest.after)));
       sinks_are = λ n.
           written.news_are n.0
           ∙ (ap (front_if (x.owners.writer.0 == n.0) written.head) (rest.sinks_are n)
-          ∙ front-map (λ (p : PartedPipe). p.sink) (x.owners.writer.0 == n.0) y
-          (filter (λ (p : PartedPipe). p.owners.writer.0 == n.0) rest.after));
+          ∙ sym (map-front (λ (p : PartedPipe). p.sink) (x.owners.writer.0 == n.0) y
+          (filter (λ (p : PartedPipe). p.owners.writer.0 == n.0) rest.after)));
     }
 
 -- Where each caller's ends went on one by one, each pipe went on.

@@ -1,10 +1,11 @@
 -- The channels of the ends that a racer has are those of its caller's pipes.
-use Rattle.std.proofs.Common.{◌≡◌, ℕ, zero, suc, ◌<◌, ◌==◌, Bool, true, false, if◌then◌else◌, List, [], ◌∷◌, All}
+use Rattle.std.proofs.Common.{◌≡◌, ℕ, suc, ◌<◌, ◌==◌, Bool, true, false, if◌then◌else◌, List, [], ◌∷◌, All}
 use Rattle.std.proofs.Common.{get_or, map, refl, sym, ap, ◌∙◌, subst, arith}
 use Rattle.std.specs.Prelude.{AllPairs, filter}
 use Rattle.std.specs.List.{AllZip}
 use Rattle.std.proofs.lemmas.List.{get_or-map, length-map}
-use Rattle.std.proofs.lemmas.List.Elements.{All-filter, All-head, All-map, All-tail}
+use Rattle.std.proofs.lemmas.List.Elements.{All-head, All-map, All-tail}
+use Rattle.std.proofs.lemmas.List.Kept.{AllPairs-cons}
 use Rattle.nio_base.specs.declared.numbers.CallerNo.{CallerNo}
 use Rattle.nio_base.specs.declared.numbers.ChanNo.{ChanNo}
 use Rattle.nio_pipe.specs.Ends.{AreEnds, sink_chan, source_chan}
@@ -39,30 +40,11 @@ pairs_of_map {Y = Y} R f xs all i j d before below =
     (subst (λ (y : Y). R y (get_or (map f xs) j (f d))) (get_or-map f xs i d (f d) (omega (arith, before, below)))
     (all i j (f d) before (subst (λ (m : ℕ). j < m) (sym (length-map xs f)) below)))
 
-pairs_cons : {X : Type 0} (R : X → X → Type 0) (x : X) (xs : List X) → All (R x) xs → AllPairs R xs
-    → AllPairs R (x ∷ xs)
-pairs_cons R x xs first later i zero d before below = absurd (omega (arith, before))
-pairs_cons R x xs first later zero (suc j) d before below = first j d (omega (arith, below))
-pairs_cons R x xs first later (suc i) (suc j) d before below =
-    later i j d (omega (arith, before)) (omega (arith, below))
-
-filter_one : {X : Type 0} (R : X → X → Type 0) (x : X) (kept : List X) (b : Bool) → All (R x) kept
-    → AllPairs R kept → AllPairs R (if b then x ∷ kept else kept)
-filter_one R x kept true first later = pairs_cons R x kept first later
-filter_one R x kept false first later = later
-
-pub pairs_filter : {X : Type 0} (R : X → X → Type 0) (test : X → Bool) (xs : List X) → AllPairs R xs
-    → AllPairs R (filter test xs)
-pairs_filter R test [] all = all
-pairs_filter R test (x ∷ xs) all =
-    filter_one R x (filter test xs) (test x) (All-filter test (R x) xs (pairs-head R x xs all))
-    (pairs_filter R test xs (pairs-tail R x xs all))
-
 pub pairs_map : {X Y : Type 0} (R : Y → Y → Type 0) (f : X → Y) (xs : List X) → AllPairs (λ a b. R (f a) (f b)) xs
     → AllPairs R (map f xs)
 pairs_map R f [] all = pairs-none R
 pairs_map {X = X} R f (x ∷ xs) all =
-    pairs_cons R (f x) (map f xs) (All-map (R (f x)) f xs (pairs-head (λ (a b : X). R (f a) (f b)) x xs all))
+    AllPairs-cons R (f x) (map f xs) (All-map (R (f x)) f xs (pairs-head (λ (a b : X). R (f a) (f b)) x xs all))
     (pairs_map R f xs (pairs-tail (λ (a b : X). R (f a) (f b)) x xs all))
 
 -- ---- which ends are kept

@@ -5,6 +5,7 @@ use Rattle.std.specs.Prelude.{AllPairs, filter}
 use Rattle.std.specs.List.{AllZip}
 use Rattle.std.proofs.lemmas.List.{get_or_default}
 use Rattle.std.proofs.lemmas.List.Elements.{All-filter, All-map, All-weaker}
+use Rattle.std.proofs.lemmas.List.Kept.{AllPairs-filter}
 use Rattle.std.proofs.lemmas.Simd.{map-map}
 use Rattle.nio_base.specs.declared.numbers.CallerNo.{CallerNo}
 use Rattle.nio_base.specs.declared.numbers.ChanNo.{ChanNo}
@@ -24,7 +25,7 @@ use Rattle.nio_words.specs.Views.{view}
 use Rattle.nio_words.specs.declared.words.Words.{Words}
 use Rattle.nio_race.proofs.HaveEach.{had_by}
 use Rattle.nio_race.proofs.LineEnds.{map-none}
-use Rattle.nio_race.proofs.PartKept.{all_of_map, each_to_zip, pairs_filter, pairs_map, pairs_of_map, sinks_kept}
+use Rattle.nio_race.proofs.PartKept.{all_of_map, each_to_zip, pairs_map, pairs_of_map, sinks_kept}
 use Rattle.nio_race.proofs.PartKept.{sources_kept, zip_whole}
 use Rattle.nio_race.specs.Ends.{ArePipes, AreSameButEnds, HasMadeEnds, HasNoEnds, HasRacers, HaveParted, HaveEnds}
 use Rattle.nio_race.specs.Ends.{IsPartedAs, PartedPipe, ends_of, ends_of_sink}
@@ -103,13 +104,13 @@ module _ (n : CallerNo) (ends : OwnEnds) (pipes : List Pipe) (parted : List Part
         (subst (λ (cs : List ChanNo). AllPairs (λ (a b : ChanNo). a.0 ≢ b.0) cs) (sym source_chans)
         (pairs_map (λ (a b : ChanNo). a.0 ≢ b.0) (λ (p : Pipe). p.source)
         (filter (λ (p : Pipe). p.reader.0 == n.0) pipes)
-        (pairs_filter (λ (p q : Pipe). p.source.0 ≢ q.source.0) (λ (p : Pipe). p.reader.0 == n.0) pipes
+        (AllPairs-filter (λ (p q : Pipe). p.source.0 ≢ q.source.0) (λ (p : Pipe). p.reader.0 == n.0) pipes
         are.sources_differ)));
     sinks_differ = pairs_of_map (λ (a b : PipeEnds). a.sink.0 ≢ b.sink.0) ends_of_sink ends.sinks.items
         (subst (λ (es : List PipeEnds). AllPairs (λ (a b : PipeEnds). a.sink.0 ≢ b.sink.0) es) (sym sink_chans)
         (pairs_map (λ (a b : PipeEnds). a.sink.0 ≢ b.sink.0) ends_of_pipe
         (filter (λ (p : Pipe). p.writer.0 == n.0) pipes)
-        (pairs_filter (λ (p q : Pipe). p.sink.0 ≢ q.sink.0) (λ (p : Pipe). p.writer.0 == n.0) pipes
+        (AllPairs-filter (λ (p q : Pipe). p.sink.0 ≢ q.sink.0) (λ (p : Pipe). p.writer.0 == n.0) pipes
         are.sinks_differ)));
   }
 

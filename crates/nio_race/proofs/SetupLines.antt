@@ -18,9 +18,12 @@ use Rattle.nio_race_text.specs.declared.call.RaceCall.{RaceCall}
 use Rattle.nio_race_text.specs.declared.call.RaceCall.TheVariants.{Script}
 use Rattle.nio_steps.proofs.Lists.{contains-none}
 
+pub none-where : {A : Type 0} (b : Bool) (x none : A) → (b ≡ true → x ≡ none) → cond b x none ≡ none
+none-where true x none e = e refl
+none-where false x none e = refl
+
 pub of-none : {A : Type 0} (b : Bool) (x none : A) → x ≡ none → cond b x none ≡ none
-of-none true x none e = e
-of-none false x none e = refl
+of-none b x none e = none-where b x none (λ _. e)
 
 -- ---- one line
 

@@ -1,22 +1,21 @@
 -- What lines say of channels and of pipes: which say nothing, and what those of an owner say.
-use Rattle.std.proofs.Common.{◌≡◌, ℕ, ◌==◌, Bool, true, false, cond, ◌&&◌}
-use Rattle.std.proofs.Common.{List, [], take, refl, ap, sym, ◌∙◌}
+use Rattle.std.proofs.Common.{◌≡◌, ℕ, ◌==◌, Bool, true, false, cond, ◌&&◌, List, [], take, refl, ap, sym, ◌∙◌}
 use Rattle.std.proofs.Common.{eq-eqb, eqb-true}
-use Rattle.std.proofs.lemmas.Bool.{and_from, and_left, and_parts, and_right, both_ways, cond-true}
-use Rattle.std.proofs.lemmas.Bool.{false_from_ne_true, cond-false, cond-true}
+use Rattle.std.proofs.lemmas.Bool.{and_from, and_left, and_parts, and_right, both_ways, cond-false, cond-true}
+use Rattle.std.proofs.lemmas.Bool.{false_from_ne_true}
 use Rattle.nio_base.specs.declared.numbers.CallerNo.{CallerNo}
 use Rattle.nio_base.specs.declared.numbers.ChanNo.{ChanNo}
-use Rattle.nio_language.specs.WordRows.{PipeUse, closes, neither, reads, writes}
+use Rattle.nio_language.specs.WordRows.{PipeUse, neither, reads}
 use Rattle.nio_language.specs.declared.call.Call.{Call}
 use Rattle.nio_language.specs.declared.call.Call.TheVariants as call
 use Rattle.nio_language.specs.declared.call.ScriptCall.{ScriptCall}
 use Rattle.nio_language.specs.declared.reply.Reply.{Reply}
 use Rattle.nio_language.specs.declared.reply.Reply.TheVariants as reply
+use Rattle.nio_plain.proofs.CallChanges.{may_keep}
 use Rattle.nio_plain.specs.ScriptState.{Pipe}
 use Rattle.nio_plain.specs.Seq.Pipes.{owns_sink, owns_source}
-use Rattle.nio_plain.specs.Seq.Piping.{not_now}
 use Rattle.nio_race.proofs.SetupKept.{IsBeside, IsSilent}
-use Rattle.nio_race.proofs.SetupLines.{ReadsEnd, end_of, of-none, read_of, written_of}
+use Rattle.nio_race.proofs.SetupLines.{ReadsEnd, end_of, none-where, of-none, read_of, written_of}
 use Rattle.nio_race.specs.PipeBytes.{bytes_of, seals_by, number_of, read_by, says_closed, written_by}
 use Rattle.nio_race.specs.Piping.{use_of}
 
@@ -27,7 +26,7 @@ pub of-same : {A : Type 0} (b : Bool) (x : A) → cond b x x ≡ x
 of-same true x = refl
 of-same false x = refl
 
--- ---- lines that are on no pipe, and quiet replies
+-- ---- lines that are on no pipe
 
 pub neither-silent : (x : ScriptCall × Reply) → use_of x.0.call ≡ neither → (c : ChanNo) → IsSilent c x
 neither-silent x e c = record {
@@ -38,62 +37,6 @@ neither-silent x e c = record {
       let is_read : use_of x.0.call ≡ reads c ends.limit = ap use_of ends.call in
       absurd (cc (e, is_read));
 }
-
--- such a reply says of no call that it read, wrote, found an end or closed a channel
-pub record IsQuiet (r : Reply) : Type 0 where
-  pub bytes : bytes_of r ≡ []
-  pub number : number_of r ≡ 0
-  pub closes : says_closed r ≡ false
-  pub end : r ≡ reply.End → ⊥
-
-quiet-read : (c : ChanNo) (u : PipeUse) (r : Reply) → bytes_of r ≡ [] → read_by c u r ≡ []
-quiet-read c (reads x n) r h = of-none (x.0 == c.0) (bytes_of r) [] h
-quiet-read c (writes x bytes) r h = refl
-quiet-read c (closes x) r h = refl
-quiet-read c neither r h = refl
-
-quiet-written : (c : ChanNo) (u : PipeUse) (r : Reply) → number_of r ≡ 0 → written_by c u r ≡ []
-quiet-written c (reads x n) r h = refl
-quiet-written c (writes x bytes) r h =
-    of-none (x.0 == c.0) (take (number_of r) bytes) [] (ap (λ (n : ℕ). take n bytes) h)
-quiet-written c (closes x) r h = refl
-quiet-written c neither r h = refl
-
-quiet-end : (c : ChanNo) (u : PipeUse) (r : Reply) → says_closed r ≡ false → seals_by c u r ≡ false
-quiet-end c (reads x n) r h = refl
-quiet-end c (writes x bytes) r h = and_right (x.0 == c.0) (says_closed r) h
-quiet-end c (closes x) r h = and_right (x.0 == c.0) (says_closed r) h
-quiet-end c neither r h = refl
-
-pub quiet-silent : (x : ScriptCall × Reply) → IsQuiet x.1 → (c : ChanNo) → IsSilent c x
-quiet-silent x quiet c = record {
-  read = quiet-read c (use_of x.0.call) x.1 quiet.bytes;
-  written = quiet-written c (use_of x.0.call) x.1 quiet.number;
-  end = quiet-end c (use_of x.0.call) x.1 quiet.closes;
-  untold = λ (ends : ReadsEnd c x). quiet.end ends.reply;
-}
-
-pub no-caller : IsQuiet reply.NoCaller
-no-caller = record { bytes = refl; number = refl; closes = refl; end = λ e. absurd (cc e) }
-
-pub no-channel : IsQuiet reply.NoChannel
-no-channel = record { bytes = refl; number = refl; closes = refl; end = λ e. absurd (cc e) }
-
-pub not-owner : IsQuiet reply.NotOwner
-not-owner = record { bytes = refl; number = refl; closes = refl; end = λ e. absurd (cc e) }
-
-pub broken-pipe : IsQuiet reply.BrokenPipe
-broken-pipe = record { bytes = refl; number = refl; closes = refl; end = λ e. absurd (cc e) }
-
-pub number-none : IsQuiet (reply.Number 0)
-number-none = record { bytes = refl; number = refl; closes = refl; end = λ e. absurd (cc e) }
-
-again : IsQuiet reply.Again
-again = record { bytes = refl; number = refl; closes = refl; end = λ e. absurd (cc e) }
-
-pub not-now : (blocking : Bool) → IsQuiet (not_now blocking)
-not-now true = again
-not-now false = number-none
 
 -- ---- reads
 
@@ -120,135 +63,149 @@ read-elsewhere me c n r k other = record {
       both_ways (c.0 == k.0) other (eq-eqb c.0 k.0 (ap (λ (x : ChanNo). x.0) same));
 }
 
-source-owned : (me : CallerNo) (c : ChanNo) (p : Pipe) → (me.0 == p.reader.0) ≡ true → (c.0 == p.source.0) ≡ true
-    → owns_source me c p ≡ true
-source-owned me c p by at =
-    and_from (p.source.0 == c.0) (p.reader.0 == me.0)
-    (eq-eqb p.source.0 c.0 (sym (eqb-true c.0 p.source.0 at)))
-    (eq-eqb p.reader.0 me.0 (sym (eqb-true me.0 p.reader.0 by)))
+-- whose end is whose
+own-end : (a b x y : ℕ) → ((a == b) && (x == y)) ≡ true → ((y == x) ≡ true) × ((b == a) ≡ true)
+own-end a b x y own =
+    let both = and_parts (a == b) (x == y) own in
+    (eq-eqb y x (sym (eqb-true x y both.1)), eq-eqb b a (sym (eqb-true a b both.0)))
+
+other-end : (a b x y : ℕ) → ((a == b) && (x == y)) ≡ false → (y == x) ≡ true → (b == a) ≡ false
+other-end a b x y other by =
+    false_from_ne_true (b == a)
+    (λ at. both_ways ((a == b) && (x == y)) other
+    (and_from (a == b) (x == y) (eq-eqb a b (sym (eqb-true b a at))) (eq-eqb x y (sym (eqb-true y x by)))))
+
+pub source-is : (me : CallerNo) (c : ChanNo) (p : Pipe) → owns_source me c p ≡ true → p.source.0 ≡ c.0
+source-is me c p own = eqb-true p.source.0 c.0 (and_parts (p.source.0 == c.0) (p.reader.0 == me.0) own).0
 
 -- nor of a pipe whose source isn't the caller's own with this channel
 pub read-beside : (me : CallerNo) (c : ChanNo) (n : ℕ) (r : Reply) (p : Pipe) → owns_source me c p ≡ false
     → IsBeside p (line me (call.Pread c n) r)
-read-beside me c n r p other = record {
-  read = by_reader (me.0 == p.reader.0) refl;
-  written = of-same {A = List ℕ} (me.0 == p.writer.0) [];
-  end = of-same {A = Bool} (me.0 == p.writer.0) false;
-  untold = λ ends.
-      let it = ends.reads.call in
-      let same : c ≡ p.source = cc it in
-      both_ways (owns_source me c p) other
-      (source-owned me c p ends.by (eq-eqb c.0 p.source.0 (ap (λ (x : ChanNo). x.0) same)));
-}
-  where
-    by_reader : (b : Bool) → (me.0 == p.reader.0) ≡ b
-        → cond {A = List ℕ} b (cond (c.0 == p.source.0) (bytes_of r) []) [] ≡ []
-    by_reader true e =
-        cond-false (c.0 == p.source.0) (bytes_of r) []
-        (false_from_ne_true (c.0 == p.source.0) (λ at. both_ways (owns_source me c p) other (source-owned me c p e at)))
-    by_reader false e = refl
+read-beside me c n r p other =
+    let x = line me (call.Pread c n) r in
+    let silent : (me.0 == p.reader.0) ≡ true → IsSilent p.source x =
+    λ by. read-elsewhere me c n r p.source (other-end p.source.0 c.0 p.reader.0 me.0 other by) in
+    record {
+      read = none-where (me.0 == p.reader.0) (read_by p.source (use_of x.0.call) r) [] (λ by. (silent by).read);
+      written = of-same {A = List ℕ} (me.0 == p.writer.0) [];
+      end = of-same {A = Bool} (me.0 == p.writer.0) false;
+      untold = λ ends. (silent ends.by).untold ends.reads;
+    }
 
 -- of the caller's own source it says what was read
 pub read-own : (me : CallerNo) (c : ChanNo) (n : ℕ) (r : Reply) (p : Pipe) → owns_source me c p ≡ true
     → read_of p.reader p.source (line me (call.Pread c n) r) ≡ bytes_of r
 read-own me c n r p own =
-    let both = and_parts (p.source.0 == c.0) (p.reader.0 == me.0) own in
-    cond-true (me.0 == p.reader.0) (cond (c.0 == p.source.0) (bytes_of r) []) []
-    (eq-eqb me.0 p.reader.0 (sym (eqb-true p.reader.0 me.0 both.1)))
-    ∙ cond-true (c.0 == p.source.0) (bytes_of r) [] (eq-eqb c.0 p.source.0 (sym (eqb-true p.source.0 c.0 both.0)))
+    let is = own-end p.source.0 c.0 p.reader.0 me.0 own in
+    cond-true (me.0 == p.reader.0) (cond (c.0 == p.source.0) (bytes_of r) []) [] is.0
+    ∙ cond-true (c.0 == p.source.0) (bytes_of r) [] is.1
 
 -- ---- writes and closings
 
-sink-owned : (me : CallerNo) (c : ChanNo) (p : Pipe) → (me.0 == p.writer.0) ≡ true → (c.0 == p.sink.0) ≡ true
-    → owns_sink me c p ≡ true
-sink-owned me c p by at =
-    and_from (p.sink.0 == c.0) (p.writer.0 == me.0)
-    (eq-eqb p.sink.0 c.0 (sym (eqb-true c.0 p.sink.0 at)))
-    (eq-eqb p.writer.0 me.0 (sym (eqb-true me.0 p.writer.0 by)))
+pub sink-is : (me : CallerNo) (c : ChanNo) (p : Pipe) → owns_sink me c p ≡ true → p.sink.0 ≡ c.0
+sink-is me c p own = eqb-true p.sink.0 c.0 (and_parts (p.sink.0 == c.0) (p.writer.0 == me.0) own).0
 
-pub own-sink-is : (me : CallerNo) (c : ChanNo) (p : Pipe) → owns_sink me c p ≡ true
-    → ((me.0 == p.writer.0) ≡ true) × ((c.0 == p.sink.0) ≡ true)
-own-sink-is me c p own =
-    let both = and_parts (p.sink.0 == c.0) (p.writer.0 == me.0) own in (
-      eq-eqb me.0 p.writer.0 (sym (eqb-true p.writer.0 me.0 both.1)),
-      eq-eqb c.0 p.sink.0 (sym (eqb-true p.sink.0 c.0 both.0)),
-    )
+-- the line is on the sink c: it writes these bytes, and may leave the seal
+pub record IsOnSink (c : ChanNo) (bytes : List ℕ) (seals : Bool) (x : ScriptCall × Reply) : Type 0 where
+  pub read : (k : ChanNo) → read_by k (use_of x.0.call) x.1 ≡ []
+  pub written : (k : ChanNo) → written_by k (use_of x.0.call) x.1 ≡ cond (c.0 == k.0) bytes []
+  pub end : (k : ChanNo) → seals_by k (use_of x.0.call) x.1 ≡ ((c.0 == k.0) && seals)
+  pub untold : (k : ChanNo) → ReadsEnd k x → ⊥
 
-pub write-elsewhere : (me : CallerNo) (c : ChanNo) (bytes : List ℕ) (r : Reply) (k : ChanNo) → (c.0 == k.0) ≡ false
-    → IsSilent k (line me (call.Pwrite c bytes) r)
-write-elsewhere me c bytes r k other = record {
-  read = refl;
-  written = cond-false (c.0 == k.0) (take (number_of r) bytes) [] other;
-  end = and_left (c.0 == k.0) (says_closed r) other;
-  untold = λ (ends : ReadsEnd k (line me (call.Pwrite c bytes) r)). let it = ends.call in absurd (cc it);
+pub write-on : (me : CallerNo) (c : ChanNo) (bytes : List ℕ) (r : Reply)
+    → IsOnSink c (take (number_of r) bytes) (says_closed r) (line me (call.Pwrite c bytes) r)
+write-on me c bytes r = record {
+  read = λ k. refl;
+  written = λ k. refl;
+  end = λ k. refl;
+  untold = λ k (ends : ReadsEnd k (line me (call.Pwrite c bytes) r)). let it = ends.call in absurd (cc it);
 }
 
-pub write-beside : (me : CallerNo) (c : ChanNo) (bytes : List ℕ) (r : Reply) (p : Pipe) → owns_sink me c p ≡ false
-    → IsBeside p (line me (call.Pwrite c bytes) r)
-write-beside me c bytes r p other = record {
-  read = of-same {A = List ℕ} (me.0 == p.reader.0) [];
-  written = by_writer (me.0 == p.writer.0) refl;
-  end = by_end (me.0 == p.writer.0) refl;
-  untold = λ ends. let it = ends.reads.call in absurd (cc it);
-}
-  where
-    elsewhere : (me.0 == p.writer.0) ≡ true → (c.0 == p.sink.0) ≡ false
-    elsewhere e =
-        false_from_ne_true (c.0 == p.sink.0) (λ at. both_ways (owns_sink me c p) other (sink-owned me c p e at))
-
-    by_writer : (b : Bool) → (me.0 == p.writer.0) ≡ b
-        → cond {A = List ℕ} b (cond (c.0 == p.sink.0) (take (number_of r) bytes) []) [] ≡ []
-    by_writer true e = cond-false (c.0 == p.sink.0) (take (number_of r) bytes) [] (elsewhere e)
-    by_writer false e = refl
-
-    by_end : (b : Bool) → (me.0 == p.writer.0) ≡ b → cond b ((c.0 == p.sink.0) && says_closed r) false ≡ false
-    by_end true e = and_left (c.0 == p.sink.0) (says_closed r) (elsewhere e)
-    by_end false e = refl
-
--- of the caller's own sink a write says what was written, and whether it leaves the seal
-pub write-own : (me : CallerNo) (c : ChanNo) (bytes : List ℕ) (r : Reply) (p : Pipe) → owns_sink me c p ≡ true
-    → written_of p.writer p.sink (line me (call.Pwrite c bytes) r) ≡ take (number_of r) bytes
-write-own me c bytes r p own =
-    let is = own-sink-is me c p own in
-    cond-true (me.0 == p.writer.0) (cond (c.0 == p.sink.0) (take (number_of r) bytes) []) [] is.0
-    ∙ cond-true (c.0 == p.sink.0) (take (number_of r) bytes) [] is.1
-
-pub write-ends : (me : CallerNo) (c : ChanNo) (bytes : List ℕ) (r : Reply) (p : Pipe) → owns_sink me c p ≡ true
-    → end_of p.writer p.sink (line me (call.Pwrite c bytes) r) ≡ says_closed r
-write-ends me c bytes r p own =
-    let is = own-sink-is me c p own in
-    cond-true (me.0 == p.writer.0) ((c.0 == p.sink.0) && says_closed r) false is.0
-    ∙ ap (λ (b : Bool). b && says_closed r) is.1
-
-pub close-elsewhere : (me : CallerNo) (c : ChanNo) (r : Reply) (k : ChanNo) → (c.0 == k.0) ≡ false
-    → IsSilent k (line me (call.Closec c) r)
-close-elsewhere me c r k other = record {
-  read = refl;
-  written = refl;
-  end = and_left (c.0 == k.0) (says_closed r) other;
-  untold = λ (ends : ReadsEnd k (line me (call.Closec c) r)). let it = ends.call in absurd (cc it);
+pub close-on : (me : CallerNo) (c : ChanNo) (r : Reply) → IsOnSink c [] (says_closed r) (line me (call.Closec c) r)
+close-on me c r = record {
+  read = λ k. refl;
+  written = λ k. sym (of-same {A = List ℕ} (c.0 == k.0) []);
+  end = λ k. refl;
+  untold = λ k (ends : ReadsEnd k (line me (call.Closec c) r)). let it = ends.call in absurd (cc it);
 }
 
-pub close-beside : (me : CallerNo) (c : ChanNo) (r : Reply) (p : Pipe) → owns_sink me c p ≡ false
-    → IsBeside p (line me (call.Closec c) r)
-close-beside me c r p other = record {
-  read = of-same {A = List ℕ} (me.0 == p.reader.0) [];
-  written = of-same {A = List ℕ} (me.0 == p.writer.0) [];
-  end = by_end (me.0 == p.writer.0) refl;
-  untold = λ ends. let it = ends.reads.call in absurd (cc it);
-}
-  where
-    by_end : (b : Bool) → (me.0 == p.writer.0) ≡ b → cond b ((c.0 == p.sink.0) && says_closed r) false ≡ false
-    by_end true e =
-        and_left (c.0 == p.sink.0) (says_closed r)
-        (false_from_ne_true (c.0 == p.sink.0) (λ at. both_ways (owns_sink me c p) other (sink-owned me c p e at)))
-    by_end false e = refl
+module _ {c : ChanNo} {bytes : List ℕ} {seals : Bool} where
+  sink-silent : {x : ScriptCall × Reply} → IsOnSink c bytes seals x → bytes ≡ [] → seals ≡ false
+      → (k : ChanNo) → IsSilent k x
+  sink-silent on none unsealed k = record {
+    read = on.read k;
+    written = on.written k ∙ of-none (c.0 == k.0) bytes [] none;
+    end = on.end k ∙ and_right (c.0 == k.0) seals unsealed;
+    untold = on.untold k;
+  }
 
-pub close-ends : (me : CallerNo) (c : ChanNo) (r : Reply) (p : Pipe) → owns_sink me c p ≡ true
-    → end_of p.writer p.sink (line me (call.Closec c) r) ≡ says_closed r
-close-ends me c r p own =
-    let is = own-sink-is me c p own in
-    cond-true (me.0 == p.writer.0) ((c.0 == p.sink.0) && says_closed r) false is.0
-    ∙ ap (λ (b : Bool). b && says_closed r) is.1
+  -- it says nothing of another channel
+  pub sink-elsewhere : {x : ScriptCall × Reply} → IsOnSink c bytes seals x → (k : ChanNo) → (c.0 == k.0) ≡ false
+      → IsSilent k x
+  sink-elsewhere on k other = record {
+    read = on.read k;
+    written = on.written k ∙ cond-false (c.0 == k.0) bytes [] other;
+    end = on.end k ∙ and_left (c.0 == k.0) seals other;
+    untold = on.untold k;
+  }
 
--- ---- places
+  module _ {me : CallerNo} {word : Call} {r : Reply} where
+    -- nor of a pipe whose sink isn't the caller's own with this channel
+    pub sink-beside : IsOnSink c bytes seals (line me word r) → (p : Pipe) → owns_sink me c p ≡ false
+        → IsBeside p (line me word r)
+    sink-beside on p other =
+        let silent : (me.0 == p.writer.0) ≡ true → IsSilent p.sink (line me word r) =
+        λ by. sink-elsewhere on p.sink (other-end p.sink.0 c.0 p.writer.0 me.0 other by) in
+        record {
+          read = of-none (me.0 == p.reader.0) (read_by p.source (use_of word) r) [] (on.read p.source);
+          written = none-where (me.0 == p.writer.0) (written_by p.sink (use_of word) r) [] (λ by. (silent by).written);
+          end = none-where (me.0 == p.writer.0) (seals_by p.sink (use_of word) r) false (λ by. (silent by).end);
+          untold = λ ends. on.untold p.source ends.reads;
+        }
+
+    -- of the caller's own sink it says what was written, and whether it leaves the seal
+    pub sink-written : IsOnSink c bytes seals (line me word r) → (p : Pipe) → owns_sink me c p ≡ true
+        → written_of p.writer p.sink (line me word r) ≡ bytes
+    sink-written on p own =
+        let is = own-end p.sink.0 c.0 p.writer.0 me.0 own in
+        cond-true (me.0 == p.writer.0) (written_by p.sink (use_of word) r) [] is.0
+        ∙ (on.written p.sink ∙ cond-true (c.0 == p.sink.0) bytes [] is.1)
+
+    pub sink-seals : IsOnSink c bytes seals (line me word r) → (p : Pipe) → owns_sink me c p ≡ true
+        → end_of p.writer p.sink (line me word r) ≡ seals
+    sink-seals on p own =
+        let is = own-end p.sink.0 c.0 p.writer.0 me.0 own in
+        cond-true (me.0 == p.writer.0) (seals_by p.sink (use_of word) r) false is.0
+        ∙ (on.end p.sink ∙ ap (λ (b : Bool). b && seals) is.1)
+
+-- ---- calls that change nothing
+
+no-bytes : (word : Call) (r : Reply) → may_keep word r ≡ true → bytes_of r ≡ []
+no-bytes word (reply.Bytes bytes) keeps = absurd cc
+no-bytes word _ keeps = refl
+
+no-number : (c : ChanNo) (bytes : List ℕ) (r : Reply) → may_keep (call.Pwrite c bytes) r ≡ true → number_of r ≡ 0
+no-number c bytes (reply.Number n) keeps = eqb-true n 0 keeps
+no-number c bytes _ keeps = refl
+
+-- a call that may leave a seal doesn't say that its channel is closed
+keeps-open : (word : Call) (r : Reply) → may_keep word reply.Already ≡ false → may_keep word r ≡ true
+    → says_closed r ≡ false
+keeps-open word reply.«Ok» seals keeps = absurd cc
+keeps-open word reply.Already seals keeps = absurd (both_ways (may_keep word reply.Already) seals keeps)
+keeps-open word reply.ClosedChannel seals keeps = absurd (both_ways (may_keep word reply.Already) seals keeps)
+keeps-open word reply.ClosedByInterrupt seals keeps = absurd cc
+keeps-open word reply.AsyncClose seals keeps = absurd cc
+keeps-open word _ seals keeps = refl
+
+pub nothing-silent : (me : CallerNo) (word : Call) (r : Reply) → may_keep word r ≡ true
+    → (k : ChanNo) → IsSilent k (line me word r)
+nothing-silent me (call.Pread c n) r keeps =
+    read-silent me c n r (no-bytes (call.Pread c n) r keeps)
+    (λ end. both_ways (may_keep (call.Pread c n) r) (ap (may_keep (call.Pread c n)) end) keeps)
+nothing-silent me (call.Pwrite c bytes) r keeps =
+    sink-silent (write-on me c bytes r) (ap (λ (n : ℕ). take n bytes) (no-number c bytes r keeps))
+    (keeps-open (call.Pwrite c bytes) r refl keeps)
+nothing-silent me (call.Closec c) r keeps =
+    sink-silent (close-on me c r) refl (keeps-open (call.Closec c) r refl keeps)
+nothing-silent me _ r keeps = neither-silent (line me _ r) refl

@@ -148,7 +148,8 @@ const BLOCK_AND_WAKEUP: &str =
     "t1 selector\nt1 channel source\nt1 blocking c0 off\nt1 register s0 c0 1\ngo\nt1 block s0\nt2 wakeup s0\n";
 
 const WOKEN: &str =
-    "1 t1 selector -> s0\n2 t1 channel source -> c0\n3 t1 blocking c0 off -> ok\n4 t1 register s0 c0 1 -> k0\nt1 1 block s0 -> selected 0 woken\nt2 1 wakeup s0 -> ok\n";
+    "1 t1 selector -> s0\n2 t1 channel source -> c0\n3 t1 blocking c0 off -> ok\n4 t1 register s0 c0 1 -> k0\n\
+        t1 1 block s0 -> selected 0 woken\nt2 1 wakeup s0 -> ok\n";
 
 const RACES: &[(&str, Race)] = &[
     (
@@ -179,7 +180,8 @@ const RACES: &[(&str, Race)] = &[
             (
                 0,
                 &[
-                    "1 t1 selector -> s0\n2 t1 selector -> s1\nt1 1 block s1 -> selected 0 woken\nt1 2 block s0 -> selected 0 woken\nt2 1 wakeup s0 -> ok\nt2 2 wakeup s1 -> ok\n",
+                    "1 t1 selector -> s0\n2 t1 selector -> s1\nt1 1 block s1 -> selected 0 woken\n\
+                        t1 2 block s0 -> selected 0 woken\nt2 1 wakeup s0 -> ok\nt2 2 wakeup s1 -> ok\n",
                 ],
             ),
         ),
@@ -194,7 +196,8 @@ const RACES: &[(&str, Race)] = &[
             (
                 0,
                 &[
-                    "1 t1 selector -> s0\nt1 1 block s0 -> selected 0 interrupted\nt1 2 block s0 -> selected 0 interrupted\nt2 1 interrupt t1 -> ok\n",
+                    "1 t1 selector -> s0\nt1 1 block s0 -> selected 0 interrupted\n\
+                        t1 2 block s0 -> selected 0 interrupted\nt2 1 interrupt t1 -> ok\n",
                 ],
             ),
         ),
@@ -253,7 +256,8 @@ const PIPES_IN_RACES: &[(&str, Race)] = &[
             (
                 0,
                 &[
-                    "1 t1 pipe t2 -> c0 c1\n2 t2 pwrite c1 68 -> 1\nt1 1 pread c0 1 -> 68\nt1 2 pread c0 1 -> 69\nt2 1 pwrite c1 69 -> 1\n",
+                    "1 t1 pipe t2 -> c0 c1\n2 t2 pwrite c1 68 -> 1\nt1 1 pread c0 1 -> 68\nt1 2 pread c0 1 -> 69\n\
+                        t2 1 pwrite c1 69 -> 1\n",
                 ],
             ),
         ),
@@ -268,7 +272,8 @@ const PIPES_IN_RACES: &[(&str, Race)] = &[
             (
                 0,
                 &[
-                    "1 t1 pipe t2 -> c0 c1\nt1 1 pread c0 9 -> 6869\nt1 2 pread c0 9 -> end\nt2 1 pwrite c1 6869 -> 2\nt2 2 closec c1 -> ok\n",
+                    "1 t1 pipe t2 -> c0 c1\nt1 1 pread c0 9 -> 6869\nt1 2 pread c0 9 -> end\nt2 1 pwrite c1 6869 -> 2\n\
+                        t2 2 closec c1 -> ok\n",
                 ],
             ),
         ),
@@ -283,7 +288,8 @@ const PIPES_IN_RACES: &[(&str, Race)] = &[
             (
                 0,
                 &[
-                    "1 t1 pipe t2 -> c0 c1\n2 t2 pwrite c1 68 -> 1\n3 t2 closec c1 -> ok\nt1 1 pread c0 1 -> 68\nt1 2 pread c0 1 -> end\nt2 1 pwrite c1 69 -> closed-channel\n",
+                    "1 t1 pipe t2 -> c0 c1\n2 t2 pwrite c1 68 -> 1\n3 t2 closec c1 -> ok\nt1 1 pread c0 1 -> 68\n\
+                        t1 2 pread c0 1 -> end\nt2 1 pwrite c1 69 -> closed-channel\n",
                 ],
             ),
         ),
@@ -298,7 +304,8 @@ const PIPES_IN_RACES: &[(&str, Race)] = &[
             (
                 0,
                 &[
-                    "1 t1 pipe t2 -> c0 c1\nt1 1 pwrite c1 00 -> not-owner\nt2 1 pread c0 1 -> not-owner\nt3 1 pread c1 1 -> not-owner\nt3 2 pread c2 1 -> no-channel\n",
+                    "1 t1 pipe t2 -> c0 c1\nt1 1 pwrite c1 00 -> not-owner\nt2 1 pread c0 1 -> not-owner\n\
+                        t3 1 pread c1 1 -> not-owner\nt3 2 pread c2 1 -> no-channel\n",
                 ],
             ),
         ),
@@ -313,8 +320,10 @@ const PIPES_IN_RACES: &[(&str, Race)] = &[
             (
                 0,
                 &[
-                    "1 t1 pipe t2 -> c0 c1\nt1 1 pread c0 1 -> async-close\nt2 1 closec c0 -> ok\nt2 2 pwrite c1 00 -> broken-pipe\n",
-                    "1 t1 pipe t2 -> c0 c1\nt1 1 pread c0 1 -> closed-channel\nt2 1 closec c0 -> ok\nt2 2 pwrite c1 00 -> broken-pipe\n",
+                    "1 t1 pipe t2 -> c0 c1\nt1 1 pread c0 1 -> async-close\nt2 1 closec c0 -> ok\n\
+                        t2 2 pwrite c1 00 -> broken-pipe\n",
+                    "1 t1 pipe t2 -> c0 c1\nt1 1 pread c0 1 -> closed-channel\nt2 1 closec c0 -> ok\n\
+                        t2 2 pwrite c1 00 -> broken-pipe\n",
                 ],
             ),
         ),
@@ -345,7 +354,8 @@ const PIPES_IN_RACES: &[(&str, Race)] = &[
             (
                 0,
                 &[
-                    "1 t1 pipe t2 -> c0 c1\nt1 1 pread c0 1 -> closed-by-interrupt\nt1 2 is-open c0 -> no\nt2 1 interrupt t1 -> ok\n",
+                    "1 t1 pipe t2 -> c0 c1\nt1 1 pread c0 1 -> closed-by-interrupt\nt1 2 is-open c0 -> no\n\
+                        t2 1 interrupt t1 -> ok\n",
                 ],
             ),
         ),
@@ -360,7 +370,8 @@ const PIPES_IN_RACES: &[(&str, Race)] = &[
             (
                 0,
                 &[
-                    "1 t1 pipe t1 -> c0 c1\n2 t1 blocking c0 off -> ok\nt1 1 pread c0 1 -> 0\nt1 2 pwrite c1 6869 -> 2\nt1 3 pread c0 0 -> 0\nt1 4 pread c0 9 -> 6869\n",
+                    "1 t1 pipe t1 -> c0 c1\n2 t1 blocking c0 off -> ok\nt1 1 pread c0 1 -> 0\n\
+                        t1 2 pwrite c1 6869 -> 2\nt1 3 pread c0 0 -> 0\nt1 4 pread c0 9 -> 6869\n",
                 ],
             ),
         ),
@@ -378,7 +389,8 @@ fn callers_run_beside_each_other(rt: HostRuntime) -> Result<(), Fail> {
     let text =
         "go\nt1 interrupted\nt1 interrupted\nt1 interrupted\nt2 interrupted\nt2 interrupted\nt2 interrupted\n";
     let output =
-        "t1 1 interrupted -> no\nt1 2 interrupted -> no\nt1 3 interrupted -> no\nt2 1 interrupted -> no\nt2 2 interrupted -> no\nt2 3 interrupted -> no\n";
+        "t1 1 interrupted -> no\nt1 2 interrupted -> no\nt1 3 interrupted -> no\nt2 1 interrupted -> no\n\
+            t2 2 interrupted -> no\nt2 3 interrupted -> no\n";
     let order = [(2, 1), (2, 2), (1, 1), (1, 2), (2, 3), (1, 3)];
     ends(
         &rt,

@@ -16,7 +16,6 @@ use Rattle.nio_language.proofs.CallWordTable.{reads_call_word}
 use Rattle.nio_language.proofs.NameWords.{decimal_lacks}
 use Rattle.nio_language.proofs.OneReading.{line_one}
 use Rattle.nio_language.proofs.Spaces.{Spaceless, split_join, caller_spaceless}
-use Rattle.nio_language.proofs.Ones.{word_at, numbered_one}
 use Rattle.nio_race_text.specs.RaceLines.{IsBlockLine, IsRaceLine, script_line, block_line, AreRaceLines, no_lines}
 use Rattle.nio_race_text.specs.RaceLines.{blank_line, race_line, race_words}
 use Rattle.nio_race_text.specs.RaceText.{go_line}
@@ -45,9 +44,6 @@ begins_full begins (inr hash) = absurd (omega (arith, same_Some 116 35 (rw begin
 
 begins_not_go : {line : List ℕ} → Begins line → line ≡ go_line → ⊥
 begins_not_go begins go = omega (arith, ap (λ w. get_or w 0 0) (sym begins.1 ∙ go))
-
-pub line_full : {caller : CallerNo} {c : Call} {line : List ℕ} → IsLine caller c line → IsBlank line → ⊥
-line_full is = begins_full (line_begins is)
 
 pub line_not_go : {caller : CallerNo} {c : Call} {line : List ℕ} → IsLine caller c line → line ≡ go_line → ⊥
 line_not_go is = begins_not_go (line_begins is)

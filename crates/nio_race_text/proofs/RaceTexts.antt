@@ -9,13 +9,13 @@ use Rattle.nio_language.specs.Script as script
 use Rattle.nio_language.specs.Script.{AreCalls, lines_of}
 use Rattle.nio_language.specs.declared.call.Call.{Call}
 use Rattle.nio_language.specs.declared.call.ScriptCall.{ScriptCall}
-use Rattle.nio_language.proofs.OneReading.{line_one}
+use Rattle.nio_language.proofs.OneReading.{line_full, line_one}
 use Rattle.nio_race_text.specs.RaceLines.{AreRaceLines, no_lines, blank_line, race_line}
 use Rattle.nio_race_text.specs.RaceText.{RaceCalls, AreRaceText, IsRaceText, AreSomeRaceText, IsFirstBadRace, IsInRace}
 use Rattle.nio_race_text.specs.RaceText.{IsInSetup, setup_alone, with_go, go_line}
 use Rattle.nio_race_text.specs.Reading.{AreGoless, StopsAt}
 use Rattle.nio_race_text.specs.declared.call.RaceLine.{RaceLine}
-use Rattle.nio_race_text.proofs.OneLine.{line_full, line_not_go, go_full, race_one}
+use Rattle.nio_race_text.proofs.OneLine.{line_not_go, go_full, race_one}
 use Rattle.nio_race_text.proofs.Parts.{AreRaceLines-append, AreRaceLines-behind}
 use Rattle.nio_script.specs.declared.script.ScriptError.{ScriptError}
 use Rattle.nio_script.specs.declared.script.ScriptError.TheVariants.{BadLine, Memory}

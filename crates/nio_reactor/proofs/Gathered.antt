@@ -1,7 +1,6 @@
 -- The passes are joined: what the one pass has seen that is left.
-use Rattle.std.proofs.Common.{◌≡◌, ℕ, ◌+◌, ◌-◌, ◌%◌, ◌<◌, ◌≤◌, inl, inr, ⊎_elim, Bool, if◌then◌else◌}
-use Rattle.std.proofs.Common.{Some, Result, Ok, Err, IsOk, OnOk, IfOk, List, [], ◌∷◌, ◌++◌, length, map, filter, All}
-use Rattle.std.proofs.Common.{append_assoc}
+use Rattle.std.proofs.Common.{◌≡◌, ℕ, ◌+◌, ◌-◌, ◌%◌, ◌<◌, ◌≤◌, inl, inr, ⊎_elim, Bool, if◌then◌else◌, Some, Result, Ok}
+use Rattle.std.proofs.Common.{Err, IsOk, OnOk, IfOk, List, [], ◌∷◌, ◌++◌, length, map, filter, All, append_assoc}
 use Rattle.std.proofs.Common.{slice_get, slice_index_or, refl, sym, ap, subst, ◌∙◌, arith, mod-lt}
 use Rattle.std.proofs.lemmas.Bool.{cases_eq, cases_lt, ne_eqb}
 use Rattle.std.proofs.lemmas.List.{get_or-map, length-map}
@@ -215,7 +214,8 @@ module _ {X : Type 0} (words : Words) (plan : ProxyPlan) (early : X → Bool) (o
     of_acceptor : (n : CallerNo) → n.0 ≡ 0 → HasOwn w plan.conns p n
     of_acceptor n is = record {
       those = seats (Some acceptor_deal) (selector 0) 1;
-      has = subst (λ (m : CallerNo). HasRegistered (table_for w) (acts_seen p m) (seats (Some acceptor_deal) (selector 0) 1))
+      has = subst
+          (λ (m : CallerNo). HasRegistered (table_for w) (acts_seen p m) (seats (Some acceptor_deal) (selector 0) 1))
           (sym (ap caller is))
           (subst (λ (l : Limits). HasRegistered l (acts_seen p (caller 0)) (seats (Some acceptor_deal) (selector 0) 1))
           limits

@@ -17,7 +17,7 @@ use Rattle.nio_reactor.specs.Doors.{worker_at, workers_at}
 use Rattle.nio_reactor.specs.Handing.{below, handover, handovers, handed_by, put_at, put_below}
 use Rattle.nio_reactor.specs.Handing.{AreHanded, HasHanded, HaveHanded}
 use Rattle.nio_reactor.specs.Lanes.{door_place}
-use Rattle.nio_reactor.specs.Turns.{next_of, turn_at, turn_of, turns_of}
+use Rattle.nio_reactor.specs.Assignments.{assignment_at, assignment_of, assignments_of, next_of}
 use Rattle.nio_reactor.specs.Working.{Concludes}
 use Rattle.nio_reactor.specs.declared.door.Door.{Door}
 use Rattle.nio_reactor.specs.declared.door.Door.TheVariants as door
@@ -50,19 +50,20 @@ none_mapped f xs is = nil_from_length xs (sym (length-map xs f) ∙ ap length is
 -- ---- one more link
 
 order_at : (at : Addr) (put : List Handover) (h : Handover)
-    → map turn_of put ≡ map (turn_at at) (below (length put)) → turn_of h ≡ turn_at at (length put)
-    → map turn_of (put ++ h ∷ []) ≡ map (turn_at at) (below (length (put ++ h ∷ [])))
+    → map assignment_of put ≡ map (assignment_at at) (below (length put))
+    → assignment_of h ≡ assignment_at at (length put)
+    → map assignment_of (put ++ h ∷ []) ≡ map (assignment_at at) (below (length (put ++ h ∷ [])))
 order_at at put h was here =
-    map-append turn_of put (h ∷ [])
-    ∙ (ap (λ l. l ++ turn_of h ∷ []) was
-    ∙ (ap (λ t. map (turn_at at) (below (length put)) ++ t ∷ []) here
-    ∙ (sym (below_next (turn_at at) (length put))
-    ∙ ap (λ n. map (turn_at at) (below n)) (sym (length-append put (h ∷ []))))))
+    map-append assignment_of put (h ∷ [])
+    ∙ (ap (λ l. l ++ assignment_of h ∷ []) was
+    ∙ (ap (λ t. map (assignment_at at) (below (length put)) ++ t ∷ []) here
+    ∙ (sym (below_next (assignment_at at) (length put))
+    ∙ ap (λ n. map (assignment_at at) (below n)) (sym (length-append put (h ∷ []))))))
 
-turn_after : (at : Addr) (put : List Handover) (h : Handover) (connection : ℕ)
+number_after : (at : Addr) (put : List Handover) (h : Handover) (connection : ℕ)
     → connection ≡ worker_at at + length put * workers_at at
     → connection + workers_at at ≡ worker_at at + length (put ++ h ∷ []) * workers_at at
-turn_after at put h connection is =
+number_after at put h connection is =
     let longer : length (put ++ h ∷ []) ≡ suc (length put)
     = length-append put (h ∷ []) ∙ add-one (length put) in
     let more : length (put ++ h ∷ []) * workers_at at ≡ length put * workers_at at + workers_at at
@@ -70,24 +71,25 @@ turn_after at put h connection is =
     omega (arith, is, more)
 
 module _ (d : Door) (at : Addr) (put now : List Handover) (h : Handover) (next : ℕ) (is_open : d ≡ door.Open at)
-    (now_is : now ≡ put ++ h ∷ []) (turn : next ≡ next_of d (length put)) where
+    (now_is : now ≡ put ++ h ∷ []) (due : next ≡ next_of d (length put)) where
   next_is : next ≡ worker_at at + length put * workers_at at
-  next_is = turn ∙ ap (λ x. next_of x (length put)) is_open
+  next_is = due ∙ ap (λ x. next_of x (length put)) is_open
 
-  pub order_next : map turn_of put ≡ turns_of d (length put) → h.worker ≡ worker_at at → h.connection ≡ next
-      → map turn_of now ≡ turns_of d (length now)
+  pub order_next : map assignment_of put ≡ assignments_of d (length put) → h.worker ≡ worker_at at
+      → h.connection ≡ next
+      → map assignment_of now ≡ assignments_of d (length now)
   order_next order worker connection =
-      let here : turn_of h ≡ turn_at at (length put)
+      let here : assignment_of h ≡ assignment_at at (length put)
       = ap (λ (n : ℕ). let t : ℕ × ℕ = (n, h.worker) in t) (connection ∙ next_is)
       ∙ ap (λ (n : ℕ). let t : ℕ × ℕ = (worker_at at + length put * workers_at at, n) in t) worker in
-      ap (map turn_of) now_is
-      ∙ order_at at put h (order ∙ ap (λ x. turns_of x (length put)) is_open) here
-      ∙ ap (λ (l : List Handover). map (turn_at at) (below (length l))) (sym now_is)
-      ∙ ap (λ x. turns_of x (length now)) (sym is_open)
+      ap (map assignment_of) now_is
+      ∙ order_at at put h (order ∙ ap (λ x. assignments_of x (length put)) is_open) here
+      ∙ ap (λ (l : List Handover). map (assignment_at at) (below (length l))) (sym now_is)
+      ∙ ap (λ x. assignments_of x (length now)) (sym is_open)
 
-  pub turn_next : (after : ℕ) → after ≡ next + workers_at at → after ≡ next_of d (length now)
-  turn_next after after_is =
-      after_is ∙ turn_after at put h next next_is
+  pub due_next : (after : ℕ) → after ≡ next + workers_at at → after ≡ next_of d (length now)
+  due_next after after_is =
+      after_is ∙ number_after at put h next next_is
       ∙ ap (λ (l : List Handover). worker_at at + length l * workers_at at) (sym now_is)
       ∙ ap (λ x. next_of x (length now)) (sym is_open)
 
@@ -95,76 +97,82 @@ module _ (d : Door) (at : Addr) (put now : List Handover) (h : Handover) (next :
 
 module _ (at : Addr) where
   both : (put : List Handover) (numbers : List ℕ) → map (λ h. h.client) put ≡ map client_of numbers
-      → map turn_of put ≡ map (turn_at at) numbers → put ≡ map (handover (workers_at at) (worker_at at)) numbers
-  both [] [] clients turns = refl
-  both [] (j ∷ numbers) clients turns = absurd (cc)
-  both (h ∷ put) [] clients turns = absurd (cc)
-  both (h ∷ put) (j ∷ numbers) clients turns =
+      → map assignment_of put ≡ map (assignment_at at) numbers
+      → put ≡ map (handover (workers_at at) (worker_at at)) numbers
+  both [] [] clients assigned = refl
+  both [] (j ∷ numbers) clients assigned = absurd (cc)
+  both (h ∷ put) [] clients assigned = absurd (cc)
+  both (h ∷ put) (j ∷ numbers) clients assigned =
       let client : h.client ≡ client_of j
       = head_same h.client (client_of j) (map (λ h. h.client) put) (map client_of numbers) clients in
-      let turn : turn_of h ≡ turn_at at j
-      = head_same (turn_of h) (turn_at at j) (map turn_of put) (map (turn_at at) numbers) turns in
+      let same : assignment_of h ≡ assignment_at at j
+      = head_same (assignment_of h) (assignment_at at j) (map assignment_of put) (map (assignment_at at) numbers)
+      assigned in
       let first : h ≡ handover (workers_at at) (worker_at at) j
       = ap (λ c. let x : Handover = record { connection = h.connection; worker = h.worker; client = c } in x) client
       ∙ ap (λ (t : ℕ × ℕ). let x : Handover
-      = record { connection = t.0; worker = t.1; client = client_of j } in x) turn in
+      = record { connection = t.0; worker = t.1; client = client_of j } in x) same in
       ap (λ x. x ∷ put) first
       ∙ ap (λ l. handover (workers_at at) (worker_at at) j ∷ l)
       (both put numbers
       (tail_same h.client (client_of j) (map (λ h. h.client) put) (map client_of numbers) clients)
-      (tail_same (turn_of h) (turn_at at j) (map turn_of put) (map (turn_at at) numbers) turns))
+      (tail_same (assignment_of h) (assignment_at at j) (map assignment_of put) (map (assignment_at at) numbers)
+      assigned))
 
   put_is : (put : List Handover) (n : ℕ) → map (λ h. h.client) put ≡ clients_below n
-      → map turn_of put ≡ map (turn_at at) (below (length put)) → put ≡ handovers (workers_at at) (worker_at at) n
-  put_is put n clients turns =
+      → map assignment_of put ≡ map (assignment_at at) (below (length put))
+      → put ≡ handovers (workers_at at) (worker_at at) n
+  put_is put n clients assigned =
       let by_below : map (λ h. h.client) put ≡ map client_of (below n) = clients ∙ clients_are n in
       let long : length put ≡ n
       = sym (length-map put (λ h. h.client)) ∙ ap length by_below ∙ length-map (below n) client_of ∙ length_below n in
-      both put (below n) by_below (turns ∙ ap (λ m. map (turn_at at) (below m)) long)
+      both put (below n) by_below (assigned ∙ ap (λ m. map (assignment_at at) (below m)) long)
 
   by_door : (d : Door) (put : List Handover) → IsAtMost (role.Listener at) (door_place d).role
-      → map turn_of put ≡ turns_of d (length put) → map turn_of put ≡ map (turn_at at) (below (length put))
+      → map assignment_of put ≡ assignments_of d (length put)
+      → map assignment_of put ≡ map (assignment_at at) (below (length put))
   by_door door.Unasked put role order =
-      let none : put ≡ [] = none_mapped turn_of put order in
-      order ∙ ap (λ l. map (turn_at at) (below (length l))) (sym none)
+      let none : put ≡ [] = none_mapped assignment_of put order in
+      order ∙ ap (λ l. map (assignment_at at) (below (length l))) (sym none)
   by_door (door.Open a) put (inl is) order = absurd (cc)
   by_door (door.Open a) put (inr is) order =
-      let same : a ≡ at = cc in order ∙ ap (λ x. map (turn_at x) (below (length put))) same
+      let same : a ≡ at = cc in order ∙ ap (λ x. map (assignment_at x) (below (length put))) same
   by_door (door.Closed a) put (inl is) order = absurd (cc)
   by_door (door.Closed a) put (inr is) order =
-      let same : a ≡ at = cc in order ∙ ap (λ x. map (turn_at x) (below (length put))) same
+      let same : a ≡ at = cc in order ∙ ap (λ x. map (assignment_at x) (below (length put))) same
 
   numbered : (conns : ℕ) (put : List Handover) (result : Result Served ServeError)
       → AreNumbered conns [] (map (λ h. h.client) put) result
-      → map turn_of put ≡ map (turn_at at) (below (length put))
+      → map assignment_of put ≡ map (assignment_at at) (below (length put))
       → HasHanded (workers_at at) (worker_at at) conns put result
-  numbered conns put (Ok served) clients turns = put_is put conns clients turns
-  numbered conns put (Err error) clients turns = (clients.0, clients.1, put_is put clients.0 clients.2 turns)
+  numbered conns put (Ok served) clients assigned = put_is put conns clients assigned
+  numbered conns put (Err error) clients assigned = (clients.0, clients.1, put_is put clients.0 clients.2 assigned)
 
   pub handed : (conns : ℕ) (old_door d : Door) (old put : List Handover) (result : Result Served ServeError)
-      → old_door ≡ door.Unasked → map turn_of old ≡ turns_of old_door (length old)
+      → old_door ≡ door.Unasked → map assignment_of old ≡ assignments_of old_door (length old)
       → AreNumbered conns (map (λ h. h.client) old) (map (λ h. h.client) put) result
-      → IsAtMost (role.Listener at) (door_place d).role → map turn_of put ≡ turns_of d (length put)
+      → IsAtMost (role.Listener at) (door_place d).role → map assignment_of put ≡ assignments_of d (length put)
       → HasHanded (workers_at at) (worker_at at) conns put result
   handed conns old_door d old put result unasked first clients role order =
-      let none : old ≡ [] = none_mapped turn_of old (first ∙ ap (λ x. turns_of x (length old)) unasked) in
+      let none : old ≡ []
+      = none_mapped assignment_of old (first ∙ ap (λ x. assignments_of x (length old)) unasked) in
       numbered conns put result
       (subst (λ l. AreNumbered conns (map (λ h. h.client) l) (map (λ h. h.client) put) result) none clients)
       (by_door d put role order)
 
   pub handed_none : (conns : ℕ) (d : Door) (put : List Handover) (served : Served) → conns ≡ 0 → d ≡ door.Unasked
-      → map turn_of put ≡ turns_of d (length put)
+      → map assignment_of put ≡ assignments_of d (length put)
       → HasHanded (workers_at at) (worker_at at) conns put (Ok served)
   handed_none conns d put served none unasked order =
-      none_mapped turn_of put (order ∙ ap (λ x. turns_of x (length put)) unasked)
+      none_mapped assignment_of put (order ∙ ap (λ x. assignments_of x (length put)) unasked)
       ∙ ap (λ n. handovers (workers_at at) (worker_at at) n) (sym none)
 
   -- where nothing was done
   pub handed_not : (conns : ℕ) (d : Door) (put : List Handover) (error : ServeError) → d ≡ door.Unasked
-      → map turn_of put ≡ turns_of d (length put)
+      → map assignment_of put ≡ assignments_of d (length put)
       → HasHanded (workers_at at) (worker_at at) conns put (Err error)
   handed_not conns d put error unasked order =
-      (0, omega arith, none_mapped turn_of put (order ∙ ap (λ x. turns_of x (length put)) unasked))
+      (0, omega arith, none_mapped assignment_of put (order ∙ ap (λ x. assignments_of x (length put)) unasked))
 
 -- ---- what all have put in
 

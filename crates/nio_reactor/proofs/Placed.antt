@@ -68,8 +68,9 @@ module _ (deal : Deal) where
   later : (i : ℕ) → 0 < i
       → (dealt_channel deal (channel i)).0 ≡ 2 * (deal.worker + ((i - 1) / 2) * deal.workers) + 1 + (i - 1) % 2
   later i some =
-      ap (λ (b : Bool). let c : ChanNo = if b then deal.listener else channel (2 * (deal.worker + ((i - 1) / 2) * deal.workers) + 1
-      + (i - 1) % 2) in c.0) (ne_eqb i 0 (λ is. absurd (omega (arith, some, is))))
+      ap (λ (b : Bool). let c : ChanNo = if b then deal.listener
+      else channel (2 * (deal.worker + ((i - 1) / 2) * deal.workers) + 1 + (i - 1) % 2) in c.0)
+      (ne_eqb i 0 (λ is. absurd (omega (arith, some, is))))
 
 -- a link of connection k: its client or its target
 pub record IsLinkOf (k : ℕ) (c : ChanNo) : Type 0 where
@@ -97,9 +98,9 @@ module _ (w k conns : ℕ) (c : ChanNo) (some : 0 < w) (few : k < conns) (link :
       let flip : j * w + v ≡ k = omega (arith, same) in
       let mine : v ≡ k % w = sym (mod-mul-add j w v less) ∙ ap (λ m. m % w) flip in
       let times : j * w ≡ k / w * w = omega (arith, same, parts, mine) in
-      let turn : j ≡ k / w = times_same j (k / w) w some times in
+      let quotient : j ≡ k / w = times_same j (k / w) w some times in
       let whole : 2 * j + r ≡ suc i - 1 = div-add-mod (suc i - 1) 2 in
-      (mine, omega (arith, turn, side, whole))
+      (mine, omega (arith, quotient, side, whole))
 
   -- the number of the link in its worker's share
   abbrev here : ℕ
@@ -159,7 +160,8 @@ module _ (w k conns : ℕ) (c : ChanNo) (some : 0 < w) (few : k < conns) (link :
       ∙ ⊎_elim
       (λ (last : n ≡ m).
       ap (λ l. l ++ selectors_with c ((s, channel_in (Some deal) (channel n)) ∷ []))
-      (with_none deal s n (λ i below. others i (omega (arith, below)) (λ same. absurd (omega (arith, same, below, last)))))
+      (with_none deal s n
+      (λ i below. others i (omega (arith, below)) (λ same. absurd (omega (arith, same, below, last)))))
       ∙ with_it s (channel_in (Some deal) (channel n))
       (ap (λ (i : ℕ). (channel_in (Some deal) (channel i)).0) last ∙ is))
       (λ (earlier : n ≡ m → ⊥).

@@ -1,13 +1,11 @@
 -- The callers of the shared table until they take their seats.
-use Rattle.std.proofs.Common.{◌≡◌, ◌≢◌, ℕ, ◌+◌, ◌<◌, ◌≤◌, ⊎_elim, Bool, true, false, if◌then◌else◌, Option, Some, None}
-use Rattle.std.proofs.Common.{Result, Ok, Err, OnOk, is_err, zero, suc, ◌*◌}
-use Rattle.std.proofs.Common.{List, [], ◌∷◌, ◌++◌, length, slice_index_or, refl, sym, ap, subst, ◌∙◌, arith}
-use Rattle.std.proofs.Common.{eqb-true, eq-eqb, length-append}
+use Rattle.std.proofs.Common.{◌≡◌, ◌≢◌, ℕ, ◌+◌, ◌<◌, ◌≤◌, ⊎_elim, Bool, false, Option, Some, Result, Ok, Err, OnOk}
+use Rattle.std.proofs.Common.{is_err, zero, suc, ◌*◌, List, [], ◌∷◌, ◌++◌, length, slice_index_or, refl, sym, ap, subst}
+use Rattle.std.proofs.Common.{◌∙◌, arith, eqb-true, eq-eqb, length-append}
 use Rattle.std.proofs.Math.Seq.{get_or-append_seam}
 use Rattle.std.proofs.lemmas.Bool.{cases_eq, cases_lt, ne_eqb}
 use Rattle.std.proofs.lemmas.List.{get_or_append_left}
 use Rattle.std.proofs.lemmas.Result.{on_ok_weaker}
-use Rattle.nio_base.specs.declared.limits.Limits.{Limits}
 use Rattle.nio_base.specs.declared.numbers.CallerNo.{CallerNo}
 use Rattle.nio_base.specs.declared.numbers.SelNo.{SelNo}
 use Rattle.nio_base.specs.declared.kind.Kind.{Kind}
@@ -17,10 +15,10 @@ use Rattle.nio_history.proofs.OwnPins.{pins_are_own}
 use Rattle.nio_history.specs.Histories.{event_of, mine}
 use Rattle.nio_history.specs.OwnEvents.{keeps_pin}
 use Rattle.nio_history.specs.PassViews.{HasSelector}
-use Rattle.nio_history.specs.Questions.{Question, Answer, answer_of}
 use Rattle.nio_history.specs.declared.act.Act.{Act}
 use Rattle.nio_history.specs.declared.act.Act.TheVariants.{DrawBit}
 use Rattle.nio_history.specs.declared.event.Event.{Event}
+use Rattle.nio_orderly.proofs.LookUps.{selector_found}
 use Rattle.nio_orderly.specs.Made.{Made, table_call}
 use Rattle.nio_poller.proofs.Ready.{selector_same}
 use Rattle.nio_reactor.specs.Placing.{caller}
@@ -36,7 +34,6 @@ use Rattle.nio_steps.specs.Calls.{CallClause}
 use Rattle.nio_steps.specs.ChannelCalls.{open_channel_plan}
 use Rattle.nio_steps.specs.KeyCalls.{find_selector_plan}
 use Rattle.nio_steps.specs.Names.{selector}
-use Rattle.nio_steps.specs.Plan.{Plan, ask}
 use Rattle.nio_steps.specs.Runs.{Completes}
 use Rattle.nio_steps.specs.SelectCalls.{open_selector_plan}
 use Rattle.nio_steps.specs.declared.refusal.ChannelError.{ChannelError}
@@ -90,7 +87,8 @@ newcomers_call w p q k call free did some are n below =
     held m has = eqb-true _ 1 (ap (λ (f : CallerNo → Bool). f m) did.did.held ∙ eq-eqb _ 1 has)
 
 pub after_open_selector : (w : Words) (p q : Pass) (k : ℕ) (answer : Result SelNo SelectorsSpent) → 0 < k
-    → AreNewcomers w p k → CallClause (caller 0) (Completes (open_selector_plan (limits_of w))) (view w p) (view w q) answer
+    → AreNewcomers w p k
+    → CallClause (caller 0) (Completes (open_selector_plan (limits_of w))) (view w p) (view w q) answer
     → IsReady w q (caller 0) → AreNewcomers w q k
 after_open_selector w p q k answer some are clause ready =
     newcomers_call w p q k (table_call open_selector answer) (record { may_come = λ now. tt; registers_nothing = refl })
@@ -102,18 +100,20 @@ pub after_open_channel : (w : Words) (p q : Pass) (k : ℕ) (kind : Kind) (answe
     → CallClause (caller 0) (Completes (open_channel_plan (limits_of w) kind)) (view w p) (view w q) answer
     → IsReady w q (caller 0) → AreNewcomers w q k
 after_open_channel w p q k kind answer some are clause ready =
-    newcomers_call w p q k (table_call (open_channel kind) answer) (record { may_come = λ now. tt; registers_nothing = refl })
-    (did_unpinned (table_call (open_channel kind) answer) (λ acts run. run) (pins_are_given_back.open_channel _ _) clause ready
-    (are (caller 0) some).unpinned) some are
+    newcomers_call w p q k (table_call (open_channel kind) answer)
+    (record { may_come = λ now. tt; registers_nothing = refl })
+    (did_unpinned (table_call (open_channel kind) answer) (λ acts run. run) (pins_are_given_back.open_channel _ _)
+    clause ready (are (caller 0) some).unpinned) some are
 
 pub after_find_selector : (w : Words) (p q : Pass) (n : CallerNo) (number : ℕ) (answer : Option SelNo)
     → IsNewcomer w p n
     → CallClause n (Completes (find_selector_plan (limits_of w) number)) (view w p) (view w q) answer
     → IsReady w q n → IsNewcomer w q n
 after_find_selector w p q n number answer is clause ready =
-    newcomer_call w p q n (table_call (find_selector number) answer) (record { may_come = λ now. tt; registers_nothing = refl })
-    (did_unpinned (table_call (find_selector number) answer) (λ acts run. run) (pins_are_given_back.find_selector _ _) clause ready
-    is.unpinned) is
+    newcomer_call w p q n (table_call (find_selector number) answer)
+    (record { may_come = λ now. tt; registers_nothing = refl })
+    (did_unpinned (table_call (find_selector number) answer) (λ acts run. run) (pins_are_given_back.find_selector _ _)
+    clause ready is.unpinned) is
 
 -- ---- the draws
 
@@ -191,7 +191,8 @@ pub goes_on_handing_out : (w : Words) (p q given : Pass) (passes more : List Pas
     → IsHandingOut w p passes k n → HandsOver w (caller (k + 1)) p q given → more ≡ passes ++ given ∷ []
     → IsHandingOut w q more (k + 1) n
 goes_on_handing_out w p q given passes more k n below at hands more_is = record {
-  acceptor = kept_newcomer w p q given (caller 0) (caller (k + 1)) at.acceptor (λ same. absurd (omega (arith, same))) hands;
+  acceptor = kept_newcomer w p q given (caller 0) (caller (k + 1)) at.acceptor (λ same. absurd (omega (arith, same)))
+      hands;
   rest = λ v above few. kept_newcomer w p q given (caller (v + 1)) (caller (k + 1))
       (at.rest v (omega (arith, above)) few) (λ same. absurd (omega (arith, same, above))) hands;
   seats = subst (HaveSeats w (λ pass. pass)) (sym more_is) (λ v x less. ⊎_elim
@@ -209,37 +210,6 @@ goes_on_handing_out w p q given passes more k n below at hands more_is = record 
       (cases_lt v (length passes)));
   count = ap length more_is ∙ (length-append passes (given ∷ []) ∙ ap (λ m. m + 1) at.count);
 }
-
--- ---- a look-up of a selector finds the one that it looked for
-
-answered : {A : Type 0} → Plan (Option A) → Option A
-answered (Plan.reply r) = r
-answered (ask question next) = None
-
-found_now : {A : Type 0} (test : Bool) (y x : A) → (if test then Some y else None) ≡ Some x → x ≡ y
-found_now true y x same = cc
-found_now false y x same = absurd cc
-
-found_here : {A : Type 0} (test : Bool) (y x : A) → Plan.reply (if test then Some y else None) ≡ Plan.reply (Some x)
-    → x ≡ y
-unfolding answered
-found_here test y x same = found_now test y x (ap answered same)
-
-found_is : {A : Type 0} (past : Bool) (question : Question) (test : Answer → Bool) (y x : A) (acts : List Act)
-    → Completes
-    (if past then Plan.reply None else ask question (λ answer. Plan.reply (if test answer then Some y else None)))
-    acts (Some x) → x ≡ y
-unfolding answered
-found_is true question test y x [] run = let no : None ≡ Some x = ap answered run in absurd cc
-found_is true question test y x (act ∷ acts) run = absurd run
-found_is false question test y x [] run = let no : None ≡ Some x = ap answered run in absurd cc
-found_is false question test y x (act ∷ []) run = found_here (test (answer_of act)) y x run.1
-found_is false question test y x (act ∷ more ∷ acts) run = absurd run.1
-
-pub selector_found : (l : Limits) (n : ℕ) (acts : List Act) (s : SelNo)
-    → Completes (find_selector_plan l n) acts (Some s) → s ≡ selector n
-unfolding find_selector_plan
-selector_found l n acts s run = found_is _ _ _ (selector n) s acts run
 
 -- ---- a seat is taken
 

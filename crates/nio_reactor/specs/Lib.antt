@@ -1,4 +1,5 @@
 pub mod Accepting
+pub mod Assignments
 pub mod Dealing
 pub mod Doors
 pub mod Handing
@@ -6,5 +7,4 @@ pub mod Lanes
 pub mod Many
 pub mod Placing
 pub mod Seats
-pub mod Turns
 pub mod Working

@@ -40,8 +40,8 @@ pub record HoldsAll (l : Limits) (pass : Pass) : Type 0 where
 abbrev pub selectors_with : ChanNo → List (SelNo × ChanNo) → List SelNo
 selectors_with c registered = map (λ x. x.0) (filter (λ x. x.1.0 == c.0) registered)
 
--- By these calls of the callers the channel was registered exactly once: by the caller of this number, with the selector
--- of this number. No other caller registered it.
+-- By these calls of the callers the channel was registered exactly once: by the caller of this number, with the
+-- selector of this number. No other caller registered it.
 pub record IsRegisteredOnce (calls : CallerNo → List Made) (number : ℕ) (c : ChanNo) : Type 0 where
   pub once : selectors_with c (registrations (calls (caller number))) ≡ selector number ∷ []
   pub alone : (n : CallerNo) → n.0 ≢ number → selectors_with c (registrations (calls n)) ≡ []

@@ -1,7 +1,6 @@
 -- What one worker has come to.
-use Rattle.std.specs.Prelude.{◌≡◌, ℕ, ◌<◌, ◌≤◌, ◌⊎◌, Bool, false, IsTrue, IfOk, IsOk, Result, Ok, Err, Option, Some, None}
-use Rattle.std.specs.Prelude.{All, option_map}
-use Rattle.std.specs.Prelude.{List, length, slice_get, slice_index_or}
+use Rattle.std.specs.Prelude.{◌≡◌, ℕ, ◌<◌, ◌≤◌, ◌⊎◌, Bool, false, IsTrue, IfOk, IsOk, Result, Ok, Err, Option, Some}
+use Rattle.std.specs.Prelude.{None, All, option_map, List, length, slice_get, slice_index_or}
 use Rattle.nio_base.specs.declared.numbers.Addr.{Addr}
 use Rattle.nio_base.specs.declared.numbers.ChanNo.{ChanNo}
 use Rattle.nio_bytes.specs.Cause.{Rose}

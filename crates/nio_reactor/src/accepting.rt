@@ -133,8 +133,8 @@ fn told_of(told: &[(ChanNo, Ops)], chan: ChanNo) -> Ops
     Ops::NONE
 }
 
-// One selection, and what has come.
-fn turn<R: Wait, N: Passable, B: Bell>(
+// One round: one selection, and what has come.
+fn round<R: Wait, N: Passable, B: Bell>(
     rt: &R,
     alloc: Global,
     board: &mut Board<'_>,
@@ -204,7 +204,7 @@ fn deal_all<R: Wait, N: Passable, B: Bell>(
         if *number == conns {
             return Ok(());
         }
-        match turn(
+        match round(
             rt, alloc, board, net, lines, bells, number, conns, &mut told,
         ) {
             Ok(()) => {}

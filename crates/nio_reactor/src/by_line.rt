@@ -142,7 +142,7 @@ impl<'a, H: Wait, N: Passable, G: Gate> Way<Lane<N>> for ByLine<'a, H, G> {
         None
     }
 
-    fn begin_turn<R: Wait>(&mut self, _rt: &R) {}
+    fn begin_round<R: Wait>(&mut self, _rt: &R) {}
 
     fn poll<R: Wait>(
         &mut self,
@@ -185,7 +185,7 @@ impl<'a, H: Wait, N: Passable, G: Gate> Way<Lane<N>> for ByLine<'a, H, G> {
             Heard::Link(_) => {}
         }
         if lane.told_line.is_some() {
-            // after a turn for the line one for the net
+            // after a round for the line one for the net
             lane.told_line = None;
             return lane.net.poll(rt, alloc, asked, Mode::Now);
         }

@@ -2,7 +2,7 @@
 ghost use Rattle.std.specs.Prelude.{◌≡◌, length, map};
 ghost use Rattle.nio_link.specs.Places.{unused};
 ghost use Rattle.nio_serve.specs.Serving.{listener};
-ghost use Rattle.nio_reactor.specs.Turns.{next_of, turn_of, turns_of};
+ghost use Rattle.nio_reactor.specs.Assignments.{assignment_of, assignments_of, next_of};
 
 use crate::door::Door;
 use crate::handed::Handed;
@@ -40,7 +40,7 @@ pub(crate) struct Lane<N: Passable> {
     pub next: u64,
     /// The line ended before all links had come, and no connection was live then.
     pub is_early: bool,
-    /// The net had no memory for a link, or a link came out of turn: no more can be put in.
+    /// The net had no memory for a link, or a link came out of order: no more can be put in.
     pub is_stuck: bool,
     /// The last poll told of the line alone: of the key with this index.
     pub told_line: Option<u32>,
@@ -51,8 +51,8 @@ pub(crate) struct Lane<N: Passable> {
     /// What the worker came to.
     pub outcome: Result<Served, ServeError>,
     ghost spare: { N.place net listener ≡ unused },
-    ghost order: { map turn_of put ≡ turns_of door (length put) },
-    ghost turn: { next ≡ next_of door (length put) },
+    ghost order: { map assignment_of put ≡ assignments_of door (length put) },
+    ghost due: { next ≡ next_of door (length put) },
 }
 
 /// A worker: its lane, and the pass that has its number at the shared table.

@@ -1,5 +1,5 @@
-//! The table that the acceptor and the workers share: what is done before they work, and the seats that they take at it.
-//! Where the table refuses a call that is answered as want of memory.
+//! The table that the acceptor and the workers share: what is done before they work, and the seats that they take at
+//! it. Where the table refuses a call that is answered as want of memory.
 ghost use Rattle.std.specs.Prelude.{◌≡◌, ◌+◌, ◌<◌, ◌≤◌, IfOk, IfSome, IfNone, OnOk, length};
 ghost use Rattle.nio_base.specs.Limits.{IsFit};
 ghost use Rattle.nio_serve.specs.Called.{HasCalled};

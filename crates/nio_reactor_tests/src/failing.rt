@@ -1,5 +1,5 @@
-//! The proxy with several selectors over nets that fail: each of the first polls of each net, an accept, a connect and a
-//! write. Two workers serve two connections.
+//! The proxy with several selectors over nets that fail: each of the first polls of each net, an accept, a connect and
+//! a write. Two workers serve two connections.
 use crate::nets::{ANYWHERE, Failures, NO_FAILURES, Part, Peer, SENDER, serves};
 use nio_base::{ChanNo, NoGate};
 use nio_link::MemoryNet;

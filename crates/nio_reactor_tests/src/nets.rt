@@ -70,8 +70,8 @@ pub(crate) enum Part {
     Worker(usize),
 }
 
-/// What is to fail: a call of `accept`, a poll of the net of this part, each counted from 0; which worker's net is to have
-/// no memory for links; and how many more clients are awaited than come.
+/// What is to fail: a call of `accept`, a poll of the net of this part, each counted from 0; which worker's net is to
+/// have no memory for links; and how many more clients are awaited than come.
 #[derive(Clone, Copy)]
 pub(crate) struct Failures {
     pub accept: Option<u64>,

@@ -3,7 +3,7 @@ use Rattle.std.proofs.Common.{◌≡◌, ℕ, inr, refl, [], arith}
 use Rattle.nio_base.specs.declared.numbers.ChanNo.{ChanNo}
 use Rattle.nio_bytes.specs.declared.sink.Sink as sink
 use Rattle.nio_datagram.specs.Packets.{Traffic, no_traffic}
-use Rattle.nio_datagram.specs.Serving.{RelaysPackets, back, front}
+use Rattle.nio_datagram.specs.Serving.{RelaysPackets, client_chan, target_chan}
 use Rattle.nio_datagram.specs.declared.net.Place.{Place}
 use Rattle.nio_datagram.specs.declared.net.Place.TheVariants.{Unbound}
 use Rattle.nio_datagram.specs.declared.serving.PacketPlan.{PacketPlan}
@@ -11,16 +11,16 @@ use Rattle.nio_base.specs.declared.numbers.Addr.{Addr}
 use Rattle.nio_script.specs.declared.status.Status.TheVariants.{Memory}
 use Rattle.nio_run.specs.Packets.{DoesPackets}
 
-relays_none : (target : Addr) (traffic : ChanNo → Traffic) → traffic front ≡ no_traffic → traffic back ≡ no_traffic
-    → RelaysPackets target traffic
-relays_none target traffic no_front no_back = record {
-  to_target = rw (no_front, no_back) (record {
+relays_none : (target : Addr) (traffic : ChanNo → Traffic) → traffic client_chan ≡ no_traffic
+    → traffic target_chan ≡ no_traffic → RelaysPackets target traffic
+relays_none target traffic no_client no_target = record {
+  to_target = rw (no_client, no_target) (record {
     sent_to = λ i default within. absurd (omega arith);
     rest = [];
     order = refl;
     at_most_one = omega arith;
   });
-  to_client = rw (no_front, no_back) (record {
+  to_client = rw (no_client, no_target) (record {
     sent_to = λ i default within. absurd (omega arith);
     rest = [];
     order = refl;
@@ -30,22 +30,23 @@ relays_none target traffic no_front no_back = record {
 
 pub unsent : {K : Type 0} (k : sink.Ghosts K) (plan : PacketPlan) (traffic : ChanNo → Traffic) (place : ChanNo → Place)
     (faults : ChanNo → ℕ) (polls : ℕ) (output : K)
-    → traffic front ≡ no_traffic → traffic back ≡ no_traffic → place front ≡ Unbound → place back ≡ Unbound
+    → traffic client_chan ≡ no_traffic → traffic target_chan ≡ no_traffic → place client_chan ≡ Unbound
+    → place target_chan ≡ Unbound
     → DoesPackets k plan traffic traffic place place faults faults polls polls output output Memory
-unsent k plan traffic place faults polls output front_unused back_unused front_unbound back_unbound = record {
+unsent k plan traffic place faults polls output client_unused target_unused client_unbound target_unbound = record {
   done = λ e. absurd (cc e);
   write_fault = λ e. absurd (cc e);
   rose = λ e. absurd (cc e);
   net_fault = λ e. absurd (cc e);
   unwritten = λ _. refl;
   ends = tt;
-  relays = relays_none plan.target traffic front_unused back_unused;
+  relays = relays_none plan.target traffic client_unused target_unused;
   leaves = record {
-    listened = rw front_unbound tt;
-    bound = rw back_unbound tt;
-    other_traffic = λ c not_front not_back. refl;
-    other_places = λ c not_front not_back. refl;
-    other_faults = λ c not_front not_back. refl;
+    listened = rw client_unbound tt;
+    bound = rw target_unbound tt;
+    other_traffic = λ c not_client not_target. refl;
+    other_places = λ c not_client not_target. refl;
+    other_faults = λ c not_client not_target. refl;
     later = λ c. omega arith;
     polls = omega arith;
   };

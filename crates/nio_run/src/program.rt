@@ -16,7 +16,7 @@ ghost use Rattle.nio_command.specs.Words.{IsScriptCommand, IsCheckCommand, IsChe
 ghost use Rattle.nio_command.specs.Words.{BeginsPackets, BeginsProxy, HasOptions, IsLoadCommand, IsPacketsCommand};
 ghost use Rattle.nio_command.specs.Words.{IsProxyCommand, IsTimedCommand, SaysNothing};
 ghost use Rattle.nio_datagram.specs.Packets.{no_traffic};
-ghost use Rattle.nio_datagram.specs.Serving.{back, front};
+ghost use Rattle.nio_datagram.specs.Serving.{client_chan, target_chan};
 ghost use Rattle.nio_datagram.specs.declared.net.Place.TheVariants as place_is;
 ghost use Rattle.nio_datagram.specs.declared.serving.PacketPlan.{PacketPlan};
 ghost use Rattle.nio_link.specs.Links.{IsUnused};
@@ -67,8 +67,8 @@ const USAGE: &str =
 /// the rules of now; `check` and `check-1` make theirs on a system of their own with the same limits; `timed` makes its
 /// calls on a group of its own; `proxy` relays over the net, in the way that the words say, with a table of its own;
 /// the bell makes the net's poll return. `proxy --way many` also uses the first of the nets `more`, one for each worker
-/// (`workers_of` says how many); the first of them have the bells `bells`, in their order. `packets` relays over the net
-/// of packets, with a table of its own.
+/// (`workers_of` says how many); the first of them have the bells `bells`, in their order. `packets` relays over the
+/// net of packets, with a table of its own.
 pub fn run<R, S: Source, K: Sink, N, D: PacketNet, B, G: Gate + Sync>(
     rt: &R,
     alloc: Global,
@@ -94,10 +94,10 @@ where
     requires unasked { (c : ChanNo) → N.place net c ≡ unused }
     requires more_fresh { All (λ x. (c : ChanNo) → IsUnused (N.link x c)) more.old.items }
     requires more_unasked { All (λ x. (c : ChanNo) → N.place x c ≡ unused) more.old.items }
-    requires front_unused { D.traffic packets.old front ≡ no_traffic }
-    requires back_unused { D.traffic packets.old back ≡ no_traffic }
-    requires front_unbound { D.place packets.old front ≡ place_is.Unbound }
-    requires back_unbound { D.place packets.old back ≡ place_is.Unbound }
+    requires client_unused { D.traffic packets.old client_chan ≡ no_traffic }
+    requires target_unused { D.traffic packets.old target_chan ≡ no_traffic }
+    requires client_unbound { D.place packets.old client_chan ≡ place_is.Unbound }
+    requires target_unbound { D.place packets.old target_chan ≡ place_is.Unbound }
 
     // The words are looked at first. There may be no memory to read the options of `proxy` or of `packets`.
     ensures usage { result.status ≡ Status.Usage → SaysNothing (map string_bytes words.now) }

@@ -62,7 +62,8 @@ pub fn workers_of(alloc: Global, words: &[String]) -> Result<usize, AllocError>
 fn workers_in(command: Command) -> usize
     ensures many { (plan : ProxyPlan) (workers : ℕ) → command ≡ Command.Proxy plan (ProxyWay.Many workers)
         → result ≡ workers }
-    ensures others { ((plan : ProxyPlan) (workers : ℕ) → command ≡ Command.Proxy plan (ProxyWay.Many workers) → ⊥) → result ≡ 0 }
+    ensures others { ((plan : ProxyPlan) (workers : ℕ) → command ≡ Command.Proxy plan (ProxyWay.Many workers) → ⊥)
+        → result ≡ 0 }
 {
     match command {
         Command::Proxy(_, way) => workers_by(way),

@@ -5,12 +5,13 @@ use Rattle.std.proofs.Common.{is_some, Result, Err, refl, ap, sym, ◌∙◌}
 use Rattle.nio_base.specs.declared.numbers.CallerNo.{CallerNo}
 use Rattle.nio_base.specs.declared.numbers.ChanNo.{ChanNo}
 use Rattle.nio_base.specs.declared.numbers.SelNo.{SelNo}
-use Rattle.nio_history.proofs.Put.{put_keeps, put_at_keeps, put_both, put_at_both, put_at-same}
+use Rattle.nio_history.proofs.Put.{put_at_keeps, put_both, put_at_both, put_at-same}
 use Rattle.nio_history.specs.Acts.{taken_by}
 use Rattle.nio_history.specs.Sets.{fits, in_key_set, is_in_key_set, in_cancelled_set, is_valid, is_valid_key}
 use Rattle.nio_history.specs.State.{State, put, put_at, with_hold, with_pin, with_key, with_mark}
 use Rattle.nio_history.specs.declared.found.Mark.{Mark}
 use Rattle.nio_history.specs.declared.found.Stage.{Stage}
+use Rattle.nio_plain.proofs.Places.{put_same, put_at_same, put-twice, put_at-twice}
 use Rattle.nio_plain.specs.Seq.Replies.{Replied}
 use Rattle.nio_steps.proofs.PerformLaws.{perform-bind}
 use Rattle.nio_steps.specs.ChannelCalls.{under_hold}
@@ -24,36 +25,12 @@ use Rattle.nio_serial.specs.Documented.{settled, settled_mark, settled_state}
 
 -- ---- parts that are changed
 
-twice : {A : Type 0} (b : Bool) (x y z : A) → cond b y (cond b x z) ≡ cond b y z
-twice true x y z = refl
-twice false x y z = refl
-
--- put what stands there
-pub put-here : {A : Type 0} (f : ℕ → A) (i : ℕ) (x : A) → f i ≡ x → put f i x ≡ f
-put-here {A = A} f i x e = λ j n. at n j
-  where
-    at : (n : ℕ) → put f i x n ≡ f n
-    at n = put_keeps (λ m a. a ≡ f m) f i x (λ _. sym e) n refl
-
-pub put_at-here : {A : Type 0} (f : ℕ → ℕ → A) (i k : ℕ) (x : A) → f i k ≡ x → put_at f i k x ≡ f
-put_at-here {A = A} f i k x e = λ j m n. at m n j
-  where
-    at : (m n : ℕ) → put_at f i k x m n ≡ f m n
-    at m n = put_at_keeps (λ m' n' a. a ≡ f m' n') f i k x (λ _. sym e) m n refl
-
--- put twice
-pub put-twice : {A : Type 0} (f : ℕ → A) (i : ℕ) (x y : A) → put (put f i x) i y ≡ put f i y
-put-twice f i x y = λ j n. twice (n == i) x y (f n) j
-
-pub put_at-twice : {A : Type 0} (f : ℕ → ℕ → A) (i k : ℕ) (x y : A) → put_at (put_at f i k x) i k y ≡ put_at f i k y
-put_at-twice f i k x y = λ j m n. twice ((m == i) && (n == k)) x y (f m n) j
-
 -- put and put back
 pub put-back : {A : Type 0} (f : ℕ → A) (i : ℕ) (x y : A) → f i ≡ y → put (put f i x) i y ≡ f
-put-back f i x y e = put-twice f i x y ∙ put-here f i y e
+put-back f i x y e = put-twice f i x y ∙ put_same f i y e
 
 pub put_at-back : {A : Type 0} (f : ℕ → ℕ → A) (i k : ℕ) (x y : A) → f i k ≡ y → put_at (put_at f i k x) i k y ≡ f
-put_at-back f i k x y e = put_at-twice f i k x y ∙ put_at-here f i k y e
+put_at-back f i k x y e = put_at-twice f i k x y ∙ put_at_same f i k y e
 
 -- a function of what is put
 pub put-under : {A B : Type 0} (g : ℕ → A → B) (f : ℕ → A) (i : ℕ) (x : A)

@@ -1,12 +1,11 @@
 -- Beginning a selection amounts to the documented call.
 use Rattle.std.proofs.Common.{◌≡◌, ℕ, zero, suc, ◌<◌, ◌==◌, nat_lt, Bool, true, false, cond, not, ◌&&◌, ◌||◌}
 use Rattle.std.proofs.Common.{if◌then◌else◌, Option, Some, None, option_map, is_some, Result, Ok, Err, List, [], ◌∷◌}
-use Rattle.std.proofs.Common.{◌++◌, map, filter, refl, ap, sym, ◌∙◌, subst, ⊎_elim, arith, eq-eqb}
-use Rattle.std.proofs.lemmas.Bool.{both_ways, false_from_ne_true, and_parts, cases_eq, lt-ltb, ltb-true, not-true}
-use Rattle.std.proofs.lemmas.Bool.{or_left, or_right}
+use Rattle.std.proofs.Common.{◌++◌, map, filter, refl, ap, sym, ◌∙◌, subst, eq-eqb}
+use Rattle.std.proofs.Math.Bool.{or-true}
+use Rattle.std.proofs.lemmas.Bool.{both_ways, false_from_ne_true, and_parts, lt-ltb, ltb-true, not-true}
 use Rattle.std.proofs.lemmas.List.Elements.{All-filter, All-contains, All-map}
 use Rattle.std.proofs.lemmas.List.Kept.{AllPairs-cons, AllPairs-filter}
-use Rattle.std.proofs.lemmas.List.Folds.{list_any-append}
 use Rattle.std.specs.List.{AllPairs, Contains, list_any}
 use Rattle.nio_base.specs.declared.numbers.CallerNo.{CallerNo}
 use Rattle.nio_base.specs.declared.numbers.SelNo.{SelNo}
@@ -17,6 +16,8 @@ use Rattle.nio_history.specs.declared.found.Mode.{Mode}
 use Rattle.nio_history.specs.declared.found.Stage.{Stage}
 use Rattle.nio_language.specs.declared.reply.Reply.TheVariants as reply
 use Rattle.nio_plain.proofs.Found.{below_all}
+use Rattle.nio_plain.proofs.Places.{put_same, put-twice}
+use Rattle.nio_plain.proofs.Registered.{any-some}
 use Rattle.nio_plain.specs.ScriptState.{ScriptState}
 use Rattle.nio_plain.specs.Seq.Replies.{unchanged}
 use Rattle.nio_plain.specs.Seq.Names.{below, key_at}
@@ -33,7 +34,7 @@ use Rattle.nio_steps.specs.Steps.{look_keys}
 use Rattle.nio_steps.specs.Sweeps.{sweep_over}
 use Rattle.nio_steps.specs.declared.looked.LookedKey.{LookedKey}
 use Rattle.nio_steps.specs.declared.refusal.BeginError.{BeginError}
-use Rattle.nio_serial.proofs.Base.{put-here, put-back, put-twice, put-under, settled-cancelled, branch}
+use Rattle.nio_serial.proofs.Base.{put-back, put-under, settled-cancelled, branch}
 use Rattle.nio_serial.proofs.FreeWords.{is_not_free, filter-same, list_below-performed}
 use Rattle.nio_serial.proofs.Removing.{settled-removed}
 use Rattle.nio_serial.proofs.Sweeping.{has_index, has_next, swept, looked_over, look-performed}
@@ -63,20 +64,10 @@ any-filter p q (x ∷ xs) = by_test (q x) (any-filter p q xs)
     by_test true rest = ap (λ b. p x || b) rest
     by_test false rest = rest
 
-any-below : (p : ℕ → Bool) (n i : ℕ) → i < n → p i ≡ true → list_any p (below n) ≡ true
-any-below p zero i low is = absurd (omega arith)
-any-below p (suc n) i low is =
-    list_any-append p (below n) (n ∷ [])
-    ∙ ⊎_elim
-    (λ (e : i ≡ n). or_right (list_any p (below n)) (p n || false)
-    (or_left (p n) false (subst (λ (k : ℕ). p k ≡ true) e is)))
-    (λ (other : i ≡ n → ⊥). or_left (list_any p (below n)) (p n || false) (any-below p n i (omega arith) is))
-    (cases_eq i n)
-
 -- the indexes below n that pass the test have an index that does
 pub index-there : (q : ℕ → Bool) (n i : ℕ) → i < n → q i ≡ true → has_index i (filter q (below n)) ≡ true
 index-there q n i low is =
-    any-filter (λ j. j == i) q (below n) ∙ any-below (λ j. q j && (j == i)) n i low (λ j. is j && eq-eqb i i refl j)
+    any-filter (λ j. j == i) q (below n) ∙ any-some (λ j. q j && (j == i)) n i low (λ j. is j && eq-eqb i i refl j)
 
 below-rises : (n : ℕ) → AllPairs (λ i j. i < j) (below n)
 below-rises zero = pairs-none (λ i j. i < j)
@@ -88,10 +79,6 @@ pairs-map f R [] pairs = pairs-none R
 pairs-map f R (x ∷ xs) pairs =
     AllPairs-cons R (f x) (map f xs) (All-map (R (f x)) f xs (pairs-head (λ a b. R (f a) (f b)) x xs pairs))
     (pairs-map f R xs (pairs-tail (λ a b. R (f a) (f b)) x xs pairs))
-
-or_true : (b : Bool) → (b || true) ≡ true
-or_true true = refl
-or_true false = refl
 
 -- ---- the call
 
@@ -149,7 +136,7 @@ module _ (st : State) (now : Progress) (me : CallerNo) (s : SelNo)
       (look_keys s >>= (λ bound. begin_below s mode bound false)))
       (with_begun taken s.0 (taken.begun s.0 || not b))) not_shut
       ∙ (ap (λ (f : ℕ → Bool). perform me (begin_below s mode mark false) (record turned { begun = f }))
-      (ap (λ (b : Bool). put taken.begun s.0 b) (or_true (taken.begun s.0)) ∙ put-twice st.begun s.0 false true)
+      (ap (λ (b : Bool). put taken.begun s.0 b) (or-true (taken.begun s.0)) ∙ put-twice st.begun s.0 false true)
       ∙ below-performed mode))
     where
       taken : State
@@ -292,8 +279,8 @@ module _ (st : State) (now : Progress) (me : CallerNo) (s : SelNo)
             reply = reply.Busy;
             left =
                 documented (record st {
-                  turn = put-here st.turn s.0 (Some n) is j;
-                  begun = put-here st.begun s.0
+                  turn = put_same st.turn s.0 (Some n) is j;
+                  begun = put_same st.begun s.0
                       (st.begun s.0) refl j;
                 }) now;
           }))
@@ -319,8 +306,8 @@ module _ (st : State) (now : Progress) (me : CallerNo) (s : SelNo)
             answer = Err BeginError.Busy;
             state =
                 record st {
-                  turn = put-here st.turn s.0 (Some n) is j;
-                  begun = put-here st.begun s.0
+                  turn = put_same st.turn s.0 (Some n) is j;
+                  begun = put_same st.begun s.0
                       (st.begun s.0) refl j;
                 };
           }))) busy
@@ -370,7 +357,7 @@ begin-lacking st me s mode none_due begun = by_shut (st.gate s.0).shut refl
         λ j. record st {
           turn = put-back st.turn s.0 (Some me) None is j;
           begun = (put-twice (put st.begun s.0 false) s.0 b false
-              ∙ (put-twice st.begun s.0 false false ∙ put-here st.begun s.0 false idle)) j;
+              ∙ (put-twice st.begun s.0 false false ∙ put_same st.begun s.0 false idle)) j;
           put_due = λ t i. no_longer (t == s.0) (st.put_due t i) (none_due t i) j;
         }
       where
@@ -390,8 +377,8 @@ begin-lacking st me s mode none_due begun = by_shut (st.gate s.0).shut refl
         (with_begun (with_turn st s.0 (taken_by me o)) s.0 (is_some o && st.begun s.0))).state ≡ st
     by_turn (Some n) is =
         λ j. record st {
-          turn = put-here st.turn s.0 (Some n) is j;
-          begun = put-here st.begun s.0
+          turn = put_same st.turn s.0 (Some n) is j;
+          begun = put_same st.begun s.0
               (st.begun s.0) refl j;
         }
     by_turn None is = by_look (st.gate s.0).shut is

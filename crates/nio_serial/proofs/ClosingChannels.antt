@@ -17,6 +17,7 @@ use Rattle.nio_history.specs.declared.found.Stage.{Stage}
 use Rattle.nio_language.specs.declared.reply.Reply.{Reply}
 use Rattle.nio_language.specs.declared.reply.Reply.TheVariants as reply
 use Rattle.nio_plain.proofs.Naming.{channel-through}
+use Rattle.nio_plain.proofs.Places.{put_same, put_at_same}
 use Rattle.nio_plain.specs.ScriptState.{ScriptState}
 use Rattle.nio_plain.specs.Seq.Replies.{replied}
 use Rattle.nio_plain.specs.Seq.Cancelling.{cancelled_key, channel_closed, has_index, closec_call}
@@ -30,7 +31,7 @@ use Rattle.nio_steps.specs.Perform.{Performed, perform}
 use Rattle.nio_steps.specs.Plan.{Plan, when}
 use Rattle.nio_steps.specs.Steps.{cancel_key}
 use Rattle.nio_steps.specs.Sweeps.{sweep_to}
-use Rattle.nio_serial.proofs.Base.{put-here, put_at-here, pin-back, in_set-is, branch, unpinned, perform_pinned}
+use Rattle.nio_serial.proofs.Base.{pin-back, in_set-is, branch, unpinned, perform_pinned}
 use Rattle.nio_serial.specs.Documented.{Progress, settled, settled_mark, settled_state, documented, amounts}
 use Rattle.nio_serial.specs.PipeLines.{with_seal}
 use Rattle.nio_serial.specs.Replies.{closed_reply}
@@ -77,7 +78,7 @@ cancel-performed st me s k free whole =
     by_set false same =
         back (λ p. record st { pinned = p })
         ∙ (ap (λ f. record { answer = tt; state = record st { key = f } })
-        (sym (put_at-here st.key s.0 k.index stage refl))
+        (sym (put_at_same st.key s.0 k.index stage refl))
         ∙ ap (λ b. record { answer = tt; state = with_key st s.0 k.index (cond b (cancelled_key stage) stage) }) same)
 
 -- ---- the keys of a channel
@@ -296,6 +297,6 @@ module _ (l : Limits) (st : State) (now : Progress) (me : CallerNo) (c : ChanNo)
       (branch (amounts closed_reply (λ _. now)) me (Plan.reply false) (cancel_keys l c) closed_st _ _
       (st.chan c.0).closed (st.chan c.0).closed refl
       (λ is. ap (λ f. record { reply = reply.Already; left = documented (record st { chan = f }) now })
-      (sym (put-here st.chan c.0 closed_chan (λ j. record (st.chan c.0) { closed = is j }))))
+      (sym (put_same st.chan c.0 closed_chan (λ j. record (st.chan c.0) { closed = is j }))))
       (λ _. closed-documented reply.«Ok»
       ∙ sym (ap (amounts closed_reply (λ _. now)) (cancel_keys-performed closed_st me c free whole l))))

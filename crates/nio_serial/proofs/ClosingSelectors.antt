@@ -9,6 +9,7 @@ use Rattle.nio_history.specs.State.{State, put_at, with_entered}
 use Rattle.nio_history.specs.declared.found.Stage.{Stage}
 use Rattle.nio_language.specs.declared.reply.Reply.TheVariants as reply
 use Rattle.nio_plain.proofs.Naming.{selector-through}
+use Rattle.nio_plain.proofs.Places.{put_same, put_at_same}
 use Rattle.nio_plain.specs.ScriptState.{ScriptState}
 use Rattle.nio_plain.specs.Seq.Replies.{unchanged, replied}
 use Rattle.nio_plain.specs.Seq.Closing.{close_end_call, without_keys}
@@ -19,7 +20,6 @@ use Rattle.nio_steps.specs.Perform.{Performed, perform}
 use Rattle.nio_steps.specs.Plan.{Plan}
 use Rattle.nio_steps.specs.SelectCalls.{FinishReply, closed, busy, remove_key, remove_keys, try_finish_plan}
 use Rattle.nio_steps.specs.Sweeps.{sweep_to}
-use Rattle.nio_serial.proofs.Base.{put-here, put_at-here}
 use Rattle.nio_serial.proofs.Removing.{gone, removed_where, removed_none, removed_more, settled-removed}
 use Rattle.nio_serial.specs.Documented.{Progress, settled_state, documented, amounts}
 use Rattle.nio_serial.specs.Lines.{after_finish}
@@ -60,8 +60,8 @@ module _ (st : State) (me : CallerNo) (s : SelNo) (idle : st.begun s.0 ≡ false
         answer = tt;
         state = record now {
           key = put_at now.key s.0 n (gone (now.key s.0 n));
-          free = sym (put_at-here now.free s.0 n (none (st.key s.0 n) || now.free s.0 n) refl) j;
-          put_due = put_at-here st.put_due s.0 n (st.put_due s.0 n || (st.begun s.0 && frees_index (now.key s.0 n)))
+          free = sym (put_at_same now.free s.0 n (none (st.key s.0 n) || now.free s.0 n) refl) j;
+          put_due = put_at_same st.put_due s.0 n (st.put_due s.0 n || (st.begun s.0 && frees_index (now.key s.0 n)))
               (none_due n ∙ (λ i. sym (none_due n) i || (sym idle i && frees_index (now.key s.0 n)))) j;
         };
       })
@@ -105,7 +105,7 @@ close_end-amounts st now me s begun none_due exact made own not_entered =
         (perform me (cond (is_some o) (Plan.reply busy) (remove_keys s))
         (with_entered st s.0 (st.entered s.0 || is_none o)))
     by_turn (Some n) is = ap (λ f. record { reply = reply.Busy; left = documented (record st { entered = f }) now })
-        (sym (put-here st.entered s.0 (st.entered s.0 || false) (not_entered ∙ (λ j. sym not_entered j || false))))
+        (sym (put_same st.entered s.0 (st.entered s.0 || false) (not_entered ∙ (λ j. sym not_entered j || false))))
     by_turn None is =
         let entered_st = with_entered st s.0 (st.entered s.0 || true) in
         (λ j. record {
@@ -146,7 +146,7 @@ finish-cases st me s begun none_due not_entered P selecting ends = by_turn (st.t
           state =
               record st {
                 entered =
-                    sym (put-here st.entered s.0 (st.entered s.0 || false)
+                    sym (put_same st.entered s.0 (st.entered s.0 || false)
                     (not_entered ∙ (λ i. sym not_entered i || false))) j;
               };
         }) selecting

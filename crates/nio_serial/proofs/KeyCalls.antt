@@ -13,6 +13,7 @@ use Rattle.nio_history.specs.declared.found.Stage.{Stage}
 use Rattle.nio_language.specs.declared.reply.Reply.{Reply}
 use Rattle.nio_language.specs.declared.reply.Reply.TheVariants as reply
 use Rattle.nio_plain.proofs.Naming.{key-through}
+use Rattle.nio_plain.proofs.Places.{put_at_same}
 use Rattle.nio_plain.specs.ScriptState.{ScriptState}
 use Rattle.nio_plain.specs.Seq.Replies.{Replied, unchanged, replied, yes_or_no}
 use Rattle.nio_plain.specs.Seq.Cancelling.{cancel_call, cancelled_key}
@@ -29,7 +30,7 @@ use Rattle.nio_steps.specs.Perform.{Performed, perform}
 use Rattle.nio_steps.specs.Plan.{Plan, when}
 use Rattle.nio_steps.specs.Steps.{cancel_key, unselect_bit, swap_note, look_note}
 use Rattle.nio_steps.specs.declared.refusal.KeyError.{KeyError}
-use Rattle.nio_serial.proofs.Base.{pin-back, put_at-here, settled-valid_key, settled-key, settled-marked, in_set-is}
+use Rattle.nio_serial.proofs.Base.{pin-back, settled-valid_key, settled-key, settled-marked, in_set-is}
 use Rattle.nio_serial.proofs.Base.{branch, branch_not, unpinned, perform_pinned}
 use Rattle.nio_serial.specs.Documented.{Progress, settled, settled_mark, documented, amounts}
 use Rattle.nio_serial.specs.Replies.{set_reply, put_reply}
@@ -218,7 +219,7 @@ module _ (st : State) (now : Progress) (me : CallerNo) (s : SelNo) (k : KeyId)
             ap (λ b. replied ds reply.«Ok»
             (with_key ds.shared s.0 k.index (cond b (cancelled_key (settled stage)) (settled stage)))) (sym same)
             ∙ (ap (λ f. replied ds reply.«Ok» (record ds.shared { key = f }))
-            (put_at-here ds.shared.key s.0 k.index (settled stage) refl)
+            (put_at_same ds.shared.key s.0 k.index (settled stage) refl)
             ∙ back (λ p. record { reply = reply.«Ok»; left = documented (record st { pinned = p }) now }))
 
   pub unselect-amounts : unselect_call ds s k ≡ amounts yes_or_no (λ _. now) (perform me (unselect_plan (key s k)) st)
@@ -266,7 +267,7 @@ module _ (st : State) (now : Progress) (me : CallerNo) (s : SelNo) (k : KeyId)
               ∙ ap (λ x. replied ds reply.Yes x) (sym (settled-marked st s.0 k.index (record m { selected = false })))
           by_mark false is present =
               ap (λ f. record { reply = reply.No; left = documented (record st { mark = f }) now })
-              (sym (put_at-here st.mark s.0 k.index (record m { selected = false })
+              (sym (put_at_same st.mark s.0 k.index (record m { selected = false })
               (λ j. record m { selected = is j })))
       by_set false e =
           ap (λ b. cond b

@@ -11,10 +11,10 @@ use Rattle.nio_base.specs.declared.numbers.SelNo.{SelNo}
 use Rattle.nio_history.proofs.Put.{put_at-same}
 use Rattle.nio_history.specs.Acts.{new_key}
 use Rattle.nio_history.specs.State.{State, unmarked, put, put_at, with_enrolled, with_keys_high, with_interest}
-use Rattle.nio_history.specs.State.{with_mark}
-use Rattle.nio_history.specs.State.{with_note}
+use Rattle.nio_history.specs.State.{with_mark, with_note}
 use Rattle.nio_history.specs.declared.found.Stage.{Stage}
 use Rattle.nio_plain.proofs.Found.{found_below}
+use Rattle.nio_plain.proofs.Places.{put_same, put_at_same, put_at-twice}
 use Rattle.nio_plain.specs.Seq.Registering.{free_index, next_by, next_key, new_stage, with_new_key}
 use Rattle.nio_steps.proofs.PerformLaws.{perform_else, perform_then_on}
 use Rattle.nio_steps.specs.ChannelCalls.{claim_new, search_free, settle_key, publish_key, make_key, make_claimed}
@@ -25,7 +25,7 @@ use Rattle.nio_steps.specs.Plan.{Plan, when, ◌>>=◌, ◌>>◌}
 use Rattle.nio_steps.specs.Steps.{cancel_key, unpin}
 use Rattle.nio_steps.specs.Sweeps.{seek_to}
 use Rattle.nio_steps.specs.declared.refusal.ChannelError.{ChannelError}
-use Rattle.nio_serial.proofs.Base.{put-here, put_at-here, put_at-twice, pin-back}
+use Rattle.nio_serial.proofs.Base.{pin-back}
 use Rattle.nio_serial.proofs.Claiming.{claimed_again, next_at, found, search-performed, claimed_first, first-performed}
 use Rattle.nio_serial.proofs.Claiming.{full-performed}
 
@@ -116,7 +116,7 @@ module _ (l : Limits) (st : State) (me : CallerNo) (s : SelNo) (c : ChanNo) (ops
         answer = Ok (key s k);
         state =
             record (with_new_key st s.0 c.0 k ops
-            att) { keys_high = sym (put-here st.keys_high s.0 (max mark (suc i)) (omega arith)) j };
+            att) { keys_high = sym (put_same st.keys_high s.0 (max mark (suc i)) (omega arith)) j };
       })
     where
       k : KeyId
@@ -133,8 +133,8 @@ module _ (l : Limits) (st : State) (me : CallerNo) (s : SelNo) (c : ChanNo) (ops
         answer = Ok (key s k);
         state = record (with_new_key st s.0 c.0 k ops att) {
           keys_high = put st.keys_high s.0 (max mark (add-one mark j));
-          mark = sym (put_at-here st.mark s.0 mark unmarked fresh_mark) j;
-          free = sym (put_at-here st.free s.0 mark false fresh_free) j;
+          mark = sym (put_at_same st.mark s.0 mark unmarked fresh_mark) j;
+          free = sym (put_at_same st.free s.0 mark false fresh_free) j;
         };
       }))
     where

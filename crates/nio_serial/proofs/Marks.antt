@@ -14,6 +14,7 @@ use Rattle.nio_history.specs.Answers.{is_same_mark}
 use Rattle.nio_history.specs.State.{State, with_mark}
 use Rattle.nio_history.specs.declared.found.Mark.{Mark}
 use Rattle.nio_plain.proofs.Lists.{same-is}
+use Rattle.nio_plain.proofs.Places.{put_at_same}
 use Rattle.nio_plain.specs.Seq.Names.{is_same_key}
 use Rattle.nio_plain.specs.Seq.Selections.{all_told, is_looked, marked, is_updated}
 use Rattle.nio_steps.specs.KeyCalls.{is_within}
@@ -21,7 +22,6 @@ use Rattle.nio_steps.specs.Perform.{Performed, perform}
 use Rattle.nio_steps.specs.Plan.{Plan, ◌>>=◌}
 use Rattle.nio_steps.specs.SelectCalls.{told_of, gains_nothing, one_if, mark_again, mark_looked, mark_told}
 use Rattle.nio_steps.specs.Steps.{mark}
-use Rattle.nio_serial.proofs.Base.{put_at-here}
 
 -- ---- sets of bits
 
@@ -164,7 +164,7 @@ mark-performed st me s i told = by_told (told == 0) refl
     stays not_updated = λ j. record {
       answer = one_if (sym not_updated j);
       state = record st {
-        mark = sym (put_at-here st.mark s.0 i (marked m told) (sym (marked-same m told not_updated))) j;
+        mark = sym (put_at_same st.mark s.0 i (marked m told) (sym (marked-same m told not_updated))) j;
       };
     }
 

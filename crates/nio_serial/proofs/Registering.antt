@@ -16,6 +16,7 @@ use Rattle.nio_history.specs.declared.found.Stage.{Stage}
 use Rattle.nio_language.specs.declared.reply.Reply.{Reply}
 use Rattle.nio_language.specs.declared.reply.Reply.TheVariants as reply
 use Rattle.nio_plain.proofs.Naming.{channel-through, selector-through}
+use Rattle.nio_plain.proofs.Places.{put_at_same}
 use Rattle.nio_plain.specs.ScriptState.{ScriptState, with_shared}
 use Rattle.nio_plain.specs.Seq.Replies.{Replied, unchanged, replied}
 use Rattle.nio_plain.specs.Seq.Modes.{if_in_key_set}
@@ -30,7 +31,7 @@ use Rattle.nio_steps.specs.Perform.{Performed, perform}
 use Rattle.nio_steps.specs.Plan.{Plan, when, ◌>>=◌, ◌>>◌}
 use Rattle.nio_steps.specs.Steps.{look_gate, swap_note}
 use Rattle.nio_steps.specs.declared.refusal.ChannelError.{ChannelError}
-use Rattle.nio_serial.proofs.Base.{put-back, put_at-here, put_at-under, pin-back, branch, unpinned, perform_pinned}
+use Rattle.nio_serial.proofs.Base.{put-back, put_at-under, pin-back, branch, unpinned, perform_pinned}
 use Rattle.nio_serial.proofs.Base.{released, perform_held}
 use Rattle.nio_serial.proofs.Making.{made, new-performed}
 use Rattle.nio_serial.specs.Documented.{Progress, settled, settled_mark, settled_state, documented, amounts}
@@ -117,7 +118,7 @@ module _ (l : Limits) (st : State) (me : CallerNo) (s : SelNo) (c : ChanNo) (ops
           state = record
               (with_interest held s.0 k.index ops) {
                 note = sym
-                    (put_at-here st.note s.0 k.index (st.note s.0 k.index) refl) j;
+                    (put_at_same st.note s.0 k.index (st.note s.0 k.index) refl) j;
               };
         }
     enrolled_att false = refl

@@ -7,12 +7,13 @@ use Rattle.nio_base.specs.declared.numbers.SelNo.{SelNo}
 use Rattle.nio_history.specs.State.{State, put_at, last_serial, with_key, with_put_due}
 use Rattle.nio_history.specs.declared.found.Mark.{Mark}
 use Rattle.nio_history.specs.declared.found.Stage.{Stage}
+use Rattle.nio_plain.proofs.Places.{put_at_same}
 use Rattle.nio_plain.specs.Seq.Removing.{removed_key, unselected, without_keys_where}
 use Rattle.nio_steps.specs.Perform.{perform}
 use Rattle.nio_steps.specs.Plan.{when}
 use Rattle.nio_steps.specs.SelectCalls.{remove_cancelled}
 use Rattle.nio_steps.specs.Steps.{put_free}
-use Rattle.nio_serial.proofs.Base.{put_at-here, put_at-back}
+use Rattle.nio_serial.proofs.Base.{put_at-back}
 use Rattle.nio_serial.specs.Documented.{settled, settled_mark, settled_state}
 
 -- what is put at a pair of numbers, where both the new value and the others are those of a function
@@ -148,15 +149,15 @@ removal-performed st me s i none_due untaken = by_serial (nat_lt k.serial last_s
       answer = tt;
       state = record (with_key st s.0 i (gone k)) {
         free = put_at st.free s.0 i true;
-        taker = put_at-here st.taker s.0 i None untaken j;
+        taker = put_at_same st.taker s.0 i None untaken j;
         put_due = put_at-back st.put_due s.0 i (due (nat_lt k.serial last_serial)) false none_due j;
       };
     }
     by_serial false e = λ j. record {
       answer = tt;
       state = record (with_key st s.0 i (gone k)) {
-        free = sym (put_at-here st.free s.0 i (st.free s.0 i) refl) j;
-        put_due = put_at-here st.put_due s.0 i (due (nat_lt k.serial last_serial))
+        free = sym (put_at_same st.free s.0 i (st.free s.0 i) refl) j;
+        put_due = put_at_same st.put_due s.0 i (due (nat_lt k.serial last_serial))
             (none_due ∙ sym (ap due e ∙ (λ n. none_due n || not_due (st.begun s.0) (not k.removed) n))) j;
       };
     }

@@ -1,21 +1,21 @@
 -- Between two calls of a script nothing is at work: each documented call keeps that.
 use Rattle.std.proofs.Common.{◌≡◌, ◌≢◌, ℕ, suc, ◌+◌, ◌<◌, ◌≤◌, max, ◌==◌, nat_lt, Bool, true, false, cond, not, ◌&&◌}
 use Rattle.std.proofs.Common.{◌||◌, Option, None, refl, ap, sym, ◌∙◌, ⊎_elim, arith, eqb-true, eq-eqb}
+use Rattle.std.proofs.Math.Bool.{or-false}
 use Rattle.std.proofs.lemmas.Bool.{both_ways, and_parts, and_left, not-true, false_from_ne_true, lt-ltb, le-ltb}
 use Rattle.std.proofs.lemmas.Bool.{ltb-false, cases_lt}
 use Rattle.nio_base.specs.declared.limits.Limits.{Limits}
 use Rattle.nio_base.specs.declared.numbers.CallerNo.{CallerNo}
 use Rattle.nio_base.specs.declared.numbers.KeyId.{KeyId}
 use Rattle.nio_history.proofs.Put.{put_keeps, put_at_keeps}
-use Rattle.nio_history.specs.Sets.{in_key_set, is_in_key_set}
-use Rattle.nio_history.specs.State.{State, unclaimed, unmarked, last_serial, put, put_at}
+use Rattle.nio_history.specs.Sets.{in_key_set}
+use Rattle.nio_history.specs.State.{State, unclaimed, unmarked, last_serial, put, put_at, with_mark}
 use Rattle.nio_history.specs.declared.found.Chan.{Chan}
 use Rattle.nio_history.specs.declared.found.Mark.{Mark}
 use Rattle.nio_history.specs.declared.found.Stage.{Stage}
-use Rattle.nio_plain.specs.Seq.Cancelling.{cancelled_key, cancelled_in_set}
+use Rattle.nio_plain.specs.Seq.Cancelling.{cancelled_key}
 use Rattle.nio_plain.specs.Seq.Registering.{new_stage}
 use Rattle.nio_plain.specs.Seq.Removing.{removed_key, unselected}
-use Rattle.nio_serial.proofs.Removing.{put_at-is}
 use Rattle.nio_serial.specs.Between.{IsAtRest}
 
 -- ---- the parts
@@ -122,70 +122,66 @@ module _ (l : Limits) (mark : ℕ) (chan : ℕ → Chan) (rest : ChannelsRest l 
 -- ---- keys
 
 -- keys that are changed so stay claimed and published, or not, and a fresh index stays fresh
-pub keys-kept : (l : Limits) (keys_high : ℕ → ℕ) (key after : ℕ → ℕ → Stage) (mark marked : ℕ → ℕ → Mark)
-    (free freed : ℕ → ℕ → Bool)
-    → KeysRest l keys_high key mark free → ((s i : ℕ) → (after s i).claimed ≡ (key s i).claimed)
-    → ((s i : ℕ) → (after s i).published ≡ (key s i).published)
-    → ((s i : ℕ) → nat_lt i (keys_high s) ≡ false → Fresh (key s i) (mark s i) (free s i)
+keys-kept : (l : Limits) (st : State) → Rests l st → (after : ℕ → ℕ → Stage) (marked : ℕ → ℕ → Mark)
+    (freed : ℕ → ℕ → Bool)
+    → ((s i : ℕ) → (after s i).claimed ≡ (st.key s i).claimed)
+    → ((s i : ℕ) → (after s i).published ≡ (st.key s i).published)
+    → ((s i : ℕ) → nat_lt i (st.keys_high s) ≡ false → Fresh (st.key s i) (st.mark s i) (st.free s i)
     → Fresh (after s i) (marked s i) (freed s i))
-    → KeysRest l keys_high after marked freed
-keys-kept l keys_high key after mark marked free freed rest claimed published fresh = record {
-  within = rest.within;
-  claimed = λ s i. claimed s i ∙ rest.claimed s i;
-  published = λ s i. published s i ∙ rest.published s i;
-  fresh = λ s i above. fresh s i above (rest.fresh s i above);
+    → KeysRest l st.keys_high after marked freed
+keys-kept l st rest after marked freed claimed published fresh = record {
+  within = rest.keys.within;
+  claimed = λ s i. claimed s i ∙ rest.keys.claimed s i;
+  published = λ s i. published s i ∙ rest.keys.published s i;
+  fresh = λ s i above. fresh s i above (rest.keys.fresh s i above);
 }
 
 -- an index above the high-water mark has no key in the key set
-pub above-out : (l : Limits) (keys_high : ℕ → ℕ) (key : ℕ → ℕ → Stage) (mark : ℕ → ℕ → Mark) (free : ℕ → ℕ → Bool)
-    → KeysRest l keys_high key mark free
-    → (s i : ℕ) → nat_lt i (keys_high s) ≡ false → in_key_set (key s i) ≡ false
-above-out l keys_high key mark free rest s i above =
-    and_left (key s i).published (not (key s i).removed) (rest.published s i ∙ above)
+pub above-out : (l : Limits) (st : State) → Rests l st → (s i : ℕ) → nat_lt i (st.keys_high s) ≡ false
+    → in_key_set (st.key s i) ≡ false
+above-out l st rest s i above =
+    and_left (st.key s i).published (not (st.key s i).removed) (rest.keys.published s i ∙ above)
 
--- keys that are cancelled or stay
-module _ (l : Limits) (st : State) (rest : Rests l st) (test : ℕ → ℕ → Bool)
-    (within : (s i : ℕ) → test s i ≡ true → in_key_set (st.key s i) ≡ true) where
-  abbrev cancelled : ℕ → ℕ → Stage
-  cancelled s i = cond (test s i) (cancelled_key (st.key s i)) (st.key s i)
+-- a key that stays, or that is cancelled where it is in the key set
+pub record MayCancel (k after : Stage) : Type 0 where
+  pub claimed : after.claimed ≡ k.claimed
+  pub published : after.published ≡ k.published
+  pub removed : after.removed ≡ k.removed
+  pub serial : after.serial ≡ k.serial
+  pub outside : in_key_set k ≡ false → after ≡ k
 
-  claimed_same : (b : Bool) (k : Stage) → (cond b (cancelled_key k) k).claimed ≡ k.claimed
-  claimed_same true k = refl
-  claimed_same false k = refl
+pub uncancelled : (k : Stage) → MayCancel k k
+uncancelled k =
+    record { claimed = refl; published = refl; removed = refl; serial = refl; outside = λ _. refl }
 
-  published_same : (b : Bool) (k : Stage) → (cond b (cancelled_key k) k).published ≡ k.published
-  published_same true k = refl
-  published_same false k = refl
+pub cancelled_where : (b : Bool) (k : Stage) → (b ≡ true → in_key_set k ≡ true)
+    → MayCancel k (cond b (cancelled_key k) k)
+cancelled_where false k within = uncancelled k
+cancelled_where true k within = record {
+  claimed = refl;
+  published = refl;
+  removed = refl;
+  serial = refl;
+  outside = λ out. absurd (both_ways (in_key_set k) out (within refl));
+}
 
-  removed_same : (b : Bool) (k : Stage) → (cond b (cancelled_key k) k).removed ≡ k.removed
-  removed_same true k = refl
-  removed_same false k = refl
-
-  serial_same : (b : Bool) (k : Stage) → (cond b (cancelled_key k) k).serial ≡ k.serial
-  serial_same true k = refl
-  serial_same false k = refl
-
-  pub keys-cancelled : KeysRest l st.keys_high cancelled st.mark st.free
-  keys-cancelled =
-      keys-kept l st.keys_high st.key cancelled st.mark st.mark st.free st.free rest.keys
-      (λ s i. claimed_same (test s i) (st.key s i)) (λ s i. published_same (test s i) (st.key s i))
-      (λ s i above fresh.
-      let out : test s i ≡ false = false_from_ne_true (test s i)
-      (λ h. both_ways (in_key_set (st.key s i))
-      (above-out l st.keys_high st.key st.mark st.free rest.keys s i above) (within s i h)) in
-      record {
-        key = ap (λ b. cond b (cancelled_key (st.key s i)) (st.key s i)) out ∙ fresh.key;
+pub rests-cancelled : (l : Limits) (st : State) → Rests l st → (after : ℕ → ℕ → Stage)
+    → ((s i : ℕ) → MayCancel (st.key s i) (after s i)) → Rests l (record st { key = after })
+rests-cancelled l st rest after each = record {
+  unused = rest.unused;
+  channels = rest.channels;
+  keys = keys-kept l st rest after st.mark st.free (λ s i. (each s i).claimed) (λ s i. (each s i).published)
+      (λ s i above fresh. record {
+        key = (each s i).outside (above-out l st rest s i above) ∙ fresh.key;
         mark = fresh.mark;
         free = fresh.free;
-      })
-
-  pub frees-cancelled : FreesRest st.entered cancelled st.free
-  frees-cancelled = record {
-    removed = λ s i h. removed_same (test s i) (st.key s i) ∙ rest.frees.removed s i h;
+      });
+  frees = record {
+    removed = λ s i h. (each s i).removed ∙ rest.frees.removed s i h;
     exactly = λ s i h. rest.frees.exactly s i h
-        ∙ (λ j. sym (removed_same (test s i) (st.key s i)) j
-        && nat_lt (sym (serial_same (test s i) (st.key s i)) j) last_serial);
-  }
+        ∙ (λ j. sym (each s i).removed j && nat_lt (sym (each s i).serial j) last_serial);
+  };
+}
 
 -- keys that are removed, by a selection or by the end of a closing
 module _ (l : Limits) (st : State) (rest : Rests l st) (goes : ℕ → ℕ → Bool) (frees : Stage → Bool) (ended : ℕ → Bool)
@@ -217,9 +213,9 @@ module _ (l : Limits) (st : State) (rest : Rests l st) (goes : ℕ → ℕ → B
       false_from_ne_true (goes s i)
       (λ h. both_ways (nat_lt i (st.keys_high s)) above (sym (rest.keys.published s i) ∙ published s i h))
 
-  pub keys-removed : KeysRest l st.keys_high removed unselected_where freed
+  keys-removed : KeysRest l st.keys_high removed unselected_where freed
   keys-removed =
-      keys-kept l st.keys_high st.key removed st.mark unselected_where st.free freed rest.keys
+      keys-kept l st rest removed unselected_where freed
       (λ s i. still_claimed (goes s i) (st.key s i)) (λ s i. still_published (goes s i) (st.key s i))
       (λ s i above fresh.
       let out = stays_out s i above in
@@ -229,7 +225,7 @@ module _ (l : Limits) (st : State) (rest : Rests l st) (goes : ℕ → ℕ → B
         free = ap (λ b. (b && frees (st.key s i)) || st.free s i) out ∙ fresh.free;
       })
 
-  pub frees-removed : FreesRest ended removed freed
+  frees-removed : FreesRest ended removed freed
   frees-removed =
       record {
         removed = λ s i h. by_goes s i (goes s i) h (rest.frees.removed s i);
@@ -252,12 +248,13 @@ module _ (l : Limits) (st : State) (rest : Rests l st) (goes : ℕ → ℕ → B
           (and_parts (st.key s i).published (not (st.key s i).removed) both.0).1 in
           let not_free : st.free s i ≡ false = rest.frees.exactly s i (kept s still_open)
           ∙ (λ j. present j && nat_lt (st.key s i).serial last_serial) in
-          (λ j. both.1 j || not_free j) ∙ or_false (nat_lt (st.key s i).serial last_serial)
-        where
-          or_false : (b : Bool) → (b || false) ≡ b
-          or_false true = refl
-          or_false false = refl
+          (λ j. both.1 j || not_free j) ∙ or-false (nat_lt (st.key s i).serial last_serial)
       exact s i false e still_open = rest.frees.exactly s i (kept s still_open)
+
+  pub rests-removed : Rests l
+      (record st { key = removed; mark = unselected_where; free = freed; entered = ended })
+  rests-removed =
+      record { unused = rest.unused; channels = rest.channels; keys = keys-removed; frees = frees-removed }
 
 -- ---- one key
 
@@ -294,7 +291,7 @@ module _ (l : Limits) (st : State) (rest : Rests l st) (s c : ℕ) (k : KeyId) (
           old t j ∙ (ap (λ n. nat_lt j (st.keys_high n)) (eqb-true t s same) ∙ sym (below_top j e))
       by_selector false other i e = old t j
 
-  pub keys-new : KeysRest l mark_after key_after (put_at st.mark s k.index unmarked) (put_at st.free s k.index false)
+  keys-new : KeysRest l mark_after key_after (put_at st.mark s k.index unmarked) (put_at st.free s k.index false)
   keys-new = record {
     within = λ n. put_keeps (λ m x. x ≤ l.keys) st.keys_high s top (λ h. omega arith) n (rest.keys.within n);
     claimed = exact_after (λ x. x.claimed) refl rest.keys.claimed;
@@ -314,7 +311,7 @@ module _ (l : Limits) (st : State) (rest : Rests l st) (s c : ℕ) (k : KeyId) (
           rest.keys.fresh t j (ap (λ n. nat_lt j (st.keys_high n)) (eqb-true t s same) ∙ (sym (below_top j e) ∙ above))
       fresh_after t j false other i e above = rest.keys.fresh t j above
 
-  pub frees-new : FreesRest st.entered key_after (put_at st.free s k.index false)
+  frees-new : FreesRest st.entered key_after (put_at st.free s k.index false)
   frees-new = record {
     removed = λ t j h. by_place ((t == s) && (j == k.index)) t j h;
     exactly = λ t j still_open. exact ((t == s) && (j == k.index)) t j still_open;
@@ -332,32 +329,27 @@ module _ (l : Limits) (st : State) (rest : Rests l st) (s c : ℕ) (k : KeyId) (
       exact true t j still_open = refl
       exact false t j still_open = rest.frees.exactly t j still_open
 
--- a key that is taken out of the selected set
-pub keys-unselected : (l : Limits) (st : State) → Rests l st → (s i : ℕ)
-    → KeysRest l st.keys_high st.key (put_at st.mark s i (unselected (st.mark s i))) st.free
-keys-unselected l st rest s i =
-    keys-kept l st.keys_high st.key st.key st.mark (put_at st.mark s i (unselected (st.mark s i))) st.free st.free
-    rest.keys (λ _ _. refl) (λ _ _. refl)
-    (λ t j above fresh. record {
-      key = fresh.key;
-      mark = put_at_keeps (λ _ _ (x : Mark). x ≡ unmarked) st.mark s i (unselected (st.mark s i))
-          (λ h n. record (h n) { selected = false }) t j fresh.mark;
-      free = fresh.free;
-    })
+  pub rests-new : Rests l (record st {
+    keys_high = mark_after;
+    key = key_after;
+    mark = put_at st.mark s k.index unmarked;
+    free = put_at st.free s k.index false;
+  })
+  rests-new = record { unused = rest.unused; channels = rest.channels; keys = keys-new; frees = frees-new }
 
--- one key that is cancelled where it is in the key set
-pub one_cancelled : (st : State) (s : ℕ) (k : KeyId) (t i : ℕ)
-    → put_at st.key s k.index (cancelled_in_set (st.key s k.index) k.serial) t i
-    ≡ cond (((t == s) && (i == k.index)) && is_in_key_set (st.key s k.index) k.serial) (cancelled_key (st.key t i))
-    (st.key t i)
-one_cancelled st s k t i =
-    put_at-is st.key
-    (λ t' i'. cond (((t' == s) && (i' == k.index)) && is_in_key_set (st.key s k.index) k.serial)
-    (cancelled_key (st.key t' i')) (st.key t' i')) s k.index
-    (cancelled_in_set (st.key s k.index) k.serial)
-    (λ j. cond ((sym (eq-eqb s s refl) j && sym (eq-eqb k.index k.index refl) j)
-    && is_in_key_set (st.key s k.index) k.serial) (cancelled_key (st.key s k.index)) (st.key s k.index))
-    (λ t' i' other. ap
-    (λ b. cond (b && is_in_key_set (st.key s k.index) k.serial) (cancelled_key (st.key t' i')) (st.key t' i'))
-    (sym other))
-    t i
+-- a key that is taken out of the selected set
+pub rests-unselected : (l : Limits) (st : State) → Rests l st → (s i : ℕ)
+    → Rests l (with_mark st s i (unselected (st.mark s i)))
+rests-unselected l st rest s i = record {
+  unused = rest.unused;
+  channels = rest.channels;
+  keys = keys-kept l st rest st.key (put_at st.mark s i (unselected (st.mark s i))) st.free (λ _ _. refl)
+      (λ _ _. refl)
+      (λ t j above fresh. record {
+        key = fresh.key;
+        mark = put_at_keeps (λ _ _ (x : Mark). x ≡ unmarked) st.mark s i (unselected (st.mark s i))
+            (λ h n. record (h n) { selected = false }) t j fresh.mark;
+        free = fresh.free;
+      });
+  frees = rest.frees;
+}

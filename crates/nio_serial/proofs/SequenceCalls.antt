@@ -127,7 +127,7 @@ mode_through Mode.Wait = refl
 mode_through (Mode.For ms) = refl
 
 -- a `told` that answers Again goes on with the same selection
-again-same : (x next : Selection) (pairs : List (ℕ × ℕ)) (elapsed : Bool) (acts : List Act)
+pub again-same : (x next : Selection) (pairs : List (ℕ × ℕ)) (elapsed : Bool) (acts : List Act)
     → Completes (told_plan x pairs elapsed) acts (again next) → next ≡ x
 unfolding told_plan
 again-same x next pairs elapsed acts run =

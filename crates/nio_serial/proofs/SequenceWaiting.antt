@@ -26,6 +26,7 @@ use Rattle.nio_language.specs.declared.reply.Reply.{Reply}
 use Rattle.nio_language.specs.declared.reply.Reply.TheVariants as reply
 use Rattle.nio_orderly.specs.Made.{IsRun, table_call, waiting_call}
 use Rattle.nio_plain.proofs.CallLawsRefusals.{refusals_change_nothing}
+use Rattle.nio_plain.proofs.Places.{put-twice}
 use Rattle.nio_plain.specs.CallLaws.{changes_pipe, is_without_effect}
 use Rattle.nio_plain.specs.Seq.{seq}
 use Rattle.nio_plain.specs.Seq.Replies.{Replied}
@@ -34,7 +35,6 @@ use Rattle.nio_serial.proofs.SequenceCalls.{after, IsScripted, EndsAs, Ends, end
 use Rattle.nio_serial.proofs.SequencePipes.{read-leaves, write-leaves, pipe-leaves}
 use Rattle.nio_serial.specs.Called.{as_call, Scripted, unscripted}
 use Rattle.nio_serial.specs.Left.{IsOngoing}
-use Rattle.nio_serial.proofs.Base.{put-twice}
 use Rattle.nio_serial.specs.Between.{IsBetween}
 use Rattle.nio_serial.specs.Documented.{Progress, documented}
 use Rattle.nio_serial.specs.Laws.{IsMadeSelector, IsMadeChannel}

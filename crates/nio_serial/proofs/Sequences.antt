@@ -25,12 +25,13 @@ use Rattle.nio_plain.specs.Seq.Replies.{Replied}
 use Rattle.nio_plain.specs.declared.rules.Rules.TheVariants.{Now}
 use Rattle.nio_serial.proofs.SequenceCalls.{after, IsScripted, Ends, ends}
 use Rattle.nio_serial.proofs.Progress.{pipes-after, pipes-in_progress}
-use Rattle.nio_serial.proofs.SequenceWaiting.{blocking-ends, register-ends, select-ends, close-ends, read-ends, write-ends}
-use Rattle.nio_serial.proofs.SequenceWaiting.{pipe-ends, try_read-ends, try_write-ends}
+use Rattle.nio_serial.proofs.SequenceWaiting.{blocking-ends, register-ends, select-ends, close-ends, read-ends}
+use Rattle.nio_serial.proofs.SequenceWaiting.{write-ends, pipe-ends, try_read-ends, try_write-ends}
 use Rattle.nio_serial.specs.Called.{Scripted, as_call, unseen, unscripted, script_call, lacks_memory, HasNames}
 use Rattle.nio_serial.specs.Called.{IsNamedCall}
-use Rattle.nio_serial.specs.SequenceLaws.{is_of_script, AreOfScript, line_of, reply_of, script_of, replies_of, SequencesStand}
-use Rattle.nio_serial.specs.SequenceLaws.{NextCallIsDocumented, SequencesGrow, NothingIsSequence, SequencesAreScripts}
+use Rattle.nio_serial.specs.SequenceLaws.{is_of_script, AreOfScript, line_of, reply_of, script_of_calls}
+use Rattle.nio_serial.specs.SequenceLaws.{replies_of_calls, SequencesStand, NextCallIsDocumented, SequencesGrow}
+use Rattle.nio_serial.specs.SequenceLaws.{NothingIsSequence, SequencesAreScripts}
 use Rattle.nio_serial.specs.Left.{after_made, in_progress, IsOngoing, AreNamed, AreEnrolled, IsSequence, IsLeftBy}
 use Rattle.nio_serial.proofs.Facts.{sound}
 use Rattle.nio_serial.proofs.Staying.{begins-between}
@@ -157,9 +158,10 @@ record StandsFrom (l : Limits) (past : List Event) (now : Progress) (o : CallerN
     (events : List Event) : Type 0 where
   between : IsBetween l (state_after (past ++ events)) (in_progress now made)
   ongoing : (n : CallerNo) → IsOngoing n (in_progress now made) (after_calls (o n) (calls_of n made))
-  replies : AreOfScript made → replies_of made ≡ replies_from l (documented (state_after past) now) (script_of made)
+  replies : AreOfScript made
+      → replies_of_calls made ≡ replies_from l (documented (state_after past) now) (script_of_calls made)
   left : AreOfScript made → documented (state_after (past ++ events)) (in_progress now made)
-      ≡ left_from Now l (documented (state_after past) now) (script_of made)
+      ≡ left_from Now l (documented (state_after past) now) (script_of_calls made)
 
 module _ (l : Limits) (fit : IsFit l) where
   stand_from : (made : List MadeBy) (past : List Event) (now : Progress) (o : CallerNo → Ongoing) (events : List Event)
@@ -203,14 +205,14 @@ module _ (l : Limits) (fit : IsFit l) where
         ongoing = λ n. subst (IsOngoing n (in_progress now' later)) (after-one o one later n) (rest.ongoing n);
         replies =
             λ of. replies-step l past now one.caller acts now' (lacks_memory one.call) (script_call one.call) done.is
-            (plain of) (replies_of later) (script_of later)
+            (plain of) (replies_of_calls later) (script_of_calls later)
             (rest.replies (script of)
-            ∙ ap (λ es. replies_from l (documented (state_after es) now') (script_of later)) (sym here));
+            ∙ ap (λ es. replies_from l (documented (state_after es) now') (script_of_calls later)) (sym here));
         left = λ of. left-step l past now one.caller acts now' (lacks_memory one.call) (script_call one.call) done.is
-            (plain of) (documented (state_after (past ++ events)) (in_progress now' later)) (script_of later)
+            (plain of) (documented (state_after (past ++ events)) (in_progress now' later)) (script_of_calls later)
             (ap (λ es. documented (state_after es) (in_progress now' later)) (sym joined)
             ∙ (rest.left (script of)
-            ∙ ap (λ es. left_from Now l (documented (state_after es) now') (script_of later)) (sym here)));
+            ∙ ap (λ es. left_from Now l (documented (state_after es) now') (script_of_calls later)) (sym here)));
       }
 
   stand : (events : List Event) (made : List MadeBy) → IsSequence l events made

@@ -1,4 +1,5 @@
 -- What is in progress stays what the state shows, after each line.
+use Rattle.nio_plain.proofs.Places.{put_same}
 use Rattle.nio_plain.proofs.ReachedSound.{some_same}
 use Rattle.nio_serial.specs.Laws.{by_key}
 use Rattle.std.proofs.Common.{◌≡◌, ℕ, ◌==◌, Bool, true, false, cond, ◌||◌, if◌then◌else◌, Option, Some, None}
@@ -21,7 +22,6 @@ use Rattle.nio_steps.specs.Perform.{Performed, perform}
 use Rattle.nio_steps.specs.Plan.{Plan}
 use Rattle.nio_steps.specs.SelectCalls.{Selection, try_begin_plan, told_plan, leave_plan, shut_plan, closing}
 use Rattle.nio_steps.specs.SelectCalls.{already_closed, try_finish_plan}
-use Rattle.nio_serial.proofs.Base.{put-here}
 use Rattle.nio_serial.proofs.Beginning.{begin-cases, begun-on}
 use Rattle.nio_serial.proofs.ClosingSelectors.{finish-cases}
 use Rattle.nio_serial.proofs.Facts.{sound, untaken, none_due, published, free, begun, looked_in_set}
@@ -223,7 +223,7 @@ module _ (l : Limits) (st : State) (now : Progress) (me : CallerNo) (between : I
           (after_shut now me s (if b then already_closed else closing)) t
       by_shut true e t =
           shows-same (with_closer gate_after s.0 (st.closer s.0)) refl refl
-          (put-here st.closer s.0 (st.closer s.0) refl) refl t
+          (put_same st.closer s.0 (st.closer s.0) refl) refl t
       by_shut false e t =
           let was = between.shown t in
           let not_entered : st.entered s.0 ≡ false =

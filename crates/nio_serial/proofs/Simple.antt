@@ -14,6 +14,7 @@ use Rattle.nio_language.specs.declared.reply.Reply.{Reply}
 use Rattle.nio_language.specs.declared.reply.Reply.TheVariants as reply
 use Rattle.nio_plain.proofs.Found.{find_none, find_first}
 use Rattle.nio_plain.proofs.Naming.{channel-through, selector-through}
+use Rattle.nio_plain.proofs.Places.{put_same}
 use Rattle.nio_plain.specs.ScriptState.{ScriptState}
 use Rattle.nio_plain.specs.Seq.Replies.{Replied, unchanged, replied, yes_or_no}
 use Rattle.nio_plain.specs.Seq.Closing.{close_call}
@@ -33,7 +34,6 @@ use Rattle.nio_steps.specs.SelectCalls.{makes_selector, opened_selector, open_se
 use Rattle.nio_steps.specs.SelectCalls.{already_closed, wakeup_plan, interrupt_plan, interrupted_plan}
 use Rattle.nio_steps.specs.Sweeps.{seek_to}
 use Rattle.nio_steps.specs.declared.refusal.ChannelError.{ChannelError}
-use Rattle.nio_serial.proofs.Base.{put-here}
 use Rattle.nio_serial.proofs.Finding.{find-below, key_for-performed, registered-performed}
 use Rattle.nio_serial.specs.Documented.{Progress, documented, amounts}
 use Rattle.nio_serial.specs.Lines.{after_shut}
@@ -103,9 +103,9 @@ module _ (st : State) (now : Progress) (me : CallerNo) where
         by_shut true e = λ j. record {
           reply = reply.Already;
           left = documented (record st {
-            gate = sym (put-here st.gate s.0 (record (st.gate s.0) { shut = true })
+            gate = sym (put_same st.gate s.0 (record (st.gate s.0) { shut = true })
                 (λ i. record (st.gate s.0) { shut = e i })) j;
-            closer = sym (put-here st.closer s.0 (st.closer s.0) refl) j;
+            closer = sym (put_same st.closer s.0 (st.closer s.0) refl) j;
           }) now;
         }
         by_shut false e = refl
@@ -136,7 +136,7 @@ module _ (st : State) (now : Progress) (me : CallerNo) where
       (λ n. with_selector st n true) (omega arith)
       (λ n _ _ is. ap (made_already n) (not-false (st.selector n) is)
       ∙ ap (λ f. record { answer = None; state = record st { selector = f } })
-      (put-here st.selector n true (not-false (st.selector n) is)))
+      (put_same st.selector n true (not-false (st.selector n) is)))
       (λ n _ _ is. ap (made_already n) (not-true (st.selector n) is))))))
     where
       made_already : ℕ → Bool → Performed (Option SelNo)
@@ -196,7 +196,7 @@ module _ (st : State) (now : Progress) (me : CallerNo) where
       sought room =
           perform_seek me l.channels m makes unmade channel st left (omega arith)
           (λ n _ _ is. ap (turn n) (not-false (st.chan n).made is)
-          ∙ ap (λ f. record { answer = None; state = record st { chan = f } }) (put-here st.chan n (st.chan n) refl))
+          ∙ ap (λ f. record { answer = None; state = record st { chan = f } }) (put_same st.chan n (st.chan n) refl))
           (λ n _ _ is. ap (turn n) (not-true (st.chan n).made is))
           ∙ ap (found_at st channel left) (first room)
 

@@ -1,7 +1,6 @@
 -- What holds between two calls holds at the beginning and after each line.
-use Rattle.nio_plain.specs.Seq.Pipes.{own_source, own_sink, pipe_at}
-use Rattle.std.proofs.Common.{◌≡◌, ℕ, false, Option, Some, None, Result, Ok, Err, List, [], ◌∷◌, ◌++◌, refl, ap, sym}
-use Rattle.std.proofs.Common.{◌∙◌, subst, arith}
+use Rattle.std.proofs.Common.{◌≡◌, ℕ, true, false, Option, Some, None, Result, Ok, Err, List, [], ◌∷◌, ◌++◌, refl, ap}
+use Rattle.std.proofs.Common.{sym, ◌∙◌, subst, arith}
 use Rattle.std.specs.Prelude.{⊤}
 use Rattle.std.proofs.lemmas.Bool.{both_ways, le-ltb}
 use Rattle.nio_base.specs.Limits.{IsFit}
@@ -18,10 +17,12 @@ use Rattle.nio_language.specs.declared.call.ScriptCall.{ScriptCall}
 use Rattle.nio_language.specs.declared.reply.Reply.{Reply}
 use Rattle.nio_language.specs.declared.word_row.LineName.{LineName}
 use Rattle.nio_language.specs.declared.word_row.LineName.TheVariants.{Caller, Selector}
+use Rattle.nio_plain.proofs.CallLawsCases.{each_call}
 use Rattle.nio_plain.specs.Answer.{left_from}
 use Rattle.nio_plain.specs.ScriptState.{ScriptState, script_opening}
 use Rattle.nio_plain.specs.Seq.{call_of, seq}
 use Rattle.nio_plain.specs.Seq.Replies.{Replied}
+use Rattle.nio_plain.specs.Seq.Pipes.{own_source, own_sink, pipe_at}
 use Rattle.nio_plain.specs.Seq.Selections.{mode_of}
 use Rattle.nio_plain.specs.declared.rules.Rules.TheVariants.{Now}
 use Rattle.nio_steps.proofs.Each.{Each}
@@ -37,12 +38,7 @@ use Rattle.nio_serial.proofs.Resting.{rests-from, rests-is}
 use Rattle.nio_serial.proofs.RestingCalls.{rests-seq}
 use Rattle.nio_serial.proofs.Showing.{Shows, ShowsAsBefore, shows-on, shows-same, begin-shows, told-shows, failed-shows}
 use Rattle.nio_serial.proofs.Showing.{close-shows, close_end-shows}
-use Rattle.nio_serial.proofs.Steady.{IsSteady, steady-selector, steady-channel, steady-blocking, steady-is_blocking}
-use Rattle.nio_serial.proofs.Steady.{steady-is_open, steady-is_registered, steady-key_for, steady-register}
-use Rattle.nio_serial.proofs.Steady.{steady-closec, steady-valid, steady-interest, steady-ready, steady-iset}
-use Rattle.nio_serial.proofs.Steady.{steady-ior, steady-iand, steady-cancel, steady-unselect, steady-attach}
-use Rattle.nio_serial.proofs.Steady.{steady-attachment, steady-wakeup, steady-keys, steady-selected, steady-interrupt}
-use Rattle.nio_serial.proofs.Steady.{steady-interrupted, steady-pipe, steady-pread, steady-pwrite, steady-group}
+use Rattle.nio_serial.proofs.Steady.{IsSteady, is_steady, steady}
 use Rattle.nio_serial.specs.Between.{IsLeft, IsAtRest, IsBetween}
 use Rattle.nio_serial.specs.Documented.{Progress, documented}
 use Rattle.nio_serial.specs.Laws.{BeginsBetween, LinesStayBetween}
@@ -110,19 +106,20 @@ module _ (l : Limits) (st : State) (now : Progress) (me : CallerNo) (fit : IsFit
   abbrev named : Call → Plan Said
   named word = if_named l now word (call_plan l now me word)
 
-  steady-shows : (word : Call) → Quiet now (call_plan l now me word) → IsSteady ds (call_of Now l ds me word)
+  steady-shows : (word : Call) → is_steady word ≡ true → Quiet now (call_plan l now me word)
       → Shows (perform me (named word) st)
-  steady-shows word quiet steady t =
+  steady-shows word is quiet t =
+      let unchanged : IsSteady ds (call_of Now l ds me word) = steady (each_call Now l ds me word) is in
       let leaves = named-leaves (ShowsAsBefore now) now (record { selection = refl; closing = refl }) l word _ quiet in
       let done = perform me (named word) st in
       let same = named-amounts l st now me fit between word in
       shows-on done.state now done.answer.left t
       (each-performed (λ (x : Said). ShowsAsBefore now x.left) me (named word) st leaves)
       (shows-same l st now me between done.state
-      (sym (ap (λ (a : Replied). a.left.shared.turn) same) ∙ steady.turn)
-      (sym (ap (λ (a : Replied). a.left.shared.begun) same) ∙ steady.begun)
-      (sym (ap (λ (a : Replied). a.left.shared.closer) same) ∙ steady.closer)
-      (sym (ap (λ (a : Replied). a.left.shared.entered) same) ∙ steady.entered) t)
+      (sym (ap (λ (a : Replied). a.left.shared.turn) same) ∙ unchanged.turn)
+      (sym (ap (λ (a : Replied). a.left.shared.begun) same) ∙ unchanged.begun)
+      (sym (ap (λ (a : Replied). a.left.shared.closer) same) ∙ unchanged.closer)
+      (sym (ap (λ (a : Replied). a.left.shared.entered) same) ∙ unchanged.entered) t)
 
   name-shows : (a : LineName) (plan : Plan Said) → Shows (perform me plan st)
       → Shows (perform me (if_name l now a plan) st)
@@ -133,57 +130,47 @@ module _ (l : Limits) (st : State) (now : Progress) (me : CallerNo) (fit : IsFit
       by_missing (Some r) = between.shown
 
   named-shows : (word : Call) → Shows (perform me (named word) st)
-  unfolding call_of if_named call_plan
-  named-shows call.Selector = steady-shows call.Selector (asks-quiet now _ _) (steady-selector l ds)
-  named-shows (call.Channel kind) = steady-shows (call.Channel kind) (asks-quiet now _ _) (steady-channel l ds kind)
-  named-shows (call.Blocking c on) = steady-shows (call.Blocking c on) (asks-quiet now _ _) (steady-blocking l ds c on)
-  named-shows (call.IsBlocking c) = steady-shows (call.IsBlocking c) (asks-quiet now _ _) (steady-is_blocking l ds c)
-  named-shows (call.IsOpen c) = steady-shows (call.IsOpen c) (asks-quiet now _ _) (steady-is_open l ds c)
-  named-shows (call.IsRegistered c) =
-      steady-shows (call.IsRegistered c) (asks-quiet now _ _) (steady-is_registered l ds c)
-  named-shows (call.KeyFor c s) = steady-shows (call.KeyFor c s) (asks-quiet now _ _) (steady-key_for l ds c s)
-  named-shows (call.Register s c ops att) =
-      steady-shows (call.Register s c ops att) (asks-quiet now _ _) (steady-register l ds s c ops att)
+  unfolding if_named call_plan
+  named-shows call.Selector = steady-shows call.Selector refl (asks-quiet now _ _)
+  named-shows (call.Channel kind) = steady-shows (call.Channel kind) refl (asks-quiet now _ _)
+  named-shows (call.Blocking c on) = steady-shows (call.Blocking c on) refl (asks-quiet now _ _)
+  named-shows (call.IsBlocking c) = steady-shows (call.IsBlocking c) refl (asks-quiet now _ _)
+  named-shows (call.IsOpen c) = steady-shows (call.IsOpen c) refl (asks-quiet now _ _)
+  named-shows (call.IsRegistered c) = steady-shows (call.IsRegistered c) refl (asks-quiet now _ _)
+  named-shows (call.KeyFor c s) = steady-shows (call.KeyFor c s) refl (asks-quiet now _ _)
+  named-shows (call.Register s c ops att) = steady-shows (call.Register s c ops att) refl (asks-quiet now _ _)
   named-shows (call.Closec c) =
-      steady-shows (call.Closec c)
-      (makes-leaves (ShowsAsBefore now) (close_channel_plan l c) _ _
-      (λ _. record { selection = refl; closing = refl }))
-      (steady-closec l ds me c)
-  named-shows (call.Valid s k) = steady-shows (call.Valid s k) (asks-quiet now _ _) (steady-valid l ds s k)
-  named-shows (call.Interest s k) = steady-shows (call.Interest s k) (asks-quiet now _ _) (steady-interest l ds s k)
-  named-shows (call.Ready s k) = steady-shows (call.Ready s k) (asks-quiet now _ _) (steady-ready l ds s k)
-  named-shows (call.Iset s k ops) = steady-shows (call.Iset s k ops) (asks-quiet now _ _) (steady-iset l ds s k ops)
-  named-shows (call.Ior s k ops) = steady-shows (call.Ior s k ops) (asks-quiet now _ _) (steady-ior l ds s k ops)
-  named-shows (call.Iand s k ops) = steady-shows (call.Iand s k ops) (asks-quiet now _ _) (steady-iand l ds s k ops)
-  named-shows (call.Cancel s k) = steady-shows (call.Cancel s k) (asks-quiet now _ _) (steady-cancel l ds s k)
-  named-shows (call.Unselect s k) = steady-shows (call.Unselect s k) (asks-quiet now _ _) (steady-unselect l ds s k)
-  named-shows (call.Attach s k att) =
-      steady-shows (call.Attach s k att) (asks-quiet now _ _) (steady-attach l ds s k att)
-  named-shows (call.Attachment s k) =
-      steady-shows (call.Attachment s k) (asks-quiet now _ _) (steady-attachment l ds s k)
+      steady-shows (call.Closec c) refl
+      (makes-leaves (ShowsAsBefore now) (close_channel_plan l c) _ _ (λ _. record { selection = refl; closing = refl }))
+  named-shows (call.Valid s k) = steady-shows (call.Valid s k) refl (asks-quiet now _ _)
+  named-shows (call.Interest s k) = steady-shows (call.Interest s k) refl (asks-quiet now _ _)
+  named-shows (call.Ready s k) = steady-shows (call.Ready s k) refl (asks-quiet now _ _)
+  named-shows (call.Iset s k ops) = steady-shows (call.Iset s k ops) refl (asks-quiet now _ _)
+  named-shows (call.Ior s k ops) = steady-shows (call.Ior s k ops) refl (asks-quiet now _ _)
+  named-shows (call.Iand s k ops) = steady-shows (call.Iand s k ops) refl (asks-quiet now _ _)
+  named-shows (call.Cancel s k) = steady-shows (call.Cancel s k) refl (asks-quiet now _ _)
+  named-shows (call.Unselect s k) = steady-shows (call.Unselect s k) refl (asks-quiet now _ _)
+  named-shows (call.Attach s k att) = steady-shows (call.Attach s k att) refl (asks-quiet now _ _)
+  named-shows (call.Attachment s k) = steady-shows (call.Attachment s k) refl (asks-quiet now _ _)
   named-shows (call.Begin s waiting) = name-shows (Selector s) _ (begin-shows l st now me between s (mode_of waiting))
   named-shows (call.Told s elapsed pairs) =
       name-shows (Selector s) _ (told-shows l st now me between s elapsed pairs (now.selection s.0) refl)
   named-shows (call.Failed s) = name-shows (Selector s) _ (failed-shows l st now me between s (now.selection s.0) refl)
-  named-shows (call.Wakeup s) = steady-shows (call.Wakeup s) (asks-quiet now _ _) (steady-wakeup l ds s)
+  named-shows (call.Wakeup s) = steady-shows (call.Wakeup s) refl (asks-quiet now _ _)
   named-shows (call.Close s) = name-shows (Selector s) _ (close-shows l st now me between s)
   named-shows (call.CloseEnd s) = name-shows (Selector s) _ (close_end-shows l st now me between s)
-  named-shows (call.Keys s) = steady-shows (call.Keys s) (asks-quiet now _ _) (steady-keys l ds s)
-  named-shows (call.Selected s) = steady-shows (call.Selected s) (asks-quiet now _ _) (steady-selected l ds s)
-  named-shows (call.Interrupt target) =
-      steady-shows (call.Interrupt target) (asks-quiet now _ _) (steady-interrupt l ds target)
-  named-shows call.Interrupted = steady-shows call.Interrupted (asks-quiet now _ _) (steady-interrupted l ds me)
+  named-shows (call.Keys s) = steady-shows (call.Keys s) refl (asks-quiet now _ _)
+  named-shows (call.Selected s) = steady-shows (call.Selected s) refl (asks-quiet now _ _)
+  named-shows (call.Interrupt target) = steady-shows (call.Interrupt target) refl (asks-quiet now _ _)
+  named-shows call.Interrupted = steady-shows call.Interrupted refl (asks-quiet now _ _)
   named-shows (call.Pipe target) =
-      steady-shows (call.Pipe target)
+      steady-shows (call.Pipe target) refl
       (makes-leaves (ShowsAsBefore now) (pipe_plan l false) _ _ (pipe-quiet now me target))
-      (steady-pipe l ds me target)
   named-shows (call.Pwrite c bytes) =
-      steady-shows (call.Pwrite c bytes)
-      (write-quiet l now c bytes (own_sink now.pipes me c)) (steady-pwrite l ds me c bytes)
+      steady-shows (call.Pwrite c bytes) refl (write-quiet l now c bytes (own_sink now.pipes me c))
   named-shows (call.Pread c n) =
-      steady-shows (call.Pread c n) (read-quiet l now c n (own_source now.pipes me c)) (steady-pread l ds me c n)
-  named-shows (call.Group g) =
-      steady-shows (call.Group g) (record { selection = refl; closing = refl }) (steady-group l ds g)
+      steady-shows (call.Pread c n) refl (read-quiet l now c n (own_source now.pipes me c))
+  named-shows (call.Group g) = steady-shows (call.Group g) refl (record { selection = refl; closing = refl })
 
   line-shows : (word : Call) → Shows (perform me (line_plan l now me word) st)
   unfolding line_plan

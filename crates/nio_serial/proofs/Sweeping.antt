@@ -1,6 +1,7 @@
 -- The sweeps of a selection over its indexes: the cancelled keys among those that it went over are removed.
 use Rattle.std.proofs.Common.{◌≡◌, ℕ, ◌==◌, nat_lt, Bool, true, false, cond, not, ◌&&◌, ◌||◌, if◌then◌else◌, None, List}
 use Rattle.std.proofs.Common.{[], ◌∷◌, ◌++◌, map, filter, refl, ap, sym, ◌∙◌, subst, eqb-true, eq-eqb}
+use Rattle.std.proofs.Math.Bool.{or-false}
 use Rattle.std.proofs.lemmas.Bool.{and_parts, and_from, and_left, and_right, or_right, both_ways, ne_eqb, cond-true}
 use Rattle.std.proofs.lemmas.Bool.{cond-false}
 use Rattle.std.proofs.lemmas.List.{append-nil, map-append}
@@ -26,11 +27,7 @@ abbrev pub has_index : ℕ → List ℕ → Bool
 has_index i xs = list_any (λ j. j == i) xs
 
 index-push : (i : ℕ) (past : List ℕ) (e : ℕ) → has_index i (past ++ e ∷ []) ≡ (has_index i past || (e == i))
-index-push i past e = list_any-append (λ j. j == i) past (e ∷ []) ∙ ap (λ b. has_index i past || b) (or_false (e == i))
-  where
-    or_false : (b : Bool) → (b || false) ≡ b
-    or_false true = refl
-    or_false false = refl
+index-push i past e = list_any-append (λ j. j == i) past (e ∷ []) ∙ ap (λ b. has_index i past || b) (or-false (e == i))
 
 -- there is a next serial
 abbrev pub has_next : Stage → Bool

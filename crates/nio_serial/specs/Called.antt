@@ -98,21 +98,21 @@ lacks_memory (waiting_call call answer) = (wait_row_of call).lacks_memory answer
 -- ---- the names of a call
 
 -- the selector or channel is made, or the key was published
-abbrev pub IsThere : State → Name → Type 0
-IsThere st (the_selector s) = IsMadeSelector st s
-IsThere st (the_channel c) = IsMadeChannel st c
-IsThere st (the_key k) = IsMadeKey st k.sel (key_id k)
+abbrev pub IsPresent : State → Name → Type 0
+IsPresent st (the_selector s) = IsMadeSelector st s
+IsPresent st (the_channel c) = IsMadeChannel st c
+IsPresent st (the_key k) = IsMadeKey st k.sel (key_id k)
 
-abbrev pub AreThere : State → List Name → Type 0
-AreThere st [] = ⊤
-AreThere st (name ∷ []) = IsThere st name
-AreThere st (name ∷ next ∷ later) = IsThere st name × AreThere st (next ∷ later)
+abbrev pub ArePresent : State → List Name → Type 0
+ArePresent st [] = ⊤
+ArePresent st (name ∷ []) = IsPresent st name
+ArePresent st (name ∷ next ∷ later) = IsPresent st name × ArePresent st (next ∷ later)
 
 -- what the call names is there
 abbrev pub HasNames : State → Made → Type 0
 HasNames st (draw n) = ⊤
-HasNames st (table_call call answer) = AreThere st (row_of call).names
-HasNames st (waiting_call call answer) = AreThere st (wait_row_of call).names
+HasNames st (table_call call answer) = ArePresent st (row_of call).names
+HasNames st (waiting_call call answer) = ArePresent st (wait_row_of call).names
 
 -- the call is of one of the table's callers, and what it names is there
 pub record IsNamedCall (l : Limits) (st : State) (made : MadeBy) : Type 0 where

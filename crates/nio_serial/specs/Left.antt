@@ -24,6 +24,7 @@ use Rattle.nio_steps.specs.TableCalls.{row_of, wait_row_of}
 abbrev pub progress_changed : Progress → CallerNo → Change → Progress
 progress_changed now me no_change = now
 progress_changed now me (selection_begins s x) = with_selection now s (Some (record { caller = me; selection = x }))
+-- a told that goes on answers the selection that it was given, so nothing changes
 progress_changed now me (selection_goes_on s x) = now
 progress_changed now me (selection_ends s) = with_selection now s None
 progress_changed now me (closing_begins s) = with_closing now s (Some me)

@@ -107,18 +107,19 @@ reply_of unseen = []
 reply_of unscripted = []
 
 -- the calls as a script, and their replies
-abbrev pub script_of : List MadeBy → List ScriptCall
-script_of [] = []
-script_of (one ∷ later) = line_of one.caller (script_call one.call) ++ script_of later
+abbrev pub script_of_calls : List MadeBy → List ScriptCall
+script_of_calls [] = []
+script_of_calls (one ∷ later) = line_of one.caller (script_call one.call) ++ script_of_calls later
 
-abbrev pub replies_of : List MadeBy → List Reply
-replies_of [] = []
-replies_of (one ∷ later) = reply_of (script_call one.call) ++ replies_of later
+abbrev pub replies_of_calls : List MadeBy → List Reply
+replies_of_calls [] = []
+replies_of_calls (one ∷ later) = reply_of (script_call one.call) ++ replies_of_calls later
 
 -- the replies are the script's by the documented system, and so is the state that is left
 pub record AreAsScript (l : Limits) (events : List Event) (made : List MadeBy) : Type 0 where
-  pub replies : replies_of made ≡ replies_from l script_opening (script_of made)
-  pub left : documented (state_after events) (in_progress nothing_yet made) ≡ left_by_script Now l (script_of made)
+  pub replies : replies_of_calls made ≡ replies_from l script_opening (script_of_calls made)
+  pub left : documented (state_after events) (in_progress nothing_yet made)
+      ≡ left_by_script Now l (script_of_calls made)
 
 abbrev pub SequencesAreScripts : Type 0
 SequencesAreScripts = (l : Limits) (events : List Event) (made : List MadeBy) → IsFit l → IsSequence l events made

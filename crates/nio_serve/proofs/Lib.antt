@@ -4,6 +4,7 @@ pub mod Calls
 mod Carrying
 mod Connecting
 pub mod Counts
+mod Dealt
 mod Ends
 pub mod Idle
 pub mod Promise

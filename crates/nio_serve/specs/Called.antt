@@ -24,7 +24,7 @@ abbrev pub channel_in : Option Deal → ChanNo → ChanNo
 channel_in None c = c
 channel_in (Some deal) c = dealt_channel deal c
 
--- the worker's channel that one of these is in the table
+-- the worker's number of a channel of the table: it undoes dealt_channel (deal_law)
 abbrev pub board_channel : Deal → ChanNo → ChanNo
 board_channel deal c =
     if c.0 == deal.listener.0 then record { 0 = 0 }

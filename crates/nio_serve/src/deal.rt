@@ -54,8 +54,8 @@ impl Renumber for Deal {
     }
 }
 
-/// The number divided by `by`, by 1 where that is 0. A division by a constant is a multiplication: for each poll a
-/// worker renumbers each of its keys.
+/// The number divided by `by`, by 1 where that is 0. Each poll of a worker renumbers all its keys, and a division by a
+/// constant is cheaper: it compiles to a multiplication.
 fn divided(number: u32, by: u32) -> u32
     ensures { result ≡ number / max by 1 }
 {

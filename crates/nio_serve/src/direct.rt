@@ -37,7 +37,7 @@ impl<N: Net> Way<N> for Direct {
         None
     }
 
-    fn begin_turn<R: Wait>(&mut self, _rt: &R) {}
+    fn begin_round<R: Wait>(&mut self, _rt: &R) {}
 
     fn poll<R: Wait>(
         &mut self,

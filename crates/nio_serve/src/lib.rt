@@ -4,7 +4,7 @@
 pub use board::{Board, Port, Refused};
 pub use deal::Deal;
 pub use direct::Direct;
-pub use laws::board_law;
+pub use laws::{board_law, deal_law};
 pub use serving::{ServeError, serve, serve_on};
 pub use way::Way;
 

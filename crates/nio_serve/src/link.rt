@@ -16,10 +16,10 @@ use nio_base::{ChanNo, Ops};
 use nio_link::{Failed, Got, Put};
 use nio_relay::{CAPACITY, Direction};
 
-// How many reads, and how many writes, are made on a link before the next connection has its turn.
-const ROUNDS: u32 = 64;
+// How many reads, and how many writes, are made on a link before the next connection is served.
+const CALLS: u32 = 64;
 
-// How many buffers at most are passed from one link to the other before the next connection has its turn.
+// How many buffers at most are passed from one link to the other before the next connection is served.
 const PASSES: u32 = 16;
 
 /// Whether more may be passed on at once, in each of the two directions of a connection.
@@ -95,7 +95,7 @@ fn read_all<N, W: Way<N>>(
     ensures calm { OnOk result (W.faults net.new own ≡ W.faults net.old own) }
     ensures write { IsTrue (is_within 4 (W.ready net.old own)) → IsTrue (is_within 4 (W.ready net.new own)) }
 {
-    for _ in 0..ROUNDS {
+    for _ in 0..CALLS {
         if !read_once(way, net, own, outgoing, scratch)? {
             return Ok(());
         }
@@ -158,7 +158,7 @@ fn write_all<N, W: Way<N>>(
     ensures writable { IfOk result (λ more. IsTrue more → IsTrue (is_within 4 (W.ready net.new own))) }
     ensures none_buffered { IfOk result (λ more. IsTrue more → buffered incoming.new ≡ []) }
 {
-    for _ in 0..ROUNDS {
+    for _ in 0..CALLS {
         if incoming.front().is_empty() {
             return Ok(true);
         }

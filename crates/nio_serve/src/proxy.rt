@@ -393,7 +393,7 @@ impl<'a> Proxy<'a> {
         Ok(())
     }
 
-    // Goes on with what the way has permitted since the last turn, and watches for no more than that.
+    // Goes on with what the way has permitted since the last round, and watches for no more than that.
     fn prepare<R: Wait, N, W: Way<N>>(
         &mut self,
         rt: &R,
@@ -410,13 +410,13 @@ impl<'a> Proxy<'a> {
         ensures cause { result ≢ Err NetFault }
         ensures watching { Watching self.old.board self.new.board self.new.connections result }
     {
-        way.begin_turn(rt);
+        way.begin_round(rt);
         self.serve_all_permitted(way, net, scratch)?;
         self.watch_listener::<N, W>(way)
     }
 
-    // One turn: what was permitted since the last one, one selection, and what it told.
-    fn turn<R: Wait, N, W: Way<N>>(
+    // One round: what was permitted since the last one, one selection, and what it told.
+    fn round<R: Wait, N, W: Way<N>>(
         &mut self,
         rt: &R,
         alloc: Global,
@@ -491,9 +491,9 @@ impl<'a> Proxy<'a> {
             if self.connections.ended == self.connections.conns {
                 return Ok(());
             }
-            let turned = self.turn(rt, alloc, way, net, &mut told, scratch);
-            if turned.is_err() {
-                return turned;
+            let served = self.round(rt, alloc, way, net, &mut told, scratch);
+            if served.is_err() {
+                return served;
             }
             self.stop_listening(way, net);
         }

@@ -50,15 +50,16 @@ pub trait Way<N> {
     ghost accepted: { N → List ChanNo };
 
     /// For which operations this channel is to be watched: those for which calls on it are permitted, now or later in
-    /// this turn. A channel is watched for no others.
+    /// this round. A channel is watched for no others.
     fn permits(&self, chan: ChanNo) -> Ops;
 
-    /// Takes out one of the channels for which a call was permitted since the last turn began; None where none is left.
+    /// Takes out one of the channels for which a call was permitted since the last round began; None where none is
+    /// left.
     fn permitted(&mut self) -> Option<ChanNo>;
 
-    /// Begins a turn of the proxy: reports what came of the calls of the last turn, and learns which calls are
+    /// Begins a round of the proxy: reports what came of the calls of the last round, and learns which calls are
     /// permitted. It waits for nobody that handles a report.
-    fn begin_turn<R: Wait>(&mut self, rt: &R);
+    fn begin_round<R: Wait>(&mut self, rt: &R);
 
     /// Polls the net.
     fn poll<R: Wait>(

@@ -6,12 +6,12 @@ use Rattle.std.specs.Int.{bit_at}
 use Rattle.std.specs.Prelude.{filter}
 use Rattle.nio_base.specs.declared.limits.Limits.{Limits}
 use Rattle.nio_base.specs.declared.numbers.CallerNo.{CallerNo}
+use Rattle.nio_history.proofs.OneMore.{mine-append}
 use Rattle.nio_history.specs.Conditions.{IsCaller}
 use Rattle.nio_history.specs.Histories.{mine, is_by, event_of, HistoryClause}
 use Rattle.nio_history.specs.PassViews.{PassView, done_between}
 use Rattle.nio_history.specs.declared.act.Act.{Act}
 use Rattle.nio_history.specs.declared.event.Event.{Event}
-use Rattle.nio_steps.proofs.OwnActs.{mine-append}
 use Rattle.nio_steps.specs.Calls.{CallClause}
 use Rattle.nio_words.specs.Passes.{IsReady, limits_of, numbers_of, seen}
 use Rattle.nio_words.specs.Views.{view}

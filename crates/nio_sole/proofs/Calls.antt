@@ -11,7 +11,7 @@ use Rattle.nio_base.specs.declared.numbers.ChanNo.{ChanNo}
 use Rattle.nio_base.specs.declared.numbers.KeyId.{KeyId}
 use Rattle.nio_base.specs.declared.numbers.KeyNo.{KeyNo}
 use Rattle.nio_base.specs.declared.numbers.SelNo.{SelNo}
-use Rattle.nio_history.proofs.Put.{put_keeps, put_both}
+use Rattle.nio_history.proofs.Put.{put_keeps}
 use Rattle.nio_history.specs.OwnEvents.{has}
 use Rattle.nio_history.specs.Questions.{Question, question_of, answer_of}
 use Rattle.nio_history.specs.State.{State, put}
@@ -35,10 +35,13 @@ use Rattle.nio_plain.specs.Seq.Pipes.{own_source, own_sink, pipe_at}
 use Rattle.nio_plain.specs.Seq.Registering.{given_or_none}
 use Rattle.nio_plain.specs.Seq.Replies.{yes_or_no}
 use Rattle.nio_plain.specs.Seq.Selections.{mode_of, is_caller}
+use Rattle.nio_serial.proofs.Progress.{put_selection, put_closing}
+use Rattle.nio_serial.proofs.SequenceCalls.{again-same}
 use Rattle.nio_serial.proofs.Showing.{ShowsAsBefore, Own, own-is}
 use Rattle.nio_serial.proofs.Staying.{pipe-quiet}
 use Rattle.nio_serial.specs.Between.{IsBetween}
 use Rattle.nio_serial.specs.Documented.{Progress, Selecting}
+use Rattle.nio_serial.specs.Left.{IsOngoing}
 use Rattle.nio_serial.specs.Lines.{Said, makes, asks, refused, with_selection, with_closing, if_own, own_selection}
 use Rattle.nio_serial.specs.Lines.{after_begin, after_told, after_shut, after_finish, begin_line, by_index, told_line}
 use Rattle.nio_serial.specs.Lines.{failed_line, close_end_line, read_line, write_line, call_plan, if_caller, if_found}
@@ -48,10 +51,8 @@ use Rattle.nio_serial.specs.Lines.{if_name}
 use Rattle.nio_serial.specs.Replies.{ends_reply, find_reply, set_reply, put_reply, channel_reply, mode_reply}
 use Rattle.nio_serial.specs.Replies.{register_reply, closed_reply, selector_reply, begin_reply, told_reply, shut_reply}
 use Rattle.nio_serial.specs.Replies.{finish_reply, list_reply}
-use Rattle.nio_sole.specs.Made.{IsOngoing, HasMade}
+use Rattle.nio_sole.specs.Made.{HasMade}
 use Rattle.nio_sole.specs.MadeLaws.{LinesAreCalls}
-use Rattle.nio_steps.proofs.EachLaws.{each_run, split}
-use Rattle.nio_steps.proofs.SelectionLaws.{NoMark, Replies, after-replies}
 use Rattle.nio_steps.proofs.Walks.{Always, always_weaker, always_bind, always_if, always_any, always_itself, always_run}
 use Rattle.nio_steps.specs.ChannelCalls.{open_channel_plan, is_open_plan, is_blocking_plan, is_registered_plan}
 use Rattle.nio_steps.specs.ChannelCalls.{key_for_plan, try_set_blocking_plan, try_register_plan, close_channel_plan}
@@ -65,8 +66,8 @@ use Rattle.nio_steps.specs.PipeCalls.{with_source, without_sink}
 use Rattle.nio_steps.specs.Plan.{Plan, ◌>>=◌}
 use Rattle.nio_steps.specs.Runs.{Follows, Completes}
 use Rattle.nio_steps.specs.SelectCalls.{Selection, open_selector_plan, try_begin_plan, begin_lacks_memory, begin_open}
-use Rattle.nio_steps.specs.SelectCalls.{begin_with_turn, given_back, list_below, look_over, told_plan, mark_entry}
-use Rattle.nio_steps.specs.SelectCalls.{after_marks, Poll, ToldReply, done, again, leave_plan, shut_plan, ShutReply}
+use Rattle.nio_steps.specs.SelectCalls.{begin_with_turn, given_back, list_below, look_over, told_plan}
+use Rattle.nio_steps.specs.SelectCalls.{Poll, ToldReply, done, again, leave_plan, shut_plan, ShutReply}
 use Rattle.nio_steps.specs.SelectCalls.{closing, already_closed, try_finish_plan, FinishReply, closed, busy, keys_plan}
 use Rattle.nio_steps.specs.SelectCalls.{selected_keys_plan, list_lacks_memory, list_plan, list_open, list_key}
 use Rattle.nio_steps.specs.SelectCalls.{list_selected, wakeup_plan, interrupt_plan, interrupted_plan}
@@ -243,25 +244,6 @@ leads_answer : (l : Limits) (me : CallerNo) (left : Progress) (r : Reply)
     → Leads l me left (Plan.reply (record { reply = r; left = left }))
 leads_answer l me left r = leads_refused l me left r
 
--- ---- what is put in progress
-
-put_selection : (me : CallerNo) (now : Progress) (ongoing : Ongoing) (s : ℕ) (x : Option Selection)
-    (y : Option Selecting) → x ≡ if_own me y → IsOngoing me now ongoing
-    → IsOngoing me (record now { selection = put now.selection s y })
-    (record ongoing { selection = put ongoing.selection s x })
-put_selection me now ongoing s x y own at = record {
-  selection = λ t. put_both (λ _ a b. a ≡ if_own me b) ongoing.selection now.selection s x y own t (at.selection t);
-  closes = at.closes;
-}
-
-put_closing : (me : CallerNo) (now : Progress) (ongoing : Ongoing) (s : ℕ) (x : Bool) (y : Option CallerNo)
-    → x ≡ is_caller me y → IsOngoing me now ongoing
-    → IsOngoing me (record now { closing = put now.closing s y }) (record ongoing { closes = put ongoing.closes s x })
-put_closing me now ongoing s x y own at = record {
-  selection = at.selection;
-  closes = λ t. put_both (λ _ a b. a ≡ is_caller me b) ongoing.closes now.closing s x y own t (at.closes t);
-}
-
 -- ---- other callers
 
 other_number : (me n : CallerNo) → n ≢ me → (k : ℕ) → (k == me.0) ≡ true → (k == n.0) ≡ false
@@ -404,18 +386,6 @@ begin_takes s mode lacks =
         (ap (λ b. b || has (takes_turn s.0) acts) (eq-eqb s'.0 s.0 same)))
         (always_any (begin_with_turn s mode lacks))
     by_take gate _ asks = absurd (cc asks)
-
--- ---- telling
-
--- a `told` that answers Again goes on with the same selection
-pub again-same : (x next : Selection) (pairs : List (ℕ × ℕ)) (elapsed : Bool) (acts : List Act)
-    → Completes (told_plan x pairs elapsed) acts (again next) → next ≡ x
-unfolding told_plan
-again-same x next pairs elapsed acts run =
-    let parts = split (sweep_over x.looked (mark_entry x.selector pairs) 0) (after_marks x elapsed) acts
-    (again next) run in
-    (each_run (NoMark x.selector.0) (Replies x parts.middle) (after_marks x elapsed parts.middle) parts.second
-    (again next) (after-replies x elapsed parts.middle) parts.runs_second).1.0
 
 -- ---- shutting
 
@@ -793,7 +763,8 @@ module _ (l : Limits) (me : CallerNo) (now : Progress) where
 
   leads_pipe : (target : CallerNo) → Leads l me now (makes (pipe_plan l false) ends_reply (after_pipe now me target))
   leads_pipe target =
-      leads_leaving (pipe_plan l false) (λ a. table_call pipe a) ends_reply (after_pipe now me target) (pipe-quiet now me target)
+      leads_leaving (pipe_plan l false) (λ a. table_call pipe a) ends_reply (after_pipe now me target)
+      (pipe-quiet now me target)
       (λ o acts a run at. quiet l me now o (table_call pipe a) acts (makes_pipe acts a run) tt at)
     where
       makes_pipe : (acts : List Act) (a : Result PipeEnds PipeMakeError) → Completes (pipe_plan l false) acts a

@@ -1,7 +1,6 @@
 -- What a look-up of a line finds.
 use Rattle.std.specs.Prelude.{IfNone}
-use Rattle.std.proofs.Common.{◌≡◌, ℕ, nat_lt, Bool, true, false, not, if◌then◌else◌, Option, Some, None, List, [], ◌∷◌}
-use Rattle.std.proofs.Common.{ap, sym, subst}
+use Rattle.std.proofs.Common.{◌≡◌, ℕ, nat_lt, not, Option, Some, None, List, sym, subst}
 use Rattle.nio_base.specs.declared.limits.Limits.{Limits}
 use Rattle.nio_base.specs.declared.numbers.CallerNo.{CallerNo}
 use Rattle.nio_base.specs.declared.numbers.ChanNo.{ChanNo}
@@ -10,7 +9,6 @@ use Rattle.nio_base.specs.declared.numbers.SelNo.{SelNo}
 use Rattle.nio_history.proofs.PassViews.{selector_after, channel_after, key_after}
 use Rattle.nio_history.specs.Conditions.{IsCaller}
 use Rattle.nio_history.specs.PassViews.{PassView, done_between, ActsClause, HasNoPin}
-use Rattle.nio_history.specs.Questions.{Question, Answer, answer_of}
 use Rattle.nio_history.specs.declared.act.Act.{Act}
 use Rattle.nio_language.specs.WordRows.{EachName, by_names, word_row}
 use Rattle.nio_language.specs.declared.call.Call.{Call}
@@ -19,14 +17,16 @@ use Rattle.nio_language.specs.declared.reply.Reply.TheVariants as reply
 use Rattle.nio_language.specs.declared.word_row.LineName.{LineName}
 use Rattle.nio_language.specs.declared.word_row.LineName.TheVariants.{Caller, Selector, Channel, Key}
 use Rattle.nio_language.specs.declared.word_row.LineNames.{LineNames}
+pub use Rattle.nio_orderly.proofs.LookUps.{selector_found}
+use Rattle.nio_orderly.proofs.LookUps.{found_is}
 use Rattle.nio_serial.specs.Documented.{Progress, nothing_yet}
 use Rattle.nio_serial.specs.Lines.{Said, refused, if_name, if_named}
 use Rattle.nio_sole.specs.Named.{HasName, HasNames, Finds, after_names}
 use Rattle.nio_steps.proofs.CallLaws.{left_more, left_start}
 use Rattle.nio_steps.specs.Calls.{PartClause}
-use Rattle.nio_steps.specs.KeyCalls.{find_selector_plan, find_channel_plan, find_plan}
-use Rattle.nio_steps.specs.Names.{selector, channel}
-use Rattle.nio_steps.specs.Plan.{Plan, ask}
+use Rattle.nio_steps.specs.KeyCalls.{find_channel_plan, find_plan}
+use Rattle.nio_steps.specs.Names.{channel}
+use Rattle.nio_steps.specs.Plan.{Plan}
 use Rattle.nio_steps.specs.Runs.{Completes}
 use Rattle.nio_words.specs.Passes.{IsReady, limits_of}
 use Rattle.nio_words.specs.Views.{view}
@@ -34,35 +34,6 @@ use Rattle.nio_words.specs.declared.words.Pass.{Pass}
 use Rattle.nio_words.specs.declared.words.Words.{Words}
 
 -- ---- a look-up that finds something finds what it looked for
-
-answered : {A : Type 0} → Plan (Option A) → Option A
-answered (Plan.reply r) = r
-answered (ask question next) = None
-
-found_now : {A : Type 0} (test : Bool) (y x : A) → (if test then Some y else None) ≡ Some x → x ≡ y
-found_now true y x same = cc
-found_now false y x same = absurd cc
-
-found_here : {A : Type 0} (test : Bool) (y x : A) → Plan.reply (if test then Some y else None) ≡ Plan.reply (Some x)
-    → x ≡ y
-unfolding answered
-found_here test y x same = found_now test y x (ap answered same)
-
-found_is : {A : Type 0} (past : Bool) (question : Question) (test : Answer → Bool) (y x : A) (acts : List Act)
-    → Completes
-    (if past then Plan.reply None else ask question (λ answer. Plan.reply (if test answer then Some y else None)))
-    acts (Some x) → x ≡ y
-unfolding answered
-found_is true question test y x [] run = let no : None ≡ Some x = ap answered run in absurd cc
-found_is true question test y x (act ∷ acts) run = absurd run
-found_is false question test y x [] run = let no : None ≡ Some x = ap answered run in absurd cc
-found_is false question test y x (act ∷ []) run = found_here (test (answer_of act)) y x run.1
-found_is false question test y x (act ∷ more ∷ acts) run = absurd run.1
-
-pub selector_found : (l : Limits) (n : ℕ) (acts : List Act) (s : SelNo)
-    → Completes (find_selector_plan l n) acts (Some s) → s ≡ selector n
-unfolding find_selector_plan
-selector_found l n acts s run = found_is (not (nat_lt n l.selectors)) _ _ (selector n) s acts run
 
 pub channel_found : (l : Limits) (n : ℕ) (acts : List Act) (c : ChanNo)
     → Completes (find_channel_plan l n) acts (Some c) → c ≡ channel n

@@ -14,7 +14,8 @@ use Rattle.nio_language.specs.declared.call.Call.TheVariants as call
 use Rattle.nio_language.specs.declared.call.Waiting.{Waiting}
 use Rattle.nio_language.specs.declared.reply.Reply.{Reply}
 use Rattle.nio_language.specs.declared.reply.Reply.TheVariants as reply
-use Rattle.nio_serial.proofs.Base.{put-here, put-twice, put-back}
+use Rattle.nio_plain.proofs.Places.{put_same, put-twice}
+use Rattle.nio_serial.proofs.Base.{put-back}
 use Rattle.nio_serial.specs.Between.{IsBetween}
 use Rattle.nio_serial.specs.Documented.{Progress, Selecting}
 use Rattle.nio_serial.specs.Lines.{Said, asks, refused, if_found, if_selector, if_named}
@@ -79,8 +80,8 @@ module _ (st : State) (me : CallerNo) (s : SelNo) where
           (with_begun (with_turn st s.0 (taken_by me o)) s.0 (is_some o && st.begun s.0))).state) st
       by_turn (Some n) is =
           λ j. record st {
-            turn = put-here st.turn s.0 (Some n) is j;
-            begun = put-here st.begun s.0 (st.begun s.0) refl j;
+            turn = put_same st.turn s.0 (Some n) is j;
+            begun = put_same st.begun s.0 (st.begun s.0) refl j;
           }
       by_turn None is = by_look (st.gate s.0).shut is
 

@@ -8,8 +8,10 @@ use Rattle.std.proofs.lemmas.List.{append-nil, map-append}
 use Rattle.nio_base.specs.declared.limits.Limits.{Limits}
 use Rattle.nio_base.specs.declared.numbers.CallerNo.{CallerNo}
 use Rattle.nio_history.proofs.Legal.{legal_beginning, legal_next}
+use Rattle.nio_history.proofs.OneMore.{mine-append}
 use Rattle.nio_history.proofs.Soundness.{legal-sound, held_some, both_ways}
 use Rattle.nio_history.proofs.Stays.{facts_are_permanent, only_itself_gives_back}
+use Rattle.nio_history.proofs.TurnLaws.{not_free}
 use Rattle.nio_history.specs.Conditions.{is_held_by, has_turn, is_closer}
 use Rattle.nio_history.specs.Histories.{state_after, mine, event_of, IsStep, IsLegal}
 use Rattle.nio_history.specs.OwnEvents.{has, since_first}
@@ -30,7 +32,6 @@ use Rattle.nio_serial.specs.Lines.{Said, own_selection, line_plan}
 use Rattle.nio_sole.proofs.Calls.{takes_turn, shuts, IsTakenFrom, IsShutFrom, LeavesTo, Leads, leads_line, made_along}
 use Rattle.nio_sole.proofs.Calls.{leaves_along, between_on}
 use Rattle.nio_sole.specs.Made.{HasMade}
-use Rattle.nio_steps.proofs.OwnActs.{mine-append}
 use Rattle.nio_steps.specs.Calls.{CallClause}
 use Rattle.nio_steps.specs.Names.{selector}
 use Rattle.nio_steps.specs.Plan.{Plan}
@@ -78,11 +79,6 @@ one_of l me before p acts legal there =
       step = legal_next l past (event_of me first.act) (map (event_of me) (since_first p acts)) legal';
     }
 
--- a place that is free has no holder
-pub held_not_free : (n : CallerNo) (o : Option CallerNo) → is_held_by n o ≡ true → None ≡ o → ⊥
-held_not_free n None held free = absurd (cc held)
-held_not_free n (Some m) held free = absurd (cc free)
-
 -- while another caller has the turn of a selector, nobody takes it
 pub turn_not_taken : (l : Limits) (me n : CallerNo) (before : List Event) (acts : List Act) (s : ℕ) → n ≢ me
     → IsLegal l (before ++ map (event_of me) acts)
@@ -102,7 +98,7 @@ turn_not_taken l me n before acts s other legal turn taken = by_act at.act at.is
     by_act : (act : Act) → takes_turn s act ≡ true → IsStep l past (event_of me act) → ⊥
     by_act (TakeTurn s' None) is step =
         let free : None ≡ (state_after past).turn s'.0 = cc (step.answers) in
-        held_not_free n ((state_after past).turn s) still
+        not_free n ((state_after past).turn s) still
         (subst (λ (k : ℕ). None ≡ (state_after past).turn k) (eqb-true s'.0 s is) free)
     by_act (TakeTurn s' (Some m)) is step = absurd (cc is)
     by_act _ is step = absurd (cc is)

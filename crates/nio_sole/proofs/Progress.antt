@@ -12,6 +12,7 @@ use Rattle.nio_base.specs.declared.numbers.CallerNo.{CallerNo}
 use Rattle.nio_base.specs.declared.numbers.SelNo.{SelNo}
 use Rattle.nio_history.proofs.Legal.{legal_beginning, legal_next}
 use Rattle.nio_history.proofs.Soundness.{both_ways}
+use Rattle.nio_history.proofs.TurnLaws.{not_free}
 use Rattle.nio_history.specs.Conditions.{has_turn, is_held_by}
 use Rattle.nio_history.specs.Histories.{state_after, mine, event_of, IsStep, IsLegal}
 use Rattle.nio_history.specs.OwnEvents.{gives_turn}
@@ -28,10 +29,9 @@ use Rattle.nio_orderly.specs.Made.{Made, IsRun, after_call, after_calls, MayCome
 use Rattle.nio_orderly.specs.Orderly.{AreRuns}
 use Rattle.nio_orderly.specs.Waited.{waits}
 use Rattle.nio_plain.specs.Seq.Selections.{is_caller}
+use Rattle.nio_serial.proofs.SequenceCalls.{again-same}
 use Rattle.nio_serial.specs.Documented.{Progress}
 use Rattle.nio_serial.specs.Lines.{own_selection}
-use Rattle.nio_sole.proofs.Calls.{again-same}
-use Rattle.nio_sole.proofs.Others.{held_not_free}
 use Rattle.nio_sole.proofs.Spared.{touches, Spared, LeavesSelection, none-leaves, one-leaves, leaves-append, is_on}
 use Rattle.nio_sole.proofs.Spared.{call-leaves}
 use Rattle.nio_sole.specs.Made.{HasMade}
@@ -193,12 +193,12 @@ module _ (l : Limits) (events : List Event) (n : CallerNo) (legal : IsLegal l ev
   no_free_turn : (s : SelNo) (x : Selection) → x.selector.0 ≡ s.0 → Does x (TakeTurn s None) → ⊥
   no_free_turn s x on at =
       let free : None ≡ (state_after at.past).turn s.0 = cc (at.step.answers) in
-      held_not_free n ((state_after at.past).turn x.selector.0) at.turn (free ∙ ap (state_after at.past).turn (sym on))
+      not_free n ((state_after at.past).turn x.selector.0) at.turn (free ∙ ap (state_after at.past).turn (sym on))
 
   no_free_entry : (s : SelNo) (x : Selection) → x.selector.0 ≡ s.0 → Does x (Enter s None) → ⊥
   no_free_entry s x on at =
       let free : None ≡ (state_after at.past).turn s.0 = cc (at.step.answers) in
-      held_not_free n ((state_after at.past).turn x.selector.0) at.turn (free ∙ ap (state_after at.past).turn (sym on))
+      not_free n ((state_after at.past).turn x.selector.0) at.turn (free ∙ ap (state_after at.past).turn (sym on))
 
   -- what a call on the selector of a selection in progress did left it
   leaves-own : (own acts later : List Act) (s : SelNo) (x : Selection) (found : Act)

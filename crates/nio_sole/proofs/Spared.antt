@@ -137,7 +137,7 @@ is_selector t (Some s) = s.0 == t
 -- the call begins, tells, leaves or closes on selector t
 abbrev pub is_on : ℕ → Made → Bool
 is_on t (draw n) = false
-is_on t (table_call call answer) = is_selector t (row_of call).selects_on
+is_on t (table_call call answer) = is_selector t (row_of call).works_on
 is_on t (waiting_call call answer) = false
 
 -- any other that doesn't wait leaves a selection there

@@ -1,20 +1,13 @@
 -- What a caller made, where no two calls overlap: whole calls, and what is in progress is what they left.
-use Rattle.std.specs.Prelude.{◌≡◌, ℕ, List}
+use Rattle.std.specs.Prelude.{List}
 use Rattle.nio_base.specs.declared.limits.Limits.{Limits}
 use Rattle.nio_base.specs.declared.numbers.CallerNo.{CallerNo}
 use Rattle.nio_history.specs.declared.act.Act.{Act}
 use Rattle.nio_orderly.specs.Made.{Made, after_calls}
 use Rattle.nio_orderly.specs.Orderly.{AreCallsOf}
-use Rattle.nio_plain.specs.Seq.Selections.{is_caller}
 use Rattle.nio_serial.specs.Documented.{Progress}
-use Rattle.nio_serial.specs.Lines.{own_selection}
-use Rattle.nio_steps.specs.Names.{selector}
-use Rattle.nio_steps.specs.Ongoing.{Ongoing, nothing_ongoing}
-
--- what caller n has in progress is what the progress shows of it
-pub record IsOngoing (n : CallerNo) (now : Progress) (ongoing : Ongoing) : Type 0 where
-  pub selection : (s : ℕ) → ongoing.selection s ≡ own_selection now n (selector s)
-  pub closes : (s : ℕ) → ongoing.closes s ≡ is_caller n (now.closing s)
+use Rattle.nio_serial.specs.Left.{IsOngoing}
+use Rattle.nio_steps.specs.Ongoing.{nothing_ongoing}
 
 -- a caller that did this made whole calls, and has in progress what the progress shows of it
 pub record HasMade (l : Limits) (acts : List Act) (n : CallerNo) (now : Progress) : Type 0 where

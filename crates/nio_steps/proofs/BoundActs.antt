@@ -8,6 +8,7 @@ use Rattle.std.proofs.lemmas.List.Elements.{All-nil, All-push, All-weaker, Conta
 use Rattle.std.proofs.lemmas.List.{append-nil}
 use Rattle.std.proofs.lemmas.List.Folds.{list_any-append, list_any_none}
 use Rattle.std.proofs.lemmas.List.Sums.{count_by-le-length}
+use Rattle.std.proofs.lemmas.Bool.{or_from}
 use Rattle.nio_base.specs.declared.numbers.SelNo.{SelNo}
 use Rattle.nio_history.specs.OwnEvents.{has, count}
 use Rattle.nio_history.specs.Pins.{removes}
@@ -20,7 +21,6 @@ use Rattle.nio_history.specs.declared.found.Mark.{Mark as KeyMark}
 use Rattle.nio_history.specs.declared.found.Stage.{Stage}
 use Rattle.nio_steps.proofs.BeginLaws.{none_yet}
 use Rattle.nio_steps.proofs.EachLaws.{each_run}
-use Rattle.nio_steps.proofs.Either.{neither}
 use Rattle.nio_steps.proofs.Lists.{contains-none}
 use Rattle.nio_steps.proofs.LookedLaws.{key-look}
 use Rattle.nio_steps.proofs.SelectionAsks.{AsksAt, AsksMark, each_look, each_remove_if_cancelled, each_entry}
@@ -224,7 +224,7 @@ module _ (s : SelNo) (i : ℕ) where
         later = valid.later ++ zs;
         parts = ap (λ xs. xs ++ zs) valid.parts ∙ append_assoc valid.before (LookKey s i valid.stage ∷ valid.later) zs;
         valid = valid.valid;
-        spared = list_any-append (removes s.0 i) valid.later zs ∙ neither _ _ valid.spared aside.spares;
+        spared = list_any-append (removes s.0 i) valid.later zs ∙ or_from _ _ valid.spared aside.spares;
       }) (aside.entry valid.stage of_stage)
 
   -- acts before, which made none at the index

@@ -3,7 +3,7 @@ use Rattle.std.proofs.Common.{◌≡◌, ℕ, ◌≤◌, ◌==◌, ◌&&◌, ◌
 use Rattle.std.proofs.Common.{Err, List, [], ◌∷◌, ◌++◌, map, refl, ap, sym, ◌∙◌, subst, append_assoc, eq-eqb, eqb-true}
 use Rattle.std.proofs.Common.{arith}
 use Rattle.std.specs.Bool.{beq}
-use Rattle.std.proofs.lemmas.Bool.{and_parts, and_from}
+use Rattle.std.proofs.lemmas.Bool.{and_parts, and_from, or_from, or_right}
 use Rattle.std.proofs.lemmas.List.{append-nil, map-append}
 use Rattle.std.proofs.lemmas.List.Folds.{list_any-append}
 use Rattle.nio_base.specs.Limits.{IsFit}
@@ -12,7 +12,7 @@ use Rattle.nio_base.specs.declared.numbers.CallerNo.{CallerNo}
 use Rattle.nio_base.specs.declared.numbers.SelNo.{SelNo}
 use Rattle.nio_history.proofs.LastsAlone.{same_two}
 use Rattle.nio_history.proofs.Legal.{legal_beginning, legal_next}
-use Rattle.nio_history.proofs.OneMore.{state_after-more}
+use Rattle.nio_history.proofs.OneMore.{state_after-more, mine-append, has_none-append}
 use Rattle.nio_history.proofs.Put.{put-same, put_at_keeps}
 use Rattle.nio_history.proofs.Selections.{key_set_stays, selects_alone}
 use Rattle.nio_history.proofs.Soundness.{legal-sound, beyond-claimed}
@@ -36,8 +36,7 @@ use Rattle.nio_history.specs.declared.event.Event.{Event}
 use Rattle.nio_history.specs.declared.found.GateWord.{GateWord}
 use Rattle.nio_history.specs.declared.found.Mark.{Mark as KeyMark}
 use Rattle.nio_history.specs.declared.found.Stage.{Stage}
-use Rattle.nio_steps.proofs.Either.{neither, by_second, not_first, not_second}
-use Rattle.nio_steps.proofs.OwnActs.{cut_at, mine-own_first, mine-append}
+use Rattle.nio_steps.proofs.OwnActs.{cut_at, mine-own_first}
 use Rattle.nio_steps.proofs.SelectionLaws.{count-append, count-cons}
 use Rattle.nio_steps.specs.Steps.{stage_in, mark_in, exchange_in}
 
@@ -164,12 +163,6 @@ counted p before e after is =
     let one : cond {A = ℕ} (p e.act) 1 0 ≡ 1 = ap (λ (b : Bool). cond {A = ℕ} b 1 0) is in
     omega (arith, all, one, count-cons p e.act (map (λ x. x.act) after))
 
-pub has_first : (p : Act → Bool) (xs ys : List Act) → has p (xs ++ ys) ≡ false → has p xs ≡ false
-has_first p xs ys none = not_first (has p xs) (has p ys) (sym (list_any-append p xs ys) ∙ none)
-
-pub has_last : (p : Act → Bool) (xs ys : List Act) → has p (xs ++ ys) ≡ false → has p ys ≡ false
-has_last p xs ys none = not_second (has p xs) (has p ys) (sym (list_any-append p xs ys) ∙ none)
-
 not_exchanged : (from stood found : KeyMark) → Err found ≡ exchange_from from stood → is_same_mark stood from ≡ false
 not_exchanged from stood found is = by_test (is_same_mark stood from) is
   where
@@ -222,16 +215,16 @@ module _ (l : Limits) (n : CallerNo) (past window rest : List Event) (s : SelNo)
       let e = event_of n (BeginLook s found) in
       let st = state_after past in
       let step = legal_next l past e (window ++ event_of n (EndWake s woken) ∷ rest) legal in
-      let begins : (st.begun s.0 || not found.shut) ≡ true = by_second (st.begun s.0) (not found.shut) (ap not opens) in
+      let begins : (st.begun s.0 || not found.shut) ≡ true = or_right (st.begun s.0) (not found.shut) (ap not opens) in
       ap (λ x. has_begun x n s) (state_after-more past e)
       ∙ and_from (has_turn st n s) (put st.begun s.0 (st.begun s.0 || not found.shut) s.0) step.condition.1
       (put-same st.begun s.0 (st.begun s.0 || not found.shut) ∙ begins)
 
   gives_none : (xs ys : List Event) → window ≡ xs ++ ys → has (gives_turn s.0) (mine n xs) ≡ false
   gives_none xs ys parts =
-      has_first (gives_turn s.0) (mine n xs) (mine n ys)
+      (has_none-append (gives_turn s.0) (mine n xs) (mine n ys)
       (ap (has (gives_turn s.0)) (sym (mine-append n xs ys))
-      ∙ (ap (λ w. has (gives_turn s.0) (mine n w)) (sym parts) ∙ none_gives))
+      ∙ (ap (λ w. has (gives_turn s.0) (mine n w)) (sym parts) ∙ none_gives))).0
 
   begun_at : (xs ys : List Event) → window ≡ xs ++ ys → has_begun (state_after (start ++ xs)) n s ≡ true
   begun_at xs ys parts =
@@ -323,11 +316,11 @@ module _ (l : Limits) (n : CallerNo) (past window rest : List Event) (s : SelNo)
         let keeps : Keeps l n (a_selection s) (start ++ w0) later = record {
           legal = subst (IsLegal l) (sym joined) (legal_at (w0 ++ later) ys parts);
           has_it = begun_at w0 (later ++ ys) first;
-          kept = has_last (gives_turn s.0) (mine n w0) (mine n later)
-              (ap (has (gives_turn s.0)) (sym (mine-append n w0 later)) ∙ gives_none (w0 ++ later) ys parts);
+          kept = (has_none-append (gives_turn s.0) (mine n w0) (mine n later)
+              (ap (has (gives_turn s.0)) (sym (mine-append n w0 later)) ∙ gives_none (w0 ++ later) ys parts)).1;
         } in
         let spares : has (removes s.0 i) (mine n later) ≡ false = ap (has (removes s.0 i)) acts
-        ∙ (list_any-append (removes s.0 i) between (LookMark s i was ∷ []) ∙ neither _ _ spared refl) in
+        ∙ (list_any-append (removes s.0 i) between (LookMark s i was ∷ []) ∙ or_from _ _ spared refl) in
         let set = key_set_stays l n s (start ++ w0) later keeps (record { index = i; serial = serial }) spares here in
         let now = (state_after ((start ++ w0) ++ later)).key s.0 i in
         ap (λ es. ((state_after es).key s.0 i).published) (sym joined)

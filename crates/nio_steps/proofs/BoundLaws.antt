@@ -4,7 +4,7 @@ use Rattle.std.proofs.Common.{false, not, if◌then◌else◌, Err, List, [], �
 use Rattle.std.proofs.Common.{subst, append_assoc, eq-eqb, arith}
 use Rattle.std.specs.Prelude.{⊤}
 use Rattle.std.specs.List.{All, Contains}
-use Rattle.std.proofs.lemmas.Bool.{and_parts, and_from}
+use Rattle.std.proofs.lemmas.Bool.{and_parts, and_from, or_from, or_left, or_right}
 use Rattle.std.proofs.lemmas.List.{length-append}
 use Rattle.std.proofs.lemmas.List.Elements.{All-nil, All-cons, All-head, All-tail, All-append, All-push, All-weaker}
 use Rattle.std.proofs.lemmas.List.Elements.{All-contains, All-contains_itself}
@@ -13,6 +13,7 @@ use Rattle.nio_base.specs.Limits.{IsFit}
 use Rattle.nio_base.specs.declared.limits.Limits.{Limits}
 use Rattle.nio_base.specs.declared.numbers.CallerNo.{CallerNo}
 use Rattle.nio_base.specs.declared.numbers.SelNo.{SelNo}
+use Rattle.nio_history.proofs.OneMore.{has_none-append}
 use Rattle.nio_history.proofs.LastsAlone.{same_two}
 use Rattle.nio_history.specs.Answers.{count_below}
 use Rattle.nio_history.specs.Histories.{mine, event_of, IsLegal}
@@ -27,11 +28,10 @@ use Rattle.nio_steps.proofs.BeginLaws.{Begun, none_yet, begin-parts}
 use Rattle.nio_steps.proofs.BoundActs.{asks_at, acts_at, FoundValid, FoundChanged, FoundCancelled, Unseen, Seen}
 use Rattle.nio_steps.proofs.BoundActs.{is_dropped, is_kept, is_looked, Unmarked, Marked, is_marked, is_failed, Unswept}
 use Rattle.nio_steps.proofs.BoundActs.{Swept, is_swept, is_cancelled, over-visits, marks-visits, sweeps-visits}
-use Rattle.nio_steps.proofs.BoundEvents.{has_first, cancels_at, unselects_at, cancelled_meanwhile, unselected_meanwhile}
+use Rattle.nio_steps.proofs.BoundEvents.{cancels_at, unselects_at, cancelled_meanwhile, unselected_meanwhile}
 use Rattle.nio_steps.proofs.BoundSums.{total, total-add, total-le, total-six, IsAmong, length-among, disturbed}
 use Rattle.nio_steps.proofs.BoundSums.{rising-count}
 use Rattle.nio_steps.proofs.EachLaws.{each_over, each_run}
-use Rattle.nio_steps.proofs.Either.{neither, by_first, by_second}
 use Rattle.nio_steps.proofs.Lists.{contains-middle}
 use Rattle.nio_steps.proofs.LookedLaws.{free-look}
 use Rattle.nio_steps.proofs.OrderLaws.{lists_in_order, list-rises, IsListed, Rises, over-rises}
@@ -148,7 +148,7 @@ module _ (s : SelNo) (bound : ℕ) where
   found-later : (acts later : List Act) (listed : List ℕ) → AreFound acts listed → AreFound (acts ++ later) listed
   found-later acts later listed each =
       All-weaker (λ k. has (finds_listed s.0 k) acts ≡ true) (λ k. has (finds_listed s.0 k) (acts ++ later) ≡ true)
-      (λ k here. list_any-append (finds_listed s.0 k) acts later ∙ by_first _ _ here) listed each
+      (λ k here. list_any-append (finds_listed s.0 k) acts later ∙ or_left _ _ here) listed each
 
   -- the listed ones of a word were found in it
   word-found : (j word : ℕ) (n : ℕ) → n ≤ 64
@@ -183,7 +183,7 @@ module _ (s : SelNo) (bound : ℕ) where
       (All-weaker (λ k. finds_listed s.0 k (LookFree s j word) ≡ true)
       (λ k. has (finds_listed s.0 k) (acts ++ look ∷ []) ≡ true)
       (λ k finds. list_any-append (finds_listed s.0 k) acts (look ∷ [])
-      ∙ by_second _ _ (by_first _ _ (ap (finds_listed s.0 k) (free-look s j look asks) ∙ finds)))
+      ∙ or_right _ _ (or_left _ _ (ap (finds_listed s.0 k) (free-look s j look asks) ∙ finds)))
       (not_free word j bound 64) (word-found j word 64 (omega arith))))
 
 -- ---- removals
@@ -368,8 +368,8 @@ module _ (selection : Selection) (poll : Poll) (answer : Selected) (found woken 
       let passes : All (λ k. p k ≡ true) begun.listed =
       All-weaker (λ k. has (finds_listed s.0 k) begun.lists ≡ true) (λ k. p k ≡ true)
       (λ k here. ap (has (finds_listed s.0 k)) first_cut.2
-      ∙ by_second (finds_listed s.0 k begun.keys) _
-      (list_any-append (finds_listed s.0 k) begun.lists begun.over ∙ by_first _ _ here))
+      ∙ or_right (finds_listed s.0 k begun.keys) _
+      (list_any-append (finds_listed s.0 k) begun.lists begun.over ∙ or_left _ _ here))
       begun.listed each in
       let within : All (λ i. (0 ≤ i) × (i < selection.bound)) begun.listed = All-weaker (λ i. i < selection.bound)
       (λ i. (0 ≤ i) × (i < selection.bound)) (λ i low. (omega arith, low)) begun.listed listed_is.1 in
@@ -405,14 +405,14 @@ module _ (selection : Selection) (poll : Poll) (answer : Selected) (found woken 
         let over = no_gives s.0 begun.over (of_over (NoGive s.0) at marks) in
         let marked = no_gives s.0 ended.marks (of_marks (NoGive s.0) at marks) in
         let swept = no_gives s.0 ended.sweeps (of_sweeps (NoGive s.0) at marks) in
-        let tail = neither _ _ (not-gives s.0 ended.gate (ap (asks_give s.0) ended.asks_gate))
-        (neither _ _ (not-gives s.0 ended.status (ap (asks_give s.0) ended.asks_status)) swept) in
+        let tail = or_from _ _ (not-gives s.0 ended.gate (ap (asks_give s.0) ended.asks_gate))
+        (or_from _ _ (not-gives s.0 ended.status (ap (asks_give s.0) ended.asks_status)) swept) in
         let last_none = list_any-append g ended.marks (ended.gate ∷ ended.status ∷ ended.sweeps)
-        ∙ neither _ _ marked tail in
-        let first_none = neither _ _ (not-gives s.0 begun.keys (ap (asks_give s.0) begun.asks_keys))
-        (list_any-append g begun.lists begun.over ∙ neither _ _ lists over) in
+        ∙ or_from _ _ marked tail in
+        let first_none = or_from _ _ (not-gives s.0 begun.keys (ap (asks_give s.0) begun.asks_keys))
+        (list_any-append g begun.lists begun.over ∙ or_from _ _ lists over) in
         ap (has g) own_parts ∙ (list_any-append g (begun.keys ∷ (begun.lists ++ begun.over)) (between ++ before_wake)
-        ∙ neither _ _ first_none (list_any-append g between before_wake ∙ neither _ _ whole.kept last_none))
+        ∙ or_from _ _ first_none (list_any-append g between before_wake ∙ or_from _ _ whole.kept last_none))
 
     -- an index whose key was found valid, and then cancelled
     cancelled_in : (i : ℕ) → FoundValid s i begun.over → FoundCancelled s i ended.sweeps
@@ -446,13 +446,13 @@ module _ (selection : Selection) (poll : Poll) (answer : Selected) (found woken 
         ∙ simp append_assoc)) in
         let marks_none : has (removes s.0 i) ended.marks ≡ false = removes_none s.0 i ended.marks
         (marks-no_remove s poll.pairs selection.looked ended.marks ended.marked ended.runs_marks) in
-        let first_marks : has (removes s.0 i) changed.before ≡ false = has_first (removes s.0 i) changed.before _
-        (ap (has (removes s.0 i)) (sym changed.parts) ∙ marks_none) in
+        let first_marks : has (removes s.0 i) changed.before ≡ false
+        = (has_none-append (removes s.0 i) changed.before _ (ap (has (removes s.0 i)) (sym changed.parts) ∙ marks_none)).0 in
         let between_none : has (removes s.0 i) between ≡ false = removes_none s.0 i between whole.unremoved in
         let spared : has (removes s.0 i) middle ≡ false
         = list_any-append (removes s.0 i) valid.later (between ++ changed.before)
-        ∙ neither _ _ valid.spared
-        (list_any-append (removes s.0 i) between changed.before ∙ neither _ _ between_none first_marks) in
+        ∙ or_from _ _ valid.spared
+        (list_any-append (removes s.0 i) between changed.before ∙ or_from _ _ between_none first_marks) in
         unselected_meanwhile l n past window rest s found woken fit legal opens none_gives i before middle after
         valid.stage changed.was changed.stands changed.told at valid.valid spared
 

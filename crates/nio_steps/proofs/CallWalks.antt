@@ -207,7 +207,7 @@ pub record Blocks (w : Walk) (l : Limits) : Type 0 where
   pub finishes : (s : SelNo) → IsCalmOn w s → Walks w (try_finish_plan s)
 
 pub each_call : {w : Walk} (l : Limits) (lacks : Bool) (call : TableCall) → Blocks w l
-    → ((s : SelNo) → (row_of call).selects_on ≡ Some s → IsCalmOn w s) → Walks w ((row_of call).plan l lacks)
+    → ((s : SelNo) → (row_of call).works_on ≡ Some s → IsCalmOn w s) → Walks w ((row_of call).plan l lacks)
 unfolding find_selector_plan find_channel_plan find_plan is_valid_plan interest_plan set_interest_plan
     interest_or_plan interest_and_plan ready_plan unselect_plan attach_plan attachment_plan is_open_plan
     is_blocking_plan is_registered_plan try_set_blocking_plan open_selector_plan shut_plan keys_plan wakeup_plan

@@ -7,6 +7,7 @@ use Rattle.std.proofs.lemmas.Bool.{eqb-false}
 use Rattle.std.proofs.lemmas.List.{append-nil}
 use Rattle.std.proofs.lemmas.List.Elements.{All-contains, Contains-append_left, Contains-append_right}
 use Rattle.nio_base.specs.declared.numbers.SelNo.{SelNo}
+use Rattle.nio_history.proofs.OneMore.{mine-append}
 use Rattle.nio_history.proofs.Stays.{facts_are_permanent}
 use Rattle.nio_history.specs.Histories.{state_after, mine, event_of, IsLegal}
 use Rattle.nio_history.specs.Permanent.{key_claimed}
@@ -19,7 +20,7 @@ use Rattle.nio_steps.proofs.EachLaws.{each_sweep, each_run}
 use Rattle.nio_steps.proofs.GoneLaws.{claimed_removed, removal_stands}
 use Rattle.nio_steps.proofs.Lists.{contains-middle}
 use Rattle.nio_steps.proofs.LookedLaws.{removal}
-use Rattle.nio_steps.proofs.OwnActs.{mine-own_first, mine-append}
+use Rattle.nio_steps.proofs.OwnActs.{mine-own_first}
 use Rattle.nio_steps.proofs.Walks.{Always, always_if, always_bind, always_itself, always_sweep, always_run}
 use Rattle.nio_steps.specs.Laws.{ClosedRemovesKeys}
 use Rattle.nio_steps.specs.Plan.{reply}

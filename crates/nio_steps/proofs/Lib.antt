@@ -9,7 +9,6 @@ pub mod Walks
 pub mod PlanWalks
 pub mod CallWalks
 pub mod Lists
-pub mod Either
 mod Worked
 mod SelectionAsks
 pub mod ToldLaws

@@ -2,7 +2,7 @@
 use Rattle.std.proofs.Common.{◌≡◌, ℕ, ◌≤◌, ◌==◌, ◌||◌, inl, inr, not, Bool, true, false, List, [], ◌∷◌, ◌++◌, refl, ap}
 use Rattle.std.proofs.Common.{sym, ◌∙◌, subst, append_assoc, eq-eqb, eqb-true, arith}
 use Rattle.std.specs.List.{All, Contains}
-use Rattle.std.proofs.lemmas.Bool.{and_parts, and_from}
+use Rattle.std.proofs.lemmas.Bool.{and_parts, and_from, or_from}
 use Rattle.std.proofs.lemmas.List.{append-nil}
 use Rattle.std.proofs.lemmas.List.Elements.{All-contains}
 use Rattle.std.proofs.lemmas.List.Folds.{list_any-append}
@@ -11,7 +11,7 @@ use Rattle.nio_base.specs.declared.numbers.CallerNo.{CallerNo}
 use Rattle.nio_base.specs.declared.numbers.SelNo.{SelNo}
 use Rattle.nio_history.proofs.KeyChanges.{KeepsStages, stages_keep}
 use Rattle.nio_history.proofs.Legal.{legal_beginning, legal_next}
-use Rattle.nio_history.proofs.OneMore.{state_after-more}
+use Rattle.nio_history.proofs.OneMore.{state_after-more, mine-append, has_none-append}
 use Rattle.nio_history.proofs.Selections.{key_set_stays}
 use Rattle.nio_history.proofs.Soundness.{legal-sound, beyond-claimed}
 use Rattle.nio_history.specs.Histories.{state_after, mine, event_of, IsLegal}
@@ -29,12 +29,10 @@ use Rattle.nio_history.specs.declared.event.Event.{Event}
 use Rattle.nio_history.specs.declared.found.Stage.{Stage}
 use Rattle.nio_steps.proofs.BeginLaws.{Begun, none_yet, begin-parts}
 use Rattle.nio_steps.proofs.BoundActs.{FoundValid, IsOf, Unseen, Seen, is_dropped, is_kept, is_looked, over-visits}
-use Rattle.nio_steps.proofs.BoundEvents.{has_first, has_last}
 use Rattle.nio_steps.proofs.EachLaws.{each_run, split}
-use Rattle.nio_steps.proofs.Either.{neither}
 use Rattle.nio_steps.proofs.Lists.{contains-middle}
 use Rattle.nio_steps.proofs.OrderLaws.{list-rises, IsListed}
-use Rattle.nio_steps.proofs.OwnActs.{cut_at, mine-own_first, mine-append}
+use Rattle.nio_steps.proofs.OwnActs.{cut_at, mine-own_first}
 use Rattle.nio_steps.proofs.SelectionLaws.{NoMark, Replies, after-replies, asks_mark, marks-no_give, marks-no_remove}
 use Rattle.nio_steps.proofs.SelectionLaws.{removes_none, not-gives, asks_give}
 use Rattle.nio_steps.proofs.StandLaws.{look-act, begun_since, over-keeps, lists-keep}
@@ -107,7 +105,7 @@ none_before p q (a ∷ xs) x ys (u ∷ us) vs same it none_vs none_us =
     let first : a ≡ u = cc same in
     let rest : xs ++ x ∷ ys ≡ us ++ vs = cc same in
     let parts = or_none (q u) (has q us) none_us in
-    neither (q a) (has q xs) (ap q first ∙ parts.0) (none_before p q xs x ys us vs rest it none_vs parts.1)
+    or_from (q a) (has q xs) (ap q first ∙ parts.0) (none_before p q xs x ys us vs rest it none_vs parts.1)
   where
     or_none : (b c : Bool) → (b || c) ≡ false → (b ≡ false) × (c ≡ false)
     or_none true c none = absurd (cc none)
@@ -196,14 +194,15 @@ module _ (l : Limits) (n : CallerNo) (before past : List Event) (selection : Sel
       let over_keeps = over-keeps s first.listed first.over _ first.runs_over in
       let over_parts : has (gives_turn s.0) (valid.before ++ LookKey s i stage ∷ valid.later)
       ≡ false = ap (has (gives_turn s.0)) (sym valid.parts) ∙ over_keeps in
-      let before_keeps : has (gives_turn s.0) valid.before ≡ false = has_first (gives_turn s.0) valid.before
-      (LookKey s i stage ∷ valid.later) over_parts in
+      let before_keeps : has (gives_turn s.0) valid.before ≡ false
+      = (has_none-append (gives_turn s.0) valid.before (LookKey s i stage ∷ valid.later) over_parts).0 in
       let later_keeps : has (gives_turn s.0) (LookKey s i stage ∷ valid.later)
-      ≡ false = has_last (gives_turn s.0) valid.before (LookKey s i stage ∷ valid.later) over_parts in
+      ≡ false
+      = (has_none-append (gives_turn s.0) valid.before (LookKey s i stage ∷ valid.later) over_parts).1 in
       let lists_keep = lists-keep s selection.bound first.lists first.listed first.runs_lists in
       let middle_keeps : has (gives_turn s.0) middle ≡ false
-      = neither _ _ (not-gives s.0 first.keys (ap (asks_give s.0) first.asks_keys))
-      (list_any-append (gives_turn s.0) first.lists valid.before ∙ neither _ _ lists_keep before_keeps) in
+      = or_from _ _ (not-gives s.0 first.keys (ap (asks_give s.0) first.asks_keys))
+      (list_any-append (gives_turn s.0) first.lists valid.before ∙ or_from _ _ lists_keep before_keeps) in
       let has_begun_there = begun_since l n cut.past s earlier found middle legal_past cut.mine_past first.opens
       middle_keeps in
       -- what the caller did from there on
@@ -212,16 +211,16 @@ module _ (l : Limits) (n : CallerNo) (before past : List Event) (selection : Sel
       ∙ ap (λ xs. LookKey s i stage ∷ xs)
       (mine-append n cut.later past ∙ ap (λ xs. xs ++ mine n past) cut.mine_later) in
       let keeps_since : has (gives_turn s.0) since ≡ false = list_any-append (gives_turn s.0) valid.later begun.since
-      ∙ neither _ _ later_keeps begun.goes_on in
+      ∙ or_from _ _ later_keeps begun.goes_on in
       let kept : has (gives_turn s.0) (mine n later) ≡ false = ap (has (gives_turn s.0)) acts
-      ∙ (list_any-append (gives_turn s.0) since (mine n past) ∙ neither _ _ keeps_since no_give) in
+      ∙ (list_any-append (gives_turn s.0) since (mine n past) ∙ or_from _ _ keeps_since no_give) in
       let spares_since : has (removes s.0 i) since ≡ false
       = list_any-append (removes s.0 i) valid.later begun.since
-      ∙ neither _ _ valid.spared (removes_none s.0 i begun.since begun.unremoved) in
+      ∙ or_from _ _ valid.spared (removes_none s.0 i begun.since begun.unremoved) in
       let spared : has (removes s.0 i) (mine n later) ≡ false
       = ap (has (removes s.0 i)) acts
       ∙ (list_any-append (removes s.0 i) since (mine n past)
-      ∙ neither _ _ spares_since (removes_none s.0 i (mine n past) no_remove)) in
+      ∙ or_from _ _ spares_since (removes_none s.0 i (mine n past) no_remove)) in
       -- what the look found
       let st = state_after cut.past in
       let k : Stage = st.key s.0 i in

@@ -1,8 +1,6 @@
 -- Where an own act stands in a history.
 use Rattle.std.proofs.Common.{◌≡◌, ℕ, Bool, true, false, cond, List, [], ◌∷◌, ◌++◌, map, refl, ap, sym, ◌∙◌, eqb-true}
 use Rattle.std.specs.List.{filter, Contains}
-use Rattle.std.proofs.lemmas.List.{map-append}
-use Rattle.std.proofs.lemmas.List.Elements.{filter-append}
 use Rattle.nio_base.specs.declared.numbers.CallerNo.{CallerNo}
 use Rattle.nio_history.proofs.Legal.{not_empty}
 use Rattle.nio_history.specs.Histories.{is_by, mine, event_of}
@@ -75,8 +73,3 @@ at_own n events act there =
     let found = parted (mine n events) act there in
     let cut = cut_at n events found.past act found.later found.parts in
     record { past = cut.past; later = cut.later; parts = cut.parts }
-
-pub mine-append : (n : CallerNo) (xs ys : List Event) → mine n (xs ++ ys) ≡ mine n xs ++ mine n ys
-mine-append n xs ys =
-    ap (map (λ x. x.act)) (filter-append (is_by n) xs ys)
-    ∙ map-append (λ x. x.act) (filter (is_by n) xs) (filter (is_by n) ys)

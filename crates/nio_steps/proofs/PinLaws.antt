@@ -169,6 +169,8 @@ waiting_gives l (write source sink none) = waits-give none (gives l false (try_w
 
 pub pins_are_given_back : PinsAreGivenBack
 pins_are_given_back = record {
+  each = gives;
+  each_waiting = waiting_gives;
   find_selector = λ l n. gives l false (find_selector n);
   find_channel = λ l n. gives l false (find_channel n);
   find = λ l s i serial. gives l false (find s i serial);

@@ -7,6 +7,7 @@ use Rattle.std.proofs.lemmas.List.Elements.{All-weaker}
 use Rattle.std.proofs.lemmas.List.Folds.{list_any-append, list_any_none}
 use Rattle.std.proofs.lemmas.List.Sums.{sum_by-append}
 use Rattle.std.proofs.lemmas.List.{append-nil}
+use Rattle.std.proofs.lemmas.Bool.{or_from, or_parts}
 use Rattle.nio_base.specs.declared.numbers.SelNo.{SelNo}
 use Rattle.nio_history.specs.OwnEvents.{has, count, gives_turn}
 use Rattle.nio_history.specs.Pins.{removes}
@@ -18,7 +19,6 @@ use Rattle.nio_history.specs.declared.found.Mark.{Mark as KeyMark}
 use Rattle.nio_history.specs.declared.found.Mode.{Mode}
 use Rattle.nio_steps.proofs.BeginLaws.{begin-parts}
 use Rattle.nio_steps.proofs.EachLaws.{each_if, each_run, split}
-use Rattle.nio_steps.proofs.Either.{neither, not_first, not_second}
 use Rattle.nio_steps.proofs.SelectionAsks.{each_end, each_marks}
 use Rattle.nio_steps.proofs.Walks.{Always, always_weaker, always_bind, always_if, always_any, always_over, always_run}
 use Rattle.nio_steps.proofs.Each.{Each}
@@ -86,9 +86,9 @@ no_removes s acts each =
 pub removes_none : (s i : ℕ) (acts : List Act) → has (removes_on s) acts ≡ false → has (removes s i) acts ≡ false
 removes_none s i [] none = refl
 removes_none s i (act ∷ acts) none =
-    neither (removes s i act) (has (removes s i) acts)
-    (of_act act (not_first (removes_on s act) (has (removes_on s) acts) none))
-    (removes_none s i acts (not_second (removes_on s act) (has (removes_on s) acts) none))
+    or_from (removes s i act) (has (removes s i) acts)
+    (of_act act (or_parts (removes_on s act) (has (removes_on s) acts) none).0)
+    (removes_none s i acts (or_parts (removes_on s act) (has (removes_on s) acts) none).1)
   where
     of_act : (a : Act) → removes_on s a ≡ false → removes s i a ≡ false
     of_act (Remove s' i' found) none' = ap (λ b. b && (i' == i)) none'
@@ -105,8 +105,8 @@ pub count-none : (p : Act → Bool) (acts : List Act) → has p acts ≡ false �
 count-none p [] none = refl
 count-none p (act ∷ acts) none =
     let here : cond {A = ℕ} (p act) 1 0 ≡ 0 = ap (λ (b : Bool). cond {A = ℕ} b 1 0)
-    (not_first (p act) (has p acts) none) in
-    let later = count-none p acts (not_second (p act) (has p acts) none) in
+    (or_parts (p act) (has p acts) none).0 in
+    let later = count-none p acts (or_parts (p act) (has p acts) none).1 in
     let all = count-cons p act acts in
     omega (arith, here, later, all)
 
@@ -253,10 +253,10 @@ after-keeps selection elapsed n = λ look asks look' asks'.
     (is_again selection.mode n (gate_in (answer_of look)) (flag_in (answer_of look')) elapsed)
     (reply (again selection)) (end_selection selection _)
     (λ _. (
-      neither _ _ (not-gives s look (ap (asks_give s) asks))
-          (neither _ _ (not-gives s look' (ap (asks_give s) asks')) refl),
-      neither _ _ (not-removes s look (ap (asks_remove s) asks))
-          (neither _ _ (not-removes s look' (ap (asks_remove s) asks')) refl),
+      or_from _ _ (not-gives s look (ap (asks_give s) asks))
+          (or_from _ _ (not-gives s look' (ap (asks_give s) asks')) refl),
+      or_from _ _ (not-removes s look (ap (asks_remove s) asks))
+          (or_from _ _ (not-removes s look' (ap (asks_remove s) asks')) refl),
     ))
     (λ _. any-done s (look ∷ look' ∷ []) selection _)
 
@@ -264,7 +264,7 @@ after-keeps selection elapsed n = λ look asks look' asks'.
 
 pub none_of-append : (p : Act → Bool) (acts later : List Act) → has p acts ≡ false → has p later ≡ false
     → has p (acts ++ later) ≡ false
-none_of-append p acts later first second = list_any-append p acts later ∙ neither _ _ first second
+none_of-append p acts later first second = list_any-append p acts later ∙ or_from _ _ first second
 
 -- the selection that was begun, after acts that neither mark a key nor give the turn back
 longer : (own : List Act) (selection : Selection) (acts : List Act) → IsBegun own selection

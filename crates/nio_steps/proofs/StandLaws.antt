@@ -2,7 +2,7 @@
 use Rattle.std.proofs.Common.{◌≡◌, ℕ, List, true, false, not, ◌||◌, [], ◌∷◌, ◌++◌, Some, refl, ap, sym, ◌∙◌, subst}
 use Rattle.std.proofs.Common.{append_assoc, eq-eqb}
 use Rattle.std.specs.Prelude.{⊤}
-use Rattle.std.proofs.lemmas.Bool.{and_from}
+use Rattle.std.proofs.lemmas.Bool.{and_from, or_from, or_right}
 use Rattle.std.proofs.lemmas.List.Folds.{list_any-append}
 use Rattle.nio_base.specs.declared.limits.Limits.{Limits}
 use Rattle.nio_base.specs.declared.numbers.CallerNo.{CallerNo}
@@ -24,7 +24,6 @@ use Rattle.nio_history.specs.declared.event.Event.{Event}
 use Rattle.nio_history.specs.declared.found.GateWord.{GateWord}
 use Rattle.nio_steps.proofs.BeginLaws.{none_yet, begin-parts}
 use Rattle.nio_steps.proofs.EachLaws.{each_over, each_run}
-use Rattle.nio_steps.proofs.Either.{neither, by_second}
 use Rattle.nio_steps.proofs.OwnActs.{cut_at, at_own}
 use Rattle.nio_steps.proofs.SelectionAsks.{each_list, each_look, goes_any}
 use Rattle.nio_steps.proofs.SelectionLaws.{NoGive, asks_give, no_gives, not-gives}
@@ -53,7 +52,7 @@ begun_since l n events s before found later legal own opens keeps =
     let legal' = subst (IsLegal l) cut.parts legal in
     let step = legal_next l cut.past e cut.later legal' in
     let st = state_after cut.past in
-    let begins : (st.begun s.0 || not found.shut) ≡ true = by_second (st.begun s.0) (not found.shut) (ap not opens) in
+    let begins : (st.begun s.0 || not found.shut) ≡ true = or_right (st.begun s.0) (not found.shut) (ap not opens) in
     let here : has_begun (effect st n (BeginLook s found)) n s ≡ true
     = and_from (has_turn st n s) (put st.begun s.0 (st.begun s.0 || not found.shut) s.0) step.condition.1
     (put-same st.begun s.0 (st.begun s.0 || not found.shut) ∙ begins) in
@@ -93,15 +92,15 @@ selections_stand l n events selection legal begun =
     let keeps_lists = lists-keep s selection.bound first.lists first.listed first.runs_lists in
     let keeps_over = over-keeps s first.listed first.over _ first.runs_over in
     let keeps_rest : has (gives_turn s.0) rest ≡ false
-    = neither _ _ (not-gives s.0 first.keys (ap (asks_give s.0) first.asks_keys))
-    (list_any-append (gives_turn s.0) first.lists first.over ∙ neither _ _ keeps_lists keeps_over) in
+    = or_from _ _ (not-gives s.0 first.keys (ap (asks_give s.0) first.asks_keys))
+    (list_any-append (gives_turn s.0) first.lists first.over ∙ or_from _ _ keeps_lists keeps_over) in
     let acts : begun.beginning ≡ before ++ BeginLook s found ∷ rest
     = first.parts ∙ ap (λ x. first.gate ∷ first.take ∷ x ∷ rest) (look-act s first.look first.asks_look) in
     let own : mine n events ≡ (begun.earlier ++ before) ++ BeginLook s found ∷ (rest ++ begun.since)
     = begun.parts ∙ (ap (λ xs. begun.earlier ++ (xs ++ begun.since)) acts
     ∙ sym (append_assoc begun.earlier before (BeginLook s found ∷ (rest ++ begun.since)))) in
     begun_since l n events s (begun.earlier ++ before) found (rest ++ begun.since) legal own first.opens
-    (list_any-append (gives_turn s.0) rest begun.since ∙ neither _ _ keeps_rest begun.goes_on)
+    (list_any-append (gives_turn s.0) rest begun.since ∙ or_from _ _ keeps_rest begun.goes_on)
 
 -- ---- closing
 

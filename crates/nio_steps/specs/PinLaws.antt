@@ -21,12 +21,17 @@ use Rattle.nio_steps.specs.Runs.{Completes}
 use Rattle.nio_steps.specs.SelectCalls.{Selection, open_selector_plan, try_begin_plan, told_plan, leave_plan, shut_plan}
 use Rattle.nio_steps.specs.SelectCalls.{try_finish_plan, keys_plan, selected_keys_plan, wakeup_plan, interrupt_plan}
 use Rattle.nio_steps.specs.SelectCalls.{interrupted_plan, Poll, Selects, Closes}
+use Rattle.nio_steps.specs.TableCalls.{TableCall, WaitCall, row_of, wait_row_of}
 
 -- after a call of this shape the caller keeps no pin that it took in the call
 abbrev pub GivesPinsBack : {R : Type 0} → (List Act → R → Type 0) → Type 0
 GivesPinsBack {R} Shape = (acts : List Act) (answer : R) → Shape acts answer → (s i : ℕ) → IsFalse (keeps_pin s i acts)
 
 pub record PinsAreGivenBack : Type 0 where
+  -- each call, and each that waits
+  pub each : (l : Limits) (lacks : Bool) (call : TableCall) → GivesPinsBack (Completes ((row_of call).plan l lacks))
+  pub each_waiting : (l : Limits) (call : WaitCall) → GivesPinsBack ((wait_row_of call).Shape l)
+  -- so each of them by its plan
   pub find_selector : (l : Limits) (n : ℕ) → GivesPinsBack (Completes (find_selector_plan l n))
   pub find_channel : (l : Limits) (n : ℕ) → GivesPinsBack (Completes (find_channel_plan l n))
   pub find : (l : Limits) (s : SelNo) (i serial : ℕ) → GivesPinsBack (Completes (find_plan l s i serial))

@@ -1,4 +1,4 @@
--- The calls on the table, each once: what it is given, its plan, and what else holds of it.
+-- The calls on the table, each once: what it is given, its plan, and what else is true of it.
 use Rattle.std.specs.Prelude.{◌≡◌, ℕ, Bool, false, IsTrue, Option, Some, None, Result, Ok, Err, List, [], ◌∷◌, ⊤}
 use Rattle.nio_base.specs.declared.kind.Kind.{Kind}
 use Rattle.nio_base.specs.declared.limits.Limits.{Limits}
@@ -26,7 +26,7 @@ use Rattle.nio_steps.specs.declared.refusal.ChannelError.{ChannelError}
 
 -- ---- the calls that don't wait
 
--- what a call is given
+-- a call that doesn't wait, with what it is given
 pub data TableCall : Type 0 where
   find_selector : ℕ → TableCall
   find_channel : ℕ → TableCall
@@ -61,17 +61,17 @@ pub data TableCall : Type 0 where
   interrupt : CallerNo → TableCall
   interrupted : TableCall
   pipe : TableCall
-  -- reading and writing: a refusal, or the mode that was found
+  -- a read of a pipe's source, and a write by a source and its sink
   try_read : ChanNo → TableCall
   try_write : ChanNo → ChanNo → TableCall
 
--- what a call is given of the table
+-- a selector, a channel or a key that a call is given
 pub data Name : Type 0 where
   the_selector : SelNo → Name
   the_channel : ChanNo → Name
   the_key : KeyNo → Name
 
--- a row of the table of calls: what holds of a call
+-- what is true of a call: its row
 pub record Row : Type 1 where
   pub names : List Name
   pub Reply : Type 0
@@ -82,13 +82,13 @@ pub record Row : Type 1 where
   -- the selector and the channel, where the call registered a channel
   pub registers : Reply → List (SelNo × ChanNo)
   -- the selector whose turn the call gives back, or whose keys it marks or removes
-  pub selects_on : Option SelNo
+  pub works_on : Option SelNo
   -- the call may come next, by what its caller has in progress
   pub may_come : Ongoing → Type 0
   -- what it changes of what its caller has in progress
   pub change : Reply → Change
 
--- a call that lacks no memory, registers nothing, selects nothing, may always come and changes nothing in progress
+-- a call that lacks no memory, registers nothing, works on no selector, may always come and changes nothing in progress
 abbrev pub plain : {R : Type 0} → List Name → (Limits → Plan R) → Row
 plain {R} names plan_of = record {
   names = names;
@@ -96,7 +96,7 @@ plain {R} names plan_of = record {
   plan = λ l _. plan_of l;
   lacks_memory = λ _. false;
   registers = λ _. [];
-  selects_on = None;
+  works_on = None;
   may_come = λ _. ⊤;
   change = λ _. no_change;
 }
@@ -106,7 +106,7 @@ abbrev pub registered : {A : Type 0} → SelNo → ChanNo → Result A ChannelEr
 registered s c (Ok answer) = (s, c) ∷ []
 registered s c (Err refusal) = []
 
--- the selection is the caller's on its selector
+-- the caller has this selection in progress on the selection's selector
 abbrev pub HasSelection : Selection → Ongoing → Type 0
 HasSelection selection now = now.selection selection.selector.0 ≡ Some selection
 
@@ -139,23 +139,23 @@ row_of open_selector = plain [] open_selector_plan
 row_of (try_begin s mode) = record (plain (the_selector s ∷ []) (λ _. try_begin_plan s mode false)) {
   plan = λ _ lacks. try_begin_plan s mode lacks;
   lacks_memory = begin_lacks_memory;
-  selects_on = Some s;
+  works_on = Some s;
   change = begin_change s;
 }
 row_of (told selection poll) =
     record (plain (the_selector selection.selector ∷ []) (λ _. told_plan selection poll.pairs poll.elapsed)) {
-      selects_on = Some selection.selector;
+      works_on = Some selection.selector;
       may_come = HasSelection selection;
       change = told_change selection.selector;
     }
 row_of (leave selection) = record (plain (the_selector selection.selector ∷ []) (λ _. leave_plan selection)) {
-  selects_on = Some selection.selector;
+  works_on = Some selection.selector;
   may_come = HasSelection selection;
   change = λ _. selection_ends selection.selector;
 }
 row_of (shut s) = record (plain (the_selector s ∷ []) (λ _. shut_plan s)) { change = shut_change s }
 row_of (try_finish s) = record (plain (the_selector s ∷ []) (λ _. try_finish_plan s)) {
-  selects_on = Some s;
+  works_on = Some s;
   may_come = λ now. IsTrue (now.closes s.0);
   change = finish_change s;
 }
@@ -171,6 +171,7 @@ row_of (wakeup s) = plain (the_selector s ∷ []) (λ _. wakeup_plan s)
 row_of (interrupt target) = plain [] (λ _. interrupt_plan target)
 row_of interrupted = plain [] (λ _. interrupted_plan)
 row_of pipe = record (plain [] (λ l. pipe_plan l false)) { plan = pipe_plan; lacks_memory = pipe_lacks_memory }
+-- the reply to each of these: a refusal, or the mode that was found
 row_of (try_read source) = plain (the_channel source ∷ []) (λ l. try_read_plan l source)
 row_of (try_write source sink) = plain (the_channel source ∷ the_channel sink ∷ []) (λ l. try_write_plan l source sink)
 

@@ -22,7 +22,7 @@ use Rattle.nio_jobs.specs.declared.exchange.Done.TheVariants as done
 use Rattle.nio_jobs.specs.declared.next.Next.{Next}
 use Rattle.nio_jobs.specs.declared.next.Next.TheVariants as next
 use Rattle.nio_jobs.specs.declared.next.Start.{Start}
-use Rattle.nio_tickets.specs.Reports.{after_turn}
+use Rattle.nio_tickets.specs.Reports.{after_round}
 use Rattle.nio_tickets.specs.Seats.{Office, place_of}
 
 -- ---- what is started
@@ -111,7 +111,7 @@ abbrev pub polling_held : Office → Option Operation → Office
 polling_held o None = o
 polling_held o (Some operation) = polling o operation.chan operation.kind
 
--- ---- what a turn comes to
+-- ---- what a round comes to
 
 -- the tickets of what this report has ended are polled
 abbrev pub polling_reported : Office → Done → Office
@@ -126,7 +126,7 @@ polling_all o (one ∷ rest) = polling_all (polling_reported o one) rest
 
 -- all is reported to the desk, and then the tickets are polled
 abbrev pub after_settling : Office → List Done → Office
-after_settling o reports = polling_all (record o { desk = after_turn o.desk reports }) reports
+after_settling o reports = polling_all (record o { desk = after_round o.desk reports }) reports
 
 -- ---- the opening
 

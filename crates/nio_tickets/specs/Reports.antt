@@ -13,7 +13,7 @@ after_done d (done.Again chan kind) = d
 after_done d (done.Closed chan) =
     if nat_lt chan.0 (length d.group.channels) then by_group d (group.close_channel (record { 0 = chan.0 })) else d
 
--- what the reports of a turn do, in their order
-abbrev pub after_turn : DeskState → List Done → DeskState
-after_turn d [] = d
-after_turn d (one ∷ rest) = after_turn (after_done d one) rest
+-- what the reports of a round do, in their order
+abbrev pub after_round : DeskState → List Done → DeskState
+after_round d [] = d
+after_round d (one ∷ rest) = after_round (after_done d one) rest

@@ -13,8 +13,8 @@ use std::alloc::{AllocError, Global};
 use std::marker::Model;
 use std::sync::Wait;
 
-/// Reports what each call came to, polls the tickets of the operations that this ended, and starts what is due after each
-/// result.
+/// Reports what each call came to, polls the tickets of the operations that this ended, and starts what is due after
+/// each result.
 #[derive(Drop)]
 pub(crate) struct Clerk<'a> {
     task: Task<'a>,

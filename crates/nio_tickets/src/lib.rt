@@ -1,5 +1,5 @@
-//! Serving the connections of a proxy by operations that have tickets. One thread makes the calls on the net, each for a
-//! job of an operation that is pending at a desk, and polls the tickets between its turns.
+//! Serving the connections of a proxy by operations that have tickets. One thread makes the calls on the net, each for
+//! a job of an operation that is pending at a desk, and polls the tickets between the proxy's rounds.
 #![tactic(auto)]
 
 pub use serving::serve_future;

@@ -5,7 +5,7 @@ ghost use Rattle.nio_group.specs.Flight.{IsPendingAs};
 ghost use Rattle.nio_group.specs.Steps.{IsJobOf};
 ghost use Rattle.nio_jobs.specs.declared.exchange.Done.TheVariants as done;
 ghost use Rattle.nio_future.specs.Tickets.{KeepsTickets};
-ghost use Rattle.nio_tickets.specs.Reports.{after_done, after_turn};
+ghost use Rattle.nio_tickets.specs.Reports.{after_done, after_round};
 
 use nio_base::{GChan, OpKind};
 use nio_future::Desk;
@@ -14,7 +14,7 @@ use nio_jobs::Done;
 
 /// Reports what calls came to, and takes the next job of each operation that is still pending.
 pub(crate) fn report_all(desk: &mut Desk, done: &[Done], arrived: &mut Vec<Job>)
-    ensures desk { desk.new ≡ after_turn desk.old done.now }
+    ensures desk { desk.new ≡ after_round desk.old done.now }
     ensures tickets { KeepsTickets desk.old desk.new }
     ensures kept { IsPrefix arrived.old.items arrived.new.items }
 {

@@ -51,10 +51,11 @@ fn open_way(
     ByJobs::make(alloc, clerk, channels, flight)
 }
 
-/// Relays as many connections as the plan says, and then ends, by the operations of a desk. The calling thread makes each
-/// call on the net for a job of a pending operation. It reports at once what the call came to, polls the tickets of the
-/// operations that this ended, and starts what is due after each result. All these polls are made in one task of an
-/// executor, whose context is made once, before the first turn; neither they nor the calls of the desk take memory.
+/// Relays as many connections as the plan says, and then ends, by the operations of a desk. The calling thread makes
+/// each call on the net for a job of a pending operation. It reports at once what the call came to, polls the tickets
+/// of the operations that this ended, and starts what is due after each result. All these polls are made in one task of
+/// an executor, whose context is made once, before the proxy's first round; neither they nor the calls of the desk take
+/// memory.
 ///
 /// A connection ends when both of its directions are shut, or at the first fault of one of its links, which closes both
 /// and is counted. At every end the links, the listener and the desk are closed. `Memory` is also answered where the

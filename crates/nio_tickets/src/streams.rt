@@ -89,7 +89,8 @@ impl Streams {
     // Polls the ticket of this operation, if it is out.
     fn poll_operation(&mut self, desk: &mut Desk, cx: &mut Context<'_>, op: OpNo)
         requires tickets { AreSeated desk.old self.old.seats }
-        ensures office { office_of desk.new self.new ≡ polling_held (office_of desk.old self.old) (held_at desk.old op.0) }
+        ensures office { office_of desk.new self.new
+            ≡ polling_held (office_of desk.old self.old) (held_at desk.old op.0) }
         ensures tickets { AreSeated desk.new self.new.seats }
     {
         if let Some(held) = desk.operation(op) {
@@ -198,8 +199,8 @@ impl Streams {
         }
     }
 
-    // Starts an operation, and keeps its ticket and its job. Where it is refused nothing more is due; nor is it where the
-    // channel was closed: then the operation fails at once, and its ticket stays in its seat.
+    // Starts an operation, and keeps its ticket and its job. Where it is refused nothing more is due; nor is it where
+    // the channel was closed: then the operation fails at once, and its ticket stays in its seat.
     fn start_on(&mut self, desk: &mut Desk, start: Start)
         requires made { start.chan.0 < length desk.old.group.channels }
         requires tickets { AreSeated desk.old self.old.seats }

@@ -49,7 +49,8 @@ module _ {line : List ℕ} where
   -- a call on the group
   finds_group : {caller : CallerNo} {g : GroupCall} → IsLine caller (call.Group g) line
       → FindsTimed line (Some (line_of caller (Group g)))
-  finds_group {caller = caller} {g = g} is = record { found = as_timed is; only = λ l other. by_call l.caller l.call other }
+  finds_group {caller = caller} {g = g} is =
+      record { found = as_timed is; only = λ l other. by_call l.caller l.call other }
     where
       by_call : (t : CallerNo) (d : TimedCall) → IsTimedLine (line_of t d) line
           → Some (line_of caller (Group g)) ≡ Some (line_of t d)

@@ -1,12 +1,9 @@
 -- The words of the lines that scripts don't have.
-use Rattle.std.proofs.Common.{◌≡◌, ◌≢◌, ℕ, ◌==◌, nat_le, not, ◌&&◌, Bool, true, List, ◌∷◌, ◌++◌, codes, None, drop, inl}
+use Rattle.std.proofs.Common.{◌≡◌, ◌≢◌, ℕ, ◌==◌, List, ◌∷◌, ◌++◌, codes, None, drop, inl}
 use Rattle.std.proofs.Common.{inr, refl, sym, ap, ◌∙◌, arith}
 use Rattle.std.specs.Prelude.{⊤}
 use Rattle.std.specs.Fmt.{decimal}
-use Rattle.std.specs.List.{AllByRecursion, list_all, slice_split}
-use Rattle.std.proofs.lemmas.Bool.{and_parts, eq-eqb, false≢true, leb-true}
-use Rattle.std.proofs.lemmas.List.Elements.{All-weaker}
-use Rattle.std.proofs.lemmas.List.Sums.{AllPass-from_list_all}
+use Rattle.std.specs.List.{AllByRecursion, slice_split}
 use Rattle.std.proofs.lemmas.Option.{none-some, same_Some}
 use Rattle.nio_base.specs.declared.group.OpKind.TheVariants.{Read}
 use Rattle.nio_base.specs.declared.numbers.CallerNo.{CallerNo}
@@ -21,7 +18,7 @@ use Rattle.nio_language.specs.declared.group_call.GroupCall.TheVariants as group
 use Rattle.nio_language.proofs.CallWordTable.{reads_call_word}
 use Rattle.nio_language.proofs.JoinedWords.{join_spaced}
 use Rattle.nio_language.proofs.Ones.{word_at}
-use Rattle.nio_language.proofs.PlainWords.{IsPlain, IsPlainByte, call_plain, words_weaker}
+use Rattle.nio_language.proofs.PlainWords.{IsPlain, call_plain, literal, words_weaker}
 use Rattle.nio_language.proofs.Spaces.{Spaceless, split_join, caller_spaceless}
 use Rattle.nio_script.proofs.Lines.{line_words_of}
 use Rattle.nio_timed.specs.Lines.{IsTimedLine, timed_line_words, timed_words}
@@ -41,19 +38,6 @@ timed_full is (inl none) = cc (begins is, none)
 timed_full is (inr hash) = absurd (omega (arith, same_Some 116 35 (rw (begins is) at hash)))
 
 -- ---- words without a space
-
-abbrev is_plain_byte : ℕ → Bool
-is_plain_byte b = nat_le 45 b && not (b == 62)
-
-plain_where_so : (b : ℕ) → is_plain_byte b ≡ true → IsPlainByte b
-plain_where_so b e =
-    let parts = and_parts (nat_le 45 b) (not (b == 62)) e in
-    (leb-true 45 b parts.0, λ arrow. false≢true (sym (ap not (eq-eqb b 62 arrow)) ∙ parts.1))
-
-literal : (word : List ℕ) → list_all is_plain_byte word ≡ true → IsPlain word
-literal word e =
-    All-weaker (λ b. is_plain_byte b ≡ true) IsPlainByte plain_where_so word
-    (AllPass-from_list_all is_plain_byte word e)
 
 -- the words of `start` are plain, so these are
 own_plain : (c : TimedCall) → IsOwnCall c → AllByRecursion IsPlain (timed_words c)

@@ -1,5 +1,6 @@
 -- What each call of a timed script replies, and the group that it leaves; and the answer to a whole script. Each call
--- but those that only ask is one timed step. `start` is a `start-timed` at the moment 0 with the limit 0, which is none.
+-- but those that only ask is one timed step. `start` is a `start-timed` at the moment 0 with the limit 0, which is
+-- none.
 use Rattle.std.specs.Prelude.{◌≡◌, ◌≢◌, ℕ, ◌+◌, ◌<◌, List, [], ◌∷◌, ◌++◌, length, nat_lt, if◌then◌else◌, Option}
 use Rattle.std.specs.Prelude.{Some, None, Ok, Err, IsTrue}
 use Rattle.nio_base.specs.declared.numbers.GChan.{GChan}

@@ -22,5 +22,6 @@ pub record IsOwnLine (l : TimedLine) : Type 0 where
 
 -- the answer is the line of this caller with this call, where that is on the group
 pub record IsGroupLineOf (caller : CallerNo) (c : Call) (answer : Option TimedLine) : Type 0 where
-  pub found : IfSome answer (λ l. (g : GroupCall) × (c ≡ call.Group g) × (l ≡ record { caller = caller; call = Group g }))
+  pub found : IfSome answer
+      (λ l. (g : GroupCall) × (c ≡ call.Group g) × (l ≡ record { caller = caller; call = Group g }))
   pub only : (g : GroupCall) → c ≡ call.Group g → answer ≡ Some (record { caller = caller; call = Group g })

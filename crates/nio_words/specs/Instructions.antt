@@ -40,7 +40,7 @@ IsInWord (Max k) = ⊤
 IsInWord (Swap new) = ⊤
 IsInWord (Exchange old new) = ⊤
 
--- the bit that it is on, or the number that it brings
+-- the bit that it is on, or the number that it brings: of an exchange the new word; 0 of a load
 abbrev pub operand : Instruction → ℕ
 operand Load = 0
 operand (SetBit k) = k

@@ -72,8 +72,8 @@ part_of (LookFree s j found) = Free s.0 j
 part_of (PutFree s i) = Free s.0 (i / 64)
 part_of (TakeFree s i found) = Free s.0 (i / 64)
 
--- the numbers that a part is of: a selector, a channel, and the index of a key or the number of a word of free indexes;
--- 0 where it is of none
+-- the numbers in a part: its selector, its channel, and the index of its key or the number of its word of free
+-- indexes; 0 where it has none
 pub record PartNumbers : Type 0 where
   pub selector : ℕ
   pub channel : ℕ

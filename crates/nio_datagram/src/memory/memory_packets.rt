@@ -1,6 +1,6 @@
 //! The net of packets in memory.
-ghost use Rattle.std.specs.Prelude.{◌≡◌, ◌≢◌, ◌↔◌, ◌⊎◌, ◌<◌, ◌≤◌, [], ◌∷◌, ◌++◌, true, false, None, Ok, Err, IfOk, IsErr};
-ghost use Rattle.std.specs.Prelude.{OnErr, OnOk, IsOk, IsTrue, Some, length, option_map, refl};
+ghost use Rattle.std.specs.Prelude.{◌≡◌, ◌≢◌, ◌↔◌, ◌⊎◌, ◌<◌, ◌≤◌, [], ◌∷◌, ◌++◌, true, false, None, Ok, Err, IfOk};
+ghost use Rattle.std.specs.Prelude.{IsErr, OnErr, OnOk, IsOk, IsTrue, Some, length, option_map, refl};
 ghost use Rattle.std.specs.List.{slice_get};
 ghost use Rattle.nio_base.specs.declared.numbers.ChanNo.{ChanNo};
 ghost use Rattle.nio_bytes.specs.Calls.{FailsNext};
@@ -194,33 +194,33 @@ fn tell(alloc: Global, sides: &[Side], asked: &Asked) -> Result<Vec<(u32, Ops)>,
 }
 
 impl MemoryPackets {
-    /// A net with the channels 0 and 1. `front` are the packets that come to channel 0, `back` those of channel 1, each
-    /// with its sender. A packet is cut at 65,507 bytes. The send with the number `fail_send` fails, counted from 0 over
-    /// both channels.
+    /// A net with the channels 0 and 1. `client` are the packets that come to channel 0, `target` those of channel 1,
+    /// each with its sender. A packet is cut at 65,507 bytes. The send with the number `fail_send` fails, counted from
+    /// 0 over both channels.
     pub fn make(
         alloc: Global,
-        front: Vec<(Addr, Vec<u8>)>,
-        back: Vec<(Addr, Vec<u8>)>,
+        client: Vec<(Addr, Vec<u8>)>,
+        target: Vec<(Addr, Vec<u8>)>,
         fail_send: Option<u64>,
     ) -> Result<MemoryPackets, AllocError>
-        ensures planned { IfOk result (λ net. net ≡ planned front.items back.items fail_send) }
+        ensures planned { IfOk result (λ net. net ≡ planned client.items target.items fail_send) }
         ensures fresh { IfOk result (λ net. (c : ChanNo) → traffic_at net.sides c ≡ no_traffic) }
         ensures unbound { IfOk result (λ net. (c : ChanNo) → place_at net.sides c ≡ place_is.Unbound) }
     {
-        Self::of_plan(alloc, front, back, fail_send)
+        Self::of_plan(alloc, client, target, fail_send)
     }
 
     fn of_plan(
         alloc: Global,
-        front: Vec<(Addr, Vec<u8>)>,
-        back: Vec<(Addr, Vec<u8>)>,
+        client: Vec<(Addr, Vec<u8>)>,
+        target: Vec<(Addr, Vec<u8>)>,
         fail_send: Option<u64>,
     ) -> Result<MemoryPackets, AllocError>
-        ensures { IfOk result (λ net. net ≡ planned front.items back.items fail_send) }
+        ensures { IfOk result (λ net. net ≡ planned client.items target.items fail_send) }
     {
         let mut sides = Vec::new(alloc);
-        sides.push(Side::make(alloc, front))?;
-        sides.push(Side::make(alloc, back))?;
+        sides.push(Side::make(alloc, client))?;
+        sides.push(Side::make(alloc, target))?;
         Ok(MemoryPackets {
             alloc,
             sides,
@@ -253,8 +253,8 @@ impl MemoryPackets {
         went_at(&self.sides, chan)[at].bytes()
     }
 
-    /// Binds as `PacketNet::bind_packets` does, at any time: it fails where the net hasn't got the channel, and where it
-    /// was bound before.
+    /// Binds as `PacketNet::bind_packets` does, at any time: it fails where the net hasn't got the channel, and where
+    /// it was bound before.
     pub fn bind_socket(&mut self, chan: ChanNo, at: Addr) -> Result<(), Failed>
         ensures answer { result ≡ bind_answer_at self.old.sides chan }
         ensures after { self.new ≡ after_bind self.old chan at }

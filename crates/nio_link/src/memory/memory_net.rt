@@ -277,8 +277,8 @@ impl MemoryNet {
         Ok(())
     }
 
-    /// Begins to connect as `Net::connect` does, at any time: it fails where the channel has no free place, and where the
-    /// plan has no further peer.
+    /// Begins to connect as `Net::connect` does, at any time: it fails where the channel has no free place, and where
+    /// the plan has no further peer.
     pub fn connect_link(&mut self, chan: ChanNo, to: Addr) -> Result<bool, Failed>
         ensures answer { result ≡ connect_answer self.old chan }
         ensures after { self.new ≡ logged chan (change.Connect to result) (after_connect self.old chan) }
@@ -308,8 +308,8 @@ impl MemoryNet {
         Ok(false)
     }
 
-    /// Accepts as `Net::accept` does, at any time: it fails where no listener stands there, where the channel has no free
-    /// place, and where the plan says so.
+    /// Accepts as `Net::accept` does, at any time: it fails where no listener stands there, where the channel has no
+    /// free place, and where the plan says so.
     pub fn accept_link(&mut self, listener: ChanNo, chan: ChanNo) -> Result<bool, Failed>
         ensures fails { IsErr result ↔ (FailsNext self.old.accepts ⊎ (can_accept self.old listener chan ≡ false)) }
         ensures answer { IfOk result (λ made. made ≡ is_waiting self.old.clients) }

@@ -1,6 +1,6 @@
 //! Handing links from one net in memory to another.
-ghost use Rattle.std.specs.Prelude.{◌≡◌, ◌≢◌, ◌+◌, ◌++◌, ◌<◌, ◌≤◌, ◌↔◌, true, length, option_map, IfSome, IsSome, IsNone};
-ghost use Rattle.std.specs.Prelude.{IsOk, OnOk, IfErr, OnErr, IsTrue};
+ghost use Rattle.std.specs.Prelude.{◌≡◌, ◌≢◌, ◌+◌, ◌++◌, ◌<◌, ◌≤◌, ◌↔◌, true, length, option_map, IfSome, IsSome};
+ghost use Rattle.std.specs.Prelude.{IsNone, IsOk, OnOk, IfErr, OnErr, IsTrue};
 ghost use Rattle.std.specs.Option.{option_to_list};
 ghost use Rattle.std.specs.VecDeque.{deque_len, deque_capacity};
 ghost use Rattle.nio_link.specs.Accepts.{accepted_by};

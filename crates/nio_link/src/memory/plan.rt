@@ -49,9 +49,9 @@ pub struct NetPlan {
 
 impl MemoryNet {
     /// A net with room for a listener and two links a peer: its channels have numbers up to twice the number of peers,
-    /// until a link is put in beyond them, and a call of `Net` on any other channel fails. It takes memory for all bytes
-    /// of its plan; a write past them fails. A link that `accept` makes is the client of the next peer, and one that
-    /// `connect` makes is the target of the next peer not yet connected. Each channel bears one link.
+    /// until a link is put in beyond them, and a call of `Net` on any other channel fails. It takes memory for all
+    /// bytes of its plan; a write past them fails. A link that `accept` makes is the client of the next peer, and one
+    /// that `connect` makes is the target of the next peer not yet connected. Each channel bears one link.
     #[tactic(auto, using(crate::proofs::FreshNet::planned_unused, crate::proofs::FreshNet::planned_unasked))]
     pub fn make(alloc: Global, plan: NetPlan) -> Result<MemoryNet, AllocError>
         ensures planned { IfOk result (λ net. net ≡ planned plan) }

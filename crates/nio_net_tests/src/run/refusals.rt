@@ -1,5 +1,5 @@
-//! Refusals at every place: lines that aren't in the grammar, a script that is cut anywhere, and each read and each write
-//! failing in turn.
+//! Refusals at every place: lines that aren't in the grammar, a script that is cut anywhere, and each read and each
+//! write failing in turn.
 use super::{Fails, NOTHING_FAILS, ONE_SELECTION, outcome};
 use std::alloc::Global;
 use std::test::Fail;

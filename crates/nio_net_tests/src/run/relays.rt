@@ -224,8 +224,8 @@ const ONE_ISNT_CONNECTED: &[Peer] = &[
     SENDER,
 ];
 
-/// The name of what fails, the connections, which poll and which call of `accept` fails, how many polls from that one on
-/// are tried, and how the program ends.
+/// The name of what fails, the connections, which poll and which call of `accept` fails, how many polls from that one
+/// on are tried, and how the program ends.
 type Failing = (
     &'static str,
     &'static [Peer],

@@ -18,7 +18,7 @@ returns-in-Ok-served-clause-serves g c =
     g.N.Poller.ready g.N.Poller.poll_faults c.close.new.net in (
       relayed_of c.args.plan c.serve-served.new.relay y z _ c.in-Ok-served.ensures.done c.close.ensures.quits
           (c.sent.ensures ∙ ap (λ (d : Passing). d.sent) c.close.ensures.forth)
-          (c.sent-in-Ok-served.ensures ∙ ap (λ (d : Passing). d.sent) c.close.ensures.backward),
+          (c.sent-in-Ok-served.ensures ∙ ap (λ (d : Passing). d.sent) c.close.ensures.back),
       none_failed_after x y z c.in-Ok-served.ensures.still c.close.ensures.quits,
     )
 
@@ -26,7 +26,7 @@ pub returns-in-Ok-served-clause-complete : goal.returns-in-Ok-served-clause-comp
 returns-in-Ok-served-clause-complete g c none =
     relayed_of c.args.plan c.serve-served.new.relay _ _ _ c.in-Ok-served.ensures.done c.close.ensures.quits
     (c.sent.ensures ∙ ap (λ (d : Passing). d.sent) c.close.ensures.forth)
-    (c.sent-in-Ok-served.ensures ∙ ap (λ (d : Passing). d.sent) c.close.ensures.backward)
+    (c.sent-in-Ok-served.ensures ∙ ap (λ (d : Passing). d.sent) c.close.ensures.back)
 
 pub returns-in-Ok-served-clause-leaves : goal.returns-in-Ok-served-clause-leaves
 returns-in-Ok-served-clause-leaves g c =

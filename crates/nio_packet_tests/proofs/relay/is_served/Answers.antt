@@ -1,14 +1,14 @@
-use Rattle.nio_datagram.specs.Serving.{front, back}
+use Rattle.nio_datagram.specs.Serving.{client_chan, target_chan}
 use Rattle.nio_packet_tests.proofs.relay.is_served.Goals as goal
 
-pub serve_packets-answer-requires-clause-front_unused : goal.serve_packets-answer-requires-clause-front_unused
-serve_packets-answer-requires-clause-front_unused g c = c.in_ok-net.ensures.fresh front
+pub serve_packets-answer-requires-clause-client_unused : goal.serve_packets-answer-requires-clause-client_unused
+serve_packets-answer-requires-clause-client_unused g c = c.in_ok-net.ensures.fresh client_chan
 
-pub serve_packets-answer-requires-clause-back_unused : goal.serve_packets-answer-requires-clause-back_unused
-serve_packets-answer-requires-clause-back_unused g c = c.in_ok-net.ensures.fresh back
+pub serve_packets-answer-requires-clause-target_unused : goal.serve_packets-answer-requires-clause-target_unused
+serve_packets-answer-requires-clause-target_unused g c = c.in_ok-net.ensures.fresh target_chan
 
-pub serve_packets-answer-requires-clause-front_unbound : goal.serve_packets-answer-requires-clause-front_unbound
-serve_packets-answer-requires-clause-front_unbound g c = c.in_ok-net.ensures.unbound front
+pub serve_packets-answer-requires-clause-client_unbound : goal.serve_packets-answer-requires-clause-client_unbound
+serve_packets-answer-requires-clause-client_unbound g c = c.in_ok-net.ensures.unbound client_chan
 
-pub serve_packets-answer-requires-clause-back_unbound : goal.serve_packets-answer-requires-clause-back_unbound
-serve_packets-answer-requires-clause-back_unbound g c = c.in_ok-net.ensures.unbound back
+pub serve_packets-answer-requires-clause-target_unbound : goal.serve_packets-answer-requires-clause-target_unbound
+serve_packets-answer-requires-clause-target_unbound g c = c.in_ok-net.ensures.unbound target_chan

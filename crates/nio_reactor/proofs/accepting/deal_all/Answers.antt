@@ -17,30 +17,30 @@ loop-init g c = record {
 
 pub loop-preserved : goal.loop-preserved
 loop-preserved g c = record {
-  listens = c.turn.ensures.listens ∙ c.loop.invariant.listens;
+  listens = c.round.ensures.listens ∙ c.loop.invariant.listens;
   accepting = c.in-Ok.ensures.accepting;
-  within = c.turn.ensures.within;
+  within = c.round.ensures.within;
   accepted = accepts_then _ _
-      _ _ _ _ _ _ c.loop.invariant.accepted c.turn.ensures.accepted;
-  dealt = deals_then _ _ _ _ _ _ c.loop.invariant.dealt c.turn.ensures.dealt;
-  board = board_then c.loop.invariant.board c.turn.ensures.board;
+      _ _ _ _ _ _ c.loop.invariant.accepted c.round.ensures.accepted;
+  dealt = deals_then _ _ _ _ _ _ c.loop.invariant.dealt c.round.ensures.dealt;
+  board = board_then c.loop.invariant.board c.round.ensures.board;
 }
 
 pub returns-in-Err-clause-accepted : goal.returns-in-Err-clause-accepted
 returns-in-Err-clause-accepted g c =
-    accepts_then _ _ _ _ _ _ _ _ c.loop.invariant.accepted c.turn.ensures.accepted
+    accepts_then _ _ _ _ _ _ _ _ c.loop.invariant.accepted c.round.ensures.accepted
 
 pub returns-in-Err-clause-dealt : goal.returns-in-Err-clause-dealt
-returns-in-Err-clause-dealt g c = deals_then _ _ _ _ _ _ c.loop.invariant.dealt c.turn.ensures.dealt
+returns-in-Err-clause-dealt g c = deals_then _ _ _ _ _ _ c.loop.invariant.dealt c.round.ensures.dealt
 
 pub returns-in-Err-clause-listens : goal.returns-in-Err-clause-listens
-returns-in-Err-clause-listens g c = c.turn.ensures.listens ∙ c.loop.invariant.listens
+returns-in-Err-clause-listens g c = c.round.ensures.listens ∙ c.loop.invariant.listens
 
 pub returns-in-Err-clause-cause : goal.returns-in-Err-clause-cause
 returns-in-Err-clause-cause g c failed =
-    fault_then _ _ c.args.number.now c.loop.number c.turn.new.number c.args.net.now c.loop.net c.turn.new.net
+    fault_then _ _ c.args.number.now c.loop.number c.round.new.number c.args.net.now c.loop.net c.round.new.net
     c.loop.invariant.accepted (c.in-Err.ensures.cause failed)
 
 pub returns-in-Err-clause-board : goal.returns-in-Err-clause-board
 returns-in-Err-clause-board g c =
-    board_then c.loop.invariant.board c.turn.ensures.board
+    board_then c.loop.invariant.board c.round.ensures.board

@@ -9,11 +9,12 @@ loop-worker-init g c = sym (append-nil c.args.handed.now)
 pub loop-worker-preserved : goal.loop-worker-preserved
 loop-worker-preserved g c =
     put_more (λ x. x.lane.put) c.args.workers.now.items c.deref-worker-items.result.now c.loop-worker.worker-index
-    c.worker-item.result c.args.handed.now c.loop-worker.handed c.extend_from.new.self c.deref-worker-items.ensures.value
-    c.loop-worker-test.true c.worker-item.is c.loop-worker.invariant c.extend_from.ensures
+    c.worker-item.result c.args.handed.now c.loop-worker.handed c.extend_from.new.self
+    c.deref-worker-items.ensures.value c.loop-worker-test.true c.worker-item.is c.loop-worker.invariant
+    c.extend_from.ensures
 
 pub returns : goal.returns
 returns g c =
-    put_all (λ x. x.lane.put) c.args.workers.now.items c.deref-worker-items.result.now c.loop-worker.worker-index c.args.handed.now
-    c.loop-worker.handed c.deref-worker-items.ensures.value c.loop-worker.invariant
+    put_all (λ x. x.lane.put) c.args.workers.now.items c.deref-worker-items.result.now c.loop-worker.worker-index
+    c.args.handed.now c.loop-worker.handed c.deref-worker-items.ensures.value c.loop-worker.invariant
     (omega (arith, c.loop-worker-test.false, c.loop-worker.auto.worker-index-end))

@@ -6,8 +6,8 @@ use Rattle.std.proofs.lemmas.Result.{IfOk-weaker}
 use Rattle.nio_orderly.proofs.CallLists.{whole_is_orderly}
 use Rattle.nio_words.specs.Passes.{seen}
 use Rattle.nio_reactor.specs.Placing.{table_for}
-use Rattle.nio_reactor.proofs.Concluding.{accepts_of, complete_of, fresh_lanes, none_relay, none_workers, relays_of, serves_of}
-use Rattle.nio_reactor.proofs.Concluding.{workers_of}
+use Rattle.nio_reactor.proofs.Concluding.{accepts_of, complete_of, fresh_lanes, none_relay, none_workers, relays_of}
+use Rattle.nio_reactor.proofs.Concluding.{serves_of, workers_of}
 use Rattle.nio_reactor.proofs.Gathered.{Settled, answered_with, passes_after, seats_of, settled}
 use Rattle.nio_reactor.proofs.Handing.{handed_of, none_handed}
 use Rattle.nio_reactor.specs.Handing.{AreHanded}
@@ -44,25 +44,26 @@ serve_lanes-accepted-requires-clause-nets g c κs within =
 pub returns-clause-serves : goal.returns-clause-serves
 returns-clause-serves g c =
     subst (ServesMany (meanings g.N.Net.link g.N.Net.place g.N.Net.faults g.N.Poller.poll_faults) c.args.plan
-    c.args.net.now c.serve_lanes-accepted.new.net c.args.more.now.items c.give_back.new.more.items) (sym c.answer.ensures.served)
+    c.args.net.now c.serve_lanes-accepted.new.net c.args.more.now.items c.give_back.new.more.items)
+    (sym c.answer.ensures.served)
     (serves_of (meanings g.N.Net.link g.N.Net.place g.N.Net.faults g.N.Poller.poll_faults) c.args.plan
-    (λ x. x.lane.net) (λ x. x.lane.is_early) (λ x. x.lane.outcome) _ _ _ _ c.in-Ok-staff.ensures.nets c.give_back.ensures.nets
-    c.serve_lanes-accepted.ensures.count
+    (λ x. x.lane.net) (λ x. x.lane.is_early) (λ x. x.lane.outcome) _ _ _ _ c.in-Ok-staff.ensures.nets
+    c.give_back.ensures.nets c.serve_lanes-accepted.ensures.count
     c.serve_lanes-accepted.ensures.worked _ _ g.N.Net.accepted _ _ c.serve_lanes-accepted.ensures.accepted
     c.conclude-outcome.ensures)
 
 pub returns-clause-relays : goal.returns-clause-relays
 returns-clause-relays g c =
     relays_of (meanings g.N.Net.link g.N.Net.place g.N.Net.faults g.N.Poller.poll_faults) c.args.plan
-    (λ x. x.lane.net) (λ x. x.lane.is_early) (λ x. x.lane.outcome) _ _ _ _ c.in-Ok-staff.ensures.nets c.give_back.ensures.nets
-    c.serve_lanes-accepted.ensures.count
+    (λ x. x.lane.net) (λ x. x.lane.is_early) (λ x. x.lane.outcome) _ _ _ _ c.in-Ok-staff.ensures.nets
+    c.give_back.ensures.nets c.serve_lanes-accepted.ensures.count
     c.serve_lanes-accepted.ensures.worked
 
 pub returns-clause-workers : goal.returns-clause-workers
 returns-clause-workers g c =
     workers_of (meanings g.N.Net.link g.N.Net.place g.N.Net.faults g.N.Poller.poll_faults) c.args.plan
-    (λ x. x.lane.net) (λ x. x.lane.is_early) (λ x. x.lane.outcome) _ _ _ _ c.in-Ok-staff.ensures.nets c.give_back.ensures.nets
-    c.serve_lanes-accepted.ensures.count
+    (λ x. x.lane.net) (λ x. x.lane.is_early) (λ x. x.lane.outcome) _ _ _ _ c.in-Ok-staff.ensures.nets
+    c.give_back.ensures.nets c.serve_lanes-accepted.ensures.count
     c.serve_lanes-accepted.ensures.worked
 
 pub returns-clause-complete : goal.returns-clause-complete
@@ -70,8 +71,8 @@ returns-clause-complete g c none =
     subst (ServesAllCleanOr (meanings g.N.Net.link g.N.Net.place g.N.Net.faults g.N.Poller.poll_faults) c.args.plan
     c.give_back.new.more.items) (sym c.answer.ensures.served)
     (complete_of (meanings g.N.Net.link g.N.Net.place g.N.Net.faults g.N.Poller.poll_faults) c.args.plan
-    (λ x. x.lane.net) (λ x. x.lane.is_early) (λ x. x.lane.outcome) _ _ _ _ c.in-Ok-staff.ensures.nets c.give_back.ensures.nets
-    c.serve_lanes-accepted.ensures.count
+    (λ x. x.lane.net) (λ x. x.lane.is_early) (λ x. x.lane.outcome) _ _ _ _ c.in-Ok-staff.ensures.nets
+    c.give_back.ensures.nets c.serve_lanes-accepted.ensures.count
     c.serve_lanes-accepted.ensures.worked _ _ g.N.Net.accepted _ _ c.serve_lanes-accepted.ensures.accepted
     c.conclude-outcome.ensures none)
 

@@ -50,5 +50,6 @@ returns-clause-handed g c =
 pub returns-clause-leaves : goal.returns-clause-leaves
 returns-clause-leaves g c =
     left_served c.args.words.now _ c.args.deal c.args.plan.conns c.in-Some.board c.serve_on-outcome.result.1
-    c.leave_seat.new.pass c.serve_on-outcome.result.0 c.if-plan-eq0.false c.in-Some.ensures.seat c.serve_on-outcome.ensures.seat
-    c.serve_on-outcome.ensures.registered c.leave_seat.ensures.ready c.leave_seat.ensures.called
+    c.leave_seat.new.pass c.serve_on-outcome.result.0 c.if-plan-eq0.false c.in-Some.ensures.seat
+    c.serve_on-outcome.ensures.seat c.serve_on-outcome.ensures.registered c.leave_seat.ensures.ready
+    c.leave_seat.ensures.called

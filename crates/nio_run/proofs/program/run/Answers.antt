@@ -187,7 +187,7 @@ pub returns-clause-packets : goal.returns-clause-packets
 returns-clause-packets g c = λ plan says.
     unsent g.K.Sink plan (g.D.PacketNet.traffic c.args.packets.now) (g.D.PacketNet.place c.args.packets.now)
     (g.D.PacketNet.packet_faults c.args.packets.now) (g.D.Poller.poll_faults c.args.packets.now) c.args.output.now
-    c.requires.front_unused c.requires.back_unused c.requires.front_unbound c.requires.back_unbound
+    c.requires.client_unused c.requires.target_unused c.requires.client_unbound c.requires.target_unbound
 
 pub returns-in-Ok-Proxy-clause-accepts : goal.returns-in-Ok-Proxy-clause-accepts
 returns-in-Ok-Proxy-clause-accepts g c = λ plan way says.

@@ -1,10 +1,10 @@
 use Rattle.std.proofs.Common.{◌≡◌, None, Some, refl, sym, ap, ◌∙◌}
 use Rattle.nio_base.specs.declared.numbers.SelNo.{SelNo}
 use Rattle.nio_language.specs.declared.reply.Reply.TheVariants as reply
+use Rattle.nio_serial.proofs.SequenceCalls.{again-same}
 use Rattle.nio_serial.specs.Lines.{call_plan, by_index, after_told}
 use Rattle.nio_serial.specs.Replies.{told_reply}
 use Rattle.nio_sole.proofs.Asking.{makes_ran, told_by, tells_ran, refused_at}
-use Rattle.nio_sole.proofs.Calls.{again-same}
 use Rattle.nio_sole.proofs.Desks.{left_as, with_selections, progress_selection, places_selection}
 use Rattle.nio_sole.proofs.Desks.{places_selection_taken, nothing_there, progress_selection_back, places_selection_back}
 use Rattle.nio_sole.proofs.Desks.{own_on, still_made}

@@ -20,5 +20,6 @@ pub returns-in-None-clause-bad : goal.returns-in-None-clause-bad
 returns-in-None-clause-bad c n is =
     let finds = rw c.in-None.is at c.in_ok-line.ensures in (
       cc,
-      λ good. ⊎_elim (λ blank. false≢true (c.if-is_blank.ensures.1 blank)) (λ l. none-some l.0 (finds.only l.0 l.1)) good,
+      λ good. ⊎_elim (λ blank. false≢true (c.if-is_blank.ensures.1 blank)) (λ l. none-some l.0 (finds.only l.0 l.1))
+          good,
     )

@@ -17,7 +17,7 @@ returns-then-is_err-clause-cause g c failed =
 pub loop-init : goal.loop-init
 loop-init g c = record {
   relaying = c.requires.relaying;
-  server = refl;
+  target = refl;
   moves = moves_none _;
   still = none_failed _ _;
   count = c.requires.count;
@@ -26,7 +26,7 @@ loop-init g c = record {
 pub loop-preserved : goal.loop-preserved
 loop-preserved g c = record {
   relaying = c.select-ended.ensures.relaying;
-  server = c.select-ended.ensures.server ∙ c.loop.invariant.server;
+  target = c.select-ended.ensures.target ∙ c.loop.invariant.target;
   moves = moves_then _ _ _ c.loop.invariant.moves c.select-ended.ensures.moves;
   still = none_failed_then _ _ _ _ _ _ c.loop.invariant.still
       (where_done c.select-ended.result (sym c.is_err.ensures.value ∙ c.if-is_err.false) c.select-ended.ensures.still);

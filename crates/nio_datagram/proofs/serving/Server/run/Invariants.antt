@@ -11,7 +11,7 @@ invariant-loop g l =
     g.N.Poller.ready g.N.Poller.poll_faults l.net in
     record {
       relaying : IsRelaying l.relay here;
-      server : l.relay.back.peer ≡ l.fn.relay.back.peer;
+      target : l.relay.target.peer ≡ l.fn.relay.target.peer;
       moves : Moves first here;
       still : NoneFailed first.faults here.faults first.poll_faults here.poll_faults;
       count : l.relay.forth.sent ≤ l.count;

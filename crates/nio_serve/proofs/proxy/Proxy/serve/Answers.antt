@@ -16,43 +16,43 @@ loop-init g c = record {
 }
 
 pub returns-then-is_err-clause-watching : goal.returns-then-is_err-clause-watching
-returns-then-is_err-clause-watching g c = watching_then c.loop.invariant.seat c.turn-turned.ensures.watching
+returns-then-is_err-clause-watching g c = watching_then c.loop.invariant.seat c.round-served.ensures.watching
 
 pub returns-then-is_err-clause-serving : goal.returns-then-is_err-clause-serving
 returns-then-is_err-clause-serving g c =
-    serving_then g.W.Way _ _ _ _ _ _ c.loop.invariant.serving c.turn-turned.ensures.serving
+    serving_then g.W.Way _ _ _ _ _ _ c.loop.invariant.serving c.round-served.ensures.serving
 
 pub returns-then-is_err-clause-listens : goal.returns-then-is_err-clause-listens
 returns-then-is_err-clause-listens g c =
-    listens_on _ _ _ _ c.turn-turned.ensures.port c.turn-turned.ensures.listens c.loop.invariant.listens
+    listens_on _ _ _ _ c.round-served.ensures.port c.round-served.ensures.listens c.loop.invariant.listens
 
 pub returns-then-is_err-clause-role : goal.returns-then-is_err-clause-role
-returns-then-is_err-clause-role g c = ap (λ (p : Place). p.role) c.turn-turned.ensures.listens ∙ c.loop.invariant.role
+returns-then-is_err-clause-role g c = ap (λ (p : Place). p.role) c.round-served.ensures.listens ∙ c.loop.invariant.role
 
 pub returns-then-is_err-clause-cause : goal.returns-then-is_err-clause-cause
 returns-then-is_err-clause-cause g c failed =
-    cause_on g.W.Way _ _ _ _ _ c.loop.invariant.serving (c.turn-turned.ensures.cause failed)
+    cause_on g.W.Way _ _ _ _ _ c.loop.invariant.serving (c.round-served.ensures.cause failed)
 
 pub loop-preserved : goal.loop-preserved
 loop-preserved g c = record {
   serving =
       serving_quiet g.W.Way _ _ _ _ _ _
-      (serving_then g.W.Way _ _ _ _ _ _ c.loop.invariant.serving c.turn-turned.ensures.serving)
+      (serving_then g.W.Way _ _ _ _ _ _ c.loop.invariant.serving c.round-served.ensures.serving)
       c.stop_listening.ensures.quiet c.stop_listening.ensures.places c.stop_listening.ensures.connections;
   listens = c.stop_listening.ensures.listens;
   role = role_stays _ _ (c.stop_listening.ensures.quiet.places listener)
-      ∙ (ap (λ (p : Place). p.role) c.turn-turned.ensures.listens ∙ c.loop.invariant.role);
-  seat = seat_then (seat_then c.loop.invariant.seat c.turn-turned.ensures.watching.seat)
+      ∙ (ap (λ (p : Place). p.role) c.round-served.ensures.listens ∙ c.loop.invariant.role);
+  seat = seat_then (seat_then c.loop.invariant.seat c.round-served.ensures.watching.seat)
       c.stop_listening.ensures.board.seat;
-  watched = watched_on c.turn-turned.new.self.connections c.stop_listening.new.self.connections
+  watched = watched_on c.round-served.new.self.connections c.stop_listening.new.self.connections
       c.stop_listening.ensures.board c.stop_listening.ensures.connections
-      (where_done c.turn-turned.result (sym c.is_err.ensures.value ∙ c.if-is_err.false)
-      c.turn-turned.ensures.watching.all);
+      (where_done c.round-served.result (sym c.is_err.ensures.value ∙ c.if-is_err.false)
+      c.round-served.ensures.watching.all);
 }
 
 pub stop_listening-requires : goal.stop_listening-requires
 stop_listening-requires g c =
     record {
-      listens = listens_on _ _ _ _ c.turn-turned.ensures.port c.turn-turned.ensures.listens
+      listens = listens_on _ _ _ _ c.round-served.ensures.port c.round-served.ensures.listens
           c.loop.invariant.listens;
     }

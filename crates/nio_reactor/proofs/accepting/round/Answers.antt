@@ -2,7 +2,7 @@ use Rattle.std.proofs.Common.{refl, sym, subst}
 use Rattle.nio_poller.proofs.Marks.{within_trans}
 use Rattle.nio_serve.specs.Board.{AreReady}
 use Rattle.nio_reactor.proofs.Asked.{asked_more, asked_none}
-use Rattle.nio_reactor.proofs.accepting.turn.Goals as goal
+use Rattle.nio_reactor.proofs.accepting.round.Goals as goal
 
 pub returns-in-Err-Fault-clause-asked : goal.returns-in-Err-Fault-clause-asked
 returns-in-Err-Fault-clause-asked g c =

@@ -2,7 +2,7 @@ use Rattle.std.proofs.Common.{inl, inr}
 use Rattle.nio_serve.proofs.Slotting.{serving_then}
 use Rattle.nio_serve.proofs.Watching.{seat_then, watching_then}
 use Rattle.nio_serve.proofs.Working.{rose_from}
-use Rattle.nio_serve.proofs.proxy.Proxy.turn.Goals as goal
+use Rattle.nio_serve.proofs.proxy.Proxy.round.Goals as goal
 
 pub returns-then-is_err-2-clause-serving : goal.returns-then-is_err-2-clause-serving
 returns-then-is_err-2-clause-serving g c =

@@ -8,18 +8,18 @@ use Rattle.nio_reactor.specs.declared.door.Door.TheVariants as door
 use Rattle.nio_reactor.specs.declared.handover.Handover.{Handover}
 
 -- a connection and its worker
-abbrev pub turn_of : Handover → ℕ × ℕ
-turn_of h = (h.connection, h.worker)
+abbrev pub assignment_of : Handover → ℕ × ℕ
+assignment_of h = (h.connection, h.worker)
 
 -- the j-th connection of the worker, and the worker
-abbrev pub turn_at : Addr → ℕ → ℕ × ℕ
-turn_at at j = (worker_at at + j * workers_at at, worker_at at)
+abbrev pub assignment_at : Addr → ℕ → ℕ × ℕ
+assignment_at at j = (worker_at at + j * workers_at at, worker_at at)
 
 -- the first n
-abbrev pub turns_of : Door → ℕ → List (ℕ × ℕ)
-turns_of door.Unasked n = []
-turns_of (door.Open at) n = map (turn_at at) (below n)
-turns_of (door.Closed at) n = map (turn_at at) (below n)
+abbrev pub assignments_of : Door → ℕ → List (ℕ × ℕ)
+assignments_of door.Unasked n = []
+assignments_of (door.Open at) n = map (assignment_at at) (below n)
+assignments_of (door.Closed at) n = map (assignment_at at) (below n)
 
 -- the connection that comes after n
 abbrev pub next_of : Door → ℕ → ℕ
