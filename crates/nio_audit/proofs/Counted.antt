@@ -3,6 +3,7 @@ use Rattle.std.proofs.Common.{◌≡◌, ℕ, suc, ◌+◌, ◌==◌, ◌≤◌,
 use Rattle.std.proofs.Common.{if◌then◌else◌, refl, ap, sym, ◌∙◌, arith, eqb-true, eq-eqb, ◌<◌, inl, inr}
 use Rattle.std.proofs.lemmas.Bool.{ltb-true, ltb-false, lt-ltb, le-ltb, cases_lt}
 use Rattle.nio_audit.specs.Counting.{IsCounted, channels_after, keys_after}
+use Rattle.nio_audit.specs.StepNumbers.{number_of}
 use Rattle.nio_base.specs.declared.limits.Limits.{Limits}
 use Rattle.nio_base.specs.declared.numbers.CallerNo.{CallerNo}
 use Rattle.nio_base.specs.declared.numbers.SelNo.{SelNo}
@@ -80,7 +81,7 @@ claimed_put f keys counted s i x same t j =
 pub counted-step : (l : Limits) (own : List Act) (st : State) (me : CallerNo) (act : Act) (channels : ℕ) (keys : ℕ → ℕ)
     → IsSound st
     → Condition l own st me act → Answers st me act → IsCounted st channels keys
-    → IsCounted (effect st me act) (channels_after channels act) (keys_after keys act)
+    → IsCounted (effect st me act) (channels_after channels (number_of act)) (keys_after keys (number_of act))
 counted-step l own st me (MakeChannel c kind found) channels keys sound may answers h = record {
   made = counted_more (λ x. x.made) st.chan c.0 channels (if found then st.chan c.0 else _) ((all_made h c.0).1 may.1)
       (made_after (λ x. x.made) found (st.chan c.0) _ (found_is found (st.chan c.0).made answers) refl) h.made;

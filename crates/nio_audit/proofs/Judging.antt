@@ -12,6 +12,7 @@ use Rattle.nio_audit.specs.DueIndexes.{IsBefore}
 use Rattle.nio_audit.specs.Following.{Follows, HasJudged}
 use Rattle.nio_audit.specs.Remembering.{Knowledge, knowledge_of, learned}
 use Rattle.nio_audit.specs.Remembers.{Remembers}
+use Rattle.nio_audit.specs.StepNumbers.{number_of}
 use Rattle.nio_audit.specs.TableWords.{row}
 use Rattle.nio_audit.specs.declared.judge.Judge.{Judge}
 use Rattle.nio_base.specs.declared.limits.Limits.{Limits}
@@ -57,7 +58,7 @@ module _ {j : Judge} {past : List Event} (e : Event) (f : Follows j past) where
   )
 
 bounded_act : (l : _) (past : List Event) (me : _) (act : Act) → IsLegal l past
-    → IsStep l past (record { caller = me; act = act }) → IsBounded (state_after past) act
+    → IsStep l past (record { caller = me; act = act }) → IsBounded (state_after past) (number_of act)
 bounded_act l past me (ClaimAgain s i c from found) legal step =
     let law = claims_again_the_removed l me s i c from found past []
     (legal_more l past (event_of me (ClaimAgain s i c from found)) legal step) in
@@ -66,16 +67,16 @@ bounded_act l past me _ legal step = tt
 
 -- the serial of an index that is claimed again has a next
 pub step-bounded : {j : Judge} {past : List Event} (e : Event) → Follows j past → IsLegal j.limits past → IsPassed j e
-    → IsBounded (state_of j) e.act
+    → IsBounded (state_of j) (number_of e.act)
 step-bounded {j = j} {past = past} e f legal passed =
-    subst (λ (st : State). IsBounded st e.act) (sym f.state)
+    subst (λ (st : State). IsBounded st (number_of e.act)) (sym f.state)
     (bounded_act j.limits past e.caller e.act legal ((step_iff e f).0 passed))
 
 -- what going on by an event leaves
 pub record GoesOn (j j' : Judge) (now : ℕ) (e : Event) : Type 0 where
   pub state : state_of j' ≡ effect (state_of j) e.caller e.act
-  pub channels : j'.counts.channels ≡ channels_after j.counts.channels e.act
-  pub keys : row j'.counts.keys ≡ keys_after (row j.counts.keys) e.act
+  pub channels : j'.counts.channels ≡ channels_after j.counts.channels (number_of e.act)
+  pub keys : row j'.counts.keys ≡ keys_after (row j.counts.keys) (number_of e.act)
   pub before : IsBefore j'.dues (now + 1)
   pub knowledge : knowledge_of j'.memory ≡ learned now e.caller e.act (knowledge_of j.memory)
 
@@ -86,7 +87,8 @@ follows-more {j = j} {j' = j'} {past = past} e f legal passed on = record {
   state = on.state ∙ (ap (λ st. effect st e.caller e.act) f.state ∙ sym (state_after-more past e));
   counted = subst (λ (st : State). IsCounted st j'.counts.channels (row j'.counts.keys)) (sym on.state)
       (subst (λ (n : ℕ). IsCounted (effect (state_of j) e.caller e.act) n (row j'.counts.keys)) (sym on.channels)
-      (subst (λ (g : ℕ → ℕ). IsCounted (effect (state_of j) e.caller e.act) (channels_after j.counts.channels e.act) g)
+      (subst (λ (g : ℕ → ℕ). IsCounted (effect (state_of j) e.caller e.act)
+      (channels_after j.counts.channels (number_of e.act)) g)
       (sym on.keys)
       (counted-step j.limits (mine e.caller past) (state_of j) e.caller e.act j.counts.channels (row j.counts.keys)
       (subst IsSound (sym f.state) (legal-sound j.limits past legal)) ((condition_iff e f).0 passed.1) passed.2

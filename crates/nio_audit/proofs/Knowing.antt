@@ -7,8 +7,8 @@ use Rattle.nio_audit.proofs.Hearing.{index-own, index-other, closing-own, closin
 use Rattle.nio_audit.proofs.Latest.{latest-none}
 use Rattle.std.proofs.lemmas.Bool.{le-ltb}
 use Rattle.std.proofs.Math.Bool.{or-false}
-use Rattle.nio_audit.specs.Remembering.{Knowledge, learned, nothing_known, learned_enrolled, learned_index}
-use Rattle.nio_audit.specs.Remembering.{learned_closing}
+use Rattle.nio_audit.specs.Remembering.{Knowledge, learned, nothing_known, enrolled_seen, enrolled_now, looked_again}
+use Rattle.nio_audit.specs.Remembering.{published_now, free_tried, with_claim, without_claim, turn_seen, keys_seen}
 use Rattle.nio_audit.specs.Remembers.{RemembersHold, RemembersEnrolled, RemembersIndex, RemembersClosing, Remembers}
 use Rattle.nio_audit.specs.TableWords.{put_at_three}
 use Rattle.nio_audit.specs.declared.memory.ClosingMemory.{ClosingMemory}
@@ -99,11 +99,11 @@ enrolments-heard : (now : ℕ) (me : CallerNo) (act : Act) (k : Knowledge) (n c 
     → (learned now me act k).enrolments n c s ≡ (if me.0 == n then heard_enrolled now act c s (k.enrolments n c s)
     else k.enrolments n c s)
 enrolments-heard now me (LookReg c' s' found) k n c s =
-    heard_three k.enrolments me.0 c'.0 s'.0 (learned_enrolled now (LookReg c' s' found))
+    heard_three k.enrolments me.0 c'.0 s'.0 (enrolled_seen now found)
     (λ b m. enrolled_parts now (if b then Some found else None) false m) (λ m. refl) (λ m. refl) n c s
 enrolments-heard now me (Enrol c' s' i serial found) k n c s =
     let key : Option KeyId = Some (record { index = i; serial = serial }) in
-    heard_three k.enrolments me.0 c'.0 s'.0 (learned_enrolled now (Enrol c' s' i serial found))
+    heard_three k.enrolments me.0 c'.0 s'.0 (enrolled_now now (record { index = i; serial = serial }))
     (λ b m. enrolled_parts now (if b then Some key else None) b m) (λ m. refl) (λ m. refl) n c s
 enrolments-heard now me _ k n c s = cond_same (me.0 == n) (k.enrolments n c s)
 
@@ -111,36 +111,37 @@ indexes-heard : (now : ℕ) (me : CallerNo) (act : Act) (k : Knowledge) (n s i :
     → (learned now me act k).indexes n s i
     ≡ (if me.0 == n then heard_index now act s i (k.indexes n s i) else k.indexes n s i)
 indexes-heard now me (LookKey s' i' found) k n s i =
-    heard_three k.indexes me.0 s'.0 i' (learned_index now (LookKey s' i' found))
+    heard_three k.indexes me.0 s'.0 i' (looked_again now found)
     (λ b m. heard_parts now (if b then Some found else None) false false None None m) (λ m. refl) (λ m. refl) n s i
 indexes-heard now me (Pin s' i' found) k n s i =
-    heard_three k.indexes me.0 s'.0 i' (learned_index now (Pin s' i' found))
+    heard_three k.indexes me.0 s'.0 i' (looked_again now found)
     (λ b m. heard_parts now (if b then Some found else None) false false None None m) (λ m. refl) (λ m. refl) n s i
 indexes-heard now me (Publish s' i' found) k n s i =
-    heard_three k.indexes me.0 s'.0 i' (learned_index now (Publish s' i' found))
+    heard_three k.indexes me.0 s'.0 i' (published_now now)
     (λ b m. heard_parts now None b false None (if b then Some false else None) m) (λ m. refl) (λ m. refl) n s i
 indexes-heard now me (TakeFree s' i' true) k n s i =
-    heard_three k.indexes me.0 s'.0 i' (learned_index now (TakeFree s' i' true))
+    heard_three k.indexes me.0 s'.0 i' (free_tried now true)
     (λ b m. heard_parts now None false b None None m) (λ m. refl) (λ m. refl) n s i
 indexes-heard now me (TakeFree s' i' false) k n s i =
-    heard_three k.indexes me.0 s'.0 i' (learned_index now (TakeFree s' i' false)) (λ b m. m) (λ m. refl)
+    heard_three k.indexes me.0 s'.0 i' (free_tried now false) (λ b m. m) (λ m. refl)
     (λ m. refl) n s i
 indexes-heard now me (Claim s' i' c false) k n s i =
-    heard_three k.indexes me.0 s'.0 i' (learned_index now (Claim s' i' c false))
+    heard_three k.indexes me.0 s'.0 i' (with_claim (record { channel = c; serial = 0 }) false)
     (λ b m. heard_parts now None false false (if b then Some (Some (record { channel = c; serial = 0 })) else None)
     (if b then Some true else None) m) (λ m. refl) (λ m. refl) n s i
 indexes-heard now me (Claim s' i' c true) k n s i =
-    heard_three k.indexes me.0 s'.0 i' (learned_index now (Claim s' i' c true)) (λ b m. m) (λ m. refl) (λ m. refl) n s i
+    heard_three k.indexes me.0 s'.0 i' (with_claim (record { channel = c; serial = 0 }) true) (λ b m. m)
+    (λ m. refl) (λ m. refl) n s i
 indexes-heard now me (ClaimAgain s' i' c from false) k n s i =
-    heard_three k.indexes me.0 s'.0 i' (learned_index now (ClaimAgain s' i' c from false))
+    heard_three k.indexes me.0 s'.0 i' (with_claim (record { channel = c; serial = suc from.serial }) false)
     (λ b m. heard_parts now None false false
     (if b then Some (Some (record { channel = c; serial = suc from.serial })) else None)
     (if b then Some true else None) m) (λ m. refl) (λ m. refl) n s i
 indexes-heard now me (ClaimAgain s' i' c from true) k n s i =
-    heard_three k.indexes me.0 s'.0 i' (learned_index now (ClaimAgain s' i' c from true)) (λ b m. m) (λ m. refl)
-    (λ m. refl) n s i
+    heard_three k.indexes me.0 s'.0 i' (with_claim (record { channel = c; serial = suc from.serial }) true) (λ b m. m)
+    (λ m. refl) (λ m. refl) n s i
 indexes-heard now me (Unpin s' i') k n s i =
-    heard_three k.indexes me.0 s'.0 i' (learned_index now (Unpin s' i'))
+    heard_three k.indexes me.0 s'.0 i' without_claim
     (λ b m. heard_parts now None false false (if b then Some None else None) None m) (λ m. refl) (λ m. refl) n s i
 indexes-heard now me _ k n s i = cond_same (me.0 == n) (k.indexes n s i)
 
@@ -153,17 +154,17 @@ kept_closing m = ap (λ b. record { entered = b; below = if m.entered then m.bel
 closings-heard : (now : ℕ) (me : CallerNo) (act : Act) (k : Knowledge) (n s : ℕ)
     → (learned now me act k).closings n s ≡ (if me.0 == n then heard_closing act s (k.closings n s) else k.closings n s)
 closings-heard now me (Enter s' None) k n s =
-    heard_two k.closings me.0 s'.0 (learned_closing now (Enter s' None))
+    heard_two k.closings me.0 s'.0 (turn_seen None)
     (λ b m. record { entered = m.entered || b; below = if m.entered then m.below else m.below })
     (λ m. ap (λ k'. record { entered = m.entered || true; below = k' }) (sym (cond_same m.entered m.below)))
     kept_closing n s
 closings-heard now me (Enter s' (Some u)) k n s =
-    heard_two k.closings me.0 s'.0 (learned_closing now (Enter s' (Some u)))
+    heard_two k.closings me.0 s'.0 (turn_seen (Some u))
     (λ b m. record { entered = m.entered || false; below = if m.entered then m.below else m.below })
     (λ m. ap (λ k'. record { entered = m.entered || false; below = k' }) (sym (cond_same m.entered m.below)))
     kept_closing n s
 closings-heard now me (LookKeys s' found) k n s =
-    heard_two k.closings me.0 s'.0 (learned_closing now (LookKeys s' found))
+    heard_two k.closings me.0 s'.0 (keys_seen found)
     (λ b m. record {
       entered = m.entered || false;
       below =

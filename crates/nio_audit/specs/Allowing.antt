@@ -14,8 +14,15 @@ use Rattle.nio_history.specs.Conditions.{Condition, IsChannel, IsKey, IsSelector
 use Rattle.nio_history.specs.Conditions.{may_remove_cancelled}
 use Rattle.nio_history.specs.State.{State, last_serial}
 use Rattle.nio_history.specs.declared.act.Act.{Act}
-use Rattle.nio_history.specs.declared.act.Act.TheVariants.{MakeChannel, Claim as ClaimAct, RaiseKeys, RaiseChannels}
-use Rattle.nio_history.specs.declared.act.Act.TheVariants.{Publish, Enrol, Remove, SetMode, ClearMark, ClaimAgain}
+use Rattle.nio_history.specs.declared.act.Act.TheVariants.{DrawBit, MakeSelector, LookSelectors, Wake, LookGate}
+use Rattle.nio_history.specs.declared.act.Act.TheVariants.{SetInterrupt, TakeInterrupt, LookInterrupt, LookKey}
+use Rattle.nio_history.specs.declared.act.Act.TheVariants.{CancelKey, LookInterest, SwapInterest, OrInterest}
+use Rattle.nio_history.specs.declared.act.Act.TheVariants.{AndInterest, SwapNote, LookNote, MakeChannel, LookChannel}
+use Rattle.nio_history.specs.declared.act.Act.TheVariants.{Claim as ClaimAct, RaiseKeys, LookKeys, Publish, LookReg}
+use Rattle.nio_history.specs.declared.act.Act.TheVariants.{Enrol, TakeTurn, BeginLook, GiveTurn, Remove, LookMark, Mark}
+use Rattle.nio_history.specs.declared.act.Act.TheVariants.{UnselectBit, EndWake, LookChannels, RaiseChannels}
+use Rattle.nio_history.specs.declared.act.Act.TheVariants.{TryHoldBit, Release, SetMode, CloseBit, ShutBit, Enter, Pin}
+use Rattle.nio_history.specs.declared.act.Act.TheVariants.{Unpin, ClearMark, ClaimAgain, LookFree, PutFree, TakeFree}
 
 -- the state that a judge has
 abbrev pub state_of : Judge → State
@@ -30,29 +37,70 @@ may_clear_out_by st k me s i = has_entered st me s && nat_lt i (k.closings me.0 
 
 -- ---- the condition of a step, where so many channels are made and so many indexes are claimed
 
-abbrev pub Allowed : Limits → Knowledge → ℕ → (ℕ → ℕ) → State → CallerNo → Act → Type 0
-Allowed l k channels keys st me (MakeChannel c kind found) = IsChannel l c × (c.0 ≤ channels)
-Allowed l k channels keys st me (ClaimAct s i c found) =
-    IsKey l s i × IsChannel l c × IsTrue (holds st me c) × (i ≤ keys s.0)
-Allowed l k channels keys st me (RaiseKeys s n found) = IsSelector l s × (n ≤ l.keys) × (n ≤ keys s.0)
-Allowed l k channels keys st me (RaiseChannels n found) = (n ≤ l.channels) × (n ≤ channels)
-Allowed l k channels keys st me (Publish s i found) =
-    IsKey l s i × IsTrue (may_publish_by st k me (k.indexes me.0 s.0 i).claim)
-Allowed l k channels keys st me (Enrol c s i serial found) =
-    IsChannel l c × IsKey l s i × ((k.indexes me.0 s.0 i).claim ≡ Some (record { channel = c; serial = serial }))
-    × IsTrue (holds st me c)
-    × IsTrue (is_clear_for k me c.0 s.0)
-Allowed l k channels keys st me (Remove s i found) =
-    IsKey l s i × IsTrue (may_remove_cancelled st me s i || may_clear_out_by st k me s i)
-Allowed l k channels keys st me (SetMode c blocking found) =
-    IsChannel l c × IsTrue (holds st me c)
-    × (IsTrue blocking → (s : ℕ) → s < l.selectors → IsTrue (is_clear_for k me c.0 s))
-Allowed l k channels keys st me (ClearMark s i found) = IsKey l s i × IsTrue (k.indexes me.0 s.0 i).unpublished
-Allowed l k channels keys st me (ClaimAgain s i c from found) =
-    IsKey l s i × IsChannel l c × IsTrue (holds st me c) × IsTrue (has_taken st me s i)
-    × (found_by (k.indexes me.0 s.0 i) ≡ Some from)
-    × (from.serial < last_serial)
-Allowed l k channels keys st me act = Condition l [] st me act
+module _ (l : Limits) (k : Knowledge) (channels : ℕ) (keys : ℕ → ℕ) (st : State) (me : CallerNo) where
+  -- the condition as it stands: it reads none of the caller's own acts
+  abbrev ByState : Act → Type 0
+  ByState act = Condition l [] st me act
+
+  abbrev pub Allowed : Act → Type 0
+  Allowed (DrawBit n found) = ByState (DrawBit n found)
+  Allowed (MakeSelector s found) = ByState (MakeSelector s found)
+  Allowed (LookSelectors found) = ByState (LookSelectors found)
+  Allowed (Wake s found) = ByState (Wake s found)
+  Allowed (LookGate s found) = ByState (LookGate s found)
+  Allowed (SetInterrupt n found) = ByState (SetInterrupt n found)
+  Allowed (TakeInterrupt found) = ByState (TakeInterrupt found)
+  Allowed (LookInterrupt found) = ByState (LookInterrupt found)
+  Allowed (LookKey s i found) = ByState (LookKey s i found)
+  Allowed (CancelKey s i found) = ByState (CancelKey s i found)
+  Allowed (LookInterest s i found) = ByState (LookInterest s i found)
+  Allowed (SwapInterest s i ops found) = ByState (SwapInterest s i ops found)
+  Allowed (OrInterest s i ops found) = ByState (OrInterest s i ops found)
+  Allowed (AndInterest s i ops found) = ByState (AndInterest s i ops found)
+  Allowed (SwapNote s i att found) = ByState (SwapNote s i att found)
+  Allowed (LookNote s i found) = ByState (LookNote s i found)
+  Allowed (MakeChannel c kind found) = IsChannel l c × (c.0 ≤ channels)
+  Allowed (LookChannel c found) = ByState (LookChannel c found)
+  Allowed (ClaimAct s i c found) =
+      IsKey l s i × IsChannel l c × IsTrue (holds st me c) × (i ≤ keys s.0)
+  Allowed (RaiseKeys s n found) = IsSelector l s × (n ≤ l.keys) × (n ≤ keys s.0)
+  Allowed (LookKeys s found) = ByState (LookKeys s found)
+  Allowed (Publish s i found) =
+      IsKey l s i × IsTrue (may_publish_by st k me (k.indexes me.0 s.0 i).claim)
+  Allowed (LookReg c s found) = ByState (LookReg c s found)
+  Allowed (Enrol c s i serial found) =
+      IsChannel l c × IsKey l s i × ((k.indexes me.0 s.0 i).claim ≡ Some (record { channel = c; serial = serial }))
+      × IsTrue (holds st me c)
+      × IsTrue (is_clear_for k me c.0 s.0)
+  Allowed (TakeTurn s found) = ByState (TakeTurn s found)
+  Allowed (BeginLook s found) = ByState (BeginLook s found)
+  Allowed (GiveTurn s) = ByState (GiveTurn s)
+  Allowed (Remove s i found) =
+      IsKey l s i × IsTrue (may_remove_cancelled st me s i || may_clear_out_by st k me s i)
+  Allowed (LookMark s i found) = ByState (LookMark s i found)
+  Allowed (Mark s i from told found) = ByState (Mark s i from told found)
+  Allowed (UnselectBit s i found) = ByState (UnselectBit s i found)
+  Allowed (EndWake s found) = ByState (EndWake s found)
+  Allowed (LookChannels found) = ByState (LookChannels found)
+  Allowed (RaiseChannels n found) = (n ≤ l.channels) × (n ≤ channels)
+  Allowed (TryHoldBit c found) = ByState (TryHoldBit c found)
+  Allowed (Release c) = ByState (Release c)
+  Allowed (SetMode c blocking found) =
+      IsChannel l c × IsTrue (holds st me c)
+      × (IsTrue blocking → (s : ℕ) → s < l.selectors → IsTrue (is_clear_for k me c.0 s))
+  Allowed (CloseBit c found) = ByState (CloseBit c found)
+  Allowed (ShutBit s found) = ByState (ShutBit s found)
+  Allowed (Enter s found) = ByState (Enter s found)
+  Allowed (Pin s i found) = ByState (Pin s i found)
+  Allowed (Unpin s i) = ByState (Unpin s i)
+  Allowed (ClearMark s i found) = IsKey l s i × IsTrue (k.indexes me.0 s.0 i).unpublished
+  Allowed (ClaimAgain s i c from found) =
+      IsKey l s i × IsChannel l c × IsTrue (holds st me c) × IsTrue (has_taken st me s i)
+      × (found_by (k.indexes me.0 s.0 i) ≡ Some from)
+      × (from.serial < last_serial)
+  Allowed (LookFree s j found) = ByState (LookFree s j found)
+  Allowed (PutFree s i) = ByState (PutFree s i)
+  Allowed (TakeFree s i found) = ByState (TakeFree s i found)
 
 -- the same of a judge
 abbrev pub IsAllowed : Judge → CallerNo → Act → Type 0

@@ -1,16 +1,22 @@
--- How many channels are made and how many indexes of each selector are claimed, after an act.
+-- How many channels are made and how many indexes of each selector are claimed, after a step with this number.
 use Rattle.std.specs.Prelude.{◌≡◌, ℕ, ◌+◌, max, nat_lt}
+use Rattle.nio_audit.specs.StepNumbers.{StepNumber, no_number, channel_made, index_claimed, index_claimed_again}
+use Rattle.nio_audit.specs.StepNumbers.{part_looked_at}
 use Rattle.nio_history.specs.State.{State, put}
-use Rattle.nio_history.specs.declared.act.Act.{Act}
-use Rattle.nio_history.specs.declared.act.Act.TheVariants.{Claim, MakeChannel}
 
-abbrev pub channels_after : ℕ → Act → ℕ
-channels_after n (MakeChannel c kind found) = max n (c.0 + 1)
-channels_after n _ = n
+abbrev pub channels_after : ℕ → StepNumber → ℕ
+channels_after n no_number = n
+channels_after n (channel_made c) = max n (c + 1)
+channels_after n (index_claimed _ _) = n
+channels_after n (index_claimed_again _ _ _) = n
+channels_after n (part_looked_at _) = n
 
-abbrev pub keys_after : (ℕ → ℕ) → Act → ℕ → ℕ
-keys_after f (Claim s i c found) = put f s.0 (max (f s.0) (i + 1))
-keys_after f _ = f
+abbrev pub keys_after : (ℕ → ℕ) → StepNumber → ℕ → ℕ
+keys_after f no_number = f
+keys_after f (channel_made _) = f
+keys_after f (index_claimed s i) = put f s (max (f s) (i + 1))
+keys_after f (index_claimed_again _ _ _) = f
+keys_after f (part_looked_at _) = f
 
 -- the channels below the number are made and no others, and the indexes of each selector below its number are claimed
 -- and no others

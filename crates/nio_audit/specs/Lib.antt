@@ -1,5 +1,6 @@
 pub mod TableWords
 pub mod StateOf
+pub mod StepNumbers
 pub mod Bounds
 pub mod Remembering
 pub mod DueIndexes

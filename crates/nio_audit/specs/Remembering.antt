@@ -1,5 +1,5 @@
 -- What callers know from their own acts, and what they know more after each.
-use Rattle.std.specs.Prelude.{ℕ, suc, max, Bool, true, false, ◌||◌, if◌then◌else◌, Some, None, is_none}
+use Rattle.std.specs.Prelude.{ℕ, suc, max, Bool, true, false, ◌||◌, if◌then◌else◌, Some, None, Option, is_none}
 use Rattle.nio_audit.specs.TableWords.{grid, cube, put_at_three}
 use Rattle.nio_audit.specs.declared.memory.Claim.{Claim}
 use Rattle.nio_audit.specs.declared.memory.ClosingMemory.{ClosingMemory}
@@ -8,12 +8,22 @@ use Rattle.nio_audit.specs.declared.memory.IndexMemory.{IndexMemory}
 use Rattle.nio_audit.specs.declared.memory.Memory.{Memory}
 use Rattle.nio_audit.specs.declared.memory.EnrolledMemory.{EnrolledMemory}
 use Rattle.nio_base.specs.declared.numbers.CallerNo.{CallerNo}
+use Rattle.nio_base.specs.declared.numbers.ChanNo.{ChanNo}
+use Rattle.nio_base.specs.declared.numbers.KeyId.{KeyId}
+use Rattle.nio_base.specs.declared.numbers.SelNo.{SelNo}
 use Rattle.nio_history.specs.Sets.{is_in_key_set}
 use Rattle.nio_history.specs.State.{put_at, unclaimed}
 use Rattle.nio_history.specs.declared.act.Act.{Act}
-use Rattle.nio_history.specs.declared.act.Act.TheVariants.{LookKey, LookChannel, Claim as ClaimAct, LookKeys, LookReg}
-use Rattle.nio_history.specs.declared.act.Act.TheVariants.{Enrol, TryHoldBit, Enter, Publish, Pin, Unpin, ClaimAgain}
-use Rattle.nio_history.specs.declared.act.Act.TheVariants.{TakeFree}
+use Rattle.nio_history.specs.declared.act.Act.TheVariants.{DrawBit, MakeSelector, LookSelectors, Wake, LookGate}
+use Rattle.nio_history.specs.declared.act.Act.TheVariants.{SetInterrupt, TakeInterrupt, LookInterrupt, LookKey}
+use Rattle.nio_history.specs.declared.act.Act.TheVariants.{CancelKey, LookInterest, SwapInterest, OrInterest}
+use Rattle.nio_history.specs.declared.act.Act.TheVariants.{AndInterest, SwapNote, LookNote, MakeChannel, LookChannel}
+use Rattle.nio_history.specs.declared.act.Act.TheVariants.{Claim as ClaimAct, RaiseKeys, LookKeys, Publish, LookReg}
+use Rattle.nio_history.specs.declared.act.Act.TheVariants.{Enrol, TakeTurn, BeginLook, GiveTurn, Remove, LookMark, Mark}
+use Rattle.nio_history.specs.declared.act.Act.TheVariants.{UnselectBit, EndWake, LookChannels, RaiseChannels}
+use Rattle.nio_history.specs.declared.act.Act.TheVariants.{TryHoldBit, Release, SetMode, CloseBit, ShutBit, Enter, Pin}
+use Rattle.nio_history.specs.declared.act.Act.TheVariants.{Unpin, ClearMark, ClaimAgain, LookFree, PutFree, TakeFree}
+use Rattle.nio_history.specs.declared.found.Chan.{Chan}
 use Rattle.nio_history.specs.declared.found.Stage.{Stage}
 
 -- by the caller, and then by the channel; the channel and the selector; the selector and the index; the selector
@@ -52,81 +62,117 @@ nothing_known = record {
 abbrev pub outside_at : IndexMemory → ℕ → ℕ
 outside_at m serial = if is_in_key_set m.found serial then m.outside_before else m.looked
 
+-- ---- what an act at this moment tells of one channel
+
+-- it tried to take the hold
+abbrev pub hold_tried : ℕ → Option CallerNo → HoldMemory → HoldMemory
+hold_tried now found m = record m { taken = if is_none found then now else m.taken }
+
+abbrev pub channel_seen : ℕ → Chan → HoldMemory → HoldMemory
+channel_seen now found m = record m { unblocked = if found.blocking then m.unblocked else now }
+
+-- ---- of one channel and selector
+
+abbrev pub enrolled_seen : ℕ → Option KeyId → EnrolledMemory → EnrolledMemory
+enrolled_seen now found m = record m { found_at = now; key = found }
+
+abbrev pub enrolled_now : ℕ → KeyId → EnrolledMemory → EnrolledMemory
+enrolled_now now key m = record { found_at = now; key = Some key; enrolled = now }
+
+-- ---- of one index
+
 abbrev pub looked_again : ℕ → Stage → IndexMemory → IndexMemory
 looked_again now found m = record m { looked = now; found = found; outside_before = outside_at m found.serial }
 
+abbrev pub published_now : ℕ → IndexMemory → IndexMemory
+published_now now m = record m { published = now; unpublished = false }
+
+-- it tried to take the index out of the free ones
+abbrev pub free_tried : ℕ → Bool → IndexMemory → IndexMemory
+free_tried now found m = record m { taken = if found then now else m.taken }
+
+-- it tried to make this claim, and found whether the index was claimed or pinned
 abbrev pub with_claim : Claim → Bool → IndexMemory → IndexMemory
 with_claim claim true m = m
 with_claim claim false m = record m { claim = Some claim; unpublished = true }
 
--- the same, where the memory of the caller is changed
+abbrev pub without_claim : IndexMemory → IndexMemory
+without_claim m = record m { claim = None }
 
-abbrev pub with_hold : ℕ → ℕ → HoldMemory → Knowledge → Knowledge
-with_hold n c m k = record k { holds = put_at k.holds n c m }
+-- ---- of one selector
 
-abbrev pub with_enrolled : ℕ → ℕ → ℕ → EnrolledMemory → Knowledge → Knowledge
-with_enrolled n c s m k = record k { enrolments = put_at_three k.enrolments n c s m }
+-- it looked at the turn, to enter
+abbrev pub turn_seen : Option CallerNo → ClosingMemory → ClosingMemory
+turn_seen found m = record m { entered = m.entered || is_none found }
 
-abbrev pub with_index : ℕ → ℕ → ℕ → IndexMemory → Knowledge → Knowledge
-with_index n s i m k = record k { indexes = put_at_three k.indexes n s i m }
+-- it looked at the keys' high-water mark
+abbrev pub keys_seen : ℕ → ClosingMemory → ClosingMemory
+keys_seen found m = record m { below = if m.entered then max m.below found else m.below }
 
-abbrev pub with_closing : ℕ → ℕ → ClosingMemory → Knowledge → Knowledge
-with_closing n s m k = record k { closings = put_at k.closings n s m }
+-- ---- what all callers know, after a change of what one of them knows
 
-abbrev pub claimed : CallerNo → ℕ → ℕ → Claim → Bool → Knowledge → Knowledge
-claimed me s i claim found k = with_index me.0 s i (with_claim claim found (k.indexes me.0 s i)) k
+abbrev pub with_hold : CallerNo → ChanNo → (HoldMemory → HoldMemory) → Knowledge → Knowledge
+with_hold me c change k = record k { holds = put_at k.holds me.0 c.0 (change (k.holds me.0 c.0)) }
 
--- what an act tells of one channel, of one channel and selector, of one index and of one selector
+abbrev pub with_enrolled : CallerNo → ChanNo → SelNo → (EnrolledMemory → EnrolledMemory) → Knowledge → Knowledge
+with_enrolled me c s change k =
+    record k { enrolments = put_at_three k.enrolments me.0 c.0 s.0 (change (k.enrolments me.0 c.0 s.0)) }
 
-abbrev pub learned_hold : ℕ → Act → HoldMemory → HoldMemory
-learned_hold now (TryHoldBit c found) m = record m { taken = if is_none found then now else m.taken }
-learned_hold now (LookChannel c found) m = record m { unblocked = if found.blocking then m.unblocked else now }
-learned_hold now _ m = m
+abbrev pub with_index : CallerNo → SelNo → ℕ → (IndexMemory → IndexMemory) → Knowledge → Knowledge
+with_index me s i change k =
+    record k { indexes = put_at_three k.indexes me.0 s.0 i (change (k.indexes me.0 s.0 i)) }
 
-abbrev pub learned_enrolled : ℕ → Act → EnrolledMemory → EnrolledMemory
-learned_enrolled now (LookReg c s found) m = record m { found_at = now; key = found }
-learned_enrolled now (Enrol c s i serial found) m =
-    record { found_at = now; key = Some (record { index = i; serial = serial }); enrolled = now }
-learned_enrolled now _ m = m
+abbrev pub with_closing : CallerNo → SelNo → (ClosingMemory → ClosingMemory) → Knowledge → Knowledge
+with_closing me s change k = record k { closings = put_at k.closings me.0 s.0 (change (k.closings me.0 s.0)) }
 
-abbrev pub learned_index : ℕ → Act → IndexMemory → IndexMemory
-learned_index now (LookKey s i found) m = looked_again now found m
-learned_index now (Pin s i found) m = looked_again now found m
-learned_index now (Publish s i found) m = record m { published = now; unpublished = false }
-learned_index now (TakeFree s i found) m = record m { taken = if found then now else m.taken }
-learned_index now (ClaimAct s i c found) m = with_claim (record { channel = c; serial = 0 }) found m
-learned_index now (ClaimAgain s i c from found) m =
-    with_claim (record { channel = c; serial = suc from.serial }) found m
-learned_index now (Unpin s i) m = record m { claim = None }
-learned_index now _ m = m
-
-abbrev pub learned_closing : ℕ → Act → ClosingMemory → ClosingMemory
-learned_closing now (Enter s found) m = record m { entered = m.entered || is_none found }
-learned_closing now (LookKeys s found) m = record m { below = if m.entered then max m.below found else m.below }
-learned_closing now _ m = m
-
--- what the caller knows after its act
+-- what callers know after this caller's act
 abbrev pub learned : ℕ → CallerNo → Act → Knowledge → Knowledge
-learned now me (TryHoldBit c found) k = with_hold me.0 c.0 (learned_hold now (TryHoldBit c found) (k.holds me.0 c.0)) k
-learned now me (LookChannel c found) k =
-    with_hold me.0 c.0 (learned_hold now (LookChannel c found) (k.holds me.0 c.0)) k
-learned now me (LookReg c s found) k =
-    with_enrolled me.0 c.0 s.0 (learned_enrolled now (LookReg c s found) (k.enrolments me.0 c.0 s.0)) k
-learned now me (Enrol c s i serial found) k =
-    with_enrolled me.0 c.0 s.0 (learned_enrolled now (Enrol c s i serial found) (k.enrolments me.0 c.0 s.0)) k
-learned now me (LookKey s i found) k =
-    with_index me.0 s.0 i (learned_index now (LookKey s i found) (k.indexes me.0 s.0 i)) k
-learned now me (Pin s i found) k = with_index me.0 s.0 i (learned_index now (Pin s i found) (k.indexes me.0 s.0 i)) k
-learned now me (Publish s i found) k =
-    with_index me.0 s.0 i (learned_index now (Publish s i found) (k.indexes me.0 s.0 i)) k
-learned now me (TakeFree s i found) k =
-    with_index me.0 s.0 i (learned_index now (TakeFree s i found) (k.indexes me.0 s.0 i)) k
-learned now me (ClaimAct s i c found) k =
-    with_index me.0 s.0 i (learned_index now (ClaimAct s i c found) (k.indexes me.0 s.0 i)) k
+learned now me (DrawBit _ _) k = k
+learned now me (MakeSelector _ _) k = k
+learned now me (LookSelectors _) k = k
+learned now me (Wake _ _) k = k
+learned now me (LookGate _ _) k = k
+learned now me (SetInterrupt _ _) k = k
+learned now me (TakeInterrupt _) k = k
+learned now me (LookInterrupt _) k = k
+learned now me (LookKey s i found) k = with_index me s i (looked_again now found) k
+learned now me (CancelKey _ _ _) k = k
+learned now me (LookInterest _ _ _) k = k
+learned now me (SwapInterest _ _ _ _) k = k
+learned now me (OrInterest _ _ _ _) k = k
+learned now me (AndInterest _ _ _ _) k = k
+learned now me (SwapNote _ _ _ _) k = k
+learned now me (LookNote _ _ _) k = k
+learned now me (MakeChannel _ _ _) k = k
+learned now me (LookChannel c found) k = with_hold me c (channel_seen now found) k
+learned now me (ClaimAct s i c found) k = with_index me s i (with_claim (record { channel = c; serial = 0 }) found) k
+learned now me (RaiseKeys _ _ _) k = k
+learned now me (LookKeys s found) k = with_closing me s (keys_seen found) k
+learned now me (Publish s i _) k = with_index me s i (published_now now) k
+learned now me (LookReg c s found) k = with_enrolled me c s (enrolled_seen now found) k
+learned now me (Enrol c s i serial _) k =
+    with_enrolled me c s (enrolled_now now (record { index = i; serial = serial })) k
+learned now me (TakeTurn _ _) k = k
+learned now me (BeginLook _ _) k = k
+learned now me (GiveTurn _) k = k
+learned now me (Remove _ _ _) k = k
+learned now me (LookMark _ _ _) k = k
+learned now me (Mark _ _ _ _ _) k = k
+learned now me (UnselectBit _ _ _) k = k
+learned now me (EndWake _ _) k = k
+learned now me (LookChannels _) k = k
+learned now me (RaiseChannels _ _) k = k
+learned now me (TryHoldBit c found) k = with_hold me c (hold_tried now found) k
+learned now me (Release _) k = k
+learned now me (SetMode _ _ _) k = k
+learned now me (CloseBit _ _) k = k
+learned now me (ShutBit _ _) k = k
+learned now me (Enter s found) k = with_closing me s (turn_seen found) k
+learned now me (Pin s i found) k = with_index me s i (looked_again now found) k
+learned now me (Unpin s i) k = with_index me s i without_claim k
+learned now me (ClearMark _ _ _) k = k
 learned now me (ClaimAgain s i c from found) k =
-    with_index me.0 s.0 i (learned_index now (ClaimAgain s i c from found) (k.indexes me.0 s.0 i)) k
-learned now me (Unpin s i) k = with_index me.0 s.0 i (learned_index now (Unpin s i) (k.indexes me.0 s.0 i)) k
-learned now me (Enter s found) k = with_closing me.0 s.0 (learned_closing now (Enter s found) (k.closings me.0 s.0)) k
-learned now me (LookKeys s found) k =
-    with_closing me.0 s.0 (learned_closing now (LookKeys s found) (k.closings me.0 s.0)) k
-learned now me _ k = k
+    with_index me s i (with_claim (record { channel = c; serial = suc from.serial }) found) k
+learned now me (LookFree _ _ _) k = k
+learned now me (PutFree _ _) k = k
+learned now me (TakeFree s i found) k = with_index me s i (free_tried now found) k

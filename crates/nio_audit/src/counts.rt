@@ -16,6 +16,7 @@ pub(crate) struct Counts {
 impl Counts {
     ghost use Rattle.nio_audit.specs.Bounds.{IsCountable};
     ghost use Rattle.nio_audit.specs.Counting.{channels_after, keys_after};
+    ghost use Rattle.nio_audit.specs.StepNumbers.{number_of};
     ghost use Rattle.nio_audit.specs.TableWords.{row};
 
     pub(crate) fn new(alloc: Global) -> Counts
@@ -41,9 +42,9 @@ impl Counts {
     }
 
     pub(crate) fn learn(&mut self, act: &Act) -> Result<(), AllocError>
-        requires { IsCountable act.now }
-        ensures channels { OnOk result (self.new.channels ≡ channels_after self.old.channels act.now) }
-        ensures keys { OnOk result (row self.new.keys ≡ keys_after (row self.old.keys) act.now) }
+        requires { IsCountable (number_of act.now) }
+        ensures channels { OnOk result (self.new.channels ≡ channels_after self.old.channels (number_of act.now)) }
+        ensures keys { OnOk result (row self.new.keys ≡ keys_after (row self.old.keys) (number_of act.now)) }
     {
         match *act {
             Act::MakeChannel(chan, _, _) => {
@@ -54,7 +55,51 @@ impl Counts {
                 let keys = self.keys.get(sel.0);
                 self.keys.set(sel.0, keys.max(index + 1))
             }
-            _ => Ok(()),
+            Act::DrawBit(..)
+            | Act::MakeSelector(..)
+            | Act::LookSelectors(..)
+            | Act::Wake(..)
+            | Act::LookGate(..)
+            | Act::SetInterrupt(..)
+            | Act::TakeInterrupt(..)
+            | Act::LookInterrupt(..)
+            | Act::LookKey(..)
+            | Act::CancelKey(..)
+            | Act::LookInterest(..)
+            | Act::SwapInterest(..)
+            | Act::OrInterest(..)
+            | Act::AndInterest(..)
+            | Act::SwapNote(..)
+            | Act::LookNote(..)
+            | Act::LookChannel(..)
+            | Act::RaiseKeys(..)
+            | Act::LookKeys(..)
+            | Act::Publish(..)
+            | Act::LookReg(..)
+            | Act::Enrol(..)
+            | Act::TakeTurn(..)
+            | Act::BeginLook(..)
+            | Act::GiveTurn(..)
+            | Act::Remove(..)
+            | Act::LookMark(..)
+            | Act::Mark(..)
+            | Act::UnselectBit(..)
+            | Act::EndWake(..)
+            | Act::LookChannels(..)
+            | Act::RaiseChannels(..)
+            | Act::TryHoldBit(..)
+            | Act::Release(..)
+            | Act::SetMode(..)
+            | Act::CloseBit(..)
+            | Act::ShutBit(..)
+            | Act::Enter(..)
+            | Act::Pin(..)
+            | Act::Unpin(..)
+            | Act::ClearMark(..)
+            | Act::ClaimAgain(..)
+            | Act::LookFree(..)
+            | Act::PutFree(..)
+            | Act::TakeFree(..) => Ok(()),
         }
     }
 }

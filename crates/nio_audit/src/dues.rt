@@ -1,5 +1,6 @@
 //! Which indexes selections have still to put among the free ones.
 ghost use Rattle.std.specs.Prelude.{◌≡◌, ◌+◌, ◌||◌, false, OnOk};
+ghost use Rattle.nio_base.specs.declared.numbers.CallerNo.{CallerNo};
 ghost use Rattle.nio_history.specs.State.{put_at};
 
 use crate::state::StateTables;
@@ -20,7 +21,6 @@ pub(crate) struct Dues {
 impl Dues {
     ghost use Rattle.nio_audit.specs.DueIndexes.{due_of, IsBefore};
     ghost use Rattle.nio_audit.specs.StateOf.{due_after};
-    ghost use Rattle.nio_audit.specs.TableWords.{row};
 
     pub(crate) fn new(alloc: Global) -> Dues
         ensures due { due_of result ≡ (λ _ _. false) }
@@ -46,7 +46,8 @@ impl Dues {
         act: &Act,
     ) -> Result<(), AllocError>
         requires { IsBefore self.old now }
-        ensures due { OnOk result (due_of self.new ≡ due_after (row state.now.begun) (due_of self.old) act.now) }
+        ensures due { (me : CallerNo) → OnOk result (due_of self.new
+            ≡ due_after state.now (due_of self.old) me act.now) }
         ensures before { OnOk result (IsBefore self.new (now + 1)) }
     {
         match *act {
@@ -55,7 +56,50 @@ impl Dues {
                 self.remove(now, sel, index, state.frees_index(sel, found))
             }
             Act::PutFree(sel, index) => self.removed.set(sel.0, index, 0),
-            _ => Ok(()),
+            Act::DrawBit(..)
+            | Act::MakeSelector(..)
+            | Act::LookSelectors(..)
+            | Act::Wake(..)
+            | Act::LookGate(..)
+            | Act::SetInterrupt(..)
+            | Act::TakeInterrupt(..)
+            | Act::LookInterrupt(..)
+            | Act::LookKey(..)
+            | Act::CancelKey(..)
+            | Act::LookInterest(..)
+            | Act::SwapInterest(..)
+            | Act::OrInterest(..)
+            | Act::AndInterest(..)
+            | Act::SwapNote(..)
+            | Act::LookNote(..)
+            | Act::MakeChannel(..)
+            | Act::LookChannel(..)
+            | Act::Claim(..)
+            | Act::RaiseKeys(..)
+            | Act::LookKeys(..)
+            | Act::Publish(..)
+            | Act::LookReg(..)
+            | Act::Enrol(..)
+            | Act::TakeTurn(..)
+            | Act::BeginLook(..)
+            | Act::LookMark(..)
+            | Act::Mark(..)
+            | Act::UnselectBit(..)
+            | Act::EndWake(..)
+            | Act::LookChannels(..)
+            | Act::RaiseChannels(..)
+            | Act::TryHoldBit(..)
+            | Act::Release(..)
+            | Act::SetMode(..)
+            | Act::CloseBit(..)
+            | Act::ShutBit(..)
+            | Act::Enter(..)
+            | Act::Pin(..)
+            | Act::Unpin(..)
+            | Act::ClearMark(..)
+            | Act::ClaimAgain(..)
+            | Act::LookFree(..)
+            | Act::TakeFree(..) => Ok(()),
         }
     }
 

@@ -34,6 +34,7 @@ impl Judge {
     ghost use Rattle.nio_audit.specs.DueIndexes.{IsBefore};
     ghost use Rattle.nio_audit.specs.Following.{Follows};
     ghost use Rattle.nio_audit.specs.Remembering.{knowledge_of, learned};
+    ghost use Rattle.nio_audit.specs.StepNumbers.{number_of};
     ghost use Rattle.nio_audit.specs.TableWords.{row};
 
     /// A judge before the first event.
@@ -87,12 +88,14 @@ impl Judge {
     fn record(&mut self, now: u64, me: CallerNo, act: &Act) -> Result<(), AllocError>
         requires fit { IsFit self.old.limits }
         requires allowed { IsAllowed self.old me act.now }
-        requires serial { IsBounded (state_of self.old) act.now }
+        requires serial { IsBounded (state_of self.old) (number_of act.now) }
         requires before { IsBefore self.old.dues now }
         ensures limits { self.new.limits ≡ self.old.limits }
         ensures state { OnOk result (state_of self.new ≡ effect (state_of self.old) me act.now) }
-        ensures channels { OnOk result (self.new.counts.channels ≡ channels_after self.old.counts.channels act.now) }
-        ensures keys { OnOk result (row self.new.counts.keys ≡ keys_after (row self.old.counts.keys) act.now) }
+        ensures channels { OnOk result (self.new.counts.channels
+            ≡ channels_after self.old.counts.channels (number_of act.now)) }
+        ensures keys { OnOk result (row self.new.counts.keys
+            ≡ keys_after (row self.old.counts.keys) (number_of act.now)) }
         ensures before { OnOk result (IsBefore self.new.dues (now + 1)) }
         ensures knowledge { OnOk result (knowledge_of self.new.memory
             ≡ learned now me act.now (knowledge_of self.old.memory)) }

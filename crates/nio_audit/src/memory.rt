@@ -97,7 +97,8 @@ impl IndexMemory {
 impl Memory {
     ghost use Rattle.nio_audit.specs.Bounds.{IsRemembered};
     ghost use Rattle.nio_audit.specs.Found.{found_by, is_clear_for, unblocked_by};
-    ghost use Rattle.nio_audit.specs.Remembering.{claimed, knowledge_of, learned, nothing_known};
+    ghost use Rattle.nio_audit.specs.Remembering.{knowledge_of, learned, nothing_known, with_claim, with_index};
+    ghost use Rattle.nio_audit.specs.StepNumbers.{number_of};
 
     /// Before the first event, when no caller knows anything.
     pub(crate) fn new(alloc: Global) -> Memory
@@ -174,44 +175,25 @@ impl Memory {
 
     /// Adds what the caller knows by its act at this moment.
     pub(crate) fn learn(&mut self, now: u64, me: CallerNo, act: &Act) -> Result<(), AllocError>
-        requires { IsRemembered act.now }
+        requires { IsRemembered (number_of act.now) }
         ensures { OnOk result (knowledge_of self.new ≡ learned now me act.now (knowledge_of self.old)) }
     {
         match *act {
-            Act::TryHoldBit(chan, found) => {
-                let memory = self.holds.get(me.0, chan.0);
-                let taken = if found.is_none() { now } else { memory.taken };
-                self.holds.set(me.0, chan.0, HoldMemory { taken, ..memory })
-            }
-            Act::LookChannel(chan, found) => {
-                let memory = self.holds.get(me.0, chan.0);
-                let unblocked = if found.blocking {
-                    memory.unblocked
-                } else {
-                    now
-                };
-                self.holds.set(
-                    me.0,
-                    chan.0,
-                    HoldMemory {
-                        unblocked,
-                        ..memory
-                    },
-                )
-            }
-            Act::LookReg(chan, sel, key) => {
-                let memory = self.enrolments.get(me.0, chan.0, sel.0);
-                let found_at = now;
-                self.enrolments.set(
-                    me.0,
-                    chan.0,
-                    sel.0,
-                    EnrolledMemory {
-                        found_at,
-                        key,
-                        ..memory
-                    },
-                )
+            Act::TryHoldBit(chan, found) => self.holds.update(me.0, chan.0, |memory| {
+                if found.is_none() {
+                    memory.taken = now;
+                }
+            }),
+            Act::LookChannel(chan, found) => self.holds.update(me.0, chan.0, |memory| {
+                if !found.blocking {
+                    memory.unblocked = now;
+                }
+            }),
+            Act::LookReg(chan, sel, found) => {
+                self.enrolments.update(me.0, chan.0, sel.0, |memory| {
+                    memory.found_at = now;
+                    memory.key = found;
+                })
             }
             Act::Enrol(chan, sel, index, serial, _) => {
                 let enrolment = EnrolledMemory {
@@ -222,24 +204,19 @@ impl Memory {
                 self.enrolments.set(me.0, chan.0, sel.0, enrolment)
             }
             Act::LookKey(sel, index, found) | Act::Pin(sel, index, found) => {
-                let memory = self.indexes.get(me.0, sel.0, index);
-                self.indexes
-                    .set(me.0, sel.0, index, memory.looked_again(now, found))
+                self.indexes.update(me.0, sel.0, index, |memory| {
+                    *memory = memory.looked_again(now, found);
+                })
             }
-            Act::Publish(sel, index, _) => {
-                let memory = IndexMemory {
-                    published: now,
-                    unpublished: false,
-                    ..self.indexes.get(me.0, sel.0, index)
-                };
-                self.indexes.set(me.0, sel.0, index, memory)
-            }
-            Act::TakeFree(sel, index, found) => {
-                let memory = self.indexes.get(me.0, sel.0, index);
-                let taken = if found { now } else { memory.taken };
-                self.indexes
-                    .set(me.0, sel.0, index, IndexMemory { taken, ..memory })
-            }
+            Act::Publish(sel, index, _) => self.indexes.update(me.0, sel.0, index, |memory| {
+                memory.published = now;
+                memory.unpublished = false;
+            }),
+            Act::TakeFree(sel, index, found) => self.indexes.update(me.0, sel.0, index, |memory| {
+                if found {
+                    memory.taken = now;
+                }
+            }),
             Act::Claim(sel, index, channel, found) => {
                 self.remember_claim(me, sel, index, Claim { channel, serial: 0 }, found)
             }
@@ -248,34 +225,51 @@ impl Memory {
                 self.remember_claim(me, sel, index, Claim { channel, serial }, found)
             }
             Act::Unpin(sel, index) => {
-                let memory = self.indexes.get(me.0, sel.0, index);
-                self.indexes.set(
-                    me.0,
-                    sel.0,
-                    index,
-                    IndexMemory {
-                        claim: None,
-                        ..memory
-                    },
-                )
+                self.indexes
+                    .update(me.0, sel.0, index, |memory| memory.claim = None)
             }
-            Act::Enter(sel, found) => {
-                let memory = self.closings.get(me.0, sel.0);
-                let entered = memory.entered || found.is_none();
-                self.closings
-                    .set(me.0, sel.0, ClosingMemory { entered, ..memory })
-            }
-            Act::LookKeys(sel, found) => {
-                let memory = self.closings.get(me.0, sel.0);
-                let below = if memory.entered {
-                    memory.below.max(found)
-                } else {
-                    memory.below
-                };
-                self.closings
-                    .set(me.0, sel.0, ClosingMemory { below, ..memory })
-            }
-            _ => Ok(()),
+            Act::Enter(sel, found) => self.closings.update(me.0, sel.0, |memory| {
+                memory.entered = memory.entered || found.is_none();
+            }),
+            Act::LookKeys(sel, found) => self.closings.update(me.0, sel.0, |memory| {
+                if memory.entered {
+                    memory.below = memory.below.max(found);
+                }
+            }),
+            Act::DrawBit(..)
+            | Act::MakeSelector(..)
+            | Act::LookSelectors(..)
+            | Act::Wake(..)
+            | Act::LookGate(..)
+            | Act::SetInterrupt(..)
+            | Act::TakeInterrupt(..)
+            | Act::LookInterrupt(..)
+            | Act::CancelKey(..)
+            | Act::LookInterest(..)
+            | Act::SwapInterest(..)
+            | Act::OrInterest(..)
+            | Act::AndInterest(..)
+            | Act::SwapNote(..)
+            | Act::LookNote(..)
+            | Act::MakeChannel(..)
+            | Act::RaiseKeys(..)
+            | Act::TakeTurn(..)
+            | Act::BeginLook(..)
+            | Act::GiveTurn(..)
+            | Act::Remove(..)
+            | Act::LookMark(..)
+            | Act::Mark(..)
+            | Act::UnselectBit(..)
+            | Act::EndWake(..)
+            | Act::LookChannels(..)
+            | Act::RaiseChannels(..)
+            | Act::Release(..)
+            | Act::SetMode(..)
+            | Act::CloseBit(..)
+            | Act::ShutBit(..)
+            | Act::ClearMark(..)
+            | Act::LookFree(..)
+            | Act::PutFree(..) => Ok(()),
         }
     }
 
@@ -287,16 +281,15 @@ impl Memory {
         claim: Claim,
         found: bool,
     ) -> Result<(), AllocError>
-        ensures { OnOk result (knowledge_of self.new ≡ claimed me sel.0 index claim found (knowledge_of self.old)) }
+        ensures { OnOk result (knowledge_of self.new
+            ≡ with_index me sel index (with_claim claim found) (knowledge_of self.old)) }
     {
-        let memory = self.indexes.get(me.0, sel.0, index);
-        let new = IndexMemory {
-            claim: Some(claim),
-            unpublished: true,
-            ..memory
-        };
-        self.indexes
-            .set(me.0, sel.0, index, if found { memory } else { new })
+        self.indexes.update(me.0, sel.0, index, |memory| {
+            if !found {
+                memory.claim = Some(claim);
+                memory.unpublished = true;
+            }
+        })
     }
 }
 

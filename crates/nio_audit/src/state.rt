@@ -71,6 +71,7 @@ pub(crate) struct StateTables {
 impl StateTables {
     ghost use Rattle.nio_audit.specs.Bounds.{IsBounded};
     ghost use Rattle.nio_audit.specs.StateOf.{due_after, state_with};
+    ghost use Rattle.nio_audit.specs.StepNumbers.{number_of};
     ghost use Rattle.nio_audit.specs.TableWords.{grid, row};
 
     /// The opening state: nothing is drawn, made, shut, claimed or interrupted.
@@ -103,131 +104,64 @@ impl StateTables {
 
     /// Changes the state as this step does.
     pub(crate) fn apply(&mut self, me: CallerNo, act: &Act) -> Result<(), AllocError>
-        requires { (due : ℕ → ℕ → Bool) → IsBounded (state_with self.old due) act.now }
-        ensures { OnOk result ((due : ℕ → ℕ → Bool) → state_with self.new (due_after (row self.old.begun) due act.now)
+        requires { (due : ℕ → ℕ → Bool) → IsBounded (state_with self.old due) (number_of act.now) }
+        ensures { OnOk result ((due : ℕ → ℕ → Bool) → state_with self.new (due_after self.old due me act.now)
             ≡ effect (state_with self.old due) me act.now) }
     {
         match *act {
             Act::DrawBit(number, _) => self.drawn.set(number.0, true),
             Act::MakeSelector(sel, _) => self.selector.set(sel.0, true),
-            Act::Wake(sel, _) => {
-                let gate = self.gate.get(sel.0);
-                self.gate.set(
-                    sel.0,
-                    GateWord {
-                        woken: true,
-                        ..gate
-                    },
-                )
-            }
+            Act::Wake(sel, _) => self.gate.update(sel.0, |gate| gate.woken = true),
             Act::SetInterrupt(number, _) => self.interrupted.set(number.0, true),
             Act::TakeInterrupt(_) => self.interrupted.set(me.0, false),
-            Act::CancelKey(sel, index, _) => {
-                let key = self.key.get(sel.0, index);
-                self.key.set(
-                    sel.0,
-                    index,
-                    Stage {
-                        cancelled: true,
-                        ..key
-                    },
-                )
-            }
+            Act::CancelKey(sel, index, _) => self
+                .key
+                .update(sel.0, index, |key| key.cancelled = true),
             Act::SwapInterest(sel, index, ops, _) => self.interest.set(sel.0, index, ops),
-            Act::OrInterest(sel, index, ops, _) => {
-                let interest = self.interest.get(sel.0, index);
-                self.interest.set(sel.0, index, interest.union(ops))
-            }
-            Act::AndInterest(sel, index, ops, _) => {
-                let interest = self.interest.get(sel.0, index);
-                self.interest.set(sel.0, index, interest.meet(ops))
-            }
+            Act::OrInterest(sel, index, ops, _) => self
+                .interest
+                .update(sel.0, index, |interest| *interest = interest.union(ops)),
+            Act::AndInterest(sel, index, ops, _) => self
+                .interest
+                .update(sel.0, index, |interest| *interest = interest.meet(ops)),
             Act::SwapNote(sel, index, note, _) => self.note.set(sel.0, index, note),
             Act::MakeChannel(chan, kind, found) => self.make_channel(chan, kind, found),
             Act::Claim(sel, index, chan, found) => self.claim(me, sel, index, chan, found),
-            Act::RaiseKeys(sel, n, _) => {
-                let mark = self.keys_high.get(sel.0);
-                self.keys_high.set(sel.0, mark.max(n))
-            }
-            Act::Publish(sel, index, _) => {
-                let key = self.key.get(sel.0, index);
-                self.key.set(
-                    sel.0,
-                    index,
-                    Stage {
-                        published: true,
-                        ..key
-                    },
-                )
-            }
+            Act::RaiseKeys(sel, n, _) => self
+                .keys_high
+                .update(sel.0, |mark| *mark = (*mark).max(n)),
+            Act::Publish(sel, index, _) => self
+                .key
+                .update(sel.0, index, |key| key.published = true),
             Act::Enrol(chan, sel, index, serial, _) => {
                 self.enrolled
                     .set(chan.0, sel.0, Some(KeyId { index, serial }))
             }
             Act::TakeTurn(sel, found) => self.take_turn(me, sel, found),
-            Act::BeginLook(sel, found) => {
-                let begun = self.begun.get(sel.0);
-                self.begun.set(sel.0, begun || !found.shut)
-            }
+            Act::BeginLook(sel, found) => self
+                .begun
+                .update(sel.0, |begun| *begun = *begun || !found.shut),
             Act::GiveTurn(sel) => self.give_turn(sel),
-            Act::Remove(sel, index, found) => {
-                let key = self.key.get(sel.0, index);
-                self.key.set(
-                    sel.0,
-                    index,
-                    Stage {
-                        removed: true,
-                        ..key
-                    },
-                )
-            },
+            Act::Remove(sel, index, _) => self.key.update(sel.0, index, |key| key.removed = true),
             Act::Mark(sel, index, from, told, found) => self.mark(sel, index, from, told, found),
-            Act::UnselectBit(sel, index, _) => {
-                let mark = self.mark.get(sel.0, index);
-                self.mark.set(
-                    sel.0,
-                    index,
-                    Mark {
-                        selected: false,
-                        ..mark
-                    },
-                )
-            }
-            Act::EndWake(sel, _) => {
-                let gate = self.gate.get(sel.0);
-                self.gate.set(
-                    sel.0,
-                    GateWord {
-                        woken: false,
-                        ..gate
-                    },
-                )
-            }
+            Act::UnselectBit(sel, index, _) => self
+                .mark
+                .update(sel.0, index, |mark| mark.selected = false),
+            Act::EndWake(sel, _) => self.gate.update(sel.0, |gate| gate.woken = false),
             Act::RaiseChannels(n, _) => {
                 self.channels_high = self.channels_high.max(n);
                 Ok(())
             }
             Act::TryHoldBit(chan, found) => self.hold.set(chan.0, taken_by(me, found)),
             Act::Release(chan) => self.hold.set(chan.0, None),
-            Act::SetMode(chan, blocking, _) => {
-                let found = self.chan.get(chan.0);
-                self.chan.set(chan.0, Chan { blocking, ..found })
-            }
-            Act::CloseBit(chan, _) => {
-                let found = self.chan.get(chan.0);
-                self.chan.set(
-                    chan.0,
-                    Chan {
-                        closed: true,
-                        ..found
-                    },
-                )
-            }
+            Act::SetMode(chan, blocking, _) => self
+                .chan
+                .update(chan.0, |was| was.blocking = blocking),
+            Act::CloseBit(chan, _) => self.chan.update(chan.0, |was| was.closed = true),
             Act::ShutBit(sel, found) => self.shut(me, sel, found),
-            Act::Enter(sel, found) => {
-                let entered = self.entered.get(sel.0);
-                self.entered.set(sel.0, entered || found.is_none())
-            }
+            Act::Enter(sel, found) => self
+                .entered
+                .update(sel.0, |entered| *entered = *entered || found.is_none()),
             Act::Pin(sel, index, _) => self.pinned.set(sel.0, index, me.0, true),
             Act::Unpin(sel, index) => self.pinned.set(sel.0, index, me.0, false),
             Act::ClearMark(sel, index, _) => self.mark.set(sel.0, index, UNMARKED),
@@ -236,18 +170,18 @@ impl StateTables {
             }
             Act::PutFree(sel, index) => self.put_free(sel, index),
             Act::TakeFree(sel, index, found) => self.take_free(me, sel, index, found),
-            Act::LookSelectors(_)
-            | Act::LookGate(_, _)
-            | Act::LookInterrupt(_)
-            | Act::LookKey(_, _, _)
-            | Act::LookInterest(_, _, _)
-            | Act::LookNote(_, _, _)
-            | Act::LookChannel(_, _)
-            | Act::LookKeys(_, _)
-            | Act::LookReg(_, _, _)
-            | Act::LookMark(_, _, _)
-            | Act::LookChannels(_)
-            | Act::LookFree(_, _, _) => Ok(()),
+            Act::LookSelectors(..)
+            | Act::LookGate(..)
+            | Act::LookInterrupt(..)
+            | Act::LookKey(..)
+            | Act::LookInterest(..)
+            | Act::LookNote(..)
+            | Act::LookChannel(..)
+            | Act::LookKeys(..)
+            | Act::LookReg(..)
+            | Act::LookMark(..)
+            | Act::LookChannels(..)
+            | Act::LookFree(..) => Ok(()),
         }
     }
 
@@ -261,7 +195,7 @@ impl StateTables {
 
     fn make_channel(&mut self, chan: ChanNo, kind: Kind, found: bool) -> Result<(), AllocError>
         ensures { (me : CallerNo) → OnOk result ((due : ℕ → ℕ → Bool)
-            → state_with self.new (due_after (row self.old.begun) due (Act.MakeChannel chan kind found))
+            → state_with self.new (due_after self.old due me (Act.MakeChannel chan kind found))
             ≡ effect (state_with self.old due) me (Act.MakeChannel chan kind found)) }
     {
         let new = Chan {
@@ -283,7 +217,7 @@ impl StateTables {
         found: bool,
     ) -> Result<(), AllocError>
         ensures { OnOk result ((due : ℕ → ℕ → Bool) → state_with self.new
-            (due_after (row self.old.begun) due (Act.Claim sel index chan found))
+            (due_after self.old due me (Act.Claim sel index chan found))
             ≡ effect (state_with self.old due) me (Act.Claim sel index chan found)) }
     {
         let key = self.key.get(sel.0, index);
@@ -303,7 +237,7 @@ impl StateTables {
     ) -> Result<(), AllocError>
         requires { (grid self.old.key sel.0 index).serial < last_serial }
         ensures { (from : Stage) → OnOk result ((due : ℕ → ℕ → Bool)
-            → state_with self.new (due_after (row self.old.begun) due (Act.ClaimAgain sel index chan from found))
+            → state_with self.new (due_after self.old due me (Act.ClaimAgain sel index chan from found))
             ≡ effect (state_with self.old due) me (Act.ClaimAgain sel index chan from found)) }
     {
         let key = self.key.get(sel.0, index);
@@ -330,7 +264,7 @@ impl StateTables {
         found: Option<CallerNo>,
     ) -> Result<(), AllocError>
         ensures { OnOk result ((due : ℕ → ℕ → Bool) → state_with self.new
-            (due_after (row self.old.begun) due (Act.TakeTurn sel found))
+            (due_after self.old due me (Act.TakeTurn sel found))
             ≡ effect (state_with self.old due) me (Act.TakeTurn sel found)) }
     {
         let begun = self.begun.get(sel.0);
@@ -340,7 +274,7 @@ impl StateTables {
 
     fn give_turn(&mut self, sel: SelNo) -> Result<(), AllocError>
         ensures { (me : CallerNo) → OnOk result ((due : ℕ → ℕ → Bool)
-            → state_with self.new (due_after (row self.old.begun) due (Act.GiveTurn sel))
+            → state_with self.new (due_after self.old due me (Act.GiveTurn sel))
             ≡ effect (state_with self.old due) me (Act.GiveTurn sel)) }
     {
         self.turn.set(sel.0, None)?;
@@ -356,7 +290,7 @@ impl StateTables {
         found: Result<(), Mark>,
     ) -> Result<(), AllocError>
         ensures { (me : CallerNo) → OnOk result ((due : ℕ → ℕ → Bool)
-            → state_with self.new (due_after (row self.old.begun) due (Act.Mark sel index from told found))
+            → state_with self.new (due_after self.old due me (Act.Mark sel index from told found))
             ≡ effect (state_with self.old due) me (Act.Mark sel index from told found)) }
     {
         let was = self.mark.get(sel.0, index);
@@ -375,7 +309,7 @@ impl StateTables {
 
     fn shut(&mut self, me: CallerNo, sel: SelNo, found: bool) -> Result<(), AllocError>
         ensures { OnOk result ((due : ℕ → ℕ → Bool) → state_with self.new
-            (due_after (row self.old.begun) due (Act.ShutBit sel found))
+            (due_after self.old due me (Act.ShutBit sel found))
             ≡ effect (state_with self.old due) me (Act.ShutBit sel found)) }
     {
         let gate = self.gate.get(sel.0);
@@ -387,7 +321,7 @@ impl StateTables {
 
     fn put_free(&mut self, sel: SelNo, index: u32) -> Result<(), AllocError>
         ensures { (me : CallerNo) → OnOk result ((due : ℕ → ℕ → Bool)
-            → state_with self.new (due_after (row self.old.begun) due (Act.PutFree sel index))
+            → state_with self.new (due_after self.old due me (Act.PutFree sel index))
             ≡ effect (state_with self.old due) me (Act.PutFree sel index)) }
     {
         self.free.set(sel.0, index, true)?;
@@ -402,7 +336,7 @@ impl StateTables {
         found: bool,
     ) -> Result<(), AllocError>
         ensures { OnOk result ((due : ℕ → ℕ → Bool) → state_with self.new
-            (due_after (row self.old.begun) due (Act.TakeFree sel index found))
+            (due_after self.old due me (Act.TakeFree sel index found))
             ≡ effect (state_with self.old due) me (Act.TakeFree sel index found)) }
     {
         let taker = self.taker.get(sel.0, index);

@@ -1,4 +1,5 @@
 //! Values by numbers, where most numbers have the same value.
+ghost use Rattle.std.specs.Fn.{FnOnceReturnsAtMut};
 ghost use Rattle.std.specs.Prelude.{◌≡◌, OnOk, if◌then◌else◌};
 
 use std::alloc::{AllocError, Global};
@@ -64,6 +65,17 @@ impl<V: Copy> Row<V> {
     {
         self.0.set(n, value)
     }
+
+    /// Changes the value by `change`.
+    pub(crate) fn update<F: FnOnce(&mut V)>(&mut self, n: u32, change: F) -> Result<(), AllocError>
+        requires { F.IsAlwaysCallable change }
+        ensures { (value : V) × FnOnceReturnsAtMut F.FnOnce change (row self.old n) tt value
+            × OnOk result (row self.new ≡ put (row self.old) n value) }
+    {
+        let mut value = self.get(n);
+        change(&mut value);
+        self.set(n, value)
+    }
 }
 
 /// A value by two numbers.
@@ -91,6 +103,22 @@ impl<V: Copy> Grid<V> {
     {
         self.0.set((m, n), value)
     }
+
+    /// Changes the value by `change`.
+    pub(crate) fn update<F: FnOnce(&mut V)>(
+        &mut self,
+        m: u32,
+        n: u32,
+        change: F,
+    ) -> Result<(), AllocError>
+        requires { F.IsAlwaysCallable change }
+        ensures { (value : V) × FnOnceReturnsAtMut F.FnOnce change (grid self.old m n) tt value
+            × OnOk result (grid self.new ≡ put_at (grid self.old) m n value) }
+    {
+        let mut value = self.get(m, n);
+        change(&mut value);
+        self.set(m, n, value)
+    }
 }
 
 /// A value by three numbers.
@@ -116,5 +144,22 @@ impl<V: Copy> Cube<V> {
         ensures { OnOk result (cube self.new ≡ put_at_three (cube self.old) m n o value) }
     {
         self.0.set((m, n, o), value)
+    }
+
+    /// Changes the value by `change`.
+    pub(crate) fn update<F: FnOnce(&mut V)>(
+        &mut self,
+        m: u32,
+        n: u32,
+        o: u32,
+        change: F,
+    ) -> Result<(), AllocError>
+        requires { F.IsAlwaysCallable change }
+        ensures { (value : V) × FnOnceReturnsAtMut F.FnOnce change (cube self.old m n o) tt value
+            × OnOk result (cube self.new ≡ put_at_three (cube self.old) m n o value) }
+    {
+        let mut value = self.get(m, n, o);
+        change(&mut value);
+        self.set(m, n, o, value)
     }
 }

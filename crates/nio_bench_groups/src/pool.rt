@@ -152,6 +152,6 @@ fn work_all<R: Threads + Wait + Sync>(
         rt,
         passes,
         threads,
-        &|_, pass| { work(rt, group, queue, pass, &Empty, &NoGate, 0) },
+        &|_, pass| drop(work(rt, group, queue, pass, &Empty, &NoGate, 0)),
     );
 }

@@ -51,6 +51,7 @@ impl<N: Net + Drop> CheckedNet<N> {
         ensures places { (c : Channel) → N.place self.new.net c ≡ N.place self.old.net c }
         ensures accepted { N.accepted self.new.net ≡ N.accepted self.old.net }
         ensures polls { N.poll_faults self.new.net ≡ N.poll_faults self.old.net }
+        ensures shown { N.polls self.new.net ≡ N.polls self.old.net }
 
         // What is told from then on.
         ensures told { result ≢ Err NotAllowed → IsTold self.old.told chan 1
@@ -93,6 +94,7 @@ impl<N: Net + Drop> CheckedNet<N> {
         ensures places { (c : Channel) → N.place self.new.net c ≡ N.place self.old.net c }
         ensures accepted { N.accepted self.new.net ≡ N.accepted self.old.net }
         ensures polls { N.poll_faults self.new.net ≡ N.poll_faults self.old.net }
+        ensures shown { N.polls self.new.net ≡ N.polls self.old.net }
         ensures told { result ≢ Err NotAllowed → IsTold self.old.told chan 1
             → self.new.told ≡ told_after chan (ready_after_read (as_failed result)) self.old.told }
         ensures rest { self.new ≡ record self.old { net = self.new.net; told = self.new.told } }
@@ -127,6 +129,7 @@ impl<N: Net + Drop> CheckedNet<N> {
         ensures places { (c : Channel) → N.place self.new.net c ≡ N.place self.old.net c }
         ensures accepted { N.accepted self.new.net ≡ N.accepted self.old.net }
         ensures polls { N.poll_faults self.new.net ≡ N.poll_faults self.old.net }
+        ensures shown { N.polls self.new.net ≡ N.polls self.old.net }
 
         // What is told from then on.
         ensures told { result ≢ Err NotAllowed → IsTold self.old.told chan 4 → buffer.old.items ≢ []

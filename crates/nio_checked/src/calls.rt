@@ -123,6 +123,7 @@ pub(crate) fn listen<N: Net>(
     ensures places { IsSameBut chan (N.place net.old) (N.place net.new) }
     ensures accepted { N.accepted net.new ≡ N.accepted net.old }
     ensures polls { N.poll_faults net.new ≡ N.poll_faults net.old }
+    ensures shown { N.polls net.new ≡ N.polls net.old }
 {
     if !is_free(standings, chan) {
         return Err(NetError::NotAllowed);
@@ -165,6 +166,7 @@ pub(crate) fn accept<N: Net>(
     ensures places { IsSameBut chan (N.place net.old) (N.place net.new) }
     ensures accepted { N.accepted net.new ≡ accepted_after (as_failed result) chan (N.accepted net.old) }
     ensures polls { N.poll_faults net.new ≡ N.poll_faults net.old }
+    ensures shown { N.polls net.new ≡ N.polls net.old }
     ensures told { result ≢ Err NotAllowed → IsTold told.old listener 16
         → told.new ≡ told_after listener (ready_after_accept (as_failed result)) told.old }
 {
@@ -216,6 +218,7 @@ pub(crate) fn read<N: Net>(
     ensures places { (c : Channel) → N.place net.new c ≡ N.place net.old c }
     ensures accepted { N.accepted net.new ≡ N.accepted net.old }
     ensures polls { N.poll_faults net.new ≡ N.poll_faults net.old }
+    ensures shown { N.polls net.new ≡ N.polls net.old }
     ensures told { result ≢ Err NotAllowed → IsTold told.old chan 1
         → told.new ≡ told_after chan (ready_after_read (as_failed result)) told.old }
 {
@@ -261,6 +264,7 @@ pub(crate) fn write<N: Net>(
     ensures places { (c : Channel) → N.place net.new c ≡ N.place net.old c }
     ensures accepted { N.accepted net.new ≡ N.accepted net.old }
     ensures polls { N.poll_faults net.new ≡ N.poll_faults net.old }
+    ensures shown { N.polls net.new ≡ N.polls net.old }
     ensures told { result ≢ Err NotAllowed → IsTold told.old chan 4
         → told.new ≡ told_after chan (ready_after_write (as_failed result)) told.old }
 {
@@ -296,6 +300,7 @@ pub(crate) fn close<N: Net>(
     ensures places { IsSameBut chan (N.place net.old) (N.place net.new) }
     ensures accepted { N.accepted net.new ≡ N.accepted net.old }
     ensures polls { N.poll_faults net.new ≡ N.poll_faults net.old }
+    ensures shown { N.polls net.new ≡ N.polls net.old }
 {
     net.close(chan);
     if let Some(kept) = kept_of(standings, chan) {

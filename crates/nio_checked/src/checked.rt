@@ -113,6 +113,7 @@ impl<N: Net + Drop> CheckedNet<N> {
         ensures places { IsSameBut chan (N.place self.old.net) (N.place self.new.net) }
         ensures accepted { N.accepted self.new.net ≡ N.accepted self.old.net }
         ensures polls { N.poll_faults self.new.net ≡ N.poll_faults self.old.net }
+        ensures shown { N.polls self.new.net ≡ N.polls self.old.net }
 
         // Nothing else changes.
         ensures rest { self.new ≡ record self.old { net = self.new.net } }
@@ -142,6 +143,7 @@ impl<N: Net + Drop> CheckedNet<N> {
         ensures accepted { N.accepted self.new.net
             ≡ accepted_after (as_failed result) chan (N.accepted self.old.net) }
         ensures polls { N.poll_faults self.new.net ≡ N.poll_faults self.old.net }
+        ensures shown { N.polls self.new.net ≡ N.polls self.old.net }
 
         // What is told from then on.
         ensures told { result ≢ Err NotAllowed → IsTold self.old.told listener 16
@@ -178,6 +180,7 @@ impl<N: Net + Drop> CheckedNet<N> {
         ensures places { (c : Channel) → N.place self.new.net c ≡ N.place self.old.net c }
         ensures accepted { N.accepted self.new.net ≡ N.accepted self.old.net }
         ensures polls { N.poll_faults self.new.net ≡ N.poll_faults self.old.net }
+        ensures shown { N.polls self.new.net ≡ N.polls self.old.net }
 
         // What is told from then on.
         ensures told { result ≢ Err NotAllowed → IsTold self.old.told chan 1
@@ -208,6 +211,7 @@ impl<N: Net + Drop> CheckedNet<N> {
         ensures places { (c : Channel) → N.place self.new.net c ≡ N.place self.old.net c }
         ensures accepted { N.accepted self.new.net ≡ N.accepted self.old.net }
         ensures polls { N.poll_faults self.new.net ≡ N.poll_faults self.old.net }
+        ensures shown { N.polls self.new.net ≡ N.polls self.old.net }
 
         // What is told from then on.
         ensures told { result ≢ Err NotAllowed → IsTold self.old.told chan 4
@@ -241,6 +245,7 @@ impl<N: Net + Drop> CheckedNet<N> {
         ensures places { IsSameBut chan (N.place self.old.net) (N.place self.new.net) }
         ensures accepted { N.accepted self.new.net ≡ N.accepted self.old.net }
         ensures polls { N.poll_faults self.new.net ≡ N.poll_faults self.old.net }
+        ensures shown { N.polls self.new.net ≡ N.polls self.old.net }
 
         // Nothing else changes.
         ensures rest { self.new ≡ record self.old { net = self.new.net } }

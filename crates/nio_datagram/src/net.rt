@@ -67,7 +67,8 @@ pub trait PacketNet: Poller {
         ensures ready { (c : ChanNo) → Self.ready self.new c ≡ Self.ready self.old c }
         ensures place { place self.new chan ≡ place_after_bind result at }
         ensures places { IsSameBut chan (place self.old) (place self.new) }
-        ensures polls { Self.poll_faults self.new ≡ Self.poll_faults self.old };
+        ensures polls { Self.poll_faults self.new ≡ Self.poll_faults self.old }
+        ensures shown { Self.polls self.new ≡ Self.polls self.old };
 
     /// Takes the next packet that has come to a channel. Its bytes are put at the front of the buffer, which has room
     /// for each packet; what lies behind them may change.
@@ -83,7 +84,8 @@ pub trait PacketNet: Poller {
         ensures ready { Self.ready self.new chan ≡ ready_after_receive result (Self.ready self.old chan) }
         ensures ready_else { IsSameBut chan (Self.ready self.old) (Self.ready self.new) }
         ensures places { (c : ChanNo) → place self.new c ≡ place self.old c }
-        ensures polls { Self.poll_faults self.new ≡ Self.poll_faults self.old };
+        ensures polls { Self.poll_faults self.new ≡ Self.poll_faults self.old }
+        ensures shown { Self.polls self.new ≡ Self.polls self.old };
 
     /// Sends a packet with these bytes. True where it was taken, whole; false where there is no room yet.
     fn send(&mut self, chan: ChanNo, bytes: &[u8], to: Addr) -> Result<bool, Failed>
@@ -97,7 +99,8 @@ pub trait PacketNet: Poller {
         ensures ready { Self.ready self.new chan ≡ ready_after_send result (Self.ready self.old chan) }
         ensures ready_else { IsSameBut chan (Self.ready self.old) (Self.ready self.new) }
         ensures places { (c : ChanNo) → place self.new c ≡ place self.old c }
-        ensures polls { Self.poll_faults self.new ≡ Self.poll_faults self.old };
+        ensures polls { Self.poll_faults self.new ≡ Self.poll_faults self.old }
+        ensures shown { Self.polls self.new ≡ Self.polls self.old };
 
     /// The system's `connect` of the channel's socket. It is there for what the system does with a connected socket: it
     /// finds the route once and not for each send, drops packets from other addresses, and reports that the address
@@ -108,7 +111,8 @@ pub trait PacketNet: Poller {
         ensures traffic { (c : ChanNo) → traffic self.new c ≡ traffic self.old c }
         ensures ready { (c : ChanNo) → Self.ready self.new c ≡ Self.ready self.old c }
         ensures places { (c : ChanNo) → place self.new c ≡ place self.old c }
-        ensures polls { Self.poll_faults self.new ≡ Self.poll_faults self.old };
+        ensures polls { Self.poll_faults self.new ≡ Self.poll_faults self.old }
+        ensures shown { Self.polls self.new ≡ Self.polls self.old };
 
     /// Closes the socket of a channel, where one is bound there. Its packets are shown as before.
     fn close_packets(&mut self, chan: ChanNo)
@@ -117,7 +121,8 @@ pub trait PacketNet: Poller {
         ensures ready { (c : ChanNo) → Self.ready self.new c ≡ Self.ready self.old c }
         ensures place { place self.new chan ≡ place_after_close (place self.old chan) }
         ensures places { IsSameBut chan (place self.old) (place self.new) }
-        ensures polls { Self.poll_faults self.new ≡ Self.poll_faults self.old };
+        ensures polls { Self.poll_faults self.new ≡ Self.poll_faults self.old }
+        ensures shown { Self.polls self.new ≡ Self.polls self.old };
 
     // Polls carry no packets, count no faults of channels, and leave what stands.
     ghost kept_traffic: { (x y : Self) → Self.kept x y → (c : ChanNo) → traffic y c ≡ traffic x c };

@@ -1,5 +1,5 @@
 //! One round of polls, as a future.
-ghost use Rattle.std.specs.Prelude.{◌≡◌, ◌∷◌, [], IfOk, IsSomeAnd, length, ◌<◌};
+ghost use Rattle.std.specs.Prelude.{◌≡◌, ◌∷◌, [], IfErr, IfOk, IsSomeAnd, length, ◌<◌};
 ghost use Rattle.std.specs.Vec.{vec_capacity};
 ghost use Rattle.futures.specs.Task.{Keeps};
 ghost use Rattle.nio_future.specs.Tickets.{AreTicketsOf};
@@ -12,7 +12,7 @@ use futures::Future;
 use futures::executor::block_on;
 use futures::task::{Context, Poll};
 use nio_base::{Finished, OpNo};
-use std::alloc::{AllocError, AllocGlobal, Global};
+use std::alloc::{AllocGlobal, Global};
 use std::random::RandomSource;
 use std::sync::Wait;
 
@@ -30,15 +30,25 @@ pub struct Hand {
 }
 
 impl Hand {
-    /// A hand of these tickets of the desk. Where memory lacks, the desk and all the tickets are dropped.
-    pub fn new(alloc: Global, desk: Desk, tickets: Vec<OpTicket>) -> Result<Hand, AllocError>
+    /// A hand of these tickets of the desk. Where memory lacks, the desk and the tickets come back.
+    pub fn new(
+        alloc: Global,
+        desk: Desk,
+        tickets: Vec<OpTicket>,
+    ) -> Result<Hand, (Desk, Vec<OpTicket>)>
         requires { AreTicketsOf desk tickets.items }
         ensures hand { IfOk result IsHand }
         ensures desk { IfOk result (λ hand. hand.desk ≡ desk) }
         ensures tickets { IfOk result (λ hand. hand.tickets.items ≡ tickets.items) }
+        ensures desk_back { IfErr result (λ back. back.0 ≡ desk) }
+        ensures tickets_back { IfErr result (λ back. back.1 ≡ tickets) }
     {
-        let still = Vec::with_capacity(alloc, tickets.len())?;
-        let ready = Vec::with_capacity(alloc, tickets.len())?;
+        let Ok(still) = Vec::with_capacity(alloc, tickets.len()) else {
+            return Err((desk, tickets));
+        };
+        let Ok(ready) = Vec::with_capacity(alloc, tickets.len()) else {
+            return Err((desk, tickets));
+        };
         Ok(Hand {
             desk,
             tickets,

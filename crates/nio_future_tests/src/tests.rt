@@ -27,7 +27,8 @@ where
     ensures tickets { IfOk result (λ hand. AreTicketsOf hand.desk hand.still.items) }
     ensures group { IfOk result (λ hand. hand.desk.group ≡ desk.group) }
 {
-    Ok(run_round(rt, Hand::new(alloc, desk, tickets)?)?)
+    let hand = Hand::new(alloc, desk, tickets).map_err(|_back| AllocError)?;
+    Ok(run_round(rt, hand)?)
 }
 
 /// A list of one ticket.

@@ -1,21 +1,23 @@
 -- Which keys of a list are ready, while it is walked, and while what was found is told.
-use Rattle.std.proofs.Common.{◌≡◌, ◌≢◌, ℕ, zero, suc, ◌+◌, ◌-◌, ◌<◌, ◌≤◌, ◌==◌, Bool, not, cond, List, [], ◌∷◌, ◌++◌}
-use Rattle.std.proofs.Common.{◌⊎◌, inl, inr, length, get_or, take, map, bit_and, ap, sym, ◌∙◌, subst, arith}
-use Rattle.std.specs.List.{All, Contains, filter}
+use Rattle.std.proofs.Common.{◌≡◌, ◌≢◌, ℕ, zero, suc, ◌+◌, ◌-◌, ◌<◌, ◌≤◌, ◌==◌, Bool, true, false, not, cond}
+use Rattle.std.proofs.Common.{if◌then◌else◌, List, [], ◌∷◌, ◌++◌, ◌⊎◌, inl, inr, length, get_or, take, map, bit_and}
+use Rattle.std.proofs.Common.{refl, ap, sym, ◌∙◌, subst, arith}
+use Rattle.std.specs.List.{All, Contains, filter, range_with_len}
 use Rattle.std.specs.Prelude.{IfOk, Result, Ok, Err, Vec}
 use Rattle.std.specs.declared.alloc.AllocError.{AllocError}
 use Rattle.std.specs.declared.alloc.Global.{Global}
 use Rattle.std.specs.List.Sorted.{IsNonDecreasing, IsPermutation}
 use Rattle.std.specs.Int.Bits.{and_zero_l, and_zero_r}
-use Rattle.std.proofs.lemmas.Bool.{cases_lt, cases_eq, eq-eqb}
-use Rattle.std.proofs.lemmas.List.{append-nil, take_more, take_all, map-append, get_or_past, get_or_default}
-use Rattle.std.proofs.lemmas.List.Elements.{All-get_or, filter-append}
+use Rattle.std.proofs.lemmas.Bool.{cases_lt, cases_eq, eq-eqb, ne_eqb}
+use Rattle.std.proofs.lemmas.List.FromFn.{filter_of_map_range_with_len_more}
+use Rattle.std.proofs.lemmas.List.{append-nil, map-id, take_more, take_all, map-append, get_or_past, get_or_default}
+use Rattle.std.proofs.lemmas.List.Elements.{All-get_or, filter-append, Contains-append_left, Contains-append_right}
 use Rattle.std.proofs.lemmas.List.Sorted.{Contains-permutation}
 use Rattle.std.proofs.lemmas.Nat.{and_assoc, and_comm}
 use Rattle.nio_base.specs.declared.ops.Ops.{Ops}
 use Rattle.nio_steps.specs.declared.looked.LookedKey.{LookedKey}
 use Rattle.nio_select.specs.Asked.{key_at, no_entry}
-use Rattle.nio_kept.specs.News.{AreFound, ready_for, ready_keys}
+use Rattle.nio_kept.specs.News.{AreFound, places_before, ready_for, ready_keys}
 
 -- ---- walking
 
@@ -23,6 +25,63 @@ use Rattle.nio_kept.specs.News.{AreFound, ready_for, ready_keys}
 abbrev pub FoundBefore : List ℕ → List LookedKey → List ℕ → ℕ → Type 0
 FoundBefore kept asked found bound =
     (at : ℕ) → at < bound → ready_for kept (key_at asked at) ≢ 0 → Contains found at
+
+-- the places of the ready keys, of one key more
+places_more : (kept : List ℕ) (asked : List LookedKey) (n : ℕ)
+    → places_before kept asked (n + 1)
+    ≡ (if ready_for kept (key_at asked n) == 0 then places_before kept asked n
+    else places_before kept asked n ++ n ∷ [])
+places_more kept asked n =
+    sym (ap (filter is_ready) (map-id (range_with_len 0 (n + 1))))
+    ∙ (filter_of_map_range_with_len_more is_ready (λ (at : ℕ). at) 0 n n (omega arith)
+    ∙ (ap (λ (places : List ℕ). filter is_ready places ++ cond (is_ready n) (n ∷ []) []) (map-id (range_with_len 0 n))
+    ∙ by_test (ready_for kept (key_at asked n) == 0)))
+  where
+    is_ready : ℕ → Bool
+    is_ready at = not (ready_for kept (key_at asked at) == 0)
+
+    by_test : (none : Bool)
+        → places_before kept asked n ++ cond (not none) (n ∷ []) []
+        ≡ (if none then places_before kept asked n else places_before kept asked n ++ n ∷ [])
+    by_test true = append-nil (places_before kept asked n)
+    by_test false = refl
+
+still_there : (none : Bool) (found : List ℕ) (n at : ℕ) → Contains found at
+    → Contains (if none then found else found ++ n ∷ []) at
+still_there true found n at there = there
+still_there false found n at there = Contains-append_left found (n ∷ []) at there
+
+last_there : (none : Bool) (found : List ℕ) (n : ℕ) → none ≡ false → Contains (if none then found else found ++ n ∷ []) n
+last_there true found n some = absurd (cc)
+last_there false found n some = Contains-append_right found (n ∷ []) n (0, omega arith, refl)
+
+-- one key more was walked over
+module _ (kept now : List ℕ) (asked : List LookedKey) (n : ℕ) (found more : List ℕ) (same : now ≡ kept)
+    (added : more ≡ (if ready_for now (key_at asked n) == 0 then found else found ++ n ∷ [])) where
+  pub walked : found ≡ places_before kept asked n → more ≡ places_before kept asked (n + 1)
+  walked before =
+      added
+      ∙ (ap (λ (bits : List ℕ). if ready_for bits (key_at asked n) == 0 then found else found ++ n ∷ []) same
+      ∙ (ap (λ (places : List ℕ). if ready_for kept (key_at asked n) == 0 then places else places ++ n ∷ []) before
+      ∙ sym (places_more kept asked n)))
+
+  pub found_more : FoundBefore kept asked found n → FoundBefore kept asked more (n + 1)
+  found_more before at below ready =
+      subst (λ (places : List ℕ). Contains places at) (sym added) (by_place (cases_eq at n))
+    where
+      some : at ≡ n → ready_for now (key_at asked n) ≢ 0
+      some is none =
+          ready (ap (λ (k : ℕ). ready_for kept (key_at asked k)) is
+          ∙ (ap (λ (bits : List ℕ). ready_for bits (key_at asked n)) (sym same) ∙ none))
+
+      by_place : (at ≡ n) ⊎ (at ≡ n → ⊥)
+          → Contains (if ready_for now (key_at asked n) == 0 then found else found ++ n ∷ []) at
+      by_place (inl is) =
+          subst (λ (k : ℕ). Contains (if ready_for now (key_at asked n) == 0 then found else found ++ n ∷ []) k) (sym is)
+          (last_there (ready_for now (key_at asked n) == 0) found n
+          (ne_eqb (ready_for now (key_at asked n)) 0 (some is)))
+      by_place (inr other) =
+          still_there (ready_for now (key_at asked n) == 0) found n at (before at (omega (arith, other, below)) ready)
 
 -- ---- where only writing and connecting is kept
 

@@ -1,6 +1,6 @@
 -- What is kept of the channels, as a list of bits by the numbers of channels, and which keys of a list are ready by it.
 use Rattle.std.specs.Prelude.{◌≢◌, ℕ, ◌<◌, ◌==◌, Bool, not, List, length, map, bit_and, slice_index}
-use Rattle.std.specs.List.{AllPairs, Contains, filter}
+use Rattle.std.specs.List.{AllPairs, Contains, filter, range_with_len}
 use Rattle.nio_steps.specs.declared.looked.LookedKey.{LookedKey}
 use Rattle.nio_select.specs.Asked.{key_at}
 
@@ -16,6 +16,13 @@ ready_for kept entry = bit_and (slice_index kept entry.channel.0) entry.interest
 abbrev pub ready_keys : List ℕ → List LookedKey → List (ℕ × ℕ)
 ready_keys kept asked =
     filter (λ pair. not (pair.1 == 0)) (map (λ entry. (entry.index, ready_for kept entry)) asked)
+
+-- the places of those keys among the first so many of the list, in rising order
+abbrev pub places_before : List ℕ → List LookedKey → ℕ → List ℕ
+places_before kept asked n = filter (λ at. not (ready_for kept (key_at asked at) == 0)) (range_with_len 0 n)
+
+abbrev pub ready_places : List ℕ → List LookedKey → List ℕ
+ready_places kept asked = places_before kept asked (length asked)
 
 -- no channel stands twice in the list
 abbrev pub AreApart : List LookedKey → Type 0

@@ -1,7 +1,7 @@
 //! How often calls on each channel have failed.
 ghost use Rattle.std.specs.Prelude.{◌≡◌, ◌≤◌, IfOk};
 ghost use Rattle.nio_base.specs.declared.numbers.ChanNo.{ChanNo as Channel};
-ghost use Rattle.nio_bytes.specs.Cause.{Rose};
+ghost use Rattle.nio_bytes.specs.Cause.{Rose, count_after};
 ghost use Rattle.nio_link.specs.Links.{IsSameBut};
 
 use nio_base::ChanNo;
@@ -34,6 +34,7 @@ impl Counts {
     pub fn fail(&mut self, chan: ChanNo) -> Failed
         ensures later { count_of self.old chan ≤ count_of self.new chan }
         ensures rose { Rose (count_of self.old chan) (count_of self.new chan) }
+        ensures count { count_of self.new chan ≡ count_after (count_of self.old chan) }
         ensures others { IsSameBut chan (count_of self.old) (count_of self.new) }
     {
         let place = chan.0 as usize;
@@ -50,6 +51,7 @@ impl Counts {
 pub fn raise(count: &mut u64)
     ensures later { count.old ≤ count.new }
     ensures rose { Rose count.old count.new }
+    ensures count { count.new ≡ count_after count.old }
 {
     *count = count.saturating_add(1);
 }

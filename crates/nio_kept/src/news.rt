@@ -4,10 +4,10 @@
 //! only for keys that can be ready. For each event it then searches the list for the channel's key.
 ghost use Rattle.std.specs.Prelude.{◌≡◌, ℕ, ◌<◌, ◌≤◌, ◌-◌, ◌==◌, ◌++◌, [], ◌∷◌, not, All, IsTrue, IfOk, IfSome, OnOk};
 ghost use Rattle.std.specs.Prelude.{if◌then◌else◌, bit_and, bit_or, length, slice_index, slice_set};
-ghost use Rattle.std.specs.List.Sorted.{IsNonDecreasing};
+ghost use Rattle.std.specs.List.Sorted.{IsNonDecreasing, IsPermutation};
 ghost use Rattle.nio_select.specs.Asked.{key_at};
 ghost use Rattle.nio_kept.specs.News.{is_incoming as has_incoming};
-ghost use Rattle.nio_kept.specs.News.{AreApart, AreFound, ready_for, ready_keys};
+ghost use Rattle.nio_kept.specs.News.{AreApart, AreFound, ready_for, ready_keys, ready_places};
 
 use nio_base::{ChanNo, Ops};
 use nio_select::Asked;
@@ -123,6 +123,7 @@ impl News {
     /// Lists the places in the list that is asked for of the keys that are ready for something, in rising order.
     pub fn walk(&mut self, asked: &Asked, found: &mut Vec<usize>) -> Result<(), AllocError>
         ensures same { self.new ≡ self.old }
+        ensures places { OnOk result (found.new.items ≡ ready_places self.new asked.now) }
         ensures found { OnOk result (AreFound self.new asked.now found.new.items) }
     {
         found.clear();
@@ -136,6 +137,7 @@ impl News {
     fn walk_all(&mut self, asked: &Asked, found: &mut Vec<usize>) -> Result<(), AllocError>
         requires empty { found.old.items ≡ [] }
         ensures same { self.new ≡ self.old }
+        ensures places { OnOk result (found.new.items ≡ ready_places self.new asked.now) }
         ensures found { OnOk result (AreFound self.new asked.now found.new.items) }
     {
         for at in 0..asked.len() {
@@ -149,6 +151,7 @@ impl News {
         requires outgoing { All (λ bits. bit_and bits 12 ≡ bits) self.old }
         requires empty { found.old.items ≡ [] }
         ensures same { self.new ≡ self.old }
+        ensures places { OnOk result (found.new.items ≡ ready_places self.new asked.now) }
         ensures found { OnOk result (AreFound self.new asked.now found.new.items) }
     {
         for at in 0..asked.len() {
@@ -246,8 +249,10 @@ impl News {
         asked: &Asked,
         found: &mut Vec<usize>,
     ) -> Result<Vec<(u32, Ops)>, AllocError>
-        ensures { IfOk result (λ pairs. AreFound self.now asked.now found.old.items
+        ensures told { IfOk result (λ pairs. AreFound self.now asked.now found.old.items
             → pairs.items ≡ ready_keys self.now asked.now) }
+        ensures sorted { IsNonDecreasing found.new.items }
+        ensures places { IsPermutation found.old.items found.new.items }
     {
         found.sort_unstable();
         self.tell_sorted(alloc, asked, found.as_slice())

@@ -9,7 +9,7 @@ use nio_base::{ChanNo, Ops};
 use nio_history::Mode;
 use nio_poller::ToldPoll;
 use nio_select::{Asked, Told};
-use nio_trace::{Reading, Trace};
+use nio_trace::Trace;
 
 /// The polls that answered; the last poll, where it answered; and which operations calls have found not ready since.
 #[derive(Drop)]
@@ -42,10 +42,9 @@ impl Readiness {
             ≡ polls_of self.old ++ record { asked = asked.now; mode = mode; answer = poll_of told.now } ∷ [] }
         ensures ready { (c : Channel) → ready_of self.new c ≡ told_of_channel asked.now told.now.pairs.items c }
     {
-        let answer = Answer { asked, mode, told };
-        self.polls.extend_from::<Answer, OnePoll>(&answer);
+        ToldPoll::add_to(&mut self.polls, asked, mode, told);
         self.last = Trace::new();
-        self.last.extend_from::<Answer, OnePoll>(&answer);
+        ToldPoll::add_to(&mut self.last, asked, mode, told);
         self.taken = Trace::new();
     }
 
@@ -66,25 +65,4 @@ impl Readiness {
     {
         self.taken.push(&(chan, op));
     }
-}
-
-#[derive(Clone, Copy)]
-struct Answer<'a> {
-    asked: &'a Asked,
-    mode: Mode,
-    told: &'a Told,
-}
-
-/// Reads a poll off its answer.
-struct OnePoll;
-
-impl<'a> Reading<Answer<'a>, ToldPoll> for OnePoll {
-    ghost use Rattle.std.specs.Prelude.{[], ◌∷◌};
-    ghost use Rattle.nio_select.specs.InProgress.{poll_of};
-
-    ghost items = { λ answer. record {
-      asked = answer.asked.now;
-      mode = answer.mode;
-      answer = poll_of answer.told.now;
-    } ∷ [] };
 }

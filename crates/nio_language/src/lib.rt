@@ -7,7 +7,10 @@ pub use group_call::GroupCall;
 pub use group_reply::GroupReply;
 pub use names::Names;
 pub use pairs::Pairs;
-pub use parse::{ParseError, Parsed, cut_at, is_blank, parse_line, read_number};
+pub use parse::{
+    LINE_LIMIT, ParseError, Parsed, cut_at, is_blank, parse_line, read_caller, read_group_channel,
+    read_number, read_operation_kind, read_selector, words_of,
+};
 pub use print::{print_line, print_reply};
 pub use reply::Reply;
 pub use word_row::{LineName, LineNames};

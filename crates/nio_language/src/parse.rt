@@ -5,11 +5,15 @@ ghost use Rattle.nio_language.specs.Script.{IsInGrammar};
 
 use crate::call::Call;
 pub use cut::cut_at;
+pub use group::read_operation_kind;
+pub use line::LINE_LIMIT;
 use line::read_line;
+pub use name::{read_caller, read_group_channel, read_selector};
 use nio_base::CallerNo;
 pub use number::read_number;
 use std::alloc::{AllocError, Global};
 use thiserror::Error;
+pub use words::words_of;
 
 mod arguments;
 mod bytes;

@@ -1,5 +1,5 @@
 -- What contracts see of the ends of a line.
-use Rattle.std.specs.Prelude.{◌≡◌, ◌≢◌, List, [], ◌∷◌, ◌++◌, All}
+use Rattle.std.specs.Prelude.{◌≡◌, ◌≢◌, ℕ, List, [], ◌∷◌, ◌++◌, All}
 use mathlib.Core.List.{IsPrefix}
 use Rattle.atomic_table.specs.Seated.{TableId}
 use Rattle.atomic_table.specs.declared.badge.Badge.{Badge}
@@ -10,9 +10,11 @@ pub record LineId (T : Type 0) : Type 0 where
   pub table : TableId
   pub key : Badge (Key T)
 
--- which line it is an end of, and what was sent or received by it, the oldest first
+-- Which line it is an end of, how many messages the line has room for, and what was sent or received by this end, the
+-- oldest first.
 pub record End (T : Type 0) : Type 0 where
   pub line : LineId T
+  pub room : ℕ
   pub carried : List T
 
 -- Where the last message was received too, and was sent once, all was received.

@@ -26,7 +26,7 @@ pub struct LineOut<T: Drop> {
 impl<T: Drop> Model for LineIn<T> {
     ghost use Rattle.std.specs.Prelude.{◌≡◌, true};
     ghost use Rattle.crossbeam_channel.specs.Claims.{view as view_of, IsSeatAt};
-    ghost use Rattle.crossbeam_channel.specs.Ends.{sends_on};
+    ghost use Rattle.crossbeam_channel.specs.Ends.{sends_on, ruled_capacity};
     ghost use Rattle.nio_line.specs.Hands.{sends};
     ghost use Rattle.nio_line.specs.Lines.{End};
 
@@ -34,6 +34,7 @@ impl<T: Drop> Model for LineIn<T> {
 
     ghost view = { λ l. record {
       line = record { table = l.pass.table_id; key = l.pass.me.0.of };
+      room = ruled_capacity (sends_on l.sender);
       carried = (view_of l.pass).sent;
     } };
 
@@ -43,7 +44,7 @@ impl<T: Drop> Model for LineIn<T> {
 impl<T: Drop> Model for LineOut<T> {
     ghost use Rattle.std.specs.Prelude.{◌≡◌, true};
     ghost use Rattle.crossbeam_channel.specs.Claims.{view as view_of, IsSeatAt};
-    ghost use Rattle.crossbeam_channel.specs.Ends.{receives_on};
+    ghost use Rattle.crossbeam_channel.specs.Ends.{receives_on, ruled_capacity};
     ghost use Rattle.nio_line.specs.Hands.{receives};
     ghost use Rattle.nio_line.specs.Lines.{End};
 
@@ -51,6 +52,7 @@ impl<T: Drop> Model for LineOut<T> {
 
     ghost view = { λ l. record {
       line = record { table = l.pass.table_id; key = l.pass.me.0.of };
+      room = ruled_capacity (receives_on l.receiver);
       carried = (view_of l.pass).received;
     } };
 
@@ -61,6 +63,8 @@ impl<T: Drop> Model for LineOut<T> {
 pub fn open<T: Drop>(alloc: Global, room: usize) -> Result<(LineIn<T>, LineOut<T>), AllocError>
     requires { 0 < room }
     ensures line { IfOk result (λ ends. ends.0.line ≡ ends.1.line) }
+    ensures room_in { IfOk result (λ ends. ends.0.room ≡ room) }
+    ensures room_out { IfOk result (λ ends. ends.1.room ≡ room) }
     ensures sent { IfOk result (λ ends. ends.0.carried ≡ []) }
     ensures received { IfOk result (λ ends. ends.1.carried ≡ []) }
 {

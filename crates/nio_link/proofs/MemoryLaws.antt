@@ -19,6 +19,7 @@ use Rattle.nio_link.specs.Links.{Link, IsSameBut, IsUnused, IsGot, after_read, a
 use Rattle.nio_link.specs.MemoryLinks.{LinkState, IsFresh, carried, is_connected, is_connecting, link_after_read}
 use Rattle.nio_link.specs.MemoryLinks.{link_after_write, got_after, ended_after, put_of, put_after, stage_after_connect}
 use Rattle.nio_link.specs.MemoryLinks.{connect_answer as connect_link_answer}
+use Rattle.nio_link.specs.MemoryNet.{polls_told, with_told}
 use Rattle.nio_link.specs.MemoryNet.{ready_told, heed, times, faulted_after, findings_after, is_early, AreFresh}
 use Rattle.nio_link.specs.MemoryNet.{NetState, is_free, is_waiting, after_listen, listen_answer, with_target, end_under}
 use Rattle.nio_link.specs.MemoryNet.{after_connect, connect_answer, with_client, after_accept, can_accept, is_listener}
@@ -232,6 +233,18 @@ pub read_ready_else : (r : Result Got Failed) (findings : List Finding) (c : Cha
     → IsSameBut c (ready_told findings) (ready_told (findings_after (is_early r) c 1 findings))
 read_ready_else r findings c = by_early (is_early r) findings c 1
 
+-- ---- the polls that answered
+
+polls_more : (findings : List Finding) (x : Finding)
+    → polls_told (findings ++ x ∷ []) ≡ with_told (polls_told findings) x
+polls_more findings x = fold-append with_told [] findings (x ∷ [])
+
+-- a call that finds a channel not ready adds none
+pub polls_after : (b : Bool) (findings : List Finding) (c : ChanNo) (op : ℕ)
+    → polls_told (findings_after b c op findings) ≡ polls_told findings
+polls_after true findings c op = polls_more findings (NotReady c op)
+polls_after false findings c op = refl
+
 -- ---- links that are made, connected and closed
 
 fresh_slot : (l : LinkState) → IsFresh l → carried_by (slot.Link l) ≡ carried_by slot.Free
@@ -367,6 +380,7 @@ pub record Accepts (s now : NetState) (listener c : ChanNo) (made : Bool) : Type
   pub polls : now.polls ≡ s.polls
   pub ready : ready_told now.findings listener ≡ ready_after_accept (Ok made) (ready_told s.findings listener)
   pub ready_else : IsSameBut listener (ready_told s.findings) (ready_told now.findings)
+  pub shown : polls_told now.findings ≡ polls_told s.findings
 
 pub accepts : (s : NetState) (listener c : ChanNo) → AreFresh s.clients → can_accept s listener c ≡ true
     → Accepts s (after_accept s listener c) listener c (is_waiting s.clients)
@@ -381,6 +395,7 @@ accepts s listener c fresh able = by_clients s.clients fresh
       polls = refl;
       ready = ready_here s.findings listener 16;
       ready_else = ready_else s.findings listener 16;
+      shown = polls_after true s.findings listener 16;
     }
     by_clients (l ∷ later) all = record {
       carried = put_fresh s.slots c (and_parts (is_listener s.slots listener) (is_free s.slots c) able).1 l all.0;
@@ -388,6 +403,7 @@ accepts s listener c fresh able = by_clients s.clients fresh
       polls = refl;
       ready = refl;
       ready_else = λ k differ. refl;
+      shown = refl;
     }
 
 pub connect_ready : (o : Option LinkState) (ops : ℕ) → ops ≡ ready_after_connect (finish_answer o) ops

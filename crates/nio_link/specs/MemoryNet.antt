@@ -64,6 +64,16 @@ heed before (NotReady chan op) c = if chan.0 == c.0 then without op (before c) e
 abbrev pub ready_told : List Finding → ChanNo → ℕ
 ready_told findings = fold heed (λ _. 0) findings
 
+-- the polls that answered, once this was found
+abbrev pub with_told : List Polled → Finding → List Polled
+with_told before (WasTold polled) = before ++ polled ∷ []
+with_told before Untold = before
+with_told before (NotReady chan op) = before
+
+-- the polls that answered, the oldest first
+abbrev pub polls_told : List Finding → List Polled
+polls_told findings = fold with_told [] findings
+
 -- what a poll tells of a key: what its channel is ready for, of what it is asked for
 abbrev pub told_pair : List Slot → Bool → LookedKey → ℕ × ℕ
 told_pair slots waiting entry = (entry.index, bit_and (ready_at waiting (slot_at slots entry.channel)) entry.interest)

@@ -54,6 +54,7 @@ impl<N: Net> JobNet<N> {
         ensures call { Listens chan at (view_by N.link N.faults N.place N.ready N.poll_faults self.old)
             (view_by N.link N.faults N.place N.ready N.poll_faults self.new) result }
         ensures accepted { N.accepted self.new ≡ N.accepted self.old }
+        ensures shown { N.polls self.new ≡ N.polls self.old }
     {
         self.net.listen(chan, at)
     }
@@ -68,6 +69,7 @@ impl<N: Net> JobNet<N> {
         ensures call { Accepts listener chan (view_by N.link N.faults N.place N.ready N.poll_faults self.old)
             (view_by N.link N.faults N.place N.ready N.poll_faults self.new) result }
         ensures accepted { N.accepted self.new ≡ accepted_after result chan (N.accepted self.old) }
+        ensures shown { N.polls self.new ≡ N.polls self.old }
     {
         drop(job);
         self.net.accept(listener, chan)
@@ -81,6 +83,7 @@ impl<N: Net> JobNet<N> {
         ensures call { Connects chan to (view_by N.link N.faults N.place N.ready N.poll_faults self.old)
             (view_by N.link N.faults N.place N.ready N.poll_faults self.new) result }
         ensures accepted { N.accepted self.new ≡ N.accepted self.old }
+        ensures shown { N.polls self.new ≡ N.polls self.old }
     {
         drop(job);
         self.net.connect(chan, to)
@@ -95,6 +98,7 @@ impl<N: Net> JobNet<N> {
         ensures call { Finishes chan (view_by N.link N.faults N.place N.ready N.poll_faults self.old)
             (view_by N.link N.faults N.place N.ready N.poll_faults self.new) result }
         ensures accepted { N.accepted self.new ≡ N.accepted self.old }
+        ensures shown { N.polls self.new ≡ N.polls self.old }
     {
         drop(job);
         self.net.finish_connect(chan)
@@ -111,6 +115,7 @@ impl<N: Net> JobNet<N> {
         ensures call { Reads chan (view_by N.link N.faults N.place N.ready N.poll_faults self.old)
             (view_by N.link N.faults N.place N.ready N.poll_faults self.new) into.old into.new result }
         ensures accepted { N.accepted self.new ≡ N.accepted self.old }
+        ensures shown { N.polls self.new ≡ N.polls self.old }
     {
         drop(job);
         self.net.read(chan, into)
@@ -126,6 +131,7 @@ impl<N: Net> JobNet<N> {
         ensures call { Writes chan (view_by N.link N.faults N.place N.ready N.poll_faults self.old)
             (view_by N.link N.faults N.place N.ready N.poll_faults self.new) from.now result }
         ensures accepted { N.accepted self.new ≡ N.accepted self.old }
+        ensures shown { N.polls self.new ≡ N.polls self.old }
     {
         drop(job);
         self.net.write(chan, from)
@@ -137,6 +143,7 @@ impl<N: Net> JobNet<N> {
         ensures call { Shuts chan (view_by N.link N.faults N.place N.ready N.poll_faults self.old)
             (view_by N.link N.faults N.place N.ready N.poll_faults self.new) result }
         ensures accepted { N.accepted self.new ≡ N.accepted self.old }
+        ensures shown { N.polls self.new ≡ N.polls self.old }
     {
         self.net.shut_write(chan)
     }
@@ -146,6 +153,7 @@ impl<N: Net> JobNet<N> {
         ensures call { Closes chan (view_by N.link N.faults N.place N.ready N.poll_faults self.old)
             (view_by N.link N.faults N.place N.ready N.poll_faults self.new) }
         ensures accepted { N.accepted self.new ≡ N.accepted self.old }
+        ensures shown { N.polls self.new ≡ N.polls self.old }
     {
         self.net.close(chan);
     }

@@ -70,7 +70,8 @@ pub trait Net: Poller {
         ensures place { place self.new chan ≡ place_after_listen result at }
         ensures places { IsSameBut chan (place self.old) (place self.new) }
         ensures accepted { accepted self.new ≡ accepted self.old }
-        ensures polls { Self.poll_faults self.new ≡ Self.poll_faults self.old };
+        ensures polls { Self.poll_faults self.new ≡ Self.poll_faults self.old }
+        ensures shown { Self.polls self.new ≡ Self.polls self.old };
 
     /// Takes a connection from a listener, and makes a link of it under the channel `chan`. False where none has come
     /// yet.
@@ -86,7 +87,8 @@ pub trait Net: Poller {
         ensures place { place self.new chan ≡ place_after_accept result listener (place self.old chan) }
         ensures places { IsSameBut chan (place self.old) (place self.new) }
         ensures accepted { accepted self.new ≡ accepted_after result chan (accepted self.old) }
-        ensures polls { Self.poll_faults self.new ≡ Self.poll_faults self.old };
+        ensures polls { Self.poll_faults self.new ≡ Self.poll_faults self.old }
+        ensures shown { Self.polls self.new ≡ Self.polls self.old };
 
     /// Begins to connect a link under this channel. True where it is connected; false where that isn't done yet.
     fn connect(&mut self, chan: ChanNo, to: Addr) -> Result<bool, Failed>
@@ -98,7 +100,8 @@ pub trait Net: Poller {
         ensures place { place self.new chan ≡ place_after_connect result to }
         ensures places { IsSameBut chan (place self.old) (place self.new) }
         ensures accepted { accepted self.new ≡ accepted self.old }
-        ensures polls { Self.poll_faults self.new ≡ Self.poll_faults self.old };
+        ensures polls { Self.poll_faults self.new ≡ Self.poll_faults self.old }
+        ensures shown { Self.polls self.new ≡ Self.polls self.old };
 
     /// Goes on connecting a link. True where it is connected; false where that isn't done yet. As in Java, a link that
     /// couldn't be connected is closed.
@@ -113,7 +116,8 @@ pub trait Net: Poller {
         ensures place { place self.new chan ≡ place_after_finish result (place self.old chan) }
         ensures places { IsSameBut chan (place self.old) (place self.new) }
         ensures accepted { accepted self.new ≡ accepted self.old }
-        ensures polls { Self.poll_faults self.new ≡ Self.poll_faults self.old };
+        ensures polls { Self.poll_faults self.new ≡ Self.poll_faults self.old }
+        ensures shown { Self.polls self.new ≡ Self.polls self.old };
 
     /// Reads what has come on a link, as far as it fits.
     fn read(&mut self, chan: ChanNo, into: &mut [u8]) -> Result<Got, Failed>
@@ -129,7 +133,8 @@ pub trait Net: Poller {
         ensures ready_else { IsSameBut chan (Self.ready self.old) (Self.ready self.new) }
         ensures places { (c : ChanNo) → place self.new c ≡ place self.old c }
         ensures accepted { accepted self.new ≡ accepted self.old }
-        ensures polls { Self.poll_faults self.new ≡ Self.poll_faults self.old };
+        ensures polls { Self.poll_faults self.new ≡ Self.poll_faults self.old }
+        ensures shown { Self.polls self.new ≡ Self.polls self.old };
 
     /// Writes bytes on a link, as many as it takes.
     fn write(&mut self, chan: ChanNo, from: &[u8]) -> Result<Put, Failed>
@@ -145,7 +150,8 @@ pub trait Net: Poller {
         ensures ready_else { IsSameBut chan (Self.ready self.old) (Self.ready self.new) }
         ensures places { (c : ChanNo) → place self.new c ≡ place self.old c }
         ensures accepted { accepted self.new ≡ accepted self.old }
-        ensures polls { Self.poll_faults self.new ≡ Self.poll_faults self.old };
+        ensures polls { Self.poll_faults self.new ≡ Self.poll_faults self.old }
+        ensures shown { Self.polls self.new ≡ Self.polls self.old };
 
     /// Shuts the side of a link on which bytes are written, so that the other side finds their end.
     fn shut_write(&mut self, chan: ChanNo) -> Result<(), Failed>
@@ -158,7 +164,8 @@ pub trait Net: Poller {
         ensures place { place self.new chan ≡ place_after_shut result (place self.old chan) }
         ensures places { IsSameBut chan (place self.old) (place self.new) }
         ensures accepted { accepted self.new ≡ accepted self.old }
-        ensures polls { Self.poll_faults self.new ≡ Self.poll_faults self.old };
+        ensures polls { Self.poll_faults self.new ≡ Self.poll_faults self.old }
+        ensures shown { Self.polls self.new ≡ Self.polls self.old };
 
     /// Closes a link or a listener, where one stands there. What it has carried is shown as before.
     fn close(&mut self, chan: ChanNo)
@@ -168,7 +175,8 @@ pub trait Net: Poller {
         ensures place { place self.new chan ≡ place_after_close (place self.old chan) }
         ensures places { IsSameBut chan (place self.old) (place self.new) }
         ensures accepted { accepted self.new ≡ accepted self.old }
-        ensures polls { Self.poll_faults self.new ≡ Self.poll_faults self.old };
+        ensures polls { Self.poll_faults self.new ≡ Self.poll_faults self.old }
+        ensures shown { Self.polls self.new ≡ Self.polls self.old };
 
     // Polls carry no bytes, count no faults of links, leave what stands, and accept nothing.
     ghost kept_links: { (x y : Self) → Self.kept x y → (c : ChanNo) → link y c ≡ link x c };

@@ -92,6 +92,8 @@ impl StreamLink {
         ensures connect { ConnectClause (view_by N.link N.faults N.place N.ready N.poll_faults)
             (connect_refusal self.old.state) to self.old self.new net.old net.new result }
         ensures stands { StandsAs self.new.state (N.place net.new self.new.channel) }
+        ensures accepted { N.accepted net.new ≡ N.accepted net.old }
+        ensures shown { N.polls net.new ≡ N.polls net.old }
     {
         match self.state {
             StreamState::Unconnected => {
@@ -111,6 +113,8 @@ impl StreamLink {
         ensures finish { FinishClause (view_by N.link N.faults N.place N.ready N.poll_faults)
             self.old.state self.old self.new net.old net.new result }
         ensures stands { StandsAs self.new.state (N.place net.new self.new.channel) }
+        ensures accepted { N.accepted net.new ≡ N.accepted net.old }
+        ensures shown { N.polls net.new ≡ N.polls net.old }
     {
         match self.state {
             StreamState::Unconnected => Err(LinkError::NoConnectionPending),
@@ -131,6 +135,8 @@ impl StreamLink {
         ensures read { ReadClause (view_by N.link N.faults N.place N.ready N.poll_faults)
             (transfer_refusal self.old.state) self.old self.new net.old net.new into.old into.new result }
         ensures stands { StandsAs self.new.state (N.place net.new self.new.channel) }
+        ensures accepted { N.accepted net.new ≡ N.accepted net.old }
+        ensures shown { N.polls net.new ≡ N.polls net.old }
     {
         match self.state {
             StreamState::Unconnected | StreamState::Connecting => Err(LinkError::NotYetConnected),
@@ -149,6 +155,8 @@ impl StreamLink {
         ensures write { WriteClause (view_by N.link N.faults N.place N.ready N.poll_faults)
             (transfer_refusal self.old.state) self.old self.new net.old net.new from.now result }
         ensures stands { StandsAs self.new.state (N.place net.new self.new.channel) }
+        ensures accepted { N.accepted net.new ≡ N.accepted net.old }
+        ensures shown { N.polls net.new ≡ N.polls net.old }
     {
         match self.state {
             StreamState::Unconnected | StreamState::Connecting => Err(LinkError::NotYetConnected),
@@ -163,6 +171,8 @@ impl StreamLink {
         ensures close { CloseClause (view_by N.link N.faults N.place N.ready N.poll_faults)
             self.old.state self.old self.new net.old net.new result }
         ensures stands { StandsAs self.new.state (N.place net.new self.new.channel) }
+        ensures accepted { N.accepted net.new ≡ N.accepted net.old }
+        ensures shown { N.polls net.new ≡ N.polls net.old }
     {
         if self.state == StreamState::Closed {
             return false;

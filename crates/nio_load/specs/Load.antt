@@ -6,6 +6,7 @@ use Rattle.nio_language.specs.declared.call.ScriptCall.{ScriptCall}
 use Rattle.nio_plain.specs.Answer.{left_by_script}
 use Rattle.nio_plain.specs.declared.system.System as system
 use Rattle.nio_script.specs.Output.{IsWritten, WritesPrefix}
+use Rattle.nio_script.specs.Run.{MakesPrefix}
 use Rattle.nio_script.specs.declared.status.Status.{Status}
 use Rattle.nio_script.specs.declared.status.Status.TheVariants.{Done, Usage, BadScript, ReadFault, WriteFault, Memory}
 use Rattle.nio_script.specs.declared.status.Status.TheVariants.{NetFault, Illegal, TooLong}
@@ -32,6 +33,14 @@ pub record IsHalfSummed {K Y : Type 0} (k : sink.Ghosts K) (y : system.Ghosts Y)
   pub calls : List ScriptCall
   pub loaded : IsLoaded y run run' rounds calls
   pub written : WritesPrefix k output output' (summary_of (y.rules run) (y.limits run) calls)
+
+-- Nothing was written, and the system is left as some calls of the generated script leave it, from the first one on.
+pub record IsUnsummed {K Y : Type 0} (y : system.Ghosts Y) (output output' : K) (run run' : Y) (rounds : ℕ)
+    : Type 0 where
+  pub calls : List ScriptCall
+  pub script : IsScript (generated rounds) calls
+  pub left : MakesPrefix y run run' calls
+  pub unwritten : output' ≡ output
 
 -- how a load may end
 abbrev pub EndsLoad : Status → Type 0

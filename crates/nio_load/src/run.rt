@@ -4,7 +4,7 @@ ghost use Rattle.nio_bytes.specs.Cause.{Rose};
 ghost use Rattle.nio_language.specs.Script.{IsScript};
 ghost use Rattle.nio_plain.specs.ScriptState.{script_opening};
 ghost use Rattle.nio_load.specs.Generator.{generated};
-ghost use Rattle.nio_load.specs.Load.{IsSummed, IsHalfSummed, EndsLoad};
+ghost use Rattle.nio_load.specs.Load.{IsSummed, IsHalfSummed, IsUnsummed, EndsLoad};
 
 use crate::generator::generate;
 use crate::summary::summarize;
@@ -30,7 +30,8 @@ pub fn run_load<K: Sink, Y: System>(
         IsSummed K.Sink Y.System output.old output.new system.old system.new rounds }
     ensures write_fault { result ≡ Status.WriteFault →
         IsHalfSummed K.Sink Y.System output.old output.new system.old system.new rounds }
-    ensures memory { result ≡ Status.Memory → output.new ≡ output.old }
+    ensures memory { result ≡ Status.Memory →
+        IsUnsummed Y.System output.old output.new system.old system.new rounds }
     ensures ends { EndsLoad result }
 
     // What a fault comes of.

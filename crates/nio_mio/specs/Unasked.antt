@@ -1,8 +1,9 @@
 -- A net of sockets that was just made.
-use Rattle.std.specs.Prelude.{◌≡◌}
+use Rattle.std.specs.Prelude.{◌≡◌, []}
 use Rattle.nio_base.specs.declared.numbers.ChanNo.{ChanNo}
 use Rattle.nio_link.specs.Places.{places_after, unused}
 use Rattle.nio_kept.specs.Counts.{count_of}
+use Rattle.nio_kept.specs.Readiness.{polls_of, ready_of}
 use Rattle.nio_mio.specs.declared.net.MioNet.{MioNet}
 
 -- no channel was asked to be anything
@@ -13,3 +14,8 @@ IsUnasked net = (c : ChanNo) → places_after net.log.changes c ≡ unused
 pub record IsFaultless {S : Type 0} (net : MioNet S) : Type 0 where
   pub polls : net.poll_faults ≡ 0
   pub calls : (c : ChanNo) → count_of net.counts c ≡ 0
+
+-- no poll has answered, and no channel is ready for anything
+pub record IsUnpolled {S : Type 0} (net : MioNet S) : Type 0 where
+  pub polls : polls_of net.readiness ≡ []
+  pub unready : (c : ChanNo) → ready_of net.readiness c ≡ 0

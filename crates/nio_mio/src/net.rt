@@ -28,13 +28,14 @@ pub struct MioNet<S> {
 }
 
 impl<S: System + Clock + Copy> MioNet<S> {
-    ghost use Rattle.nio_mio.specs.Unasked.{IsFaultless, IsUnasked};
+    ghost use Rattle.nio_mio.specs.Unasked.{IsFaultless, IsUnasked, IsUnpolled};
 
     /// A net without sockets, and its bell. Takes the memory for all sockets that there may be. Where the system
     /// refuses a poll object or a waker, the bell does nothing, and each call of the net that can fail fails.
     pub fn make(system: S, alloc: Global) -> Result<(MioNet<S>, MioBell), AllocError>
         ensures unasked { IfOk result (λ made. IsUnasked made.0) }
         ensures faultless { IfOk result (λ made. IsFaultless made.0) }
+        ensures unpolled { IfOk result (λ made. IsUnpolled made.0) }
     {
         let counts = Counts::make(alloc, PLACES)?;
         let log = PlaceLog::make(alloc, PLACES)?;

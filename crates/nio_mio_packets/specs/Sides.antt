@@ -1,5 +1,5 @@
 -- What the channels of a net of packets over sockets have carried, and what stands there.
-use Rattle.std.specs.Prelude.{◌≡◌, List, []}
+use Rattle.std.specs.Prelude.{◌≡◌, ℕ, List, [], length}
 use Rattle.std.specs.List.{slice_index_or}
 use Rattle.nio_base.specs.declared.numbers.ChanNo.{ChanNo}
 use Rattle.nio_datagram.specs.Packets.{Traffic, no_traffic}
@@ -19,6 +19,10 @@ traffic_at sides c = record { came = (side_at sides c).came; went = (side_at sid
 
 abbrev pub place_at : List Side → ChanNo → Place
 place_at sides c = (side_at sides c).place
+
+-- for how many channels the net was made
+abbrev pub channels_of : {S : Type 0} → MioPackets S → ℕ
+channels_of net = length net.sides.items
 
 -- a net that was just made: no channel has carried a packet, and none was bound
 pub record IsFresh {S : Type 0} (net : MioPackets S) : Type 0 where

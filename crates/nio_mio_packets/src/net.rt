@@ -28,13 +28,15 @@ pub struct MioPackets<S> {
 }
 
 impl<S: System + Clock + Copy> MioPackets<S> {
-    ghost use Rattle.nio_mio_packets.specs.Faultless.{IsFaultless};
-    ghost use Rattle.nio_mio_packets.specs.Sides.{IsFresh};
+    ghost use Rattle.nio_mio_packets.specs.Faultless.{IsFaultless, IsUnpolled};
+    ghost use Rattle.nio_mio_packets.specs.Sides.{IsFresh, channels_of};
 
     /// A net without sockets. Where the system refuses a poll object, each call of the net that can fail fails.
     pub fn make(system: S, alloc: Global, channels: usize) -> Result<MioPackets<S>, AllocError>
+        ensures channels { IfOk result (λ net. channels_of net ≡ channels) }
         ensures fresh { IfOk result IsFresh }
         ensures faultless { IfOk result IsFaultless }
+        ensures unpolled { IfOk result IsUnpolled }
     {
         let sides = new_sides(alloc, channels)?;
         let sockets = Sockets::make(&system, alloc, channels)?;

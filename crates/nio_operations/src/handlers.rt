@@ -10,8 +10,8 @@ use std::sync::atomic::{AtomicU64, Ordering};
 use std::sync::{Mutex, MutexGuard, Wait};
 use std::thread;
 
-// How often the dispatcher lets other threads run before it begins without a worker. It does so to the end only where a
-// thread could be made a moment ago and no longer can.
+// How often the dispatcher lets other threads run, at most, before it begins without a worker. It does so to the end
+// only where starting the worker threads failed.
 const YIELDS: u32 = 500_000;
 
 /// What the handlers share. Who holds the lock of the streams may take the group's lock.

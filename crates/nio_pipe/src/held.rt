@@ -1,5 +1,5 @@
 //! A pipe whose two ends are in one hand.
-ghost use Rattle.std.specs.Prelude.{◌≡◌, [], length, min, take, drop, ◌++◌, IfOk, Ok, Err};
+ghost use Rattle.std.specs.Prelude.{◌≡◌, [], length, min, take, drop, ◌++◌, IfErr, IfOk, Ok, Err};
 ghost use Rattle.nio_history.specs.PassViews.{HasChannel, HasNoPin};
 ghost use Rattle.nio_steps.specs.Calls.{CallClause};
 ghost use Rattle.nio_steps.specs.ChannelCalls.{close_channel_plan};
@@ -28,7 +28,7 @@ use nio_channel::close_channel;
 use nio_steps::{PipeError, PipeMakeError};
 use nio_trace::Trace;
 use nio_words::{Pass, Words};
-use std::alloc::{AllocError, Global};
+use std::alloc::Global;
 use std::marker::Model;
 
 /// How many bytes wait in a pipe at most.
@@ -274,11 +274,15 @@ impl HeldPipe {
         closes
     }
 
-    /// Parts the pipe into its two ends, with the same waiting bytes and the same seal. After want of
-    /// memory the pipe is gone, and its channels stay as they are.
-    pub fn part(self, alloc: Global) -> Result<(PipeSource, PipeSink), AllocError>
-        ensures { IfOk result (λ ends. AreParts self ends.0 ends.1) }
+    /// Parts the pipe into its two ends, with the same waiting bytes and the same seal. Where memory lacks, the pipe
+    /// comes back.
+    pub fn part(self, alloc: Global) -> Result<(PipeSource, PipeSink), HeldPipe>
+        ensures parts { IfOk result (λ ends. AreParts self ends.0 ends.1) }
+        ensures back { IfErr result (λ pipe. pipe ≡ self) }
     {
+        let Ok(rings) = Rings::make(alloc) else {
+            return Err(self);
+        };
         let HeldPipe {
             source,
             sink,
@@ -287,7 +291,6 @@ impl HeldPipe {
             received: _,
             sealed,
         } = self;
-        let rings = Rings::make(alloc)?;
         let (mut source, mut sink) = rings.ends(source, sink);
         let (first, second) = buffer.as_slices();
         sink.take_over(first, second, sealed);

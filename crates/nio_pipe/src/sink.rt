@@ -36,7 +36,8 @@ impl PipeSink {
     ghost use Rattle.nio_steps.specs.Calls.{CallClause};
     ghost use Rattle.nio_steps.specs.ChannelCalls.{close_channel_plan};
     ghost use Rattle.nio_steps.specs.Runs.{Completes};
-    ghost use Rattle.nio_steps.specs.declared.refusal.PipeError.TheVariants.{AsynchronousClose, ClosedByInterrupt};
+    ghost use Rattle.nio_steps.specs.declared.refusal.PipeError.TheVariants.{AsynchronousClose, BrokenPipe};
+    ghost use Rattle.nio_steps.specs.declared.refusal.PipeError.TheVariants.{ClosedByInterrupt};
     ghost use Rattle.nio_words.specs.Passes.{IsReady, limits_of};
     ghost use Rattle.nio_words.specs.Views.{view};
     ghost use Rattle.nio_pipe.specs.Answers.{bytes_written, leaves_seal as answer_leaves_seal};
@@ -97,6 +98,7 @@ impl PipeSink {
         ensures ready { IsReady w.now p.new me }
         ensures unpinned { HasNoPin (view w.now p.new) me }
         ensures closed { result ≡ Err ClosedByInterrupt → IsClosed (view w.now p.new) (sink_chan self.old) }
+        ensures broken { result ≡ Err BrokenPipe → self.new ≡ self.old }
         ensures same { IsSameSink self.old self.new }
         ensures bytes { TakesBytes self.old self.new from.now (bytes_written result) }
         ensures seal { is_sealed self.new ≡ (is_sealed self.old || answer_leaves_seal result) }
@@ -133,6 +135,7 @@ impl PipeSink {
         ensures unpinned { HasNoPin (view w.now p.new) me }
         ensures closed { result ≡ Err ClosedByInterrupt → IsClosed (view w.now p.new) (sink_chan self.old) }
         ensures closed_meanwhile { result ≡ Err AsynchronousClose → HadNoPlace self.old self.new from.now result }
+        ensures broken { result ≡ Err BrokenPipe → free self.old ≤ free self.new }
         ensures same { IsSameSink self.old self.new }
         ensures bytes { TakesBytes self.old self.new from.now (bytes_written result) }
         ensures seal { is_sealed self.new ≡ (is_sealed self.old || answer_leaves_seal result) }
@@ -189,6 +192,7 @@ impl PipeSink {
         ensures sent { sent self.new ≡ sent self.old }
         ensures seal { is_sealed self.new ≡ (is_sealed self.old || answer_leaves_seal (Err refusal)) }
         ensures free { free self.new ≤ free self.old }
+        ensures broken { refusal ≡ BrokenPipe → self.new ≡ self.old }
     {
         if leaves_seal(refusal) {
             self.leave_seal();

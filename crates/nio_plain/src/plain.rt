@@ -19,7 +19,6 @@ mod calling;
 mod channel;
 mod channels;
 mod closing;
-mod group_replies;
 mod grouping;
 mod interest;
 mod keys;
@@ -37,6 +36,7 @@ mod telling;
 mod waking;
 
 pub use self::grouping::call_group;
+pub use self::selecting::mode_of;
 
 /// How much a script's group can hold.
 pub const GROUP_LIMITS: GroupLimits = GroupLimits {

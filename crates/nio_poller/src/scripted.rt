@@ -9,7 +9,7 @@ use crate::told_poll::ToldPoll;
 use nio_bytes::Calls;
 use nio_history::Mode;
 use nio_select::{Asked, Told};
-use nio_trace::{Reading, Trace};
+use nio_trace::Trace;
 use std::alloc::Global;
 use std::marker::Model;
 use std::sync::Wait;
@@ -119,36 +119,11 @@ impl Poller for Scripted {
         }
         let told = self.next_told(alloc);
         self.failed = false;
-        self.polls.extend_from::<Answer, OnePoll>(&Answer {
-            asked,
-            mode,
-            told: &told,
-        });
+        ToldPoll::add_to(&mut self.polls, asked, mode, &told);
         Ok(told)
     }
 
     ghost kept_same = { λ _. tt };
 
     ghost kept_on = { λ _ _ _ _ _. tt };
-}
-
-#[derive(Clone, Copy)]
-struct Answer<'a> {
-    asked: &'a Asked,
-    mode: Mode,
-    told: &'a Told,
-}
-
-/// Reads a poll off its answer.
-struct OnePoll;
-
-impl<'a> Reading<Answer<'a>, ToldPoll> for OnePoll {
-    ghost use Rattle.std.specs.Prelude.{[], ◌∷◌};
-    ghost use Rattle.nio_select.specs.InProgress.{poll_of};
-
-    ghost items = { λ answer. record {
-      asked = answer.asked.now;
-      mode = answer.mode;
-      answer = poll_of answer.told.now;
-    } ∷ [] };
 }

@@ -1,5 +1,6 @@
 //! Whole selections.
-ghost use Rattle.std.specs.Prelude.{◌≡◌, ◌≢◌, Err, Ok, IfOk};
+ghost use Rattle.std.specs.Prelude.{◌≡◌, ◌≢◌, Err, Ok, IfOk, OnErr};
+ghost use Rattle.nio_base.specs.declared.numbers.ChanNo.{ChanNo};
 ghost use Rattle.nio_history.specs.PassViews.{HasSelector};
 ghost use Rattle.nio_history.specs.declared.found.Mode.TheVariants as mode;
 ghost use Rattle.nio_select.specs.InProgress.{Selects, IfAgain};
@@ -13,7 +14,7 @@ ghost use Rattle.nio_poller.specs.Polls.{CountsFaults};
 ghost use Rattle.nio_poller.specs.Selecting.{SelectClause, TimedClause};
 ghost use Rattle.nio_poller.specs.Telling.{PollsOnce, PollsClause};
 ghost use Rattle.nio_poller.specs.declared.poller.PollError.TheVariants.{Fault};
-ghost use Rattle.nio_poller.specs.declared.selecting.SelectError.TheVariants.{PollFault};
+ghost use Rattle.nio_poller.specs.declared.selecting.SelectError.TheVariants as select_error;
 
 use crate::poller::{PollError, Poller};
 use nio_base::{CallerNo, SelNo};
@@ -62,8 +63,10 @@ pub fn select<R: Wait, P: Poller>(
     requires selector { HasSelector (view w.now p.old) sel }
     ensures call { SelectClause me sel mode.Wait
         (view w.now p.old) (view w.now p.new) (P.polls poller.old) (P.polls poller.new) (P.ready poller.new) result }
-    ensures cause { CountsFaults PollFault (P.poll_faults poller.old) (P.poll_faults poller.new) result }
+    ensures cause { CountsFaults select_error.PollFault (P.poll_faults poller.old) (P.poll_faults poller.new) result }
+    ensures unready { result ≡ Err select_error.PollFault → (c : ChanNo) → P.ready poller.new c ≡ 0 }
     ensures kept { P.kept poller.old poller.new }
+    ensures unasked { result ≡ Err select_error.ClosedSelector → poller.new ≡ poller.old }
     ensures ready { IsReady w.now p.new me }
 {
     select_in(rt, alloc, w, p, me, sel, poller, Mode::Wait)
@@ -84,8 +87,10 @@ pub fn select_now<R: Wait, P: Poller>(
     requires selector { HasSelector (view w.now p.old) sel }
     ensures call { SelectClause me sel mode.Now
         (view w.now p.old) (view w.now p.new) (P.polls poller.old) (P.polls poller.new) (P.ready poller.new) result }
-    ensures cause { CountsFaults PollFault (P.poll_faults poller.old) (P.poll_faults poller.new) result }
+    ensures cause { CountsFaults select_error.PollFault (P.poll_faults poller.old) (P.poll_faults poller.new) result }
+    ensures unready { result ≡ Err select_error.PollFault → (c : ChanNo) → P.ready poller.new c ≡ 0 }
     ensures kept { P.kept poller.old poller.new }
+    ensures unasked { result ≡ Err select_error.ClosedSelector → poller.new ≡ poller.old }
     ensures ready { IsReady w.now p.new me }
 {
     select_in(rt, alloc, w, p, me, sel, poller, Mode::Now)
@@ -109,8 +114,11 @@ pub fn select_for<R: Wait, P: Poller>(
     requires selector { HasSelector (view w.now p.old) sel }
     ensures call { TimedClause me sel ms
         (view w.now p.old) (view w.now p.new) (P.polls poller.old) (P.polls poller.new) (P.ready poller.new) result }
-    ensures cause { CountsFaults PollFault (P.poll_faults poller.old) (P.poll_faults poller.new) result }
+    ensures cause { CountsFaults select_error.PollFault (P.poll_faults poller.old) (P.poll_faults poller.new) result }
+    ensures unready { result ≡ Err select_error.PollFault → (c : ChanNo) → P.ready poller.new c ≡ 0 }
     ensures kept { P.kept poller.old poller.new }
+    ensures unasked { result ≡ Err select_error.ClosedSelector → poller.new ≡ poller.old }
+    ensures refused { result ≡ Err select_error.NegativeTimeout → poller.new ≡ poller.old }
     ensures ready { IsReady w.now p.new me }
 {
     match Mode::waiting(ms) {
@@ -133,8 +141,11 @@ fn select_in<R: Wait, P: Poller>(
     requires selector { HasSelector (view w.now p.old) sel }
     ensures call { SelectClause me sel mode
         (view w.now p.old) (view w.now p.new) (P.polls poller.old) (P.polls poller.new) (P.ready poller.new) result }
-    ensures cause { CountsFaults PollFault (P.poll_faults poller.old) (P.poll_faults poller.new) result }
+    ensures cause { CountsFaults select_error.PollFault (P.poll_faults poller.old) (P.poll_faults poller.new) result }
+    ensures unready { result ≡ Err select_error.PollFault → (c : ChanNo) → P.ready poller.new c ≡ 0 }
     ensures kept { P.kept poller.old poller.new }
+    ensures unasked { result ≡ Err select_error.ClosedSelector → poller.new ≡ poller.old }
+    ensures not_refused { result ≢ Err select_error.NegativeTimeout }
     ensures ready { IsReady w.now p.new me }
 {
     match begin(rt, alloc, w, p, me, sel, mode) {
@@ -190,8 +201,11 @@ fn poll_until_over<R: Wait, P: Poller>(
     requires begun { Selects (view w.now p.old) me selection }
     ensures call { PollsClause me selection
         (view w.now p.old) (view w.now p.new) (P.polls poller.old) (P.polls poller.new) (P.ready poller.new) result }
-    ensures cause { CountsFaults PollFault (P.poll_faults poller.old) (P.poll_faults poller.new) result }
+    ensures cause { CountsFaults select_error.PollFault (P.poll_faults poller.old) (P.poll_faults poller.new) result }
+    ensures unready { result ≡ Err select_error.PollFault → (c : ChanNo) → P.ready poller.new c ≡ 0 }
     ensures kept { P.kept poller.old poller.new }
+    ensures not_closed { result ≢ Err select_error.ClosedSelector }
+    ensures not_refused { result ≢ Err select_error.NegativeTimeout }
     ensures ready { IsReady w.now p.new me }
 {
     let mut selection = selection;
@@ -225,6 +239,7 @@ fn poll_once<R: Wait, P: Poller>(
     ensures call { PollsOnce me selection is_first
         (view w.now p.old) (view w.now p.new) (P.polls poller.old) (P.polls poller.new) (P.ready poller.new) result }
     ensures cause { CountsFaults Fault (P.poll_faults poller.old) (P.poll_faults poller.new) result }
+    ensures unready { OnErr result ((c : ChanNo) → P.ready poller.new c ≡ 0) }
     ensures kept { P.kept poller.old poller.new }
     ensures ready { IsReady w.now p.new me }
     ensures goes_on { IfOk result (λ after. IfAgain after (Selects (view w.now p.new) me)) }

@@ -1,7 +1,7 @@
 //! A poller that only waits for its bell.
-ghost use Rattle.std.specs.Prelude.{◌≡◌, ◌≢◌, ◌↔◌, true, [], refl, None, IfOk};
+ghost use Rattle.std.specs.Prelude.{◌≡◌, ◌≢◌, ◌↔◌, true, [], refl, None, IsOk, IfOk};
 ghost use Rattle.nio_history.specs.declared.found.Mode.TheVariants.{Wait as WithoutLimit};
-ghost use Rattle.nio_poller.specs.Polls.{CountsFaults, AddsPoll, told_of_channel};
+ghost use Rattle.nio_poller.specs.Polls.{CountsFaults, told_of_channel};
 ghost use Rattle.nio_poller.specs.declared.poller.PollError.TheVariants.{Fault};
 
 use crate::bell::Bell;
@@ -58,9 +58,9 @@ impl Poller for Sleeper {
         // As every poller.
         ensures cause { CountsFaults Fault 0 0 result }
         ensures ready { IfOk result (λ told. (c : ChanNo) → 0 ≡ told_of_channel asked.now told.pairs.items c) }
-        ensures polls { AddsPoll None None asked.now mode result }
 
-        // It tells nothing, and that the time is over where it may not wait without limit.
+        // It always answers: nothing, and that the time is over where it may not wait without limit.
+        ensures answers { IsOk result }
         ensures nothing { IfOk result (λ told. told.pairs.items ≡ []) }
         ensures elapsed { IfOk result (λ told. (told.elapsed ≡ true) ↔ (mode ≢ WithoutLimit)) }
     {

@@ -1,5 +1,7 @@
 //! The workers of a group.
-ghost use Rattle.std.specs.Prelude.{◌≡◌, IfNone};
+ghost use Rattle.std.specs.Prelude.{◌≡◌, IfNone, IsTrue};
+ghost use Rattle.std.specs.Sync.Mutex.{mutex_guard_value};
+ghost use Rattle.nio_group.specs.Group.{is_terminated, IsLawful};
 ghost use Rattle.nio_pool.specs.Queues.{IsPassOf, GoesOn, IsDrained};
 ghost use Rattle.nio_pool.specs.declared.worker.Found.TheVariants.{End};
 
@@ -9,7 +11,7 @@ use crate::queue::{CompletionQueue, Handed, QueuePass};
 use nio_base::Gate;
 use nio_group::{Completion, GroupCore};
 use std::array;
-use std::sync::Wait;
+use std::sync::{MutexGuard, Wait};
 
 /// What is called with each completion.
 pub trait Handler {
@@ -49,18 +51,21 @@ struct Worker<'a, H, G> {
 /// calls that one before it passes the gate. Where the queue has no room for all that it took from the group, it handles
 /// one from the queue before it goes on: the rest waits until that handler has returned, also while other workers sleep.
 /// With room for as many as can be in flight that doesn't come. With a pass that has all parts it leaves the queue empty.
-pub fn work<R: Wait, H: Handler, G: Gate>(
+/// Lends the core of the terminated group, as `await_termination` does.
+pub fn work<'a, R: Wait, H: Handler, G: Gate>(
     rt: &R,
-    group: &Group,
+    group: &'a Group,
     queue: &CompletionQueue,
     pass: &mut QueuePass,
     handler: &H,
     gate: &G,
     me: u32,
-)
+) -> MutexGuard<'a, GroupCore>
     requires { IsPassOf queue.now pass.old }
     ensures pass { GoesOn queue.now pass.old pass.new }
     ensures drained { IsDrained queue.now pass.new }
+    ensures terminated { IsTrue (is_terminated (mutex_guard_value result)) }
+    ensures lawful { IsLawful (mutex_guard_value result) }
 {
     let worker = Worker {
         group,
@@ -78,7 +83,7 @@ pub fn work<R: Wait, H: Handler, G: Gate>(
                 Found::Waiting(handed) => worker.serve(rt, pass, handed),
                 Found::End => {
                     worker.leave();
-                    return;
+                    return group.await_termination(rt);
                 }
             },
         }

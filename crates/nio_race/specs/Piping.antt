@@ -100,7 +100,7 @@ abbrev pub ReadsOwn : Limits → Progress → ChanNo → ℕ → Option ChanNo �
 ReadsOwn l now c n None acts said = Refuses now reply.NotOwner acts said
 ReadsOwn l now c n (Some own) acts said = ReadsTo l c n acts said.reply × (said.left ≡ now)
 
--- and by whether the channel was found
+-- a read, by whether the channel was found
 abbrev pub ReadsFound : Limits → OwnedEnds → Progress → ChanNo → ℕ → Option ChanNo → List Act → Said → Type 0
 ReadsFound l ends now c n None acts said = Refuses now reply.NoChannel acts said
 ReadsFound l ends now c n (Some found) acts said = ReadsOwn l now c n (own_source ends c) acts said

@@ -94,6 +94,11 @@ pub record RepliesLine (w : Words) (d d' : Desk) (ends ends' : OwnEnds) (me : Ca
   pub made : LineOn w d d' ends ends' me line reply
   pub kept : replies' ≡ replies ++ reply ∷ []
 
+abbrev pub AnswersLine : Words → Racer → Racer → RaceCall → Type 0
+AnswersLine w before after line =
+    RepliesLine w before.desk after.desk before.ends after.ends before.number line before.replies.items
+    after.replies.items
+
 -- the caller made its lines of the race, each with its reply
 pub record MadeLines (w : Words) (race : List RaceLine) (me : CallerNo) (d d' : Desk) (ends ends' : OwnEnds)
     (replies : List Reply) : Type 0 where

@@ -69,7 +69,9 @@ fn part_one(alloc: Global, owned: OwnedPipe, racers: &mut Vec<Racer>) -> Result<
         writer,
         pipe,
     } = owned;
-    let (source, sink) = pipe.part(alloc)?;
+    let Ok((source, sink)) = pipe.part(alloc) else {
+        return Err(AllocError);
+    };
     give_source(racers, reader, source)?;
     give_sink(racers, writer, sink)?;
     Ok(Owners { reader, writer })

@@ -7,7 +7,7 @@ ghost use Rattle.nio_race.specs.Quiet.{AreStillUntold};
 use nio_history::Mode;
 use nio_poller::{PollError, Poller, Sleeper, ToldPoll};
 use nio_select::{Asked, Told};
-use nio_trace::{Reading, Trace};
+use nio_trace::Trace;
 use std::alloc::Global;
 use std::sync::Wait;
 
@@ -59,36 +59,11 @@ impl<'a> Poller for Quiet<'a> {
         ensures kept { AreStillUntold self.old.polls self.new.polls }
     {
         let told = self.sleeper.poll(rt, alloc, asked, mode)?;
-        self.polls.extend_from::<Answer, OnePoll>(&Answer {
-            asked,
-            mode,
-            told: &told,
-        });
+        ToldPoll::add_to(&mut self.polls, asked, mode, &told);
         Ok(told)
     }
 
     ghost kept_same = { λ _ untold. untold };
 
     ghost kept_on = { λ _ _ _ first second untold. second (first untold) };
-}
-
-#[derive(Clone, Copy)]
-struct Answer<'a> {
-    asked: &'a Asked,
-    mode: Mode,
-    told: &'a Told,
-}
-
-/// Reads a poll off its answer.
-struct OnePoll;
-
-impl<'a> Reading<Answer<'a>, ToldPoll> for OnePoll {
-    ghost use Rattle.std.specs.Prelude.{[], ◌∷◌};
-    ghost use Rattle.nio_select.specs.InProgress.{poll_of};
-
-    ghost items = { λ answer. record {
-      asked = answer.asked.now;
-      mode = answer.mode;
-      answer = poll_of answer.told.now;
-    } ∷ [] };
 }

@@ -1,10 +1,11 @@
 //! A caller of a race: its lines after `go`, in a thread of its own.
-ghost use Rattle.std.specs.Prelude.{◌≡◌, ◌==◌, true, false, [], IfOk};
+ghost use Rattle.std.specs.Prelude.{◌≡◌, ◌==◌, true, false, [], IfOk, OnOk};
 ghost use mathlib.Core.List.{IsPrefix};
 ghost use Rattle.nio_race_text.specs.RaceLines.{MayRace};
 ghost use Rattle.nio_words.specs.Passes.{IsPassOf, seen};
 ghost use Rattle.nio_race.specs.Runs.{MayRaceLine, MayRaceLines};
-ghost use Rattle.nio_race.specs.Racers.{CalledOn, HasRaced, IsSetOff, LineOn, MadeLines, RepliesLine, StandsWith};
+ghost use Rattle.nio_race.specs.Racers.{AnswersLine, CalledOn, HasRaced, IsSetOff, LineOn, RanLines, StandsAlone};
+ghost use Rattle.nio_race.specs.Racers.{StandsWith};
 
 use crate::bells::ring_all;
 use crate::block::block_line;
@@ -46,137 +47,124 @@ pub(crate) fn run_lines<R: Wait, G: Gate>(
     requires lines { MayRaceLines race.now }
     ensures { HasRaced w.now race.now racer.old racer.new }
 {
-    let made = run_all(
-        rt,
-        alloc,
-        w,
-        race,
-        bells,
-        gate,
-        racer.number,
-        &mut racer.desk,
-        &mut racer.ends,
-        &mut racer.sleeper,
-        &mut racer.replies,
-    );
-    racer.lacks_memory = made.is_err();
+    racer.lacks_memory = racer.run_all(rt, alloc, w, race, bells, gate).is_err();
 }
 
-fn run_all<R: Wait, G: Gate>(
-    rt: &R,
-    alloc: Global,
-    w: &Words,
-    race: &[RaceLine],
-    bells: &[SleeperBell],
-    gate: &G,
-    me: CallerNo,
-    d: &mut Desk,
-    ends: &mut OwnEnds,
-    sleeper: &mut Sleeper,
-    replies: &mut Vec<Reply>,
-) -> Result<(), AllocError>
-    requires stands { StandsWith w.now d.old ends.old me }
-    requires unanswered { replies.old.items ≡ [] }
-    requires lines { MayRaceLines race.now }
-    ensures run { IfOk result (λ _. MadeLines w.now race.now me d.old d.new ends.old ends.new replies.new.items) }
-    ensures stands { IfOk result (λ _. StandsWith w.now d.new ends.new me) }
-    ensures pass { IsPassOf w.now d.new.pass }
-    ensures later { IsPrefix (seen d.old.pass) (seen d.new.pass) }
-{
-    for line in race {
-        run_if_own(
-            rt, alloc, w, bells, gate, me, d, ends, sleeper, line, replies,
-        )?;
-    }
-    Ok(())
-}
-
-// Makes a line of the race, where it is the caller's.
-fn run_if_own<R: Wait, G: Gate>(
-    rt: &R,
-    alloc: Global,
-    w: &Words,
-    bells: &[SleeperBell],
-    gate: &G,
-    me: CallerNo,
-    d: &mut Desk,
-    ends: &mut OwnEnds,
-    sleeper: &mut Sleeper,
-    line: &RaceLine,
-    replies: &mut Vec<Reply>,
-) -> Result<(), AllocError>
-    requires stands { StandsWith w.now d.old ends.old me }
-    requires line { MayRaceLine line.now.call }
-    ensures own { IfOk result (λ _. (line.now.caller.0 == me.0) ≡ true
-        → RepliesLine w.now d.old d.new ends.old ends.new me line.now.call replies.old.items replies.new.items) }
-    ensures other { IfOk result (λ _. (line.now.caller.0 == me.0) ≡ false
-        → (d.new ≡ d.old) × (ends.new ≡ ends.old) × (replies.new.items ≡ replies.old.items)) }
-    ensures stands { IfOk result (λ _. StandsWith w.now d.new ends.new me) }
-    ensures pass { IsPassOf w.now d.new.pass }
-    ensures later { IsPrefix (seen d.old.pass) (seen d.new.pass) }
-{
-    if line.caller.0 != me.0 {
-        return Ok(());
-    }
-    gate.pass(rt, me.0, replies.len() as u64 + 1);
-    run_one(
-        rt, alloc, w, bells, me, d, ends, sleeper, &line.call, replies,
-    )
-}
-
-// Makes a line, and keeps its reply.
-fn run_one<R: Wait>(
-    rt: &R,
-    alloc: Global,
-    w: &Words,
-    bells: &[SleeperBell],
-    me: CallerNo,
-    d: &mut Desk,
-    ends: &mut OwnEnds,
-    sleeper: &mut Sleeper,
-    call: &RaceCall,
-    replies: &mut Vec<Reply>,
-) -> Result<(), AllocError>
-    requires stands { StandsWith w.now d.old ends.old me }
-    requires line { MayRaceLine call.now }
-    ensures line { IfOk result (λ _.
-        RepliesLine w.now d.old d.new ends.old ends.new me call.now replies.old.items replies.new.items) }
-    ensures stands { IfOk result (λ _. StandsWith w.now d.new ends.new me) }
-    ensures pass { IsPassOf w.now d.new.pass }
-    ensures later { IsPrefix (seen d.old.pass) (seen d.new.pass) }
-{
-    let reply = make_race_line(rt, alloc, w, bells, me, d, ends, sleeper, call)?;
-    replies.push(reply)?;
-    Ok(())
-}
-
-fn make_race_line<R: Wait>(
-    rt: &R,
-    alloc: Global,
-    w: &Words,
-    bells: &[SleeperBell],
-    me: CallerNo,
-    d: &mut Desk,
-    ends: &mut OwnEnds,
-    sleeper: &mut Sleeper,
-    call: &RaceCall,
-) -> Result<Reply, AllocError>
-    requires stands { StandsWith w.now d.old ends.old me }
-    requires line { MayRaceLine call.now }
-    ensures line { IfOk result (LineOn w.now d.old d.new ends.old ends.new me call.now) }
-    ensures stands { IfOk result (λ _. StandsWith w.now d.new ends.new me) }
-    ensures pass { IsPassOf w.now d.new.pass }
-    ensures later { IsPrefix (seen d.old.pass) (seen d.new.pass) }
-{
-    match call {
-        RaceCall::Script(call) => {
-            let reply = make_called_line(rt, alloc, w, me, d, ends, call)?;
-            if call.wakes() {
-                ring_all(bells);
-            }
-            Ok(reply)
+impl Racer {
+    fn run_all<R: Wait, G: Gate>(
+        &mut self,
+        rt: &R,
+        alloc: Global,
+        w: &Words,
+        race: &[RaceLine],
+        bells: &[SleeperBell],
+        gate: &G,
+    ) -> Result<(), AllocError>
+        requires stands { StandsAlone w.now self.old }
+        requires unanswered { self.old.replies.items ≡ [] }
+        requires lines { MayRaceLines race.now }
+        ensures run { OnOk result (RanLines w.now race.now self.old self.new) }
+        ensures stands { OnOk result (StandsAlone w.now self.new) }
+        ensures number { self.new.number ≡ self.old.number }
+        ensures pass { IsPassOf w.now self.new.desk.pass }
+        ensures later { IsPrefix (seen self.old.desk.pass) (seen self.new.desk.pass) }
+    {
+        for line in race {
+            self.run_if_own(rt, alloc, w, bells, gate, line)?;
         }
-        RaceCall::Block(sel) => block_line(rt, alloc, w, d, sleeper, me, *sel),
+        Ok(())
+    }
+
+    // Makes a line of the race, where it is the caller's.
+    fn run_if_own<R: Wait, G: Gate>(
+        &mut self,
+        rt: &R,
+        alloc: Global,
+        w: &Words,
+        bells: &[SleeperBell],
+        gate: &G,
+        line: &RaceLine,
+    ) -> Result<(), AllocError>
+        requires stands { StandsAlone w.now self.old }
+        requires line { MayRaceLine line.now.call }
+        ensures own { OnOk result ((line.now.caller.0 == self.old.number.0) ≡ true
+            → AnswersLine w.now self.old self.new line.now.call) }
+        ensures other { OnOk result ((line.now.caller.0 == self.old.number.0) ≡ false
+            → (self.new.desk ≡ self.old.desk) × (self.new.ends ≡ self.old.ends)
+            × (self.new.replies.items ≡ self.old.replies.items)) }
+        ensures stands { OnOk result (StandsAlone w.now self.new) }
+        ensures number { self.new.number ≡ self.old.number }
+        ensures pass { IsPassOf w.now self.new.desk.pass }
+        ensures later { IsPrefix (seen self.old.desk.pass) (seen self.new.desk.pass) }
+    {
+        if line.caller.0 != self.number.0 {
+            return Ok(());
+        }
+        gate.pass(rt, self.number.0, self.replies.len() as u64 + 1);
+        self.run_one(rt, alloc, w, bells, &line.call)
+    }
+
+    // Makes a line, and keeps its reply.
+    fn run_one<R: Wait>(
+        &mut self,
+        rt: &R,
+        alloc: Global,
+        w: &Words,
+        bells: &[SleeperBell],
+        call: &RaceCall,
+    ) -> Result<(), AllocError>
+        requires stands { StandsAlone w.now self.old }
+        requires line { MayRaceLine call.now }
+        ensures line { OnOk result (AnswersLine w.now self.old self.new call.now) }
+        ensures stands { OnOk result (StandsAlone w.now self.new) }
+        ensures number { self.new.number ≡ self.old.number }
+        ensures pass { IsPassOf w.now self.new.desk.pass }
+        ensures later { IsPrefix (seen self.old.desk.pass) (seen self.new.desk.pass) }
+    {
+        let reply = self.make_race_line(rt, alloc, w, bells, call)?;
+        self.replies.push(reply)?;
+        Ok(())
+    }
+
+    fn make_race_line<R: Wait>(
+        &mut self,
+        rt: &R,
+        alloc: Global,
+        w: &Words,
+        bells: &[SleeperBell],
+        call: &RaceCall,
+    ) -> Result<Reply, AllocError>
+        requires stands { StandsAlone w.now self.old }
+        requires line { MayRaceLine call.now }
+        ensures line { IfOk result (LineOn w.now self.old.desk self.new.desk self.old.ends self.new.ends self.old.number
+            call.now) }
+        ensures stands { OnOk result (StandsAlone w.now self.new) }
+        ensures number { self.new.number ≡ self.old.number }
+        ensures replies { self.new.replies ≡ self.old.replies }
+        ensures pass { IsPassOf w.now self.new.desk.pass }
+        ensures later { IsPrefix (seen self.old.desk.pass) (seen self.new.desk.pass) }
+    {
+        let me = self.number;
+        match call {
+            RaceCall::Script(call) => {
+                let reply = make_called_line(
+                    rt,
+                    alloc,
+                    w,
+                    me,
+                    &mut self.desk,
+                    &mut self.ends,
+                    call,
+                )?;
+                if call.wakes() {
+                    ring_all(bells);
+                }
+                Ok(reply)
+            }
+            RaceCall::Block(sel) => {
+                block_line(rt, alloc, w, &mut self.desk, &mut self.sleeper, me, *sel)
+            }
+        }
     }
 }
 

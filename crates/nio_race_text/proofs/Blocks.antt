@@ -1,6 +1,5 @@
 -- From the parts of a line to the call that it is.
-use Rattle.std.proofs.Common.{◌≡◌, ◌≢◌, ℕ, ◌≤◌, List, ◌∷◌, ◌++◌, Option, Some, None, codes, sym, ◌∙◌, ap, subst, arith}
-use Rattle.std.specs.Fmt.{decimal}
+use Rattle.std.proofs.Common.{◌≡◌, ◌≢◌, ℕ, ◌<◌, ◌^◌, List, ◌∷◌, ◌++◌, Option, Some, None, codes, sym, ◌∙◌, ap, subst}
 use Rattle.std.proofs.lemmas.List.{append_cancel_left}
 use Rattle.std.proofs.lemmas.Option.{none-some, same_Some}
 use Rattle.nio_base.specs.declared.numbers.CallerNo.{CallerNo}
@@ -37,38 +36,36 @@ module _ (line : List ℕ) where
         → IsBlockLine p.0 p.1 line → ⊥
     no_block_behind none p is = none (selector_word p.1) (block_parts p is).1
 
-    pub no_caller : Reads (λ n. n ≤ 63) (λ n. 116 ∷ decimal n) front None → (p : CallerNo × SelNo)
+    pub no_caller : Reads (λ (t : CallerNo). t.0 < 64) caller_word front None → (p : CallerNo × SelNo)
         → IsBlockLine p.0 p.1 line → ⊥
-    no_caller read p is = none-some p.0.0 (read.only p.0.0 (omega (arith, is.caller_fits)) (block_parts p is).0)
+    no_caller read p is = none-some p.0 (read.only p.0 is.caller_fits (block_parts p is).0)
 
     module _ (word : List ℕ) (prefixed : back ≡ codes "block " ++ word) where
       selector_part : (p : CallerNo × SelNo) → IsBlockLine p.0 p.1 line → word ≡ selector_word p.1
       selector_part p is = append_cancel_left (codes "block ") word (selector_word p.1)
           (sym prefixed ∙ (block_parts p is).1)
 
-      pub no_selector : Reads (λ n. n ≤ 4294967295) (λ n. 115 ∷ decimal n) word None → (p : CallerNo × SelNo)
+      pub no_selector : Reads (λ (s : SelNo). s.0 < 2 ^ 32) selector_word word None → (p : CallerNo × SelNo)
           → IsBlockLine p.0 p.1 line → ⊥
-      no_selector read p is = none-some p.1.0 (read.only p.1.0 (omega (arith, is.selector_fits)) (selector_part p is))
+      no_selector read p is = none-some p.1 (read.only p.1 is.selector_fits (selector_part p is))
 
       pub finds_block : (caller : CallerNo) (s : SelNo) → line ≡ front ++ 32 ∷ back
-          → Reads (λ n. n ≤ 63) (λ n. 116 ∷ decimal n) front (Some caller.0)
-          → Reads (λ n. n ≤ 4294967295) (λ n. 115 ∷ decimal n) word (Some s.0)
+          → Reads (λ (t : CallerNo). t.0 < 64) caller_word front (Some caller)
+          → Reads (λ (s : SelNo). s.0 < 2 ^ 32) selector_word word (Some s)
           → Finds (λ (p : CallerNo × SelNo). IsBlockLine p.0 p.1 line) (Some (caller, s))
       finds_block caller s cut first second = record {
         found = record {
-          caller_fits = omega (arith, first.found.0);
-          selector_fits = omega (arith, second.found.0);
+          caller_fits = first.found.0;
+          selector_fits = second.found.0;
           text =
               cut
               ∙ ap (λ w. w ++ 32 ∷ back) first.found.1
               ∙ ap (λ w. caller_word caller ++ 32 ∷ w) (prefixed ∙ ap (λ w. codes "block " ++ w) second.found.1);
         };
         only = λ p is.
-            let callers = same_Some caller.0 p.0.0
-            (first.only p.0.0 (omega (arith, is.caller_fits)) (block_parts p is).0) in
-            let selectors = same_Some s.0 p.1.0
-            (second.only p.1.0 (omega (arith, is.selector_fits)) (selector_part p is)) in
-            ap (λ n. Some (record { 0 = n }, s)) callers ∙ ap (λ n. Some (p.0, record { 0 = n })) selectors;
+            let callers = same_Some caller p.0 (first.only p.0 is.caller_fits (block_parts p is).0) in
+            let selectors = same_Some s p.1 (second.only p.1 is.selector_fits (selector_part p is)) in
+            ap (λ t. Some (t, s)) callers ∙ ap (λ x. Some (p.0, x)) selectors;
       }
 
 -- ---- any line behind `go`

@@ -13,10 +13,11 @@ use Rattle.nio_language.proofs.OneReading.{line_full, line_one}
 use Rattle.nio_race_text.specs.RaceLines.{AreRaceLines, no_lines, blank_line, race_line}
 use Rattle.nio_race_text.specs.RaceText.{RaceCalls, AreRaceText, IsRaceText, AreSomeRaceText, IsFirstBadRace, IsInRace}
 use Rattle.nio_race_text.specs.RaceText.{IsInSetup, setup_alone, with_go, go_line}
-use Rattle.nio_race_text.specs.Reading.{AreGoless, StopsAt}
+use Rattle.nio_race_text.specs.Reading.{AreGoless}
 use Rattle.nio_race_text.specs.declared.call.RaceLine.{RaceLine}
 use Rattle.nio_race_text.proofs.OneLine.{line_not_go, go_full, race_one}
 use Rattle.nio_race_text.proofs.Parts.{AreRaceLines-append, AreRaceLines-behind}
+use Rattle.nio_script.specs.Entries.{StopsAt}
 use Rattle.nio_script.specs.declared.script.ScriptError.{ScriptError}
 use Rattle.nio_script.specs.declared.script.ScriptError.TheVariants.{BadLine, Memory}
 use Rattle.nio_script.proofs.EntryLemmas.{same_line}

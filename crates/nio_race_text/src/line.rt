@@ -1,17 +1,12 @@
 //! Reading a line behind `go`: a script's, or `block`.
-ghost use Rattle.std.specs.Prelude.{◌≡◌, ◌≤◌, ◌∷◌, IfOk};
-ghost use Rattle.std.specs.Fmt.{decimal};
-ghost use Rattle.nio_language.specs.Reading.{Reads};
+ghost use Rattle.std.specs.Prelude.{IfOk};
 ghost use Rattle.nio_script.specs.Entries.{Finds};
 ghost use Rattle.nio_race_text.specs.RaceLines.{IsBlockLine, IsRaceLine};
 
 use crate::call::{RaceCall, RaceLine};
 use nio_base::{CallerNo, SelNo};
-use nio_language::{ParseError, Parsed, cut_at, parse_line, read_number};
+use nio_language::{ParseError, Parsed, cut_at, parse_line, read_caller, read_selector};
 use std::alloc::{AllocError, Global};
-
-// The largest number of a caller.
-const CALLER_MAX: u32 = 63;
 
 /// The caller and the call of a line behind `go`.
 pub fn read_race_call(alloc: Global, line: &[u8]) -> Result<Option<RaceLine>, AllocError>
@@ -46,19 +41,7 @@ fn read_block(line: &[u8]) -> Option<(CallerNo, SelNo)>
 {
     let (caller, rest) = cut_at(line, b' ')?;
     let selector = rest.strip_prefix(b"block ")?;
-    let caller = read_numbered(caller, b't', CALLER_MAX)?;
-    let selector = read_numbered(selector, b's', u32::MAX)?;
-    Some((CallerNo(caller), SelNo(selector)))
-}
-
-// A letter and a number that is at most `max`.
-fn read_numbered(word: &[u8], letter: u8, max: u32) -> Option<u32>
-    ensures { Reads (λ n. n ≤ max) (λ n. letter ∷ decimal n) word.now result }
-{
-    let (first, digits) = word.split_first()?;
-    if *first != letter {
-        return None;
-    }
-    let number = read_number(digits, u64::from(max))?;
-    Some(number as u32)
+    let caller = read_caller(caller)?;
+    let selector = read_selector(selector)?;
+    Some((caller, selector))
 }

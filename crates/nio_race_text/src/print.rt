@@ -1,5 +1,5 @@
 //! Printing the calls of a race with their replies.
-ghost use Rattle.std.specs.Prelude.{◌≡◌, ◌++◌, ◌∷◌, codes, IfOk, OnOk};
+ghost use Rattle.std.specs.Prelude.{◌≡◌, ◌++◌, codes, IfOk, OnOk};
 ghost use Rattle.std.specs.Fmt.{decimal};
 ghost use Rattle.nio_language.specs.Words.{caller_word};
 ghost use Rattle.nio_race_text.specs.RaceOutput.{race_line_text};

@@ -6,9 +6,9 @@ ghost use Rattle.nio_race_text.specs.RaceText.{AreRaceText, IsFirstBadRace, IsRa
 ghost use Rattle.nio_race_text.specs.declared.call.RaceLine.{RaceLine};
 
 use crate::call::RaceLine;
-use crate::lines::{cut_at_go, lines, read_race, read_setup};
+use crate::lines::{cut_at_go, read_race};
 use nio_language::ScriptCall;
-use nio_script::ScriptError;
+use nio_script::{ScriptError, lines_of, read_calls};
 use std::alloc::Global;
 use std::marker::Model;
 
@@ -57,7 +57,7 @@ pub fn parse_race(alloc: Global, text: &[u8]) -> Result<RaceText, ScriptError>
     ensures only_bad { (line : ℕ) → IsFirstBadRace text.now line →
         (result ≡ Err (ScriptError.BadLine line)) ⊎ (result ≡ Err ScriptError.Memory) }
 {
-    let lines = lines(alloc, text)?;
+    let lines = lines_of(alloc, text)?;
     read_parts(alloc, &lines)
 }
 
@@ -70,13 +70,13 @@ fn read_parts(alloc: Global, lines: &[&[u8]]) -> Result<RaceText, ScriptError>
         → result ≡ Err (ScriptError.BadLine n) → IsFirstBadRace text n }
 {
     let Some((front, back)) = cut_at_go(lines) else {
-        let setup = read_setup(alloc, lines)?;
+        let setup = read_calls(alloc, lines)?;
         return Ok(RaceText {
             setup,
             race: Vec::new(alloc),
         });
     };
-    let setup = read_setup(alloc, front)?;
+    let setup = read_calls(alloc, front)?;
     let race = read_race(alloc, back, front.len() as u64 + 1)?;
     Ok(RaceText { setup, race })
 }

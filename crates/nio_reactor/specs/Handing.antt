@@ -18,7 +18,7 @@ below (suc n) = below n ++ n ∷ []
 abbrev pub handover : ℕ → ℕ → ℕ → Handover
 handover w v j = record { connection = v + j * w; worker = v; client = client_of j }
 
--- its first n
+-- the first n of these
 abbrev pub handovers : ℕ → ℕ → ℕ → List Handover
 handovers w v n = map (handover w v) (below n)
 

@@ -27,7 +27,7 @@ pub record IsNewcomer (w : Words) (p : Pass) (n : CallerNo) : Type 0 where
   pub unpinned : HasNoPin (view w p) n
   pub unregistered : IsUnregistered (limits_of w) (acts_seen p n)
 
--- so is each caller below k
+-- each caller below k is a newcomer
 abbrev pub AreNewcomers : Words → Pass → ℕ → Type 0
 AreNewcomers w p k = (n : CallerNo) → n.0 < k → IsNewcomer w p n
 
@@ -38,7 +38,7 @@ pub record HaveDrawn (w : Words) (p : Pass) (k : ℕ) : Type 0 where
   pub drawn : AreNewcomers w p k
   pub rest : (n : CallerNo) → k ≤ n.0 → acts_seen p n ≡ []
 
--- Worker v, which is caller v + 1, is one with its own pass: `pass` is what each of the list shows.
+-- Worker v, which is caller v + 1, is a newcomer with its own pass: `pass` is what each of the list shows.
 abbrev pub HaveSeats : {X : Type 0} → Words → (X → Pass) → List X → Type 0
 HaveSeats {X} w pass workers =
     (v : ℕ) (x : X) → v < length workers → IsNewcomer w (pass (slice_index_or workers v x)) (caller (v + 1))

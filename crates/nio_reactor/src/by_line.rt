@@ -21,13 +21,12 @@ use std::sync::Wait;
 /// How long a worker's poll waits at most, while further links may come, where no bell rings for them: 4 ms.
 const SHORT_WAIT: Mode = Mode::For(Milliseconds { after_the_first: 3 });
 
-/// And where a bell does, since a ring may be lost: 100 ms.
+/// How long it waits at most where a bell rings, since a ring may be lost: 100 ms.
 const LONG_WAIT: Mode = Mode::For(Milliseconds {
     after_the_first: 99,
 });
 
-/// Puts the links into the net that come on the worker's line, all that have come at a time, and makes each other call
-/// on the net at once.
+/// Puts all links that have come on the worker's line into its net, and passes every other call on to the net.
 #[derive(Clone, Copy)]
 pub(crate) struct ByLine<'a, H, G> {
     rt: &'a H,
@@ -185,7 +184,7 @@ impl<'a, H: Wait, N: Passable, G: Gate> Way<Lane<N>> for ByLine<'a, H, G> {
             Heard::Link(_) => {}
         }
         if lane.told_line.is_some() {
-            // after a round for the line one for the net
+            // The last poll told of the line. This one polls the net, so that neither keeps the other waiting.
             lane.told_line = None;
             return lane.net.poll(rt, alloc, asked, Mode::Now);
         }

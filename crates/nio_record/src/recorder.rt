@@ -1,5 +1,5 @@
 //! A table of two callers, and what they did on it.
-ghost use Rattle.std.specs.Prelude.{◌≡◌, ◌≢◌, ◌+◌, ◌<◌, ◌≤◌, [], ◌∷◌, ◌++◌, IfOk, OnErr, Err, ◌⊎◌};
+ghost use Rattle.std.specs.Prelude.{◌≡◌, ◌≢◌, ◌+◌, ◌<◌, ◌≤◌, ◌↔◌, [], ◌∷◌, ◌++◌, IfOk, OnErr, Err, ◌⊎◌};
 ghost use Rattle.nio_record.specs.declared.recorder.RecordError.TheVariants.{NoStep};
 ghost use Rattle.std.specs.Vec.{vec_len, vec_capacity};
 ghost use Rattle.nio_history.specs.Histories.{event_of};
@@ -105,6 +105,7 @@ impl Recorder {
         requires { IsRecorded self.old }
         ensures recorded { IsRecorded self.new }
         ensures limits { table_limits self.new ≡ table_limits self.old }
+        ensures callers { (n : CallerNo) → acts_for self.new n ↔ acts_for self.old n }
         ensures asked { IfOk result (λ made. question_of made ≡ question_of act) }
         ensures written { IfOk result (λ made. written self.new ≡ written self.old ++ event_of caller made ∷ []) }
         ensures refused { OnErr result (written self.new ≡ written self.old) }

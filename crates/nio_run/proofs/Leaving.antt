@@ -10,8 +10,11 @@ use Rattle.nio_history.proofs.Stays.{facts_are_permanent}
 use Rattle.nio_history.specs.Histories.{state_after, IsLegal}
 use Rattle.nio_history.specs.Permanent.{caller_drawn}
 use Rattle.nio_history.specs.declared.event.Event.{Event}
+use Rattle.nio_language.specs.declared.call.ScriptCall.{ScriptCall}
 use Rattle.nio_orderly.specs.Orderly.{IsWhole}
-use Rattle.nio_plain.specs.ScriptState.{ScriptState}
+use Rattle.nio_plain.specs.Answer.{left_by_script, left_from}
+use Rattle.nio_plain.specs.ScriptState.{ScriptState, script_opening}
+use Rattle.nio_plain.specs.declared.rules.Rules.TheVariants.{Now}
 use Rattle.nio_race.proofs.Promise.{owed_before}
 use Rattle.nio_serial.specs.Documented.{documented}
 use Rattle.nio_sole.specs.Drawn.{AreAllDrawn}
@@ -23,7 +26,7 @@ use Rattle.nio_words.specs.Rule.{longer}
 use Rattle.nio_words.specs.Sharing.{Joins}
 use Rattle.nio_words.specs.declared.words.Pass.{Pass}
 use Rattle.nio_words.specs.declared.words.Words.{Words}
-use Rattle.nio_run.specs.Commands.{Leaves}
+use Rattle.nio_run.specs.Commands.{Leaves, LeavesPrefix}
 
 -- the longer of a list and of one that begins with it is that one
 longer_is : (xs ys : List Event) → IsPrefix xs ys → longer xs ys ≡ ys
@@ -69,6 +72,18 @@ module _ (w : Words) (first last : Sole) (kept : Kept first last) (table : words
       (subst (λ (es : List Event). IsPrefix es (passes.seen other)) (sym sight)
       (subst (λ (p : Pass). IsPrefix (passes.seen (pass_of first)) (passes.seen p)) (sym is) kept.later))
       ∙ ap passes.seen is)
+
+  -- where the last is left as some calls leave it that begin these, from the first one on
+  pub leaves_prefix : (after : Pass) → ((st : ScriptState) → state_of last ≡ st → Leaves w after st)
+      → state_of first ≡ script_opening → (made calls : List ScriptCall) → IsPrefix made calls
+      → state_of last ≡ left_from Now (limits_of first) (state_of first) made → LeavesPrefix w after calls
+  leaves_prefix after left opening made calls begins is = record {
+    made = made;
+    begins = begins;
+    left = left (left_by_script Now (passes.limits_of w) made)
+        (is ∙ ap (λ (st : ScriptState). left_from Now (limits_of first) st made) opening
+        ∙ ap (λ (v : Words). left_by_script Now (passes.limits_of v) made) table);
+  }
 
   pub leaves : (st : ScriptState) (before other after : Pass) → passes.seen before ≡ passes.seen (pass_of first)
       → AreAllDrawn (limits_of first) (passes.state_seen (pass_of first))

@@ -29,7 +29,7 @@ use Rattle.nio_script.specs.declared.status.Status.TheVariants.{TooLong}
 use Rattle.nio_serial.specs.Documented.{Progress, documented}
 use Rattle.nio_serial.specs.Serial.{history_of}
 use Rattle.nio_sole.specs.Drawn.{draws}
-use Rattle.nio_words.specs.Passes.{IsReady, limits_of, state_seen, seen}
+use Rattle.nio_words.specs.Passes.{IsPassOf, IsReady, limits_of, state_seen, seen}
 use Rattle.nio_words.specs.declared.words.Pass.{Pass}
 use Rattle.nio_words.specs.declared.words.Words.{Words}
 
@@ -58,6 +58,12 @@ pub record Leaves (w : Words) (pass : Pass) (left : ScriptState) : Type 0 where
   pub whole : ∥ IsWhole (limits_of w) (seen pass) ∥₁
   pub owed : (before : List Event) → IsPrefix before (seen pass) → ∥ Owed before ∥₁
 
+-- Some of these calls were made, from the first one on, and the table is left as they leave it.
+pub record LeavesPrefix (w : Words) (pass : Pass) (calls : List ScriptCall) : Type 0 where
+  pub made : List ScriptCall
+  pub begins : IsPrefix made calls
+  pub left : Leaves w pass (left_by_script Now (limits_of w) made)
+
 -- Every number was drawn, and nothing else was done.
 abbrev pub DrewAlone : Words → Pass → Type 0
 DrewAlone w pass = seen pass ≡ history_of (draws (limits_of w).callers)
@@ -72,11 +78,14 @@ pub record IsAnsweredOn {K : Type 0} (k : sink.Ghosts K) (w : Words) (output out
   pub still : k.faults output' ≡ k.faults output
   pub left : Leaves w pass (left_by_script Now (limits_of w) calls)
 
--- The text is a script, and some of its answer was written, from its front.
-pub record IsCutShortOn {K : Type 0} (k : sink.Ghosts K) (w : Words) (output output' : K) (text : List ℕ) : Type 0 where
+-- The text is a script, some of its answer was written, from its front, and the table is left as some of its calls
+-- leave it, from the first one on.
+pub record IsCutShortOn {K : Type 0} (k : sink.Ghosts K) (w : Words) (output output' : K) (pass : Pass)
+    (text : List ℕ) : Type 0 where
   pub calls : List ScriptCall
   pub script : IsScript text calls
   pub written : WritesPrefix k output output' (answer_to Now (limits_of w) calls)
+  pub left : LeavesPrefix w pass calls
 
 -- The line is the text's first that isn't in the grammar, which was said, and no call was made.
 pub record IsRefusedOn {K : Type 0} (k : sink.Ghosts K) (w : Words) (output output' : K) (pass : Pass) (line : ℕ)
@@ -92,17 +101,25 @@ pub record IsUntouchedOn {K : Type 0} (w : Words) (output output' : K) (pass : P
   pub uncalled : Leaves w pass script_opening
   pub drew : DrewAlone w pass
 
--- What `script` does where it ends with this status, and the pass has then seen so much of the table.
+-- Nothing was written, and no number was drawn.
+pub record IsUndrawn {K : Type 0} (output output' : K) (pass pass' : Pass) : Type 0 where
+  pub unwritten : output' ≡ output
+  pub undrawn : pass' ≡ pass
+
+-- What `script` does where it ends with this status.
 pub record DoesScript {S K : Type 0} (s : source.Ghosts S) (k : sink.Ghosts K) (w : Words) (input input' : S)
-    (output output' : K) (pass : Pass) (status : Status) : Type 0 where
+    (output output' : K) (pass pass' : Pass) (status : Status) : Type 0 where
   -- what each status says
-  pub done : status ≡ Done → ReadsText s input input' (IsAnsweredOn k w output output' pass)
+  pub done : status ≡ Done → ReadsText s input input' (IsAnsweredOn k w output output' pass')
   pub bad_script : (line : ℕ) → status ≡ BadScript line
-      → ReadsText s input input' (IsRefusedOn k w output output' pass line)
-  pub write_fault : status ≡ WriteFault → ReadsText s input input' (IsCutShortOn k w output output')
-  pub memory : status ≡ Memory → (output' ≡ output) ⊎ ReadsText s input input' (IsCutShortOn k w output output')
-  pub unread : (status ≡ ReadFault) ⊎ (status ≡ TooLong) → IsUntouchedOn w output output' pass
+      → ReadsText s input input' (IsRefusedOn k w output output' pass' line)
+  pub write_fault : status ≡ WriteFault → ReadsText s input input' (IsCutShortOn k w output output' pass')
+  pub memory : status ≡ Memory → IsUndrawn output output' pass pass' ⊎ (IsUntouchedOn w output output' pass'
+      ⊎ ReadsText s input input' (IsCutShortOn k w output output' pass'))
+  pub unread : (status ≡ ReadFault) ⊎ (status ≡ TooLong) → IsUntouchedOn w output output' pass'
   pub ends : EndsScript status
+  -- whatever the status, the pass is still one of the table
+  pub kept : IsPassOf w pass'
   -- what comes of each text, where the source shows it
   pub of_script : IfSome (s.left input) (λ text. (calls : List ScriptCall)
       → length text ≤ LONGEST_INPUT → IsScript text calls

@@ -12,10 +12,10 @@ use Rattle.nio_plain.specs.declared.rules.Rules.TheVariants.{Now}
 use Rattle.nio_script.specs.Output.{IsWritten, WritesPrefix}
 use Rattle.nio_script.specs.declared.status.Status.{Status}
 use Rattle.nio_script.specs.declared.status.Status.TheVariants.{Done, WriteFault, Memory}
-use Rattle.nio_words.specs.Passes.{limits_of}
+use Rattle.nio_words.specs.Passes.{IsPassOf, limits_of}
 use Rattle.nio_words.specs.declared.words.Pass.{Pass}
 use Rattle.nio_words.specs.declared.words.Words.{Words}
-use Rattle.nio_run.specs.Commands.{Leaves}
+use Rattle.nio_run.specs.Commands.{IsUndrawn, Leaves, LeavesPrefix}
 
 -- These are the calls of the generated script of so many rounds, and the table is left as they leave it.
 pub record IsLoadedOn (w : Words) (pass : Pass) (rounds : ℕ) (calls : List ScriptCall) : Type 0 where
@@ -37,13 +37,21 @@ pub record IsHalfSummedOn {K : Type 0} (k : sink.Ghosts K) (w : Words) (rounds :
   pub loaded : IsLoadedOn w pass rounds calls
   pub written : WritesPrefix k output output' (summary_of Now (limits_of w) calls)
 
--- What `load` does for so many rounds where it ends with this status, and the pass has then seen so much of the
--- table.
-pub record DoesLoad {K : Type 0} (k : sink.Ghosts K) (w : Words) (rounds : ℕ) (output output' : K) (pass : Pass)
+-- Nothing was written, and the table is left as some calls of the generated script leave it, from the first one on.
+pub record IsUnsummedOn {K : Type 0} (w : Words) (rounds : ℕ) (output output' : K) (pass : Pass) : Type 0 where
+  pub calls : List ScriptCall
+  pub script : IsScript (generated rounds) calls
+  pub left : LeavesPrefix w pass calls
+  pub unwritten : output' ≡ output
+
+-- What `load` does for so many rounds where it ends with this status.
+pub record DoesLoad {K : Type 0} (k : sink.Ghosts K) (w : Words) (rounds : ℕ) (output output' : K) (pass pass' : Pass)
     (status : Status) : Type 0 where
-  pub done : status ≡ Done → IsSummedOn k w rounds output output' pass
-  pub write_fault : status ≡ WriteFault → IsHalfSummedOn k w rounds output output' pass
-  pub memory : status ≡ Memory → output' ≡ output
+  pub done : status ≡ Done → IsSummedOn k w rounds output output' pass'
+  pub write_fault : status ≡ WriteFault → IsHalfSummedOn k w rounds output output' pass'
+  pub memory : status ≡ Memory → IsUndrawn output output' pass pass' ⊎ IsUnsummedOn w rounds output output' pass'
   pub ends : EndsLoad status
+  -- whatever the status, the pass is still one of the table
+  pub kept : IsPassOf w pass'
   -- the script is run and summed up where no count of faults rises and there is memory
   pub complete : ¬ Rose (k.faults output) (k.faults output') → (status ≡ Done) ⊎ (status ≡ Memory)

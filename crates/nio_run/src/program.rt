@@ -114,7 +114,7 @@ where
     // What each command does.
     ensures script { IsScriptCommand (map string_bytes words.now) →
         DoesScript S.Source K.Sink table.now input.old input.new output.old output.new
-        pass.new result.status }
+        pass.old pass.new result.status }
     ensures race { IsRaceCommand (map string_bytes words.now) →
         DoesRace S.Source K.Sink table.now input.old input.new output.old output.new
         pass.old pass.new result.status }
@@ -128,7 +128,7 @@ where
         DoesTimed S.Source K.Sink input.old input.new output.old output.new result.status }
     ensures timed_alone { IsTimedCommand (map string_bytes words.now) → pass.new ≡ pass.old }
     ensures load { (rounds : ℕ) → IsLoadCommand (map string_bytes words.now) rounds →
-        DoesLoad K.Sink table.now rounds output.old output.new pass.new result.status }
+        DoesLoad K.Sink table.now rounds output.old output.new pass.old pass.new result.status }
     ensures load_alone { (rounds : ℕ) → IsLoadCommand (map string_bytes words.now) rounds →
         input.new ≡ input.old }
     ensures proxy { (plan : ProxyPlan) (way : ProxyWay) → IsProxyCommand (map string_bytes words.now) plan way →
@@ -222,7 +222,8 @@ fn run_on_table<S: Source, K: Sink>(
     pass: &mut Pass,
 ) -> Status
     requires first { IsFirstPass table.now pass.old }
-    ensures script { DoesScript S.Source K.Sink table.now input.old input.new output.old output.new pass.new result }
+    ensures script { DoesScript S.Source K.Sink table.now input.old input.new output.old output.new pass.old pass.new
+        result }
     ensures read_fault { CausesFault (S.faults input.old) (S.faults input.new)
         (result ≡ Status.ReadFault) }
     ensures rose { result ≡ Status.WriteFault → Rose (K.faults output.old) (K.faults output.new) }
@@ -249,7 +250,7 @@ fn load_on_table<K: Sink>(
 ) -> Status
     requires first { IsFirstPass table.now pass.old }
     requires rounds { rounds ≤ 100000 }
-    ensures load { DoesLoad K.Sink table.now rounds output.old output.new pass.new result }
+    ensures load { DoesLoad K.Sink table.now rounds output.old output.new pass.old pass.new result }
     ensures rose { result ≡ Status.WriteFault → Rose (K.faults output.old) (K.faults output.new) }
     ensures later { K.faults output.old ≤ K.faults output.new }
 {

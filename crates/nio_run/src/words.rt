@@ -71,7 +71,7 @@ fn workers_in(command: Command) -> usize
     }
 }
 
-// The same of a way.
+// How many workers this way has that need a net each.
 fn workers_by(way: ProxyWay) -> usize
     ensures many { (workers : ℕ) → way ≡ ProxyWay.Many workers → result ≡ workers }
     ensures others { ((workers : ℕ) → way ≡ ProxyWay.Many workers → ⊥) → result ≡ 0 }

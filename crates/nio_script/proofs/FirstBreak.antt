@@ -1,6 +1,8 @@
 -- A list is good as a whole, or has one first place where it stops being so, and not both.
 use Rattle.std.proofs.Common.{◌≡◌, ℕ, suc, ◌+◌, ◌-◌, ◌<◌, List, ◌∷◌, ◌++◌, length, take, sym, ap, ◌∙◌, subst, arith}
-use Rattle.std.proofs.Math.Seq.{take-append_seam, take-append-add}
+use Rattle.std.proofs.Common.{length-append}
+use Rattle.std.specs.Prelude.{All}
+use Rattle.std.proofs.Math.Seq.{get_or-append_seam, take-append_seam, take-append-add}
 
 -- The items before number n are good, and with it they aren't, whatever follows.
 pub record IsBreak {A : Type 0} (IsGood : List A → Type 0) (xs : List A) (n : ℕ) : Type 0 where
@@ -11,6 +13,21 @@ pub record IsBreak {A : Type 0} (IsGood : List A → Type 0) (xs : List A) (n : 
   pub number : length before + 1 ≡ n
   pub good : IsGood before
   pub bad : (rest : List A) → IsGood (before ++ item ∷ rest) → ⊥
+
+-- the first item that isn't so
+pub break_of_all : {A : Type 0} (IsSo : A → Type 0) (before after : List A) {xs : List A} {x : A} {n : ℕ}
+    → xs ≡ before ++ x ∷ after → length before + 1 ≡ n → All IsSo before → (IsSo x → ⊥) → IsBreak (All IsSo) xs n
+break_of_all IsSo before after {x = x} parts number good bad = record {
+  item = x;
+  before = before;
+  after = after;
+  parts = parts;
+  number = number;
+  good = good;
+  bad = λ rest all.
+      bad (subst IsSo (get_or-append_seam before x rest x)
+      (all (length before) x (omega (arith, length-append before (x ∷ rest)))));
+}
 
 module _ {A : Type 0} (IsGood : List A → Type 0) (xs : List A) where
   pub unbroken : (n : ℕ) → IsGood xs → IsBreak IsGood xs n → ⊥

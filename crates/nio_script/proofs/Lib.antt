@@ -7,6 +7,7 @@ pub mod FirstBadEntry
 pub mod FirstBreak
 pub mod LegalHistory
 pub mod Lines
+pub mod Made
 pub mod OneHistory
 pub mod Reading
 pub mod Running

@@ -11,7 +11,7 @@ use Rattle.nio_language.proofs.Spaces.{split_join, caller_spaceless, call_spacel
 use Rattle.nio_language.specs.Calls.{IsLine, call_words}
 use Rattle.nio_language.specs.Words.{caller_word}
 use Rattle.nio_language.specs.declared.call.Call.{Call}
-use Rattle.nio_script.specs.Entries.{Adds}
+use Rattle.nio_script.specs.Entries.{Adds, IsNoLine, StopsAt}
 use Rattle.nio_script.specs.declared.script.ScriptError.{ScriptError}
 use Rattle.nio_script.specs.declared.script.ScriptError.TheVariants.{BadLine, Memory}
 use Rattle.std.specs.List.{slice_split}
@@ -55,6 +55,23 @@ reads_more Are {lines = lines} {i = i} {before = before} next adds append =
 -- nothing is added
 pub adds_nothing : {A : Type 0} {AreSo : List A → Type 0} (before : List A) → AreSo [] → Adds AreSo before before
 adds_nothing before reads = record { added = []; so = reads; adds = sym (append-nil before) }
+
+-- the next line has no calls
+pub stops_here : {A : Type 0} {Are : List (List ℕ) → List A → Type 0} {lines : List (List ℕ)} {i n skipped : ℕ}
+    {line : List ℕ} {calls : List A}
+    → ((xs ys : List (List ℕ)) (all : List A) → Are (xs ++ ys) all → (rest : List A) × Are ys rest)
+    → IsNext lines i line → Are (take i lines) calls → IsNoLine Are line → skipped + i + 1 ≡ n
+    → StopsAt Are skipped lines n
+stops_here {lines = lines} {i = i} {skipped = skipped} {line = line} {calls = calls} behind next are none e = record {
+  line = line;
+  before = take i lines;
+  after = drop (i + 1) lines;
+  calls = calls;
+  parts = parts next;
+  number = omega (arith, number_of_next next, e);
+  good = are;
+  bad = λ others all. let rest = behind (take i lines) (line ∷ []) others all in none rest.0 rest.1;
+}
 
 -- an error that names no line is a want of memory
 pub only_memory : (e : ScriptError) → ((n : ℕ) → e ≡ BadLine n → ⊥) → e ≡ Memory

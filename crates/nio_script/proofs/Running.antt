@@ -1,5 +1,5 @@
 -- What is kept while the calls of a script are made.
-use Rattle.std.proofs.Common.{◌≡◌, ℕ, ◌+◌, List, ◌∷◌, ◌++◌, sym, ap, ◌∙◌, subst, append_assoc}
+use Rattle.std.proofs.Common.{◌≡◌, ℕ, ◌+◌, List, [], ◌∷◌, ◌++◌, sym, ap, ◌∙◌, subst, append_assoc}
 use Rattle.nio_base.specs.declared.limits.Limits.{Limits}
 use Rattle.nio_bytes.specs.declared.sink.Sink as sink
 use Rattle.nio_language.specs.declared.call.ScriptCall.{ScriptCall}
@@ -8,7 +8,8 @@ use Rattle.nio_plain.specs.ScriptState.{ScriptState}
 use Rattle.nio_plain.specs.declared.rules.Rules.{Rules}
 use Rattle.nio_plain.specs.declared.system.System as system
 use Rattle.nio_script.specs.Output.{Writes, WritesPrefix, Gathers}
-use Rattle.nio_script.specs.Run.{line_for, left_by_call}
+use Rattle.nio_script.specs.Run.{MakesPrefix, line_for, left_by_call}
+use Rattle.nio_script.proofs.Made.{left_after, makes_after}
 use Rattle.nio_script.proofs.Writing.{writes_both, writes_prefix_after}
 
 -- Some calls were made, and the rest of them are left. What was written, what is kept back and the
@@ -19,8 +20,9 @@ pub record IsRunning {K Y : Type 0} (k : sink.Ghosts K) (y : system.Ghosts Y) (o
   pub written : Writes k output output' bytes
   pub answer : bytes ++ (kept ++ answer_from (y.rules run) (y.limits run) (y.state run') number rest)
       ≡ answer_from (y.rules run) (y.limits run) (y.state run) 1 calls
-  pub left : left_from (y.rules run) (y.limits run) (y.state run') rest ≡ left_from (y.rules run) (y.limits run)
-      (y.state run) calls
+  pub made : List ScriptCall
+  pub parts : made ++ rest ≡ calls
+  pub left : y.state run' ≡ left_from (y.rules run) (y.limits run) (y.state run) made
   pub still : k.faults output' ≡ k.faults output
   pub kept_on : y.kept run run'
   pub rules : y.rules run' ≡ y.rules run
@@ -58,6 +60,12 @@ module _ {K Y : Type 0} (k : sink.Ghosts K) (y : system.Ghosts Y) (output mid no
       subst (WritesPrefix k output now) answer_on
       (writes_prefix_after k output mid now running.bytes (kept ++ next_line) _ running.written some)
 
+  -- and leaves the system as it was, or as the call leaves it
+  pub stops_amid : (after : Y) → MakesPrefix y before after (call ∷ []) → MakesPrefix y run after calls
+  stops_amid after some =
+      makes_after y run before running.made running.left running.rules running.limits after (call ∷ []) rest calls
+      running.parts some
+
   -- the next call is answered
   pub goes_on : (after : Y) (kept' : List ℕ) → Gathers k mid now kept kept' next_line → y.state after ≡ next_state
       → k.faults now ≡ k.faults mid
@@ -74,13 +82,9 @@ module _ {K Y : Type 0} (k : sink.Ghosts K) (y : system.Ghosts Y) (output mid no
         ∙ ap (λ st. running.bytes
         ++ ((kept ++ next_line) ++ answer_from (y.rules run) (y.limits run) st (number + 1) rest)) left
         ∙ answer_on;
-    left =
-        ap (λ st. left_from (y.rules run) (y.limits run) st rest) left
-        ∙ ap (λ r. left_from (y.rules run) (y.limits run) (left_by_call r (y.limits before) (y.state before) call) rest)
-        running.rules
-        ∙ ap (λ l. left_from (y.rules run) (y.limits run) (left_by_call (y.rules run) l (y.state before) call) rest)
-        running.limits
-        ∙ running.left;
+    made = running.made ++ call ∷ [];
+    parts = append_assoc running.made (call ∷ []) rest ∙ running.parts;
+    left = left ∙ left_after y run before running.made running.left running.rules running.limits (call ∷ []);
     still = still ∙ running.still;
     kept_on = kept_on;
     rules = rules ∙ running.rules;

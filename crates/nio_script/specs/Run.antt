@@ -1,13 +1,14 @@
 -- What running a script does to its sink and its system.
 use Rattle.std.specs.Prelude.{◌≡◌, ℕ, ◌++◌, List, [], ◌∷◌, codes}
 use Rattle.std.specs.Fmt.{decimal}
+use mathlib.Core.List.{IsPrefix}
 use Rattle.nio_base.specs.declared.limits.Limits.{Limits}
 use Rattle.nio_bytes.specs.declared.source.Source as source
 use Rattle.nio_bytes.specs.declared.sink.Sink as sink
 use Rattle.nio_language.specs.Replies.{history_line}
 use Rattle.nio_language.specs.Script.{IsScript, IsFirstBad}
 use Rattle.nio_language.specs.declared.call.ScriptCall.{ScriptCall}
-use Rattle.nio_plain.specs.Answer.{answer_to, left_by_script}
+use Rattle.nio_plain.specs.Answer.{answer_to, left_by_script, left_from}
 use Rattle.nio_plain.specs.ScriptState.{ScriptState}
 use Rattle.nio_plain.specs.Seq.{seq}
 use Rattle.nio_plain.specs.declared.rules.Rules.{Rules}
@@ -26,6 +27,12 @@ line_for rules l st number c = history_line number c.caller c.call (seq rules l 
 abbrev pub left_by_call : Rules → Limits → ScriptState → ScriptCall → ScriptState
 left_by_call rules l st c = (seq rules l st c.caller c.call).left
 
+-- Some of these calls were made, from the first one on, and the system is left as they leave it.
+pub record MakesPrefix {Y : Type 0} (y : system.Ghosts Y) (run run' : Y) (calls : List ScriptCall) : Type 0 where
+  pub made : List ScriptCall
+  pub begins : IsPrefix made calls
+  pub left : y.state run' ≡ left_from (y.rules run) (y.limits run) (y.state run) made
+
 -- The input was read whole, and its text is so.
 abbrev pub ReadsText : {S : Type 0} → source.Ghosts S → S → S → (List ℕ → Type 0) → Type 0
 ReadsText s input input' IsSo = (text : List ℕ) × IsReadWhole s input input' text × IsSo text
@@ -40,12 +47,14 @@ pub record IsAnswered {K Y : Type 0} (k : sink.Ghosts K) (y : system.Ghosts Y)
   pub still : k.faults output' ≡ k.faults output
   pub left : y.state run' ≡ left_by_script (y.rules run) (y.limits run) calls
 
--- The text is a script, and some of its answer was written, from its front.
+-- The text is a script, some of its answer was written, from its front, and the system is left as some of its calls
+-- leave it, from the first one on.
 pub record IsCutShort {K Y : Type 0} (k : sink.Ghosts K) (y : system.Ghosts Y)
-    (output output' : K) (run : Y) (text : List ℕ) : Type 0 where
+    (output output' : K) (run run' : Y) (text : List ℕ) : Type 0 where
   pub calls : List ScriptCall
   pub script : IsScript text calls
   pub written : WritesPrefix k output output' (answer_to (y.rules run) (y.limits run) calls)
+  pub left : MakesPrefix y run run' calls
 
 -- what is said of a line that isn't in the grammar
 abbrev pub bad_line : ℕ → List ℕ

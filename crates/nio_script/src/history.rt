@@ -7,7 +7,7 @@ ghost use Rattle.nio_script.specs.Entries.{Finds, Adds, IsNoEntry};
 ghost use Rattle.nio_script.specs.History.{Entry, IsCallOf, IsEntry, AreEntries, IsHistory, IsFirstBadEntry};
 ghost use Rattle.nio_script.specs.HistoryCall.{entry_of};
 
-use crate::script::{ScriptError, lines};
+use crate::script::{ScriptError, lines_of};
 use nio_language::{
     Call, ParseError, Parsed, ScriptCall, cut_at, is_blank, parse_line, read_number,
 };
@@ -153,7 +153,7 @@ pub fn parse_history<'a>(
     ensures bad { (line : ℕ) → result ≡ Err (ScriptError.BadLine line)
         → IsFirstBadEntry rules text.now line }
 {
-    let lines = lines(alloc, text)?;
+    let lines = lines_of(alloc, text)?;
     let mut calls = Vec::new(alloc);
     let mut number = 0;
     for line in &lines {

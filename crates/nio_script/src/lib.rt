@@ -6,7 +6,7 @@ pub use history::{HistoryCall, parse_history};
 pub use input::{LONGEST_INPUT, read_input};
 pub use output::{offer, write_all, write_out};
 pub use run::{refuse, run_script};
-pub use script::{ScriptError, parse_script};
+pub use script::{ScriptError, lines_of, parse_script, read_calls};
 pub use status::Status;
 
 mod check;

@@ -1,8 +1,8 @@
 //! A whole text, read as a script.
-ghost use Rattle.std.specs.Prelude.{◌≡◌, ◌∷◌, [], ℕ, List, map, IfOk, OnOk, MatchResult};
-ghost use Rattle.nio_language.specs.Script.{lines_of, AreCalls, IsScript, IsFirstBad, IsInGrammar};
+ghost use Rattle.std.specs.Prelude.{◌≡◌, ◌<◌, ◌^◌, ◌∷◌, [], ℕ, List, length, map, IfOk, OnOk, MatchResult};
+ghost use Rattle.nio_language.specs.Script.{lines_of, AreCalls, IsScript, IsFirstBad};
 ghost use Rattle.nio_language.specs.declared.call.ScriptCall.{ScriptCall};
-ghost use Rattle.nio_script.specs.Entries.{Adds};
+ghost use Rattle.nio_script.specs.Entries.{Adds, IsNoLine, StopsAt};
 
 use nio_language::{ParseError, Parsed, ScriptCall, parse_line};
 use std::alloc::{AllocError, AllocFailed, Global};
@@ -37,7 +37,7 @@ impl From<AllocFailed<ScriptCall>> for ScriptError {
 }
 
 /// The lines of a text.
-pub fn lines(alloc: Global, text: &[u8]) -> Result<Vec<&[u8]>, AllocError>
+pub fn lines_of(alloc: Global, text: &[u8]) -> Result<Vec<&[u8]>, AllocError>
     ensures { IfOk result (λ lines. map (λ line. line.now) lines.items ≡ lines_of text.entry.now) }
 {
     text.split(|byte| *byte == b'\n').collect(alloc)
@@ -51,7 +51,8 @@ fn read_line(
     calls: &mut Vec<ScriptCall>,
 ) -> Result<(), ScriptError>
     ensures read { OnOk result (Adds (AreCalls (line.now ∷ [])) calls.old.items calls.new.items) }
-    ensures bad { (n : ℕ) → result ≡ Err (ScriptError.BadLine n) → (n ≡ number) × (IsInGrammar line.now → ⊥) }
+    ensures bad { (n : ℕ) → result ≡ Err (ScriptError.BadLine n)
+        → (n ≡ number) × IsNoLine AreCalls line.now }
 {
     match parse_line(alloc, line) {
         Ok(Parsed::Blank) => Ok(()),
@@ -64,6 +65,22 @@ fn read_line(
     }
 }
 
+/// The calls of lines. Blank lines may stand among them.
+pub fn read_calls(alloc: Global, lines: &[&[u8]]) -> Result<Vec<ScriptCall>, ScriptError>
+    requires { length lines.now < 2 ^ 64 }
+    ensures ok { IfOk result (λ calls. AreCalls (map (λ line. line.now) lines.now) calls.items) }
+    ensures bad { (n : ℕ) → result ≡ Err (ScriptError.BadLine n)
+        → StopsAt AreCalls 0 (map (λ line. line.now) lines.now) n }
+{
+    let mut calls = Vec::new(alloc);
+    let mut number = 0;
+    for line in lines {
+        number += 1;
+        read_line(alloc, line, number, &mut calls)?;
+    }
+    Ok(calls)
+}
+
 /// The calls of a script.
 pub fn parse_script(alloc: Global, text: &[u8]) -> Result<Vec<ScriptCall>, ScriptError>
     ensures ok { IfOk result (λ calls. IsScript text.now calls.items) }
@@ -73,12 +90,6 @@ pub fn parse_script(alloc: Global, text: &[u8]) -> Result<Vec<ScriptCall>, Scrip
         MatchResult result (λ read. read.items ≡ calls) (λ e. e ≡ ScriptError.Memory) }
     ensures bad { (line : ℕ) → result ≡ Err (ScriptError.BadLine line) → IsFirstBad text.now line }
 {
-    let lines = lines(alloc, text)?;
-    let mut calls = Vec::new(alloc);
-    let mut number = 0;
-    for line in &lines {
-        number += 1;
-        read_line(alloc, line, number, &mut calls)?;
-    }
-    Ok(calls)
+    let lines = lines_of(alloc, text)?;
+    read_calls(alloc, &lines)
 }

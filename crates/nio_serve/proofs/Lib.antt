@@ -1,5 +1,6 @@
 mod Begun
 pub mod Bits
+mod BoardCalls
 pub mod Calls
 mod Carrying
 mod Connecting

@@ -1,8 +1,9 @@
 //! What one caller of a table serves by.
-ghost use Rattle.std.specs.Prelude.{◌≡◌, ◌+◌, None, IfOk, OnErr};
+ghost use Rattle.std.specs.Prelude.{◌≡◌, ◌+◌, None, IfOk, OnErr, OnOk};
 ghost use Rattle.nio_history.specs.PassViews.{HasNoPin};
 ghost use Rattle.nio_poller.specs.Polls.{CountsFaults, told_of_channel};
 ghost use Rattle.nio_poller.specs.declared.poller.PollError.TheVariants.{Fault};
+ghost use Rattle.nio_select.specs.InProgress.{poll_of};
 ghost use Rattle.nio_words.specs.Passes.{IsReady, acts_seen, limits_of};
 ghost use Rattle.nio_words.specs.Views.{view};
 ghost use Rattle.nio_serve.specs.Called.{HasCalled, IsUnregistered};
@@ -69,6 +70,10 @@ pub struct Refused;
 
 impl<'a> Board<'a> {
     ghost use Rattle.nio_serve.specs.Board.{AreOrdered, AreReady, IsIdle, IsSameBoard, IsSameSeat, IsSelecting};
+    ghost use Rattle.nio_serve.specs.BoardCalls.{BeginsSelection, FailsToBegin, FailsToSelect, FailsToSet, HasMade};
+    ghost use Rattle.nio_serve.specs.BoardCalls.{IsWatchRefused, LeavesSelection, SelectsOnce, SetsInterest, TellsPoll};
+    ghost use Rattle.nio_serve.specs.BoardCalls.{Unwatches, WatchesChannel};
+    ghost use Rattle.nio_serve.specs.Called.{channel_in};
 
     /// A board with a selector that was opened before, by a caller that has registered nothing.
     pub fn over(
@@ -146,6 +151,9 @@ impl<'a> Board<'a> {
         ensures next { IfOk result (λ _. chan.0 ≡ self.old.registered) }
         ensures more { IfOk result (λ _. self.new.registered ≡ self.old.registered + 1) }
         ensures same { OnErr result (self.new.registered ≡ self.old.registered) }
+        ensures made { IfOk result (λ port. HasMade self.old self.new (WatchesChannel self.old.deal self.old.selector
+            kind (channel_in self.old.deal chan) ops port.key)) }
+        ensures refused { OnErr result (IsWatchRefused self.old self.new kind chan ops) }
     {
         if chan.0 != self.station.registered || chan.0 == u32::MAX {
             return Err(Refused);
@@ -158,14 +166,17 @@ impl<'a> Board<'a> {
     /// Sets for which operations the channel is watched. Refused where the table has no such key, or the key isn't
     /// valid any more.
     pub fn set(&mut self, port: Port, ops: Ops) -> Result<(), Refused>
-        ensures { IsSameBoard self.old self.new }
+        ensures same { IsSameBoard self.old self.new }
+        ensures made { OnOk result (HasMade self.old self.new (SetsInterest self.old.selector port.key ops)) }
+        ensures refused { OnErr result (HasMade self.old self.new (FailsToSet self.old.selector port.key ops)) }
     {
         set_interest_of(self.words, &mut self.pass, self.station, port.key, ops)
     }
 
     /// Cancels the key, and closes the channel. Does nothing where the table has no such key or channel.
     pub fn unwatch(&mut self, port: Port)
-        ensures { IsSameBoard self.old self.new }
+        ensures same { IsSameBoard self.old self.new }
+        ensures made { HasMade self.old self.new (Unwatches self.old.deal self.old.selector port.key port.chan) }
     {
         unwatch_port(self.words, &mut self.pass, self.station, port)
     }
@@ -175,6 +186,9 @@ impl<'a> Board<'a> {
     pub fn begin(&mut self, alloc: Global) -> Result<Selecting, AllocError>
         ensures same { IsSameBoard self.old self.new }
         ensures begun { IfOk result (IsSelecting self.new) }
+        ensures made { IfOk result (λ selection. HasMade self.old self.new
+            (BeginsSelection self.old.selector selection)) }
+        ensures refused { OnErr result (HasMade self.old self.new (FailsToBegin self.old.selector)) }
     {
         begin(alloc, self.words, &mut self.pass, self.station)
     }
@@ -191,6 +205,8 @@ impl<'a> Board<'a> {
     ) -> Result<(), AllocError>
         requires { IsSelecting self.old selection }
         ensures same { IsSameBoard self.old self.new }
+        ensures made { OnOk result (HasMade self.old self.new (TellsPoll selection (poll_of answer.now))) }
+        ensures left { OnErr result (HasMade self.old self.new (LeavesSelection selection)) }
         ensures ready { IfOk result (λ _. AreReady (told_of_channel selection.looked answer.now.pairs.items)
             told.new.items) }
         ensures ordered { IfOk result (λ _. AreOrdered told.new.items) }
@@ -208,7 +224,8 @@ impl<'a> Board<'a> {
     /// Leaves a selection.
     pub fn leave(&mut self, selection: Selecting)
         requires { IsSelecting self.old selection }
-        ensures { IsSameBoard self.old self.new }
+        ensures same { IsSameBoard self.old self.new }
+        ensures made { HasMade self.old self.new (LeavesSelection selection) }
     {
         leave(self.words, &mut self.pass, self.station, selection)
     }
@@ -224,6 +241,8 @@ impl<'a> Board<'a> {
         told: &mut Vec<(ChanNo, Ops)>,
     ) -> Result<(), PollError>
         ensures same { IsSameBoard self.old self.new }
+        ensures made { OnOk result (HasMade self.old self.new (SelectsOnce self.old.selector)) }
+        ensures failed { OnErr result (HasMade self.old self.new (FailsToSelect self.old.selector)) }
         ensures kept { W.kept net.old net.new }
         ensures cause { CountsFaults Fault (W.poll_faults net.old) (W.poll_faults net.new) result }
         ensures ready { IfOk result (λ _. AreReady (W.ready net.new) told.new.items) }
@@ -248,7 +267,8 @@ impl<'a> Board<'a> {
     // Tells a selection what a poller answered, which ends it.
     fn tell(&mut self, selection: Selecting, answer: &Told)
         requires { IsSelecting self.old selection }
-        ensures { IsSameBoard self.old self.new }
+        ensures same { IsSameBoard self.old self.new }
+        ensures made { HasMade self.old self.new (TellsPoll selection (poll_of answer.now)) }
     {
         tell(self.words, &mut self.pass, self.station, selection, answer)
     }

@@ -17,6 +17,7 @@ ghost use Rattle.nio_serve.specs.Slots.{AreServed, IsSameButOne, Serving, has_en
 ghost use Rattle.nio_serve.specs.Watching.{Watching, WatchesAll};
 
 use crate::board::{Board, Refused};
+use crate::link::{Links, ToldOps};
 use crate::proxy::LISTENER;
 use crate::serving::ServeError;
 use crate::slot::{Relay, Slot, begin_relay, close_links, serve_relay, take_on};
@@ -64,14 +65,17 @@ fn accept<N, W: Way<N>>(way: &mut W, net: &mut N, client: ChanNo) -> Result<bool
 }
 
 /// The links of a connection: its client's and its target's.
-pub(crate) fn links_of(number: usize) -> (ChanNo, ChanNo)
+pub(crate) fn links_of(number: usize) -> Links
     requires few { number < 16000 }
-    ensures client { result.0 ≡ client_of number }
-    ensures target { result.1 ≡ target_of number }
-    ensures apart { result.0 ≢ result.1 }
+    ensures client { result.client ≡ client_of number }
+    ensures target { result.target ≡ target_of number }
+    ensures apart { result.client ≢ result.target }
 {
     let client = 2 * number as u32 + 1;
-    (ChanNo(client), ChanNo(client + 1))
+    Links {
+        client: ChanNo(client),
+        target: ChanNo(client + 1),
+    }
 }
 
 impl Connections {
@@ -174,13 +178,12 @@ impl Connections {
         net: &mut N,
         board: &mut Board<'_>,
         number: usize,
-        at_client: Ops,
-        at_target: Ops,
+        told: ToldOps,
         scratch: &mut [u8],
     ) -> Result<(), Refused>
         requires scratch { length scratch.old ≡ CAPACITY }
-        requires ready_client { IsTrue (is_within at_client (W.ready net.old (client_of number))) }
-        requires ready_target { IsTrue (is_within at_target (W.ready net.old (target_of number))) }
+        requires ready_client { IsTrue (is_within told.client (W.ready net.old (client_of number))) }
+        requires ready_target { IsTrue (is_within told.target (W.ready net.old (target_of number))) }
         requires served { AreServed (W.link net.old) (W.place net.old) self.old }
         ensures serving { Serving W.Way net.old net.new self.old self.new }
         ensures ready { (c : ChanNo) → c ≢ client_of number → c ≢ target_of number → W.ready net.new c
@@ -192,17 +195,15 @@ impl Connections {
         let Some(relay) = self.take(number) else {
             return Ok(());
         };
-        let (client, target) = links_of(number);
+        let links = links_of(number);
         let mut slot = serve_relay(
             way,
             net,
             board,
             &mut self.spare,
-            client,
-            target,
+            links,
             relay,
-            at_client,
-            at_target,
+            told,
             scratch,
         );
         let followed = slot.follow::<N, W>(way, board);
@@ -228,17 +229,8 @@ impl Connections {
         let Some(relay) = self.take(number) else {
             return Ok(());
         };
-        let (client, target) = links_of(number);
-        let mut slot = begin_relay(
-            way,
-            net,
-            board,
-            &mut self.spare,
-            client,
-            target,
-            relay,
-            self.target,
-        );
+        let links = links_of(number);
+        let mut slot = begin_relay(way, net, board, &mut self.spare, links, relay, self.target);
         let followed = slot.follow::<N, W>(way, board);
         self.put(number, slot);
         followed
@@ -266,19 +258,10 @@ impl Connections {
         ensures more { IfOk result (λ more. IsTrue more → W.ready net.new listener ≡ W.ready net.old listener) }
         ensures watching { Watching board.old board.new self.new result }
     {
-        let (client, target) = links_of(self.slots.len());
-        match accept(way, net, client) {
+        let links = links_of(self.slots.len());
+        match accept(way, net, links.client) {
             Ok(true) => {
-                let (slot, taken) = take_on(
-                    rt,
-                    alloc,
-                    way,
-                    net,
-                    board,
-                    &mut self.spare,
-                    client,
-                    target,
-                );
+                let (slot, taken) = take_on(rt, alloc, way, net, board, &mut self.spare, links);
                 self.add(slot);
                 match taken {
                     Ok(()) => Ok(true),
@@ -335,27 +318,20 @@ impl Connections {
         ensures listens { W.place net.new listener ≡ W.place net.old listener }
     {
         for number in 0..self.slots.len() {
-            let (client, target) = links_of(number);
-            close_unended(way, net, &self.slots[number], client, target);
+            close_unended(way, net, &self.slots[number], links_of(number));
         }
     }
 }
 
 // Closes the links of a connection, if it hasn't ended.
-fn close_unended<N, W: Way<N>>(
-    way: &mut W,
-    net: &mut N,
-    slot: &Slot,
-    client: ChanNo,
-    target: ChanNo,
-)
-    requires apart { client ≢ target }
+fn close_unended<N, W: Way<N>>(way: &mut W, net: &mut N, slot: &Slot, links: Links)
+    requires apart { links.client ≢ links.target }
     ensures quiet { IsQuiet W.Way net.old net.new }
-    ensures places { (c : ChanNo) → c ≢ client → c ≢ target → W.place net.new c ≡ W.place net.old c }
-    ensures closed { IsFalse (has_ended (Some slot.now)) → IsVacant (W.place net.new client).standing
-        × IsVacant (W.place net.new target).standing }
+    ensures places { (c : ChanNo) → c ≢ links.client → c ≢ links.target → W.place net.new c ≡ W.place net.old c }
+    ensures closed { IsFalse (has_ended (Some slot.now)) → IsVacant (W.place net.new links.client).standing
+        × IsVacant (W.place net.new links.target).standing }
 {
     if !slot.has_ended() {
-        close_links(way, net, client, target);
+        close_links(way, net, links);
     }
 }

@@ -22,6 +22,34 @@ const CALLS: u32 = 64;
 // How many buffers at most are passed from one link to the other before the next connection is served.
 const PASSES: u32 = 16;
 
+/// The links of a connection: its client's and its target's.
+#[derive(Clone, Copy, Debug, PartialEq, Eq)]
+pub(crate) struct Links {
+    pub client: ChanNo,
+    pub target: ChanNo,
+}
+
+/// What the two links of a connection were told ready for.
+#[derive(Clone, Copy, Debug, PartialEq, Eq)]
+pub(crate) struct ToldOps {
+    pub client: Ops,
+    pub target: Ops,
+}
+
+impl ToldOps {
+    pub(crate) const NOTHING: ToldOps = ToldOps {
+        client: Ops::NONE,
+        target: Ops::NONE,
+    };
+}
+
+/// Whether a direction was told that its source can be read, and that its sink can be written.
+#[derive(Clone, Copy, Debug, PartialEq, Eq)]
+struct Can {
+    read: bool,
+    write: bool,
+}
+
 /// Whether more may be passed on at once, in each of the two directions of a connection.
 #[derive(Clone, Copy, Debug, PartialEq, Eq)]
 pub(crate) struct Flows {
@@ -343,25 +371,24 @@ fn read_told<N, W: Way<N>>(
     source: ChanNo,
     sink: ChanNo,
     direction: &mut Direction,
-    can_read: bool,
-    can_write: bool,
+    can: Can,
     scratch: &mut [u8],
 ) -> Result<bool, Failed>
     requires scratch { length scratch.old ≡ CAPACITY }
     requires apart { source ≢ sink }
-    requires read { IsTrue can_read → IsTrue (is_within 1 (W.ready net.old source)) }
-    requires write { IsTrue can_write → IsTrue (is_within 4 (W.ready net.old sink)) }
+    requires read { IsTrue can.read → IsTrue (is_within 1 (W.ready net.old source)) }
+    requires write { IsTrue can.write → IsTrue (is_within 4 (W.ready net.old sink)) }
     requires linked { IsLinked (W.place net.old source).standing }
     requires stands { (W.place net.old sink).standing ≡ open_or_shut direction.old.shut }
-    requires none_buffered { IsTrue can_write → buffered direction.old ≡ [] }
+    requires none_buffered { IsTrue can.write → buffered direction.old ≡ [] }
     ensures passes { Passes W.Way source sink direction.old direction.new net.old net.new }
     ensures cause { OnErr result (OneRose (W.faults net.old) (W.faults net.new) source sink) }
     ensures calm { OnOk result (BothSame (W.faults net.old) (W.faults net.new) source sink) }
 {
-    if !can_read {
+    if !can.read {
         return Ok(false);
     }
-    if can_write {
+    if can.write {
         return pass_all(way, net, source, sink, direction, scratch);
     }
     let room = direction.room();
@@ -377,24 +404,25 @@ fn carry<N, W: Way<N>>(
     source: ChanNo,
     sink: ChanNo,
     direction: &mut Direction,
-    can_read: bool,
-    can_write: bool,
+    can: Can,
     scratch: &mut [u8],
 ) -> Result<bool, Failed>
     requires scratch { length scratch.old ≡ CAPACITY }
     requires apart { source ≢ sink }
-    requires read { IsTrue can_read → IsTrue (is_within 1 (W.ready net.old source)) }
-    requires write { IsTrue can_write → IsTrue (is_within 4 (W.ready net.old sink)) }
+    requires read { IsTrue can.read → IsTrue (is_within 1 (W.ready net.old source)) }
+    requires write { IsTrue can.write → IsTrue (is_within 4 (W.ready net.old sink)) }
     requires linked { IsLinked (W.place net.old source).standing }
     requires stands { (W.place net.old sink).standing ≡ open_or_shut direction.old.shut }
     ensures passes { Passes W.Way source sink direction.old direction.new net.old net.new }
     ensures cause { OnErr result (OneRose (W.faults net.old) (W.faults net.new) source sink) }
     ensures calm { OnOk result (BothSame (W.faults net.old) (W.faults net.new) source sink) }
 {
-    let takes_more = write_told(way, net, source, sink, direction, can_write)?;
-    read_told(
-        way, net, source, sink, direction, can_read, takes_more, scratch,
-    )
+    let takes_more = write_told(way, net, source, sink, direction, can.write)?;
+    let can = Can {
+        read: can.read,
+        write: takes_more,
+    };
+    read_told(way, net, source, sink, direction, can, scratch)
 }
 
 // Shuts the link to which a direction writes, once all that it took is written.
@@ -424,51 +452,40 @@ fn pass_end<N, W: Way<N>>(
 fn carry_both<N, W: Way<N>>(
     way: &mut W,
     net: &mut N,
-    client: ChanNo,
-    target: ChanNo,
+    links: Links,
     there: &mut Direction,
     back: &mut Direction,
-    at_client: Ops,
-    at_target: Ops,
+    told: ToldOps,
     scratch: &mut [u8],
 ) -> Result<Flows, Failed>
     requires scratch { length scratch.old ≡ CAPACITY }
-    requires ready_client { IsTrue (is_within at_client (W.ready net.old client)) }
-    requires ready_target { IsTrue (is_within at_target (W.ready net.old target)) }
-    requires apart { client ≢ target }
-    requires client { IsEnd (W.link net.old client) (W.place net.old client) (carried there.old back.old) }
-    requires target { IsEnd (W.link net.old target) (W.place net.old target) (carried back.old there.old) }
-    ensures client { IsEnd (W.link net.new client) (W.place net.new client) (carried there.new back.new) }
-    ensures target { IsEnd (W.link net.new target) (W.place net.new target) (carried back.new there.new) }
-    ensures work { Works W.Way client target net.old net.new }
-    ensures cause { OnErr result (OneRose (W.faults net.old) (W.faults net.new) client target) }
-    ensures calm { OnOk result (BothSame (W.faults net.old) (W.faults net.new) client target) }
+    requires ready_client { IsTrue (is_within told.client (W.ready net.old links.client)) }
+    requires ready_target { IsTrue (is_within told.target (W.ready net.old links.target)) }
+    requires apart { links.client ≢ links.target }
+    requires client { IsEnd (W.link net.old links.client) (W.place net.old links.client) (carried there.old back.old) }
+    requires target { IsEnd (W.link net.old links.target) (W.place net.old links.target) (carried back.old there.old) }
+    ensures client { IsEnd (W.link net.new links.client) (W.place net.new links.client) (carried there.new back.new) }
+    ensures target { IsEnd (W.link net.new links.target) (W.place net.new links.target) (carried back.new there.new) }
+    ensures work { Works W.Way links.client links.target net.old net.new }
+    ensures cause { OnErr result (OneRose (W.faults net.old) (W.faults net.new) links.client links.target) }
+    ensures calm { OnOk result (BothSame (W.faults net.old) (W.faults net.new) links.client links.target) }
 {
-    let client_reads = Ops::READ.within(at_client);
-    let client_writes = Ops::WRITE.within(at_client);
-    let target_reads = Ops::READ.within(at_target);
-    let target_writes = Ops::WRITE.within(at_target);
+    let client_reads = Ops::READ.within(told.client);
+    let client_writes = Ops::WRITE.within(told.client);
+    let target_reads = Ops::READ.within(told.target);
+    let target_writes = Ops::WRITE.within(told.target);
+    let Links { client, target } = links;
+    let can_there = Can {
+        read: client_reads,
+        write: target_writes,
+    };
+    let can_back = Can {
+        read: target_reads,
+        write: client_writes,
+    };
     Ok(Flows {
-        there: carry(
-            way,
-            net,
-            client,
-            target,
-            there,
-            client_reads,
-            target_writes,
-            scratch,
-        )?,
-        back: carry(
-            way,
-            net,
-            target,
-            client,
-            back,
-            target_reads,
-            client_writes,
-            scratch,
-        )?,
+        there: carry(way, net, client, target, there, can_there, scratch)?,
+        back: carry(way, net, target, client, back, can_back, scratch)?,
     })
 }
 
@@ -476,22 +493,21 @@ fn carry_both<N, W: Way<N>>(
 fn pass_ends<N, W: Way<N>>(
     way: &mut W,
     net: &mut N,
-    client: ChanNo,
-    target: ChanNo,
+    links: Links,
     there: &mut Direction,
     back: &mut Direction,
 ) -> Result<(), Failed>
-    requires apart { client ≢ target }
-    requires client { IsEnd (W.link net.old client) (W.place net.old client) (carried there.old back.old) }
-    requires target { IsEnd (W.link net.old target) (W.place net.old target) (carried back.old there.old) }
-    ensures client { IsEnd (W.link net.new client) (W.place net.new client) (carried there.new back.new) }
-    ensures target { IsEnd (W.link net.new target) (W.place net.new target) (carried back.new there.new) }
-    ensures work { Works W.Way client target net.old net.new }
-    ensures cause { OnErr result (OneRose (W.faults net.old) (W.faults net.new) client target) }
-    ensures calm { OnOk result (BothSame (W.faults net.old) (W.faults net.new) client target) }
+    requires apart { links.client ≢ links.target }
+    requires client { IsEnd (W.link net.old links.client) (W.place net.old links.client) (carried there.old back.old) }
+    requires target { IsEnd (W.link net.old links.target) (W.place net.old links.target) (carried back.old there.old) }
+    ensures client { IsEnd (W.link net.new links.client) (W.place net.new links.client) (carried there.new back.new) }
+    ensures target { IsEnd (W.link net.new links.target) (W.place net.new links.target) (carried back.new there.new) }
+    ensures work { Works W.Way links.client links.target net.old net.new }
+    ensures cause { OnErr result (OneRose (W.faults net.old) (W.faults net.new) links.client links.target) }
+    ensures calm { OnOk result (BothSame (W.faults net.old) (W.faults net.new) links.client links.target) }
 {
-    pass_end(way, net, target, there)?;
-    pass_end(way, net, client, back)
+    pass_end(way, net, links.target, there)?;
+    pass_end(way, net, links.client, back)
 }
 
 // Carries what the two links of a connection were told ready for, and passes on what has ended. Says whether more may
@@ -499,29 +515,25 @@ fn pass_ends<N, W: Way<N>>(
 pub(crate) fn serve_links<N, W: Way<N>>(
     way: &mut W,
     net: &mut N,
-    client: ChanNo,
-    target: ChanNo,
+    links: Links,
     there: &mut Direction,
     back: &mut Direction,
-    at_client: Ops,
-    at_target: Ops,
+    told: ToldOps,
     scratch: &mut [u8],
 ) -> Result<Flows, Failed>
     requires scratch { length scratch.old ≡ CAPACITY }
-    requires ready_client { IsTrue (is_within at_client (W.ready net.old client)) }
-    requires ready_target { IsTrue (is_within at_target (W.ready net.old target)) }
-    requires apart { client ≢ target }
-    requires client { IsEnd (W.link net.old client) (W.place net.old client) (carried there.old back.old) }
-    requires target { IsEnd (W.link net.old target) (W.place net.old target) (carried back.old there.old) }
-    ensures client { IsEnd (W.link net.new client) (W.place net.new client) (carried there.new back.new) }
-    ensures target { IsEnd (W.link net.new target) (W.place net.new target) (carried back.new there.new) }
-    ensures work { Works W.Way client target net.old net.new }
-    ensures cause { OnErr result (OneRose (W.faults net.old) (W.faults net.new) client target) }
-    ensures calm { OnOk result (BothSame (W.faults net.old) (W.faults net.new) client target) }
+    requires ready_client { IsTrue (is_within told.client (W.ready net.old links.client)) }
+    requires ready_target { IsTrue (is_within told.target (W.ready net.old links.target)) }
+    requires apart { links.client ≢ links.target }
+    requires client { IsEnd (W.link net.old links.client) (W.place net.old links.client) (carried there.old back.old) }
+    requires target { IsEnd (W.link net.old links.target) (W.place net.old links.target) (carried back.old there.old) }
+    ensures client { IsEnd (W.link net.new links.client) (W.place net.new links.client) (carried there.new back.new) }
+    ensures target { IsEnd (W.link net.new links.target) (W.place net.new links.target) (carried back.new there.new) }
+    ensures work { Works W.Way links.client links.target net.old net.new }
+    ensures cause { OnErr result (OneRose (W.faults net.old) (W.faults net.new) links.client links.target) }
+    ensures calm { OnOk result (BothSame (W.faults net.old) (W.faults net.new) links.client links.target) }
 {
-    let flows = carry_both(
-        way, net, client, target, there, back, at_client, at_target, scratch,
-    )?;
-    pass_ends(way, net, client, target, there, back)?;
+    let flows = carry_both(way, net, links, there, back, told, scratch)?;
+    pass_ends(way, net, links, there, back)?;
     Ok(flows)
 }

@@ -17,6 +17,7 @@ ghost use Rattle.nio_serve.specs.declared.serving.ServeError.TheVariants.{NetFau
 
 use crate::board::{Board, Port, Refused};
 use crate::connections::Connections;
+use crate::link::ToldOps;
 use crate::serving::ServeError;
 use crate::way::Way;
 use nio_base::{ChanNo, Kind, Ops};
@@ -180,18 +181,17 @@ impl<'a> Proxy<'a> {
     }
 
     // Does what the links of one connection were told ready for, and what comes of it for the table.
-    fn serve_links<N, W: Way<N>>(
+    fn serve_connection<N, W: Way<N>>(
         &mut self,
         way: &mut W,
         net: &mut N,
         number: usize,
-        at_client: Ops,
-        at_target: Ops,
+        told: ToldOps,
         scratch: &mut [u8],
     ) -> Result<(), ServeError>
         requires scratch { length scratch.old ≡ CAPACITY }
-        requires ready_client { IsTrue (is_within at_client (W.ready net.old (client_of number))) }
-        requires ready_target { IsTrue (is_within at_target (W.ready net.old (target_of number))) }
+        requires ready_client { IsTrue (is_within told.client (W.ready net.old (client_of number))) }
+        requires ready_target { IsTrue (is_within told.target (W.ready net.old (target_of number))) }
         requires served { AreServed (W.link net.old) (W.place net.old) self.old.connections }
         requires watched { WatchesAll self.old.board self.old.connections }
         ensures serving { Serving W.Way net.old net.new self.old.connections self.new.connections }
@@ -202,15 +202,10 @@ impl<'a> Proxy<'a> {
         ensures cause { result ≢ Err NetFault }
         ensures watching { Watching self.old.board self.new.board self.new.connections result }
     {
-        match self.connections.serve(
-            way,
-            net,
-            &mut self.board,
-            number,
-            at_client,
-            at_target,
-            scratch,
-        ) {
+        match self
+            .connections
+            .serve(way, net, &mut self.board, number, told, scratch)
+        {
             Ok(()) => Ok(()),
             Err(Refused) => Err(ServeError::Memory),
         }
@@ -247,16 +242,28 @@ impl<'a> Proxy<'a> {
         }
         let number = number_of(chan);
         if chan.0 % 2 == 0 {
-            self.serve_links(way, net, number, Ops::NONE, ops, scratch)
+            let told = ToldOps {
+                client: Ops::NONE,
+                target: ops,
+            };
+            self.serve_connection(way, net, number, told, scratch)
         } else if next.0.0 as usize == 2 * number + 2 {
-            self.serve_links(way, net, number, ops, next.1, scratch)
+            let told = ToldOps {
+                client: ops,
+                target: next.1,
+            };
+            self.serve_connection(way, net, number, told, scratch)
         } else {
-            self.serve_links(way, net, number, ops, Ops::NONE, scratch)
+            let told = ToldOps {
+                client: ops,
+                target: Ops::NONE,
+            };
+            self.serve_connection(way, net, number, told, scratch)
         }
     }
 
-    // Does what a selection told: serves each connection once, with what was told first of each of its links. It may
-    // not be ready any more for what was told of it again; the next selection tells that if it is.
+    // Does what a selection told: serves each connection once, with what was told first of each of its links. A link
+    // told of twice may no longer be ready the second time; if it is, the next selection tells of it again.
     fn serve_all<R: Wait, N, W: Way<N>>(
         &mut self,
         rt: &R,
@@ -343,7 +350,7 @@ impl<'a> Proxy<'a> {
         }
         let number = number_of(chan);
         match self.connections.begin(way, net, &mut self.board, number) {
-            Ok(()) => self.serve_links(way, net, number, Ops::NONE, Ops::NONE, scratch),
+            Ok(()) => self.serve_connection(way, net, number, ToldOps::NOTHING, scratch),
             Err(Refused) => Err(ServeError::Memory),
         }
     }

@@ -23,7 +23,7 @@ ghost use Rattle.nio_serve.specs.Slots.{IsBroken, IsRelaying, IsSlot, IsSlotOf, 
 ghost use Rattle.nio_serve.specs.Slots.{has_ended, has_faulted, was_accepted};
 
 use crate::board::{Board, Port, Refused};
-use crate::link::{Flows, serve_links};
+use crate::link::{Flows, Links, ToldOps, serve_links};
 use crate::spare::Spare;
 use crate::way::Way;
 use nio_base::{Addr, ChanNo, Kind, Ops};
@@ -112,43 +112,39 @@ impl Relay {
         &mut self,
         way: &mut W,
         net: &mut N,
-        client: ChanNo,
-        target: ChanNo,
-        at_client: Ops,
-        at_target: Ops,
+        links: Links,
+        told: ToldOps,
         scratch: &mut [u8],
     ) -> Result<(), Failed>
         requires scratch { length scratch.old ≡ CAPACITY }
-        requires apart { client ≢ target }
-        requires ready_client { IsTrue (is_within at_client (W.ready net.old client)) }
-        requires ready_target { IsTrue (is_within at_target (W.ready net.old target)) }
-        requires relaying { IsRelaying self.old.stage self.old.there self.old.back (W.link net.old client)
-            (W.link net.old target) (W.place net.old client) (W.place net.old target) }
+        requires apart { links.client ≢ links.target }
+        requires ready_client { IsTrue (is_within told.client (W.ready net.old links.client)) }
+        requires ready_target { IsTrue (is_within told.target (W.ready net.old links.target)) }
+        requires relaying { IsRelaying self.old.stage self.old.there self.old.back (W.link net.old links.client)
+            (W.link net.old links.target) (W.place net.old links.client) (W.place net.old links.target) }
         ensures relaying { OnOk result (IsRelaying self.new.stage self.new.there self.new.back
-            (W.link net.new client) (W.link net.new target) (W.place net.new client) (W.place net.new target)) }
+            (W.link net.new links.client) (W.link net.new links.target) (W.place net.new links.client) (W.place net.new links.target)) }
         ensures broken { OnErr result (IsBroken self.new.there self.new.back
-            (W.link net.new client) (W.link net.new target) (W.place net.new client)) }
+            (W.link net.new links.client) (W.link net.new links.target) (W.place net.new links.client)) }
         ensures role { (to : Addr) → target_role self.new.stage to ≡ target_role self.old.stage to }
         ensures asked { OnErr result (IsAsked self.new.stage) }
-        ensures work { Works W.Way client target net.old net.new }
-        ensures cause { OnErr result (OneRose (W.faults net.old) (W.faults net.new) client target) }
-        ensures calm { OnOk result (BothSame (W.faults net.old) (W.faults net.new) client target) }
+        ensures work { Works W.Way links.client links.target net.old net.new }
+        ensures cause { OnErr result (OneRose (W.faults net.old) (W.faults net.new) links.client links.target) }
+        ensures calm { OnOk result (BothSame (W.faults net.old) (W.faults net.new) links.client links.target) }
     {
         match self.stage {
             Stage::Accepted => {}
             Stage::Connecting => {
-                self.stage = Stage::after(connect(way, net, target, at_target)?);
+                self.stage = Stage::after(connect(way, net, links.target, told.target)?);
             }
             Stage::Connected => {
                 self.flows = serve_links(
                     way,
                     net,
-                    client,
-                    target,
+                    links,
                     &mut self.there,
                     &mut self.back,
-                    at_client,
-                    at_target,
+                    told,
                     scratch,
                 )?;
             }
@@ -158,15 +154,15 @@ impl Relay {
 }
 
 /// Closes two links.
-pub(crate) fn close_links<N, W: Way<N>>(way: &mut W, net: &mut N, client: ChanNo, target: ChanNo)
-    requires apart { client ≢ target }
+pub(crate) fn close_links<N, W: Way<N>>(way: &mut W, net: &mut N, links: Links)
+    requires apart { links.client ≢ links.target }
     ensures quiet { IsQuiet W.Way net.old net.new }
-    ensures places { (c : ChanNo) → c ≢ client → c ≢ target → W.place net.new c ≡ W.place net.old c }
-    ensures client { W.place net.new client ≡ place_after_close (W.place net.old client) }
-    ensures target { IsVacant (W.place net.new target).standing }
+    ensures places { (c : ChanNo) → c ≢ links.client → c ≢ links.target → W.place net.new c ≡ W.place net.old c }
+    ensures client { W.place net.new links.client ≡ place_after_close (W.place net.old links.client) }
+    ensures target { IsVacant (W.place net.new links.target).standing }
 {
-    way.close(net, client);
-    way.close(net, target);
+    way.close(net, links.client);
+    way.close(net, links.target);
 }
 
 // Closes both links of a connection, and watches them no longer. Its buffers are kept for another one.
@@ -175,18 +171,17 @@ fn hang_up<N, W: Way<N>>(
     net: &mut N,
     board: &mut Board<'_>,
     spare: &mut Spare,
-    client: ChanNo,
-    target: ChanNo,
+    links: Links,
     relay: Relay,
 )
-    requires apart { client ≢ target }
+    requires apart { links.client ≢ links.target }
     ensures quiet { IsQuiet W.Way net.old net.new }
-    ensures places { (c : ChanNo) → c ≢ client → c ≢ target → W.place net.new c ≡ W.place net.old c }
-    ensures client { W.place net.new client ≡ place_after_close (W.place net.old client) }
-    ensures target { IsVacant (W.place net.new target).standing }
+    ensures places { (c : ChanNo) → c ≢ links.client → c ≢ links.target → W.place net.new c ≡ W.place net.old c }
+    ensures client { W.place net.new links.client ≡ place_after_close (W.place net.old links.client) }
+    ensures target { IsVacant (W.place net.new links.target).standing }
     ensures board { IsSameBoard board.old board.new }
 {
-    close_links(way, net, client, target);
+    close_links(way, net, links);
     board.unwatch(relay.client.port);
     board.unwatch(relay.target.port);
     spare.give(relay.there);
@@ -215,33 +210,32 @@ fn settle<N, W: Way<N>>(
     net: &mut N,
     board: &mut Board<'_>,
     spare: &mut Spare,
-    client: ChanNo,
-    target: ChanNo,
+    links: Links,
     relay: Relay,
     served: Result<(), Failed>,
 ) -> Slot
-    requires apart { client ≢ target }
+    requires apart { links.client ≢ links.target }
     requires there { IsLawful relay.there }
     requires back { IsLawful relay.back }
     requires asked { OnErr served (IsAsked relay.stage) }
     requires relaying { OnOk served (IsRelaying relay.stage relay.there relay.back
-        (W.link net.old client) (W.link net.old target) (W.place net.old client) (W.place net.old target)) }
+        (W.link net.old links.client) (W.link net.old links.target) (W.place net.old links.client) (W.place net.old links.target)) }
     requires broken { OnErr served (IsBroken relay.there relay.back
-        (W.link net.old client) (W.link net.old target) (W.place net.old client)) }
-    ensures slot { IsSlot (Some result) (W.link net.new client) (W.link net.new target) (W.place net.new client)
-        (W.place net.new target) }
+        (W.link net.old links.client) (W.link net.old links.target) (W.place net.old links.client)) }
+    ensures slot { IsSlot (Some result) (W.link net.new links.client) (W.link net.new links.target) (W.place net.new links.client)
+        (W.place net.new links.target) }
     ensures roles { (to : Addr) (r s : Role) → HasRoles to (Some (Live relay)) r s → HasRoles to (Some result) r s }
     ensures stands { IsTrue (was_accepted (Some result)) }
     ensures faulty { IsTrue (has_faulted (Some result)) ↔ IsErr served }
     ensures quiet { IsQuiet W.Way net.old net.new }
-    ensures places { (c : ChanNo) → c ≢ client → c ≢ target → W.place net.new c ≡ W.place net.old c }
+    ensures places { (c : ChanNo) → c ≢ links.client → c ≢ links.target → W.place net.new c ≡ W.place net.old c }
     ensures board { IsSameBoard board.old board.new }
 {
     if served.is_err() {
-        hang_up(way, net, board, spare, client, target, relay);
+        hang_up(way, net, board, spare, links, relay);
         Slot::Faulted
     } else if relay.there.is_shut() && relay.back.is_shut() {
-        hang_up(way, net, board, spare, client, target, relay);
+        hang_up(way, net, board, spare, links, relay);
         Slot::Clean
     } else {
         Slot::Live(relay)
@@ -254,33 +248,31 @@ pub(crate) fn serve_relay<N, W: Way<N>>(
     net: &mut N,
     board: &mut Board<'_>,
     spare: &mut Spare,
-    client: ChanNo,
-    target: ChanNo,
+    links: Links,
     relay: Relay,
-    at_client: Ops,
-    at_target: Ops,
+    told: ToldOps,
     scratch: &mut [u8],
 ) -> Slot
     requires scratch { length scratch.old ≡ CAPACITY }
-    requires apart { client ≢ target }
-    requires ready_client { IsTrue (is_within at_client (W.ready net.old client)) }
-    requires ready_target { IsTrue (is_within at_target (W.ready net.old target)) }
-    requires relaying { IsRelaying relay.stage relay.there relay.back (W.link net.old client)
-        (W.link net.old target) (W.place net.old client) (W.place net.old target) }
-    ensures slot { IsSlot (Some result) (W.link net.new client) (W.link net.new target) (W.place net.new client)
-        (W.place net.new target) }
+    requires apart { links.client ≢ links.target }
+    requires ready_client { IsTrue (is_within told.client (W.ready net.old links.client)) }
+    requires ready_target { IsTrue (is_within told.target (W.ready net.old links.target)) }
+    requires relaying { IsRelaying relay.stage relay.there relay.back (W.link net.old links.client)
+        (W.link net.old links.target) (W.place net.old links.client) (W.place net.old links.target) }
+    ensures slot { IsSlot (Some result) (W.link net.new links.client) (W.link net.new links.target) (W.place net.new links.client)
+        (W.place net.new links.target) }
     ensures roles { (to : Addr) (r s : Role) → HasRoles to (Some (Live relay)) r s → HasRoles to (Some result) r s }
     ensures stands { IsTrue (was_accepted (Some result)) }
-    ensures faulty { IsTrue (has_faulted (Some result)) → OneRose (W.faults net.old) (W.faults net.new) client target }
-    ensures calm { IsFalse (has_faulted (Some result)) → BothSame (W.faults net.old) (W.faults net.new) client target }
-    ensures work { Works W.Way client target net.old net.new }
+    ensures faulty { IsTrue (has_faulted (Some result)) → OneRose (W.faults net.old) (W.faults net.new) links.client links.target }
+    ensures calm { IsFalse (has_faulted (Some result)) → BothSame (W.faults net.old) (W.faults net.new) links.client links.target }
+    ensures work { Works W.Way links.client links.target net.old net.new }
     ensures board { IsSameBoard board.old board.new }
 {
     let mut relay = relay;
-    let served = relay.advance(way, net, client, target, at_client, at_target, scratch);
+    let served = relay.advance(way, net, links, told, scratch);
     relay.there.law();
     relay.back.law();
-    settle(way, net, board, spare, client, target, relay, served)
+    settle(way, net, board, spare, links, relay, served)
 }
 
 // A quarter of a direction's room.
@@ -380,14 +372,13 @@ fn open_relay<R: Wait>(
     alloc: Global,
     board: &mut Board<'_>,
     spare: &mut Spare,
-    client: ChanNo,
-    target: ChanNo,
+    links: Links,
 ) -> Result<Relay, Refused>
     ensures there { IfOk result (λ relay. relay.there ≡ fresh) }
     ensures back { IfOk result (λ relay. relay.back ≡ fresh) }
     ensures stage { IfOk result (λ relay. relay.stage ≡ stage.Accepted) }
     ensures seat { IsSameSeat board.old board.new }
-    ensures watched { OnOk result (board.new.registered ≡ target.0 + 1) }
+    ensures watched { OnOk result (board.new.registered ≡ links.target.0 + 1) }
     ensures within { board.new.registered ≤ board.old.registered + 2 }
 {
     let Ok(there) = spare.take(alloc) else {
@@ -396,8 +387,8 @@ fn open_relay<R: Wait>(
     let Ok(back) = spare.take(alloc) else {
         return Err(Refused);
     };
-    let client = board.watch(rt, client, Kind::Stream, Ops::NONE)?;
-    let target = board.watch(rt, target, Kind::Stream, Ops::NONE)?;
+    let client = board.watch(rt, links.client, Kind::Stream, Ops::NONE)?;
+    let target = board.watch(rt, links.target, Kind::Stream, Ops::NONE)?;
     Ok(Relay {
         there,
         back,
@@ -421,32 +412,31 @@ fn connect_relay<N, W: Way<N>>(
     net: &mut N,
     board: &mut Board<'_>,
     spare: &mut Spare,
-    client: ChanNo,
-    target: ChanNo,
+    links: Links,
     relay: Relay,
     to: Addr,
 ) -> Slot
-    requires apart { client ≢ target }
+    requires apart { links.client ≢ links.target }
     requires stage { relay.stage ≡ stage.Accepted }
-    requires slot { IsSlotOf to (Some (Live relay)) (W.link net.old client) (W.link net.old target)
-        (W.place net.old client) (W.place net.old target) }
-    ensures slot { IsSlotOf to (Some result) (W.link net.new client) (W.link net.new target) (W.place net.new client)
-        (W.place net.new target) }
+    requires slot { IsSlotOf to (Some (Live relay)) (W.link net.old links.client) (W.link net.old links.target)
+        (W.place net.old links.client) (W.place net.old links.target) }
+    ensures slot { IsSlotOf to (Some result) (W.link net.new links.client) (W.link net.new links.target) (W.place net.new links.client)
+        (W.place net.new links.target) }
     ensures stands { IsTrue (was_accepted (Some result)) }
-    ensures faulty { IsTrue (has_faulted (Some result)) → Rose (W.faults net.old target) (W.faults net.new target) }
-    ensures calm { IsFalse (has_faulted (Some result)) → W.faults net.new target ≡ W.faults net.old target }
-    ensures begins { Begins W.Way client target net.old net.new }
+    ensures faulty { IsTrue (has_faulted (Some result)) → Rose (W.faults net.old links.target) (W.faults net.new links.target) }
+    ensures calm { IsFalse (has_faulted (Some result)) → W.faults net.new links.target ≡ W.faults net.old links.target }
+    ensures begins { Begins W.Way links.client links.target net.old net.new }
     ensures accepted { W.accepted net.new ≡ W.accepted net.old }
     ensures board { IsSameBoard board.old board.new }
 {
     let mut relay = relay;
-    match way.connect(net, target, to) {
+    match way.connect(net, links.target, to) {
         Some(Ok(is_made)) => {
             relay.stage = Stage::after(is_made);
             Slot::Live(relay)
         }
         Some(Err(Failed)) => {
-            hang_up(way, net, board, spare, client, target, relay);
+            hang_up(way, net, board, spare, links, relay);
             Slot::Faulted
         }
         None => Slot::Live(relay),
@@ -459,25 +449,24 @@ pub(crate) fn begin_relay<N, W: Way<N>>(
     net: &mut N,
     board: &mut Board<'_>,
     spare: &mut Spare,
-    client: ChanNo,
-    target: ChanNo,
+    links: Links,
     relay: Relay,
     to: Addr,
 ) -> Slot
-    requires apart { client ≢ target }
-    requires slot { IsSlotOf to (Some (Live relay)) (W.link net.old client) (W.link net.old target)
-        (W.place net.old client) (W.place net.old target) }
-    ensures slot { IsSlotOf to (Some result) (W.link net.new client) (W.link net.new target) (W.place net.new client)
-        (W.place net.new target) }
+    requires apart { links.client ≢ links.target }
+    requires slot { IsSlotOf to (Some (Live relay)) (W.link net.old links.client) (W.link net.old links.target)
+        (W.place net.old links.client) (W.place net.old links.target) }
+    ensures slot { IsSlotOf to (Some result) (W.link net.new links.client) (W.link net.new links.target) (W.place net.new links.client)
+        (W.place net.new links.target) }
     ensures stands { IsTrue (was_accepted (Some result)) }
-    ensures faulty { IsTrue (has_faulted (Some result)) → Rose (W.faults net.old target) (W.faults net.new target) }
-    ensures calm { IsFalse (has_faulted (Some result)) → W.faults net.new target ≡ W.faults net.old target }
-    ensures begins { Begins W.Way client target net.old net.new }
+    ensures faulty { IsTrue (has_faulted (Some result)) → Rose (W.faults net.old links.target) (W.faults net.new links.target) }
+    ensures calm { IsFalse (has_faulted (Some result)) → W.faults net.new links.target ≡ W.faults net.old links.target }
+    ensures begins { Begins W.Way links.client links.target net.old net.new }
     ensures accepted { W.accepted net.new ≡ W.accepted net.old }
     ensures board { IsSameBoard board.old board.new }
 {
     match relay.stage {
-        Stage::Accepted => connect_relay(way, net, board, spare, client, target, relay, to),
+        Stage::Accepted => connect_relay(way, net, board, spare, links, relay, to),
         Stage::Connecting | Stage::Connected => Slot::Live(relay),
     }
 }
@@ -491,29 +480,28 @@ pub(crate) fn take_on<R: Wait, N, W: Way<N>>(
     net: &mut N,
     board: &mut Board<'_>,
     spare: &mut Spare,
-    client: ChanNo,
-    target: ChanNo,
+    links: Links,
 ) -> (Slot, Result<(), Refused>)
-    requires apart { client ≢ target }
-    requires client_unused { IsUnused (W.link net.old client) }
-    requires target_unused { IsUnused (W.link net.old target) }
-    requires accepted { W.place net.old client ≡ record { role = role.Accepted listener; standing = Linked } }
-    requires unasked { W.place net.old target ≡ unused }
-    ensures slot { (to : Addr) → IsSlotOf to (Some result.0) (W.link net.new client) (W.link net.new target)
-        (W.place net.new client) (W.place net.new target) }
+    requires apart { links.client ≢ links.target }
+    requires client_unused { IsUnused (W.link net.old links.client) }
+    requires target_unused { IsUnused (W.link net.old links.target) }
+    requires accepted { W.place net.old links.client ≡ record { role = role.Accepted listener; standing = Linked } }
+    requires unasked { W.place net.old links.target ≡ unused }
+    ensures slot { (to : Addr) → IsSlotOf to (Some result.0) (W.link net.new links.client) (W.link net.new links.target)
+        (W.place net.new links.client) (W.place net.new links.target) }
     ensures stands { IsTrue (was_accepted (Some result.0)) }
     ensures unfaulted { IsFalse (has_faulted (Some result.0)) }
-    ensures calm { W.faults net.new target ≡ W.faults net.old target }
-    ensures begins { Begins W.Way client target net.old net.new }
+    ensures calm { W.faults net.new links.target ≡ W.faults net.old links.target }
+    ensures begins { Begins W.Way links.client links.target net.old net.new }
     ensures accepted { W.accepted net.new ≡ W.accepted net.old }
     ensures seat { IsSameSeat board.old board.new }
-    ensures watched { OnOk result.1 (board.new.registered ≡ target.0 + 1) }
+    ensures watched { OnOk result.1 (board.new.registered ≡ links.target.0 + 1) }
     ensures within { board.new.registered ≤ board.old.registered + 2 }
 {
-    match open_relay(rt, alloc, board, spare, client, target) {
+    match open_relay(rt, alloc, board, spare, links) {
         Ok(relay) => (Slot::Live(relay), Ok(())),
         Err(Refused) => {
-            way.close(net, client);
+            way.close(net, links.client);
             (Slot::Dropped, Err(Refused))
         }
     }

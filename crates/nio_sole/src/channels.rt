@@ -3,10 +3,11 @@ ghost use Rattle.std.specs.Prelude.{◌≡◌};
 ghost use Rattle.nio_plain.specs.Seq.Registering.{given_or_none};
 ghost use Rattle.nio_sole.specs.Asked.{MayAsk, Asks};
 
-use crate::replies::{channel_reply, find_reply, mode_reply, register_reply, yes_or_no};
+use crate::replies::{channel_reply, find_reply, mode_reply, register_reply};
 use nio_base::{CallerNo, ChanNo, Kind, Ops, SelNo};
 use nio_channel::{try_register, try_set_blocking};
 use nio_language::{Call, Reply};
+use nio_plain::replies::yes_or_no;
 use nio_words::{Pass, Words};
 
 #[tactic(auto, unfolding(nio_serial::specs::Lines::call_plan))]

@@ -3,9 +3,10 @@ ghost use Rattle.std.specs.Prelude.{◌≡◌};
 ghost use Rattle.nio_steps.specs.Names.{key};
 ghost use Rattle.nio_sole.specs.Asked.{MayAsk, Asks};
 
-use crate::replies::{put_reply, set_reply, yes_or_no};
+use crate::replies::{put_reply, set_reply};
 use nio_base::{CallerNo, KeyId, KeyNo, Ops, SelNo};
 use nio_language::{Call, Reply};
+use nio_plain::replies::yes_or_no;
 use nio_words::{Pass, Words};
 
 // The key that is named so.

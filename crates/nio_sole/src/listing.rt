@@ -1,12 +1,12 @@
 //! The calls of lines that list a selector's keys.
 ghost use Rattle.std.specs.Prelude.{◌≡◌, IfOk, map};
-ghost use Rattle.nio_plain.specs.Seq.Listing.{names_or_none};
 ghost use Rattle.nio_serial.specs.Replies.{key_id};
 ghost use Rattle.nio_sole.specs.Makes.{MayMake, MakesCall};
 
 use crate::desk::Desk;
 use nio_base::{CallerNo, KeyId, KeyNo, SelNo};
-use nio_language::{Call, Names, Reply};
+use nio_language::{Call, Reply};
+use nio_plain::replies::names_or_none;
 use nio_select::ListError;
 use nio_words::Words;
 use std::alloc::{AllocError, Global};
@@ -63,14 +63,4 @@ fn ids(alloc: Global, keys: &[KeyNo]) -> Result<Vec<KeyId>, AllocError>
             serial: key.serial,
         })
         .collect(alloc)
-}
-
-fn names_or_none(names: Vec<KeyId>) -> Reply
-    ensures { result ≡ names_or_none names.items }
-{
-    if names.is_empty() {
-        Reply::None
-    } else {
-        Reply::Names(Names::from_vec(names))
-    }
 }

@@ -1,7 +1,5 @@
 //! The reply of a line to what its call answers.
 ghost use Rattle.std.specs.Prelude.{◌≡◌, ◌==◌, if◌then◌else◌, take};
-ghost use Rattle.nio_plain.specs.Seq.Replies.{yes_or_no};
-ghost use Rattle.nio_plain.specs.Seq.Piping.{not_now};
 ghost use Rattle.nio_serial.specs.Replies.{key_refusal, channel_refusal, set_reply, put_reply, find_reply};
 ghost use Rattle.nio_serial.specs.Replies.{channel_reply, mode_reply, register_reply, closed_reply, pipe_refusal};
 ghost use Rattle.nio_serial.specs.Replies.{selector_reply};
@@ -10,13 +8,8 @@ ghost use Rattle.nio_sole.specs.PipeReplies.{read_reply, read_says, write_reply,
 use nio_base::{ChanNo, KeyId, KeyNo, Ops, SelNo};
 use nio_language::{Bytes, Reply};
 use nio_pipe::{PipeError, PipeRead, PipeWrite};
+use nio_plain::replies::not_now;
 use nio_steps::{ChannelError, KeyError, SelectorsSpent};
-
-pub(crate) fn yes_or_no(answer: bool) -> Reply
-    ensures { result ≡ yes_or_no answer }
-{
-    if answer { Reply::Yes } else { Reply::No }
-}
 
 fn key_refusal(refusal: KeyError) -> Reply
     ensures { result ≡ key_refusal refusal }
@@ -165,17 +158,6 @@ fn write_says(write: PipeWrite, blocking: bool) -> Reply
     match write {
         PipeWrite::Bytes(count) => Reply::Number(count as u64),
         PipeWrite::NotYet => not_now(blocking),
-    }
-}
-
-// Nothing can be read or written now.
-fn not_now(blocking: bool) -> Reply
-    ensures { result ≡ not_now blocking }
-{
-    if blocking {
-        Reply::Again
-    } else {
-        Reply::Number(0)
     }
 }
 

@@ -1,5 +1,5 @@
 //! The calls of lines that begin a selection, tell it what is ready, and leave it.
-ghost use Rattle.std.specs.Prelude.{◌≡◌, ◌≤◌, [], Some, length};
+ghost use Rattle.std.specs.Prelude.{◌≡◌, ◌≤◌, [], Some};
 ghost use Rattle.std.specs.Vec.{vec_capacity};
 ghost use Rattle.nio_plain.specs.Seq.Selections.{mode_of};
 ghost use Rattle.nio_words.specs.Passes.{limits_of};
@@ -10,6 +10,7 @@ use crate::pairs::{list_pairs, pairs_by_index};
 use nio_base::{CallerNo, KeyId, Ops, SelNo};
 use nio_history::Mode;
 use nio_language::{Call, Pairs, Reply, Waiting};
+use nio_plain::mode_of;
 use nio_select::{After, BeginError, Told, try_begin};
 use nio_words::Words;
 use std::alloc::{AllocError, Global};
@@ -85,17 +86,6 @@ fn begin_in(
         Err(BeginError::ClosedSelector) => Ok(Reply::ClosedSelector),
         Err(BeginError::Busy) => Ok(Reply::Busy),
         Err(BeginError::Memory) => Err(AllocError),
-    }
-}
-
-// How long the selection waits: a negative time is refused.
-fn mode_of(waiting: Waiting) -> Option<Mode>
-    ensures { result ≡ mode_of waiting }
-{
-    match waiting {
-        Waiting::Now => Some(Mode::Now),
-        Waiting::Wait => Some(Mode::Wait),
-        Waiting::For(ms) => Mode::waiting(ms).ok(),
     }
 }
 

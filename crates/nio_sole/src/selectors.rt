@@ -1,9 +1,10 @@
 //! The calls of lines that open a selector, wake and interrupt.
 ghost use Rattle.nio_sole.specs.Asked.{MayAsk, Asks};
 
-use crate::replies::{selector_reply, yes_or_no};
+use crate::replies::selector_reply;
 use nio_base::{CallerNo, SelNo};
 use nio_language::{Call, Reply};
+use nio_plain::replies::yes_or_no;
 use nio_words::{Pass, Words};
 
 #[tactic(auto, unfolding(nio_serial::specs::Lines::call_plan))]

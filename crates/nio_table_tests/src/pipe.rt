@@ -330,7 +330,10 @@ fn parted(
     requires { MayUse w.now p.now ZERO pipe.source pipe.sink }
     ensures { IfOk result (λ ends. HasBoth w.now p.now ends.0 ends.1) }
 {
-    pipe.part(alloc)
+    let Ok(ends) = pipe.part(alloc) else {
+        return Err(AllocError);
+    };
+    Ok(ends)
 }
 
 #[test]

@@ -1,12 +1,10 @@
 -- How the calls of a text grow by a line; and that a text is a timed script, or has one first line that isn't in the
 -- grammar, and not both.
-use Rattle.std.proofs.Common.{◌≡◌, ℕ, ◌+◌, List, [], ◌∷◌, ◌++◌, length, drop, take, inl, inr, sym, ◌∙◌, subst}
-use Rattle.std.proofs.Common.{length-append, arith}
+use Rattle.std.proofs.Common.{◌≡◌, ℕ, ◌+◌, List, ◌++◌, drop, take, inl, inr, sym, ◌∙◌}
 use Rattle.std.specs.Prelude.{All}
-use Rattle.std.proofs.Math.Seq.{get_or-append_seam}
 use Rattle.std.proofs.lemmas.List.Elements.{All-nil, All-cons}
 use Rattle.nio_language.specs.Script.{lines_of}
-use Rattle.nio_script.proofs.FirstBreak.{IsBreak, unbroken, one_break}
+use Rattle.nio_script.proofs.FirstBreak.{IsBreak, break_of_all, unbroken, one_break}
 use Rattle.nio_script.proofs.Lines.{IsNext, parts, number_of_next}
 use Rattle.nio_timed.specs.Lines.{AreTimedLines, no_lines, blank_line, timed_line, IsFirstBadTimed, IsInTimedGrammar}
 use Rattle.nio_timed.specs.Lines.{IsTimedScript}
@@ -42,17 +40,7 @@ first_bad_here {lines = lines} {i = i} {line = line} are next read bad = record 
 }
 
 break_of : (text : List ℕ) (n : ℕ) → IsFirstBadTimed text n → IsBreak (All IsInTimedGrammar) (lines_of text) n
-break_of text n bad = record {
-  item = bad.line;
-  before = bad.before;
-  after = bad.after;
-  parts = bad.lines;
-  number = bad.number;
-  good = bad.good;
-  bad = λ rest good.
-      bad.bad (subst IsInTimedGrammar (get_or-append_seam bad.before bad.line rest [])
-      (good (length bad.before) [] (omega (arith, length-append bad.before (bad.line ∷ rest)))));
-}
+break_of text n bad = break_of_all IsInTimedGrammar bad.before bad.after bad.lines bad.number bad.good bad.bad
 
 pub script_not_bad : (text : List ℕ) (calls : List TimedLine) (n : ℕ) → IsTimedScript text calls
     → IsFirstBadTimed text n → ⊥

@@ -6,13 +6,10 @@ ghost use Rattle.nio_timed.specs.Lines.{IsTimedLine};
 ghost use Rattle.nio_timed.specs.Reading.{IsGroupLineOf};
 
 use crate::call::{TimedCall, TimedLine};
-use crate::own::{read_words, words_of};
+use crate::own::read_words;
 use nio_base::CallerNo;
-use nio_language::{Call, ParseError, Parsed, parse_line};
+use nio_language::{Call, LINE_LIMIT, ParseError, Parsed, parse_line, words_of};
 use std::alloc::{AllocError, Global};
-
-/// The most bytes of a line that isn't blank.
-const LINE_LIMIT: usize = 4096;
 
 /// The caller and the call of a line.
 pub(crate) fn read_timed_line(alloc: Global, line: &[u8]) -> Result<Option<TimedLine>, AllocError>

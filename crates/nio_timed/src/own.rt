@@ -1,27 +1,11 @@
 //! Reading the lines that scripts don't have: `start-timed`, `expire` and `next`.
-ghost use Rattle.std.specs.Prelude.{◌≡◌, ◌==◌, ◌≤◌, ◌<◌, ◌∷◌, ◌↔◌, ⊤, IfOk, IsTrue, map};
-ghost use Rattle.std.specs.Fmt.{decimal};
-ghost use Rattle.std.specs.List.{slice_split};
-ghost use Rattle.nio_language.specs.GroupWords.{group_channel_word, operation_kind_word};
+ghost use Rattle.std.specs.Prelude.{◌≡◌, ◌↔◌, IsTrue, map};
 ghost use Rattle.nio_language.specs.Reading.{Reads};
-ghost use Rattle.nio_language.specs.Words.{IsNumber, caller_word};
 ghost use Rattle.nio_timed.specs.Lines.{IsTimedStart, start_words, timed_line_words, timed_words};
 ghost use Rattle.nio_timed.specs.Reading.{IsOwnCall, IsOwnLine};
 
 use crate::call::{TimedCall, TimedLine, TimedStart};
-use nio_base::{CallerNo, GChan, OpKind};
-use nio_language::read_number;
-use std::alloc::{AllocError, Global};
-
-/// The largest number of a caller.
-const CALLER_MAX: u32 = 63;
-
-/// What stands between the spaces of a line, in order.
-pub(crate) fn words_of(alloc: Global, line: &[u8]) -> Result<Vec<&[u8]>, AllocError>
-    ensures { IfOk result (λ v. map (λ w. w.now) v.items ≡ slice_split (λ b. b == 32) line.now) }
-{
-    line.split(|byte| *byte == b' ').collect(alloc)
-}
+use nio_language::{read_caller, read_group_channel, read_number, read_operation_kind};
 
 /// The line that these words are.
 pub(crate) fn read_words(words: &[&[u8]]) -> Option<TimedLine>
@@ -61,8 +45,8 @@ fn read_start(args: &[&[u8]]) -> Option<TimedStart>
     let [chan, kind, len, now, limit] = args else {
         return None;
     };
-    let chan = read_channel(chan)?;
-    let kind = read_kind(kind)?;
+    let chan = read_group_channel(chan)?;
+    let kind = read_operation_kind(kind)?;
     let len = read_number(len, u64::from(u32::MAX))?;
     let now = read_number(now, u64::MAX)?;
     let limit = read_number(limit, u64::MAX)?;
@@ -73,40 +57,4 @@ fn read_start(args: &[&[u8]]) -> Option<TimedStart>
         now,
         limit,
     })
-}
-
-fn read_caller(word: &[u8]) -> Option<CallerNo>
-    ensures { Reads (λ t. t.0 < 64) caller_word word.now result }
-{
-    read_numbered(word, b't', CALLER_MAX).map(CallerNo)
-}
-
-fn read_channel(word: &[u8]) -> Option<GChan>
-    ensures { Reads (λ g. IsNumber g.0) group_channel_word word.now result }
-{
-    read_numbered(word, b'g', u32::MAX).map(GChan)
-}
-
-fn read_kind(word: &[u8]) -> Option<OpKind>
-    ensures { Reads (λ _. ⊤) operation_kind_word word.now result }
-{
-    match word {
-        b"accept" => Some(OpKind::Accept),
-        b"connect" => Some(OpKind::Connect),
-        b"read" => Some(OpKind::Read),
-        b"write" => Some(OpKind::Write),
-        _ => None,
-    }
-}
-
-/// A letter and a number that is at most `max`.
-fn read_numbered(word: &[u8], letter: u8, max: u32) -> Option<u32>
-    ensures { Reads (λ n. n ≤ max) (λ n. letter ∷ decimal n) word.now result }
-{
-    let (first, digits) = word.split_first()?;
-    if *first != letter {
-        return None;
-    }
-    let number = read_number(digits, u64::from(max))?;
-    Some(number as u32)
 }

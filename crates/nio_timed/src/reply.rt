@@ -1,7 +1,6 @@
 //! The replies of timed scripts, and which reply an answer of the group is.
 ghost use Rattle.std.specs.Prelude.{◌≡◌, ◌≢◌, IfOk, OnErr, OnOk};
 ghost use Rattle.nio_deadline.specs.Run as step;
-ghost use Rattle.nio_plain.specs.Seq.Grouping.{start_refused};
 ghost use Rattle.nio_plain.specs.Seq.Replies as plain;
 ghost use Rattle.nio_timed.specs.Called.{next_reply, timed_line_reply};
 ghost use Rattle.nio_timed.specs.declared.reply.TimedReply.TheVariants.{Script};
@@ -10,6 +9,7 @@ use nio_base::{GChan, OpNo};
 use nio_deadline::{TimedDone, TimedError, TimedResult};
 use nio_group::{NotRunning, ReportError, StartError};
 use nio_language::{GroupReply, Reply};
+use nio_plain::{group_replies, replies};
 use std::alloc::AllocError;
 
 /// A reply of a timed script.
@@ -30,19 +30,13 @@ pub enum TimedReply {
 pub(crate) fn opened(answer: Result<GChan, StartError>) -> TimedReply
     ensures { result ≡ timed_line_reply (step.opened answer) }
 {
-    match answer {
-        Ok(chan) => TimedReply::Script(Reply::Group(GroupReply::Channel(chan))),
-        Err(refusal) => TimedReply::Script(start_refusal(refusal)),
-    }
+    TimedReply::Script(group_replies::opened(answer))
 }
 
 pub(crate) fn bound(answer: Result<(), StartError>) -> TimedReply
     ensures { result ≡ timed_line_reply (step.bound answer) }
 {
-    match answer {
-        Ok(()) => TimedReply::Script(Reply::Ok),
-        Err(refusal) => TimedReply::Script(start_refusal(refusal)),
-    }
+    TimedReply::Script(group_replies::bound(answer))
 }
 
 pub(crate) fn started(answer: Result<OpNo, TimedError>) -> Result<TimedReply, AllocError>
@@ -56,20 +50,16 @@ pub(crate) fn started(answer: Result<OpNo, TimedError>) -> Result<TimedReply, Al
         Err(TimedError::LimitTooLong) => Ok(TimedReply::LimitTooLong),
         Err(TimedError::TimedOut) => Ok(TimedReply::TimedOut),
         Err(TimedError::Memory) => Err(AllocError),
-        Err(TimedError::Start(refusal)) => Ok(TimedReply::Script(start_refusal(refusal))),
+        Err(TimedError::Start(refusal)) => {
+            Ok(TimedReply::Script(group_replies::start_refusal(refusal)))
+        },
     }
 }
 
 pub(crate) fn reported(answer: Result<(), ReportError>) -> TimedReply
     ensures { result ≡ timed_line_reply (step.reported answer) }
 {
-    match answer {
-        Ok(()) => TimedReply::Script(Reply::Ok),
-        Err(ReportError::NotPending) => TimedReply::Script(Reply::Group(GroupReply::NotPending)),
-        Err(ReportError::WrongOutcome) => TimedReply::Script(Reply::Group(
-            GroupReply::WrongOutcome,
-        )),
-    }
+    TimedReply::Script(group_replies::reported(answer))
 }
 
 pub(crate) fn taken(answer: Option<TimedDone>) -> TimedReply
@@ -89,16 +79,13 @@ pub(crate) fn taken(answer: Option<TimedDone>) -> TimedReply
 pub(crate) fn finished(answer: Result<(), NotRunning>) -> TimedReply
     ensures { result ≡ timed_line_reply (step.finished answer) }
 {
-    match answer {
-        Ok(()) => TimedReply::Script(Reply::Ok),
-        Err(NotRunning) => TimedReply::Script(Reply::Group(GroupReply::NotRunning)),
-    }
+    TimedReply::Script(group_replies::finished(answer))
 }
 
 pub(crate) fn closed(was_open: bool) -> TimedReply
     ensures { result ≡ timed_line_reply (step.closed was_open) }
 {
-    TimedReply::Script(if was_open { Reply::Ok } else { Reply::Already })
+    TimedReply::Script(group_replies::closed(was_open))
 }
 
 pub(crate) fn next(deadline: Option<u64>) -> TimedReply
@@ -113,26 +100,5 @@ pub(crate) fn next(deadline: Option<u64>) -> TimedReply
 pub(crate) fn yes_or_no(yes: bool) -> TimedReply
     ensures { result ≡ Script (plain.yes_or_no yes) }
 {
-    TimedReply::Script(if yes { Reply::Yes } else { Reply::No })
-}
-
-fn start_refusal(refusal: StartError) -> Reply
-    ensures { result ≡ start_refused refusal }
-{
-    match refusal {
-        StartError::ShutdownGroup => Reply::Group(GroupReply::ShutdownGroup),
-        StartError::WrongKind => Reply::Group(GroupReply::WrongKind),
-        StartError::ClosedChannel => Reply::ClosedChannel,
-        StartError::AlreadyBound => Reply::Group(GroupReply::AlreadyBound),
-        StartError::AlreadyConnected => Reply::Group(GroupReply::AlreadyConnected),
-        StartError::ConnectionPending => Reply::Group(GroupReply::ConnectionPending),
-        StartError::NotYetConnected => Reply::Group(GroupReply::NotYetConnected),
-        StartError::NotYetBound => Reply::Group(GroupReply::NotYetBound),
-        StartError::ReadPending => Reply::Group(GroupReply::ReadPending),
-        StartError::WritePending => Reply::Group(GroupReply::WritePending),
-        StartError::AcceptPending => Reply::Group(GroupReply::AcceptPending),
-        StartError::OpsSpent => Reply::Group(GroupReply::OpsSpent),
-        StartError::FlightFull => Reply::Group(GroupReply::FlightFull),
-        StartError::ChannelsSpent => Reply::ChannelsSpent,
-    }
+    TimedReply::Script(replies::yes_or_no(yes))
 }

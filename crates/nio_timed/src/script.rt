@@ -1,13 +1,12 @@
 //! A whole text, read as a timed script.
-ghost use Rattle.std.specs.Prelude.{◌≡◌, ◌∷◌, ◌++◌, [], ℕ, map, IfOk, OnOk};
-ghost use Rattle.nio_language.specs.Script.{lines_of};
+ghost use Rattle.std.specs.Prelude.{◌≡◌, ◌∷◌, ◌++◌, [], ℕ, IfOk, OnOk};
 ghost use Rattle.nio_script.specs.Entries.{Adds};
 ghost use Rattle.nio_timed.specs.Lines.{AreTimedLines, IsFirstBadTimed, IsInTimedGrammar, IsTimedScript};
 
 use crate::call::TimedLine;
 use crate::line::read_timed_line;
 use nio_language::is_blank;
-use nio_script::ScriptError;
+use nio_script::{ScriptError, lines_of};
 use std::alloc::{AllocError, Global};
 
 /// The calls of a timed script.
@@ -15,7 +14,7 @@ pub fn parse_timed(alloc: Global, text: &[u8]) -> Result<Vec<TimedLine>, ScriptE
     ensures ok { IfOk result (λ calls. IsTimedScript text.now calls.items) }
     ensures bad { (line : ℕ) → result ≡ Err (ScriptError.BadLine line) → IsFirstBadTimed text.now line }
 {
-    let lines = lines(alloc, text)?;
+    let lines = lines_of(alloc, text)?;
     let mut calls = Vec::new(alloc);
     let mut number = 0;
     for line in &lines {
@@ -23,12 +22,6 @@ pub fn parse_timed(alloc: Global, text: &[u8]) -> Result<Vec<TimedLine>, ScriptE
         read_line(alloc, line, number, &mut calls)?;
     }
     Ok(calls)
-}
-
-fn lines(alloc: Global, text: &[u8]) -> Result<Vec<&[u8]>, AllocError>
-    ensures { IfOk result (λ lines. map (λ line. line.now) lines.items ≡ lines_of text.entry.now) }
-{
-    text.split(|byte| *byte == b'\n').collect(alloc)
 }
 
 // Reads one line, and adds its call to those before.

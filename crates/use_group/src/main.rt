@@ -56,7 +56,7 @@ fn main(rt: HostRuntime) -> anyhow::Result<()> {
         &rt,
         passes.as_mut_slice(),
         2,
-        &|_, pass| work(&rt, &group, &queue, pass, &reading, &NoGate, 0),
+        &|_, pass| drop(work(&rt, &group, &queue, pass, &reading, &NoGate, 0)),
     );
     let bytes = reading.bytes.load(Ordering::SeqCst);
     let ended = group.await_termination(&rt).is_terminated();

@@ -8,7 +8,7 @@ ghost use Rattle.nio_future.specs.Tickets.{AreTicketsOf};
 use nio_base::{GKind, OpKind, Outcome};
 use nio_future::{Desk, Hand, OpTicket, run_round};
 use nio_group::GroupLimits;
-use std::alloc::AllocGlobal;
+use std::alloc::{AllocError, AllocGlobal};
 use std::io::Print;
 use std::random::RandomSource;
 use std::sync::Wait;
@@ -43,7 +43,8 @@ where
     ensures tickets { IfOk result (λ hand. AreTicketsOf hand.desk hand.still.items) }
     ensures group { IfOk result (λ hand. hand.desk.group ≡ desk.group) }
 {
-    let hand = run_round(rt, Hand::new(rt.alloc(), desk, tickets)?)?;
+    let hand = Hand::new(rt.alloc(), desk, tickets).map_err(|_back| AllocError)?;
+    let hand = run_round(rt, hand)?;
     for (op, result) in &hand.ready {
         println!(rt; "operation {}: {result:?}", op.0)?;
     }

@@ -1,5 +1,7 @@
 //! Whether a caller may make a step.
-ghost use Rattle.std.specs.Prelude.{◌≡◌, ◌<◌, ◌*◌, ◌↔◌, ◌&&◌, ◌||◌, ℕ, IsTrue};
+ghost use Rattle.std.specs.Prelude.{◌≡◌, ◌<◌, ◌*◌, ◌↔◌, ◌&&◌, ◌||◌, ℕ, Bool, Option, IsTrue};
+ghost use Rattle.nio_base.specs.declared.numbers.KeyId.{KeyId};
+ghost use Rattle.nio_history.specs.declared.found.Chan.{Chan};
 
 use crate::judge::Judge;
 use crate::memory::Claim;
@@ -23,93 +25,77 @@ impl Judge {
             Act::DrawBit(number, found) => {
                 number.0 < self.limits.callers && me == number && !found
             }
-            Act::MakeSelector(sel, _) => self.is_selector(sel),
-            Act::LookSelectors(_) => true,
+            Act::MakeSelector(sel, _)
+            | Act::LookGate(sel, _)
+            | Act::LookKeys(sel, _)
+            | Act::TakeTurn(sel, _)
+            | Act::ShutBit(sel, _) => self.is_selector(sel),
+            Act::LookSelectors(_)
+            | Act::TakeInterrupt(_)
+            | Act::LookInterrupt(_)
+            | Act::LookChannels(_) => true,
             Act::Wake(sel, _) => self.is_selector(sel) && self.state.is_selector_made(sel),
-            Act::LookGate(sel, _) => self.is_selector(sel),
             Act::SetInterrupt(number, _) => number.0 < self.limits.callers,
-            Act::TakeInterrupt(_) => true,
-            Act::LookInterrupt(_) => true,
-            Act::LookKey(sel, index, _) => self.is_key(sel, index),
+            Act::LookKey(sel, index, _) | Act::TakeFree(sel, index, _) => self.is_key(sel, index),
             Act::CancelKey(sel, index, _) => {
                 self.is_key(sel, index)
                     && self.state.is_claimed(sel, index)
                     && self.state.has_pin(me, sel, index)
             }
-            Act::LookInterest(sel, index, _) => self.may_look(me, sel, index),
-            Act::SwapInterest(sel, index, _, _) => self.may_use(me, sel, index),
-            Act::OrInterest(sel, index, _, _) => self.may_use(me, sel, index),
-            Act::AndInterest(sel, index, _, _) => self.may_use(me, sel, index),
-            Act::SwapNote(sel, index, _, _) => self.may_use(me, sel, index),
-            Act::LookNote(sel, index, _) => self.may_use(me, sel, index),
+            Act::LookInterest(sel, index, _) | Act::LookMark(sel, index, _) => {
+                self.may_look(me, sel, index)
+            }
+            Act::SwapInterest(sel, index, _, _)
+            | Act::OrInterest(sel, index, _, _)
+            | Act::AndInterest(sel, index, _, _)
+            | Act::SwapNote(sel, index, _, _)
+            | Act::LookNote(sel, index, _)
+            | Act::UnselectBit(sel, index, _)
+            | Act::Unpin(sel, index) => self.may_use(me, sel, index),
             Act::MakeChannel(chan, _, _) => {
                 self.is_channel(chan) && chan.0 <= self.counts.channels()
             }
             Act::LookChannel(chan, _) => self.is_channel(chan),
-            Act::Claim(sel, index, chan, _) => {
-                self.is_key(sel, index)
-                    && self.is_channel(chan)
-                    && self.state.holds(me, chan)
-                    && index <= self.counts.keys(sel)
-            }
+            Act::Claim(sel, index, chan, _) => self.may_claim(me, sel, index, chan),
             Act::RaiseKeys(sel, n, _) => {
                 self.is_selector(sel) && n <= self.limits.keys && n <= self.counts.keys(sel)
             }
-            Act::LookKeys(sel, _) => self.is_selector(sel),
             Act::Publish(sel, index, _) => {
                 self.is_key(sel, index) && self.may_publish(me, sel, index)
             }
             Act::LookReg(chan, sel, _) => self.is_channel(chan) && self.is_selector(sel),
             Act::Enrol(chan, sel, index, serial, _) => {
-                self.is_channel(chan)
-                    && self.is_key(sel, index)
-                    && self.has_claimed(me, sel, index, chan, serial)
-                    && self.state.holds(me, chan)
-                    && self.memory.is_clear(me, chan, sel.0)
+                self.may_enrol(me, chan, sel, index, serial)
             }
-            Act::TakeTurn(sel, _) => self.is_selector(sel),
-            Act::BeginLook(sel, _) => self.is_selector(sel) && self.state.has_turn(me, sel),
-            Act::GiveTurn(sel) => self.is_selector(sel) && self.state.has_turn(me, sel),
+            Act::BeginLook(sel, _) | Act::GiveTurn(sel) => {
+                self.is_selector(sel) && self.state.has_turn(me, sel)
+            }
             Act::Remove(sel, index, _) => self.is_key(sel, index)
                 && self.may_remove(me, sel, index),
-            Act::LookMark(sel, index, _) => self.may_look(me, sel, index),
             Act::Mark(sel, index, _, told, _) => {
                 self.is_key(sel, index) && self.state.has_begun(me, sel) && told.bits() != 0
             }
-            Act::UnselectBit(sel, index, _) => self.may_use(me, sel, index),
             Act::EndWake(sel, _) => self.is_selector(sel) && self.state.has_begun(me, sel),
-            Act::LookChannels(_) => true,
             Act::RaiseChannels(n, _) => n <= self.limits.channels && n <= self.counts.channels(),
-            Act::TryHoldBit(chan, _) => self.is_channel(chan) && self.state.is_made(chan),
-            Act::Release(chan) => self.is_channel(chan) && self.state.holds(me, chan),
-            Act::SetMode(chan, blocking, _) => {
-                self.is_channel(chan)
-                    && self.state.holds(me, chan)
-                    && (!blocking || self.is_clear_everywhere(me, chan))
+            Act::TryHoldBit(chan, _) | Act::CloseBit(chan, _) => {
+                self.is_channel(chan) && self.state.is_made(chan)
             }
-            Act::CloseBit(chan, _) => self.is_channel(chan) && self.state.is_made(chan),
-            Act::ShutBit(sel, _) => self.is_selector(sel),
+            Act::Release(chan) => self.is_channel(chan) && self.state.holds(me, chan),
+            Act::SetMode(chan, blocking, _) => self.may_set_mode(me, chan, blocking),
             Act::Enter(sel, _) => self.is_selector(sel) && self.state.is_closer(me, sel),
             Act::Pin(sel, index, _) => {
                 self.is_key(sel, index)
                     && self.state.is_claimed(sel, index)
                     && !self.state.has_pin(me, sel, index)
             }
-            Act::Unpin(sel, index) => self.may_use(me, sel, index),
             Act::ClearMark(sel, index, _) => {
                 self.is_key(sel, index) && self.memory.is_unpublished(me, sel, index)
             }
             Act::ClaimAgain(sel, index, chan, from, _) => {
-                self.is_key(sel, index)
-                    && self.is_channel(chan)
-                    && self.state.holds(me, chan)
-                    && self.state.has_taken(me, sel, index)
-                    && self.memory.stage_since_taken(me, sel, index) == Some(from)
-                    && from.serial < LAST_SERIAL
+                self.may_claim_again(me, sel, index, chan, from)
             }
             Act::LookFree(sel, part, _) => self.is_selector(sel) && self.is_part(part),
             Act::PutFree(sel, index) => self.is_key(sel, index) && self.may_put(me, sel, index),
-            Act::TakeFree(sel, index, _) => self.is_key(sel, index),
         }
     }
 
@@ -153,6 +139,52 @@ impl Judge {
     {
         self.is_key(sel, index)
             && (self.state.has_pin(me, sel, index) || self.state.has_begun(me, sel))
+    }
+
+    fn may_claim(&self, me: CallerNo, sel: SelNo, index: u32, chan: ChanNo) -> bool
+        ensures { (found : Bool) → IsTrue result ↔ IsAllowed self.now me (Act.Claim sel index chan found) }
+    {
+        self.is_key(sel, index)
+            && self.is_channel(chan)
+            && self.state.holds(me, chan)
+            && index <= self.counts.keys(sel)
+    }
+
+    fn may_claim_again(
+        &self,
+        me: CallerNo,
+        sel: SelNo,
+        index: u32,
+        chan: ChanNo,
+        from: Stage,
+    ) -> bool
+        ensures { (found : Bool) → IsTrue result ↔ IsAllowed self.now me (Act.ClaimAgain sel index chan from found) }
+    {
+        self.is_key(sel, index)
+            && self.is_channel(chan)
+            && self.state.holds(me, chan)
+            && self.state.has_taken(me, sel, index)
+            && self.memory.stage_since_taken(me, sel, index) == Some(from)
+            && from.serial < LAST_SERIAL
+    }
+
+    fn may_enrol(&self, me: CallerNo, chan: ChanNo, sel: SelNo, index: u32, serial: u32) -> bool
+        ensures { (found : Option KeyId) → IsTrue result
+            ↔ IsAllowed self.now me (Act.Enrol chan sel index serial found) }
+    {
+        self.is_channel(chan)
+            && self.is_key(sel, index)
+            && self.has_claimed(me, sel, index, chan, serial)
+            && self.state.holds(me, chan)
+            && self.memory.is_clear(me, chan, sel.0)
+    }
+
+    fn may_set_mode(&self, me: CallerNo, chan: ChanNo, blocking: bool) -> bool
+        ensures { (found : Chan) → IsTrue result ↔ IsAllowed self.now me (Act.SetMode chan blocking found) }
+    {
+        self.is_channel(chan)
+            && self.state.holds(me, chan)
+            && (!blocking || self.is_clear_everywhere(me, chan))
     }
 
     fn may_publish(&self, me: CallerNo, sel: SelNo, index: u32) -> bool

@@ -9,11 +9,12 @@ impl StateTables {
     ghost use Rattle.nio_history.specs.Answers.{Answers, bits_below, exchange_from, is_pinned};
     ghost use Rattle.nio_audit.specs.Bounds.{IsReadable};
     ghost use Rattle.nio_audit.specs.StateOf.{state_with};
+    ghost use Rattle.nio_audit.specs.StepNumbers.{number_of};
     ghost use Rattle.nio_audit.specs.TableWords.{grid, row};
 
     /// Whether the act found what the state answers.
     pub(crate) fn answers(&self, me: CallerNo, act: &Act) -> bool
-        requires { IsReadable act.now }
+        requires { IsReadable (number_of act.now) }
         ensures { (due : ℕ → ℕ → Bool) → IsTrue result ↔ Answers (state_with self.now due) me act.now }
     {
         match *act {

@@ -13,7 +13,8 @@ ghost use Rattle.nio_steps.specs.Calls.{CallClause};
 ghost use Rattle.nio_steps.specs.ChannelCalls.{close_channel_plan};
 ghost use Rattle.nio_steps.specs.PipeCalls.{MakesPipe};
 ghost use Rattle.nio_steps.specs.Runs.{Completes};
-ghost use Rattle.nio_steps.specs.declared.refusal.PipeError.TheVariants.{AsynchronousClose, ClosedByInterrupt};
+ghost use Rattle.nio_steps.specs.declared.refusal.PipeError.TheVariants.{AsynchronousClose, BrokenPipe};
+ghost use Rattle.nio_steps.specs.declared.refusal.PipeError.TheVariants.{ClosedByInterrupt};
 ghost use Rattle.nio_words.specs.Passes.{limits_of};
 ghost use Rattle.nio_caller.specs.Callers.{IsSameCaller, StillHas, sees};
 
@@ -99,6 +100,7 @@ impl<'a> Caller<'a> {
         ensures same { IsSameCaller self.old self.new }
         ensures still { StillHas (sees self.old) (sees self.new) }
         ensures closed { result ≡ Err ClosedByInterrupt → IsClosed (sees self.new) (sink_chan sink.old) }
+        ensures broken { result ≡ Err BrokenPipe → sink.new ≡ sink.old }
         ensures sink { IsSameSink sink.old sink.new }
         ensures bytes { TakesBytes sink.old sink.new from.now (bytes_written result) }
         ensures seal { is_sealed sink.new ≡ (is_sealed sink.old || leaves_seal result) }
@@ -128,6 +130,7 @@ impl<'a> Caller<'a> {
         ensures closed { result ≡ Err ClosedByInterrupt → IsClosed (sees self.new) (sink_chan sink.old) }
         ensures closed_meanwhile { result ≡ Err AsynchronousClose
             → HadNoPlace sink.old sink.new from.now result }
+        ensures broken { result ≡ Err BrokenPipe → free sink.old ≤ free sink.new }
         ensures sink { IsSameSink sink.old sink.new }
         ensures bytes { TakesBytes sink.old sink.new from.now (bytes_written result) }
         ensures seal { is_sealed sink.new ≡ (is_sealed sink.old || leaves_seal result) }

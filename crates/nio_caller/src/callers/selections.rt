@@ -1,10 +1,12 @@
 //! The selections of a caller: whole ones, and the calls that they are made of.
-ghost use Rattle.std.specs.Prelude.{◌≡◌, IfOk};
+ghost use Rattle.std.specs.Prelude.{◌≡◌, Err, IfOk};
+ghost use Rattle.nio_base.specs.declared.numbers.ChanNo.{ChanNo};
 ghost use Rattle.nio_history.specs.PassViews.{HasSelector};
 ghost use Rattle.nio_history.specs.declared.found.Mode.TheVariants as mode;
 ghost use Rattle.nio_poller.specs.Polls.{CountsFaults};
 ghost use Rattle.nio_poller.specs.Selecting.{SelectClause, TimedClause};
-ghost use Rattle.nio_poller.specs.declared.selecting.SelectError.TheVariants.{PollFault};
+ghost use Rattle.nio_poller.specs.declared.selecting.SelectError.TheVariants.{PollFault, ClosedSelector};
+ghost use Rattle.nio_poller.specs.declared.selecting.SelectError.TheVariants.{NegativeTimeout};
 ghost use Rattle.nio_select.specs.InProgress.{Closes as IsClosingIt, IfAgain, IfBusy, IfClosing, Selects, finish_reply};
 ghost use Rattle.nio_select.specs.InProgress.{poll_of, shut_reply, told_reply};
 ghost use Rattle.nio_steps.specs.Calls.{CallClause};
@@ -36,7 +38,9 @@ impl<'a> Caller<'a> {
         ensures call { SelectClause self.old.number sel mode.Wait (sees self.old) (sees self.new)
             (P.polls poller.old) (P.polls poller.new) (P.ready poller.new) result }
         ensures cause { CountsFaults PollFault (P.poll_faults poller.old) (P.poll_faults poller.new) result }
+        ensures unready { result ≡ Err PollFault → (c : ChanNo) → P.ready poller.new c ≡ 0 }
         ensures kept { P.kept poller.old poller.new }
+        ensures unasked { result ≡ Err ClosedSelector → poller.new ≡ poller.old }
         ensures same { IsSameCaller self.old self.new }
         ensures still { StillHas (sees self.old) (sees self.new) }
     {
@@ -64,7 +68,9 @@ impl<'a> Caller<'a> {
         ensures call { SelectClause self.old.number sel mode.Now (sees self.old) (sees self.new)
             (P.polls poller.old) (P.polls poller.new) (P.ready poller.new) result }
         ensures cause { CountsFaults PollFault (P.poll_faults poller.old) (P.poll_faults poller.new) result }
+        ensures unready { result ≡ Err PollFault → (c : ChanNo) → P.ready poller.new c ≡ 0 }
         ensures kept { P.kept poller.old poller.new }
+        ensures unasked { result ≡ Err ClosedSelector → poller.new ≡ poller.old }
         ensures same { IsSameCaller self.old self.new }
         ensures still { StillHas (sees self.old) (sees self.new) }
     {
@@ -93,7 +99,10 @@ impl<'a> Caller<'a> {
         ensures call { TimedClause self.old.number sel ms (sees self.old) (sees self.new)
             (P.polls poller.old) (P.polls poller.new) (P.ready poller.new) result }
         ensures cause { CountsFaults PollFault (P.poll_faults poller.old) (P.poll_faults poller.new) result }
+        ensures unready { result ≡ Err PollFault → (c : ChanNo) → P.ready poller.new c ≡ 0 }
         ensures kept { P.kept poller.old poller.new }
+        ensures unasked { result ≡ Err ClosedSelector → poller.new ≡ poller.old }
+        ensures refused { result ≡ Err NegativeTimeout → poller.new ≡ poller.old }
         ensures same { IsSameCaller self.old self.new }
         ensures still { StillHas (sees self.old) (sees self.new) }
     {

@@ -1,17 +1,23 @@
 //! The net of packets in memory.
-ghost use Rattle.std.specs.Prelude.{◌≡◌, ◌≢◌, ◌↔◌, ◌⊎◌, ◌<◌, ◌≤◌, [], ◌∷◌, ◌++◌, true, false, None, Ok, Err, IfOk};
+ghost use Rattle.std.specs.Prelude.{◌≡◌, ◌≢◌, ◌↔◌, ◌⊎◌, ◌<◌, ◌≤◌, [], ◌∷◌, ◌++◌, true, false, Ok, Err, IfOk};
 ghost use Rattle.std.specs.Prelude.{IsErr, OnErr, OnOk, IsOk, IsTrue, Some, length, option_map, refl};
 ghost use Rattle.std.specs.List.{slice_get};
 ghost use Rattle.nio_base.specs.declared.numbers.ChanNo.{ChanNo};
 ghost use Rattle.nio_bytes.specs.Calls.{FailsNext};
+ghost use Rattle.nio_bytes.specs.Cause.{HasCause};
+ghost use Rattle.nio_link.specs.Links.{IsSameBut};
 ghost use Rattle.nio_link.specs.MemoryNet.{answer_of, faulted_after, if_some, times};
 ghost use Rattle.nio_link.specs.NetPlans.{numbers_of};
 ghost use Rattle.nio_poller.specs.Polls.{CountsFaults, AddsPoll, told_of_channel};
 ghost use Rattle.nio_poller.specs.declared.poller.PollError.TheVariants.{Fault, Memory};
 ghost use Rattle.nio_select.specs.InProgress.{poll_of};
-ghost use Rattle.nio_datagram.specs.Packets.{no_traffic, IsCame};
+ghost use Rattle.nio_steps.specs.KeyCalls.{is_within};
+ghost use Rattle.nio_datagram.specs.Packets.{no_traffic, IsCame, after_receive as traffic_after_receive};
+ghost use Rattle.nio_datagram.specs.Packets.{after_send as traffic_after_send};
+ghost use Rattle.nio_datagram.specs.Places.{IsBound, place_after_bind, place_after_close};
+ghost use Rattle.nio_datagram.specs.Readiness.{ready_after_receive, ready_after_send};
 ghost use Rattle.nio_datagram.specs.Sides.{is_bound, receive_answer, receive_buffer, side_ready};
-ghost use Rattle.nio_datagram.specs.MemoryPackets.{side_at, planned, traffic_at, place_at, ready_told};
+ghost use Rattle.nio_datagram.specs.MemoryPackets.{side_at, planned, traffic_at, place_at, ready_told, polls_told};
 ghost use Rattle.nio_datagram.specs.MemoryPackets.{told_pairs, findings_after};
 ghost use Rattle.nio_datagram.specs.MemoryPackets.{sides_after_bind, sides_after_receive, sides_after_send};
 ghost use Rattle.nio_datagram.specs.MemoryPackets.{sides_after_close, bind_answer_at, after_bind, after_receive};
@@ -321,7 +327,7 @@ impl Poller for MemoryPackets {
 
     ghost ready = { λ s. ready_told s.findings };
 
-    ghost polls = { λ _. None };
+    ghost polls = { λ s. Some (polls_told s.findings) };
 
     ghost kept = { KeepsPackets };
 
@@ -337,7 +343,8 @@ impl Poller for MemoryPackets {
         ensures ready { IfOk result (λ told. (c : ChanNo)
             → ready_told self.new.findings c ≡ told_of_channel asked.now told.pairs.items c) }
         ensures unready { OnErr result ((c : ChanNo) → ready_told self.new.findings c ≡ 0) }
-        ensures polls { AddsPoll None None asked.now mode result }
+        ensures polls { AddsPoll (Some (polls_told self.old.findings)) (Some (polls_told self.new.findings))
+            asked.now mode result }
         ensures kept { KeepsPackets self.old self.new }
 
         // By its packets.
@@ -403,24 +410,94 @@ impl PacketNet for MemoryPackets {
 
     ghost place = { λ s. place_at s.sides };
 
-    fn bind_packets(&mut self, chan: ChanNo, at: Addr) -> Result<(), Failed> {
+    fn bind_packets(&mut self, chan: ChanNo, at: Addr) -> Result<(), Failed>
+        // As every net of packets.
+        requires unbound { place_at self.old.sides chan ≡ place_is.Unbound }
+        ensures cause { HasCause (times self.old.faulted chan) (times self.new.faulted chan) result }
+        ensures others { IsSameBut chan (times self.old.faulted) (times self.new.faulted) }
+        ensures traffic { (c : ChanNo) → traffic_at self.new.sides c ≡ traffic_at self.old.sides c }
+        ensures ready { (c : ChanNo) → ready_told self.new.findings c ≡ ready_told self.old.findings c }
+        ensures place { place_at self.new.sides chan ≡ place_after_bind result at }
+        ensures places { IsSameBut chan (place_at self.old.sides) (place_at self.new.sides) }
+        ensures shown { polls_told self.new.findings ≡ polls_told self.old.findings }
+
+        // By what stands there.
+        ensures answer { result ≡ bind_answer_at self.old.sides chan }
+        ensures after { self.new ≡ after_bind self.old chan at }
+    {
         self.bind_socket(chan, at)
     }
 
-    fn receive(&mut self, chan: ChanNo, into: &mut [u8]) -> Result<Came, Failed> {
+    fn receive(&mut self, chan: ChanNo, into: &mut [u8]) -> Result<Came, Failed>
+        // As every net of packets.
+        requires room { LONGEST ≤ length into.old }
+        requires ready { IsTrue (is_within 1 (ready_told self.old.findings chan)) }
+        requires bound { IsBound (place_at self.old.sides chan) }
+        ensures cause { HasCause (times self.old.faulted chan) (times self.new.faulted chan) result }
+        ensures others { IsSameBut chan (times self.old.faulted) (times self.new.faulted) }
+        ensures came { IfOk result IsCame }
+        ensures traffic { traffic_at self.new.sides chan
+            ≡ traffic_after_receive result into.new (traffic_at self.old.sides chan) }
+        ensures traffic_else { IsSameBut chan (traffic_at self.old.sides) (traffic_at self.new.sides) }
+        ensures ready { ready_told self.new.findings chan
+            ≡ ready_after_receive result (ready_told self.old.findings chan) }
+        ensures ready_else { IsSameBut chan (ready_told self.old.findings) (ready_told self.new.findings) }
+        ensures places { (c : ChanNo) → place_at self.new.sides c ≡ place_at self.old.sides c }
+        ensures shown { polls_told self.new.findings ≡ polls_told self.old.findings }
+
+        // By the packets that were planned.
+        ensures answer { result ≡ receive_answer (side_at self.old.sides chan) }
+        ensures buffer { into.new ≡ receive_buffer (side_at self.old.sides chan) into.old }
+        ensures after { self.new ≡ after_receive self.old chan }
+    {
         self.receive_packet(chan, into)
     }
 
-    fn send(&mut self, chan: ChanNo, bytes: &[u8], to: Addr) -> Result<bool, Failed> {
+    fn send(&mut self, chan: ChanNo, bytes: &[u8], to: Addr) -> Result<bool, Failed>
+        // As every net of packets.
+        requires fits { length bytes.now ≤ LONGEST }
+        requires ready { IsTrue (is_within 4 (ready_told self.old.findings chan)) }
+        requires bound { IsBound (place_at self.old.sides chan) }
+        ensures cause { HasCause (times self.old.faulted chan) (times self.new.faulted chan) result }
+        ensures others { IsSameBut chan (times self.old.faulted) (times self.new.faulted) }
+        ensures traffic { traffic_at self.new.sides chan
+            ≡ traffic_after_send result to bytes.now (traffic_at self.old.sides chan) }
+        ensures traffic_else { IsSameBut chan (traffic_at self.old.sides) (traffic_at self.new.sides) }
+        ensures ready { ready_told self.new.findings chan
+            ≡ ready_after_send result (ready_told self.old.findings chan) }
+        ensures ready_else { IsSameBut chan (ready_told self.old.findings) (ready_told self.new.findings) }
+        ensures places { (c : ChanNo) → place_at self.new.sides c ≡ place_at self.old.sides c }
+        ensures shown { polls_told self.new.findings ≡ polls_told self.old.findings }
+
+        // By its plan: there is always room.
+        ensures never_early { result ≢ Ok false }
+        ensures ok { result ≡ Ok true
+            → self.new ≡ after_sent self.old chan (record { addr = to; bytes = bytes.now }) }
+        ensures err { OnErr result
+            ((self.new ≡ after_planned_send self.old chan) ⊎ (self.new ≡ after_lost_send self.old chan)) }
+    {
         match self.send_packet(chan, bytes, to) {
             Ok(()) => Ok(true),
             Err(_failure) => Err(Failed),
         }
     }
 
-    fn connect_packets(&mut self, _chan: ChanNo, _to: Addr) {}
+    fn connect_packets(&mut self, _chan: ChanNo, _to: Addr)
+        ensures { self.new ≡ self.old }
+    {}
 
-    fn close_packets(&mut self, chan: ChanNo) {
+    fn close_packets(&mut self, chan: ChanNo)
+        // As every net of packets.
+        ensures faults { (c : ChanNo) → times self.new.faulted c ≡ times self.old.faulted c }
+        ensures traffic { (c : ChanNo) → traffic_at self.new.sides c ≡ traffic_at self.old.sides c }
+        ensures ready { (c : ChanNo) → ready_told self.new.findings c ≡ ready_told self.old.findings c }
+        ensures place { place_at self.new.sides chan ≡ place_after_close (place_at self.old.sides chan) }
+        ensures places { IsSameBut chan (place_at self.old.sides) (place_at self.new.sides) }
+        ensures shown { polls_told self.new.findings ≡ polls_told self.old.findings }
+
+        // By what stands there.
+        ensures after { self.new ≡ after_close self.old chan }
+    {
         self.close_socket(chan);
     }
 

@@ -1,5 +1,5 @@
 //! Reading a call: its word, and then its arguments by their shape.
-ghost use Rattle.std.specs.Prelude.{◌≡◌, IfOk, map};
+ghost use Rattle.std.specs.Prelude.{IfOk, map};
 ghost use Rattle.nio_language.specs.Calls.{IsCall, call_words};
 ghost use Rattle.nio_language.specs.Lines.{ReadsCall};
 ghost use Rattle.nio_language.specs.Reading.{Reads};

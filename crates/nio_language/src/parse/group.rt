@@ -1,10 +1,9 @@
 //! Reading a call on the group: its arguments, by its word.
-ghost use Rattle.std.specs.Prelude.{◌≡◌, ◌∷◌, [], map, ⊤};
+ghost use Rattle.std.specs.Prelude.{◌∷◌, [], map, ⊤};
 ghost use Rattle.std.specs.Fmt.{decimal};
 ghost use Rattle.nio_language.specs.GroupCalls.{IsOutcome, ReadsGroupCall};
 ghost use Rattle.nio_language.specs.GroupWords.{group_channel_word, group_kind_word, operation_kind_word};
-ghost use Rattle.nio_language.specs.GroupWords.{operation_word};
-ghost use Rattle.nio_language.specs.GroupWords.{outcome_words};
+ghost use Rattle.nio_language.specs.GroupWords.{operation_word, outcome_words};
 ghost use Rattle.nio_language.specs.Reading.{Reads};
 ghost use Rattle.nio_language.specs.Words.{IsNumber};
 
@@ -86,7 +85,8 @@ fn read_start(args: &[&[u8]]) -> Option<(GChan, OpKind, u64)>
     Some((channel, kind, len))
 }
 
-fn read_operation_kind(word: &[u8]) -> Option<OpKind>
+/// What an operation is to do.
+pub fn read_operation_kind(word: &[u8]) -> Option<OpKind>
     ensures { Reads (λ _. ⊤) operation_kind_word word.now result }
 {
     match word {

@@ -1,5 +1,5 @@
 //! Reading a line: its caller, and then its call.
-ghost use Rattle.std.specs.Prelude.{◌≡◌, IfOk, map};
+ghost use Rattle.std.specs.Prelude.{IfOk, map};
 ghost use Rattle.nio_language.specs.Reading.{Reads};
 ghost use Rattle.nio_language.specs.Lines.{FitsLine, line_words, ReadsLine};
 
@@ -11,7 +11,7 @@ use nio_base::CallerNo;
 use std::alloc::{AllocError, Global};
 
 /// The most bytes of a line that isn't blank.
-const LINE_LIMIT: usize = 4096;
+pub const LINE_LIMIT: usize = 4096;
 
 /// The caller and the call of a line that isn't blank.
 pub fn read_line(alloc: Global, line: &[u8]) -> Result<Option<(CallerNo, Call)>, AllocError>

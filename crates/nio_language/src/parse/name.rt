@@ -1,5 +1,5 @@
 //! The words of a line that name something: `t1`, `s0`, `c2`, `g0`, `k3`, `k3.1`, and `k3:5`.
-ghost use Rattle.std.specs.Prelude.{◌≡◌, ℕ, ◌<◌, ◌≤◌, ◌^◌, ◌∷◌, ◌++◌, All, ◌≢◌, IfSome};
+ghost use Rattle.std.specs.Prelude.{◌<◌, ◌≤◌, ◌^◌, ◌∷◌};
 ghost use Rattle.std.specs.Fmt.{decimal};
 ghost use Rattle.nio_language.specs.Arguments.{IsKeyName, IsPair, IsSerial};
 ghost use Rattle.nio_language.specs.GroupWords.{group_channel_word, operation_word};
@@ -10,11 +10,14 @@ use super::cut::cut_at;
 use super::number::read_number;
 use nio_base::{CallerNo, ChanNo, GChan, KeyId, OpNo, Ops, SelNo};
 
+/// The largest number of a caller.
+const CALLER_MAX: u32 = 63;
+
 /// A caller.
 pub fn read_caller(word: &[u8]) -> Option<CallerNo>
     ensures { Reads (λ t. t.0 < 64) caller_word word.now result }
 {
-    read_numbered(word, b't', 63).map(CallerNo)
+    read_numbered(word, b't', CALLER_MAX).map(CallerNo)
 }
 
 /// A selector.

@@ -1,6 +1,6 @@
 //! Reading what a selection is told: a selector, `elapsed` or not, and pairs of keys and operations,
 //! as many as there are.
-ghost use Rattle.std.specs.Prelude.{◌≡◌, ℕ, ◌==◌, ◌↔◌, ◌<◌, ◌^◌, ◌++◌, Bool, List, IsTrue, Any, IfOk, codes, map};
+ghost use Rattle.std.specs.Prelude.{◌≡◌, ℕ, ◌==◌, ◌↔◌, ◌<◌, ◌++◌, Bool, List, IsTrue, Any, IfOk, codes, map};
 ghost use Rattle.std.specs.Prelude.{option_map};
 ghost use Rattle.nio_base.specs.declared.numbers.KeyId.{KeyId as Key};
 ghost use Rattle.nio_language.specs.Arguments.{ArePairs, ReadsArguments, elapsed_words, selector_told};

@@ -1,5 +1,5 @@
 //! The net in memory.
-ghost use Rattle.std.specs.Prelude.{◌≡◌, ◌≢◌, ◌⊎◌, ◌↔◌, [], ◌∷◌, ◌++◌, true, false, Some, None, Ok, Err, IfOk, IsErr};
+ghost use Rattle.std.specs.Prelude.{◌≡◌, ◌≢◌, ◌⊎◌, ◌↔◌, [], ◌∷◌, ◌++◌, true, false, Some, Ok, Err, IfOk, IsErr};
 ghost use Rattle.std.specs.Prelude.{OnErr, IsOk, IsTrue, ◌<◌, length, refl};
 ghost use Rattle.nio_bytes.specs.Calls.{FailsNext};
 ghost use Rattle.nio_bytes.specs.Cause.{HasCause};
@@ -19,10 +19,11 @@ ghost use Rattle.nio_link.specs.Places.{place_after_connect, place_after_finish,
 ghost use Rattle.nio_link.specs.declared.place.Change.TheVariants as change;
 ghost use Rattle.nio_link.specs.declared.place.Standing.TheVariants as standing;
 ghost use Rattle.nio_link.specs.MemoryNet.{NetState, logged, after_read, after_write, after_shut, after_finish, times};
-ghost use Rattle.nio_link.specs.MemoryNet.{ready_told, faulted_after, findings_after, is_waiting, told_pairs, if_some};
-ghost use Rattle.nio_link.specs.MemoryNet.{answer_of, after_poll, after_lost_poll, after_failed_poll, KeepsLinks};
-ghost use Rattle.nio_link.specs.MemoryNet.{can_accept, after_accept, after_failed_accept, connect_answer};
-ghost use Rattle.nio_link.specs.MemoryNet.{after_connect, listen_answer, after_listen, is_free, is_listener, AreFresh};
+ghost use Rattle.nio_link.specs.MemoryNet.{ready_told, polls_told, faulted_after, findings_after, is_waiting};
+ghost use Rattle.nio_link.specs.MemoryNet.{told_pairs, if_some, answer_of, after_poll, after_lost_poll};
+ghost use Rattle.nio_link.specs.MemoryNet.{after_failed_poll, KeepsLinks, can_accept, after_accept};
+ghost use Rattle.nio_link.specs.MemoryNet.{after_failed_accept, connect_answer, after_connect, listen_answer};
+ghost use Rattle.nio_link.specs.MemoryNet.{after_listen, is_free, is_listener, AreFresh};
 
 use crate::memory::finding::Finding;
 use crate::memory::link::MemoryLink;
@@ -373,7 +374,7 @@ impl Poller for MemoryNet {
 
     ghost ready = { λ s. ready_told s.findings };
 
-    ghost polls = { λ _. None };
+    ghost polls = { λ s. Some (polls_told s.findings) };
 
     ghost kept = { KeepsLinks };
 
@@ -389,7 +390,8 @@ impl Poller for MemoryNet {
         ensures ready { IfOk result (λ told. (c : ChanNo)
             → ready_told self.new.findings c ≡ told_of_channel asked.now told.pairs.items c) }
         ensures unready { OnErr result ((c : ChanNo) → ready_told self.new.findings c ≡ 0) }
-        ensures polls { AddsPoll None None asked.now mode result }
+        ensures polls { AddsPoll (Some (polls_told self.old.findings)) (Some (polls_told self.new.findings))
+            asked.now mode result }
         ensures kept { KeepsLinks self.old self.new }
 
         // By its plan.
@@ -477,6 +479,7 @@ impl Net for MemoryNet {
         ensures places { IsSameBut chan (places_after self.old.changes) (places_after self.new.changes) }
         ensures accepted { accepted_by self.new.changes ≡ accepted_by self.old.changes }
         ensures polls { self.new.polls.faults ≡ self.old.polls.faults }
+        ensures shown { polls_told self.new.findings ≡ polls_told self.old.findings }
 
         // By its plan.
         ensures answer { result ≡ listen_answer self.old chan }
@@ -502,6 +505,7 @@ impl Net for MemoryNet {
         ensures accepted { accepted_by self.new.changes
             ≡ accepted_after result chan (accepted_by self.old.changes) }
         ensures polls { self.new.polls.faults ≡ self.old.polls.faults }
+        ensures shown { polls_told self.new.findings ≡ polls_told self.old.findings }
 
         // By its plan.
         ensures fails { IsErr result ↔ (FailsNext self.old.accepts ⊎ (can_accept self.old listener chan ≡ false)) }
@@ -525,6 +529,7 @@ impl Net for MemoryNet {
         ensures places { IsSameBut chan (places_after self.old.changes) (places_after self.new.changes) }
         ensures accepted { accepted_by self.new.changes ≡ accepted_by self.old.changes }
         ensures polls { self.new.polls.faults ≡ self.old.polls.faults }
+        ensures shown { polls_told self.new.findings ≡ polls_told self.old.findings }
 
         // By its plan.
         ensures answer { result ≡ connect_answer self.old chan }
@@ -548,6 +553,7 @@ impl Net for MemoryNet {
         ensures places { IsSameBut chan (places_after self.old.changes) (places_after self.new.changes) }
         ensures accepted { accepted_by self.new.changes ≡ accepted_by self.old.changes }
         ensures polls { self.new.polls.faults ≡ self.old.polls.faults }
+        ensures shown { polls_told self.new.findings ≡ polls_told self.old.findings }
 
         // By its plan.
         ensures answer { result ≡ finish_answer (connecting (slot_at self.old.slots chan)) }
@@ -573,6 +579,7 @@ impl Net for MemoryNet {
         ensures places { (c : ChanNo) → places_after self.new.changes c ≡ places_after self.old.changes c }
         ensures accepted { accepted_by self.new.changes ≡ accepted_by self.old.changes }
         ensures polls { self.new.polls.faults ≡ self.old.polls.faults }
+        ensures shown { polls_told self.new.findings ≡ polls_told self.old.findings }
 
         // By its plan.
         ensures answer { result ≡ read_answer (connected (slot_at self.old.slots chan)) (length into.old) }
@@ -599,6 +606,7 @@ impl Net for MemoryNet {
         ensures places { (c : ChanNo) → places_after self.new.changes c ≡ places_after self.old.changes c }
         ensures accepted { accepted_by self.new.changes ≡ accepted_by self.old.changes }
         ensures polls { self.new.polls.faults ≡ self.old.polls.faults }
+        ensures shown { polls_told self.new.findings ≡ polls_told self.old.findings }
 
         // By its plan.
         ensures answer { result ≡ write_answer (connected (slot_at self.old.slots chan)) (length from.now) }
@@ -620,6 +628,7 @@ impl Net for MemoryNet {
         ensures places { IsSameBut chan (places_after self.old.changes) (places_after self.new.changes) }
         ensures accepted { accepted_by self.new.changes ≡ accepted_by self.old.changes }
         ensures polls { self.new.polls.faults ≡ self.old.polls.faults }
+        ensures shown { polls_told self.new.findings ≡ polls_told self.old.findings }
 
         // By its plan.
         ensures answer { result ≡ shut_answer (connected (slot_at self.old.slots chan)) }
@@ -637,6 +646,7 @@ impl Net for MemoryNet {
         ensures places { IsSameBut chan (places_after self.old.changes) (places_after self.new.changes) }
         ensures accepted { accepted_by self.new.changes ≡ accepted_by self.old.changes }
         ensures polls { self.new.polls.faults ≡ self.old.polls.faults }
+        ensures shown { polls_told self.new.findings ≡ polls_told self.old.findings }
 
         // By its plan.
         ensures after { self.new

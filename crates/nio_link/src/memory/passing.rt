@@ -6,8 +6,8 @@ ghost use Rattle.std.specs.VecDeque.{deque_len, deque_capacity};
 ghost use Rattle.nio_link.specs.Accepts.{accepted_by};
 ghost use Rattle.nio_link.specs.Links.{IsSameBut, IsUnused};
 ghost use Rattle.nio_link.specs.MemoryLinks.{IsFresh};
-ghost use Rattle.nio_link.specs.MemoryNet.{logged, ready_told, times, target_place, target_beside, other_targets};
-ghost use Rattle.nio_link.specs.MemoryNet.{end_under, taken_out, after_take_out, after_put_in};
+ghost use Rattle.nio_link.specs.MemoryNet.{logged, ready_told, polls_told, times, target_place, target_beside};
+ghost use Rattle.nio_link.specs.MemoryNet.{other_targets, end_under, taken_out, after_take_out, after_put_in};
 ghost use Rattle.nio_link.specs.Places.{unused, places_after, stands, place_after_take_out, place_after_put_in};
 ghost use Rattle.nio_link.specs.Slots.{carried_at, slot_at, holds_nothing, grown};
 ghost use Rattle.nio_link.specs.declared.place.Change.TheVariants as change;
@@ -149,6 +149,7 @@ impl Passable for MemoryNet {
         ensures places { IsSameBut chan (places_after self.old.changes) (places_after self.new.changes) }
         ensures accepted { accepted_by self.new.changes ≡ accepted_by self.old.changes }
         ensures polls { self.new.polls.faults ≡ self.old.polls.faults }
+        ensures shown { polls_told self.new.findings ≡ polls_told self.old.findings }
 
         // The link goes with its own peer.
         ensures link { IfSome result (λ link. link ≡ taken_out self.old chan) }
@@ -168,6 +169,7 @@ impl Passable for MemoryNet {
     fn put_in(&mut self, chan: ChanNo, link: LooseLink) -> Result<(), LooseLink>
         // As every net.
         requires unused { places_after self.old.changes chan ≡ unused }
+        ensures back { IfErr result (λ back. back ≡ link) }
         ensures faults { (c : ChanNo) → times self.new.faulted c ≡ times self.old.faulted c }
         ensures links { (c : ChanNo) → carried_at self.new.slots c ≡ carried_at self.old.slots c }
         ensures ready { (c : ChanNo) → ready_told self.new.findings c ≡ ready_told self.old.findings c }
@@ -176,11 +178,11 @@ impl Passable for MemoryNet {
         ensures places { IsSameBut chan (places_after self.old.changes) (places_after self.new.changes) }
         ensures accepted { accepted_by self.new.changes ≡ accepted_by self.old.changes }
         ensures polls { self.new.polls.faults ≡ self.old.polls.faults }
+        ensures shown { polls_told self.new.findings ≡ polls_told self.old.findings }
 
         // The link comes with its own peer.
         ensures vacant { IsOk result → holds_nothing (slot_at self.old.slots chan) ≡ true }
         ensures after { OnOk result (self.new ≡ logged chan change.PutIn (after_put_in self.old chan link)) }
-        ensures back { IfErr result (λ back. back ≡ link) }
         ensures same { OnErr result (self.new ≡ self.old) }
     {
         if !is_vacant(&self.slots, chan) {

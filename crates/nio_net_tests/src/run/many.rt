@@ -163,18 +163,29 @@ where
     Ok((status, sink, more))
 }
 
-/// The channels of the targets of a net's first two connections.
-const TARGETS: [ChanNo; 2] = [ChanNo(2), ChanNo(4)];
+/// The links of a connection in a worker's net: its client's and its target's.
+type Links = (ChanNo, ChanNo);
+
+/// The links of a net's first two connections.
+const LINKS: [Links; 2] = [(ChanNo(1), ChanNo(2)), (ChanNo(3), ChanNo(4))];
+
+/// Whether both links have ended and are shut.
+fn is_over(net: &MemoryNet, (client, target): Links) -> bool {
+    net.has_ended(client) && net.has_ended(target) && net.is_shut(client) && net.is_shut(target)
+}
+
+/// Whether so many of the bytes have arrived at the target of a connection. Where all have, it is over, else not.
+fn has_arrived(net: &MemoryNet, sent: &[u8], links: Links, count: usize) -> bool {
+    let at_target = net.put_bytes(links.1);
+    at_target.len() == count
+        && sent.starts_with(at_target)
+        && is_over(net, links) == (count == sent.len())
+}
 
 /// Whether so many of the bytes have arrived at the targets of a net's first two connections.
 fn have_arrived(net: &MemoryNet, sent: &[u8], (first, second): (usize, usize)) -> bool {
-    let [first_target, second_target] = TARGETS;
-    let at_first = net.put_bytes(first_target);
-    let at_second = net.put_bytes(second_target);
-    at_first.len() == first
-        && at_second.len() == second
-        && sent.starts_with(at_first)
-        && sent.starts_with(at_second)
+    let [first_links, second_links] = LINKS;
+    has_arrived(net, sent, first_links, first) && has_arrived(net, sent, second_links, second)
 }
 
 #[test]

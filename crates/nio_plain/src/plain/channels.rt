@@ -1,11 +1,10 @@
 //! What a channel is asked for.
-ghost use Rattle.std.specs.Prelude.{◌≡◌};
 ghost use Rattle.nio_plain.specs.Plain.{Replies};
 ghost use Rattle.nio_plain.specs.PlainState.{limits_of, state_of};
-ghost use Rattle.nio_plain.specs.Seq.Replies.{yes_or_no};
 ghost use Rattle.nio_plain.specs.Seq.Modes.{is_blocking_call, is_open_call, is_registered_call, key_for_call};
 
 use super::Plain;
+use crate::replies::yes_or_no;
 use nio_base::{ChanNo, SelNo};
 use nio_language::Reply;
 
@@ -51,11 +50,4 @@ impl Plain {
             Err(refusal) => refusal,
         }
     }
-}
-
-/// The reply to a question.
-pub(super) fn yes_or_no(answer: bool) -> Reply
-    ensures { result ≡ yes_or_no answer }
-{
-    if answer { Reply::Yes } else { Reply::No }
 }

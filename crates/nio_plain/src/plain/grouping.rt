@@ -3,8 +3,8 @@ ghost use Rattle.std.specs.Prelude.{◌≡◌};
 ghost use Rattle.nio_group.specs.Run as step;
 ghost use Rattle.nio_plain.specs.Seq.Grouping.{group_left, group_reply, stepped, with_named_group_channel};
 
-use super::channels::yes_or_no;
-use super::group_replies::{bound, closed, finished, opened, reported, started, taken};
+use crate::group_replies::{bound, closed, finished, opened, reported, started, taken};
+use crate::replies::yes_or_no;
 use nio_base::{GChan, OpKind};
 use nio_group::GroupCore;
 use nio_language::{GroupCall, Reply};

@@ -1,13 +1,12 @@
 //! Calls on a key: what it is asked for, cancelling it, and its attachment.
-ghost use Rattle.std.specs.Prelude.{◌≡◌};
 ghost use Rattle.nio_plain.specs.Plain.{Replies};
 ghost use Rattle.nio_plain.specs.PlainState.{state_of};
 ghost use Rattle.nio_plain.specs.Seq.Cancelling.{cancel_call};
 ghost use Rattle.nio_plain.specs.Seq.Keys.{attach_call, attachment_call, ready_call, unselect_call, valid_call};
 
 use super::Plain;
-use super::channels::yes_or_no;
 use super::selector::Key;
+use crate::replies::yes_or_no;
 use nio_base::{KeyId, SelNo};
 use nio_history::Mark;
 use nio_language::Reply;

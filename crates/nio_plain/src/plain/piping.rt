@@ -1,6 +1,6 @@
 //! Pipes: making, reading and writing them, and the seal.
 ghost use Rattle.std.specs.Prelude.{◌≡◌, ◌<◌, ◌==◌, ◌&&◌, if◌then◌else◌, Some, position, vec_len};
-ghost use Rattle.nio_plain.specs.Plain.{Replies, RepliesAs, Kept};
+ghost use Rattle.nio_plain.specs.Plain.{RepliesAs, Kept};
 ghost use Rattle.nio_plain.specs.PlainState.{limits_of, state_of};
 ghost use Rattle.nio_plain.specs.Seq.Pipes.{own_sink, own_source, pipe_at, with_seal};
 ghost use Rattle.nio_plain.specs.Seq.Piping.{not_now, pipe_call, pread_call, pwrite_call, read_first, room_for};
@@ -9,6 +9,7 @@ ghost use Rattle.nio_plain.specs.Seq.Piping.{write_first};
 use super::Plain;
 use super::channel::Channel;
 use super::pipe::Pipe;
+use crate::replies::not_now;
 use nio_base::{CallerNo, ChanNo, Kind};
 use nio_language::{Bytes, Reply};
 use std::alloc::{AllocError, Global};
@@ -210,17 +211,6 @@ impl Plain {
     {
         let number = chan.0 as usize;
         number < self.channels.len() && self.channels[number].closed
-    }
-}
-
-/// The reply where nothing can be read or written now, of a channel that is in blocking mode or not.
-fn not_now(blocking: bool) -> Reply
-    ensures { result ≡ not_now blocking }
-{
-    if blocking {
-        Reply::Again
-    } else {
-        Reply::Number(0)
     }
 }
 

@@ -41,7 +41,7 @@ impl Plain {
 }
 
 /// How long the selection waits: a negative time is refused.
-fn mode_of(waiting: Waiting) -> Option<Mode>
+pub fn mode_of(waiting: Waiting) -> Option<Mode>
     ensures { result ≡ mode_of waiting }
 {
     match waiting {

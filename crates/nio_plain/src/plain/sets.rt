@@ -2,12 +2,13 @@
 ghost use Rattle.std.specs.Prelude.{◌≡◌, ◌<◌, ◌^◌, IfOk, length};
 ghost use Rattle.nio_plain.specs.Plain.{RepliesAs};
 ghost use Rattle.nio_plain.specs.PlainState.{in_set_of, key_row, listed_below, no_key, places, state_of};
-ghost use Rattle.nio_plain.specs.Seq.Listing.{keys_call, listed, names_or_none, selected_call};
+ghost use Rattle.nio_plain.specs.Seq.Listing.{keys_call, listed, selected_call};
 
 use super::Plain;
 use super::selector::Key;
+use crate::replies::names_or_none;
 use nio_base::{KeyId, SelNo};
-use nio_language::{Names, Reply};
+use nio_language::Reply;
 use std::alloc::{AllocError, Global};
 
 impl Plain {
@@ -52,14 +53,4 @@ fn names(alloc: Global, keys: &[Key], selected: bool) -> Result<Vec<KeyId>, Allo
         }
     }
     Ok(names)
-}
-
-fn names_or_none(names: Vec<KeyId>) -> Reply
-    ensures { result ≡ names_or_none names.items }
-{
-    if names.is_empty() {
-        Reply::None
-    } else {
-        Reply::Names(Names::from_vec(names))
-    }
 }

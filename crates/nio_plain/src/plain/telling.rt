@@ -1,5 +1,5 @@
 //! Telling a selection what is ready.
-ghost use Rattle.std.specs.Prelude.{◌≡◌, ◌==◌, false, slice_index};
+ghost use Rattle.std.specs.Prelude.{◌≡◌, ◌==◌, false};
 ghost use Rattle.nio_plain.specs.Plain.{Replies, RepliesAs};
 ghost use Rattle.nio_plain.specs.PlainState.{rules_of, state_of};
 ghost use Rattle.nio_plain.specs.Seq.Selections.{failed_call, goes_on, is_again, told_call, why_ended};

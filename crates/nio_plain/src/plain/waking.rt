@@ -1,11 +1,11 @@
 //! Wakeups and interrupts.
-ghost use Rattle.std.specs.Prelude.{◌≡◌, ◌<◌};
+ghost use Rattle.std.specs.Prelude.{◌<◌};
 ghost use Rattle.nio_plain.specs.Plain.{Replies};
 ghost use Rattle.nio_plain.specs.PlainState.{limits_of, state_of};
 ghost use Rattle.nio_plain.specs.Seq.Wakeups.{interrupt_call, interrupted_call, wakeup_call};
 
 use super::Plain;
-use super::channels::yes_or_no;
+use crate::replies::yes_or_no;
 use nio_base::{CallerNo, SelNo};
 use nio_language::Reply;
 

@@ -1,8 +1,10 @@
 //! One selection, whose poll's answer is told by channels.
-ghost use Rattle.std.specs.Prelude.{◌≡◌, IfOk, IfSome, bit_and};
+ghost use Rattle.std.specs.Prelude.{◌≡◌, IfOk, IfSome, OnErr, OnOk, bit_and};
 ghost use Rattle.nio_poller.specs.Polls.{CountsFaults, told_of_channel};
 ghost use Rattle.nio_poller.specs.declared.poller.PollError.TheVariants.{Fault};
+ghost use Rattle.nio_select.specs.InProgress.{poll_of};
 ghost use Rattle.nio_serve.specs.Board.{AreOrdered, AreReady, IsAskedFor, IsAtRest, IsSelecting, board_of};
+ghost use Rattle.nio_serve.specs.BoardCalls.{BeginsSelection, FailsToBegin, HasMade, LeavesSelection, TellsPoll};
 
 use super::Station;
 use crate::deal::Deal;
@@ -26,6 +28,10 @@ pub(super) fn begin(
     requires { IsAtRest (board_of w.now p.old at) }
     ensures rest { IsAtRest (board_of w.now p.new at) }
     ensures begun { IfOk result (IsSelecting (board_of w.now p.new at)) }
+    ensures made { IfOk result (λ selection. HasMade (board_of w.now p.old at) (board_of w.now p.new at)
+        (BeginsSelection at.selector selection)) }
+    ensures refused { OnErr result (HasMade (board_of w.now p.old at) (board_of w.now p.new at)
+        (FailsToBegin at.selector)) }
 {
     match try_begin(alloc, w, p, at.caller, at.selector, Mode::Wait) {
         Ok(selection) => Ok(selection),
@@ -37,7 +43,8 @@ pub(super) fn begin(
 pub(super) fn leave(w: &Words, p: &mut Pass, at: Station, selection: Selecting)
     requires rest { IsAtRest (board_of w.now p.old at) }
     requires begun { IsSelecting (board_of w.now p.old at) selection }
-    ensures { IsAtRest (board_of w.now p.new at) }
+    ensures rest { IsAtRest (board_of w.now p.new at) }
+    ensures made { HasMade (board_of w.now p.old at) (board_of w.now p.new at) (LeavesSelection selection) }
 {
     selection.leave(w, p, at.caller);
 }
@@ -54,6 +61,10 @@ pub(super) fn end(
     requires rest { IsAtRest (board_of w.now p.old at) }
     requires begun { IsSelecting (board_of w.now p.old at) selection }
     ensures rest { IsAtRest (board_of w.now p.new at) }
+    ensures made { OnOk result (HasMade (board_of w.now p.old at) (board_of w.now p.new at)
+        (TellsPoll selection (poll_of answer.now))) }
+    ensures left { OnErr result (HasMade (board_of w.now p.old at) (board_of w.now p.new at)
+        (LeavesSelection selection)) }
     ensures ready { IfOk result (λ _. AreReady (told_of_channel selection.looked answer.now.pairs.items)
         told.new.items) }
     ensures ordered { IfOk result (λ _. AreOrdered told.new.items) }
@@ -74,7 +85,9 @@ pub(super) fn end(
 pub(super) fn tell(w: &Words, p: &mut Pass, at: Station, selection: Selecting, answer: &Told)
     requires rest { IsAtRest (board_of w.now p.old at) }
     requires begun { IsSelecting (board_of w.now p.old at) selection }
-    ensures { IsAtRest (board_of w.now p.new at) }
+    ensures rest { IsAtRest (board_of w.now p.new at) }
+    ensures made { HasMade (board_of w.now p.old at) (board_of w.now p.new at)
+        (TellsPoll selection (poll_of answer.now)) }
 {
     match selection.told(w, p, at.caller, answer) {
         After::Done(_selected) => {}

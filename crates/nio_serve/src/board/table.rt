@@ -1,8 +1,12 @@
 //! The calls on the table: watching a channel, and leaving it.
-ghost use Rattle.std.specs.Prelude.{◌≡◌, IfOk, IfSome, OnErr, OnOk};
+ghost use Rattle.std.specs.Prelude.{◌≡◌, ◌^◌, ◌≤◌, [], ◌∷◌, IfOk, MatchOption, None, OnErr, OnOk, Some};
 ghost use Rattle.nio_history.specs.PassViews.{HasChannel};
 ghost use Rattle.nio_words.specs.Views.{view};
 ghost use Rattle.nio_serve.specs.Board.{IsAtRest, board_of, next_channel, one_more};
+ghost use Rattle.nio_serve.specs.BoardCalls.{AreMade, CancelsKey, ClosesChannel, FailsToFind, FailsToOpen};
+ghost use Rattle.nio_serve.specs.BoardCalls.{FailsToRegister, FailsToSet};
+ghost use Rattle.nio_serve.specs.BoardCalls.{FailsToTake, FailsToWatch, HasMade, SetsInterest, Unwatches};
+ghost use Rattle.nio_serve.specs.BoardCalls.{WatchesChannel, finds_channel, registers, takes};
 ghost use Rattle.nio_serve.specs.Called.{channel_in};
 
 use super::{Port, Refused, Station};
@@ -15,7 +19,8 @@ use std::sync::Wait;
 impl Station {
     // The table's channel that is a channel of the board. None where its number is too large.
     fn table_channel(&self, chan: ChanNo) -> Option<ChanNo>
-        ensures { IfSome result (λ c. c ≡ channel_in self.now.deal chan) }
+        ensures { MatchOption result (2 ^ 32 ≤ (channel_in self.now.deal chan).0)
+            (λ c. c ≡ channel_in self.now.deal chan) }
     {
         match self.deal {
             None => Some(chan),
@@ -36,6 +41,10 @@ pub(super) fn watch_next<R: Wait>(
     requires { IsAtRest (board_of w.now p.old at) }
     ensures watched { OnOk result (IsAtRest (board_of w.now p.new (one_more at))) }
     ensures refused { OnErr result (IsAtRest (board_of w.now p.new at)) }
+    ensures made { IfOk result (λ key. HasMade (board_of w.now p.old at) (board_of w.now p.new at)
+        (WatchesChannel at.deal at.selector kind (next_channel at) ops key)) }
+    ensures failed { OnErr result (HasMade (board_of w.now p.old at) (board_of w.now p.new at)
+        (FailsToWatch at.deal at.selector kind (next_channel at) ops)) }
 {
     let chan = take_next(w, p, at, kind)?;
     if set_blocking(rt, w, p, at.caller, chan, false).is_err() {
@@ -51,6 +60,10 @@ fn take_next(w: &Words, p: &mut Pass, at: Station, kind: Kind) -> Result<ChanNo,
     ensures rest { IsAtRest (board_of w.now p.new at) }
     ensures next { IfOk result (λ c. c ≡ next_channel at) }
     ensures made { IfOk result (HasChannel (view w.now p.new)) }
+    ensures taken { OnOk result (AreMade (board_of w.now p.old at) (board_of w.now p.new at)
+        (takes at.deal kind (next_channel at) ∷ [])) }
+    ensures failed { OnErr result (HasMade (board_of w.now p.old at) (board_of w.now p.new at)
+        (FailsToTake kind (next_channel at) at.deal)) }
 {
     let Some(next) = at.table_channel(ChanNo(at.registered)) else {
         return Err(Refused);
@@ -73,6 +86,10 @@ fn open_next(
     ensures rest { IsAtRest (board_of w.now p.new at) }
     ensures its { IfOk result (λ c. c ≡ chan) }
     ensures made { IfOk result (HasChannel (view w.now p.new)) }
+    ensures taken { OnOk result (AreMade (board_of w.now p.old at) (board_of w.now p.new at)
+        (takes None kind chan ∷ [])) }
+    ensures failed { OnErr result (HasMade (board_of w.now p.old at) (board_of w.now p.new at)
+        (FailsToOpen kind chan)) }
 {
     match open_channel(w, p, at.caller, kind) {
         Ok(made) if made == chan => Ok(made),
@@ -90,11 +107,15 @@ fn find_made(w: &Words, p: &mut Pass, at: Station, chan: ChanNo) -> Result<ChanN
     ensures rest { IsAtRest (board_of w.now p.new at) }
     ensures its { IfOk result (λ c. c ≡ chan) }
     ensures made { IfOk result (HasChannel (view w.now p.new)) }
+    ensures taken { OnOk result (AreMade (board_of w.now p.old at) (board_of w.now p.new at)
+        (finds_channel chan (Some chan) ∷ [])) }
+    ensures failed { OnErr result (HasMade (board_of w.now p.old at) (board_of w.now p.new at)
+        (FailsToFind chan)) }
 {
-    match find_channel(w, p, at.caller, chan.0) {
-        Some(made) if made == chan => Ok(made),
-        Some(_) | None => Err(Refused),
-    }
+    let Some(made) = find_channel(w, p, at.caller, chan.0) else {
+        return Err(Refused);
+    };
+    if made == chan { Ok(made) } else { Err(Refused) }
 }
 
 // Registers the next channel of the board, which is this one of the table, and closes it where that is refused.
@@ -111,6 +132,10 @@ fn register_made<R: Wait>(
     requires channel { HasChannel (view w.now p.old) chan }
     ensures watched { OnOk result (IsAtRest (board_of w.now p.new (one_more at))) }
     ensures refused { OnErr result (IsAtRest (board_of w.now p.new at)) }
+    ensures made { IfOk result (λ key. AreMade (board_of w.now p.old at) (board_of w.now p.new at)
+        (registers at.selector chan ops key ∷ [])) }
+    ensures failed { OnErr result (HasMade (board_of w.now p.old at) (board_of w.now p.new at)
+        (FailsToRegister at.selector chan ops)) }
 {
     match register(rt, w, p, at.caller, at.selector, chan, ops, 0) {
         Ok(key) => Ok(key),
@@ -130,7 +155,11 @@ pub(super) fn set_interest_of(
     ops: Ops,
 ) -> Result<(), Refused>
     requires { IsAtRest (board_of w.now p.old at) }
-    ensures { IsAtRest (board_of w.now p.new at) }
+    ensures rest { IsAtRest (board_of w.now p.new at) }
+    ensures made { OnOk result (HasMade (board_of w.now p.old at) (board_of w.now p.new at)
+        (SetsInterest at.selector key ops)) }
+    ensures refused { OnErr result (HasMade (board_of w.now p.old at) (board_of w.now p.new at)
+        (FailsToSet at.selector key ops)) }
 {
     let Some(key) = find(w, p, at.caller, at.selector, key.index, key.serial) else {
         return Err(Refused);
@@ -144,7 +173,9 @@ pub(super) fn set_interest_of(
 // Cancels the port's key, and closes its channel, as far as the table has them.
 pub(super) fn unwatch_port(w: &Words, p: &mut Pass, at: Station, port: Port)
     requires { IsAtRest (board_of w.now p.old at) }
-    ensures { IsAtRest (board_of w.now p.new at) }
+    ensures rest { IsAtRest (board_of w.now p.new at) }
+    ensures made { HasMade (board_of w.now p.old at) (board_of w.now p.new at)
+        (Unwatches at.deal at.selector port.key port.chan) }
 {
     cancel_key(w, p, at, port.key);
     if let Some(chan) = at.table_channel(port.chan) {
@@ -154,7 +185,9 @@ pub(super) fn unwatch_port(w: &Words, p: &mut Pass, at: Station, port: Port)
 
 fn cancel_key(w: &Words, p: &mut Pass, at: Station, key: KeyNo)
     requires { IsAtRest (board_of w.now p.old at) }
-    ensures { IsAtRest (board_of w.now p.new at) }
+    ensures rest { IsAtRest (board_of w.now p.new at) }
+    ensures made { HasMade (board_of w.now p.old at) (board_of w.now p.new at)
+        (CancelsKey at.selector key) }
 {
     if let Some(key) = find(w, p, at.caller, at.selector, key.index, key.serial) {
         cancel(w, p, at.caller, key);
@@ -163,7 +196,9 @@ fn cancel_key(w: &Words, p: &mut Pass, at: Station, key: KeyNo)
 
 fn close_made(w: &Words, p: &mut Pass, at: Station, chan: ChanNo)
     requires { IsAtRest (board_of w.now p.old at) }
-    ensures { IsAtRest (board_of w.now p.new at) }
+    ensures rest { IsAtRest (board_of w.now p.new at) }
+    ensures made { HasMade (board_of w.now p.old at) (board_of w.now p.new at)
+        (ClosesChannel chan) }
 {
     if let Some(made) = find_channel(w, p, at.caller, chan.0) {
         close_channel(w, p, at.caller, made);

@@ -1,5 +1,8 @@
-use Rattle.std.proofs.Common.{◌∙◌, length, sym}
+use Rattle.std.proofs.Common.{◌∙◌, ap, length, sym}
 use Rattle.std.specs.Fmt.{decimal}
+use Rattle.nio_plain.proofs.Replying.{on_err}
+use Rattle.nio_plain.specs.Answer.{left_from}
+use Rattle.nio_script.proofs.Made.{makes_all}
 use Rattle.nio_load.proofs.Summing.{if_ok_map, summary_pieces}
 use Rattle.nio_load.proofs.summary.summarize.Goals as goal
 
@@ -14,3 +17,12 @@ returns-clause-summary g c =
     (λ text is. is
     ∙ summary_pieces (decimal (length c.args.calls.now)) (decimal tally.selections) (decimal tally.updates))
     c.format.ensures.ok)
+
+pub returns-clause-memory : goal.returns-clause-memory
+returns-clause-memory g c =
+    let y = g.Y.System in
+    let before = c.args.system.now in
+    let calls = c.args.calls.now in
+    on_err c.format.result (makes_all y before c.tally_calls.new.system calls
+    (c.in_ok-tally.ensures.left ∙ ap (λ st. left_from (y.rules before) (y.limits before) st calls)
+    (sym c.requires.opening)))

@@ -9,13 +9,13 @@ returns-in_err-give_sink-clause-rest c =
 
 pub returns-clause-parted : goal.returns-clause-parted
 returns-clause-parted c =
-    let sink = c.in_ok-source.sink in
+    let sink = c.in-Ok.sink in
     record {
       reader = refl;
       writer = refl;
-      source = c.in_ok-source.source;
+      source = c.in-Ok.source;
       sink = sink;
-      parts = c.in_ok-source.ensures;
+      parts = c.in-Ok.ensures.parts;
       sources = λ n. c.in_ok-give_sink.ensures.given.sources n ∙ c.in_ok-give_source.ensures.given.sources n;
       sinks = λ n. c.in_ok-give_sink.ensures.given.sinks n
           ∙ ap (λ sinks. sinks ++ (if c.args.owned.writer.0 == n.0 then sink ∷ [] else []))

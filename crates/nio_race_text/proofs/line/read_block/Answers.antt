@@ -37,5 +37,5 @@ returns c =
     let word = c.in_ok-selector.selector in
     finds_block c.args.line.now cut.caller.now cut.rest.now cut.ensures.only word.now
     (strip_prefix_is Decides-eqb cut.rest.now (codes "block ") (Some word) c.in_ok-selector.ensures.cases)
-    (record { 0 = c.in_ok-caller-2.caller }) (record { 0 = c.in_ok-selector-2.selector }) cut.ensures.found
+    c.in_ok-caller-2.caller c.in_ok-selector-2.selector cut.ensures.found
     c.in_ok-caller-2.ensures c.in_ok-selector-2.ensures

@@ -3,8 +3,8 @@ use Rattle.std.proofs.lemmas.List.{length-map, take_all}
 use Rattle.std.proofs.lemmas.Result.{err_from_is_err_and}
 use Rattle.nio_race_text.specs.RaceLines.{AreRaceLines, no_lines}
 use Rattle.nio_script.specs.declared.script.ScriptError.TheVariants.{BadLine}
-use Rattle.nio_script.proofs.Lines.{next_now, reads_more}
-use Rattle.nio_race_text.proofs.Parts.{AreRaceLines-append, AreRaceLines-behind, stops_here}
+use Rattle.nio_script.proofs.Lines.{next_now, reads_more, stops_here}
+use Rattle.nio_race_text.proofs.Parts.{AreRaceLines-append, AreRaceLines-behind}
 use Rattle.nio_race_text.proofs.lines.read_race.Goals as goal
 
 pub loop-line-init : goal.loop-line-init

@@ -85,7 +85,7 @@ returns-in-Ok-Proxy-clause-no_net g c = λ other. absurd (other
 pub returns-in-Ok-Load-clause-load : goal.returns-in-Ok-Load-clause-load
 returns-in-Ok-Load-clause-load g c = λ rounds says.
     subst (λ (n : ℕ). DoesLoad g.K.Sink c.args.table.now n c.args.output.now c.load_on_table.new.output
-    c.load_on_table.new.pass c.load_on_table.result)
+    c.args.pass.now c.load_on_table.new.pass c.load_on_table.result)
     (its_rounds c.in-Ok-Load.field-0 c.in-Ok-Load.rounds rounds c.in-Ok-Load.field-0-is
     ((c.in-Ok-Load.ensures.load rounds).1 says)) c.load_on_table.ensures.load
 

@@ -1,6 +1,9 @@
-use Rattle.std.proofs.Common.{◌≡◌, ap, ◌∙◌, subst}
+use Rattle.std.proofs.Common.{◌≡◌, ℕ, List, ap, ◌∙◌, subst, inr}
+use mathlib.Core.List.{IsPrefix}
 use Rattle.nio_base.specs.declared.limits.Limits.{Limits}
-use Rattle.nio_plain.specs.Answer.{answer_to, left_by_script}
+use Rattle.nio_language.specs.Script.{IsScript}
+use Rattle.nio_language.specs.declared.call.ScriptCall.{ScriptCall}
+use Rattle.nio_plain.specs.Answer.{answer_to, left_by_script, left_from}
 use Rattle.nio_plain.specs.ScriptState.{ScriptState, script_opening}
 use Rattle.nio_plain.specs.declared.rules.Rules.TheVariants.{Now}
 use Rattle.nio_script.specs.Output.{IsWritten, WritesPrefix}
@@ -9,8 +12,8 @@ use Rattle.nio_sole.specs.Drawn.{draws}
 use Rattle.nio_sole.specs.Sole.{pass_of, state_of, words_of}
 use Rattle.nio_sole.specs.declared.sole.Sole.{Sole}
 use Rattle.nio_words.specs.Passes.{limits_of, seen}
-use Rattle.nio_run.specs.Commands.{DrewAlone, Leaves}
-use Rattle.nio_run.proofs.Leaving.{either_way, joined_table, leaves, sees_last}
+use Rattle.nio_run.specs.Commands.{DrewAlone, IsCutShortOn, IsUntouchedOn, Leaves}
+use Rattle.nio_run.proofs.Leaving.{either_way, joined_table, leaves, leaves_prefix, sees_last}
 use Rattle.nio_run.proofs.program.run_on_table.Goals as goal
 
 pub join-requires-clause-other : goal.join-requires-clause-other
@@ -33,6 +36,27 @@ returns-in-Ok-clause-script g c =
     c.join.new.p c.in-Ok.ensures.sight c.into_pass.ensures.pass c.join.ensures
     ∙ (ap (λ (s : Sole). seen (pass_of s)) uncalled
     ∙ (c.in-Ok.ensures.draws ∙ ap (λ (l : Limits). history_of (draws l.callers)) same)) in
+    let untouched : c.run_script-status.new.output ≡ c.args.output.now → c.run_script-status.new.system ≡ first
+    → IsUntouchedOn w c.args.output.now c.run_script-status.new.output c.join.new.p = λ unwritten uncalled. record {
+      unwritten = unwritten;
+      uncalled = left script_opening (ap state_of uncalled ∙ c.in-Ok.ensures.opening);
+      drew = drew uncalled;
+    } in
+    let cut : (text : List ℕ) (calls made : List ScriptCall) → IsScript text calls
+    → WritesPrefix g.K.Sink c.args.output.now c.run_script-status.new.output
+    (answer_to Now (limits_of (words_of first)) calls)
+    → IsPrefix made calls
+    → state_of c.run_script-status.new.system ≡ left_from Now (limits_of (words_of first)) (state_of first) made
+    → IsCutShortOn g.K.Sink w c.args.output.now c.run_script-status.new.output c.join.new.p text
+    = λ text calls made script written begins is. record {
+      calls = calls;
+      script = script;
+      written = subst
+          (λ (l : Limits). WritesPrefix g.K.Sink c.args.output.now c.run_script-status.new.output
+          (answer_to Now l calls)) same written;
+      left = leaves_prefix w first c.run_script-status.new.system its.kept c.in-Ok.ensures.table c.join.new.p left
+          c.in-Ok.ensures.opening made calls begins is;
+    } in
     record {
       done = λ is. let read = its.done is in (
         read.0,
@@ -61,32 +85,16 @@ returns-in-Ok-clause-script g c =
       write_fault = λ is. let read = its.write_fault is in (
         read.0,
         read.1,
-        record {
-          calls = read.2.calls;
-          script = read.2.script;
-          written = subst
-              (λ (l : Limits). WritesPrefix g.K.Sink c.args.output.now c.run_script-status.new.output
-              (answer_to Now l read.2.calls)) same read.2.written;
-        },
+        cut read.0 read.2.calls read.2.left.made read.2.script read.2.written read.2.left.begins read.2.left.left,
       );
-      memory = λ is. either_way (λ none. none.unwritten) (λ read. (
+      memory = λ is. inr (either_way (λ none. untouched none.unwritten none.uncalled) (λ read. (
         read.0,
         read.1,
-        record {
-          calls = read.2.calls;
-          script = read.2.script;
-          written = subst
-              (λ (l : Limits). WritesPrefix g.K.Sink c.args.output.now c.run_script-status.new.output
-              (answer_to Now l read.2.calls)) same read.2.written;
-        },
-      )) (its.memory is);
-      unread = λ is. let none = its.unread is in
-          record {
-            unwritten = none.unwritten;
-            uncalled = left script_opening (ap state_of none.uncalled ∙ c.in-Ok.ensures.opening);
-            drew = drew none.uncalled;
-          };
+        cut read.0 read.2.calls read.2.left.made read.2.script read.2.written read.2.left.begins read.2.left.left,
+      )) (its.memory is));
+      unread = λ is. untouched (its.unread is).unwritten (its.unread is).uncalled;
       ends = its.ends;
+      kept = c.join.ensures.pass;
       of_script = its.of_script;
       of_bad = its.of_bad;
       of_long = its.of_long;

@@ -1,7 +1,7 @@
 use Rattle.std.proofs.Common.{◌≡◌, ◌+◌, ◌∷◌, drop, suc, sym, ap, subst, drop-cons, add-one}
 use Rattle.nio_script.specs.Output.{WritesPrefix}
 use Rattle.nio_script.proofs.Writing.{writes_prefix_after}
-use Rattle.nio_script.proofs.Running.{IsRunning, stops, goes_on}
+use Rattle.nio_script.proofs.Running.{IsRunning, stops, stops_amid, goes_on}
 use Rattle.nio_script.proofs.run.run_calls.Goals as goal
 use Rattle.nio_script.proofs.run.run_calls.Goals.{After-answer_call}
 use Rattle.nio_plain.proofs.Replying.{on_err}
@@ -34,6 +34,13 @@ returns-in_err-answer_call-clause-err g c =
     (running g (goal.at.returns-in_err-answer_call-clause-err g c).After-answer_call)
     c.in_err-answer_call.ensures.err)
 
+pub returns-in_err-answer_call-clause-err_left : goal.returns-in_err-answer_call-clause-err_left
+returns-in_err-answer_call-clause-err_left g c =
+    on_err c.from_residual.result
+    (stops_amid g.K.Sink g.Y.System _ _ c.answer_call.new.output _ _ _ _ _ _ _
+    (running g (goal.at.returns-in_err-answer_call-clause-err_left g c).After-answer_call)
+    c.answer_call.new.system c.in_err-answer_call.ensures.err_left)
+
 pub loop-index-preserved : goal.loop-index-preserved
 loop-index-preserved g c =
     let laws = g.met.Y.System in
@@ -56,3 +63,12 @@ returns-clause-err g c =
     c.loop-index.kept.items _ before.written
     (subst (WritesPrefix g.K.Sink c.loop-index.output c.write_out.new.sink) c.deref.ensures.value some)))
     c.write_out.ensures.err
+
+pub returns-clause-err_left : goal.returns-clause-err_left
+returns-clause-err_left g c =
+    let before = c.loop-index.invariant in
+    on_err c.write_out.result (record {
+      made = before.made;
+      begins = (drop c.loop-index.index c.args.calls.now, before.parts);
+      left = before.left;
+    })

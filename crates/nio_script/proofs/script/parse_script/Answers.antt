@@ -1,49 +1,20 @@
-use Rattle.std.proofs.Common.{◌≡◌, ◌+◌, Err, map, refl, sym, ◌∙◌, ap, subst, arith}
-use Rattle.std.proofs.lemmas.List.{length-map, take_all}
-use Rattle.std.proofs.lemmas.Result.{err_from_is_err_and}
-use Rattle.nio_language.specs.Script.{AreCalls, IsFirstBad, lines_of, no_lines}
-use Rattle.nio_language.proofs.OneReading.{calls_one}
-use Rattle.nio_script.specs.declared.script.ScriptError.TheVariants.{BadLine}
-use Rattle.nio_script.proofs.FirstBad.{AreCalls-append, IsFirstBad-here, script_not_bad}
-use Rattle.nio_script.proofs.Lines.{next_now, only_memory, reads_more}
+use Rattle.std.proofs.Common.{◌≡◌, IfOk, map, ◌∙◌, ap, subst}
+use Rattle.nio_language.specs.Script.{AreCalls, lines_of}
+use Rattle.nio_script.specs.Entries.{StopsAt}
+use Rattle.nio_script.proofs.FirstBad.{first_bad_from_stop, only_calls}
 use Rattle.nio_script.proofs.script.parse_script.Goals as goal
-
-pub loop-line-init : goal.loop-line-init
-loop-line-init c = (refl, rw c.new-calls.ensures.items no_lines)
-
-pub overflow_add-number : goal.overflow_add-number
-overflow_add-number c = omega (arith, c.loop-line.invariant.0, c.deref-line-items.type_inv.0)
-
-pub loop-line-preserved : goal.loop-line-preserved
-loop-line-preserved c = (
-  omega arith,
-  reads_more AreCalls (next_now c.deref-line-items.result.now c.loop-line.line-index _ c.loop-line-test.true)
-      c.in_ok-read_line.ensures.read
-      (λ added. AreCalls-append c.loop-line.invariant.1),
-)
-
-pub returns-in_err-read_line-clause-bad : goal.returns-in_err-read_line-clause-bad
-returns-in_err-read_line-clause-bad c line is =
-    let p = err_from_is_err_and c.from_residual-in_err-read_line.result c.from_residual-in_err-read_line.ensures.1 in
-    let named : p.0 ≡ BadLine line = cc in
-    let b = c.in_err-read_line.ensures.bad line (ap Err (sym p.2 ∙ named)) in
-    subst (IsFirstBad c.args.text.now) (sym (b.0 ∙ ap (λ n. n + 1) c.loop-line.invariant.0))
-    (IsFirstBad-here (ap (map (λ r. r.now)) c.deref-line-items.ensures.value ∙ c.in_ok-lines.ensures)
-    (next_now c.deref-line-items.result.now c.loop-line.line-index _ c.loop-line-test.true) c.loop-line.invariant.1 b.1)
-
-pub returns-in_err-read_line-clause-only : goal.returns-in_err-read_line-clause-only
-returns-in_err-read_line-clause-only c calls are =
-    let p = err_from_is_err_and c.from_residual-in_err-read_line.result c.from_residual-in_err-read_line.ensures.1 in
-    rw p.1 (only_memory p.0
-    (λ n named. script_not_bad _ calls n are (returns-in_err-read_line-clause-bad c n (p.1 ∙ ap Err named))))
 
 pub returns-clause-ok : goal.returns-clause-ok
 returns-clause-ok c =
-    let lines = map (λ r. r.now) c.deref-line-items.result.now in
-    let text : lines ≡ lines_of c.args.text.now = ap (map (λ r. r.now)) c.deref-line-items.ensures.value
-    ∙ c.in_ok-lines.ensures in
-    subst (λ ls. AreCalls ls c.loop-line.calls.items)
-    (take_all c.loop-line.line-index lines (simp length-map c.loop-line-test.false) ∙ text) c.loop-line.invariant.1
+    let lines = map (λ r. r.now) c.deref.result.now in
+    let text : lines ≡ lines_of c.args.text.now = ap (map (λ r. r.now)) c.deref.ensures.value ∙ c.in_ok-lines.ensures in
+    subst (λ ls. IfOk c.read_calls.result (λ calls. AreCalls ls calls.items)) text c.read_calls.ensures.ok
+
+pub returns-clause-bad : goal.returns-clause-bad
+returns-clause-bad c n is =
+    let lines = map (λ r. r.now) c.deref.result.now in
+    let text : lines ≡ lines_of c.args.text.now = ap (map (λ r. r.now)) c.deref.ensures.value ∙ c.in_ok-lines.ensures in
+    first_bad_from_stop (subst (λ ls. StopsAt AreCalls 0 ls n) text (c.read_calls.ensures.bad n is))
 
 pub returns-clause-only : goal.returns-clause-only
-returns-clause-only c all are = calls_one (returns-clause-ok c) are
+returns-clause-only c = only_calls (λ v. v.items) c.read_calls.result (returns-clause-ok c) (returns-clause-bad c)

@@ -5,6 +5,6 @@ pub returns-clause-client : goal.returns-clause-client
 returns-clause-client g c =
     let apart = c.requires.apart in
     let work = c.pass_end.ensures.work in
-    let passed = end_moved (work.links c.args.client apart apart) (work.places c.args.client apart apart)
+    let passed = end_moved (work.links c.args.links.client apart apart) (work.places c.args.links.client apart apart)
     (end_source c.args.back.now c.pass_end.ensures.source c.requires.client) in
     c.pass_end-2.ensures.sink c.pass_end.new.incoming passed

@@ -7,7 +7,7 @@ returns-clause-quiet g c =
     let once = c.close.ensures in
     let twice = c.close-2.ensures in
     quiet_then n _ _ _
-    (quiet_close n c.args.client _ _ once.links once.place once.places once.ready once.faults once.polls
+    (quiet_close n c.args.links.client _ _ once.links once.place once.places once.ready once.faults once.polls
     once.accepted)
-    (quiet_close n c.args.target _ _ twice.links twice.place twice.places twice.ready twice.faults twice.polls
+    (quiet_close n c.args.links.target _ _ twice.links twice.place twice.places twice.ready twice.faults twice.polls
     twice.accepted)

@@ -9,11 +9,11 @@ returns-in-Some-Err-clause-slot g c =
     let made = c.in-Some-Err.ensures.made in
     let hung = c.hang_up.ensures in
     unmade_slot c.args.relay c.args.to _ _ _ _ _ _ _ _ c.requires.stage c.requires.slot
-    (hung.quiet.links c.args.client ∙ made.links c.args.client)
-    (hung.quiet.links c.args.target ∙ made.links c.args.target) c.in-Some-Err.field-0-0 _ _
-    (made.places c.args.client c.requires.apart)
+    (hung.quiet.links c.args.links.client ∙ made.links c.args.links.client)
+    (hung.quiet.links c.args.links.target ∙ made.links c.args.links.target) c.in-Some-Err.field-0-0 _ _
+    (made.places c.args.links.client c.requires.apart)
     (made.place ∙ ap (λ r. place_after_connect r c.args.to) c.in-Some-Err.field-0-is) hung.client
-    (hung.quiet.places c.args.target) hung.target
+    (hung.quiet.places c.args.links.target) hung.target
 
 pub returns-in-Some-Err-clause-begins : goal.returns-in-Some-Err-clause-begins
 returns-in-Some-Err-clause-begins g c =
@@ -27,7 +27,7 @@ returns-in-Some-Err-clause-begins g c =
       later = λ k. omega (
         arith,
         hung.quiet.faults k,
-        later_all (g.W.Way.faults c.args.net.now) (g.W.Way.faults c.connect.new.net) c.args.target made.cause.later
+        later_all (g.W.Way.faults c.args.net.now) (g.W.Way.faults c.connect.new.net) c.args.links.target made.cause.later
             made.others k,
       );
       polls = hung.quiet.polls ∙ made.polls;

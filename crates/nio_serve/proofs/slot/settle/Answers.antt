@@ -9,7 +9,7 @@ pub returns-then-is_err-clause-slot : goal.returns-then-is_err-clause-slot
 returns-then-is_err-clause-slot g c =
     ended_faulty c.args.relay.there c.args.relay.back _ _ _ _ _ _ _ c.requires.there c.requires.back
     (where_failed c.args.served (sym c.is_err.ensures.value ∙ c.if-is_err.true) c.requires.broken)
-    (c.hang_up.ensures.quiet.links c.args.client) (c.hang_up.ensures.quiet.links c.args.target)
+    (c.hang_up.ensures.quiet.links c.args.links.client) (c.hang_up.ensures.quiet.links c.args.links.target)
     c.hang_up.ensures.client c.hang_up.ensures.target
 
 pub returns-then-is_err-clause-roles : goal.returns-then-is_err-clause-roles
@@ -24,7 +24,7 @@ returns-then-is_shut-2-clause-slot g c =
     still_live c.args.served c.args.relay.stage c.args.relay.there c.args.relay.back _ _ _ _
     (sym c.is_err.ensures.value ∙ c.if-is_err.false) c.requires.relaying c.requires.there c.requires.back in
     ended_clean c.args.relay.stage c.args.relay.there c.args.relay.back _ _ _ _ _ _ _ _ live
-    (ended.quiet.links c.args.client) (ended.quiet.links c.args.target) ended.client ended.target
+    (ended.quiet.links c.args.links.client) (ended.quiet.links c.args.links.target) ended.client ended.target
     (sym c.is_shut.ensures ∙ c.if-is_shut.true) (sym c.is_shut-then-is_shut.ensures ∙ c.if-is_shut-2.true)
 
 pub returns-then-is_shut-2-clause-roles : goal.returns-then-is_shut-2-clause-roles

@@ -1,12 +1,13 @@
 use Rattle.std.proofs.Common.{false, subst}
 use Rattle.nio_audit.specs.Bounds.{IsBounded}
 use Rattle.nio_audit.specs.StateOf.{state_with}
+use Rattle.nio_audit.specs.StepNumbers.{number_of}
 use Rattle.nio_audit.proofs.state.StateTables.apply.Goals as goal
 use Rattle.nio_history.specs.declared.act.Act.{Act}
 
 pub claim_again-requires : goal.claim_again-requires
 claim_again-requires c =
-    subst (λ (a : Act). IsBounded (state_with c.args.self.now (λ _ _. false)) a) c.in-ClaimAgain.is
+    subst (λ (a : Act). IsBounded (state_with c.args.self.now (λ _ _. false)) (number_of a)) c.in-ClaimAgain.is
     (c.requires (λ _ _. false))
 
 pub returns-in-MakeChannel : goal.returns-in-MakeChannel

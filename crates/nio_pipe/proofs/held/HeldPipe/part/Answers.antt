@@ -6,21 +6,21 @@ use Rattle.nio_pipe.proofs.KeptLemmas.{waiting-items}
 use Rattle.nio_pipe.proofs.held.HeldPipe.part.Goals as goal
 
 -- what was taken over is what waited
-taken_over : (c : goal.After-drop-buffer-2) → sent c.take_over.new.self ≡ waiting c.args.self
+taken_over : (c : goal.After-drop-buffer) → sent c.take_over.new.self ≡ waiting c.args.self
 taken_over c =
     let h = c.self.inside in
     c.take_over.ensures.sent
     ∙ (c.as_slices.ensures
     ∙ (sym (waiting-items h.sent h.received h.buffer c.self.invariant) ∙ ap waiting c.self.view_is))
 
-none_read : (c : goal.After-drop-buffer-2) → received c.beside.new.self ≡ []
+none_read : (c : goal.After-drop-buffer) → received c.beside.new.self ≡ []
 none_read c = c.beside.ensures.source.received ∙ c.ends-source.ensures.ends.none_received
 
-sealed : (c : goal.After-drop-buffer-2) → is_sealed c.beside.new.sink ≡ c.args.self.sealed
+sealed : (c : goal.After-drop-buffer) → is_sealed c.beside.new.sink ≡ c.args.self.sealed
 sealed c = c.beside.ensures.sink.seal ∙ (c.take_over.ensures.seal ∙ ap (λ pipe. pipe.sealed) c.self.view_is)
 
-pub returns : goal.returns
-returns c =
+pub returns-clause-parts : goal.returns-clause-parts
+returns-clause-parts c =
     let look = c.look_beside.ensures in
     let all : known c.beside.new.self ≡ waiting c.args.self =
     ap (λ xs. xs ++ known c.beside.new.self) (sym (none_read c))

@@ -4,6 +4,6 @@ use Rattle.nio_poller.proofs.scripted.ScriptedPoller.poll.Goals as goal
 
 pub returns-clause-ready : goal.returns-clause-ready
 returns-clause-ready g c =
-    λ channel. last_told-added c.self-2.inside.polls c.extend_from.new.self
+    λ channel. last_told-added c.self-2.inside.polls c.add_to.new.polls
     (record { asked = c.args.asked.now; mode = c.args.mode; answer = poll_of c.next_told-told.result }) channel
-    c.extend_from.ensures
+    c.add_to.ensures

@@ -1,4 +1,6 @@
+use Rattle.std.proofs.Common.{Ok}
 use Rattle.nio_history.proofs.PassViews.{channel_after}
+use Rattle.nio_serve.proofs.BoardCalls.{fails_to_register, made_registration}
 use Rattle.nio_serve.proofs.TableCalls.{rest_closed, rest_refused, rest_watched}
 use Rattle.nio_serve.proofs.board.table.register_made.Goals as goal
 
@@ -15,3 +17,12 @@ returns-in-Err-clause-refused g c =
     rest_closed _ c.close_channel.ensures.call c.close_channel.ensures.ready c.close_channel.ensures.unpinned
     (rest_refused _ _ _ c.in-Err._refusal c.in-Err.is c.register.ensures.call c.register.ensures.ready
     c.register.ensures.unpinned c.requires.rest)
+
+pub returns-in-Ok-clause-made : goal.returns-in-Ok-clause-made
+returns-in-Ok-clause-made g c =
+    made_registration _ _ _ c.args.at c.args.chan c.args.ops (Ok c.in-Ok.key) c.in-Ok.is c.register.ensures.call
+
+pub returns-in-Err-clause-failed : goal.returns-in-Err-clause-failed
+returns-in-Err-clause-failed g c =
+    fails_to_register _ _ c.register.new.p _ c.args.at c.args.chan c.args.ops c.in-Err._refusal c.close_channel.result c.in-Err.is
+    c.register.ensures.call c.close_channel.ensures.call

@@ -12,24 +12,24 @@ use Rattle.nio_serve.proofs.connections.Connections.accept_next.Goals as goal
 pub accept-requires-clause-unasked : goal.accept-requires-clause-unasked
 accept-requires-clause-unasked g c =
     let at : c.len.result ≡ length c.args.self.now.slots.items = search rules in
-    (next_unbegun (g.W.Way.link c.args.net.now) (g.W.Way.place c.args.net.now) c.args.self.now c.links_of.result.0
-    c.links_of.result.1 c.requires.served
-    (c.links_of.ensures.client ∙ ap client_of at) (c.links_of.ensures.target ∙ ap target_of at)).client_unasked
+    (next_unbegun (g.W.Way.link c.args.net.now) (g.W.Way.place c.args.net.now) c.args.self.now c.links_of-links.result.client
+    c.links_of-links.result.target c.requires.served
+    (c.links_of-links.ensures.client ∙ ap client_of at) (c.links_of-links.ensures.target ∙ ap target_of at)).client_unasked
 
 pub take_on-slot-requires : goal.take_on-slot-requires
 take_on-slot-requires g c =
     let at : c.len.result ≡ length c.args.self.now.slots.items = search rules in
     let next =
-    next_unbegun (g.W.Way.link c.args.net.now) (g.W.Way.place c.args.net.now) c.args.self.now c.links_of.result.0
-    c.links_of.result.1 c.requires.served
-    (c.links_of.ensures.client ∙ ap client_of at) (c.links_of.ensures.target ∙ ap target_of at) in
+    next_unbegun (g.W.Way.link c.args.net.now) (g.W.Way.place c.args.net.now) c.args.self.now c.links_of-links.result.client
+    c.links_of-links.result.target c.requires.served
+    (c.links_of-links.ensures.client ∙ ap client_of at) (c.links_of-links.ensures.target ∙ ap target_of at) in
     let accepts = c.in-Ok-true.ensures.begun c.in-Ok-true.field-0-test in
     record {
-      apart = c.links_of.ensures.apart;
-      client_unused = subst IsUnused (sym (accepts.links c.links_of.result.0)) next.client_unused;
-      target_unused = subst IsUnused (sym (accepts.links c.links_of.result.1)) next.target_unused;
+      apart = c.links_of-links.ensures.apart;
+      client_unused = subst IsUnused (sym (accepts.links c.links_of-links.result.client)) next.client_unused;
+      target_unused = subst IsUnused (sym (accepts.links c.links_of-links.result.target)) next.target_unused;
       accepted = c.in-Ok-true.ensures.accepted c.in-Ok-true.field-0-test;
-      unasked = accepts.places c.links_of.result.1 (λ same. c.links_of.ensures.apart (sym same)) ∙ next.target_unasked;
+      unasked = accepts.places c.links_of-links.result.target (λ same. c.links_of-links.ensures.apart (sym same)) ∙ next.target_unasked;
     }
 
 pub add-requires : goal.add-requires
@@ -46,17 +46,17 @@ returns-in-Ok-clause-serving g c =
     let n = g.W.Way in
     let at : c.len.result ≡ length c.args.self.now.slots.items = search rules in
     let accepts = c.in-Ok-true.ensures.begun c.in-Ok-true.field-0-test in
-    serving_new n c.take_on-slot.result.0 c.links_of.result.0 c.links_of.result.1 c.args.net.now c.take_on-slot.new.net
+    serving_new n c.take_on-slot.result.0 c.links_of-links.result.client c.links_of-links.result.target c.args.net.now c.take_on-slot.new.net
     c.args.self.now c.add.new.self
-    (c.links_of.ensures.client ∙ ap client_of at) (c.links_of.ensures.target ∙ ap target_of at) c.requires.served
+    (c.links_of-links.ensures.client ∙ ap client_of at) (c.links_of-links.ensures.target ∙ ap target_of at) c.requires.served
     c.requires.few
-    (begins_then n c.links_of.result.0 c.links_of.result.1 c.args.net.now c.accept.new.net c.take_on-slot.new.net
+    (begins_then n c.links_of-links.result.client c.links_of-links.result.target c.args.net.now c.accept.new.net c.take_on-slot.new.net
     accepts c.take_on-slot.ensures.begins)
     c.add.ensures.slots c.add.ensures.room c.add.ensures.conns c.add.ensures.target
     (c.take_on-slot.ensures.slot c.args.self.now.target)
     c.add.ensures.ended c.add.ensures.faulted
     (λ f. absurd (both_ways (has_faulted (Some c.take_on-slot.result.0)) c.take_on-slot.ensures.unfaulted f))
-    (λ _. c.take_on-slot.ensures.calm ∙ accepts.faults c.links_of.result.1)
+    (λ _. c.take_on-slot.ensures.calm ∙ accepts.faults c.links_of-links.result.target)
     c.take_on-slot.ensures.stands c.add.ensures.accepted c.requires.listening
     (c.take_on-slot.ensures.accepted ∙ accepts.accepted)
 
@@ -65,26 +65,26 @@ returns-in-Err-taken-clause-serving g c =
     let n = g.W.Way in
     let at : c.len.result ≡ length c.args.self.now.slots.items = search rules in
     let accepts = c.in-Ok-true.ensures.begun c.in-Ok-true.field-0-test in
-    serving_new n c.take_on-slot.result.0 c.links_of.result.0 c.links_of.result.1 c.args.net.now c.take_on-slot.new.net
+    serving_new n c.take_on-slot.result.0 c.links_of-links.result.client c.links_of-links.result.target c.args.net.now c.take_on-slot.new.net
     c.args.self.now c.add.new.self
-    (c.links_of.ensures.client ∙ ap client_of at) (c.links_of.ensures.target ∙ ap target_of at) c.requires.served
+    (c.links_of-links.ensures.client ∙ ap client_of at) (c.links_of-links.ensures.target ∙ ap target_of at) c.requires.served
     c.requires.few
-    (begins_then n c.links_of.result.0 c.links_of.result.1 c.args.net.now c.accept.new.net c.take_on-slot.new.net
+    (begins_then n c.links_of-links.result.client c.links_of-links.result.target c.args.net.now c.accept.new.net c.take_on-slot.new.net
     accepts c.take_on-slot.ensures.begins)
     c.add.ensures.slots c.add.ensures.room c.add.ensures.conns c.add.ensures.target
     (c.take_on-slot.ensures.slot c.args.self.now.target)
     c.add.ensures.ended c.add.ensures.faulted
     (λ f. absurd (both_ways (has_faulted (Some c.take_on-slot.result.0)) c.take_on-slot.ensures.unfaulted f))
-    (λ _. c.take_on-slot.ensures.calm ∙ accepts.faults c.links_of.result.1)
+    (λ _. c.take_on-slot.ensures.calm ∙ accepts.faults c.links_of-links.result.target)
     c.take_on-slot.ensures.stands c.add.ensures.accepted c.requires.listening
     (c.take_on-slot.ensures.accepted ∙ accepts.accepted)
 
 pub returns-in-Err-clause-serving : goal.returns-in-Err-clause-serving
 returns-in-Err-clause-serving g c =
     let at : c.len.result ≡ length c.args.self.now.slots.items = search rules in
-    serving_unaccepted g.W.Way c.links_of.result.0 c.args.net.now c.accept.new.net c.args.self.now
+    serving_unaccepted g.W.Way c.links_of-links.result.client c.args.net.now c.accept.new.net c.args.self.now
     c.stop_at_unaccepted.new.self
-    (c.links_of.ensures.client ∙ ap client_of at) c.requires.served c.requires.few c.in-Err.ensures.failed
+    (c.links_of-links.ensures.client ∙ ap client_of at) c.requires.served c.requires.few c.in-Err.ensures.failed
     c.in-Err.ensures.unmade
     c.stop_at_unaccepted.ensures.slots c.stop_at_unaccepted.ensures.room c.stop_at_unaccepted.ensures.conns
     c.stop_at_unaccepted.ensures.target
@@ -94,8 +94,8 @@ returns-in-Err-clause-serving g c =
 pub returns-in-Ok-clause-watching : goal.returns-in-Ok-clause-watching
 returns-in-Ok-clause-watching g c =
     let at : c.len.result ≡ length c.args.self.now.slots.items = search rules in
-    watching_added _ c.args.self.now c.add.new.self c.take_on-slot.result.0 c.len.result c.links_of.result.1
-    c.take_on-slot.ensures.seat at c.links_of.ensures.target c.add.ensures.slots
+    watching_added _ c.args.self.now c.add.new.self c.take_on-slot.result.0 c.len.result c.links_of-links.result.target
+    c.take_on-slot.ensures.seat at c.links_of-links.ensures.target c.add.ensures.slots
     (where_ok c.in-Ok.is c.take_on-slot.ensures.watched)
 
 pub returns-in-Err-taken-clause-watching : goal.returns-in-Err-taken-clause-watching

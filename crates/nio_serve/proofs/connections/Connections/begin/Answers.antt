@@ -9,14 +9,14 @@ use Rattle.nio_serve.proofs.connections.Connections.begin.Goals as goal
 
 pub begin_relay-slot-requires : goal.begin_relay-slot-requires
 begin_relay-slot-requires g c = record {
-  apart = c.links_of.ensures.apart;
+  apart = c.links_of-links.ensures.apart;
   slot = subst
-      (λ to. IsSlotOf to (Some (Live c.in-Some.relay)) (g.W.Way.link c.args.net.now c.links_of.result.0)
-      (g.W.Way.link c.args.net.now c.links_of.result.1) (g.W.Way.place c.args.net.now c.links_of.result.0)
-      (g.W.Way.place c.args.net.now c.links_of.result.1))
+      (λ to. IsSlotOf to (Some (Live c.in-Some.relay)) (g.W.Way.link c.args.net.now c.links_of-links.result.client)
+      (g.W.Way.link c.args.net.now c.links_of-links.result.target) (g.W.Way.place c.args.net.now c.links_of-links.result.client)
+      (g.W.Way.place c.args.net.now c.links_of-links.result.target))
       (sym c.take.ensures.others.target)
-      (slot_is g.W.Way _ c.in-Some.relay c.links_of.result.0 c.links_of.result.1 c.args.net.now c.args.self.now
-      c.links_of.ensures.client c.links_of.ensures.target c.requires.served c.in-Some.ensures.taken);
+      (slot_is g.W.Way _ c.in-Some.relay c.links_of-links.result.client c.links_of-links.result.target c.args.net.now c.args.self.now
+      c.links_of-links.ensures.client c.links_of-links.ensures.target c.requires.served c.in-Some.ensures.taken);
 }
 
 pub put-requires-clause-few : goal.put-requires-clause-few
@@ -31,16 +31,16 @@ returns-clause-serving g c =
     let begun = c.begin_relay-slot.ensures in
     let at = c.args.self.now in
     let to : c.take.new.self.target ≡ at.target = c.take.ensures.others.target in
-    serving_connected g.W.Way _ slot c.in-Some.relay c.links_of.result.0 c.links_of.result.1 c.args.net.now
+    serving_connected g.W.Way _ slot c.in-Some.relay c.links_of-links.result.client c.links_of-links.result.target c.args.net.now
     c.begin_relay-slot.new.net c.args.self.now c.put.new.self
-    c.links_of.ensures.client c.links_of.ensures.target c.requires.served c.in-Some.ensures.taken begun.begins
+    c.links_of-links.ensures.client c.links_of-links.ensures.target c.requires.served c.in-Some.ensures.taken begun.begins
     c.put.ensures.slot
     (others_then c.take.new.self c.begin_relay-slot.new.spare c.take.ensures.others c.put.ensures.others)
     (subst
-    (λ a. IsSlotOf a (Some slot) (g.W.Way.link c.begin_relay-slot.new.net c.links_of.result.0)
-    (g.W.Way.link c.begin_relay-slot.new.net c.links_of.result.1)
-    (g.W.Way.place c.begin_relay-slot.new.net c.links_of.result.0)
-    (g.W.Way.place c.begin_relay-slot.new.net c.links_of.result.1)) to
+    (λ a. IsSlotOf a (Some slot) (g.W.Way.link c.begin_relay-slot.new.net c.links_of-links.result.client)
+    (g.W.Way.link c.begin_relay-slot.new.net c.links_of-links.result.target)
+    (g.W.Way.place c.begin_relay-slot.new.net c.links_of-links.result.client)
+    (g.W.Way.place c.begin_relay-slot.new.net c.links_of-links.result.target)) to
     (record {
       is_slot = c.follow-followed.ensures.slot _ _ _ _ begun.slot.is_slot;
       roles = c.follow-followed.ensures.roles _ _ _ begun.slot.roles;
@@ -54,5 +54,5 @@ returns-clause-serving g c =
 pub returns-clause-listens : goal.returns-clause-listens
 returns-clause-listens g c =
     c.begin_relay-slot.ensures.begins.places listener
-    (λ at. client_listener _ (sym (at ∙ c.links_of.ensures.client)))
-    (λ at. target_listener _ (sym (at ∙ c.links_of.ensures.target)))
+    (λ at. client_listener _ (sym (at ∙ c.links_of-links.ensures.client)))
+    (λ at. target_listener _ (sym (at ∙ c.links_of-links.ensures.target)))

@@ -14,7 +14,7 @@ loop-number-preserved g c =
     record {
       quiet = quiet_then n _ _ _ c.loop-number.invariant.quiet closes.quiet;
       closed = closed_next n c.args.net.now c.loop-number.net c.close_unended.new.net c.args.self.now
-          c.loop-number.number c.index.result.now c.links_of.result.0 c.links_of.result.1 c.requires.served
+          c.loop-number.number c.index.result.now c.links_of.result.client c.links_of.result.target c.requires.served
           c.links_of.ensures.client c.links_of.ensures.target
           (slice_get_read c.args.self.now.slots.items _ c.loop-number.number c.index.result.now refl within
           c.index.ensures)

@@ -17,9 +17,9 @@ pub returns-clause-serving : goal.returns-clause-serving
 returns-clause-serving g c =
     let slot = c.follow-followed.new.self in
     let served = c.serve_relay-slot.ensures in
-    serving_told g.W.Way _ slot c.in-Some.relay c.links_of.result.0 c.links_of.result.1 c.args.net.now
+    serving_told g.W.Way _ slot c.in-Some.relay c.links_of-links.result.client c.links_of-links.result.target c.args.net.now
     c.serve_relay-slot.new.net c.args.self.now c.put.new.self
-    c.links_of.ensures.client c.links_of.ensures.target c.requires.served c.in-Some.ensures.taken served.work
+    c.links_of-links.ensures.client c.links_of-links.ensures.target c.requires.served c.in-Some.ensures.taken served.work
     c.put.ensures.slot
     (others_then c.take.new.self c.serve_relay-slot.new.spare c.take.ensures.others c.put.ensures.others)
     (c.follow-followed.ensures.slot _ _ _ _ served.slot)
@@ -33,11 +33,11 @@ returns-clause-serving g c =
 pub returns-clause-ready : goal.returns-clause-ready
 returns-clause-ready g c =
     λ d not_client not_target.
-    c.serve_relay-slot.ensures.work.ready d (λ at. not_client (at ∙ c.links_of.ensures.client))
-    (λ at. not_target (at ∙ c.links_of.ensures.target))
+    c.serve_relay-slot.ensures.work.ready d (λ at. not_client (at ∙ c.links_of-links.ensures.client))
+    (λ at. not_target (at ∙ c.links_of-links.ensures.target))
 
 pub returns-clause-listens : goal.returns-clause-listens
 returns-clause-listens g c =
     c.serve_relay-slot.ensures.work.places listener
-    (λ at. client_listener _ (sym (at ∙ c.links_of.ensures.client)))
-    (λ at. target_listener _ (sym (at ∙ c.links_of.ensures.target)))
+    (λ at. client_listener _ (sym (at ∙ c.links_of-links.ensures.client)))
+    (λ at. target_listener _ (sym (at ∙ c.links_of-links.ensures.target)))

@@ -27,3 +27,8 @@ pub returns-clause-polls : goal.returns-clause-polls
 returns-clause-polls c =
     let made = connects c.args.self.now c.args.chan c.connect_link.ensures.fresh in
     rw (c.connect_link.ensures.after, made.polls)
+
+pub returns-clause-shown : goal.returns-clause-shown
+returns-clause-shown c =
+    let made = connects c.args.self.now c.args.chan c.connect_link.ensures.fresh in
+    rw (c.connect_link.ensures.after, made.findings)

@@ -26,3 +26,8 @@ pub returns-clause-polls : goal.returns-clause-polls
 returns-clause-polls c =
     let made = listens c.args.self.now c.args.chan in
     rw (c.listen_on.ensures.after, made.polls)
+
+pub returns-clause-shown : goal.returns-clause-shown
+returns-clause-shown c =
+    let made = listens c.args.self.now c.args.chan in
+    rw (c.listen_on.ensures.after, made.findings)

@@ -1,6 +1,7 @@
 use Rattle.std.proofs.Common.{length}
 use Rattle.nio_link.proofs.MemoryLaws.{cause_after, cause_else, read_carried, read_else, read_got, read_ready}
-use Rattle.nio_link.proofs.MemoryLaws.{read_ready_else}
+use Rattle.nio_link.proofs.MemoryLaws.{read_ready_else, polls_after}
+use Rattle.nio_link.specs.MemoryNet.{is_early}
 use Rattle.nio_link.specs.Slots.{connected, slot_at, read_answer}
 use Rattle.nio_link.proofs.memory.memory_net.MemoryNetNet.read.Goals as goal
 
@@ -40,3 +41,10 @@ returns-clause-ready_else c =
     rw c.read_link.ensures.after
     (read_ready_else (read_answer (connected (slot_at c.args.self.now.slots c.args.chan)) (length c.args.into.now))
     c.args.self.now.findings c.args.chan)
+
+pub returns-clause-shown : goal.returns-clause-shown
+returns-clause-shown c =
+    rw c.read_link.ensures.after
+    (polls_after
+    (is_early (read_answer (connected (slot_at c.args.self.now.slots c.args.chan)) (length c.args.into.now)))
+    c.args.self.now.findings c.args.chan 1)

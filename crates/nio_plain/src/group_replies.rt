@@ -1,4 +1,4 @@
-//! The replies that the group's answers are.
+//! The reply that each answer of the group is.
 ghost use Rattle.std.specs.Prelude.{◌≡◌};
 ghost use Rattle.nio_group.specs.Run as step;
 ghost use Rattle.nio_plain.specs.Seq.Grouping.{line_reply, report_refused, start_refused};
@@ -7,7 +7,8 @@ use nio_base::{GChan, OpNo};
 use nio_group::{Completion, NotRunning, ReportError, StartError};
 use nio_language::{GroupReply, Reply};
 
-pub(super) fn opened(answer: Result<GChan, StartError>) -> Reply
+/// The reply to opening a channel.
+pub fn opened(answer: Result<GChan, StartError>) -> Reply
     ensures { result ≡ line_reply (step.opened answer) }
 {
     match answer {
@@ -16,7 +17,8 @@ pub(super) fn opened(answer: Result<GChan, StartError>) -> Reply
     }
 }
 
-pub(super) fn bound(answer: Result<(), StartError>) -> Reply
+/// The reply to binding a channel.
+pub fn bound(answer: Result<(), StartError>) -> Reply
     ensures { result ≡ line_reply (step.bound answer) }
 {
     match answer {
@@ -25,7 +27,8 @@ pub(super) fn bound(answer: Result<(), StartError>) -> Reply
     }
 }
 
-pub(super) fn started(answer: Result<OpNo, StartError>) -> Reply
+/// The reply to starting an operation.
+pub fn started(answer: Result<OpNo, StartError>) -> Reply
     ensures { result ≡ line_reply (step.started answer) }
 {
     match answer {
@@ -34,7 +37,8 @@ pub(super) fn started(answer: Result<OpNo, StartError>) -> Reply
     }
 }
 
-pub(super) fn reported(answer: Result<(), ReportError>) -> Reply
+/// The reply to reporting what came of an operation.
+pub fn reported(answer: Result<(), ReportError>) -> Reply
     ensures { result ≡ line_reply (step.reported answer) }
 {
     match answer {
@@ -43,7 +47,8 @@ pub(super) fn reported(answer: Result<(), ReportError>) -> Reply
     }
 }
 
-pub(super) fn taken(answer: Option<Completion>) -> Reply
+/// The reply to taking a completion.
+pub fn taken(answer: Option<Completion>) -> Reply
     ensures { result ≡ line_reply (step.taken answer) }
 {
     match answer {
@@ -52,7 +57,8 @@ pub(super) fn taken(answer: Option<Completion>) -> Reply
     }
 }
 
-pub(super) fn finished(answer: Result<(), NotRunning>) -> Reply
+/// The reply to ending a running operation.
+pub fn finished(answer: Result<(), NotRunning>) -> Reply
     ensures { result ≡ line_reply (step.finished answer) }
 {
     match answer {
@@ -61,13 +67,15 @@ pub(super) fn finished(answer: Result<(), NotRunning>) -> Reply
     }
 }
 
-pub(super) fn closed(was_open: bool) -> Reply
+/// The reply to closing a channel.
+pub fn closed(was_open: bool) -> Reply
     ensures { result ≡ line_reply (step.closed was_open) }
 {
     if was_open { Reply::Ok } else { Reply::Already }
 }
 
-fn start_refusal(refusal: StartError) -> Reply
+/// The reply to a call that the group refuses.
+pub fn start_refusal(refusal: StartError) -> Reply
     ensures { result ≡ start_refused refusal }
 {
     match refusal {

@@ -3,13 +3,12 @@ use Rattle.std.proofs.lemmas.List.{length-map, take_all}
 use Rattle.std.proofs.lemmas.Result.{err_from_is_err_and}
 use Rattle.nio_language.specs.Script.{AreCalls, no_lines}
 use Rattle.nio_script.specs.declared.script.ScriptError.TheVariants.{BadLine}
-use Rattle.nio_script.proofs.FirstBad.{AreCalls-append}
-use Rattle.nio_script.proofs.Lines.{next_now, reads_more}
-use Rattle.nio_race_text.proofs.Parts.{AreCalls-behind, stops_here}
-use Rattle.nio_race_text.proofs.lines.read_setup.Goals as goal
+use Rattle.nio_script.proofs.FirstBad.{AreCalls-append, AreCalls-behind}
+use Rattle.nio_script.proofs.Lines.{next_now, reads_more, stops_here}
+use Rattle.nio_script.proofs.script.read_calls.Goals as goal
 
 pub loop-line-init : goal.loop-line-init
-loop-line-init c = (refl, rw c.new-setup.ensures.items no_lines)
+loop-line-init c = (refl, rw c.new-calls.ensures.items no_lines)
 
 pub overflow_add-number : goal.overflow_add-number
 overflow_add-number c = omega (arith, c.loop-line.invariant.0, c.requires)
@@ -18,15 +17,15 @@ pub loop-line-preserved : goal.loop-line-preserved
 loop-line-preserved c = (
   omega arith,
   reads_more AreCalls (next_now c.args.lines.now c.loop-line.line-index _ c.loop-line-test.true)
-      c.in_ok-read_setup_line.ensures.read
+      c.in_ok-read_line.ensures.read
       (λ added. AreCalls-append c.loop-line.invariant.1),
 )
 
-pub returns-in_err-read_setup_line-clause-bad : goal.returns-in_err-read_setup_line-clause-bad
-returns-in_err-read_setup_line-clause-bad c n is =
+pub returns-in_err-read_line-clause-bad : goal.returns-in_err-read_line-clause-bad
+returns-in_err-read_line-clause-bad c n is =
     let p = err_from_is_err_and c.from_residual.result c.from_residual.ensures.1 in
     let named : p.0 ≡ BadLine n = cc in
-    let b = c.in_err-read_setup_line.ensures.bad n (ap Err (sym p.2 ∙ named)) in
+    let b = c.in_err-read_line.ensures.bad n (ap Err (sym p.2 ∙ named)) in
     stops_here AreCalls-behind (next_now c.args.lines.now c.loop-line.line-index _ c.loop-line-test.true)
     c.loop-line.invariant.1 b.1
     (omega (arith, b.0, c.loop-line.invariant.0))
@@ -34,5 +33,5 @@ returns-in_err-read_setup_line-clause-bad c n is =
 pub returns-clause-ok : goal.returns-clause-ok
 returns-clause-ok c =
     let lines = map (λ r. r.now) c.args.lines.now in
-    subst (λ ls. AreCalls ls c.loop-line.setup.items)
+    subst (λ ls. AreCalls ls c.loop-line.calls.items)
     (take_all c.loop-line.line-index lines (simp length-map c.loop-line-test.false)) c.loop-line.invariant.1

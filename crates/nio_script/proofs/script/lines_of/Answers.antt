@@ -1,7 +1,7 @@
 use Rattle.std.proofs.Common.{rules, tests}
 use Rattle.std.proofs.lemmas.Iterator.Consumers.{map_from_collect}
 use Rattle.std.proofs.lemmas.Iterator.Splits.{YieldsList-from_slice_split}
-use Rattle.nio_race_text.proofs.lines.lines.Goals as goal
+use Rattle.nio_script.proofs.script.lines_of.Goals as goal
 
 pub returns : goal.returns
 returns c =

@@ -1,7 +1,0 @@
-use Rattle.std.proofs.Common.{◌≡◌, map, take}
-use Rattle.nio_language.specs.Script.{AreCalls}
-use Rattle.nio_script.proofs.script.parse_script.Given as goal
-
-abbrev pub invariant-loop-line : goal.invariant-loop-line
-invariant-loop-line l =
-    (l.number ≡ l.line-index) × AreCalls (take l.line-index (map (λ line. line.now) l.line-items)) l.calls.items
