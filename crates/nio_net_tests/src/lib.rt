@@ -1,4 +1,4 @@
-//! Tests of nets, links, lines, relays and the top call `run`.
+//! Tests of nets, links, lines and relays.
 #![tactic(auto)]
 
 #[cfg(test)]
@@ -11,5 +11,3 @@ mod mio_net;
 mod passing;
 #[cfg(test)]
 mod relay;
-#[cfg(test)]
-mod run;

@@ -1,5 +1,5 @@
 //! Lines of scripts, each with the reply that a user of Java's selectors would expect. The worked rows of whole scripts
-//! are tests of `run`, in `nio_net_tests`.
+//! are tests of `run`, in `nio_run_tests`.
 use nio_base::{CallerNo, Limits};
 use nio_language::{Call, Parsed, parse_line, print_line};
 use nio_plain::System;

@@ -1,6 +1,6 @@
 use Rattle.std.proofs.Common.{All}
 use Rattle.nio_mio.specs.Unasked.{IsUnasked}
-use Rattle.nio_net_tests.proofs.run.loopback.nets_of.Given as goal
+use Rattle.nio_run_tests.proofs.run.loopback.nets_of.Given as goal
 
 abbrev pub invariant-loop : goal.invariant-loop
 invariant-loop g l = record {

@@ -4,7 +4,7 @@ use Rattle.nio_base.specs.declared.numbers.ChanNo.{ChanNo}
 use Rattle.nio_link.specs.Links.{IsUnused}
 use Rattle.nio_link.specs.Places.{places_after, unused}
 use Rattle.nio_link.specs.Slots.{carried_at}
-use Rattle.nio_net_tests.proofs.run.many.nets_of.Goals as goal
+use Rattle.nio_run_tests.proofs.run.many.nets_of.Goals as goal
 
 pub loop-preserved : goal.loop-preserved
 loop-preserved c =

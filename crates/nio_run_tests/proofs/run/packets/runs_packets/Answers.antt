@@ -1,4 +1,4 @@
-use Rattle.nio_net_tests.proofs.run.packets.runs_packets.Goals as goal
+use Rattle.nio_run_tests.proofs.run.packets.runs_packets.Goals as goal
 
 pub runs_over-requires-clause-client_unused : goal.runs_over-requires-clause-client_unused
 runs_over-requires-clause-client_unused g c κs within = c.in_ok-net.ensures.fresh (record { 0 = 0 })

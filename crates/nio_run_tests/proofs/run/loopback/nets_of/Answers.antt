@@ -1,7 +1,7 @@
 use Rattle.std.proofs.Common.{All, sym, subst}
 use Rattle.std.proofs.lemmas.List.Elements.{All-push}
 use Rattle.nio_mio.specs.Unasked.{IsUnasked}
-use Rattle.nio_net_tests.proofs.run.loopback.nets_of.Goals as goal
+use Rattle.nio_run_tests.proofs.run.loopback.nets_of.Goals as goal
 
 pub loop-preserved : goal.loop-preserved
 loop-preserved g c =

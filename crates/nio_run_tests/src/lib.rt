@@ -1,0 +1,5 @@
+//! Tests of the top call `run`.
+#![tactic(auto)]
+
+#[cfg(test)]
+mod run;
