@@ -101,6 +101,7 @@ static word selection(word told) {
   word marked = mark_all(count, told);
   if (atomic_load(&words[gate]) & SHUT) stop("the selector is shut");
   if (atomic_load(&words[INTERRUPTS]) & 1) stop("the caller is interrupted");
+  count = list();
   for (word at = 0; at < count; at++)
     if (atomic_load(&words[key + listed[at]]) & CANCELLED) stop("a key is cancelled");
   atomic_fetch_and(&words[gate], ~(word)WOKEN);

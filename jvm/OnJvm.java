@@ -1135,11 +1135,6 @@ class Run {
         if (tells && !gains && !selection.mode.equals("now")) {
             throw new Stop("known: a wait whose only ready keys are selected already goes on here");
         }
-        for (Key key : chosen.newest.values()) {
-            if (key.isNew && !key.real.isValid()) {
-                throw new Stop("known: a key that is registered and cancelled during one selection stays until the next");
-            }
-        }
     }
 }
 

@@ -4,7 +4,7 @@
 //! with a table, a pass and a number that are passed to them.
 #![tactic(auto)]
 
-pub use nio_base::{Addr, CallerNo, ChanNo, KeyId, KeyNo, Kind, Limits, Ops, SelNo};
+pub use nio_base::{Addr, CallerNo, ChanId, ChanNo, KeyId, KeyNo, Kind, Limits, Ops, SelNo};
 pub use nio_caller::{Caller, NotHeld};
 pub use nio_words::{DrawError, Pass, Words};
 

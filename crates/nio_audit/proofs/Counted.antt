@@ -7,7 +7,8 @@ use Rattle.nio_audit.specs.StepNumbers.{number_of}
 use Rattle.nio_base.specs.declared.limits.Limits.{Limits}
 use Rattle.nio_base.specs.declared.numbers.CallerNo.{CallerNo}
 use Rattle.nio_base.specs.declared.numbers.SelNo.{SelNo}
-use Rattle.nio_history.proofs.Put.{put_keeps, put_at_keeps}
+use Rattle.nio_history.proofs.ChannelChanges.{channels_keep}
+use Rattle.nio_history.proofs.Put.{put_at_keeps}
 use Rattle.nio_history.specs.Acts.{effect, new_key}
 use Rattle.nio_history.specs.Answers.{Answers}
 use Rattle.nio_history.specs.Conditions.{Condition, AllMade, AllClaimed}
@@ -16,7 +17,7 @@ use Rattle.nio_history.specs.Sound.{IsSound}
 use Rattle.nio_history.specs.State.{State, put, put_at}
 use Rattle.nio_history.specs.declared.act.Act.{Act}
 use Rattle.nio_history.specs.declared.act.Act.TheVariants.{CancelKey, MakeChannel, Claim, Publish, Remove, SetMode}
-use Rattle.nio_history.specs.declared.act.Act.TheVariants.{CloseBit, ClaimAgain}
+use Rattle.nio_history.specs.declared.act.Act.TheVariants.{CloseBit, ClaimAgain, Reopen}
 use Rattle.nio_history.proofs.Soundness.{held_some}
 use Rattle.nio_history.proofs.KeyChanges.{back_parts}
 use Rattle.nio_history.specs.declared.found.Stage.{Stage}
@@ -78,6 +79,23 @@ claimed_put : (f : ℕ → ℕ → Stage) (keys : ℕ → ℕ) → ((s i : ℕ) 
 claimed_put f keys counted s i x same t j =
     put_at_keeps (λ t' j' y. y.claimed ≡ nat_lt j' (keys t')) f s i x (λ e. same ∙ e) t j (counted t j)
 
+abbrev makes : Act → Bool
+makes (MakeChannel c kind found) = true
+makes _ = false
+
+-- other steps leave the same numbers with a channel
+made_kept : (l : Limits) (own : List Act) (st : State) (me : CallerNo) (act : Act) {channels : ℕ} {keys : ℕ → ℕ}
+    → Condition l own st me act → makes act ≡ false → Answers st me act → IsCounted st channels keys
+    → (c : ℕ) → ((effect st me act).chan c).made ≡ nat_lt c channels
+made_kept l own st me act {channels = channels} may none answers h c =
+    channels_keep (λ act'. Condition l own st me act' × (makes act' ≡ false)) st me (λ n x. x.made ≡ nat_lt n channels)
+    record {
+      made = λ _ _ may' _ _. absurd cc;
+      mode = λ _ _ _ _ e. e;
+      closed = λ _ _ _ _ _ e. e;
+      reopened = λ _ may' e. sym may'.0.2 ∙ e;
+    } act (may, none) answers c (h.made c)
+
 pub counted-step : (l : Limits) (own : List Act) (st : State) (me : CallerNo) (act : Act) (channels : ℕ) (keys : ℕ → ℕ)
     → IsSound st
     → Condition l own st me act → Answers st me act → IsCounted st channels keys
@@ -87,14 +105,12 @@ counted-step l own st me (MakeChannel c kind found) channels keys sound may answ
       (made_after (λ x. x.made) found (st.chan c.0) _ (found_is found (st.chan c.0).made answers) refl) h.made;
   claimed = h.claimed;
 }
-counted-step l own st me (SetMode c blocking found) channels keys sound may answers h = record {
-  made = λ n. put_keeps (λ n' x. x.made ≡ nat_lt n' channels) st.chan c.0 _ (λ e. e) n (h.made n);
-  claimed = h.claimed;
-}
-counted-step l own st me (CloseBit c found) channels keys sound may answers h = record {
-  made = λ n. put_keeps (λ n' x. x.made ≡ nat_lt n' channels) st.chan c.0 _ (λ e. e) n (h.made n);
-  claimed = h.claimed;
-}
+counted-step l own st me (SetMode c blocking found) channels keys sound may answers h =
+    record { made = made_kept l own st me (SetMode c blocking found) may refl answers h; claimed = h.claimed }
+counted-step l own st me (CloseBit c from found) channels keys sound may answers h =
+    record { made = made_kept l own st me (CloseBit c from found) may refl answers h; claimed = h.claimed }
+counted-step l own st me (Reopen c from found) channels keys sound may answers h =
+    record { made = made_kept l own st me (Reopen c from found) may refl answers h; claimed = h.claimed }
 counted-step l own st me (CancelKey s i found) channels keys sound may answers h = record {
   made = h.made;
   claimed = claimed_put st.key keys h.claimed s.0 i _ refl;

@@ -28,7 +28,7 @@ use Rattle.nio_history.specs.Histories.{state_after, mine, event_of, IsStep, IsL
 use Rattle.nio_history.specs.Sound.{IsSound}
 use Rattle.nio_history.specs.State.{State, last_serial}
 use Rattle.nio_history.specs.declared.act.Act.{Act}
-use Rattle.nio_history.specs.declared.act.Act.TheVariants.{ClaimAgain}
+use Rattle.nio_history.specs.declared.act.Act.TheVariants.{ClaimAgain, Reopen}
 use Rattle.nio_history.specs.declared.event.Event.{Event}
 use Rattle.nio_history.specs.declared.found.Stage.{Stage}
 
@@ -63,9 +63,11 @@ bounded_act l past me (ClaimAgain s i c from found) legal step =
     let law = claims_again_the_removed l me s i c from found past []
     (legal_more l past (event_of me (ClaimAgain s i c from found)) legal step) in
     subst (λ (k : Stage). k.serial < last_serial) (sym law.0) step.condition.5
+bounded_act l past me (Reopen c from found) legal step = step.condition.4
 bounded_act l past me _ legal step = tt
 
--- the serial of an index that is claimed again has a next
+-- the serial of an index that is claimed again has a next, and so has that of a channel whose number is given to a
+-- new one
 pub step-bounded : {j : Judge} {past : List Event} (e : Event) → Follows j past → IsLegal j.limits past → IsPassed j e
     → IsBounded (state_of j) (number_of e.act)
 step-bounded {j = j} {past = past} e f legal passed =

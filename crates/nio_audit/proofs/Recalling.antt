@@ -29,6 +29,7 @@ use Rattle.nio_history.specs.State.{State}
 use Rattle.nio_history.specs.declared.act.Act.{Act}
 use Rattle.nio_history.specs.declared.act.Act.TheVariants.{MakeChannel, Claim as ClaimAct, RaiseKeys, RaiseChannels}
 use Rattle.nio_history.specs.declared.act.Act.TheVariants.{Publish, Enrol, Remove, SetMode, ClearMark, ClaimAgain}
+use Rattle.nio_history.specs.declared.act.Act.TheVariants.{Reopen}
 use Rattle.nio_history.specs.declared.event.Event.{Event}
 
 module _ {k : Knowledge} {past : List Event} (h : Remembers k past) where
@@ -161,6 +162,10 @@ allowed_iff {st = st} l me (Remove s i found) h counted =
 allowed_iff l me (SetMode c blocking found) h counted = (
   λ may. (may.0, may.1, λ b s below. (same_test (clear-found h me c.0 s)).0 (may.2 b s below)),
   λ may. (may.0, may.1, λ b s below. (same_test (clear-found h me c.0 s)).1 (may.2 b s below)),
+)
+allowed_iff l me (Reopen c from found) h counted = (
+  λ may. (may.0, may.1, may.2, may.3, may.4, λ s below. (same_test (clear-found h me c.0 s)).0 (may.5 s below)),
+  λ may. (may.0, may.1, may.2, may.3, may.4, λ s below. (same_test (clear-found h me c.0 s)).1 (may.5 s below)),
 )
 allowed_iff l me (ClearMark s i found) h counted =
     let same = same_test (h.indexes me s.0 i).unpublished in

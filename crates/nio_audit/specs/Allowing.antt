@@ -23,6 +23,7 @@ use Rattle.nio_history.specs.declared.act.Act.TheVariants.{Enrol, TakeTurn, Begi
 use Rattle.nio_history.specs.declared.act.Act.TheVariants.{UnselectBit, EndWake, LookChannels, RaiseChannels}
 use Rattle.nio_history.specs.declared.act.Act.TheVariants.{TryHoldBit, Release, SetMode, CloseBit, ShutBit, Enter, Pin}
 use Rattle.nio_history.specs.declared.act.Act.TheVariants.{Unpin, ClearMark, ClaimAgain, LookFree, PutFree, TakeFree}
+use Rattle.nio_history.specs.declared.act.Act.TheVariants.{Reopen}
 
 -- the state that a judge has
 abbrev pub state_of : Judge → State
@@ -88,7 +89,7 @@ module _ (l : Limits) (k : Knowledge) (channels : ℕ) (keys : ℕ → ℕ) (st 
   Allowed (SetMode c blocking found) =
       IsChannel l c × IsTrue (holds st me c)
       × (IsTrue blocking → (s : ℕ) → s < l.selectors → IsTrue (is_clear_for k me c.0 s))
-  Allowed (CloseBit c found) = ByState (CloseBit c found)
+  Allowed (CloseBit c from found) = ByState (CloseBit c from found)
   Allowed (ShutBit s found) = ByState (ShutBit s found)
   Allowed (Enter s found) = ByState (Enter s found)
   Allowed (Pin s i found) = ByState (Pin s i found)
@@ -101,6 +102,9 @@ module _ (l : Limits) (k : Knowledge) (channels : ℕ) (keys : ℕ → ℕ) (st 
   Allowed (LookFree s j found) = ByState (LookFree s j found)
   Allowed (PutFree s i) = ByState (PutFree s i)
   Allowed (TakeFree s i found) = ByState (TakeFree s i found)
+  Allowed (Reopen c from found) =
+      IsChannel l c × IsTrue (holds st me c) × IsTrue from.made × IsTrue from.closed × (from.serial < last_serial)
+      × ((s : ℕ) → s < l.selectors → IsTrue (is_clear_for k me c.0 s))
 
 -- the same of a judge
 abbrev pub IsAllowed : Judge → CallerNo → Act → Type 0

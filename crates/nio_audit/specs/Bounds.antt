@@ -1,24 +1,26 @@
 -- Numbers of a step with which the judge counts on are within their types. A step's condition says more.
 use Rattle.std.specs.Prelude.{◌*◌, ◌<◌, ⊤}
 use Rattle.nio_audit.specs.StepNumbers.{StepNumber, no_number, channel_made, index_claimed, index_claimed_again}
-use Rattle.nio_audit.specs.StepNumbers.{part_looked_at}
+use Rattle.nio_audit.specs.StepNumbers.{part_looked_at, channel_reopened}
 use Rattle.nio_history.specs.State.{State, last_serial}
 
--- an index that is claimed again has a next serial
+-- an index that is claimed again has a next serial, and so has a channel whose number is given to a new one
 abbrev pub IsBounded : State → StepNumber → Type 0
 IsBounded st no_number = ⊤
 IsBounded st (channel_made _) = ⊤
 IsBounded st (index_claimed _ _) = ⊤
 IsBounded st (index_claimed_again s i _) = (st.key s i).serial < last_serial
 IsBounded st (part_looked_at _) = ⊤
+IsBounded st (channel_reopened serial) = serial < last_serial
 
--- so has the stage from which it is claimed again
+-- the stage from which an index is claimed again has a next serial
 abbrev pub IsRemembered : StepNumber → Type 0
 IsRemembered no_number = ⊤
 IsRemembered (channel_made _) = ⊤
 IsRemembered (index_claimed _ _) = ⊤
 IsRemembered (index_claimed_again _ _ from) = from.serial < last_serial
 IsRemembered (part_looked_at _) = ⊤
+IsRemembered (channel_reopened _) = ⊤
 
 -- a channel that is made, or an index that is claimed, is one that a table can have
 abbrev pub IsCountable : StepNumber → Type 0
@@ -27,6 +29,7 @@ IsCountable (channel_made c) = c < 262144
 IsCountable (index_claimed _ i) = i < 262144
 IsCountable (index_claimed_again _ _ _) = ⊤
 IsCountable (part_looked_at _) = ⊤
+IsCountable (channel_reopened _) = ⊤
 
 -- the indexes among which free ones are looked for are some that a table can have
 abbrev pub IsReadable : StepNumber → Type 0
@@ -35,3 +38,4 @@ IsReadable (channel_made _) = ⊤
 IsReadable (index_claimed _ _) = ⊤
 IsReadable (index_claimed_again _ _ _) = ⊤
 IsReadable (part_looked_at j) = 64 * j < 262144
+IsReadable (channel_reopened _) = ⊤

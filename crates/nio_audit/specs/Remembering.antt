@@ -23,6 +23,7 @@ use Rattle.nio_history.specs.declared.act.Act.TheVariants.{Enrol, TakeTurn, Begi
 use Rattle.nio_history.specs.declared.act.Act.TheVariants.{UnselectBit, EndWake, LookChannels, RaiseChannels}
 use Rattle.nio_history.specs.declared.act.Act.TheVariants.{TryHoldBit, Release, SetMode, CloseBit, ShutBit, Enter, Pin}
 use Rattle.nio_history.specs.declared.act.Act.TheVariants.{Unpin, ClearMark, ClaimAgain, LookFree, PutFree, TakeFree}
+use Rattle.nio_history.specs.declared.act.Act.TheVariants.{Reopen}
 use Rattle.nio_history.specs.declared.found.Chan.{Chan}
 use Rattle.nio_history.specs.declared.found.Stage.{Stage}
 
@@ -165,7 +166,7 @@ learned now me (RaiseChannels _ _) k = k
 learned now me (TryHoldBit c found) k = with_hold me c (hold_tried now found) k
 learned now me (Release _) k = k
 learned now me (SetMode _ _ _) k = k
-learned now me (CloseBit _ _) k = k
+learned now me (CloseBit _ _ _) k = k
 learned now me (ShutBit _ _) k = k
 learned now me (Enter s found) k = with_closing me s (turn_seen found) k
 learned now me (Pin s i found) k = with_index me s i (looked_again now found) k
@@ -176,3 +177,4 @@ learned now me (ClaimAgain s i c from found) k =
 learned now me (LookFree _ _ _) k = k
 learned now me (PutFree _ _) k = k
 learned now me (TakeFree s i found) k = with_index me s i (free_tried now found) k
+learned now me (Reopen _ _ _) k = k

@@ -10,6 +10,7 @@ use Rattle.nio_history.specs.declared.act.Act.TheVariants.{TakeTurn, BeginLook, 
 use Rattle.nio_history.specs.declared.act.Act.TheVariants.{UnselectBit, EndWake, LookChannels, RaiseChannels}
 use Rattle.nio_history.specs.declared.act.Act.TheVariants.{TryHoldBit, Release, SetMode, CloseBit, ShutBit, Enter, Pin}
 use Rattle.nio_history.specs.declared.act.Act.TheVariants.{Unpin, ClearMark, ClaimAgain, LookFree, PutFree, TakeFree}
+use Rattle.nio_history.specs.declared.act.Act.TheVariants.{Reopen}
 use Rattle.nio_history.specs.declared.found.Stage.{Stage}
 
 pub data StepNumber : Type 0 where
@@ -22,6 +23,8 @@ pub data StepNumber : Type 0 where
   index_claimed_again : ℕ → ℕ → Stage → StepNumber
   -- which 64 indexes are looked at
   part_looked_at : ℕ → StepNumber
+  -- the serial of the channel whose number is given to a new one
+  channel_reopened : ℕ → StepNumber
 
 abbrev pub number_of : Act → StepNumber
 number_of (DrawBit _ _) = no_number
@@ -61,7 +64,7 @@ number_of (RaiseChannels _ _) = no_number
 number_of (TryHoldBit _ _) = no_number
 number_of (Release _) = no_number
 number_of (SetMode _ _ _) = no_number
-number_of (CloseBit _ _) = no_number
+number_of (CloseBit _ _ _) = no_number
 number_of (ShutBit _ _) = no_number
 number_of (Enter _ _) = no_number
 number_of (Pin _ _ _) = no_number
@@ -71,3 +74,4 @@ number_of (ClaimAgain s i _ from _) = index_claimed_again s.0 i from
 number_of (LookFree _ j _) = part_looked_at j
 number_of (PutFree _ _) = no_number
 number_of (TakeFree _ _ _) = no_number
+number_of (Reopen _ from _) = channel_reopened from.serial

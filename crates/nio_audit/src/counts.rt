@@ -99,7 +99,8 @@ impl Counts {
             | Act::ClaimAgain(..)
             | Act::LookFree(..)
             | Act::PutFree(..)
-            | Act::TakeFree(..) => Ok(()),
+            | Act::TakeFree(..)
+            | Act::Reopen(..) => Ok(()),
         }
     }
 }

@@ -99,7 +99,8 @@ impl Dues {
             | Act::ClearMark(..)
             | Act::ClaimAgain(..)
             | Act::LookFree(..)
-            | Act::TakeFree(..) => Ok(()),
+            | Act::TakeFree(..)
+            | Act::Reopen(..) => Ok(()),
         }
     }
 

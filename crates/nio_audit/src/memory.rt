@@ -269,7 +269,8 @@ impl Memory {
             | Act::ShutBit(..)
             | Act::ClearMark(..)
             | Act::LookFree(..)
-            | Act::PutFree(..) => Ok(()),
+            | Act::PutFree(..)
+            | Act::Reopen(..) => Ok(()),
         }
     }
 

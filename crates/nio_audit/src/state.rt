@@ -1,7 +1,7 @@
 //! The state after the events so far, each part in a table of its own.
 ghost use Rattle.std.specs.Prelude.{◌≡◌, ◌<◌, OnOk, ℕ, Bool, false, ◌&&◌};
 ghost use Rattle.nio_base.specs.declared.numbers.CallerNo.{CallerNo};
-ghost use Rattle.nio_history.specs.Acts.{effect, frees_index, new_key, taken_by};
+ghost use Rattle.nio_history.specs.Acts.{closed_from, effect, frees_index, new_channel, new_key, taken_by};
 ghost use Rattle.nio_history.specs.State.{last_serial, opening};
 ghost use Rattle.nio_history.specs.declared.found.Stage.{Stage};
 
@@ -13,14 +13,15 @@ use std::alloc::{AllocError, Global};
 mod answers;
 mod holders;
 
-/// The last serial that a key can have.
+/// The last serial that a key and a channel can have.
 pub(crate) const LAST_SERIAL: u32 = 4_294_967_295;
 
 const UNMADE: Chan = Chan {
     made: false,
     kind: Kind::Stream,
     closed: false,
-    blocking: false,
+    blocking: true,
+    serial: 0,
 };
 
 const OPEN_GATE: GateWord = GateWord {
@@ -157,7 +158,9 @@ impl StateTables {
             Act::SetMode(chan, blocking, _) => self
                 .chan
                 .update(chan.0, |was| was.blocking = blocking),
-            Act::CloseBit(chan, _) => self.chan.update(chan.0, |was| was.closed = true),
+            Act::CloseBit(chan, from, _) => self
+                .chan
+                .update(chan.0, |was| *was = closed_from(from, *was)),
             Act::ShutBit(sel, found) => self.shut(me, sel, found),
             Act::Enter(sel, found) => self
                 .entered
@@ -170,6 +173,7 @@ impl StateTables {
             }
             Act::PutFree(sel, index) => self.put_free(sel, index),
             Act::TakeFree(sel, index, found) => self.take_free(me, sel, index, found),
+            Act::Reopen(chan, from, found) => self.reopen(chan, from, found),
             Act::LookSelectors(..)
             | Act::LookGate(..)
             | Act::LookInterrupt(..)
@@ -198,14 +202,20 @@ impl StateTables {
             → state_with self.new (due_after self.old due me (Act.MakeChannel chan kind found))
             ≡ effect (state_with self.old due) me (Act.MakeChannel chan kind found)) }
     {
-        let new = Chan {
-            made: true,
-            kind,
-            closed: false,
-            blocking: true,
-        };
-        let made = if found { self.chan.get(chan.0) } else { new };
-        self.chan.set(chan.0, made)
+        let was = self.chan.get(chan.0);
+        self.chan
+            .set(chan.0, if found { was } else { new_channel(kind, 0) })
+    }
+
+    fn reopen(&mut self, chan: ChanNo, from: Chan, found: bool) -> Result<(), AllocError>
+        requires { from.serial < last_serial }
+        ensures { (me : CallerNo) → OnOk result ((due : ℕ → ℕ → Bool)
+            → state_with self.new (due_after self.old due me (Act.Reopen chan from found))
+            ≡ effect (state_with self.old due) me (Act.Reopen chan from found)) }
+    {
+        let was = self.chan.get(chan.0);
+        let new = new_channel(from.kind, from.serial + 1);
+        self.chan.set(chan.0, if found { was } else { new })
     }
 
     fn claim(
@@ -343,6 +353,34 @@ impl StateTables {
         self.free.set(sel.0, index, false)?;
         self.taker
             .set(sel.0, index, if found { Some(me) } else { taker })
+    }
+}
+
+/// A new channel: open and in blocking mode.
+fn new_channel(kind: Kind, serial: u32) -> Chan
+    ensures { result ≡ new_channel kind serial }
+{
+    Chan {
+        made: true,
+        kind,
+        closed: false,
+        blocking: true,
+        serial,
+    }
+}
+
+/// The channel that a closing of `from` leaves.
+fn closed_from(from: Chan, found: Chan) -> Chan
+    ensures { result ≡ closed_from from found }
+{
+    if found.serial == from.serial && (found.blocking || !from.blocking) {
+        Chan {
+            closed: true,
+            blocking: from.blocking,
+            ..found
+        }
+    } else {
+        found
     }
 }
 

@@ -1,5 +1,5 @@
--- Which operations each kind of channel supports.
-use Rattle.std.specs.Prelude.{ℕ}
+-- Kinds of channel: which operations each supports, and a number for each.
+use Rattle.std.specs.Prelude.{ℕ, ◌==◌, Bool}
 use Rattle.nio_base.specs.declared.kind.Kind.{Kind}
 use Rattle.nio_base.specs.declared.kind.Kind.TheVariants.{Stream, Listener, Source, Sink, Datagram}
 
@@ -11,3 +11,14 @@ valid_operations Listener = 16
 valid_operations Source = 1
 valid_operations Sink = 4
 valid_operations Datagram = 5
+
+-- a number for each kind, by which kinds are compared and kept in words
+abbrev pub kind_code : Kind → ℕ
+kind_code Stream = 0
+kind_code Listener = 1
+kind_code Source = 2
+kind_code Sink = 3
+kind_code Datagram = 4
+
+abbrev pub is_same_kind : Kind → Kind → Bool
+is_same_kind x y = kind_code x == kind_code y

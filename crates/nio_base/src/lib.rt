@@ -7,7 +7,7 @@ pub use gate::{Gate, NoGate};
 pub use group::{Finished, GKind, OpKind, Outcome, Why};
 pub use kind::Kind;
 pub use limits::Limits;
-pub use numbers::{Addr, CallerNo, ChanNo, GChan, KeyId, KeyNo, OpNo, SelNo};
+pub use numbers::{Addr, CallerNo, ChanId, ChanNo, GChan, KeyId, KeyNo, OpNo, SelNo};
 pub use ops::Ops;
 
 mod gate;

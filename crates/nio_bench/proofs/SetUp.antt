@@ -2,7 +2,7 @@
 use Rattle.std.proofs.Common.{◌≡◌, true, false, Bool, List, [], ◌∷◌, ◌++◌, refl, ap, sym, subst, ◌∙◌}
 use Rattle.std.proofs.lemmas.List.Elements.{All-weaker, All-append}
 use Rattle.nio_base.specs.declared.numbers.CallerNo.{CallerNo}
-use Rattle.nio_base.specs.declared.numbers.ChanNo.{ChanNo}
+use Rattle.nio_base.specs.declared.numbers.ChanId.{ChanId}
 use Rattle.nio_base.specs.declared.numbers.SelNo.{SelNo}
 use Rattle.nio_history.proofs.Finds.{step_leaves}
 use Rattle.nio_history.proofs.PassViews.{selector_after, channel_after}
@@ -37,11 +37,16 @@ stays_after clause ready none idle = record {
 }
 
 -- after a call that gives its pins back
+pub stays_call : {R : Type 0} {Shape : List Act → R → Type 0} {answer : R} {w : Words} {p q : Pass} {me : CallerNo}
+    {s : SelNo} → GivesPinsBack Shape → CallClause me Shape (view w p) (view w q) answer
+    → IsReady w q me → IsIdle w p me s → StaysIdle w p q me s
+stays_call {answer = answer} gives call ready idle =
+    stays_after call.acts ready (no_pin_after (λ acts shape. gives acts answer shape) call idle.unpinned) idle
+
 pub idle_call : {R : Type 0} {Shape : List Act → R → Type 0} {answer : R} {w : Words} {p q : Pass} {me : CallerNo}
     {s : SelNo} → GivesPinsBack Shape → CallClause me Shape (view w p) (view w q) answer
     → IsReady w q me → IsIdle w p me s → IsIdle w q me s
-idle_call {answer = answer} gives call ready idle =
-    (stays_after call.acts ready (no_pin_after (λ acts shape. gives acts answer shape) call idle.unpinned) idle).idle
+idle_call gives call ready idle = (stays_call gives call ready idle).idle
 
 -- after a step
 pub stays_step : {w : Words} {p q : Pass} {me : CallerNo} {s : SelNo} {act : Act} → Steps w p q me act
@@ -55,7 +60,7 @@ pub stays_then : {w : Words} {p q r : Pass} {me : CallerNo} {s : SelNo} → Stay
 stays_then first second = record { idle = second.idle; channels = λ c has. second.channels c (first.channels c has) }
 
 -- with the channels that were opened
-pub set_up_after : {w : Words} {p q : Pass} {me : CallerNo} {s : SelNo} (opened : List ChanNo) → StaysIdle w p q me s
+pub set_up_after : {w : Words} {p q : Pass} {me : CallerNo} {s : SelNo} (opened : List ChanId) → StaysIdle w p q me s
     → IsSetUp w p me s opened → IsSetUp w q me s opened
 set_up_after {w = w} {p = p} {q = q} opened stays before = record {
   idle = stays.idle;
@@ -80,7 +85,7 @@ idle_made {w = w} {p = p} {q = q} {found = found} steps ready is inside = record
         ap (λ st. st.selector 0) leaves.state ∙ put-same before.selector 0 true
 
 -- with one channel more
-pub one_more : {w : Words} {p : Pass} {me : CallerNo} {s : SelNo} (opened more : List ChanNo) (c : ChanNo)
+pub one_more : {w : Words} {p : Pass} {me : CallerNo} {s : SelNo} (opened more : List ChanId) (c : ChanId)
     → more ≡ opened ++ c ∷ [] → HasChannel (view w p) c → IsSetUp w p me s opened
     → IsSetUp w p me s more
 one_more {w = w} {p = p} {me = me} {s = s} opened more c is has before = subst (IsSetUp w p me s) (sym is) (record {

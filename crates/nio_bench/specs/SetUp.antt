@@ -2,7 +2,7 @@
 use Rattle.std.specs.Prelude.{false, List, [], ◌∷◌}
 use Rattle.std.specs.List.{All}
 use Rattle.nio_base.specs.declared.numbers.CallerNo.{CallerNo}
-use Rattle.nio_base.specs.declared.numbers.ChanNo.{ChanNo}
+use Rattle.nio_base.specs.declared.numbers.ChanId.{ChanId}
 use Rattle.nio_base.specs.declared.numbers.SelNo.{SelNo}
 use Rattle.nio_history.specs.Histories.{event_of}
 use Rattle.nio_history.specs.PassViews.{HasChannel, HasNoPin, HasSelector}
@@ -30,11 +30,11 @@ pub record IsIdle (w : Words) (p : Pass) (me : CallerNo) (s : SelNo) : Type 0 wh
   pub selector : HasSelector (view w p) s
 
 -- and so are these channels
-pub record IsSetUp (w : Words) (p : Pass) (me : CallerNo) (s : SelNo) (opened : List ChanNo) : Type 0 where
+pub record IsSetUp (w : Words) (p : Pass) (me : CallerNo) (s : SelNo) (opened : List ChanId) : Type 0 where
   pub idle : IsIdle w p me s
   pub channels : All (HasChannel (view w p)) opened
 
 -- the same stands at the later moment of the pass
 pub record StaysIdle (w : Words) (p q : Pass) (me : CallerNo) (s : SelNo) : Type 0 where
   pub idle : IsIdle w q me s
-  pub channels : (c : ChanNo) → HasChannel (view w p) c → HasChannel (view w q) c
+  pub channels : (c : ChanId) → HasChannel (view w p) c → HasChannel (view w q) c

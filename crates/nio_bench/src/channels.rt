@@ -5,7 +5,7 @@ ghost use Rattle.nio_words.specs.Passes.{IsReady, limits_of, seen};
 ghost use Rattle.nio_bench.specs.SetUp.{IsIdle, IsSetUp, StaysIdle, drawn};
 
 use anyhow::ensure;
-use nio_base::{CallerNo, ChanNo, Kind, Limits, Ops, SelNo};
+use nio_base::{CallerNo, ChanId, Kind, Limits, Ops, SelNo};
 use nio_channel::{key_for, open_channel, try_register, try_set_blocking};
 use nio_keys::cancel;
 use nio_words::{Pass, Words};
@@ -98,7 +98,7 @@ pub fn set_up(words: &Words, p: &mut Pass)
 }
 
 /// Opens all channels, and makes them non-blocking.
-fn open_all(rt: &impl Alloc<A = Global>, words: &Words, p: &mut Pass) -> anyhow::Result<Vec<ChanNo>>
+fn open_all(rt: &impl Alloc<A = Global>, words: &Words, p: &mut Pass) -> anyhow::Result<Vec<ChanId>>
     requires { IsIdle words.now p.old ME S }
     ensures { IfOk result (λ opened. IsSetUp words.now p.new ME S opened.items) }
 {
@@ -110,7 +110,7 @@ fn open_all(rt: &impl Alloc<A = Global>, words: &Words, p: &mut Pass) -> anyhow:
 }
 
 /// Opens one channel more, and makes it non-blocking.
-fn open(words: &Words, p: &mut Pass, channels: &mut Vec<ChanNo>) -> anyhow::Result<()>
+fn open(words: &Words, p: &mut Pass, channels: &mut Vec<ChanId>) -> anyhow::Result<()>
     requires { IsSetUp words.now p.old ME S channels.old.items }
     ensures { IfOk result (λ _. IsSetUp words.now p.new ME S channels.new.items) }
 {
@@ -125,7 +125,7 @@ fn round<R: Runtime<A = Global>>(
     rt: &R,
     words: &Words,
     p: &mut Pass,
-    channels: &[ChanNo],
+    channels: &[ChanId],
 ) -> anyhow::Result<Times>
     requires { IsSetUp words.now p.old ME S channels.now }
     ensures { IfOk result (λ _. IsSetUp words.now p.new ME S channels.now) }
@@ -154,7 +154,7 @@ fn round<R: Runtime<A = Global>>(
 }
 
 /// Registers each channel for reading. Says whether each has a key then.
-fn register_all(words: &Words, p: &mut Pass, channels: &[ChanNo]) -> bool
+fn register_all(words: &Words, p: &mut Pass, channels: &[ChanId]) -> bool
     requires { IsSetUp words.now p.old ME S channels.now }
     ensures { IsSetUp words.now p.new ME S channels.now }
 {
@@ -166,7 +166,7 @@ fn register_all(words: &Words, p: &mut Pass, channels: &[ChanNo]) -> bool
 }
 
 /// Says whether each channel has a key.
-fn find_all(words: &Words, p: &mut Pass, channels: &[ChanNo]) -> bool
+fn find_all(words: &Words, p: &mut Pass, channels: &[ChanId]) -> bool
     requires { IsSetUp words.now p.old ME S channels.now }
     ensures { IsSetUp words.now p.new ME S channels.now }
 {
@@ -178,7 +178,7 @@ fn find_all(words: &Words, p: &mut Pass, channels: &[ChanNo]) -> bool
 }
 
 /// Cancels the key of each channel, up to one that has none. Says whether each had one.
-fn cancel_all(words: &Words, p: &mut Pass, channels: &[ChanNo]) -> bool
+fn cancel_all(words: &Words, p: &mut Pass, channels: &[ChanId]) -> bool
     requires { IsSetUp words.now p.old ME S channels.now }
     ensures { IsSetUp words.now p.new ME S channels.now }
 {

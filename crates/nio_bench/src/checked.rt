@@ -5,7 +5,7 @@ ghost use Rattle.nio_pipe.specs.Idle.{MayUse};
 use crate::pair::{ONE, ZERO, two_callers};
 use crate::pipe::{open, read, write_piece};
 use anyhow::ensure;
-use nio_base::ChanNo;
+use nio_base::ChanId;
 use nio_pipe::{PipeError, PipeRead, PipeSink, PipeSource};
 use nio_words::{Pass, Words};
 use std::alloc::Global;
@@ -108,7 +108,7 @@ fn reads<R: Clock + Wait>(
     w: &Words,
     mut p: Pass,
     mut source: PipeSource,
-    other: ChanNo,
+    other: ChanId,
     mut into: Vec<u8>,
     is_slow: bool,
 ) -> Result<usize, PipeError>
@@ -125,7 +125,7 @@ fn read_all<R: Clock + Wait>(
     w: &Words,
     p: &mut Pass,
     source: &mut PipeSource,
-    other: ChanNo,
+    other: ChanId,
     into: &mut [u8],
     is_slow: bool,
 ) -> Result<usize, PipeError>

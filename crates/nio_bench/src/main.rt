@@ -12,6 +12,7 @@ mod checked;
 mod pair;
 mod pipe;
 mod relay;
+mod reopening;
 mod select;
 mod waiting;
 mod words;
@@ -28,6 +29,7 @@ fn main(rt: HostRuntime) -> anyhow::Result<()> {
     match word.as_deref() {
         None => {
             channels::run(&rt, 4)?;
+            reopening::run(&rt, 4)?;
             relay::run(&rt, 4)?;
             select::run(&rt, SMALL, 2)?;
             waiting::run(&rt)?;
@@ -36,7 +38,10 @@ fn main(rt: HostRuntime) -> anyhow::Result<()> {
             checked::run(&rt, Slow::Writer)?;
             println!(rt; "ok")?;
         }
-        Some("channels") => channels::measure(&rt)?,
+        Some("channels") => {
+            channels::measure(&rt)?;
+            reopening::measure(&rt)?;
+        }
         Some("pipe") => pipe::measure(&rt)?,
         Some("relay") => relay::measure(&rt)?,
         Some("select") => select::measure(&rt)?,

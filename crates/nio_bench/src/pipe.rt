@@ -10,7 +10,7 @@ ghost use Rattle.nio_words.specs.Views.{view};
 
 use crate::pair::{ONE, ZERO, two_callers};
 use anyhow::ensure;
-use nio_base::ChanNo;
+use nio_base::ChanId;
 use nio_pipe::{
     CAPACITY, PipeError, PipeMakeError, PipeRead, PipeSink, PipeSource, PipeWrite, pipe,
 };
@@ -140,7 +140,7 @@ fn reads<R: Wait>(
     w: &Words,
     mut p: Pass,
     mut source: PipeSource,
-    other: ChanNo,
+    other: ChanId,
     mut into: Vec<u8>,
 ) -> Result<usize, PipeError>
     requires { MayUse w.now p ZERO (source_chan source) other }
@@ -155,7 +155,7 @@ fn read_to_end<R: Wait>(
     w: &Words,
     p: &mut Pass,
     source: &mut PipeSource,
-    other: ChanNo,
+    other: ChanId,
     into: &mut [u8],
 ) -> Result<usize, PipeError>
     requires { MayUse w.now p.old ZERO (source_chan source.old) other }
@@ -178,7 +178,7 @@ pub fn read<R: Wait>(
     w: &Words,
     p: &mut Pass,
     source: &mut PipeSource,
-    other: ChanNo,
+    other: ChanId,
     into: &mut [u8],
 ) -> Result<PipeRead, PipeError>
     requires { MayUse w.now p.old ZERO (source_chan source.old) other }

@@ -1,7 +1,7 @@
 //! Selections that don't wait, by one caller in one thread, where some of the indexes that were ever claimed have a
 //! key.
 ghost use Rattle.std.specs.Prelude.{IfOk};
-ghost use Rattle.nio_bench.specs.SetUp.{IsIdle};
+ghost use Rattle.nio_bench.specs.SetUp.{IsIdle, StaysIdle};
 
 use crate::channels::{ME, S, set_up};
 use anyhow::{bail, ensure};
@@ -198,14 +198,14 @@ fn selections<R: Runtime<A = Global>>(
 }
 
 /// A selection that doesn't wait and is told this. Answers how many keys were marked.
-fn select(
+pub fn select(
     rt: &impl Alloc<A = Global>,
     words: &Words,
     p: &mut Pass,
     told: &Told,
 ) -> anyhow::Result<u32>
     requires { IsIdle words.now p.old ME S }
-    ensures { IfOk result (λ _. IsIdle words.now p.new ME S) }
+    ensures { IfOk result (λ _. StaysIdle words.now p.old p.new ME S) }
 {
     let selection = try_begin(rt.alloc(), words, p, ME, S, Mode::Now)?;
     match selection.told(words, p, ME, told) {

@@ -7,7 +7,10 @@ use std::rt::Runtime;
 use std::time::Instant;
 
 /// The channel whose operations are measured.
-const MEASURED: GChan = GChan(0);
+const MEASURED: GChan = GChan {
+    number: 0,
+    serial: 0,
+};
 
 /// How many operations are pending beside the measured ones.
 const CROWD: u32 = 59_999;
@@ -65,7 +68,7 @@ fn crowded(rt: &impl Alloc<A = Global>, others: u32) -> anyhow::Result<GroupCore
     open(&mut group)?;
     for _ in 0..others {
         let chan = open(&mut group)?;
-        ensure!(chan.0 < group.channels(), "a channel isn't made");
+        ensure!(group.is_made(chan), "a channel isn't made");
         group.start(chan, OpKind::Accept, 0)?;
     }
     Ok(group)
@@ -74,7 +77,7 @@ fn crowded(rt: &impl Alloc<A = Global>, others: u32) -> anyhow::Result<GroupCore
 /// A new listener, bound.
 fn open(group: &mut GroupCore) -> anyhow::Result<GChan> {
     let chan = group.open_channel(GKind::Listener)?;
-    ensure!(chan.0 < group.channels(), "a channel isn't made");
+    ensure!(group.is_made(chan), "a channel isn't made");
     group.bind(chan)?;
     Ok(chan)
 }
@@ -82,7 +85,7 @@ fn open(group: &mut GroupCore) -> anyhow::Result<GChan> {
 /// So many operations of the measured channel, each from its start to its end.
 fn turn(group: &mut GroupCore, count: u32) -> anyhow::Result<()> {
     for _ in 0..count {
-        ensure!(MEASURED.0 < group.channels(), "a channel isn't made");
+        ensure!(group.is_made(MEASURED), "a channel isn't made");
         let op = group.start(MEASURED, OpKind::Accept, 0)?;
         group.report(op, Outcome::Fault)?;
         let Some(done) = group.take() else {

@@ -24,7 +24,10 @@ const BUNCH: u32 = 16;
 const FLIGHT: u32 = 1_024;
 
 /// The channel of all operations. It is closed, so each completes as it is started.
-const CLOSED: GChan = GChan(0);
+const CLOSED: GChan = GChan {
+    number: 0,
+    serial: 0,
+};
 
 /// Does nothing.
 #[derive(Drop)]
@@ -83,7 +86,7 @@ fn time_workers<R: Runtime<A = Global> + Threads + Wait + Sync>(
 }
 
 fn close(core: &mut GroupCore) {
-    if CLOSED.0 < core.channels() {
+    if core.is_made(CLOSED) {
         core.close_channel(CLOSED);
     }
 }
@@ -131,7 +134,7 @@ fn start_all<R: Wait>(rt: &R, group: &Group, operations: u32) {
 /// Starts as many operations, or fewer where too many are in flight. Answers how many.
 fn start_some(core: &mut GroupCore, count: u32) -> u32 {
     for started in 0..count {
-        if core.channels() == 0 || core.start(CLOSED, OpKind::Read, 1).is_err() {
+        if !core.is_made(CLOSED) || core.start(CLOSED, OpKind::Read, 1).is_err() {
             return started;
         }
     }

@@ -107,7 +107,11 @@ fn place(number: u32) -> (GChan, OpKind) {
     } else {
         OpKind::Write
     };
-    (GChan(number / 2), kind)
+    let chan = GChan {
+        number: number / 2,
+        serial: 0,
+    };
+    (chan, kind)
 }
 
 /// So many operations, from the one with this number on, each from its start until it has timed out and ended.
@@ -136,7 +140,7 @@ fn start(
     now: u64,
     limit: u64,
 ) -> anyhow::Result<OpNo> {
-    ensure!(chan.0 < timed.channels(), "a channel isn't made");
+    ensure!(timed.is_made(chan), "a channel isn't made");
     Ok(timed.start_timed(chan, kind, 1, now, limit)?)
 }
 

@@ -4,7 +4,7 @@ use Rattle.std.specs.Int.{bit_at}
 use mathlib.Core.List.{IsPrefix}
 use Rattle.nio_base.specs.declared.numbers.CallerNo.{CallerNo}
 use Rattle.nio_history.proofs.Stays.{facts_are_permanent}
-use Rattle.nio_history.specs.Permanent.{selector_made, channel_made, key_published}
+use Rattle.nio_history.specs.Permanent.{selector_made, channel_opened, key_published}
 use Rattle.nio_history.specs.PassViews.{Holds, HasNoPin}
 use Rattle.nio_words.specs.Passes.{Holds as HoldsNumber, IsPassOf, limits_of, numbers_of, seen}
 use Rattle.nio_words.specs.Sharing.{Joins as JoinsPasses, StandsAfter}
@@ -30,7 +30,8 @@ later_has w p q pass begins = record {
   };
   channels = λ c has. record {
     inside = has.inside;
-    made = facts_are_permanent (limits_of w) (seen p) (seen q) begins pass.legal (channel_made c.0) has.made;
+    opened = facts_are_permanent (limits_of w) (seen p) (seen q) begins pass.legal (channel_opened c.number.0 c.serial)
+        has.opened;
   };
   keys = λ k has. record {
     inside = has.inside;

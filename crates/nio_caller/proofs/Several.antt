@@ -3,7 +3,7 @@ use Rattle.std.proofs.Common.{◌≡◌, ℕ, Bool, true, false, if◌then◌els
 use Rattle.std.proofs.Common.{not, nat_lt, ◌∙◌, subst}
 use Rattle.nio_base.specs.declared.limits.Limits.{Limits}
 use Rattle.nio_base.specs.declared.numbers.CallerNo.{CallerNo}
-use Rattle.nio_base.specs.declared.numbers.ChanNo.{ChanNo}
+use Rattle.nio_base.specs.declared.numbers.ChanId.{ChanId}
 use Rattle.nio_history.specs.PassViews.{PassView}
 use Rattle.nio_history.specs.Questions.{answer_of}
 use Rattle.nio_history.specs.declared.act.Act.{Act}
@@ -15,6 +15,8 @@ use Rattle.nio_steps.specs.Steps.{look_channel, channel_in}
 use Rattle.nio_words.specs.Passes.{limits_of}
 use Rattle.nio_words.specs.declared.words.Words.{Words}
 use Rattle.nio_caller.specs.Callers.{Acting, IsSameCaller, StillHas}
+use Rattle.nio_history.specs.Sets.{was_opened}
+use Rattle.nio_steps.specs.Names.{channel, channel_of}
 
 -- a call of the same caller, at its table
 pub call_moved : {R : Type 0} {c0 c1 : Acting} {v1 v2 : PassView} (Shape : Limits → List Act → R → Type 0) (answer : R)
@@ -37,9 +39,9 @@ same_then first second =
 
 -- ---- the channel that is found is the one that was looked for
 
-module _ (n : ℕ) (c : ChanNo) where
-  abbrev numbered : ChanNo
-  numbered = record { 0 = n }
+module _ (n q : ℕ) (c : ChanId) where
+  abbrev numbered : ChanId
+  numbered = channel_of (channel n) q
 
   made_is : (made : Bool) → reply (if made then Some numbered else None) ≡ reply (Some c) → c ≡ numbered
   made_is true same = cc
@@ -49,12 +51,12 @@ module _ (n : ℕ) (c : ChanNo) where
   none_found [] same = absurd (cc same)
   none_found (act ∷ acts) run = absurd run
 
-  abbrev look : Plan (Option ChanNo)
-  look = look_channel numbered >>= λ found. reply (if found.made then Some numbered else None)
+  abbrev look : Plan (Option ChanId)
+  look = look_channel (channel n) >>= λ found. reply (if was_opened found q then Some numbered else None)
 
   one_found : (acts : List Act) → Follows look acts (reply (Some c)) → c ≡ numbered
   one_found [] same = absurd (cc same)
-  one_found (act ∷ []) run = made_is (channel_in (answer_of act)).made run.1
+  one_found (act ∷ []) run = made_is (was_opened (channel_in (answer_of act)) q) run.1
   one_found (act ∷ other ∷ acts) run = absurd run.1
 
   by_test : (past : Bool) (acts : List Act) → Follows (if past then reply None else look) acts (reply (Some c))
@@ -62,6 +64,6 @@ module _ (n : ℕ) (c : ChanNo) where
   by_test true acts run = none_found acts run
   by_test false acts run = one_found acts run
 
-  pub found_is : (l : Limits) (acts : List Act) → Completes (find_channel_plan l n) acts (Some c) → c ≡ numbered
+  pub found_is : (l : Limits) (acts : List Act) → Completes (find_channel_plan l n q) acts (Some c) → c ≡ numbered
   unfolding find_channel_plan
   found_is l acts run = by_test (not (nat_lt n l.channels)) acts run

@@ -2,7 +2,7 @@
 use Rattle.std.specs.Prelude.{◌≡◌, ◌≢◌, ◌↔◌, ◌⊎◌, ℕ, zero, suc, ◌<◌, ◌++◌, false, List, [], ◌∷◌}
 use mathlib.Core.List.{IsPrefix}
 use Rattle.nio_base.specs.declared.numbers.CallerNo.{CallerNo}
-use Rattle.nio_base.specs.declared.numbers.ChanNo.{ChanNo}
+use Rattle.nio_base.specs.declared.numbers.ChanId.{ChanId}
 use Rattle.nio_base.specs.declared.numbers.KeyNo.{KeyNo}
 use Rattle.nio_base.specs.declared.numbers.SelNo.{SelNo}
 use Rattle.nio_history.specs.Histories.{event_of, mine}
@@ -45,7 +45,7 @@ pub record IsSameCaller (old new : Acting) : Type 0 where
 -- each selector, channel and key that may be passed to a call may be passed to a later one
 pub record StillHas (old new : PassView) : Type 0 where
   pub selectors : (s : SelNo) → HasSelector old s → HasSelector new s
-  pub channels : (c : ChanNo) → HasChannel old c → HasChannel new c
+  pub channels : (c : ChanId) → HasChannel old c → HasChannel new c
   pub keys : (k : KeyNo) → HasKey old k → HasKey new k
 
 -- ---- the first caller

@@ -1,7 +1,7 @@
 -- Calls that are several calls, one after the other.
 use Rattle.std.specs.Prelude.{◌≡◌, ℕ, false, Option, Some, None, Result, Ok, Err, List, []}
 use Rattle.nio_base.specs.declared.limits.Limits.{Limits}
-use Rattle.nio_base.specs.declared.numbers.ChanNo.{ChanNo}
+use Rattle.nio_base.specs.declared.numbers.ChanId.{ChanId}
 use Rattle.nio_base.specs.declared.numbers.KeyNo.{KeyNo}
 use Rattle.nio_base.specs.declared.numbers.SelNo.{SelNo}
 use Rattle.nio_history.specs.declared.act.Act.{Act}
@@ -17,13 +17,13 @@ Answers given acts answer = (acts ≡ []) × (answer ≡ given)
 
 -- ---- registering
 
-abbrev pub RegistersAfter : Limits → SelNo → ChanNo → ℕ → ℕ → Result (Unit {0}) ChannelError → List Act
+abbrev pub RegistersAfter : Limits → SelNo → ChanId → ℕ → ℕ → Result (Unit {0}) ChannelError → List Act
     → Result KeyNo ChannelError → Type 0
 RegistersAfter l s c ops att (Ok done) = Registers l s c ops att
 RegistersAfter l s c ops att (Err error) = Answers (Err error)
 
 -- the channel is made non-blocking; where that isn't refused, it is registered
-abbrev pub RegistersNonBlocking : Limits → SelNo → ChanNo → ℕ → ℕ → List Act → Result KeyNo ChannelError → Type 0
+abbrev pub RegistersNonBlocking : Limits → SelNo → ChanId → ℕ → ℕ → List Act → Result KeyNo ChannelError → Type 0
 RegistersNonBlocking l s c ops att = Then (SetsBlocking l c false) (RegistersAfter l s c ops att)
 
 -- ---- taking out of the selected set
@@ -32,10 +32,10 @@ abbrev pub UnselectsFound : Option KeyNo → List Act → Option KeyNo → Type 
 UnselectsFound (Some key) = Then (Completes (unselect_plan key)) (λ out. Answers (Some key))
 UnselectsFound None = Answers None
 
-abbrev pub LooksForKey : SelNo → Option ChanNo → List Act → Option KeyNo → Type 0
+abbrev pub LooksForKey : SelNo → Option ChanId → List Act → Option KeyNo → Type 0
 LooksForKey s (Some c) = Then (Completes (key_for_plan c s)) UnselectsFound
 LooksForKey s None = Answers None
 
 -- the channel is looked for, and then its key in the selector; where there is one, it is taken out of the selected set
-abbrev pub TakesSelected : Limits → ChanNo → SelNo → List Act → Option KeyNo → Type 0
-TakesSelected l c s = Then (Completes (find_channel_plan l c.0)) (LooksForKey s)
+abbrev pub TakesSelected : Limits → ChanId → SelNo → List Act → Option KeyNo → Type 0
+TakesSelected l c s = Then (Completes (find_channel_plan l c.number.0 c.serial)) (LooksForKey s)

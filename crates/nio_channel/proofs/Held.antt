@@ -1,10 +1,11 @@
--- What stands under the hold of a channel after one step more.
+-- What stands under the hold of a number after one step more.
 use Rattle.std.proofs.Common.{◌≡◌, ℕ, ◌==◌, Bool, true, false, ◌&&◌, ◌||◌, Option, Some, None, [], ◌∷◌, ◌++◌, refl, ap}
 use Rattle.std.proofs.Common.{sym, ◌∙◌, subst, below_more, arith, ◌+◌, not, eq-eqb, if◌then◌else◌}
 use Rattle.std.specs.Prelude.{nat_lt, IfSome, IsTrue}
 use Rattle.std.proofs.lemmas.Bool.{and_parts, and_from, or_right, ne_eqb}
 use Rattle.std.proofs.Math.Bool.{and-false}
 use Rattle.nio_base.specs.declared.numbers.CallerNo.{CallerNo}
+use Rattle.nio_base.specs.declared.numbers.ChanId.{ChanId}
 use Rattle.nio_base.specs.declared.numbers.ChanNo.{ChanNo}
 use Rattle.nio_base.specs.declared.numbers.KeyId.{KeyId}
 use Rattle.nio_base.specs.declared.numbers.SelNo.{SelNo}
@@ -22,6 +23,7 @@ use Rattle.nio_history.specs.OwnEvents.{has, last, under, takes_hold, releases, 
 use Rattle.nio_history.specs.OwnEvents.{is_clear}
 use Rattle.nio_history.specs.PassViews.{PassView, Holds as HoldsNumber, known, ActsClause, HasKey}
 use Rattle.nio_history.specs.Sets.{fits, in_key_set, is_valid, was_published, is_in_key_set, is_valid_key}
+use Rattle.nio_history.specs.Sets.{is_open_channel}
 use Rattle.nio_history.specs.Sound.{IsWithin}
 use Rattle.nio_history.specs.State.{State}
 use Rattle.nio_history.specs.declared.act.Act.{Act}
@@ -37,6 +39,7 @@ use Rattle.nio_words.specs.Steps.{Steps}
 use Rattle.nio_words.specs.Views.{view}
 use Rattle.nio_words.specs.declared.words.Pass.{Pass}
 use Rattle.nio_words.specs.declared.words.Words.{Words}
+use Rattle.nio_channel.proofs.Chans.{open_unclosed}
 use Rattle.nio_channel.proofs.Own.{is_quiet, quiet_holds, quiet_keeps, quiet_unclosed, under_longer, under_found}
 use Rattle.nio_channel.proofs.Own.{under_never, told_look, clear_quiet, clear_look_else, clear_none, clear_looked}
 use Rattle.nio_channel.specs.Held.{HoldsChannel, HoldsUnblocked, MayEnrol, IsClearBelow}
@@ -62,6 +65,10 @@ had_stays {w = w} {p = p} {q = q} {me = me} {act = act} f steps new keeps pass h
       has_it = had;
       kept = ap (λ b. b || false) keeps;
     })
+
+-- it found that the channel is closed
+abbrev pub finds_closed : ChanId → Act → Bool
+finds_closed c act = finds act (channel_closed c.number.0 c.serial)
 
 -- ---- the hold
 
@@ -94,31 +101,36 @@ takes_the_hold {w = w} {p = p} {q = q} {me = me} {c = c} {found = found} steps f
 }
 
 -- a step that neither takes nor gives back a hold, and doesn't find the channel closed
-pub unblocked_over : {w : Words} {p q : Pass} {me : CallerNo} {act : Act} {c : ChanNo} → Steps w p q me act
+pub unblocked_over : {w : Words} {p q : Pass} {me : CallerNo} {act : Act} {c : ChanId} → Steps w p q me act
     → finds_drawn act ≡ false
-    → takes_hold c.0 act ≡ false → releases c.0 act ≡ false → finds act (channel_closed c.0) ≡ false
+    → takes_hold c.number.0 act ≡ false → releases c.number.0 act ≡ false
+    → finds act (channel_closed c.number.0 c.serial) ≡ false
     → HoldsUnblocked w p me c → HoldsUnblocked w q me c
 unblocked_over {p = p} {me = me} {act = act} {c = c} steps new takes keeps unclosed here = record {
   held = hold_stays steps new keeps here.held;
-  unblocked = ap (λ own. has (finds_unblocked c.0) (under c.0 own)) (own_more steps new)
-      ∙ under_longer (finds_unblocked c.0) c.0 (acts_seen p me) act takes here.unblocked;
+  unblocked =
+      ap (λ own. has (finds_unblocked c.number.0) (under c.number.0 own)) (own_more steps new)
+      ∙ under_longer (finds_unblocked c.number.0) c.number.0 (acts_seen p me) act takes here.unblocked;
   unclosed =
-      ap (λ own. has (λ a. finds a (channel_closed c.0)) (under c.0 own)) (own_more steps new)
-      ∙ under_never (λ a. finds a (channel_closed c.0)) c.0 (acts_seen p me) act takes unclosed here.unclosed;
+      ap (λ own. has (finds_closed c) (under c.number.0 own)) (own_more steps new)
+      ∙ under_never (finds_closed c) c.number.0 (acts_seen p me) act takes unclosed
+      here.unclosed;
 }
 
-pub unblocked_stays : {w : Words} {p q : Pass} {me : CallerNo} {act : Act} {c : ChanNo} → Steps w p q me act
+pub unblocked_stays : {w : Words} {p q : Pass} {me : CallerNo} {act : Act} {c : ChanId} → Steps w p q me act
     → finds_drawn act ≡ false → is_quiet act ≡ true
     → HoldsUnblocked w p me c → HoldsUnblocked w q me c
 unblocked_stays {act = act} {c = c} steps new quiet here =
-    unblocked_over steps new (quiet_holds c.0 act quiet) (quiet_keeps c.0 act quiet) (quiet_unclosed c.0 act quiet) here
+    unblocked_over steps new (quiet_holds c.number.0 act quiet) (quiet_keeps c.number.0 act quiet)
+    (quiet_unclosed c.number.0 c.serial act quiet) here
 
-pub may_enrol_stays : {w : Words} {p q : Pass} {me : CallerNo} {act : Act} {c : ChanNo} {s : SelNo} → Steps w p q me act
+pub may_enrol_stays : {w : Words} {p q : Pass} {me : CallerNo} {act : Act} {c : ChanId} {s : SelNo} → Steps w p q me act
     → finds_drawn act ≡ false → is_quiet act ≡ true
     → MayEnrol w p me c s → MayEnrol w q me c s
 may_enrol_stays {p = p} {me = me} {act = act} {c = c} {s = s} steps new quiet here = record {
   unblocked = unblocked_stays steps new quiet here.unblocked;
-  clear = ap (is_clear c.0 s.0) (own_more steps new) ∙ clear_quiet c.0 s.0 (acts_seen p me) act quiet here.clear;
+  clear = ap (is_clear c.number.0 s.0) (own_more steps new)
+      ∙ clear_quiet c.number.0 s.0 (acts_seen p me) act quiet here.clear;
 }
 
 -- ---- no key in the key set is enrolled in the first selectors
@@ -224,29 +236,30 @@ invalid_outside stage serial = by_parts (fits stage serial) (in_key_set stage) s
     by_parts true true false spared invalid = invalid
 
 -- the channel was just found open and non-blocking
-pub found_unblocked : {w : Words} {p q : Pass} {me : CallerNo} {c : ChanNo} {found : Chan}
-    → Steps w p q me (LookChannel c found) → found.closed ≡ false → found.blocking ≡ false
-    → HoldsChannel w p me c → found_closed (view w p) me c ≡ false → HoldsUnblocked w q me c
-found_unblocked {p = p} {me = me} {c = c} {found = found} steps unclosed unblocked held before = record {
+pub found_unblocked : {w : Words} {p q : Pass} {me : CallerNo} {c : ChanId} {found : Chan}
+    → Steps w p q me (LookChannel c.number found) → is_open_channel found c.serial ≡ true → found.blocking ≡ false
+    → HoldsChannel w p me c.number → found_closed (view w p) me c ≡ false → HoldsUnblocked w q me c
+found_unblocked {p = p} {me = me} {c = c} {found = found} steps opens unblocked held before = record {
   held = hold_stays steps refl refl held;
   unblocked =
-      ap (λ own. has (finds_unblocked c.0) (under c.0 own)) (own_more steps refl)
-      ∙ under_found (finds_unblocked c.0) c.0 (acts_seen p me) (LookChannel c found) refl
-      (and_from (c.0 == c.0) (not found.blocking) (eq-eqb c.0 c.0 refl) (ap not unblocked));
+      ap (λ own. has (finds_unblocked c.number.0) (under c.number.0 own)) (own_more steps refl)
+      ∙ under_found (finds_unblocked c.number.0) c.number.0 (acts_seen p me) (LookChannel c.number found) refl
+      (and_from (c.number.0 == c.number.0) (not found.blocking) (eq-eqb c.number.0 c.number.0 refl) (ap not unblocked));
   unclosed =
-      ap (λ own. has (λ a. finds a (channel_closed c.0)) (under c.0 own)) (own_more steps refl)
-      ∙ under_never (λ a. finds a (channel_closed c.0)) c.0 (acts_seen p me) (LookChannel c found) refl
-      (ap (λ b. (c.0 == c.0) && b) unclosed ∙ and-false (c.0 == c.0)) before;
+      ap (λ own. has (finds_closed c) (under c.number.0 own)) (own_more steps refl)
+      ∙ under_never (finds_closed c) c.number.0 (acts_seen p me)
+      (LookChannel c.number found) refl
+      (ap (λ b. (c.number.0 == c.number.0) && b) (open_unclosed found c.serial opens)
+      ∙ and-false (c.number.0 == c.number.0)) before;
 }
 
--- under a hold that was just taken it hasn't
-pub unclosed_yet : {w : Words} {p q : Pass} {me : CallerNo} {c : ChanNo} {found : Option CallerNo}
-    → Steps w p q me (TryHoldBit c found) → found ≡ None → found_closed (view w q) me c ≡ false
-unclosed_yet {w = w} {p = p} {q = q} {me = me} {c = c} {found = found} steps free =
-    ap (λ own. has (λ a. finds a (channel_closed c.0)) (under c.0 own)) (own_more steps refl)
-    ∙ (ap (λ holder. has (λ a. finds a (channel_closed c.0)) (under c.0 (acts_seen p me ++ TryHoldBit c holder ∷ [])))
-    free
-    ∙ (ap (has (λ a. finds a (channel_closed c.0)))
-    (since_from-more (takes_hold c.0) (acts_seen p me) (TryHoldBit c None))
-    ∙ ap (λ b. has (λ a. finds a (channel_closed c.0))
-    (if b then [] else under c.0 (acts_seen p me) ++ TryHoldBit c None ∷ [])) (eq-eqb c.0 c.0 refl)))
+-- under a hold that was just taken it hasn't been found closed
+pub unclosed_yet : {w : Words} {p q : Pass} {me : CallerNo} (c : ChanId) {found : Option CallerNo}
+    → Steps w p q me (TryHoldBit c.number found) → found ≡ None → found_closed (view w q) me c ≡ false
+unclosed_yet {p = p} {me = me} c {found = found} steps free =
+    ap (has (finds_closed c)) (ap (under c.number.0) (own_more steps refl))
+    ∙ (ap (λ holder. has (finds_closed c) (under c.number.0 (acts_seen p me ++ TryHoldBit c.number holder ∷ []))) free
+    ∙ (ap (has (finds_closed c)) (since_from-more (takes_hold c.number.0) (acts_seen p me) (TryHoldBit c.number None))
+    ∙ ap (λ b. has (finds_closed c)
+    (if b then [] else under c.number.0 (acts_seen p me) ++ TryHoldBit c.number None ∷ []))
+    (eq-eqb c.number.0 c.number.0 refl)))

@@ -4,7 +4,7 @@ use Rattle.std.proofs.Common.{eqb-true, eq-eqb, arith}
 use Rattle.std.specs.Int.{bit_at}
 use Rattle.std.proofs.lemmas.Bool.{and_parts, and_from, or_left, or_right}
 use Rattle.nio_base.specs.declared.numbers.CallerNo.{CallerNo}
-use Rattle.nio_base.specs.declared.numbers.ChanNo.{ChanNo}
+use Rattle.nio_base.specs.declared.numbers.ChanId.{ChanId}
 use Rattle.nio_base.specs.declared.numbers.SelNo.{SelNo}
 use Rattle.nio_history.proofs.Finds.{step_leaves}
 use Rattle.nio_history.proofs.OwnPins.{pins_are_own}
@@ -12,14 +12,14 @@ use Rattle.nio_history.proofs.PassViews.{selector_after}
 use Rattle.nio_history.proofs.Put.{put-same, put_at-same}
 use Rattle.nio_history.proofs.Stays.{beginnings_are_legal}
 use Rattle.nio_history.specs.Acts.{frees_index}
-use Rattle.nio_history.specs.Conditions.{IsSelector, is_made, has_pin, has_turn, has_begun, has_taken}
+use Rattle.nio_history.specs.Conditions.{IsSelector, has_pin, has_turn, has_begun, has_taken}
 use Rattle.nio_history.specs.Conditions.{may_remove_cancelled, may_clear_out, may_put_due}
 use Rattle.nio_history.specs.Histories.{state_after}
 use Rattle.nio_history.specs.Permanent.{a_selection}
 use Rattle.nio_history.specs.OwnEvents.{keeps_pin}
 use Rattle.nio_history.specs.PassViews.{PassView, Holds as HoldsNumber, known, ActsClause, HasNoPin, HasSelector}
 use Rattle.nio_history.specs.PassViews.{HasChannel}
-use Rattle.nio_history.specs.Sets.{in_cancelled_set}
+use Rattle.nio_history.specs.Sets.{in_cancelled_set, was_opened}
 use Rattle.nio_history.specs.State.{State}
 use Rattle.nio_history.specs.declared.act.Act.{Act}
 use Rattle.nio_history.specs.declared.act.Act.TheVariants.{MakeSelector, LookKey, TakeTurn, BeginLook, Remove, Pin}
@@ -224,7 +224,10 @@ pub selector_same : (w : Words) (p q : Pass) {s : SelNo} → seen q ≡ seen p �
 selector_same w p q {s = s} same has =
     record { inside = has.inside; made = ap (λ events. (state_after events).selector s.0) same ∙ has.made }
 
-pub channel_same : (w : Words) (p q : Pass) {c : ChanNo} → seen q ≡ seen p → HasChannel (view w p) c
+pub channel_same : (w : Words) (p q : Pass) {c : ChanId} → seen q ≡ seen p → HasChannel (view w p) c
     → HasChannel (view w q) c
 channel_same w p q {c = c} same has =
-    record { inside = has.inside; made = ap (λ events. is_made (state_after events) c) same ∙ has.made }
+    record {
+      inside = has.inside;
+      opened = ap (λ events. was_opened ((state_after events).chan c.number.0) c.serial) same ∙ has.opened;
+    }

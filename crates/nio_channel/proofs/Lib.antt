@@ -1,8 +1,10 @@
+pub mod Chans
 pub mod Made
 pub mod Own
 pub mod Held
 pub mod Claimed
 pub mod Chains
+pub mod Done
 pub mod Registered
 pub mod Retrying
 pub mod Idle

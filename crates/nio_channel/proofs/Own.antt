@@ -19,15 +19,16 @@ use Rattle.nio_history.specs.OwnEvents.{is_clear_by}
 use Rattle.nio_history.specs.Sets.{is_in_key_set}
 use Rattle.nio_history.specs.declared.act.Act.{Act}
 use Rattle.nio_history.specs.declared.act.Act.TheVariants.{LookChannel, Claim, Publish, LookReg, Enrol, TryHoldBit}
-use Rattle.nio_history.specs.declared.act.Act.TheVariants.{Release, SetMode, Pin, Unpin, ClaimAgain, LookKey}
+use Rattle.nio_history.specs.declared.act.Act.TheVariants.{Release, SetMode, CloseBit, Pin, Unpin, ClaimAgain, LookKey}
 use Rattle.nio_history.specs.declared.found.Stage.{Stage}
 use Rattle.nio_history.proofs.Unpublished.{is_unpublished-more}
 
--- ---- acts of no consequence to a hold and its channel, to enrolled keys and to publishing
+-- ---- acts of no consequence to a hold and the channel under it, to enrolled keys and to publishing
 
 abbrev pub is_quiet : Act → Bool
 is_quiet (LookChannel c found) = false
 is_quiet (SetMode c blocking found) = false
+is_quiet (CloseBit c from found) = false
 is_quiet (Publish s i found) = false
 is_quiet (LookReg c s found) = false
 is_quiet (Enrol c s i serial found) = false
@@ -43,10 +44,11 @@ pub quiet_keeps : (c : ℕ) (act : Act) → is_quiet act ≡ true → releases c
 quiet_keeps c (Release c') quiet = absurd cc
 quiet_keeps c act quiet = refl
 
-pub quiet_unclosed : (c : ℕ) (act : Act) → is_quiet act ≡ true → finds act (channel_closed c) ≡ false
-quiet_unclosed c (LookChannel c' found) quiet = absurd cc
-quiet_unclosed c (SetMode c' blocking found) quiet = absurd cc
-quiet_unclosed c act quiet = refl
+pub quiet_unclosed : (c n : ℕ) (act : Act) → is_quiet act ≡ true → finds act (channel_closed c n) ≡ false
+quiet_unclosed c n (LookChannel c' found) quiet = absurd cc
+quiet_unclosed c n (SetMode c' blocking found) quiet = absurd cc
+quiet_unclosed c n (CloseBit c' from found) quiet = absurd cc
+quiet_unclosed c n act quiet = refl
 
 quiet_tells : (c s : ℕ) (act : Act) → is_quiet act ≡ true → enrolled_found c s act ≡ None
 quiet_tells c s (LookReg c' s' found) quiet = absurd cc

@@ -6,6 +6,7 @@ use Rattle.std.proofs.lemmas.Bool.{and_from, or_right}
 use Rattle.std.proofs.lemmas.List.{append-nil}
 use Rattle.std.proofs.Math.Bool.{and-false, or-false}
 use Rattle.nio_base.specs.declared.numbers.CallerNo.{CallerNo}
+use Rattle.nio_base.specs.declared.numbers.ChanId.{ChanId}
 use Rattle.nio_base.specs.declared.numbers.ChanNo.{ChanNo}
 use Rattle.nio_base.specs.declared.numbers.KeyId.{KeyId}
 use Rattle.nio_base.specs.declared.numbers.KeyNo.{KeyNo}
@@ -27,7 +28,8 @@ use Rattle.nio_history.specs.OwnEvents.{has, last, under, takes_hold, finds_unbl
 use Rattle.nio_history.specs.OwnEvents.{is_clear}
 use Rattle.nio_history.specs.PassViews.{Holds as HoldsNumber, HasKey}
 use Rattle.nio_history.specs.Pins.{IsOfClaim}
-use Rattle.nio_history.specs.Sets.{fits, is_in_key_set, was_published}
+use Rattle.nio_history.specs.Sets.{fits, is_in_key_set, was_published, is_open_channel}
+use Rattle.nio_channel.proofs.Chans.{open_unclosed}
 use Rattle.nio_history.specs.State.{State}
 use Rattle.nio_history.specs.declared.act.Act.{Act}
 use Rattle.nio_history.specs.declared.act.Act.TheVariants.{LookChannel, CancelKey, Enrol, Publish, Pin, Release}
@@ -42,7 +44,7 @@ use Rattle.nio_words.specs.Steps.{Steps}
 use Rattle.nio_words.specs.Views.{view}
 use Rattle.nio_words.specs.declared.words.Pass.{Pass}
 use Rattle.nio_words.specs.declared.words.Words.{Words}
-use Rattle.nio_channel.proofs.Held.{own_more, unblocked_over, unblocked_stays, in_set_published}
+use Rattle.nio_channel.proofs.Held.{finds_closed, own_more, unblocked_over, unblocked_stays, in_set_published}
 use Rattle.nio_channel.proofs.Own.{is_quiet, under-more, told_quiet, told_enrol, told_over, clear_pinned}
 use Rattle.nio_channel.proofs.Own.{claim_published, claim_stays}
 use Rattle.nio_channel.specs.Held.{HoldsUnblocked, MayEnrol, KnowsEnrolled, KnowsKey, HasClaimed, HasPublished}
@@ -60,26 +62,27 @@ enrolled_stays {p = p} {me = me} {act = act} c s k steps new takes silent enroll
 
 -- ---- the channel was found closed
 
-found_closed-same : {w : Words} {p q : Pass} {me : CallerNo} {act : Act} (c : ChanNo) → Steps w p q me act
-    → finds_drawn act ≡ false → takes_hold c.0 act ≡ false
-    → finds act (channel_closed c.0) ≡ false → found_closed (view w q) me c ≡ found_closed (view w p) me c
+found_closed-same : {w : Words} {p q : Pass} {me : CallerNo} {act : Act} (c : ChanId) → Steps w p q me act
+    → finds_drawn act ≡ false → takes_hold c.number.0 act ≡ false
+    → finds act (channel_closed c.number.0 c.serial) ≡ false
+    → found_closed (view w q) me c ≡ found_closed (view w p) me c
 found_closed-same {p = p} {me = me} {act = act} c steps new takes silent =
-    ap (λ own. has (λ a. finds a (channel_closed c.0)) (under c.0 own)) (own_more steps new)
-    ∙ (ap (has (λ a. finds a (channel_closed c.0))) (under-more c.0 (acts_seen p me) act takes)
-    ∙ (has-more (λ a. finds a (channel_closed c.0)) (under c.0 (acts_seen p me)) act
-    ∙ (ap (λ b. has (λ a. finds a (channel_closed c.0)) (under c.0 (acts_seen p me)) || b) silent
-    ∙ or-false (has (λ a. finds a (channel_closed c.0)) (under c.0 (acts_seen p me))))))
+    ap (has (finds_closed c)) (ap (under c.number.0) (own_more steps new))
+    ∙ (ap (has (finds_closed c)) (under-more c.number.0 (acts_seen p me) act takes)
+    ∙ (has-more (finds_closed c) (under c.number.0 (acts_seen p me)) act
+    ∙ (ap (λ b. has (finds_closed c) (under c.number.0 (acts_seen p me)) || b) silent
+    ∙ or-false (has (finds_closed c) (under c.number.0 (acts_seen p me))))))
 
 -- ---- a key that the channel has
 
-pub knows_key_stays : {w : Words} {p q : Pass} {me : CallerNo} {act : Act} {c : ChanNo} {s : SelNo} {k : KeyId}
+pub knows_key_stays : {w : Words} {p q : Pass} {me : CallerNo} {act : Act} {c : ChanId} {s : SelNo} {k : KeyId}
     → Steps w p q me act → finds_drawn act ≡ false → is_quiet act ≡ true
     → changes_pins act ≡ false → KnowsKey w p me c s k → KnowsKey w q me c s k
 knows_key_stays {p = p} {me = me} {act = act} {c = c} {s = s} {k = k} steps new quiet pins here = record {
   unblocked = unblocked_stays steps new quiet here.unblocked;
   pinned = stays_pinned steps new pins here.pinned;
-  enrolled = ap (λ own. last (enrolled_found c.0 s.0) (under c.0 own)) (own_more steps new)
-      ∙ (told_quiet c.0 s.0 (acts_seen p me) act quiet ∙ here.enrolled);
+  enrolled = ap (λ own. last (enrolled_found c.number.0 s.0) (under c.number.0 own)) (own_more steps new)
+      ∙ (told_quiet c.number.0 s.0 (acts_seen p me) act quiet ∙ here.enrolled);
   has = key_after (step_acts steps new) here.has;
 }
 
@@ -94,18 +97,19 @@ pinned_key {s = s} {k = k} {stage = stage} steps inside found = record {
 }
 
 -- or it doesn't
-pub pinned_outside : {w : Words} {p q : Pass} {me : CallerNo} {c : ChanNo} {s : SelNo} {k : KeyId} {stage : Stage}
+pub pinned_outside : {w : Words} {p q : Pass} {me : CallerNo} {c : ChanId} {s : SelNo} {k : KeyId} {stage : Stage}
     → Steps w p q me (Pin s k.index stage) → HoldsUnblocked w p me c
-    → KnowsEnrolled p me c s k → is_in_key_set stage k.serial ≡ false → MayEnrol w q me c s
+    → KnowsEnrolled p me c.number s k → is_in_key_set stage k.serial ≡ false → MayEnrol w q me c s
 pinned_outside {p = p} {me = me} {c = c} {s = s} {k = k} {stage = stage} steps here enrolled out = record {
   unblocked = unblocked_stays steps refl refl here;
-  clear = ap (is_clear c.0 s.0) (own_more steps refl) ∙ clear_pinned c.0 s k stage (acts_seen p me) out enrolled;
+  clear = ap (is_clear c.number.0 s.0) (own_more steps refl)
+      ∙ clear_pinned c.number.0 s k stage (acts_seen p me) out enrolled;
 }
 
 -- ---- a key that is made
 
-pub enrolled_unblocked : {w : Words} {p q : Pass} {me : CallerNo} {c : ChanNo} {s : SelNo} {i serial : ℕ}
-    {before : Option KeyId} → Steps w p q me (Enrol c s i serial before)
+pub enrolled_unblocked : {w : Words} {p q : Pass} {me : CallerNo} {c : ChanId} {s : SelNo} {i serial : ℕ}
+    {before : Option KeyId} → Steps w p q me (Enrol c.number s i serial before)
     → HoldsUnblocked w p me c → HoldsUnblocked w q me c
 enrolled_unblocked steps here = unblocked_over steps refl refl refl refl here
 
@@ -117,12 +121,13 @@ enrolled_known {p = p} {me = me} {c = c} {s = s} {k = k} {before = before} steps
     ∙ told_enrol c s k before (acts_seen p me)
 
 -- a caller that claimed the index for the channel may publish its key
-pub may_publish_claimed : {w : Words} {p : Pass} {me : CallerNo} {c : ChanNo} {s : SelNo} {k : KeyId}
-    → HoldsUnblocked w p me c → HasClaimed w p me c s k
+pub may_publish_claimed : {w : Words} {p : Pass} {me : CallerNo} {c : ChanId} {s : SelNo} {k : KeyId}
+    → HoldsUnblocked w p me c → HasClaimed w p me c.number s k
     → may_publish (state_seen p) (acts_seen p me) me (own_claim s.0 k.index (acts_seen p me)) ≡ true
 may_publish_claimed {w = w} {p = p} {me = me} {c = c} here claimed =
     ap (may_publish (state_seen p) (acts_seen p me) me) claimed.claim
-    ∙ and_from (holds (state_seen p) me c) (has (finds_unblocked c.0) (under c.0 (acts_seen p me)))
+    ∙ and_from (holds (state_seen p) me c.number)
+    (has (finds_unblocked c.number.0) (under c.number.0 (acts_seen p me)))
     here.held.holding here.unblocked
 
 -- the index has the key that its caller claimed
@@ -139,20 +144,20 @@ fits_claim stage c serial its =
     and_from stage.claimed (stage.serial == serial) its.claimed (eq-eqb stage.serial serial its.serial)
 
 -- its key was just published
-pub has_published : {w : Words} {p q : Pass} {me : CallerNo} {c : ChanNo} {s : SelNo} {k : KeyId} {stage : Stage}
+pub has_published : {w : Words} {p q : Pass} {me : CallerNo} {c : ChanId} {s : SelNo} {k : KeyId} {stage : Stage}
     → Steps w p q me (Publish s k.index stage) → HoldsUnblocked w p me c
-    → KnowsEnrolled p me c s k → HasClaimed w p me c s k → HasPublished w q me c s k
+    → KnowsEnrolled p me c.number s k → HasClaimed w p me c.number s k → HasPublished w q me c s k
 has_published {w = w} {p = p} {q = q} {me = me} {c = c} {s = s} {k = k} {stage = stage} steps here enrolled claimed =
     record {
       known = record {
         unblocked = unblocked_over steps refl refl refl refl here;
         pinned = stays_pinned steps refl refl claimed.pinned;
-        enrolled = enrolled_stays c s k steps refl refl refl enrolled;
+        enrolled = enrolled_stays c.number s k steps refl refl refl enrolled;
         has = record {
           inside = claimed.pinned.inside;
           published = or_right (nat_lt k.serial now.serial) (fits now k.serial && now.published)
               (and_from (fits now k.serial) now.published
-              (fits_claim now c k.serial (of_claim w q me c s k steps.pass.legal claim)) published);
+              (fits_claim now c.number k.serial (of_claim w q me c.number s k steps.pass.legal claim)) published);
         };
       };
       claim = claim;
@@ -161,7 +166,7 @@ has_published {w = w} {p = p} {q = q} {me = me} {c = c} {s = s} {k = k} {stage =
     now : Stage
     now = (state_seen q).key s.0 k.index
 
-    claim : own_claim s.0 k.index (acts_seen q me) ≡ Some (record { channel = c; serial = k.serial })
+    claim : own_claim s.0 k.index (acts_seen q me) ≡ Some (record { channel = c.number; serial = k.serial })
     claim = ap (own_claim s.0 k.index) (own_more steps refl)
         ∙ (claim_published s.0 k.index s k.index stage (acts_seen p me) ∙ claimed.claim)
 
@@ -175,44 +180,46 @@ has_published {w = w} {p = p} {q = q} {me = me} {c = c} {s = s} {k = k} {stage =
         (put_at-same before.key s.0 k.index (record (before.key s.0 k.index) { published = true }))
 
 -- the channel was found open after that
-pub settled_open : {w : Words} {p q : Pass} {me : CallerNo} {c : ChanNo} {s : SelNo} {k : KeyId} {found : Chan}
-    → Steps w p q me (LookChannel c found) → found.closed ≡ false
+pub settled_open : {w : Words} {p q : Pass} {me : CallerNo} {c : ChanId} {s : SelNo} {k : KeyId} {found : Chan}
+    → Steps w p q me (LookChannel c.number found) → is_open_channel found c.serial ≡ true
     → HasPublished w p me c s k → HasRegistered w q me c s (key s k)
-settled_open {w = w} {p = p} {q = q} {me = me} {c = c} {s = s} {k = k} {found = found} steps unclosed here = record {
+settled_open {w = w} {p = p} {q = q} {me = me} {c = c} {s = s} {k = k} {found = found} steps opens here = record {
   in_selector = refl;
   has = key_after (step_acts steps refl) here.known.has;
-  enrolled = enrolled_stays c s k steps refl refl refl here.known.enrolled;
+  enrolled = enrolled_stays c.number s k steps refl refl refl here.known.enrolled;
   cancelled = λ closed.
       let clash : true ≡ false = sym closed
-      ∙ (found_closed-same {w = w} c steps refl refl (ap (λ b. (c.0 == c.0) && b) unclosed ∙ and-false (c.0 == c.0))
+      ∙ (found_closed-same {w = w} c steps refl refl
+      (ap (λ b. (c.number.0 == c.number.0) && b) (open_unclosed found c.serial opens)
+      ∙ and-false (c.number.0 == c.number.0))
       ∙ here.known.unblocked.unclosed) in
       absurd cc;
 }
 
 -- or it was found closed, and the key was cancelled
-pub settled_cancelled : {w : Words} {p q r : Pass} {me : CallerNo} {c : ChanNo} {s : SelNo} {k : KeyId} {found : Chan}
-    {stage : Stage} → Steps w p q me (LookChannel c found)
+pub settled_cancelled : {w : Words} {p q r : Pass} {me : CallerNo} {c : ChanId} {s : SelNo} {k : KeyId} {found : Chan}
+    {stage : Stage} → Steps w p q me (LookChannel c.number found)
     → Steps w q r me (CancelKey s k.index stage) → HasPublished w p me c s k → HasRegistered w r me c s (key s k)
 settled_cancelled {w = w} {p = p} {q = q} {r = r} {me = me} {c = c} {s = s} {k = k} {found = found} {stage = stage} look
     cancel here = record {
       in_selector = refl;
       has = key_after (step_acts cancel refl) (key_after (step_acts look refl) here.known.has);
-      enrolled = enrolled_stays c s k cancel refl refl refl
-          (enrolled_stays c s k look refl refl refl here.known.enrolled);
+      enrolled = enrolled_stays c.number s k cancel refl refl refl
+          (enrolled_stays c.number s k look refl refl refl here.known.enrolled);
       cancelled = λ closed. or_right (nat_lt k.serial now.serial) (fits now k.serial && now.cancelled)
           (and_from (fits now k.serial) now.cancelled
-          (fits_claim now c k.serial (of_claim w r me c s k cancel.pass.legal claim)) cancelled);
+          (fits_claim now c.number k.serial (of_claim w r me c.number s k cancel.pass.legal claim)) cancelled);
     }
   where
     now : Stage
     now = (state_seen r).key s.0 k.index
 
-    claim : own_claim s.0 k.index (acts_seen r me) ≡ Some (record { channel = c; serial = k.serial })
+    claim : own_claim s.0 k.index (acts_seen r me) ≡ Some (record { channel = c.number; serial = k.serial })
     claim =
         ap (own_claim s.0 k.index) (own_more cancel refl)
         ∙ (claim_stays s.0 k.index (acts_seen q me) (CancelKey s k.index stage) refl
         ∙ (ap (own_claim s.0 k.index) (own_more look refl)
-        ∙ (claim_stays s.0 k.index (acts_seen p me) (LookChannel c found) refl ∙ here.claim)))
+        ∙ (claim_stays s.0 k.index (acts_seen p me) (LookChannel c.number found) refl ∙ here.claim)))
 
     cancelled : now.cancelled ≡ true
     cancelled =
@@ -226,24 +233,25 @@ settled_cancelled {w = w} {p = p} {q = q} {r = r} {me = me} {c = c} {s = s} {k =
 -- ---- after the registration
 
 -- where the channel was found closed the key stays cancelled
-pub cancelled_after : {w : Words} {p q : Pass} {me : CallerNo} {act : Act} (c : ChanNo) (k : KeyNo) → Steps w p q me act
-    → finds_drawn act ≡ false → takes_hold c.0 act ≡ false
-    → finds act (channel_closed c.0) ≡ false → IsCancelledWhereClosed (view w p) me c k
+pub cancelled_after : {w : Words} {p q : Pass} {me : CallerNo} {act : Act} (c : ChanId) (k : KeyNo) → Steps w p q me act
+    → finds_drawn act ≡ false → takes_hold c.number.0 act ≡ false
+    → finds act (channel_closed c.number.0 c.serial) ≡ false → IsCancelledWhereClosed (view w p) me c k
     → IsCancelledWhereClosed (view w q) me c k
 cancelled_after {w = w} c k steps new takes unclosed here closed =
     lasts_over (key_cancelled k.sel.0 k.index k.serial) (step_acts steps new)
     (here (sym (found_closed-same {w = w} c steps new takes unclosed) ∙ closed))
 
 -- a step that doesn't take a hold, enrol a key or look at the channel
-pub registered_stays : {w : Words} {p q : Pass} {me : CallerNo} {act : Act} {c : ChanNo} {s : SelNo} {k : KeyNo}
-    → Steps w p q me act → finds_drawn act ≡ false → takes_hold c.0 act ≡ false
-    → enrolled_found c.0 s.0 act ≡ None → finds act (channel_closed c.0) ≡ false → HasRegistered w p me c s k
+pub registered_stays : {w : Words} {p q : Pass} {me : CallerNo} {act : Act} {c : ChanId} {s : SelNo} {k : KeyNo}
+    → Steps w p q me act → finds_drawn act ≡ false → takes_hold c.number.0 act ≡ false
+    → enrolled_found c.number.0 s.0 act ≡ None → finds act (channel_closed c.number.0 c.serial) ≡ false
+    → HasRegistered w p me c s k
     → HasRegistered w q me c s k
 registered_stays {w = w} {p = p} {q = q} {me = me} {act = act} {c = c} {s = s} {k = k} steps new takes silent unclosed
     here = record {
       in_selector = here.in_selector;
       has = key_after (step_acts steps new) here.has;
-      enrolled = enrolled_stays c s (record {
+      enrolled = enrolled_stays c.number s (record {
         index = k.index;
         serial = k.serial;
       }) steps new takes silent here.enrolled;
@@ -251,8 +259,9 @@ registered_stays {w = w} {p = p} {q = q} {me = me} {act = act} {c = c} {s = s} {
     }
 
 -- when the hold is given back the enrolled key is the channel's
-pub its_key : {w : Words} {p q : Pass} {me : CallerNo} (c : ChanNo) (s : SelNo) (k : KeyId) → Steps w p q me (Release c)
-    → KnowsEnrolled p me c s k → IsKeyOf (view w q) c (key s k)
+its_key : {w : Words} {p q : Pass} {me : CallerNo} (c : ChanNo) (s : SelNo) (k : KeyId) → Steps w p q me (Release c)
+    → KnowsEnrolled p me c s k
+    → ((state_seen q).key s.0 k.index).serial ≡ k.serial → ((state_seen q).key s.0 k.index).chan ≡ c
 its_key {w = w} {p = p} {q = q} {me = me} c s k steps enrolled =
     subst (λ (st : State). (st.key s.0 k.index).serial ≡ k.serial → (st.key s.0 k.index).chan ≡ c) (sym leaves.state)
     (enrolled_keys_are_claimed (limits_of w) c s k mid w.fit legal there).1
@@ -284,9 +293,9 @@ its_key {w = w} {p = p} {q = q} {me = me} c s k steps enrolled =
         ∙ (ap (λ own. last (enrolled_found c.0 s.0) (under c.0 own)) same ∙ enrolled))
 
 -- so is the answer of a registration
-pub its_answer : {w : Words} {p q : Pass} {me : CallerNo} {c : ChanNo} {s : SelNo} {k : KeyNo}
-    → Steps w p q me (Release c) → HasRegistered w p me c s k → IsKeyOf (view w q) c k
+pub its_answer : {w : Words} {p q : Pass} {me : CallerNo} {c : ChanId} {s : SelNo} {k : KeyNo}
+    → Steps w p q me (Release c.number) → HasRegistered w p me c s k → IsKeyOf (view w q) c k
 its_answer {w = w} {p = p} {q = q} {me = me} {c = c} {s = s} {k = k} steps here =
     subst (λ (x : SelNo). ((state_seen q).key x.0 k.index).serial ≡ k.serial
-    → ((state_seen q).key x.0 k.index).chan ≡ c) (sym here.in_selector)
-    (its_key {w = w} c s (record { index = k.index; serial = k.serial }) steps here.enrolled)
+    → ((state_seen q).key x.0 k.index).chan ≡ c.number) (sym here.in_selector)
+    (its_key {w = w} c.number s (record { index = k.index; serial = k.serial }) steps here.enrolled)

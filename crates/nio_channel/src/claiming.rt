@@ -12,7 +12,7 @@ ghost use Rattle.nio_words.specs.Passes.{limits_of, state_seen};
 ghost use Rattle.nio_words.specs.Views.{view};
 ghost use Rattle.nio_channel.specs.Held.{MayEnrol, HasClaimed};
 
-use nio_base::{CallerNo, ChanNo, KeyId, SelNo};
+use nio_base::{CallerNo, ChanId, KeyId, SelNo};
 use nio_steps::has_bit;
 use nio_words::{Pass, Words};
 
@@ -22,18 +22,18 @@ pub(crate) fn search_free(
     p: &mut Pass,
     me: CallerNo,
     sel: SelNo,
-    chan: ChanNo,
+    chan: ChanId,
     mark: u32,
 ) -> Option<KeyId>
     requires may { MayEnrol w.now p.old me chan sel }
     requires selector { IsSelector (limits_of w.now) sel }
     requires mark { mark ≤ (limits_of w.now).keys }
     requires unpinned { HasNoPin (view w.now p.old) me }
-    ensures call { CallClause me (Completes (searches_free sel chan mark))
+    ensures call { CallClause me (Completes (searches_free sel chan.number mark))
         (view w.now p.old) (view w.now p.new) result }
     ensures may { MayEnrol w.now p.new me chan sel }
     ensures unpinned { result ≡ None → HasNoPin (view w.now p.new) me }
-    ensures claimed { IfSome result (HasClaimed w.now p.new me chan sel) }
+    ensures claimed { IfSome result (HasClaimed w.now p.new me chan.number sel) }
 {
     for j in 0..words_below(w, mark) {
         if let Some(k) = search_word(w, p, me, sel, chan, mark, j) {
@@ -57,7 +57,7 @@ fn search_word(
     p: &mut Pass,
     me: CallerNo,
     sel: SelNo,
-    chan: ChanNo,
+    chan: ChanId,
     mark: u32,
     j: u32,
 ) -> Option<KeyId>
@@ -66,11 +66,11 @@ fn search_word(
     requires mark { mark ≤ (limits_of w.now).keys }
     requires below { 64 * j < mark }
     requires unpinned { HasNoPin (view w.now p.old) me }
-    ensures call { CallClause me (Completes (claim_in_word sel chan mark j))
+    ensures call { CallClause me (Completes (claim_in_word sel chan.number mark j))
         (view w.now p.old) (view w.now p.new) result }
     ensures may { MayEnrol w.now p.new me chan sel }
     ensures unpinned { result ≡ None → HasNoPin (view w.now p.new) me }
-    ensures claimed { IfSome result (HasClaimed w.now p.new me chan sel) }
+    ensures claimed { IfSome result (HasClaimed w.now p.new me chan.number sel) }
 {
     let word = w.look_free(p, me, sel, j);
     if word == 0 {
@@ -85,7 +85,7 @@ fn search_bits(
     p: &mut Pass,
     me: CallerNo,
     sel: SelNo,
-    chan: ChanNo,
+    chan: ChanId,
     mark: u32,
     j: u32,
     word: u64,
@@ -95,11 +95,11 @@ fn search_bits(
     requires mark { mark ≤ (limits_of w.now).keys }
     requires below { 64 * j < mark }
     requires unpinned { HasNoPin (view w.now p.old) me }
-    ensures call { CallClause me (Completes (seek_to 64 0 (claim_at_bit sel chan mark j word)))
+    ensures call { CallClause me (Completes (seek_to 64 0 (claim_at_bit sel chan.number mark j word)))
         (view w.now p.old) (view w.now p.new) result }
     ensures may { MayEnrol w.now p.new me chan sel }
     ensures unpinned { result ≡ None → HasNoPin (view w.now p.new) me }
-    ensures claimed { IfSome result (HasClaimed w.now p.new me chan sel) }
+    ensures claimed { IfSome result (HasClaimed w.now p.new me chan.number sel) }
 {
     for b in 0..64 {
         if let Some(k) = claim_bit(w, p, me, sel, chan, mark, j, word, b) {
@@ -114,7 +114,7 @@ fn claim_bit(
     p: &mut Pass,
     me: CallerNo,
     sel: SelNo,
-    chan: ChanNo,
+    chan: ChanId,
     mark: u32,
     j: u32,
     word: u64,
@@ -126,11 +126,11 @@ fn claim_bit(
     requires below { 64 * j < mark }
     requires bit { b < 64 }
     requires unpinned { HasNoPin (view w.now p.old) me }
-    ensures call { CallClause me (Completes (claim_at_bit sel chan mark j word b))
+    ensures call { CallClause me (Completes (claim_at_bit sel chan.number mark j word b))
         (view w.now p.old) (view w.now p.new) result }
     ensures may { MayEnrol w.now p.new me chan sel }
     ensures unpinned { result ≡ None → HasNoPin (view w.now p.new) me }
-    ensures claimed { IfSome result (HasClaimed w.now p.new me chan sel) }
+    ensures claimed { IfSome result (HasClaimed w.now p.new me chan.number sel) }
 {
     let i = 64 * j + b;
     if has_bit(word, b) && i < mark {
@@ -146,16 +146,17 @@ fn claim_free(
     p: &mut Pass,
     me: CallerNo,
     sel: SelNo,
-    chan: ChanNo,
+    chan: ChanId,
     i: u32,
 ) -> Option<KeyId>
     requires may { MayEnrol w.now p.old me chan sel }
     requires key { IsKey (limits_of w.now) sel i }
     requires unpinned { HasNoPin (view w.now p.old) me }
-    ensures call { CallClause me (Completes (claims_free sel chan i)) (view w.now p.old) (view w.now p.new) result }
+    ensures call { CallClause me (Completes (claims_free sel chan.number i))
+        (view w.now p.old) (view w.now p.new) result }
     ensures may { MayEnrol w.now p.new me chan sel }
     ensures unpinned { result ≡ None → HasNoPin (view w.now p.new) me }
-    ensures claimed { IfSome result (HasClaimed w.now p.new me chan sel) }
+    ensures claimed { IfSome result (HasClaimed w.now p.new me chan.number sel) }
 {
     if w.take_free(p, me, sel, i) {
         claim_taken(w, p, me, sel, chan, i)
@@ -170,20 +171,21 @@ fn claim_taken(
     p: &mut Pass,
     me: CallerNo,
     sel: SelNo,
-    chan: ChanNo,
+    chan: ChanId,
     i: u32,
 ) -> Option<KeyId>
     requires may { MayEnrol w.now p.old me chan sel }
     requires key { IsKey (limits_of w.now) sel i }
     requires taken { IsTrue (has_taken (state_seen p.old) me sel i) }
     requires unpinned { HasNoPin (view w.now p.old) me }
-    ensures call { CallClause me (Completes (claims_taken sel chan i)) (view w.now p.old) (view w.now p.new) result }
+    ensures call { CallClause me (Completes (claims_taken sel chan.number i))
+        (view w.now p.old) (view w.now p.new) result }
     ensures may { MayEnrol w.now p.new me chan sel }
     ensures unpinned { result ≡ None → HasNoPin (view w.now p.new) me }
-    ensures claimed { IfSome result (HasClaimed w.now p.new me chan sel) }
+    ensures claimed { IfSome result (HasClaimed w.now p.new me chan.number sel) }
 {
     let stage = w.look_key(p, me, sel, i);
-    if w.claim_again(p, me, sel, i, chan, stage) {
+    if w.claim_again(p, me, sel, i, chan.number, stage) {
         w.put_free(p, me, sel, i);
         None
     } else {
@@ -200,18 +202,18 @@ pub(crate) fn claim_first(
     p: &mut Pass,
     me: CallerNo,
     sel: SelNo,
-    chan: ChanNo,
+    chan: ChanId,
     mark: u32,
 ) -> Option<KeyId>
     requires may { MayEnrol w.now p.old me chan sel }
     requires selector { IsSelector (limits_of w.now) sel }
     requires lower { AllClaimed (state_seen p.old) sel mark }
     requires unpinned { HasNoPin (view w.now p.old) me }
-    ensures call { CallClause me (Completes (seek_to (limits_of w.now).keys mark (claims_new sel chan)))
+    ensures call { CallClause me (Completes (seek_to (limits_of w.now).keys mark (claims_new sel chan.number)))
         (view w.now p.old) (view w.now p.new) result }
     ensures may { MayEnrol w.now p.new me chan sel }
     ensures unpinned { result ≡ None → HasNoPin (view w.now p.new) me }
-    ensures claimed { IfSome result (HasClaimed w.now p.new me chan sel) }
+    ensures claimed { IfSome result (HasClaimed w.now p.new me chan.number sel) }
     ensures lower { IfSome result (λ k. AllClaimed (state_seen p.new) sel (k.index + 1)) }
 {
     for i in mark..w.limits().keys {
@@ -228,21 +230,22 @@ fn claim_new(
     p: &mut Pass,
     me: CallerNo,
     sel: SelNo,
-    chan: ChanNo,
+    chan: ChanId,
     i: u32,
 ) -> Option<KeyId>
     requires may { MayEnrol w.now p.old me chan sel }
     requires key { IsKey (limits_of w.now) sel i }
     requires lower { AllClaimed (state_seen p.old) sel i }
     requires unpinned { HasNoPin (view w.now p.old) me }
-    ensures call { CallClause me (Completes (claims_new sel chan i)) (view w.now p.old) (view w.now p.new) result }
+    ensures call { CallClause me (Completes (claims_new sel chan.number i))
+        (view w.now p.old) (view w.now p.new) result }
     ensures may { MayEnrol w.now p.new me chan sel }
     ensures unpinned { result ≡ None → HasNoPin (view w.now p.new) me }
-    ensures claimed { IfSome result (HasClaimed w.now p.new me chan sel) }
+    ensures claimed { IfSome result (HasClaimed w.now p.new me chan.number sel) }
     ensures lower { AllClaimed (state_seen p.new) sel (i + 1) }
     ensures its { IfSome result (λ k. k.index ≡ i) }
 {
-    if w.claim(p, me, sel, i, chan) {
+    if w.claim(p, me, sel, i, chan.number) {
         None
     } else {
         Some(KeyId {

@@ -24,7 +24,7 @@ ghost use Rattle.nio_channel.specs.Registered.{found_closed, IsKeyOf, IsCancelle
 
 use crate::claiming::{claim_first, search_free};
 use crate::keys::look_enrolled;
-use nio_base::{CallerNo, ChanNo, KeyId, KeyNo, Ops, SelNo};
+use nio_base::{CallerNo, ChanId, KeyId, KeyNo, Ops, SelNo};
 use nio_history::Stage;
 use nio_steps::{ChannelError, supports};
 use nio_words::{Pass, Words};
@@ -33,7 +33,7 @@ use nio_words::{Pass, Words};
 #[derive(Clone, Copy)]
 struct Wanted {
     sel: SelNo,
-    chan: ChanNo,
+    chan: ChanId,
     ops: Ops,
     att: u64,
 }
@@ -50,7 +50,7 @@ pub fn try_register(
     p: &mut Pass,
     me: CallerNo,
     sel: SelNo,
-    chan: ChanNo,
+    chan: ChanId,
     ops: Ops,
     att: u64,
 ) -> Result<KeyNo, ChannelError>
@@ -67,14 +67,14 @@ pub fn try_register(
     ensures cancelled { IfOk result (IsCancelledWhereClosed (view w.now p.new) me chan) }
     ensures unpinned { HasNoPin (view w.now p.new) me }
 {
-    let found = w.look_channel(p, me, chan);
+    let found = w.look_channel(p, me, chan.number);
     if !supports(found.kind, ops) {
         return Err(ChannelError::IllegalOps);
     }
-    if found.closed {
+    if !found.is_open(chan.serial) {
         return Err(ChannelError::ClosedChannel);
     }
-    if w.try_hold_bit(p, me, chan).is_some() {
+    if w.try_hold_bit(p, me, chan.number).is_some() {
         return Err(ChannelError::Busy);
     }
     let wanted = Wanted {
@@ -84,7 +84,7 @@ pub fn try_register(
         att,
     };
     let answer = register_held(w, p, me, &wanted);
-    w.release(p, me, chan);
+    w.release(p, me, chan.number);
     answer
 }
 
@@ -94,18 +94,18 @@ fn register_held(
     me: CallerNo,
     wanted: &Wanted,
 ) -> Result<KeyNo, ChannelError>
-    requires held { HoldsChannel w.now p.old me wanted.now.chan }
+    requires held { HoldsChannel w.now p.old me wanted.now.chan.number }
     requires unclosed { IsFalse (found_closed (view w.now p.old) me wanted.now.chan) }
     requires selector { IsSelector (limits_of w.now) wanted.now.sel }
     requires unpinned { HasNoPin (view w.now p.old) me }
     ensures call { CallClause me (Completes (registers_held (limits_of w.now) wanted.now.sel wanted.now.chan
         wanted.now.ops wanted.now.att)) (view w.now p.old) (view w.now p.new) result }
-    ensures held { HoldsChannel w.now p.new me wanted.now.chan }
+    ensures held { HoldsChannel w.now p.new me wanted.now.chan.number }
     ensures registered { IfOk result (HasRegistered w.now p.new me wanted.now.chan wanted.now.sel) }
     ensures unpinned { HasNoPin (view w.now p.new) me }
 {
-    let found = w.look_channel(p, me, wanted.chan);
-    if found.closed {
+    let found = w.look_channel(p, me, wanted.chan.number);
+    if !found.is_open(wanted.chan.serial) {
         return Err(ChannelError::ClosedChannel);
     }
     if found.blocking {
@@ -125,11 +125,11 @@ fn register_unblocked(
     requires unpinned { HasNoPin (view w.now p.old) me }
     ensures call { CallClause me (Completes (registers_unblocked (limits_of w.now) wanted.now.sel wanted.now.chan
         wanted.now.ops wanted.now.att)) (view w.now p.old) (view w.now p.new) result }
-    ensures held { HoldsChannel w.now p.new me wanted.now.chan }
+    ensures held { HoldsChannel w.now p.new me wanted.now.chan.number }
     ensures registered { IfOk result (HasRegistered w.now p.new me wanted.now.chan wanted.now.sel) }
     ensures unpinned { HasNoPin (view w.now p.new) me }
 {
-    let enrolled = look_enrolled(w, p, me, wanted.chan, wanted.sel);
+    let enrolled = look_enrolled(w, p, me, wanted.chan.number, wanted.sel);
     let over = register_over(w, p, me, wanted, enrolled);
     register_rest(w, p, me, wanted, over)
 }
@@ -144,8 +144,8 @@ fn register_over(
     enrolled: Option<KeyId>,
 ) -> Option<Result<KeyNo, ChannelError>>
     requires unblocked { HoldsUnblocked w.now p.old me wanted.now.chan }
-    requires told { last (enrolled_found wanted.now.chan.0 wanted.now.sel.0)
-        (under wanted.now.chan.0 (acts_seen p.old me)) ≡ Some enrolled }
+    requires told { last (enrolled_found wanted.now.chan.number.0 wanted.now.sel.0)
+        (under wanted.now.chan.number.0 (acts_seen p.old me)) ≡ Some enrolled }
     requires selector { IsSelector (limits_of w.now) wanted.now.sel }
     requires inside { IfSome enrolled (λ k. IsKey (limits_of w.now) wanted.now.sel k.index) }
     requires claimed { IfSome enrolled (λ k. IsTrue (is_claimed (state_seen p.old) wanted.now.sel k.index)) }
@@ -195,7 +195,7 @@ fn register_known(
     k: KeyId,
 ) -> Option<Result<KeyNo, ChannelError>>
     requires unblocked { HoldsUnblocked w.now p.old me wanted.now.chan }
-    requires enrolled { KnowsEnrolled p.old me wanted.now.chan wanted.now.sel k }
+    requires enrolled { KnowsEnrolled p.old me wanted.now.chan.number wanted.now.sel k }
     requires inside { IsKey (limits_of w.now) wanted.now.sel k.index }
     requires claimed { IsTrue (is_claimed (state_seen p.old) wanted.now.sel k.index) }
     requires unpinned { HasNoPin (view w.now p.old) me }
@@ -223,7 +223,7 @@ fn register_enrolled(
 ) -> Option<Result<KeyNo, ChannelError>>
     requires unblocked { HoldsUnblocked w.now p.old me wanted.now.chan }
     requires pinned { IsPinned w.now p.old me wanted.now.sel k.index }
-    requires enrolled { KnowsEnrolled p.old me wanted.now.chan wanted.now.sel k }
+    requires enrolled { KnowsEnrolled p.old me wanted.now.chan.number wanted.now.sel k }
     requires has { IsTrue (is_in_set stage k.serial) → HasKey (view w.now p.old) (key wanted.now.sel k) }
     requires may { IsFalse (is_in_set stage k.serial) → MayEnrol w.now p.old me wanted.now.chan wanted.now.sel }
     ensures call { CallClause me (Completes (registers_enrolled wanted.now.sel wanted.now.ops wanted.now.att k stage))
@@ -288,7 +288,7 @@ fn register_rest(
     requires unpinned { HasNoPin (view w.now p.old) me }
     ensures call { CallClause me (Completes (registers_rest (limits_of w.now) wanted.now.sel wanted.now.chan
         wanted.now.ops wanted.now.att over)) (view w.now p.old) (view w.now p.new) result }
-    ensures held { HoldsChannel w.now p.new me wanted.now.chan }
+    ensures held { HoldsChannel w.now p.new me wanted.now.chan.number }
     ensures registered { IfOk result (HasRegistered w.now p.new me wanted.now.chan wanted.now.sel) }
     ensures unpinned { HasNoPin (view w.now p.new) me }
 {
@@ -309,7 +309,7 @@ fn register_new(
     requires unpinned { HasNoPin (view w.now p.old) me }
     ensures call { CallClause me (Completes (registers_new (limits_of w.now) wanted.now.sel wanted.now.chan
         wanted.now.ops wanted.now.att)) (view w.now p.old) (view w.now p.new) result }
-    ensures held { HoldsChannel w.now p.new me wanted.now.chan }
+    ensures held { HoldsChannel w.now p.new me wanted.now.chan.number }
     ensures registered { IfOk result (HasRegistered w.now p.new me wanted.now.chan wanted.now.sel) }
     ensures unpinned { HasNoPin (view w.now p.new) me }
 {
@@ -330,11 +330,11 @@ fn register_next(
     requires may { MayEnrol w.now p.old me wanted.now.chan wanted.now.sel }
     requires selector { IsSelector (limits_of w.now) wanted.now.sel }
     requires lower { AllClaimed (state_seen p.old) wanted.now.sel mark }
-    requires claimed { IfSome claimed (HasClaimed w.now p.old me wanted.now.chan wanted.now.sel) }
+    requires claimed { IfSome claimed (HasClaimed w.now p.old me wanted.now.chan.number wanted.now.sel) }
     requires unpinned { claimed ≡ None → HasNoPin (view w.now p.old) me }
     ensures call { CallClause me (Completes (registers_next (limits_of w.now) wanted.now.sel wanted.now.chan
         wanted.now.ops wanted.now.att mark claimed)) (view w.now p.old) (view w.now p.new) result }
-    ensures held { HoldsChannel w.now p.new me wanted.now.chan }
+    ensures held { HoldsChannel w.now p.new me wanted.now.chan.number }
     ensures registered { IfOk result (HasRegistered w.now p.new me wanted.now.chan wanted.now.sel) }
     ensures unpinned { HasNoPin (view w.now p.new) me }
 {
@@ -356,10 +356,10 @@ fn register_again(
     k: KeyId,
 ) -> Result<KeyNo, ChannelError>
     requires may { MayEnrol w.now p.old me wanted.now.chan wanted.now.sel }
-    requires claimed { HasClaimed w.now p.old me wanted.now.chan wanted.now.sel k }
+    requires claimed { HasClaimed w.now p.old me wanted.now.chan.number wanted.now.sel k }
     ensures call { CallClause me (Completes (registers_again wanted.now.sel wanted.now.chan wanted.now.ops
         wanted.now.att k)) (view w.now p.old) (view w.now p.new) result }
-    ensures held { HoldsChannel w.now p.new me wanted.now.chan }
+    ensures held { HoldsChannel w.now p.new me wanted.now.chan.number }
     ensures registered { IfOk result (HasRegistered w.now p.new me wanted.now.chan wanted.now.sel) }
     ensures unpinned { HasNoPin (view w.now p.new) me }
 {
@@ -376,12 +376,12 @@ fn register_first(
     claimed: Option<KeyId>,
 ) -> Result<KeyNo, ChannelError>
     requires may { MayEnrol w.now p.old me wanted.now.chan wanted.now.sel }
-    requires claimed { IfSome claimed (HasClaimed w.now p.old me wanted.now.chan wanted.now.sel) }
+    requires claimed { IfSome claimed (HasClaimed w.now p.old me wanted.now.chan.number wanted.now.sel) }
     requires lower { IfSome claimed (λ k. AllClaimed (state_seen p.old) wanted.now.sel (k.index + 1)) }
     requires unpinned { claimed ≡ None → HasNoPin (view w.now p.old) me }
     ensures call { CallClause me (Completes (registers_first wanted.now.sel wanted.now.chan wanted.now.ops
         wanted.now.att claimed)) (view w.now p.old) (view w.now p.new) result }
-    ensures held { HoldsChannel w.now p.new me wanted.now.chan }
+    ensures held { HoldsChannel w.now p.new me wanted.now.chan.number }
     ensures registered { IfOk result (HasRegistered w.now p.new me wanted.now.chan wanted.now.sel) }
     ensures unpinned { HasNoPin (view w.now p.new) me }
 {
@@ -401,10 +401,10 @@ fn make_claimed(
     k: KeyId,
 ) -> Result<KeyNo, ChannelError>
     requires may { MayEnrol w.now p.old me wanted.now.chan wanted.now.sel }
-    requires claimed { HasClaimed w.now p.old me wanted.now.chan wanted.now.sel k }
+    requires claimed { HasClaimed w.now p.old me wanted.now.chan.number wanted.now.sel k }
     ensures call { CallClause me (Completes (makes_claimed wanted.now.sel wanted.now.chan wanted.now.ops wanted.now.att
         k)) (view w.now p.old) (view w.now p.new) result }
-    ensures held { HoldsChannel w.now p.new me wanted.now.chan }
+    ensures held { HoldsChannel w.now p.new me wanted.now.chan.number }
     ensures registered { IfOk result (HasRegistered w.now p.new me wanted.now.chan wanted.now.sel) }
     ensures unpinned { HasNoPin (view w.now p.new) me }
 {
@@ -421,10 +421,10 @@ fn make_key(
     k: KeyId,
 ) -> Result<KeyNo, ChannelError>
     requires may { MayEnrol w.now p.old me wanted.now.chan wanted.now.sel }
-    requires claimed { HasClaimed w.now p.old me wanted.now.chan wanted.now.sel k }
+    requires claimed { HasClaimed w.now p.old me wanted.now.chan.number wanted.now.sel k }
     ensures call { CallClause me (Completes (makes_key wanted.now.sel wanted.now.chan wanted.now.ops wanted.now.att k))
         (view w.now p.old) (view w.now p.new) result }
-    ensures held { HoldsChannel w.now p.new me wanted.now.chan }
+    ensures held { HoldsChannel w.now p.new me wanted.now.chan.number }
     ensures registered { IfOk result (HasRegistered w.now p.new me wanted.now.chan wanted.now.sel) }
     ensures pinned { IsPinned w.now p.new me wanted.now.sel k.index }
 {
@@ -443,16 +443,16 @@ fn publish_key(
     k: KeyId,
 ) -> Result<KeyNo, ChannelError>
     requires may { MayEnrol w.now p.old me wanted.now.chan wanted.now.sel }
-    requires claimed { HasClaimed w.now p.old me wanted.now.chan wanted.now.sel k }
+    requires claimed { HasClaimed w.now p.old me wanted.now.chan.number wanted.now.sel k }
     ensures call { CallClause me (Completes (publishes_key wanted.now.sel wanted.now.chan wanted.now.ops wanted.now.att
         k)) (view w.now p.old) (view w.now p.new) result }
-    ensures held { HoldsChannel w.now p.new me wanted.now.chan }
+    ensures held { HoldsChannel w.now p.new me wanted.now.chan.number }
     ensures registered { IfOk result (HasRegistered w.now p.new me wanted.now.chan wanted.now.sel) }
     ensures pinned { IsPinned w.now p.new me wanted.now.sel k.index }
 {
     w.swap_interest(p, me, wanted.sel, k.index, wanted.ops);
     w.swap_note(p, me, wanted.sel, k.index, wanted.att);
-    w.enrol(p, me, wanted.chan, wanted.sel, k.index, k.serial);
+    w.enrol(p, me, wanted.chan.number, wanted.sel, k.index, k.serial);
     let before = w.publish(p, me, wanted.sel, k.index);
     if before.removed {
         return Err(ChannelError::ClosedSelector);
@@ -472,7 +472,7 @@ fn settle_key(
     requires { HasPublished w.now p.old me wanted.now.chan wanted.now.sel k }
     ensures call { CallClause me (Completes (settles_key wanted.now.sel wanted.now.chan k))
         (view w.now p.old) (view w.now p.new) result }
-    ensures held { HoldsChannel w.now p.new me wanted.now.chan }
+    ensures held { HoldsChannel w.now p.new me wanted.now.chan.number }
     ensures registered { IfOk result (HasRegistered w.now p.new me wanted.now.chan wanted.now.sel) }
     ensures pinned { IsPinned w.now p.new me wanted.now.sel k.index }
 {
@@ -481,8 +481,8 @@ fn settle_key(
         index: k.index,
         serial: k.serial,
     };
-    let found = w.look_channel(p, me, wanted.chan);
-    if !found.closed {
+    let found = w.look_channel(p, me, wanted.chan.number);
+    if found.is_open(wanted.chan.serial) {
         return Ok(answer);
     }
     w.cancel_key(p, me, wanted.sel, k.index);

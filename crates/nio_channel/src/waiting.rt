@@ -3,14 +3,15 @@ ghost use Rattle.std.specs.Prelude.{◌≡◌, ◌≢◌, Err, IfOk};
 ghost use Rattle.nio_history.specs.PassViews.{HasChannel, HasKey, HasNoPin, HasSelector};
 ghost use Rattle.nio_steps.specs.Calls.{CallClause};
 ghost use Rattle.nio_steps.specs.ChannelCalls.{finds_held, Registers, SetsBlocking};
-ghost use Rattle.nio_steps.specs.declared.refusal.ChannelError.TheVariants.{Busy};
+ghost use Rattle.nio_steps.specs.declared.refusal.ChannelError.TheVariants.{Busy, ClosedChannel};
 ghost use Rattle.nio_words.specs.Passes.{IsReady, limits_of};
 ghost use Rattle.nio_words.specs.Views.{view};
+ghost use Rattle.nio_channel.specs.Closed.{IsClosed};
 ghost use Rattle.nio_channel.specs.Registered.{IsKeyOf, IsCancelledWhereClosed};
 
 use crate::modes::try_set_blocking;
 use crate::registering::try_register;
-use nio_base::{CallerNo, ChanNo, KeyNo, Ops, SelNo};
+use nio_base::{CallerNo, ChanId, KeyNo, Ops, SelNo};
 use nio_steps::ChannelError;
 use nio_words::{Pass, Words};
 use std::sync::Wait;
@@ -22,13 +23,14 @@ pub fn set_blocking<R: Wait>(
     w: &Words,
     p: &mut Pass,
     me: CallerNo,
-    chan: ChanNo,
+    chan: ChanId,
     on: bool,
 ) -> Result<(), ChannelError>
     requires ready { IsReady w.now p.old me }
     requires channel { HasChannel (view w.now p.old) chan }
     ensures call { CallClause me (SetsBlocking (limits_of w.now) chan on) (view w.now p.old) (view w.now p.new) result }
     ensures ready { IsReady w.now p.new me }
+    ensures closed { result ≡ Err ClosedChannel → IsClosed (view w.now p.new) chan }
     ensures waits { result ≢ Err Busy }
 {
     for _ in rt.forever() {
@@ -48,7 +50,7 @@ pub fn register<R: Wait>(
     p: &mut Pass,
     me: CallerNo,
     sel: SelNo,
-    chan: ChanNo,
+    chan: ChanId,
     ops: Ops,
     att: u64,
 ) -> Result<KeyNo, ChannelError>

@@ -1,7 +1,7 @@
 //! What a poll told, by channels.
 ghost use Rattle.std.specs.Prelude.{◌≡◌, ◌↔◌, ◌==◌, if◌then◌else◌, ◌≤◌, [], IsTrue, bit_or, length, map, vec_capacity};
 ghost use Rattle.nio_link.specs.Readiness.{without as without_op};
-ghost use Rattle.nio_steps.specs.SelectCalls.{told_of as told_of_index};
+ghost use Rattle.nio_steps.specs.SelectCalls.{told_at};
 ghost use Rattle.nio_checked.specs.Listed.{IsTold, changed_at, listed, told_after};
 
 use nio_base::{ChanNo, Ops};
@@ -21,7 +21,7 @@ pub(crate) fn list(asked: &Asked, pairs: &[(u32, Ops)], told: &mut Vec<(ChanNo, 
 
 // What was told of the key with this index.
 fn told_of(pairs: &[(u32, Ops)], index: u32) -> Ops
-    ensures { result ≡ told_of_index pairs.now index }
+    ensures { result ≡ told_at pairs.now index }
 {
     let mut bits = Ops::NONE;
     for pair in pairs {

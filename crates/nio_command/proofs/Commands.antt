@@ -12,7 +12,7 @@ use Rattle.nio_command.specs.Texts.{AreNoOptions, AreNoPacketOptions, IsNoOption
 use Rattle.nio_command.specs.Values.{PacketValues, ProxyValues, packet_options, proxy_options}
 use Rattle.nio_command.specs.Words.{AsksFor, AsksForPackets, AsksForWay, AsksForWorkers, IsCommand, IsPacketsCommand}
 use Rattle.nio_command.specs.Words.{IsProxyCommand}
-use Rattle.nio_datagram.specs.declared.serving.PacketPlan.{PacketPlan}
+use Rattle.nio_relay.specs.declared.plan.PacketPlan.{PacketPlan}
 use Rattle.nio_command.proofs.Addresses.{address_plain}
 use Rattle.nio_command.proofs.Numbers.{decimal_plain}
 use Rattle.nio_relay.specs.declared.plan.ProxyPlan.{ProxyPlan}

@@ -1,8 +1,8 @@
 -- The commands, by the words of the command line. The program's name isn't one of these words.
 use Rattle.std.specs.Prelude.{◌≡◌, ◌⊎◌, ℕ, ◌≤◌, List, [], ◌∷◌, Option, Some, None, codes}
 use Rattle.std.specs.Fmt.{decimal}
-use Rattle.nio_datagram.specs.Serving.{IsRelayable}
-use Rattle.nio_datagram.specs.declared.serving.PacketPlan.{PacketPlan}
+use Rattle.nio_relay.specs.Plan.{IsRelayable}
+use Rattle.nio_relay.specs.declared.plan.PacketPlan.{PacketPlan}
 use Rattle.nio_relay.specs.Plan.{IsServable}
 use Rattle.nio_relay.specs.declared.plan.ProxyPlan.{ProxyPlan}
 use Rattle.nio_command.specs.Options.{Text, AreOptions}

@@ -8,8 +8,7 @@ use crate::packet_options::read_packet_options;
 use crate::plan::{read_packet_plan, read_proxy_plan};
 use crate::proxy_options::read_proxy_options;
 use crate::way::ProxyWay;
-use nio_datagram::PacketPlan;
-use nio_relay::ProxyPlan;
+use nio_relay::{PacketPlan, ProxyPlan};
 use std::alloc::{AllocError, Global};
 
 /// A command of the program.

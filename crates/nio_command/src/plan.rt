@@ -8,8 +8,7 @@ use crate::number::read_number;
 use crate::packet_options::PacketTexts;
 use crate::proxy_options::ProxyTexts;
 use crate::way::{ProxyWay, read_way};
-use nio_datagram::PacketPlan;
-use nio_relay::ProxyPlan;
+use nio_relay::{PacketPlan, ProxyPlan};
 
 /// Reads the values of the options of `proxy` as a plan and a way. None where one of them isn't valid.
 pub fn read_proxy_plan(texts: ProxyTexts<'_>) -> Option<(ProxyPlan, ProxyWay)>

@@ -9,7 +9,7 @@ use Rattle.nio_datagram.specs.Serving.{RelaysPackets, Serves, ServesAllOr}
 use Rattle.nio_datagram.specs.declared.net.Place.{Place}
 use Rattle.nio_datagram.specs.declared.net.Place.TheVariants.{Unbound, Bound, Closed}
 use Rattle.nio_datagram.specs.declared.relay.Relay.{Relay}
-use Rattle.nio_datagram.specs.declared.serving.PacketPlan.{PacketPlan}
+use Rattle.nio_relay.specs.declared.plan.PacketPlan.{PacketPlan}
 use Rattle.nio_datagram.specs.declared.serving.PacketServeError.{PacketServeError}
 use Rattle.nio_datagram.specs.declared.serving.PacketServeError.TheVariants.{NetFault, Memory}
 use Rattle.nio_datagram.specs.declared.serving.PacketsServed.{PacketsServed}

@@ -5,22 +5,25 @@ use Rattle.std.proofs.lemmas.List.Sums.{fold-append}
 use Rattle.nio_base.specs.declared.numbers.ChanNo.{ChanNo}
 use Rattle.nio_poller.specs.Polls.{told_of_channel}
 use Rattle.nio_select.specs.Asked.{key_at, no_entry}
-use Rattle.nio_steps.specs.SelectCalls.{told_of}
+use Rattle.nio_steps.specs.SelectCalls.{told_at}
 use Rattle.nio_steps.specs.declared.looked.LookedKey.{LookedKey}
 
 -- of one pair more
 pub pair_more : (pairs : List (ℕ × ℕ)) (at i : ℕ) (none : ℕ × ℕ) → at < length pairs
-    → told_of (take (at + 1) pairs) i
-    ≡ (if (get_or pairs at none).0 == i then bit_or (told_of (take at pairs) i) (get_or pairs at none).1 else told_of (take at pairs) i)
+    → told_at (take (at + 1) pairs) i
+    ≡ (if (get_or pairs at none).0 == i then bit_or (told_at (take at pairs) i) (get_or pairs at none).1
+    else told_at (take at pairs) i)
 pair_more pairs at i none within =
-    ap (λ (xs : List (ℕ × ℕ)). told_of xs i) (take_more pairs at none within)
+    ap (λ (xs : List (ℕ × ℕ)). told_at xs i) (take_more pairs at none within)
     ∙ fold-append (λ bits pair. if pair.0 == i then bit_or bits pair.1 else bits) 0 (take at pairs) (get_or pairs at none ∷ [])
 
 -- of one key more
 pub key_more : (asked : List LookedKey) (pairs : List (ℕ × ℕ)) (c : ChanNo) (at : ℕ) → at < length asked
     → told_of_channel (take (at + 1) asked) pairs c
-    ≡ (if (key_at asked at).channel.0 == c.0 then bit_or (told_of_channel (take at asked) pairs c) (told_of pairs (key_at asked at).index) else told_of_channel (take at asked) pairs c)
+    ≡ (if (key_at asked at).channel.0 == c.0
+    then bit_or (told_of_channel (take at asked) pairs c) (told_at pairs (key_at asked at).index)
+    else told_of_channel (take at asked) pairs c)
 key_more asked pairs c at within =
     ap (λ (xs : List LookedKey). told_of_channel xs pairs c) (take_more asked at no_entry within)
-    ∙ fold-append (λ bits entry. if entry.channel.0 == c.0 then bit_or bits (told_of pairs entry.index) else bits) 0
+    ∙ fold-append (λ bits entry. if entry.channel.0 == c.0 then bit_or bits (told_at pairs entry.index) else bits) 0
     (take at asked) (key_at asked at ∷ [])

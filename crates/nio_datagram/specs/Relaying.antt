@@ -11,7 +11,7 @@ use Rattle.nio_datagram.specs.Serving.{client_chan, target_chan, RelaysPackets}
 use Rattle.nio_datagram.specs.declared.link.DatagramState.TheVariants as state
 use Rattle.nio_datagram.specs.declared.net.Place.{Place}
 use Rattle.nio_datagram.specs.declared.net.Place.TheVariants.{Unbound, Bound, Closed}
-use Rattle.nio_datagram.specs.declared.serving.PacketPlan.{PacketPlan}
+use Rattle.nio_relay.specs.declared.plan.PacketPlan.{PacketPlan}
 use Rattle.nio_datagram.specs.declared.relay.Relay.{Relay}
 
 -- both directions of the relay pass on what came

@@ -9,15 +9,10 @@ use Rattle.nio_datagram.specs.Packets.{Packet, Traffic, bytes_of, heard_from, fi
 use Rattle.nio_datagram.specs.Passing.{IsTo, heard_by}
 use Rattle.nio_datagram.specs.declared.net.Place.{Place}
 use Rattle.nio_datagram.specs.declared.net.Place.TheVariants.{Unbound, Bound, Closed}
-use Rattle.nio_datagram.specs.declared.serving.PacketPlan.{PacketPlan}
+use Rattle.nio_relay.specs.declared.plan.PacketPlan.{PacketPlan}
 use Rattle.nio_datagram.specs.declared.serving.PacketServeError.{PacketServeError}
 use Rattle.nio_datagram.specs.declared.serving.PacketServeError.TheVariants.{NetFault, Memory}
 use Rattle.nio_datagram.specs.declared.serving.PacketsServed.{PacketsServed}
-
--- 1 to 1,000,000 packets
-pub record IsRelayable (plan : PacketPlan) : Type 0 where
-  pub some_packets : 1 ≤ plan.count
-  pub few_packets : plan.count ≤ 1000000
 
 -- the channel to which the client sends, and that to which the target answers
 abbrev pub client_chan : ChanNo

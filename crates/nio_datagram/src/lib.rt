@@ -4,7 +4,7 @@
 pub use link::{DatagramLink, DatagramState, Heard, PacketError};
 pub use memory::{MemoryPackets, SendFailure, SentPacket};
 pub use net::{Came, LONGEST, PacketNet, Place};
-pub use serving::{PacketPlan, PacketServeError, PacketsServed, serve_packets};
+pub use serving::{PacketServeError, PacketsServed, serve_packets};
 
 /// A call on a channel of a net of packets failed.
 pub use nio_link::Failed;

@@ -12,8 +12,9 @@ ghost use Rattle.nio_datagram.specs.declared.net.Place.TheVariants as place_is;
 use crate::direction::{Direction, Readiness, pass};
 use crate::link::{DatagramLink, PacketError};
 use crate::net::PacketNet;
-use crate::serving::{PacketPlan, TARGET};
+use crate::serving::TARGET;
 use nio_base::{ChanNo, Ops};
+use nio_relay::PacketPlan;
 use std::alloc::{AllocError, Global};
 
 /// The link to which the client sends, that to which the target answers, and the two directions between them.

@@ -7,7 +7,8 @@ ghost use Rattle.nio_words.specs.Passes.{IsFirstPass};
 ghost use Rattle.nio_datagram.specs.Nets.{view_by, NoneFailed};
 ghost use Rattle.nio_datagram.specs.Packets.{no_traffic};
 ghost use Rattle.nio_datagram.specs.Relaying.{fresh_relay, IsDone, IsRelaying, Moves, Ran};
-ghost use Rattle.nio_datagram.specs.Serving.{client_chan, target_chan, IsRelayable, LeavesNothing, NoneRose};
+ghost use Rattle.nio_datagram.specs.Serving.{client_chan, target_chan, LeavesNothing, NoneRose};
+ghost use Rattle.nio_relay.specs.Plan.{IsRelayable};
 ghost use Rattle.nio_datagram.specs.Serving.{OneRose, RelaysPackets, Serves, ServesAllOr};
 ghost use Rattle.nio_datagram.specs.declared.net.Place.TheVariants as place_is;
 ghost use Rattle.nio_datagram.specs.declared.serving.PacketServeError.TheVariants.{NetFault};
@@ -17,25 +18,13 @@ use crate::relay::{BothOps, Relay};
 use crate::watching::{Watched, set, told_of, watch};
 use nio_base::{Addr, CallerNo, ChanNo, Limits, Ops};
 use nio_poller::PollError;
+use nio_relay::PacketPlan;
 use nio_select::{Asked, Selecting, Told};
 use nio_serve::{Board, Refused};
 use nio_words::{Pass, Words};
 use std::alloc::{AllocError, Global};
 use std::sync::Wait;
 use thiserror::Error;
-
-/// What a relay of packets is to do.
-#[derive(Clone, Copy, Debug, PartialEq, Eq)]
-pub struct PacketPlan {
-    /// Where the client's packets come.
-    pub listen: Addr,
-    /// The address from which packets are sent to the target, and at which its answers come.
-    pub local: Addr,
-    /// The target.
-    pub target: Addr,
-    /// How many packets of the client are sent on.
-    pub count: u32,
-}
 
 /// How many packets a relay has sent.
 #[derive(Clone, Copy, Debug, PartialEq, Eq)]

@@ -1,7 +1,7 @@
 //! Watching the two channels of a relay.
 ghost use Rattle.std.specs.Prelude.{◌≡◌};
 ghost use Rattle.nio_poller.specs.Polls.{told_of_channel};
-ghost use Rattle.nio_steps.specs.SelectCalls.{told_of};
+ghost use Rattle.nio_steps.specs.SelectCalls.{told_at};
 
 use nio_base::{ChanNo, Kind, Ops};
 use nio_select::{Asked, Told};
@@ -59,7 +59,7 @@ pub(crate) fn told_of(asked: &Asked, told: &Told, chan: ChanNo) -> Ops
 // What was told of a key.
 #[tactic(auto, using(crate::proofs::Told::pair_more))]
 fn told_of_key(pairs: &[(u32, Ops)], index: u32) -> Ops
-    ensures { result ≡ told_of pairs.now index }
+    ensures { result ≡ told_at pairs.now index }
 {
     let mut ops = Ops::NONE;
     for &(one, told) in pairs {

@@ -38,11 +38,11 @@ fault-free c kind None h = absurd (false≢true h)
 fault-free c kind (Some op) h = rw (pending-as-pending c kind (Some op) h, fault-allowed op.kind op.len) refl
 
 pub first-pending : (t : Timed) (d : Deadline) (ds : List Deadline) → IsLawful t → t.deadlines ≡ d ∷ ds
-    → IsPendingAs t.group.flight d.chan d.kind d.op
+    → IsPendingAs t.group.flight d.chan.number d.kind d.op
 first-pending t d ds lawful is =
     let pending : ArePending t.group (d ∷ ds) = subst (λ (es : List Deadline). ArePending t.group es) is
     lawful.pending in
-    pending.0
+    pending.0.0
 
 -- the first deadline alone leaves
 pub timeout-deadlines : (t : Timed) (d : Deadline) (ds : List Deadline) → IsLawful t → t.deadlines ≡ d ∷ ds
@@ -51,7 +51,7 @@ timeout-deadlines t d ds lawful is =
     let pending : ArePending t.group (d ∷ ds) = subst (λ (es : List Deadline). ArePending t.group es) is
     lawful.pending in
     let order : AreInOrder (d ∷ ds) = subst (λ (es : List Deadline). AreInOrder es) is lawful.in_order in
-    let free = fault-free d.chan d.kind (op_at t.group.flight d.op) pending.0 in
+    let free = fault-free d.chan.number d.kind (op_at t.group.flight d.op) pending.0.0 in
     let first : without d.op (d ∷ ds) ≡ ds =
     rw (eqb-same d.op) (without-others d.op ds (others-before d ds order.0)) in
     rw is (sym first ∙ reported-deadlines t.group d.op Fault (d ∷ ds) free pending)
@@ -60,7 +60,7 @@ pub lawful-timeout : (t : Timed) (d : Deadline) (ds : List Deadline) → IsLawfu
     → IsLawful (with_timeout t d)
 lawful-timeout t d ds lawful is =
     let pending = first-pending t d ds lawful is in
-    let free = fault-free d.chan d.kind (op_at t.group.flight d.op) pending in
+    let free = fault-free d.chan.number d.kind (op_at t.group.flight d.op) pending in
     let g = after_report t.group d.op Fault in
     let left = lawful-with_group t g lawful (lawful-after t.group (run.report
     (record { 0 = d.op }) Fault) lawful.group tt)
@@ -71,7 +71,7 @@ lawful-timeout t d ds lawful is =
       in_order = left.in_order;
       queued = rw (ap (λ (f : Flight). f.queue) (reported-flight t.group d.op Fault free).left)
           (part-push d.op lawful.queued);
-      each_channel = length-set t.kinds d.chan (with_kind (kinds_at t d.chan) d.kind) ∙ left.each_channel;
+      each_channel = length-set t.kinds d.chan.number (with_kind (kinds_at t d.chan) d.kind) ∙ left.each_channel;
     }
 
 pub kept-timeout : (t : Timed) (d : Deadline) (ds : List Deadline) (len len' room : ℕ) → IsTimedKept t len room
@@ -92,10 +92,10 @@ kept-timeout t d ds len len' room kept is more =
 
 -- a deadline's channel is among those that can be made
 pub within-kinds : (t : Timed) (d : Deadline) (ds : List Deadline) → IsLawful t → t.deadlines ≡ d ∷ ds
-    → d.chan < length t.kinds
+    → d.chan.number < length t.kinds
 within-kinds t d ds lawful is =
     let pending = first-pending t d ds lawful is in
-    let made = open-within t.group.channels d.chan (lawful.group.pending_open d.op d.chan d.kind pending) in
+    let made = open-within t.group.channels d.chan.number (lawful.group.pending_open d.op d.chan.number d.kind pending) in
     let few = lawful.group.few_channels in
     let each = lawful.each_channel in
     omega (arith, made, few, each)

@@ -13,14 +13,15 @@ use Rattle.nio_group.specs.declared.channel.Channel.{Channel}
 use Rattle.nio_group.specs.declared.channel.Endpoint.TheVariants.{Listener}
 use Rattle.nio_group.specs.declared.operation.Stage.TheVariants.{Queued, Running}
 use Rattle.nio_group.specs.declared.operation.Operation.{Operation}
-use Rattle.nio_group.specs.Stages.{stage_is_pending, is_pending, is_pending_as, is_queued, is_pending_on, is_running}
+use Rattle.nio_group.specs.Stages.{is_on, stage_is_pending, is_pending, is_pending_as, is_queued, is_pending_on, is_running}
 use Rattle.nio_group.specs.Stages.{at_stage}
 use Rattle.nio_group.specs.Flight.{Flight, op_at, IsPendingAs, with_accepted, with_completed, with_ended}
 use Rattle.nio_group.specs.Flight.{flight_after_take, closed_on, with_channel_closed}
-use Rattle.nio_group.specs.Group.{Group, IsLawful, channel_at, new_channel, no_channel}
-use Rattle.nio_group.specs.Refusals.{open_refusal, bind_refusal, start_refusal}
+use Rattle.nio_group.specs.Group.{Group, IsLawful, channel_at, is_open, new_endpoint, no_channel}
+use Rattle.nio_group.specs.Making.{next_name, with_made}
+use Rattle.nio_group.specs.Refusals.{bind_refusal, start_refusal}
 use Rattle.nio_group.specs.Run.{IsNext}
-use Rattle.nio_group.specs.Steps.{after_open, after_bind, after_start, after_take, after_finish, after_close}
+use Rattle.nio_group.specs.Steps.{after_open, after_bind, after_start, after_take, after_finish, after_closing}
 use Rattle.nio_group.specs.Steps.{after_shutdown, after_shutdown_now, closed_below, with_endpoint, with_closed, started}
 use Rattle.nio_group.specs.Steps.{first_stage, finish_refusal}
 use Rattle.nio_group.proofs.EndLemmas.{queued-not_pending, running-not_pending}
@@ -31,7 +32,7 @@ use Rattle.nio_group.proofs.PendingLemmas.{pending-parts, pending-as-pending}
 use Rattle.nio_group.proofs.QueueLemmas.{QueueHolds, front-queued}
 use Rattle.nio_group.proofs.RunLemmas.{unless-refused, cond-holds}
 use Rattle.nio_group.proofs.TableLemmas.{by_test}
-use Rattle.nio_group.proofs.StageLemmas.{completed-not_pending, finishable, goes-not_pending}
+use Rattle.nio_group.proofs.StageLemmas.{completed-not_pending, finishable, goes-not_pending, made-flight}
 use Rattle.std.proofs.Math.ListN.{get_or-map}
 
 -- each pending operation stays so
@@ -40,13 +41,15 @@ Stays f f' = (n : ℕ) → is_pending (op_at f n) ≡ true → is_pending (op_at
 
 pub stays-open : (g : Group) (kind : GKind) → Stays g.flight (after_open g kind).flight
 stays-open g kind =
-    unless-refused (λ (h : Group). Stays g.flight h.flight) (open_refusal g) g
-    (record g { channels = g.channels ++ new_channel kind ∷ [] }) (λ n p. p) (λ free n p. p)
+    cond-holds (λ (h : Group). Stays g.flight h.flight) g.is_shut g (with_made g (next_name g kind) (new_endpoint kind))
+    (λ shut n p. p)
+    (λ going. subst (Stays g.flight) (sym (made-flight g (next_name g kind) (new_endpoint kind))) (λ n p. p))
 
-pub stays-bind : (g : Group) (c : ℕ) → Stays g.flight (after_bind g c).flight
-stays-bind g c =
+pub stays-bind : (g : Group) (chan : GChan) → Stays g.flight (after_bind g chan).flight
+stays-bind g chan =
     unless-refused (λ (h : Group). Stays g.flight h.flight)
-    (bind_refusal (channel_at g c).is_open (channel_at g c).endpoint) g (with_endpoint g c (Listener true)) (λ n p. p)
+    (bind_refusal (is_open g chan) (channel_at g chan.number).endpoint) g
+    (with_endpoint g chan.number (Listener true)) (λ n p. p)
     (λ free n p. p)
 
 pub stays-shutdown : (g : Group) → Stays g.flight (after_shutdown g).flight
@@ -55,13 +58,13 @@ stays-shutdown g n p = p
 pub stays-start : (g : Group) (chan : GChan) (kind : OpKind) (len : ℕ)
     → Stays g.flight (after_start g chan kind len).flight
 stays-start g chan kind len =
-    unless-refused (λ (h : Group). Stays g.flight h.flight) (start_refusal g chan.0 kind) g (started g chan kind len)
+    unless-refused (λ (h : Group). Stays g.flight h.flight) (start_refusal g chan kind) g (started g chan kind len)
     (λ n p. p)
     (λ free n p. pushed (record {
       chan = chan;
       kind = kind;
       len = len;
-      stage = first_stage (channel_at g chan.0).is_open kind len;
+      stage = first_stage (is_open g chan) kind len;
     }) n p)
   where
     pushed : (op : Operation) (n : ℕ) → is_pending (op_at g.flight n) ≡ true
@@ -143,7 +146,7 @@ pending-chan c d kind (Some op) h =
 
 -- of the operations that are pending on some channel those on another stay so
 pub pending-closed : (g : Group) (c d n : ℕ) (kind : OpKind) → IsLawful g → IsPendingAs g.flight d kind n
-    → is_pending (op_at (after_close g c).flight n) ≡ not (eqb d c)
+    → is_pending (op_at (after_closing g c).flight n) ≡ not (eqb d c)
 pending-closed g c d n kind lawful pending =
     cond-holds (λ (h : Group). is_pending (op_at h.flight n) ≡ not (eqb d c)) (channel_at g c).is_open
     (record (with_closed g c) { flight = with_channel_closed g.flight c }) g
@@ -160,7 +163,7 @@ pending-closed g c d n kind lawful pending =
 
 -- ---- `shutdown_now`
 
-close-closes : (g : Group) (c : ℕ) → (channel_at (after_close g c) c).is_open ≡ false
+close-closes : (g : Group) (c : ℕ) → (channel_at (after_closing g c) c).is_open ≡ false
 close-closes g c =
     cond-holds (λ (h : Group). (channel_at h c).is_open ≡ false) (channel_at g c).is_open
     (record (with_closed g c) { flight = with_channel_closed g.flight c }) g
@@ -169,14 +172,14 @@ close-closes g c =
     (open-within g.channels c t)))
     (λ f. f)
 
-close-others : (g : Group) (c d : ℕ) → d ≢ c → channel_at (after_close g c) d ≡ channel_at g d
+close-others : (g : Group) (c d : ℕ) → d ≢ c → channel_at (after_closing g c) d ≡ channel_at g d
 close-others g c d other =
     cond-holds (λ (h : Group). channel_at h d ≡ channel_at g d) (channel_at g c).is_open
     (record (with_closed g c) { flight = with_channel_closed g.flight c }) g
     (λ t. get_or-set_other g.channels c d (record (channel_at g c) { is_open = false }) no_channel other)
     (λ f. refl)
 
-close-length : (g : Group) (c : ℕ) → length (after_close g c).channels ≡ length g.channels
+close-length : (g : Group) (c : ℕ) → length (after_closing g c).channels ≡ length g.channels
 close-length g c =
     cond-holds (λ (h : Group). length h.channels ≡ length g.channels) (channel_at g c).is_open
     (record (with_closed g c) { flight = with_channel_closed g.flight c }) g
@@ -191,7 +194,7 @@ closed_below-closed : (k : ℕ) (g : Group) (c : ℕ) → c < k → (channel_at 
 closed_below-closed zero g c l = absurd (omega arith)
 closed_below-closed (suc k) g c l =
     by_test (eqb c k)
-    (λ t. subst (λ (d : ℕ). (channel_at (after_close (closed_below k g) k) d).is_open ≡ false)
+    (λ t. subst (λ (d : ℕ). (channel_at (after_closing (closed_below k g) k) d).is_open ≡ false)
     (sym (eqb-true c k t)) (close-closes (closed_below k g) k))
     (λ e.
     let other = eqb-false c k e in
@@ -220,6 +223,16 @@ pub next-as : (c : ℕ) (kind : OpKind) (slot next : Option Operation) → IsNex
     → is_pending_as c kind slot ≡ true → is_pending next ≡ true → is_pending_as c kind next ≡ true
 next-as c kind None next is h p = absurd (false≢true h)
 next-as c kind (Some op) next is h p =
+    elim is [
+      | inl same ↦ rw same h
+      | inr goes ↦ absurd (false≢true (sym (goes-not_pending op.stage op next goes) ∙ p))
+    ]
+
+-- and of the channel that it was
+pub next-on : (chan : GChan) (slot next : Option Operation) → IsNext slot next → is_on chan slot ≡ true
+    → is_pending next ≡ true → is_on chan next ≡ true
+next-on chan None next is h p = absurd (false≢true h)
+next-on chan (Some op) next is h p =
     elim is [
       | inl same ↦ rw same h
       | inr goes ↦ absurd (false≢true (sym (goes-not_pending op.stage op next goes) ∙ p))

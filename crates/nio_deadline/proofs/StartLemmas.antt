@@ -9,7 +9,8 @@ use Rattle.nio_base.specs.declared.group.OpKind.TheVariants.{Accept, Connect, Re
 use Rattle.nio_group.specs.declared.operation.Stage.TheVariants.{Pending}
 use Rattle.nio_group.specs.declared.refusal.StartError.{StartError}
 use Rattle.nio_group.specs.Flight.{Flight, op_at, accepted, IsPendingAs}
-use Rattle.nio_group.specs.Group.{Group, channel_at}
+use Rattle.nio_group.specs.declared.operation.Operation.{Operation}
+use Rattle.nio_group.specs.Group.{Group, IsMade, is_open as open_by}
 use Rattle.nio_group.specs.Refusals.{start_refusal}
 use Rattle.nio_group.specs.Run as run
 use Rattle.nio_group.specs.Stages.{is_pending}
@@ -23,7 +24,7 @@ use Rattle.nio_group.proofs.TableLemmas.{by_test}
 use Rattle.nio_deadline.specs.Deadlines.{Deadline, without, with_deadline}
 use Rattle.nio_deadline.specs.Kept.{IsTimedKept, timed_of, IsAboveAll}
 use Rattle.nio_deadline.specs.Steps.{with_limit}
-use Rattle.nio_deadline.specs.Timed.{Timed, ArePending, IsLawful, with_group, may_have_limit}
+use Rattle.nio_deadline.specs.Timed.{Timed, ArePending, IsLawful, IsPendingBy, with_group, may_have_limit}
 use Rattle.nio_deadline.proofs.DeadlineLemmas.{insert-in_order, without-others, others-above}
 use Rattle.nio_deadline.proofs.PendingLemmas.{stays-start}
 use Rattle.nio_deadline.proofs.QueueLemmas.{keeps-start}
@@ -36,41 +37,34 @@ first-pending Read len limited some = rw (ne_eqb len 0 (λ none. absurd (omega a
 first-pending Write len limited some = rw (ne_eqb len 0 (λ none. absurd (omega arith))) refl
 
 -- an operation that is started with a limit is pending
-pub started-pending : (g : Group) (chan : GChan) (kind : OpKind) (len : ℕ) → start_refusal g chan.0 kind ≡ None
-    → (channel_at g chan.0).is_open ≡ true → 0 < len → may_have_limit kind ≡ true
-    → IsPendingAs (group_steps.after_start g chan kind len).flight chan.0 kind (accepted g.flight)
+pub started-pending : (g : Group) (chan : GChan) (kind : OpKind) (len : ℕ) → start_refusal g chan kind ≡ None
+    → open_by g chan ≡ true → 0 < len → may_have_limit kind ≡ true
+    → IsPendingBy (group_steps.after_start g chan kind len).flight chan kind (accepted g.flight)
 started-pending g chan kind len free is_open some limited =
-    when-free (λ (h : Group). IsPendingAs h.flight chan.0 kind (accepted g.flight)) (start_refusal g chan.0 kind) g
-    (group_steps.started g chan kind len) free
-    (rw (
-      get_or_push g.flight.operations (Some (record {
-        chan = chan;
-        kind = kind;
-        len = len;
-        stage = first_stage (channel_at g chan.0).is_open kind len;
-      })) None (accepted g.flight) refl,
-      is_open,
-      first-pending kind len limited some,
-      eqb-same chan.0,
-      same_kind-refl kind,
-    ) refl)
+    let op : Operation = record { chan = chan; kind = kind; len = len; stage = first_stage (open_by g chan) kind len } in
+    let last = get_or_push g.flight.operations (Some op) None (accepted g.flight) refl in
+    when-free (λ (h : Group). IsPendingBy h.flight chan kind (accepted g.flight)) (start_refusal g chan kind) g
+    (group_steps.started g chan kind len) free (
+      rw (last, is_open, first-pending kind len limited some, eqb-same chan.number, same_kind-refl kind) refl,
+      rw (last, eqb-same chan.number, eqb-same chan.serial) refl,
+    )
 
 pub with-limit : (t : Timed) (chan : GChan) (kind : OpKind) (len at : ℕ) → IsLawful t
-    → start_refusal t.group chan.0 kind ≡ None → (channel_at t.group chan.0).is_open ≡ true → 0 < len
+    → start_refusal t.group chan kind ≡ None → open_by t.group chan ≡ true → 0 < len
     → may_have_limit kind ≡ true
     → timed_of (group_steps.after_start t.group chan kind len)
-    (with_deadline (record { at = at; op = accepted t.group.flight; chan = chan.0; kind = kind }) t.deadlines)
+    (with_deadline (record { at = at; op = accepted t.group.flight; chan = chan; kind = kind }) t.deadlines)
     t.timed_out t.kinds
     ≡ with_limit t chan kind at (with_group t (group_steps.after_start t.group chan kind len))
 with-limit t chan kind len at lawful free is_open some limited =
     let g = group_steps.after_start t.group chan kind len in
-    let pending = pending-as-pending chan.0 kind (op_at g.flight (accepted t.group.flight))
-    (started-pending t.group chan kind len free is_open some limited) in
+    let pending = pending-as-pending chan.number kind (op_at g.flight (accepted t.group.flight))
+    (started-pending t.group chan kind len free is_open some limited).0 in
     let stay = all-stay t.group g t.deadlines (stays-start t.group chan kind len) lawful.pending in
     rw pending
     (ap
     (λ (ds : List Deadline).
-    timed_of g (with_deadline (record { at = at; op = accepted t.group.flight; chan = chan.0; kind = kind }) ds)
+    timed_of g (with_deadline (record { at = at; op = accepted t.group.flight; chan = chan; kind = kind }) ds)
     t.timed_out t.kinds) stay)
 
 pub without-inserted : (d : Deadline) (ds : List Deadline) → IsAboveAll d.op ds → without d.op (with_deadline d ds)
@@ -85,17 +79,17 @@ without-inserted d (e ∷ es) above =
 
 -- a refused operation changes nothing
 pub refused-same : (t : Timed) (chan : GChan) (kind : OpKind) (len : ℕ) (e : StartError) → IsLawful t
-    → start_refusal t.group chan.0 kind ≡ Some e → t ≡ with_group t (group_steps.after_start t.group chan kind len)
+    → start_refusal t.group chan kind ≡ Some e → t ≡ with_group t (group_steps.after_start t.group chan kind len)
 refused-same t chan kind len e lawful refused =
-    when-refused (λ (h : Group). t ≡ with_group t h) (start_refusal t.group chan.0 kind) e t.group
+    when-refused (λ (h : Group). t ≡ with_group t h) (start_refusal t.group chan kind) e t.group
     (group_steps.started t.group chan kind len) refused
     (ap (λ (ds : List Deadline). timed_of t.group ds t.timed_out t.kinds)
     (all-stay t.group t.group t.deadlines (λ n p. p) lawful.pending))
 
 pub refused-group : (g : Group) (chan : GChan) (kind : OpKind) (len : ℕ) (e : StartError)
-    → start_refusal g chan.0 kind ≡ Some e → group_steps.after_start g chan kind len ≡ g
+    → start_refusal g chan kind ≡ Some e → group_steps.after_start g chan kind len ≡ g
 refused-group g chan kind len e refused =
-    when-refused (λ (h : Group). h ≡ g) (start_refusal g chan.0 kind) e g
+    when-refused (λ (h : Group). h ≡ g) (start_refusal g chan kind) e g
     (group_steps.started g chan kind len) refused
     refl
 
@@ -115,17 +109,17 @@ pub none-next : (f : Flight) → is_pending (op_at f (accepted f)) ≡ false
 none-next f = ap is_pending (get_or_past f.operations (accepted f) None (omega arith))
 
 pub refused-limit : (t : Timed) (chan : GChan) (kind : OpKind) (len at : ℕ) (e : StartError) → IsLawful t
-    → start_refusal t.group chan.0 kind ≡ Some e
+    → start_refusal t.group chan kind ≡ Some e
     → t ≡ with_limit t chan kind at (with_group t (group_steps.after_start t.group chan kind len))
 refused-limit t chan kind len at e lawful refused =
     let none : is_pending (op_at (group_steps.after_start t.group chan kind len).flight (accepted t.group.flight))
     ≡ false =
     when-refused (λ (h : Group). is_pending (op_at h.flight (accepted t.group.flight)) ≡ false)
-    (start_refusal t.group chan.0 kind) e t.group (group_steps.started t.group chan kind len) refused
+    (start_refusal t.group chan kind) e t.group (group_steps.started t.group chan kind len) refused
     (none-next t.group.flight) in
     rw none (refused-same t chan kind len e lawful refused)
 
-pub pending-insert : (g : Group) (d : Deadline) (ds : List Deadline) → IsPendingAs g.flight d.chan d.kind d.op
+pub pending-insert : (g : Group) (d : Deadline) (ds : List Deadline) → IsPendingBy g.flight d.chan d.kind d.op
     → may_have_limit d.kind ≡ true → ArePending g ds → ArePending g (with_deadline d ds)
 pending-insert g d [] p limited pending = (p, limited, tt)
 pending-insert g d (e ∷ es) p limited pending =
@@ -140,15 +134,15 @@ length-insert d (e ∷ es) =
     by_test (leb e.at d.at) (λ t. rw t (omega (arith, rest))) (λ f. rw f (omega arith))
 
 pub kept-limited : (t : Timed) (chan : GChan) (kind : OpKind) (len at n n' room room' : ℕ) → IsTimedKept t n room
-    → chan.0 < length t.group.channels → start_refusal t.group chan.0 kind ≡ None
-    → (channel_at t.group chan.0).is_open ≡ true → 0 < len → may_have_limit kind ≡ true → n' ≡ n
+    → IsMade t.group chan → start_refusal t.group chan kind ≡ None
+    → open_by t.group chan ≡ true → 0 < len → may_have_limit kind ≡ true → n' ≡ n
     → n + (length t.deadlines + 1) ≤ room'
     → IsTimedKept (timed_of (group_steps.after_start t.group chan kind len)
-    (with_deadline (record { at = at; op = accepted t.group.flight; chan = chan.0; kind = kind }) t.deadlines)
+    (with_deadline (record { at = at; op = accepted t.group.flight; chan = chan; kind = kind }) t.deadlines)
     t.timed_out t.kinds) n' room'
 kept-limited t chan kind len at n n' room room' kept within free is_open some limited same fits =
     let g = group_steps.after_start t.group chan kind len in
-    let d : Deadline = record { at = at; op = accepted t.group.flight; chan = chan.0; kind = kind } in
+    let d : Deadline = record { at = at; op = accepted t.group.flight; chan = chan; kind = kind } in
     let lawful = kept.lawful in
     let step = stepped-after t.group (run.start chan kind len) lawful.group in
     let keeps = keeps-start t.group chan kind len in

@@ -9,17 +9,20 @@ use Rattle.nio_group.specs.declared.operation.Operation.{Operation}
 use Rattle.nio_group.specs.Completion.{JobFields}
 use Rattle.nio_group.specs.Flight.{Flight, op_at, accepted, IsPendingAs, with_completed}
 use Rattle.nio_group.specs.Group as group
-use Rattle.nio_group.specs.Group.{Group}
+use Rattle.nio_group.specs.Group.{Group, is_present}
 use Rattle.nio_group.specs.Run as run
 use Rattle.nio_group.specs.Stages.{is_pending}
 use Rattle.nio_base.specs.declared.group.Outcome.{Outcome}
 use Rattle.nio_group.specs.Refusals.{report_refusal}
-use Rattle.nio_group.specs.Steps.{after_close, after_report, after_shutdown_now, kept_if_refused, unless_refused}
+use Rattle.nio_base.specs.declared.numbers.GChan.{GChan}
+use Rattle.nio_group.specs.declared.channel.Endpoint.TheVariants.{Stream}
+use Rattle.nio_group.specs.declared.channel.Link.TheVariants.{Connected}
+use Rattle.nio_group.specs.Steps.{after_close, after_closing, completed, accepted_name, after_report, after_shutdown_now, kept_if_refused, unless_refused}
 use Rattle.nio_group.specs.Steps.{reported, result_of, IsJobOf}
 use Rattle.nio_group.proofs.ListLemmas.{eqb-same}
 use Rattle.nio_group.proofs.PendingLemmas.{same_kind-refl, pending-as-pending}
 use Rattle.nio_group.proofs.FlightLemmas.{some-within}
-use Rattle.nio_group.proofs.StageLemmas.{IsStepped, stepped-after}
+use Rattle.nio_group.proofs.StageLemmas.{IsStepped, stepped-after, made-flight}
 use Rattle.nio_group.proofs.TableLemmas.{by_test, count_by-set}
 use Rattle.nio_deadline.specs.Deadlines.{Deadline, AreInOrder, IsBefore, without}
 use Rattle.nio_deadline.specs.Kept.{IsTimedKept, without_job, IsAboveAll, timed_of}
@@ -28,7 +31,7 @@ use Rattle.nio_deadline.specs.Timed.{may_have_limit}
 use Rattle.nio_deadline.proofs.DeadlineLemmas.{filter-in_order}
 use Rattle.nio_deadline.proofs.FilterLemmas.{AreSo, filter-same, filter-all, filter-none, filter-twice, filter-fewer}
 use Rattle.nio_deadline.proofs.FilterLemmas.{all-so}
-use Rattle.nio_deadline.proofs.PendingLemmas.{Stays, as-chan, next-as, pending-closed, pending-completed, none-pending}
+use Rattle.nio_deadline.proofs.PendingLemmas.{Stays, as-chan, next-as, next-on, pending-closed, pending-completed, none-pending}
 use Rattle.nio_deadline.proofs.QueueLemmas.{Keeps}
 use Rattle.nio_group.proofs.GroupLemmas.{pending-within}
 use Rattle.std.proofs.Math.Bool.{and-false}
@@ -37,11 +40,11 @@ use Rattle.nio_group.proofs.RunLemmas.{lawful-after}
 -- ---- deadlines of pending operations
 
 pub pending-so : (g : Group) (P : Deadline → Type 0) (ds : List Deadline)
-    → ((d : Deadline) → IsPendingAs g.flight d.chan d.kind d.op → may_have_limit d.kind ≡ true → P d)
+    → ((d : Deadline) → IsPendingAs g.flight d.chan.number d.kind d.op → may_have_limit d.kind ≡ true → P d)
     → ArePending g ds → AreSo P ds
 pending-so g P [] holds pending = tt
 pending-so g P (d ∷ ds) holds pending =
-    (holds d pending.0 pending.1, pending-so g P ds holds pending.2)
+    (holds d pending.0.0 pending.1, pending-so g P ds holds pending.2)
 
 -- where each pending operation stays so all deadlines stay
 pub all-stay : (g g' : Group) (ds : List Deadline) → Stays g.flight g'.flight → ArePending g ds
@@ -49,7 +52,7 @@ pub all-stay : (g g' : Group) (ds : List Deadline) → Stays g.flight g'.flight 
 all-stay g g' ds stays pending =
     filter-all (λ d. is_pending (op_at g'.flight d.op)) ds
     (pending-so g (λ d. is_pending (op_at g'.flight d.op) ≡ true) ds
-    (λ d p limited. stays d.op (pending-as-pending d.chan d.kind (op_at g.flight d.op) p)) pending)
+    (λ d p limited. stays d.op (pending-as-pending d.chan.number d.kind (op_at g.flight d.op) p)) pending)
 
 pub still-pending : (g g' : Group) (ds : List Deadline) → IsStepped g.flight g'.flight → ArePending g ds
     → ArePending g' (filter (λ d. is_pending (op_at g'.flight d.op)) ds)
@@ -58,14 +61,21 @@ still-pending g g' (d ∷ ds) step pending =
     let rest = still-pending g g' ds step pending.2 in
     by_test (is_pending (op_at g'.flight d.op))
     (λ t.
-    let next = step.next d.op (pending-within g.flight.operations d.chan d.kind d.op pending.0) in
-    rw t (next-as d.chan d.kind (op_at g.flight d.op) (op_at g'.flight d.op) next pending.0 t, pending.1, rest))
+    let next = step.next d.op (pending-within g.flight.operations d.chan.number d.kind d.op pending.0.0) in
+    rw t (
+      (
+        next-as d.chan.number d.kind (op_at g.flight d.op) (op_at g'.flight d.op) next pending.0.0 t,
+        next-on d.chan (op_at g.flight d.op) (op_at g'.flight d.op) next pending.0.1 t,
+      ),
+      pending.1,
+      rest,
+    ))
     (λ e. rw e rest)
 
 pub above-all : (g : Group) (ds : List Deadline) → ArePending g ds → IsAboveAll (accepted g.flight) ds
 above-all g [] pending = tt
 above-all g (d ∷ ds) pending =
-    (pending-within g.flight.operations d.chan d.kind d.op pending.0, above-all g ds pending.2)
+    (pending-within g.flight.operations d.chan.number d.kind d.op pending.0.0, above-all g ds pending.2)
 
 -- ---- parts of a queue
 
@@ -150,7 +160,7 @@ fewer-than xs (d ∷ ds) order some =
 pub few-deadlines : (t : Timed) → IsLawful t → length t.deadlines ≤ t.group.flight.limit
 few-deadlines t lawful =
     let some = pending-so t.group (λ d. is_some (get_or t.group.flight.operations d.op None) ≡ true) t.deadlines
-    (λ d p limited. some-as t.group.flight d.chan d.op d.kind p) lawful.pending in
+    (λ d p limited. some-as t.group.flight d.chan.number d.op d.kind p) lawful.pending in
     let few = fewer-than t.group.flight.operations t.deadlines lawful.in_order some in
     let flight = lawful.group.few_in_flight in
     omega (arith, few, flight)
@@ -204,7 +214,8 @@ reported-flight g n o free =
       op,
       is,
       when-free (λ (h : Group). h.flight ≡ with_completed g.flight n (result_of g o)) (report_refusal (Some op) o) g
-          (reported g n o (Some op)) open_for refl,
+          (reported g n o (Some op)) open_for
+          (made-flight (completed g n o (result_of g o) op) (accepted_name g o) (Stream Connected)),
     )
 
 pub reported-deadlines : (g : Group) (n : ℕ) (o : Outcome) (ds : List Deadline)
@@ -217,7 +228,7 @@ reported-deadlines g n o ds free pending =
     (λ d p limited. sym
     (ap (λ (f : Flight). is_pending (op_at f d.op)) made.left
     ∙ pending-completed g.flight n made.op (result_of g o) made.is d.op
-    (pending-as-pending d.chan d.kind (op_at g.flight d.op) p))) pending)
+    (pending-as-pending d.chan.number d.kind (op_at g.flight d.op) p))) pending)
 
 -- ---- `close_channel`
 
@@ -229,66 +240,97 @@ without-job-is : (job : Option JobFields) (ds : List Deadline) → without_job j
 without-job-is None ds = filter-all (stays_by None) ds (all-so (λ d. true ≡ true) ds (λ d. refl))
 without-job-is (Some job) ds = refl
 
-job-pending : (g : Group) (c : ℕ) (kind : OpKind) (job : JobFields) → IsJobOf g c kind job
-    → IsPendingAs g.flight c kind job.op.0
-job-pending g c kind job is =
-    rw (is.pending, is.chan, is.same_kind, eqb-same c, same_kind-refl kind) refl
+job-pending : (g : Group) (chan : GChan) (kind : OpKind) (job : JobFields) → IsJobOf g chan kind job
+    → IsPendingAs g.flight chan.number kind job.op.0
+job-pending g chan kind job is =
+    rw (is.pending, is.chan, is.same_kind, eqb-same chan.number, same_kind-refl kind) refl
 
 -- what `job` answers for a channel and a kind
-pub record IsJobAt (g : Group) (c : ℕ) (kind : OpKind) (job : Option JobFields) : Type 0 where
-  pub some : IfSome job (λ x. IsJobOf g c kind x)
-  pub none : IsNone job ↔ ((n : ℕ) → IsPendingAs g.flight c kind n → ⊥)
+pub record IsJobAt (g : Group) (chan : GChan) (kind : OpKind) (job : Option JobFields) : Type 0 where
+  pub some : IfSome job (λ x. IsJobOf g chan kind x)
+  pub none : IsNone job
+      ↔ (is_present g chan ≡ true → (n : ℕ) → IsPendingAs g.flight chan.number kind n → ⊥)
 
-job-removes : (g : Group) (c n : ℕ) (kind : OpKind) (d : Deadline) (job : Option JobFields) → group.IsLawful g
-    → IsJobAt g c kind job → IsPendingAs g.flight c kind d.op → stays_by job d ≡ false
-job-removes g c n kind d None lawful at pending = absurd (at.none.0 refl d.op pending)
-job-removes g c n kind d (Some job) lawful at pending =
-    let same : d.op ≡ job.op.0 = lawful.one_each d.op job.op.0 c kind pending (job-pending g c kind job at.some) in
+job-removes : (g : Group) (chan : GChan) (kind : OpKind) (d : Deadline) (job : Option JobFields) → group.IsLawful g
+    → is_present g chan ≡ true → IsJobAt g chan kind job → IsPendingAs g.flight chan.number kind d.op
+    → stays_by job d ≡ false
+job-removes g chan kind d None lawful present at pending = absurd (at.none.0 refl present d.op pending)
+job-removes g chan kind d (Some job) lawful present at pending =
+    let same : d.op ≡ job.op.0 = lawful.one_each d.op job.op.0 chan.number kind pending
+    (job-pending g chan kind job at.some) in
     rw (same, eqb-same job.op.0) refl
 
-job-spares : (g : Group) (c : ℕ) (kind : OpKind) (d : Deadline) (job : Option JobFields) → IsJobAt g c kind job
-    → IsPendingAs g.flight d.chan d.kind d.op → eqb d.chan c ≡ false → stays_by job d ≡ true
-job-spares g c kind d None at pending other = refl
-job-spares g c kind d (Some job) at pending other =
+job-spares : (g : Group) (chan : GChan) (kind : OpKind) (d : Deadline) (job : Option JobFields)
+    → IsJobAt g chan kind job → IsPendingAs g.flight d.chan.number d.kind d.op
+    → eqb d.chan.number chan.number ≡ false → stays_by job d ≡ true
+job-spares g chan kind d None at pending other = refl
+job-spares g chan kind d (Some job) at pending other =
     by_test (eqb d.op job.op.0)
     (λ t.
-    let here : IsPendingAs g.flight c kind d.op =
-    subst (λ (k : ℕ). IsPendingAs g.flight c kind k) (sym (eqb-true d.op job.op.0 t))
-    (job-pending g c kind job at.some) in
-    absurd (eqb-false d.chan c other (as-chan d.chan c d.kind kind (op_at g.flight d.op) pending here).0))
+    let here : IsPendingAs g.flight chan.number kind d.op =
+    subst (λ (k : ℕ). IsPendingAs g.flight chan.number kind k) (sym (eqb-true d.op job.op.0 t))
+    (job-pending g chan kind job at.some) in
+    absurd (eqb-false d.chan.number chan.number other
+    (as-chan d.chan.number chan.number d.kind kind (op_at g.flight d.op) pending here).0))
     (λ e. rw e refl)
 
-pub closed-deadlines : (g : Group) (c : ℕ) (ds : List Deadline) (r w : Option JobFields) → group.IsLawful g
-    → ArePending g ds → IsJobAt g c Read r → IsJobAt g c Write w
-    → without_job w (without_job r ds) ≡ filter (λ d. is_pending (op_at (after_close g c).flight d.op)) ds
-closed-deadlines g c ds r w lawful pending reads writes =
+-- a name whose number has another channel by now has no job
+job-absent : (g : Group) (chan : GChan) (kind : OpKind) (job : Option JobFields) → group.IsLawful g
+    → is_present g chan ≡ false → IsJobAt g chan kind job → job ≡ None
+job-absent g chan kind None lawful absent at = refl
+job-absent g chan kind (Some job) lawful absent at =
+    let present = lawful.present job.op.0 _ at.some.pending refl in
+    absurd (false≢true (sym absent ∙ subst (λ (x : GChan). is_present g x ≡ true) at.some.chan present))
+
+closed-present : (g : Group) (chan : GChan) (ds : List Deadline) (r w : Option JobFields) → group.IsLawful g
+    → is_present g chan ≡ true → ArePending g ds → IsJobAt g chan Read r → IsJobAt g chan Write w
+    → without_job w (without_job r ds) ≡ filter (λ d. is_pending (op_at (after_closing g chan.number).flight d.op)) ds
+closed-present g chan ds r w lawful present pending reads writes =
     without-job-is w (without_job r ds)
     ∙ ap (λ es. filter (stays_by w) es) (without-job-is r ds)
     ∙ filter-twice (stays_by r) (stays_by w) ds
-    ∙ filter-same (λ d. stays_by r d && stays_by w d) (λ d. is_pending (op_at (after_close g c).flight d.op)) ds
+    ∙ filter-same (λ d. stays_by r d && stays_by w d) (λ d. is_pending (op_at (after_closing g chan.number).flight d.op)) ds
     (pending-so g (λ d. (stays_by r d && stays_by w d) ≡ is_pending (op_at
-    (after_close g c).flight d.op)) ds each pending)
+    (after_closing g chan.number).flight d.op)) ds each pending)
   where
     by_kind : (d : Deadline) (kind : OpKind) → d.kind ≡ kind → may_have_limit kind ≡ true
-        → IsPendingAs g.flight c kind d.op → (stays_by r d && stays_by w d) ≡ false
+        → IsPendingAs g.flight chan.number kind d.op → (stays_by r d && stays_by w d) ≡ false
     by_kind d Accept is limited here = absurd (false≢true limited)
     by_kind d Connect is limited here = absurd (false≢true limited)
-    by_kind d Read is limited here = rw (job-removes g c 0 Read d r lawful reads here) refl
+    by_kind d Read is limited here = rw (job-removes g chan Read d r lawful present reads here) refl
     by_kind d Write is limited here =
-        ap (λ b. stays_by r d && b) (job-removes g c 0 Write d w lawful writes here) ∙ and-false (stays_by r d)
+        ap (λ b. stays_by r d && b) (job-removes g chan Write d w lawful present writes here) ∙ and-false (stays_by r d)
 
-    each : (d : Deadline) → IsPendingAs g.flight d.chan d.kind d.op → may_have_limit d.kind ≡ true
-        → (stays_by r d && stays_by w d) ≡ is_pending (op_at (after_close g c).flight d.op)
+    each : (d : Deadline) → IsPendingAs g.flight d.chan.number d.kind d.op → may_have_limit d.kind ≡ true
+        → (stays_by r d && stays_by w d) ≡ is_pending (op_at (after_closing g chan.number).flight d.op)
     each d p limited =
-        by_test (eqb d.chan c)
+        by_test (eqb d.chan.number chan.number)
         (λ t.
-        let here : IsPendingAs g.flight c d.kind d.op =
-        subst (λ (k : ℕ). IsPendingAs g.flight k d.kind d.op) (eqb-true d.chan c t) p in
+        let here : IsPendingAs g.flight chan.number d.kind d.op =
+        subst (λ (k : ℕ). IsPendingAs g.flight k d.kind d.op) (eqb-true d.chan.number chan.number t) p in
         by_kind d d.kind refl limited here
-        ∙ sym (pending-closed g c d.chan d.op d.kind lawful p ∙ ap not t))
+        ∙ sym (pending-closed g chan.number d.chan.number d.op d.kind lawful p ∙ ap not t))
         (λ e.
-        rw (job-spares g c Read d r reads p e, job-spares g c Write d w writes p e)
-        (sym (pending-closed g c d.chan d.op d.kind lawful p ∙ ap not e)))
+        rw (job-spares g chan Read d r reads p e, job-spares g chan Write d w writes p e)
+        (sym (pending-closed g chan.number d.chan.number d.op d.kind lawful p ∙ ap not e)))
+
+pub closed-deadlines : (g : Group) (chan : GChan) (ds : List Deadline) (r w : Option JobFields) → group.IsLawful g
+    → ArePending g ds → IsJobAt g chan Read r → IsJobAt g chan Write w
+    → without_job w (without_job r ds) ≡ filter (λ d. is_pending (op_at (after_close g chan).flight d.op)) ds
+closed-deadlines g chan ds r w lawful pending reads writes =
+    by_test (is_present g chan)
+    (λ t.
+    let same : after_close g chan ≡ after_closing g chan.number = rw t refl in
+    subst (λ (h : Group). without_job w (without_job r ds) ≡ filter (λ d. is_pending (op_at h.flight d.op)) ds) (sym same)
+    (closed-present g chan ds r w lawful t pending reads writes))
+    (λ f.
+    let same : after_close g chan ≡ g = rw f refl in
+    let reads_none = job-absent g chan Read r lawful f reads in
+    let writes_none = job-absent g chan Write w lawful f writes in
+    subst (λ (h : Group). without_job w (without_job r ds) ≡ filter (λ d. is_pending (op_at h.flight d.op)) ds) (sym same)
+    (ap (λ (o : Option JobFields). without_job o (without_job r ds)) writes_none
+    ∙ ap (λ (o : Option JobFields). without_job o ds) reads_none
+    ∙ all-stay g g ds (λ n p. p) pending))
 
 -- ---- `shutdown_now`
 

@@ -139,15 +139,15 @@ tells-timeout : (t : Timed) (d : Deadline) (ds : List Deadline) (n : ℕ) (late 
     → t.deadlines ≡ d ∷ ds → Tells n late t → Tells n (late || eqb d.op n) (with_timeout t d)
 tells-timeout t d ds n late lawful is tells =
     let pending = first-pending t d ds lawful is in
-    let free = fault-free d.chan d.kind (op_at t.group.flight d.op) pending in
+    let free = fault-free d.chan.number d.kind (op_at t.group.flight d.op) pending in
     let step = timeout-stepped t d lawful in
     by_test (eqb d.op n)
     (λ u.
     let same = eqb-true d.op n u in
-    let gone = reported-here t.group d.op free (pending-as-pending d.chan d.kind (op_at t.group.flight d.op) pending) in
+    let gone = reported-here t.group d.op free (pending-as-pending d.chan.number d.kind (op_at t.group.flight d.op) pending) in
     let gone_n : is_pending (op_at (with_timeout t d).group.flight n) ≡ false =
     subst (λ (k : ℕ). is_pending (op_at (with_timeout t d).group.flight k) ≡ false) same gone in
-    let within = pending-within t.group.flight.operations d.chan d.kind d.op pending in
+    let within = pending-within t.group.flight.operations d.chan.number d.kind d.op pending in
     let more = step.accepts in
     record {
       pending = λ p. absurd (false≢true (sym gone_n ∙ p));
@@ -169,13 +169,13 @@ due-first : (t : Timed) (now n : ℕ) (d : Deadline) (ds : List Deadline) → Is
     → d.at ≤ now → is_due t now n ≡ (eqb d.op n || is_due (with_timeout t d) now n)
 due-first t now n d ds lawful is come =
     let pending = first-pending t d ds lawful is in
-    let free = fault-free d.chan d.kind (op_at t.group.flight d.op) pending in
+    let free = fault-free d.chan.number d.kind (op_at t.group.flight d.op) pending in
     let left = sym (timeout-deadlines t d ds lawful is) in
     by_test (eqb d.op n)
     (λ u.
     let here : is_pending (op_at t.group.flight n) ≡ true =
     subst (λ (k : ℕ). is_pending (op_at t.group.flight k) ≡ true) (eqb-true d.op n u)
-    (pending-as-pending d.chan d.kind (op_at t.group.flight d.op) pending) in
+    (pending-as-pending d.chan.number d.kind (op_at t.group.flight d.op) pending) in
     let listed : list_any (comes_by now n) t.deadlines ≡ true =
     ap (λ (es : List Deadline). list_any (comes_by now n) es) is ∙ rw (u, le-leb d.at now come) refl in
     ap (λ b. b && list_any (comes_by now n) t.deadlines) here ∙ listed
@@ -299,7 +299,7 @@ starts t chan kind len now limit lawful =
     let g = group_steps.after_start t.group chan kind len in
     let step = stepped-after t.group (run.start chan kind len) lawful.group in
     let plain : Starts t (with_group t g) = record { stepped = step; same = refl } in
-    kept-or (Starts t) (own_refusal t chan.0 kind now limit) t (started t chan kind len now limit)
+    kept-or (Starts t) (own_refusal t chan kind now limit) t (started t chan kind len now limit)
     (record { stepped = stepped-same t.group.flight; same = refl })
     (λ free.
     by_test (eqb limit 0) (λ u. rw u plain)

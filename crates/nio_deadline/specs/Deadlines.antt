@@ -1,13 +1,14 @@
 -- The deadlines of operations, in the order in which they come.
 use Rattle.std.specs.Prelude.{◌≡◌, ◌≢◌, ◌⊎◌, ⊤, ℕ, ◌<◌, if◌then◌else◌, not, ◌==◌, nat_le, List, [], ◌∷◌, Option}
 use Rattle.std.specs.Prelude.{Some, None, filter}
+use Rattle.nio_base.specs.declared.numbers.GChan.{GChan}
 use Rattle.nio_base.specs.declared.group.OpKind.{OpKind}
 
 -- its moment, and the number, the channel and the kind of the operation
 pub record Deadline : Type 0 where
   pub at : ℕ
   pub op : ℕ
-  pub chan : ℕ
+  pub chan : GChan
   pub kind : OpKind
 
 -- one more deadline, behind those whose moment isn't later

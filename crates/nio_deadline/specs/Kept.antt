@@ -13,7 +13,7 @@ use Rattle.nio_deadline.specs.declared.deadlines.Place.{Place}
 use Rattle.nio_deadline.specs.declared.kinds.Kinds.{Kinds}
 
 abbrev pub deadline_of : Moment × Place → Deadline
-deadline_of (m, p) = record { at = m.at; op = m.op; chan = p.chan.0; kind = p.kind }
+deadline_of (m, p) = record { at = m.at; op = m.op; chan = p.chan; kind = p.kind }
 
 abbrev pub deadlines_of : List (Moment × Place) → List Deadline
 deadlines_of entries = map deadline_of entries

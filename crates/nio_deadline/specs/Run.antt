@@ -12,7 +12,7 @@ use Rattle.nio_group.specs.declared.refusal.StartError.{StartError}
 use Rattle.nio_group.specs.declared.refusal.ReportError.{ReportError}
 use Rattle.nio_group.specs.declared.refusal.NotRunning.{NotRunning}
 use Rattle.nio_group.specs.Flight.{op_at, accepted}
-use Rattle.nio_group.specs.Group.{channel_at, is_terminated}
+use Rattle.nio_group.specs.Group.{IsMade, is_open, is_terminated}
 use Rattle.nio_group.specs.Run.{has_completed, has_ended, once_where}
 use Rattle.nio_group.specs.Stages.{is_pending}
 use Rattle.nio_group.specs.Steps as group
@@ -47,40 +47,40 @@ pub data Reply : Type 0 where
   closed : Bool → Reply
   done : Reply
 
--- a call names channels that are made
+-- a call names channels that were made
 abbrev pub IsCallOf : Timed → Call → Type 0
 IsCallOf t (open_channel kind) = Unit {0}
-IsCallOf t (bind chan) = chan.0 < length t.group.channels
-IsCallOf t (start_timed chan kind len now limit) = chan.0 < length t.group.channels
+IsCallOf t (bind chan) = IsMade t.group chan
+IsCallOf t (start_timed chan kind len now limit) = IsMade t.group chan
 IsCallOf t (report op outcome) = Unit {0}
 IsCallOf t (expire now) = Unit {0}
 IsCallOf t take = Unit {0}
 IsCallOf t (finish op) = Unit {0}
-IsCallOf t (close_channel chan) = chan.0 < length t.group.channels
+IsCallOf t (close_channel chan) = IsMade t.group chan
 IsCallOf t shutdown = Unit {0}
 IsCallOf t shutdown_now = Unit {0}
 
 abbrev pub reply_to : Timed → Call → Reply
-reply_to t (open_channel kind) = opened (group.answer_to_open t.group)
-reply_to t (bind chan) = bound (group.answer_to_bind t.group chan.0)
+reply_to t (open_channel kind) = opened (group.answer_to_open t.group kind)
+reply_to t (bind chan) = bound (group.answer_to_bind t.group chan)
 reply_to t (start_timed chan kind len now limit) = started (answer_to_start t chan kind now limit)
 reply_to t (report op outcome) = reported (group.answer_to_report t.group op.0 outcome)
 reply_to t (expire now) = expired (answer_to_expire t now)
 reply_to t take = taken (answer_to_take t)
 reply_to t (finish op) = finished (group.answer_to_finish t.group op.0)
-reply_to t (close_channel chan) = closed (channel_at t.group chan.0).is_open
+reply_to t (close_channel chan) = closed (is_open t.group chan)
 reply_to t shutdown = done
 reply_to t shutdown_now = done
 
 abbrev pub after : Timed → Call → Timed
 after t (open_channel kind) = with_group t (group.after_open t.group kind)
-after t (bind chan) = with_group t (group.after_bind t.group chan.0)
+after t (bind chan) = with_group t (group.after_bind t.group chan)
 after t (start_timed chan kind len now limit) = after_start t chan kind len now limit
 after t (report op outcome) = with_group t (group.after_report t.group op.0 outcome)
 after t (expire now) = after_expire t now
 after t take = after_take t
 after t (finish op) = with_group t (group.after_finish t.group op.0)
-after t (close_channel chan) = with_group t (group.after_close t.group chan.0)
+after t (close_channel chan) = with_group t (group.after_close t.group chan)
 after t shutdown = with_group t (group.after_shutdown t.group)
 after t shutdown_now = with_group t (group.after_shutdown_now t.group)
 
@@ -100,7 +100,7 @@ pub record IsOneStep (t : Timed) (call : Call) : Type 0 where
 abbrev pub StepsAreLawful : Type 0
 StepsAreLawful = (t : Timed) (call : Call) → IsLawful t → IsCallOf t call → IsOneStep t call
 
--- a run: each call names channels that are made by then
+-- a run: each call names channels that were made by then
 abbrev pub IsRunOf : Timed → List Call → Type 0
 IsRunOf t [] = Unit {0}
 IsRunOf t (call ∷ calls) = IsCallOf t call × IsRunOf (after t call) calls

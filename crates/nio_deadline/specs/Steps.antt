@@ -38,7 +38,7 @@ kept_if_refused (Some e) old new = old
 
 abbrev pub answer_to_start : Timed → GChan → OpKind → ℕ → ℕ → Result OpNo TimedError
 answer_to_start t chan kind now limit =
-    unless_refused (own_refusal t chan.0 kind now limit) (group.answer_to_start t.group chan kind)
+    unless_refused (own_refusal t chan kind now limit) (group.answer_to_start t.group chan kind)
 
 -- the operation with the next number gets a deadline, if it is pending
 abbrev pub with_limit : Timed → GChan → OpKind → ℕ → Timed → Timed
@@ -46,7 +46,7 @@ with_limit old chan kind at new =
     if is_pending (op_at new.group.flight (accepted old.group.flight))
     then record new {
       deadlines = with_deadline
-          (record { at = at; op = accepted old.group.flight; chan = chan.0; kind = kind }) new.deadlines;
+          (record { at = at; op = accepted old.group.flight; chan = chan; kind = kind }) new.deadlines;
     }
     else new
 
@@ -57,7 +57,7 @@ started t chan kind len now limit =
 
 abbrev pub after_start : Timed → GChan → OpKind → ℕ → ℕ → ℕ → Timed
 after_start t chan kind len now limit =
-    kept_if_refused (own_refusal t chan.0 kind now limit) t (started t chan kind len now limit)
+    kept_if_refused (own_refusal t chan kind now limit) t (started t chan kind len now limit)
 
 -- `expire`: the operations whose deadlines have come time out, in the order of the deadlines. To the group each of
 -- them has failed
@@ -66,7 +66,7 @@ abbrev pub with_timeout : Timed → Deadline → Timed
 with_timeout t d =
     record (with_group t (group.after_report t.group d.op Fault)) {
       timed_out = t.timed_out ++ d.op ∷ [];
-      kinds = slice_set t.kinds d.chan (with_kind (kinds_at t d.chan) d.kind);
+      kinds = slice_set t.kinds d.chan.number (with_kind (kinds_at t d.chan) d.kind);
     }
 
 abbrev pub with_timeouts : Timed → List Deadline → Timed

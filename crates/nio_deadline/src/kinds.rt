@@ -1,12 +1,13 @@
 //! Which kinds of operation have timed out on a channel.
 ghost use Rattle.std.specs.Prelude.{◌≡◌};
-ghost use Rattle.nio_deadline.specs.Timed.{has_kind, with_kind, no_kinds, may_have_limit};
+ghost use Rattle.nio_deadline.specs.Timed.{has_kind, with_kind, no_kinds, kinds_of, may_have_limit};
 
 use nio_base::OpKind;
 
-/// Which kinds of operation have timed out on a channel.
+/// Which kinds of operation have timed out on the channel with this serial.
 #[derive(Clone, Copy, Debug)]
 pub(crate) struct Kinds {
+    pub(crate) serial: u32,
     pub(crate) read: bool,
     pub(crate) write: bool,
 }
@@ -16,8 +17,22 @@ impl Kinds {
         ensures { result ≡ no_kinds }
     {
         Kinds {
+            serial: 0,
             read: false,
             write: false,
+        }
+    }
+
+    /// Those of the channel with this serial: none, where these are another channel's.
+    pub(crate) fn of(self, serial: u32) -> Kinds
+        ensures { result ≡ kinds_of serial self }
+    {
+        if self.serial == serial {
+            return self;
+        }
+        Kinds {
+            serial,
+            ..Kinds::none()
         }
     }
 

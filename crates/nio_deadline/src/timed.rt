@@ -4,7 +4,7 @@ ghost use Rattle.std.specs.VecDeque.{deque_len, deque_capacity};
 ghost use Rattle.std.specs.Prelude.{All, IsTrue, IsNone, ◌↔◌, false};
 ghost use Rattle.nio_group.specs.Flight.{IsPendingAs};
 ghost use Rattle.nio_group.specs.Group as group;
-ghost use Rattle.nio_group.specs.Group.{channel_at};
+ghost use Rattle.nio_group.specs.Group.{IsMade, is_made, is_present, is_open as channel_is_open};
 ghost use Rattle.nio_group.specs.Limits.{IsFit};
 ghost use Rattle.nio_group.specs.Steps as group_steps;
 ghost use Rattle.nio_group.specs.Steps.{IsJobOf, after_bind, after_close, after_finish, after_open, after_report};
@@ -72,9 +72,9 @@ impl TimedCore {
         let _ = &self.kinds;
     }
 
-    /// Opens a channel with the next number.
+    /// Opens a channel with the next number, or one that comes back.
     pub fn open_channel(&mut self, kind: GKind) -> Result<GChan, StartError>
-        ensures answer { result ≡ answer_to_open self.old.group }
+        ensures answer { result ≡ answer_to_open self.old.group kind }
         ensures after { self.new ≡ with_group self.old (after_open self.old.group kind) }
         ensures refused { OnErr result (self.new ≡ self.old) }
     {
@@ -83,9 +83,9 @@ impl TimedCore {
 
     /// Binds a listener.
     pub fn bind(&mut self, chan: GChan) -> Result<(), StartError>
-        requires { chan.0 < length self.old.group.channels }
-        ensures answer { result ≡ answer_to_bind self.old.group chan.0 }
-        ensures after { self.new ≡ with_group self.old (after_bind self.old.group chan.0) }
+        requires { IsMade self.old.group chan }
+        ensures answer { result ≡ answer_to_bind self.old.group chan }
+        ensures after { self.new ≡ with_group self.old (after_bind self.old.group chan) }
         ensures refused { OnErr result (self.new ≡ self.old) }
     {
         self.core.bind(chan)
@@ -101,13 +101,13 @@ impl TimedCore {
         now: u64,
         limit: u64,
     ) -> Result<OpNo, TimedError>
-        requires { chan.0 < length self.old.group.channels }
+        requires { IsMade self.old.group chan }
         ensures answer { result ≢ Err TimedError.Memory → result ≡ answer_to_start self.old chan kind now limit }
         ensures after { result ≢ Err TimedError.Memory → self.new ≡ after_start self.old chan kind len now limit }
         ensures memory { result ≡ Err TimedError.Memory →
-            (self.new ≡ self.old) × (own_refusal self.old chan.0 kind now limit ≡ None) }
+            (self.new ≡ self.old) × (own_refusal self.old chan kind now limit ≡ None) }
         ensures wanted { result ≡ Err TimedError.Memory → (limit ≢ 0) × (len ≢ 0)
-            × IsTrue (may_have_limit kind) × IsTrue (channel_at self.old.group chan.0).is_open }
+            × IsTrue (may_have_limit kind) × IsTrue (channel_is_open self.old.group chan) }
         ensures refused { OnErr result (self.new ≡ self.old) }
     {
         if let Some(refused) = self.refusal(chan, kind, now, limit) {
@@ -121,7 +121,7 @@ impl TimedCore {
 
     /// Starts an operation that has no deadline.
     fn start_unlimited(&mut self, chan: GChan, kind: OpKind, len: u64) -> Result<OpNo, StartError>
-        requires { chan.0 < length self.old.group.channels }
+        requires { IsMade self.old.group chan }
         ensures answer { result ≡ group_steps.answer_to_start self.old.group chan kind }
         ensures after { self.new ≡ with_group self.old (group_steps.after_start self.old.group chan kind len) }
         ensures refused { OnErr result (self.new ≡ self.old) }
@@ -137,8 +137,8 @@ impl TimedCore {
         len: u64,
         at: u64,
     ) -> Result<OpNo, TimedError>
-        requires made { chan.0 < length self.old.group.channels }
-        requires is_open { IsTrue (channel_at self.old.group chan.0).is_open }
+        requires made { IsMade self.old.group chan }
+        requires is_open { IsTrue (channel_is_open self.old.group chan) }
         requires some { 0 < len }
         requires limited { IsTrue (may_have_limit kind) }
         ensures answer { result ≢ Err TimedError.Memory
@@ -163,8 +163,8 @@ impl TimedCore {
 
     /// Why an operation isn't started, where that isn't the group's cause.
     fn refusal(&self, chan: GChan, kind: OpKind, now: u64, limit: u64) -> Option<TimedError>
-        requires { chan.0 < length self.now.group.channels }
-        ensures { result ≡ own_refusal self.now chan.0 kind now limit }
+        requires { IsMade self.now.group chan }
+        ensures { result ≡ own_refusal self.now chan kind now limit }
     {
         if limit != 0 && !may_have_limit(kind) {
             return Some(TimedError::NoLimitHere);
@@ -172,7 +172,7 @@ impl TimedCore {
         if limit > u64::MAX - now {
             return Some(TimedError::LimitTooLong);
         }
-        if self.core.is_open(chan) && self.kinds[chan.0 as usize].has(kind) {
+        if self.core.is_open(chan) && self.kinds[chan.number as usize].of(chan.serial).has(kind) {
             return Some(TimedError::TimedOut);
         }
         None
@@ -180,9 +180,10 @@ impl TimedCore {
 
     /// The pending operation of this kind on this channel, for the caller who does its work.
     pub fn job(&self, chan: GChan, kind: OpKind) -> Option<Job>
-        requires { chan.0 < length self.now.group.channels }
-        ensures some { IfSome result (λ job. IsJobOf self.now.group chan.0 kind job) }
-        ensures none { IsNone result ↔ ((n : ℕ) → IsPendingAs self.now.group.flight chan.0 kind n → ⊥) }
+        requires { IsMade self.now.group chan }
+        ensures some { IfSome result (λ job. IsJobOf self.now.group chan kind job) }
+        ensures none { IsNone result ↔ (IsTrue (is_present self.now.group chan)
+            → (n : ℕ) → IsPendingAs self.now.group.flight chan.number kind n → ⊥) }
     {
         self.core.job(chan, kind)
     }
@@ -227,10 +228,10 @@ impl TimedCore {
         let Some((op, place)) = self.deadlines.pop_due(now) else {
             return false;
         };
-        let at = place.chan.0 as usize;
+        let at = place.chan.number as usize;
         let _ = self.core.report(OpNo(op), Outcome::Fault);
         self.timed_out.push_back_reserved(op);
-        self.kinds[at] = self.kinds[at].with(place.kind);
+        self.kinds[at] = self.kinds[at].of(place.chan.serial).with(place.kind);
         true
     }
 
@@ -273,9 +274,9 @@ impl TimedCore {
 
     /// Closes a channel, and completes what is pending on it; true where it was open.
     pub fn close_channel(&mut self, chan: GChan) -> bool
-        requires { chan.0 < length self.old.group.channels }
-        ensures answer { result ≡ (channel_at self.old.group chan.0).is_open }
-        ensures after { self.new ≡ with_group self.old (after_close self.old.group chan.0) }
+        requires { IsMade self.old.group chan }
+        ensures answer { result ≡ channel_is_open self.old.group chan }
+        ensures after { self.new ≡ with_group self.old (after_close self.old.group chan) }
     {
         remove_job(&mut self.deadlines, self.core.job(chan, OpKind::Read));
         remove_job(&mut self.deadlines, self.core.job(chan, OpKind::Write));
@@ -312,7 +313,15 @@ impl TimedCore {
         self.core.is_terminated()
     }
 
-    /// How many channels were made. They have the numbers from 0 on.
+    /// Whether a channel of this name was made, be it closed by now or not.
+    pub fn is_made(&self, chan: GChan) -> bool
+        ensures answer { result ≡ is_made self.now.group chan }
+        ensures made { IsTrue result ↔ IsMade self.now.group chan }
+    {
+        self.core.is_made(chan)
+    }
+
+    /// How many numbers were given to channels: those from 0 on.
     pub fn channels(&self) -> u32
         ensures { result ≡ length self.now.group.channels }
     {
@@ -349,7 +358,7 @@ fn remove_job(deadlines: &mut Deadlines, job: Option<Job>)
     }
 }
 
-/// For each channel that no kind of operation has timed out on it.
+/// For each number that no kind of operation has timed out on a channel of it.
 fn no_kinds_yet(alloc: Global, channels: usize) -> Result<Vec<Kinds>, AllocError>
     ensures { IfOk result (λ kinds. kinds.items ≡ replicate channels no_kinds) }
 {

@@ -7,15 +7,15 @@ use std::test::Fail;
 #[derive(Clone, Copy, Debug)]
 enum Call {
     Open(GKind),
-    Bind(u32),
-    Start(u32, OpKind, u64, u64, u64),
-    Job(u32, OpKind),
+    Bind(GChan),
+    Start(GChan, OpKind, u64, u64, u64),
+    Job(GChan, OpKind),
     Report(u64, Outcome),
     Expire(u64),
     Next,
     Take,
     Finish(u64),
-    Close(u32),
+    Close(GChan),
     Shutdown,
     ShutdownNow,
     IsShutdown,
@@ -24,7 +24,7 @@ enum Call {
 
 #[derive(Clone, Copy, Debug, PartialEq, Eq)]
 enum Reply {
-    Opened(u32),
+    Opened(GChan),
     Started(u64),
     Working(u64),
     Completed(u64, TimedResult),
@@ -41,23 +41,22 @@ enum Reply {
 
 /// The reply to a call, where its channel is made.
 fn reply_to(timed: &mut TimedCore, call: Call) -> Reply {
-    let made = timed.channels();
     match call {
         Call::Open(kind) => match timed.open_channel(kind) {
-            Ok(chan) => Reply::Opened(chan.0),
+            Ok(chan) => Reply::Opened(chan),
             Err(refused) => Reply::NotOpened(refused),
         },
-        Call::Bind(chan) if chan < made => match timed.bind(GChan(chan)) {
+        Call::Bind(chan) if timed.is_made(chan) => match timed.bind(chan) {
             Ok(()) => Reply::Done,
             Err(refused) => Reply::NotOpened(refused),
         },
-        Call::Start(chan, kind, len, now, limit) if chan < made => {
-            match timed.start_timed(GChan(chan), kind, len, now, limit) {
+        Call::Start(chan, kind, len, now, limit) if timed.is_made(chan) => {
+            match timed.start_timed(chan, kind, len, now, limit) {
                 Ok(op) => Reply::Started(op.0),
                 Err(refused) => Reply::Refused(refused),
             }
         }
-        Call::Job(chan, kind) if chan < made => match timed.job(GChan(chan), kind) {
+        Call::Job(chan, kind) if timed.is_made(chan) => match timed.job(chan, kind) {
             Some(job) => Reply::Working(job.op().0),
             None => Reply::Nothing,
         },
@@ -78,7 +77,7 @@ fn reply_to(timed: &mut TimedCore, call: Call) -> Reply {
             Ok(()) => Reply::Done,
             Err(NotRunning) => Reply::NotRunning,
         },
-        Call::Close(chan) if chan < made => Reply::Is(timed.close_channel(GChan(chan))),
+        Call::Close(chan) if timed.is_made(chan) => Reply::Is(timed.close_channel(chan)),
         Call::Shutdown => {
             timed.shutdown();
             Reply::Done
@@ -95,6 +94,16 @@ fn reply_to(timed: &mut TimedCore, call: Call) -> Reply {
     }
 }
 
+const G0: GChan = GChan {
+    number: 0,
+    serial: 0,
+};
+
+const G1: GChan = GChan {
+    number: 1,
+    serial: 0,
+};
+
 const CONNECT: OpKind = OpKind::Connect;
 
 const READ: OpKind = OpKind::Read;
@@ -107,8 +116,8 @@ const LAST_MOMENT: u64 = 18_446_744_073_709_551_615;
 
 /// A stream is opened and connected; this is operation 0.
 const CONNECTED: &[(Call, Reply)] = &[
-    (Call::Open(GKind::Stream), Reply::Opened(0)),
-    (Call::Start(0, CONNECT, 0, 0, 0), Reply::Started(0)),
+    (Call::Open(GKind::Stream), Reply::Opened(G0)),
+    (Call::Start(G0, CONNECT, 0, 0, 0), Reply::Started(0)),
     (Call::Report(0, Outcome::Connected), Reply::Done),
     (
         Call::Take,
@@ -118,8 +127,8 @@ const CONNECTED: &[(Call, Reply)] = &[
 ];
 
 const OPERATION_TIMES_OUT: &[(Call, Reply)] = &[
-    (Call::Start(0, READ, 10, 100, 50), Reply::Started(1)),
-    (Call::Job(0, READ), Reply::Working(1)),
+    (Call::Start(G0, READ, 10, 100, 50), Reply::Started(1)),
+    (Call::Job(G0, READ), Reply::Working(1)),
     (Call::Next, Reply::Counted(150)),
     (Call::Expire(149), Reply::Counted(0)),
     (Call::Expire(150), Reply::Counted(1)),
@@ -129,10 +138,10 @@ const OPERATION_TIMES_OUT: &[(Call, Reply)] = &[
     ),
     (Call::Take, Reply::Completed(1, LATE)),
     (
-        Call::Start(0, READ, 10, 200, 0),
+        Call::Start(G0, READ, 10, 200, 0),
         Reply::Refused(TimedError::TimedOut),
     ),
-    (Call::Start(0, WRITE, 3, 200, 5), Reply::Started(2)),
+    (Call::Start(G0, WRITE, 3, 200, 5), Reply::Started(2)),
     (Call::Report(2, Outcome::Count(3)), Reply::Done),
     (Call::Expire(900), Reply::Counted(0)),
     (
@@ -142,15 +151,15 @@ const OPERATION_TIMES_OUT: &[(Call, Reply)] = &[
     (Call::Next, Reply::Nothing),
     // The refusals in their order: the first cause is told.
     (
-        Call::Start(0, CONNECT, 0, LAST_MOMENT, 1),
+        Call::Start(G0, CONNECT, 0, LAST_MOMENT, 1),
         Reply::Refused(TimedError::NoLimitHere),
     ),
     (
-        Call::Start(0, READ, 1, LAST_MOMENT, 1),
+        Call::Start(G0, READ, 1, LAST_MOMENT, 1),
         Reply::Refused(TimedError::LimitTooLong),
     ),
-    (Call::Close(0), Reply::Is(true)),
-    (Call::Start(0, READ, 1, 0, 1), Reply::Started(3)),
+    (Call::Close(G0), Reply::Is(true)),
+    (Call::Start(G0, READ, 1, 0, 1), Reply::Started(3)),
     (Call::Next, Reply::Nothing),
     (
         Call::Take,
@@ -159,30 +168,30 @@ const OPERATION_TIMES_OUT: &[(Call, Reply)] = &[
 ];
 
 const LIMITS_THAT_ARE_REFUSED: &[(Call, Reply)] = &[
-    (Call::Open(GKind::Stream), Reply::Opened(0)),
+    (Call::Open(GKind::Stream), Reply::Opened(G0)),
     (
-        Call::Start(0, CONNECT, 0, 0, 5),
+        Call::Start(G0, CONNECT, 0, 0, 5),
         Reply::Refused(TimedError::NoLimitHere),
     ),
     (
-        Call::Start(0, READ, 1, LAST_MOMENT, 1),
+        Call::Start(G0, READ, 1, LAST_MOMENT, 1),
         Reply::Refused(TimedError::LimitTooLong),
     ),
     (
-        Call::Start(0, READ, 1, 0, 1),
+        Call::Start(G0, READ, 1, 0, 1),
         Reply::Refused(TimedError::Start(StartError::NotYetConnected)),
     ),
     (Call::Next, Reply::Nothing),
-    (Call::Bind(0), Reply::NotOpened(StartError::WrongKind)),
-    (Call::Bind(1), Reply::NoChannel),
+    (Call::Bind(G0), Reply::NotOpened(StartError::WrongKind)),
+    (Call::Bind(G1), Reply::NoChannel),
 ];
 
 const TWO_WITH_ONE_DEADLINE: &[(Call, Reply)] = &[
-    (Call::Start(0, WRITE, 1, 0, LAST_MOMENT), Reply::Started(1)),
-    (Call::Start(0, READ, 1, LAST_MOMENT, 0), Reply::Started(2)),
+    (Call::Start(G0, WRITE, 1, 0, LAST_MOMENT), Reply::Started(1)),
+    (Call::Start(G0, READ, 1, LAST_MOMENT, 0), Reply::Started(2)),
     (Call::Report(2, Outcome::End), Reply::Done),
     (
-        Call::Start(0, READ, 1, 5, LAST_MOMENT - 5),
+        Call::Start(G0, READ, 1, 5, LAST_MOMENT - 5),
         Reply::Started(3),
     ),
     (Call::Next, Reply::Counted(LAST_MOMENT)),
@@ -200,8 +209,8 @@ const TWO_WITH_ONE_DEADLINE: &[(Call, Reply)] = &[
 ];
 
 const REPORTED_AT_THE_DEADLINE: &[(Call, Reply)] = &[
-    (Call::Start(0, READ, 8, 10, 5), Reply::Started(1)),
-    (Call::Start(0, WRITE, 8, 10, 4), Reply::Started(2)),
+    (Call::Start(G0, READ, 8, 10, 5), Reply::Started(1)),
+    (Call::Start(G0, WRITE, 8, 10, 4), Reply::Started(2)),
     (Call::Next, Reply::Counted(14)),
     (Call::Report(1, Outcome::Count(8)), Reply::Done),
     (Call::Expire(15), Reply::Counted(1)),
@@ -210,12 +219,12 @@ const REPORTED_AT_THE_DEADLINE: &[(Call, Reply)] = &[
         Reply::Completed(1, TimedResult::Core(Finished::Count(8))),
     ),
     (Call::Take, Reply::Completed(2, LATE)),
-    (Call::Start(0, READ, 8, 15, 0), Reply::Started(3)),
+    (Call::Start(G0, READ, 8, 15, 0), Reply::Started(3)),
 ];
 
 const SHUTDOWN_WITH_DEADLINES: &[(Call, Reply)] = &[
-    (Call::Start(0, READ, 8, 0, 5), Reply::Started(1)),
-    (Call::Start(0, WRITE, 8, 0, 6), Reply::Started(2)),
+    (Call::Start(G0, READ, 8, 0, 5), Reply::Started(1)),
+    (Call::Start(G0, WRITE, 8, 0, 6), Reply::Started(2)),
     (Call::Shutdown, Reply::Done),
     (Call::IsShutdown, Reply::Is(true)),
     (Call::Expire(5), Reply::Counted(1)),

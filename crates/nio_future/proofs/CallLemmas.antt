@@ -1,5 +1,5 @@
 -- A desk after a call of its group, before its completions are taken.
-use Rattle.std.proofs.Common.{◌≡◌, inl, inr, ℕ, ◌+◌, ◌<◌, ◌≤◌, false, ltb, [], ◌∷◌, ◌++◌, Option, Some, None, length}
+use Rattle.std.proofs.Common.{◌≡◌, inl, inr, ℕ, ◌+◌, ◌<◌, ◌≤◌, false, ltb, get_or, List, [], ◌∷◌, ◌++◌, Option, Some, None, length}
 use Rattle.std.proofs.Common.{refl, sym, ap, ◌∙◌, subst, arith, Result, Ok, Err, IfOk, OnErr}
 use Rattle.std.proofs.lemmas.Bool.{false≢true, ltb-true, ltb-false}
 use Rattle.std.proofs.lemmas.List.{get_or_past, length_push}
@@ -11,12 +11,14 @@ use Rattle.nio_group.specs.declared.operation.Stage.{Stage}
 use Rattle.nio_group.specs.declared.operation.Stage.TheVariants.{Pending, Queued, Running}
 use Rattle.nio_group.specs.declared.refusal.StartError.{StartError}
 use Rattle.nio_group.specs.Flight.{Flight, op_at, accepted}
-use Rattle.nio_group.specs.Group.{Group, new_channel}
+use Rattle.nio_group.specs.declared.channel.Channel.{Channel}
+use Rattle.nio_group.specs.Group.{Group, IsMade, StaysMade, no_channel}
 use Rattle.nio_group.specs.Limits.{IsFit}
-use Rattle.nio_group.specs.Refusals.{open_refusal}
 use Rattle.nio_group.specs.Run.{Call, open_channel, IsCallOf, after, GoesOn, IsNext}
 use Rattle.nio_group.specs.Stages.{is_queued}
 use Rattle.nio_group.specs.Steps.{answer_to_open, after_open, kept_if_refused, unless_refused}
+use Rattle.nio_group.proofs.MakingLemmas.{open-made, refused-open}
+use Rattle.nio_group.proofs.NumberLemmas.{made-stays}
 use Rattle.nio_group.proofs.RestLemmas.{lawful-empty}
 use Rattle.nio_group.proofs.RunLemmas.{lawful-after}
 use Rattle.nio_group.proofs.StageLemmas.{stepped-after}
@@ -115,26 +117,32 @@ desk-empty limits source fit =
 
 -- ---- what each call promises besides its answer
 
-pub channels-settled : (d : DeskState) → IsSettling d → length (settled d).group.channels ≡ length d.group.channels
+pub channels-settled : (d : DeskState) → IsSettling d → (settled d).group.channels ≡ d.group.channels
 channels-settled d settling =
-    settled-by (λ x. length x.group.channels ≡ length d.group.channels)
-    (λ x x' n rest s next before. ap (λ (g : Group). length g.channels) next.group.left ∙ before)
+    settled-by (λ x. x.group.channels ≡ d.group.channels)
+    (λ x x' n rest s next before. ap (λ (g : Group). g.channels) next.group.left ∙ before)
     d settling refl
 
--- a call keeps the tickets and the channels that are made
+-- what was made is made where the channels are the same
+pub made-same : (g h : Group) (chan : GChan) → h.channels ≡ g.channels → IsMade g chan → IsMade h chan
+made-same g h chan same made =
+    subst (λ (cs : List Channel). (chan.number < length cs) × (chan.serial ≤ (get_or cs chan.number no_channel).serial))
+    (sym same) made
+
+-- a call keeps the tickets and the channels that were made
 pub record IsKeeping (old new : DeskState) : Type 0 where
   pub tickets : KeepsTickets old new
-  pub made : length old.group.channels ≤ length new.group.channels
+  pub made : StaysMade old.group new.group
 
 keeping-by_group : (d : DeskState) (call : Call) → IsDesk d → IsCallOf d.group call → is_start call ≡ false
     → IsKeeping d (by_group d call)
 keeping-by_group d call desk made other =
     let settling = settling-after d call desk made other in
-    let more = (framed-after d.group call other).made in
     let same = channels-settled (record d { group = after d.group call }) settling in
     record {
       tickets = keeps-same d (by_group d call) (same-out-by_group d call desk made other);
-      made = omega (arith, more, same);
+      made = λ chan was. made-same (after d.group call) (by_group d call).group chan same
+          (made-stays d.group call desk.settling.lawful made chan was);
     }
 
 -- the same of the desk `d` that a call opens, where `g` is what the group's call leaves and `new` what `settle` leaves
@@ -151,7 +159,7 @@ leaves-call d old new call g view is settles =
 pub record IsCalled (old new : DeskState) (call : Call) : Type 0 where
   pub after : new ≡ by_group old call
   pub tickets : KeepsTickets old new
-  pub made : length old.group.channels ≤ length new.group.channels
+  pub made : StaysMade old.group new.group
 
 pub called : (d old new : DeskState) (call : Call) (g : Group) → d ≡ old → IsDesk d → IsCallOf d.group call
     → is_start call ≡ false → g ≡ after d.group call → new ≡ settled (record d { group = g }) → IsCalled old new call
@@ -163,28 +171,31 @@ called d old new call g view desk made other is settles =
 
 -- a channel that was opened is made
 pub opened-made : (d : DeskState) (kind : GKind) (new : DeskState) (g : Group) → IsDesk d → g ≡ after_open d.group kind
-    → new ≡ settled (record d { group = g }) → (answer : Result GChan StartError) → answer ≡ answer_to_open d.group
-    → IfOk answer (λ chan. chan.0 < length new.group.channels)
-opened-made d kind new g desk is settles answer answers =
-    rw (answers, leaves-call d d new (open_channel kind) g refl is settles) (by_refusal (open_refusal d.group) refl)
+    → new ≡ settled (record d { group = g }) → (answer : Result GChan StartError) → answer ≡ answer_to_open d.group kind
+    → IfOk answer (IsMade new.group)
+opened-made d kind new g desk is settles answer answers = by_answer answer answers
   where
-    same : length (by_group d (open_channel kind)).group.channels ≡ length (after_open d.group kind).channels
+    same : (by_group d (open_channel kind)).group.channels ≡ (after_open d.group kind).channels
     same = channels-settled (record d { group = after d.group (open_channel kind) })
         (settling-after d (open_channel kind) desk tt refl)
 
-    by_refusal : (r : Option StartError) → open_refusal d.group ≡ r
-        → IfOk (answer_to_open d.group)
-        (λ chan. chan.0 < length (by_group d (open_channel kind)).group.channels)
-    by_refusal None free =
-        let answers : answer_to_open d.group ≡ Ok (record { 0 = length d.group.channels }) = rw free refl in
-        let channels : length (after_open d.group kind).channels ≡ length d.group.channels + 1 =
-        ap (λ (o : Option StartError). length (kept_if_refused o d.group
-        (record d.group { channels = d.group.channels ++ new_channel kind ∷ [] })).channels) free
-        ∙ length_push d.group.channels (new_channel kind) in
-        rw (answers, same, channels) (omega arith)
-    by_refusal (Some e) free =
-        let answers : answer_to_open d.group ≡ Err e = rw free refl in
-        rw answers tt
+    by_answer : (r : Result GChan StartError) → r ≡ answer_to_open d.group kind → IfOk r (IsMade new.group)
+    by_answer (Err e) is' = tt
+    by_answer (Ok chan) is' =
+        subst (λ (x : DeskState). IsMade x.group chan) (sym (leaves-call d d new (open_channel kind) g refl is settles))
+        (made-same (after_open d.group kind) (by_group d (open_channel kind)).group chan same
+        (open-made d.group kind chan desk.settling.lawful (sym is')))
+
+-- where no channel is opened the desk is as it was
+pub open-keeps : (kind : GKind) (result : Result GChan StartError) (d old new : DeskState)
+    → result ≡ answer_to_open d.group kind → IsDesk d → d ≡ old → new ≡ by_group old (open_channel kind)
+    → OnErr result (new ≡ old)
+open-keeps kind (Ok chan) d old new answers desk view is = tt
+open-keeps kind (Err e) d old new answers desk view is =
+    let same : by_group d (open_channel kind) ≡ d =
+    ap (λ (g : Group). settled (record d { group = g })) (refused-open d.group kind e (sym answers))
+    ∙ settled-empty d desk.empty in
+    is ∙ ap (λ (x : DeskState). by_group x (open_channel kind)) (sym view) ∙ same ∙ view
 
 -- a refused call leaves the desk as it was
 pub refused-keeps : {T E : Type 0} (r : Option E) (answer : T) (result : Result T E) (d old new : DeskState) (h : Group)

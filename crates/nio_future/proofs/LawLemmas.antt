@@ -11,7 +11,7 @@ use Rattle.nio_group.specs.declared.operation.Stage.TheVariants.{Pending}
 use Rattle.nio_group.specs.declared.refusal.StartError.{StartError}
 use Rattle.nio_group.specs.Completion.{CompletionFields}
 use Rattle.nio_group.specs.Flight.{op_at}
-use Rattle.nio_group.specs.Group.{Group, empty_group, is_terminated}
+use Rattle.nio_group.specs.Group.{Group, IsMade, empty_group, is_terminated}
 use Rattle.nio_group.specs.Operations.{Accepted}
 use Rattle.nio_group.specs.Run as group
 use Rattle.nio_group.specs.Run.{open_channel, bind, start, report, take, finish, close_channel, shutdown, shutdown_now}
@@ -133,11 +133,11 @@ asks-steps d call desk made other =
 
 -- ---- `start`
 
-starts-steps : (d : DeskState) (chan : GChan) (kind : OpKind) (len : ℕ) → IsDesk d → chan.0 < length d.group.channels
-    → start_refusal d chan.0 kind ≡ None
+starts-steps : (d : DeskState) (chan : GChan) (kind : OpKind) (len : ℕ) → IsDesk d → IsMade d.group chan
+    → start_refusal d chan kind ≡ None
     → StepsTo d (started d chan kind len) (with_takes d.group (start chan kind len))
 starts-steps d chan kind len desk made none =
-    let free = free-of d d chan.0 kind desk refl none in
+    let free = free-of d d chan kind desk refl none in
     let op : Operation = record { chan = chan; kind = kind; len = len; stage = Pending } in
     let settling = settling-start d chan kind len _
     (with_ticket d.out chan kind len) desk made free.0 free.1 refl refl in
@@ -176,17 +176,17 @@ asks d call desk made other =
 rests : (d : DeskState) → IsDesk d → Follows d d []
 rests d desk = record { desk = desk; steps = stays-put d }
 
-starts : (d : DeskState) (chan : GChan) (kind : OpKind) (len : ℕ) → IsDesk d → chan.0 < length d.group.channels
+starts : (d : DeskState) (chan : GChan) (kind : OpKind) (len : ℕ) → IsDesk d → IsMade d.group chan
     → Follows d (after_start d chan kind len)
-    (if_allowed (start_refusal d chan.0 kind) (with_takes d.group (start chan kind len)))
-starts d chan kind len desk made = by_refusal (start_refusal d chan.0 kind) refl
+    (if_allowed (start_refusal d chan kind) (with_takes d.group (start chan kind len)))
+starts d chan kind len desk made = by_refusal (start_refusal d chan kind) refl
   where
-    by_refusal : (r : Option StartError) → start_refusal d chan.0 kind ≡ r
+    by_refusal : (r : Option StartError) → start_refusal d chan kind ≡ r
         → Follows d (kept_if_refused r d (started d chan kind len))
         (if_allowed r (with_takes d.group (start chan kind len)))
     by_refusal (Some e) is = rests d desk
     by_refusal None is =
-        let free = free-of d d chan.0 kind desk refl is in
+        let free = free-of d d chan kind desk refl is in
         let settling = settling-start d chan kind len _ (with_ticket d.out chan kind len) desk made free.0 free.1
         refl refl in
         record { desk = settled-desk _ settling; steps = starts-steps d chan kind len desk made is }

@@ -18,7 +18,7 @@ use Rattle.nio_group.specs.declared.operation.Stage.TheVariants.{Pending}
 use Rattle.nio_group.specs.declared.refusal.StartError.{StartError}
 use Rattle.nio_group.specs.declared.refusal.StartError.TheVariants as refused
 use Rattle.nio_group.specs.Flight.{op_at, accepted, in_flight}
-use Rattle.nio_group.specs.Group.{Group, IsLawful, channel_at, is_terminated}
+use Rattle.nio_group.specs.Group.{Group, IsLawful, IsMade, StaysMade, channel_at, is_terminated, is_open as open_by}
 use Rattle.nio_group.specs.Operations.{Accepted}
 use Rattle.nio_group.specs.Refusals as group
 use Rattle.nio_group.specs.Refusals.{channel_refusal, has_pending}
@@ -37,7 +37,8 @@ use Rattle.nio_future.specs.Steps.{after_start, answer_to_start, kept_if_refused
 use Rattle.nio_future.specs.Steps.{ticket_of, with_ticket}
 use Rattle.nio_future.specs.Ticket.{Ticket}
 use Rattle.nio_future.specs.Tickets.{AreTicketsOf, IsTicketOf, TakesTicket}
-use Rattle.nio_future.proofs.CallLemmas.{channels-settled}
+use Rattle.nio_group.proofs.NumberLemmas.{made-stays}
+use Rattle.nio_future.proofs.CallLemmas.{channels-settled, made-same}
 use Rattle.nio_future.proofs.SettleLemmas.{desk_of, keeps-same, same-out-settled}
 use Rattle.nio_future.proofs.TicketLemmas.{is-given, takes-with, bit}
 use Rattle.nio_future.proofs.FrameLemmas.{framed-started}
@@ -100,12 +101,12 @@ or-by false full None x y is = is
 or-by false full (Some e) x y is = refl
 
 -- the desk refuses what the group refuses, and else where as many tickets are out as may be
-pub refusal-by : (d : DeskState) (c : ℕ) (kind : OpKind) → IsSettling d
-    → start_refusal d c kind ≡ or_full (eqb (tickets_out d) d.out.limit) (group.start_refusal d.group c kind)
-refusal-by d c kind s =
+pub refusal-by : (d : DeskState) (chan : GChan) (kind : OpKind) → IsSettling d
+    → start_refusal d chan kind ≡ or_full (eqb (tickets_out d) d.out.limit) (group.start_refusal d.group chan kind)
+refusal-by d chan kind s =
     or-by (is_terminated d.group) (eqb (tickets_out d) d.out.limit)
-    (channel_refusal (channel_at d.group c).is_open (channel_at d.group c).endpoint
-    (has_pending d.group.flight c kind) kind) (limit_refusal d) (group.limit_refusal d.group)
+    (channel_refusal (open_by d.group chan) (channel_at d.group chan.number).endpoint
+    (has_pending d.group.flight chan.number kind) kind) (limit_refusal d) (group.limit_refusal d.group)
     (limit-by (eqb (accepted d.group.flight) d.group.op_limit) (eqb (in_flight d.group.flight) d.group.flight.limit)
     (eqb (tickets_out d) d.out.limit) (full-out d s))
 
@@ -118,20 +119,20 @@ not-running true Connect len = refl
 not-running true Read len = by_test (eqb len 0) (λ t. rw t refl) (λ f. rw f refl)
 not-running true Write len = by_test (eqb len 0) (λ t. rw t refl) (λ f. rw f refl)
 
-pub started-free : (g : Group) (chan : GChan) (kind : OpKind) (len : ℕ) → group.start_refusal g chan.0 kind ≡ None
+pub started-free : (g : Group) (chan : GChan) (kind : OpKind) (len : ℕ) → group.start_refusal g chan kind ≡ None
     → group_steps.after_start g chan kind len ≡ group_steps.started g chan kind len
 started-free g chan kind len free =
     ap (λ (o : Option StartError). group_steps.kept_if_refused o g (group_steps.started g chan kind len)) free
 
 -- a desk after the group's `start`, with one more ticket out
 pub settling-started : (d : DeskState) (chan : GChan) (kind : OpKind) (len : ℕ) → IsDesk d
-    → chan.0 < length d.group.channels → group.start_refusal d.group chan.0 kind ≡ None
+    → IsMade d.group chan → group.start_refusal d.group chan kind ≡ None
     → tickets_out d < d.out.limit
     → IsSettling (record d { group = group_steps.started d.group chan kind len; out = with_ticket d.out chan kind len })
 settling-started d chan kind len desk made free room =
     let s = desk.settling in
     let g = d.group in
-    let is_open = (channel_at g chan.0).is_open in
+    let is_open = open_by g chan in
     let op : Operation = record { chan = chan; kind = kind; len = len; stage = first_stage is_open kind len } in
     let held : Operation = record { chan = chan; kind = kind; len = len; stage = Pending } in
     let frame = framed-started g chan kind len in
@@ -171,13 +172,13 @@ settling-started d chan kind len desk made free room =
           (subst (λ (slot : Option Operation). Agrees (op_at g.flight n) slot) (sym there) (s.agrees n)));
     }
 
-pub refusal-answer : (d old : DeskState) (c : ℕ) (kind : OpKind) (r : Option StartError) → IsDesk d → d ≡ old
-    → r ≡ group.start_refusal d.group c kind
-    → or_full (eqb (tickets_out d) d.out.limit) r ≡ start_refusal old c kind
-refusal-answer d old c kind r desk view is =
+pub refusal-answer : (d old : DeskState) (chan : GChan) (kind : OpKind) (r : Option StartError) → IsDesk d → d ≡ old
+    → r ≡ group.start_refusal d.group chan kind
+    → or_full (eqb (tickets_out d) d.out.limit) r ≡ start_refusal old chan kind
+refusal-answer d old chan kind r desk view is =
     ap (λ (o : Option StartError). or_full (eqb (tickets_out d) d.out.limit) o) is ∙ sym
-    (refusal-by d c kind desk.settling)
-    ∙ ap (λ (x : DeskState). start_refusal x c kind) view
+    (refusal-by d chan kind desk.settling)
+    ∙ ap (λ (x : DeskState). start_refusal x chan kind) view
 
 -- ---- a start that isn't refused
 
@@ -187,27 +188,29 @@ or-none false None h = (refl, refl)
 or-none full (Some e) h = absurd (let never : ⊥ = cc in never)
 
 -- the group doesn't refuse it either, and there is room for a ticket
-pub free-of : (d old : DeskState) (c : ℕ) (kind : OpKind) → IsDesk d → d ≡ old → start_refusal old c kind ≡ None
-    → (group.start_refusal d.group c kind ≡ None) × (tickets_out d < d.out.limit)
-free-of d old c kind desk view none =
-    let parts = or-none (eqb (tickets_out d) d.out.limit) (group.start_refusal d.group c kind)
-    (refusal-answer d old c kind (group.start_refusal d.group c kind) desk view refl ∙ none) in
+pub free-of : (d old : DeskState) (chan : GChan) (kind : OpKind) → IsDesk d → d ≡ old
+    → start_refusal old chan kind ≡ None
+    → (group.start_refusal d.group chan kind ≡ None) × (tickets_out d < d.out.limit)
+free-of d old chan kind desk view none =
+    let parts = or-none (eqb (tickets_out d) d.out.limit) (group.start_refusal d.group chan kind)
+    (refusal-answer d old chan kind (group.start_refusal d.group chan kind) desk view refl ∙ none) in
     let differ = eqb-false (tickets_out d) d.out.limit parts.1 in
     let few = desk.settling.few_out in
     (parts.0, omega (arith, differ, few))
 
 -- numbers are left
-pub numbers-left : (d : DeskState) (c : ℕ) (kind : OpKind) → IsDesk d → group.start_refusal d.group c kind ≡ None
+pub numbers-left : (d : DeskState) (chan : GChan) (kind : OpKind) → IsDesk d
+    → group.start_refusal d.group chan kind ≡ None
     → length d.out.operations < 2 ^ 62
-numbers-left d c kind desk free =
+numbers-left d chan kind desk free =
     let s = desk.settling in
-    let numbers = (startable d.group c kind s.lawful free).numbers in
+    let numbers = (startable d.group chan kind s.lawful free).numbers in
     let ops = s.few_ops in
     let counts = s.same_count in
     omega (arith, numbers, ops, counts)
 
 pub settling-start : (d : DeskState) (chan : GChan) (kind : OpKind) (len : ℕ) (g : Group) (out : Accepted) → IsDesk d
-    → chan.0 < length d.group.channels → group.start_refusal d.group chan.0 kind ≡ None
+    → IsMade d.group chan → group.start_refusal d.group chan kind ≡ None
     → tickets_out d < d.out.limit → g ≡ group_steps.after_start d.group chan kind len
     → out ≡ with_ticket d.out chan kind len → IsSettling (desk_of g out d.source)
 settling-start d chan kind len g out desk made free room started pushed =
@@ -217,11 +220,11 @@ settling-start d chan kind len g out desk made free room started pushed =
 pub record IsStarted (old new : DeskState) (chan : GChan) (kind : OpKind) (len : ℕ) (op : OpNo) : Type 0 where
   pub answer : Ok (record { op = op; desk = old.source ∷ [] }) ≡ answer_to_start old chan kind
   pub after : new ≡ after_start old chan kind len
-  pub made : length old.group.channels ≤ length new.group.channels
+  pub made : StaysMade old.group new.group
   pub given : IsTicketOf new (record { op = op; desk = old.source ∷ [] })
   pub tickets : TakesTicket (record { op = op; desk = old.source ∷ [] }) old new
 
-ticket-answer : (d : DeskState) (chan : GChan) (kind : OpKind) (op : OpNo) → start_refusal d chan.0 kind ≡ None
+ticket-answer : (d : DeskState) (chan : GChan) (kind : OpKind) (op : OpNo) → start_refusal d chan kind ≡ None
     → op ≡ record { 0 = accepted d.group.flight }
     → Ok (record { op = op; desk = d.source ∷ [] }) ≡ answer_to_start d chan kind
 ticket-answer d chan kind op none number =
@@ -233,8 +236,8 @@ ticket-answer d chan kind op none number =
     named ∙ sym allowed
 
 started-here : (d new : DeskState) (chan : GChan) (kind : OpKind) (len : ℕ) (g : Group) (out : Accepted) (op : OpNo)
-    → IsDesk d → chan.0 < length d.group.channels → start_refusal d chan.0 kind ≡ None
-    → group.start_refusal d.group chan.0 kind ≡ None → tickets_out d < d.out.limit
+    → IsDesk d → IsMade d.group chan → start_refusal d chan kind ≡ None
+    → group.start_refusal d.group chan kind ≡ None → tickets_out d < d.out.limit
     → Ok op ≡ group_steps.answer_to_start d.group chan kind → g ≡ group_steps.after_start d.group chan kind len
     → out ≡ with_ticket d.out chan kind len → new ≡ settled (desk_of g out d.source)
     → IsStarted d new chan kind len op
@@ -256,12 +259,10 @@ started-here d new chan kind len g out op desk made none free room answered star
     settles ∙ ap (λ (x : Group). settled (desk_of x out d.source)) started
     ∙ ap (λ (x : Accepted). settled (desk_of (group_steps.after_start d.group chan kind len) x d.source)) pushed
     ∙ sym leaves in
-    let frame = framed-started d.group chan kind len in
     let same_out = same-out-settled (desk_of g out d.source) settling in
-    let more = frame.made in
-    let channels : length new.group.channels ≡ length (group_steps.started d.group chan kind len).channels =
-    ap (λ (x : DeskState). length x.group.channels) settles ∙ channels-settled (desk_of g out d.source) settling
-    ∙ ap (λ (x : Group). length x.channels) (started ∙ started-free d.group chan kind len free) in
+    let channels : new.group.channels ≡ (group_steps.after_start d.group chan kind len).channels =
+    ap (λ (x : DeskState). x.group.channels) settles ∙ channels-settled (desk_of g out d.source) settling
+    ∙ ap (λ (x : Group). x.channels) started in
     let gives : TakesTicket t d (record d { out = out }) =
     takes-with d t out held refl
     (ap (λ (o : OpNo). o.0) number ∙ sym s.same_count) (ap (λ (x : Accepted). x.operations) pushed) in
@@ -270,7 +271,8 @@ started-here d new chan kind len g out op desk made none free room answered star
     record {
       answer = ticket-answer d chan kind op none number;
       after = after;
-      made = omega (arith, more, channels);
+      made = λ named was. made-same (group_steps.after_start d.group chan kind len) new.group named channels
+          (made-stays d.group (start chan kind len) s.lawful made named was);
       given = subst (λ (x : DeskState). IsTicketOf x t) (sym settles)
           (keeps.each t (is-given d t out held refl
           (ap (λ (o : OpNo). o.0) number ∙ sym s.same_count) (ap (λ (x : Accepted). x.operations) pushed)));
@@ -279,18 +281,18 @@ started-here d new chan kind len g out op desk made none free room answered star
     }
 
 pub started-facts : (d old new : DeskState) (chan : GChan) (kind : OpKind) (len : ℕ) (g : Group) (out : Accepted)
-    (op : OpNo) → IsDesk d → d ≡ old → chan.0 < length d.group.channels → start_refusal old chan.0 kind ≡ None
+    (op : OpNo) → IsDesk d → d ≡ old → IsMade d.group chan → start_refusal old chan kind ≡ None
     → Ok op ≡ group_steps.answer_to_start d.group chan kind → g ≡ group_steps.after_start d.group chan kind len
     → out ≡ with_ticket d.out chan kind len → new ≡ settled (desk_of g out d.source)
     → IsStarted old new chan kind len op
 started-facts d old new chan kind len g out op desk view made none answered started pushed settles =
-    let free = free-of d old chan.0 kind desk view none in
-    let here : start_refusal d chan.0 kind ≡ None = ap (λ (x : DeskState). start_refusal x chan.0 kind) view ∙ none in
+    let free = free-of d old chan kind desk view none in
+    let here : start_refusal d chan kind ≡ None = ap (λ (x : DeskState). start_refusal x chan kind) view ∙ none in
     subst (λ (x : DeskState). IsStarted x new chan kind len op) view
     (started-here d new chan kind len g out op desk made here free.0 free.1 answered started pushed settles)
 
 pub not-refused : (d : DeskState) (chan : GChan) (kind : OpKind) (e : StartError)
-    → group.start_refusal d.group chan.0 kind ≡ None → Err e ≡ group_steps.answer_to_start d.group chan kind → ⊥
+    → group.start_refusal d.group chan kind ≡ None → Err e ≡ group_steps.answer_to_start d.group chan kind → ⊥
 not-refused d chan kind e free answered =
     let number : OpNo = record { 0 = accepted d.group.flight } in
     let accepts : group_steps.answer_to_start d.group chan kind ≡ Ok number =
@@ -357,12 +359,13 @@ full-by false None l other is = is
 full-by false (Some e) l other is = absurd (other is)
 
 -- as many tickets are out as may be
-pub full-cause : (d : DeskState) (c : ℕ) (kind : OpKind) → start_refusal d c kind ≡ Some refused.FlightFull
+pub full-cause : (d : DeskState) (chan : GChan) (kind : OpKind) → start_refusal d chan kind ≡ Some refused.FlightFull
     → tickets_out d ≡ d.out.limit
-full-cause d c kind is =
-    let channel = channel_at d.group c in
-    let limits = full-by (is_terminated d.group)
-    (channel_refusal channel.is_open channel.endpoint (has_pending d.group.flight c kind) kind) (limit_refusal d)
-    (other-channel channel.is_open channel.endpoint (has_pending d.group.flight c kind) kind) is in
+full-cause d chan kind is =
+    let opened = open_by d.group chan in
+    let endpoint = (channel_at d.group chan.number).endpoint in
+    let pending = has_pending d.group.flight chan.number kind in
+    let limits = full-by (is_terminated d.group) (channel_refusal opened endpoint pending kind) (limit_refusal d)
+    (other-channel opened endpoint pending kind) is in
     eqb-true (tickets_out d) d.out.limit
     (full-limit (eqb (accepted d.group.flight) d.group.op_limit) (eqb (tickets_out d) d.out.limit) limits)

@@ -9,7 +9,7 @@ use Rattle.nio_group.specs.declared.operation.Operation.{Operation}
 use Rattle.nio_group.specs.declared.operation.Stage.{Stage}
 use Rattle.nio_group.specs.declared.operation.Stage.TheVariants.{Pending, Queued, Running}
 use Rattle.nio_group.specs.Flight.{op_at, closed_on, with_channel_closed}
-use Rattle.nio_group.specs.Group.{Group, channel_at}
+use Rattle.nio_group.specs.Group.{Group, IsMade, StaysMade, channel_at, is_present}
 use Rattle.nio_group.specs.Operations.{Accepted, with_operation}
 use Rattle.nio_group.specs.Run.{close_channel}
 use Rattle.nio_group.specs.Steps.{after_close, with_closed}
@@ -130,7 +130,7 @@ desk-without d n desk out ended = by_held (held_at d n) refl
 pub record IsClosedFor (d d' : DeskState) (n : ℕ) : Type 0 where
   pub desk : IsDesk d'
   pub same_out : HasSameOut d d'
-  pub made : length d.group.channels ≤ length d'.group.channels
+  pub made : StaysMade d.group d'.group
   pub ended : op_at d'.group.flight n ≡ None
 
 not-closed : (d : DeskState) (n : ℕ) → IsDesk d → op_at d.group.flight n ≡ None → IsClosedFor d d n
@@ -167,23 +167,26 @@ ended-settled d n settling past = ended (known (settled d) n (settled-desk d set
     ended (inr (inr ready)) = ready.slot_is
 
 closed-past : (g : Group) (n : ℕ) (op : Operation) → op_at g.flight n ≡ Some op → op.stage ≡ Pending
-    → (channel_at g op.chan.0).is_open ≡ true → is_pending (op_at (after_close g op.chan.0).flight n) ≡ false
-closed-past g n op is pending opened =
-    let closed : after_close g op.chan.0
-    ≡ record (with_closed g op.chan.0) { flight = with_channel_closed g.flight op.chan.0 } = rw opened refl in
-    let slot : op_at (with_channel_closed g.flight op.chan.0) n ≡ closed_on op.chan.0 (Some op) =
-    get_or-map (closed_on op.chan.0) g.flight.operations n None ∙ ap (closed_on op.chan.0) is in
-    let on : is_pending_on op.chan.0 (Some op) ≡ true = rw (pending, eqb-same op.chan.0) refl in
-    let past : is_pending (closed_on op.chan.0 (Some op)) ≡ false = rw on refl in
+    → (channel_at g op.chan.number).is_open ≡ true → is_present g op.chan ≡ true
+    → is_pending (op_at (after_close g op.chan).flight n) ≡ false
+closed-past g n op is pending opened present =
+    let closed : after_close g op.chan
+    ≡ record (with_closed g op.chan.number) { flight = with_channel_closed g.flight op.chan.number } =
+    rw (present, opened) refl in
+    let slot : op_at (with_channel_closed g.flight op.chan.number) n ≡ closed_on op.chan.number (Some op) =
+    get_or-map (closed_on op.chan.number) g.flight.operations n None ∙ ap (closed_on op.chan.number) is in
+    let on : is_pending_on op.chan.number (Some op) ≡ true = rw (pending, eqb-same op.chan.number) refl in
+    let past : is_pending (closed_on op.chan.number (Some op)) ≡ false = rw on refl in
     ap (λ (h : Group). is_pending (op_at h.flight n)) closed ∙ ap is_pending slot ∙ past
 
 pub pending-made : (d : DeskState) (n : ℕ) (op : Operation) → IsDesk d → op_at d.group.flight n ≡ Some op
-    → op.stage ≡ Pending → ((channel_at d.group op.chan.0).is_open ≡ true) × (op.chan.0 < length d.group.channels)
+    → op.stage ≡ Pending
+    → ((channel_at d.group op.chan.number).is_open ≡ true) × IsMade d.group op.chan × (is_present d.group op.chan ≡ true)
 pending-made d n op desk is pending =
-    let pends : is_pending_as op.chan.0 op.kind (op_at d.group.flight n) ≡ true =
+    let pends : is_pending_as op.chan.number op.kind (op_at d.group.flight n) ≡ true =
     rw is (pending-own op (rw pending refl)) in
-    let opened = desk.settling.lawful.pending_open n op.chan.0 op.kind pends in
-    (opened, open-within d.group.channels op.chan.0 opened)
+    let opened = desk.settling.lawful.pending_open n op.chan.number op.kind pends in
+    (opened, desk.settling.lawful.made n op is, desk.settling.lawful.present n op is (rw pending refl))
 
 waiting-closed : (d : DeskState) (n : ℕ) (op : Operation) → IsDesk d → op_at d.group.flight n ≡ Some op
     → op.stage ≡ Pending → IsClosedFor d (by_group d (close_channel op.chan)) n
@@ -196,8 +199,8 @@ waiting-closed d n op desk is pending =
       desk = desk-by_group d (close_channel op.chan) desk made.1 refl;
       same_out = same-out-by_group d (close_channel op.chan) desk made.1 refl;
       made = call.made;
-      ended = ended-settled (record d { group = after_close d.group op.chan.0 }) n settling
-          (closed-past d.group n op is pending made.0);
+      ended = ended-settled (record d { group = after_close d.group op.chan }) n settling
+          (closed-past d.group n op is pending made.0 made.2);
     }
 
 closed-by : (d : DeskState) (n : ℕ) → IsDesk d → IsKnown (op_at d.group.flight n) (held_at d n)

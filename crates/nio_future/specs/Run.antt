@@ -6,7 +6,7 @@ use Rattle.nio_group.specs.declared.limits.GroupLimits.{GroupLimits}
 use Rattle.nio_group.specs.declared.operation.Operation.{Operation}
 use Rattle.nio_group.specs.declared.refusal.StartError.{StartError}
 use Rattle.nio_group.specs.Flight.{op_at}
-use Rattle.nio_group.specs.Group.{Group, empty_group, is_terminated}
+use Rattle.nio_group.specs.Group.{Group, IsMade, empty_group, is_terminated}
 use Rattle.nio_group.specs.Limits.{IsFit}
 use Rattle.nio_group.specs.Run as group
 use Rattle.nio_group.specs.Run.{open_channel, bind, start, report, take, finish, close_channel, shutdown, shutdown_now}
@@ -26,15 +26,15 @@ pub data Call : Type 0 where
   -- the ticket of this operation is cancelled
   cancel : ℕ → Call
 
--- the desk takes and finishes completions itself; the other calls name channels that are made
+-- the desk takes and finishes completions itself; the other calls name channels that were made
 abbrev pub IsAskOf : Group → group.Call → Type 0
 IsAskOf g (open_channel kind) = Unit {0}
-IsAskOf g (bind chan) = chan.0 < length g.channels
-IsAskOf g (start chan kind len) = chan.0 < length g.channels
+IsAskOf g (bind chan) = IsMade g chan
+IsAskOf g (start chan kind len) = IsMade g chan
 IsAskOf g (report op outcome) = Unit {0}
 IsAskOf g take = ⊥
 IsAskOf g (finish op) = ⊥
-IsAskOf g (close_channel chan) = chan.0 < length g.channels
+IsAskOf g (close_channel chan) = IsMade g chan
 IsAskOf g shutdown = Unit {0}
 IsAskOf g shutdown_now = Unit {0}
 
@@ -60,7 +60,7 @@ after d (ask call) = after_ask d call
 after d (poll n) = after_poll d n
 after d (cancel n) = after_cancel d n
 
--- a run: each call names channels that are made, or a ticket that is out, by then
+-- a run: each call names channels that were made, or a ticket that is out, by then
 abbrev pub IsRunOf : DeskState → List Call → Type 0
 IsRunOf d [] = Unit {0}
 IsRunOf d (call ∷ calls) = IsCallOf d call × IsRunOf (after d call) calls
@@ -90,7 +90,7 @@ abbrev pub below_ask : DeskState → group.Call → List group.Call
 below_ask d (open_channel kind) = with_takes d.group (open_channel kind)
 below_ask d (bind chan) = with_takes d.group (bind chan)
 below_ask d (start chan kind len) =
-    if_allowed (start_refusal d chan.0 kind) (with_takes d.group (start chan kind len))
+    if_allowed (start_refusal d chan kind) (with_takes d.group (start chan kind len))
 below_ask d (report op outcome) = with_takes d.group (report op outcome)
 below_ask d take = []
 below_ask d (finish op) = []

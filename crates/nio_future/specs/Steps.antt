@@ -10,7 +10,7 @@ use Rattle.nio_group.specs.declared.refusal.StartError.{StartError}
 use Rattle.nio_group.specs.declared.refusal.StartError.TheVariants as refused
 use Rattle.nio_group.specs.Completion.{CompletionFields}
 use Rattle.nio_group.specs.Flight.{op_at, accepted}
-use Rattle.nio_group.specs.Group.{channel_at, is_terminated}
+use Rattle.nio_group.specs.Group.{channel_at, is_open, is_terminated}
 use Rattle.nio_group.specs.Operations.{Accepted, operation_at, with_operation}
 use Rattle.nio_group.specs.Refusals.{channel_refusal, has_pending}
 use Rattle.nio_group.specs.Run as group
@@ -58,11 +58,12 @@ limit_refusal d =
     else if tickets_out d == d.out.limit then Some refused.FlightFull else None
 
 -- as the group's `start`, but that tickets are counted in place of operations in flight
-abbrev pub start_refusal : DeskState → ℕ → OpKind → Option StartError
-start_refusal d c kind =
-    let channel = channel_at d.group c in
+abbrev pub start_refusal : DeskState → GChan → OpKind → Option StartError
+start_refusal d chan kind =
+    let endpoint = (channel_at d.group chan.number).endpoint in
     if is_terminated d.group then Some refused.ShutdownGroup
-    else option_or (channel_refusal channel.is_open channel.endpoint (has_pending d.group.flight c kind) kind)
+    else option_or
+    (channel_refusal (is_open d.group chan) endpoint (has_pending d.group.flight chan.number kind) kind)
     (limit_refusal d)
 
 -- the ticket of the operation with this number
@@ -70,7 +71,7 @@ abbrev pub ticket_of : DeskState → ℕ → Ticket
 ticket_of d n = record { op = record { 0 = n }; desk = d.source ∷ [] }
 
 abbrev pub answer_to_start : DeskState → GChan → OpKind → Result Ticket StartError
-answer_to_start d chan kind = unless_refused (start_refusal d chan.0 kind) (ticket_of d (accepted d.group.flight))
+answer_to_start d chan kind = unless_refused (start_refusal d chan kind) (ticket_of d (accepted d.group.flight))
 
 -- one more ticket is out, of an operation that has no result
 abbrev pub with_ticket : Accepted → GChan → OpKind → ℕ → Accepted
@@ -88,7 +89,7 @@ kept_if_refused None old new = new
 kept_if_refused (Some e) old new = old
 
 abbrev pub after_start : DeskState → GChan → OpKind → ℕ → DeskState
-after_start d chan kind len = kept_if_refused (start_refusal d chan.0 kind) d (started d chan kind len)
+after_start d chan kind len = kept_if_refused (start_refusal d chan kind) d (started d chan kind len)
 
 -- ---- tickets that come back
 

@@ -4,7 +4,8 @@ ghost use Rattle.futures.specs.Task.{Covers, Keeps};
 ghost use Rattle.nio_group.specs.Flight.{IsPendingAs, op_at};
 ghost use Rattle.nio_group.specs.Stages.{is_pending};
 ghost use Rattle.nio_future.specs.Desk.{empty_desk, held_at, is_out, result_at, tickets_out};
-ghost use Rattle.nio_group.specs.Group.{channel_at, is_terminated};
+ghost use Rattle.nio_group.specs.Group.{is_made, is_present, is_terminated, IsMade, StaysMade};
+ghost use Rattle.nio_group.specs.Group.{is_open as channel_is_open};
 ghost use Rattle.nio_group.specs.Limits.{IsFit};
 ghost use Rattle.nio_future.specs.Kept.{IsDesk, IsSettling};
 ghost use Rattle.nio_group.specs.Run as group;
@@ -66,12 +67,12 @@ impl Desk {
         let _ = &self.waker;
     }
 
-    /// Opens a channel with the next number.
+    /// Opens a channel with the next number, or one that comes back.
     pub fn open_channel(&mut self, kind: GKind) -> Result<GChan, StartError>
-        ensures answer { result ≡ answer_to_open self.old.group }
+        ensures answer { result ≡ answer_to_open self.old.group kind }
         ensures after { self.new ≡ by_group self.old (group.open_channel kind) }
-        ensures opened { IfOk result (λ chan. chan.0 < length self.new.group.channels) }
-        ensures made { length self.old.group.channels ≤ length self.new.group.channels }
+        ensures opened { IfOk result (IsMade self.new.group) }
+        ensures made { StaysMade self.old.group self.new.group }
         ensures tickets { KeepsTickets self.old self.new }
         ensures refused { OnErr result (self.new ≡ self.old) }
     {
@@ -82,10 +83,10 @@ impl Desk {
 
     /// Binds a listener.
     pub fn bind(&mut self, chan: GChan) -> Result<(), StartError>
-        requires { chan.0 < length self.old.group.channels }
-        ensures answer { result ≡ answer_to_bind self.old.group chan.0 }
+        requires { IsMade self.old.group chan }
+        ensures answer { result ≡ answer_to_bind self.old.group chan }
         ensures after { self.new ≡ by_group self.old (group.bind chan) }
-        ensures made { length self.old.group.channels ≤ length self.new.group.channels }
+        ensures made { StaysMade self.old.group self.new.group }
         ensures tickets { KeepsTickets self.old self.new }
         ensures refused { OnErr result (self.new ≡ self.old) }
     {
@@ -97,11 +98,11 @@ impl Desk {
     /// Starts an operation, and gives its ticket. A read or a write may read or write up to `len` bytes. Where as many
     /// tickets are out as operations may be in flight, the answer is FlightFull.
     pub fn start(&mut self, chan: GChan, kind: OpKind, len: u64) -> Result<OpTicket, StartError>
-        requires { chan.0 < length self.old.group.channels }
+        requires { IsMade self.old.group chan }
         ensures answer { result ≡ answer_to_start self.old chan kind }
         ensures after { self.new ≡ after_start self.old chan kind len }
         ensures full { result ≡ Err StartError.FlightFull → tickets_out self.old ≡ self.old.out.limit }
-        ensures made { length self.old.group.channels ≤ length self.new.group.channels }
+        ensures made { StaysMade self.old.group self.new.group }
         ensures given { IfOk result (λ ticket. IsTicketOf self.new ticket) }
         ensures tickets { IfOk result (λ ticket. TakesTicket ticket self.old self.new) }
         ensures refused { OnErr result (self.new ≡ self.old) }
@@ -122,8 +123,8 @@ impl Desk {
 
     /// What `start` would be refused with now.
     fn start_refusal(&self, chan: GChan, kind: OpKind) -> Option<StartError>
-        requires { chan.0 < length self.now.group.channels }
-        ensures { result ≡ start_refusal self.now chan.0 kind }
+        requires { IsMade self.now.group chan }
+        ensures { result ≡ start_refusal self.now chan kind }
     {
         if let Some(refused) = self.core.start_refusal(chan, kind) {
             return Some(refused);
@@ -184,7 +185,7 @@ impl Desk {
         requires { IsTicketOf self.old ticket }
         ensures answer { result ≡ is_pending (op_at self.old.group.flight ticket.op.0) }
         ensures after { self.new ≡ after_cancel self.old ticket.op.0 }
-        ensures made { length self.old.group.channels ≤ length self.new.group.channels }
+        ensures made { StaysMade self.old.group self.new.group }
         ensures tickets { GivesTicket ticket self.old self.new }
     {
         let op = ticket.op();
@@ -197,7 +198,7 @@ impl Desk {
     fn close_for(&mut self, op: OpNo) -> bool
         ensures answer { result ≡ is_pending (op_at self.old.group.flight op.0) }
         ensures after { self.new ≡ closed_for self.old (op_at self.old.group.flight op.0) }
-        ensures made { length self.old.group.channels ≤ length self.new.group.channels }
+        ensures made { StaysMade self.old.group self.new.group }
         ensures tickets { KeepsTickets self.old self.new }
         ensures out { is_out self.new op.0 ≡ is_out self.old op.0 }
         ensures ended { op_at self.new.group.flight op.0 ≡ None }
@@ -214,9 +215,10 @@ impl Desk {
 
     /// The pending operation of this kind on this channel, for the caller who does its work.
     pub fn job(&self, chan: GChan, kind: OpKind) -> Option<Job>
-        requires { chan.0 < length self.now.group.channels }
-        ensures some { IfSome result (λ job. IsJobOf self.now.group chan.0 kind job) }
-        ensures none { IsNone result ↔ ((n : ℕ) → IsPendingAs self.now.group.flight chan.0 kind n → ⊥) }
+        requires { IsMade self.now.group chan }
+        ensures some { IfSome result (λ job. IsJobOf self.now.group chan kind job) }
+        ensures none { IsNone result ↔ (IsTrue (is_present self.now.group chan)
+            → (n : ℕ) → IsPendingAs self.now.group.flight chan.number kind n → ⊥) }
     {
         self.core.job(chan, kind)
     }
@@ -225,7 +227,7 @@ impl Desk {
     pub fn report(&mut self, op: OpNo, outcome: Outcome) -> Result<(), ReportError>
         ensures answer { result ≡ answer_to_report self.old.group op.0 outcome }
         ensures after { self.new ≡ by_group self.old (group.report op outcome) }
-        ensures made { length self.old.group.channels ≤ length self.new.group.channels }
+        ensures made { StaysMade self.old.group self.new.group }
         ensures tickets { KeepsTickets self.old self.new }
         ensures refused { OnErr result (self.new ≡ self.old) }
     {
@@ -236,10 +238,10 @@ impl Desk {
 
     /// Closes a channel, and completes what is pending on it; true where it was open.
     pub fn close_channel(&mut self, chan: GChan) -> bool
-        requires { chan.0 < length self.old.group.channels }
-        ensures answer { result ≡ (channel_at self.old.group chan.0).is_open }
+        requires { IsMade self.old.group chan }
+        ensures answer { result ≡ channel_is_open self.old.group chan }
         ensures after { self.new ≡ by_group self.old (group.close_channel chan) }
-        ensures made { length self.old.group.channels ≤ length self.new.group.channels }
+        ensures made { StaysMade self.old.group self.new.group }
         ensures tickets { KeepsTickets self.old self.new }
     {
         let answer = self.core.close_channel(chan);
@@ -250,7 +252,7 @@ impl Desk {
     /// Opens no more channels. Operations go on.
     pub fn shutdown(&mut self)
         ensures after { self.new ≡ by_group self.old group.shutdown }
-        ensures made { length self.old.group.channels ≤ length self.new.group.channels }
+        ensures made { StaysMade self.old.group self.new.group }
         ensures tickets { KeepsTickets self.old self.new }
     {
         self.core.shutdown();
@@ -260,7 +262,7 @@ impl Desk {
     /// Shuts down and closes every channel, in rising order.
     pub fn shutdown_now(&mut self)
         ensures after { self.new ≡ by_group self.old group.shutdown_now }
-        ensures made { length self.old.group.channels ≤ length self.new.group.channels }
+        ensures made { StaysMade self.old.group self.new.group }
         ensures tickets { KeepsTickets self.old self.new }
     {
         self.core.shutdown_now();
@@ -282,7 +284,16 @@ impl Desk {
         self.core.is_terminated()
     }
 
-    /// How many channels were made. They have the numbers from 0 on.
+    /// Whether a channel of this name was made, be it closed by now or not.
+    pub fn is_made(&self, chan: GChan) -> bool
+        ensures answer { result ≡ is_made self.now.group chan }
+        ensures made { IsTrue result ↔ IsMade self.now.group chan }
+        ensures few { IsTrue result → chan.number < 65536 }
+    {
+        self.core.is_made(chan)
+    }
+
+    /// How many numbers were given to channels: those from 0 on.
     pub fn channels(&self) -> u32
         ensures { result ≡ length self.now.group.channels }
     {

@@ -47,7 +47,13 @@ fn ticket_by_ticket(rt: HostRuntime) -> Result<(), Fail> {
     let alloc = rt.alloc();
     let mut desk = Desk::make(alloc, LIMITS)?;
     let stream = desk.open_channel(GKind::Stream)?;
-    assert_eq!(rt; stream, GChan(0));
+    assert_eq!(rt;
+        stream,
+        GChan {
+            number: 0,
+            serial: 0
+        }
+    );
     let ticket = desk.start(stream, OpKind::Connect, 0)?;
     assert_eq!(rt; ticket.op(), OpNo(0));
     let waiting = round(&rt, alloc, desk, alone(alloc, ticket)?)?;

@@ -13,6 +13,7 @@ use Rattle.nio_group.specs.Group.{Group, IsLawful, no_channel, is_ready_for, cha
 use Rattle.nio_group.proofs.TableLemmas.{by_test}
 use Rattle.nio_group.proofs.ListLemmas.{get_or-push, within-where}
 use Rattle.nio_group.proofs.QueueLemmas.{QueueHolds}
+use Rattle.nio_group.proofs.NameLemmas.{AreOfChannels, of-channels, of-channel_made}
 use Rattle.nio_group.proofs.PendingLemmas.{pending-own}
 use Rattle.nio_group.specs.Stages.{is_pending}
 use Rattle.nio_group.specs.declared.operation.Operation.{Operation}
@@ -33,12 +34,15 @@ flight-lawful g lawful =
 
 -- only operations change: no more are pending, and those that connect stay
 pub lawful-operations : (g : Group) (f : Flight) → IsLawful g → IsFlightLawful f g.op_limit
+    → AreOfChannels f.operations g.channels
     → ((c : ℕ) (kind : OpKind) (n : ℕ) → IsPendingAs f c kind n → IsPendingAs g.flight c kind n)
     → ((c n : ℕ) → IsPendingAs g.flight c Connect n → IsPendingAs f c Connect n)
     → IsLawful (record g { flight = f })
-lawful-operations g f lawful flight less stay =
+lawful-operations g f lawful flight of less stay =
     record {
       queued_once = flight.queued_once;
+      made = of.made;
+      present = of.present;
       pending_open = λ n c kind h. lawful.pending_open n c kind (less c kind n h);
       pending_ready = λ n c kind h. lawful.pending_ready n c kind (less c kind n h);
       one_each = λ m n c kind a b. lawful.one_each m n c kind (less c kind m a) (less c kind n b);
@@ -62,15 +66,18 @@ nothing-pending g lawful closed n = by_slot (op_at g.flight n) refl
     by_slot (Some op) is =
         by_test (is_pending (Some op))
         (λ t. absurd
-        (false≢true (sym (closed op.chan.0) ∙ lawful.pending_open n op.chan.0 op.kind (rw is (pending-own op t)))))
+        (false≢true (sym (closed op.chan.number) ∙ lawful.pending_open n op.chan.number op.kind (rw is (pending-own op t)))))
         (λ f. f)
 
 -- one more channel is made, which isn't connecting
 pub lawful-channel_made : (g : Group) (ch : Channel) → IsLawful g → length g.channels < g.channel_limit
     → (ch.endpoint ≡ Stream Connecting → ⊥) → IsLawful (record g { channels = g.channels ++ ch ∷ [] })
 lawful-channel_made g ch lawful room not_connecting =
+    let of = of-channel_made g.flight.operations g.channels ch (of-channels g lawful) in
     record {
       queued_once = lawful.queued_once;
+      made = of.made;
+      present = of.present;
       pending_open = λ n c kind h. let was = lawful.pending_open n c kind h in rw (stays c was) was;
       pending_ready = λ n c kind h. let was = lawful.pending_open n c kind h in
           rw (stays c was) (lawful.pending_ready n c kind h);
@@ -100,13 +107,15 @@ pub record IsFitFor (f : Flight) (c : ℕ) (ch : Channel) : Type 0 where
 
 -- one channel changes, and what is pending on it
 pub lawful-channel : (g : Group) (f : Flight) (c : ℕ) (ch : Channel) → IsLawful g → c < length g.channels
-    → IsFlightLawful f g.op_limit → IsFitFor f c ch
+    → IsFlightLawful f g.op_limit → AreOfChannels f.operations (set g.channels c ch) → IsFitFor f c ch
     → ((d : ℕ) (kind : OpKind) (n : ℕ) → d ≢ c → IsPendingAs f d kind n → IsPendingAs g.flight d kind n)
     → ((d n : ℕ) → d ≢ c → IsPendingAs g.flight d Connect n → IsPendingAs f d Connect n)
     → IsLawful (record g { flight = f; channels = set g.channels c ch })
-lawful-channel g f c ch lawful l flight own less stay =
+lawful-channel g f c ch lawful l flight of own less stay =
     record {
       queued_once = flight.queued_once;
+      made = of.made;
+      present = of.present;
       pending_open = λ n d kind h.
           by_test (eqb d c)
           (λ t. let same = eqb-true d c t in

@@ -5,6 +5,9 @@ pub mod GroupLemmas
 pub mod IndexLemmas
 pub mod KeptLemmas
 pub mod LawfulLemmas
+pub mod MakingLemmas
+pub mod NameLemmas
+pub mod NumberLemmas
 pub mod ListLemmas
 pub mod PendingLemmas
 pub mod QueueLemmas

@@ -61,18 +61,18 @@ stage-pending Running h = absurd (false≢true h)
 -- what is known of an operation that is pending on a channel and of a kind
 pub record IsPendingOf (c : ℕ) (kind : OpKind) (op : Operation) : Type 0 where
   pub stage : op.stage ≡ Pending
-  pub chan : op.chan.0 ≡ c
+  pub chan : op.chan.number ≡ c
   pub same : op.kind ≡ kind
 
 pub pending-parts : (c : ℕ) (kind : OpKind) (op : Operation) → is_pending_as c kind (Some op) ≡ true
     → IsPendingOf c kind op
 pending-parts c kind op h =
-    let on = (and_parts (stage_is_pending op.stage && eqb op.chan.0 c) (same_kind op.kind kind) h).0 in
+    let on = (and_parts (stage_is_pending op.stage && eqb op.chan.number c) (same_kind op.kind kind) h).0 in
     record {
-      stage = stage-pending op.stage (and_parts (stage_is_pending op.stage) (eqb op.chan.0 c) on).0;
-      chan = eqb-true op.chan.0 c (and_parts (stage_is_pending op.stage) (eqb op.chan.0 c) on).1;
+      stage = stage-pending op.stage (and_parts (stage_is_pending op.stage) (eqb op.chan.number c) on).0;
+      chan = eqb-true op.chan.number c (and_parts (stage_is_pending op.stage) (eqb op.chan.number c) on).1;
       same = same_kind-true op.kind kind
-          (and_parts (stage_is_pending op.stage && eqb op.chan.0 c) (same_kind op.kind kind) h).1;
+          (and_parts (stage_is_pending op.stage && eqb op.chan.number c) (same_kind op.kind kind) h).1;
     }
 
 pub not_pending-as : (c : ℕ) (kind : OpKind) (slot : Option Operation) → is_pending slot ≡ false
@@ -84,12 +84,12 @@ pub pending-as-pending : (c : ℕ) (kind : OpKind) (slot : Option Operation) →
     → is_pending slot ≡ true
 pending-as-pending c kind None h = h
 pending-as-pending c kind (Some op) h =
-    (and_parts (stage_is_pending op.stage) (eqb op.chan.0 c)
-    (and_parts (stage_is_pending op.stage && eqb op.chan.0 c) (same_kind op.kind kind) h).0).0
+    (and_parts (stage_is_pending op.stage) (eqb op.chan.number c)
+    (and_parts (stage_is_pending op.stage && eqb op.chan.number c) (same_kind op.kind kind) h).0).0
 
 -- a pending operation is pending on its own channel and as of its own kind
-pub pending-own : (op : Operation) → is_pending (Some op) ≡ true → is_pending_as op.chan.0 op.kind (Some op) ≡ true
-pending-own op is = rw (is, eqb-same op.chan.0, same_kind-refl op.kind) refl
+pub pending-own : (op : Operation) → is_pending (Some op) ≡ true → is_pending_as op.chan.number op.kind (Some op) ≡ true
+pending-own op is = rw (is, eqb-same op.chan.number, same_kind-refl op.kind) refl
 
 -- an operation that is pending on a channel is pending there as one of its kind
 pub pending_on-as : (c : ℕ) (op : Operation) → is_pending_on c (Some op) ≡ true
@@ -100,7 +100,7 @@ pub pending_as-on : (c : ℕ) (kind : OpKind) (slot : Option Operation) → is_p
     → is_pending_on c slot ≡ true
 pending_as-on c kind None h = h
 pending_as-on c kind (Some op) h =
-    (and_parts (stage_is_pending op.stage && eqb op.chan.0 c) (same_kind op.kind kind) h).0
+    (and_parts (stage_is_pending op.stage && eqb op.chan.number c) (same_kind op.kind kind) h).0
 
 pub slot_of-with_same : (p : slots.Pending) (kind : OpKind) (n : Option ℕ) → slot_of (with_slot p kind n) kind ≡ n
 slot_of-with_same p Accept n = refl

@@ -13,7 +13,12 @@ use Rattle.nio_base.specs.declared.numbers.GChan.{GChan}
 use Rattle.nio_base.specs.declared.group.Why.{Why}
 use Rattle.nio_base.specs.declared.group.Finished.{Finished}
 use Rattle.nio_base.specs.declared.group.Finished.TheVariants as done
-use Rattle.nio_group.specs.Steps.{result_of, no_number_left}
+use Rattle.nio_base.specs.declared.group.GKind.TheVariants as gkind
+use Rattle.nio_base.specs.declared.group.Why.TheVariants as why
+use Rattle.nio_base.specs.declared.group.GKind.{GKind}
+use Rattle.nio_group.specs.Making.{next_name, first_back}
+use Rattle.std.proofs.lemmas.Option.{none-some}
+use Rattle.nio_group.specs.Steps.{result_of, completed, accepted_name, accepted_or_spent}
 use Rattle.nio_group.specs.declared.operation.Stage.TheVariants.{Queued}
 use Rattle.nio_group.specs.declared.operation.Operation.{Operation}
 use Rattle.nio_group.specs.declared.limits.GroupLimits.{GroupLimits}
@@ -22,16 +27,17 @@ use Rattle.nio_base.specs.declared.group.Outcome.{Outcome}
 use Rattle.nio_base.specs.declared.group.Outcome.TheVariants as outcome
 use Rattle.nio_group.specs.Refusals.{report_refusal, is_allowed}
 use Rattle.nio_group.proofs.StartLemmas.{some_none}
-use Rattle.nio_group.specs.Stages.{is_pending, is_pending_as, is_queued, stage_is_pending, at_stage}
-use Rattle.nio_group.specs.Flight.{Flight, op_at, accepted, in_flight, IsPendingAs, with_completed}
+use Rattle.nio_group.specs.Stages.{is_on, is_pending, is_pending_as, is_queued, stage_is_pending, at_stage}
+use Rattle.nio_group.specs.Flight.{Flight, op_at, accepted, in_flight, in_flight_on, IsPendingAs, with_completed}
 use Rattle.nio_group.specs.Pending.{with_slot, nothing_pending}
 use Rattle.nio_group.specs.Group.{Group, IsLawful, channel_at, no_channel, is_ready_for}
-use Rattle.nio_group.specs.GroupKept.{IsGroupKept, IsListed, group_of, is_open}
+use Rattle.nio_group.specs.GroupKept.{IsGroupKept, IsListed, AreCounted, group_of, is_open}
 use Rattle.nio_group.proofs.TableLemmas.{by_test, count_by-set}
 use Rattle.nio_group.proofs.QueueLemmas.{QueueHolds, queue-set}
 use Rattle.nio_group.proofs.PendingLemmas.{pending-parts, pending-own}
 use Rattle.nio_group.proofs.LawfulLemmas.{IsFlightLawful, lawful-channel, lawful-operations, open-within}
-use Rattle.nio_group.proofs.GroupLemmas.{kept-channel, listed-channel}
+use Rattle.nio_group.proofs.GroupLemmas.{kept-channel, listed-channel, with_slot-in_flight}
+use Rattle.nio_group.proofs.NameLemmas.{of-channels, of-channel, of-set, name_in, name-set, count-same, counted-slots}
 use Rattle.nio_group.proofs.CloseLemmas.{pending-after, pending-before, listed-step}
 use Rattle.nio_group.proofs.FlightLemmas.{some-within, not_queued-pending}
 
@@ -78,10 +84,11 @@ lawful-completed g n op finished lawful is is_pending_op other =
     lawful-operations g (completed_flight g.flight n op finished) lawful
     (flight-completes g.flight n op finished g.op_limit is is_pending_op lawful.queued_once lawful.few_in_flight
     lawful.few_accepted)
+    (of-set xs g.channels n slot l (op, is, refl, refl) (of-channels g lawful))
     (λ c kind m h. (pending-after xs n slot c kind m l refl h).1)
     (λ c m h. pending-before xs n slot c Connect m (λ at. other (pending-parts c Connect op (rw is at at)).same) h)
 
-ready-connect : (e : Endpoint) → is_ready_for e Connect ≡ true → e ≡ Stream Connecting
+pub ready-connect : (e : Endpoint) → is_ready_for e Connect ≡ true → e ≡ Stream Connecting
 ready-connect (Listener bound) h = absurd (false≢true h)
 ready-connect (Stream Unconnected) h = absurd (false≢true h)
 ready-connect (Stream Connecting) h = refl
@@ -96,12 +103,12 @@ connecting-ready Write h = absurd (false≢true h)
 -- a connect completes, and its channel isn't open and connecting from then on
 pub lawful-connected : (g : Group) (n : ℕ) (op : Operation) (finished : Finished) (ch : Channel) → IsLawful g
     → op_at g.flight n ≡ Some op → is_pending (Some op) ≡ true → op.kind ≡ Connect
-    → (ch.is_open ≡ true → ch.endpoint ≡ Stream Connecting → ⊥)
+    → (ch.is_open ≡ true → ch.endpoint ≡ Stream Connecting → ⊥) → ch.serial ≡ (channel_at g op.chan.number).serial
     → IsLawful
-    (record g { flight = completed_flight g.flight n op finished; channels = set g.channels op.chan.0 ch })
-lawful-connected g n op finished ch lawful is is_pending_op connect not_connecting =
+    (record g { flight = completed_flight g.flight n op finished; channels = set g.channels op.chan.number ch })
+lawful-connected g n op finished ch lawful is is_pending_op connect not_connecting same =
     let xs = g.flight.operations in
-    let c = op.chan.0 in
+    let c = op.chan.number in
     let slot : Option Operation = Some (at_stage (Queued finished) op) in
     let l = some-within xs n op is in
     let own : IsPendingAs g.flight c op.kind n = rw is (pending-own op is_pending_op) in
@@ -115,10 +122,12 @@ lawful-connected g n op finished ch lawful is is_pending_op connect not_connecti
     (subst (λ (e : Endpoint). is_ready_for e kind ≡ true) endpoint (lawful.pending_ready m c kind old.1)) in
     old.0 (lawful.one_each m n c Connect (subst (λ (k : OpKind). IsPendingAs g.flight c k m) is_connect old.1)
     own_connect) in
-    lawful-channel g (completed_flight g.flight n op finished) c ch lawful
-    (open-within g.channels c (lawful.pending_open n c Connect own_connect))
+    let within = open-within g.channels c (lawful.pending_open n c Connect own_connect) in
+    lawful-channel g (completed_flight g.flight n op finished) c ch lawful within
     (flight-completes g.flight n op finished g.op_limit is is_pending_op lawful.queued_once lawful.few_in_flight
     lawful.few_accepted)
+    (of-channel (set xs n slot) g.channels c ch within (omega (arith, same)) (λ m o at pending there. same)
+    (of-set xs g.channels n slot l (op, is, refl, refl) (of-channels g lawful)))
     (record {
       open_for = λ kind m h. absurd (none kind m h);
       ready_for = λ kind m h. absurd (none kind m h);
@@ -131,11 +140,11 @@ lawful-connected g n op finished ch lawful is is_pending_op connect not_connecti
 
 -- the slots after a pending operation was completed
 pub listed-completed : (f : Flight) (ps : List slots.Pending) (n : ℕ) (op : Operation) (finished : Finished)
-    → IsListed f ps → op_at f n ≡ Some op → is_pending (Some op) ≡ true → op.chan.0 < length ps
+    → IsListed f ps → op_at f n ≡ Some op → is_pending (Some op) ≡ true → op.chan.number < length ps
     → IsListed (completed_flight f n op finished)
-    (set ps op.chan.0 (with_slot (get_or ps op.chan.0 nothing_pending) op.kind None))
+    (set ps op.chan.number (with_slot (get_or ps op.chan.number nothing_pending) op.kind None))
 listed-completed f ps n op finished is_listed is is_pending_op within =
-    let c = op.chan.0 in
+    let c = op.chan.number in
     let slot : Option Operation = Some (at_stage (Queued finished) op) in
     let l = some-within f.operations n op is in
     let own : IsPendingAs f c op.kind n = rw is (pending-own op is_pending_op) in
@@ -146,6 +155,20 @@ listed-completed f ps n op finished is_listed is is_pending_op within =
     (λ d kind m differ h. pending-before f.operations n slot d kind m
     (λ at. differ (sym (pending-parts d kind op (rw is at at)).chan)) h)
     (λ d kind m differ h. (pending-after f.operations n slot d kind m l refl h).1)
+
+-- as many operations of each channel are in flight
+counted-completed : (f : Flight) (cs cs' : List Channel) (ps : List slots.Pending) (n : ℕ) (op : Operation)
+    (finished : Finished) → op_at f n ≡ Some op → op.chan.number < length ps
+    → ((d : ℕ) → name_in cs' d ≡ name_in cs d) → AreCounted f cs ps
+    → AreCounted (completed_flight f n op finished) cs'
+    (set ps op.chan.number (with_slot (get_or ps op.chan.number nothing_pending) op.kind None))
+counted-completed f cs cs' ps n op finished is within names =
+    counted-slots f (completed_flight f n op finished) cs cs' ps op.chan.number
+    (with_slot (get_or ps op.chan.number nothing_pending) op.kind None) within
+    (λ d. ap (in_flight_on (completed_flight f n op finished)) (names d)
+    ∙ count-same (name_in cs d) f.operations n (Some (at_stage (Queued finished) op)) (some-within f.operations n op is)
+    (sym (ap (is_on (name_in cs d)) is)))
+    (with_slot-in_flight (get_or ps op.chan.number nothing_pending) op.kind None)
 
 -- what is known of an operation whose outcome isn't refused
 pub report-allowed : (op : Operation) (outcome : Outcome) → report_refusal (Some op) outcome ≡ None
@@ -173,22 +196,22 @@ not_connect kind len o never h e = false≢true (sym never ∙ subst (λ (k : Op
 pub pending-made : {f : Flight} {cs : List Channel} {ps : List slots.Pending} {o r r' : ℕ} {sh : Bool} {l : GroupLimits}
     (n : ℕ) (op : Operation)
     → IsGroupKept f cs ps o sh l r r' → op_at f n ≡ Some op → is_pending (Some op) ≡ true
-    → (op.chan.0 < length cs) × (op.chan.0 < length ps) × ((get_or cs op.chan.0 no_channel).is_open ≡ true)
+    → (op.chan.number < length cs) × (op.chan.number < length ps) × ((get_or cs op.chan.number no_channel).is_open ≡ true)
 pending-made {f} {cs} n op kept is is_pending_op =
-    let own : IsPendingAs f op.chan.0 op.kind n = rw is (pending-own op is_pending_op) in
-    let opened = kept.lawful.pending_open n op.chan.0 op.kind own in
-    let within = open-within cs op.chan.0 opened in
+    let own : IsPendingAs f op.chan.number op.kind n = rw is (pending-own op is_pending_op) in
+    let opened = kept.lawful.pending_open n op.chan.number op.kind own in
+    let within = open-within cs op.chan.number opened in
     let slots_are = kept.slots in
     (within, omega arith, opened)
 
 pub kept-completed : {f : Flight} {cs : List Channel} {ps : List slots.Pending} {o r r' : ℕ} {sh : Bool}
     {l : GroupLimits} (n : ℕ) (op : Operation) (finished : Finished) (p : slots.Pending)
-    → IsGroupKept f cs ps o sh l r r' → op_at f n ≡ Some op → is_pending (Some op) ≡ true → p ≡ get_or ps op.chan.0 p
+    → IsGroupKept f cs ps o sh l r r' → op_at f n ≡ Some op → is_pending (Some op) ≡ true → p ≡ get_or ps op.chan.number p
     → (op.kind ≡ Connect → ⊥)
-    → IsGroupKept (with_completed f n finished) cs (set ps op.chan.0 (with_slot p op.kind None)) o sh l r r'
+    → IsGroupKept (with_completed f n finished) cs (set ps op.chan.number (with_slot p op.kind None)) o sh l r r'
 kept-completed {f} {cs} {ps} {o} {r} {r'} {sh} {l} n op finished p kept is is_pending_op read other =
     let made = pending-made n op kept is is_pending_op in
-    let is_slot : p ≡ get_or ps op.chan.0 nothing_pending = get_or_read ps op.chan.0 p made.1 read nothing_pending in
+    let is_slot : p ≡ get_or ps op.chan.number nothing_pending = get_or_read ps op.chan.number p made.1 read nothing_pending in
     let lawful = lawful-completed (group_of f cs sh l) n op finished kept.lawful is is_pending_op other in
     let was_opened = kept.opened_is in
     rw (completed-is f n op finished is, is_slot)
@@ -197,31 +220,35 @@ kept-completed {f} {cs} {ps} {o} {r} {r'} {sh} {l} n op finished p kept is is_pe
       fit = kept.fit;
       same_limit = kept.same_limit;
       opened_is = kept.opened_is;
-      slots = length-set ps op.chan.0 (with_slot (get_or ps op.chan.0 nothing_pending) op.kind None) ∙ kept.slots;
+      slots = length-set ps op.chan.number (with_slot (get_or ps op.chan.number nothing_pending) op.kind None) ∙ kept.slots;
       is_listed = listed-completed f ps n op finished kept.is_listed is is_pending_op made.1;
+      are_counted = counted-completed f cs cs ps n op finished is made.1 (λ d. refl) kept.are_counted;
       has_room = kept.has_room;
       has_slots_room = kept.has_slots_room;
     })
 
 pub kept-connected : {f : Flight} {cs : List Channel} {ps : List slots.Pending} {o r r' : ℕ} {sh : Bool}
     {l : GroupLimits} (n : ℕ) (op : Operation) (finished : Finished) (p : slots.Pending) (ch : Channel) (o' : ℕ)
-    → IsGroupKept f cs ps o sh l r r' → op_at f n ≡ Some op → is_pending (Some op) ≡ true → p ≡ get_or ps op.chan.0 p
-    → op.kind ≡ Connect → (ch.is_open ≡ true → ch.endpoint ≡ Stream Connecting → ⊥) → o' + 1 ≡ o + cond (is_open ch) 1 0
-    → IsGroupKept (with_completed f n finished) (set cs op.chan.0 ch) (set ps op.chan.0 (with_slot p op.kind None)) o'
+    → IsGroupKept f cs ps o sh l r r' → op_at f n ≡ Some op → is_pending (Some op) ≡ true → p ≡ get_or ps op.chan.number p
+    → op.kind ≡ Connect → (ch.is_open ≡ true → ch.endpoint ≡ Stream Connecting → ⊥)
+    → ch.serial ≡ (get_or cs op.chan.number no_channel).serial → o' + 1 ≡ o + cond (is_open ch) 1 0
+    → IsGroupKept (with_completed f n finished) (set cs op.chan.number ch) (set ps op.chan.number (with_slot p op.kind None)) o'
     sh l r r'
 kept-connected {f} {cs} {ps} {o} {r} {r'} {sh} {l} n op finished p ch o' kept is is_pending_op read connect
-    not_connecting counted =
+    not_connecting same counted =
     let made = pending-made n op kept is is_pending_op in
-    let is_slot : p ≡ get_or ps op.chan.0 nothing_pending = get_or_read ps op.chan.0 p made.1 read nothing_pending in
+    let is_slot : p ≡ get_or ps op.chan.number nothing_pending = get_or_read ps op.chan.number p made.1 read nothing_pending in
     let lawful = lawful-connected
-    (group_of f cs sh l) n op finished ch kept.lawful is is_pending_op connect not_connecting in
-    let was_one : cond (is_open (get_or cs op.chan.0 no_channel)) 1 0 ≡ 1 = ap {B = ℕ}
+    (group_of f cs sh l) n op finished ch kept.lawful is is_pending_op connect not_connecting same in
+    let was_one : cond (is_open (get_or cs op.chan.number no_channel)) 1 0 ≡ 1 = ap {B = ℕ}
     (λ (b : Bool). cond b 1 0) made.2 in
     rw (completed-is f n op finished is, is_slot)
-    (kept-channel (completed_flight f n op finished) op.chan.0 ch
-    (with_slot (get_or ps op.chan.0 nothing_pending) op.kind None) o' kept made.0 lawful refl
+    (kept-channel (completed_flight f n op finished) op.chan.number ch
+    (with_slot (get_or ps op.chan.number nothing_pending) op.kind None) o' kept made.0 lawful refl
     (ap (λ (k : ℕ). o' + k) was_one ∙ counted)
-    (listed-completed f ps n op finished kept.is_listed is is_pending_op made.1))
+    (listed-completed f ps n op finished kept.is_listed is is_pending_op made.1)
+    (counted-completed f cs (set cs op.chan.number ch) ps n op finished is made.1
+    (λ d. name-set cs op.chan.number ch d made.0 same) kept.are_counted))
 
 -- some channel is open where an operation is pending
 pub some-open : {f : Flight} {cs : List Channel} {ps : List slots.Pending} {o r r' : ℕ} {sh : Bool} {l : GroupLimits}
@@ -229,26 +256,80 @@ pub some-open : {f : Flight} {cs : List Channel} {ps : List slots.Pending} {o r 
     → IsGroupKept f cs ps o sh l r r' → op_at f n ≡ Some op → is_pending (Some op) ≡ true → 1 ≤ o
 some-open {f} {cs} n op kept is is_pending_op =
     let made = pending-made n op kept is is_pending_op in
-    let was_one : cond (is_open (get_or cs op.chan.0 no_channel)) 1 0 ≡ 1 = ap {B = ℕ}
+    let was_one : cond (is_open (get_or cs op.chan.number no_channel)) 1 0 ≡ 1 = ap {B = ℕ}
     (λ (b : Bool). cond b 1 0) made.2 in
-    let counts = count_by-set is_open cs op.chan.0 no_channel no_channel made.0 in
+    let counts = count_by-set is_open cs op.chan.number no_channel no_channel made.0 in
     let counted = kept.opened_is in
     omega (arith, counts, was_one)
 
--- a connection that was accepted has a number left for it
-pub accepted-room : (g : Group) (o : Outcome) (x : GChan) → IsLawful g → o ≡ outcome.Accepted
-    → result_of g o ≡ done.Accepted x → length g.channels < g.channel_limit
-accepted-room g o x lawful is h =
-    let at : result_of g outcome.Accepted ≡ done.Accepted x = subst
-    (λ (y : Outcome). result_of g y ≡ done.Accepted x) is h in
-    by_test g.is_shut
-    (λ t. absurd (failed _ x (rw t at at)))
-    (λ f.
-    let left = rw f at at in
-    by_test (no_number_left g)
-    (λ t. absurd (failed _ x (rw t at left)))
-    (λ e. let differ = eqb-false (length g.channels) g.channel_limit e in
-    let few = lawful.few_channels in omega arith))
+-- a connection that was accepted has a name
+pub accepted-named : (g : Group) (o : Outcome) (x : GChan) → result_of g o ≡ done.Accepted x
+    → (o ≡ outcome.Accepted) × (accepted_name g o ≡ Some x)
+accepted-named g (outcome.Count k) x h = cc
+accepted-named g outcome.End x h = cc
+accepted-named g outcome.Connected x h = cc
+accepted-named g outcome.Fault x h = cc
+accepted-named g outcome.Accepted x h = (refl, by_shut g.is_shut h)
   where
-    failed : (why : Why) (y : GChan) → done.Failed why ≡ done.Accepted y → ⊥
-    failed why y e = cc
+    failed : (w : Why) (y : GChan) → done.Failed w ≡ done.Accepted y → ⊥
+    failed w y e = cc
+
+    by_name : (name : Option GChan) → accepted_or_spent name ≡ done.Accepted x → name ≡ Some x
+    by_name None e = absurd (failed _ x e)
+    by_name (Some y) e = cc
+
+    by_shut : (shut : Bool)
+        → cond shut (done.Failed why.ShutdownGroup) (accepted_or_spent (next_name g gkind.Stream)) ≡ done.Accepted x
+        → cond shut None (next_name g gkind.Stream) ≡ Some x
+    by_shut true e = absurd (failed _ x e)
+    by_shut false e = by_name (next_name g gkind.Stream) e
+
+-- and where the result names none, none is made
+pub accepted-none : (g : Group) (o : Outcome) → ((x : GChan) → result_of g o ≡ done.Accepted x → ⊥)
+    → accepted_name g o ≡ None
+accepted-none g (outcome.Count k) h = refl
+accepted-none g outcome.End h = refl
+accepted-none g outcome.Connected h = refl
+accepted-none g outcome.Fault h = refl
+accepted-none g outcome.Accepted h = by_shut g.is_shut h
+  where
+    by_name : (name : Option GChan) → ((x : GChan) → accepted_or_spent name ≡ done.Accepted x → ⊥) → name ≡ None
+    by_name None e = refl
+    by_name (Some y) e = absurd (e y refl)
+
+    by_shut : (shut : Bool)
+        → ((x : GChan)
+        → cond shut (done.Failed why.ShutdownGroup) (accepted_or_spent (next_name g gkind.Stream)) ≡ done.Accepted x
+        → ⊥)
+        → cond shut None (next_name g gkind.Stream) ≡ None
+    by_shut true e = refl
+    by_shut false e = by_name (next_name g gkind.Stream) e
+
+-- as many operations of a channel are in flight once one has completed
+on-completed : (f : Flight) (n : ℕ) (op : Operation) (finished : Finished) (chan : GChan) → op_at f n ≡ Some op
+    → in_flight_on (with_completed f n finished) chan ≡ in_flight_on f chan
+on-completed f n op finished chan is =
+    ap (λ (x : Flight). in_flight_on x chan) (completed-is f n op finished is)
+    ∙ count-same chan f.operations n (Some (at_stage (Queued finished) op)) (some-within f.operations n op is)
+    (sym (ap (is_on chan) is))
+
+back-completed : (f f' : Flight) (kind : GKind) (c : ℕ) (cs : List Channel)
+    → ((chan : GChan) → in_flight_on f' chan ≡ in_flight_on f chan) → first_back f' kind c cs ≡ first_back f kind c cs
+back-completed f f' kind c [] same = refl
+back-completed f f' kind c (channel ∷ rest) same =
+    rw (same (record { number = c; serial = channel.serial }), back-completed f f' kind (c + 1) rest same) refl
+
+-- the name of the next channel doesn't depend on the stages of operations
+pub name-completed : (g : Group) (n : ℕ) (o : Outcome) (op : Operation) (chan : GChan) → op_at g.flight n ≡ Some op
+    → accepted_name g o ≡ Some chan → next_name (completed g n o (result_of g o) op) gkind.Stream ≡ Some chan
+name-completed g n (outcome.Count k) op chan is h = absurd (none-some chan h)
+name-completed g n outcome.End op chan is h = absurd (none-some chan h)
+name-completed g n outcome.Connected op chan is h = absurd (none-some chan h)
+name-completed g n outcome.Fault op chan is h = absurd (none-some chan h)
+name-completed g n outcome.Accepted op chan is h =
+    let f' = with_completed g.flight n (result_of g outcome.Accepted) in
+    let same = back-completed g.flight f' gkind.Stream 0 g.channels
+    (λ named. on-completed g.flight n op (result_of g outcome.Accepted) named is) in
+    by_test g.is_shut
+    (λ t. absurd (none-some chan (rw t at h)))
+    (λ e. rw same (rw e at h))

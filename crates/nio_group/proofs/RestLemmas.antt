@@ -13,9 +13,11 @@ use Rattle.nio_group.specs.declared.limits.GroupLimits.{GroupLimits}
 use Rattle.nio_group.specs.Stages.{is_pending, is_queued, is_running}
 use Rattle.nio_group.specs.Flight.{Flight, op_at, accepted, flight_after_take}
 use Rattle.nio_group.specs.Group.{Group, IsLawful, channel_at, no_channel, is_terminated, all_closed, none_to_handle}
-use Rattle.nio_group.specs.Group.{empty_group}
-use Rattle.nio_group.specs.Refusals.{open_refusal, bind_refusal, start_refusal, report_refusal}
-use Rattle.nio_group.specs.Steps.{kept_if_refused, started, reported, finish_refusal, after_close, after_shutdown}
+use Rattle.nio_group.specs.Group.{empty_group, new_endpoint, is_open, is_present}
+use Rattle.nio_base.specs.declared.numbers.GChan.{GChan}
+use Rattle.nio_group.specs.Making.{next_name, with_made}
+use Rattle.nio_group.specs.Refusals.{bind_refusal, start_refusal, report_refusal}
+use Rattle.nio_group.specs.Steps.{kept_if_refused, started, reported, finish_refusal, after_closing, after_shutdown}
 use Rattle.nio_group.specs.Steps.{closed_below}
 use Rattle.nio_group.specs.Run.{Call, open_channel, bind, start, report, take, finish, close_channel, shutdown}
 use Rattle.nio_group.specs.Run.{shutdown_now, after, has_completed, was_taken, TerminatedStays, IsRunOf, left_by}
@@ -24,8 +26,9 @@ use Rattle.nio_group.proofs.TableLemmas.{by_test}
 use Rattle.nio_group.proofs.QueueLemmas.{QueueHolds, front-queued}
 use Rattle.nio_group.proofs.FlightLemmas.{some-within}
 use Rattle.nio_group.proofs.LawfulLemmas.{open-within, nothing-pending}
-use Rattle.nio_group.proofs.StartLemmas.{some_none}
-use Rattle.nio_group.proofs.RunLemmas.{unless-refused, lawful-after}
+use Rattle.nio_group.proofs.StartLemmas.{some_none, open-parts}
+use Rattle.nio_group.proofs.RunLemmas.{unless-refused, cond-holds, lawful-after}
+use Rattle.std.proofs.lemmas.Option.{none-some}
 use Rattle.nio_group.proofs.StageLemmas.{stepped-after, next-not_pending, IsStepped}
 
 -- what is known of a terminated group
@@ -78,10 +81,7 @@ resting g lawful terminated =
       none = λ n. none-left g n lawful closed idle;
     }
 
-open-refused : (g : Group) → g.is_shut ≡ true → open_refusal g ≡ None → ⊥
-open-refused g shut free = some_none _ (rw shut at free)
-
-bind-refused : (is_open : Bool) (e : Endpoint) → is_open ≡ false → bind_refusal is_open e ≡ None → ⊥
+pub bind-refused : (is_open : Bool) (e : Endpoint) → is_open ≡ false → bind_refusal is_open e ≡ None → ⊥
 bind-refused true e closed free = false≢true (sym closed)
 bind-refused false (Stream link) closed free = some_none _ free
 bind-refused false (Listener bound) closed free = some_none _ free
@@ -97,25 +97,33 @@ queue-empty f holds none = by_queue f.queue refl
         let not_there : is_queued (op_at f n) ≡ false = rw (none n) refl in
         absurd (false≢true (sym not_there ∙ queued))
 
-close-rests : (g : Group) (c : ℕ) → (channel_at g c).is_open ≡ false → after_close g c ≡ g
+close-rests : (g : Group) (c : ℕ) → (channel_at g c).is_open ≡ false → after_closing g c ≡ g
 close-rests g c closed = rw closed refl
+
+open-rests : (g : Group) (chan : GChan) → (channel_at g chan.number).is_open ≡ false → is_open g chan ≡ false
+open-rests g chan closed =
+    by_test (is_open g chan)
+    (λ t. absurd (false≢true (sym closed ∙ (open-parts g chan t).1)))
+    (λ f. f)
 
 closings-rest : (c : ℕ) (g : Group) → ((d : ℕ) → (channel_at g d).is_open ≡ false) → closed_below c g ≡ g
 closings-rest zero g closed = refl
 closings-rest (suc c) g closed =
-    ap (λ (h : Group). after_close h c) (closings-rest c g closed) ∙ close-rests g c (closed c)
+    ap (λ (h : Group). after_closing h c) (closings-rest c g closed) ∙ close-rests g c (closed c)
 
 -- what a call leaves of a terminated group, where its being shut down stays
 after-resting : (P : Group → Type 0) (g : Group) (call : Call) → IsLawful g → IsResting g → is_terminated g ≡ true → P g
     → P (after_shutdown g) → P (after g call)
 after-resting P g (open_channel kind) lawful rest terminated same shut =
-    unless-refused P (open_refusal g) g _ same (λ free. absurd (open-refused g rest.shut free))
+    cond-holds P g.is_shut g (with_made g (next_name g kind) (new_endpoint kind)) (λ shut. same)
+    (λ going. absurd (false≢true (sym going ∙ rest.shut)))
 after-resting P g (bind chan) lawful rest terminated same shut =
-    unless-refused P (bind_refusal (channel_at g chan.0).is_open (channel_at g chan.0).endpoint) g _ same
+    unless-refused P (bind_refusal (is_open g chan) (channel_at g chan.number).endpoint) g _ same
     (λ free. absurd
-    (bind-refused (channel_at g chan.0).is_open (channel_at g chan.0).endpoint (rest.closed chan.0) free))
+    (bind-refused (is_open g chan) (channel_at g chan.number).endpoint
+    (open-rests g chan (rest.closed chan.number)) free))
 after-resting P g (start chan kind len) lawful rest terminated same shut =
-    unless-refused P (start_refusal g chan.0 kind) g (started g chan kind len) same
+    unless-refused P (start_refusal g chan kind) g (started g chan kind len) same
     (λ free. absurd (some_none _ (rw terminated at free)))
 after-resting P g (report op o) lawful rest terminated same shut =
     subst (λ (slot : Option Operation). P (kept_if_refused (report_refusal slot o) g (reported g op.0 o slot)))
@@ -128,7 +136,9 @@ after-resting P g (finish op) lawful rest terminated same shut =
     unless-refused P (finish_refusal (is_running (op_at g.flight op.0))) g _ same
     (λ free. absurd (some_none _ (rw idle at free)))
 after-resting P g (close_channel chan) lawful rest terminated same shut =
-    subst P (sym (close-rests g chan.0 (rest.closed chan.0))) same
+    cond-holds P (is_present g chan) (after_closing g chan.number) g
+    (λ t. subst P (sym (close-rests g chan.number (rest.closed chan.number))) same)
+    (λ f. same)
 after-resting P g shutdown lawful rest terminated same shut = shut
 after-resting P g shutdown_now lawful rest terminated same shut =
     subst P (sym (closings-rest (length g.channels) (after_shutdown g) rest.closed)) shut
@@ -209,6 +219,8 @@ pub lawful-empty : (limits : GroupLimits) → IsLawful (empty_group limits)
 lawful-empty limits =
     record {
       queued_once = λ n. refl;
+      made = λ n op is. absurd (none-some op is);
+      present = λ n op is. absurd (none-some op is);
       pending_open = λ n c kind h. absurd (false≢true h);
       pending_ready = λ n c kind h. absurd (false≢true h);
       one_each = λ m n c kind h h'. absurd (false≢true h);

@@ -18,10 +18,16 @@ use Rattle.nio_group.specs.Stages.{is_pending, is_pending_on, is_queued, is_runn
 use Rattle.nio_group.specs.Stages.{stage_is_running, at_stage}
 use Rattle.nio_group.specs.Flight.{Flight, op_at, accepted, with_accepted, flight_after_take, with_channel_closed}
 use Rattle.nio_group.specs.Flight.{closed_on}
-use Rattle.nio_group.specs.Group.{Group, IsLawful, channel_at}
-use Rattle.nio_group.specs.Refusals.{open_refusal, bind_refusal, start_refusal, report_refusal}
+use Rattle.nio_group.specs.Group.{Group, IsLawful, channel_at, new_endpoint, is_open, is_present}
+use Rattle.nio_base.specs.declared.numbers.GChan.{GChan}
+use Rattle.nio_group.specs.declared.channel.Endpoint.{Endpoint}
+use Rattle.nio_group.specs.declared.channel.Endpoint.TheVariants.{Stream}
+use Rattle.nio_group.specs.declared.channel.Link.TheVariants.{Connected}
+use Rattle.nio_group.specs.Making.{next_name, with_made}
+use Rattle.nio_group.specs.Refusals.{bind_refusal, start_refusal, report_refusal}
 use Rattle.nio_group.specs.Steps.{kept_if_refused, started, first_stage, after_report, reported, result_of, after_take}
-use Rattle.nio_group.specs.Steps.{finish_refusal, after_close, after_shutdown, closed_below, with_closed}
+use Rattle.nio_group.specs.Steps.{finish_refusal, after_close, after_closing, after_shutdown, closed_below, with_closed}
+use Rattle.nio_group.specs.Steps.{completed, accepted_name}
 use Rattle.nio_group.specs.Run.{Call, open_channel, bind, start, report, take, finish, close_channel, shutdown}
 use Rattle.nio_group.specs.Run.{shutdown_now, after, GoesOn, IsNext, StagesGoForward}
 use Rattle.nio_group.proofs.TableLemmas.{by_test}
@@ -138,7 +144,7 @@ closed_on-closed : (c : ℕ) (slot : Option Operation) → IsClosed slot (closed
 closed_on-closed c None = inl refl
 closed_on-closed c (Some op) =
     by_test (is_pending_on c (Some op))
-    (λ t. rw t (inr ((and_parts (stage_is_pending op.stage) (eqb op.chan.0 c) t).0, refl)))
+    (λ t. rw t (inr ((and_parts (stage_is_pending op.stage) (eqb op.chan.number c) t).0, refl)))
     (λ f. rw f (inl refl))
 
 -- what closing channels makes of the operations of a flight
@@ -149,8 +155,8 @@ pub record IsClosing (f f' : Flight) : Type 0 where
 closing-same : (f : Flight) → IsClosing f f
 closing-same f = record { accepts = refl; slots = λ n. inl refl }
 
-closing-after_close : (g : Group) (c : ℕ) → IsClosing g.flight (after_close g c).flight
-closing-after_close g c =
+closing-after_closing : (g : Group) (c : ℕ) → IsClosing g.flight (after_closing g c).flight
+closing-after_closing g c =
     cond-holds (λ (h : Group). IsClosing g.flight h.flight) (channel_at g c).is_open
     (record (with_closed g c) { flight = with_channel_closed g.flight c }) g
     (λ t. record {
@@ -159,15 +165,21 @@ closing-after_close g c =
     })
     (λ f. closing-same g.flight)
 
+closing-after_close : (g : Group) (chan : GChan) → IsClosing g.flight (after_close g chan).flight
+closing-after_close g chan =
+    cond-holds (λ (h : Group). IsClosing g.flight h.flight) (is_present g chan) (after_closing g chan.number) g
+    (λ t. closing-after_closing g chan.number)
+    (λ f. closing-same g.flight)
+
 closing-closed_below : (c : ℕ) (g : Group) → IsClosing g.flight (closed_below c g).flight
 closing-closed_below zero g = closing-same g.flight
 closing-closed_below (suc c) g =
     let before = closing-closed_below c g in
-    let here = closing-after_close (closed_below c g) c in
+    let here = closing-after_closing (closed_below c g) c in
     record {
       accepts = here.accepts ∙ before.accepts;
       slots = λ n. closed-trans (op_at g.flight n) (op_at (closed_below c g).flight n)
-          (op_at (after_close (closed_below c g) c).flight n) (before.slots n) (here.slots n);
+          (op_at (after_closing (closed_below c g) c).flight n) (before.slots n) (here.slots n);
     }
 
 stepped-closing : (f f' : Flight) → IsClosing f f' → IsStepped f f'
@@ -177,6 +189,11 @@ stepped-closing f f' closing =
       next = λ n l. closed-next (op_at f n) (op_at f' n) (closing.slots n);
       begun = λ n from l. none-between (accepted f) (accepted f') n (sym closing.accepts) from l;
     }
+
+-- making a channel leaves the operations as they were
+pub made-flight : (g : Group) (name : Option GChan) (endpoint : Endpoint) → (with_made g name endpoint).flight ≡ g.flight
+made-flight g None endpoint = refl
+made-flight g (Some chan) endpoint = refl
 
 stepped-report : (g : Group) (n : ℕ) (o : Outcome) → IsStepped g.flight (after_report g n o).flight
 stepped-report g n o = by_slot (op_at g.flight n) refl
@@ -189,8 +206,10 @@ stepped-report g n o = by_slot (op_at g.flight n) refl
         (reported g n o (Some op)) (stepped-same g.flight)
         (λ free.
         let pending : is_pending (op_at g.flight n) ≡ true = rw is (report-allowed op o free).0 in
-        stepped-set g.flight n (option_map (at_stage (Queued (result_of g o))) (op_at g.flight n))
-        (g.flight.queue ++ n ∷ []) (next-completed (op_at g.flight n) (result_of g o) pending))
+        subst (IsStepped g.flight)
+        (sym (made-flight (completed g n o (result_of g o) op) (accepted_name g o) (Stream Connected)))
+        (stepped-set g.flight n (option_map (at_stage (Queued (result_of g o))) (op_at g.flight n))
+        (g.flight.queue ++ n ∷ []) (next-completed (op_at g.flight n) (result_of g o) pending)))
 
 stepped-take : (g : Group) → IsLawful g → IsStepped g.flight (after_take g).flight
 stepped-take g lawful = by_queue g.flight.queue refl
@@ -216,16 +235,19 @@ finishable false free = cc
 
 pub stepped-after : (g : Group) (call : Call) → IsLawful g → IsStepped g.flight (after g call).flight
 stepped-after g (open_channel kind) lawful =
-    unless-refused (λ (h : Group). IsStepped g.flight h.flight) (open_refusal g) g _ (stepped-same g.flight)
-    (λ free. stepped-same g.flight)
+    cond-holds (λ (h : Group). IsStepped g.flight h.flight) g.is_shut g (with_made g (next_name g kind)
+    (new_endpoint kind))
+    (λ shut. stepped-same g.flight)
+    (λ going. subst (IsStepped g.flight) (sym (made-flight g (next_name g kind) (new_endpoint kind)))
+    (stepped-same g.flight))
 stepped-after g (bind chan) lawful =
     unless-refused (λ (h : Group). IsStepped g.flight h.flight)
-    (bind_refusal (channel_at g chan.0).is_open (channel_at g chan.0).endpoint) g _ (stepped-same g.flight)
+    (bind_refusal (is_open g chan) (channel_at g chan.number).endpoint) g _ (stepped-same g.flight)
     (λ free. stepped-same g.flight)
 stepped-after g (start chan kind len) lawful =
-    unless-refused (λ (h : Group). IsStepped g.flight h.flight) (start_refusal g chan.0 kind) g
+    unless-refused (λ (h : Group). IsStepped g.flight h.flight) (start_refusal g chan kind) g
     (started g chan kind len) (stepped-same g.flight)
-    (λ free. stepped-accepted g.flight _ (first_stage-begins (channel_at g chan.0).is_open kind len))
+    (λ free. stepped-accepted g.flight _ (first_stage-begins (is_open g chan) kind len))
 stepped-after g (report op o) lawful = stepped-report g op.0 o
 stepped-after g take lawful = stepped-take g lawful
 stepped-after g (finish op) lawful =
@@ -234,7 +256,7 @@ stepped-after g (finish op) lawful =
     (λ free. stepped-set g.flight op.0 None g.flight.queue
     (next-ended (op_at g.flight op.0) (finishable (is_running (op_at g.flight op.0)) free)))
 stepped-after g (close_channel chan) lawful =
-    stepped-closing g.flight (after_close g chan.0).flight (closing-after_close g chan.0)
+    stepped-closing g.flight (after_close g chan).flight (closing-after_close g chan)
 stepped-after g shutdown lawful = stepped-same g.flight
 stepped-after g shutdown_now lawful =
     stepped-closing g.flight (closed_below (length g.channels) (after_shutdown g)).flight

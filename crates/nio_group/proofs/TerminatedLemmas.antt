@@ -20,7 +20,8 @@ use Rattle.nio_group.specs.Stages.{is_pending, is_pending_as, is_queued, is_runn
 use Rattle.nio_group.specs.Stages.{stage_is_running}
 use Rattle.nio_group.specs.Flight.{Flight, in_flight, accepted}
 use Rattle.nio_group.specs.Pending.{slot_of, nothing_pending}
-use Rattle.nio_group.specs.Group.{Group, no_channel, is_terminated}
+use Rattle.nio_base.specs.declared.numbers.GChan.{GChan}
+use Rattle.nio_group.specs.Group.{Group, no_channel, is_terminated, is_open as open_by}
 use Rattle.nio_group.specs.GroupKept.{IsGroupKept, IsListed, group_of, is_open}
 use Rattle.nio_group.specs.Refusals.{has_pending, channel_refusal, start_refusal, limit_refusal}
 use Rattle.nio_group.proofs.TableLemmas.{by_test}
@@ -98,21 +99,27 @@ has_pending-slot f ps c kind is_listed = by_slot (slot_of (get_or ps c nothing_p
 
 -- a start's refusal, from what is read of the channel and its slots
 pub start_refusal-read : {f : Flight} {cs : List Channel} {ps : List slots.Pending} {o r r' : ℕ} {sh : Bool}
-    {l : GroupLimits} (c : ℕ) (kind : OpKind) (x : Channel) (p : slots.Pending) (pending : Bool)
+    {l : GroupLimits} (chan : GChan) (kind : OpKind) (x : Channel) (opened : Bool) (p : slots.Pending) (pending : Bool)
     (refusal : Option StartError)
-    → IsGroupKept f cs ps o sh l r r' → c < length cs → is_terminated (group_of f cs sh l) ≡ false → x ≡ get_or cs c x
-    → p ≡ get_or ps c p → pending ≡ is_some (slot_of p kind)
-    → refusal ≡ channel_refusal x.is_open x.endpoint pending kind
-    → start_refusal (group_of f cs sh l) c kind ≡ option_or refusal (limit_refusal (group_of f cs sh l))
-start_refusal-read {f} {cs} {ps} {o} {r} {r'} {sh} {l} c kind x p pending refusal kept within going read read_slot
-    is_pending_op is_refusal =
+    → IsGroupKept f cs ps o sh l r r' → chan.number < length cs → is_terminated (group_of f cs sh l) ≡ false
+    → x ≡ get_or cs chan.number x → opened ≡ open_by (group_of f cs sh l) chan → p ≡ get_or ps chan.number p
+    → pending ≡ is_some (slot_of p kind) → refusal ≡ channel_refusal opened x.endpoint pending kind
+    → start_refusal (group_of f cs sh l) chan kind ≡ option_or refusal (limit_refusal (group_of f cs sh l))
+start_refusal-read {f} {cs} {ps} {o} {r} {r'} {sh} {l} chan kind x opened p pending refusal kept within going read
+    is_opened read_slot is_pending_op is_refusal =
+    let c = chan.number in
+    let now = open_by (group_of f cs sh l) chan in
     let slots_are = kept.slots in
     let is : x ≡ get_or cs c no_channel = get_or_read cs c x within read no_channel in
     let is_slot : p ≡ get_or ps c nothing_pending = get_or_read ps c p (omega arith) read_slot nothing_pending in
     let found : has_pending f c kind ≡ pending = has_pending-slot f ps c kind kept.is_listed ∙ ap
     (λ (q : slots.Pending). is_some (slot_of q kind)) (sym is_slot) ∙ sym is_pending_op in
-    rw (going, found, ← is)
-    (ap (λ (e : Option StartError). option_or e (limit_refusal (group_of f cs sh l))) (sym is_refusal))
+    let same : channel_refusal now (get_or cs c no_channel).endpoint (has_pending f c kind) kind ≡ refusal =
+    ap (λ (y : Channel). channel_refusal now y.endpoint (has_pending f c kind) kind) (sym is)
+    ∙ ap (λ (b : Bool). channel_refusal now x.endpoint b kind) found
+    ∙ ap (λ (b : Bool). channel_refusal b x.endpoint pending kind) (sym is_opened)
+    ∙ sym is_refusal in
+    rw going (ap (λ (e : Option StartError). option_or e (limit_refusal (group_of f cs sh l))) same)
 
 pub terminated-when : {f : Flight} {cs : List Channel} {ps : List slots.Pending} {o r r' : ℕ} {sh : Bool}
     {l : GroupLimits}

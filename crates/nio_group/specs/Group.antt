@@ -1,7 +1,8 @@
 -- The state of an asynchronous channel group.
-use Rattle.std.specs.Prelude.{◌≡◌, ℕ, ◌≤◌, Bool, true, false, if◌then◌else◌, not, ◌&&◌, ◌||◌, List, [], length}
-use Rattle.std.specs.Prelude.{slice_index_or, IsTrue}
+use Rattle.std.specs.Prelude.{◌≡◌, ℕ, ◌<◌, ◌≤◌, Bool, true, false, if◌then◌else◌, not, ◌&&◌, ◌||◌, ◌==◌, List, []}
+use Rattle.std.specs.Prelude.{length, nat_le, nat_lt, slice_index_or, IsTrue, Some}
 use Rattle.std.specs.List.{list_any, list_all}
+use Rattle.nio_base.specs.declared.numbers.GChan.{GChan}
 use Rattle.nio_base.specs.declared.group.GKind.{GKind}
 use Rattle.nio_base.specs.declared.group.GKind.TheVariants as kind
 use Rattle.nio_group.specs.declared.channel.Channel.{Channel}
@@ -11,11 +12,12 @@ use Rattle.nio_group.specs.declared.channel.Link.TheVariants.{Unconnected, Conne
 use Rattle.nio_base.specs.declared.group.OpKind.{OpKind}
 use Rattle.nio_base.specs.declared.group.OpKind.TheVariants.{Accept, Connect, Read, Write}
 use Rattle.nio_group.specs.declared.limits.GroupLimits.{GroupLimits}
-use Rattle.nio_group.specs.Stages.{is_queued, is_running}
+use Rattle.nio_group.specs.declared.operation.Operation.{Operation}
+use Rattle.nio_group.specs.Stages.{is_queued, is_running, stage_is_pending}
 use Rattle.nio_group.specs.Flight.{Flight, op_at, accepted, in_flight, times_queued, IsPendingAs, no_flight}
 
--- its operations and their queue; its channels by their numbers; whether it is shut down; and how
--- many channels it makes and operations it accepts at most
+-- its operations and their queue; for each number the last channel that was made with it; whether it is shut
+-- down; and how many numbers it gives to channels and how many operations it accepts at most
 pub record Group : Type 0 where
   pub flight : Flight
   pub channels : List Channel
@@ -38,16 +40,40 @@ abbrev pub new_endpoint : GKind → Endpoint
 new_endpoint kind.Stream = Stream Unconnected
 new_endpoint kind.Listener = Listener false
 
-abbrev pub new_channel : GKind → Channel
-new_channel k = record { is_open = true; endpoint = new_endpoint k }
+-- the channel that is made under this name
+abbrev pub new_channel : GChan → Endpoint → Channel
+new_channel chan endpoint = record { serial = chan.serial; is_open = true; endpoint = endpoint }
 
 -- what `channel_at` gives for a number that no channel has
 abbrev pub no_channel : Channel
-no_channel = record { is_open = false; endpoint = Listener false }
+no_channel = record { serial = 0; is_open = false; endpoint = Listener false }
 
--- the channel with this number
+-- the channel that this number has now
 abbrev pub channel_at : Group → ℕ → Channel
 channel_at g c = slice_index_or g.channels c no_channel
+
+-- its name
+abbrev pub name_at : Group → ℕ → GChan
+name_at g c = record { number = c; serial = (channel_at g c).serial }
+
+-- a channel of this name was made
+abbrev pub IsMade : Group → GChan → Type 0
+IsMade g chan = (chan.number < length g.channels) × (chan.serial ≤ (channel_at g chan.number).serial)
+
+abbrev pub is_made : Group → GChan → Bool
+is_made g chan = nat_lt chan.number (length g.channels) && nat_le chan.serial (channel_at g chan.number).serial
+
+-- what was made in the one group was made in the other
+abbrev pub StaysMade : Group → Group → Type 0
+StaysMade g h = (chan : GChan) → IsMade g chan → IsMade h chan
+
+-- the name is that of the channel that its number has now
+abbrev pub is_present : Group → GChan → Bool
+is_present g chan = (channel_at g chan.number).serial == chan.serial
+
+-- the channel of this name is open. One whose number has another channel by now is closed
+abbrev pub is_open : Group → GChan → Bool
+is_open g chan = is_present g chan && (channel_at g chan.number).is_open
 
 -- an accept is pending at bound listeners alone, a connect on connecting streams, a read or a write
 -- on connected ones
@@ -74,6 +100,11 @@ is_ready_for (Stream Connected) Write = true
 pub record IsLawful (g : Group) : Type 0 where
   -- the queue lists each queued number once, and no other number
   pub queued_once : (n : ℕ) → times_queued g.flight n ≡ (if is_queued (op_at g.flight n) then 1 else 0)
+  -- each operation in flight was started on a channel that was made, and a pending one is of the channel that its
+  -- number has now
+  pub made : (n : ℕ) (op : Operation) → op_at g.flight n ≡ Some op → IsMade g op.chan
+  pub present : (n : ℕ) (op : Operation) → op_at g.flight n ≡ Some op → IsTrue (stage_is_pending op.stage)
+      → IsTrue (is_present g op.chan)
   -- each pending operation's channel is open and in the state for it
   pub pending_open : (n c : ℕ) (kind : OpKind) → IsPendingAs g.flight c kind n → IsTrue (channel_at g c).is_open
   pub pending_ready : (n c : ℕ) (kind : OpKind) → IsPendingAs g.flight c kind n

@@ -6,6 +6,7 @@ pub mod GroupKept
 pub mod Index
 pub mod Kept
 pub mod Limits
+pub mod Making
 pub mod Operations
 pub mod Pending
 pub mod Refusals

@@ -1,7 +1,8 @@
 -- Which calls of a group are refused, and why: the first cause in the order that stands here.
-use Rattle.std.specs.Prelude.{ℕ, Bool, true, false, if◌then◌else◌, ◌&&◌, ◌==◌, nat_le, length, Option, Some, None}
+use Rattle.std.specs.Prelude.{ℕ, Bool, true, false, if◌then◌else◌, ◌&&◌, ◌==◌, nat_le, Option, Some, None}
 use Rattle.std.specs.Option.{option_or}
 use Rattle.std.specs.List.{list_any}
+use Rattle.nio_base.specs.declared.numbers.GChan.{GChan}
 use Rattle.nio_group.specs.declared.channel.Endpoint.{Endpoint}
 use Rattle.nio_group.specs.declared.channel.Endpoint.TheVariants.{Stream, Listener}
 use Rattle.nio_group.specs.declared.channel.Link.{Link}
@@ -17,13 +18,7 @@ use Rattle.nio_group.specs.declared.refusal.ReportError.{ReportError}
 use Rattle.nio_group.specs.declared.refusal.ReportError.TheVariants as unreported
 use Rattle.nio_group.specs.Stages.{is_pending_as, stage_is_pending}
 use Rattle.nio_group.specs.Flight.{Flight, accepted, in_flight}
-use Rattle.nio_group.specs.Group.{Group, channel_at, is_terminated}
-
--- a new channel is refused after shutdown, and where as many were made as may be
-abbrev pub open_refusal : Group → Option StartError
-open_refusal g =
-    if g.is_shut then Some refused.ShutdownGroup
-    else if length g.channels == g.channel_limit then Some refused.ChannelsSpent else None
+use Rattle.nio_group.specs.Group.{Group, channel_at, is_open, is_terminated}
 
 -- a listener is bound once, while it is open
 abbrev pub bind_refusal : Bool → Endpoint → Option StartError
@@ -73,7 +68,7 @@ abbrev pub channel_refusal : Bool → Endpoint → Bool → OpKind → Option St
 channel_refusal is_open endpoint pending kind =
     option_or (kind_refusal endpoint kind) (if is_open then state_refusal endpoint pending kind else None)
 
--- an operation of this kind is pending on the channel
+-- an operation of this kind is pending on the channel with this number
 abbrev pub has_pending : Flight → ℕ → OpKind → Bool
 has_pending f c kind = list_any (is_pending_as c kind) f.operations
 
@@ -83,11 +78,11 @@ limit_refusal g =
     if accepted g.flight == g.op_limit then Some refused.OpsSpent
     else if in_flight g.flight == g.flight.limit then Some refused.FlightFull else None
 
-abbrev pub start_refusal : Group → ℕ → OpKind → Option StartError
-start_refusal g c kind =
-    let channel = channel_at g c in
+abbrev pub start_refusal : Group → GChan → OpKind → Option StartError
+start_refusal g chan kind =
+    let endpoint = (channel_at g chan.number).endpoint in
     if is_terminated g then Some refused.ShutdownGroup
-    else option_or (channel_refusal channel.is_open channel.endpoint (has_pending g.flight c kind) kind)
+    else option_or (channel_refusal (is_open g chan) endpoint (has_pending g.flight chan.number kind) kind)
     (limit_refusal g)
 
 -- which outcomes an operation of this kind and length may have

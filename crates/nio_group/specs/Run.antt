@@ -1,5 +1,5 @@
 -- The calls that change a group, one group step for each, runs of them, and their laws.
-use Rattle.std.specs.Prelude.{◌≡◌, ℕ, ◌+◌, ◌<◌, ◌≤◌, ◌⊎◌, ◌==◌, Bool, false, if◌then◌else◌, not, ◌&&◌, ◌||◌, List, []}
+use Rattle.std.specs.Prelude.{◌≡◌, ℕ, ◌+◌, ◌<◌, ◌≤◌, ◌⊎◌, ◌==◌, Bool, true, false, if◌then◌else◌, not, ◌&&◌, ◌||◌, List, []}
 use Rattle.std.specs.Prelude.{◌∷◌, length, Option, Some, None, Result, IsTrue, nat_lt}
 use Rattle.nio_base.specs.declared.numbers.OpNo.{OpNo}
 use Rattle.nio_base.specs.declared.numbers.GChan.{GChan}
@@ -7,6 +7,7 @@ use Rattle.nio_base.specs.declared.group.GKind.{GKind}
 use Rattle.nio_base.specs.declared.group.OpKind.{OpKind}
 use Rattle.nio_base.specs.declared.group.Outcome.{Outcome}
 use Rattle.nio_base.specs.declared.group.Finished.{Finished}
+use Rattle.nio_group.specs.declared.channel.Channel.{Channel}
 use Rattle.nio_group.specs.declared.operation.Stage.{Stage}
 use Rattle.nio_group.specs.declared.operation.Stage.TheVariants.{Pending, Queued, Running}
 use Rattle.nio_group.specs.declared.operation.Operation.{Operation}
@@ -15,9 +16,11 @@ use Rattle.nio_group.specs.declared.refusal.ReportError.{ReportError}
 use Rattle.nio_group.specs.declared.refusal.NotRunning.{NotRunning}
 use Rattle.nio_group.specs.declared.limits.GroupLimits.{GroupLimits}
 use Rattle.nio_group.specs.Completion.{CompletionFields}
-use Rattle.nio_group.specs.Stages.{is_pending, is_queued, is_running, at_stage}
-use Rattle.nio_group.specs.Flight.{op_at, accepted}
-use Rattle.nio_group.specs.Group.{Group, IsLawful, is_terminated, channel_at, empty_group}
+use Rattle.nio_group.specs.Stages.{is_on, is_pending, is_queued, is_running, at_stage}
+use Rattle.nio_group.specs.Flight.{op_at, accepted, in_flight_on}
+use Rattle.nio_group.specs.Making.{is_of_kind}
+use Rattle.nio_group.specs.Group.{Group, IsLawful, IsMade, StaysMade, is_terminated, is_open, channel_at, name_at}
+use Rattle.nio_group.specs.Group.{empty_group}
 use Rattle.nio_group.specs.Steps.{answer_to_open, after_open, answer_to_bind, after_bind, answer_to_start, after_start}
 use Rattle.nio_group.specs.Steps.{answer_to_report, after_report, answer_to_take, after_take, answer_to_finish}
 use Rattle.nio_group.specs.Steps.{after_finish, after_close, after_shutdown, after_shutdown_now}
@@ -43,37 +46,37 @@ pub data Reply : Type 0 where
   closed : Bool → Reply
   done : Reply
 
--- a call names channels that are made
+-- a call names channels that were made, whether or not their numbers have others by now
 abbrev pub IsCallOf : Group → Call → Type 0
 IsCallOf g (open_channel kind) = Unit {0}
-IsCallOf g (bind chan) = chan.0 < length g.channels
-IsCallOf g (start chan kind len) = chan.0 < length g.channels
+IsCallOf g (bind chan) = IsMade g chan
+IsCallOf g (start chan kind len) = IsMade g chan
 IsCallOf g (report op outcome) = Unit {0}
 IsCallOf g take = Unit {0}
 IsCallOf g (finish op) = Unit {0}
-IsCallOf g (close_channel chan) = chan.0 < length g.channels
+IsCallOf g (close_channel chan) = IsMade g chan
 IsCallOf g shutdown = Unit {0}
 IsCallOf g shutdown_now = Unit {0}
 
 abbrev pub reply_to : Group → Call → Reply
-reply_to g (open_channel kind) = opened (answer_to_open g)
-reply_to g (bind chan) = bound (answer_to_bind g chan.0)
+reply_to g (open_channel kind) = opened (answer_to_open g kind)
+reply_to g (bind chan) = bound (answer_to_bind g chan)
 reply_to g (start chan kind len) = started (answer_to_start g chan kind)
 reply_to g (report op outcome) = reported (answer_to_report g op.0 outcome)
 reply_to g take = taken (answer_to_take g)
 reply_to g (finish op) = finished (answer_to_finish g op.0)
-reply_to g (close_channel chan) = closed (channel_at g chan.0).is_open
+reply_to g (close_channel chan) = closed (is_open g chan)
 reply_to g shutdown = done
 reply_to g shutdown_now = done
 
 abbrev pub after : Group → Call → Group
 after g (open_channel kind) = after_open g kind
-after g (bind chan) = after_bind g chan.0
+after g (bind chan) = after_bind g chan
 after g (start chan kind len) = after_start g chan kind len
 after g (report op outcome) = after_report g op.0 outcome
 after g take = after_take g
 after g (finish op) = after_finish g op.0
-after g (close_channel chan) = after_close g chan.0
+after g (close_channel chan) = after_close g chan
 after g shutdown = after_shutdown g
 after g shutdown_now = after_shutdown_now g
 
@@ -134,7 +137,7 @@ pub record IsForward (g left : Group) (n : ℕ) : Type 0 where
 abbrev pub StagesGoForward : Type 0
 StagesGoForward = (g : Group) (call : Call) (n : ℕ) → IsLawful g → IsCallOf g call → IsForward g (after g call) n
 
--- a run: each call names channels that are made by then
+-- a run: each call names channels that were made by then
 abbrev pub IsRunOf : Group → List Call → Type 0
 IsRunOf g [] = Unit {0}
 IsRunOf g (call ∷ calls) = IsCallOf g call × IsRunOf (after g call) calls
@@ -188,3 +191,62 @@ pub record IsAtRest (g : Group) : Type 0 where
 
 abbrev pub TerminatedIsAtRest : Type 0
 TerminatedIsAtRest = (g : Group) → IsLawful g → IsTrue (is_terminated g) → IsAtRest g
+
+-- ---- numbers that come back
+
+-- a channel keeps its serial and its kind, and one that is closed stays as it is
+pub record StaysChannel (channel next : Channel) : Type 0 where
+  pub serial : next.serial ≡ channel.serial
+  pub kind : (kind : GKind) → is_of_kind kind next.endpoint ≡ is_of_kind kind channel.endpoint
+  pub closed : channel.is_open ≡ false → next ≡ channel
+
+-- the number of a closed channel, of which no operation is in flight, has gone to an open channel of its kind, with the
+-- next serial
+pub record IsSucceeded (g : Group) (c : ℕ) (next : Channel) : Type 0 where
+  pub was_closed : (channel_at g c).is_open ≡ false
+  pub none_in_flight : in_flight_on g.flight (name_at g c) ≡ 0
+  pub serial : next.serial ≡ (channel_at g c).serial + 1
+  pub kind : (kind : GKind) → is_of_kind kind next.endpoint ≡ is_of_kind kind (channel_at g c).endpoint
+  pub opened : next.is_open ≡ true
+
+-- what a call makes of the channel that a number has
+abbrev pub NumbersComeBack : Type 0
+NumbersComeBack =
+    (g : Group) (call : Call) (c : ℕ) → IsLawful g → IsCallOf g call → c < length g.channels
+    → StaysChannel (channel_at g c) (channel_at (after g call) c) ⊎ IsSucceeded g c (channel_at (after g call) c)
+
+-- a channel that was made stays so
+abbrev pub MadeStays : Type 0
+MadeStays = (g : Group) (call : Call) → IsLawful g → IsCallOf g call → StaysMade g (after g call)
+
+-- an old name: its number has another channel by now
+pub record IsOld (g : Group) (chan : GChan) : Type 0 where
+  pub number : chan.number < length g.channels
+  pub serial : chan.serial < (channel_at g chan.number).serial
+
+-- the operation whose completion is at the front of the queue
+abbrev pub front_of : Group → List ℕ → Option Operation
+front_of g [] = None
+front_of g (n ∷ rest) = op_at g.flight n
+
+-- the call names this channel, or an operation that was started on it
+abbrev pub IsOn : Group → GChan → Call → Type 0
+IsOn g chan (open_channel kind) = ⊥
+IsOn g chan (bind named) = named ≡ chan
+IsOn g chan (start named kind len) = named ≡ chan
+IsOn g chan (report op outcome) = IsTrue (is_on chan (op_at g.flight op.0))
+IsOn g chan take = IsTrue (is_on chan (front_of g g.flight.queue))
+IsOn g chan (finish op) = IsTrue (is_on chan (op_at g.flight op.0))
+IsOn g chan (close_channel named) = named ≡ chan
+IsOn g chan shutdown = ⊥
+IsOn g chan shutdown_now = ⊥
+
+-- what holds of an old name: no operation of it is pending, and no call on it, or on an operation of it, changes a
+-- channel
+pub record IsClosedForGood (g : Group) (chan : GChan) : Type 0 where
+  pub closed : is_open g chan ≡ false
+  pub none_pending : (n : ℕ) → IsTrue (is_on chan (op_at g.flight n)) → is_pending (op_at g.flight n) ≡ false
+  pub changes_none : (call : Call) → IsOn g chan call → (after g call).channels ≡ g.channels
+
+abbrev pub OldNamesAreClosed : Type 0
+OldNamesAreClosed = (g : Group) (chan : GChan) → IsLawful g → IsOld g chan → IsClosedForGood g chan

@@ -1,6 +1,7 @@
 -- The stages of an operation. Each accepted operation is pending, queued, running or ended; an
 -- operation that has ended is `None`, since nothing more is known of it.
 use Rattle.std.specs.Prelude.{ℕ, Bool, true, false, ◌&&◌, ◌==◌, Option, Some, None}
+use Rattle.nio_base.specs.declared.numbers.GChan.{GChan}
 use Rattle.nio_base.specs.declared.group.OpKind.{OpKind}
 use Rattle.nio_base.specs.declared.group.OpKind.TheVariants.{Accept, Connect, Read, Write}
 use Rattle.nio_group.specs.declared.operation.Stage.{Stage}
@@ -40,15 +41,25 @@ stage_is_running Pending = false
 stage_is_running (Queued r) = false
 stage_is_running Running = true
 
--- the operation is pending on this channel
+-- the two are one name: the same number with the same serial
+abbrev pub same_name : GChan → GChan → Bool
+same_name a b = (a.number == b.number) && (a.serial == b.serial)
+
+-- the operation is in flight, and was started on the channel of this name
+abbrev pub is_on : GChan → Option Operation → Bool
+is_on chan None = false
+is_on chan (Some op) = same_name chan op.chan
+
+-- the operation is pending on the channel with this number. (It is of the channel that the number has now: see
+-- `IsLawful`.)
 abbrev pub is_pending_on : ℕ → Option Operation → Bool
 is_pending_on c None = false
-is_pending_on c (Some op) = stage_is_pending op.stage && (op.chan.0 == c)
+is_pending_on c (Some op) = stage_is_pending op.stage && (op.chan.number == c)
 
--- the operation is pending on this channel and of this kind
+-- the operation is pending on the channel with this number, and of this kind
 abbrev pub is_pending_as : ℕ → OpKind → Option Operation → Bool
 is_pending_as c kind None = false
-is_pending_as c kind (Some op) = (stage_is_pending op.stage && (op.chan.0 == c)) && same_kind op.kind kind
+is_pending_as c kind (Some op) = (stage_is_pending op.stage && (op.chan.number == c)) && same_kind op.kind kind
 
 abbrev pub is_pending : Option Operation → Bool
 is_pending None = false

@@ -27,6 +27,8 @@ pub enum Endpoint {
 /// A channel of a group.
 #[derive(Clone, Copy, Debug, PartialEq, Eq, Hash)]
 pub struct Channel {
+    /// How many channels had its number before.
+    pub serial: u32,
     /// Whether it isn't closed yet.
     pub is_open: bool,
     /// A stream or a listener, and its state.
@@ -34,19 +36,39 @@ pub struct Channel {
 }
 
 impl Channel {
-    ghost use Rattle.nio_group.specs.Group.{new_channel};
+    ghost use Rattle.nio_group.specs.Making.{gives_way};
 
-    /// A channel as it is made: open, a stream unconnected, a listener not bound.
-    pub(crate) fn new(kind: GKind) -> Channel
-        ensures { result ≡ new_channel kind }
+    /// Whether its number comes back for a channel of this kind, where so many of its operations are in flight.
+    pub(crate) fn gives_way(self, kind: GKind, in_flight: u32) -> bool
+        ensures { result ≡ gives_way kind self in_flight }
     {
-        let endpoint = match kind {
+        !self.is_open && self.endpoint.is_of_kind(kind) && self.serial < u32::MAX && in_flight == 0
+    }
+}
+
+impl Endpoint {
+    ghost use Rattle.nio_group.specs.Group.{new_endpoint};
+    ghost use Rattle.nio_group.specs.Making.{is_of_kind};
+
+    /// That of a channel as it is made: a stream is unconnected, a listener not bound.
+    pub(crate) fn new(kind: GKind) -> Endpoint
+        ensures { result ≡ new_endpoint kind }
+    {
+        match kind {
             GKind::Stream => Endpoint::Stream(Link::Unconnected),
             GKind::Listener => Endpoint::Listener(false),
-        };
-        Channel {
-            is_open: true,
-            endpoint,
+        }
+    }
+
+    /// Whether it is that of a channel of this kind.
+    pub(crate) fn is_of_kind(self, kind: GKind) -> bool
+        ensures { result ≡ is_of_kind kind self }
+    {
+        match (kind, self) {
+            (GKind::Stream, Endpoint::Stream(_)) => true,
+            (GKind::Listener, Endpoint::Listener(_)) => true,
+            (GKind::Stream, Endpoint::Listener(_)) => false,
+            (GKind::Listener, Endpoint::Stream(_)) => false,
         }
     }
 }

@@ -1,6 +1,6 @@
 //! The laws of a group, each the contract of a function with an empty body.
 ghost use Rattle.nio_group.specs.Run.{StepsAreLawful, TerminatedStays, StagesGoForward, CompletesOnce, TakesOnce};
-ghost use Rattle.nio_group.specs.Run.{TerminatedIsAtRest};
+ghost use Rattle.nio_group.specs.Run.{TerminatedIsAtRest, NumbersComeBack, MadeStays, OldNamesAreClosed};
 
 /// For each lawful state of a group and each call there are one reply and one next state, and that
 /// state is lawful.
@@ -35,4 +35,18 @@ pub fn take_law()
 /// from then on.
 pub fn rest_law()
     ensures { TerminatedIsAtRest }
+{}
+
+/// A channel keeps its kind, and once closed it stays closed. Its number goes to another channel only where
+/// it is closed and none of its operations is in flight: an open one of the same kind, with the next
+/// serial. A name that was made stays so.
+pub fn numbers_law()
+    ensures come_back { NumbersComeBack }
+    ensures made { MadeStays }
+{}
+
+/// A channel whose number has another one by now is closed for good: none of its operations is pending, so
+/// none completes, and no call on it, or on an operation of it, changes a channel.
+pub fn old_names_law()
+    ensures { OldNamesAreClosed }
 {}

@@ -6,7 +6,10 @@
 pub use channel::{Channel, Endpoint, Link};
 pub use completion::{Completion, Job};
 pub use group::GroupCore;
-pub use laws::{completion_law, rest_law, stage_law, step_law, take_law, terminated_law};
+pub use laws::{
+    completion_law, numbers_law, old_names_law, rest_law, stage_law, step_law, take_law,
+    terminated_law,
+};
 pub use limits::GroupLimits;
 pub use nio_base::{Finished, GKind, OpKind, Outcome, Why};
 pub use operation::{Operation, Stage};

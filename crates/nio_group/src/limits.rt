@@ -3,7 +3,7 @@
 /// How much a group can hold.
 #[derive(Clone, Copy, Debug, PartialEq, Eq, Hash)]
 pub struct GroupLimits {
-    /// How many channels it makes at most: from 1 to 65,536.
+    /// How many numbers it gives to channels at most: from 1 to 65,536.
     pub channels: u32,
     /// How many operations it has in flight at most: from 1 to 65,536.
     pub flight: u32,

@@ -43,8 +43,8 @@ pub enum StartError {
     /// As many operations are in flight as may be.
     #[error("as many operations are in flight as may be")]
     FlightFull,
-    /// The group has made as many channels as it may.
-    #[error("the group has made as many channels as it may")]
+    /// Each number was given to a channel, and none of this kind comes back now.
+    #[error("no number is left for another channel")]
     ChannelsSpent,
 }
 

@@ -5,6 +5,7 @@ use Rattle.std.specs.Prelude.{nat_lt, fold, IsTrue}
 use Rattle.std.specs.Int.{bit_at}
 use Rattle.std.proofs.lemmas.Bool.{and_parts, ltb-true, ltb-false}
 use Rattle.std.proofs.lemmas.List.{append-nil, append_cancel_left}
+use Rattle.nio_base.specs.Kind.{is_same_kind}
 use Rattle.nio_base.specs.declared.limits.Limits.{Limits}
 use Rattle.nio_base.specs.declared.numbers.CallerNo.{CallerNo}
 use Rattle.nio_history.proofs.Bits.{bits_below-at, bits_below-above}
@@ -20,16 +21,18 @@ use Rattle.nio_history.specs.Answers.{Answers, bits_below}
 use Rattle.nio_history.specs.Found.{Leaves, StepsLeave, is_look, LooksTell, gate_tells, channel_tells, stage_tells}
 use Rattle.nio_history.specs.Found.{selectors_tell, keys_high_tells, channels_high_tells, finds, FoundStands}
 use Rattle.nio_history.specs.Histories.{state_after, event_of, last_of, is_by, mine, HistoryClause}
-use Rattle.nio_history.specs.Permanent.{PermanentFact, selector_made, selector_shut, channel_made, channel_closed}
+use Rattle.nio_history.specs.Permanent.{PermanentFact, selector_made, selector_shut, channel_made, channel_of_kind}
+use Rattle.nio_history.specs.Permanent.{channel_opened, channel_closed}
 use Rattle.nio_history.specs.Permanent.{index_claimed, key_claimed, key_published, key_cancelled, key_removed}
 use Rattle.nio_history.specs.Permanent.{below_keys_high, below_channels_high, stands}
-use Rattle.nio_history.specs.Sets.{was_claimed, was_published, was_cancelled, was_removed}
+use Rattle.nio_history.specs.Sets.{was_claimed, was_published, was_cancelled, was_removed, was_opened, was_closed}
 use Rattle.nio_history.specs.State.{State}
 use Rattle.nio_history.specs.declared.act.Act.{Act}
 use Rattle.nio_history.specs.declared.act.Act.TheVariants.{LookSelectors, LookGate, LookInterrupt, LookKey, CancelKey}
 use Rattle.nio_history.specs.declared.act.Act.TheVariants.{LookInterest, LookNote, LookChannel, RaiseKeys, LookKeys}
 use Rattle.nio_history.specs.declared.act.Act.TheVariants.{Publish, LookReg, BeginLook, Remove, LookMark, EndWake}
-use Rattle.nio_history.specs.declared.act.Act.TheVariants.{LookChannels, RaiseChannels, SetMode, Enter, Pin, LookFree}
+use Rattle.nio_history.specs.declared.act.Act.TheVariants.{LookChannels, RaiseChannels, SetMode, CloseBit, Enter, Pin}
+use Rattle.nio_history.specs.declared.act.Act.TheVariants.{LookFree}
 use Rattle.nio_history.specs.declared.event.Event.{Event}
 use Rattle.nio_history.specs.declared.found.Chan.{Chan}
 use Rattle.nio_history.specs.declared.found.GateWord.{GateWord}
@@ -144,7 +147,12 @@ gate_stands st s found f is told = absurd (cc told)
 channel_stands : (st : State) (c : ℕ) (found : Chan) (f : PermanentFact) → found ≡ st.chan c
     → channel_tells c found f ≡ true → stands f st ≡ true
 channel_stands st c found (channel_made c') is told = found_at st.chan (λ x. x.made) c c' found told is
-channel_stands st c found (channel_closed c') is told = found_at st.chan (λ x. x.closed) c c' found told is
+channel_stands st c found (channel_of_kind c' kind) is told =
+    found_at st.chan (λ x. x.made && is_same_kind x.kind kind) c c' found told is
+channel_stands st c found (channel_opened c' serial) is told =
+    found_at st.chan (λ x. was_opened x serial) c c' found told is
+channel_stands st c found (channel_closed c' serial) is told =
+    found_at st.chan (λ x. was_closed x serial) c c' found told is
 channel_stands st c found f is told = absurd (cc told)
 
 stage_stands : (st : State) (s i : ℕ) (found : Stage) (f : PermanentFact) → found ≡ st.key s i
@@ -205,6 +213,7 @@ step_finds st me (Remove s i found) f answers told = stage_stands st s.0 i found
 step_finds st me (Pin s i found) f answers told = stage_stands st s.0 i found f (cc) told
 step_finds st me (LookChannel c found) f answers told = channel_stands st c.0 found f (cc) told
 step_finds st me (SetMode c blocking found) f answers told = channel_stands st c.0 found f (cc) told
+step_finds st me (CloseBit c from found) f answers told = channel_stands st c.0 found f (cc) told
 step_finds st me (LookKeys s found) f answers told = keys_high_stands st s.0 found f (cc) told
 step_finds st me (RaiseKeys s n found) f answers told = keys_high_stands st s.0 found f (cc) told
 step_finds st me (LookChannels found) f answers told = channels_high_stands st found f (cc) told

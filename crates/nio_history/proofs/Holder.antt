@@ -7,26 +7,27 @@ use Rattle.std.proofs.Math.Bool.{and-false}
 use Rattle.nio_base.specs.declared.limits.Limits.{Limits}
 use Rattle.nio_base.specs.declared.numbers.CallerNo.{CallerNo}
 use Rattle.nio_base.specs.declared.numbers.ChanNo.{ChanNo}
+use Rattle.nio_history.proofs.ChannelChanges.{channels_keep}
 use Rattle.nio_history.proofs.Keeping.{knows_while}
 use Rattle.nio_history.proofs.LastsAlone.{one_holder, spares_not}
 use Rattle.nio_history.proofs.Legal.{legal_more, legal_induction}
 use Rattle.nio_history.proofs.OneMore.{state_after-more, mine-own, mine-other, has-more, since_from-more}
-use Rattle.nio_history.proofs.Put.{put_keeps, put_gave, put-same}
+use Rattle.nio_history.proofs.Put.{put_gave, put-same}
 use Rattle.nio_history.proofs.Soundness.{legal-sound, held_some, both_ways}
 use Rattle.nio_history.specs.Acts.{effect}
 use Rattle.nio_history.specs.Answers.{Answers}
 use Rattle.nio_history.specs.Conditions.{Condition, is_held_by}
 use Rattle.nio_history.specs.Histories.{state_after, is_by, mine, IsStep, IsLegal}
-use Rattle.nio_history.specs.Holders.{Keeps}
+use Rattle.nio_history.specs.Holders.{Keeps, KeepsMode}
 use Rattle.nio_history.specs.Permanent.{the_hold}
 use Rattle.nio_history.specs.OwnEvents.{has, under, takes_hold, finds_unblocked, sets_mode, releases}
 use Rattle.nio_history.specs.Sound.{IsSound}
 use Rattle.nio_history.specs.State.{State, put}
 use Rattle.nio_history.specs.Turns.{HolderKnowsMode}
 use Rattle.nio_history.specs.declared.act.Act.{Act}
-use Rattle.nio_history.specs.declared.act.Act.TheVariants.{MakeChannel, LookChannel, TryHoldBit, Release, SetMode}
-use Rattle.nio_history.specs.declared.act.Act.TheVariants.{CloseBit}
+use Rattle.nio_history.specs.declared.act.Act.TheVariants.{LookChannel, TryHoldBit, Release}
 use Rattle.nio_history.specs.declared.event.Event.{Event}
+use Rattle.nio_history.specs.declared.found.Chan.{Chan}
 
 -- who holds a channel after a step that didn't give it the hold held it before
 held_before : (st : State) (me n : CallerNo) (act : Act) → Answers st me act → (c : ℕ)
@@ -145,26 +146,41 @@ held_since l n c =
 
 -- ---- the mode of the channel
 
-pub mode_kept : (l : Limits) (own : List Act) (st : State) (me n : CallerNo) (act : Act) (c : ℕ) (b : Bool) → IsSound st
-    → Condition l own st me act → Answers st me act
-    → is_held_by n (st.hold c) ≡ true → ((me.0 == n.0) && sets_mode c act) ≡ false → (st.chan c).blocking ≡ b
-    → ((effect st me act).chan c).blocking ≡ b
-mode_kept l own st me n (MakeChannel k kind true) c b sound may answers held spared =
-    put_keeps (λ _ x. x.blocking ≡ b) st.chan k.0 _ (λ e. e) c
-mode_kept l own st me n (MakeChannel k kind false) c b sound may answers held spared = λ now.
-    let unmade : (st.chan k.0).made ≡ false = cc in
-    put_keeps (λ m x. is_held_by n (st.hold m) ≡ true → x.blocking ≡ b) st.chan k.0 _
-    (λ _ held'. absurd (both_ways (st.chan k.0).made (sound.held_made k.0 (held_some n (st.hold k.0) held')) unmade)) c
-    (λ _. now) held
-mode_kept l own st me n (SetMode k blocking found) c b sound may answers held spared = λ now.
-    put_keeps (λ m x. is_held_by n (st.hold m) ≡ true → ((me.0 == n.0) && (k.0 == m)) ≡ false → x.blocking ≡ b) st.chan
-    k.0 _
-    (λ _ held' spared'. absurd
-    (spares_not me n (k.0 == k.0) (one_holder me n (st.hold k.0) may.1 held') (eq-eqb k.0 k.0 refl) spared'))
-    c (λ _ _. now) held spared
-mode_kept l own st me n (CloseBit k found) c b sound may answers held spared =
-    put_keeps (λ _ x. x.blocking ≡ b) st.chan k.0 _ (λ e. e) c
-mode_kept l own st me n act c b sound may answers held spared = λ now. now
+-- a channel as it is keeps its mode
+pub mode_itself : (x : Chan) → KeepsMode x x
+mode_itself x = record { non_blocking = λ e. e; while_open = λ _. refl }
+
+-- no step but some of the holder's sets the mode of an open channel, or makes a non-blocking one blocking
+pub mode_kept : (l : Limits) (own : List Act) (st : State) (me n : CallerNo) (act : Act) (c : ℕ) (was : Chan)
+    → IsSound st → Condition l own st me act → Answers st me act
+    → is_held_by n (st.hold c) ≡ true → ((me.0 == n.0) && sets_mode c act) ≡ false → KeepsMode was (st.chan c)
+    → KeepsMode was ((effect st me act).chan c)
+mode_kept l own st me n act c was sound may answers held spared now =
+    channels_keep May st me (λ m x. m ≡ c → KeepsMode was x) (record {
+      made = λ k kind _ unmade _ at.
+          absurd (both_ways (st.chan k.0).made (sound.held_made k.0 (held_some n (st.hold k.0) (held_at k.0 at)))
+          unmade);
+      mode = λ k blocking found may' _ at. absurd (not_its k may'.0.1 may'.1 at);
+      closed = λ k from found _ closes old at. record {
+        non_blocking = λ e.
+            let x : Chan = st.chan k.0 in
+            let both = and_parts (x.serial == from.serial) (x.blocking || not from.blocking) closes in
+            let non_blocking' : x.blocking ≡ false = (old at).non_blocking e in
+            not-true from.blocking (sym (ap (λ b. b || not from.blocking) non_blocking') ∙ both.1);
+        while_open = λ e. absurd cc;
+      };
+      reopened = λ k may' _ at. absurd (not_its k may'.0.1 may'.1 at);
+    }) act (may, spared) answers c (λ _. now) refl
+  where
+    May : Act → Type 0
+    May act' = Condition l own st me act' × (((me.0 == n.0) && sets_mode c act') ≡ false)
+
+    held_at : (k : ℕ) → k ≡ c → is_held_by n (st.hold k) ≡ true
+    held_at k at = subst (λ (m : ℕ). is_held_by n (st.hold m) ≡ true) (sym at) held
+
+    not_its : (k : ChanNo) → is_held_by me (st.hold k.0) ≡ true → ((me.0 == n.0) && (k.0 == c)) ≡ false → k.0 ≡ c → ⊥
+    not_its k its spared' at =
+        spares_not me n (k.0 == c) (one_holder me n (st.hold k.0) its (held_at k.0 at)) (eq-eqb k.0 c at) spared'
 
 unblocked_told : (st : State) (me : CallerNo) (act : Act) (c : ℕ) → Answers st me act → finds_unblocked c act ≡ true
     → ((effect st me act).chan c).blocking ≡ false
@@ -185,15 +201,21 @@ holder_knows_mode l n c events legal held had spared =
     (λ past e legal' step had' by spared' did knew found.
     elim (or_cases (has (finds_unblocked c.0) did) (finds_unblocked c.0 e.act)
     (sym (has-more (finds_unblocked c.0) did e.act) ∙ found)) [
-      | inl earlier ↦ mode_kept l (mine e.caller past) (state_after past) e.caller n e.act c.0 false
-          (legal-sound l past legal') step.condition step.answers had'
+      | inl earlier ↦ non_blocking_still past e legal' step had'
           (ap (λ b. is_by n e && b) spared' ∙ and-false (is_by n e)) (knew earlier)
       | inr now ↦ unblocked_told (state_after past) e.caller e.act c.0 step.answers now
     ])
     (λ past e legal' step had' by did knew found.
-    mode_kept l (mine e.caller past) (state_after past) e.caller n e.act c.0 false
-    (legal-sound l past legal') step.condition step.answers had' (ap (λ b. b && sets_mode c.0 e.act) by)
-    (knew found))
+    non_blocking_still past e legal' step had' (ap (λ b. b && sets_mode c.0 e.act) by) (knew found))
     since.before since.later since.keeps (sym (ap (has (sets_mode c.0)) since.own) ∙ spared) (λ found. absurd cc)
     (sym (ap (has (finds_unblocked c.0)) since.own) ∙ had) in
     subst (λ evs. ((state_after evs).chan c.0).blocking ≡ false) (sym since.whole) known
+  where
+    non_blocking_still : (past : List Event) (e : Event) → IsLegal l past → IsStep l past e
+        → is_held_by n ((state_after past).hold c.0) ≡ true → (is_by n e && sets_mode c.0 e.act) ≡ false
+        → ((state_after past).chan c.0).blocking ≡ false
+        → ((effect (state_after past) e.caller e.act).chan c.0).blocking ≡ false
+    non_blocking_still past e legal' step had' spared' =
+        (mode_kept l (mine e.caller past) (state_after past) e.caller n e.act c.0 ((state_after past).chan c.0)
+        (legal-sound l past legal') step.condition step.answers had' spared'
+        (mode_itself ((state_after past).chan c.0))).non_blocking

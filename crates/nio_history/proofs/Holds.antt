@@ -10,27 +10,29 @@ use Rattle.nio_base.specs.declared.numbers.CallerNo.{CallerNo}
 use Rattle.nio_base.specs.declared.numbers.ChanNo.{ChanNo}
 use Rattle.nio_base.specs.declared.numbers.KeyId.{KeyId}
 use Rattle.nio_base.specs.declared.numbers.SelNo.{SelNo}
+use Rattle.nio_history.proofs.ChannelChanges.{channels_keep}
 use Rattle.nio_history.proofs.Claims.{if_some}
-use Rattle.nio_history.proofs.Holder.{mode_kept, held_since}
+use Rattle.nio_history.proofs.Holder.{mode_itself, mode_kept, held_since}
 use Rattle.nio_history.proofs.KeyChanges.{stages_keep}
 use Rattle.nio_history.proofs.Keeping.{knows_while, stands_while}
 use Rattle.nio_history.proofs.LastsAlone.{one_holder, spares_not, same_two}
 use Rattle.nio_history.proofs.OneMore.{has-more, last-more, since_from-more}
 use Rattle.nio_history.proofs.PinLaws.{own_claims_stand, enrolled_keys_are_claimed}
 use Rattle.nio_history.proofs.Put.{same_pair, put_at_keeps, put_at-there}
-use Rattle.nio_history.proofs.Soundness.{legal-sound}
+use Rattle.nio_history.proofs.Soundness.{legal-sound, held_some, both_ways}
 use Rattle.nio_history.proofs.Told.{stage_told}
 use Rattle.nio_history.specs.Acts.{effect}
 use Rattle.nio_history.specs.Answers.{Answers}
 use Rattle.nio_history.specs.Conditions.{Condition, is_held_by, holds, may_publish}
 use Rattle.nio_history.specs.Histories.{state_after, mine, IsStep, IsLegal}
-use Rattle.nio_history.specs.Holders.{ModeStays, EnrolledStays, FoundEnrolledStays, OutsideStays, FoundClearStays}
-use Rattle.nio_history.specs.Holders.{ClearIsTrue}
+use Rattle.nio_history.specs.Holders.{ChannelStays, KeepsMode, ModeStays, EnrolledStays, FoundEnrolledStays}
+use Rattle.nio_history.specs.Holders.{OutsideStays, FoundClearStays, ClearIsTrue}
 use Rattle.nio_history.specs.Permanent.{the_hold}
-use Rattle.nio_history.specs.OwnEvents.{OwnClaim, has, last, under, own_claim, sets_mode, enrols_key, publishes}
-use Rattle.nio_history.specs.OwnEvents.{stage_found, is_outside, finds_outside, finds_unblocked, enrolled_found}
-use Rattle.nio_history.specs.OwnEvents.{since_key_enrolled, is_clear_by}
+use Rattle.nio_history.specs.OwnEvents.{OwnClaim, has, last, under, own_claim, reopens, sets_mode, enrols_key}
+use Rattle.nio_history.specs.OwnEvents.{publishes, stage_found, is_outside, finds_outside, finds_unblocked}
+use Rattle.nio_history.specs.OwnEvents.{enrolled_found, since_key_enrolled, is_clear_by}
 use Rattle.nio_history.specs.Sets.{is_in_key_set}
+use Rattle.nio_history.specs.Sound.{IsSound}
 use Rattle.nio_history.specs.State.{State}
 use Rattle.nio_history.specs.declared.act.Act.{Act}
 use Rattle.nio_history.specs.declared.act.Act.TheVariants.{LookReg, Enrol}
@@ -38,15 +40,45 @@ use Rattle.nio_history.specs.declared.event.Event.{Event}
 use Rattle.nio_history.specs.declared.found.Stage.{Stage}
 use Rattle.nio_history.proofs.Legal.{none_such}
 
--- ---- the mode of the channel
+-- ---- the channel that the number has, and its mode
+
+serial_kept : (l : Limits) (own : List Act) (st : State) (me n : CallerNo) (act : Act) (c serial : ℕ) → IsSound st
+    → Condition l own st me act → Answers st me act
+    → is_held_by n (st.hold c) ≡ true → ((me.0 == n.0) && reopens c act) ≡ false → (st.chan c).serial ≡ serial
+    → ((effect st me act).chan c).serial ≡ serial
+serial_kept l own st me n act c serial sound may answers held spared now =
+    channels_keep May st me (λ m x. m ≡ c → x.serial ≡ serial) (record {
+      made = λ k kind _ unmade _ at.
+          absurd (both_ways (st.chan k.0).made (sound.held_made k.0 (held_some n (st.hold k.0) (held_at k.0 at)))
+          unmade);
+      mode = λ k blocking found _ old. old;
+      closed = λ k from found _ _ old. old;
+      reopened = λ k may' _ at. absurd
+          (spares_not me n (k.0 == c) (one_holder me n (st.hold k.0) may'.0.1 (held_at k.0 at)) (eq-eqb k.0 c at)
+          may'.1);
+    }) act (may, spared) answers c (λ _. now) refl
+  where
+    May : Act → Type 0
+    May act' = Condition l own st me act' × (((me.0 == n.0) && reopens c act') ≡ false)
+
+    held_at : (k : ℕ) → k ≡ c → is_held_by n (st.hold k) ≡ true
+    held_at k at = subst (λ (m : ℕ). is_held_by n (st.hold m) ≡ true) (sym at) held
+
+pub channel_stays : ChannelStays
+channel_stays l n c before later keeps spared =
+    stands_while l n (the_hold c) (reopens c.0)
+    (λ st. (st.chan c.0).serial ≡ ((state_after before).chan c.0).serial)
+    (λ past e legal step had spared'. serial_kept l (mine e.caller past) (state_after past) e.caller n e.act c.0 _
+    (legal-sound l past legal) step.condition step.answers had spared')
+    before later keeps spared refl
 
 pub mode_stays : ModeStays
 mode_stays l n c before later keeps spared =
     stands_while l n (the_hold c) (sets_mode c.0)
-    (λ st. (st.chan c.0).blocking ≡ ((state_after before).chan c.0).blocking)
-    (λ past e legal step had spared'. mode_kept l (mine e.caller past) (state_after past) e.caller n e.act c.0 _
-    (legal-sound l past legal) step.condition step.answers had spared')
-    before later keeps spared refl
+    (λ st. KeepsMode ((state_after before).chan c.0) (st.chan c.0))
+    (λ past e legal step had spared'. mode_kept l (mine e.caller past) (state_after past) e.caller n e.act c.0
+    ((state_after before).chan c.0) (legal-sound l past legal) step.condition step.answers had spared')
+    before later keeps spared (mode_itself ((state_after before).chan c.0))
 
 -- ---- which key is enrolled
 

@@ -3,13 +3,14 @@
 use Rattle.std.proofs.Common.{◌≡◌, ℕ, ◌<◌, true, false, refl, arith}
 use Rattle.std.proofs.lemmas.Bool.{or_left}
 use Rattle.nio_base.specs.declared.numbers.CallerNo.{CallerNo}
+use Rattle.nio_history.proofs.ChannelChanges.{closing_keeps}
 use Rattle.nio_history.proofs.Put.{put_keeps, put_at_keeps}
 use Rattle.nio_history.specs.Acts.{effect}
 use Rattle.nio_history.specs.State.{State}
 use Rattle.nio_history.specs.declared.act.Act.{Act}
 use Rattle.nio_history.specs.declared.act.Act.TheVariants.{DrawBit, MakeSelector, Wake, CancelKey, MakeChannel, Claim}
 use Rattle.nio_history.specs.declared.act.Act.TheVariants.{RaiseKeys, Publish, Remove, EndWake, RaiseChannels, SetMode}
-use Rattle.nio_history.specs.declared.act.Act.TheVariants.{CloseBit, ShutBit, Enter, ClaimAgain}
+use Rattle.nio_history.specs.declared.act.Act.TheVariants.{CloseBit, ShutBit, Enter, ClaimAgain, Reopen}
 
 pub drawn_lasts : (st : State) (me : CallerNo) (act : Act) (n : ℕ) → st.drawn n ≡ true
     → (effect st me act).drawn n ≡ true
@@ -38,7 +39,11 @@ pub made_lasts : (st : State) (me : CallerNo) (act : Act) (c : ℕ) → (st.chan
 made_lasts st me (MakeChannel k kind true) c h = put_keeps (λ _ x. x.made ≡ true) st.chan k.0 _ (λ e. e) c h
 made_lasts st me (MakeChannel k kind false) c h = put_keeps (λ _ x. x.made ≡ true) st.chan k.0 _ (λ _. refl) c h
 made_lasts st me (SetMode k blocking found) c h = put_keeps (λ _ x. x.made ≡ true) st.chan k.0 _ (λ e. e) c h
-made_lasts st me (CloseBit k found) c h = put_keeps (λ _ x. x.made ≡ true) st.chan k.0 _ (λ e. e) c h
+made_lasts st me (CloseBit k from found) c h =
+    put_keeps (λ _ x. x.made ≡ true) st.chan k.0 _
+    (closing_keeps (λ x. x.made ≡ true) from (st.chan k.0) (λ _ e. e)) c h
+made_lasts st me (Reopen k from true) c h = put_keeps (λ _ x. x.made ≡ true) st.chan k.0 _ (λ e. e) c h
+made_lasts st me (Reopen k from false) c h = put_keeps (λ _ x. x.made ≡ true) st.chan k.0 _ (λ _. refl) c h
 made_lasts st me act c h = h
 
 pub claimed_lasts : (st : State) (me : CallerNo) (act : Act) (s i : ℕ) → (st.key s i).claimed ≡ true

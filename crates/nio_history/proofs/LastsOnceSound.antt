@@ -1,33 +1,39 @@
--- What lasts from a sound state: how far a key came, that a channel is closed, and who closes a selector. With
--- what lasts from every state, all that stands in `PermanentFact`.
+-- What lasts from a sound state: how far a key came, that a channel was opened and closed, the kind of a number's
+-- channels, and who closes a selector. With what lasts from every state, all that stands in `PermanentFact`.
 use Rattle.std.proofs.Common.{◌≡◌, ℕ, ◌==◌, ◌<◌, ◌≤◌, Bool, true, false, not, ◌&&◌, ◌||◌, inl, inr, suc, List, ◌++◌}
 use Rattle.std.proofs.Common.{refl, ap, sym, ◌∙◌, subst, eqb-true, arith}
 use Rattle.std.specs.Prelude.{nat_lt}
 use Rattle.std.proofs.lemmas.Bool.{and_parts, and_from, le-ltb, lt-ltb, ltb-false, ltb-true, not-true, not_from_false}
 use Rattle.std.proofs.lemmas.Bool.{or_cases, or_right}
+use Rattle.nio_base.specs.Kind.{is_same_kind}
+use Rattle.nio_base.specs.declared.kind.Kind.{Kind}
 use Rattle.nio_base.specs.declared.limits.Limits.{Limits}
 use Rattle.nio_base.specs.declared.numbers.CallerNo.{CallerNo}
+use Rattle.nio_history.proofs.ChannelChanges.{KeepsChannels, channels_keep}
 use Rattle.nio_history.proofs.KeyChanges.{KeepsStages, stages_keep}
 use Rattle.nio_history.proofs.Lasts.{drawn_lasts, selector_lasts, shut_lasts, entered_lasts, made_lasts, claimed_lasts}
 use Rattle.nio_history.proofs.Lasts.{keys_high_lasts, channels_high_lasts}
 use Rattle.nio_history.proofs.Legal.{legal_from}
 use Rattle.nio_history.proofs.OneMore.{state_after-more}
 use Rattle.nio_history.proofs.Put.{put_keeps}
-use Rattle.nio_history.proofs.Soundness.{legal-sound, held_some, both_ways, closed-made}
-use Rattle.nio_history.specs.Acts.{effect, new_key}
+use Rattle.nio_history.proofs.Soundness.{legal-sound, held_some, both_ways}
+use Rattle.nio_history.specs.Acts.{effect, new_key, new_channel}
 use Rattle.nio_history.specs.Answers.{Answers}
 use Rattle.nio_history.specs.Conditions.{Condition, is_held_by}
 use Rattle.nio_history.specs.Histories.{state_after, mine, IsStep, IsLegal}
 use Rattle.nio_history.specs.Permanent.{PermanentFact, caller_drawn, selector_made, selector_shut, selector_closed_by}
-use Rattle.nio_history.specs.Permanent.{selector_entered, channel_made, channel_closed, index_claimed, key_claimed}
+use Rattle.nio_history.specs.Permanent.{selector_entered, channel_made, channel_of_kind, channel_opened, channel_closed}
+use Rattle.nio_history.specs.Permanent.{index_claimed, key_claimed}
 use Rattle.nio_history.specs.Permanent.{key_published, key_cancelled, key_removed, below_keys_high, below_channels_high}
 use Rattle.nio_history.specs.Permanent.{stands}
-use Rattle.nio_history.specs.Sets.{fits, was_claimed, was_published, was_cancelled, was_removed}
+use Rattle.nio_history.specs.Sets.{fits, was_claimed, was_published, was_cancelled, was_removed, fits_channel}
+use Rattle.nio_history.specs.Sets.{was_opened, was_closed}
 use Rattle.nio_history.specs.Sound.{IsSound}
 use Rattle.nio_history.specs.State.{State, unclaimed}
 use Rattle.nio_history.specs.declared.act.Act.{Act}
-use Rattle.nio_history.specs.declared.act.Act.TheVariants.{MakeChannel, SetMode, CloseBit, ShutBit}
+use Rattle.nio_history.specs.declared.act.Act.TheVariants.{ShutBit}
 use Rattle.nio_history.specs.declared.event.Event.{Event}
+use Rattle.nio_history.specs.declared.found.Chan.{Chan}
 use Rattle.nio_history.specs.declared.found.Stage.{Stage}
 
 -- ---- keys, by their serials
@@ -114,21 +120,66 @@ was_claimed_keeps l own st me serial = record {
 
 -- ---- channels and selectors
 
-closed_lasts : (st : State) (me : CallerNo) (act : Act) → Answers st me act → IsSound st → (c : ℕ)
-    → (st.chan c).closed ≡ true → ((effect st me act).chan c).closed ≡ true
-closed_lasts st me (MakeChannel k kind true) answers sound c =
-    put_keeps (λ _ x. x.closed ≡ true) st.chan k.0 _ (λ e. e) c
-closed_lasts st me (MakeChannel k kind false) answers sound c =
-    put_keeps (λ _ x. x.closed ≡ true) st.chan k.0 _ (λ e. absurd (not_closed (closed-made st sound k.0 e))) c
+-- a channel that was opened was so ever after
+was_opened_keeps : (l : Limits) (own : List Act) (st : State) (me : CallerNo) (serial : ℕ)
+    → KeepsChannels (Condition l own st me) st (λ _ x. was_opened x serial ≡ true)
+was_opened_keeps l own st me serial = record {
+  made = λ c kind _ unmade old.
+      absurd (both_ways (st.chan c.0).made
+      (and_parts (st.chan c.0).made (not (nat_lt (st.chan c.0).serial serial)) old).0 unmade);
+  mode = λ c blocking found _ old. old;
+  closed = λ c from found _ _ old. old;
+  reopened = λ c _ old.
+      not_below_next (st.chan c.0).serial serial
+      (and_parts (st.chan c.0).made (not (nat_lt (st.chan c.0).serial serial)) old).1;
+}
+
+-- a channel that was closed is so ever after: a number's next channel has another serial
+was_closed_keeps : (l : Limits) (own : List Act) (st : State) (me : CallerNo) (serial : ℕ) → IsSound st
+    → KeepsChannels (Condition l own st me) st (λ _ x. was_closed x serial ≡ true)
+was_closed_keeps l own st me serial sound = record {
+  made = λ c kind _ unmade old.
+      elim (or_cases (nat_lt serial 0) false
+      (sym (ap (λ x. was_closed x serial) (sound.unmade_bare c.0 unmade)) ∙ old)) [
+        | inl below ↦ absurd (omega (arith, ltb-true serial 0 below))
+        | inr now ↦ absurd (cc now)
+      ];
+  mode = λ c blocking found _ old. old;
+  closed = λ c from found _ _ old.
+      let x : Chan = st.chan c.0 in
+      elim (or_cases (nat_lt serial x.serial) (fits_channel x serial && x.closed) old) [
+        | inl below ↦ ap (λ b. b || (fits_channel x serial && true)) below
+        | inr now ↦ or_right (nat_lt serial x.serial) (fits_channel x serial && true)
+            (and_from (fits_channel x serial) true (and_parts (fits_channel x serial) x.closed now).0 refl)
+      ];
+  reopened = λ c _ old.
+      let x : Chan = st.chan c.0 in
+      ap (λ b. b || (fits_channel (new_channel x.kind (suc x.serial)) serial && false)) (before_next x old);
+}
   where
-    not_closed : (st.chan k.0).made ≡ true → ⊥
-    not_closed made =
-        let unmade : (st.chan k.0).made ≡ false = cc in
-        both_ways (st.chan k.0).made made unmade
-closed_lasts st me (SetMode k blocking found) answers sound c =
-    put_keeps (λ _ x. x.closed ≡ true) st.chan k.0 _ (λ e. e) c
-closed_lasts st me (CloseBit k found) answers sound c = put_keeps (λ _ x. x.closed ≡ true) st.chan k.0 _ (λ _. refl) c
-closed_lasts st me act answers sound c = λ h. h
+    before_next : (x : Chan) → was_closed x serial ≡ true → nat_lt serial (suc x.serial) ≡ true
+    before_next x old =
+        elim (or_cases (nat_lt serial x.serial) (fits_channel x serial && x.closed) old) [
+          | inl below ↦
+              let lower : serial < x.serial = ltb-true serial x.serial below in
+              lt-ltb serial (suc x.serial) (omega arith)
+          | inr now ↦
+              let same : x.serial ≡ serial = eqb-true x.serial serial
+              (and_parts x.made (x.serial == serial) (and_parts (fits_channel x serial) x.closed now).0).1 in
+              lt-ltb serial (suc x.serial) (omega arith)
+        ]
+
+-- the channels of a number are of one kind
+kind_keeps : (l : Limits) (own : List Act) (st : State) (me : CallerNo) (kind : Kind)
+    → KeepsChannels (Condition l own st me) st (λ _ x. (x.made && is_same_kind x.kind kind) ≡ true)
+kind_keeps l own st me kind = record {
+  made = λ c new _ unmade old.
+      absurd (both_ways (st.chan c.0).made
+      (and_parts (st.chan c.0).made (is_same_kind (st.chan c.0).kind kind) old).0 unmade);
+  mode = λ c blocking found _ old. old;
+  closed = λ c from found _ _ old. old;
+  reopened = λ c _ old. (and_parts (st.chan c.0).made (is_same_kind (st.chan c.0).kind kind) old).1;
+}
 
 closer_lasts : (st : State) (me : CallerNo) (act : Act) → Answers st me act → IsSound st → (s : ℕ) (n : CallerNo)
     → is_held_by n (st.closer s) ≡ true → is_held_by n ((effect st me act).closer s) ≡ true
@@ -154,7 +205,15 @@ lasts l own st me act may answers sound (selector_shut s) h = shut_lasts st me a
 lasts l own st me act may answers sound (selector_closed_by s n) h = closer_lasts st me act answers sound s.0 n h
 lasts l own st me act may answers sound (selector_entered s) h = entered_lasts st me act s h
 lasts l own st me act may answers sound (channel_made c) h = made_lasts st me act c h
-lasts l own st me act may answers sound (channel_closed c) h = closed_lasts st me act answers sound c h
+lasts l own st me act may answers sound (channel_of_kind c kind) h =
+    channels_keep (Condition l own st me) st me (λ _ x. (x.made && is_same_kind x.kind kind) ≡ true)
+    (kind_keeps l own st me kind) act may answers c h
+lasts l own st me act may answers sound (channel_opened c serial) h =
+    channels_keep (Condition l own st me) st me (λ _ x. was_opened x serial ≡ true)
+    (was_opened_keeps l own st me serial) act may answers c h
+lasts l own st me act may answers sound (channel_closed c serial) h =
+    channels_keep (Condition l own st me) st me (λ _ x. was_closed x serial ≡ true)
+    (was_closed_keeps l own st me serial sound) act may answers c h
 lasts l own st me act may answers sound (index_claimed s i) h = claimed_lasts st me act s i h
 lasts l own st me act may answers sound (key_claimed s i serial) h =
     stages_keep (Condition l own st me) st me (λ _ _ k. was_claimed k serial ≡ true)

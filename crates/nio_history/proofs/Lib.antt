@@ -1,5 +1,6 @@
 pub mod Legal
 pub mod Put
+pub mod ChannelChanges
 pub mod OneMore
 pub mod Lasts
 pub mod KeyChanges

@@ -4,14 +4,14 @@ use Rattle.std.proofs.Common.{append_assoc}
 use Rattle.std.proofs.lemmas.List.{append-nil, map-append, drop_at}
 use Rattle.nio_base.specs.declared.limits.Limits.{Limits}
 use Rattle.nio_base.specs.declared.numbers.CallerNo.{CallerNo}
-use Rattle.nio_base.specs.declared.numbers.ChanNo.{ChanNo}
+use Rattle.nio_base.specs.declared.numbers.ChanId.{ChanId}
 use Rattle.nio_base.specs.declared.numbers.KeyNo.{KeyNo}
 use Rattle.nio_base.specs.declared.numbers.SelNo.{SelNo}
 use Rattle.nio_history.proofs.Clauses.{clause_nothing, clause_then}
 use Rattle.nio_history.proofs.Stays.{facts_are_permanent}
 use Rattle.nio_history.specs.Conditions.{IsSelector, IsChannel, IsKey}
 use Rattle.nio_history.specs.Histories.{mine, event_of, HistoryClause, IsLegal}
-use Rattle.nio_history.specs.Permanent.{PermanentFact, selector_made, channel_made, key_published, stands}
+use Rattle.nio_history.specs.Permanent.{PermanentFact, selector_made, channel_opened, key_published, stands}
 use Rattle.nio_history.specs.PassViews.{PassView, Holds, known, done_between, ActsClause, HasSelector, HasChannel}
 use Rattle.nio_history.specs.PassViews.{HasKey}
 use Rattle.nio_history.specs.declared.act.Act.{Act}
@@ -65,11 +65,11 @@ selector_after {s = s} clause has = record {
   made = lasts_over (selector_made s.0) clause has.made;
 }
 
-pub channel_after : {me : CallerNo} {acts : List Act} {old new : PassView} {c : ChanNo} → ActsClause me acts old new
+pub channel_after : {me : CallerNo} {acts : List Act} {old new : PassView} {c : ChanId} → ActsClause me acts old new
     → HasChannel old c → HasChannel new c
 channel_after {c = c} clause has = record {
-  inside = subst (λ (l : Limits). IsChannel l c) (sym clause.limits) has.inside;
-  made = lasts_over (channel_made c.0) clause has.made;
+  inside = subst (λ (l : Limits). IsChannel l c.number) (sym clause.limits) has.inside;
+  opened = lasts_over (channel_opened c.number.0 c.serial) clause has.opened;
 }
 
 pub key_after : {me : CallerNo} {acts : List Act} {old new : PassView} {k : KeyNo} → ActsClause me acts old new

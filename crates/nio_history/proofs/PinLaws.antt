@@ -289,13 +289,13 @@ own_claims_stand l n s i claim events fit legal =
 -- ---- enrolled keys
 
 -- the index was claimed for this key, and while it has the key it is of the channel of this number
-abbrev IsKeyOf : ℕ → ℕ → Stage → Type 0
+abbrev pub IsKeyOf : ℕ → ℕ → Stage → Type 0
 IsKeyOf c serial k = (was_claimed k serial ≡ true) × (k.serial ≡ serial → k.chan.0 ≡ c)
 
 not_below : (a b : ℕ) → a ≡ b → not (nat_lt a b) ≡ true
 not_below a b same = not_from_false (nat_lt a b) (le-ltb a b (omega arith))
 
-key_of_keeps : (May : Act → Type 0) (st : State) (c serial : ℕ) → KeepsStages May st (λ _ _ k. IsKeyOf c serial k)
+pub key_of_keeps : (May : Act → Type 0) (st : State) (c serial : ℕ) → KeepsStages May st (λ _ _ k. IsKeyOf c serial k)
 key_of_keeps May st c serial = record {
   claimed = λ s i c' unclaimed_yet old. absurd
       (both_ways (st.key s.0 i).claimed

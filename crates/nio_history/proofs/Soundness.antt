@@ -8,6 +8,7 @@ use Rattle.nio_base.specs.declared.limits.Limits.{Limits}
 use Rattle.nio_base.specs.declared.numbers.CallerNo.{CallerNo}
 use Rattle.nio_base.specs.declared.numbers.SelNo.{SelNo}
 use Rattle.nio_base.specs.declared.numbers.ChanNo.{ChanNo}
+use Rattle.nio_history.proofs.ChannelChanges.{channels_keep}
 use Rattle.nio_history.proofs.Claims.{claim_pinned}
 use Rattle.nio_history.proofs.KeyChanges.{KeepsStages, stages_keep, IsNoClaimAgain, back_parts, published_already}
 use Rattle.nio_history.proofs.KeyChanges.{cancelled_already, removed_already}
@@ -26,9 +27,8 @@ use Rattle.nio_history.specs.Sets.{in_cancelled_set, can_come_back}
 use Rattle.nio_history.specs.Sound.{IsSound}
 use Rattle.nio_history.specs.State.{State, opening, unmade_channel, unclaimed, last_serial}
 use Rattle.nio_history.specs.declared.act.Act.{Act}
-use Rattle.nio_history.specs.declared.act.Act.TheVariants.{MakeChannel, Claim, RaiseKeys, TakeTurn, BeginLook, GiveTurn}
-use Rattle.nio_history.specs.declared.act.Act.TheVariants.{Remove, RaiseChannels, TryHoldBit, Release, SetMode}
-use Rattle.nio_history.specs.declared.act.Act.TheVariants.{CloseBit}
+use Rattle.nio_history.specs.declared.act.Act.TheVariants.{Claim, RaiseKeys, TakeTurn, BeginLook, GiveTurn}
+use Rattle.nio_history.specs.declared.act.Act.TheVariants.{Remove, RaiseChannels, TryHoldBit, Release}
 use Rattle.nio_history.specs.declared.act.Act.TheVariants.{ShutBit, Enter, Pin, Unpin, ClaimAgain, PutFree, TakeFree}
 use Rattle.nio_history.specs.declared.event.Event.{Event}
 use Rattle.nio_history.specs.declared.found.Stage.{Stage}
@@ -48,14 +48,6 @@ taken_some me (Some n) = refl
 pub both_ways : (b : Bool) → b ≡ true → b ≡ false → ⊥
 both_ways true e f = cc
 both_ways false e f = cc
-
--- what is closed is made
-pub closed-made : (st : State) → IsSound st → (c : ℕ) → (st.chan c).closed ≡ true → (st.chan c).made ≡ true
-closed-made st sound c closed = by_test (st.chan c).made refl
-  where
-    by_test : (b : Bool) → (st.chan c).made ≡ b → (st.chan c).made ≡ true
-    by_test true e = e
-    by_test false e = absurd (both_ways (st.chan c).closed closed (ap (λ x. x.closed) (sound.unmade_bare c e)))
 
 -- what is published, cancelled or removed is claimed
 pub beyond-claimed : (st : State) → IsSound st → (s i : ℕ)
@@ -93,20 +85,18 @@ keys_below_step l own st me (RaiseKeys k n found) may sound s i h =
 keys_below_step l own st me act may sound s i h = claimed_lasts st me act s i (sound.keys_below s i h)
 
 unmade_bare_step : (l : Limits) (own : List Act) (st : State) (me : CallerNo) (act : Act) → Condition l own st me act
-    → IsSound st
+    → Answers st me act → IsSound st
     → (c : ℕ) → ((effect st me act).chan c).made ≡ false → (effect st me act).chan c ≡ unmade_channel
-unmade_bare_step l own st me (MakeChannel k kind true) may sound c =
-    put_keeps (λ _ x. x.made ≡ false → x ≡ unmade_channel) st.chan k.0 _ (λ e. e) c (sound.unmade_bare c)
-unmade_bare_step l own st me (MakeChannel k kind false) may sound c =
-    put_keeps (λ _ x. x.made ≡ false → x ≡ unmade_channel) st.chan k.0 _ (λ _ e. absurd cc) c (sound.unmade_bare c)
-unmade_bare_step l own st me (SetMode k blocking found) may sound c =
-    put_keeps (λ _ x. x.made ≡ false → x ≡ unmade_channel) st.chan k.0 _
-    (λ _ e. absurd (both_ways (st.chan k.0).made (sound.held_made k.0 (held_some me (st.hold k.0) may.1)) e)) c
-    (sound.unmade_bare c)
-unmade_bare_step l own st me (CloseBit k found) may sound c =
-    put_keeps (λ _ x. x.made ≡ false → x ≡ unmade_channel) st.chan k.0 _
-    (λ _ e. absurd (both_ways (st.chan k.0).made may.1 e)) c (sound.unmade_bare c)
-unmade_bare_step l own st me act may sound c = sound.unmade_bare c
+unmade_bare_step l own st me act may answers sound c =
+    channels_keep (Condition l own st me) st me (λ _ x. x.made ≡ false → x ≡ unmade_channel) (record {
+      made = λ k kind _ _ _ e. absurd cc;
+      mode = λ k blocking found may' _ e.
+          absurd (both_ways (st.chan k.0).made (sound.held_made k.0 (held_some me (st.hold k.0) may'.1)) e);
+      closed = λ k from found may' _ _ e.
+          absurd (both_ways (st.chan k.0).made
+          (and_parts (st.chan k.0).made (not (nat_lt (st.chan k.0).serial from.serial)) may'.1.was).0 e);
+      reopened = λ k _ _ e. absurd cc;
+    }) act may answers c (sound.unmade_bare c)
 
 held_made_step : (l : Limits) (own : List Act) (st : State) (me : CallerNo) (act : Act) → Condition l own st me act
     → IsSound st
@@ -548,7 +538,8 @@ sound_step : (l : Limits) (past : List Event) (e : Event) → IsLegal l past →
 sound_step l past e legal step sound = record {
   channels_below = channels_below_step l (mine e.caller past) (state_after past) e.caller e.act step.condition sound;
   keys_below = keys_below_step l (mine e.caller past) (state_after past) e.caller e.act step.condition sound;
-  unmade_bare = unmade_bare_step l (mine e.caller past) (state_after past) e.caller e.act step.condition sound;
+  unmade_bare = unmade_bare_step l (mine e.caller past) (state_after past) e.caller e.act step.condition step.answers
+      sound;
   unclaimed_bare = unclaimed_bare_step l past e legal step sound;
   held_made = held_made_step l (mine e.caller past) (state_after past) e.caller e.act step.condition sound;
   closer_shut = closer_shut_step (state_after past) e.caller e.act sound;

@@ -5,9 +5,12 @@ use Rattle.std.proofs.Common.{[], ◌++◌, refl, ap, sym, ◌∙◌, subst, eqb
 use Rattle.std.specs.Prelude.{nat_lt}
 use Rattle.std.proofs.lemmas.Bool.{and_parts, and_from, ltb-true, false_from_ne_true, or_cases, or_right}
 use Rattle.std.proofs.Math.Bool.{and-true}
+use Rattle.nio_base.specs.Kind.{kind_code, is_same_kind}
 use Rattle.nio_base.specs.declared.limits.Limits.{Limits}
 use Rattle.nio_base.specs.declared.numbers.CallerNo.{CallerNo}
+use Rattle.nio_base.specs.declared.numbers.ChanNo.{ChanNo}
 use Rattle.nio_base.specs.declared.numbers.SelNo.{SelNo}
+use Rattle.nio_history.proofs.ChannelChanges.{same_kind}
 use Rattle.nio_history.proofs.KeyChanges.{KeepsStages, stages_keep, back_parts, published_already, cancelled_already}
 use Rattle.nio_history.proofs.LastsAlone.{one_holder, lasts_alone, had_stands, own_stands, none_further, has-mine}
 use Rattle.nio_history.proofs.LastsOnceSound.{permanent_stands}
@@ -19,10 +22,10 @@ use Rattle.nio_history.proofs.Soundness.{taken_not_dropped}
 use Rattle.nio_history.specs.Acts.{effect, frees_index}
 use Rattle.nio_history.specs.Conditions.{Condition, is_held_by, holds, has_turn, has_begun, has_entered, is_closer}
 use Rattle.nio_history.specs.Conditions.{has_pin, has_taken, may_remove_cancelled, may_put_due, may_publish}
-use Rattle.nio_history.specs.Conditions.{may_clear_out}
+use Rattle.nio_history.specs.Conditions.{may_clear_out, WasOpen}
 use Rattle.nio_history.specs.Histories.{state_after, is_by, mine, IsStep, IsLegal}
 use Rattle.nio_history.specs.Permanent.{PermanentFact, selector_made, selector_closed_by, selector_entered}
-use Rattle.nio_history.specs.Permanent.{channel_made}
+use Rattle.nio_history.specs.Permanent.{channel_made, channel_of_kind, channel_opened}
 use Rattle.nio_history.specs.Permanent.{index_claimed, key_cancelled, key_removed, stands, OwnFact, the_turn}
 use Rattle.nio_history.specs.Permanent.{a_selection}
 use Rattle.nio_history.specs.Permanent.{the_hold, a_pin, a_taken_index, is_had_by}
@@ -42,7 +45,9 @@ use Rattle.nio_history.specs.declared.act.Act.TheVariants.{RaiseKeys}
 use Rattle.nio_history.specs.declared.act.Act.TheVariants.{Publish, Enrol, BeginLook, GiveTurn, Remove, LookMark, Mark}
 use Rattle.nio_history.specs.declared.act.Act.TheVariants.{UnselectBit, EndWake, RaiseChannels, TryHoldBit, Release}
 use Rattle.nio_history.specs.declared.act.Act.TheVariants.{SetMode, CloseBit, Enter, Pin, Unpin, ClaimAgain, PutFree}
+use Rattle.nio_history.specs.declared.act.Act.TheVariants.{Reopen}
 use Rattle.nio_history.specs.declared.event.Event.{Event}
+use Rattle.nio_history.specs.declared.found.Chan.{Chan}
 use Rattle.nio_history.specs.declared.found.Stage.{Stage}
 
 -- what caller n may build on of one state stands in the other
@@ -82,6 +87,20 @@ pin_or_begun_stays n st st' stays s i =
     or_stays (has_pin st n s i) (has_begun st n s) (has_pin st' n s i) (has_begun st' n s) (stays.had (a_pin s i))
     (stays.had (a_selection s))
 
+was_open_stays : (n : CallerNo) (st st' : State) → StandsFor n st st' → (c : ChanNo) (from : Chan) → WasOpen st c from
+    → WasOpen st' c from
+was_open_stays n st st' stays c from may = record {
+  made = may.made;
+  open_then = may.open_then;
+  kind = sym (same_kind (st'.chan c.0).kind from.kind
+      (and_parts (st'.chan c.0).made (is_same_kind (st'.chan c.0).kind from.kind)
+      (stays.permanent (channel_of_kind c.0 from.kind)
+      (and_from (st.chan c.0).made (is_same_kind (st.chan c.0).kind from.kind)
+      (and_parts (st.chan c.0).made (not (nat_lt (st.chan c.0).serial from.serial)) may.was).0
+      (eq-eqb (kind_code (st.chan c.0).kind) (kind_code from.kind) (sym (ap kind_code may.kind)))))).1);
+  was = stays.permanent (channel_opened c.0 from.serial) may.was;
+}
+
 condition_stays : (l : Limits) (n : CallerNo) (own : List Act) (st st' : State) → StandsFor n st st' → (act : Act)
     → Condition l own st n act → Condition l own st' n act
 condition_stays l n own st st' stays (Wake s found) may = (may.0, stays.permanent (selector_made s.0) may.1)
@@ -119,7 +138,7 @@ condition_stays l n own st st' stays (RaiseChannels k found) may =
 condition_stays l n own st st' stays (TryHoldBit c found) may = (may.0, stays.permanent (channel_made c.0) may.1)
 condition_stays l n own st st' stays (Release c) may = (may.0, stays.had (the_hold c) may.1)
 condition_stays l n own st st' stays (SetMode c blocking found) may = (may.0, stays.had (the_hold c) may.1, may.2)
-condition_stays l n own st st' stays (CloseBit c found) may = (may.0, stays.permanent (channel_made c.0) may.1)
+condition_stays l n own st st' stays (CloseBit c from found) may = (may.0, was_open_stays n st st' stays c from may.1)
 condition_stays l n own st st' stays (Enter s found) may = (may.0, stays.permanent (selector_closed_by s n) may.1)
 condition_stays l n own st st' stays (Pin s i found) may =
     (may.0, stays.permanent (index_claimed s.0 i) may.1, stays.unpinned s i may.2)
@@ -131,6 +150,8 @@ condition_stays l n own st st' stays (PutFree s i) may = (
   or_stays (has_taken st n s i) (may_put_due st n s i) (has_taken st' n s i) (may_put_due st' n s i)
       (stays.had (a_taken_index s i)) (stays.put_dropped s i) may.1,
 )
+condition_stays l n own st st' stays (Reopen c from found) may =
+    (may.0, stays.had (the_hold c) may.1, may.2, may.3, may.4, may.5)
 condition_stays l n own st st' stays act may = may
 
 -- ---- the steps of others

@@ -7,6 +7,7 @@ use Rattle.std.proofs.lemmas.Bool.{ltb-true}
 use Rattle.nio_base.specs.declared.limits.Limits.{Limits}
 use Rattle.nio_base.specs.declared.numbers.CallerNo.{CallerNo}
 use Rattle.nio_base.specs.declared.numbers.SelNo.{SelNo}
+use Rattle.nio_history.proofs.ChannelChanges.{channels_keep}
 use Rattle.nio_history.proofs.Claims.{claim_told, if_some}
 use Rattle.nio_history.proofs.KeyChanges.{stages_keep, back_parts}
 use Rattle.nio_history.proofs.Legal.{legal_induction}
@@ -23,10 +24,9 @@ use Rattle.nio_history.specs.State.{State, opening, last_serial, put_at}
 use Rattle.nio_history.specs.declared.act.Act.{Act}
 use Rattle.nio_history.specs.declared.act.Act.TheVariants.{DrawBit, MakeSelector, SetInterrupt, TakeInterrupt}
 use Rattle.nio_history.specs.declared.act.Act.TheVariants.{CancelKey}
-use Rattle.nio_history.specs.declared.act.Act.TheVariants.{MakeChannel, Claim, RaiseKeys, Publish, Enrol, TakeTurn}
+use Rattle.nio_history.specs.declared.act.Act.TheVariants.{Claim, RaiseKeys, Publish, Enrol, TakeTurn}
 use Rattle.nio_history.specs.declared.act.Act.TheVariants.{GiveTurn, Remove, RaiseChannels, TryHoldBit, Release}
-use Rattle.nio_history.specs.declared.act.Act.TheVariants.{SetMode}
-use Rattle.nio_history.specs.declared.act.Act.TheVariants.{CloseBit, ShutBit, Pin, Unpin, ClaimAgain, PutFree, TakeFree}
+use Rattle.nio_history.specs.declared.act.Act.TheVariants.{ShutBit, Pin, Unpin, ClaimAgain, PutFree, TakeFree}
 use Rattle.nio_history.specs.declared.event.Event.{Event}
 use Rattle.nio_history.specs.declared.found.Stage.{Stage}
 
@@ -54,15 +54,27 @@ selectors_within l own st me (MakeSelector k found) may here s =
 selectors_within l own st me act may here s = here.selectors s
 
 channels_within : (l : Limits) (own : List Act) (st : State) (me : CallerNo) (act : Act) → Condition l own st me act
-    → IsWithin l st
+    → Answers st me act → IsWithin l st
     → (c : ℕ) → ((effect st me act).chan c).made ≡ true → c < l.channels
-channels_within l own st me (MakeChannel k kind found) may here c =
-    put_keeps (λ m x. x.made ≡ true → m < l.channels) st.chan k.0 _ (λ _ _. may.0) c (here.channels c)
-channels_within l own st me (SetMode k blocking found) may here c =
-    put_keeps (λ m x. x.made ≡ true → m < l.channels) st.chan k.0 _ (λ old e. old e) c (here.channels c)
-channels_within l own st me (CloseBit k found) may here c =
-    put_keeps (λ m x. x.made ≡ true → m < l.channels) st.chan k.0 _ (λ old e. old e) c (here.channels c)
-channels_within l own st me act may here c = here.channels c
+channels_within l own st me act may answers here c =
+    channels_keep (Condition l own st me) st me (λ m x. x.made ≡ true → m < l.channels) (record {
+      made = λ k kind may' _ _ _. may'.0;
+      mode = λ k blocking found _ old. old;
+      closed = λ k from found _ _ old. old;
+      reopened = λ k may' _ _. may'.0;
+    }) act may answers c (here.channels c)
+
+-- a number's next serial is up to the last
+channel_serials_within : (l : Limits) (own : List Act) (st : State) (me : CallerNo) (act : Act)
+    → Condition l own st me act → Answers st me act → IsWithin l st
+    → (c : ℕ) → ((effect st me act).chan c).serial ≤ last_serial
+channel_serials_within l own st me act may answers here c =
+    channels_keep (Condition l own st me) st me (λ _ x. x.serial ≤ last_serial) (record {
+      made = λ k kind _ _ _. omega arith;
+      mode = λ k blocking found _ old. old;
+      closed = λ k from found _ _ old. old;
+      reopened = λ k may' _. let below : (st.chan k.0).serial < last_serial = may'.4 in omega arith;
+    }) act may answers c (here.channel_serials c)
 
 channels_high_within : (l : Limits) (own : List Act) (st : State) (me : CallerNo) (act : Act)
     → Condition l own st me act → IsWithin l st
@@ -255,6 +267,7 @@ within_opening l = record {
   closers = λ s. none_within l;
   enrolled = λ c s x e. absurd cc;
   serials = λ s i. omega arith;
+  channel_serials = λ c. omega arith;
   pins = λ s i n e. absurd cc;
   takers = λ s i. none_within l;
 }
@@ -265,7 +278,7 @@ within_step l past e legal step here = record {
   drawn = drawn_within l (mine e.caller past) (state_after past) e.caller e.act step.condition here;
   interrupted = interrupted_within l (mine e.caller past) (state_after past) e.caller e.act step.condition here;
   selectors = selectors_within l (mine e.caller past) (state_after past) e.caller e.act step.condition here;
-  channels = channels_within l (mine e.caller past) (state_after past) e.caller e.act step.condition here;
+  channels = channels_within l (mine e.caller past) (state_after past) e.caller e.act step.condition step.answers here;
   channels_high = channels_high_within l (mine e.caller past) (state_after past) e.caller e.act step.condition here;
   keys_high = keys_high_within l (mine e.caller past) (state_after past) e.caller e.act step.condition here;
   keys = keys_within l (mine e.caller past) (state_after past) e.caller e.act step.condition here;
@@ -275,6 +288,8 @@ within_step l past e legal step here = record {
   enrolled = enrolled_within l past e.caller e.act legal step.condition here;
   serials = serials_within l (mine e.caller past) (state_after past) e.caller e.act step.condition step.answers
       (legal-sound l past legal) here;
+  channel_serials = channel_serials_within l (mine e.caller past) (state_after past) e.caller e.act step.condition
+      step.answers here;
   pins = pins_within l (state_after past) e.caller e.act step.by_caller here;
   takers = takers_within l (state_after past) e.caller e.act step.by_caller here;
 }

@@ -203,7 +203,11 @@ closing =
     } ▸
     record { by_caller = lit< tt; condition = (lit< tt, refl); answers = refl } ▸
     -- it closes the channel and the selector, and interrupts caller 0
-    record { by_caller = lit< tt; condition = (lit< tt, refl); answers = refl } ▸
+    record {
+      by_caller = lit< tt;
+      condition = (lit< tt, record { made = refl; open_then = refl; kind = refl; was = refl });
+      answers = refl;
+    } ▸
     record { by_caller = lit< tt; condition = lit< tt; answers = refl } ▸
     record { by_caller = lit< tt; condition = lit< tt; answers = refl } ▸
     record { by_caller = lit< tt; condition = lit< tt; answers = refl } ▸
@@ -214,6 +218,46 @@ closing =
     record { by_caller = lit< tt; condition = lit< tt; answers = refl } ▸
     record { by_caller = lit< tt; condition = tt; answers = refl } ▸
     record { by_caller = lit< tt; condition = tt; answers = refl } ▸
+    tt
+
+reopening : NextSteps 114 8
+unfolding bits_below count_below
+reopening =
+    -- caller 1 gives the channel's number to a new channel, once; a closing of the old one that comes late leaves it
+    record { by_caller = lit< tt; condition = (lit< tt, refl); answers = refl } ▸
+    record { by_caller = lit< tt; condition = (lit< tt, lit< tt); answers = refl } ▸
+    record { by_caller = lit< tt; condition = (lit< tt, lit< tt); answers = refl } ▸
+    record {
+      by_caller = lit< tt;
+      condition = (
+        lit< tt,
+        refl,
+        refl,
+        refl,
+        lit< tt,
+        below_one (λ k. is_clear 0 k (mine v (take 117 worked_history)) ≡ true) refl,
+      );
+      answers = refl;
+    } ▸
+    record {
+      by_caller = lit< tt;
+      condition = (
+        lit< tt,
+        refl,
+        refl,
+        refl,
+        lit< tt,
+        below_one (λ k. is_clear 0 k (mine v (take 118 worked_history)) ≡ true) refl,
+      );
+      answers = refl;
+    } ▸
+    record { by_caller = lit< tt; condition = (lit< tt, refl); answers = refl } ▸
+    record {
+      by_caller = lit< tt;
+      condition = (lit< tt, record { made = refl; open_then = refl; kind = refl; was = refl });
+      answers = refl;
+    } ▸
+    record { by_caller = lit< tt; condition = lit< tt; answers = refl } ▸
     tt
 
 -- a longer beginning is legal
@@ -232,7 +276,8 @@ worked_history_is_legal =
     longer 56 29 legal_selecting claiming_again in
     let legal_removing_again : IsLegal small_limits (take 98 worked_history) =
     longer 85 13 legal_claiming_again removing_again in
-    longer 98 16 legal_removing_again closing
+    let legal_closing : IsLegal small_limits (take 114 worked_history) = longer 98 16 legal_removing_again closing in
+    longer 114 8 legal_closing reopening
 
 not_so : false ≡ true → ⊥
 not_so e = cc
@@ -302,4 +347,17 @@ refused_events_are_no_steps =
     (λ step. not_so step.condition.1) ▸
     -- only the closer enters
     (λ step. not_so step.condition.1) ▸
+    -- a channel is closed from one that was found open, of the kind and of a serial that its number has or had
+    (λ step. not_so (sym step.condition.1.open_then)) ▸
+    (λ step. cc step.condition.1.kind) ▸
+    (λ step. not_so step.condition.1.was) ▸
+    -- a number is given to a new channel by its holder, after a look at its enrolled keys under this hold
+    (λ step. not_so step.condition.1) ▸
+    (λ step. not_so (step.condition.5 0 (lit< tt))) ▸
+    (λ step. not_so (step.condition.5 0 (lit< tt))) ▸
+    (λ step. not_so step.condition.1) ▸
+    -- the channel that stands there gives it, where it is closed, and no other one
+    (λ step. cc step.answers) ▸
+    (λ step. cc step.answers) ▸
+    (λ step. not_so step.condition.3) ▸
     tt

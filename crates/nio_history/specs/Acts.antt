@@ -31,10 +31,27 @@ use Rattle.nio_history.specs.declared.act.Act.TheVariants.{TakeFree}
 use Rattle.nio_history.specs.declared.found.Chan.{Chan}
 use Rattle.nio_history.specs.declared.found.Mark.{Mark as KeyMark}
 use Rattle.nio_history.specs.declared.found.Stage.{Stage}
+use Rattle.nio_history.specs.declared.act.Act.TheVariants.{Reopen}
+use Rattle.std.specs.Prelude.{◌==◌}
 
 -- a new channel is open and in blocking mode
-abbrev pub new_channel : Kind → Chan
-new_channel kind = record { made = true; kind = kind; closed = false; blocking = true }
+abbrev pub new_channel : Kind → ℕ → Chan
+new_channel kind serial = record { made = true; kind = kind; closed = false; blocking = true; serial = serial }
+
+-- A closing of the channel that was found as `from` has an effect where its number has this channel still, and no
+-- mode was set meanwhile that `from` doesn't have: a channel that is non-blocking now is closed from a look that
+-- found it so
+abbrev pub closes_from : Chan → Chan → Bool
+closes_from from found = (found.serial == from.serial) && (found.blocking || not from.blocking)
+
+-- it closed the channel: that was open till then
+abbrev pub takes_close : Chan → Chan → Bool
+takes_close from found = closes_from from found && not found.closed
+
+-- the channel after it: closed, in the mode in which it was found
+abbrev pub closed_from : Chan → Chan → Chan
+closed_from from found =
+    if closes_from from found then record found { closed = true; blocking = from.blocking } else found
 
 -- an index that is claimed for a key of a channel with this serial, and no more
 abbrev pub new_key : ChanNo → ℕ → Stage
@@ -92,8 +109,8 @@ effect st me (AndInterest s i ops found) = with_interest st s.0 i (bit_and (st.i
 effect st me (SwapNote s i att found) = with_note st s.0 i att
 -- looks
 effect st me (LookNote s i found) = st
--- where the channel wasn't made, it is made of this kind, in blocking mode
-effect st me (MakeChannel c kind found) = with_chan st c.0 (if found then st.chan c.0 else new_channel kind)
+-- where the number had no channel, it has one of this kind, with serial 0, in blocking mode
+effect st me (MakeChannel c kind found) = with_chan st c.0 (if found then st.chan c.0 else new_channel kind 0)
 -- looks
 effect st me (LookChannel c found) = st
 -- where the index wasn't claimed, it is claimed for the channel with serial 0, and the caller has a pin on it
@@ -140,8 +157,8 @@ effect st me (TryHoldBit c found) = with_hold st c.0 (taken_by me found)
 effect st me (Release c) = with_hold st c.0 None
 -- the channel is in this mode
 effect st me (SetMode c blocking found) = with_chan st c.0 (record (st.chan c.0) { blocking = blocking })
--- the channel is closed
-effect st me (CloseBit c found) = with_chan st c.0 (record (st.chan c.0) { closed = true })
+-- the channel that was found as `from` is closed, where its number has it still
+effect st me (CloseBit c from found) = with_chan st c.0 (closed_from from (st.chan c.0))
 -- the selector is shut; where it wasn't, the caller is its closer
 effect st me (ShutBit s found) =
     with_closer (with_gate st s.0 (record (st.gate s.0) { shut = true })) s.0 (if found then st.closer s.0 else Some me)
@@ -168,3 +185,6 @@ effect st me (PutFree s i) = with_put_due (with_taker (with_free st s.0 i true) 
 -- the index isn't free; where it was, the caller has taken it
 effect st me (TakeFree s i found) =
     with_taker (with_free st s.0 i false) s.0 i (if found then Some me else st.taker s.0 i)
+-- where its number has the channel `from`, the number has a new one of that kind with the next serial
+effect st me (Reopen c from found) =
+    with_chan st c.0 (if found then st.chan c.0 else new_channel from.kind (suc from.serial))

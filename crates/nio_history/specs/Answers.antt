@@ -30,6 +30,10 @@ use Rattle.nio_history.specs.declared.act.Act.TheVariants.{ShutBit}
 use Rattle.nio_history.specs.declared.act.Act.TheVariants.{Enter, Pin, Unpin, ClearMark, ClaimAgain, LookFree, PutFree}
 use Rattle.nio_history.specs.declared.act.Act.TheVariants.{TakeFree}
 use Rattle.nio_history.specs.declared.found.Mark.{Mark as KeyMark}
+use Rattle.nio_history.specs.declared.act.Act.TheVariants.{Reopen}
+use Rattle.nio_history.specs.declared.found.Chan.{Chan}
+use Rattle.nio_base.specs.Kind.{is_same_kind}
+use Rattle.nio_history.specs.Questions.{reopen}
 
 -- the number whose bit k is set where `test` passes at k, for each k below n
 unfoldable pub bits_below : ℕ → (ℕ → Bool) → ℕ
@@ -63,6 +67,11 @@ is_same_mark x y = beq x.selected y.selected && (x.ready == y.ready)
 -- an exchange from a mark succeeds where that mark stands there, and else finds the one that does
 abbrev pub exchange_from : KeyMark → KeyMark → Result (Unit {0}) KeyMark
 exchange_from from stands = if is_same_mark stands from then Ok tt else Err stands
+
+abbrev pub is_same_channel : Chan → Chan → Bool
+is_same_channel x y =
+    beq x.made y.made && is_same_kind x.kind y.kind && beq x.closed y.closed && beq x.blocking y.blocking
+    && (x.serial == y.serial)
 
 -- the step that a question to this state comes to: the last field is what it finds
 abbrev pub act_from : State → CallerNo → Question → Act
@@ -140,8 +149,8 @@ act_from st me (try_hold_bit c) = TryHoldBit c (st.hold c.0)
 act_from st me (release c) = Release c
 -- the channel before
 act_from st me (set_mode c blocking) = SetMode c blocking (st.chan c.0)
--- whether it was closed
-act_from st me (close_bit c) = CloseBit c (st.chan c.0).closed
+-- the channel before
+act_from st me (close_bit c from) = CloseBit c from (st.chan c.0)
 -- whether it was shut
 act_from st me (shut_bit s) = ShutBit s (st.gate s.0).shut
 -- who has the turn
@@ -160,6 +169,8 @@ act_from st me (look_free s j) = LookFree s j (free_word st s.0 j)
 act_from st me (put_free s i) = PutFree s i
 -- whether it was free
 act_from st me (take_free s i) = TakeFree s i (st.free s.0 i)
+-- whether the number has another channel than the one that is named
+act_from st me (reopen c from) = Reopen c from (not (is_same_channel (st.chan c.0) from))
 
 -- what the state answers
 abbrev pub answer_from : State → CallerNo → Question → Answer

@@ -34,6 +34,10 @@ use Rattle.nio_history.specs.declared.act.Act.TheVariants.{RaiseChannels, TryHol
 use Rattle.nio_history.specs.declared.act.Act.TheVariants.{ShutBit}
 use Rattle.nio_history.specs.declared.act.Act.TheVariants.{Enter, Pin, Unpin, ClearMark, ClaimAgain, LookFree, PutFree}
 use Rattle.nio_history.specs.declared.act.Act.TheVariants.{TakeFree}
+use Rattle.nio_history.specs.declared.act.Act.TheVariants.{Reopen}
+use Rattle.nio_history.specs.declared.found.Chan.{Chan}
+use Rattle.nio_history.specs.Sets.{was_opened}
+use Rattle.std.specs.Prelude.{IsFalse}
 
 -- ---- the numbers: below the limit, whether there is such a thing or not
 
@@ -64,6 +68,13 @@ AllMade st n = (c : ℕ) → c < n → IsTrue (st.chan c).made
 -- every index of the selector below n is claimed
 abbrev pub AllClaimed : State → SelNo → ℕ → Type 0
 AllClaimed st s n = (i : ℕ) → i < n → IsTrue (st.key s.0 i).claimed
+
+-- a channel that is open, of the kind that number c has, and that c has or had
+pub record WasOpen (st : State) (c : ChanNo) (from : Chan) : Type 0 where
+  pub made : IsTrue from.made
+  pub open_then : IsFalse from.closed
+  pub kind : from.kind ≡ (st.chan c.0).kind
+  pub was : IsTrue (was_opened (st.chan c.0) from.serial)
 
 -- the number that stands there, if any, is that of `me`
 abbrev pub is_held_by : CallerNo → Option CallerNo → Bool
@@ -191,8 +202,8 @@ Condition l own st me (Release c) = IsChannel l c × IsTrue (holds st me c)
 -- enrolled, under this hold
 Condition l own st me (SetMode c blocking found) =
     IsChannel l c × IsTrue (holds st me c) × (IsTrue blocking → (s : ℕ) → s < l.selectors → IsTrue (is_clear c.0 s own))
--- c is made
-Condition l own st me (CloseBit c found) = IsChannel l c × IsTrue (is_made st c)
+-- `from` is an open channel of the kind that c has, with a serial that c has or had
+Condition l own st me (CloseBit c from found) = IsChannel l c × WasOpen st c from
 Condition l own st me (ShutBit s found) = IsSelector l s
 -- the caller is the closer
 Condition l own st me (Enter s found) = IsSelector l s × IsTrue (is_closer st me s)
@@ -213,3 +224,8 @@ Condition l own st me (LookFree s j found) = IsSelector l s × (64 * j < l.keys)
 -- last, and hasn't put i yet
 Condition l own st me (PutFree s i) = IsKey l s i × IsTrue (has_taken st me s i || may_put_due st me s i)
 Condition l own st me (TakeFree s i found) = IsKey l s i
+-- the caller holds c; `from` is made and closed, with a serial below the last; each enrolled key of c it found
+-- outside the key set, or not enrolled, under this hold
+Condition l own st me (Reopen c from found) =
+    IsChannel l c × IsTrue (holds st me c) × IsTrue from.made × IsTrue from.closed × (from.serial < last_serial)
+    × ((s : ℕ) → s < l.selectors → IsTrue (is_clear c.0 s own))

@@ -30,6 +30,10 @@ use Rattle.nio_history.specs.declared.event.Event.{Event}
 use Rattle.nio_history.specs.declared.found.Chan.{Chan}
 use Rattle.nio_history.specs.declared.found.GateWord.{GateWord}
 use Rattle.nio_history.specs.declared.found.Stage.{Stage}
+use Rattle.nio_history.specs.declared.act.Act.TheVariants.{Reopen}
+use Rattle.nio_history.specs.Sets.{was_opened, was_closed}
+use Rattle.nio_base.specs.Kind.{is_same_kind}
+use Rattle.nio_history.specs.Permanent.{channel_of_kind, channel_opened}
 
 -- ---- what a step leaves
 
@@ -93,7 +97,7 @@ is_look (RaiseChannels n found) = false
 is_look (TryHoldBit c found) = false
 is_look (Release c) = false
 is_look (SetMode c blocking found) = false
-is_look (CloseBit c found) = false
+is_look (CloseBit c from found) = false
 is_look (ShutBit s found) = false
 is_look (Enter s found) = true
 is_look (Pin s i found) = true
@@ -103,6 +107,7 @@ is_look (ClaimAgain s i c from found) = false
 is_look (LookFree s j found) = true
 is_look (PutFree s i) = false
 is_look (TakeFree s i found) = false
+is_look (Reopen c from found) = false
 
 -- just after a look what it found is what the state gives
 abbrev pub LooksTell : Type 0
@@ -120,7 +125,9 @@ gate_tells s found _ = false
 
 abbrev pub channel_tells : ℕ → Chan → PermanentFact → Bool
 channel_tells c found (channel_made c') = (c == c') && found.made
-channel_tells c found (channel_closed c') = (c == c') && found.closed
+channel_tells c found (channel_of_kind c' kind) = (c == c') && (found.made && is_same_kind found.kind kind)
+channel_tells c found (channel_opened c' serial) = (c == c') && was_opened found serial
+channel_tells c found (channel_closed c' serial) = (c == c') && was_closed found serial
 channel_tells c found _ = false
 
 abbrev pub stage_tells : ℕ → ℕ → Stage → PermanentFact → Bool
@@ -185,7 +192,7 @@ finds (RaiseChannels n found) f = channels_high_tells found f
 finds (TryHoldBit c found) f = false
 finds (Release c) f = false
 finds (SetMode c blocking found) f = channel_tells c.0 found f
-finds (CloseBit c found) f = false
+finds (CloseBit c from found) f = channel_tells c.0 found f
 finds (ShutBit s found) f = false
 finds (Enter s found) f = false
 finds (Pin s i found) f = stage_tells s.0 i found f
@@ -195,6 +202,7 @@ finds (ClaimAgain s i c from found) f = false
 finds (LookFree s j found) f = false
 finds (PutFree s i) f = false
 finds (TakeFree s i found) f = false
+finds (Reopen c from found) f = false
 
 -- whatever a caller found so, whenever that was, stands
 abbrev pub FoundStands : Type 0

@@ -20,6 +20,8 @@ use Rattle.nio_history.specs.declared.act.Act.{Act}
 use Rattle.nio_history.specs.declared.act.Act.TheVariants.{Mark, EndWake}
 use Rattle.nio_history.specs.declared.event.Event.{Event}
 use Rattle.nio_history.specs.declared.found.Mark.{Mark as KeyMark}
+use Rattle.nio_history.specs.OwnEvents.{reopens}
+use Rattle.nio_history.specs.declared.found.Chan.{Chan}
 
 -- the caller has it after `before`, and gives it back by none of its events of `later`
 pub record Keeps (l : Limits) (n : CallerNo) (what : OwnFact) (before later : List Event) : Type 0 where
@@ -29,11 +31,24 @@ pub record Keeps (l : Limits) (n : CallerNo) (what : OwnFact) (before later : Li
 
 -- ---- while a caller holds a channel
 
+-- The number keeps its channel where the caller doesn't give it to a new one.
+abbrev pub ChannelStays : Type 0
+ChannelStays = (l : Limits) (n : CallerNo) (c : ChanNo) (before later : List Event)
+    → Keeps l n (the_hold c) before later
+    → IsFalse (has (reopens c.0) (mine n later))
+    → ((state_after (before ++ later)).chan c.0).serial ≡ ((state_after before).chan c.0).serial
+
+-- a channel whose mode nobody sets: it doesn't become blocking, and it keeps its mode while it is open. A closing
+-- that began at a non-blocking channel may leave it non-blocking.
+pub record KeepsMode (was now : Chan) : Type 0 where
+  pub non_blocking : IsFalse was.blocking → IsFalse now.blocking
+  pub while_open : IsFalse now.closed → now.blocking ≡ was.blocking
+
 -- the channel keeps its mode where the caller doesn't set it
 abbrev pub ModeStays : Type 0
 ModeStays = (l : Limits) (n : CallerNo) (c : ChanNo) (before later : List Event) → Keeps l n (the_hold c) before later
     → IsFalse (has (sets_mode c.0) (mine n later))
-    → ((state_after (before ++ later)).chan c.0).blocking ≡ ((state_after before).chan c.0).blocking
+    → KeepsMode ((state_after before).chan c.0) ((state_after (before ++ later)).chan c.0)
 
 -- the same key stays enrolled for the channel in a selector where the caller enrols none there
 abbrev pub EnrolledStays : Type 0

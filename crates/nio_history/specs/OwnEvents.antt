@@ -13,6 +13,7 @@ use Rattle.nio_history.specs.declared.act.Act.TheVariants.{LookKey, LookChannel,
 use Rattle.nio_history.specs.declared.act.Act.TheVariants.{GiveTurn, TryHoldBit, Release, SetMode, Enter, Publish, Pin}
 use Rattle.nio_history.specs.declared.act.Act.TheVariants.{Unpin, ClaimAgain, PutFree, TakeFree}
 use Rattle.nio_history.specs.declared.found.Stage.{Stage}
+use Rattle.nio_history.specs.declared.act.Act.TheVariants.{Reopen}
 
 -- ---- general words
 
@@ -78,9 +79,15 @@ abbrev pub finds_unblocked : ℕ → Act → Bool
 finds_unblocked c (LookChannel c' found) = (c'.0 == c) && not found.blocking
 finds_unblocked c _ = false
 
--- it set the mode of channel c
+-- it gave number c to a new channel
+abbrev pub reopens : ℕ → Act → Bool
+reopens c (Reopen c' from false) = c'.0 == c
+reopens c _ = false
+
+-- it set the mode of the channel of number c, or gave the number to a new one, which is in blocking mode
 abbrev pub sets_mode : ℕ → Act → Bool
 sets_mode c (SetMode c' blocking found) = c'.0 == c
+sets_mode c (Reopen c' from false) = c'.0 == c
 sets_mode c _ = false
 
 -- the stage that it found at index i of selector s

@@ -2,15 +2,16 @@
 use Rattle.std.specs.Prelude.{◌≡◌, ℕ, Bool, IsTrue, IsFalse, List, ◌++◌, map, length, drop}
 use Rattle.nio_base.specs.declared.limits.Limits.{Limits}
 use Rattle.nio_base.specs.declared.numbers.CallerNo.{CallerNo}
-use Rattle.nio_base.specs.declared.numbers.ChanNo.{ChanNo}
 use Rattle.nio_base.specs.declared.numbers.KeyNo.{KeyNo}
 use Rattle.nio_base.specs.declared.numbers.SelNo.{SelNo}
-use Rattle.nio_history.specs.Conditions.{IsSelector, IsChannel, IsKey, is_made, has_pin}
+use Rattle.nio_history.specs.Conditions.{IsSelector, IsChannel, IsKey, has_pin}
 use Rattle.nio_history.specs.Histories.{state_after, mine, event_of, HistoryClause}
 use Rattle.nio_history.specs.Sets.{was_published}
 use Rattle.nio_history.specs.State.{State}
 use Rattle.nio_history.specs.declared.act.Act.{Act}
 use Rattle.nio_history.specs.declared.event.Event.{Event}
+use Rattle.nio_base.specs.declared.numbers.ChanId.{ChanId}
+use Rattle.nio_history.specs.Sets.{was_opened}
 
 pub record PassView : Type 0 where
   -- the limits of its table
@@ -49,9 +50,10 @@ pub record HasSelector (pass : PassView) (s : SelNo) : Type 0 where
   pub inside : IsSelector pass.limits s
   pub made : IsTrue ((known pass).selector s.0)
 
-pub record HasChannel (pass : PassView) (c : ChanNo) : Type 0 where
-  pub inside : IsChannel pass.limits c
-  pub made : IsTrue (is_made (known pass) c)
+-- a channel that was opened, whether its number has it still or was given to another one
+pub record HasChannel (pass : PassView) (c : ChanId) : Type 0 where
+  pub inside : IsChannel pass.limits c.number
+  pub opened : IsTrue (was_opened ((known pass).chan c.number.0) c.serial)
 
 -- a key that was published, whether its index has it still or was given to another key
 pub record HasKey (pass : PassView) (k : KeyNo) : Type 0 where

@@ -9,8 +9,13 @@ use Rattle.nio_history.specs.OwnEvents.{gives_turn, releases, unpins, gives_inde
 use Rattle.nio_history.specs.Sets.{was_claimed, was_published, was_cancelled, was_removed}
 use Rattle.nio_history.specs.State.{State}
 use Rattle.nio_history.specs.declared.act.Act.{Act}
+use Rattle.nio_base.specs.declared.kind.Kind.{Kind}
+use Rattle.nio_base.specs.Kind.{is_same_kind}
+use Rattle.nio_history.specs.Sets.{was_opened, was_closed}
+use Rattle.std.specs.Prelude.{◌&&◌}
 
--- what is permanent. A key is named by its selector, its index and its serial
+-- What is permanent. A key is named by its selector, its index and its serial, a channel by its number and its
+-- serial; that a number has a channel, and of which kind, is permanent too.
 pub data PermanentFact : Type 0 where
   caller_drawn : ℕ → PermanentFact
   selector_made : ℕ → PermanentFact
@@ -18,7 +23,9 @@ pub data PermanentFact : Type 0 where
   selector_closed_by : SelNo → CallerNo → PermanentFact
   selector_entered : ℕ → PermanentFact
   channel_made : ℕ → PermanentFact
-  channel_closed : ℕ → PermanentFact
+  channel_of_kind : ℕ → Kind → PermanentFact
+  channel_opened : ℕ → ℕ → PermanentFact
+  channel_closed : ℕ → ℕ → PermanentFact
   index_claimed : ℕ → ℕ → PermanentFact
   key_claimed : ℕ → ℕ → ℕ → PermanentFact
   key_published : ℕ → ℕ → ℕ → PermanentFact
@@ -34,7 +41,9 @@ stands (selector_shut s) st = (st.gate s).shut
 stands (selector_closed_by s n) st = is_closer st n s
 stands (selector_entered s) st = st.entered s
 stands (channel_made c) st = (st.chan c).made
-stands (channel_closed c) st = (st.chan c).closed
+stands (channel_of_kind c kind) st = (st.chan c).made && is_same_kind (st.chan c).kind kind
+stands (channel_opened c serial) st = was_opened (st.chan c) serial
+stands (channel_closed c serial) st = was_closed (st.chan c) serial
 stands (index_claimed s i) st = (st.key s i).claimed
 stands (key_claimed s i serial) st = was_claimed (st.key s i) serial
 stands (key_published s i serial) st = was_published (st.key s i) serial

@@ -25,6 +25,7 @@ use Rattle.nio_history.specs.declared.found.Chan.{Chan}
 use Rattle.nio_history.specs.declared.found.GateWord.{GateWord}
 use Rattle.nio_history.specs.declared.found.Mark.{Mark as KeyMark}
 use Rattle.nio_history.specs.declared.found.Stage.{Stage}
+use Rattle.nio_history.specs.declared.act.Act.TheVariants.{Reopen}
 
 -- a kind of step with its parameters
 pub data Question : Type 0 where
@@ -65,7 +66,7 @@ pub data Question : Type 0 where
   try_hold_bit : ChanNo → Question
   release : ChanNo → Question
   set_mode : ChanNo → Bool → Question
-  close_bit : ChanNo → Question
+  close_bit : ChanNo → Chan → Question
   shut_bit : SelNo → Question
   enter : SelNo → Question
   pin : SelNo → ℕ → Question
@@ -75,6 +76,7 @@ pub data Question : Type 0 where
   look_free : SelNo → ℕ → Question
   put_free : SelNo → ℕ → Question
   take_free : SelNo → ℕ → Question
+  reopen : ChanNo → Chan → Question
 
 -- what a step finds: one constructor for each type of answer
 pub data Answer : Type 0 where
@@ -130,7 +132,7 @@ question_of (RaiseChannels n found) = raise_channels n
 question_of (TryHoldBit c found) = try_hold_bit c
 question_of (Release c) = release c
 question_of (SetMode c blocking found) = set_mode c blocking
-question_of (CloseBit c found) = close_bit c
+question_of (CloseBit c from found) = close_bit c from
 question_of (ShutBit s found) = shut_bit s
 question_of (Enter s found) = enter s
 question_of (Pin s i found) = pin s i
@@ -140,6 +142,7 @@ question_of (ClaimAgain s i c from found) = claim_again s i c from
 question_of (LookFree s j found) = look_free s j
 question_of (PutFree s i) = put_free s i
 question_of (TakeFree s i found) = take_free s i
+question_of (Reopen c from found) = reopen c from
 
 -- what a step found
 abbrev pub answer_of : Act → Answer
@@ -180,7 +183,7 @@ answer_of (RaiseChannels n found) = number found
 answer_of (TryHoldBit c found) = holder found
 answer_of (Release c) = nothing
 answer_of (SetMode c blocking found) = channel found
-answer_of (CloseBit c found) = flag found
+answer_of (CloseBit c from found) = channel found
 answer_of (ShutBit s found) = flag found
 answer_of (Enter s found) = holder found
 answer_of (Pin s i found) = stage found
@@ -190,3 +193,4 @@ answer_of (ClaimAgain s i c from found) = flag found
 answer_of (LookFree s j found) = word found
 answer_of (PutFree s i) = nothing
 answer_of (TakeFree s i found) = flag found
+answer_of (Reopen c from found) = flag found

@@ -6,6 +6,8 @@
 use Rattle.std.specs.Prelude.{◌≡◌, ℕ, ◌==◌, nat_lt, Bool, not, ◌&&◌, ◌||◌, IsTrue}
 use Rattle.nio_history.specs.State.{State, last_serial}
 use Rattle.nio_history.specs.declared.found.Stage.{Stage}
+use Rattle.nio_history.specs.declared.found.Chan.{Chan}
+use Rattle.nio_base.specs.declared.numbers.ChanId.{ChanId}
 
 -- ---- the present key of an index
 
@@ -59,11 +61,33 @@ is_in_key_set k serial = fits k serial && in_key_set k
 abbrev pub is_valid_key : Stage → ℕ → Bool
 is_valid_key k serial = fits k serial && is_valid k
 
--- ---- channels
+-- ---- a channel, by what its number has and by its serial
 
--- a channel is registered where a key of it is in a key set
-pub record IsRegistered (st : State) (c : ℕ) : Type 0 where
+-- the channel is the present one of its number
+abbrev pub fits_channel : Chan → ℕ → Bool
+fits_channel c serial = c.made && (c.serial == serial)
+
+-- the channel was opened
+abbrev pub was_opened : Chan → ℕ → Bool
+was_opened c serial = c.made && not (nat_lt c.serial serial)
+
+-- the channel was closed: its number has a later one, or it is closed
+abbrev pub was_closed : Chan → ℕ → Bool
+was_closed c serial = nat_lt serial c.serial || (fits_channel c serial && c.closed)
+
+-- the channel is open
+abbrev pub is_open_channel : Chan → ℕ → Bool
+is_open_channel c serial = fits_channel c serial && not c.closed
+
+-- nothing in what a number has forbids that it is given to a new channel: its channel is closed, and there is a next
+-- serial
+abbrev pub can_reopen : Chan → Bool
+can_reopen c = c.made && c.closed && nat_lt c.serial last_serial
+
+-- a channel is registered where it is the present one of its number and a key of this number is in a key set
+pub record IsRegistered (st : State) (c : ChanId) : Type 0 where
+  pub present : IsTrue (fits_channel (st.chan c.number.0) c.serial)
   pub selector : ℕ
   pub index : ℕ
-  pub of_channel : (st.key selector index).chan.0 ≡ c
+  pub of_channel : (st.key selector index).chan ≡ c.number
   pub in_set : IsTrue (in_key_set (st.key selector index))

@@ -53,6 +53,7 @@ pub record IsWithin (l : Limits) (st : State) : Type 0 where
   pub enrolled : (c s : ℕ) → ForSome (st.enrolled c s) (λ k. (k.index < l.keys) × (k.serial ≤ last_serial))
   -- serials
   pub serials : (s i : ℕ) → (st.key s i).serial ≤ last_serial
+  pub channel_serials : (c : ℕ) → (st.chan c).serial ≤ last_serial
   -- who has a pin, or has taken an index
   pub pins : (s i n : ℕ) → IsTrue (st.pinned s i n) → n < l.callers
   pub takers : (s i : ℕ) → ForSome (st.taker s i) (IsCaller l)

@@ -11,6 +11,7 @@ use Rattle.nio_history.specs.declared.found.Chan.{Chan}
 use Rattle.nio_history.specs.declared.found.GateWord.{GateWord}
 use Rattle.nio_history.specs.declared.found.Mark.{Mark}
 use Rattle.nio_history.specs.declared.found.Stage.{Stage}
+use Rattle.std.specs.Prelude.{true}
 
 pub record State : Type 0 where
   -- callers: those drawn, and those whose interrupt status is set
@@ -20,7 +21,8 @@ pub record State : Type 0 where
   pub selector : ℕ → Bool
   -- the channels' high-water mark, below which every channel is made
   pub channels_high : ℕ
-  -- a channel, and the caller that holds it while it registers it or sets its mode
+  -- the channel that a number has, and the caller that holds the number while it registers the channel, sets its
+  -- mode or gives the number to a new channel
   pub chan : ℕ → Chan
   pub hold : ℕ → Option CallerNo
   -- the key that is enrolled for a channel in a selector, by the channel and the selector
@@ -54,7 +56,7 @@ pub record State : Type 0 where
 -- what isn't there yet
 
 abbrev pub unmade_channel : Chan
-unmade_channel = record { made = false; kind = Stream; closed = false; blocking = false }
+unmade_channel = record { made = false; kind = Stream; closed = false; blocking = true; serial = 0 }
 
 abbrev pub open_gate : GateWord
 open_gate = record { woken = false; shut = false }
@@ -75,7 +77,7 @@ unclaimed =
 abbrev pub unmarked : Mark
 unmarked = record { selected = false; ready = 0 }
 
--- the last serial that a key can have: its index doesn't become free
+-- the last serial that a key and a channel can have: the index and the number don't come back
 abbrev pub last_serial : ℕ
 last_serial = 4294967295
 

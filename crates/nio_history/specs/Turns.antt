@@ -24,6 +24,7 @@ use Rattle.nio_history.specs.declared.act.Act.TheVariants.{Enter, Pin, Unpin, Cl
 use Rattle.nio_history.specs.declared.act.Act.TheVariants.{TakeFree}
 use Rattle.nio_history.specs.declared.event.Event.{Event}
 use Rattle.nio_history.specs.declared.found.GateWord.{GateWord}
+use Rattle.nio_history.specs.declared.act.Act.TheVariants.{Reopen}
 
 -- what only the selecting caller does to selector s: it marks and removes keys and ends the wakeup
 abbrev pub selects_on : ℕ → Act → Bool
@@ -64,7 +65,7 @@ selects_on s (RaiseChannels n found) = false
 selects_on s (TryHoldBit c found) = false
 selects_on s (Release c) = false
 selects_on s (SetMode c blocking found) = false
-selects_on s (CloseBit c found) = false
+selects_on s (CloseBit c from found) = false
 selects_on s (ShutBit s' found) = false
 selects_on s (Enter s' found) = false
 selects_on s (Pin s' i found) = false
@@ -74,6 +75,7 @@ selects_on s (ClaimAgain s' i c from found) = false
 selects_on s (LookFree s' j found) = false
 selects_on s (PutFree s' i) = false
 selects_on s (TakeFree s' i found) = false
+selects_on s (Reopen c from found) = false
 
 -- it removes a key of selector s
 abbrev pub removes_on : ℕ → Act → Bool

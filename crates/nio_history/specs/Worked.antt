@@ -1,7 +1,8 @@
 -- A worked history, in which each kind of step stands: two callers register a channel, select, cancel its
--- key in the middle of the selection, claim its index again, and close the channel and the selector.
+-- key in the middle of the selection, claim its index again, close the channel and the selector, and give the
+-- channel's number to a new one.
 use Rattle.std.specs.Prelude.{ℕ, Bool, true, false, Some, None, Ok, Err, List, [], ◌∷◌, take, ⊤}
-use Rattle.nio_base.specs.declared.kind.Kind.TheVariants.{Source}
+use Rattle.nio_base.specs.declared.kind.Kind.TheVariants.{Stream, Source}
 use Rattle.nio_base.specs.declared.limits.Limits.{Limits}
 use Rattle.nio_base.specs.declared.numbers.CallerNo.{CallerNo}
 use Rattle.nio_base.specs.declared.numbers.ChanNo.{ChanNo}
@@ -27,6 +28,7 @@ use Rattle.nio_history.specs.declared.found.Chan.{Chan}
 use Rattle.nio_history.specs.declared.found.GateWord.{GateWord}
 use Rattle.nio_history.specs.declared.found.Mark.{Mark as KeyMark}
 use Rattle.nio_history.specs.declared.found.Stage.{Stage}
+use Rattle.nio_history.specs.declared.act.Act.TheVariants.{Reopen}
 
 -- two callers, one selector with one key, one channel
 abbrev pub small_limits : Limits
@@ -44,8 +46,12 @@ s = record { 0 = 0 }
 abbrev pub c : ChanNo
 c = record { 0 = 0 }
 
+-- the number's first channel, and the one after it
 abbrev pub chan : Bool → Bool → Chan
-chan closed blocking = record { made = true; kind = Source; closed = closed; blocking = blocking }
+chan closed blocking = record { made = true; kind = Source; closed = closed; blocking = blocking; serial = 0 }
+
+abbrev pub next_chan : Chan
+next_chan = record { made = true; kind = Source; closed = false; blocking = true; serial = 1 }
 
 abbrev pub gate : Bool → Bool → GateWord
 gate woken shut = record { woken = woken; shut = shut }
@@ -184,7 +190,7 @@ worked_history =
     event_of v (SetMode c true (chan false false)) ∷
     event_of v (Release c) ∷
     -- it closes the channel and the selector, and interrupts caller 0
-    event_of v (CloseBit c false) ∷
+    event_of v (CloseBit c (chan false true) (chan false true)) ∷
     event_of v (LookChannel c (chan true true)) ∷
     event_of v (ShutBit s false) ∷
     event_of v (LookGate s (gate false true)) ∷
@@ -194,7 +200,16 @@ worked_history =
     event_of v (Remove s 0 (stage 1 true true true)) ∷
     event_of v (SetInterrupt u false) ∷
     event_of u (TakeInterrupt true) ∷
-    event_of u (LookInterrupt false) ∷ []
+    event_of u (LookInterrupt false) ∷
+    -- caller 1 gives the channel's number to a new channel, once; a closing of the old one that comes late leaves it
+    event_of v (TryHoldBit c None) ∷
+    event_of v (LookReg c s (Some (enrolled 0 1))) ∷
+    event_of v (LookKey s 0 (stage 1 true true true)) ∷
+    event_of v (Reopen c (chan true true) false) ∷
+    event_of v (Reopen c (chan true true) true) ∷
+    event_of v (Release c) ∷
+    event_of u (CloseBit c (chan false true) next_chan) ∷
+    event_of u (LookChannel c next_chan) ∷ []
 
 abbrev pub WorkedHistoryIsLegal : Type 0
 WorkedHistoryIsLegal = IsLegal small_limits worked_history
@@ -253,7 +268,20 @@ refused_events =
     (108, event_of v (Remove s 0 (stage 1 true true true))) ∷
     (109, event_of v (Remove s 0 (stage 1 true true true))) ∷
     -- only the closer enters
-    (108, event_of u (Enter s None)) ∷ []
+    (108, event_of u (Enter s None)) ∷
+    -- a channel is closed from one that was found open, of the kind and of a serial that its number has or had
+    (114, event_of u (CloseBit c (chan true true) (chan true true))) ∷
+    (114, event_of u (CloseBit c (record (chan false true) { kind = Stream }) (chan true true))) ∷
+    (114, event_of u (CloseBit c next_chan (chan true true))) ∷
+    -- a number is given to a new channel by its holder, after a look at its enrolled keys under this hold
+    (114, event_of v (Reopen c (chan true true) false)) ∷
+    (115, event_of v (Reopen c (chan true true) false)) ∷
+    (116, event_of v (Reopen c (chan true true) false)) ∷
+    (117, event_of u (Reopen c (chan true true) false)) ∷
+    -- the channel that stands there gives it, where it is closed, and no other one
+    (117, event_of v (Reopen c (chan true true) true)) ∷
+    (118, event_of v (Reopen c (chan true true) false)) ∷
+    (118, event_of v (Reopen c next_chan false)) ∷ []
 
 abbrev pub AreNoSteps : List (ℕ × Event) → Type 0
 AreNoSteps [] = ⊤

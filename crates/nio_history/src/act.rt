@@ -39,7 +39,7 @@ pub enum Act {
     SwapNote(SelNo, u32, u64, u64),
     /// Looks at a key's attachment.
     LookNote(SelNo, u32, u64),
-    /// Makes a channel of this kind, open and in blocking mode: whether it was made.
+    /// Makes a number's first channel, of this kind, open and in blocking mode: whether it was made.
     MakeChannel(ChanNo, Kind, bool),
     /// Looks at a channel.
     LookChannel(ChanNo, Chan),
@@ -82,8 +82,9 @@ pub enum Act {
     Release(ChanNo),
     /// Sets whether a channel is in blocking mode.
     SetMode(ChanNo, bool, Chan),
-    /// Closes a channel: whether it was closed.
-    CloseBit(ChanNo, bool),
+    /// Closes the channel that was found so, open, unless its mode was set to non-blocking since or the number has
+    /// another one: the channel that stands there.
+    CloseBit(ChanNo, Chan, Chan),
     /// Shuts a selector, and makes the caller its closer where it wasn't shut: whether it was shut.
     ShutBit(SelNo, bool),
     /// Looks at the turn as the selector's closer, and enters where nobody has it: who has it.
@@ -104,4 +105,7 @@ pub enum Act {
     PutFree(SelNo, u32),
     /// Takes an index out of the free ones: whether it was free.
     TakeFree(SelNo, u32, bool),
+    /// Gives the number of a closed channel, from the channel that was found, to a new channel of its kind with the
+    /// next serial, open and in blocking mode, where that channel stands there: whether another one does.
+    Reopen(ChanNo, Chan, bool),
 }

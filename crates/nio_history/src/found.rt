@@ -1,6 +1,7 @@
 //! What a look at one part of the shared state finds.
 ghost use Rattle.std.specs.Prelude.{◌≡◌};
 ghost use Rattle.nio_history.specs.Sets.{fits, is_in_key_set, is_valid_key, was_published};
+ghost use Rattle.nio_history.specs.Sets.{fits_channel, is_open_channel};
 
 use crate::timeout::Milliseconds;
 use nio_base::{ChanNo, Kind, Ops};
@@ -63,11 +64,12 @@ impl Stage {
     }
 }
 
-/// A channel: whether it is made, its kind, whether it is closed, and whether it is in blocking
-/// mode.
+/// The channel that a number has: whether it is made, its kind, whether it is closed, whether it is in blocking
+/// mode, and its serial. The number of a closed channel can be given to a new channel of the same kind, with the
+/// next serial.
 #[derive(Clone, Copy, Debug, PartialEq, Eq)]
 pub struct Chan {
-    /// The channel was opened.
+    /// The number's first channel was opened.
     pub made: bool,
     /// Its kind.
     pub kind: Kind,
@@ -75,6 +77,24 @@ pub struct Chan {
     pub closed: bool,
     /// It is in blocking mode.
     pub blocking: bool,
+    /// How many channels had this number before.
+    pub serial: u32,
+}
+
+impl Chan {
+    /// Whether the channel with this serial is the present one of its number.
+    pub fn fits(self, serial: u32) -> bool
+        ensures { result ≡ fits_channel self serial }
+    {
+        self.made && self.serial == serial
+    }
+
+    /// Whether the channel with this serial is open. A channel with a lower serial than the present one is closed.
+    pub fn is_open(self, serial: u32) -> bool
+        ensures { result ≡ is_open_channel self serial }
+    {
+        self.fits(serial) && !self.closed
+    }
 }
 
 /// Whether a key is in its selector's selected set, and its ready set.

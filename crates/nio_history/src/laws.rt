@@ -2,7 +2,8 @@
 ghost use Rattle.nio_history.specs.Staying.{BeginningsAreLegal, FactsArePermanent, InvalidKeysStayInvalid};
 ghost use Rattle.nio_history.specs.Staying.{OnlyItselfGivesBack, ConditionsStay, StatesAreSound, StatesAreWithin};
 ghost use Rattle.nio_history.specs.Found.{StepsLeave, LooksTell, FoundStands};
-ghost use Rattle.nio_history.specs.Holders.{ModeStays, EnrolledStays, FoundEnrolledStays, OutsideStays};
+ghost use Rattle.nio_history.specs.Holders.{ChannelStays, ModeStays, EnrolledStays, FoundEnrolledStays};
+ghost use Rattle.nio_history.specs.Holders.{OutsideStays};
 ghost use Rattle.nio_history.specs.Holders.{FoundClearStays};
 ghost use Rattle.nio_history.specs.Holders.{ClearIsTrue, SelectsAlone, KeySetStays, MarksStay, WakeupStays};
 ghost use Rattle.nio_history.specs.Pins.{PinsAreOwn, TakenIsOwn, PinnedKeysStay, ClaimsAgainWhereUnpinned};
@@ -18,8 +19,8 @@ pub fn beginnings_law()
 {}
 
 /// What is drawn, made, claimed, published, cancelled, removed, closed or shut stays so, the high-water
-/// marks don't fall, and a closer stays the closer. So an invalid key stays invalid, also where its index is
-/// given to a new key.
+/// marks don't fall, a number's channels are of one kind, and a closer stays the closer. So an invalid key stays
+/// invalid, also where its index is given to a new key, and a closed channel closed, also where its number is.
 pub fn permanent_law()
     ensures permanent { FactsArePermanent }
     ensures invalid { InvalidKeysStayInvalid }
@@ -100,9 +101,11 @@ pub fn found_law()
     ensures stands { FoundStands }
 {}
 
-/// While a caller holds a channel, nobody else sets its mode, enrols a key for it or publishes a key of it.
-/// So what the caller last found enrolled is enrolled, and a key that it found outside the key set is outside.
+/// While a caller holds a number of channels, nobody else gives it to a new channel, sets its channel's mode,
+/// enrols a key for it or publishes a key of it. So what the caller last found enrolled is enrolled, and a key
+/// that it found outside the key set is outside.
 pub fn hold_law()
+    ensures channel { ChannelStays }
     ensures mode { ModeStays }
     ensures enrolled { EnrolledStays }
     ensures found_enrolled { FoundEnrolledStays }

@@ -13,15 +13,15 @@ use Rattle.nio_jobs.specs.declared.next.Start.{Start}
 
 -- the listener's channel
 abbrev pub listener : GChan
-listener = record { 0 = 0 }
+listener = record { number = 0; serial = 0 }
 
 -- the other stream of a connection: clients have odd numbers, and the target of each has the next one
 abbrev pub peer : GChan → GChan
-peer chan = record { 0 = if chan.0 % 2 == 1 then chan.0 + 1 else chan.0 - 1 }
+peer chan = record chan { number = if chan.number % 2 == 1 then chan.number + 1 else chan.number - 1 }
 
 -- how many bytes the direction from this stream holds
 abbrev pub held_by : List ℕ → GChan → ℕ
-held_by held chan = slice_index_or held chan.0 0
+held_by held chan = slice_index_or held chan.number 0
 
 abbrev pub start_of : GChan → OpKind → ℕ → Start
 start_of chan kind len = record { chan = chan; kind = kind; len = len }
@@ -57,9 +57,9 @@ next_after held chan kind (finished.Failed why) = next.Nothing
 abbrev pub held_after_count : List ℕ → GChan → OpKind → ℕ → List ℕ
 held_after_count held chan Accept n = held
 held_after_count held chan Connect n = held
-held_after_count held chan Read n = slice_set held chan.0 (held_after_read (held_by held chan) n)
+held_after_count held chan Read n = slice_set held chan.number (held_after_read (held_by held chan) n)
 held_after_count held chan Write n =
-    slice_set held (peer chan).0 (held_after_write (held_by held (peer chan)) n)
+    slice_set held (peer chan).number (held_after_write (held_by held (peer chan)) n)
 
 abbrev pub held_after_finished : List ℕ → GChan → OpKind → Finished → List ℕ
 held_after_finished held chan kind (finished.Count n) = held_after_count held chan kind n

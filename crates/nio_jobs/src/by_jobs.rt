@@ -1,5 +1,6 @@
 //! The way that makes each call on the net for a job.
 ghost use Rattle.std.specs.Prelude.{◌≡◌, ◌+◌, ◌<◌, ◌≤◌, [], ◌∷◌, ◌++◌, IfOk, IfSome, max, min, vec_capacity, vec_len};
+ghost use Rattle.nio_link.specs.Jobs.{of_net};
 ghost use Rattle.nio_jobs.specs.Reports.{done_of_made, done_of_read, done_of_written};
 
 use crate::exchange::{Done, Exchange};
@@ -83,7 +84,7 @@ impl<E: Exchange + Drop> ByJobs<E> {
     // Where there is none, it may be handed out for what is reported now.
     fn take(&mut self, chan: ChanNo, kind: OpKind) -> Option<Job>
         ensures kind { IfSome result (λ job. job.kind ≡ kind) }
-        ensures its { IfSome result (λ job. job.chan.0 ≡ chan.0) }
+        ensures its { IfSome result (λ job. job.chan ≡ of_net chan) }
     {
         if self.done.len() == self.done.capacity() {
             return None;
@@ -109,15 +110,19 @@ impl<E: Exchange + Drop> ByJobs<E> {
     fn take_in_all(&mut self, wanted: Option<(ChanNo, OpKind)>) {
         for _ in 0..self.fresh.len() {
             if let Some(job) = self.fresh.pop() {
-                let is_wanted = wanted == Some((ChanNo(job.chan().0), job.kind()));
+                let is_wanted = wanted == Some((ChanNo(job.chan().number), job.kind()));
                 self.take_in(job, is_wanted);
             }
         }
     }
 
     // Takes in a job that was just handed out. The proxy may use it at once if it wants that now, or if there was one
-    // of the same kind and channel before: then it watches for that. Else the next round says that it came.
+    // of the same kind and channel before: then it watches for that. Else the next round says that it came. The job of
+    // a channel whose number came back is dropped: the net has no link for it.
     fn take_in(&mut self, job: Job, is_wanted: bool) {
+        if job.chan().serial != 0 {
+            return;
+        }
         if is_wanted || self.jobs.had_like(&job) {
             self.jobs.put(job);
         } else {
@@ -210,7 +215,7 @@ impl<N: Net, E: Exchange + Drop> Way<JobNet<N>> for ByJobs<E> {
 
     fn permitted(&mut self) -> Option<ChanNo> {
         let job = self.arrived.pop()?;
-        let chan = ChanNo(job.chan().0);
+        let chan = ChanNo(job.chan().number);
         self.jobs.put(job);
         Some(chan)
     }

@@ -1,8 +1,10 @@
 //! Jobs by channel and kind.
 ghost use Rattle.std.specs.Prelude.{◌≡◌, IfOk, IfSome, replicate};
+ghost use Rattle.nio_link.specs.Jobs.{of_net};
 
 use nio_base::{ChanNo, OpKind, Ops};
 use nio_group::Job;
+use nio_link::of_net;
 use std::alloc::{AllocError, Global};
 
 /// The jobs of a channel, one of a kind at most, and for which operations there has been one.
@@ -82,21 +84,22 @@ impl Jobs {
         Ok(Jobs { channels: all })
     }
 
-    /// Keeps a job, in the place of an earlier one of its channel and kind. One of a channel for which there is no room
-    /// is dropped.
+    /// Keeps a job, in the place of an earlier one of its channel's number and kind. One of a channel for which there is
+    /// no room is dropped.
     pub(crate) fn put(&mut self, job: Job) {
-        if let Some(channel) = self.channels.get_mut(job.chan().0 as usize) {
+        if let Some(channel) = self.channels.get_mut(job.chan().number as usize) {
             channel.put(job);
         }
     }
 
-    /// Takes out the job of this kind for this channel, if there is one.
+    /// Takes out the job of this kind for this channel, if there is one. That of another channel of the group with its
+    /// number is dropped: a net uses each number once.
     pub(crate) fn take(&mut self, chan: ChanNo, kind: OpKind) -> Option<Job>
         ensures kind { IfSome result (λ job. job.kind ≡ kind) }
-        ensures its { IfSome result (λ job. job.chan.0 ≡ chan.0) }
+        ensures its { IfSome result (λ job. job.chan ≡ of_net chan) }
     {
         let job = self.channels.get_mut(chan.0 as usize)?.take(kind)?;
-        if job.kind() == kind && job.chan().0 == chan.0 {
+        if job.kind() == kind && job.chan() == of_net(chan) {
             Some(job)
         } else {
             None
@@ -113,6 +116,6 @@ impl Jobs {
 
     /// Whether there has been a job of the same kind for the same channel.
     pub(crate) fn had_like(&self, job: &Job) -> bool {
-        operation(job.kind()).within(self.had(ChanNo(job.chan().0)))
+        operation(job.kind()).within(self.had(ChanNo(job.chan().number)))
     }
 }

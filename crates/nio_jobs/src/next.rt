@@ -11,14 +11,15 @@ use std::marker::Model;
 
 // The other stream of a connection. Clients have odd numbers, and the target of each has the next one.
 fn peer(chan: GChan) -> GChan
-    requires { chan.0 < 4294967295 }
+    requires { chan.number < 4294967295 }
     ensures { result ≡ peer chan }
 {
-    if chan.0 % 2 == 1 {
-        GChan(chan.0 + 1)
+    let number = if chan.number % 2 == 1 {
+        chan.number + 1
     } else {
-        GChan(chan.0.saturating_sub(1))
-    }
+        chan.number.saturating_sub(1)
+    };
+    GChan { number, ..chan }
 }
 
 /// An operation that is due. A read or a write for no bytes isn't started.
@@ -72,7 +73,7 @@ impl Directions {
     /// in flight, and reads on where there is room. A write has the rest, and reads on from the peer where that waited
     /// for room. A target that is connected has a read from both streams.
     pub fn next(&mut self, chan: GChan, kind: OpKind, finished: Finished) -> Next
-        requires { chan.0 < 4294967295 }
+        requires { chan.number < 4294967295 }
         ensures next { result ≡ next_after self.old chan kind finished }
         ensures held { self.new ≡ held_after_finished self.old chan kind finished }
     {
@@ -89,7 +90,7 @@ impl Directions {
     }
 
     fn after_reading(&mut self, source: GChan, count: u64) -> Next
-        requires { source.0 < 4294967295 }
+        requires { source.number < 4294967295 }
         ensures next { result ≡ next_after_reading source (held_by self.old source) count }
         ensures held { self.new ≡ held_after_count self.old source Read count }
     {
@@ -109,7 +110,7 @@ impl Directions {
     }
 
     fn after_writing(&mut self, sink: GChan, count: u64) -> Next
-        requires { sink.0 < 4294967295 }
+        requires { sink.number < 4294967295 }
         ensures next { result ≡ next_after_writing sink (held_by self.old (peer sink)) count }
         ensures held { self.new ≡ held_after_count self.old sink Write count }
     {
@@ -133,16 +134,16 @@ impl Directions {
     fn held_by(&self, source: GChan) -> u64
         ensures { result ≡ held_by self.now source }
     {
-        match self.held.get(source.0 as usize) {
+        match self.held.get(source.number as usize) {
             Some(held) => *held,
             None => 0,
         }
     }
 
     fn set_held(&mut self, source: GChan, held: u64)
-        ensures { self.new ≡ slice_set self.old source.0 held }
+        ensures { self.new ≡ slice_set self.old source.number held }
     {
-        let at = source.0 as usize;
+        let at = source.number as usize;
         if at < self.held.len() {
             self.held[at] = held;
         }
@@ -150,7 +151,7 @@ impl Directions {
 }
 
 fn after_connected(target: GChan) -> Next
-    requires { target.0 < 4294967295 }
+    requires { target.number < 4294967295 }
     ensures { result ≡ next_after_connected target }
 {
     let of_client = Start {

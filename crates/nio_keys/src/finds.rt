@@ -7,7 +7,7 @@ ghost use Rattle.nio_steps.specs.Runs.{Completes};
 ghost use Rattle.nio_words.specs.Passes.{IsReady, limits_of};
 ghost use Rattle.nio_words.specs.Views.{view};
 
-use nio_base::{CallerNo, ChanNo, KeyNo, SelNo};
+use nio_base::{CallerNo, ChanId, ChanNo, KeyNo, SelNo};
 use nio_steps::has_bit;
 use nio_words::{Pass, Words};
 
@@ -31,11 +31,18 @@ pub fn find_selector(w: &Words, p: &mut Pass, me: CallerNo, number: u32) -> Opti
     }
 }
 
-/// The channel with this number, where it is made.
+/// The channel with this number and serial, where it was opened. It may be closed since, and the number be given
+/// to another one.
 #[tactic(auto, unfolding(nio_steps::specs::KeyCalls::find_channel_plan))]
-pub fn find_channel(w: &Words, p: &mut Pass, me: CallerNo, number: u32) -> Option<ChanNo>
+pub fn find_channel(
+    w: &Words,
+    p: &mut Pass,
+    me: CallerNo,
+    number: u32,
+    serial: u32,
+) -> Option<ChanId>
     requires { IsReady w.now p.old me }
-    ensures call { CallClause me (Completes (find_channel_plan (limits_of w.now) number))
+    ensures call { CallClause me (Completes (find_channel_plan (limits_of w.now) number serial))
         (view w.now p.old) (view w.now p.new) result }
     ensures ready { IsReady w.now p.new me }
     ensures found { IfSome result (HasChannel (view w.now p.new)) }
@@ -43,9 +50,10 @@ pub fn find_channel(w: &Words, p: &mut Pass, me: CallerNo, number: u32) -> Optio
     if number >= w.limits().channels {
         return None;
     }
-    let found = w.look_channel(p, me, ChanNo(number));
-    if found.made {
-        Some(ChanNo(number))
+    let number = ChanNo(number);
+    let found = w.look_channel(p, me, number);
+    if found.made && serial <= found.serial {
+        Some(ChanId { number, serial })
     } else {
         None
     }

@@ -4,7 +4,7 @@ use Rattle.std.proofs.Common.{Err, IfOk, refl, sym, ap, subst, ◌∙◌}
 use Rattle.std.specs.Prelude.{⊤}
 use Rattle.std.proofs.lemmas.Option.{same_Some, none-some}
 use Rattle.nio_base.specs.declared.numbers.CallerNo.{CallerNo}
-use Rattle.nio_base.specs.declared.numbers.ChanNo.{ChanNo}
+use Rattle.nio_base.specs.declared.numbers.ChanId.{ChanId}
 use Rattle.nio_base.specs.declared.numbers.KeyId.{KeyId}
 use Rattle.nio_base.specs.declared.numbers.SelNo.{SelNo}
 use Rattle.nio_language.specs.Arguments.{Arguments, nothing, one_caller, one_selector, one_channel, one_kind}
@@ -48,7 +48,7 @@ abbrev caller_call : CallerWord → CallerNo → Call
 caller_call on_caller.Interrupt t = call.Interrupt t
 caller_call on_caller.Pipe t = call.Pipe t
 
-abbrev channel_call : ChannelWord → ChanNo → Call
+abbrev channel_call : ChannelWord → ChanId → Call
 channel_call on_channel.IsBlocking c = call.IsBlocking c
 channel_call on_channel.IsOpen c = call.IsOpen c
 channel_call on_channel.IsRegistered c = call.IsRegistered c
@@ -118,14 +118,14 @@ AreOf (word.OnKey w) args = HaveShape (λ (p : SelNo × KeyId). selector_key p.0
 AreOf (word.OnKeyOps w) args = HaveShape (λ (p : SelNo × KeyId × ℕ). key_ops p.0 p.1 p.2) args
 AreOf (word.OnSelector w) args = HaveShape one_selector args
 AreOf word.Channel args = HaveShape one_kind args
-AreOf word.Blocking args = HaveShape (λ (p : ChanNo × Bool). channel_mode p.0 p.1) args
-AreOf word.KeyFor args = HaveShape (λ (p : ChanNo × SelNo). channel_selector p.0 p.1) args
-AreOf word.Register args = HaveShape (λ (p : SelNo × ChanNo × ℕ × Option ℕ). registration p.0 p.1 p.2 p.3) args
+AreOf word.Blocking args = HaveShape (λ (p : ChanId × Bool). channel_mode p.0 p.1) args
+AreOf word.KeyFor args = HaveShape (λ (p : ChanId × SelNo). channel_selector p.0 p.1) args
+AreOf word.Register args = HaveShape (λ (p : SelNo × ChanId × ℕ × Option ℕ). registration p.0 p.1 p.2 p.3) args
 AreOf word.Attach args = HaveShape (λ (p : SelNo × KeyId × ℕ). key_number p.0 p.1 p.2) args
 AreOf word.Begin args = HaveShape (λ (p : SelNo × Waiting). selector_wait p.0 p.1) args
 AreOf word.Told args = HaveShape (λ (p : SelNo × Bool × List (KeyId × ℕ)). selector_told p.0 p.1 p.2) args
-AreOf word.Pwrite args = HaveShape (λ (p : ChanNo × List ℕ). channel_bytes p.0 p.1) args
-AreOf word.Pread args = HaveShape (λ (p : ChanNo × ℕ). channel_count p.0 p.1) args
+AreOf word.Pwrite args = HaveShape (λ (p : ChanId × List ℕ). channel_bytes p.0 p.1) args
+AreOf word.Pread args = HaveShape (λ (p : ChanId × ℕ). channel_count p.0 p.1) args
 AreOf (word.OnGroup w) args = (g : GroupCall) × (args ≡ on_group g) × (group_word g ≡ w)
 
 from_shape : (w : CallWord) (args : Arguments) → IsSomeAnd (call_from w args) (λ c. call_word c ≡ w) → AreOf w args

@@ -1,6 +1,6 @@
 -- Where a text is cut at its first byte of a value.
 use Rattle.std.proofs.Common.{◌≡◌, ◌≢◌, ℕ, suc, ◌<◌, ◌+◌, ◌-◌, ◌==◌, List, ◌∷◌, ◌++◌, length, get_or, take, drop, Some}
-use Rattle.std.proofs.Common.{arith, sym, ap, refl, position, All, add-one, length-append}
+use Rattle.std.proofs.Common.{arith, sym, ap, ◌∙◌, refl, position, All, add-one, length-append}
 use Rattle.std.specs.List.{position_or_len}
 use Rattle.std.proofs.Math.Seq.{take-append_seam, drop-append-add, get_or-append_seam, drop-cons}
 use Rattle.std.proofs.lemmas.List.{get_or_append_left, take-append-drop}
@@ -48,3 +48,14 @@ parts-cut byte text before after place at e =
       rw (p, e) (take-append_seam before (byte ∷ after)),
       rw (take-length_drop text (place + 1), p, e) (drop-append-add before (byte ∷ after) 1),
     )
+
+-- parts before and behind the first byte of a value
+pub cut_one : (byte : ℕ) (before after front back : List ℕ) → All (λ b. b ≢ byte) before → All (λ b. b ≢ byte) front
+    → before ++ byte ∷ after ≡ front ++ byte ∷ back → (before ≡ front) × (after ≡ back)
+cut_one byte before after front back h k e =
+    let text : List ℕ = before ++ byte ∷ after in
+    let first = position-cut byte text before after h refl in
+    let second = position-cut byte text front back k e in
+    let own = parts-cut byte text before after (length before) refl refl in
+    let other = parts-cut byte text front back (length before) (sym first ∙ second) e in
+    (sym own.0 ∙ other.0, sym own.1 ∙ other.1)

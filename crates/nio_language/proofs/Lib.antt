@@ -14,6 +14,7 @@ pub mod LineTexts
 pub mod Ones
 pub mod OneGroupCall
 pub mod HexWords
+pub mod OneName
 pub mod OneReading
 pub mod JoinedWords
 pub mod PlainTexts

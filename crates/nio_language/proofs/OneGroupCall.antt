@@ -8,6 +8,7 @@ use Rattle.nio_base.specs.declared.group.OpKind.TheVariants as op
 use Rattle.nio_base.specs.declared.group.Outcome.TheVariants as outcome
 use Rattle.nio_base.specs.declared.numbers.GChan.{GChan}
 use Rattle.nio_base.specs.declared.numbers.OpNo.{OpNo}
+use Rattle.nio_language.specs.GroupWords.{IsGroupName}
 use Rattle.nio_language.specs.GroupCalls.{IsGroupCall, IsOutcome, group_argument_words}
 use Rattle.nio_language.specs.GroupWords.{group_channel_word, group_kind_word, operation_kind_word, operation_word}
 use Rattle.nio_language.specs.GroupWords.{outcome_words}
@@ -17,18 +18,19 @@ use Rattle.nio_language.specs.declared.group_call.GroupCall.TheVariants as group
 use Rattle.nio_language.specs.declared.group_word.GroupWord.{GroupWord}
 use Rattle.nio_language.specs.declared.group_word.GroupWord.TheVariants as word
 use Rattle.nio_language.proofs.GroupParts.{HasForm, IsOf, lone_call, report_call, start_call}
+use Rattle.nio_language.proofs.OneName.{name_one}
 use Rattle.nio_language.proofs.Ones.{IsOne, all_three, both, byte_at, numbered_one, word_at}
 
 -- words
 
-abbrev group_channel_no : ℕ → GChan
-group_channel_no n = record { 0 = n }
-
 abbrev operation_no : ℕ → OpNo
 operation_no n = record { 0 = n }
 
-group_channel_one : IsOne (λ g. IsNumber g.0) group_channel_word
-group_channel_one x y f g e = ap group_channel_no (numbered_one 103 x.0 y.0 (omega arith) (omega arith) e)
+group_channel_one : IsOne IsGroupName group_channel_word
+group_channel_one x y f g e =
+    let parts = name_one 103 x.number x.serial y.number y.serial (λ q. omega (arith, q)) f g e in
+    ap (λ n. let c : GChan = record { number = n; serial = x.serial } in c) parts.0
+    ∙ ap (λ m. let c : GChan = record { number = y.number; serial = m } in c) parts.1
 
 operation_one : IsOne (λ n. IsNumber n.0) operation_word
 operation_one x y f g e = ap operation_no (decimal_injective x.0 y.0 (omega arith) (omega arith) e)

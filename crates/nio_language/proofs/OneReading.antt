@@ -12,20 +12,23 @@ use Rattle.std.proofs.lemmas.Option.{same_Some}
 use Rattle.nio_base.specs.declared.kind.Kind.{Kind}
 use Rattle.nio_base.specs.declared.kind.Kind.TheVariants.{Stream, Listener, Source, Sink, Datagram}
 use Rattle.nio_base.specs.declared.numbers.CallerNo.{CallerNo}
-use Rattle.nio_base.specs.declared.numbers.ChanNo.{ChanNo}
+use Rattle.nio_base.specs.declared.numbers.ChanId.{ChanId}
 use Rattle.nio_base.specs.declared.numbers.KeyId.{KeyId}
 use Rattle.nio_base.specs.declared.numbers.SelNo.{SelNo}
 use Rattle.nio_language.specs.Arguments.{Arguments, nothing, one_caller, one_selector, one_channel, one_kind}
 use Rattle.nio_language.specs.Arguments.{channel_mode}
 use Rattle.nio_language.specs.Arguments.{channel_selector, channel_bytes, channel_count, registration, selector_key}
 use Rattle.nio_language.specs.Arguments.{key_ops, key_number, selector_wait, selector_told, on_group, ArgumentsFit}
-use Rattle.nio_language.specs.Arguments.{IsAttachment, IsKeyName, IsMilliseconds, IsPair, IsTime, argument_words}
+use Rattle.nio_language.specs.Arguments.{IsAttachment, IsChannelName, IsKeyName, IsMilliseconds, IsPair, IsTime}
+use Rattle.nio_language.specs.Words.{IsName}
+use Rattle.nio_language.specs.Arguments.{argument_words}
 use Rattle.nio_language.specs.Arguments.{attachment_words, elapsed_words, mode_word, waiting_words}
 use Rattle.nio_language.specs.Calls.{IsBlank, IsCall, IsLine, call_words}
 use Rattle.nio_language.specs.CallWords.{arguments, call_word, call_word_text}
 use Rattle.nio_language.specs.Printing.{spaced}
 use Rattle.nio_language.specs.Script.{AreCalls, no_lines, blank_line, call_line}
-use Rattle.nio_language.specs.Words.{IsNumber, caller_word, selector_word, channel_word, key_word, pair_word, kind_word}
+use Rattle.nio_language.specs.Words.{IsNumber, caller_word, selector_word, channel_word, key_word, name_word, pair_word}
+use Rattle.nio_language.specs.Words.{kind_word}
 use Rattle.nio_language.specs.declared.call.Call.{Call}
 use Rattle.nio_language.specs.declared.call.ScriptCall.{ScriptCall}
 use Rattle.nio_language.specs.declared.call.Waiting.{Waiting}
@@ -35,12 +38,13 @@ use Rattle.nio_language.specs.declared.call_word.CallWord.TheVariants as word
 use Rattle.nio_language.specs.declared.call_word.TheConstants.{CALL_WORDS}
 use Rattle.nio_language.proofs.CallParts.{AreOf, HaveShape, have_shape, parts_one}
 use Rattle.nio_language.proofs.CallWordTable.{reads_call_word}
-use Rattle.nio_language.proofs.Cuts.{position-cut, parts-cut}
+use Rattle.nio_language.proofs.Cuts.{cut_one}
 use Rattle.nio_language.proofs.HexWords.{bytes_one}
 use Rattle.nio_language.proofs.JoinedWords.{join_spaced}
-use Rattle.nio_language.proofs.NameWords.{KeyForm, first, later, decimal_lacks, index_word, index_word_lacks, key_form}
-use Rattle.nio_language.proofs.NameWords.{key_same, key_word_lacks_colon, lacks_none, pair_word_cut}
+use Rattle.nio_language.proofs.NameWords.{NameForm, first, later, decimal_lacks, key_word_lacks_colon, lacks_none}
+use Rattle.nio_language.proofs.NameWords.{name_form, number_lacks_point, number_word, pair_word_cut}
 use Rattle.nio_language.proofs.OneGroupCall.{group_call_one}
+use Rattle.nio_language.proofs.OneName.{name_one}
 use Rattle.nio_language.proofs.Ones.{IsOne, all_three, both, byte_at, numbered_one, word_at}
 use Rattle.nio_language.proofs.GroupParts.{of_word}
 use Rattle.nio_language.proofs.Spaces.{split_join, caller_spaceless, call_spaceless}
@@ -53,52 +57,23 @@ caller_no n = record { 0 = n }
 abbrev selector_no : ℕ → SelNo
 selector_no n = record { 0 = n }
 
-abbrev channel_no : ℕ → ChanNo
-channel_no n = record { 0 = n }
-
 caller_one : IsOne (λ t. t.0 < 64) caller_word
 caller_one x y f g e = ap caller_no (numbered_one 116 x.0 y.0 (omega arith) (omega arith) e)
 
 selector_one : IsOne (λ s. IsNumber s.0) selector_word
 selector_one x y f g e = ap selector_no (numbered_one 115 x.0 y.0 (omega arith) (omega arith) e)
 
-channel_one : IsOne (λ c. IsNumber c.0) channel_word
-channel_one x y f g e = ap channel_no (numbered_one 99 x.0 y.0 (omega arith) (omega arith) e)
-
--- parts before and behind the first byte of a value
-pub cut_one : (byte : ℕ) (before after front back : List ℕ) → All (λ b. b ≢ byte) before → All (λ b. b ≢ byte) front
-    → before ++ byte ∷ after ≡ front ++ byte ∷ back → (before ≡ front) × (after ≡ back)
-cut_one byte before after front back h k e =
-    let text : List ℕ = before ++ byte ∷ after in
-    let first = position-cut byte text before after h refl in
-    let second = position-cut byte text front back k e in
-    let own = parts-cut byte text before after (length before) refl refl in
-    let other = parts-cut byte text front back (length before) (sym first ∙ second) e in
-    (sym own.0 ∙ other.0, sym own.1 ∙ other.1)
+channel_one : IsOne IsChannelName channel_word
+channel_one x y f g e =
+    let parts = name_one 99 x.number.0 x.serial y.number.0 y.serial (λ q. omega (arith, q)) f g e in
+    ap (λ n. let c : ChanId = record { number = record { 0 = n }; serial = x.serial } in c) parts.0
+    ∙ ap (λ m. let c : ChanId = record { number = y.number; serial = m } in c) parts.1
 
 key_one : IsOne IsKeyName key_word
-key_one x y f g e = by_forms (key_form x) (key_form y)
-  where
-    lacks : (k : KeyId) → IsKeyName k → All (λ b. b ≢ 46) (index_word k.index)
-    lacks k fits = index_word_lacks k.index 46 fits.index_fits (λ q. omega (arith, q)) (λ r. omega (arith, r))
-
-    by_forms : KeyForm x → KeyForm y → x ≡ y
-    by_forms (first zeroth is) (first also that) =
-        key_same x y
-        (numbered_one 107 x.index y.index (omega (arith, f.index_fits)) (omega (arith, g.index_fits))
-        (sym is ∙ (e ∙ that))) (zeroth ∙ sym also)
-    by_forms (first zeroth is) (later some that) =
-        absurd (lacks_none 46 (index_word y.index) (decimal y.serial)
-        (subst (All (λ b. b ≢ 46)) (sym is ∙ (e ∙ that)) (lacks x f)))
-    by_forms (later some is) (first zeroth that) =
-        absurd (lacks_none 46 (index_word x.index) (decimal x.serial)
-        (subst (All (λ b. b ≢ 46)) (sym that ∙ (sym e ∙ is)) (lacks y g)))
-    by_forms (later some is) (later more that) =
-        let parts = cut_one 46 (index_word x.index) (decimal x.serial) (index_word y.index) (decimal y.serial)
-        (lacks x f) (lacks y g) (sym is ∙ (e ∙ that)) in
-        key_same x y
-        (numbered_one 107 x.index y.index (omega (arith, f.index_fits)) (omega (arith, g.index_fits)) parts.0)
-        (decimal_injective x.serial y.serial (omega (arith, f.serial_fits)) (omega (arith, g.serial_fits)) parts.1)
+key_one x y f g e =
+    let parts = name_one 107 x.index x.serial y.index y.serial (λ q. omega (arith, q)) f g e in
+    ap (λ i. let k : KeyId = record { index = i; serial = x.serial } in k) parts.0
+    ∙ ap (λ m. let k : KeyId = record { index = y.index; serial = m } in k) parts.1
 
 -- each kind begins with another letter, but for three
 kind_one : (x y : Kind) → kind_word x ≡ kind_word y → x ≡ y
@@ -198,23 +173,23 @@ one_channel_one x y f g e = channel_one x y f g (word_at 0 e)
 one_kind_one : IsOneShape one_kind
 one_kind_one x y f g e = kind_one x y (word_at 0 e)
 
-channel_mode_one : IsOneShape (λ (p : ChanNo × Bool). channel_mode p.0 p.1)
+channel_mode_one : IsOneShape (λ (p : ChanId × Bool). channel_mode p.0 p.1)
 channel_mode_one x y f g e = both x y (channel_one x.0 y.0 f g (word_at 0 e)) (mode_one x.1 y.1 (word_at 1 e))
 
-channel_selector_one : IsOneShape (λ (p : ChanNo × SelNo). channel_selector p.0 p.1)
+channel_selector_one : IsOneShape (λ (p : ChanId × SelNo). channel_selector p.0 p.1)
 channel_selector_one x y f g e =
     both x y (channel_one x.0 y.0 f.0 g.0 (word_at 0 e)) (selector_one x.1 y.1 f.1 g.1 (word_at 1 e))
 
-channel_bytes_one : IsOneShape (λ (p : ChanNo × List ℕ). channel_bytes p.0 p.1)
+channel_bytes_one : IsOneShape (λ (p : ChanId × List ℕ). channel_bytes p.0 p.1)
 channel_bytes_one x y f g e =
     both x y (channel_one x.0 y.0 f.0 g.0 (word_at 0 e)) (bytes_one x.1 y.1 f.1.each g.1.each (word_at 1 e))
 
-channel_count_one : IsOneShape (λ (p : ChanNo × ℕ). channel_count p.0 p.1)
+channel_count_one : IsOneShape (λ (p : ChanId × ℕ). channel_count p.0 p.1)
 channel_count_one x y f g e =
     both x y (channel_one x.0 y.0 f.0 g.0 (word_at 0 e))
     (decimal_injective x.1 y.1 (omega (arith, f.1)) (omega (arith, g.1)) (word_at 1 e))
 
-registration_one : IsOneShape (λ (p : SelNo × ChanNo × ℕ × Option ℕ). registration p.0 p.1 p.2 p.3)
+registration_one : IsOneShape (λ (p : SelNo × ChanId × ℕ × Option ℕ). registration p.0 p.1 p.2 p.3)
 registration_one x y f g e =
     all_four x y (selector_one x.0 y.0 f.0 g.0 (word_at 0 e)) (channel_one x.1 y.1 f.1 g.1 (word_at 1 e))
     (decimal_injective x.2 y.2 (omega (arith, f.2)) (omega (arith, g.2)) (word_at 2 e))
@@ -259,16 +234,16 @@ arguments_one (word.OnChannel w) a b = shaped_one one_channel one_channel_one a 
 arguments_one (word.OnKey w) a b = shaped_one (λ (p : SelNo × KeyId). selector_key p.0 p.1) selector_key_one a b
 arguments_one (word.OnKeyOps w) a b = shaped_one (λ (p : SelNo × KeyId × ℕ). key_ops p.0 p.1 p.2) key_ops_one a b
 arguments_one word.Channel a b = shaped_one one_kind one_kind_one a b
-arguments_one word.Blocking a b = shaped_one (λ (p : ChanNo × Bool). channel_mode p.0 p.1) channel_mode_one a b
-arguments_one word.KeyFor a b = shaped_one (λ (p : ChanNo × SelNo). channel_selector p.0 p.1) channel_selector_one a b
+arguments_one word.Blocking a b = shaped_one (λ (p : ChanId × Bool). channel_mode p.0 p.1) channel_mode_one a b
+arguments_one word.KeyFor a b = shaped_one (λ (p : ChanId × SelNo). channel_selector p.0 p.1) channel_selector_one a b
 arguments_one word.Register a b =
-    shaped_one (λ (p : SelNo × ChanNo × ℕ × Option ℕ). registration p.0 p.1 p.2 p.3) registration_one a b
+    shaped_one (λ (p : SelNo × ChanId × ℕ × Option ℕ). registration p.0 p.1 p.2 p.3) registration_one a b
 arguments_one word.Attach a b = shaped_one (λ (p : SelNo × KeyId × ℕ). key_number p.0 p.1 p.2) key_number_one a b
 arguments_one word.Begin a b = shaped_one (λ (p : SelNo × Waiting). selector_wait p.0 p.1) selector_wait_one a b
 arguments_one word.Told a b =
     shaped_one (λ (p : SelNo × Bool × List (KeyId × ℕ)). selector_told p.0 p.1 p.2) selector_told_one a b
-arguments_one word.Pwrite a b = shaped_one (λ (p : ChanNo × List ℕ). channel_bytes p.0 p.1) channel_bytes_one a b
-arguments_one word.Pread a b = shaped_one (λ (p : ChanNo × ℕ). channel_count p.0 p.1) channel_count_one a b
+arguments_one word.Pwrite a b = shaped_one (λ (p : ChanId × List ℕ). channel_bytes p.0 p.1) channel_bytes_one a b
+arguments_one word.Pread a b = shaped_one (λ (p : ChanId × ℕ). channel_count p.0 p.1) channel_count_one a b
 arguments_one (word.OnGroup w) a b = λ x y f g e.
     let same = group_call_one w x.0 y.0 (of_word w x.0 x.2) (of_word w y.0 y.2) (subst ArgumentsFit x.1 f)
     (subst ArgumentsFit y.1 g) (ap argument_words (sym x.1) ∙ (e ∙ ap argument_words y.1)) in

@@ -22,7 +22,7 @@ use Rattle.nio_base.specs.declared.group.Why.TheVariants as failed
 use Rattle.nio_base.specs.declared.kind.Kind.{Kind}
 use Rattle.nio_base.specs.declared.kind.Kind.TheVariants.{Stream}
 use Rattle.nio_base.specs.declared.numbers.CallerNo.{CallerNo}
-use Rattle.nio_base.specs.declared.numbers.ChanNo.{ChanNo}
+use Rattle.nio_base.specs.declared.numbers.ChanId.{ChanId}
 use Rattle.nio_base.specs.declared.numbers.GChan.{GChan}
 use Rattle.nio_base.specs.declared.numbers.KeyId.{KeyId}
 use Rattle.nio_base.specs.declared.numbers.SelNo.{SelNo}
@@ -41,6 +41,7 @@ use Rattle.nio_language.specs.GroupWords.{finished_words, group_channel_word, gr
 use Rattle.nio_language.specs.GroupWords.{outcome_words}
 use Rattle.nio_language.specs.Replies.{pairs_words, reply_words, why_word}
 use Rattle.nio_language.specs.Words.{bytes_word, caller_word, channel_word, hex_digit, hex_digits, key_word, kind_word}
+use Rattle.nio_language.specs.Words.{name_word}
 use Rattle.nio_language.specs.Words.{pair_word, selector_word}
 use Rattle.nio_language.specs.declared.call.Call.{Call}
 use Rattle.nio_language.specs.declared.call.Waiting.{Waiting}
@@ -54,7 +55,7 @@ use Rattle.nio_language.specs.declared.reply.Reply.TheVariants as reply
 use Rattle.nio_language.specs.declared.call_word.CallWord.{CallWord}
 use Rattle.nio_language.specs.declared.call_word.TheConstants.{CALL_WORDS}
 use Rattle.nio_language.proofs.CallWordTable.{found_has, in_table}
-use Rattle.nio_language.proofs.NameWords.{KeyForm, first, later, index_word, key_form, pair_word_cut}
+use Rattle.nio_language.proofs.NameWords.{NameForm, first, later, name_form, number_word, pair_word_cut}
 
 -- a digit, a small letter, `-`, `.` and `:` are plain
 abbrev pub IsPlainByte : ℕ → Type 0
@@ -128,24 +129,27 @@ caller_plain t = numbered_plain 116 t.0 (omega arith, omega arith)
 selector_plain : (s : SelNo) → IsPlain (selector_word s)
 selector_plain s = numbered_plain 115 s.0 (omega arith, omega arith)
 
-channel_plain : (c : ChanNo) → IsPlain (channel_word c)
-channel_plain c = numbered_plain 99 c.0 (omega arith, omega arith)
-
-group_channel_plain : (g : GChan) → IsPlain (group_channel_word g)
-group_channel_plain g = numbered_plain 103 g.0 (omega arith, omega arith)
-
-key_plain : (k : KeyId) → IsPlain (key_word k)
-key_plain k = by_form (key_form k)
+name_plain : (letter n m : ℕ) → IsPlainByte letter → IsPlain (name_word letter (n, m))
+name_plain letter n m plain = by_form (name_form letter n m)
   where
-    index : IsPlain (index_word k.index)
-    index = numbered_plain 107 k.index (omega arith, omega arith)
+    number : IsPlain (number_word letter n)
+    number = numbered_plain letter n plain
 
-    by_form : KeyForm k → IsPlain (key_word k)
-    by_form (first zeroth is) = subst IsPlain (sym is) index
+    by_form : NameForm letter n m → IsPlain (name_word letter (n, m))
+    by_form (first zeroth is) = subst IsPlain (sym is) number
     by_form (later some is) =
         subst IsPlain (sym is)
-        (All-append IsPlainByte (index_word k.index) (46 ∷ decimal k.serial) index
-        (numbered_plain 46 k.serial (omega arith, omega arith)))
+        (All-append IsPlainByte (number_word letter n) (46 ∷ decimal m) number
+        (numbered_plain 46 m (omega arith, omega arith)))
+
+channel_plain : (c : ChanId) → IsPlain (channel_word c)
+channel_plain c = name_plain 99 c.number.0 c.serial (omega arith, omega arith)
+
+group_channel_plain : (g : GChan) → IsPlain (group_channel_word g)
+group_channel_plain g = name_plain 103 g.number g.serial (omega arith, omega arith)
+
+key_plain : (k : KeyId) → IsPlain (key_word k)
+key_plain k = name_plain 107 k.index k.serial (omega arith, omega arith)
 
 pair_plain : (p : KeyId × ℕ) → IsPlain (pair_word p)
 pair_plain p =

@@ -6,12 +6,12 @@ use Rattle.std.specs.List.{AllPairs}
 use Rattle.nio_base.specs.declared.kind.Kind.{Kind}
 use Rattle.nio_base.specs.declared.kind.Kind.TheVariants.{Stream, Listener, Source, Sink, Datagram}
 use Rattle.nio_base.specs.declared.numbers.CallerNo.{CallerNo}
-use Rattle.nio_base.specs.declared.numbers.ChanNo.{ChanNo}
+use Rattle.nio_base.specs.declared.numbers.ChanId.{ChanId}
 use Rattle.nio_base.specs.declared.numbers.KeyId.{KeyId}
 use Rattle.nio_base.specs.declared.numbers.SelNo.{SelNo}
 use Rattle.nio_language.specs.GroupCalls.{IsGroupCall, group_argument_words}
 use Rattle.nio_language.specs.Reading.{Reads}
-use Rattle.nio_language.specs.Words.{IsNumber, caller_word, selector_word, bytes_word, channel_word, key_word}
+use Rattle.nio_language.specs.Words.{IsName, IsNumber, caller_word, selector_word, bytes_word, channel_word, key_word}
 use Rattle.nio_language.specs.Words.{kind_word}
 use Rattle.nio_language.specs.Words.{pair_word}
 use Rattle.nio_language.specs.declared.call.Waiting.{Waiting}
@@ -24,13 +24,13 @@ pub data Arguments : Type 0 where
   nothing : Arguments
   one_caller : CallerNo → Arguments
   one_selector : SelNo → Arguments
-  one_channel : ChanNo → Arguments
+  one_channel : ChanId → Arguments
   one_kind : Kind → Arguments
-  channel_mode : ChanNo → Bool → Arguments
-  channel_selector : ChanNo → SelNo → Arguments
-  channel_bytes : ChanNo → List ℕ → Arguments
-  channel_count : ChanNo → ℕ → Arguments
-  registration : SelNo → ChanNo → ℕ → Option ℕ → Arguments
+  channel_mode : ChanId → Bool → Arguments
+  channel_selector : ChanId → SelNo → Arguments
+  channel_bytes : ChanId → List ℕ → Arguments
+  channel_count : ChanId → ℕ → Arguments
+  registration : SelNo → ChanId → ℕ → Option ℕ → Arguments
   selector_key : SelNo → KeyId → Arguments
   key_ops : SelNo → KeyId → ℕ → Arguments
   key_number : SelNo → KeyId → ℕ → Arguments
@@ -83,10 +83,12 @@ pub record IsSerial (m : ℕ) : Type 0 where
   pub some : m ≢ 0
   pub fits : IsNumber m
 
--- a key, as a line may name it
-pub record IsKeyName (k : KeyId) : Type 0 where
-  pub index_fits : IsNumber k.index
-  pub serial_fits : IsNumber k.serial
+-- a channel, and a key, as a line may name it
+abbrev pub IsChannelName : ChanId → Type 0
+IsChannelName c = IsName c.number.0 c.serial
+
+abbrev pub IsKeyName : KeyId → Type 0
+IsKeyName k = IsName k.index k.serial
 
 -- a key with operations, as a line may name them
 pub record IsPair (p : KeyId × ℕ) : Type 0 where
@@ -120,13 +122,13 @@ abbrev pub ArgumentsFit : Arguments → Type 0
 ArgumentsFit nothing = ⊤
 ArgumentsFit (one_caller t) = t.0 < 64
 ArgumentsFit (one_selector s) = IsNumber s.0
-ArgumentsFit (one_channel c) = IsNumber c.0
+ArgumentsFit (one_channel c) = IsChannelName c
 ArgumentsFit (one_kind kind) = ⊤
-ArgumentsFit (channel_mode c on) = IsNumber c.0
-ArgumentsFit (channel_selector c s) = IsNumber c.0 × IsNumber s.0
-ArgumentsFit (channel_bytes c bytes) = IsNumber c.0 × AreBytes bytes
-ArgumentsFit (channel_count c n) = IsNumber c.0 × (n ≤ 2048)
-ArgumentsFit (registration s c ops att) = IsNumber s.0 × IsNumber c.0 × (ops < 256) × IsAttachment att
+ArgumentsFit (channel_mode c on) = IsChannelName c
+ArgumentsFit (channel_selector c s) = IsChannelName c × IsNumber s.0
+ArgumentsFit (channel_bytes c bytes) = IsChannelName c × AreBytes bytes
+ArgumentsFit (channel_count c n) = IsChannelName c × (n ≤ 2048)
+ArgumentsFit (registration s c ops att) = IsNumber s.0 × IsChannelName c × (ops < 256) × IsAttachment att
 ArgumentsFit (selector_key s k) = IsNumber s.0 × IsKeyName k
 ArgumentsFit (key_ops s k ops) = IsNumber s.0 × IsKeyName k × (ops < 256)
 ArgumentsFit (key_number s k n) = IsNumber s.0 × IsKeyName k × (n < 2 ^ 64)
@@ -144,18 +146,19 @@ IsLaterKind Source = ⊥
 IsLaterKind Sink = ⊥
 IsLaterKind Datagram = ⊤
 
--- no line had these arguments by the first rules: they name a key whose serial isn't 0, or a later kind of channel
+-- no line had these arguments by the first rules: they name a channel or a key whose serial isn't 0, or a later kind
+-- of channel
 abbrev pub AreLater : Arguments → Type 0
 AreLater nothing = ⊥
 AreLater (one_caller t) = ⊥
 AreLater (one_selector s) = ⊥
-AreLater (one_channel c) = ⊥
+AreLater (one_channel c) = c.serial ≢ 0
 AreLater (one_kind kind) = IsLaterKind kind
-AreLater (channel_mode c on) = ⊥
-AreLater (channel_selector c s) = ⊥
-AreLater (channel_bytes c bytes) = ⊥
-AreLater (channel_count c n) = ⊥
-AreLater (registration s c ops att) = ⊥
+AreLater (channel_mode c on) = c.serial ≢ 0
+AreLater (channel_selector c s) = c.serial ≢ 0
+AreLater (channel_bytes c bytes) = c.serial ≢ 0
+AreLater (channel_count c n) = c.serial ≢ 0
+AreLater (registration s c ops att) = c.serial ≢ 0
 AreLater (selector_key s k) = k.serial ≢ 0
 AreLater (key_ops s k ops) = k.serial ≢ 0
 AreLater (key_number s k n) = k.serial ≢ 0

@@ -4,6 +4,7 @@ use Rattle.std.specs.Fmt.{decimal}
 use Rattle.nio_base.specs.declared.group.Outcome.{Outcome}
 use Rattle.nio_base.specs.declared.group.Outcome.TheVariants as outcome
 use Rattle.nio_language.specs.GroupWords.{group_channel_word, operation_word, group_kind_word, operation_kind_word}
+use Rattle.nio_language.specs.GroupWords.{IsGroupName}
 use Rattle.nio_language.specs.GroupWords.{outcome_words}
 use Rattle.nio_language.specs.Reading.{Reads}
 use Rattle.nio_language.specs.Words.{IsNumber}
@@ -58,12 +59,12 @@ IsOutcome outcome.Fault = ⊤
 -- a call that a line can say: its numbers are below 2 ^ 32
 abbrev pub IsGroupCall : GroupCall → Type 0
 IsGroupCall (group.Gopen kind) = ⊤
-IsGroupCall (group.Gbind g) = IsNumber g.0
-IsGroupCall (group.Start g kind len) = IsNumber g.0 × IsNumber len
+IsGroupCall (group.Gbind g) = IsGroupName g
+IsGroupCall (group.Start g kind len) = IsGroupName g × IsNumber len
 IsGroupCall (group.Report n outcome) = IsNumber n.0 × IsOutcome outcome
 IsGroupCall group.Take = ⊤
 IsGroupCall (group.Done n) = IsNumber n.0
-IsGroupCall (group.Gclose g) = IsNumber g.0
+IsGroupCall (group.Gclose g) = IsGroupName g
 IsGroupCall group.Shutdown = ⊤
 IsGroupCall group.ShutdownNow = ⊤
 IsGroupCall group.IsShutdown = ⊤

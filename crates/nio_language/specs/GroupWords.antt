@@ -13,10 +13,15 @@ use Rattle.nio_base.specs.declared.group.Why.{Why}
 use Rattle.nio_base.specs.declared.group.Why.TheVariants as why
 use Rattle.nio_base.specs.declared.numbers.GChan.{GChan}
 use Rattle.nio_base.specs.declared.numbers.OpNo.{OpNo}
+use Rattle.nio_language.specs.Words.{IsName, serial_text}
 
--- a letter and a decimal number: g0
+-- a channel's number, and its serial where that isn't 0: g0, g0.1
 abbrev pub group_channel_word : GChan → List ℕ
-group_channel_word g = codes "g" ++ decimal g.0
+group_channel_word g = codes "g" ++ decimal g.number ++ serial_text g.serial
+
+-- a channel, as a line may name it
+abbrev pub IsGroupName : GChan → Type 0
+IsGroupName g = IsName g.number g.serial
 
 -- an operation's number
 abbrev pub operation_word : OpNo → List ℕ

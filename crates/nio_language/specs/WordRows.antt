@@ -1,6 +1,6 @@
 -- A row for each call of scripts: what it names, and what a race does with its line.
 use Rattle.std.specs.Prelude.{ℕ, Bool, true, false, List, ⊤}
-use Rattle.nio_base.specs.declared.numbers.ChanNo.{ChanNo}
+use Rattle.nio_base.specs.declared.numbers.ChanId.{ChanId}
 use Rattle.nio_language.specs.declared.call.Call.{Call}
 use Rattle.nio_language.specs.declared.call.Call.TheVariants as call
 use Rattle.nio_language.specs.declared.word_row.LineName.{LineName}
@@ -26,9 +26,9 @@ by_names f (Two a b) x = f a (f b x)
 
 -- a read of up to so many bytes from this channel, a write of these bytes into it, its closing, or none of these
 pub data PipeUse : Type 0 where
-  reads : ChanNo → ℕ → PipeUse
-  writes : ChanNo → List ℕ → PipeUse
-  closes : ChanNo → PipeUse
+  reads : ChanId → ℕ → PipeUse
+  writes : ChanId → List ℕ → PipeUse
+  closes : ChanId → PipeUse
   neither : PipeUse
 
 pub record WordRow : Type 0 where
@@ -46,42 +46,49 @@ pub record WordRow : Type 0 where
   -- what it does where its channel is an end of a pipe
   pub on_pipe : PipeUse
 
--- a call with these names that doesn't wait for a hold, wakes nobody, may race, and does nothing with a pipe
-abbrev pub named : LineNames → WordRow
-named names = record { names = names; waits_for_hold = false; wakes = false; may_race = true; on_pipe = neither }
+-- A call's row: its names; whether it waits for the hold, may end a wait, and may stand behind `go`; and what it does
+-- with a pipe. Each row says each of these, so that a new call can't leave one out.
+abbrev pub row : LineNames → Bool → Bool → Bool → PipeUse → WordRow
+row names waits_for_hold wakes may_race on_pipe = record {
+  names = names;
+  waits_for_hold = waits_for_hold;
+  wakes = wakes;
+  may_race = may_race;
+  on_pipe = on_pipe;
+}
 
 abbrev pub word_row : Call → WordRow
-word_row call.Selector = record (named None) { may_race = false }
-word_row (call.Channel kind) = record (named None) { may_race = false }
-word_row (call.Blocking c on) = record (named (One (Channel c))) { waits_for_hold = true }
-word_row (call.IsBlocking c) = named (One (Channel c))
-word_row (call.IsOpen c) = named (One (Channel c))
-word_row (call.IsRegistered c) = named (One (Channel c))
-word_row (call.KeyFor c s) = named (Two (Channel c) (Selector s))
-word_row (call.Register s c ops att) = record (named (Two (Selector s) (Channel c))) { waits_for_hold = true }
-word_row (call.Closec c) = record (named (One (Channel c))) { on_pipe = closes c }
-word_row (call.Valid s k) = named (One (Key s k))
-word_row (call.Interest s k) = named (One (Key s k))
-word_row (call.Ready s k) = named (One (Key s k))
-word_row (call.Iset s k ops) = named (One (Key s k))
-word_row (call.Ior s k ops) = named (One (Key s k))
-word_row (call.Iand s k ops) = named (One (Key s k))
-word_row (call.Cancel s k) = named (One (Key s k))
-word_row (call.Unselect s k) = named (One (Key s k))
-word_row (call.Attach s k att) = named (One (Key s k))
-word_row (call.Attachment s k) = named (One (Key s k))
-word_row (call.Begin s waiting) = named (One (Selector s))
-word_row (call.Told s elapsed pairs) = named (One (Selector s))
-word_row (call.Failed s) = named (One (Selector s))
-word_row (call.Wakeup s) = record (named (One (Selector s))) { wakes = true }
-word_row (call.Close s) = record (named (One (Selector s))) { wakes = true }
-word_row (call.CloseEnd s) = named (One (Selector s))
-word_row (call.Keys s) = named (One (Selector s))
-word_row (call.Selected s) = named (One (Selector s))
-word_row (call.Interrupt target) = record (named (One (Caller target))) { wakes = true }
-word_row call.Interrupted = named None
-word_row (call.Pipe target) = record (named (One (Caller target))) { may_race = false }
-word_row (call.Pwrite c bytes) = record (named (One (Channel c))) { on_pipe = writes c bytes }
-word_row (call.Pread c n) = record (named (One (Channel c))) { on_pipe = reads c n }
+word_row call.Selector = row None false false false neither
+word_row (call.Channel kind) = row None false false false neither
+word_row (call.Blocking c on) = row (One (Channel c)) true false true neither
+word_row (call.IsBlocking c) = row (One (Channel c)) false false true neither
+word_row (call.IsOpen c) = row (One (Channel c)) false false true neither
+word_row (call.IsRegistered c) = row (One (Channel c)) false false true neither
+word_row (call.KeyFor c s) = row (Two (Channel c) (Selector s)) false false true neither
+word_row (call.Register s c ops att) = row (Two (Selector s) (Channel c)) true false true neither
+word_row (call.Closec c) = row (One (Channel c)) false false true (closes c)
+word_row (call.Valid s k) = row (One (Key s k)) false false true neither
+word_row (call.Interest s k) = row (One (Key s k)) false false true neither
+word_row (call.Ready s k) = row (One (Key s k)) false false true neither
+word_row (call.Iset s k ops) = row (One (Key s k)) false false true neither
+word_row (call.Ior s k ops) = row (One (Key s k)) false false true neither
+word_row (call.Iand s k ops) = row (One (Key s k)) false false true neither
+word_row (call.Cancel s k) = row (One (Key s k)) false false true neither
+word_row (call.Unselect s k) = row (One (Key s k)) false false true neither
+word_row (call.Attach s k att) = row (One (Key s k)) false false true neither
+word_row (call.Attachment s k) = row (One (Key s k)) false false true neither
+word_row (call.Begin s waiting) = row (One (Selector s)) false false true neither
+word_row (call.Told s elapsed pairs) = row (One (Selector s)) false false true neither
+word_row (call.Failed s) = row (One (Selector s)) false false true neither
+word_row (call.Wakeup s) = row (One (Selector s)) false true true neither
+word_row (call.Close s) = row (One (Selector s)) false true true neither
+word_row (call.CloseEnd s) = row (One (Selector s)) false false true neither
+word_row (call.Keys s) = row (One (Selector s)) false false true neither
+word_row (call.Selected s) = row (One (Selector s)) false false true neither
+word_row (call.Interrupt target) = row (One (Caller target)) false true true neither
+word_row call.Interrupted = row None false false true neither
+word_row (call.Pipe target) = row (One (Caller target)) false false false neither
+word_row (call.Pwrite c bytes) = row (One (Channel c)) false false true (writes c bytes)
+word_row (call.Pread c n) = row (One (Channel c)) false false true (reads c n)
 -- the channels of a group aren't the table's: a call on the group finds its channel itself
-word_row (call.Group g) = record (named None) { may_race = false }
+word_row (call.Group g) = row None false false false neither

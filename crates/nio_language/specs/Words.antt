@@ -5,7 +5,7 @@ use Rattle.std.specs.List.{flat_map}
 use Rattle.nio_base.specs.declared.kind.Kind.{Kind}
 use Rattle.nio_base.specs.declared.kind.Kind.TheVariants.{Stream, Listener, Source, Sink, Datagram}
 use Rattle.nio_base.specs.declared.numbers.CallerNo.{CallerNo}
-use Rattle.nio_base.specs.declared.numbers.ChanNo.{ChanNo}
+use Rattle.nio_base.specs.declared.numbers.ChanId.{ChanId}
 use Rattle.nio_base.specs.declared.numbers.KeyId.{KeyId}
 use Rattle.nio_base.specs.declared.numbers.SelNo.{SelNo}
 
@@ -13,19 +13,29 @@ use Rattle.nio_base.specs.declared.numbers.SelNo.{SelNo}
 abbrev pub IsNumber : ℕ → Type 0
 IsNumber n = n < 2 ^ 32
 
--- a letter and a decimal number: t1, s0, c2
+-- a letter and a decimal number: t1, s0
 abbrev pub caller_word : CallerNo → List ℕ
 caller_word t = codes "t" ++ decimal t.0
 
 abbrev pub selector_word : SelNo → List ℕ
 selector_word s = codes "s" ++ decimal s.0
 
-abbrev pub channel_word : ChanNo → List ℕ
-channel_word c = codes "c" ++ decimal c.0
+-- a number and a serial, as a line may name them
+pub record IsName (n m : ℕ) : Type 0 where
+  pub number_fits : IsNumber n
+  pub serial_fits : IsNumber m
 
--- a key's serial behind a point; nothing where it is 0
+-- a serial behind a point; nothing where it is 0
 abbrev pub serial_text : ℕ → List ℕ
 serial_text m = if m == 0 then [] else codes "." ++ decimal m
+
+-- a letter, a number, and a serial where that isn't 0
+abbrev pub name_word : ℕ → ℕ × ℕ → List ℕ
+name_word letter p = letter ∷ (decimal p.0 ++ serial_text p.1)
+
+-- a channel's number, and its serial where that isn't 0: c2, c2.1
+abbrev pub channel_word : ChanId → List ℕ
+channel_word c = codes "c" ++ decimal c.number.0 ++ serial_text c.serial
 
 -- a key's index, and its serial where that isn't 0: k3, k3.1
 abbrev pub key_word : KeyId → List ℕ

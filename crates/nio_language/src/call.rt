@@ -6,7 +6,7 @@ ghost use Rattle.nio_language.specs.Arguments.{IsLaterKind};
 use crate::bytes::Bytes;
 use crate::group_call::GroupCall;
 use crate::pairs::Pairs;
-use nio_base::{CallerNo, ChanNo, KeyId, Kind, Ops, SelNo};
+use nio_base::{CallerNo, ChanId, KeyId, Kind, Ops, SelNo};
 
 /// A call as a line of a script gives it.
 #[derive(Debug, Drop)]
@@ -16,20 +16,20 @@ pub enum Call {
     /// `channel KIND`: opens a channel, which is in blocking mode and not registered.
     Channel(Kind),
     /// `blocking C on` or `off`: sets the channel's mode.
-    Blocking(ChanNo, bool),
-    /// `is-blocking C`: whether the channel is in blocking mode.
-    IsBlocking(ChanNo),
+    Blocking(ChanId, bool),
+    /// `is-blocking C`: whether the channel is in blocking mode; one whose number has a later channel isn't.
+    IsBlocking(ChanId),
     /// `is-open C`: whether the channel isn't closed.
-    IsOpen(ChanNo),
+    IsOpen(ChanId),
     /// `is-registered C`: whether the channel has a key in a key set.
-    IsRegistered(ChanNo),
+    IsRegistered(ChanId),
     /// `key-for C S`: the channel's key in the selector.
-    KeyFor(ChanNo, SelNo),
+    KeyFor(ChanId, SelNo),
     /// `register S C OPS` or `register S C OPS ATT`: registers the channel, or changes the interest
     /// of its key, and its attachment where one is given that isn't 0.
-    Register(SelNo, ChanNo, Ops, Option<u64>),
+    Register(SelNo, ChanId, Ops, Option<u64>),
     /// `closec C`: closes the channel.
-    Closec(ChanNo),
+    Closec(ChanId),
     /// `valid S K`: whether the key is valid.
     Valid(SelNo, KeyId),
     /// `interest S K`: the key's interest set.
@@ -74,9 +74,9 @@ pub enum Call {
     /// `pipe T`: opens a pipe; this caller owns its source, and caller T its sink.
     Pipe(CallerNo),
     /// `pwrite C HEX`: writes bytes into the pipe whose sink is C, and gives how many were written: as many as fit.
-    Pwrite(ChanNo, Bytes),
+    Pwrite(ChanId, Bytes),
     /// `pread C N`: reads at most N bytes from the pipe whose source is C.
-    Pread(ChanNo, u32),
+    Pread(ChanId, u32),
     /// A call on the group.
     Group(GroupCall),
 }
@@ -84,20 +84,13 @@ pub enum Call {
 impl Call {
     ghost use Rattle.nio_language.specs.Calls.{IsLaterCall};
 
-    /// Whether the call came later than the first rules: no line named a key with a serial, or opened a datagram
-    /// channel, then.
+    /// Whether the call came later than the first rules: no line named a channel or a key with a serial, or opened a
+    /// datagram channel, then.
     pub fn is_later(&self) -> bool
         ensures { IsTrue result ↔ IsLaterCall self.now }
     {
         match self {
             Call::Selector
-            | Call::Blocking(..)
-            | Call::IsBlocking(..)
-            | Call::IsOpen(..)
-            | Call::IsRegistered(..)
-            | Call::KeyFor(..)
-            | Call::Register(..)
-            | Call::Closec(..)
             | Call::Begin(..)
             | Call::Failed(..)
             | Call::Wakeup(..)
@@ -108,10 +101,17 @@ impl Call {
             | Call::Interrupt(..)
             | Call::Interrupted
             | Call::Pipe(..)
-            | Call::Pwrite(..)
-            | Call::Pread(..)
             | Call::Group(..) => false,
             Call::Channel(kind) => is_later_kind(*kind),
+            Call::Blocking(chan, _)
+            | Call::IsBlocking(chan)
+            | Call::IsOpen(chan)
+            | Call::IsRegistered(chan)
+            | Call::KeyFor(chan, _)
+            | Call::Register(_, chan, _, _)
+            | Call::Closec(chan)
+            | Call::Pwrite(chan, _)
+            | Call::Pread(chan, _) => chan.serial != 0,
             Call::Valid(_, key)
             | Call::Interest(_, key)
             | Call::Ready(_, key)

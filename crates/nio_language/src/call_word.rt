@@ -6,7 +6,7 @@ ghost use Rattle.nio_language.specs.Reading.{Reads};
 
 use crate::call::Call;
 use crate::group_word::GroupWord;
-use nio_base::{CallerNo, ChanNo, KeyId, Ops, SelNo};
+use nio_base::{CallerNo, ChanId, KeyId, Ops, SelNo};
 
 /// A call without its arguments. Words whose calls have the same arguments have a type of their own.
 /// A new word needs a variant there or here, and a line in `CALL_WORDS`, in `of`, in `text` and in the
@@ -266,7 +266,7 @@ impl SelectorWord {
 
 impl ChannelWord {
     /// The call on this channel.
-    pub fn call(self, channel: ChanNo) -> Call
+    pub fn call(self, channel: ChanId) -> Call
         ensures word { call_word result ≡ CallWord.OnChannel self }
         ensures arguments { arguments result ≡ one_channel channel }
     {

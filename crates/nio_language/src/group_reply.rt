@@ -5,7 +5,7 @@ use nio_base::{Finished, GChan, OpNo};
 /// A reply that calls on the group alone have.
 #[derive(Clone, Copy, Debug, PartialEq, Eq)]
 pub enum GroupReply {
-    /// `gN`: the channel that was opened.
+    /// `gN`, `gN.M`: the channel that was opened.
     Channel(GChan),
     /// `op N`: the operation that was started.
     Op(OpNo),

@@ -4,7 +4,7 @@ use crate::bytes::Bytes;
 use crate::group_reply::GroupReply;
 use crate::names::Names;
 use crate::pairs::Pairs;
-use nio_base::{ChanNo, KeyId, SelNo};
+use nio_base::{ChanId, KeyId, SelNo};
 use nio_history::Why;
 
 /// The reply to a call of a script.
@@ -12,8 +12,8 @@ use nio_history::Why;
 pub enum Reply {
     /// `sN`: the selector that was opened.
     Selector(SelNo),
-    /// `cN`: the channel that was opened.
-    Channel(ChanNo),
+    /// `cN`, or `cN.M`: the channel that was opened, by its number and, where that isn't 0, its serial.
+    Channel(ChanId),
     /// `kN`, or `kN.M`: a key by its index and, where that isn't 0, its serial.
     Key(KeyId),
     /// A number: a set of operations or an attachment.
@@ -44,7 +44,7 @@ pub enum Reply {
     Closed,
     /// No number is left for a selector.
     SelectorsSpent,
-    /// No number is left for a channel.
+    /// No number is left for a channel of this kind.
     ChannelsSpent,
     /// The channel is closed.
     ClosedChannel,
@@ -74,8 +74,8 @@ pub enum Reply {
     NoChannel,
     /// There is no such key.
     NoKey,
-    /// `cN cM`: the source and the sink of the pipe that was made.
-    Ends(ChanNo, ChanNo),
+    /// The source and the sink of the pipe that was made, as `cN` or `cN.M` each.
+    Ends(ChanId, ChanId),
     /// The bytes that were read, at least one.
     Bytes(Bytes),
     /// All bytes of the pipe were read, and no more come.

@@ -3,7 +3,7 @@ ghost use Rattle.std.specs.Prelude.{◌≡◌};
 ghost use Rattle.nio_language.specs.WordRows.{word_row};
 
 use crate::call::Call;
-use nio_base::{CallerNo, ChanNo, KeyId, SelNo};
+use nio_base::{CallerNo, ChanId, KeyId, SelNo};
 
 /// What a line names, which has to be there before its call is made.
 #[derive(Clone, Copy, Debug)]
@@ -13,7 +13,7 @@ pub enum LineName {
     /// A selector.
     Selector(SelNo),
     /// A channel.
-    Channel(ChanNo),
+    Channel(ChanId),
     /// A key of a selector; the selector is looked up before it.
     Key(SelNo, KeyId),
 }
@@ -79,23 +79,116 @@ impl Call {
     pub fn waits_for_hold(&self) -> bool
         ensures { result ≡ (word_row self.now).waits_for_hold }
     {
-        matches!(self, Call::Blocking(..) | Call::Register(..))
+        match self {
+            Call::Blocking(..) | Call::Register(..) => true,
+            Call::Selector
+            | Call::Channel(..)
+            | Call::IsBlocking(..)
+            | Call::IsOpen(..)
+            | Call::IsRegistered(..)
+            | Call::KeyFor(..)
+            | Call::Closec(..)
+            | Call::Valid(..)
+            | Call::Interest(..)
+            | Call::Ready(..)
+            | Call::Iset(..)
+            | Call::Ior(..)
+            | Call::Iand(..)
+            | Call::Cancel(..)
+            | Call::Unselect(..)
+            | Call::Attach(..)
+            | Call::Attachment(..)
+            | Call::Begin(..)
+            | Call::Told(..)
+            | Call::Failed(..)
+            | Call::Wakeup(..)
+            | Call::Close(..)
+            | Call::CloseEnd(..)
+            | Call::Keys(..)
+            | Call::Selected(..)
+            | Call::Interrupt(..)
+            | Call::Interrupted
+            | Call::Pipe(..)
+            | Call::Pwrite(..)
+            | Call::Pread(..)
+            | Call::Group(..) => false,
+        }
     }
 
     /// Whether the call may end the wait of a caller that blocks.
     pub fn wakes(&self) -> bool
         ensures { result ≡ (word_row self.now).wakes }
     {
-        matches!(self, Call::Wakeup(_) | Call::Close(_) | Call::Interrupt(_))
+        match self {
+            Call::Wakeup(..) | Call::Close(..) | Call::Interrupt(..) => true,
+            Call::Selector
+            | Call::Channel(..)
+            | Call::Blocking(..)
+            | Call::IsBlocking(..)
+            | Call::IsOpen(..)
+            | Call::IsRegistered(..)
+            | Call::KeyFor(..)
+            | Call::Register(..)
+            | Call::Closec(..)
+            | Call::Valid(..)
+            | Call::Interest(..)
+            | Call::Ready(..)
+            | Call::Iset(..)
+            | Call::Ior(..)
+            | Call::Iand(..)
+            | Call::Cancel(..)
+            | Call::Unselect(..)
+            | Call::Attach(..)
+            | Call::Attachment(..)
+            | Call::Begin(..)
+            | Call::Told(..)
+            | Call::Failed(..)
+            | Call::CloseEnd(..)
+            | Call::Keys(..)
+            | Call::Selected(..)
+            | Call::Interrupted
+            | Call::Pipe(..)
+            | Call::Pwrite(..)
+            | Call::Pread(..)
+            | Call::Group(..) => false,
+        }
     }
 
     /// Whether the call may stand behind `go`.
     pub fn may_race(&self) -> bool
         ensures { result ≡ (word_row self.now).may_race }
     {
-        !matches!(
-            self,
-            Call::Selector | Call::Channel(_) | Call::Pipe(_) | Call::Group(_)
-        )
+        match self {
+            Call::Selector | Call::Channel(..) | Call::Pipe(..) | Call::Group(..) => false,
+            Call::Blocking(..)
+            | Call::IsBlocking(..)
+            | Call::IsOpen(..)
+            | Call::IsRegistered(..)
+            | Call::KeyFor(..)
+            | Call::Register(..)
+            | Call::Closec(..)
+            | Call::Valid(..)
+            | Call::Interest(..)
+            | Call::Ready(..)
+            | Call::Iset(..)
+            | Call::Ior(..)
+            | Call::Iand(..)
+            | Call::Cancel(..)
+            | Call::Unselect(..)
+            | Call::Attach(..)
+            | Call::Attachment(..)
+            | Call::Begin(..)
+            | Call::Told(..)
+            | Call::Failed(..)
+            | Call::Wakeup(..)
+            | Call::Close(..)
+            | Call::CloseEnd(..)
+            | Call::Keys(..)
+            | Call::Selected(..)
+            | Call::Interrupt(..)
+            | Call::Interrupted
+            | Call::Pwrite(..)
+            | Call::Pread(..) => true,
+        }
     }
 }

@@ -1,4 +1,5 @@
 pub mod Accepts
+pub mod Jobs
 pub mod Links
 pub mod Places
 pub mod PlaceLogs

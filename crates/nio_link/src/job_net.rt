@@ -3,12 +3,13 @@ ghost use Rattle.std.specs.Prelude.{◌≡◌, ◌≢◌, [], IsTrue};
 ghost use Rattle.nio_base.specs.declared.group.OpKind.TheVariants as op;
 ghost use Rattle.nio_steps.specs.KeyCalls.{is_within};
 ghost use Rattle.nio_link.specs.Accepts.{accepted_after};
+ghost use Rattle.nio_link.specs.Jobs.{of_net};
 ghost use Rattle.nio_link.specs.Nets.{view_by, Listens, Accepts, Connects, Finishes, Reads, Writes, Shuts, Closes};
 ghost use Rattle.nio_link.specs.Places.{unused, IsLinked};
 ghost use Rattle.nio_link.specs.declared.place.Standing.TheVariants as standing;
 
 use crate::net::{Failed, Got, Net, Put};
-use nio_base::{Addr, ChanNo};
+use nio_base::{Addr, ChanNo, GChan};
 use nio_group::Job;
 use nio_history::Mode;
 use nio_poller::{PollError, Poller};
@@ -17,9 +18,21 @@ use std::alloc::Global;
 use std::marker::Model;
 use std::sync::Wait;
 
+/// The channel of a group whose operations are done on this channel of a net: the first one that has its number, since a
+/// net uses each number once.
+pub fn of_net(chan: ChanNo) -> GChan
+    ensures { result ≡ of_net chan }
+{
+    GChan {
+        number: chan.0,
+        serial: 0,
+    }
+}
+
 /// A net with which a caller does the work of a group's operations. Each call that accepts, connects, reads or writes
-/// uses up a job, which only the group hands out: one of the call's kind, for the channel of the group that has the
-/// number of the net's channel. Contracts see the net.
+/// uses up a job, which only the group hands out: one of the call's kind, for the first channel of the group that has
+/// the number of the net's channel. A net uses each number once, so the job of a channel whose number came back in the
+/// group is for none of its links. Contracts see the net.
 #[derive(Drop)]
 pub struct JobNet<N> {
     net: N,
@@ -62,7 +75,7 @@ impl<N: Net> JobNet<N> {
     /// `Net::accept`, for the listener's pending operation.
     pub fn try_accept(&mut self, job: Job, listener: ChanNo, chan: ChanNo) -> Result<bool, Failed>
         requires kind { job.kind ≡ op.Accept }
-        requires its { job.chan.0 ≡ listener.0 }
+        requires its { job.chan ≡ of_net listener }
         requires ready { IsTrue (is_within 16 (N.ready self.old listener)) }
         requires listens { (N.place self.old listener).standing ≡ standing.Listening }
         requires unused { N.place self.old chan ≡ unused }
@@ -78,7 +91,7 @@ impl<N: Net> JobNet<N> {
     /// `Net::connect`, for a pending operation.
     pub fn try_connect(&mut self, job: Job, chan: ChanNo, to: Addr) -> Result<bool, Failed>
         requires kind { job.kind ≡ op.Connect }
-        requires its { job.chan.0 ≡ chan.0 }
+        requires its { job.chan ≡ of_net chan }
         requires unused { N.place self.old chan ≡ unused }
         ensures call { Connects chan to (view_by N.link N.faults N.place N.ready N.poll_faults self.old)
             (view_by N.link N.faults N.place N.ready N.poll_faults self.new) result }
@@ -92,7 +105,7 @@ impl<N: Net> JobNet<N> {
     /// `Net::finish_connect`, for a pending operation that connects.
     pub fn try_finish(&mut self, job: Job, chan: ChanNo) -> Result<bool, Failed>
         requires kind { job.kind ≡ op.Connect }
-        requires its { job.chan.0 ≡ chan.0 }
+        requires its { job.chan ≡ of_net chan }
         requires ready { IsTrue (is_within 8 (N.ready self.old chan)) }
         requires connecting { (N.place self.old chan).standing ≡ standing.Connecting }
         ensures call { Finishes chan (view_by N.link N.faults N.place N.ready N.poll_faults self.old)
@@ -108,7 +121,7 @@ impl<N: Net> JobNet<N> {
     /// buffer may be longer.
     pub fn try_read(&mut self, job: Job, chan: ChanNo, into: &mut [u8]) -> Result<Got, Failed>
         requires kind { job.kind ≡ op.Read }
-        requires its { job.chan.0 ≡ chan.0 }
+        requires its { job.chan ≡ of_net chan }
         requires some { into.old ≢ [] }
         requires ready { IsTrue (is_within 1 (N.ready self.old chan)) }
         requires linked { IsLinked (N.place self.old chan).standing }
@@ -124,7 +137,7 @@ impl<N: Net> JobNet<N> {
     /// `Net::write`, for a pending operation. How many bytes that operation writes at most is the caller's matter.
     pub fn try_write(&mut self, job: Job, chan: ChanNo, from: &[u8]) -> Result<Put, Failed>
         requires kind { job.kind ≡ op.Write }
-        requires its { job.chan.0 ≡ chan.0 }
+        requires its { job.chan ≡ of_net chan }
         requires some { from.now ≢ [] }
         requires ready { IsTrue (is_within 4 (N.ready self.old chan)) }
         requires linked { (N.place self.old chan).standing ≡ standing.Linked }

@@ -1,7 +1,7 @@
 //! Links: connections over a net, which a poller says are ready. A net is memory, in tests, or the system's sockets.
 #![tactic(auto)]
 
-pub use job_net::JobNet;
+pub use job_net::{JobNet, of_net};
 pub use memory::{LooseLink, MemoryNet, NetPlan, PeerPlan};
 pub use net::{Failed, Got, Net, Put};
 pub use passable::Passable;

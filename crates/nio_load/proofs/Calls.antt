@@ -12,7 +12,7 @@ use Rattle.std.proofs.lemmas.List.Elements.{All-cons, All-nil, All-weaker}
 use Rattle.std.proofs.lemmas.List.Splits.{slice_split_at}
 use Rattle.nio_base.specs.declared.kind.Kind.TheVariants.{Source}
 use Rattle.nio_base.specs.declared.numbers.CallerNo.{CallerNo}
-use Rattle.nio_base.specs.declared.numbers.ChanNo.{ChanNo}
+use Rattle.nio_base.specs.declared.numbers.ChanId.{ChanId}
 use Rattle.nio_base.specs.declared.numbers.KeyId.{KeyId}
 use Rattle.nio_base.specs.declared.numbers.SelNo.{SelNo}
 use Rattle.nio_language.specs.Arguments.{IsPair}
@@ -78,8 +78,8 @@ second_caller = record { 0 = 2 }
 abbrev selector : SelNo
 selector = record { 0 = 0 }
 
-abbrev channel : ℕ → ChanNo
-channel c = record { 0 = c }
+abbrev channel : ℕ → ChanId
+channel c = record { number = record { 0 = c }; serial = 0 }
 
 abbrev key : ℕ → KeyId
 key k = record { index = k; serial = 0 }
@@ -146,8 +146,9 @@ blocking_line : (c : ℕ) → IsShort c → IsLine first_caller (call.Blocking (
     (codes "t1 blocking c" ++ decimal c ++ codes " off")
 blocking_line c is = record {
   caller_fits = omega arith;
-  call_fits = omega (arith, is.below);
-  text = rw (decimal_digit 1 (omega arith)) refl;
+  call_fits = record { number_fits = omega (arith, is.below); serial_fits = omega arith };
+  text = rw (decimal_digit 1 (omega arith))
+      (ap (λ d. codes "t1 blocking c" ++ d ++ codes " off") (sym (append-nil (decimal c))));
   short = line_length c is (codes "t1 blocking c") (codes " off") (omega arith) (omega arith);
 }
 
@@ -155,8 +156,14 @@ register_line : (c : ℕ) → IsShort c → IsLine first_caller (call.Register s
     (codes "t1 register s0 c" ++ decimal c ++ codes " 1")
 register_line c is = record {
   caller_fits = omega arith;
-  call_fits = (omega arith, omega (arith, is.below), omega arith, tt);
-  text = rw (decimal_digit 1 (omega arith), decimal_digit 0 (omega arith)) refl;
+  call_fits = (
+    omega arith,
+    record { number_fits = omega (arith, is.below); serial_fits = omega arith },
+    omega arith,
+    tt,
+  );
+  text = rw (decimal_digit 1 (omega arith), decimal_digit 0 (omega arith))
+      (ap (λ d. codes "t1 register s0 c" ++ d ++ codes " 1") (sym (append-nil (decimal c))));
   short = line_length c is (codes "t1 register s0 c") (codes " 1") (omega arith) (omega arith);
 }
 
@@ -196,7 +203,7 @@ told_line k is = record {
     (
       All-cons IsPair (key k, 1) []
           (record {
-            key_fits = record { index_fits = omega (arith, is.below); serial_fits = omega arith };
+            key_fits = record { number_fits = omega (arith, is.below); serial_fits = omega arith };
             ops_fit = omega arith;
           }) (All-nil IsPair),
       λ i j d less within. absurd (omega (arith, less, within)),
@@ -212,7 +219,7 @@ unselect_line : (k : ℕ) → IsShort k → IsLine first_caller (call.Unselect s
     (codes "t1 unselect s0 k" ++ decimal k)
 unselect_line k is = record {
   caller_fits = omega arith;
-  call_fits = (omega arith, record { index_fits = omega (arith, is.below); serial_fits = omega arith });
+  call_fits = (omega arith, record { number_fits = omega (arith, is.below); serial_fits = omega arith });
   text = rw (decimal_digit 1 (omega arith), decimal_digit 0 (omega arith))
       (ap (λ t. codes "t1 unselect s0 k" ++ t) (sym (append-nil (decimal k))));
   short = subst (λ (t : List ℕ). length (codes "t1 unselect s0 k" ++ t) ≤ 4096) (append-nil (decimal k))

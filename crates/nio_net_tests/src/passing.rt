@@ -1,15 +1,16 @@
 //! Links that are handed from net to net, and a net whose calls use up jobs.
-ghost use Rattle.std.specs.Prelude.{◌≡◌, ◌≢◌, true, Ok, IfOk, IsTrue};
+ghost use Rattle.std.specs.Prelude.{◌≡◌, ◌≢◌, true, Ok, IfOk, IfSome, IsTrue};
 ghost use Rattle.nio_base.specs.declared.group.OpKind.TheVariants as op;
 ghost use Rattle.nio_base.specs.declared.numbers.ChanNo.{ChanNo as Channel};
+ghost use Rattle.nio_link.specs.Jobs.{of_net};
 ghost use Rattle.nio_link.specs.Links.{IsUnused};
 ghost use Rattle.nio_link.specs.Places.{places_after, unused};
 ghost use Rattle.nio_link.specs.Slots.{carried_at};
 ghost use Rattle.nio_link.specs.declared.place.Standing.TheVariants as standing;
 
-use nio_base::{Addr, ChanNo};
-use nio_group::{GKind, GroupCore, GroupLimits, Job, OpKind};
-use nio_link::{Failed, JobNet, MemoryNet, Net, NetPlan, Passable, PeerPlan, Put};
+use nio_base::{Addr, ChanNo, GChan};
+use nio_group::{GKind, GroupCore, GroupLimits, Job, OpKind, StartError};
+use nio_link::{Failed, JobNet, MemoryNet, Net, NetPlan, Passable, PeerPlan, Put, of_net};
 use nio_mio::MioNet;
 use std::alloc::{AllocError, Global};
 use std::net::TcpListener;
@@ -19,6 +20,9 @@ const ANYWHERE: Addr = Addr {
     ip: [127, 0, 0, 1],
     port: 7,
 };
+
+/// The channel of the net whose operation the group starts.
+const TARGET: ChanNo = ChanNo(2);
 
 /// Hands a link from one net to another.
 fn hand_over<N: Passable>(from: &mut N, out: ChanNo, to: &mut N, chan: ChanNo) -> bool
@@ -148,10 +152,24 @@ fn a_connected_socket_goes_to_another_net(rt: HostRuntime) -> Result<(), Fail> {
     Ok(())
 }
 
+/// Starts to connect a channel of the group, and takes the job for it. None where the channel isn't made.
+fn start_to_connect(group: &mut GroupCore, chan: GChan) -> Result<Option<Job>, StartError>
+    ensures kind { IfOk result (λ found. IfSome found (λ job. job.kind ≡ op.Connect)) }
+    ensures its { IfOk result (λ found. IfSome found (λ job. job.chan ≡ chan)) }
+{
+    if group.is_made(chan) {
+        let _op = group.start(chan, OpKind::Connect, 0)?;
+    }
+    if group.is_made(chan) {
+        return Ok(group.job(chan, OpKind::Connect));
+    }
+    Ok(None)
+}
+
 /// Makes the call of a job that connects.
 fn connect_for<N: Net>(net: N, job: Job, chan: ChanNo) -> (Result<bool, Failed>, N)
     requires kind { job.kind ≡ op.Connect }
-    requires its { job.chan.0 ≡ chan.0 }
+    requires its { job.chan ≡ of_net chan }
     requires unused { N.place net chan ≡ unused }
 {
     let mut jobs = JobNet::over(net);
@@ -171,11 +189,10 @@ fn a_job_is_used_up(rt: HostRuntime) -> Result<(), Fail> {
     )?;
     let _listener = group.open_channel(GKind::Listener)?;
     let _client = group.open_channel(GKind::Stream)?;
-    let target = group.open_channel(GKind::Stream)?;
-    let _op = group.start(target, OpKind::Connect, 0)?;
+    let _target = group.open_channel(GKind::Stream)?;
     let net = two_peers(rt.alloc())?;
-    let made = match group.job(target, OpKind::Connect) {
-        Some(job) => connect_for(net, job, ChanNo(target.0)).0,
+    let made = match start_to_connect(&mut group, of_net(TARGET))? {
+        Some(job) => connect_for(net, job, TARGET).0,
         None => Err(Failed),
     };
     assert!(rt; made == Ok(false));

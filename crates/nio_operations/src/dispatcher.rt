@@ -8,9 +8,10 @@ ghost use Rattle.nio_pool.specs.Queues.{IsPassOf, with_put};
 
 use crate::handlers::{SharedStreams, handle};
 use crate::streams::{Streams, job};
-use nio_base::{GChan, OpKind};
+use nio_base::OpKind;
 use nio_group::{Completion, GroupCore, Job};
 use nio_jobs::{Done, Exchange};
+use nio_link::of_net;
 use nio_pool::{CompletionQueue, Group, QueuePass};
 use std::alloc::AllocError;
 use std::sync::Wait;
@@ -168,14 +169,15 @@ fn report(core: &mut GroupCore, done: Done, arrived: &mut Vec<Job>)
             let _ = core.report(op, outcome);
         }
         Done::Again(chan, kind) => {
-            if let Some(job) = job(core, GChan(chan.0), kind) {
+            if let Some(job) = job(core, of_net(chan), kind) {
                 // there is room for the jobs of all operations that can be in flight
                 let _ = arrived.push(job);
             }
         }
         Done::Closed(chan) => {
-            if chan.0 < core.channels() {
-                core.close_channel(GChan(chan.0));
+            let chan = of_net(chan);
+            if core.is_made(chan) {
+                core.close_channel(chan);
             }
         }
     }

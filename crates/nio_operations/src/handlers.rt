@@ -102,7 +102,7 @@ fn start_due(streams: &mut Streams, core: &mut GroupCore, done: &Completion)
     ensures core { core.new ≡ after_due streams.old.directions core.old done.now }
     ensures held { streams.new.directions ≡ held_after_due streams.old.directions core.old done.now }
 {
-    if done.chan().0 < core.channels() {
+    if core.is_made(done.chan()) {
         streams.go_on(core, done);
     }
 }

@@ -3,6 +3,7 @@ ghost use mathlib.Core.List.{IsPrefix};
 ghost use Rattle.std.specs.Prelude.{◌≡◌, ◌≢◌, ◌↔◌, ◌<◌, ◌++◌, [], ℕ, IfOk, IfSome, IsFalse, IsNone, IsTrue};
 ghost use Rattle.std.specs.Prelude.{length, replicate};
 ghost use Rattle.nio_group.specs.Flight.{IsPendingAs};
+ghost use Rattle.nio_group.specs.Group.{is_present, IsMade};
 ghost use Rattle.nio_group.specs.Steps.{after_start, IsJobOf};
 ghost use Rattle.nio_jobs.specs.Next.{held_after_finished};
 ghost use Rattle.nio_operations.specs.Handling.{after_accepted, after_handling, after_listening, after_next, binding};
@@ -14,7 +15,10 @@ use nio_jobs::{Directions, Next, Start};
 use std::alloc::{AllocError, Global};
 
 /// The group's channel of the listener.
-const LISTENER: GChan = GChan(0);
+const LISTENER: GChan = GChan {
+    number: 0,
+    serial: 0,
+};
 
 /// What the handlers of a group's completions share: how many bytes the direction from each stream holds, and the jobs
 /// of the operations that were started and that the dispatcher hasn't taken yet.
@@ -86,7 +90,7 @@ impl Streams {
     /// Starts what is due once an operation has completed. Nothing is due where it failed, or where the stream has
     /// ended.
     pub(crate) fn go_on(&mut self, core: &mut GroupCore, done: &Completion)
-        requires { done.now.chan.0 < 4294967295 }
+        requires { done.now.chan.number < 4294967295 }
         ensures core { core.new ≡ after_handling self.old.directions core.old done.now }
         ensures held { self.new.directions
             ≡ held_after_finished self.old.directions done.now.chan done.now.kind done.now.finished }
@@ -150,17 +154,17 @@ impl Streams {
 fn bind(core: &mut GroupCore, listener: GChan)
     ensures { core.new ≡ binding core.old listener }
 {
-    if listener.0 < core.channels() {
+    if core.is_made(listener) {
         let _ = core.bind(listener);
     }
 }
 
-// Starts an operation, if there is such a channel, and takes its job where it is pending.
+// Starts an operation, if its channel was made, and takes its job where it is pending.
 fn started(core: &mut GroupCore, chan: GChan, kind: OpKind, len: u64) -> Option<Job>
     ensures core { core.new ≡ starting core.old chan kind len }
-    ensures job { IfSome result (IsJobOf core.new chan.0 kind) }
+    ensures job { IfSome result (IsJobOf core.new chan kind) }
 {
-    if chan.0 < core.channels() {
+    if core.is_made(chan) {
         started_on(core, chan, kind, len)
     } else {
         None
@@ -168,9 +172,9 @@ fn started(core: &mut GroupCore, chan: GChan, kind: OpKind, len: u64) -> Option<
 }
 
 fn started_on(core: &mut GroupCore, chan: GChan, kind: OpKind, len: u64) -> Option<Job>
-    requires { chan.0 < length core.old.channels }
+    requires { IsMade core.old chan }
     ensures core { core.new ≡ after_start core.old chan kind len }
-    ensures job { IfSome result (IsJobOf core.new chan.0 kind) }
+    ensures job { IfSome result (IsJobOf core.new chan kind) }
 {
     core.start(chan, kind, len).ok()?;
     job(core, chan, kind)
@@ -178,11 +182,11 @@ fn started_on(core: &mut GroupCore, chan: GChan, kind: OpKind, len: u64) -> Opti
 
 /// The job of the pending operation of this kind on this channel, if there is one.
 pub(crate) fn job(core: &GroupCore, chan: GChan, kind: OpKind) -> Option<Job>
-    ensures some { IfSome result (IsJobOf core.now chan.0 kind) }
-    ensures none { IsNone result → chan.0 < length core.now.channels
-        → (n : ℕ) → IsPendingAs core.now.flight chan.0 kind n → ⊥ }
+    ensures some { IfSome result (IsJobOf core.now chan kind) }
+    ensures none { IsNone result → IsMade core.now chan → IsTrue (is_present core.now chan)
+        → (n : ℕ) → IsPendingAs core.now.flight chan.number kind n → ⊥ }
 {
-    if chan.0 < core.channels() {
+    if core.is_made(chan) {
         core.job(chan, kind)
     } else {
         None

@@ -6,6 +6,7 @@ use Rattle.std.proofs.lemmas.Bool.{and_parts, or_right, false_from_ne_true}
 use Rattle.nio_base.specs.Limits.{IsFit}
 use Rattle.nio_base.specs.declared.limits.Limits.{Limits}
 use Rattle.nio_base.specs.declared.numbers.CallerNo.{CallerNo}
+use Rattle.nio_base.specs.declared.numbers.ChanId.{ChanId}
 use Rattle.nio_base.specs.declared.numbers.ChanNo.{ChanNo}
 use Rattle.nio_base.specs.declared.numbers.KeyId.{KeyId}
 use Rattle.nio_base.specs.declared.numbers.SelNo.{SelNo}
@@ -27,20 +28,22 @@ use Rattle.nio_history.specs.Pins.{IsOfClaim}
 use Rattle.nio_history.specs.Sets.{in_key_set, is_valid}
 use Rattle.nio_history.specs.State.{State}
 use Rattle.nio_history.specs.declared.act.Act.{Act}
-use Rattle.nio_history.specs.declared.act.Act.TheVariants.{Publish, Enter, CloseBit}
+use Rattle.nio_history.specs.declared.act.Act.TheVariants.{Publish, Enter}
 use Rattle.nio_history.specs.declared.event.Event.{Event}
 use Rattle.nio_history.specs.declared.found.Stage.{Stage}
 use Rattle.nio_orderly.proofs.ActLists.{owes-settled}
-use Rattle.nio_orderly.proofs.Cancelling.{ClosedBy, closed_by, owed_by}
+use Rattle.nio_orderly.proofs.Cancelling.{ClosedBy, IsClosing, is_closing, closed_by, owed_by}
 use Rattle.nio_orderly.proofs.Clearing.{clearing_owed}
 use Rattle.nio_orderly.proofs.KeysStand.{set_claimed}
 use Rattle.nio_orderly.proofs.Owed.{valid_coming}
 use Rattle.nio_orderly.proofs.Published.{IsPublish, is_publish, MayClaim, may_claim}
 use Rattle.nio_orderly.specs.AfterClosing.{OnlyPublishersOwe, ClosedSelectorsHaveNoKey}
 use Rattle.nio_orderly.specs.Careful.{IsCareful}
-use Rattle.nio_orderly.specs.Owed.{publishes_key, owes, publisher_duty, closing_duty, clearing_duty, OwesSince, key_of}
+use Rattle.nio_orderly.specs.Owed.{publishes_key, closes, owes, publisher_duty, closing_duty, clearing_duty, OwesSince}
+use Rattle.nio_orderly.specs.Owed.{key_of, channel_of_key}
 use Rattle.nio_orderly.specs.Settled.{IsSettled, SettledLosesNoKey}
 use Rattle.nio_steps.proofs.OwnActs.{Cut, cut_at}
+use Rattle.nio_steps.specs.Names.{channel_of}
 
 -- the selector of an index that has a key is below the limit
 valid_within : (l : Limits) (events : List Event) (s i : ℕ) → IsLegal l events
@@ -54,29 +57,31 @@ valid_within l events s i legal valid =
 -- ---- a closed channel
 
 -- where who closed the channel has settled, the publisher of a valid key owes
-publisher_left : (l : Limits) (n : CallerNo) (c : ChanNo) (events : List Event) (before since : List Act) → IsFit l
+publisher_left : (l : Limits) (n : CallerNo) (c : ChanId) (events : List Event) (before : List Act) (act : Act)
+    (since : List Act) → IsFit l
     → IsLegal l events → IsCareful events
-    → mine n events ≡ before ++ CloseBit c false ∷ since
-    → ((s : ℕ) → s < l.selectors → (k : KeyId) → owes (closing_duty c.0 s k) since ≡ false)
-    → (s i : ℕ) → is_valid ((state_after events).key s i) ≡ true → ((state_after events).key s i).chan ≡ c
-    → OwesSince events (publishes_key c.0 s (key_of (state_after events) s i))
-    (publisher_duty c.0 s (key_of (state_after events) s i))
-publisher_left l n c events before since fit legal careful did settled s i valid of_channel =
-    elim (owed_by l fit events legal careful s i valid n before c since did of_channel) [
+    → mine n events ≡ before ++ act ∷ since → closes c act ≡ true
+    → ((s : ℕ) → s < l.selectors → (k : KeyId) → owes (closing_duty c s k) since ≡ false)
+    → (s i : ℕ) → is_valid ((state_after events).key s i) ≡ true → channel_of_key (state_after events) s i ≡ c
+    → OwesSince events (publishes_key c.number.0 s (key_of (state_after events) s i))
+    (publisher_duty c.number.0 s (key_of (state_after events) s i))
+publisher_left l n c events before act since fit legal careful did told settled s i valid of_channel =
+    elim (owed_by l fit events legal careful s i valid n before c act since did told of_channel) [
       | inl debt ↦ debt
       | inr owing ↦
-          absurd (both_ways (owes (closing_duty c.0 s (key_of (state_after events) s i)) since) owing
+          absurd (both_ways (owes (closing_duty c s (key_of (state_after events) s i)) since) owing
           (settled s (valid_within l events s i legal valid) (key_of (state_after events) s i)))
     ]
 
 pub only_publishers_owe : OnlyPublishersOwe
 only_publishers_owe l n c before after fit goes_on legal careful closed =
-    publisher_left l n c after closed.before (closed.since ++ mine n goes_on.0) fit legal careful
+    publisher_left l n c after closed.before closed.act (closed.since ++ mine n goes_on.0) fit legal careful
     (ap (mine n) (sym goes_on.1)
     ∙ (mine-append n before goes_on.0
     ∙ (ap (λ acts. acts ++ mine n goes_on.0) closed.did
-    ∙ append_assoc closed.before (CloseBit c false ∷ closed.since) (mine n goes_on.0))))
-    (λ s below k. owes-settled (closing_duty c.0 s k) closed.since (mine n goes_on.0) (closed.settled s below k))
+    ∙ append_assoc closed.before (closed.act ∷ closed.since) (mine n goes_on.0))))
+    closed.closed
+    (λ s below k. owes-settled (closing_duty c s k) closed.since (mine n goes_on.0) (closed.settled s below k))
 
 -- ---- a closed selector
 
@@ -250,10 +255,18 @@ settled_loses_no_key l events fit legal careful settled = record {
     selector : ℕ → SelNo
     selector s = record { 0 = s }
 
-    by_publisher : (s i : ℕ) → is_valid (st.key s i) ≡ true → ClosedBy events (st.key s i).chan → ⊥
+    by_publisher : (s i : ℕ) → is_valid (st.key s i) ≡ true → ClosedBy events (channel_of_key st s i) → ⊥
     by_publisher s i valid by = publisher_settled l events (st.key s i).chan.0 s (key_of st s i) fit legal settled
-        (publisher_left l by.caller (st.key s i).chan events by.before by.since fit legal careful by.did
-        ((settled by.caller).closed by.before (st.key s i).chan by.since by.did) s i valid refl)
+        (publisher_left l by.caller c events by.before by.act by.since fit legal careful by.did by.closed
+        (λ t below k. subst (λ (q : ℕ). owes (closing_duty (channel_of c.number q) t k) by.since ≡ false) its.serial
+        ((settled by.caller).closed by.before c.number its.from its.found by.since
+        (by.did ∙ ap (λ act. by.before ++ act ∷ by.since) its.is) its.takes t below k)) s i valid refl)
+      where
+        c : ChanId
+        c = channel_of_key st s i
+
+        its : IsClosing c by.act
+        its = is_closing c by.act by.closed
 
     by_closer : (s i : ℕ) → is_valid (st.key s i) ≡ true → EnteredBy events s → ⊥
     by_closer s i valid by =

@@ -7,12 +7,14 @@ use Rattle.std.specs.List.{list_all}
 use Rattle.std.proofs.lemmas.Bool.{and_parts, and_from, ltb-true, eqb-false, ne_eqb, or_right}
 use Rattle.std.proofs.lemmas.List.{append-nil}
 use Rattle.nio_base.specs.Limits.{IsFit}
+use Rattle.nio_base.specs.Numbers.{first_channel}
 use Rattle.nio_base.specs.declared.numbers.CallerNo.{CallerNo}
 use Rattle.nio_history.proofs.Legal.{not_empty, legal_beginning, legal_more}
 use Rattle.nio_history.proofs.OneMore.{mine-other, mine-append}
 use Rattle.nio_history.proofs.Soundness.{both_ways}
 use Rattle.nio_history.proofs.WorkedSteps.{worked_history_is_legal}
-use Rattle.nio_history.specs.Histories.{event_of, mine, IsLegal}
+use Rattle.nio_history.specs.Conditions.{WasOpen}
+use Rattle.nio_history.specs.Histories.{state_after, event_of, mine, IsLegal}
 use Rattle.nio_history.specs.OwnEvents.{OwnClaim, own_claim}
 use Rattle.nio_history.specs.Worked.{u, v, s, c, chan, stage, enrolled, small_limits, worked_history}
 use Rattle.nio_history.specs.declared.act.Act.{Act}
@@ -93,8 +95,12 @@ legal_take k whole =
 
 meanwhile_legal : IsLegal small_limits closed_meanwhile
 meanwhile_legal =
-    legal_more small_limits (take 26 worked_history) (event_of v (CloseBit c false)) (legal_take 26 refl)
-    (record { by_caller = lit< tt; condition = (lit< tt, refl); answers = refl })
+    legal_more small_limits (take 26 worked_history)
+    (event_of v (CloseBit c (chan false false) (chan false false))) (legal_take 26 refl)
+    (record { by_caller = lit< tt; condition = (lit< tt, was_open); answers = refl })
+  where
+    was_open : WasOpen (state_after (take 26 worked_history)) c (chan false false)
+    was_open = record { made = refl; open_then = refl; kind = refl; was = refl }
 
 publishes_carefully : (claim : OwnClaim) → own_claim 0 0 (take 23 (mine u closed_meanwhile)) ≡ Some claim
     → MayPublish 0 0 claim (take 23 (mine u closed_meanwhile))
@@ -187,19 +193,26 @@ unenrolled_legal = looked_for
         (event_of u (LookChannel c (chan false false))) published
         (record { by_caller = lit< tt; condition = lit< tt; answers = refl })
 
+    was_open : WasOpen
+        (state_after (take 24 worked_history ++ event_of u (Publish s 0 (stage 0 false false false))
+        ∷ event_of u (LookChannel c (chan false false)) ∷ [])) c (chan false false)
+    was_open = record { made = refl; open_then = refl; kind = refl; was = refl }
+
     closed : IsLegal small_limits
         (take 24 worked_history ++ event_of u (Publish s 0 (stage 0 false false false))
-        ∷ event_of u (LookChannel c (chan false false)) ∷ event_of v (CloseBit c false) ∷ [])
+        ∷ event_of u (LookChannel c (chan false false))
+        ∷ event_of v (CloseBit c (chan false false) (chan false false)) ∷ [])
     closed = legal_more small_limits
         (take 24 worked_history ++ event_of u (Publish s 0 (stage 0 false false false))
         ∷ event_of u (LookChannel c (chan false false)) ∷ [])
-        (event_of v (CloseBit c false)) looked
-        (record { by_caller = lit< tt; condition = (lit< tt, refl); answers = refl })
+        (event_of v (CloseBit c (chan false false) (chan false false))) looked
+        (record { by_caller = lit< tt; condition = (lit< tt, was_open); answers = refl })
 
     looked_for : IsLegal small_limits unenrolled_key
     looked_for = legal_more small_limits
         (take 24 worked_history ++ event_of u (Publish s 0 (stage 0 false false false))
-        ∷ event_of u (LookChannel c (chan false false)) ∷ event_of v (CloseBit c false) ∷ [])
+        ∷ event_of u (LookChannel c (chan false false))
+        ∷ event_of v (CloseBit c (chan false false) (chan false false)) ∷ [])
         (event_of v (LookReg c s None)) closed
         (record { by_caller = lit< tt; condition = (lit< tt, lit< tt); answers = refl })
 
@@ -212,10 +225,11 @@ unenrolled_lost owed = elim (owed.channels 0 0 refl refl) [
       refl refl refl)
       debt
   | inr debt ↦
-      nobody_owes unenrolled_key (closes 0) (closing_duty 0 0 (enrolled 0 0))
-      (for_each_caller unenrolled_key refl (λ own. any_owed (closes 0) (closing_duty 0 0 (enrolled 0 0))
-      own ≡ false) refl
-      refl refl) debt
+      nobody_owes unenrolled_key (closes (first_channel c)) (closing_duty (first_channel c) 0 (enrolled 0 0))
+      (for_each_caller unenrolled_key refl
+      (λ own. any_owed (closes (first_channel c)) (closing_duty (first_channel c) 0 (enrolled 0 0)) own ≡ false)
+      refl refl refl)
+      debt
 ]
 
 small_limits_fit : IsFit small_limits

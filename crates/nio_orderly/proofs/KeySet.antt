@@ -1,18 +1,22 @@
 -- How a key comes into the key set, and what stays of it: at each step, from any state.
-use Rattle.std.proofs.Common.{◌≡◌, ℕ, ◌==◌, suc, Bool, true, false, not, ◌⊎◌, inl, inr, refl, ap, sym, ◌∙◌, subst}
-use Rattle.std.proofs.Common.{eq-eqb}
+use Rattle.std.proofs.Common.{◌≡◌, ℕ, ◌==◌, suc, Bool, true, false, not, ◌&&◌, ◌||◌, ◌⊎◌, inl, inr, refl, ap, sym}
+use Rattle.std.proofs.Common.{◌∙◌, subst, eqb-true, eq-eqb}
 use Rattle.std.proofs.lemmas.Bool.{and_parts, and_from}
 use Rattle.nio_base.specs.declared.numbers.CallerNo.{CallerNo}
-use Rattle.nio_history.proofs.Put.{put_keeps, put_at_keeps}
-use Rattle.nio_history.specs.Acts.{effect, new_key}
+use Rattle.nio_base.specs.declared.numbers.ChanNo.{ChanNo}
+use Rattle.nio_history.proofs.ChannelChanges.{channels_keep}
+use Rattle.nio_history.proofs.Put.{put_at_keeps}
+use Rattle.nio_history.specs.Acts.{effect, new_key, closes_from, takes_close}
 use Rattle.nio_history.specs.Answers.{Answers}
 use Rattle.nio_history.specs.Sets.{in_key_set, is_valid}
 use Rattle.nio_history.specs.State.{State}
 use Rattle.nio_history.specs.declared.act.Act.{Act}
-use Rattle.nio_history.specs.declared.act.Act.TheVariants.{CancelKey, MakeChannel, Claim, Publish, Remove, SetMode}
-use Rattle.nio_history.specs.declared.act.Act.TheVariants.{CloseBit, ClaimAgain}
+use Rattle.nio_history.specs.declared.act.Act.TheVariants.{CancelKey, Claim, Publish, Remove, CloseBit}
+use Rattle.nio_history.specs.declared.act.Act.TheVariants.{ClaimAgain}
+use Rattle.nio_history.specs.declared.found.Chan.{Chan}
 use Rattle.nio_history.specs.declared.found.Stage.{Stage}
 use Rattle.nio_orderly.specs.Owed.{publishes_key, closes}
+use Rattle.nio_steps.specs.Names.{channel_of}
 
 -- the key of an index was in the key set before, and is the same key
 pub record WasThere (was now : Stage) : Type 0 where
@@ -110,24 +114,49 @@ came st me (Publish s' i' found) answers s i =
             unremoved))
 came st me act answers s i = was_there st act s i
 
--- a channel that is closed was so before, or the step closed it
-pub came_closed : (st : State) (me : CallerNo) (act : Act) → Answers st me act → (c : ℕ)
-    → ((effect st me act).chan c).closed ≡ true
-    → ((st.chan c).closed ≡ true) ⊎ (closes c act ≡ true)
-came_closed st me (MakeChannel k kind true) answers c =
-    put_keeps (λ m x. x.closed ≡ true → ((st.chan m).closed ≡ true) ⊎ (closes m (MakeChannel k kind true) ≡ true))
-    st.chan k.0 (st.chan k.0) (λ old. old) c (λ e. inl e)
-came_closed st me (MakeChannel k kind false) answers c =
-    put_keeps (λ m x. x.closed ≡ true → ((st.chan m).closed ≡ true) ⊎ (closes m (MakeChannel k kind false) ≡ true))
-    st.chan k.0 _ (λ old e. absurd cc) c (λ e. inl e)
-came_closed st me (SetMode k blocking found) answers c =
-    put_keeps (λ m x. x.closed ≡ true → ((st.chan m).closed ≡ true) ⊎ (closes m (SetMode k blocking found) ≡ true))
-    st.chan k.0 _ (λ old e. old e) c (λ e. inl e)
-came_closed st me (CloseBit k true) answers c =
-    let closed_before : (st.chan k.0).closed ≡ true = cc in
-    put_keeps (λ m x. x.closed ≡ true → ((st.chan m).closed ≡ true) ⊎ (closes m (CloseBit k true) ≡ true)) st.chan k.0 _
-    (λ old e. inl closed_before) c (λ e. inl e)
-came_closed st me (CloseBit k false) answers c =
-    put_keeps (λ m x. x.closed ≡ true → ((st.chan m).closed ≡ true) ⊎ (closes m (CloseBit k false) ≡ true)) st.chan k.0
-    _ (λ old e. inr (eq-eqb k.0 k.0 refl)) c (λ e. inl e)
-came_closed st me act answers c = λ e. inl e
+-- the channel that a number has was closed before, and is the same channel
+pub record StillClosed (was now : Chan) : Type 0 where
+  pub closed : was.closed ≡ true
+  pub serial : now.serial ≡ was.serial
+
+closes_now : (st : State) (me : CallerNo) (c : ChanNo) (from found : Chan) → Answers st me (CloseBit c from found)
+    → closes_from from (st.chan c.0) ≡ true → (st.chan c.0).closed ≡ false
+    → closes (channel_of c (st.chan c.0).serial) (CloseBit c from found) ≡ true
+closes_now st me c from found answers closes_it open' =
+    subst (λ (x : Chan). closes (channel_of c (st.chan c.0).serial) (CloseBit c from x) ≡ true) (sym found_is)
+    (and_from ((c.0 == c.0) && (from.serial == was.serial)) (takes_close from was)
+    (and_from (c.0 == c.0) (from.serial == was.serial) (eq-eqb c.0 c.0 refl)
+    (eq-eqb from.serial was.serial (sym (eqb-true was.serial from.serial
+    (and_parts (was.serial == from.serial) (was.blocking || not from.blocking) closes_it).0))))
+    (and_from (closes_from from was) (not was.closed) closes_it (ap not open')))
+  where
+    was : Chan
+    was = st.chan c.0
+
+    found_is : found ≡ st.chan c.0
+    found_is = cc
+
+-- a closed channel was closed before, or the step closed it
+pub came_closed : (st : State) (me : CallerNo) (act : Act) → Answers st me act → (c : ChanNo)
+    → ((effect st me act).chan c.0).closed ≡ true
+    → StillClosed (st.chan c.0) ((effect st me act).chan c.0)
+    ⊎ (closes (channel_of c ((effect st me act).chan c.0).serial) act ≡ true)
+came_closed st me act answers c =
+    channels_keep (λ a. a ≡ act) st me
+    (λ m x. x.closed ≡ true → StillClosed (st.chan m) x ⊎ (closes (channel_of (record { 0 = m }) x.serial) act ≡ true))
+    (record {
+      made = λ k kind is unmade old closed. absurd cc;
+      mode = λ k blocking found is old closed. inl (record { closed = closed; serial = refl });
+      closed = λ k from found is closes_it old closed. by_test k from found is closes_it (st.chan k.0).closed refl;
+      reopened = λ k is old closed. absurd cc;
+    })
+    act refl answers c.0 (λ closed. inl (record { closed = closed; serial = refl }))
+  where
+    by_test : (k : ChanNo) (from found : Chan) → CloseBit k from found ≡ act → closes_from from (st.chan k.0) ≡ true
+        → (b : Bool) → (st.chan k.0).closed ≡ b
+        → StillClosed (st.chan k.0) (record (st.chan k.0) { closed = true; blocking = from.blocking })
+        ⊎ (closes (channel_of k (st.chan k.0).serial) act ≡ true)
+    by_test k from found is closes_it true closed = inl (record { closed = closed; serial = refl })
+    by_test k from found is closes_it false open' =
+        inr (subst (λ (a : Act). closes (channel_of k (st.chan k.0).serial) a ≡ true) is
+        (closes_now st me k from found (subst (Answers st me) (sym is) answers) closes_it open'))

@@ -3,38 +3,40 @@
 use Rattle.std.proofs.Common.{◌≡◌, ℕ, ◌==◌, Bool, true, false, not, ◌&&◌, ◌||◌, inl, inr, Some, List, [], ◌∷◌, ◌++◌}
 use Rattle.std.proofs.Common.{refl, ap, sym, ◌∙◌, subst, eqb-true, eq-eqb}
 use Rattle.std.specs.Prelude.{nat_lt}
-use Rattle.std.proofs.lemmas.Bool.{and_parts, and_from, ltb-true, lt-ltb}
+use Rattle.std.proofs.lemmas.Bool.{and_parts, and_from, ltb-true, lt-ltb, false_from_ne_true}
 use Rattle.nio_base.specs.Limits.{IsFit}
 use Rattle.nio_base.specs.declared.limits.Limits.{Limits}
 use Rattle.nio_base.specs.declared.numbers.CallerNo.{CallerNo}
 use Rattle.nio_base.specs.declared.numbers.ChanNo.{ChanNo}
 use Rattle.nio_base.specs.declared.numbers.KeyId.{KeyId}
+use Rattle.nio_history.proofs.ChannelChanges.{channels_keep}
 use Rattle.nio_history.proofs.Holds.{clear_is_true}
 use Rattle.nio_history.proofs.Lasts.{keys_high_lasts}
 use Rattle.nio_history.proofs.Legal.{legal_induction}
 use Rattle.nio_history.proofs.OneMore.{state_after-more}
-use Rattle.nio_history.proofs.Put.{put_keeps}
 use Rattle.nio_history.proofs.Soundness.{legal-sound, both_ways, beyond-claimed}
 use Rattle.nio_history.proofs.Within.{legal-within}
 use Rattle.nio_history.specs.Acts.{effect}
 use Rattle.nio_history.specs.Answers.{Answers}
 use Rattle.nio_history.specs.Conditions.{Condition, holds}
 use Rattle.nio_history.specs.Histories.{state_after, mine, IsStep, IsLegal}
-use Rattle.nio_history.specs.OwnEvents.{OwnClaim, enrols_key, is_clear, own_claim}
+use Rattle.nio_history.specs.OwnEvents.{OwnClaim, enrols_key, is_clear, reopens, own_claim}
 use Rattle.nio_history.specs.Sets.{in_key_set, is_in_key_set}
 use Rattle.nio_history.specs.Sound.{IsSound}
 use Rattle.nio_history.specs.State.{State}
 use Rattle.nio_history.specs.declared.act.Act.{Act}
-use Rattle.nio_history.specs.declared.act.Act.TheVariants.{MakeChannel, Publish, Enrol, SetMode, CloseBit}
+use Rattle.nio_history.specs.declared.act.Act.TheVariants.{Publish, Enrol, SetMode, Reopen}
 use Rattle.nio_history.specs.declared.event.Event.{Event}
+use Rattle.nio_history.specs.declared.found.Chan.{Chan}
 use Rattle.nio_history.specs.declared.found.Stage.{Stage}
 use Rattle.nio_orderly.proofs.ActLists.{prepared_left}
 use Rattle.nio_orderly.proofs.Careful.{beginnings_are_careful}
-use Rattle.nio_orderly.proofs.KeySet.{came}
+use Rattle.nio_orderly.proofs.KeySet.{WasThere, came}
 use Rattle.nio_orderly.proofs.Published.{IsPublish, is_publish, enrolled_other, AtPublish, at_publish}
 use Rattle.nio_orderly.proofs.Standing.{claimed_made, below_left}
 use Rattle.nio_orderly.specs.Careful.{is_prepared, IsCareful}
-use Rattle.nio_orderly.specs.Owed.{publishes_key, key_of}
+use Rattle.nio_orderly.specs.Owed.{publishes_key, key_of, channel_of_key}
+use Rattle.nio_steps.specs.Names.{channel_of}
 
 pub record KeysStand (st : State) : Type 0 where
   pub enrolled : (s i : ℕ) → in_key_set (st.key s i) ≡ true → st.enrolled (st.key s i).chan.0 s ≡ Some (key_of st s i)
@@ -158,12 +160,56 @@ enrolled_step l past e fit legal step stand s i in_set = by_act e.act step.condi
         by_same false other = refl
     by_act act may = refl
 
--- its mode isn't set to blocking
-unblocked_step : (l : Limits) (past : List Event) (e : Event) → IsFit l → IsLegal l past → IsStep l past e
+-- its number isn't given to a new channel
+pub not_reopened : (l : Limits) (past : List Event) (e : Event) → IsFit l → IsLegal l past → IsStep l past e
     → KeysStand (state_after past)
     → (s i : ℕ) → in_key_set ((state_after past).key s i) ≡ true
-    → ((effect (state_after past) e.caller e.act).chan ((state_after past).key s i).chan.0).blocking ≡ false
-unblocked_step l past e fit legal step stand s i in_set = by_act e.act step.condition step.answers
+    → reopens ((state_after past).key s i).chan.0 e.act ≡ false
+not_reopened l past e fit legal step stand s i in_set = by_act e.act step.condition
+  where
+    st : State
+    st = state_after past
+
+    by_act : (act : Act) → Condition l (mine e.caller past) st e.caller act → reopens (st.key s i).chan.0 act ≡ false
+    by_act (Reopen c from false) may =
+        false_from_ne_true (c.0 == (st.key s i).chan.0) (λ same.
+        not_clear l past e.caller c s i fit legal stand may.1
+        (may.5 s ((legal-within l past legal).keys s i (set_claimed st (legal-sound l past legal) s i in_set)).0) in_set
+        (sym (eqb-true c.0 (st.key s i).chan.0 same)))
+    by_act (Reopen c from true) may = refl
+    by_act act may = refl
+
+-- Its channel stays the one that its number has, and isn't set to blocking mode.
+record IsSpared (was now : Chan) : Type 0 where
+  serial : now.serial ≡ was.serial
+  blocking : was.blocking ≡ false → now.blocking ≡ false
+
+spared_step : (l : Limits) (past : List Event) (e : Event) → IsFit l → IsLegal l past → IsStep l past e
+    → KeysStand (state_after past)
+    → (s i : ℕ) → in_key_set ((state_after past).key s i) ≡ true
+    → IsSpared ((state_after past).chan ((state_after past).key s i).chan.0)
+    ((effect (state_after past) e.caller e.act).chan ((state_after past).key s i).chan.0)
+spared_step l past e fit legal step stand s i in_set =
+    channels_keep (λ act. Condition l (mine e.caller past) st e.caller act × (reopens c act ≡ false)) st e.caller
+    (λ m x. m ≡ c → IsSpared (st.chan m) x)
+    (record {
+      made = λ k kind may unmade old same. absurd
+          (both_ways (st.chan k.0).made (subst (λ (m : ℕ). (st.chan m).made ≡ true) (sym same)
+          (claimed_made l past legal s i claimed)) unmade);
+      mode = λ k blocking found may old same. record {
+        serial = refl;
+        blocking = λ _. by_mode blocking k found may.0 same;
+      };
+      closed = λ k from found may closes_it old same. record {
+        serial = refl;
+        blocking = λ unblocked. by_from from.blocking (st.chan k.0).blocking unblocked
+            (and_parts ((st.chan k.0).serial == from.serial) ((st.chan k.0).blocking || not from.blocking) closes_it).1;
+      };
+      reopened = λ k may old same. absurd
+          (both_ways (k.0 == c) (eq-eqb k.0 c same) may.1);
+    })
+    e.act (step.condition, not_reopened l past e fit legal step stand s i in_set) step.answers c
+    (λ _. record { serial = refl; blocking = λ unblocked. unblocked }) refl
   where
     st : State
     st = state_after past
@@ -174,26 +220,32 @@ unblocked_step l past e fit legal step stand s i in_set = by_act e.act step.cond
     claimed : (st.key s i).claimed ≡ true
     claimed = set_claimed st (legal-sound l past legal) s i in_set
 
-    by_act : (act : Act) → Condition l (mine e.caller past) st e.caller act → Answers st e.caller act
-        → ((effect st e.caller act).chan c).blocking ≡ false
-    by_act (MakeChannel k kind true) may answers =
-        put_keeps (λ _ x. x.blocking ≡ false) st.chan k.0 (st.chan k.0) (λ old. old) c (stand.unblocked s i in_set)
-    by_act (MakeChannel k kind false) may answers =
-        let unmade : (st.chan k.0).made ≡ false = cc in
-        put_keeps (λ m x. (st.chan m).made ≡ true → x.blocking ≡ false) st.chan k.0 _
-        (λ _ made. absurd (both_ways (st.chan k.0).made made unmade)) c
-        (λ _. stand.unblocked s i in_set) (claimed_made l past legal s i claimed)
-    by_act (SetMode k true found) may answers =
-        put_keeps (λ m x. m ≡ c → x.blocking ≡ false) st.chan k.0 _
-        (λ _ same. absurd
+    by_mode : (b : Bool) (k : ChanNo) (found : Chan)
+        → Condition l (mine e.caller past) st e.caller (SetMode k b found) → k.0 ≡ c → b ≡ false
+    by_mode true k found may same = absurd
         (not_clear l past e.caller k s i fit legal stand may.1
-        (may.2 refl s ((legal-within l past legal).keys s i claimed).0) in_set (sym same)))
-        c (λ _. stand.unblocked s i in_set) refl
-    by_act (SetMode k false found) may answers =
-        put_keeps (λ _ x. x.blocking ≡ false) st.chan k.0 _ (λ _. refl) c (stand.unblocked s i in_set)
-    by_act (CloseBit k found) may answers =
-        put_keeps (λ _ x. x.blocking ≡ false) st.chan k.0 _ (λ old. old) c (stand.unblocked s i in_set)
-    by_act act may answers = stand.unblocked s i in_set
+        (may.2 refl s ((legal-within l past legal).keys s i claimed).0) in_set (sym same))
+    by_mode false k found may same = refl
+
+    by_from : (from was : Bool) → was ≡ false → (was || not from) ≡ true → from ≡ false
+    by_from true true unblocked closes_it = absurd (cc unblocked)
+    by_from true false unblocked closes_it = absurd (cc closes_it)
+    by_from false was unblocked closes_it = refl
+
+-- the channel of a key that stays in the key set is the one that its number had
+pub same_channel_step : (l : Limits) (past : List Event) (e : Event) → IsFit l → IsLegal l past → IsStep l past e
+    → KeysStand (state_after past)
+    → (s i : ℕ) → WasThere ((state_after past).key s i) ((effect (state_after past) e.caller e.act).key s i)
+    → channel_of_key (effect (state_after past) e.caller e.act) s i ≡ channel_of_key (state_after past) s i
+same_channel_step l past e fit legal step stand s i was =
+    ap (λ (c : ChanNo). channel_of c (st'.chan c.0).serial) was.channel
+    ∙ ap (channel_of (st.key s i).chan) (spared_step l past e fit legal step stand s i was.in_set).serial
+  where
+    st : State
+    st = state_after past
+
+    st' : State
+    st' = effect st e.caller e.act
 
 keys_stand_step : (l : Limits) (past : List Event) (e : Event) → IsFit l → IsLegal l past → IsStep l past e
     → IsCareful (past ++ e ∷ []) → KeysStand (state_after past)
@@ -213,7 +265,7 @@ keys_stand_step l past e fit legal step careful stand = record {
   ];
   unblocked = λ s i in_set. elim (came st me e.act step.answers s i in_set) [
     | inl was ↦ subst (λ (c : ChanNo). (st'.chan c.0).blocking ≡ false) (sym was.channel)
-        (unblocked_step l past e fit legal step stand s i was.in_set)
+        ((spared_step l past e fit legal step stand s i was.in_set).blocking (stand.unblocked s i was.in_set))
     | inr new ↦
         publish_spares st me (st'.key s i).chan.0 s (key_of st' s i) e.act
         (is_publish (st'.key s i).chan.0 s (key_of st' s i) e.act new)

@@ -6,6 +6,7 @@ pub mod Standing
 pub mod Published
 pub mod KeysStand
 pub mod Cancelling
+pub mod Reopening
 pub mod Clearing
 pub mod Owed
 pub mod AfterClosing
@@ -19,6 +20,7 @@ pub mod Registration
 pub mod OrderlyCare
 pub mod Examples
 pub mod OrderlyClosings
+pub mod ClosersKeys
 pub mod Removals
 pub mod ToldRemovals
 pub mod WaitedCalls

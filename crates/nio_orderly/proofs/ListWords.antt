@@ -4,6 +4,7 @@ use Rattle.std.proofs.Common.{[], ◌∷◌, ◌++◌, refl, ap, sym, ◌∙◌,
 use Rattle.std.specs.Prelude.{fold}
 use Rattle.std.specs.Option.{option_or}
 use Rattle.std.proofs.lemmas.Bool.{or_cases, or_from, or_left, or_parts, or_right}
+use Rattle.std.proofs.lemmas.List.{append-nil}
 use Rattle.std.proofs.lemmas.List.Sums.{fold-append, sum_by-cons}
 use Rattle.nio_history.proofs.OneMore.{has_none-append}
 use Rattle.nio_history.specs.OwnEvents.{has, count, last, since_from, since_first, releases, OwnClaim, own_claim}
@@ -75,6 +76,36 @@ has-at p xs act ys such = has-second p xs (act ∷ ys) (or_left (p act) (has p y
 pub no_such_act : (p : Act → Bool) (xs : List Act) (act : Act) (ys : List Act) → has p (xs ++ act ∷ ys) ≡ false
     → p act ≡ true → ⊥
 no_such_act p xs act ys none such = let clash : true ≡ false = sym (has-at p xs act ys such) ∙ none in cc
+
+-- the first act is this one, or the other is further
+pub first_or_later : {X : Type 0} (x : X) (xs before : List X) (e : X) (later : List X) → x ∷ xs ≡ before ++ e ∷ later
+    → ((x ≡ e) × (xs ≡ later)) ⊎ ((further : List X) × (before ≡ x ∷ further) × (xs ≡ further ++ e ∷ later))
+first_or_later x xs [] e later same = inl (cc same, cc same)
+first_or_later {X = X} x xs (y ∷ before) e later same = let head : x ≡ y =
+    cc same in inr (before, ap (λ (z : X). z ∷ before) (sym head), cc same)
+
+-- there is one such act
+pub one_such : (p : Act → Bool) (before later xs ys : List Act) (x e : Act) → has p before ≡ false → has p later ≡ false
+    → p e ≡ true → before ++ x ∷ later ≡ xs ++ e ∷ ys
+    → (before ≡ xs) × (x ≡ e) × (later ≡ ys)
+one_such p before later xs ys x e none none' such same = by_part (split_at before (x ∷ later) xs e ys same)
+  where
+    by_place : (start : List Act) → xs ≡ before ++ start
+        → ((x ≡ e) × (later ≡ ys)) ⊎ ((further : List Act) × (start ≡ x ∷ further) × (later ≡ further ++ e ∷ ys))
+        → start ++ e ∷ ys ≡ x ∷ later
+        → (before ≡ xs) × (x ≡ e) × (later ≡ ys)
+    by_place [] is (inl here) parts = (sym (append-nil before) ∙ sym is, here.0, here.1)
+    by_place (y ∷ start) is (inl here) parts =
+        let rest : start ++ e ∷ ys ≡ later = cc parts in
+        absurd (no_such_act p start e ys (ap (has p) rest ∙ none') such)
+    by_place start is (inr there) parts =
+        absurd (no_such_act p there.0 e ys (ap (has p) (sym there.2) ∙ none') such)
+
+    by_part : InFirst before (x ∷ later) xs e ys ⊎ InSecond before (x ∷ later) xs e ys
+        → (before ≡ xs) × (x ≡ e) × (later ≡ ys)
+    by_part (inl there) = absurd (no_such_act p xs e there.rest (ap (has p) (sym there.parts) ∙ none) such)
+    by_part (inr there) =
+        by_place there.start there.before_is (first_or_later x later there.start e ys there.parts) (sym there.parts)
 
 either_part : (p : Act → Bool) (xs ys : List Act) → has p (xs ++ ys) ≡ true → (has p xs ≡ true) ⊎ (has p ys ≡ true)
 either_part p xs ys there = or_cases (has p xs) (has p ys) (sym (has-append p xs ys) ∙ there)

@@ -3,7 +3,7 @@
 use Rattle.std.proofs.Common.{◌≡◌, ℕ, Bool, true, false, Some, List, ◌∷◌, ◌++◌}
 use Rattle.nio_history.specs.OwnEvents.{OwnClaim, has, count, under, sets_mode, own_claim}
 use Rattle.nio_history.specs.declared.act.Act.{Act}
-use Rattle.nio_history.specs.declared.act.Act.TheVariants.{Publish, Enrol, SetMode}
+use Rattle.nio_history.specs.declared.act.Act.TheVariants.{Publish, Enrol, SetMode, Reopen}
 use Rattle.nio_orderly.specs.Careful.{enrols_for, enrols_this_key, is_prepared}
 
 -- it published a key
@@ -23,6 +23,7 @@ abbrev pub CarefulAct : List Act → Act → Type 0
 CarefulAct own (Publish s i found) = (claim : OwnClaim) → own_claim s.0 i own ≡ Some claim → MayPublish s.0 i claim own
 CarefulAct own (Enrol c s i serial found) = has publishes_any (under c.0 own) ≡ false
 CarefulAct own (SetMode c blocking found) = has publishes_any (under c.0 own) ≡ false
+CarefulAct own (Reopen c from false) = has publishes_any (under c.0 own) ≡ false
 CarefulAct own act = Unit {0}
 
 -- each of the acts is done with care

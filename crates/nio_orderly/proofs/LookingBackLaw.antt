@@ -18,7 +18,7 @@ use Rattle.nio_history.specs.OwnEvents.{OwnClaim, has, count, under, takes_hold,
 use Rattle.nio_history.specs.Permanent.{the_hold}
 use Rattle.nio_history.specs.State.{State}
 use Rattle.nio_history.specs.declared.act.Act.{Act}
-use Rattle.nio_history.specs.declared.act.Act.TheVariants.{Publish, Enrol, TryHoldBit, SetMode}
+use Rattle.nio_history.specs.declared.act.Act.TheVariants.{Publish, Enrol, TryHoldBit, SetMode, Reopen}
 use Rattle.nio_history.specs.declared.event.Event.{Event}
 use Rattle.nio_history.specs.declared.found.Stage.{Stage}
 use Rattle.nio_orderly.proofs.ActLists.{has-append}
@@ -112,7 +112,7 @@ under-append c own (x ∷ done) none =
     (since_from-more (takes_hold c) own x ∙ ap (λ b. cond {A = List Act} b [] (under c own ++ x ∷ [])) both.0)
     ∙ append_assoc (under c own) (x ∷ []) done))
 
--- an act by which a key is enrolled for the channel, or its mode set
+-- an act by which a key is enrolled for the channel, or its mode set, or its number given to a new channel
 abbrev spoils : ℕ → Act → Bool
 spoils c act = enrols_for c act || sets_mode c act
 
@@ -123,6 +123,8 @@ spoils_careful c own (Enrol c' s i serial found) careful spoilt =
     subst (λ (m : ℕ). has publishes_any (under m own) ≡ false)
     (eqb-true c'.0 c (sym (or-false (c'.0 == c)) ∙ spoilt)) careful
 spoils_careful c own (SetMode c' blocking found) careful spoilt =
+    subst (λ (m : ℕ). has publishes_any (under m own) ≡ false) (eqb-true c'.0 c spoilt) careful
+spoils_careful c own (Reopen c' from false) careful spoilt =
     subst (λ (m : ℕ). has publishes_any (under m own) ≡ false) (eqb-true c'.0 c spoilt) careful
 spoils_careful c own act careful spoilt = absurd (cc spoilt)
 

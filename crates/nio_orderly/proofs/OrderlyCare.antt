@@ -159,7 +159,8 @@ pub kept_is_settled : (l : Limits) (own : List Act) → Kept l own → IsSettled
 kept_is_settled l own kept = record {
   published = λ before s i found later parts unremoved claim its. publish_settled before s i found later claim its
       unremoved (kept.publishes before s i found later parts);
-  closed = λ before c later parts s below k. kept.closes before c later parts s k below;
+  closed = λ before c from found later parts takes s below k. kept.closes before c from found later parts takes s k
+      below;
   entered = λ s i entered. entered_settled l own kept s i entered;
 }
   where

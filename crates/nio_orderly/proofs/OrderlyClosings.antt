@@ -1,12 +1,13 @@
 -- What is left in orderly histories: what is owed, and what is left once a closing has answered.
-use Rattle.std.proofs.Common.{◌≡◌, ℕ, Bool, true, false, ◌||◌, if◌then◌else◌, Some, None, List, [], ◌∷◌, ◌++◌, refl, ap}
-use Rattle.std.proofs.Common.{sym, ◌∙◌, subst, append_assoc, eq-eqb, ◌⊎◌, inl, inr}
-use Rattle.std.proofs.lemmas.Bool.{false_from_ne_true}
+use Rattle.std.proofs.Common.{◌≡◌, ℕ, ◌==◌, Bool, true, false, ◌&&◌, ◌||◌, if◌then◌else◌, Some, None, List, [], ◌∷◌}
+use Rattle.std.proofs.Common.{◌++◌, refl, ap, sym, ◌∙◌, subst, append_assoc, eq-eqb, ◌⊎◌, inl, inr}
+use Rattle.std.proofs.lemmas.Bool.{and_from, false_from_ne_true}
 use Rattle.nio_base.specs.declared.limits.Limits.{Limits}
-use Rattle.nio_base.specs.declared.numbers.ChanNo.{ChanNo}
+use Rattle.nio_base.specs.declared.numbers.ChanId.{ChanId}
 use Rattle.nio_base.specs.declared.numbers.SelNo.{SelNo}
 use Rattle.nio_history.proofs.LastsOnceSound.{permanent_stands}
 use Rattle.nio_history.proofs.Stays.{beginnings_are_legal}
+use Rattle.nio_history.specs.Acts.{takes_close}
 use Rattle.nio_history.specs.Conditions.{is_closer, is_held_by}
 use Rattle.nio_history.specs.Histories.{state_after, mine, event_of, IsLegal}
 use Rattle.nio_history.specs.OwnEvents.{has, since_first, since_entered, enters}
@@ -14,10 +15,12 @@ use Rattle.nio_history.specs.Permanent.{selector_closed_by}
 use Rattle.nio_history.specs.Sets.{is_valid}
 use Rattle.nio_history.specs.declared.act.Act.{Act}
 use Rattle.nio_history.specs.declared.act.Act.TheVariants.{CloseBit, Enter}
+use Rattle.nio_history.specs.declared.found.Chan.{Chan}
 use Rattle.nio_orderly.proofs.ActLists.{owes-settled}
 use Rattle.nio_orderly.proofs.AfterClosing.{only_publishers_owe, closed_selectors_have_no_key, publisher_settled}
 use Rattle.nio_orderly.proofs.AfterClosing.{settled_loses_no_key}
 use Rattle.nio_orderly.proofs.CallLists.{whole_is_orderly, beginnings_are_orderly}
+use Rattle.nio_orderly.proofs.ClosingsKept.{closing-always}
 use Rattle.nio_orderly.proofs.Kept.{EnterKept}
 use Rattle.nio_orderly.proofs.ListWords.{InFirst, InSecond, split_at, no_such_act, has-second, since_first-parts}
 use Rattle.nio_orderly.proofs.OrderlyCare.{table_call_is_kept, made_is_kept, orderly_is_careful, whole_is_settled}
@@ -26,9 +29,11 @@ use Rattle.nio_orderly.proofs.Owed.{nothing_is_lost}
 use Rattle.nio_orderly.specs.Orderly.{IsOrderly}
 use Rattle.nio_orderly.specs.OrderlyCare.{OrderlyOwes, WholeLosesNoKey, CloseChannelCloses, FinishCloses}
 use Rattle.nio_orderly.specs.OrderlyCare.{AfterCloseChannel, NoKeyAfterCloseChannel, NoKeyAfterFinish, NoKeyAfterClose}
-use Rattle.nio_orderly.specs.Owed.{owes, clearing_duty, key_of}
+use Rattle.nio_orderly.specs.Owed.{owes, closing_duty, clearing_duty, key_of}
 use Rattle.nio_steps.proofs.OwnActs.{Cut, cut_at}
-use Rattle.nio_steps.specs.ChannelCalls.{close_channel_plan}
+use Rattle.nio_steps.proofs.Walks.{always_weaker, always_any, always_run}
+use Rattle.nio_steps.specs.ChannelCalls.{cancel_keys, close_channel_plan}
+use Rattle.nio_steps.specs.Names.{channel_of}
 use Rattle.nio_steps.specs.Runs.{Completes}
 use Rattle.nio_steps.specs.SelectCalls.{closed, try_finish_plan, ShutReply, closing, already_closed, ClosesRest}
 use Rattle.nio_steps.specs.TableCalls.{close_channel, try_finish}
@@ -43,33 +48,53 @@ whole_loses_no_key l events fit legal whole =
 
 -- ---- closing a channel
 
--- a `close_channel` that answers true begins with the step that closes the channel
-record BeginsClosing (c : ChanNo) (acts : List Act) : Type 0 where
-  later : List Act
-  parts : acts ≡ CloseBit c false ∷ later
+-- a `close_channel` that answers true closed the channel, and cancelled its keys since
+record HasClosing (c : ChanId) (acts : List Act) : Type 0 where
+  before : List Act
+  from : Chan
+  found : Chan
+  since : List Act
+  parts : acts ≡ before ++ CloseBit c.number from found ∷ since
+  serial : from.serial ≡ c.serial
+  takes : takes_close from found ≡ true
 
-begins_closing : (l : Limits) (c : ChanNo) (acts : List Act) → Completes (close_channel_plan l c) acts true
-    → BeginsClosing c acts
-unfolding close_channel_plan
-begins_closing l c [] run = absurd (cc run)
-begins_closing l c (CloseBit c' false ∷ acts) run =
-    let same : c' ≡ c = cc run.0 in
-    record { later = acts; parts = ap (λ (d : ChanNo). CloseBit d false ∷ acts) same }
-begins_closing l c (CloseBit c' true ∷ []) run = absurd (cc run.1)
-begins_closing l c (CloseBit c' true ∷ act ∷ acts) run = absurd run.1
-begins_closing l c (_ ∷ acts) run = absurd (cc run.0)
+has_closing : (l : Limits) (c : ChanId) (acts : List Act) → Completes (close_channel_plan l c) acts true
+    → HasClosing c acts
+has_closing l c acts run =
+    always_run (λ xs answer. answer ≡ true → HasClosing c xs) (close_channel_plan l c) acts true
+    (closing-always l c (λ xs answer. answer ≡ true → HasClosing c xs) (λ xs before is. absurd (cc is))
+    (λ xs from found before serial takes.
+    always_weaker (λ _ _. Unit {0})
+    (λ more answer. answer ≡ true → HasClosing c (xs ++ CloseBit c.number from found ∷ more)) (cancel_keys l c)
+    (λ more answer any is. record {
+      before = xs;
+      from = from;
+      found = found;
+      since = more;
+      parts = refl;
+      serial = serial;
+      takes = takes;
+    }) (always_any (cancel_keys l c)))) run refl
 
 pub close_channel_closes : CloseChannelCloses
 close_channel_closes l n c events own acts did run = record {
-  before = own;
-  since = begins.later;
-  did = did ∙ ap (λ xs. own ++ xs) begins.parts;
-  settled = λ s below k. (table_call_is_kept l (close_channel c) true acts run).closes [] c begins.later begins.parts
-      s k below;
+  before = own ++ closing.before;
+  act = CloseBit c.number closing.from closing.found;
+  since = closing.since;
+  did = did ∙ (ap (λ xs. own ++ xs) closing.parts
+      ∙ sym (append_assoc own closing.before (CloseBit c.number closing.from closing.found ∷ closing.since)));
+  closed = and_from ((c.number.0 == c.number.0) && (closing.from.serial == c.serial))
+      (takes_close closing.from closing.found)
+      (and_from (c.number.0 == c.number.0) (closing.from.serial == c.serial) (eq-eqb c.number.0 c.number.0 refl)
+      (eq-eqb closing.from.serial c.serial closing.serial)) closing.takes;
+  settled = λ s below k. subst (λ (q : ℕ). owes (closing_duty (channel_of c.number q) s k) closing.since ≡ false)
+      closing.serial
+      ((table_call_is_kept l (close_channel c) true acts run).closes closing.before c.number closing.from closing.found
+      closing.since closing.parts closing.takes s k below);
 }
   where
-    begins : BeginsClosing c acts
-    begins = begins_closing l c acts run
+    closing : HasClosing c acts
+    closing = has_closing l c acts run
 
 pub after_close_channel : AfterCloseChannel
 after_close_channel l n c before after own acts fit goes_on legal orderly did run =
@@ -79,7 +104,8 @@ after_close_channel l n c before after own acts fit goes_on legal orderly did ru
 pub no_key_after_close_channel : NoKeyAfterCloseChannel
 no_key_after_close_channel l n c before after own acts fit goes_on legal whole did run s i of_channel =
     false_from_ne_true (is_valid ((state_after after).key s i)) (λ valid.
-    publisher_settled l after c.0 s (key_of (state_after after) s i) fit legal (λ m. whole_is_settled l after m whole)
+    publisher_settled l after c.number.0 s (key_of (state_after after) s i) fit legal
+    (λ m. whole_is_settled l after m whole)
     (after_close_channel l n c before after own acts fit goes_on legal (whole_is_orderly l after whole) did run s i
     valid of_channel))
 

@@ -3,6 +3,7 @@ use Rattle.std.proofs.Common.{◌≡◌, ℕ, true, false, not, inl, Option, Som
 use Rattle.std.proofs.Common.{subst}
 use Rattle.std.proofs.lemmas.Bool.{and_parts, or_right, not-true}
 use Rattle.nio_base.specs.declared.numbers.CallerNo.{CallerNo}
+use Rattle.nio_base.specs.declared.numbers.ChanNo.{ChanNo}
 use Rattle.nio_history.proofs.Soundness.{legal-sound}
 use Rattle.nio_history.specs.Histories.{state_after, mine}
 use Rattle.nio_history.specs.OwnEvents.{since_entered}
@@ -31,7 +32,7 @@ nothing_is_lost l events fit legal careful = record {
       (shut_closer l events legal s shut);
   turns = (legal-sound l events legal).begun_turn;
   not_entered = (legal-sound l events legal).begun_open;
-  modes = λ c registered. subst (λ (m : ℕ). ((state_after events).chan m).blocking ≡ false) registered.of_channel
+  modes = λ c registered. subst (λ (m : ChanNo). ((state_after events).chan m.0).blocking ≡ false) registered.of_channel
       ((keys_stand l fit events legal careful).unblocked registered.selector registered.index registered.in_set);
 }
   where

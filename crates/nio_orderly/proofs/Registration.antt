@@ -2,10 +2,11 @@
 use Rattle.std.proofs.Common.{◌≡◌, ℕ, zero, suc, ◌+◌, ◌-◌, ◌*◌, ◌==◌, nat_lt, Bool, true, false, not, ◌&&◌, ◌||◌}
 use Rattle.std.proofs.Common.{if◌then◌else◌, Option, Some, None, is_some, Result, Ok, Err, List, [], ◌∷◌, ◌++◌, refl}
 use Rattle.std.proofs.Common.{ap, sym, ◌∙◌, subst, append_assoc, eq-eqb, arith, ◌⊎◌, inl, inr}
-use Rattle.std.proofs.lemmas.Bool.{and_parts, lt-ltb}
+use Rattle.std.proofs.lemmas.Bool.{and_parts, and_from, not-true, not-false, lt-ltb}
 use Rattle.std.proofs.lemmas.List.{append-nil}
 use Rattle.nio_base.specs.Kind.{valid_operations}
 use Rattle.nio_base.specs.declared.limits.Limits.{Limits}
+use Rattle.nio_base.specs.declared.numbers.ChanId.{ChanId}
 use Rattle.nio_base.specs.declared.numbers.ChanNo.{ChanNo}
 use Rattle.nio_base.specs.declared.numbers.KeyId.{KeyId}
 use Rattle.nio_base.specs.declared.numbers.KeyNo.{KeyNo}
@@ -15,14 +16,15 @@ use Rattle.nio_history.proofs.OneMore.{since_from-more, since_first-none, since_
 use Rattle.nio_history.specs.OwnEvents.{OwnClaim, has, count, under, since_from, since_first, takes_hold, releases}
 use Rattle.nio_history.specs.OwnEvents.{sets_mode, claim_changed, own_claim}
 use Rattle.nio_history.specs.Questions.{Question, Answer, question_of, answer_of}
+use Rattle.nio_history.specs.Sets.{fits_channel, is_open_channel}
 use Rattle.nio_history.specs.declared.act.Act.{Act}
 use Rattle.nio_history.specs.declared.act.Act.TheVariants.{LookGate, CancelKey, LookChannel, Claim, RaiseKeys, LookKeys}
 use Rattle.nio_history.specs.declared.act.Act.TheVariants.{Publish, Enrol, TryHoldBit, Release, SetMode, CloseBit}
-use Rattle.nio_history.specs.declared.act.Act.TheVariants.{Enter, Unpin, ClaimAgain}
+use Rattle.nio_history.specs.declared.act.Act.TheVariants.{Enter, Unpin, ClaimAgain, Reopen}
 use Rattle.nio_history.specs.declared.found.Stage.{Stage}
 use Rattle.nio_orderly.proofs.ActLists.{owes-settled}
-use Rattle.nio_orderly.proofs.Kept.{PublishKept, Kept, kept-calm, is_loud, first_or_later}
-use Rattle.nio_orderly.proofs.ListWords.{InFirst, InSecond, split_at, has-first, has-second, no_such_act}
+use Rattle.nio_orderly.proofs.Kept.{PublishKept, claims_key, Kept, kept-calm, is_loud}
+use Rattle.nio_orderly.proofs.ListWords.{one_such, has-first, has-second}
 use Rattle.nio_orderly.proofs.ListWords.{count-one, since_from-none, until_released-done}
 use Rattle.nio_orderly.specs.Careful.{enrols_for, enrols_this_key, claims, leaves_below, finds_open, until_released}
 use Rattle.nio_orderly.specs.Careful.{is_prepared}
@@ -100,7 +102,7 @@ leads_seek Before Found b i own f each here = leads_tries Before Found (b - i) i
 
 -- ---- before a key is enrolled
 
--- the caller has enrolled and published no key, set no mode, closed nothing
+-- the caller has enrolled and published no key, set no mode, closed nothing, given no number to a new channel
 record Quiet (c : ChanNo) (own : List Act) : Type 0 where
   unenrolled : has (enrols_for c.0) own ≡ false
   unset : has (sets_mode c.0) own ≡ false
@@ -116,7 +118,8 @@ abbrev still : Question → Bool
 still (Question.enrol c s i serial) = false
 still (Question.set_mode c blocking) = false
 still (Question.publish s i) = false
-still (Question.close_bit c) = false
+still (Question.close_bit c from) = false
+still (Question.reopen c from) = false
 still (Question.enter s) = false
 still _ = true
 
@@ -127,7 +130,8 @@ quiet-one : (c : ChanNo) (act : Act) → still (question_of act) ≡ true → Qu
 quiet-one c (Enrol c' s i serial found) is = absurd (cc is)
 quiet-one c (SetMode c' blocking found) is = absurd (cc is)
 quiet-one c (Publish s i found) is = absurd (cc is)
-quiet-one c (CloseBit c' found) is = absurd (cc is)
+quiet-one c (CloseBit c' from found) is = absurd (cc is)
+quiet-one c (Reopen c' from found) is = absurd (cc is)
 quiet-one c (Enter s found) is = absurd (cc is)
 quiet-one c _ is = record { unenrolled = refl; unset = refl; calm = refl }
 
@@ -190,9 +194,10 @@ over-stays s ops att (Some k) =
 
 -- ---- an index for the key
 
--- the caller claimed the key's index for the channel, and has the pin of that claim
+-- the caller claimed the key's index for the channel, under its hold of it, and has the pin of that claim
 record Claimed (s : SelNo) (c : ChanNo) (k : KeyId) (own : List Act) : Type 0 where
   holding : Holding c own
+  under_hold : has (claims_key s.0 k.index k.serial) (under c.0 own) ≡ true
   claim : own_claim s.0 k.index own ≡ Some (record { channel = c; serial = k.serial })
 
 -- and it found the keys' high-water mark above the index, or raised it above
@@ -249,6 +254,38 @@ claims-again s i c from own (ClaimAgain s' i' c' from' false) asks free =
 claims-again s i c from own (ClaimAgain s' i' c' from' true) asks free = absurd (cc free)
 claims-again s i c from own _ asks free = absurd (cc asks)
 
+-- an act that doesn't take the hold is done under the same hold
+under-more : (c : ℕ) (own : List Act) (act : Act) → takes_hold c act ≡ false
+    → under c (own ++ act ∷ []) ≡ under c own ++ act ∷ []
+under-more c own act none =
+    since_from-more (takes_hold c) own act ∙ ap (λ b. if b then [] else under c own ++ act ∷ []) none
+
+claims-under : (s : SelNo) (i q : ℕ) (c : ChanNo) (own : List Act) (act : Act) → takes_hold c.0 act ≡ false
+    → claims_key s.0 i q act ≡ true → has (claims_key s.0 i q) (under c.0 (own ++ act ∷ [])) ≡ true
+claims-under s i q c own act none claims_it =
+    ap (has (claims_key s.0 i q)) (under-more c.0 own act none)
+    ∙ has-second (claims_key s.0 i q) (under c.0 own) (act ∷ []) (ap (λ b. b || false) claims_it)
+
+new-claims : (s : SelNo) (i : ℕ) (c : ChanNo) (act : Act) → question_of act ≡ Question.claim s i c
+    → flag_in (answer_of act) ≡ false → (takes_hold c.0 act ≡ false) × (claims_key s.0 i 0 act ≡ true)
+new-claims s i c (Claim s' i' c' false) asks free =
+    (refl, and_from ((s'.0 == s.0) && (i' == i)) (0 == 0) (same_place s i s' i' (cc asks) (cc asks)) refl)
+new-claims s i c (Claim s' i' c' true) asks free = absurd (cc free)
+new-claims s i c _ asks free = absurd (cc asks)
+
+again-claims : (s : SelNo) (i : ℕ) (c : ChanNo) (from : Stage) (act : Act)
+    → question_of act ≡ Question.claim_again s i c from → flag_in (answer_of act) ≡ false
+    → (takes_hold c.0 act ≡ false) × (claims_key s.0 i (suc from.serial) act ≡ true)
+again-claims s i c from (ClaimAgain s' i' c' from' false) asks free =
+    let stage' : from' ≡ from = cc asks in (
+      refl,
+      and_from ((s'.0 == s.0) && (i' == i)) (suc from.serial == suc from'.serial)
+          (same_place s i s' i' (cc asks) (cc asks))
+          (eq-eqb (suc from.serial) (suc from'.serial) (ap (λ (x : Stage). suc x.serial) (sym stage'))),
+    )
+again-claims s i c from (ClaimAgain s' i' c' from' true) asks free = absurd (cc free)
+again-claims s i c from _ asks free = absurd (cc asks)
+
 claim_taken-leads : (s : SelNo) (c : ChanNo) (mark i : ℕ) (own : List Act) → nat_lt i mark ≡ true → Marked s c mark own
     → Leads (Here (Marked s c mark) (λ own' k. Below s c k own')) own (claim_taken s c i)
 claim_taken-leads s c mark i own low marked = λ look asks claim asks'.
@@ -260,10 +297,13 @@ claim_taken-leads s c mark i own low marked = λ look asks claim asks'.
     (reply (Some (record { index = i; serial = suc (stage_in (answer_of look)).serial })))
     (λ pinned put asks''. marked-more s c mark (looked ++ claim ∷ []) put (ap still asks'') after)
     (λ free. record {
-      claimed = record {
-        holding = after.holding;
-        claim = claims-again s i c (stage_in (answer_of look)) looked claim asks' free;
-      };
+      claimed =
+          let its = again-claims s i c (stage_in (answer_of look)) claim asks' free in
+          record {
+            holding = after.holding;
+            under_hold = claims-under s i (suc (stage_in (answer_of look)).serial) c looked claim its.0 its.1;
+            claim = claims-again s i c (stage_in (answer_of look)) looked claim asks' free;
+          };
       below = after.below i low;
     })
 
@@ -300,18 +340,21 @@ new-leads s c b i own holding =
         (if was then None else Some (record { index = j; serial = 0 }))
     by_test j before here claim asks true was = holding-more c before claim (ap still asks) here
     by_test j before here claim asks false was =
+        let its = new-claims s j c claim asks was in
         record {
           holding = holding-more c before claim (ap still asks) here;
+          under_hold = claims-under s j 0 c before claim its.0 its.1;
           claim = claims-new s j c before claim asks was;
         }
 
 -- ---- its claim stays
 
--- a question that leaves a claim
+-- a question that leaves a claim, and the hold under which it was made
 abbrev leaves_claims : Question → Bool
 leaves_claims (Question.claim s i c) = false
 leaves_claims (Question.claim_again s i c from) = false
 leaves_claims (Question.unpin s i) = false
+leaves_claims (Question.try_hold_bit c) = false
 leaves_claims _ = true
 
 claim-stays : (s i : ℕ) (own : List Act) (act : Act) (claim : Option OwnClaim) → leaves_claims (question_of act) ≡ true
@@ -330,10 +373,16 @@ not_claims s i (Claim s' i' c found) is = absurd (cc is)
 not_claims s i (ClaimAgain s' i' c from found) is = absurd (cc is)
 not_claims s i _ is = refl
 
+not_taking : (c : ℕ) (act : Act) → leaves_claims (question_of act) ≡ true → takes_hold c act ≡ false
+not_taking c (TryHoldBit c' found) is = absurd (cc is)
+not_taking c _ is = refl
+
 claimed-more : (s : SelNo) (c : ChanNo) (k : KeyId) (own : List Act) (act : Act) → still (question_of act) ≡ true
     → leaves_claims (question_of act) ≡ true → Claimed s c k own → Claimed s c k (own ++ act ∷ [])
 claimed-more s c k own act is leaves before = record {
   holding = holding-more c own act is before.holding;
+  under_hold = ap (has (claims_key s.0 k.index k.serial)) (under-more c.0 own act (not_taking c.0 act leaves))
+      ∙ has-first (claims_key s.0 k.index k.serial) (under c.0 own) (act ∷ []) before.under_hold;
   claim = claim-stays s.0 k.index own act (Some (record { channel = c; serial = k.serial })) leaves before.claim;
 }
 
@@ -402,6 +451,7 @@ record Enrolled (s : SelNo) (c : ChanNo) (k : KeyId) (own : List Act) : Type 0 w
   calm : has is_loud own ≡ false
   claim : own_claim s.0 k.index own ≡ Some (record { channel = c; serial = k.serial })
   prepared : is_prepared s.0 k.index own ≡ true
+  claimed_under : has (claims_key s.0 k.index k.serial) (under c.0 own) ≡ true
   enrolled : has (enrols_this_key c.0 s.0 k.index k.serial) (under c.0 own) ≡ true
   alone : count (enrols_for c.0) (under c.0 own) ≡ 1
 
@@ -414,6 +464,8 @@ enrolled-now s c k own (Enrol c' s' i serial found) asks before = record {
   claim = claim-stays s.0 k.index own enrolling (Some (record { channel = c; serial = k.serial })) refl
       before.claimed.claim;
   prepared = prepared-more s.0 k.index own enrolling refl before.prepared;
+  claimed_under = ap (has (claims_key s.0 k.index k.serial)) (since_from-more (takes_hold c.0) own enrolling)
+      ∙ has-first (claims_key s.0 k.index k.serial) (under c.0 own) (enrolling ∷ []) before.claimed.under_hold;
   enrolled = ap (has (enrols_this_key c.0 s.0 k.index k.serial)) (since_from-more (takes_hold c.0) own enrolling)
       ∙ has-second (enrols_this_key c.0 s.0 k.index k.serial) (under c.0 own) (enrolling ∷ [])
       (ap (λ b. b || false) its_key);
@@ -492,13 +544,15 @@ cancels-it : (s : SelNo) (i serial : ℕ) (act : Act) → question_of act ≡ Qu
 cancels-it s i serial (CancelKey s' i' found) asks = ap (λ b. b || false) (same_place s i s' i' (cc asks) (cc asks))
 cancels-it s i serial _ asks = absurd (cc asks)
 
-looked-open : (c : ChanNo) (s i serial : ℕ) (act : Act) → question_of act ≡ Question.look_channel c
-    → (channel_in (answer_of act)).closed ≡ false
-    → owes (publisher_duty c.0 s (record { index = i; serial = serial })) (act ∷ []) ≡ false
+looked-open : (c : ChanId) (s i serial : ℕ) (act : Act) → question_of act ≡ Question.look_channel c.number
+    → is_open_channel (channel_in (answer_of act)) c.serial ≡ true
+    → owes (publisher_duty c.number.0 s (record { index = i; serial = serial })) (act ∷ []) ≡ false
 looked-open c s i serial (LookChannel c' found) asks open' =
-    let same : c' ≡ c = cc asks in
+    let same : c' ≡ c.number = cc asks in
     ap (λ b. if b then (b && found.closed) && true else true)
-    (ap (λ (d : ChanNo). d.0 == c.0) same ∙ eq-eqb c.0 c.0 refl) ∙ ap (λ b. b && true) open'
+    (ap (λ (d : ChanNo). d.0 == c.number.0) same ∙ eq-eqb c.number.0 c.number.0 refl)
+    ∙ ap (λ b. b && true)
+    (not-true found.closed (and_parts (fits_channel found c.serial) (not found.closed) open').1)
 looked-open c s i serial _ asks open' = absurd (cc asks)
 
 looked-closed : (c : ChanNo) (s : SelNo) (i serial : ℕ) (act later : Act) → question_of act ≡ Question.look_channel c
@@ -516,13 +570,15 @@ looked-closed c s i serial (LookChannel c' found) later asks asks' =
     by_either false = refl
 looked-closed c s i serial _ later asks asks' = absurd (cc asks)
 
-settle-leads : (s : SelNo) (c : ChanNo) (k : KeyId) (before : List Act) (found : Stage) → Enrolled s c k before
-    → Leads (λ own _. Registers s c own) (before ++ Publish s k.index found ∷ []) (settle_key s c k)
+settle-leads : (s : SelNo) (c : ChanId) (k : KeyId) (before : List Act) (found : Stage) → Enrolled s c.number k before
+    → Leads (λ own _. Registers s c.number own) (before ++ Publish s k.index found ∷ []) (settle_key s c k)
 settle-leads s c k before found enrolled = λ look asks.
     let published = before ++ Publish s k.index found ∷ [] in
-    leads_bind (λ own _. Registers s c own) (λ own _. Registers s c own) (published ++ look ∷ [])
-    (when (channel_in (answer_of look)).closed (cancel_key s k.index)) (λ _. reply (Ok (key s k)))
-    (leads_if (λ own _. Registers s c own) (published ++ look ∷ []) (channel_in (answer_of look)).closed
+    leads_bind (λ own _. Registers s c.number own) (λ own _. Registers s c.number own) (published ++ look ∷ [])
+    (when (not (is_open_channel (channel_in (answer_of look)) c.serial)) (cancel_key s k.index))
+    (λ _. reply (Ok (key s k)))
+    (leads_if (λ own _. Registers s c.number own) (published ++ look ∷ [])
+    (not (is_open_channel (channel_in (answer_of look)) c.serial))
     (cancel_key s k.index >> reply tt) (reply tt)
     (λ closed cancelled asks'. inr (
       k,
@@ -533,9 +589,9 @@ settle-leads s c k before found enrolled = λ look asks.
         parts = append_assoc published (look ∷ []) (cancelled ∷ [])
             ∙ append_assoc before (Publish s k.index found ∷ []) (look ∷ cancelled ∷ []);
         enrolled = enrolled;
-        quiet = quiet-append c (look ∷ []) (cancelled ∷ []) (quiet-one c look (ap still asks))
-            (quiet-one c cancelled (ap still asks'));
-        settled = λ in_set serial. looked-closed c s k.index serial look cancelled asks asks';
+        quiet = quiet-append c.number (look ∷ []) (cancelled ∷ []) (quiet-one c.number look (ap still asks))
+            (quiet-one c.number cancelled (ap still asks'));
+        settled = λ in_set serial. looked-closed c.number s k.index serial look cancelled asks asks';
       },
     ))
     (λ open'. inr (
@@ -546,24 +602,25 @@ settle-leads s c k before found enrolled = λ look asks.
         later = look ∷ [];
         parts = append_assoc before (Publish s k.index found ∷ []) (look ∷ []);
         enrolled = enrolled;
-        quiet = quiet-one c look (ap still asks);
-        settled = λ in_set serial. looked-open c s.0 k.index serial look asks open';
+        quiet = quiet-one c.number look (ap still asks);
+        settled = λ in_set serial. looked-open c s.0 k.index serial look asks
+            (not-false (is_open_channel (channel_in (answer_of look)) c.serial) open');
       },
     )))
     (λ own _ here. here)
 
-published-leads : (s : SelNo) (c : ChanNo) (k : KeyId) (own : List Act) (published : Act)
-    → question_of published ≡ Question.publish s k.index → Enrolled s c k own
-    → Leads (λ xs _. Registers s c xs) (own ++ published ∷ [])
+published-leads : (s : SelNo) (c : ChanId) (k : KeyId) (own : List Act) (published : Act)
+    → question_of published ≡ Question.publish s k.index → Enrolled s c.number k own
+    → Leads (λ xs _. Registers s c.number xs) (own ++ published ∷ [])
     (if (stage_in (answer_of published)).removed then reply (Err ChannelError.ClosedSelector) else settle_key s c k)
 published-leads s c k own (Publish s' i found) asks enrolled =
     let first : s' ≡ s = cc asks in
     let second : i ≡ k.index = cc asks in
     let now : own ++ Publish s' i found ∷ [] ≡ own ++ Publish s k.index found ∷ [] =
     ap (λ (t : SelNo). own ++ Publish t i found ∷ []) first ∙ ap (λ (j : ℕ). own ++ Publish s j found ∷ []) second in
-    subst (λ xs. Leads (λ ys _. Registers s c ys) xs
+    subst (λ xs. Leads (λ ys _. Registers s c.number ys) xs
     (if found.removed then reply (Err ChannelError.ClosedSelector) else settle_key s c k)) (sym now)
-    (leads_if (λ ys _. Registers s c ys) (own ++ Publish s k.index found ∷ []) found.removed
+    (leads_if (λ ys _. Registers s c.number ys) (own ++ Publish s k.index found ∷ []) found.removed
     (reply (Err ChannelError.ClosedSelector)) (settle_key s c k)
     (λ removed. inr (
       k,
@@ -573,28 +630,28 @@ published-leads s c k own (Publish s' i found) asks enrolled =
         later = [];
         parts = refl;
         enrolled = enrolled;
-        quiet = quiet-none c;
+        quiet = quiet-none c.number;
         settled = λ in_set serial. let clash : true ≡ false = sym removed ∙ in_set in absurd (cc clash);
       },
     ))
     (λ _. settle-leads s c k own found enrolled))
 published-leads s c k own _ asks enrolled = absurd (cc asks)
 
-publish-leads : (s : SelNo) (c : ChanNo) (ops att : ℕ) (k : KeyId) (own : List Act) → Prepared s c k own
-    → Leads (λ own' _. Registers s c own') own (publish_key s c ops att k)
+publish-leads : (s : SelNo) (c : ChanId) (ops att : ℕ) (k : KeyId) (own : List Act) → Prepared s c.number k own
+    → Leads (λ own' _. Registers s c.number own') own (publish_key s c ops att k)
 publish-leads s c ops att k own prepared = λ swapped its_ops attached its_note enrolling its_key published asks.
     let own1 = own ++ swapped ∷ [] in
     let own2 = own1 ++ attached ∷ [] in
     published-leads s c k (own2 ++ enrolling ∷ []) published asks
-    (enrolled-now s c k own2 enrolling its_key
-    (prepared-still s c k own1 attached (ap still its_note) (ap leaves_claims its_note)
-    (prepared-still s c k own swapped (ap still its_ops) (ap leaves_claims its_ops) prepared)))
+    (enrolled-now s c.number k own2 enrolling its_key
+    (prepared-still s c.number k own1 attached (ap still its_note) (ap leaves_claims its_note)
+    (prepared-still s c.number k own swapped (ap still its_ops) (ap leaves_claims its_ops) prepared)))
 
-make-leads : (s : SelNo) (c : ChanNo) (ops att : ℕ) (k : KeyId) (own : List Act) → Below s c k own
-    → Leads (λ own' _. Registers s c own') own (make_key s c ops att k)
+make-leads : (s : SelNo) (c : ChanId) (ops att : ℕ) (k : KeyId) (own : List Act) → Below s c.number k own
+    → Leads (λ own' _. Registers s c.number own') own (make_key s c ops att k)
 make-leads s c ops att k own below = λ looked asks.
-    let claimed = claimed-more s c k own looked (ap still asks) (ap leaves_claims asks) below.claimed in
-    leads_if (λ own' _. Registers s c own') (own ++ looked ∷ []) (gate_in (answer_of looked)).shut
+    let claimed = claimed-more s c.number k own looked (ap still asks) (ap leaves_claims asks) below.claimed in
+    leads_if (λ own' _. Registers s c.number own') (own ++ looked ∷ []) (gate_in (answer_of looked)).shut
     (reply (Err ChannelError.ClosedSelector)) (publish_key s c ops att k)
     (λ shut. inl claimed.holding.quiet.calm)
     (λ unshut. publish-leads s c ops att k (own ++ looked ∷ []) (record {
@@ -603,12 +660,12 @@ make-leads s c ops att k own below = λ looked asks.
           (gate-open s looked asks unshut) below.below;
     }))
 
-make_claimed-leads : (s : SelNo) (c : ChanNo) (ops att : ℕ) (k : KeyId) (own : List Act) → Below s c k own
-    → Leads (λ own' _. Registers s c own') own (make_claimed s c ops att k)
+make_claimed-leads : (s : SelNo) (c : ChanId) (ops att : ℕ) (k : KeyId) (own : List Act) → Below s c.number k own
+    → Leads (λ own' _. Registers s c.number own') own (make_claimed s c ops att k)
 make_claimed-leads s c ops att k own below =
-    leads_bind (λ own' _. Registers s c own') (λ own' _. Registers s c own') own (make_key s c ops att k)
+    leads_bind (λ own' _. Registers s c.number own') (λ own' _. Registers s c.number own') own (make_key s c ops att k)
     (λ answer. (unpin s k.index >> reply answer)) (make-leads s c ops att k own below)
-    (λ own' answer here unpinned asks. registers-more s c own' unpinned (ap still asks) here)
+    (λ own' answer here unpinned asks. registers-more s c.number own' unpinned (ap still asks) here)
 
 -- ---- an index is claimed, or none
 
@@ -621,27 +678,27 @@ raised s i (RaiseKeys s' n found) asks =
     ∙ (ap (λ b. b && nat_lt i n) (eq-eqb s.0 s.0 refl) ∙ lt-ltb i n (omega (arith, second)))
 raised s i _ asks = absurd (cc asks)
 
-first-leads : (s : SelNo) (c : ChanNo) (ops att : ℕ) (found : Option KeyId) (own : List Act)
-    → Here (Holding c) (λ own' k. Claimed s c k own') own found
-    → Leads (λ own' _. Registers s c own') own (register_first s c ops att found)
+first-leads : (s : SelNo) (c : ChanId) (ops att : ℕ) (found : Option KeyId) (own : List Act)
+    → Here (Holding c.number) (λ own' k. Claimed s c.number k own') own found
+    → Leads (λ own' _. Registers s c.number own') own (register_first s c ops att found)
 first-leads s c ops att None own holding = inl holding.quiet.calm
 first-leads s c ops att (Some k) own claimed = λ raise asks.
     make_claimed-leads s c ops att k (own ++ raise ∷ []) (record {
-      claimed = claimed-more s c k own raise (ap still asks) (ap leaves_claims asks) claimed;
+      claimed = claimed-more s c.number k own raise (ap still asks) (ap leaves_claims asks) claimed;
       below = has-second (leaves_below s.0 k.index) own (raise ∷ [])
           (ap (λ b. b || false) (raised s k.index raise asks));
     })
 
-next-leads : (l : Limits) (s : SelNo) (c : ChanNo) (ops att mark : ℕ) (found : Option KeyId) (own : List Act)
-    → Here (Marked s c mark) (λ own' k. Below s c k own') own found
-    → Leads (λ own' _. Registers s c own') own (register_next l s c ops att mark found)
+next-leads : (l : Limits) (s : SelNo) (c : ChanId) (ops att mark : ℕ) (found : Option KeyId) (own : List Act)
+    → Here (Marked s c.number mark) (λ own' k. Below s c.number k own') own found
+    → Leads (λ own' _. Registers s c.number own') own (register_next l s c ops att mark found)
 next-leads l s c ops att mark None own marked =
-    leads_bind (Here (Holding c) (λ own' k. Claimed s c k own')) (λ own' _. Registers s c own') own
-    (seek_to l.keys mark (claim_new s c)) (register_first s c ops att)
-    (new-leads s c l.keys mark own marked.holding) (λ own' found here. first-leads s c ops att found own' here)
+    leads_bind (Here (Holding c.number) (λ own' k. Claimed s c.number k own')) (λ own' _. Registers s c.number own') own
+    (seek_to l.keys mark (claim_new s c.number)) (register_first s c ops att)
+    (new-leads s c.number l.keys mark own marked.holding) (λ own' found here. first-leads s c ops att found own' here)
 next-leads l s c ops att mark (Some k) own there = λ cleared asks.
     make_claimed-leads s c ops att k (own ++ cleared ∷ []) (record {
-      claimed = claimed-more s c k own cleared (ap still asks) (ap leaves_claims asks) there.claimed;
+      claimed = claimed-more s c.number k own cleared (ap still asks) (ap leaves_claims asks) there.claimed;
       below = has-first (leaves_below s.0 k.index) own (cleared ∷ []) there.below;
     })
 
@@ -656,56 +713,36 @@ marked-now s c own (LookKeys s' found) asks before = record {
 }
 marked-now s c own _ asks before = absurd (cc asks)
 
-rest-leads : (l : Limits) (s : SelNo) (c : ChanNo) (ops att : ℕ) (over : Option (Result KeyNo ChannelError))
-    (own : List Act) → Holding c own
-    → Leads (λ own' _. Registers s c own') own (register_rest l s c ops att over)
+rest-leads : (l : Limits) (s : SelNo) (c : ChanId) (ops att : ℕ) (over : Option (Result KeyNo ChannelError))
+    (own : List Act) → Holding c.number own
+    → Leads (λ own' _. Registers s c.number own') own (register_rest l s c ops att over)
 rest-leads l s c ops att (Some answer) own holding = inl holding.quiet.calm
 rest-leads l s c ops att None own holding = λ look asks.
     let mark = number_in (answer_of look) in
-    leads_bind (Here (Marked s c mark) (λ own' k. Below s c k own')) (λ own' _. Registers s c own') (own ++ look ∷ [])
-    (search_free s c mark) (register_next l s c ops att mark)
-    (search-leads s c mark (own ++ look ∷ []) (marked-now s c own look asks holding))
+    leads_bind (Here (Marked s c.number mark) (λ own' k. Below s c.number k own'))
+    (λ own' _. Registers s c.number own') (own ++ look ∷ []) (search_free s c.number mark)
+    (register_next l s c ops att mark)
+    (search-leads s c.number mark (own ++ look ∷ []) (marked-now s c.number own look asks holding))
     (λ own' found here. next-leads l s c ops att mark found own' here)
 
-held-leads : (l : Limits) (s : SelNo) (c : ChanNo) (ops att : ℕ) (own : List Act) → Holding c own
-    → Leads (λ own' _. Registers s c own') own (register_held l s c ops att)
+held-leads : (l : Limits) (s : SelNo) (c : ChanId) (ops att : ℕ) (own : List Act) → Holding c.number own
+    → Leads (λ own' _. Registers s c.number own') own (register_held l s c ops att)
 held-leads l s c ops att own holding = λ look asks.
-    let looked = holding-more c own look (ap still asks) holding in
-    leads_if (λ own' _. Registers s c own') (own ++ look ∷ []) (channel_in (answer_of look)).closed
-    (reply (Err ChannelError.ClosedChannel)) _ (λ _. inl looked.quiet.calm)
-    (λ _. leads_if (λ own' _. Registers s c own') (own ++ look ∷ []) (channel_in (answer_of look)).blocking
+    let looked = holding-more c.number own look (ap still asks) holding in
+    leads_if (λ own' _. Registers s c.number own') (own ++ look ∷ [])
+    (not (is_open_channel (channel_in (answer_of look)) c.serial)) (reply (Err ChannelError.ClosedChannel)) _
+    (λ _. inl looked.quiet.calm)
+    (λ _. leads_if (λ own' _. Registers s c.number own') (own ++ look ∷ []) (channel_in (answer_of look)).blocking
     (reply (Err ChannelError.IllegalBlockingMode)) (register_unblocked l s c ops att) (λ _. inl looked.quiet.calm)
     (λ _ enrolled asks'.
-    leads_bind (λ own' _. Holding c own') (λ own' _. Registers s c own') ((own ++ look ∷ []) ++ enrolled ∷ [])
-    (register_over s ops att (enrolled_in (answer_of enrolled))) (register_rest l s c ops att)
+    leads_bind (λ own' _. Holding c.number own') (λ own' _. Registers s c.number own')
+    ((own ++ look ∷ []) ++ enrolled ∷ []) (register_over s ops att (enrolled_in (answer_of enrolled)))
+    (register_rest l s c ops att)
     ((over-stays s ops att (enrolled_in (answer_of enrolled))).leads ((own ++ look ∷ []) ++ enrolled ∷ [])
-    (holding-more c (own ++ look ∷ []) enrolled (ap still asks') looked))
+    (holding-more c.number (own ++ look ∷ []) enrolled (ap still asks') looked))
     (λ own' over here. rest-leads l s c ops att over own' here)))
 
 -- ---- the whole registration
-
--- there is one such act
-one_loud : (before later xs ys : List Act) (p e : Act) → has is_loud before ≡ false → has is_loud later ≡ false
-    → is_loud e ≡ true → before ++ p ∷ later ≡ xs ++ e ∷ ys
-    → (before ≡ xs) × (p ≡ e) × (later ≡ ys)
-one_loud before later xs ys p e none none' loud same = by_part (split_at before (p ∷ later) xs e ys same)
-  where
-    by_place : (start : List Act) → xs ≡ before ++ start
-        → ((p ≡ e) × (later ≡ ys)) ⊎ ((further : List Act) × (start ≡ p ∷ further) × (later ≡ further ++ e ∷ ys))
-        → start ++ e ∷ ys ≡ p ∷ later
-        → (before ≡ xs) × (p ≡ e) × (later ≡ ys)
-    by_place [] is (inl here) parts = (sym (append-nil before) ∙ sym is, here.0, here.1)
-    by_place (x ∷ start) is (inl here) parts =
-        let rest : start ++ e ∷ ys ≡ later = cc parts in
-        absurd (no_such_act is_loud start e ys (ap (has is_loud) rest ∙ none') loud)
-    by_place start is (inr there) parts =
-        absurd (no_such_act is_loud there.0 e ys (ap (has is_loud) (sym there.2) ∙ none') loud)
-
-    by_part : InFirst before (p ∷ later) xs e ys ⊎ InSecond before (p ∷ later) xs e ys
-        → (before ≡ xs) × (p ≡ e) × (later ≡ ys)
-    by_part (inl there) = absurd (no_such_act is_loud xs e there.rest (ap (has is_loud) (sym there.parts) ∙ none) loud)
-    by_part (inr there) =
-        by_place there.start there.before_is (first_or_later p later there.start e ys there.parts) (sym there.parts)
 
 releases-it : (c : ChanNo) (act : Act) → question_of act ≡ Question.release c → releases c.0 act ≡ true
 releases-it c (Release c') asks = let same : c' ≡ c =
@@ -719,6 +756,7 @@ publish-kept s c k own there given_back = record {
   claimed = enrolled.claim;
   held = enrolled.held;
   given_back = given_back;
+  claimed_under = enrolled.claimed_under;
   enrolled = enrolled.enrolled;
   enrolled_alone =
       all_one (count-append (enrols_for c.0) (under c.0 there.before) (until_released c.0 there.later)) enrolled.alone
@@ -744,13 +782,13 @@ registers-kept l s c own act asks (inl calm) =
     kept-calm l (own ++ act ∷ []) (none_of-append is_loud own (act ∷ []) calm (quiet-one c act (ap still asks)).calm)
 registers-kept l s c own act asks (inr registered) = record {
   publishes = λ xs s' i found ys parts. its_publish xs s' i found ys
-      (one_loud there.before there.later xs ys (Publish s k.index there.found)
+      (one_such is_loud there.before there.later xs ys (Publish s k.index there.found)
       (Publish s' i found) there.enrolled.calm there.quiet.calm refl (sym there.parts ∙ parts));
-  closes = λ xs c' ys parts t k' below. absurd
-      (cc (one_loud there.before there.later xs ys (Publish s k.index there.found)
-      (CloseBit c' false) there.enrolled.calm there.quiet.calm refl (sym there.parts ∙ parts)).1);
+  closes = λ xs c' from found ys parts takes t k' below. absurd
+      (cc (one_such is_loud there.before there.later xs ys (Publish s k.index there.found)
+      (CloseBit c' from found) there.enrolled.calm there.quiet.calm takes (sym there.parts ∙ parts)).1);
   enters = λ xs s' ys parts. absurd
-      (cc (one_loud there.before there.later xs ys (Publish s k.index there.found)
+      (cc (one_such is_loud there.before there.later xs ys (Publish s k.index there.found)
       (Enter s' None) there.enrolled.calm there.quiet.calm refl (sym there.parts ∙ parts)).1);
 }
   where
@@ -787,7 +825,7 @@ takes-it c _ asks free = absurd (cc asks)
 under_hold-leads : (l : Limits) (s : SelNo) (c : ChanNo) (own : List Act) (steps : Plan (Result KeyNo ChannelError))
     → Quiet c own
     → ((own' : List Act) → Holding c own' → Leads (λ xs _. Registers s c xs) own' steps)
-    → Leads (λ xs _. Kept l xs) own (under_hold c steps)
+    → Leads (λ xs _. Kept l xs) own (under_hold ChannelError.Busy c steps)
 under_hold-leads l s c own steps quiet leads = λ held asks.
     let more = quiet-more c own held (ap still asks) quiet in
     leads_if (λ xs _. Kept l xs) (own ++ held ∷ []) (is_some (holder_in (answer_of held)))
@@ -802,20 +840,21 @@ under_hold-leads l s c own steps quiet leads = λ held asks.
     }))
     (λ xs answer here released asks'. registers-kept l s c xs released asks' here))
 
-register-leads : (l : Limits) (s : SelNo) (c : ChanNo) (ops att : ℕ)
+register-leads : (l : Limits) (s : SelNo) (c : ChanId) (ops att : ℕ)
     → Leads (λ own _. Kept l own) [] (try_register_plan l s c ops att)
 unfolding try_register_plan
 register-leads l s c ops att = λ look asks.
-    let quiet = quiet-one c look (ap still asks) in
+    let quiet = quiet-one c.number look (ap still asks) in
     let found = channel_in (answer_of look) in
     leads_if (λ own _. Kept l own) (look ∷ []) (not (is_within ops (valid_operations found.kind)))
     (reply (Err ChannelError.IllegalOps)) _ (λ _. kept-calm l (look ∷ []) quiet.calm)
-    (λ _. leads_if (λ own _. Kept l own) (look ∷ []) found.closed (reply (Err ChannelError.ClosedChannel))
-    (under_hold c (register_held l s c ops att)) (λ _. kept-calm l (look ∷ []) quiet.calm)
-    (λ _. under_hold-leads l s c (look ∷ []) (register_held l s c ops att) quiet
+    (λ _. leads_if (λ own _. Kept l own) (look ∷ []) (not (is_open_channel found c.serial))
+    (reply (Err ChannelError.ClosedChannel)) (under_hold ChannelError.Busy c.number (register_held l s c ops att))
+    (λ _. kept-calm l (look ∷ []) quiet.calm)
+    (λ _. under_hold-leads l s c.number (look ∷ []) (register_held l s c ops att) quiet
     (λ own holding. held-leads l s c ops att own holding)))
 
-pub register-kept : (l : Limits) (s : SelNo) (c : ChanNo) (ops att : ℕ) (acts : List Act)
+pub register-kept : (l : Limits) (s : SelNo) (c : ChanId) (ops att : ℕ) (acts : List Act)
     (answer : Result KeyNo ChannelError) → Completes (try_register_plan l s c ops att) acts answer → Kept l acts
 register-kept l s c ops att acts answer run =
     leads_run (λ own _. Kept l own) [] (try_register_plan l s c ops att) acts answer (register-leads l s c ops att) run

@@ -6,7 +6,7 @@ use Rattle.std.specs.List.{All, Contains}
 use Rattle.std.specs.Prelude.{is_some}
 use Rattle.std.proofs.lemmas.Bool.{and_parts, and_from, le-ltb, ltb-true, ltb-false}
 use Rattle.std.proofs.lemmas.List.{append-nil}
-use Rattle.std.proofs.lemmas.List.Elements.{All-contains, All-head, All-tail, All-weaker}
+use Rattle.std.proofs.lemmas.List.Elements.{All-head, All-tail, All-weaker}
 use Rattle.nio_base.specs.declared.limits.Limits.{Limits}
 use Rattle.nio_base.specs.declared.numbers.CallerNo.{CallerNo}
 use Rattle.nio_base.specs.declared.numbers.SelNo.{SelNo}
@@ -38,7 +38,7 @@ use Rattle.nio_steps.proofs.BeginLaws.{Begun, begin-parts}
 use Rattle.nio_steps.proofs.ClosedLaws.{closed_removes_keys}
 use Rattle.nio_steps.proofs.GoneLaws.{cancelled_keys_go}
 use Rattle.nio_steps.proofs.Lists.{contains-middle}
-use Rattle.nio_steps.proofs.OrderLaws.{lists_in_order}
+use Rattle.nio_steps.proofs.OrderLaws.{looks_in_order}
 use Rattle.nio_steps.proofs.OwnActs.{At, at_own, cut_at, mine-own_first}
 use Rattle.nio_steps.proofs.SelectionLaws.{none_of-append}
 use Rattle.nio_steps.proofs.Walks.{Always, always_if, always_bind, always_any, always_run}
@@ -55,7 +55,7 @@ use Rattle.nio_steps.specs.declared.refusal.BeginError.{BeginError}
 
 -- ---- a published key is removed or in the key set, and is below the high-water mark then
 
-removed_or_there : (k : Stage) (serial : ℕ) → was_published k serial ≡ true
+pub removed_or_there : (k : Stage) (serial : ℕ) → was_published k serial ≡ true
     → (was_removed k serial ≡ true) ⊎ (is_in_key_set k serial ≡ true)
 removed_or_there k serial was = by_stage (nat_lt serial k.serial) (fits k serial) k.published k.removed was
   where
@@ -83,14 +83,14 @@ module _ (l : Limits) (n : CallerNo) (before later : List Event) (call : Made)
   careful_before = beginnings_are_careful before (before ++ later) (later, refl)
       (orderly_is_careful l (before ++ later) made.orderly)
 
-  there_below : (s i serial : ℕ) → is_in_key_set ((state_after before).key s i) serial ≡ true
+  pub there_below : (s i serial : ℕ) → is_in_key_set ((state_after before).key s i) serial ≡ true
       → nat_lt i ((state_after before).keys_high s) ≡ true
   there_below s i serial there =
       (keys_stand l made.fit before legal_before careful_before).below s i
       (and_parts (fits ((state_after before).key s i) serial) (in_key_set ((state_after before).key s i)) there).1
 
 -- the mark that a caller finds later is above what was below it before
-found_above : (l : Limits) (n : CallerNo) (before past rest : List Event) (s : SelNo) (mark i : ℕ)
+pub found_above : (l : Limits) (n : CallerNo) (before past rest : List Event) (s : SelNo) (mark i : ℕ)
     → IsLegal l ((before ++ past) ++ event_of n (LookKeys s mark) ∷ rest)
     → nat_lt i ((state_after before).keys_high s.0) ≡ true → i < mark
 found_above l n before past rest s mark i legal below =
@@ -169,7 +169,7 @@ amid l n before later whole call xs acts ys made own run = record {
         ∙ (append_assoc before first.past first.later ∙ ap (λ events. before ++ events) (sym first.parts)))
 
 -- the look at the high-water mark
-high_look : (s : SelNo) (act : Act) → question_of act ≡ Question.look_keys s
+pub high_look : (s : SelNo) (act : Act) → question_of act ≡ Question.look_keys s
     → act ≡ LookKeys s (number_in (answer_of act))
 high_look s (LookKeys t found) asks = cc asks
 high_look s _ asks = absurd (cc asks)
@@ -196,7 +196,7 @@ bound_above l n before later s mode selection i legal run below =
     at = at_own n later (LookKeys s mark)
         (subst (Contains (mine n later)) (high_look s begun.keys begun.asks_keys)
         (subst (λ acts. Contains acts begun.keys) (sym begun.parts)
-        (contains-middle (begun.gate ∷ begun.take ∷ begun.look ∷ []) begun.keys (begun.lists ++ begun.over))))
+        (contains-middle (begun.gate ∷ begun.take ∷ begun.look ∷ []) begun.keys begun.over)))
 
 pub begin_removes_cancelled : BeginRemovesCancelled
 begin_removes_cancelled l n before later s mode selection i serial made published cancelled = (
@@ -224,13 +224,11 @@ begin_removes_cancelled l n before later s mode selection i serial made publishe
         → All (λ entry. ¬ ((entry.index ≡ i) × (entry.serial ≡ serial))) selection.looked
     by_bound true below = (go (ltb-true i selection.bound below)).1
     by_bound false above =
-        let order = lists_in_order s mode (mine n later) selection made.runs in
-        All-weaker (λ entry. Contains selection.kept entry.index)
+        let order = looks_in_order s mode (mine n later) selection made.runs in
+        All-weaker (λ entry. entry.index < selection.bound)
         (λ entry. (entry.index ≡ i) × (entry.serial ≡ serial) → ⊥)
-        (λ entry kept same.
-        let low = All-contains (λ k. k < selection.bound) selection.kept entry.index order.below kept in
-        absurd (omega (arith, low, same.0, ltb-false i selection.bound above)))
-        selection.looked order.kept
+        (λ entry low same. absurd (omega (arith, low, same.0, ltb-false i selection.bound above)))
+        selection.looked order.below
 
 pub select_removes_cancelled : SelectRemovesCancelled
 select_removes_cancelled l n before later s mode polls answer i serial made begun published cancelled =

@@ -1,129 +1,112 @@
--- The keys that were cancelled while a selection was in progress are removed when it ends.
-use Rattle.std.proofs.Common.{◌≡◌, ℕ, ◌==◌, nat_lt, true, false, not, ◌&&◌, ◌⊎◌, inl, inr, List, [], ◌∷◌}
-use Rattle.std.proofs.Common.{◌++◌, refl, ap, sym, ◌∙◌, subst, append_assoc, eq-eqb}
+-- The keys that were cancelled before the end of a selection are removed when it ends.
+use Rattle.std.proofs.Common.{◌≡◌, ℕ, ◌==◌, ◌<◌, nat_lt, true, not, ◌&&◌, ◌⊎◌, inl, inr, List, [], ◌∷◌, ◌++◌, refl, ap}
+use Rattle.std.proofs.Common.{sym, ◌∙◌, subst, append_assoc, eq-eqb}
 use Rattle.std.specs.List.{Contains}
-use Rattle.std.specs.Prelude.{⊤}
-use Rattle.std.proofs.lemmas.Bool.{and_parts, and_from, or_right}
-use Rattle.std.proofs.lemmas.List.{append-nil}
+use Rattle.std.proofs.lemmas.Bool.{and_parts, and_from, or_right, lt-ltb}
 use Rattle.std.proofs.lemmas.List.Elements.{All-contains, Contains-append_left, Contains-append_right}
-use Rattle.std.proofs.lemmas.List.Elements.{Contains-push_cases}
+use Rattle.nio_base.specs.declared.limits.Limits.{Limits}
+use Rattle.nio_base.specs.declared.numbers.CallerNo.{CallerNo}
 use Rattle.nio_base.specs.declared.numbers.SelNo.{SelNo}
 use Rattle.nio_history.proofs.Legal.{legal_beginning, legal_next}
 use Rattle.nio_history.proofs.Soundness.{legal-sound}
 use Rattle.nio_history.proofs.Stays.{facts_are_permanent}
 use Rattle.nio_history.specs.Histories.{state_after, mine, event_of, IsLegal}
-use Rattle.nio_history.specs.Permanent.{key_published, key_cancelled, key_removed}
+use Rattle.nio_history.specs.Permanent.{PermanentFact, stands, key_published, key_cancelled, key_removed}
+use Rattle.nio_history.specs.Permanent.{below_keys_high}
 use Rattle.nio_history.specs.Questions.{answer_of}
-use Rattle.nio_history.specs.Sets.{in_key_set, in_cancelled_set, fits, was_published, was_removed}
+use Rattle.nio_history.specs.Sets.{in_key_set, is_in_key_set, fits, was_published, was_cancelled, was_removed}
 use Rattle.nio_history.specs.declared.act.Act.{Act}
-use Rattle.nio_history.specs.declared.act.Act.TheVariants.{LookKey, Remove}
+use Rattle.nio_history.specs.declared.act.Act.TheVariants.{LookKey, LookKeys}
+use Rattle.nio_history.specs.declared.event.Event.{Event}
 use Rattle.nio_history.specs.declared.found.Stage.{Stage}
 use Rattle.nio_orderly.proofs.KeysStand.{set_claimed}
-use Rattle.nio_orderly.specs.Removals.{ToldRemovesCancelled}
-use Rattle.nio_steps.proofs.GoneLaws.{also_removed, outside_removed, step_in, removal_stands}
-use Rattle.nio_steps.proofs.Lists.{contains-middle, contains-none}
-use Rattle.nio_steps.proofs.LookedLaws.{key-look, removal, looks_at_valid_keys}
-use Rattle.nio_steps.proofs.OrderLaws.{lists_in_order}
-use Rattle.nio_steps.proofs.OwnActs.{At, at_own}
-use Rattle.nio_steps.proofs.Walks.{Always, always_if, always_bind, always_any, always_over, always_run}
+use Rattle.nio_orderly.proofs.Removals.{removed_or_there, there_below, found_above, high_look}
+use Rattle.nio_orderly.specs.Made.{Made, table_call}
+use Rattle.nio_orderly.specs.Removals.{ToldRemovesCancelled, ToldRemovesLooked}
+use Rattle.nio_steps.proofs.BeginLaws.{Begun, begin-parts}
+use Rattle.nio_steps.proofs.GoneLaws.{cancelled_keys_go_at_end}
+use Rattle.nio_steps.proofs.Lists.{contains-middle}
+use Rattle.nio_steps.proofs.LookedLaws.{looks_at_valid_keys}
+use Rattle.nio_steps.proofs.OrderLaws.{looks_in_order}
+use Rattle.nio_steps.proofs.OwnActs.{At, at_own, Cut, cut_at}
+use Rattle.nio_steps.proofs.ToldParts.{Ended, ended-parts}
 use Rattle.nio_steps.specs.Laws.{IsLookedAt}
-use Rattle.nio_steps.specs.Plan.{reply, ◌>>◌}
-use Rattle.nio_steps.specs.SelectCalls.{Selection, Poll, ToldReply, done, again, mark_entry, after_marks, told_plan}
-use Rattle.nio_steps.specs.SelectCalls.{remove_cancelled, remove_if_cancelled, end_selection}
-use Rattle.nio_steps.specs.Steps.{stage_in}
-use Rattle.nio_steps.specs.Sweeps.{sweep_over}
+use Rattle.nio_steps.specs.SelectCalls.{Selection, Poll, Tells, done}
+use Rattle.nio_steps.specs.Steps.{stage_in, number_in}
+use Rattle.nio_steps.specs.TableCalls.{told}
 use Rattle.nio_steps.specs.declared.looked.LookedKey.{LookedKey}
+use Rattle.nio_steps.specs.declared.selected.Selected.{Selected}
 
--- ---- what the last sweep finds
+-- a cancelled key at an index below the high-water mark is removed at the end of a selection
+removed_at_end : (l : Limits) (n : CallerNo) (before later : List Event) (selection : Selection) (poll : Poll)
+    (answer : Selected) (i serial : ℕ)
+    → IsLegal l (before ++ later) → Tells selection poll (mine n later) (done answer)
+    → was_published ((state_after before).key selection.selector.0 i) serial ≡ true
+    → was_cancelled ((state_after before).key selection.selector.0 i) serial ≡ true
+    → nat_lt i ((state_after before).keys_high selection.selector.0) ≡ true
+    → was_removed ((state_after (before ++ later)).key selection.selector.0 i) serial ≡ true
+removed_at_end l n before later selection poll answer i serial legal run published cancelled below =
+    subst (λ evs. was_removed ((state_after (before ++ evs)).key s.0 i) serial ≡ true) (sym cut.parts)
+    (cancelled_keys_go_at_end l n before cut.past cut.later selection poll answer mark i serial legal_cut
+    (subst (λ evs. Tells selection poll (mine n evs) (done answer)) cut.parts run)
+    (stays (key_published s.0 i serial) published) (stays (key_cancelled s.0 i serial) cancelled)
+    (found_above l n before cut.past cut.later s mark i legal_joined below))
+  where
+    s : SelNo
+    s = selection.selector
 
--- the index was found with its key not in the cancelled set, or its key was removed
-data Swept (s : SelNo) (i : ℕ) (acts : List Act) : Type 0 where
-  stands_outside : (stage : Stage) → Contains acts (LookKey s i stage) → in_cancelled_set stage ≡ false
-      → Swept s i acts
-  is_gone : (found : Stage) → Contains acts (Remove s i found) → Swept s i acts
+    ended : Ended selection poll (mine n later)
+    ended = ended-parts selection poll (mine n later) answer run
 
-swept_amid : (s : SelNo) (i : ℕ) (earlier acts later : List Act) → Swept s i acts
-    → Swept s i (earlier ++ (acts ++ later))
-swept_amid s i earlier acts later (stands_outside stage look outside) =
-    stands_outside stage
-    (Contains-append_right earlier (acts ++ later) (LookKey s i stage)
-    (Contains-append_left acts later (LookKey s i stage) look)) outside
-swept_amid s i earlier acts later (is_gone found there) =
-    is_gone found
-    (Contains-append_right earlier (acts ++ later) (Remove s i found)
-    (Contains-append_left acts later (Remove s i found) there))
+    mark : ℕ
+    mark = number_in (answer_of ended.keys)
 
-module _ (s : SelNo) where
-  abbrev AreSwept : List ℕ → List Act → Type 0
-  AreSwept past acts = (i : ℕ) → Contains past i → Swept s i acts
+    rest : List Act
+    rest = ended.sweeps ++ ended.wake ∷ ended.gives ∷ []
 
-  -- one index more
-  one_more : (e : ℕ) (past : List ℕ) (acts : List Act) (xs : List Act) → AreSwept past acts → Swept s e xs
-      → AreSwept (past ++ e ∷ []) (acts ++ xs)
-  one_more e past acts xs swept it i there = by_place (Contains-push_cases past e i there)
-    where
-      by_place : Contains past i ⊎ (e ≡ i) → Swept s i (acts ++ xs)
-      by_place (inl earlier) = swept_amid s i [] acts xs (swept i earlier)
-      by_place (inr same) =
-          subst (λ (k : ℕ). Swept s k (acts ++ xs)) same
-          (subst (λ ys. Swept s e (acts ++ ys)) (append-nil xs) (swept_amid s e acts xs [] it))
+    cut : Cut n later (ended.marks ++ ended.gate ∷ ended.status ∷ []) (LookKeys s mark) rest
+    cut = cut_at n later (ended.marks ++ ended.gate ∷ ended.status ∷ []) (LookKeys s mark) rest
+        (ended.parts ∙ ap (λ act. (ended.marks ++ ended.gate ∷ ended.status ∷ []) ++ act ∷ rest)
+        (high_look s ended.keys ended.asks_keys))
 
-  key_swept : (e : ℕ) (past : List ℕ) (acts : List Act) → AreSwept past acts
-      → Always (λ xs _. AreSwept (past ++ e ∷ []) (acts ++ xs)) (remove_if_cancelled s e)
-  key_swept e past acts swept look asks =
-      let stage = stage_in (answer_of look) in
-      let Goal = λ (xs : List Act) (_ : Unit {0}). AreSwept (past ++ e ∷ []) (acts ++ look ∷ xs) in
-      always_if Goal (in_cancelled_set stage) (remove_cancelled s e stage >> reply tt) (reply tt)
-      (λ _ act asks'. always_bind (λ _ _. ⊤) (λ xs r. Goal (act ∷ xs) r) _ (λ _. reply tt) (always_any _)
-      (λ xs _ _. one_more e past acts (look ∷ act ∷ (xs ++ [])) swept
-      (is_gone (stage_in (answer_of act))
-      (subst (Contains (look ∷ act ∷ (xs ++ []))) (removal s e act asks')
-      (contains-middle (look ∷ []) act (xs ++ []))))))
-      (λ outside. one_more e past acts (look ∷ []) swept
-      (stands_outside stage
-      (subst (Contains (look ∷ [])) (key-look s e look asks) (contains-middle [] look [])) outside))
+    legal_cut : IsLegal l (before ++ (cut.past ++ event_of n (LookKeys s mark) ∷ cut.later))
+    legal_cut = subst (λ evs. IsLegal l (before ++ evs)) cut.parts legal
 
-  all_swept : (kept : List ℕ)
-      → Always (λ acts _. AreSwept kept acts) (sweep_over kept (λ i _. remove_if_cancelled s i) tt)
-  all_swept kept =
-      always_over (λ past acts _. AreSwept past acts) kept (λ i _. remove_if_cancelled s i) tt
-      (λ i there. absurd (contains-none i there))
-      (λ past e later acts _ _ swept. key_swept e past acts swept)
+    legal_joined : IsLegal l ((before ++ cut.past) ++ event_of n (LookKeys s mark) ∷ cut.later)
+    legal_joined = subst (IsLegal l) (sym (append_assoc before cut.past (event_of n (LookKeys s mark) ∷ cut.later)))
+        legal_cut
 
--- where the selection ends, each kept index is swept
-module _ (selection : Selection) (poll : Poll) where
-  abbrev s : SelNo
-  s = selection.selector
+    legal_past : IsLegal l (before ++ cut.past)
+    legal_past = legal_beginning l (before ++ cut.past) (event_of n (LookKeys s mark) ∷ cut.later) legal_joined
 
-  abbrev SweptAtEnd : List Act → ToldReply → Type 0
-  SweptAtEnd acts (done answer) = AreSwept s selection.kept acts
-  SweptAtEnd acts (again next) = ⊤
-
-  told_swept : Always SweptAtEnd (told_plan selection poll.pairs poll.elapsed)
-  unfolding told_plan
-  told_swept =
-      always_bind (λ _ _. ⊤) SweptAtEnd (sweep_over selection.looked (mark_entry s poll.pairs) 0)
-      (after_marks selection poll.elapsed)
-      (always_any (sweep_over selection.looked (mark_entry s poll.pairs) 0))
-      (λ marks number _. λ gate asks_gate. λ status asks_status.
-      always_if (λ xs r. SweptAtEnd (marks ++ gate ∷ status ∷ xs) r) _ (reply (again selection))
-      (end_selection selection _)
-      (λ _. tt)
-      (λ _. always_bind (λ xs _. AreSwept s selection.kept xs)
-      (λ xs r. SweptAtEnd (marks ++ gate ∷ status ∷ xs) r)
-      (sweep_over selection.kept (λ i _. remove_if_cancelled s i) tt) _ (all_swept s selection.kept)
-      (λ sweeps _ swept. λ wake asks_wake. λ give asks_give. λ i there.
-      subst (Swept s i) (append_assoc marks (gate ∷ status ∷ []) (sweeps ++ wake ∷ give ∷ []))
-      (swept_amid s i (marks ++ gate ∷ status ∷ []) sweeps (wake ∷ give ∷ []) (swept i there)))))
-
--- ---- the law
+    stays : (f : PermanentFact) → stands f (state_after before) ≡ true
+        → stands f (state_after (before ++ cut.past)) ≡ true
+    stays f = facts_are_permanent l before (before ++ cut.past) (cut.past, refl) legal_past f
 
 pub told_removes_cancelled : ToldRemovesCancelled
-told_removes_cancelled l n before later selection poll answer entry legal begun run looked cancelled =
-    by_sweep (always_run (SweptAtEnd selection poll) (told_plan selection poll.pairs poll.elapsed) (mine n later)
-    (done answer) (told_swept selection poll) run i
-    (All-contains (λ (x : LookedKey). Contains selection.kept x.index) selection.looked entry
-    (lists_in_order sel selection.mode begun.beginning selection begun.begins).kept looked))
+told_removes_cancelled l n before later selection poll answer i serial made published cancelled =
+    by_stage (removed_or_there ((state_after before).key s.0 i) serial published)
+  where
+    s : SelNo
+    s = selection.selector
+
+    call : Made
+    call = table_call (told selection poll) (done answer)
+
+    by_stage : (was_removed ((state_after before).key s.0 i) serial ≡ true)
+        ⊎ (is_in_key_set ((state_after before).key s.0 i) serial ≡ true)
+        → was_removed ((state_after (before ++ later)).key s.0 i) serial ≡ true
+    by_stage (inl removed) =
+        facts_are_permanent l before (before ++ later) (later, refl) made.legal (key_removed s.0 i serial) removed
+    by_stage (inr there) =
+        removed_at_end l n before later selection poll answer i serial made.legal made.runs published cancelled
+        (there_below l n before later call made s.0 i serial there)
+
+-- ---- the looked keys
+
+pub told_removes_looked : ToldRemovesLooked
+told_removes_looked l n before later selection poll answer entry legal begun run looked cancelled =
+    removed_at_end l n before later selection poll answer i serial legal run published cancelled below
   where
     sel : SelNo
     sel = selection.selector
@@ -174,19 +157,34 @@ told_removes_cancelled l n before later selection poll answer entry legal begun 
         (eq-eqb k.serial serial (ap (λ (x : Stage). x.serial) (sym found) ∙ its.serial)))
         (and_parts k.published (not k.removed) in_set).0))
 
-    by_sweep : Swept sel i (mine n later) → was_removed ((state_after (before ++ later)).key sel.0 i) serial ≡ true
-    by_sweep (stands_outside stage there outside) =
-        let step = step_in l n before later (LookKey sel i stage) legal there in
-        let x : Stage = (state_after step.past).key sel.0 i in
-        let is : stage ≡ x = ap stage_in step.step.answers in
-        facts_are_permanent l step.past (before ++ later) (event_of n (LookKey sel i stage) ∷ step.rest, sym step.parts)
-        legal (key_removed sel.0 i serial)
-        (outside_removed (nat_lt serial x.serial) (fits x serial) x.published x.cancelled x.removed
-        (facts_are_permanent l before step.past step.begins step.legal_past (key_published sel.0 i serial) published)
-        (facts_are_permanent l before step.past step.begins step.legal_past (key_cancelled sel.0 i serial) cancelled)
-        (ap in_cancelled_set (sym is) ∙ outside))
-    by_sweep (is_gone removed there) =
-        removal_stands l n before later sel i serial removed legal there
-        (λ past begins legal' x is. also_removed (nat_lt serial x.serial) (fits x serial) x.published true
-        (subst (λ (y : Stage). was_published y serial ≡ true) (sym is)
-        (facts_are_permanent l before past begins legal' (key_published sel.0 i serial) published)) refl)
+    -- its index is below the high-water mark that the selection found when it began
+    begins : Begun sel selection.mode begun.beginning selection
+    begins = begin-parts sel selection.mode begun.beginning selection begun.begins
+
+    mark : ℕ
+    mark = number_in (answer_of begins.keys)
+
+    marked : At n before (LookKeys sel mark)
+    marked = at_own n before (LookKeys sel mark)
+        (subst (Contains (mine n before)) (high_look sel begins.keys begins.asks_keys)
+        (subst (λ acts. Contains acts begins.keys) (sym begun.parts)
+        (Contains-append_right begun.earlier (begun.beginning ++ begun.since) begins.keys
+        (Contains-append_left begun.beginning begun.since begins.keys
+        (subst (λ acts. Contains acts begins.keys) (sym begins.parts)
+        (contains-middle (begins.gate ∷ begins.take ∷ begins.look ∷ []) begins.keys begins.over))))))
+
+    legal_marked : IsLegal l (marked.past ++ event_of n (LookKeys sel mark) ∷ marked.later)
+    legal_marked = subst (IsLegal l) marked.parts (legal_beginning l before later legal)
+
+    below_then : nat_lt i ((state_after marked.past).keys_high sel.0) ≡ true
+    below_then =
+        let step = legal_next l marked.past (event_of n (LookKeys sel mark)) marked.later legal_marked in
+        let is : mark ≡ (state_after marked.past).keys_high sel.0 = ap (λ x. number_in x) step.answers in
+        ap (nat_lt i) (sym (begins.bound ∙ is))
+        ∙ lt-ltb i selection.bound
+        (All-contains (λ (x : LookedKey). x.index < selection.bound) selection.looked entry
+        (looks_in_order sel selection.mode begun.beginning selection begun.begins).below looked)
+
+    below : nat_lt i ((state_after before).keys_high sel.0) ≡ true
+    below = facts_are_permanent l marked.past before (event_of n (LookKeys sel mark) ∷ marked.later, sym marked.parts)
+        (legal_beginning l before later legal) (below_keys_high sel.0 i) below_then

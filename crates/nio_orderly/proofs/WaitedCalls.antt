@@ -26,7 +26,7 @@ use Rattle.nio_steps.specs.Plan.{reply, ◌>>◌}
 use Rattle.nio_steps.specs.Runs.{Completes}
 use Rattle.nio_steps.specs.SelectCalls.{Selection, Begins, begin_finds_busy, Poll, Tells, goes_on_after, ToldReply}
 use Rattle.nio_steps.specs.SelectCalls.{done, again, told_plan, mark_entry, after_marks, is_again, why_ended}
-use Rattle.nio_steps.specs.SelectCalls.{remove_if_cancelled, end_selection, SelectReply, selected, not_begun, left}
+use Rattle.nio_steps.specs.SelectCalls.{remove_all_cancelled, end_selection, SelectReply, selected, not_begun, left}
 use Rattle.nio_steps.specs.SelectCalls.{SelectsRest, ShutReply, closing, already_closed, FinishReply, closed, busy}
 use Rattle.nio_steps.specs.SelectCalls.{finish_finds_busy, ClosesRest, shut_plan, try_finish_plan}
 use Rattle.nio_steps.specs.Steps.{flag_in, gate_in, end_wake, give_turn}
@@ -220,9 +220,9 @@ GoesOn selection (again next) = next ≡ selection
 ends-over : (selection : Selection) (answer : Selected)
     → Always (λ _ r. GoesOn selection r) (end_selection selection answer)
 ends-over selection answer =
-    always_bind (λ _ _. Unit {0}) (λ _ r. GoesOn selection r)
-    (sweep_over selection.kept (λ i _. remove_if_cancelled selection.selector i) tt)
-    (λ _. (end_wake selection.selector >> give_turn selection.selector >> reply (done answer))) (always_any _)
+    always_bind (λ _ _. Unit {0}) (λ _ r. GoesOn selection r) (remove_all_cancelled selection.selector)
+    (λ _. (end_wake selection.selector >> give_turn selection.selector >> reply (done answer)))
+    (always_any (remove_all_cancelled selection.selector))
     (λ _ _ _ woken asks given asks'. tt)
 
 pub told-goes_on : (selection : Selection) (pairs : List (ℕ × ℕ)) (elapsed : Bool)

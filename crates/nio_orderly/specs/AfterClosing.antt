@@ -1,10 +1,10 @@
 -- What is left once a closing has done all its steps, whatever other callers do then.
-use Rattle.std.specs.Prelude.{◌≡◌, ℕ, ◌<◌, false, IsTrue, IsFalse, List, ◌∷◌, ◌++◌}
+use Rattle.std.specs.Prelude.{◌≡◌, ℕ, ◌<◌, IsTrue, IsFalse, List, ◌∷◌, ◌++◌}
 use mathlib.Core.List.{IsPrefix}
 use Rattle.nio_base.specs.Limits.{IsFit}
 use Rattle.nio_base.specs.declared.limits.Limits.{Limits}
 use Rattle.nio_base.specs.declared.numbers.CallerNo.{CallerNo}
-use Rattle.nio_base.specs.declared.numbers.ChanNo.{ChanNo}
+use Rattle.nio_base.specs.declared.numbers.ChanId.{ChanId}
 use Rattle.nio_base.specs.declared.numbers.KeyId.{KeyId}
 use Rattle.nio_base.specs.declared.numbers.SelNo.{SelNo}
 use Rattle.nio_history.specs.Conditions.{is_closer}
@@ -12,26 +12,28 @@ use Rattle.nio_history.specs.Histories.{state_after, mine, IsLegal}
 use Rattle.nio_history.specs.OwnEvents.{has, enters, since_entered}
 use Rattle.nio_history.specs.Sets.{is_valid}
 use Rattle.nio_history.specs.declared.act.Act.{Act}
-use Rattle.nio_history.specs.declared.act.Act.TheVariants.{CloseBit}
 use Rattle.nio_history.specs.declared.event.Event.{Event}
 use Rattle.nio_orderly.specs.Careful.{IsCareful}
-use Rattle.nio_orderly.specs.Owed.{owes, closing_duty, clearing_duty, publishes_key, publisher_duty, key_of, OwesSince}
+use Rattle.nio_orderly.specs.Owed.{owes, closes, closing_duty, clearing_duty, publishes_key, publisher_duty, key_of}
+use Rattle.nio_orderly.specs.Owed.{channel_of_key, OwesSince}
 
 -- the caller closed the channel, and owes the cancelling of no key of it
-pub record HasClosedChannel (l : Limits) (n : CallerNo) (c : ChanNo) (events : List Event) : Type 0 where
+pub record HasClosedChannel (l : Limits) (n : CallerNo) (c : ChanId) (events : List Event) : Type 0 where
   pub before : List Act
+  pub act : Act
   pub since : List Act
-  pub did : mine n events ≡ before ++ CloseBit c false ∷ since
-  pub settled : (s : ℕ) → s < l.selectors → (k : KeyId) → IsFalse (owes (closing_duty c.0 s k) since)
+  pub did : mine n events ≡ before ++ act ∷ since
+  pub closed : IsTrue (closes c act)
+  pub settled : (s : ℕ) → s < l.selectors → (k : KeyId) → IsFalse (owes (closing_duty c s k) since)
 
 -- of each valid key of the channel, ever after, the publisher owes the cancelling
 abbrev pub OnlyPublishersOwe : Type 0
-OnlyPublishersOwe = (l : Limits) (n : CallerNo) (c : ChanNo) (before after : List Event) → IsFit l
+OnlyPublishersOwe = (l : Limits) (n : CallerNo) (c : ChanId) (before after : List Event) → IsFit l
     → IsPrefix before after → IsLegal l after → IsCareful after
     → HasClosedChannel l n c before
-    → (s i : ℕ) → IsTrue (is_valid ((state_after after).key s i)) → ((state_after after).key s i).chan ≡ c
-    → OwesSince after (publishes_key c.0 s (key_of (state_after after) s i))
-    (publisher_duty c.0 s (key_of (state_after after) s i))
+    → (s i : ℕ) → IsTrue (is_valid ((state_after after).key s i)) → channel_of_key (state_after after) s i ≡ c
+    → OwesSince after (publishes_key c.number.0 s (key_of (state_after after) s i))
+    (publisher_duty c.number.0 s (key_of (state_after after) s i))
 
 -- the caller is the closer of the selector, has entered it, and owes the clearing out of no index
 pub record HasClosedSelector (n : CallerNo) (s : SelNo) (events : List Event) : Type 0 where

@@ -1,8 +1,9 @@
 -- Careful histories: how a caller publishes a key so that no cancellation is lost.
 --
 -- Each publish keeps three rules. Under its hold of the key's channel the caller enrols this key, and no other
--- for the channel. Under this hold it doesn't set the channel's mode. And after its claim of the index it looks
--- at the gate, and finds it not shut, once it has found the keys' high-water mark above the index or raised it above.
+-- for the channel. Under this hold it doesn't set the channel's mode, nor give its number to a new channel. And after
+-- its claim of the index it looks at the gate, and finds it not shut, once it has found the keys' high-water mark
+-- above the index or raised it above.
 use Rattle.std.specs.Prelude.{◌≡◌, ℕ, ◌==◌, nat_lt, Bool, false, not, ◌&&◌, if◌then◌else◌, Some, IsTrue, IsFalse, List}
 use Rattle.std.specs.Prelude.{[], ◌∷◌, ◌++◌}
 use mathlib.Core.List.{IsPrefix}
@@ -69,7 +70,7 @@ pub record KeepsRules (s i : ℕ) (claim : OwnClaim) (before later : List Act) :
   -- under the hold it enrolled the key before, and no other key for the channel before or later
   pub enrolled : IsTrue (has (enrols_this_key claim.channel.0 s i claim.serial) (under claim.channel.0 before))
   pub enrolled_alone : count (enrols_for claim.channel.0) (its_hold claim.channel.0 before later) ≡ 1
-  -- under the hold it didn't set the mode
+  -- under the hold it didn't set the mode, nor give the number to a new channel
   pub mode : IsFalse (has (sets_mode claim.channel.0) (its_hold claim.channel.0 before later))
   pub prepared : IsTrue (is_prepared s i before)
 

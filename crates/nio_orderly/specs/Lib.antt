@@ -10,3 +10,4 @@ pub mod Removals
 pub mod Examples
 pub mod Waited
 pub mod OrderlyExamples
+pub mod Reopening

@@ -5,7 +5,7 @@ use mathlib.Core.List.{IsPrefix}
 use Rattle.nio_base.specs.Limits.{IsFit}
 use Rattle.nio_base.specs.declared.limits.Limits.{Limits}
 use Rattle.nio_base.specs.declared.numbers.CallerNo.{CallerNo}
-use Rattle.nio_base.specs.declared.numbers.ChanNo.{ChanNo}
+use Rattle.nio_base.specs.declared.numbers.ChanId.{ChanId}
 use Rattle.nio_base.specs.declared.numbers.SelNo.{SelNo}
 use Rattle.nio_history.specs.Histories.{state_after, mine, IsLegal}
 use Rattle.nio_history.specs.Sets.{is_valid}
@@ -15,7 +15,7 @@ use Rattle.nio_orderly.specs.AfterClosing.{HasClosedChannel, HasClosedSelector}
 use Rattle.nio_orderly.specs.Careful.{IsCareful}
 use Rattle.nio_orderly.specs.Made.{IsRun, table_call, waiting_call}
 use Rattle.nio_orderly.specs.Orderly.{IsWhole, IsOrderly}
-use Rattle.nio_orderly.specs.Owed.{publishes_key, publisher_duty, OwesSince, key_of, Owed}
+use Rattle.nio_orderly.specs.Owed.{publishes_key, publisher_duty, OwesSince, key_of, channel_of_key, Owed}
 use Rattle.nio_orderly.specs.Settled.{IsSettled, HasNoLostKey}
 use Rattle.nio_steps.specs.SelectCalls.{closed}
 use Rattle.nio_steps.specs.TableCalls.{close_channel, try_finish, close}
@@ -44,7 +44,7 @@ WholeLosesNoKey = (l : Limits) (events : List Event) → IsFit l → IsLegal l e
 -- a `close_channel` that answers true has closed the channel, and owes the cancelling of no key of it
 abbrev pub CloseChannelCloses : Type 0
 CloseChannelCloses =
-    (l : Limits) (n : CallerNo) (c : ChanNo) (events : List Event) (own acts : List Act)
+    (l : Limits) (n : CallerNo) (c : ChanId) (events : List Event) (own acts : List Act)
     → mine n events ≡ own ++ acts → IsRun l (table_call (close_channel c) true) acts → HasClosedChannel l n c events
 
 -- a `try_finish` that answers Closed has closed the selector, and owes the clearing out of no index
@@ -58,20 +58,20 @@ FinishCloses =
 -- ever after.
 abbrev pub AfterCloseChannel : Type 0
 AfterCloseChannel =
-    (l : Limits) (n : CallerNo) (c : ChanNo) (before after : List Event) (own acts : List Act) → IsFit l
+    (l : Limits) (n : CallerNo) (c : ChanId) (before after : List Event) (own acts : List Act) → IsFit l
     → IsPrefix before after → IsLegal l after → IsOrderly l after
     → mine n before ≡ own ++ acts → IsRun l (table_call (close_channel c) true) acts
-    → (s i : ℕ) → IsTrue (is_valid ((state_after after).key s i)) → ((state_after after).key s i).chan ≡ c
-    → OwesSince after (publishes_key c.0 s (key_of (state_after after) s i))
-    (publisher_duty c.0 s (key_of (state_after after) s i))
+    → (s i : ℕ) → IsTrue (is_valid ((state_after after).key s i)) → channel_of_key (state_after after) s i ≡ c
+    → OwesSince after (publishes_key c.number.0 s (key_of (state_after after) s i))
+    (publisher_duty c.number.0 s (key_of (state_after after) s i))
 
 -- so none is valid once each call is finished
 abbrev pub NoKeyAfterCloseChannel : Type 0
 NoKeyAfterCloseChannel =
-    (l : Limits) (n : CallerNo) (c : ChanNo) (before after : List Event) (own acts : List Act) → IsFit l
+    (l : Limits) (n : CallerNo) (c : ChanId) (before after : List Event) (own acts : List Act) → IsFit l
     → IsPrefix before after → IsLegal l after → IsWhole l after
     → mine n before ≡ own ++ acts → IsRun l (table_call (close_channel c) true) acts
-    → (s i : ℕ) → ((state_after after).key s i).chan ≡ c → IsFalse (is_valid ((state_after after).key s i))
+    → (s i : ℕ) → channel_of_key (state_after after) s i ≡ c → IsFalse (is_valid ((state_after after).key s i))
 
 -- after a `try_finish` that answers Closed no key of the selector is valid, ever after
 abbrev pub NoKeyAfterFinish : Type 0

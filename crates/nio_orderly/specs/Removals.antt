@@ -1,5 +1,6 @@
 -- What is removed in a legal and orderly history: a selection that has begun has removed the keys that were published
--- and cancelled before the call, and a closing that is over those that were published before it.
+-- and cancelled before the call, and so has the end of a selection; and a closing that is over has removed those that
+-- were published before it.
 --
 -- `before` is the history before a call; what the caller did after it is this call.
 use Rattle.std.specs.Prelude.{◌≡◌, ℕ, ◌<◌, Bool, true, false, Ok, IsTrue, List, ◌∷◌, ◌++◌}
@@ -60,10 +61,21 @@ SelectRemovesCancelled =
     → IsTrue (was_removed ((state_after (before ++ later)).key s.0 i) serial)
 
 -- "If any keys were added to the cancelled-key set while step (2) was in progress then they are processed as in step
--- (1)". A looked key that was cancelled before a `told` that ends the selection is removed when the call returns,
--- whether the history is orderly or not.
+-- (1)". A key that was published and cancelled before a `told` that ends its selection is removed when the call
+-- returns, also one that was registered since the selection began.
 abbrev pub ToldRemovesCancelled : Type 0
 ToldRemovesCancelled =
+    (l : Limits) (n : CallerNo) (before later : List Event) (selection : Selection) (poll : Poll) (answer : Selected)
+    (i serial : ℕ)
+    → MadeLast l n before later (table_call (told selection poll) (done answer))
+    → IsTrue (was_published ((state_after before).key selection.selector.0 i) serial)
+    → IsTrue (was_cancelled ((state_after before).key selection.selector.0 i) serial)
+    → IsTrue (was_removed ((state_after (before ++ later)).key selection.selector.0 i) serial)
+
+-- A looked key that was cancelled before such a `told` is removed when the call returns, whether the history is orderly
+-- or not.
+abbrev pub ToldRemovesLooked : Type 0
+ToldRemovesLooked =
     (l : Limits) (n : CallerNo) (before later : List Event) (selection : Selection) (poll : Poll) (answer : Selected)
     (entry : LookedKey)
     → IsLegal l (before ++ later) → IsBegun (mine n before) selection

@@ -1,20 +1,23 @@
 -- A caller that owes nothing: whatever it published, closed or entered, it has looked, and has settled what it found.
-use Rattle.std.specs.Prelude.{◌≡◌, ℕ, ◌<◌, false, Some, IsTrue, IsFalse, List, ◌∷◌, ◌++◌}
+use Rattle.std.specs.Prelude.{◌≡◌, ℕ, ◌<◌, Some, IsTrue, IsFalse, List, ◌∷◌, ◌++◌}
 use Rattle.nio_base.specs.Limits.{IsFit}
 use Rattle.nio_base.specs.declared.limits.Limits.{Limits}
 use Rattle.nio_base.specs.declared.numbers.CallerNo.{CallerNo}
 use Rattle.nio_base.specs.declared.numbers.ChanNo.{ChanNo}
 use Rattle.nio_base.specs.declared.numbers.KeyId.{KeyId}
 use Rattle.nio_base.specs.declared.numbers.SelNo.{SelNo}
+use Rattle.nio_history.specs.Acts.{takes_close}
 use Rattle.nio_history.specs.Histories.{state_after, mine, IsLegal}
 use Rattle.nio_history.specs.OwnEvents.{OwnClaim, has, enters, since_entered, own_claim}
 use Rattle.nio_history.specs.Sets.{is_valid}
 use Rattle.nio_history.specs.declared.act.Act.{Act}
 use Rattle.nio_history.specs.declared.act.Act.TheVariants.{Publish, CloseBit}
 use Rattle.nio_history.specs.declared.event.Event.{Event}
+use Rattle.nio_history.specs.declared.found.Chan.{Chan}
 use Rattle.nio_history.specs.declared.found.Stage.{Stage}
 use Rattle.nio_orderly.specs.Careful.{IsCareful}
 use Rattle.nio_orderly.specs.Owed.{owes, publisher_duty, closing_duty, clearing_duty}
+use Rattle.nio_steps.specs.Names.{channel_of}
 
 -- the key of index i that was claimed
 abbrev pub claimed_key : ℕ → OwnClaim → KeyId
@@ -28,8 +31,10 @@ pub record IsSettled (l : Limits) (own : List Act) : Type 0 where
       → (claim : OwnClaim) → own_claim s.0 i before ≡ Some claim
       → IsFalse (owes (publisher_duty claim.channel.0 s.0 (claimed_key i claim)) later)
   -- of no channel that it closed, in no selector
-  pub closed : (before : List Act) (c : ChanNo) (later : List Act) → own ≡ before ++ CloseBit c false ∷ later
-      → (s : ℕ) → s < l.selectors → (k : KeyId) → IsFalse (owes (closing_duty c.0 s k) later)
+  pub closed : (before : List Act) (c : ChanNo) (from found : Chan) (later : List Act)
+      → own ≡ before ++ CloseBit c from found ∷ later → IsTrue (takes_close from found)
+      → (s : ℕ) → s < l.selectors → (k : KeyId)
+      → IsFalse (owes (closing_duty (channel_of c from.serial) s k) later)
   -- of no selector that it entered
   pub entered : (s i : ℕ) → IsTrue (has (enters s) own) → IsFalse (owes (clearing_duty s i) (since_entered s own))
 

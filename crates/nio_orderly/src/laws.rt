@@ -7,10 +7,12 @@ ghost use Rattle.nio_orderly.specs.Examples.{DebtStands, CancellationIsLost};
 ghost use Rattle.nio_orderly.specs.OrderlyCare.{OrderlyIsCareful, WholeIsSettled, OrderlyOwes, WholeLosesNoKey};
 ghost use Rattle.nio_orderly.specs.OrderlyCare.{CloseChannelCloses, FinishCloses, AfterCloseChannel};
 ghost use Rattle.nio_orderly.specs.OrderlyCare.{NoKeyAfterCloseChannel, NoKeyAfterFinish, NoKeyAfterClose};
-ghost use Rattle.nio_orderly.specs.OrderlyExamples.{ClosedInRegistration, StepsOfNoCalls};
+ghost use Rattle.nio_orderly.specs.OrderlyExamples.{ClosedInRegistration, ReopenedMeanwhile, StepsOfNoCalls};
 ghost use Rattle.nio_orderly.specs.Owed.{NothingIsLost};
 ghost use Rattle.nio_orderly.specs.Removals.{BeginRemovesCancelled, SelectRemovesCancelled, ToldRemovesCancelled};
+ghost use Rattle.nio_orderly.specs.Removals.{ToldRemovesLooked};
 ghost use Rattle.nio_orderly.specs.Removals.{CloseRemovesBelow, FinishRemovesPublished, CloseRemovesPublished};
+ghost use Rattle.nio_orderly.specs.Reopening.{KeysKeepTheirChannel, SelectionsKeepChannels, ClosersCancelTheirOwn};
 ghost use Rattle.nio_orderly.specs.Settled.{SettledLosesNoKey};
 ghost use Rattle.nio_orderly.specs.Waited.{WaitingCallsAreCalls, CallsWithoutWaiting};
 
@@ -52,23 +54,36 @@ pub fn closing_calls_law()
 {}
 
 /// What is removed in a legal and orderly history. A selection that has begun has removed each key that was published
-/// and cancelled before the call. A `try_finish` that answers Closed, or a `close` that answers true, has removed each
-/// key that was published before the call. In any legal history the `told` that ends a selection has removed each key
-/// that it looked at and that was cancelled before that call; and such a `close` each key that was claimed before it
-/// looked at the keys' high-water mark, at an index below it.
+/// and cancelled before the call, and so has the `told` that ends a selection. A `try_finish` that answers Closed, or a
+/// `close` that answers true, has removed each key that was published before the call. In any legal history the `told`
+/// that ends a selection has removed each key that the selection looked at and that was cancelled before that call; and
+/// such a `close` each key that was claimed before it looked at the keys' high-water mark, at an index below it.
 pub fn removals_law()
     ensures begin { BeginRemovesCancelled }
     ensures select { SelectRemovesCancelled }
     ensures told { ToldRemovesCancelled }
+    ensures looked { ToldRemovesLooked }
     ensures below { CloseRemovesBelow }
     ensures finish { FinishRemovesPublished }
     ensures close { CloseRemovesPublished }
 {}
 
-/// A channel that is closed while it is registered: the callers make whole calls, and the key is cancelled. A legal
-/// history whose steps are those of no calls.
+/// A channel's number is given to a new channel only where no key of it is in a key set. So in a legal and careful
+/// history a key of the key set is a key of one channel, and the number of a key that a selection doesn't remove names
+/// one channel for the whole selection; and in a legal and orderly one who closes a channel cancels no valid key of
+/// another.
+pub fn reopening_law()
+    ensures keys { KeysKeepTheirChannel }
+    ensures selections { SelectionsKeepChannels }
+    ensures closers { ClosersCancelTheirOwn }
+{}
+
+/// A channel that is closed while it is registered: the callers make whole calls, and the key is cancelled. A
+/// channel whose number is given to a new one, which is registered, while its closing is on its way: the key stays. A
+/// legal history whose steps are those of no calls.
 pub fn orderly_examples_law()
     ensures whole { ClosedInRegistration }
+    ensures reopened { ReopenedMeanwhile }
     ensures disorderly { StepsOfNoCalls }
 {}
 

@@ -2,8 +2,9 @@
 ghost use Rattle.std.specs.Prelude.{◌≡◌};
 
 use nio_base::Addr;
-use nio_datagram::{PacketPlan, PacketServeError, PacketsServed, serve_packets};
+use nio_datagram::{PacketServeError, PacketsServed, serve_packets};
 use nio_mio_packets::MioPackets;
+use nio_relay::PacketPlan;
 use std::alloc::{AllocError, Global};
 use std::io;
 use std::net::{Net, SocketAddr, UdpSocket};

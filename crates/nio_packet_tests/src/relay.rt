@@ -3,12 +3,13 @@ ghost use Rattle.std.specs.Prelude.{◌≡◌, IfOk};
 ghost use Rattle.nio_base.specs.declared.numbers.ChanNo.{ChanNo as Channel};
 ghost use Rattle.nio_datagram.specs.MemoryPackets.{place_at, traffic_at};
 ghost use Rattle.nio_datagram.specs.Packets.{no_traffic};
-ghost use Rattle.nio_datagram.specs.Serving.{IsRelayable};
+ghost use Rattle.nio_relay.specs.Plan.{IsRelayable};
 ghost use Rattle.nio_datagram.specs.declared.net.Place.TheVariants.{Unbound};
 
 use crate::reluctant::Reluctant;
 use nio_base::{Addr, ChanNo};
-use nio_datagram::{MemoryPackets, PacketPlan, PacketServeError, PacketsServed, serve_packets};
+use nio_datagram::{MemoryPackets, PacketServeError, PacketsServed, serve_packets};
+use nio_relay::PacketPlan;
 use std::alloc::{AllocError, Global};
 use std::sync::Wait;
 use std::test::Fail;

@@ -10,10 +10,11 @@ use Rattle.std.proofs.Math.Seq.{take-append-add, take-length}
 use Rattle.nio_history.proofs.Clauses.{prefix_trans}
 use mathlib.Core.List.{IsPrefix}
 use Rattle.nio_words.proofs.Beginnings.{prefix_self, prefix_length, prefix_whole}
+use Rattle.rtrb.specs.Ring.{known_free, known_items}
 use Rattle.nio_pipe.proofs.Rings.{ring_then}
-use Rattle.nio_pipe.specs.Counts.{count_of, seals_left, seals_taken, left_to, known_of, IsReached}
+use Rattle.nio_pipe.specs.Counts.{count_known, count_of, seals_left, seals_taken, left_to, known_of, IsReached}
 use Rattle.nio_pipe.specs.Ends.{GivesBytes, IsSameSource, KnowsNothing, SourceLooks, known, knows_end}
-use Rattle.nio_pipe.specs.Ends.{received, IsSameSink, SinkLooks, TakesBytes, sent, free, is_sealed}
+use Rattle.nio_pipe.specs.Ends.{received, IsSameSink, SinkLooks, TakesBytes, sent, free, places, is_sealed}
 use Rattle.nio_pipe.specs.declared.sink.PipeSink.{PipeSink}
 use Rattle.nio_pipe.specs.declared.source.PipeSource.{PipeSource}
 
@@ -98,6 +99,15 @@ knew_nothing {a = a} {b = b} looks none = record {
     by_test : (knows : Bool) → knows_end a ≡ knows → knows_end a ≡ false
     by_test true is = let clash : true ≡ false = sym (looks.end_stays is) ∙ none.no_seal in absurd (cc clash)
     by_test false is = is
+
+-- who knows nothing has nothing to tell
+pub none_known : (source : PipeSource) → KnowsNothing source → count_known source.to_end (known_items source.bytes) ≡ 0
+none_known source none = by_end source.to_end none.no_byte none.no_seal
+  where
+    by_end : (t : Option ℕ) → known_of t (known_items source.bytes) ≡ [] → is_some t ≡ false
+        → count_known t (known_items source.bytes) ≡ 0
+    by_end None no_byte no_seal = ap length no_byte
+    by_end (Some n) no_byte no_seal = absurd (cc no_seal)
 
 -- ---- reading up to the end
 
@@ -330,6 +340,7 @@ sink_looks_none s = record {
     other = refl;
   };
   sent = refl;
+  places = omega arith;
   free = omega arith;
   seal = refl;
 }
@@ -350,14 +361,23 @@ same_sink {a} {b} {c} first second = record {
 
 -- a write that took nothing is a look
 pub sink_looks_more : {a b c : PipeSink} {slice : List ℕ} → SinkLooks a b → IsSameSink b c → TakesBytes b c slice 0
-    → is_sealed c ≡ is_sealed b → free b ≤ free c + 0 → SinkLooks a c
-sink_looks_more {b = b} looks same takes seal places = record {
+    → is_sealed c ≡ is_sealed b → places b ≤ places c + 0 → free b ≤ free c + 0 → SinkLooks a c
+sink_looks_more {b = b} looks same takes seal looked fills = record {
   same = same_sink looks.same same;
   sent = takes.sent ∙ (append-nil (sent b) ∙ looks.sent);
-  free = omega (arith, looks.free, places);
+  places = omega (arith, looks.places, looked);
+  free = omega (arith, looks.free, fills);
   seal = seal ∙ looks.seal;
 }
 
--- who knows no free place after looks knew none before them
+-- who knows no place to fill after looks knew none before them
 pub no_place_before : {a b : PipeSink} → SinkLooks a b → free b ≡ 0 → free a ≡ 0
 no_place_before looks none = omega (arith, looks.free, none)
+
+-- a sink that had no place to fill, and no seal left when the looks began, knows of no free place, also when it has
+-- left its seal since
+pub no_place_left : {a b : PipeSink} (c : PipeSink) → SinkLooks a b → free b ≡ 0 → c.bytes ≡ b.bytes
+    → is_sealed a ≡ false → places c ≡ 0
+no_place_left {b = b} c looks none ring unsealed =
+    ap known_free ring
+    ∙ (sym (ap (λ (sealed : Bool). if sealed then 0 else places b) (looks.seal ∙ unsealed)) ∙ none)

@@ -1,7 +1,7 @@
 -- For the tests: what a caller has between its calls on a pipe stays.
 use Rattle.std.proofs.Common.{◌≡◌, List, refl, sym, ◌∙◌, subst}
 use Rattle.nio_base.specs.declared.numbers.CallerNo.{CallerNo}
-use Rattle.nio_base.specs.declared.numbers.ChanNo.{ChanNo}
+use Rattle.nio_base.specs.declared.numbers.ChanId.{ChanId}
 use Rattle.nio_channel.proofs.Idle.{unpinned_same, channel_same, zero_other}
 use Rattle.nio_channel.specs.Idle.{AreIdle, zero, one}
 use Rattle.nio_history.proofs.PassViews.{channel_after}
@@ -20,7 +20,7 @@ use Rattle.nio_pipe.specs.declared.sink.PipeSink.{PipeSink}
 use Rattle.nio_pipe.specs.declared.source.PipeSource.{PipeSource}
 
 -- after a call of the caller
-pub may_after : {w : Words} {p q : Pass} {me : CallerNo} {acts : List Act} {a b : ChanNo}
+pub may_after : {w : Words} {p q : Pass} {me : CallerNo} {acts : List Act} {a b : ChanId}
     → ActsClause me acts (view w p) (view w q) → IsReady w q me → HasNoPin (view w q) me
     → MayUse w p me a b → MayUse w q me a b
 may_after clause ready unpinned may = record {
@@ -30,21 +30,21 @@ may_after clause ready unpinned may = record {
 }
 
 -- the ends are those of the same pipe
-pub may_same : {w : Words} {p : Pass} {me : CallerNo} {a b c d : ChanNo} → c ≡ a → d ≡ b → MayUse w p me a b
+pub may_same : {w : Words} {p : Pass} {me : CallerNo} {a b c d : ChanId} → c ≡ a → d ≡ b → MayUse w p me a b
     → MayUse w p me c d
 may_same {w = w} {p = p} {me = me} {b = b} {c = c} first second may =
     subst (MayUse w p me c) (sym second) (subst (λ x. MayUse w p me x b) (sym first) may)
 
 -- the first of two idle callers
-pub may_idle : {w : Words} {p : Pass} {a b : ChanNo} → AreIdle w p → HasEnds (view w p) a b → MayUse w p zero a b
+pub may_idle : {w : Words} {p : Pass} {a b : ChanId} → AreIdle w p → HasEnds (view w p) a b → MayUse w p zero a b
 may_idle idle ends = record { ready = idle.zero_ready; unpinned = idle.zero_unpinned; ends = ends }
 
-ends_same : (w : Words) (p q : Pass) {a b : ChanNo} → seen q ≡ seen p → HasEnds (view w p) a b → HasEnds (view w q) a b
+ends_same : (w : Words) (p q : Pass) {a b : ChanId} → seen q ≡ seen p → HasEnds (view w p) a b → HasEnds (view w q) a b
 ends_same w p q same ends =
     record { source = channel_same w p q same ends.source; sink = channel_same w p q same ends.sink }
 
 -- the other caller's number was handed over: the first may use the pipe still, and so may the other
-pub may_stay : {w : Words} {before after given : Pass} {a b : ChanNo} → HandsOver w one before after given
+pub may_stay : {w : Words} {before after given : Pass} {a b : ChanId} → HandsOver w one before after given
     → MayUse w before zero a b → MayUse w after zero a b
 may_stay {w = w} {before = before} {after = after} over may = record {
   ready = record { pass = over.sees.pass; number = (over.numbers zero).1 (may.ready.number, zero_other) };
@@ -52,7 +52,7 @@ may_stay {w = w} {before = before} {after = after} over may = record {
   ends = ends_same w before after over.sees.sight may.ends;
 }
 
-pub may_go : {w : Words} {before after given : Pass} {a b : ChanNo} → HandsOver w one before after given
+pub may_go : {w : Words} {before after given : Pass} {a b : ChanId} → HandsOver w one before after given
     → AreIdle w before → HasEnds (view w before) a b → MayUse w given one a b
 may_go {w = w} {before = before} {given = given} over idle ends = record {
   ready = record { pass = over.sees.given_pass; number = (over.given_number one).1 refl };

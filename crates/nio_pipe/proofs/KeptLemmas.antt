@@ -2,7 +2,7 @@
 use Rattle.std.proofs.Common.{◌≡◌, ℕ, ◌≤◌, List, length, drop, Bool, sym, ap, ◌∙◌, subst}
 use Rattle.std.proofs.Math.Seq.{drop-append_seam}
 use Rattle.circular_buffer.specs.Buffer.{Buffer}
-use Rattle.nio_base.specs.declared.numbers.ChanNo.{ChanNo}
+use Rattle.nio_base.specs.declared.numbers.ChanId.{ChanId}
 use Rattle.nio_pipe.specs.Kept.{IsKept}
 use Rattle.nio_pipe.specs.Pipe.{IsLawful}
 
@@ -12,7 +12,7 @@ pub waiting-items : (sent received : List ℕ) (buffer : Buffer ℕ) → IsKept 
 waiting-items sent received buffer kept =
     ap (drop (length received)) kept.whole ∙ drop-append_seam received buffer.items
 
-pub kept-IsLawful : (source sink : ChanNo) (sent received : List ℕ) (buffer : Buffer ℕ) (sealed : Bool)
+pub kept-IsLawful : (source sink : ChanId) (sent received : List ℕ) (buffer : Buffer ℕ) (sealed : Bool)
     → IsKept sent received buffer
     → IsLawful (record { source = source; sink = sink; sent = sent; received = received; sealed = sealed })
 kept-IsLawful source sink sent received buffer sealed kept = record {

@@ -1,14 +1,13 @@
 -- Plans of calls on pipes after a refusal.
-use Rattle.std.proofs.Common.{◌≡◌, Bool, true, false, if◌then◌else◌, Ok, Err, refl, ap, sym, subst}
+use Rattle.std.proofs.Common.{◌≡◌, Err, refl, sym, subst}
 use Rattle.nio_base.specs.declared.limits.Limits.{Limits}
 use Rattle.nio_base.specs.declared.numbers.CallerNo.{CallerNo}
-use Rattle.nio_base.specs.declared.numbers.ChanNo.{ChanNo}
+use Rattle.nio_base.specs.declared.numbers.ChanId.{ChanId}
 use Rattle.nio_history.specs.PassViews.{PassView}
 use Rattle.nio_steps.specs.Calls.{PartClause}
 use Rattle.nio_steps.specs.PipeCalls.{with_source, with_sink, without_sink}
 use Rattle.nio_steps.specs.Plan.{Plan, reply}
 use Rattle.nio_steps.specs.declared.refusal.ChannelError.{ChannelError}
-use Rattle.nio_steps.specs.declared.refusal.PipeError.TheVariants.{BrokenPipe}
 use Rattle.nio_steps.specs.declared.refusal.PipeMakeError.TheVariants.{ChannelsSpent}
 
 pub no_source : (l : Limits) (e : ChannelError) → with_source l (Err e) ≡ reply (Err ChannelsSpent)
@@ -21,7 +20,7 @@ no_source l ChannelError.CancelledKey = refl
 no_source l ChannelError.ClosedSelector = refl
 no_source l ChannelError.Full = refl
 
-pub no_sink : (l : Limits) (source : ChanNo) (e : ChannelError) → with_sink l source (Err e) ≡ without_sink l source
+pub no_sink : (l : Limits) (source : ChanId) (e : ChannelError) → with_sink l source (Err e) ≡ without_sink l source
 no_sink l source ChannelError.ChannelsSpent = refl
 no_sink l source ChannelError.IllegalOps = refl
 no_sink l source ChannelError.ClosedChannel = refl
@@ -36,8 +35,3 @@ pub left_as : {R : Type 0} {me : CallerNo} {plan other rest : Plan R} {v0 v1 : P
     → PartClause me other v0 v1 rest → PartClause me plan v0 v1 rest
 left_as {me = me} {rest = rest} {v0 = v0} {v1 = v1} same part =
     subst (λ plan. PartClause me plan v0 v1 rest) (sym same) part
-
-pub unbroken_reply : (b blocking : Bool) (x : Bool) → b ≡ x
-    → reply (if b then Err BrokenPipe else Ok blocking) ≡ (if x then reply (Err BrokenPipe) else reply (Ok blocking))
-unbroken_reply b blocking true is = ap (λ x. reply (if x then Err BrokenPipe else Ok blocking)) is
-unbroken_reply b blocking false is = ap (λ x. reply (if x then Err BrokenPipe else Ok blocking)) is

@@ -1,10 +1,12 @@
 -- Reading and writing that wait: a run that went before tells how a closed channel is refused.
-use Rattle.std.proofs.Common.{◌≡◌, ◌≢◌, ℕ, ◌<◌, ◌==◌, Bool, true, false, if◌then◌else◌, IsTrue, Result, Ok, Err, List}
+use Rattle.std.proofs.Common.{◌≡◌, ◌≢◌, ℕ, zero, suc, length, replicate, append_assoc, subst, ◌<◌, ◌==◌, Bool, true}
+use Rattle.std.proofs.Common.{false, if◌then◌else◌, IsTrue, Result, Ok, Err, List}
 use Rattle.std.proofs.Common.{[], ◌∷◌, ◌++◌, refl, ap, sym, ◌∙◌, arith, eq-eqb}
 use Rattle.std.proofs.lemmas.Bool.{cond-true}
+use Rattle.std.proofs.lemmas.List.{append-nil}
 use Rattle.std.proofs.lemmas.List.Elements.{All-nil, All-push}
 use Rattle.nio_base.specs.declared.limits.Limits.{Limits}
-use Rattle.nio_base.specs.declared.numbers.ChanNo.{ChanNo}
+use Rattle.nio_base.specs.declared.numbers.ChanId.{ChanId}
 use Rattle.nio_base.specs.declared.numbers.CallerNo.{CallerNo}
 use Rattle.nio_history.proofs.PassViews.{acts_nothing}
 use Rattle.nio_history.specs.Histories.{IsLegal}
@@ -29,21 +31,43 @@ abbrev has_some : {X : Type 0} → List X → Bool
 has_some [] = false
 has_some (x ∷ xs) = true
 
-some-push : {X : Type 0} (xs : List X) (x : X) → has_some (xs ++ x ∷ []) ≡ true
-some-push [] x = refl
-some-push (y ∷ ys) x = refl
+-- there was one
+abbrev pub is_some_run : ℕ → Bool
+is_some_run zero = false
+is_some_run (suc n) = true
 
-some-first : {X : Type 0} (xs : List X) → xs ≢ [] → has_some xs ≡ true
-some-first [] other = absurd (other refl)
-some-first (x ∷ xs) other = refl
+pub some_run : (n : ℕ) → n ≢ 0 → is_some_run n ≡ true
+some_run zero other = absurd (other refl)
+some_run (suc n) other = refl
 
--- these acts are runs that found nothing; `waited` says whether there was one
-pub record Tried (plan : Plan (Result Bool PipeError)) (waited : Bool) (acts : List Act) : Type 0 where
+some-length : {X : Type 0} (xs : List X) → has_some xs ≡ is_some_run (length xs)
+some-length [] = refl
+some-length (x ∷ xs) = refl
+
+length-more : {X : Type 0} (xs : List X) (x : X) → length (xs ++ x ∷ []) ≡ suc (length xs)
+length-more [] x = refl
+length-more (y ∷ ys) x = ap (λ (n : ℕ). suc n) (length-more ys x)
+
+replicate-more : (x n : ℕ) → replicate n x ++ x ∷ [] ≡ replicate (suc n) x
+replicate-more x zero = refl
+replicate-more x (suc n) = ap (λ xs. x ∷ xs) (replicate-more x n)
+
+-- these acts are so many runs that found nothing
+pub record Tried (plan : Plan (Result Bool PipeError)) (count : ℕ) (acts : List Act) : Type 0 where
   pub tries : Tries (λ (_ : Bool). Completes plan) waits_for_bytes acts
-  pub some : has_some tries.runs ≡ waited
+  pub count_is : length tries.runs ≡ count
 
-abbrev pub TriedClause : CallerNo → Plan (Result Bool PipeError) → Bool → PassView → PassView → Type 0
-TriedClause me plan waited old new = CallClause me (λ acts (_ : Unit {0}). Tried plan waited acts) old new tt
+abbrev TriedClause : CallerNo → Plan (Result Bool PipeError) → ℕ → PassView → PassView → Type 0
+TriedClause me plan count old new = CallClause me (λ acts (_ : Unit {0}). Tried plan count acts) old new tt
+
+-- A call has made some runs that found nothing, or none. What its end was told by each is `told`, after what it was
+-- told before.
+pub record HasTried (me : CallerNo) (plan : Plan (Result Bool PipeError)) (waited : Bool) (before told : List ℕ)
+    (old new : PassView) : Type 0 where
+  pub count : ℕ
+  pub tried : TriedClause me plan count old new
+  pub counted : waited ≡ is_some_run count
+  pub told_is : told ≡ before ++ replicate count 0
 
 -- how a call is answered, where there was such a run or not
 abbrev pub answer_after : Bool → Result Bool PipeError → Result Bool PipeError
@@ -67,37 +91,50 @@ refused_ends none ClosedByInterrupt = refl
 refused_ends none AsynchronousClose = refl
 refused_ends none BrokenPipe = refl
 
-pub tried_none : (me : CallerNo) (plan : Plan (Result Bool PipeError)) (pass : PassView) → IsLegal pass.limits pass.seen
-    → TriedClause me plan false pass pass
-tried_none me plan pass legal =
-    call_of_acts (λ acts (_ : Unit {0}). Tried plan false acts) [] tt (acts_nothing me pass legal) (record {
-      tries = record { runs = []; parts = refl; made = All-nil _; again = All-nil _ };
-      some = refl;
-    })
+pub tried_none : (me : CallerNo) (plan : Plan (Result Bool PipeError)) (told : List ℕ) (pass : PassView)
+    → IsLegal pass.limits pass.seen → HasTried me plan false told told pass pass
+tried_none me plan told pass legal = record {
+  count = 0;
+  tried = call_of_acts (λ acts (_ : Unit {0}). Tried plan 0 acts) [] tt (acts_nothing me pass legal) (record {
+    tries = record { runs = []; parts = refl; made = All-nil _; again = All-nil _ };
+    count_is = refl;
+  });
+  counted = refl;
+  told_is = sym (append-nil told);
+}
 
-pub tried_more : {me : CallerNo} {plan : Plan (Result Bool PipeError)} {waited : Bool} {v0 v1 v2 : PassView}
-    (found : Result Bool PipeError)
-    → TriedClause me plan waited v0 v1 → CallClause me (Completes plan) v1 v2 found → waits_for_bytes true found ≡ true
-    → TriedClause me plan true v0 v2
-tried_more {plan = plan} found tried run again =
-    calls_then (λ acts (_ : Unit {0}). Tried plan true acts) tt
-    (λ xs ys here made.
-    let run : Run Bool (Result Bool PipeError) = record { given = true; acts = ys; answer = found } in
-    record {
-      tries = record {
-        runs = here.tries.runs ++ run ∷ [];
-        parts = ap (λ acts. acts ++ ys) here.tries.parts ∙ sym (acts_of-push here.tries.runs run);
-        made = All-push (λ r. Completes plan r.acts r.answer) here.tries.runs run here.tries.made made;
-        again = All-push (λ r. IsTrue (waits_for_bytes r.given r.answer)) here.tries.runs run here.tries.again again;
-      };
-      some = some-push here.tries.runs run;
-    }) tried run
+pub tried_more : {me : CallerNo} {plan : Plan (Result Bool PipeError)} {waited : Bool} {before told : List ℕ}
+    {v0 v1 v2 : PassView} (found : Result Bool PipeError) (more : List ℕ)
+    → HasTried me plan waited before told v0 v1 → CallClause me (Completes plan) v1 v2 found
+    → waits_for_bytes true found ≡ true → more ≡ told ++ 0 ∷ []
+    → HasTried me plan true before more v0 v2
+tried_more {plan = plan} {before = before} found more so_far run again tells = record {
+  count = suc so_far.count;
+  tried = calls_then (λ acts (_ : Unit {0}). Tried plan (suc so_far.count) acts) tt
+      (λ xs ys here made.
+      let run : Run Bool (Result Bool PipeError) = record { given = true; acts = ys; answer = found } in
+      record {
+        tries = record {
+          runs = here.tries.runs ++ run ∷ [];
+          parts = ap (λ acts. acts ++ ys) here.tries.parts ∙ sym (acts_of-push here.tries.runs run);
+          made = All-push (λ r. Completes plan r.acts r.answer) here.tries.runs run here.tries.made made;
+          again = All-push (λ r. IsTrue (waits_for_bytes r.given r.answer)) here.tries.runs run here.tries.again again;
+        };
+        count_is = length-more here.tries.runs run ∙ ap (λ (n : ℕ). suc n) here.count_is;
+      }) so_far.tried run;
+  counted = refl;
+  told_is = tells
+      ∙ (ap (λ xs. xs ++ 0 ∷ []) so_far.told_is
+      ∙ (append_assoc before (replicate so_far.count 0) (0 ∷ [])
+      ∙ ap (λ xs. before ++ xs) (replicate-more 0 so_far.count)));
+}
 
-pub tried_last : {me : CallerNo} {plan : Plan (Result Bool PipeError)} {waited : Bool} {v0 v1 v2 : PassView}
-    (HadToWait : Type 0) (none : Bool) (found : Result Bool PipeError) → (waited ≡ true → HadToWait)
-    → TriedClause me plan waited v0 v1 → CallClause me (Completes plan) v1 v2 found → waits_for_bytes none found ≡ false
+pub tried_last : {me : CallerNo} {plan : Plan (Result Bool PipeError)} {waited : Bool} {before told : List ℕ}
+    {v0 v1 v2 : PassView} (HadToWait : ℕ → Type 0) (none : Bool) (found : Result Bool PipeError)
+    (so_far : HasTried me plan waited before told v0 v1) → HadToWait so_far.count
+    → CallClause me (Completes plan) v1 v2 found → waits_for_bytes none found ≡ false
     → CallClause me (WaitsWhere HadToWait plan none) v0 v2 (answer_after waited found)
-tried_last {plan = plan} {waited = waited} HadToWait none found had tried run over =
+tried_last {plan = plan} {waited = waited} HadToWait none found so_far had run over =
     calls_then (WaitsWhere HadToWait plan none) (answer_after waited found)
     (λ xs ys here made. record {
       waits = record {
@@ -112,10 +149,18 @@ tried_last {plan = plan} {waited = waited} HadToWait none found had tried run ov
           answers = refl;
         };
         found_none = refl;
-        answer_is = ap (λ b. answer_after b found) (sym here.some) ∙ waited-is here.tries.runs found;
+        answer_is = ap (λ b. answer_after b found)
+            (so_far.counted ∙ (ap is_some_run (sym here.count_is) ∙ sym (some-length here.tries.runs)))
+            ∙ waited-is here.tries.runs found;
       };
-      earlier = λ other. had (sym here.some ∙ some-first here.tries.runs other);
-    }) tried run
+      had = subst HadToWait (sym here.count_is) had;
+    }) so_far.tried run
+
+-- what was told till now and then the last, or nothing more
+pub told_then : (before told more last : List ℕ) (count : ℕ) → told ≡ before ++ replicate count 0
+    → more ≡ told ++ last → more ≡ before ++ (replicate count 0 ++ last)
+told_then before told more last count is tells =
+    tells ∙ (ap (λ xs. xs ++ last) is ∙ append_assoc before (replicate count 0) last)
 
 -- ---- what the calls answer
 
@@ -138,16 +183,16 @@ read_some room sealed answer other is = by_test (room == 0) refl
         λ same. let clash : true ≡ false = sym (eq-eqb room 0 same) ∙ some in absurd (cc clash) in
         omega (arith, apart)
 
-pub read_done : {me : CallerNo} {v0 v1 : PassView} (l : Limits) (source : ChanNo)
-    (HadToWait : Result PipeRead PipeError → Type 0) (answer : PipeRead) (blocking : Bool)
+pub read_done : {me : CallerNo} {v0 v1 : PassView} (l : Limits) (source : ChanId)
+    (HadToWait : Result PipeRead PipeError → ℕ → Type 0) (answer : PipeRead) (blocking : Bool)
     → CallClause me (WaitsWhere (HadToWait (Ok answer)) (try_read_plan l source) (read_waits (Ok answer))) v0 v1
     (Ok blocking)
     → CallClause me (WaitsToRead l source HadToWait) v0 v1 (Ok answer)
 read_done l source HadToWait answer blocking call =
     call_as (WaitsToRead l source HadToWait) (Ok answer) (λ acts waits. (blocking, waits)) call
 
-pub read_refused : {me : CallerNo} {v0 v1 : PassView} (l : Limits) (source : ChanNo)
-    (HadToWait : Result PipeRead PipeError → Type 0) (waited : Bool) (refusal : PipeError)
+pub read_refused : {me : CallerNo} {v0 v1 : PassView} (l : Limits) (source : ChanId)
+    (HadToWait : Result PipeRead PipeError → ℕ → Type 0) (waited : Bool) (refusal : PipeError)
     → CallClause me (WaitsWhere (HadToWait (Err (refusal_after waited refusal))) (try_read_plan l source) false) v0 v1
     (answer_after waited (Err refusal))
     → CallClause me (WaitsToRead l source HadToWait) v0 v1 (Err (refusal_after waited refusal))
@@ -172,16 +217,16 @@ write_some size is = by_test (size == 0) refl
         λ same. let clash : true ≡ false = sym (eq-eqb size 0 same) ∙ some in absurd (cc clash) in
         omega (arith, apart)
 
-pub write_done : {me : CallerNo} {v0 v1 : PassView} (l : Limits) (source sink : ChanNo)
-    (HadToWait : Result PipeWrite PipeError → Type 0) (answer : PipeWrite) (blocking : Bool)
+pub write_done : {me : CallerNo} {v0 v1 : PassView} (l : Limits) (source sink : ChanId)
+    (HadToWait : Result PipeWrite PipeError → ℕ → Type 0) (answer : PipeWrite) (blocking : Bool)
     → CallClause me (WaitsWhere (HadToWait (Ok answer)) (try_write_plan l source sink) (write_waits (Ok answer))) v0 v1
     (Ok blocking)
     → CallClause me (WaitsToWrite l source sink HadToWait) v0 v1 (Ok answer)
 write_done l source sink HadToWait answer blocking call =
     call_as (WaitsToWrite l source sink HadToWait) (Ok answer) (λ acts waits. (blocking, waits)) call
 
-pub write_refused : {me : CallerNo} {v0 v1 : PassView} (l : Limits) (source sink : ChanNo)
-    (HadToWait : Result PipeWrite PipeError → Type 0) (waited : Bool) (refusal : PipeError)
+pub write_refused : {me : CallerNo} {v0 v1 : PassView} (l : Limits) (source sink : ChanId)
+    (HadToWait : Result PipeWrite PipeError → ℕ → Type 0) (waited : Bool) (refusal : PipeError)
     → CallClause me (WaitsWhere (HadToWait (Err (refusal_after waited refusal))) (try_write_plan l source sink) false)
     v0 v1 (answer_after waited (Err refusal))
     → CallClause me (WaitsToWrite l source sink HadToWait) v0 v1 (Err (refusal_after waited refusal))

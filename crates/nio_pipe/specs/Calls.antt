@@ -1,8 +1,8 @@
 -- The steps of the calls on pipes, with what these calls answer.
-use Rattle.std.specs.Prelude.{◌≢◌, Bool, Result, Ok, Err, IsTrue, List, []}
+use Rattle.std.specs.Prelude.{ℕ, Bool, Result, Ok, Err, List, length}
 use Rattle.nio_base.specs.declared.limits.Limits.{Limits}
-use Rattle.nio_base.specs.declared.numbers.ChanNo.{ChanNo}
-use Rattle.nio_history.specs.PassViews.{PassView, known, HasChannel}
+use Rattle.nio_base.specs.declared.numbers.ChanId.{ChanId}
+use Rattle.nio_history.specs.PassViews.{PassView, HasChannel}
 use Rattle.nio_history.specs.declared.act.Act.{Act}
 use Rattle.nio_steps.specs.PipeCalls.{try_read_plan, try_write_plan, Waits}
 use Rattle.nio_steps.specs.Plan.{Plan}
@@ -18,40 +18,36 @@ abbrev pub RefusesBy : {A : Type 0} → Plan (Result Bool PipeError) → List Ac
 RefusesBy plan acts (Ok answer) = (blocking : Bool) × Completes plan acts (Ok blocking)
 RefusesBy plan acts (Err refusal) = Completes plan acts (Err refusal)
 
-abbrev pub TriesRead : Limits → ChanNo → List Act → Result PipeRead PipeError → Type 0
+abbrev pub TriesRead : Limits → ChanId → List Act → Result PipeRead PipeError → Type 0
 TriesRead l source = RefusesBy (try_read_plan l source)
 
-abbrev pub TriesWrite : Limits → ChanNo → ChanNo → List Act → Result PipeWrite PipeError → Type 0
+abbrev pub TriesWrite : Limits → ChanId → ChanId → List Act → Result PipeWrite PipeError → Type 0
 TriesWrite l source sink = RefusesBy (try_write_plan l source sink)
 
--- A call that waits is runs of a plan. `none` says whether the last one found no bytes, or no room. There was an
--- earlier one only where `HadToWait` holds.
-pub record WaitsWhere (HadToWait : Type 0) (plan : Plan (Result Bool PipeError)) (none : Bool) (acts : List Act)
+-- A call that waits is runs of a plan. `none` says whether the last one found no bytes, or no room; `HadToWait` what
+-- stands where so many went before it.
+pub record WaitsWhere (HadToWait : ℕ → Type 0) (plan : Plan (Result Bool PipeError)) (none : Bool) (acts : List Act)
     (answer : Result Bool PipeError) : Type 0 where
   pub waits : Waits plan none acts answer
-  pub earlier : waits.runs.tries.runs ≢ [] → HadToWait
+  pub had : HadToWait (length waits.runs.tries.runs)
 
 -- The same with what the call answers: a refusal is the plan's.
-abbrev pub WaitsBy : {A : Type 0} → Type 0 → Plan (Result Bool PipeError) → Bool → List Act → Result A PipeError
+abbrev pub WaitsBy : {A : Type 0} → (ℕ → Type 0) → Plan (Result Bool PipeError) → Bool → List Act → Result A PipeError
     → Type 0
 WaitsBy HadToWait plan none acts (Ok answer) = (blocking : Bool) × WaitsWhere HadToWait plan none acts (Ok blocking)
 WaitsBy HadToWait plan none acts (Err refusal) = WaitsWhere HadToWait plan none acts (Err refusal)
 
-abbrev pub WaitsToRead : Limits → ChanNo → (Result PipeRead PipeError → Type 0) → List Act
+abbrev pub WaitsToRead : Limits → ChanId → (Result PipeRead PipeError → ℕ → Type 0) → List Act
     → Result PipeRead PipeError → Type 0
 WaitsToRead l source HadToWait acts answer =
     WaitsBy (HadToWait answer) (try_read_plan l source) (read_waits answer) acts answer
 
-abbrev pub WaitsToWrite : Limits → ChanNo → ChanNo → (Result PipeWrite PipeError → Type 0) → List Act
+abbrev pub WaitsToWrite : Limits → ChanId → ChanId → (Result PipeWrite PipeError → ℕ → Type 0) → List Act
     → Result PipeWrite PipeError → Type 0
 WaitsToWrite l source sink HadToWait acts answer =
     WaitsBy (HadToWait answer) (try_write_plan l source sink) (write_waits answer) acts answer
 
--- the channel is closed, as far as the pass has seen
-abbrev pub IsClosed : PassView → ChanNo → Type 0
-IsClosed pass c = IsTrue ((known pass).chan c.0).closed
-
 -- both channels of a pipe may be passed to a call
-pub record HasEnds (pass : PassView) (a b : ChanNo) : Type 0 where
+pub record HasEnds (pass : PassView) (a b : ChanId) : Type 0 where
   pub source : HasChannel pass a
   pub sink : HasChannel pass b

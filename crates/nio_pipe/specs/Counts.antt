@@ -1,6 +1,7 @@
 -- How the source of a pipe knows where its bytes end. The seal is the number of all bytes that the sink sent. Both
 -- ends count modulo 2 ^ 64, which tells as much, since at most 65,536 bytes are on their way.
-use Rattle.std.specs.Prelude.{◌≡◌, ℕ, ◌+◌, ◌-◌, ◌%◌, ◌^◌, ◌≤◌, List, [], ◌∷◌, length, take, Bool, true, false, Option}
+use Rattle.std.specs.Prelude.{◌≡◌, ℕ, suc, ◌+◌, ◌-◌, ◌%◌, ◌^◌, ◌≤◌, List, [], ◌∷◌, length, take, Bool, true, false}
+use Rattle.std.specs.Prelude.{Option}
 use Rattle.std.specs.Prelude.{Some, None}
 
 -- how many bytes these are, modulo 2 ^ 64
@@ -26,6 +27,11 @@ left_to seal count = (seal + (2 ^ 64 - count)) % 2 ^ 64
 abbrev pub known_of : Option ℕ → List ℕ → List ℕ
 known_of None items = items
 known_of (Some to_end) items = take to_end items
+
+-- how much a source knows: the bytes that it knows to wait, and the seal, once it knows how far that is
+abbrev pub count_known : Option ℕ → List ℕ → ℕ
+count_known None items = length items
+count_known (Some to_end) items = suc (length (take to_end items))
 
 -- a seal tells the number of bytes that were received and of those up to the end, all of which were seen
 pub record IsReached (received items : List ℕ) (seal to_end : Option ℕ) : Type 0 where

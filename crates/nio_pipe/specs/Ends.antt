@@ -1,12 +1,12 @@
 -- What contracts see of the two ends of a pipe.
 use Rattle.std.specs.Prelude.{◌≡◌, ℕ, ◌≤◌, List, [], ◌++◌, length, take, drop, Bool, if◌then◌else◌, is_some, IsTrue}
-use Rattle.std.specs.Prelude.{IsFalse, ◌<◌, Result, OnErr}
+use Rattle.std.specs.Prelude.{IsFalse, ◌<◌, ◌≢◌, ◌∷◌, Result, OnErr, is_ok, replicate}
 use mathlib.Core.List.{IsPrefix}
 use Rattle.rtrb.specs.Ring.{known_free, known_items, IsPair, SameConsumer, SameProducer}
 use Rattle.rtrb.specs.Ring.{sent as pushed, received as popped}
-use Rattle.nio_base.specs.declared.numbers.ChanNo.{ChanNo}
+use Rattle.nio_base.specs.declared.numbers.ChanId.{ChanId}
 use Rattle.nio_steps.specs.declared.refusal.PipeError.{PipeError}
-use Rattle.nio_pipe.specs.Counts.{known_of}
+use Rattle.nio_pipe.specs.Counts.{count_known, known_of}
 use Rattle.nio_pipe.specs.Pipe.{Pipe}
 use Rattle.nio_pipe.specs.declared.answers.PipeRead.{PipeRead}
 use Rattle.nio_pipe.specs.declared.answers.PipeWrite.{PipeWrite}
@@ -16,7 +16,7 @@ use Rattle.nio_pipe.specs.declared.source.PipeSource.{PipeSource}
 -- ---- the source
 
 -- its channel
-abbrev pub source_chan : PipeSource → ChanNo
+abbrev pub source_chan : PipeSource → ChanId
 source_chan source = source.chan
 
 -- all bytes that were read from it, in order
@@ -41,12 +41,24 @@ pub record IsAtEnd (source : PipeSource) : Type 0 where
   pub sealed : IsTrue (knows_end source)
   pub no_byte : known source ≡ []
 
+-- how much it knew after each of its tries to read, in their order; 0 is nothing
+abbrev pub tries_to_read : PipeSource → List ℕ
+tries_to_read source = source.tries
+
 -- A read had to wait: its slice isn't empty, and the source knew nothing at the call's start. A refused one found
 -- nothing while it waited.
 pub record HadNoByte (old new : PipeSource) (slice : List ℕ) (answer : Result PipeRead PipeError) : Type 0 where
   pub room : 0 < length slice
   pub before : KnowsNothing old
   pub after : OnErr answer (KnowsNothing new)
+
+-- A read of so many tries before the last, each of which left the source knowing nothing. Where the last one isn't
+-- refused it is a try too.
+pub record HasTriedToRead (old new : PipeSource) (slice : List ℕ) (answer : Result PipeRead PipeError)
+    (before : ℕ) : Type 0 where
+  pub had : before ≢ 0 → HadNoByte old new slice answer
+  pub told : tries_to_read new ≡ tries_to_read old ++ (replicate before 0
+      ++ (if is_ok answer then count_known new.to_end (known_items new.bytes) ∷ [] else []))
 
 -- the same end of the same pipe
 pub record IsSameSource (old new : PipeSource) : Type 0 where
@@ -75,10 +87,10 @@ pub record GivesBytes (old new : PipeSource) (before after : List ℕ) (given : 
 -- ---- the sink
 
 -- its channel, and that of the source, at which it looks too
-abbrev pub sink_chan : PipeSink → ChanNo
+abbrev pub sink_chan : PipeSink → ChanId
 sink_chan sink = sink.chan
 
-abbrev pub other_chan : PipeSink → ChanNo
+abbrev pub other_chan : PipeSink → ChanId
 other_chan sink = sink.source
 
 -- all bytes that were written into it, in order
@@ -89,16 +101,32 @@ sent sink = pushed sink.bytes
 abbrev pub is_sealed : PipeSink → Bool
 is_sealed sink = sink.sealed
 
--- the places that it knows to be free; none once it has left its seal, since it takes no more bytes then
-abbrev pub free : PipeSink → ℕ
-free sink = if is_sealed sink then 0 else known_free sink.bytes
+-- the places that it knows to be free in the ring: leaving its seal changes nothing of them
+abbrev pub places : PipeSink → ℕ
+places sink = known_free sink.bytes
 
--- A write had to wait: its slice isn't empty, and the sink knew of no free place at the call's start. A refused one
--- found none while it waited.
+-- those that it fills; none once it has left its seal, since it takes no more bytes then
+abbrev pub free : PipeSink → ℕ
+free sink = if is_sealed sink then 0 else places sink
+
+-- how many places to fill it knew of after each of its tries to write, in their order
+abbrev pub tries_to_write : PipeSink → List ℕ
+tries_to_write sink = sink.tries
+
+-- A write had to wait: its slice isn't empty, and the sink knew of no place to fill at the call's start. Where it is
+-- refused then, also with its seal left, the sink knows of no free place in the ring.
 pub record HadNoPlace (old new : PipeSink) (slice : List ℕ) (answer : Result PipeWrite PipeError) : Type 0 where
   pub bytes : 0 < length slice
   pub before : free old ≡ 0
-  pub after : OnErr answer (free new ≡ 0)
+  pub after : OnErr answer (IsFalse (is_sealed old) → places new ≡ 0)
+
+-- A write of so many tries before the last, each of which left the sink with no place to fill. Where the last one
+-- isn't refused it is a try too.
+pub record HasTriedToWrite (old new : PipeSink) (slice : List ℕ) (answer : Result PipeWrite PipeError)
+    (before : ℕ) : Type 0 where
+  pub had : before ≢ 0 → HadNoPlace old new slice answer
+  pub told : tries_to_write new ≡ tries_to_write old ++ (replicate before 0
+      ++ (if is_ok answer then free new ∷ [] else []))
 
 -- the same end of the same pipe
 pub record IsSameSink (old new : PipeSink) : Type 0 where
@@ -107,10 +135,11 @@ pub record IsSameSink (old new : PipeSink) : Type 0 where
   pub channel : new.chan ≡ old.chan
   pub other : new.source ≡ old.source
 
--- the sink was looked at beside the source: it may know of more free places
+-- the sink looked at the ring, or was looked at beside the source: it may know of more free places
 pub record SinkLooks (old new : PipeSink) : Type 0 where
   pub same : IsSameSink old new
   pub sent : sent new ≡ sent old
+  pub places : places old ≤ places new
   pub free : free old ≤ free new
   pub seal : is_sealed new ≡ is_sealed old
 

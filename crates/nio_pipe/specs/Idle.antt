@@ -1,6 +1,6 @@
 -- For the tests: a caller between its calls on a pipe.
 use Rattle.nio_base.specs.declared.numbers.CallerNo.{CallerNo}
-use Rattle.nio_base.specs.declared.numbers.ChanNo.{ChanNo}
+use Rattle.nio_base.specs.declared.numbers.ChanId.{ChanId}
 use Rattle.nio_channel.specs.Idle.{zero}
 use Rattle.nio_history.specs.PassViews.{HasNoPin}
 use Rattle.nio_words.specs.Passes.{IsReady}
@@ -13,7 +13,7 @@ use Rattle.nio_pipe.specs.declared.sink.PipeSink.{PipeSink}
 use Rattle.nio_pipe.specs.declared.source.PipeSource.{PipeSource}
 
 -- the caller may step with the pass, has no pin, and may call a pipe with these channels
-pub record MayUse (w : Words) (p : Pass) (me : CallerNo) (a b : ChanNo) : Type 0 where
+pub record MayUse (w : Words) (p : Pass) (me : CallerNo) (a b : ChanId) : Type 0 where
   pub ready : IsReady w p me
   pub unpinned : HasNoPin (view w p) me
   pub ends : HasEnds (view w p) a b

@@ -2,7 +2,7 @@
 use Rattle.std.specs.Prelude.{◌≡◌, ℕ, ◌-◌, ◌≤◌, List, [], ◌++◌, length, take, drop, Bool, true, false, ◌||◌, IsTrue}
 use Rattle.std.specs.Prelude.{Result}
 use mathlib.Core.List.{IsPrefix}
-use Rattle.nio_base.specs.declared.numbers.ChanNo.{ChanNo}
+use Rattle.nio_base.specs.declared.numbers.ChanId.{ChanId}
 use Rattle.nio_steps.specs.declared.refusal.PipeError.{PipeError}
 use Rattle.nio_pipe.specs.Answers.{bytes_read, bytes_written, leaves_seal}
 use Rattle.nio_pipe.specs.declared.answers.PipeRead.{PipeRead}
@@ -11,14 +11,14 @@ use Rattle.nio_pipe.specs.declared.answers.PipeWrite.{PipeWrite}
 -- the channels of a pipe; all bytes that were written into it and all that were read from it, in order; whether
 -- the sink has left its seal
 pub record Pipe : Type 0 where
-  pub source : ChanNo
-  pub sink : ChanNo
+  pub source : ChanId
+  pub sink : ChanId
   pub sent : List ℕ
   pub received : List ℕ
   pub sealed : Bool
 
 -- nothing was written into it yet
-abbrev pub new_pipe : ChanNo → ChanNo → Pipe
+abbrev pub new_pipe : ChanId → ChanId → Pipe
 new_pipe source sink = record { source = source; sink = sink; sent = []; received = []; sealed = false }
 
 -- the bytes that were written and aren't read yet

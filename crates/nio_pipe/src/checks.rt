@@ -8,10 +8,11 @@ ghost use Rattle.nio_steps.specs.declared.refusal.PipeError.TheVariants.{Asynchr
 ghost use Rattle.nio_steps.specs.declared.refusal.PipeMakeError.TheVariants.{Memory};
 ghost use Rattle.nio_words.specs.Passes.{IsReady, limits_of};
 ghost use Rattle.nio_words.specs.Views.{view};
-ghost use Rattle.nio_pipe.specs.Calls.{HasEnds, IsClosed};
+ghost use Rattle.nio_channel.specs.Closed.{IsClosed};
+ghost use Rattle.nio_pipe.specs.Calls.{HasEnds};
 ghost use Rattle.nio_pipe.specs.Opened.{ends_opened, looks_interrupt, opens_sink};
 
-use nio_base::{CallerNo, ChanNo, Kind};
+use nio_base::{CallerNo, ChanId, Kind};
 use nio_channel::{close_channel, open_channel};
 use nio_steps::{PipeError, PipeMakeError};
 use nio_words::{Pass, Words};
@@ -23,7 +24,7 @@ pub(crate) fn check_open(
     w: &Words,
     p: &mut Pass,
     me: CallerNo,
-    chan: ChanNo,
+    chan: ChanId,
 ) -> Result<bool, PipeError>
     requires ready { IsReady w.now p.old me }
     requires channel { HasChannel (view w.now p.old) chan }
@@ -35,8 +36,8 @@ pub(crate) fn check_open(
     ensures at_once { result ≢ Err AsynchronousClose }
     ensures unpinned { HasNoPin (view w.now p.new) me }
 {
-    let found = w.look_channel(p, me, chan);
-    if found.closed {
+    let found = w.look_channel(p, me, chan.number);
+    if !found.is_open(chan.serial) {
         return Err(PipeError::ClosedChannel);
     }
     if !found.blocking {
@@ -46,7 +47,7 @@ pub(crate) fn check_open(
 }
 
 // Looks whether the caller is interrupted, which closes the channel.
-fn check_interrupt(w: &Words, p: &mut Pass, me: CallerNo, chan: ChanNo) -> Result<bool, PipeError>
+fn check_interrupt(w: &Words, p: &mut Pass, me: CallerNo, chan: ChanId) -> Result<bool, PipeError>
     requires ready { IsReady w.now p.old me }
     requires channel { HasChannel (view w.now p.old) chan }
     requires unpinned { HasNoPin (view w.now p.old) me }
@@ -70,8 +71,8 @@ pub(crate) fn check_write(
     w: &Words,
     p: &mut Pass,
     me: CallerNo,
-    source: ChanNo,
-    sink: ChanNo,
+    source: ChanId,
+    sink: ChanId,
 ) -> Result<bool, PipeError>
     requires ready { IsReady w.now p.old me }
     requires ends { HasEnds (view w.now p.old) source sink }
@@ -84,7 +85,7 @@ pub(crate) fn check_write(
     ensures unpinned { HasNoPin (view w.now p.new) me }
 {
     let blocking = check_open(w, p, me, sink)?;
-    if w.look_channel(p, me, source).closed {
+    if !w.look_channel(p, me, source.number).is_open(source.serial) {
         return Err(PipeError::BrokenPipe);
     }
     Ok(blocking)
@@ -93,8 +94,8 @@ pub(crate) fn check_write(
 // The channels of a pipe.
 #[derive(Clone, Copy)]
 pub(crate) struct Ends {
-    pub(crate) source: ChanNo,
-    pub(crate) sink: ChanNo,
+    pub(crate) source: ChanId,
+    pub(crate) sink: ChanId,
 }
 
 // Opens the channels of a pipe. Where there is no number left for the sink, the source is closed.
@@ -115,7 +116,7 @@ pub(crate) fn open_ends(w: &Words, p: &mut Pass, me: CallerNo) -> Result<Ends, P
     }
 }
 
-fn open_sink(w: &Words, p: &mut Pass, me: CallerNo, source: ChanNo) -> Result<Ends, PipeMakeError>
+fn open_sink(w: &Words, p: &mut Pass, me: CallerNo, source: ChanId) -> Result<Ends, PipeMakeError>
     requires ready { IsReady w.now p.old me }
     requires source { HasChannel (view w.now p.old) source }
     requires unpinned { HasNoPin (view w.now p.old) me }

@@ -8,9 +8,10 @@ ghost use Rattle.nio_steps.specs.Runs.{Completes};
 ghost use Rattle.nio_steps.specs.declared.refusal.PipeError.TheVariants.{ClosedByInterrupt};
 ghost use Rattle.nio_words.specs.Passes.{IsReady, limits_of};
 ghost use Rattle.nio_words.specs.Views.{view};
+ghost use Rattle.nio_channel.specs.Closed.{IsClosed};
 ghost use Rattle.nio_pipe.specs.Answers.{bytes_read, mode_found, read_answer as answer_of_read, without_mode};
 ghost use Rattle.nio_pipe.specs.Answers.{write_answer as answer_of_write};
-ghost use Rattle.nio_pipe.specs.Calls.{HasEnds, IsClosed, TriesRead, TriesWrite};
+ghost use Rattle.nio_pipe.specs.Calls.{HasEnds, TriesRead, TriesWrite};
 ghost use Rattle.nio_pipe.specs.Held.{pipe_made};
 ghost use Rattle.nio_pipe.specs.Making.{AreParts};
 ghost use Rattle.nio_pipe.specs.Pipe.{after_end, after_read, after_write, IsAtEnd, IsLawful, new_pipe, room_of};
@@ -23,7 +24,7 @@ use crate::making::Rings;
 use crate::sink::PipeSink;
 use crate::source::PipeSource;
 use circular_buffer::HeapCircularBuffer;
-use nio_base::{CallerNo, ChanNo};
+use nio_base::{CallerNo, ChanId};
 use nio_channel::close_channel;
 use nio_steps::{PipeError, PipeMakeError};
 use nio_trace::Trace;
@@ -38,8 +39,8 @@ pub const CAPACITY: usize = 65_536;
 /// from it; the buffer holds what waits.
 #[derive(Drop)]
 pub struct HeldPipe {
-    source: ChanNo,
-    sink: ChanNo,
+    source: ChanId,
+    sink: ChanId,
     buffer: HeapCircularBuffer<u8>,
     sent: Trace<u8>,
     received: Trace<u8>,
@@ -93,14 +94,14 @@ pub fn held_pipe(
 
 impl HeldPipe {
     /// The channel of the end that is read.
-    pub fn source(&self) -> ChanNo
+    pub fn source(&self) -> ChanId
         ensures { result ≡ self.now.source }
     {
         self.source
     }
 
     /// The channel of the end that is written.
-    pub fn sink(&self) -> ChanNo
+    pub fn sink(&self) -> ChanId
         ensures { result ≡ self.now.sink }
     {
         self.sink

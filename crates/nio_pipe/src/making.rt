@@ -13,7 +13,7 @@ use crate::checks::open_ends;
 use crate::held::CAPACITY;
 use crate::sink::PipeSink;
 use crate::source::PipeSource;
-use nio_base::{CallerNo, ChanNo};
+use nio_base::{CallerNo, ChanId};
 use nio_steps::PipeMakeError;
 use nio_words::{Pass, Words};
 use rtrb::{Consumer, Producer, RingBuffer};
@@ -64,7 +64,7 @@ impl Rings {
         })
     }
 
-    pub(crate) fn ends(self, source: ChanNo, sink: ChanNo) -> (PipeSource, PipeSink)
+    pub(crate) fn ends(self, source: ChanId, sink: ChanId) -> (PipeSource, PipeSink)
         requires { AreEmpty self }
         ensures ends { AreNew result.0 result.1 }
         ensures source { result.0.chan ≡ source }

@@ -6,9 +6,10 @@ ghost use Rattle.nio_pipe.specs.Counts.{count_of, seals_left};
 use crate::answers::{PipeWrite, leaves_seal, refusal_after, write_answer, write_goes_on};
 use crate::checks::check_write;
 use crate::source::PipeSource;
-use nio_base::{CallerNo, ChanNo};
+use nio_base::{CallerNo, ChanId};
 use nio_channel::close_channel;
 use nio_steps::PipeError;
+use nio_trace::{Reading, Trace};
 use nio_words::{Pass, Words};
 use rtrb::Producer;
 use std::sync::Wait;
@@ -17,13 +18,15 @@ use std::thread;
 /// The end of a pipe that is written into. It can move to a thread of its own.
 #[derive(Drop)]
 pub struct PipeSink {
-    pub(crate) chan: ChanNo,
-    pub(crate) source: ChanNo,
+    pub(crate) chan: ChanId,
+    pub(crate) source: ChanId,
     pub(crate) bytes: Producer<u8>,
     pub(crate) seals: Producer<u64>,
     // how many bytes were written, modulo 2^64
     count: u64,
     pub(crate) sealed: bool,
+    // what contracts see of each try to write: the places to fill that were known after it
+    pub(crate) tries: Trace<usize>,
     ghost sized: { producer_capacity bytes ≡ 65536 },
     ghost counted: { count ≡ count_of (pushed bytes) },
     ghost left: { pushed seals ≡ seals_left sealed count },
@@ -31,7 +34,8 @@ pub struct PipeSink {
 }
 
 impl PipeSink {
-    ghost use Rattle.std.specs.Prelude.{◌≤◌, ◌+◌, ◌++◌, ◌||◌, [], length, min, true, IsFalse, OnOk, IfOk, Ok, Err};
+    ghost use Rattle.std.specs.Prelude.{◌≤◌, ◌+◌, ◌++◌, ◌||◌, [], ◌∷◌, length, min, true, IsFalse, OnOk, OnErr, IfOk};
+    ghost use Rattle.std.specs.Prelude.{Ok, Err};
     ghost use Rattle.nio_history.specs.PassViews.{HasChannel, HasNoPin};
     ghost use Rattle.nio_steps.specs.Calls.{CallClause};
     ghost use Rattle.nio_steps.specs.ChannelCalls.{close_channel_plan};
@@ -40,17 +44,20 @@ impl PipeSink {
     ghost use Rattle.nio_steps.specs.declared.refusal.PipeError.TheVariants.{ClosedByInterrupt};
     ghost use Rattle.nio_words.specs.Passes.{IsReady, limits_of};
     ghost use Rattle.nio_words.specs.Views.{view};
+    ghost use Rattle.nio_channel.specs.Closed.{IsClosed};
     ghost use Rattle.nio_pipe.specs.Answers.{bytes_written, leaves_seal as answer_leaves_seal};
     ghost use Rattle.nio_pipe.specs.Answers.{write_answer as answer_of_write};
-    ghost use Rattle.nio_pipe.specs.Calls.{HasEnds, IsClosed, TriesWrite, WaitsToWrite};
-    ghost use Rattle.nio_pipe.specs.Ends.{other_chan, sink_chan, received, knows_end, sent, free, is_sealed, AreEnds};
-    ghost use Rattle.nio_pipe.specs.Ends.{HadNoPlace, IsSameSink, SourceLooks, SinkLooks, TakesBytes};
+    ghost use Rattle.nio_pipe.specs.Calls.{HasEnds, TriesWrite, WaitsToWrite};
+    ghost use Rattle.nio_pipe.specs.Ends.{other_chan, sink_chan, received, knows_end, sent, free, places, is_sealed};
+    ghost use Rattle.nio_pipe.specs.Ends.{tries_to_write};
+    ghost use Rattle.nio_pipe.specs.Ends.{AreEnds, HadNoPlace, HasTriedToWrite, IsSameSink, SourceLooks, SinkLooks};
+    ghost use Rattle.nio_pipe.specs.Ends.{TakesBytes};
     ghost use Rattle.nio_pipe.specs.declared.answers.PipeWrite.TheVariants.{NotYet};
 
     // The sink of a pipe into which nothing was written.
     pub(crate) fn make(
-        chan: ChanNo,
-        source: ChanNo,
+        chan: ChanId,
+        source: ChanId,
         bytes: Producer<u8>,
         seals: Producer<u64>,
     ) -> PipeSink
@@ -71,11 +78,12 @@ impl PipeSink {
             seals,
             count: 0,
             sealed: false,
+            tries: Trace::new(),
         }
     }
 
     /// The channel of this end.
-    pub fn chan(&self) -> ChanNo
+    pub fn chan(&self) -> ChanId
         ensures { result ≡ sink_chan self.now }
     {
         self.chan
@@ -99,6 +107,7 @@ impl PipeSink {
         ensures unpinned { HasNoPin (view w.now p.new) me }
         ensures closed { result ≡ Err ClosedByInterrupt → IsClosed (view w.now p.new) (sink_chan self.old) }
         ensures broken { result ≡ Err BrokenPipe → self.new ≡ self.old }
+        ensures refused { OnErr result (places self.new ≡ places self.old) }
         ensures same { IsSameSink self.old self.new }
         ensures bytes { TakesBytes self.old self.new from.now (bytes_written result) }
         ensures seal { is_sealed self.new ≡ (is_sealed self.old || answer_leaves_seal result) }
@@ -130,12 +139,13 @@ impl PipeSink {
         requires ends { HasEnds (view w.now p.old) (other_chan self.old) (sink_chan self.old) }
         requires unpinned { HasNoPin (view w.now p.old) me }
         ensures call { CallClause me (WaitsToWrite (limits_of w.now) (other_chan self.old) (sink_chan self.old)
-            (HadNoPlace self.old self.new from.now)) (view w.now p.old) (view w.now p.new) result }
+            (HasTriedToWrite self.old self.new from.now)) (view w.now p.old) (view w.now p.new) result }
         ensures ready { IsReady w.now p.new me }
         ensures unpinned { HasNoPin (view w.now p.new) me }
         ensures closed { result ≡ Err ClosedByInterrupt → IsClosed (view w.now p.new) (sink_chan self.old) }
         ensures closed_meanwhile { result ≡ Err AsynchronousClose → HadNoPlace self.old self.new from.now result }
         ensures broken { result ≡ Err BrokenPipe → free self.old ≤ free self.new }
+        ensures refused { OnErr result (places self.old ≤ places self.new) }
         ensures same { IsSameSink self.old self.new }
         ensures bytes { TakesBytes self.old self.new from.now (bytes_written result) }
         ensures seal { is_sealed self.new ≡ (is_sealed self.old || answer_leaves_seal result) }
@@ -176,13 +186,18 @@ impl PipeSink {
         ensures least { min (length from.now) (free self.old) ≤ bytes_written (Ok result) }
         ensures most { bytes_written (Ok result) < length from.now → free self.new ≡ 0 }
         ensures places { free self.old ≤ free self.new + bytes_written (Ok result) }
+        ensures looked { places self.old ≤ places self.new + bytes_written (Ok result) }
+        ensures tries { tries_to_write self.new ≡ tries_to_write self.old ++ free self.new ∷ [] }
         ensures not_yet { result ≡ NotYet → (free self.old ≡ 0) × (free self.new ≡ 0) }
     {
         if self.sealed {
+            self.tries.push(&0);
             return write_answer(from.len(), 0);
         }
         let (pushed, _) = self.bytes.push_partial_slice(from);
         self.count = self.count.wrapping_add(pushed.len() as u64);
+        self.tries
+            .extend_from::<Producer<u8>, FreePlaces>(&self.bytes);
         write_answer(from.len(), pushed.len())
     }
 
@@ -191,7 +206,8 @@ impl PipeSink {
         ensures same { IsSameSink self.old self.new }
         ensures sent { sent self.new ≡ sent self.old }
         ensures seal { is_sealed self.new ≡ (is_sealed self.old || answer_leaves_seal (Err refusal)) }
-        ensures free { free self.new ≤ free self.old }
+        ensures ring { self.new.bytes ≡ self.old.bytes }
+        ensures tries { tries_to_write self.new ≡ tries_to_write self.old }
         ensures broken { refusal ≡ BrokenPipe → self.new ≡ self.old }
     {
         if leaves_seal(refusal) {
@@ -202,6 +218,8 @@ impl PipeSink {
     // Leaves the seal, once.
     pub(crate) fn leave_seal(&mut self)
         ensures same { IsSameSink self.old self.new }
+        ensures ring { self.new.bytes ≡ self.old.bytes }
+        ensures tries { tries_to_write self.new ≡ tries_to_write self.old }
         ensures sent { sent self.new ≡ sent self.old }
         ensures seal { is_sealed self.new ≡ true }
     {
@@ -253,10 +271,21 @@ impl PipeSink {
         ensures closed { IsClosed (view w.now p.new) (sink_chan self.old) }
         ensures same { IsSameSink self.old self.new }
         ensures sent { sent self.new ≡ sent self.old }
+        ensures places { places self.new ≡ places self.old }
         ensures seal { is_sealed self.new ≡ true }
     {
         let closes = close_channel(w, p, me, self.chan);
         self.leave_seal();
         closes
     }
+}
+
+// Reads off a ring the places that are known to be free.
+struct FreePlaces;
+
+impl Reading<Producer<u8>, usize> for FreePlaces {
+    ghost use Rattle.std.specs.Prelude.{[], ◌∷◌};
+    ghost use Rattle.rtrb.specs.Ring.{known_free};
+
+    ghost items = { λ ring. known_free ring ∷ [] };
 }

@@ -2,15 +2,16 @@
 ghost use Rattle.std.specs.Prelude.{◌≡◌, ◌<◌, ◌≤◌, ◌++◌, [], length, take, drop};
 ghost use mathlib.Core.List.{IsPrefix};
 ghost use Rattle.rtrb.specs.Ring.{consumer_capacity, known_items, received as popped, sent as pushed, SameConsumer};
-ghost use Rattle.nio_pipe.specs.Counts.{count_of, left_to, seals_taken, IsReached};
+ghost use Rattle.nio_pipe.specs.Counts.{count_known, count_of, left_to, seals_taken, IsReached};
 
 use crate::answers::{PipeRead, read_answer, read_goes_on, refusal_after};
 use crate::checks::check_open;
 use crate::sink::PipeSink;
 use core::mem::replace_with;
-use nio_base::{CallerNo, ChanNo};
+use nio_base::{CallerNo, ChanId};
 use nio_channel::close_channel;
 use nio_steps::PipeError;
+use nio_trace::{Reading, Trace};
 use nio_words::{Pass, Words};
 use rtrb::Consumer;
 use std::sync::Wait;
@@ -19,7 +20,7 @@ use std::thread;
 /// The end of a pipe that is read from. It can move to a thread of its own.
 #[derive(Drop)]
 pub struct PipeSource {
-    pub(crate) chan: ChanNo,
+    pub(crate) chan: ChanId,
     pub(crate) bytes: Consumer<u8>,
     pub(crate) seals: Consumer<u64>,
     // how many bytes were read, modulo 2^64
@@ -28,6 +29,8 @@ pub struct PipeSource {
     seal: Option<u64>,
     // how many bytes wait up to the seal, once all of them were seen
     pub(crate) to_end: Option<usize>,
+    // what contracts see of each try to read: how much was known after it
+    pub(crate) tries: Trace<usize>,
     ghost sized: { consumer_capacity bytes ≡ 65536 },
     ghost counted: { count ≡ count_of (popped bytes) },
     ghost took: { popped seals ≡ seals_taken seal },
@@ -35,7 +38,8 @@ pub struct PipeSource {
 }
 
 impl PipeSource {
-    ghost use Rattle.std.specs.Prelude.{◌<◌, ◌≤◌, ◌++◌, [], length, true, None, Some, IfNone, IfSome, IsSome, OnOk};
+    ghost use Rattle.std.specs.Prelude.{◌<◌, ◌≤◌, ◌++◌, [], ◌∷◌, length, true, None, Some, IfNone, IfSome, IsSome};
+    ghost use Rattle.std.specs.Prelude.{OnOk};
     ghost use Rattle.std.specs.Prelude.{IfOk, Ok, Err};
     ghost use Rattle.nio_history.specs.PassViews.{HasChannel, HasNoPin};
     ghost use Rattle.nio_steps.specs.Calls.{CallClause};
@@ -44,17 +48,19 @@ impl PipeSource {
     ghost use Rattle.nio_steps.specs.declared.refusal.PipeError.TheVariants.{AsynchronousClose, ClosedByInterrupt};
     ghost use Rattle.nio_words.specs.Passes.{IsReady, limits_of};
     ghost use Rattle.nio_words.specs.Views.{view};
+    ghost use Rattle.nio_channel.specs.Closed.{IsClosed};
     ghost use Rattle.nio_pipe.specs.Answers.{bytes_read, read_answer as answer_of_read};
-    ghost use Rattle.nio_pipe.specs.Calls.{IsClosed, TriesRead, WaitsToRead};
+    ghost use Rattle.nio_pipe.specs.Calls.{TriesRead, WaitsToRead};
     ghost use Rattle.nio_pipe.specs.Ends.{source_chan, received, known, knows_end, sent, is_sealed, pipe_of, AreEnds};
-    ghost use Rattle.nio_pipe.specs.Ends.{GivesBytes, HadNoByte, IsAtEnd, IsSameSource, IsSameSink, KnowsNothing};
-    ghost use Rattle.nio_pipe.specs.Ends.{SinkLooks, SourceLooks};
+    ghost use Rattle.nio_pipe.specs.Ends.{GivesBytes, HadNoByte, HasTriedToRead, IsAtEnd, IsSameSource, IsSameSink};
+    ghost use Rattle.nio_pipe.specs.Ends.{KnowsNothing};
+    ghost use Rattle.nio_pipe.specs.Ends.{SinkLooks, SourceLooks, tries_to_read};
     ghost use Rattle.nio_pipe.specs.Pipe.{IsLawful};
     ghost use Rattle.nio_pipe.specs.Pipe.{IsAtEnd as IsPipeAtEnd};
     ghost use Rattle.nio_pipe.specs.declared.answers.PipeRead.TheVariants.{End, NotYet};
 
     // The source of a pipe into which nothing was written.
-    pub(crate) fn make(chan: ChanNo, bytes: Consumer<u8>, seals: Consumer<u64>) -> PipeSource
+    pub(crate) fn make(chan: ChanId, bytes: Consumer<u8>, seals: Consumer<u64>) -> PipeSource
         requires sized { consumer_capacity bytes ≡ 65536 }
         requires fresh { popped bytes ≡ [] }
         requires unsealed { popped seals ≡ [] }
@@ -70,11 +76,12 @@ impl PipeSource {
             count: 0,
             seal: None,
             to_end: None,
+            tries: Trace::new(),
         }
     }
 
     /// The channel of this end.
-    pub fn chan(&self) -> ChanNo
+    pub fn chan(&self) -> ChanId
         ensures { result ≡ source_chan self.now }
     {
         self.chan
@@ -123,7 +130,7 @@ impl PipeSource {
         requires channel { HasChannel (view w.now p.old) (source_chan self.old) }
         requires unpinned { HasNoPin (view w.now p.old) me }
         ensures call { CallClause me (WaitsToRead (limits_of w.now) (source_chan self.old)
-            (HadNoByte self.old self.new into.old)) (view w.now p.old) (view w.now p.new) result }
+            (HasTriedToRead self.old self.new into.old)) (view w.now p.old) (view w.now p.new) result }
         ensures ready { IsReady w.now p.new me }
         ensures unpinned { HasNoPin (view w.now p.new) me }
         ensures closed { result ≡ Err ClosedByInterrupt → IsClosed (view w.now p.new) (source_chan self.old) }
@@ -215,15 +222,33 @@ impl PipeSource {
         ensures not_yet { result ≡ NotYet → KnowsNothing self.old × KnowsNothing self.new }
         ensures end { result ≡ End → IsAtEnd self.new }
         ensures stays { IsAtEnd self.old → result ≡ answer_of_read (length into.old) 0 true }
+        ensures tries { tries_to_read self.new ≡ tries_to_read self.old ++ count_known self.new.to_end
+            (known_items self.new.bytes) ∷ [] }
     {
         self.look();
         let given = self.pop(into);
+        self.note_try();
         read_answer(into.len(), given, self.to_end.is_some())
+    }
+
+    // Adds what is known to the tries.
+    fn note_try(&mut self)
+        ensures { self.new ≡ record self.old {
+          tries = self.old.tries ++ count_known self.old.to_end
+              (known_items self.old.bytes) ∷ [];
+        } }
+    {
+        let to_end = self.to_end;
+        self.tries.extend_from::<Known, KnownCount>(&Known {
+            bytes: &self.bytes,
+            to_end,
+        });
     }
 
     // Looks for the seal where no byte waits.
     fn look(&mut self)
-        ensures { SourceLooks self.old self.new }
+        ensures looks { SourceLooks self.old self.new }
+        ensures tries { self.new.tries ≡ self.old.tries }
     {
         if self.to_end.is_none() && self.bytes.is_empty() {
             self.look_for_end();
@@ -234,7 +259,8 @@ impl PipeSource {
     fn look_for_end(&mut self)
         requires end { self.old.to_end ≡ None }
         requires empty { known_items self.old.bytes ≡ [] }
-        ensures { SourceLooks self.old self.new }
+        ensures looks { SourceLooks self.old self.new }
+        ensures tries { self.new.tries ≡ self.old.tries }
     {
         self.take_seal();
         self.bytes.slots();
@@ -246,6 +272,7 @@ impl PipeSource {
         ensures seals { SameConsumer self.old.seals self.new.seals }
         ensures channel { self.new.chan ≡ self.old.chan }
         ensures end { self.new.to_end ≡ self.old.to_end }
+        ensures tries { self.new.tries ≡ self.old.tries }
     {
         if self.seal.is_none() {
             self.seal = self.seals.pop().ok();
@@ -260,6 +287,7 @@ impl PipeSource {
         ensures reached { IfSome self.old.seal (λ seal. left_to seal self.old.count ≤ length
             (known_items self.old.bytes) → self.new.to_end ≡ Some (left_to seal self.old.count)) }
         ensures kept { IfNone self.old.seal (self.new.to_end ≡ self.old.to_end) }
+        ensures tries { self.new.tries ≡ self.old.tries }
     {
         if let Some(seal) = self.seal {
             let left = seal.wrapping_sub(self.count);
@@ -275,6 +303,7 @@ impl PipeSource {
         ensures bytes { GivesBytes self.old self.new into.old into.new result }
         ensures most { result < length into.old → known self.new ≡ [] }
         ensures end { knows_end self.new ≡ knows_end self.old }
+        ensures tries { self.new.tries ≡ self.old.tries }
     {
         match self.to_end {
             Some(left) => self.pop_to_end(into, left),
@@ -288,6 +317,7 @@ impl PipeSource {
         ensures bytes { GivesBytes self.old self.new into.old into.new result }
         ensures most { result < length into.old → known self.new ≡ [] }
         ensures end { self.new.to_end ≡ None }
+        ensures tries { self.new.tries ≡ self.old.tries }
     {
         let given = pop_slice(&mut self.bytes, into);
         self.count = self.count.wrapping_add(given as u64);
@@ -301,6 +331,7 @@ impl PipeSource {
         ensures bytes { GivesBytes self.old self.new into.old into.new result }
         ensures most { result < length into.old → known self.new ≡ [] }
         ensures end { IsSome self.new.to_end }
+        ensures tries { self.new.tries ≡ self.old.tries }
     {
         let room = left.min(into.len());
         let given = pop_slice(&mut self.bytes, &mut into[..room]);
@@ -339,4 +370,22 @@ fn pop_by_value<'a>(
 {
     let given = bytes.pop_partial_slice(slice);
     (bytes, (given, slice))
+}
+
+// What a source knows: the bytes that were seen in its ring, and the end.
+#[derive(Clone, Copy)]
+struct Known<'a> {
+    bytes: &'a Consumer<u8>,
+    to_end: Option<usize>,
+}
+
+// Reads off how much that is.
+struct KnownCount;
+
+impl<'a> Reading<Known<'a>, usize> for KnownCount {
+    ghost use Rattle.std.specs.Prelude.{[], ◌∷◌};
+    ghost use Rattle.rtrb.specs.Ring.{known_items};
+    ghost use Rattle.nio_pipe.specs.Counts.{count_known};
+
+    ghost items = { λ known. count_known known.to_end (known_items known.bytes.now) ∷ [] };
 }

@@ -3,14 +3,15 @@
 use Rattle.std.proofs.Common.{◌≡◌, ℕ, ◌<◌, ◌==◌, Bool, true, false, not, ◌&&◌, ◌||◌, Option, Some, None, is_some}
 use Rattle.std.proofs.Common.{List, [], ◌∷◌, ◌++◌, take, drop, bit_and, bit_or}
 use Rattle.nio_base.specs.declared.kind.Kind.{Kind}
-use Rattle.nio_base.specs.declared.kind.Kind.TheVariants.{Source}
+use Rattle.nio_base.specs.declared.kind.Kind.TheVariants.{Sink, Source}
 use Rattle.nio_base.specs.declared.limits.Limits.{Limits}
 use Rattle.nio_base.specs.declared.numbers.CallerNo.{CallerNo}
-use Rattle.nio_base.specs.declared.numbers.ChanNo.{ChanNo}
+use Rattle.nio_base.specs.declared.numbers.ChanId.{ChanId}
 use Rattle.nio_base.specs.declared.numbers.KeyId.{KeyId}
 use Rattle.nio_base.specs.declared.numbers.SelNo.{SelNo}
 use Rattle.nio_group.specs.Run as step
 use Rattle.nio_group.specs.Run.{IsCallOf}
+use Rattle.nio_history.specs.Sets.{is_open_channel, was_opened}
 use Rattle.nio_history.specs.State.{with_interrupted, with_chan, with_gate, with_key, with_interest, with_mark}
 use Rattle.nio_history.specs.State.{with_note, with_closer, with_entered}
 use Rattle.nio_history.specs.declared.found.Mode.{Mode}
@@ -27,8 +28,8 @@ use Rattle.nio_plain.specs.Seq.Replies.{Replied, unchanged, replied, yes_or_no}
 use Rattle.nio_plain.specs.Seq.Cancelling.{channel_closed, cancelled_in_set}
 use Rattle.nio_plain.specs.Seq.Closing.{without_keys}
 use Rattle.nio_plain.specs.Seq.Grouping.{replied_by_group, stepped}
-use Rattle.nio_plain.specs.Seq.Modes.{key_of, is_registered}
-use Rattle.nio_plain.specs.Seq.Opening.{channel_made, selector_made, next_channel}
+use Rattle.nio_plain.specs.Seq.Modes.{has_key, key_of}
+use Rattle.nio_plain.specs.Seq.Opening.{channel_made, next_channel, selector_made, with_new_channel}
 use Rattle.nio_plain.specs.Seq.Pipes.{own_source, own_sink, pipe_at, with_pipe, sealing}
 use Rattle.nio_plain.specs.Seq.Piping.{room_for, with_sink}
 use Rattle.nio_plain.specs.Seq.Registering.{next_key, with_new_key}
@@ -101,34 +102,37 @@ pub record MayRegister (l : Limits) (st : ScriptState) (s c : ℕ) (k : KeyId) :
   pub non_blocking : (st.shared.chan c).blocking ≡ false
 
 -- the channel is the source, or the sink, of the pipe at the place, and the caller's own
-pub record IsOwnSource (st : ScriptState) (me : CallerNo) (c : ChanNo) (i : ℕ) : Type 0 where
-  pub made : (st.shared.chan c.0).made ≡ true
+pub record IsOwnSource (st : ScriptState) (me : CallerNo) (c : ChanId) (i : ℕ) : Type 0 where
+  pub opened : was_opened (st.shared.chan c.number.0) c.serial ≡ true
   pub own : own_source st.pipes me c ≡ Some i
 
-pub record IsOwnSink (st : ScriptState) (me : CallerNo) (c : ChanNo) (i : ℕ) : Type 0 where
-  pub made : (st.shared.chan c.0).made ≡ true
+pub record IsOwnSink (st : ScriptState) (me : CallerNo) (c : ChanId) (i : ℕ) : Type 0 where
+  pub opened : was_opened (st.shared.chan c.number.0) c.serial ≡ true
   pub own : own_sink st.pipes me c ≡ Some i
 
 -- a call, and what it replies and leaves
 pub data Change (rules : Rules) (l : Limits) (st : ScriptState) (me : CallerNo) : Call → Replied → Type 0 where
   nothing : (c : Call) (r : Reply) → may_keep c r ≡ true → Change rules l st me c (unchanged st r)
   selector : (s : ℕ) → s < l.selectors → Change rules l st me call.Selector (selector_made st (Some s))
-  channel : (kind : Kind) (c : ℕ) → next_channel l st ≡ Some c → Change rules l st me (call.Channel kind)
-      (channel_made st kind (Some c))
-  blocking : (c : ChanNo) (on : Bool) → (on && is_registered l st.shared c.0) ≡ false
+  channel : (kind : Kind) (c : ChanId) → next_channel rules l st.shared kind ≡ Some c
+      → Change rules l st me (call.Channel kind) (channel_made st kind (Some c))
+  blocking : (c : ChanId) (on : Bool) → is_open_channel (st.shared.chan c.number.0) c.serial ≡ true
+      → (on && has_key l st.shared c.number.0) ≡ false
       → Change rules l st me (call.Blocking c on)
-      (replied st reply.«Ok» (with_chan st.shared c.0 (record (st.shared.chan c.0) { blocking = on })))
-  register : (s : SelNo) (c : ChanNo) (ops : ℕ) (att : Option ℕ) (k : KeyId) (note : ℕ)
-      → MayRegister l st s.0 c.0 k
+      (replied st reply.«Ok»
+      (with_chan st.shared c.number.0 (record (st.shared.chan c.number.0) { blocking = on })))
+  register : (s : SelNo) (c : ChanId) (ops : ℕ) (att : Option ℕ) (k : KeyId) (note : ℕ)
+      → MayRegister l st s.0 c.number.0 k
       → Change rules l st me (call.Register s c ops att)
-      (replied st (reply.Key k) (with_new_key st.shared s.0 c.0 k ops note))
-  register_again : (s : SelNo) (c : ChanNo) (ops : ℕ) (att : Option ℕ) (k : KeyId) (note : ℕ)
+      (replied st (reply.Key k) (with_new_key st.shared s.0 c.number.0 k ops note))
+  register_again : (s : SelNo) (c : ChanId) (ops : ℕ) (att : Option ℕ) (k : KeyId) (note : ℕ)
       → Change rules l st me (call.Register s c ops att)
       (replied st (reply.Key k) (with_note (with_interest st.shared s.0 k.index ops) s.0 k.index note))
-  closec : (c : ChanNo) → (st.shared.chan c.0).made ≡ true
+  closec : (c : ChanId) → is_open_channel (st.shared.chan c.number.0) c.serial ≡ true
       → Change rules l st me (call.Closec c)
-      (sealing (own_sink st.pipes me c) (replied st reply.«Ok» (channel_closed st.shared c.0)))
-  closec_again : (c : ChanNo) → (st.shared.chan c.0).made ≡ true → (st.shared.chan c.0).closed ≡ true
+      (sealing (own_sink st.pipes me c) (replied st reply.«Ok» (channel_closed st.shared c.number.0)))
+  closec_again : (c : ChanId) → was_opened (st.shared.chan c.number.0) c.serial ≡ true
+      → is_open_channel (st.shared.chan c.number.0) c.serial ≡ false
       → Change rules l st me (call.Closec c) (sealing (own_sink st.pipes me c) (unchanged st reply.Already))
   cancel : (s : SelNo) (k : KeyId)
       → Change rules l st me (call.Cancel s k)
@@ -169,14 +173,15 @@ pub data Change (rules : Rules) (l : Limits) (st : ScriptState) (me : CallerNo) 
       (replied st reply.Closed (with_entered (without_keys st.shared s.0) s.0 true))
   interrupt : (target : CallerNo)
       → Change rules l st me (call.Interrupt target) (replied st reply.«Ok» (with_interrupted st.shared target.0 true))
-  pipe : (target : CallerNo) (source sink : ℕ) → target.0 < l.callers → next_channel l st ≡ Some source
-      → next_channel l (channel_made st Source (Some source)).left ≡ Some sink
+  pipe : (target : CallerNo) (source sink : ChanId) → target.0 < l.callers
+      → next_channel rules l st.shared Source ≡ Some source
+      → next_channel rules l (with_new_channel st.shared Source source) Sink ≡ Some sink
       → Change rules l st me (call.Pipe target)
       (with_sink (channel_made st Source (Some source)).left me target source (Some sink))
-  pipe_spent : (target : CallerNo) (source : ℕ) → next_channel l st ≡ Some source
+  pipe_spent : (target : CallerNo) (source : ChanId) → next_channel rules l st.shared Source ≡ Some source
       → Change rules l st me (call.Pipe target)
       (with_sink (channel_made st Source (Some source)).left me target source None)
-  pread : (c : ChanNo) (n i b : ℕ) (bytes : List ℕ) → IsOwnSource st me c i
+  pread : (c : ChanId) (n i b : ℕ) (bytes : List ℕ) → IsOwnSource st me c i
       → (pipe_at st.pipes i).waiting ≡ b ∷ bytes
       → Change rules l st me (call.Pread c n)
       (record {
@@ -184,17 +189,21 @@ pub data Change (rules : Rules) (l : Limits) (st : ScriptState) (me : CallerNo) 
         left =
             with_pipe st i (record (pipe_at st.pipes i) { waiting = drop n (b ∷ bytes) });
       })
-  pread_end : (c : ChanNo) (n i : ℕ) → IsOwnSource st me c i → (pipe_at st.pipes i).waiting ≡ []
+  pread_end : (c : ChanId) (n i : ℕ) → IsOwnSource st me c i → (pipe_at st.pipes i).waiting ≡ []
       → (pipe_at st.pipes i).sealed ≡ true → Change rules l st me (call.Pread c n) (unchanged st reply.End)
-  pread_interrupted : (c : ChanNo) (n : ℕ)
-      → Change rules l st me (call.Pread c n) (replied st reply.ClosedByInterrupt (channel_closed st.shared c.0))
-  pwrite : (c : ChanNo) (bytes : List ℕ) (i : ℕ) → IsOwnSink st me c i → (st.shared.chan c.0).closed ≡ false
+  pread_interrupted : (c : ChanId) (n : ℕ) → is_open_channel (st.shared.chan c.number.0) c.serial ≡ true
+      → Change rules l st me (call.Pread c n)
+      (replied st reply.ClosedByInterrupt (channel_closed st.shared c.number.0))
+  pwrite : (c : ChanId) (bytes : List ℕ) (i : ℕ) → IsOwnSink st me c i
+      → is_open_channel (st.shared.chan c.number.0) c.serial ≡ true
       → Change rules l st me (call.Pwrite c bytes) (written st bytes i (room_for bytes (pipe_at st.pipes i)))
-  pwrite_closed : (c : ChanNo) (bytes : List ℕ) (i : ℕ) → IsOwnSink st me c i → (st.shared.chan c.0).closed ≡ true
+  pwrite_closed : (c : ChanId) (bytes : List ℕ) (i : ℕ) → IsOwnSink st me c i
+      → is_open_channel (st.shared.chan c.number.0) c.serial ≡ false
       → Change rules l st me (call.Pwrite c bytes) (sealing (Some i) (unchanged st reply.ClosedChannel))
-  pwrite_interrupted : (c : ChanNo) (bytes : List ℕ) (i : ℕ) → IsOwnSink st me c i
+  pwrite_interrupted : (c : ChanId) (bytes : List ℕ) (i : ℕ) → IsOwnSink st me c i
+      → is_open_channel (st.shared.chan c.number.0) c.serial ≡ true
       → Change rules l st me (call.Pwrite c bytes)
-      (sealing (Some i) (replied st reply.ClosedByInterrupt (channel_closed st.shared c.0)))
+      (sealing (Some i) (replied st reply.ClosedByInterrupt (channel_closed st.shared c.number.0)))
   group : (g : GroupCall) (s : step.Call) → step_of g ≡ Some s → IsCallOf st.group s
       → Change rules l st me (call.Group g) (replied_by_group st (stepped st.group s))
   interrupted : Change rules l st me call.Interrupted

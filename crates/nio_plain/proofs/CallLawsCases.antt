@@ -1,18 +1,20 @@
 -- Each call makes one of the changes.
 use Rattle.std.proofs.Common.{◌≡◌, ℕ, ◌<◌, ◌==◌, Bool, true, false, not, ◌&&◌, ◌||◌, cond, nat_lt, Option, Some, None}
 use Rattle.std.proofs.Common.{is_some, List, [], ◌∷◌, length, filter, map, find, refl, ◌∙◌}
-use Rattle.std.proofs.lemmas.Bool.{ltb-true, not-false, or_parts, both_ways}
+use Rattle.std.proofs.lemmas.Bool.{and_parts, ltb-true, not-false, not-true, or_parts, both_ways}
 use Rattle.nio_base.specs.declared.kind.Kind.{Kind}
-use Rattle.nio_base.specs.declared.kind.Kind.TheVariants.{Source}
+use Rattle.nio_base.specs.declared.kind.Kind.TheVariants.{Sink, Source}
 use Rattle.nio_base.specs.declared.limits.Limits.{Limits}
 use Rattle.nio_base.specs.declared.numbers.CallerNo.{CallerNo}
-use Rattle.nio_base.specs.declared.numbers.ChanNo.{ChanNo}
+use Rattle.nio_base.specs.declared.numbers.ChanId.{ChanId}
 use Rattle.nio_base.specs.declared.numbers.GChan.{GChan}
 use Rattle.nio_base.specs.declared.numbers.KeyId.{KeyId}
 use Rattle.nio_base.specs.declared.numbers.SelNo.{SelNo}
-use Rattle.nio_group.specs.Group.{is_terminated}
+use Rattle.nio_group.specs.Group.{IsMade, is_made, is_terminated}
+use Rattle.nio_group.proofs.NumberLemmas.{made-so}
 use Rattle.nio_group.specs.Run as step
-use Rattle.nio_history.specs.Sets.{fits, in_key_set, in_selected_set, was_published, is_valid_key}
+use Rattle.nio_history.specs.Sets.{fits, fits_channel, in_key_set, in_selected_set, is_open_channel, is_valid_key}
+use Rattle.nio_history.specs.Sets.{was_opened, was_published}
 use Rattle.nio_history.specs.declared.found.Mode.{Mode}
 use Rattle.nio_language.specs.declared.call.Call.{Call}
 use Rattle.nio_language.specs.declared.call.Call.TheVariants as call
@@ -31,13 +33,14 @@ use Rattle.nio_plain.specs.Seq.Grouping.{with_named_group_channel}
 use Rattle.nio_plain.specs.Seq.Keys.{are_legal_at, is_in_selected_set, valid_call, interest_call, ready_call, iset_call}
 use Rattle.nio_plain.specs.Seq.Keys.{ior_call, iand_call, unselect_call, attach_call, attachment_call}
 use Rattle.nio_plain.specs.Seq.Listing.{names_or_none, keys_call, selected_call}
-use Rattle.nio_plain.specs.Seq.Modes.{name_or_none, key_of, is_registered, blocking_call, is_blocking_call}
-use Rattle.nio_plain.specs.Seq.Modes.{is_open_call, is_registered_call, key_for_call}
+use Rattle.nio_plain.specs.Seq.Modes.{blocking_call, has_key, is_blocking_call, is_registered, key_of, key_of_channel}
+use Rattle.nio_plain.specs.Seq.Modes.{is_open_call, is_registered_call, key_for_call, name_or_none}
 use Rattle.nio_plain.specs.Seq.Names.{below, key_at}
 use Rattle.nio_plain.specs.Seq.Opening.{channel_made, next_channel, selector_made, selector_call, channel_call}
+use Rattle.nio_plain.specs.Seq.Opening.{with_new_channel}
 use Rattle.nio_plain.specs.Seq.Pipes.{own_source, own_sink, pipe_at, sealing}
 use Rattle.nio_plain.specs.Seq.Piping.{with_sink, with_source, finds_interrupt, not_now, read_first, read_from}
-use Rattle.nio_plain.specs.Seq.Piping.{room_for, write_to, pipe_call, pread_call, pwrite_call}
+use Rattle.nio_plain.specs.Seq.Piping.{has_open_source, room_for, write_to, pipe_call, pread_call, pwrite_call}
 use Rattle.nio_plain.specs.Seq.Registering.{given_or_none, given_or_kept, next_key, are_legal, registered}
 use Rattle.nio_plain.specs.Seq.Registering.{registered_new, register_call}
 use Rattle.nio_plain.specs.Seq.Selections.{mode_of, updated_count, is_again, why_ended, own_selection, left_selection}
@@ -86,21 +89,21 @@ module _ (rules : Rules) (l : Limits) (st : ScriptState) (me : CallerNo) where
   of_selector None within = says call.Selector reply.SelectorsSpent refl
   of_selector (Some s) within = change.selector s (within s refl)
 
-  of_channel : (kind : Kind) (made : Option ℕ) → next_channel l st ≡ made
+  of_channel : (kind : Kind) (made : Option ChanId) → next_channel rules l st.shared kind ≡ made
       → C (call.Channel kind) (channel_made st kind made)
   of_channel kind None is = says (call.Channel kind) reply.ChannelsSpent refl
   of_channel kind (Some c) is = change.channel kind c is
 
-  of_new : (s : SelNo) (c : ChanNo) (ops : ℕ) (att : Option ℕ) (note : ℕ) (next : Option KeyId)
-      → ((k : KeyId) → next ≡ Some k → MayRegister l st s.0 c.0 k)
-      → C (call.Register s c ops att) (registered_new st s.0 c.0 ops note next)
+  of_new : (s : SelNo) (c : ChanId) (ops : ℕ) (att : Option ℕ) (note : ℕ) (next : Option KeyId)
+      → ((k : KeyId) → next ≡ Some k → MayRegister l st s.0 c.number.0 k)
+      → C (call.Register s c ops att) (registered_new st s.0 c.number.0 ops note next)
   of_new s c ops att note None may = says (call.Register s c ops att) reply.Full refl
   of_new s c ops att note (Some k) may = change.register s c ops att k note (may k refl)
 
-  of_register : (s : SelNo) (c : ChanNo) (ops : ℕ) (att : Option ℕ) (key : Option KeyId)
+  of_register : (s : SelNo) (c : ChanId) (ops : ℕ) (att : Option ℕ) (key : Option KeyId)
       → ((k : KeyId) → next_key l st.shared s.0 ≡ Some k → key ≡ None → (st.shared.gate s.0).shut ≡ false
-      → MayRegister l st s.0 c.0 k)
-      → C (call.Register s c ops att) (registered l st s.0 c.0 ops att key)
+      → MayRegister l st s.0 c.number.0 k)
+      → C (call.Register s c ops att) (registered l st s.0 c.number.0 ops att key)
   of_register s c ops att None may =
       either_where (st.shared.gate s.0).shut (λ _. says (call.Register s c ops att) reply.ClosedSelector refl)
       (λ not_shut. of_new s c ops att (given_or_none att) (next_key l st.shared s.0)
@@ -111,17 +114,20 @@ module _ (rules : Rules) (l : Limits) (st : ScriptState) (me : CallerNo) where
       (either (st.shared.gate s.0).shut (says word reply.ClosedSelector refl)
       (change.register_again s c ops att k (given_or_kept att (st.shared.note s.0 k.index))))
 
-  by_key : (s : SelNo) (c : ChanNo) (ops : ℕ) (att : Option ℕ) (key : Option KeyId) → key_of st.shared c.0 s.0 ≡ key
-      → st.shared.selector s.0 ≡ true → (st.shared.chan c.0).made ≡ true → (st.shared.chan c.0).closed ≡ false
-      → (st.shared.chan c.0).blocking ≡ false → C (call.Register s c ops att) (registered l st s.0 c.0 ops att key)
-  by_key s c ops att key is selector made is_open non_blocking =
+  by_key : (s : SelNo) (c : ChanId) (ops : ℕ) (att : Option ℕ) (key : Option KeyId)
+      → key_of st.shared c.number.0 s.0 ≡ key → st.shared.selector s.0 ≡ true
+      → is_open_channel (st.shared.chan c.number.0) c.serial ≡ true → (st.shared.chan c.number.0).blocking ≡ false
+      → C (call.Register s c ops att) (registered l st s.0 c.number.0 ops att key)
+  by_key s c ops att key is selector is_open non_blocking =
+      let chan = st.shared.chan c.number.0 in
+      let both = and_parts (fits_channel chan c.serial) (not chan.closed) is_open in
       of_register s c ops att key (λ k next none not_shut. record {
         next = next;
         none = is ∙ none;
         selector = selector;
         not_shut = not_shut;
-        made = made;
-        is_open = is_open;
+        made = (and_parts chan.made (chan.serial == c.serial) both.0).0;
+        is_open = not-true chan.closed both.1;
         non_blocking = non_blocking;
       })
 
@@ -150,13 +156,24 @@ module _ (rules : Rules) (l : Limits) (st : ScriptState) (me : CallerNo) where
   of_failed s (Some selection) e = change.failed s selection e
 
   -- the tests of the names of a line
-  made_named : {c : Call} {x : Replied} (k : ChanNo) → ((st.shared.chan k.0).made ≡ true → C c x)
-      → C c (cond (st.shared.chan k.0).made x (unchanged st reply.NoChannel))
-  made_named {c = c} k done = either_where (st.shared.chan k.0).made done (λ _. says c reply.NoChannel refl)
+  opened_named : {c : Call} {x : Replied} (k : ChanId)
+      → (was_opened (st.shared.chan k.number.0) k.serial ≡ true → C c x)
+      → C c (cond (was_opened (st.shared.chan k.number.0) k.serial) x (unchanged st reply.NoChannel))
+  opened_named {c = c} k done =
+      either_where (was_opened (st.shared.chan k.number.0) k.serial) done (λ _. says c reply.NoChannel refl)
 
-  channel_named : {c : Call} {x : Replied} (k : ChanNo) → C c x
-      → C c (cond (st.shared.chan k.0).made x (unchanged st reply.NoChannel))
-  channel_named k done = made_named k (λ _. done)
+  channel_named : {c : Call} {x : Replied} (k : ChanId) → C c x
+      → C c (cond (was_opened (st.shared.chan k.number.0) k.serial) x (unchanged st reply.NoChannel))
+  channel_named k done = opened_named k (λ _. done)
+
+  -- what is done with an open channel, and with a closed one
+  where_open : {c : Call} {x y : Replied} (k : ChanId)
+      → (is_open_channel (st.shared.chan k.number.0) k.serial ≡ false → C c x)
+      → (is_open_channel (st.shared.chan k.number.0) k.serial ≡ true → C c y)
+      → C c (cond (not (is_open_channel (st.shared.chan k.number.0) k.serial)) x y)
+  where_open k closed is_open =
+      either_where (not (is_open_channel (st.shared.chan k.number.0) k.serial)) (λ e. closed (not-true _ e))
+      (λ e. is_open (not-false _ e))
 
   selector_named : {c : Call} {x : Replied} (s : SelNo) → C c x
       → C c (cond (st.shared.selector s.0) x (unchanged st reply.NoSelector))
@@ -179,59 +196,62 @@ module _ (rules : Rules) (l : Limits) (st : ScriptState) (me : CallerNo) where
 
   -- calls on pipes
 
-  of_closec : (c : ChanNo) (closed : Bool) → (st.shared.chan c.0).closed ≡ closed → (st.shared.chan c.0).made ≡ true
+  of_closec : (c : ChanId) (is_open : Bool) → is_open_channel (st.shared.chan c.number.0) c.serial ≡ is_open
+      → was_opened (st.shared.chan c.number.0) c.serial ≡ true
       → C (call.Closec c)
       (sealing (own_sink st.pipes me c)
-      (cond closed (unchanged st reply.Already) (replied st reply.«Ok» (channel_closed st.shared c.0))))
-  of_closec c true is made = change.closec_again c made is
-  of_closec c false is made = change.closec c made
+      (cond is_open (replied st reply.«Ok» (channel_closed st.shared c.number.0)) (unchanged st reply.Already)))
+  of_closec c true is opened = change.closec c is
+  of_closec c false is opened = change.closec_again c opened is
 
-  of_sink : (target : CallerNo) (source : ℕ) (sink : Option ℕ) → target.0 < l.callers → next_channel l st ≡ Some source
-      → next_channel l (channel_made st Source (Some source)).left ≡ sink
+  of_sink : (target : CallerNo) (source : ChanId) (sink : Option ChanId) → target.0 < l.callers
+      → next_channel rules l st.shared Source ≡ Some source
+      → next_channel rules l (with_new_channel st.shared Source source) Sink ≡ sink
       → C (call.Pipe target) (with_sink (channel_made st Source (Some source)).left me target source sink)
   of_sink target source None there is then_is = change.pipe_spent target source is
   of_sink target source (Some sink) there is then_is = change.pipe target source sink there is then_is
 
-  of_pipe : (target : CallerNo) (source : Option ℕ) → target.0 < l.callers → next_channel l st ≡ source
-      → C (call.Pipe target) (with_source l st me target source)
+  of_pipe : (target : CallerNo) (source : Option ChanId) → target.0 < l.callers
+      → next_channel rules l st.shared Source ≡ source
+      → C (call.Pipe target) (with_source rules l st me target source)
   of_pipe target None there is = says (call.Pipe target) reply.ChannelsSpent refl
   of_pipe target (Some source) there is =
-      of_sink target source (next_channel l (channel_made st Source (Some source)).left) there is refl
+      of_sink target source (next_channel rules l (with_new_channel st.shared Source source) Sink) there is refl
 
   of_not_now : (c : Call) → may_keep c (reply.Number 0) ≡ true → (blocking : Bool)
       → C c (unchanged st (not_now blocking))
   of_not_now c keeps true = says c reply.Again refl
   of_not_now c keeps false = says c (reply.Number 0) keeps
 
-  of_read : (c : ChanNo) (n i : ℕ) → IsOwnSource st me c i
+  of_read : (c : ChanId) (n i : ℕ) → IsOwnSource st me c i
       → (blocking : Bool) (waiting : List ℕ) (sealed : Bool) → (pipe_at st.pipes i).waiting ≡ waiting
       → (pipe_at st.pipes i).sealed ≡ sealed → C (call.Pread c n) (read_first st blocking n i waiting sealed)
   of_read c n i own blocking [] false is seal = of_not_now (call.Pread c n) refl blocking
   of_read c n i own blocking [] true is seal = change.pread_end c n i own is seal
   of_read c n i own blocking (b ∷ bytes) sealed is seal = change.pread c n i b bytes own is
 
-  of_pread : (c : ChanNo) (n : ℕ) → (st.shared.chan c.0).made ≡ true
+  of_pread : (c : ChanId) (n : ℕ) → was_opened (st.shared.chan c.number.0) c.serial ≡ true
       → (place : Option ℕ) → own_source st.pipes me c ≡ place → C (call.Pread c n) (read_from st me c n place)
-  of_pread c n made None own = says (call.Pread c n) reply.NotOwner refl
-  of_pread c n made (Some i) own =
+  of_pread c n opened None own = says (call.Pread c n) reply.NotOwner refl
+  of_pread c n opened (Some i) own =
       let word = call.Pread c n in
-      either (st.shared.chan c.0).closed (says word reply.ClosedChannel refl)
-      (either (finds_interrupt st me c) (change.pread_interrupted c n)
+      where_open c (λ _. says word reply.ClosedChannel refl)
+      (λ is_open. either (finds_interrupt st me c) (change.pread_interrupted c n is_open)
       (either (n == 0) (says word (reply.Number 0) refl)
-      (of_read c n i (record { made = made; own = own }) (st.shared.chan c.0).blocking (pipe_at st.pipes i).waiting
-      (pipe_at st.pipes i).sealed refl refl)))
+      (of_read c n i (record { opened = opened; own = own }) (st.shared.chan c.number.0).blocking
+      (pipe_at st.pipes i).waiting (pipe_at st.pipes i).sealed refl refl)))
 
-  of_pwrite : (c : ChanNo) (bytes : List ℕ) → (st.shared.chan c.0).made ≡ true
+  of_pwrite : (c : ChanId) (bytes : List ℕ) → was_opened (st.shared.chan c.number.0) c.serial ≡ true
       → (place : Option ℕ) → own_sink st.pipes me c ≡ place → C (call.Pwrite c bytes) (write_to st me c bytes place)
-  of_pwrite c bytes made None own = says (call.Pwrite c bytes) reply.NotOwner refl
-  of_pwrite c bytes made (Some i) own =
+  of_pwrite c bytes opened None own = says (call.Pwrite c bytes) reply.NotOwner refl
+  of_pwrite c bytes opened (Some i) own =
       let word = call.Pwrite c bytes in
-      let its : IsOwnSink st me c i = record { made = made; own = own } in
-      either_where (st.shared.chan c.0).closed (change.pwrite_closed c bytes i its)
-      (λ is_open. either (finds_interrupt st me c) (change.pwrite_interrupted c bytes i its)
-      (either (st.shared.chan (pipe_at st.pipes i).source.0).closed (says word reply.BrokenPipe refl)
+      let its : IsOwnSink st me c i = record { opened = opened; own = own } in
+      where_open c (change.pwrite_closed c bytes i its)
+      (λ is_open. either (finds_interrupt st me c) (change.pwrite_interrupted c bytes i its is_open)
+      (either (not (has_open_source st.shared (pipe_at st.pipes i))) (says word reply.BrokenPipe refl)
       (either (length bytes == 0) (says word (reply.Number 0) refl)
-      (either (room_for bytes (pipe_at st.pipes i) == 0) (of_not_now word refl (st.shared.chan c.0).blocking)
+      (either (room_for bytes (pipe_at st.pipes i) == 0) (of_not_now word refl (st.shared.chan c.number.0).blocking)
       (change.pwrite c bytes i its is_open)))))
 
   -- calls on the group
@@ -242,11 +262,10 @@ module _ (rules : Rules) (l : Limits) (st : ScriptState) (me : CallerNo) where
   either_group false x y p q = q
 
   group_channel_named : {c : Call} (g : GChan) (x : GroupReplied)
-      → (g.0 < length st.group.channels → C c (replied_by_group st x))
+      → (IsMade st.group g → C c (replied_by_group st x))
       → C c (replied_by_group st (with_named_group_channel st.group g x))
   group_channel_named {c = c} g x done =
-      either_group (nat_lt g.0 (length st.group.channels)) x _
-      (λ e. done (ltb-true g.0 (length st.group.channels) e)) (says c reply.NoChannel refl)
+      either_group (is_made st.group g) x _ (λ e. done (made-so st.group g e)) (says c reply.NoChannel refl)
 
   of_group : (g : GroupCall) → C (call.Group g) (group_call st g)
   unfolding group_replied
@@ -273,29 +292,32 @@ module _ (rules : Rules) (l : Limits) (st : ScriptState) (me : CallerNo) where
   each_call call.Selector =
       of_selector (find (λ s. not (st.shared.selector s)) (below l.selectors))
       (λ s e. (found_below (λ n. not (st.shared.selector n)) l.selectors s e).1)
-  each_call (call.Channel kind) = of_channel kind (next_channel l st) refl
+  each_call (call.Channel kind) = of_channel kind (next_channel rules l st.shared kind) refl
   each_call (call.Blocking c on) =
       let word = call.Blocking c on in
       channel_named c
-      (either (st.shared.chan c.0).closed (says word reply.ClosedChannel refl)
-      (either_where (on && is_registered l st.shared c.0) (λ _. says word reply.IllegalBlockingMode refl)
-      (change.blocking c on)))
-  each_call (call.IsBlocking c) = channel_named c (says_whether (call.IsBlocking c) (st.shared.chan c.0).blocking)
-  each_call (call.IsOpen c) = channel_named c (says_whether (call.IsOpen c) (not (st.shared.chan c.0).closed))
-  each_call (call.IsRegistered c) = channel_named c (says_whether (call.IsRegistered c) (is_registered l st.shared c.0))
+      (where_open c (λ _. says word reply.ClosedChannel refl) (λ is_open.
+      either_where (on && has_key l st.shared c.number.0) (λ _. says word reply.IllegalBlockingMode refl)
+      (change.blocking c on is_open)))
+  each_call (call.IsBlocking c) =
+      let chan = st.shared.chan c.number.0 in
+      channel_named c (says_whether (call.IsBlocking c) (fits_channel chan c.serial && chan.blocking))
+  each_call (call.IsOpen c) =
+      channel_named c (says_whether (call.IsOpen c) (is_open_channel (st.shared.chan c.number.0) c.serial))
+  each_call (call.IsRegistered c) = channel_named c (says_whether (call.IsRegistered c) (is_registered l st.shared c))
   each_call (call.KeyFor c s) =
-      channel_named c (selector_named s (says_name (call.KeyFor c s) (key_of st.shared c.0 s.0)))
+      channel_named c (selector_named s (says_name (call.KeyFor c s) (key_of_channel st.shared c s.0)))
   each_call (call.Register s c ops att) =
       let word = call.Register s c ops att in
       either_where (st.shared.selector s.0) (λ selector.
-      either_where (st.shared.chan c.0).made (λ made.
-      either (not (are_legal (st.shared.chan c.0).kind ops)) (says word reply.IllegalOps refl)
-      (either_where (st.shared.chan c.0).closed (λ _. says word reply.ClosedChannel refl) (λ is_open.
-      either_where (st.shared.chan c.0).blocking (λ _. says word reply.IllegalBlockingMode refl) (λ non_blocking.
-      by_key s c ops att (key_of st.shared c.0 s.0) refl selector made is_open non_blocking))))
-      (λ _. says word reply.NoChannel refl))
+      channel_named c
+      (either (not (are_legal (st.shared.chan c.number.0).kind ops)) (says word reply.IllegalOps refl)
+      (where_open c (λ _. says word reply.ClosedChannel refl) (λ is_open.
+      either_where (st.shared.chan c.number.0).blocking (λ _. says word reply.IllegalBlockingMode refl) (λ non_blocking.
+      by_key s c ops att (key_of st.shared c.number.0 s.0) refl selector is_open non_blocking)))))
       (λ _. says word reply.NoSelector refl)
-  each_call (call.Closec c) = made_named c (of_closec c (st.shared.chan c.0).closed refl)
+  each_call (call.Closec c) =
+      opened_named c (of_closec c (is_open_channel (st.shared.chan c.number.0) c.serial) refl)
   each_call (call.Valid s k) =
       key_named s k (says_whether (call.Valid s k) (is_valid_key (st.shared.key s.0 k.index) k.serial))
   each_call (call.Interest s k) =
@@ -354,10 +376,10 @@ module _ (rules : Rules) (l : Limits) (st : ScriptState) (me : CallerNo) where
   each_call call.Interrupted = change.interrupted
   each_call (call.Pipe target) =
       either_where (nat_lt target.0 l.callers)
-      (λ there. of_pipe target (next_channel l st) (ltb-true target.0 l.callers there) refl)
+      (λ there. of_pipe target (next_channel rules l st.shared Source) (ltb-true target.0 l.callers there) refl)
       (λ _. says (call.Pipe target) reply.NoCaller refl)
-  each_call (call.Pwrite c bytes) = made_named c (λ made. of_pwrite c bytes made (own_sink st.pipes me c) refl)
-  each_call (call.Pread c n) = made_named c (λ made. of_pread c n made (own_source st.pipes me c) refl)
+  each_call (call.Pwrite c bytes) = opened_named c (λ opened. of_pwrite c bytes opened (own_sink st.pipes me c) refl)
+  each_call (call.Pread c n) = opened_named c (λ opened. of_pread c n opened (own_source st.pipes me c) refl)
   each_call (call.Group g) = of_group g
 
   pub change_of : (c : Call) → C c (seq rules l st me c)

@@ -38,9 +38,9 @@ changes : {rules : Rules} {l : Limits} {st : ScriptState} {me : CallerNo} {c : C
 changes (change.nothing c r _) e free = refl
 changes {st = st} {me = me} (change.closec_again c _ _) e free = unsealed (own_sink st.pipes me c) st free
 changes (change.pipe_spent target source _) e free = changed free
-changes (change.pread_interrupted c n) e free = changed free
+changes (change.pread_interrupted c n _) e free = changed free
 changes (change.pwrite_closed c bytes i _ _) e free = changed free
-changes (change.pwrite_interrupted c bytes i _) e free = changed free
+changes (change.pwrite_interrupted c bytes i _ _) e free = changed free
 changes {st = st} (change.group g s is made) e free =
     ap (with_group st) (refused_step st.group s (sym (same_effect g s is (line_reply (reply_to st.group s))) ∙ e))
 changes {st = st} {me = me} change.interrupted e free = said (st.shared.interrupted me.0) e

@@ -3,7 +3,7 @@
 use Rattle.std.proofs.Common.{◌≡◌, ◌⊎◌, ℕ, zero, suc, ◌<◌, ◌==◌, Bool, true, false, cond, not, ◌&&◌, Option, Some, None}
 use Rattle.std.proofs.Common.{is_some, List, [], ◌∷◌, map, length, get_or, refl, sym, ap, subst, ◌∙◌, inl, inr, ⊎_elim}
 use Rattle.std.proofs.Common.{arith, eq-eqb, eqb-true}
-use Rattle.std.proofs.lemmas.Bool.{cases_eq, cond-true, true≢false, both_ways}
+use Rattle.std.proofs.lemmas.Bool.{and_right, cases_eq, cond-true, true≢false, both_ways}
 use Rattle.std.proofs.lemmas.List.{get_or-map, length-map}
 use Rattle.std.proofs.lemmas.List.Elements.{All-map, filter_passes}
 use Rattle.std.specs.List.{All, Contains, filter}
@@ -23,14 +23,18 @@ use Rattle.nio_plain.proofs.Found.{below_contains}
 use Rattle.nio_plain.proofs.CallChanges as change
 use Rattle.nio_plain.proofs.CallChanges.{Change}
 use Rattle.nio_plain.proofs.CallLawsCases.{change_of, some_caller}
+use Rattle.nio_plain.proofs.CallLawsWakeups.{no_end}
 use Rattle.nio_plain.proofs.Places.{put-elsewhere}
-use Rattle.nio_plain.specs.CallLaws.{IsBegunBy, LookedIsReplied, is_over, OnlyItselfEndsASelection}
+use Rattle.nio_plain.specs.CallLaws.{EndLeavesNoneCancelled, IsBegunBy, LookedIsReplied, OnlyItselfEndsASelection}
+use Rattle.nio_plain.specs.CallLaws.{is_end, is_over}
 use Rattle.nio_plain.specs.ScriptState.{ScriptState, Selection}
 use Rattle.nio_plain.specs.Seq.Replies.{Replied}
 use Rattle.nio_plain.specs.Seq.Names.{below, key_at}
 use Rattle.nio_plain.specs.Seq.Removing.{removed_key}
 use Rattle.nio_plain.specs.declared.rules.Rules.{Rules}
-use Rattle.nio_plain.specs.Seq.Selections.{without_cancelled, looked_keys, selection_begun, is_caller, own_selection}
+use Rattle.nio_plain.specs.declared.rules.Rules.TheVariants.{Now}
+use Rattle.nio_plain.specs.Seq.Selections.{is_caller, looked_keys, own_selection, selection_begun, selection_ended}
+use Rattle.nio_plain.specs.Seq.Selections.{without_cancelled}
 
 -- an element that passes is kept, and so is its image
 contains_later : {X : Type 0} (y : X) (xs : List X) (x : X) → Contains xs x → Contains (y ∷ xs) x
@@ -242,3 +246,27 @@ module _ (rules : Rules) (st : ScriptState) (me other : CallerNo) (s : ℕ) (sel
 pub only_itself_ends_a_selection : OnlyItselfEndsASelection
 only_itself_ends_a_selection rules l st me other c s selection own =
     changes_stay rules st me other s selection own (change_of rules l st other c)
+
+-- ---- the end of a selection, by the rules of now
+
+-- a key of the cancelled set is removed
+gone : (b : Bool) (k : Stage) → b ≡ true
+    → in_cancelled_set (cond (b && in_cancelled_set k) (removed_key k) k) ≡ false
+gone false k e = absurd (true≢false (sym e))
+gone true k e = by_set (in_cancelled_set k) refl
+  where
+    by_set : (c : Bool) → in_cancelled_set k ≡ c → in_cancelled_set (cond c (removed_key k) k) ≡ false
+    by_set true _ = and_right (in_key_set (removed_key k)) false refl
+    by_set false out = out
+
+module _ (l : Limits) (st : ScriptState) (me : CallerNo) (s i : ℕ) where
+  changes_cancelled : {c : Call} {done : Replied} → Change Now l st me c done → is_end s c done.reply ≡ true
+      → in_cancelled_set (done.left.shared.key s i) ≡ false
+  changes_cancelled (change.nothing c r keeps) ends = absurd (both_ways (is_end s c r) (no_end s c r keeps) ends)
+  changes_cancelled (change.told t _ pairs selection _ _ _) ends =
+      subst (λ (n : ℕ). in_cancelled_set ((selection_ended Now st.shared t.0 selection pairs).key n i) ≡ false)
+      (eqb-true t.0 s ends) (gone (t.0 == t.0) (st.shared.key t.0 i) (eq-eqb t.0 t.0 refl))
+  changes_cancelled _ ends = absurd cc
+
+pub end_leaves_none_cancelled : EndLeavesNoneCancelled
+end_leaves_none_cancelled l st me c s i = changes_cancelled l st me s i (change_of Now l st me c)

@@ -40,7 +40,7 @@ no_wakeup : (s : ℕ) (c : Call) (r : Reply) → may_keep c r ≡ true → is_wa
 no_wakeup s (call.Wakeup t) reply.«Ok» keeps = absurd cc
 no_wakeup s _ _ keeps = refl
 
-no_end : (s : ℕ) (c : Call) (r : Reply) → may_keep c r ≡ true → is_end s c r ≡ false
+pub no_end : (s : ℕ) (c : Call) (r : Reply) → may_keep c r ≡ true → is_end s c r ≡ false
 no_end s (call.Told t elapsed pairs) (reply.Selected count why) keeps = absurd cc
 no_end s _ _ keeps = refl
 

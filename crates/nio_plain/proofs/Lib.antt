@@ -4,7 +4,6 @@ pub mod Replying
 pub mod Parts
 pub mod Changing
 pub mod Opening
-pub mod Blocking
 pub mod Naming
 pub mod Rows
 pub mod Registered
@@ -35,5 +34,6 @@ pub mod ReachedChannels
 pub mod ReachedRegistering
 pub mod ReachedPipes
 pub mod ReachedCalls
+pub mod ReachedReopening
 pub mod ReachedLaws
 pub mod ReachedGroups

@@ -1,10 +1,10 @@
 -- The tests of the names of a line.
 use Rattle.std.proofs.Common.{◌≡◌, true, false, ◌∙◌}
 use Rattle.std.proofs.lemmas.Bool.{cond-true, cond-false}
-use Rattle.nio_base.specs.declared.numbers.ChanNo.{ChanNo}
+use Rattle.nio_base.specs.declared.numbers.ChanId.{ChanId}
 use Rattle.nio_base.specs.declared.numbers.KeyId.{KeyId}
 use Rattle.nio_base.specs.declared.numbers.SelNo.{SelNo}
-use Rattle.nio_history.specs.Sets.{was_published, is_valid_key}
+use Rattle.nio_history.specs.Sets.{is_valid_key, was_opened, was_published}
 use Rattle.nio_language.specs.declared.reply.Reply.{Reply}
 use Rattle.nio_language.specs.declared.reply.Reply.TheVariants as reply
 use Rattle.nio_plain.specs.Naming.{LetsThrough, Refuses}
@@ -14,12 +14,15 @@ use Rattle.nio_plain.specs.Seq.Keys.{with_valid_key}
 use Rattle.nio_plain.specs.Seq.Names.{with_named_channel, with_named_selector, with_named_key}
 
 module _ (st : ScriptState) where
-  pub channel-through : (c : ChanNo) → (st.shared.chan c.0).made ≡ true → LetsThrough (with_named_channel st c)
-  channel-through c h = λ a. cond-true (st.shared.chan c.0).made a (unchanged st reply.NoChannel) h
+  pub channel-through : (c : ChanId) → was_opened (st.shared.chan c.number.0) c.serial ≡ true
+      → LetsThrough (with_named_channel st c)
+  channel-through c h =
+      λ a. cond-true (was_opened (st.shared.chan c.number.0) c.serial) a (unchanged st reply.NoChannel) h
 
-  pub channel-refused : (c : ChanNo) → (st.shared.chan c.0).made ≡ false
+  pub channel-refused : (c : ChanId) → was_opened (st.shared.chan c.number.0) c.serial ≡ false
       → Refuses st (with_named_channel st c) reply.NoChannel
-  channel-refused c h = λ a. cond-false (st.shared.chan c.0).made a (unchanged st reply.NoChannel) h
+  channel-refused c h =
+      λ a. cond-false (was_opened (st.shared.chan c.number.0) c.serial) a (unchanged st reply.NoChannel) h
 
   pub selector-through : (s : SelNo) → st.shared.selector s.0 ≡ true → LetsThrough (with_named_selector st s)
   selector-through s h = λ a. cond-true (st.shared.selector s.0) a (unchanged st reply.NoSelector) h

@@ -8,24 +8,24 @@ use Rattle.std.proofs.Math.Seq.{drop-length, take-append_seam}
 use Rattle.std.proofs.lemmas.Bool.{cases_lt, cond-true, lt-ltb}
 use Rattle.std.proofs.lemmas.List.{get_or-map, length-drop, length-map, map-append, map-set}
 use Rattle.std.proofs.lemmas.List.Quantifiers.{position-Some}
-use Rattle.nio_base.specs.declared.kind.Kind.{Kind}
 use Rattle.nio_base.specs.declared.kind.Kind.TheVariants.{Source, Sink}
 use Rattle.nio_base.specs.declared.limits.Limits.{Limits}
 use Rattle.nio_base.specs.declared.numbers.CallerNo.{CallerNo}
-use Rattle.nio_history.specs.State.{put, unmade_channel}
-use Rattle.nio_history.specs.declared.found.Chan.{Chan}
+use Rattle.nio_base.specs.declared.numbers.ChanId.{ChanId}
+use Rattle.nio_history.specs.State.{unmade_channel}
 use Rattle.nio_language.specs.declared.reply.Reply.TheVariants as reply
-use Rattle.nio_plain.proofs.Replying.{channel_made-below, channel_made-past, rows_of, state-push_channel}
+use Rattle.nio_plain.proofs.Replying.{channel_made-below, channel_made-past, rows_of}
 use Rattle.nio_plain.proofs.Found.{find_spent, find_unmade}
 use Rattle.nio_plain.specs.PlainState.{channel_row, pipe_of, places, state_from, state_of}
 use Rattle.nio_plain.specs.ScriptState.{Pipe, ScriptState, with_pipes}
 use Rattle.nio_plain.specs.Seq.Replies.{unchanged}
-use Rattle.nio_plain.specs.Seq.Opening.{channel_made, next_channel}
+use Rattle.nio_plain.specs.Seq.Opening.{channel_made, next_channel, unmade_number, with_new_channel}
 use Rattle.nio_plain.specs.Seq.Pipes.{no_pipe, pipe_at, with_pipe}
 use Rattle.nio_plain.specs.Seq.Piping.{not_now, pipe_call, read_first, with_sink, with_source}
 use Rattle.nio_plain.specs.declared.plain.Plain.{Plain}
 use Rattle.nio_plain.specs.declared.plain.channel.Channel.{Channel}
 use Rattle.nio_plain.specs.declared.plain.pipe.Pipe.{Pipe as PlainPipe}
+use Rattle.nio_plain.specs.declared.rules.Rules.{Rules}
 
 -- the first place of a list, and of its image
 
@@ -85,16 +85,16 @@ place_within q items place e =
 
 -- making a pipe
 
--- the caller is one that there is, and these are the numbers that come next
-pub pipe_call-is : (l : Limits) (st : ScriptState) (me target : CallerNo) (source : ℕ) (sink : Option ℕ)
-    → target.0 < l.callers → next_channel l st ≡ Some source
-    → next_channel l (channel_made st Source (Some source)).left ≡ sink
-    → pipe_call l st me target ≡ with_sink (channel_made st Source (Some source)).left me target source sink
+-- the caller is one that there is, and these are the channels that come next
+pub pipe_call-is : (rules : Rules) (l : Limits) (st : ScriptState) (me target : CallerNo) (source : ChanId)
+    (sink : Option ChanId) → target.0 < l.callers → next_channel rules l st.shared Source ≡ Some source
+    → next_channel rules l (with_new_channel st.shared Source source) Sink ≡ sink
+    → pipe_call rules l st me target ≡ with_sink (channel_made st Source (Some source)).left me target source sink
 unfolding pipe_call
-pipe_call-is l st me target source sink within next further =
-    cond-true (nat_lt target.0 l.callers) (with_source l st me target (next_channel l st)) _
+pipe_call-is rules l st me target source sink within next further =
+    cond-true (nat_lt target.0 l.callers) (with_source rules l st me target (next_channel rules l st.shared Source)) _
     (lt-ltb target.0 l.callers within)
-    ∙ (ap (with_source l st me target) next
+    ∙ (ap (with_source rules l st me target) next
     ∙ ap (with_sink (channel_made st Source (Some source)).left me target source) further)
 
 -- one pipe more
@@ -132,55 +132,25 @@ with_ends p pipes channels =
     (places channel_row unmade_channel channels)
     (rows_of p)
 
--- a system with a channel more
-pub channel_added : (p : Plain) (kind : Kind) (pipes : List PlainPipe) (channels : List Channel) (new : Channel)
-    → pipes ≡ p.pipes.items → channels ≡ p.channels.items ++ new ∷ []
-    → channel_row new ≡ record { made = true; kind = kind; closed = false; blocking = true }
-    → with_ends p pipes channels ≡ (channel_made (state_of p) kind (Some (length p.channels.items))).left
-channel_added p kind pipes channels new same more is =
-    ap (λ (ps : List PlainPipe). with_ends p ps channels) same
-    ∙ (state-push_channel _ _ _ (rows_of p) p.channels.items channels new more
-    ∙ ap
-    (λ (row : Chan).
-    state_from
-    p.group
-    (map pipe_of p.pipes.items)
-    (places (λ (b : Bool). b) false p.interrupted.items)
-    (length p.channels.items + 1)
-    (put (places channel_row unmade_channel p.channels.items) (length p.channels.items) row)
-    (rows_of p))
-    is)
-
--- a system with a sink and a pipe more
-pub sink_made : (p : Plain) (before pipes : List PlainPipe) (ones channels : List Channel) (sink : Channel)
-    (pipe : PlainPipe) (new : Pipe)
-    → pipes ≡ before ++ pipe ∷ [] → channels ≡ ones ++ sink ∷ []
-    → channel_row sink ≡ record { made = true; kind = Sink; closed = false; blocking = true }
-    → pipe_of pipe ≡ new
-    → with_ends p pipes channels
-    ≡ with_pipes (channel_made (with_ends p before ones) Sink (Some (length ones))).left
-    (map pipe_of before ++ new ∷ [])
-sink_made p before pipes ones channels sink pipe new more longer row is =
-    state-push_channel _ (map pipe_of pipes) _ (rows_of p) ones channels sink longer
-    ∙ (λ i.
-    state_from
-    p.group
+-- a system with one pipe more
+pub pipe_made : (p : Plain) (before pipes : List PlainPipe) (channels : List Channel) (pipe : PlainPipe) (new : Pipe)
+    → pipes ≡ before ++ pipe ∷ [] → pipe_of pipe ≡ new
+    → with_ends p pipes channels ≡ with_pipes (with_ends p before channels) (map pipe_of before ++ new ∷ [])
+pipe_made p before pipes channels pipe new more is =
+    λ i.
+    with_pipes (with_ends p before channels)
     ((pipes-push before pipes pipe more ∙ ap (λ (q : Pipe). map pipe_of before ++ q ∷ []) is) i)
-    (places (λ (b : Bool). b) false p.interrupted.items)
-    (length ones + 1)
-    (put (places channel_row unmade_channel ones) (length ones) (row i))
-    (rows_of p))
 
--- the number of the channel that comes next
+-- the least number that isn't made
 
 pub next_end : (p : Plain) (pipes : List PlainPipe) (channels : List Channel) → length channels < p.limits.channels
-    → next_channel p.limits (with_ends p pipes channels) ≡ Some (length channels)
+    → unmade_number p.limits (with_ends p pipes channels).shared ≡ Some (length channels)
 next_end p pipes channels room =
     find_unmade (λ c. (places channel_row unmade_channel channels c).made) p.limits.channels (length channels)
     (channel_made-below channels) (channel_made-past channels) room
 
 pub no_next_end : (p : Plain) (pipes : List PlainPipe) (channels : List Channel) → p.limits.channels ≤ length channels
-    → next_channel p.limits (with_ends p pipes channels) ≡ None
+    → unmade_number p.limits (with_ends p pipes channels).shared ≡ None
 no_next_end p pipes channels full =
     find_spent (λ c. (places channel_row unmade_channel channels c).made) p.limits.channels (length channels)
     (channel_made-below channels) (channel_made-past channels) full

@@ -35,12 +35,12 @@ module _ (rules : Rules) (l : Limits) (st : ScriptState) (me : CallerNo) (sound 
   keeps_change (change.selector s within) =
       keeps_selector rules l st (reply.Selector (record { 0 = s })) s within sound
   keeps_change (change.channel kind c is) = keeps_made rules l st kind c is sound
-  keeps_change (change.blocking c on free) = keeps_mode rules l st reply.«Ok» c.0 on free sound
+  keeps_change (change.blocking c on _ free) = keeps_mode rules l st reply.«Ok» c.number.0 on free sound
   keeps_change (change.register s c ops att k note may) =
-      keeps_new_key rules l st s.0 c.0 sound k (next-is rules l st s.0 sound k may.next) (reply.Key k) ops note
+      keeps_new_key rules l st s.0 c.number.0 sound k (next-is rules l st s.0 sound k may.next) (reply.Key k) ops note
       may.selector may.not_shut may.none may.made may.non_blocking may.is_open
   keeps_change (change.closec c _) =
-      let kept = keeps_closed_channel rules l st c.0 reply.«Ok» sound in
+      let kept = keeps_closed_channel rules l st c.number.0 reply.«Ok» sound in
       record { sound = kept.sound; stays = kept.stays }
   keeps_change (change.cancel s k) = keeps_cancelled_key rules l st reply.«Ok» s.0 k sound
   keeps_change (change.unselect s k) = keeps_unselected rules l st reply.Yes s.0 k.index sound
@@ -54,9 +54,10 @@ module _ (rules : Rules) (l : Limits) (st : ScriptState) (me : CallerNo) (sound 
   keeps_change (change.pipe target source sink _ is then_is) =
       keeps_pipe rules l st me target source sink is then_is sound
   keeps_change (change.pipe_spent target source is) = keeps_pipe_spent rules l st source is sound
-  keeps_change (change.pread_interrupted c n) = keeps_closed_channel rules l st c.0 reply.ClosedByInterrupt sound
-  keeps_change (change.pwrite_interrupted c bytes i _) =
-      let kept = keeps_closed_channel rules l st c.0 reply.ClosedByInterrupt sound in
+  keeps_change (change.pread_interrupted c n _) =
+      keeps_closed_channel rules l st c.number.0 reply.ClosedByInterrupt sound
+  keeps_change (change.pwrite_interrupted c bytes i _ _) =
+      let kept = keeps_closed_channel rules l st c.number.0 reply.ClosedByInterrupt sound in
       record { sound = kept.sound; stays = kept.stays }
   -- the others change none of these parts
   keeps_change _ = record { sound = sound; stays = same_stays st.shared.key st.shared.entered }

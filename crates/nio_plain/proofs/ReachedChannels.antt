@@ -3,11 +3,14 @@
 use Rattle.std.proofs.Common.{◌≡◌, ℕ, ◌==◌, ◌<◌, Bool, true, false, cond, ◌&&◌, Option, Some, None, is_some, refl, sym}
 use Rattle.std.proofs.Common.{ap, ◌∙◌, subst, eqb-true, eq-eqb}
 use Rattle.std.proofs.lemmas.Bool.{and_parts, and_from, both_ways, false_from_ne_true}
+use Rattle.nio_base.specs.declared.kind.Kind.{Kind}
 use Rattle.nio_base.specs.declared.limits.Limits.{Limits}
+use Rattle.nio_base.specs.declared.numbers.ChanId.{ChanId}
 use Rattle.nio_base.specs.declared.numbers.KeyId.{KeyId}
 use Rattle.nio_history.proofs.Put.{put_keeps}
-use Rattle.nio_history.specs.Sets.{fits, in_key_set, is_in_key_set, is_valid}
-use Rattle.nio_history.specs.State.{State, put, with_selector, with_chan, with_channels_high}
+use Rattle.nio_history.specs.Sets.{fits, in_key_set, is_in_key_set, is_valid, was_opened}
+use Rattle.nio_history.specs.Acts.{new_channel}
+use Rattle.nio_history.specs.State.{State, put, with_selector, with_chan}
 use Rattle.nio_history.specs.declared.found.Chan.{Chan}
 use Rattle.nio_history.specs.declared.found.Stage.{Stage}
 use Rattle.nio_language.specs.declared.reply.Reply.{Reply}
@@ -17,8 +20,10 @@ use Rattle.nio_plain.proofs.Registered.{any-some, key_of-some, key_of-is}
 use Rattle.nio_plain.specs.ScriptState.{ScriptState, with_shared}
 use Rattle.nio_plain.specs.Seq.Replies.{replied}
 use Rattle.nio_plain.specs.Seq.Cancelling.{has_index, cancelled_key, with_keys_cancelled, channel_closed}
-use Rattle.nio_plain.specs.Seq.Modes.{key_of, is_registered}
+use Rattle.nio_plain.specs.Seq.Modes.{has_key, key_of}
+use Rattle.nio_plain.specs.Seq.Opening.{with_new_channel}
 use Rattle.nio_plain.specs.declared.rules.Rules.{Rules}
+use Rattle.nio_plain.specs.declared.rules.Rules.TheVariants.{First}
 
 -- the present key of an index is in the key set by its serial too
 pub present-in_set : (k : Stage) → k.claimed ≡ true → in_key_set k ≡ true → is_in_key_set k k.serial ≡ true
@@ -75,29 +80,40 @@ keeps_channels rules l st r chan channels_high channels sound = record {
   stays = same_stays st.shared.key st.shared.entered;
 }
 
--- a channel that wasn't made has no key
-pub keeps_channel : (rules : Rules) (l : Limits) (st : ScriptState) (r : Reply) (c : ℕ) (new : Chan) (mark : ℕ)
-    → new.made ≡ true → new.closed ≡ false → (st.shared.chan c).made ≡ false → Sound rules l st
-    → Keeps rules l st (replied st r (with_channels_high (with_chan st.shared c new) mark))
-keeps_channel rules l st r c new mark made is_open unmade sound =
+-- what is true of the channel that is opened next: no channel of its number had its serial or a later one, no key of
+-- its number is in a key set, a number that is made keeps its kind, and by the first rules the serial is 0
+pub record IsNextChannel (rules : Rules) (st : State) (kind : Kind) (c : ChanId) : Type 0 where
+  pub older : (q : ℕ) → was_opened (st.chan c.number.0) q ≡ true → q < c.serial
+  pub kind_same : (st.chan c.number.0).made ≡ true → (st.chan c.number.0).kind ≡ kind
+  pub no_key : (s i : ℕ) → in_key_set (st.key s i) ≡ true → (st.key s i).chan.0 ≡ c.number.0 → ⊥
+  pub first : rules ≡ First → c.serial ≡ 0
+
+-- such a channel is opened
+pub keeps_channel : (rules : Rules) (l : Limits) (st : ScriptState) (r : Reply) (kind : Kind) (c : ChanId)
+    → IsNextChannel rules st.shared kind c → Sound rules l st
+    → Keeps rules l st (replied st r (with_new_channel st.shared kind c))
+keeps_channel rules l st r kind c next sound =
     let key = st.shared.key in
     let channels = sound.keys.channels in
-    keeps_channels rules l st r (put st.shared.chan c new) mark
+    let new = new_channel kind c.serial in
+    keeps_channels rules l st r (put st.shared.chan c.number.0 new) _
     (record {
-      made = λ s i h. put_keeps (λ _ (x : Chan). x.made ≡ true) st.shared.chan c new (λ _. made) (key s i).chan.0
-          (channels.made s i h);
+      fresh = λ n. put_keeps (λ _ (x : Chan). x.made ≡ false → x.serial ≡ 0) st.shared.chan c.number.0 new
+          (λ _ unmade. absurd (both_ways true unmade refl)) n (channels.fresh n);
+      made = λ s i h. put_keeps (λ _ (x : Chan). x.made ≡ true) st.shared.chan c.number.0 new (λ _. refl)
+          (key s i).chan.0 (channels.made s i h);
       non_blocking = λ s i h.
-          (put_keeps (λ _ (x : Chan). (x.made ≡ true) × (x.blocking ≡ false)) st.shared.chan c new
-          (λ old. absurd (both_ways (st.shared.chan c).made unmade old.0)) (key s i).chan.0
-          (channels.made s i (and_parts (key s i).published _ h).0, channels.non_blocking s i h)).1;
-      is_open = λ s i h. put_keeps (λ _ (x : Chan). x.closed ≡ false) st.shared.chan c new (λ _. is_open)
+          put_keeps (λ n (x : Chan). n ≡ (key s i).chan.0 → x.blocking ≡ false) st.shared.chan c.number.0 new
+          (λ _ of_channel. absurd (next.no_key s i h (sym of_channel))) (key s i).chan.0
+          (λ _. channels.non_blocking s i h) refl;
+      is_open = λ s i h. put_keeps (λ _ (x : Chan). x.closed ≡ false) st.shared.chan c.number.0 new (λ _. refl)
           (key s i).chan.0 (channels.is_open s i h);
     })
     sound
 
--- a channel with a key in a key set counts as registered
+-- a number with a key in a key set has a key in some selector
 pub in_set-registered : (rules : Rules) (l : Limits) (st : ScriptState) (c s i : ℕ) → Sound rules l st
-    → in_key_set (st.shared.key s i) ≡ true → (st.shared.key s i).chan.0 ≡ c → is_registered l st.shared c ≡ true
+    → in_key_set (st.shared.key s i) ≡ true → (st.shared.key s i).chan.0 ≡ c → has_key l st.shared c ≡ true
 in_set-registered rules l st c s i sound in_set of_channel =
     let key = st.shared.key s i in
     let enrolled : st.shared.enrolled c s ≡ Some (record { index = i; serial = key.serial }) =
@@ -111,7 +127,7 @@ in_set-registered rules l st c s i sound in_set of_channel =
     (present-in_set key (sound.keys.indexes.claimed s i published) in_set)))
 
 pub keeps_mode : (rules : Rules) (l : Limits) (st : ScriptState) (r : Reply) (c : ℕ) (on : Bool)
-    → (on && is_registered l st.shared c) ≡ false → Sound rules l st
+    → (on && has_key l st.shared c) ≡ false → Sound rules l st
     → Keeps rules l st (replied st r (with_chan st.shared c (record (st.shared.chan c) { blocking = on })))
 keeps_mode rules l st r c on allowed sound =
     let key = st.shared.key in
@@ -119,11 +135,13 @@ keeps_mode rules l st r c on allowed sound =
     let new : Chan = record (st.shared.chan c) { blocking = on } in
     let off : (s i : ℕ) → in_key_set (key s i) ≡ true → c ≡ (key s i).chan.0 → on ≡ false = λ s i h of_channel.
     false_from_ne_true on
-    (λ t. both_ways (on && is_registered l st.shared c) allowed
-    (and_from on (is_registered l st.shared c) t
+    (λ t. both_ways (on && has_key l st.shared c) allowed
+    (and_from on (has_key l st.shared c) t
     (in_set-registered rules l st c s i sound h (sym of_channel)))) in
     keeps_channels rules l st r (put st.shared.chan c new) st.shared.channels_high
     (record {
+      fresh = λ n. put_keeps (λ _ (x : Chan). x.made ≡ false → x.serial ≡ 0) st.shared.chan c new (λ old. old) n
+          (channels.fresh n);
       made = λ s i h. put_keeps (λ _ (x : Chan). x.made ≡ true) st.shared.chan c new (λ old. old) (key s i).chan.0
           (channels.made s i h);
       non_blocking = λ s i h.
@@ -180,6 +198,8 @@ module _ (rules : Rules) (l : Limits) (st : ScriptState) (c : ℕ) where
       let channels = first.sound.keys.channels in
       let second = keeps_channels rules l without r (put st.shared.chan c new) st.shared.channels_high
       (record {
+        fresh = λ n. put_keeps (λ _ (x : Chan). x.made ≡ false → x.serial ≡ 0) st.shared.chan c new (λ old. old) n
+            (channels.fresh n);
         made = λ s i h. put_keeps (λ _ (x : Chan). x.made ≡ true) st.shared.chan c new (λ old. old)
             (cancelled s i).chan.0 (channels.made s i h);
         non_blocking = λ s i h. put_keeps (λ _ (x : Chan). x.blocking ≡ false) st.shared.chan c new (λ old. old)

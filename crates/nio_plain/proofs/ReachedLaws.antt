@@ -5,11 +5,13 @@ use Rattle.std.proofs.lemmas.Bool.{and_left, and_right, and_parts, and_from, or_
 use Rattle.std.proofs.lemmas.Bool.{cond-false}
 use Rattle.nio_base.specs.declared.limits.Limits.{Limits}
 use Rattle.nio_base.specs.declared.numbers.CallerNo.{CallerNo}
+use Rattle.nio_base.specs.declared.numbers.ChanId.{ChanId}
 use Rattle.nio_base.specs.declared.numbers.ChanNo.{ChanNo}
 use Rattle.nio_base.specs.declared.numbers.KeyId.{KeyId}
 use Rattle.nio_base.specs.declared.numbers.SelNo.{SelNo}
 use Rattle.nio_history.proofs.Put.{put-same, put_at-same}
-use Rattle.nio_history.specs.Sets.{fits, in_key_set, is_valid, was_published, is_in_key_set, is_valid_key}
+use Rattle.nio_history.specs.Sets.{fits, fits_channel, in_key_set, is_in_key_set, is_open_channel, is_valid}
+use Rattle.nio_history.specs.Sets.{is_valid_key, was_opened, was_published}
 use Rattle.nio_history.specs.State.{State, put}
 use Rattle.nio_history.specs.declared.found.Stage.{Stage}
 use Rattle.nio_language.specs.declared.call.Call.{Call}
@@ -35,7 +37,7 @@ use Rattle.nio_plain.specs.ReachedLaws.{ClosedSelectorIsEmpty}
 use Rattle.nio_plain.specs.ScriptState.{ScriptState, script_opening}
 use Rattle.nio_plain.specs.Seq.{call_of, seq}
 use Rattle.nio_plain.specs.Seq.Replies.{Replied, unchanged}
-use Rattle.nio_plain.specs.Seq.Modes.{if_in_key_set, key_of}
+use Rattle.nio_plain.specs.Seq.Modes.{has_key, if_in_key_set, key_of}
 use Rattle.nio_plain.specs.Seq.Names.{key_at}
 use Rattle.nio_plain.specs.Seq.Registering.{are_legal, given_or_none, new_stage, next_key, registered, registered_new}
 use Rattle.nio_plain.specs.Seq.Registering.{register_call, with_new_key}
@@ -128,20 +130,21 @@ module _ (rules : Rules) (l : Limits) (st : ScriptState) (sound : Sound rules l 
       by_test (Made s k) (st.shared.gate s).shut (unchanged st reply.ClosedSelector) _ (λ _ e. absurd cc)
       (λ _. made_new s c ops (given_or_none att) k (next_key l st.shared s) refl)
 
-  made_by : (me : CallerNo) (s : SelNo) (c : ChanNo) (ops : ℕ) (att : Option ℕ) (k : KeyId)
-      → key_of st.shared c.0 s.0 ≡ None → Made s.0 k (seq rules l st me (call.Register s c ops att))
+  made_by : (me : CallerNo) (s : SelNo) (c : ChanId) (ops : ℕ) (att : Option ℕ) (k : KeyId)
+      → key_of st.shared c.number.0 s.0 ≡ None → Made s.0 k (seq rules l st me (call.Register s c ops att))
   unfolding seq call_of register_call
   made_by me s c ops att k none =
       by_test (Made s.0 k) (nat_lt me.0 l.callers) _ (unchanged st reply.NoCaller)
       (λ _. by_test (Made s.0 k) (st.shared.selector s.0) _ (unchanged st reply.NoSelector)
-      (λ _. by_test (Made s.0 k) (st.shared.chan c.0).made _ (unchanged st reply.NoChannel)
-      (λ _. by_test (Made s.0 k) (not (are_legal (st.shared.chan c.0).kind ops)) (unchanged st reply.IllegalOps) _
+      (λ _. by_test (Made s.0 k) (was_opened (st.shared.chan c.number.0) c.serial) _ (unchanged st reply.NoChannel)
+      (λ _. by_test (Made s.0 k) (not (are_legal (st.shared.chan c.number.0).kind ops)) (unchanged st reply.IllegalOps)
+      _ (λ _ e. absurd cc)
+      (λ _. by_test (Made s.0 k) (not (is_open_channel (st.shared.chan c.number.0) c.serial))
+      (unchanged st reply.ClosedChannel) _ (λ _ e. absurd cc)
+      (λ _. by_test (Made s.0 k) (st.shared.chan c.number.0).blocking (unchanged st reply.IllegalBlockingMode) _
       (λ _ e. absurd cc)
-      (λ _. by_test (Made s.0 k) (st.shared.chan c.0).closed (unchanged st reply.ClosedChannel) _ (λ _ e. absurd cc)
-      (λ _. by_test (Made s.0 k) (st.shared.chan c.0).blocking (unchanged st reply.IllegalBlockingMode) _
-      (λ _ e. absurd cc)
-      (λ _. subst (λ (o : Option KeyId). Made s.0 k (registered l st s.0 c.0 ops att o)) (sym none)
-      (made_registered s.0 c.0 ops att k)))))
+      (λ _. subst (λ (o : Option KeyId). Made s.0 k (registered l st s.0 c.number.0 ops att o)) (sym none)
+      (made_registered s.0 c.number.0 ops att k)))))
       (λ _ e. absurd cc))
       (λ _ e. absurd cc))
       (λ _ e. absurd cc)
@@ -150,7 +153,8 @@ module _ (rules : Rules) (l : Limits) (st : ScriptState) (sound : Sound rules l 
       → IsNext rules st s k
       × (is_valid_key ((seq rules l st c.caller c.call).left.shared.key s k.index) k.serial ≡ true)
   made-is c s k new =
-      let none : key_of st.shared new.chan.0 new.name.0 ≡ None = ap (key_of st.shared new.chan.0) new.there
+      let none : key_of st.shared new.chan.number.0 new.name.0 ≡ None =
+      ap (key_of st.shared new.chan.number.0) new.there
       ∙ new.none in
       let made = made_by c.caller new.name new.chan new.ops new.att k none
       (ap (λ w. (seq rules l st c.caller w).reply) (sym new.called) ∙ new.replied) in
@@ -227,21 +231,26 @@ pub registered_is_in_a_key_set : RegisteredIsInAKeySet
 registered_is_in_a_key_set rules l calls c =
     let st = left_by_script rules l calls in (
       λ told.
-          let key = registered-key l st.shared c told in
-          let found = (key_of_a_channel_is_found rules l calls c key.0 key.1).0 key.2 in
+          let both = and_parts (fits_channel (st.shared.chan c.number.0) c.serial) _ told in
+          let key = registered-key l st.shared c.number.0 both.1 in
+          let found = (key_of_a_channel_is_found rules l calls c.number.0 key.0 key.1).0 key.2 in
           record {
+            present = both.0;
             selector = key.0;
             index = key.1.index;
-            of_channel = found.1;
+            of_channel = λ j. record { 0 = found.1 j };
             in_set = (and_parts (fits (st.shared.key key.0 key.1.index) key.1.serial) _ found.0).1;
           },
-      λ key. in_set-registered rules l st c key.selector key.index (reached rules l calls) key.in_set key.of_channel,
+      λ key.
+          and_from (fits_channel (st.shared.chan c.number.0) c.serial) (has_key l st.shared c.number.0) key.present
+          (in_set-registered rules l st c.number.0 key.selector key.index (reached rules l calls) key.in_set
+          (ap (λ n. n.0) key.of_channel)),
     )
 
 pub registered_is_non_blocking : RegisteredIsNonBlocking
 registered_is_non_blocking rules l calls c key =
     let st = (left_by_script rules l calls).shared in
-    subst (λ (n : ℕ). (st.chan n).blocking ≡ false) key.of_channel
+    subst (λ (n : ChanNo). (st.chan n.0).blocking ≡ false) key.of_channel
     ((reached rules l calls).keys.channels.non_blocking key.selector key.index key.in_set)
 
 pub closed_channel_has_no_valid_key : ClosedChannelHasNoValidKey

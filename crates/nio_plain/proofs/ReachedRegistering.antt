@@ -14,7 +14,7 @@ use Rattle.nio_language.specs.declared.reply.Reply.{Reply}
 use Rattle.nio_plain.proofs.Found.{found_below}
 use Rattle.nio_plain.proofs.ReachedChannels.{present-in_set}
 use Rattle.nio_plain.proofs.ReachedSound.{IndexesSound, EnrolledSound, ChannelsSound, SelectedSound, ClosingSound}
-use Rattle.nio_plain.proofs.ReachedSound.{LookSound, BoundSound, FreeSound, Sound, Keeps, IsInvalid, some_same}
+use Rattle.nio_plain.proofs.ReachedSound.{LookSound, BoundSound, FreeSound, Sound, Keeps, IsInvalid, IsOut, some_same}
 use Rattle.nio_plain.proofs.ReachedSound.{look-kept}
 use Rattle.nio_plain.proofs.Registered.{key_of-some}
 use Rattle.nio_plain.specs.ScriptState.{ScriptState, Selection}
@@ -143,6 +143,22 @@ module _ (rules : Rules) (l : Limits) (st : ScriptState) (s c : ℕ) (sound : So
       })
       t j h
 
+  outside-stays : (t j q : ℕ) → IsOut (st.shared.key t j) q → IsOut (keys t j) q
+  outside-stays t j q h =
+      put_at_keeps (λ _ _ (x : Stage). IsOut x q) st.shared.key s k.index stage
+      (λ old. record {
+        published = new_published q (next.older q old.published);
+        out = and_left (fits stage q) (in_key_set stage) (new_misfits q (next.older q old.published));
+      })
+      t j h
+
+  chan-stays : (t j q : ℕ) → is_in_key_set (st.shared.key t j) q ≡ true → (keys t j).chan ≡ (st.shared.key t j).chan
+  chan-stays t j q h =
+      put_at_keeps (λ u n (x : Stage). in_key_set (st.shared.key u n) ≡ true → x.chan ≡ (st.shared.key u n).chan)
+      st.shared.key s k.index stage
+      (λ _ in_set. absurd (both_ways (in_key_set (st.shared.key s k.index)) next.out in_set)) t j (λ _. refl)
+      (and_parts (fits (st.shared.key t j) q) _ h).1
+
   new-indexes : st.shared.selector s ≡ true → IndexesSound st.shared.selector (put st.shared.keys_high s mark) keys
   new-indexes made = record {
     claimed = each (λ _ _ x. x.published ≡ true → x.claimed ≡ true) (λ _. refl) sound.keys.indexes.claimed;
@@ -203,6 +219,7 @@ module _ (rules : Rules) (l : Limits) (st : ScriptState) (s c : ℕ) (sound : So
   new-channels : (st.shared.chan c).made ≡ true → (st.shared.chan c).blocking ≡ false
       → (st.shared.chan c).closed ≡ false → ChannelsSound st.shared.chan keys
   new-channels made non_blocking is_open = record {
+    fresh = sound.keys.channels.fresh;
     made = each (λ _ _ x. x.published ≡ true → (st.shared.chan x.chan.0).made ≡ true)
         (λ _. made) sound.keys.channels.made;
     non_blocking = each (λ _ _ x. in_key_set x ≡ true → (st.shared.chan x.chan.0).blocking ≡ false)
@@ -279,6 +296,8 @@ module _ (rules : Rules) (l : Limits) (st : ScriptState) (s c : ℕ) (sound : So
     stays = record {
       published = published-stays;
       invalid = invalid-stays;
+      outside = outside-stays;
+      chan = λ t j q here _. chan-stays t j q here;
       closed = λ t h. h;
     };
   }

@@ -28,8 +28,8 @@ use Rattle.nio_plain.specs.Seq.Replies.{replied}
 use Rattle.nio_plain.specs.Seq.Closing.{without_keys}
 use Rattle.nio_plain.specs.Seq.Names.{below, key_at, is_same_key}
 use Rattle.nio_plain.specs.Seq.Removing.{removed_key, unselected, comes_back}
-use Rattle.nio_plain.specs.Seq.Selections.{is_looked, looked_keys, selection_begun, selection_ended, with_marks, marked}
-use Rattle.nio_plain.specs.Seq.Selections.{told_bits, all_told}
+use Rattle.nio_plain.specs.Seq.Selections.{all_told, goes_at_end, is_looked, looked_keys, marked, selection_begun}
+use Rattle.nio_plain.specs.Seq.Selections.{selection_ended, told_bits, with_marks}
 use Rattle.nio_plain.specs.declared.rules.Rules.{Rules}
 use Rattle.nio_plain.specs.declared.rules.Rules.TheVariants.{First}
 
@@ -287,8 +287,9 @@ keeps_ended rules l st s selection pairs own sound r =
     let key = st.shared.key in
     let marks = with_marks st.shared s selection.looked pairs in
     let gate : GateWord = record (st.shared.gate s) { woken = false } in
-    let goes : ℕ → ℕ
-    → Bool = λ t i. (t == s) && (is_looked selection.looked (key_at st.shared s i) && in_cancelled_set (key s i)) in
+    let ends : ℕ → Bool = λ i. goes_at_end rules selection.looked (key_at st.shared s i)
+    && in_cancelled_set (key s i) in
+    let goes : ℕ → ℕ → Bool = λ t i. (t == s) && ends i in
     let after = removed_where goes key in
     let aged = removed-aged goes key in
     record {
@@ -308,8 +309,7 @@ keeps_ended rules l st s selection pairs own sound r =
             (λ b t. LookSound (cond b None (st.selection t)) (cond b None (st.shared.turn t)) (after t))
             (look-none None (after s))
             (λ t e. look-elsewhere goes key t
-            (λ i. ap (λ b. b && (is_looked selection.looked (key_at st.shared s i) && in_cancelled_set (key s i)))
-            e) (st.selection t) (st.shared.turn t) (sound.looks t));
+            (λ i. ap (λ b. b && ends i) e) (st.selection t) (st.shared.turn t) (sound.looks t));
         bounds = here_or_there s
             (λ b t. BoundSound rules (cond b None (st.selection t)) (st.shared.keys_high t) (after t))
             (bound-none rules (st.shared.keys_high s) (after s))

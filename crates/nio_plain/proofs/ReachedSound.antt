@@ -2,7 +2,7 @@
 -- of it.
 use Rattle.std.proofs.Common.{◌≡◌, ℕ, ◌==◌, ◌<◌, ◌≤◌, nat_lt, ◌&&◌, ◌||◌, Bool, true, false, cond, Option, Some}
 use Rattle.std.proofs.Common.{is_some, refl, sym, ap, ◌∙◌, subst, eqb-true}
-use Rattle.std.proofs.lemmas.Bool.{and_parts, and_from, both_ways, false_from_ne_true}
+use Rattle.std.proofs.lemmas.Bool.{and_parts, and_from, or_right, both_ways, false_from_ne_true}
 use Rattle.nio_base.specs.declared.limits.Limits.{Limits}
 use Rattle.nio_base.specs.declared.numbers.CallerNo.{CallerNo}
 use Rattle.nio_base.specs.declared.numbers.KeyId.{KeyId}
@@ -40,8 +40,9 @@ pub record EnrolledSound (enrolled : ℕ → ℕ → Option KeyId) (key : ℕ �
       → enrolled (key s i).chan.0 s ≡ Some (record { index = i; serial = (key s i).serial })
 
 -- the channel of a published key is made, it is non-blocking while the key is in the key set, and open
--- while the key is valid
+-- while the key is valid; a number that isn't made has serial 0
 pub record ChannelsSound (chan : ℕ → Chan) (key : ℕ → ℕ → Stage) : Type 0 where
+  pub fresh : (c : ℕ) → (chan c).made ≡ false → (chan c).serial ≡ 0
   pub made : (s i : ℕ) → (key s i).published ≡ true → (chan (key s i).chan.0).made ≡ true
   pub non_blocking : (s i : ℕ) → in_key_set (key s i) ≡ true → (chan (key s i).chan.0).blocking ≡ false
   pub is_open : (s i : ℕ) → is_valid (key s i) ≡ true → (chan (key s i).chan.0).closed ≡ false
@@ -120,8 +121,9 @@ sound-opening rules l = record {
       in_set = λ s i h. absurd cc;
     };
     channels = record {
+      fresh = λ c h. refl;
       made = λ s i h. absurd cc;
-      non_blocking = λ s i h. refl;
+      non_blocking = λ s i h. absurd cc;
       is_open = λ s i h. refl;
     };
     cancelled = λ s i h. absurd cc;
@@ -151,10 +153,19 @@ pub record IsInvalid (k : Stage) (serial : ℕ) : Type 0 where
   pub published : was_published k serial ≡ true
   pub invalid : is_valid_key k serial ≡ false
 
--- a published key stays so, an invalid one stays invalid, and so does a selector whose closing has ended
+-- a key that was published and isn't in the key set
+pub record IsOut (k : Stage) (serial : ℕ) : Type 0 where
+  pub published : was_published k serial ≡ true
+  pub out : is_in_key_set k serial ≡ false
+
+-- a published key stays so, an invalid one stays invalid, one outside the key set outside, and so does a selector whose
+-- closing has ended; a key of the key set stays its channel's
 pub record Stays (key after : ℕ → ℕ → Stage) (entered ended : ℕ → Bool) : Type 0 where
   pub published : (s i serial : ℕ) → was_published (key s i) serial ≡ true → was_published (after s i) serial ≡ true
   pub invalid : (s i serial : ℕ) → IsInvalid (key s i) serial → IsInvalid (after s i) serial
+  pub outside : (s i serial : ℕ) → IsOut (key s i) serial → IsOut (after s i) serial
+  pub chan : (s i serial : ℕ) → is_in_key_set (key s i) serial ≡ true → is_in_key_set (after s i) serial ≡ true
+      → (after s i).chan ≡ (key s i).chan
   pub closed : (s : ℕ) → entered s ≡ true → ended s ≡ true
 
 -- a call leaves a sound state, and ends nothing of what stays
@@ -163,15 +174,39 @@ pub record Keeps (rules : Rules) (l : Limits) (st : ScriptState) (a : Replied) :
   pub stays : Stays st.shared.key a.left.shared.key st.shared.entered a.left.shared.entered
 
 pub same_stays : (key : ℕ → ℕ → Stage) (entered : ℕ → Bool) → Stays key key entered entered
-same_stays key entered = record { published = λ s i q h. h; invalid = λ s i q h. h; closed = λ s h. h }
+same_stays key entered = record {
+  published = λ s i q h. h;
+  invalid = λ s i q h. h;
+  outside = λ s i q h. h;
+  chan = λ s i q h k. refl;
+  closed = λ s h. h;
+}
+
+-- a key of a key set was published
+pub in_set-published : (k : Stage) (q : ℕ) → is_in_key_set k q ≡ true → was_published k q ≡ true
+in_set-published k q h =
+    let both = and_parts (fits k q) (in_key_set k) h in
+    or_right (nat_lt q k.serial) _ (and_from (fits k q) k.published both.0 (and_parts k.published _ both.1).0)
 
 -- one change after another
 pub stays_then : {a b c : ℕ → ℕ → Stage} {x y z : ℕ → Bool} → Stays a b x y → Stays b c y z → Stays a c x z
-stays_then first second = record {
+stays_then {a} {b} {c} first second = record {
   published = λ s i q h. second.published s i q (first.published s i q h);
   invalid = λ s i q h. second.invalid s i q (first.invalid s i q h);
+  outside = λ s i q h. second.outside s i q (first.outside s i q h);
+  chan = λ s i q here there. between s i q here there (is_in_key_set (b s i) q) refl;
   closed = λ s h. second.closed s (first.closed s h);
 }
+  where
+    between : (s i q : ℕ) → is_in_key_set (a s i) q ≡ true → is_in_key_set (c s i) q ≡ true → (m : Bool)
+        → is_in_key_set (b s i) q ≡ m → (c s i).chan ≡ (a s i).chan
+    between s i q here there true e = second.chan s i q e there ∙ first.chan s i q here e
+    between s i q here there false e =
+        let out = second.outside s i q (record {
+          published = first.published s i q (in_set-published (a s i) q here);
+          out = e;
+        }) in
+        absurd (both_ways (is_in_key_set (c s i) q) out.out there)
 
 pub some_same : {A : Type 0} (x y : A) → ◌≡◌ {A = Option A} (Some x) (Some y) → x ≡ y
 some_same x y e = cc
@@ -263,6 +298,12 @@ module _ (k after : Stage) (aged : Aged k after) where
       let both = and_parts (fits after q) (in_key_set after) h in
       and_from (fits k q) (in_key_set k) (sym (aged-fits q) ∙ both.0) (aged.in_set both.1)
 
+  pub aged-outside : (q : ℕ) → IsOut k q → IsOut after q
+  aged-outside q h = record {
+    published = aged-was_published q ∙ h.published;
+    out = false_from_ne_true (is_in_key_set after q) (λ v. both_ways (is_in_key_set k q) h.out (aged-in_set q v));
+  }
+
   pub aged-invalid : (q : ℕ) → IsInvalid k q → IsInvalid after q
   aged-invalid q h = record {
     published = aged-was_published q ∙ h.published;
@@ -295,6 +336,7 @@ module _ (key after : ℕ → ℕ → Stage) (aged : (s i : ℕ) → Aged (key s
 
   channels-aged : (chan : ℕ → Chan) → ChannelsSound chan key → ChannelsSound chan after
   channels-aged chan sound = record {
+    fresh = sound.fresh;
     made = λ s i h. ap (λ x. (chan x.0).made) (aged s i).chan ∙ sound.made s i (sym (aged s i).published ∙ h);
     non_blocking = λ s i h. ap (λ x. (chan x.0).blocking) (aged s i).chan
         ∙ sound.non_blocking s i ((aged s i).in_set h);
@@ -341,6 +383,8 @@ module _ (key after : ℕ → ℕ → Stage) (aged : (s i : ℕ) → Aged (key s
   stays-aged entered ended closed = record {
     published = λ s i q h. aged-was_published (key s i) (after s i) (aged s i) q ∙ h;
     invalid = λ s i q h. aged-invalid (key s i) (after s i) (aged s i) q h;
+    outside = λ s i q h. aged-outside (key s i) (after s i) (aged s i) q h;
+    chan = λ s i q _ _. (aged s i).chan;
     closed = closed;
   }
 

@@ -1,4 +1,4 @@
--- A channel's key in a selector, and whether it is registered, over the parts of a state.
+-- The key of a number's channel in a selector, and whether it has one, over the parts of a state.
 use Rattle.std.proofs.Common.{◌≡◌, ℕ, ◌<◌, ◌≤◌, Bool, true, false, Option, Some, None, is_some, List}
 use Rattle.std.proofs.Common.{length, get_or, cond, refl, sym, ap, ◌∙◌, subst, arith, ⊎_elim, map}
 use Rattle.std.proofs.lemmas.Bool.{cases_lt, cond-true}
@@ -19,7 +19,7 @@ use Rattle.nio_plain.specs.PlainState.{selector_row, no_selector, channel_row, p
 use Rattle.nio_plain.specs.declared.plain.Plain.{Plain}
 use Rattle.nio_plain.specs.declared.plain.selector.Selector.{Selector}
 use Rattle.nio_plain.specs.ScriptState.{ScriptState, Pipe}
-use Rattle.nio_plain.specs.Seq.Modes.{key_of, if_in_key_set, is_registered}
+use Rattle.nio_plain.specs.Seq.Modes.{has_key, if_in_key_set, key_of}
 use Rattle.nio_plain.specs.Seq.Names.{below}
 
 any-none : (p : ℕ → Bool) (m : ℕ) → ((k : ℕ) → k < m → p k ≡ false) → list_any p (below m) ≡ false
@@ -56,8 +56,8 @@ pub key_of-is : (st : State) (c s : ℕ) (k : KeyId) → key_of st c s ≡ Some 
     → (st.enrolled c s ≡ Some k) × (is_in_key_set (st.key s k.index) k.serial ≡ true)
 key_of-is st c s k e = in_set-is st s k (st.enrolled c s) e
 
--- a channel that counts as registered has a key in a selector
-pub registered-key : (l : Limits) (st : State) (c : ℕ) → is_registered l st c ≡ true
+-- a number that has a key has it in some selector
+pub registered-key : (l : Limits) (st : State) (c : ℕ) → has_key l st c ≡ true
     → (s : ℕ) × (k : KeyId) × (key_of st c s ≡ Some k)
 registered-key l st c h =
     let found = Any-from_list_any (λ s. is_some (key_of st c s)) (below l.selectors) h in
@@ -82,10 +82,10 @@ module _ (group : Group) (pipes : List Pipe) (interrupted : ℕ → Bool) (mark 
 
 -- over a plain system
 
-pub is_registered-none : (p : Plain) (c : ℕ)
+pub has_key-none : (p : Plain) (c : ℕ)
     → ((k : ℕ) → k < length p.selectors.items → is_some (key_in (rows_of p k) c) ≡ false)
-    → is_registered (limits_of p) (state_of p).shared c ≡ false
-is_registered-none p c h =
+    → has_key (limits_of p) (state_of p).shared c ≡ false
+has_key-none p c h =
     let at = key_of-row p.group (map pipe_of p.pipes.items) (places (λ b. b) false p.interrupted.items)
     (length p.channels.items) (places channel_row unmade_channel p.channels.items) (rows_of p) c in
     any-none (λ s. is_some (key_of (state_of p).shared c s)) p.limits.selectors
@@ -95,9 +95,9 @@ is_registered-none p c h =
     (places_past selector_row no_selector p.selectors.items k l))
     (cases_lt k (length p.selectors.items)))
 
-pub is_registered-some : (p : Plain) (c s : ℕ) → s < length p.selectors.items → is_some (key_in (rows_of p s) c) ≡ true
-    → is_registered (limits_of p) (state_of p).shared c ≡ true
-is_registered-some p c s h t =
+pub has_key-some : (p : Plain) (c s : ℕ) → s < length p.selectors.items → is_some (key_in (rows_of p s) c) ≡ true
+    → has_key (limits_of p) (state_of p).shared c ≡ true
+has_key-some p c s h t =
     let at = key_of-row p.group (map pipe_of p.pipes.items) (places (λ b. b) false p.interrupted.items)
     (length p.channels.items) (places channel_row unmade_channel p.channels.items) (rows_of p) c in
     any-some (λ s. is_some (key_of (state_of p).shared c s)) p.limits.selectors s

@@ -3,59 +3,67 @@ use Rattle.std.proofs.Common.{◌≡◌, ℕ, ◌==◌, eqb, Bool, true, false, 
 use Rattle.std.proofs.Common.{refl, ap, ◌∙◌, List}
 use Rattle.nio_base.specs.Kind.{valid_operations}
 use Rattle.nio_base.specs.declared.limits.Limits.{Limits}
-use Rattle.nio_base.specs.declared.numbers.ChanNo.{ChanNo}
+use Rattle.nio_base.specs.declared.numbers.ChanId.{ChanId}
 use Rattle.nio_base.specs.declared.numbers.KeyId.{KeyId}
 use Rattle.nio_base.specs.declared.numbers.SelNo.{SelNo}
 use Rattle.nio_group.specs.Group.{Group}
+use Rattle.nio_history.specs.Sets.{is_open_channel}
 use Rattle.nio_history.specs.State.{put, with_interest, with_note}
 use Rattle.nio_history.specs.declared.found.Chan.{Chan}
+use Rattle.nio_language.specs.declared.reply.Reply.{Reply}
 use Rattle.nio_language.specs.declared.reply.Reply.TheVariants as reply
 use Rattle.nio_plain.proofs.KeyChange.{part_put}
 use Rattle.nio_plain.proofs.Parts.{state-row, same_row}
 use Rattle.nio_plain.proofs.Places.{put_same}
 use Rattle.nio_plain.specs.PlainState.{SelectorRow, KeyRow, state_from, free_in, next_by_row, next_in, with_key_added}
+use Rattle.nio_plain.specs.Naming.{LetsThrough, Refuses}
 use Rattle.nio_plain.specs.PlainState.{new_key_row}
 use Rattle.nio_plain.specs.ScriptState.{ScriptState, with_shared, Pipe}
 use Rattle.nio_plain.specs.Seq.Replies.{unchanged, replied}
 use Rattle.nio_plain.specs.Seq.Modes.{key_of}
+use Rattle.nio_plain.specs.Seq.Names.{with_named_channel}
 use Rattle.nio_plain.specs.Seq.Registering.{register_call, registered, registered_new, next_by, next_key, with_new_key}
 use Rattle.nio_plain.specs.Seq.Registering.{given_or_kept, given_or_none}
 
--- x is the channel
-module _ (l : Limits) (st : ScriptState) (s : SelNo) (c : ChanNo) (ops : ℕ) (att : Option ℕ) where
+module _ (l : Limits) (st : ScriptState) (s : SelNo) (c : ChanId) (ops : ℕ) (att : Option ℕ) where
   pub register-no_selector : st.shared.selector s.0 ≡ false
       → register_call l st s c ops att ≡ unchanged st reply.NoSelector
   unfolding register_call
   register-no_selector h = rw h
 
-  module _ (there : st.shared.selector s.0 ≡ true) (x : Chan) (e : st.shared.chan c.0 ≡ x) where
-    pub register-no_channel : x.made ≡ false → register_call l st s c ops att ≡ unchanged st reply.NoChannel
+  module _ (there : st.shared.selector s.0 ≡ true) where
+    pub register-no_channel : (r : Reply) → Refuses st (with_named_channel st c) r
+        → register_call l st s c ops att ≡ unchanged st r
     unfolding register_call
-    register-no_channel h = rw (there, e, h)
+    register-no_channel r refused = rw there (refused _)
 
-    module _ (made : x.made ≡ true) where
+    -- x is the present channel of the number
+    module _ (through : LetsThrough (with_named_channel st c)) (x : Chan) (e : st.shared.chan c.number.0 ≡ x) where
       pub register-illegal_ops : (bit_and ops (valid_operations x.kind) == ops) ≡ false
           → register_call l st s c ops att ≡ unchanged st reply.IllegalOps
       unfolding register_call
-      register-illegal_ops h = rw (there, e, made, h)
+      register-illegal_ops h = rw there (through _ ∙ rw (e, h) refl)
 
       module _ (valid : (bit_and ops (valid_operations x.kind) == ops) ≡ true) where
-        pub register-closed : x.closed ≡ true → register_call l st s c ops att ≡ unchanged st reply.ClosedChannel
+        pub register-closed : is_open_channel x c.serial ≡ false
+            → register_call l st s c ops att ≡ unchanged st reply.ClosedChannel
         unfolding register_call
-        register-closed h = rw (there, e, made, valid, h)
+        register-closed h = rw there (through _ ∙ rw (e, valid, h) refl)
 
-        pub register-blocking : x.closed ≡ false → x.blocking ≡ true
+        pub register-blocking : is_open_channel x c.serial ≡ true → x.blocking ≡ true
             → register_call l st s c ops att ≡ unchanged st reply.IllegalBlockingMode
         unfolding register_call
-        register-blocking h k = rw (there, e, made, valid, h, k)
+        register-blocking h k = rw there (through _ ∙ rw (e, valid, h, k) refl)
 
-        pub register-passed : (o : Option KeyId) → x.closed ≡ false → x.blocking ≡ false → key_of st.shared c.0 s.0 ≡ o
-            → register_call l st s c ops att ≡ registered l st s.0 c.0 ops att o
+        pub register-passed : (o : Option KeyId) → is_open_channel x c.serial ≡ true → x.blocking ≡ false
+            → key_of st.shared c.number.0 s.0 ≡ o
+            → register_call l st s c ops att ≡ registered l st s.0 c.number.0 ops att o
         unfolding register_call
         register-passed o h k same =
-            let passed : register_call l st s c ops att ≡ registered l st s.0 c.0 ops att (key_of st.shared c.0 s.0) =
-            rw (there, e, made, valid, h, k) in
-            passed ∙ ap (registered l st s.0 c.0 ops att) same
+            let passed : register_call l st s c ops att
+            ≡ registered l st s.0 c.number.0 ops att (key_of st.shared c.number.0 s.0) =
+            rw there (through _ ∙ rw (e, valid, h, k) refl) in
+            passed ∙ ap (registered l st s.0 c.number.0 ops att) same
 
 module _ (l : Limits) (st : ScriptState) (s c ops : ℕ) (att : Option ℕ) where
   module _ (k : KeyId) where

@@ -2,7 +2,7 @@
 -- registered.
 use Rattle.std.proofs.Common.{◌≡◌, ℕ, ◌<◌, true, false, Option, Some, None, Ok, is_some, refl, sym, ap, ◌∙◌, length}
 use Rattle.std.proofs.Common.{set, get_or, map}
-use Rattle.nio_base.specs.declared.numbers.ChanNo.{ChanNo}
+use Rattle.nio_base.specs.declared.numbers.ChanId.{ChanId}
 use Rattle.nio_base.specs.declared.numbers.KeyId.{KeyId}
 use Rattle.nio_base.specs.declared.numbers.SelNo.{SelNo}
 use Rattle.nio_history.specs.State.{put, unmade_channel, with_interest, with_note}
@@ -24,23 +24,26 @@ use Rattle.nio_plain.specs.declared.plain.Plain.{Plain}
 use Rattle.nio_plain.specs.declared.plain.selector.Key.{Key}
 use Rattle.nio_plain.specs.declared.plain.selector.Selector.{Selector}
 
-module _ (p : Plain) (sel : SelNo) (chan : ChanNo) (ops : ℕ) (att : Option ℕ) (x : Selector)
+module _ (p : Plain) (sel : SelNo) (chan : ChanId) (ops : ℕ) (att : Option ℕ) (x : Selector)
     (within : sel.0 < length p.selectors.items) (e : x ≡ get_or p.selectors.items sel.0 x)
     (passed : register_call p.limits (state_of p) sel chan ops att ≡ registered p.limits
-    (state_of p) sel.0 chan.0 ops att (key_of (state_of p).shared chan.0 sel.0)) where
+    (state_of p) sel.0 chan.number.0 ops att (key_of (state_of p).shared chan.number.0 sel.0)) where
+  abbrev number : ℕ
+  number = chan.number.0
+
   row_is : rows_of p sel.0 ≡ selector_row x
   row_is = places_at selector_row no_selector p.selectors.items sel.0 x within e
 
-  call_is : (o : Option KeyId) → o ≡ key_in (selector_row x) chan.0
-      → register_call p.limits (state_of p) sel chan ops att ≡ registered p.limits (state_of p) sel.0 chan.0 ops att o
+  call_is : (o : Option KeyId) → o ≡ key_in (selector_row x) number
+      → register_call p.limits (state_of p) sel chan ops att ≡ registered p.limits (state_of p) sel.0 number ops att o
   call_is o key =
-      passed ∙ ap (registered p.limits (state_of p) sel.0 chan.0 ops att) (key_of-read p sel.0 chan.0 x o within e key)
+      passed ∙ ap (registered p.limits (state_of p) sel.0 number ops att) (key_of-read p sel.0 number x o within e key)
 
   shut_is : (b : _) → is_some x.closing ≡ b → ((state_of p).shared.gate sel.0).shut ≡ b
   shut_is b h = ap (λ (r : SelectorRow). r.gate.shut) row_is ∙ h
 
   -- the channel has a key there
-  module _ (id : KeyId) (k : Key) (key : Some id ≡ key_in (selector_row x) chan.0)
+  module _ (id : KeyId) (k : Key) (key : Some id ≡ key_in (selector_row x) number)
       (in_keys : id.index < length x.keys.items) (d : k ≡ get_or x.keys.items id.index k) where
     cancelled_is : (b : _) → k.cancelled ≡ b → ((state_of p).shared.key sel.0 id.index).cancelled ≡ b
     cancelled_is b h =
@@ -52,14 +55,14 @@ module _ (p : Plain) (sel : SelNo) (chan : ChanNo) (ops : ℕ) (att : Option ℕ
     answers-cancelled h =
         unchanged_as p reply.CancelledKey _
         (call_is (Some id) key
-        ∙ registered-cancelled p.limits (state_of p) sel.0 chan.0 ops att id (cancelled_is true h))
+        ∙ registered-cancelled p.limits (state_of p) sel.0 number ops att id (cancelled_is true h))
 
     pub answers-shut : k.cancelled ≡ false → is_some x.closing ≡ true
         → RepliesAs p p (Ok reply.ClosedSelector) (register_call p.limits (state_of p) sel chan ops att)
     answers-shut h s =
         unchanged_as p reply.ClosedSelector _
         (call_is (Some id) key
-        ∙ registered-shut p.limits (state_of p) sel.0 chan.0 ops att id (cancelled_is false h) (shut_is true s))
+        ∙ registered-shut p.limits (state_of p) sel.0 number ops att id (cancelled_is false h) (shut_is true s))
 
     pub answers-again : (q : Plain) (y : Selector) → k.cancelled ≡ false → is_some x.closing ≡ false
         → selector_row y ≡ with_key_at (selector_row x) id.index
@@ -76,7 +79,7 @@ module _ (p : Plain) (sel : SelNo) (chan : ChanNo) (ops : ℕ) (att : Option ℕ
         (ap (λ (q : KeyRow). q.note) (sym key_is)) in
         replied_as p q _ _ _
         (call_is (Some id) key
-        ∙ registered-again p.limits (state_of p) sel.0 chan.0 ops att id (cancelled_is false h) (shut_is false s))
+        ∙ registered-again p.limits (state_of p) sel.0 number ops att id (cancelled_is false h) (shut_is false s))
         refl
         (left ∙ (state-set_selector p _ sel.0 y within refl
         ∙ (ap (λ r. with_rows p (put (rows_of p) sel.0 r))
@@ -87,7 +90,7 @@ module _ (p : Plain) (sel : SelNo) (chan : ChanNo) (ops : ℕ) (att : Option ℕ
         kept
 
   -- the channel has no key there
-  module _ (key : None ≡ key_in (selector_row x) chan.0) where
+  module _ (key : None ≡ key_in (selector_row x) number) where
     next_is : (next : Option KeyId) → next ≡ next_in p.limits.keys (selector_row x)
         → next_key p.limits (state_of p).shared sel.0 ≡ next
     next_is next e =
@@ -99,30 +102,30 @@ module _ (p : Plain) (sel : SelNo) (chan : ChanNo) (ops : ℕ) (att : Option ℕ
         → RepliesAs p p (Ok reply.ClosedSelector) (register_call p.limits (state_of p) sel chan ops att)
     answers_new-shut h =
         unchanged_as p reply.ClosedSelector _
-        (call_is None key ∙ registered_new-shut p.limits (state_of p) sel.0 chan.0 ops att (shut_is true h))
+        (call_is None key ∙ registered_new-shut p.limits (state_of p) sel.0 number ops att (shut_is true h))
 
     pub answers-full : is_some x.closing ≡ false → None ≡ next_in p.limits.keys (selector_row x)
         → RepliesAs p p (Ok reply.Full) (register_call p.limits (state_of p) sel chan ops att)
     answers-full h full =
         unchanged_as p reply.Full _
         (call_is None key
-        ∙ registered-next p.limits (state_of p) sel.0 chan.0 ops att None (shut_is false h) (next_is None full))
+        ∙ registered-next p.limits (state_of p) sel.0 number ops att None (shut_is false h) (next_is None full))
 
     pub answers-new : (q : Plain) (y : Selector) (id : KeyId) → is_some x.closing ≡ false
         → Some id ≡ next_in p.limits.keys (selector_row x)
-        → selector_row y ≡ with_key_added (selector_row x) chan.0 id
-        (new_key_row chan.0 id.serial ops (given_or_none att))
+        → selector_row y ≡ with_key_added (selector_row x) number id
+        (new_key_row number id.serial ops (given_or_none att))
         → state_of q ≡ with_rows p (places selector_row no_selector (set p.selectors.items sel.0 y))
         → Kept p q
         → RepliesAs p q (Ok (reply.Key id)) (register_call p.limits (state_of p) sel chan ops att)
     answers-new q y id h next done left kept =
         replied_as p q _ _ _
         (call_is None key
-        ∙ registered-next p.limits (state_of p) sel.0 chan.0 ops att (Some id) (shut_is false h)
+        ∙ registered-next p.limits (state_of p) sel.0 number ops att (Some id) (shut_is false h)
         (next_is (Some id) next))
         refl
         (left ∙ (state-set_selector p _ sel.0 y within refl
         ∙ (ap (λ r. with_rows p (put (rows_of p) sel.0 r))
-        (done ∙ ap (λ r. with_key_added r chan.0 id (new_key_row chan.0 id.serial ops (given_or_none att)))
-        (sym row_is)) ∙ state-new_key _ _ _ _ _ (rows_of p) sel.0 chan.0 ops (given_or_none att) id)))
+        (done ∙ ap (λ r. with_key_added r number id (new_key_row number id.serial ops (given_or_none att)))
+        (sym row_is)) ∙ state-new_key _ _ _ _ _ (rows_of p) sel.0 number ops (given_or_none att) id)))
         kept

@@ -16,17 +16,18 @@ use Rattle.nio_plain.proofs.Replying.{rows_of}
 use Rattle.nio_plain.proofs.Parts.{Makes, then, makes-gate, makes-selecting, keys_changed, part_stays, state-removed}
 use Rattle.nio_plain.proofs.Places.{same_function, put_by}
 use Rattle.nio_plain.specs.PlainState.{SelectorRow, KeyRow, state_from, state_of, selector_row, key_id, caller_of}
-use Rattle.nio_plain.specs.PlainState.{selection_of, removed_row, swept_looked}
+use Rattle.nio_plain.specs.PlainState.{selection_of, removed_row, swept_at_end}
 use Rattle.nio_plain.specs.ScriptState.{ScriptState, Selection, with_shared, with_selection, Pipe}
 use Rattle.nio_plain.specs.Seq.Replies.{unchanged}
 use Rattle.nio_plain.specs.Seq.Removing.{comes_back}
 use Rattle.nio_plain.specs.Seq.Selections.{told_call, told_selection, own_selection, selection_ended, with_marks}
-use Rattle.nio_plain.specs.Seq.Selections.{without_looked_cancelled, is_looked, told_bits, marked, updated_count}
+use Rattle.nio_plain.specs.Seq.Selections.{is_looked, marked, told_bits, updated_count, without_ended}
 use Rattle.nio_plain.specs.Seq.Selections.{is_again, why_ended, is_caller}
 use Rattle.nio_plain.specs.declared.plain.Plain.{Plain}
 use Rattle.nio_plain.specs.declared.plain.selector.Selecting.{Selecting}
 use Rattle.nio_plain.specs.declared.plain.selector.Selector.{Selector}
 use Rattle.nio_plain.specs.declared.rules.Rules.{Rules}
+use Rattle.nio_plain.specs.declared.rules.Rules.TheVariants.{First, Now}
 
 -- told's answers
 
@@ -69,7 +70,7 @@ after_selection rules looked pairs r = record r {
   gate = record r.gate { woken = false };
   turn = None;
   selection = None;
-  keys = swept_looked rules (told_keys looked pairs r.keys) looked;
+  keys = swept_at_end rules (told_keys looked pairs r.keys) looked;
 }
 
 cond_both : {A : Type 0} (a b : Bool) (x y : A) → cond a (cond b x y) y ≡ cond (a && b) x y
@@ -93,19 +94,22 @@ module _ (group : Group) (pipes : List Pipe) (interrupted : ℕ → Bool) (mark 
       _ (part_stays group pipes interrupted mark chan s row keys (λ (k : KeyRow). k.note) (λ _. refl))
       _ (part_stays group pipes interrupted mark chan s row keys (λ (k : KeyRow). k.free) (λ _. refl))
 
-  -- the looked keys that are cancelled are removed
-  makes-swept_looked : (rules : Rules) (looked : List (KeyId × ℕ))
-      → Makes group pipes interrupted mark chan s (λ r. record r { keys = swept_looked rules r.keys looked })
-      (λ x. with_shared x (without_looked_cancelled rules x.shared s looked))
-  makes-swept_looked rules looked = λ row.
+  -- the cancelled keys are removed, by the first rules those that are looked at
+  makes-swept_at_end : (rules : Rules) (looked : List (KeyId × ℕ))
+      → Makes group pipes interrupted mark chan s (λ r. record r { keys = swept_at_end rules r.keys looked })
+      (λ x. with_shared x (without_ended rules x.shared s looked))
+  makes-swept_at_end First looked = λ row.
       let keys = (row s).keys in
       let same = same_function
       (λ i. cond_both (is_looked looked (key_id keys i)) (in_cancelled_set (keys i).stage)
-      (removed_row (comes_back rules) (keys i)) (keys i)) in
+      (removed_row (comes_back First) (keys i)) (keys i)) in
       ap (λ (ks : ℕ → KeyRow). state_from group pipes interrupted mark chan (put row s (record (row s) { keys = ks })))
       same
       ∙ state-removed group pipes interrupted mark chan s row
-      (λ i. is_looked looked (key_id keys i) && in_cancelled_set (keys i).stage) (comes_back rules)
+      (λ i. is_looked looked (key_id keys i) && in_cancelled_set (keys i).stage) (comes_back First)
+  makes-swept_at_end Now looked = λ row.
+      state-removed group pipes interrupted mark chan s row (λ i. in_cancelled_set ((row s).keys i).stage)
+      (comes_back Now)
 
   pub state-ended : (rules : Rules) (row : ℕ → SelectorRow) (selection : Selection) (pairs : List (KeyId × ℕ))
       → state_from group pipes interrupted mark chan (put row s (after_selection rules selection.looked pairs (row s)))
@@ -116,9 +120,9 @@ module _ (group : Group) (pipes : List Pipe) (interrupted : ℕ → Bool) (mark 
   state-ended rules row selection pairs =
       let marks : SelectorRow → SelectorRow = λ r. record r { keys = told_keys selection.looked pairs r.keys } in
       let marks' : ScriptState → ScriptState = λ x. with_shared x (with_marks x.shared s selection.looked pairs) in
-      let sweeps : SelectorRow → SelectorRow = λ r. record r { keys = swept_looked rules r.keys selection.looked } in
+      let sweeps : SelectorRow → SelectorRow = λ r. record r { keys = swept_at_end rules r.keys selection.looked } in
       let sweeps' : ScriptState
-      → ScriptState = λ x. with_shared x (without_looked_cancelled rules x.shared s selection.looked) in
+      → ScriptState = λ x. with_shared x (without_ended rules x.shared s selection.looked) in
       let sleeps : SelectorRow → SelectorRow = λ r. record r { gate = record r.gate { woken = false } } in
       let sleeps' : ScriptState
       → ScriptState = λ x. with_shared x (with_gate x.shared s (record (x.shared.gate s) { woken = false })) in
@@ -129,7 +133,7 @@ module _ (group : Group) (pipes : List Pipe) (interrupted : ℕ → Bool) (mark 
         selection = put x.selection s None;
       } in
       let two = then group pipes interrupted mark chan s marks sweeps marks' sweeps'
-      (makes-marked selection.looked pairs) (makes-swept_looked rules selection.looked) in
+      (makes-marked selection.looked pairs) (makes-swept_at_end rules selection.looked) in
       let three = then group pipes interrupted mark chan s (λ r. sweeps (marks r)) sleeps
       (λ x. sweeps' (marks' x)) sleeps' two
       (makes-gate group pipes interrupted mark chan s (λ g. record g { woken = false })) in

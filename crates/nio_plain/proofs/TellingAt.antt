@@ -15,7 +15,7 @@ use Rattle.nio_plain.proofs.Places.{places_at}
 use Rattle.nio_plain.proofs.Telling.{told-own, told-again, told-done, own-some, after_selection, state-ended}
 use Rattle.nio_plain.specs.Plain.{RepliesAs, Kept}
 use Rattle.nio_plain.specs.PlainState.{SelectorRow, KeyRow, places, state_of, channel_row, selector_row, no_selector}
-use Rattle.nio_plain.specs.PlainState.{key_row, no_key, swept_looked, with_selection_ended, pipe_of}
+use Rattle.nio_plain.specs.PlainState.{key_row, no_key, swept_at_end, with_selection_ended, pipe_of}
 use Rattle.nio_plain.specs.ScriptState.{Selection}
 use Rattle.nio_plain.specs.Seq.Selections.{told_call, told_selection, updated_count, is_updated, told_bits, is_again}
 use Rattle.nio_plain.specs.Seq.Selections.{why_ended}
@@ -74,7 +74,7 @@ module _ (p : Plain) (me : CallerNo) (sel : SelNo) (elapsed : Bool) (pairs : Lis
         let ends : (ℕ → KeyRow)
         → SelectorRow = λ keys.
         record (with_selection_ended p.rules
-        (selector_row x) y.looked.items told) { keys = swept_looked p.rules keys y.looked.items } in
+        (selector_row x) y.looked.items told) { keys = swept_at_end p.rules keys y.looked.items } in
         let row = (ended ∙ ap ends marks) ∙ ap (after_selection p.rules y.looked.items pairs) (sym row_is) in
         replied_as p q _ _ _
         (call_is ∙ told-done p.rules (state_of p) me sel.0 elapsed pairs own count count_is gate gate_is interrupted

@@ -9,7 +9,7 @@ use Rattle.nio_base.specs.declared.limits.Limits.{Limits}
 use Rattle.nio_base.specs.declared.numbers.CallerNo.{CallerNo}
 use Rattle.nio_base.specs.declared.numbers.KeyId.{KeyId}
 use Rattle.nio_base.specs.declared.numbers.SelNo.{SelNo}
-use Rattle.nio_history.specs.Sets.{in_key_set, is_valid}
+use Rattle.nio_history.specs.Sets.{in_cancelled_set, in_key_set, is_valid}
 use Rattle.nio_history.specs.declared.found.Mark.{Mark}
 use Rattle.nio_language.specs.declared.call.Call.{Call}
 use Rattle.nio_language.specs.declared.call.Call.TheVariants as call
@@ -29,6 +29,7 @@ use Rattle.nio_plain.specs.Seq.Names.{key_at}
 use Rattle.nio_plain.specs.Seq.Pipes.{own_sink}
 use Rattle.nio_plain.specs.Seq.Selections.{own_selection, told_bits}
 use Rattle.nio_plain.specs.declared.rules.Rules.{Rules}
+use Rattle.nio_plain.specs.declared.rules.Rules.TheVariants.{Now}
 
 -- REFUSALS. A reply that calls on the group alone have, and that refuses.
 abbrev pub group_refuses : GroupReply → Bool
@@ -147,8 +148,8 @@ is_without_effect (call.Pread c n) r = refuses r
 is_without_effect (call.Group g) r = is_without_group_effect g r
 
 -- A refused call that changes a pipe or its channels all the same: an owner's call that finds its sink closed leaves
--- the seal; an interrupted caller's call closes its channel; a `pipe` that finds one number left closes the
--- channel that it made.
+-- the seal; an interrupted caller's call closes its channel; a `pipe` that finds one channel left closes the
+-- one that it made.
 -- It is false for every other call and reply.
 abbrev pub changes_pipe : ScriptState → CallerNo → Call → Reply → Bool
 changes_pipe st me (call.Closec c) reply.Already = is_some (own_sink st.pipes me c)
@@ -278,6 +279,13 @@ is_end s _ _ = false
 abbrev pub is_over : ℕ → Call → Reply → Bool
 is_over s (call.Failed t) reply.Left = t.0 == s
 is_over s c r = is_end s c r
+
+-- by the rules of now the call in which a selection ends leaves no key in the cancelled set of its selector: neither a
+-- looked one nor one that was registered and cancelled meanwhile
+abbrev pub EndLeavesNoneCancelled : Type 0
+EndLeavesNoneCancelled = (l : Limits) (st : ScriptState) (me : CallerNo) (c : Call) (s i : ℕ)
+    → let done = seq Now l st me c in
+    IsTrue (is_end s c done.reply) → IsFalse (in_cancelled_set (done.left.shared.key s i))
 
 -- a caller's own selection stays so, as it is, until the caller itself makes the call in which it is over
 abbrev pub OnlyItselfEndsASelection : Type 0

@@ -20,7 +20,7 @@ use Rattle.nio_plain.specs.Seq.Cancelling.{cancelled_key, has_index}
 use Rattle.nio_plain.specs.Seq.Names.{below}
 use Rattle.nio_plain.specs.Seq.Registering.{new_stage}
 use Rattle.nio_plain.specs.Seq.Removing.{removed_key, unselected, comes_back}
-use Rattle.nio_plain.specs.Seq.Selections.{marked, looked_interest, is_looked}
+use Rattle.nio_plain.specs.Seq.Selections.{is_looked, looked_interest, marked}
 use Rattle.nio_plain.specs.declared.plain.Plain.{Plain}
 use Rattle.nio_plain.specs.declared.plain.channel.Channel.{Channel}
 use Rattle.nio_plain.specs.declared.plain.pipe.Pipe.{Pipe as PlainPipe}
@@ -29,6 +29,7 @@ use Rattle.nio_plain.specs.declared.plain.selector.Key.{Key}
 use Rattle.nio_plain.specs.declared.plain.selector.Selecting.{Selecting}
 use Rattle.nio_plain.specs.declared.plain.selector.Selector.{Selector}
 use Rattle.nio_plain.specs.declared.rules.Rules.{Rules}
+use Rattle.nio_plain.specs.declared.rules.Rules.TheVariants.{First, Now}
 
 -- what a vector holds, by the place: past its end the value of what isn't there
 unfoldable pub places : {X A : Type 0} → (X → A) → A → List X → ℕ → A
@@ -36,7 +37,13 @@ places f none xs = λ n. get_or (map f xs) n none
 
 -- a channel
 abbrev pub channel_row : Channel → Chan
-channel_row c = record { made = true; kind = c.kind; closed = c.closed; blocking = c.blocking }
+channel_row c = record {
+  made = true;
+  kind = c.kind;
+  closed = c.closed;
+  blocking = c.blocking;
+  serial = c.serial;
+}
 
 -- an index: the stage of its key, the key's interest set, mark and attachment, and whether it is free
 pub record KeyRow : Type 0 where
@@ -150,7 +157,7 @@ removed_row frees k = record k {
 }
 
 -- a key after a selection, which removes it where it is cancelled; the keys after that was done with all of
--- them, and with those alone that the selection looks at
+-- them, with those alone that the selection looks at, and at the end of a selection
 abbrev pub swept_key : Rules → KeyRow → KeyRow
 swept_key rules k = if in_cancelled_set k.stage then removed_row (comes_back rules) k else k
 
@@ -159,6 +166,10 @@ swept rules keys = λ i. swept_key rules (keys i)
 
 abbrev pub swept_looked : Rules → (ℕ → KeyRow) → List (KeyId × ℕ) → ℕ → KeyRow
 swept_looked rules keys looked = λ i. if is_looked looked (key_id keys i) then swept_key rules (keys i) else keys i
+
+abbrev pub swept_at_end : Rules → (ℕ → KeyRow) → List (KeyId × ℕ) → ℕ → KeyRow
+swept_at_end First keys looked = swept_looked First keys looked
+swept_at_end Now keys looked = swept Now keys
 
 -- the keys after each was removed where it is claimed
 abbrev pub emptied : (ℕ → KeyRow) → ℕ → KeyRow
@@ -209,7 +220,7 @@ with_selection_ended rules r looked told = record r {
   gate = record r.gate { woken = false };
   turn = None;
   selection = None;
-  keys = swept_looked rules (marked_keys r.keys looked told) looked;
+  keys = swept_at_end rules (marked_keys r.keys looked told) looked;
 }
 
 -- a key that was just registered

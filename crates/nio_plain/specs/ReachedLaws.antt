@@ -2,20 +2,23 @@
 -- what holds of the sets of a selector, of keys and free indexes, of channels, of what is closed, and of the
 -- group.
 use Rattle.std.specs.Prelude.{◌≡◌, ◌≢◌, ℕ, ◌<◌, IsTrue, IsFalse, ◌↔◌, Option, Some, None, List, ◌∷◌, ◌++◌}
+use Rattle.nio_base.specs.declared.kind.Kind.{Kind}
 use Rattle.nio_base.specs.declared.limits.Limits.{Limits}
 use Rattle.nio_base.specs.declared.numbers.CallerNo.{CallerNo}
-use Rattle.nio_base.specs.declared.numbers.ChanNo.{ChanNo}
+use Rattle.nio_base.specs.declared.numbers.ChanId.{ChanId}
 use Rattle.nio_base.specs.declared.numbers.KeyId.{KeyId}
 use Rattle.nio_base.specs.declared.numbers.SelNo.{SelNo}
 use Rattle.nio_group.specs.Group.{Group, IsLawful, empty_group}
 use Rattle.nio_group.specs.Run as step
 use Rattle.nio_group.specs.Run.{IsRunOf, left_by}
 use Rattle.nio_history.specs.Sets.{in_key_set, in_cancelled_set, in_selected_set, is_valid, was_published}
-use Rattle.nio_history.specs.Sets.{is_in_key_set}
+use Rattle.nio_history.specs.Sets.{is_in_key_set, is_open_channel, was_closed, was_opened}
 use Rattle.nio_history.specs.Sets.{is_valid_key, IsRegistered}
 use Rattle.nio_history.specs.State.{State}
+use Rattle.nio_language.specs.declared.call.Call.{Call}
 use Rattle.nio_language.specs.declared.call.Call.TheVariants as call
 use Rattle.nio_language.specs.declared.call.ScriptCall.{ScriptCall}
+use Rattle.nio_language.specs.declared.reply.Reply.{Reply}
 use Rattle.nio_language.specs.declared.reply.Reply.TheVariants as reply
 use Rattle.nio_plain.specs.Answer.{left_by_script}
 use Rattle.nio_plain.specs.Seq.{seq}
@@ -95,12 +98,12 @@ FirstRulesRemoveBelowTheBound = (l : Limits) (calls : List ScriptCall) (s : ℕ)
 -- the call registers a channel that has no key in the selector, and is replied with the key
 pub record IsNewKey (rules : Rules) (l : Limits) (st : ScriptState) (c : ScriptCall) (s : ℕ) (k : KeyId) : Type 0 where
   pub name : SelNo
-  pub chan : ChanNo
+  pub chan : ChanId
   pub ops : ℕ
   pub att : Option ℕ
   pub called : c.call ≡ call.Register name chan ops att
   pub there : name.0 ≡ s
-  pub none : key_of st.shared chan.0 s ≡ None
+  pub none : key_of st.shared chan.number.0 s ≡ None
   pub replied : (seq rules l st c.caller c.call).reply ≡ reply.Key k
 
 -- a new key wasn't published before, so its serial is one that no earlier key of its index had; and it is
@@ -122,13 +125,64 @@ NewKeysDiffer =
 
 -- CHANNELS
 
--- a channel's key in a selector, as the calls find it, is the one of the key set that has the channel
+-- a channel that was opened stays so, and one that was closed stays so, also where its number is given to a later one;
+-- a number that is made keeps its kind
+abbrev pub OpenedStays : Type 0
+OpenedStays = (rules : Rules) (l : Limits) (calls more : List ScriptCall) (c : ChanId)
+    → IsTrue (was_opened ((left_by_script rules l calls).shared.chan c.number.0) c.serial)
+    → IsTrue (was_opened ((left_by_script rules l (calls ++ more)).shared.chan c.number.0) c.serial)
+
+abbrev pub ClosedStays : Type 0
+ClosedStays = (rules : Rules) (l : Limits) (calls more : List ScriptCall) (c : ChanId)
+    → IsTrue (was_closed ((left_by_script rules l calls).shared.chan c.number.0) c.serial)
+    → IsTrue (was_closed ((left_by_script rules l (calls ++ more)).shared.chan c.number.0) c.serial)
+
+abbrev pub KindStays : Type 0
+KindStays = (rules : Rules) (l : Limits) (calls more : List ScriptCall) (c : ℕ)
+    → let before = (left_by_script rules l calls).shared.chan c in
+    IsTrue before.made → ((left_by_script rules l (calls ++ more)).shared.chan c).kind ≡ before.kind
+
+-- the call opens a channel, alone or as an end of a pipe, and is replied with it
+pub data IsNewChannel (c : Call) (said : Reply) (new : ChanId) : Type 0 where
+  alone : (kind : Kind) → c ≡ call.Channel kind → said ≡ reply.Channel new → IsNewChannel c said new
+  as_source : (target : CallerNo) (sink : ChanId) → c ≡ call.Pipe target → said ≡ reply.Ends new sink
+      → IsNewChannel c said new
+  as_sink : (target : CallerNo) (source : ChanId) → c ≡ call.Pipe target → said ≡ reply.Ends source new
+      → IsNewChannel c said new
+
+-- a new channel wasn't opened before, so its serial is one that no earlier channel of its number had; it is open and in
+-- blocking mode, and no key of its number is in a key set
+abbrev pub NewChannelIsNew : Type 0
+NewChannelIsNew = (rules : Rules) (l : Limits) (calls : List ScriptCall) (c : ScriptCall) (new : ChanId)
+    → let before = left_by_script rules l calls in
+    let done = seq rules l before c.caller c.call in
+    IsNewChannel c.call done.reply new
+    → IsFalse (was_opened (before.shared.chan new.number.0) new.serial)
+    × IsTrue (is_open_channel (done.left.shared.chan new.number.0) new.serial)
+    × IsTrue (done.left.shared.chan new.number.0).blocking
+    × ((s i : ℕ) → IsTrue (in_key_set (done.left.shared.key s i)) → (done.left.shared.key s i).chan ≢ new.number)
+
+-- as long as a key is in a key set its number has the same channel
+abbrev pub KeyKeepsItsChannel : Type 0
+KeyKeepsItsChannel = (rules : Rules) (l : Limits) (calls more : List ScriptCall) (s : ℕ) (k : KeyId)
+    → let before = (left_by_script rules l calls).shared in
+    let after = (left_by_script rules l (calls ++ more)).shared in
+    let c = (before.key s k.index).chan in
+    IsTrue (is_in_key_set (before.key s k.index) k.serial) → IsTrue (is_in_key_set (after.key s k.index) k.serial)
+    → ((after.key s k.index).chan ≡ c) × ((after.chan c.0).serial ≡ (before.chan c.0).serial)
+
+-- by the first rules each channel has the serial 0
+abbrev pub FirstRulesReopenNone : Type 0
+FirstRulesReopenNone = (l : Limits) (calls : List ScriptCall) (c : ℕ)
+    → ((left_by_script First l calls).shared.chan c).serial ≡ 0
+
+-- the key of a number's channel in a selector, as the calls find it, is the one of the key set that has the number
 abbrev pub KeyOfAChannelIsFound : Type 0
 KeyOfAChannelIsFound = (rules : Rules) (l : Limits) (calls : List ScriptCall) (c s : ℕ) (k : KeyId)
     → let st = (left_by_script rules l calls).shared in
     (key_of st c s ≡ Some k) ↔ (IsTrue (is_in_key_set (st.key s k.index) k.serial) × ((st.key s k.index).chan.0 ≡ c))
 
--- a channel has at most one key in a selector's key set
+-- a number has at most one key in a selector's key set
 abbrev pub OneKeyOfAChannel : Type 0
 OneKeyOfAChannel = (rules : Rules) (l : Limits) (calls : List ScriptCall) (s i j : ℕ)
     → let st = (left_by_script rules l calls).shared in
@@ -136,15 +190,15 @@ OneKeyOfAChannel = (rules : Rules) (l : Limits) (calls : List ScriptCall) (s i j
 
 -- a channel counts as registered exactly where a key of it is in a key set
 abbrev pub RegisteredIsInAKeySet : Type 0
-RegisteredIsInAKeySet = (rules : Rules) (l : Limits) (calls : List ScriptCall) (c : ℕ)
+RegisteredIsInAKeySet = (rules : Rules) (l : Limits) (calls : List ScriptCall) (c : ChanId)
     → let st = (left_by_script rules l calls).shared in
     IsTrue (is_registered l st c) ↔ IsRegistered st c
 
 -- a registered channel isn't in blocking mode
 abbrev pub RegisteredIsNonBlocking : Type 0
-RegisteredIsNonBlocking = (rules : Rules) (l : Limits) (calls : List ScriptCall) (c : ℕ)
+RegisteredIsNonBlocking = (rules : Rules) (l : Limits) (calls : List ScriptCall) (c : ChanId)
     → let st = (left_by_script rules l calls).shared in
-    IsRegistered st c → IsFalse (st.chan c).blocking
+    IsRegistered st c → IsFalse (st.chan c.number.0).blocking
 
 -- no key of a closed channel is valid
 abbrev pub ClosedChannelHasNoValidKey : Type 0
@@ -154,7 +208,7 @@ ClosedChannelHasNoValidKey = (rules : Rules) (l : Limits) (calls : List ScriptCa
 
 -- A CLOSED SELECTOR
 
--- a selector has no key in its key set, so no valid one, and no channel has a key there
+-- a selector has no key in its key set, so no valid one, and no number has a key there
 pub record IsEmptied (st : State) (s : ℕ) : Type 0 where
   pub no_key : (i : ℕ) → IsFalse (in_key_set (st.key s i))
   pub no_valid_key : (i : ℕ) → IsFalse (is_valid (st.key s i))

@@ -5,7 +5,7 @@
 -- selected: no call of a script tells these apart. Between its calls nobody has a pin or uses an index.
 use Rattle.std.specs.Prelude.{ℕ, ◌^◌, Bool, List, [], Option, None}
 use Rattle.nio_base.specs.declared.numbers.CallerNo.{CallerNo}
-use Rattle.nio_base.specs.declared.numbers.ChanNo.{ChanNo}
+use Rattle.nio_base.specs.declared.numbers.ChanId.{ChanId}
 use Rattle.nio_base.specs.declared.numbers.KeyId.{KeyId}
 use Rattle.nio_group.specs.Group.{Group, empty_group}
 use Rattle.nio_group.specs.declared.limits.GroupLimits.{GroupLimits}
@@ -22,8 +22,8 @@ pub record Selection : Type 0 where
 -- a pipe: its channels, the callers that own them, the bytes that wait in it, the first to be read first, and
 -- whether its sink has left the seal
 pub record Pipe : Type 0 where
-  pub source : ChanNo
-  pub sink : ChanNo
+  pub source : ChanId
+  pub sink : ChanId
   pub reader : CallerNo
   pub writer : CallerNo
   pub waiting : List ℕ

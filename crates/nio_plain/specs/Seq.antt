@@ -5,8 +5,9 @@
 -- A refusal changes nothing, but for some calls on pipes. Refusals are tested in the order in which they
 -- stand: first the caller, then the names of the line, then the call's own.
 --
--- It replies by one of two rules. They differ in one word, `comes_back`, which only the beginning and the
--- end of a selection cite.
+-- It replies by one of two rules. They differ in three words: `comes_back`, which only the beginning and the end of a
+-- selection cite, `number_comes_back`, which only the opening of a channel and of a pipe cites, and `goes_at_end`,
+-- which only the end of a selection cites.
 pub mod Replies
 pub mod Names
 pub mod Pipes
@@ -47,7 +48,7 @@ use Rattle.nio_plain.specs.declared.rules.Rules.{Rules}
 -- every call, by its word
 unfoldable pub call_of : Rules → Limits → ScriptState → CallerNo → Call → Replied
 call_of rules l st me call.Selector = selector_call l st
-call_of rules l st me (call.Channel kind) = channel_call l st kind
+call_of rules l st me (call.Channel kind) = channel_call rules l st kind
 call_of rules l st me (call.Blocking c on) = blocking_call l st c on
 call_of rules l st me (call.IsBlocking c) = is_blocking_call st c
 call_of rules l st me (call.IsOpen c) = is_open_call st c
@@ -75,7 +76,7 @@ call_of rules l st me (call.Keys s) = keys_call st s
 call_of rules l st me (call.Selected s) = selected_call st s
 call_of rules l st me (call.Interrupt target) = interrupt_call l st target
 call_of rules l st me call.Interrupted = interrupted_call st me
-call_of rules l st me (call.Pipe target) = pipe_call l st me target
+call_of rules l st me (call.Pipe target) = pipe_call rules l st me target
 call_of rules l st me (call.Pwrite c bytes) = pwrite_call st me c bytes
 call_of rules l st me (call.Pread c n) = pread_call st me c n
 call_of rules l st me (call.Group g) = group_call st g

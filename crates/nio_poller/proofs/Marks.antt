@@ -21,7 +21,7 @@ use Rattle.nio_steps.proofs.Lists.{parted, contains-none}
 use Rattle.nio_steps.proofs.ToldLaws.{marks_only_as_told}
 use Rattle.nio_steps.proofs.UnmarkedLaws.{begin_unmarked, again_unmarked}
 use Rattle.nio_steps.specs.KeyCalls.{is_within}
-use Rattle.nio_steps.specs.SelectCalls.{Selection, Begins, Poll, Tells, ToldReply, again, told_of, told_bits}
+use Rattle.nio_steps.specs.SelectCalls.{Selection, Begins, Poll, Tells, ToldReply, again, told_at, told_bits}
 use Rattle.nio_steps.specs.SelectCalls.{begin_finds_busy}
 use Rattle.nio_steps.specs.Selections.{marks_on}
 use Rattle.nio_steps.specs.Waiting.{Run, acts_of, Retries}
@@ -87,15 +87,15 @@ module _ {X : Type 0} (test : X → Bool) (bits_of : X → ℕ) where
 
 -- ---- what was told of a key, and of a channel
 
-pub told_in_pairs : (pairs : List (ℕ × ℕ)) (i bits : ℕ) → Contains pairs (i, bits) → IsPart bits (told_of pairs i)
+pub told_in_pairs : (pairs : List (ℕ × ℕ)) (i bits : ℕ) → Contains pairs (i, bits) → IsPart bits (told_at pairs i)
 told_in_pairs pairs i bits there =
     united (λ (pair : ℕ × ℕ). pair.0 == i) (λ pair. pair.1) pairs (i, bits) (eq-eqb i i refl) there
 
 -- what was told of a key that was asked for was told of its channel
 pub told_in_channel : (asked : List LookedKey) (pairs : List (ℕ × ℕ)) (entry : LookedKey) → Contains asked entry
-    → IsPart (told_of pairs entry.index) (told_of_channel asked pairs entry.channel)
+    → IsPart (told_at pairs entry.index) (told_of_channel asked pairs entry.channel)
 told_in_channel asked pairs entry there =
-    united (λ (x : LookedKey). x.channel.0 == entry.channel.0) (λ x. told_of pairs x.index) asked entry
+    united (λ (x : LookedKey). x.channel.0 == entry.channel.0) (λ x. told_at pairs x.index) asked entry
     (eq-eqb entry.channel.0 entry.channel.0 refl) there
 
 -- what was told of a key and asked for was told of its channel
@@ -103,7 +103,7 @@ pub bits_in_channel : (asked : List LookedKey) (pairs : List (ℕ × ℕ)) (entr
     → IsTrue (is_within (told_bits pairs entry) (told_of_channel asked pairs entry.channel))
 bits_in_channel asked pairs entry there =
     eq-eqb (bit_and (told_bits pairs entry) (told_of_channel asked pairs entry.channel)) (told_bits pairs entry)
-    (part_met (told_of pairs entry.index) entry.interest (told_of_channel asked pairs entry.channel)
+    (part_met (told_at pairs entry.index) entry.interest (told_of_channel asked pairs entry.channel)
     (told_in_channel asked pairs entry there))
 
 -- a `told` marks keys only with operations that their channels are ready for

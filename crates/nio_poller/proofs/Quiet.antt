@@ -2,13 +2,13 @@
 use Rattle.std.proofs.Common.{◌≡◌, ℕ, ◌==◌, Bool, true, false, if◌then◌else◌, List, [], ◌∷◌, fold, bit_or, refl, ◌∙◌}
 use Rattle.std.proofs.Common.{ap, sym}
 use Rattle.nio_base.specs.declared.numbers.ChanNo.{ChanNo}
-use Rattle.nio_steps.specs.SelectCalls.{told_of}
+use Rattle.nio_steps.specs.SelectCalls.{told_at}
 use Rattle.nio_steps.specs.declared.looked.LookedKey.{LookedKey}
 use Rattle.nio_poller.specs.Polls.{told_of_channel}
 
 by_test : (b : Bool) (entry : LookedKey) (asked : List LookedKey) (c : ChanNo) → told_of_channel asked [] c ≡ 0
-    → fold (λ bits e. if e.channel.0 == c.0 then bit_or bits (told_of [] e.index) else bits)
-    (if b then bit_or 0 (told_of [] entry.index) else 0) asked ≡ 0
+    → fold (λ bits e. if e.channel.0 == c.0 then bit_or bits (told_at [] e.index) else bits)
+    (if b then bit_or 0 (told_at [] entry.index) else 0) asked ≡ 0
 by_test true entry asked c rest = rest
 by_test false entry asked c rest = rest
 

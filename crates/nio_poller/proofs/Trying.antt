@@ -13,7 +13,7 @@ use Rattle.nio_steps.specs.Calls.{CallClause}
 use Rattle.nio_steps.specs.PinLaws.{GivesPinsBack}
 use Rattle.nio_steps.specs.Runs.{Completes}
 use Rattle.nio_steps.specs.SelectCalls.{Selection, Begins, begin_finds_busy, FinishReply, closed, closing}
-use Rattle.nio_steps.specs.SelectCalls.{already_closed, shut_plan, try_finish_plan, finish_finds_busy, Closes}
+use Rattle.nio_steps.specs.SelectCalls.{already_closed, shut_plan, try_finish_plan, finish_finds_busy, ClosesSelector}
 use Rattle.nio_steps.specs.SelectCalls.{ClosesRest}
 use Rattle.nio_steps.specs.Waiting.{Retries, Then}
 use Rattle.nio_steps.specs.declared.refusal.BeginError.{BeginError}
@@ -68,12 +68,12 @@ then_nothing {First = First} {a = a} Second answer first second =
 pub closes_finished : {me : CallerNo} {v0 v1 v2 : PassView} (s s' : SelNo) → s' ≡ s
     → CallClause me (Completes (shut_plan s)) v0 v1 closing
     → CallClause me (Retries (Completes (try_finish_plan s')) finish_finds_busy) v1 v2 closed
-    → CallClause me (Closes s) v0 v2 true
+    → CallClause me (ClosesSelector s) v0 v2 true
 closes_finished {me = me} {v1 = v1} {v2 = v2} s s' same shuts finishes =
     then_call shuts (call_as (ClosesRest s closing) true (λ xs run. (refl, run))
     (subst (λ (x : SelNo). CallClause me (Retries (Completes (try_finish_plan x)) finish_finds_busy) v1 v2 closed) same
     finishes))
 
 pub closes_found : {me : CallerNo} {v0 v1 : PassView} (s : SelNo)
-    → CallClause me (Completes (shut_plan s)) v0 v1 already_closed → CallClause me (Closes s) v0 v1 false
+    → CallClause me (Completes (shut_plan s)) v0 v1 already_closed → CallClause me (ClosesSelector s) v0 v1 false
 closes_found s shuts = then_nothing (ClosesRest s) false shuts (refl, refl)

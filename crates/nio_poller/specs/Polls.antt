@@ -6,7 +6,7 @@ use Rattle.nio_bytes.specs.Cause.{Rose}
 use Rattle.nio_history.specs.declared.found.Mode.{Mode}
 use Rattle.nio_select.specs.InProgress.{poll_of}
 use Rattle.nio_select.specs.declared.told.Told.{Told}
-use Rattle.nio_steps.specs.SelectCalls.{told_of}
+use Rattle.nio_steps.specs.SelectCalls.{told_at}
 use Rattle.nio_steps.specs.declared.looked.LookedKey.{LookedKey}
 use Rattle.nio_poller.specs.Polled.{Polled}
 use Rattle.nio_poller.specs.declared.poller.PollError.{PollError}
@@ -15,7 +15,7 @@ use Rattle.nio_poller.specs.declared.poller.PollError.{PollError}
 -- that has none of these keys nothing was told.
 abbrev pub told_of_channel : List LookedKey → List (ℕ × ℕ) → ChanNo → ℕ
 told_of_channel asked pairs c =
-    fold (λ bits entry. if entry.channel.0 == c.0 then bit_or bits (told_of pairs entry.index) else bits) 0 asked
+    fold (λ bits entry. if entry.channel.0 == c.0 then bit_or bits (told_at pairs entry.index) else bits) 0 asked
 
 -- A count of faults rises where a call fails with this error, and else stays.
 pub record CountsFaults {T E : Type 0} (fault : E) (before now : ℕ) (result : Result T E) : Type 0 where

@@ -15,7 +15,7 @@ use Rattle.nio_history.specs.declared.found.Mode.TheVariants.{Now as WithoutWait
 use Rattle.nio_history.specs.declared.timeout.NegativeTimeout.{NegativeTimeout as TooLow}
 use Rattle.nio_steps.specs.Calls.{CallClause}
 use Rattle.nio_steps.specs.KeyCalls.{is_within}
-use Rattle.nio_steps.specs.SelectCalls.{Selection, Poll, Selects, SelectReply, selected, not_begun, left}
+use Rattle.nio_steps.specs.SelectCalls.{Selection, Poll, MakesSelection, SelectReply, selected, not_begun, left}
 use Rattle.nio_steps.specs.declared.looked.LookedKey.{LookedKey}
 use Rattle.nio_steps.specs.declared.refusal.BeginError.{BeginError}
 use Rattle.nio_steps.specs.declared.refusal.BeginError.TheVariants as begin_error
@@ -78,7 +78,7 @@ pub record SelectClause (me : CallerNo) (s : SelNo) (mode : Mode) (old new : Pas
   pub polls : List Poll
   -- what the steps reply
   pub reply : SelectReply
-  pub call : CallClause me (Selects s mode (told_from polls)) old new reply
+  pub call : CallClause me (MakesSelection s mode (told_from polls)) old new reply
   pub answers : Answers reply result
   pub adds : AddsPolls polls_old polls_new (polls_of (looked_by call.shape.middle) mode polls)
   pub marks : MarksAllReady ready (looked_by call.shape.middle) (done_between me old new)

@@ -1,10 +1,10 @@
 //! Calls that end a selection's wait: waking, closing, interrupting.
 ghost use Rattle.nio_history.specs.Conditions.{IsCaller};
 ghost use Rattle.nio_history.specs.PassViews.{HasSelector};
-ghost use Rattle.nio_select.specs.InProgress.{Closes as IsClosingIt};
+ghost use Rattle.nio_select.specs.InProgress.{HasShut};
 ghost use Rattle.nio_steps.specs.Calls.{CallClause};
 ghost use Rattle.nio_steps.specs.Runs.{Completes};
-ghost use Rattle.nio_steps.specs.SelectCalls.{wakeup_plan, interrupt_plan, interrupted_plan, Closes, try_finish_plan};
+ghost use Rattle.nio_steps.specs.SelectCalls.{wakeup_plan, interrupt_plan, interrupted_plan, ClosesSelector, try_finish_plan};
 ghost use Rattle.nio_steps.specs.SelectCalls.{finish_finds_busy, closed};
 ghost use Rattle.nio_steps.specs.Waiting.{Retries};
 ghost use Rattle.nio_words.specs.Passes.{IsReady, limits_of};
@@ -43,7 +43,7 @@ pub fn close<R: Wait, B: Bell>(
 ) -> bool
     requires ready { IsReady w.now p.old me }
     requires selector { HasSelector (view w.now p.old) sel }
-    ensures call { CallClause me (Closes sel) (view w.now p.old) (view w.now p.new) result }
+    ensures call { CallClause me (ClosesSelector sel) (view w.now p.old) (view w.now p.new) result }
     ensures ready { IsReady w.now p.new me }
 {
     let shutting = shut(w, p, me, sel);
@@ -60,7 +60,7 @@ pub fn close<R: Wait, B: Bell>(
 // Finishes the closing once nobody selects.
 fn finish<R: Wait>(rt: &R, w: &Words, p: &mut Pass, me: CallerNo, closing: Closing)
     requires ready { IsReady w.now p.old me }
-    requires closing { IsClosingIt (view w.now p.old) me closing }
+    requires closing { HasShut (view w.now p.old) me closing }
     ensures call { CallClause me (Retries (Completes (try_finish_plan closing)) finish_finds_busy)
         (view w.now p.old) (view w.now p.new) closed }
     ensures ready { IsReady w.now p.new me }

@@ -8,7 +8,10 @@ use nio_pool::{Group, GroupError};
 use std::test::Fail;
 
 /// The one channel.
-const STREAM: GChan = GChan(0);
+const STREAM: GChan = GChan {
+    number: 0,
+    serial: 0,
+};
 
 /// One channel, and so many operations in all.
 pub fn limits(ops: u64) -> GroupLimits
@@ -25,7 +28,7 @@ pub fn limits(ops: u64) -> GroupLimits
 /// Opens a stream and closes it. An operation on it completes at once.
 pub fn close_stream(core: &mut GroupCore) -> Result<(), StartError> {
     let chan = core.open_channel(GKind::Stream)?;
-    if chan.0 < core.channels() {
+    if core.is_made(chan) {
         core.close_channel(chan);
     }
     Ok(())
@@ -34,7 +37,7 @@ pub fn close_stream(core: &mut GroupCore) -> Result<(), StartError> {
 /// Opens a stream and connects it.
 pub fn connect_stream(core: &mut GroupCore) -> Result<(), Fail> {
     let chan = core.open_channel(GKind::Stream)?;
-    if chan.0 < core.channels() {
+    if core.is_made(chan) {
         let connect = core.start(chan, OpKind::Connect, 0)?;
         core.report(connect, Outcome::Connected)?;
     }
@@ -42,14 +45,14 @@ pub fn connect_stream(core: &mut GroupCore) -> Result<(), Fail> {
 }
 
 pub fn close(core: &mut GroupCore) {
-    if core.channels() > 0 {
+    if core.is_made(STREAM) {
         core.close_channel(STREAM);
     }
 }
 
 /// Starts a read of one byte.
 pub fn start_read(core: &mut GroupCore) -> Result<OpNo, StartError> {
-    if core.channels() == 0 {
+    if !core.is_made(STREAM) {
         return Err(StartError::ClosedChannel);
     }
     core.start(STREAM, OpKind::Read, 1)

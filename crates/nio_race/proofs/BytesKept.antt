@@ -8,7 +8,7 @@ use Rattle.std.specs.List.{Contains, slice_index_or}
 use mathlib.Core.List.{IsPrefix}
 use Rattle.nio_base.specs.declared.limits.Limits.{Limits}
 use Rattle.nio_base.specs.declared.numbers.CallerNo.{CallerNo}
-use Rattle.nio_base.specs.declared.numbers.ChanNo.{ChanNo}
+use Rattle.nio_base.specs.declared.numbers.ChanId.{ChanId}
 use Rattle.nio_language.specs.declared.call.Call.TheVariants as call
 use Rattle.nio_language.specs.declared.call.ScriptCall.{ScriptCall}
 use Rattle.nio_language.specs.declared.reply.Reply.{Reply}
@@ -33,7 +33,7 @@ use Rattle.nio_race.specs.Setup.{KeepsPipeOfSetup}
 
 -- What was read in the setup, and what waited then, is what was written there. Behind `go` what was read begins what
 -- waited and what was written then.
-pub keeps_bytes : (source sink : ChanNo) (reads reads' writes writes' : List (RaceCall × Reply)) (waiting : List ℕ)
+pub keeps_bytes : (source sink : ChanId) (reads reads' writes writes' : List (RaceCall × Reply)) (waiting : List ℕ)
     (sealed : Bool)
     → all_read source reads ++ waiting ≡ all_written sink writes
     → sealed ≡ leave_seal sink writes
@@ -107,7 +107,7 @@ keeps_pipe l setup race replies p x y kept parted on met =
     (omega (arith, met.few, ap (λ (xs : List ℕ). length xs) was_read, ap (λ (xs : List ℕ). length xs) was_sent))
     (λ tells. sym was_read ∙ (met.whole (at_end tells) ∙ was_sent))
     (λ tells. sym was_sealed ∙ met.ended (at_end tells))
-    (λ sealed. ap (λ (c : ChanNo). all_written c (lines p.writer)) (sym parted.sink)
+    (λ sealed. ap (λ (c : ChanId). all_written c (lines p.writer)) (sym parted.sink)
     ∙ (ap (λ (n : CallerNo). all_written (sink_chan x.sink) (lines n)) (sym parted.writer)
     ∙ on.sink.ended (parted.seal ∙ sealed)))
   where
@@ -118,26 +118,26 @@ keeps_pipe l setup race replies p x y kept parted on met =
     was_read =
         on.source.received
         ∙ (ap (λ (xs : List ℕ). xs ++ all_read (source_chan x.source) (lines x.owners.reader)) parted.none_received
-        ∙ (ap (λ (c : ChanNo). all_read c (lines x.owners.reader)) parted.source
+        ∙ (ap (λ (c : ChanId). all_read c (lines x.owners.reader)) parted.source
         ∙ ap (λ (n : CallerNo). all_read p.source (lines n)) parted.reader))
 
     was_sent : sent y.sink ≡ p.waiting ++ all_written p.sink (lines p.writer)
     was_sent =
         on.sink.sent
         ∙ (ap (λ (xs : List ℕ). xs ++ all_written (sink_chan x.sink) (lines x.owners.writer)) parted.waiting
-        ∙ (ap (λ (c : ChanNo). p.waiting ++ all_written c (lines x.owners.writer)) parted.sink
+        ∙ (ap (λ (c : ChanId). p.waiting ++ all_written c (lines x.owners.writer)) parted.sink
         ∙ ap (λ (n : CallerNo). p.waiting ++ all_written p.sink (lines n)) parted.writer))
 
     was_sealed : is_sealed y.sink ≡ (p.sealed || leave_seal p.sink (lines p.writer))
     was_sealed =
         on.sink.seal
         ∙ (ap (λ (b : Bool). b || leave_seal (sink_chan x.sink) (lines x.owners.writer)) parted.seal
-        ∙ (ap (λ (c : ChanNo). p.sealed || leave_seal c (lines x.owners.writer)) parted.sink
+        ∙ (ap (λ (c : ChanId). p.sealed || leave_seal c (lines x.owners.writer)) parted.sink
         ∙ ap (λ (n : CallerNo). p.sealed || leave_seal p.sink (lines n)) parted.writer))
 
     at_end : TellsEnd p.source (lines p.reader) → IsAtEnd y.source
     at_end tells =
-        on.source.tells_end (subst (λ (c : ChanNo). TellsEnd c (lines x.owners.reader)) (sym parted.source)
+        on.source.tells_end (subst (λ (c : ChanId). TellsEnd c (lines x.owners.reader)) (sym parted.source)
         (subst (λ (n : CallerNo). TellsEnd p.source (lines n)) (sym parted.reader) tells))
 
 -- Each pipe keeps its bytes, place by place.
@@ -165,7 +165,7 @@ finds_in_pipe race replies p x y parted on = record {
       let last : Awaited = found.0 in (
         last,
         subst (λ (n : CallerNo). LinesFind p.source (lines n) (awaited_at_go p) last) parted.reader
-            (subst (λ (c : ChanNo). LinesFind c (lines x.owners.reader) (awaited_at_go p) last) parted.source
+            (subst (λ (c : ChanId). LinesFind c (lines x.owners.reader) (awaited_at_go p) last) parted.source
             found.1.0),
       );
   takes =
@@ -173,7 +173,7 @@ finds_in_pipe race replies p x y parted on = record {
       let last : ℕ = left.0 in (
         last,
         subst (λ (n : CallerNo). LinesTake p.sink (lines n) (room_at_go p) last) parted.writer
-            (subst (λ (c : ChanNo). LinesTake c (lines x.owners.writer) (room_at_go p) last) parted.sink left.1.0),
+            (subst (λ (c : ChanId). LinesTake c (lines x.owners.writer) (room_at_go p) last) parted.sink left.1.0),
       );
 }
   where

@@ -6,7 +6,7 @@ use Rattle.std.specs.Prelude.{Vec}
 use Rattle.std.specs.declared.alloc.AllocError.{AllocError}
 use Rattle.std.specs.declared.alloc.Global.{Global}
 use Rattle.nio_base.specs.declared.numbers.CallerNo.{CallerNo}
-use Rattle.nio_base.specs.declared.numbers.ChanNo.{ChanNo}
+use Rattle.nio_base.specs.declared.numbers.ChanId.{ChanId}
 use Rattle.nio_language.specs.declared.call.Call.{Call}
 use Rattle.nio_language.specs.declared.call.Call.TheVariants as call
 use Rattle.nio_language.specs.declared.reply.Reply.{Reply}
@@ -44,7 +44,7 @@ use Rattle.nio_words.specs.Views.{view}
 use Rattle.nio_words.specs.declared.words.Pass.{Pass}
 use Rattle.nio_words.specs.declared.words.Words.{Words}
 
-module _ (w : Words) (d : Desk) (ends : OwnEnds) (me : CallerNo) (c : ChanNo) (stands : StandsWith w d ends me) where
+module _ (w : Words) (d : Desk) (ends : OwnEnds) (me : CallerNo) (c : ChanId) (stands : StandsWith w d ends me) where
   abbrev Closing : Call
   Closing = call.Closec c
 
@@ -76,7 +76,7 @@ module _ (w : Words) (d : Desk) (ends : OwnEnds) (me : CallerNo) (c : ChanNo) (s
   unsealed =
       ap (with_seal (progress_of d)) (ap (λ (pipes : List OwnedPipe). own_sink (pipes_of pipes) me c) stands.pipeless)
 
-  closed : (q q' : Pass) (found : ChanNo) (closes : Bool) → LooksUp w me c d.pass q (Some found)
+  closed : (q q' : Pass) (found : ChanId) (closes : Bool) → LooksUp w me c d.pass q (Some found)
       → CallClause me (Completes (close_channel_plan (limits_of w) c)) (view w q) (view w q') closes
       → MakesOnce w d (with_pass d q') me Closing (closed_reply closes)
   unfolding if_named call_plan
@@ -110,7 +110,7 @@ module _ (w : Words) (d : Desk) (ends : OwnEnds) (me : CallerNo) (c : ChanNo) (s
       (script_line_pipeless (limits_of w) (progress_of d) (ap pipes_of stands.pipeless) me Closing _ _ refl makes.shape)
   stands_unowned d' (Err e) stands' makes = tt
 
-  module _ (q q' : Pass) (found : ChanNo) (place : ℕ) (old new : PipeSink) (sinks : Vec PipeSink Global) (closes : Bool)
+  module _ (q q' : Pass) (found : ChanId) (place : ℕ) (old new : PipeSink) (sinks : Vec PipeSink Global) (closes : Bool)
       (looks : LooksUp w me c d.pass q (Some found)) (ready : IsReady w q me) (at : IsSinkPlace ends c (Some place))
       (here : old ≡ get_or ends.sinks.items place old)
       (call : CallClause me (Completes (close_channel_plan (limits_of w) (sink_chan old))) (view w q) (view w q')
@@ -125,7 +125,7 @@ module _ (w : Words) (d : Desk) (ends : OwnEnds) (me : CallerNo) (c : ChanNo) (s
     its_call : CallClause me (Completes (close_channel_plan (limits_of w) c)) (view w q) (view w q') closes
     its_call =
         subst
-        (λ (x : ChanNo). CallClause me (Completes (close_channel_plan (limits_of w) x)) (view w q) (view w q') closes)
+        (λ (x : ChanId). CallClause me (Completes (close_channel_plan (limits_of w) x)) (view w q) (view w q') closes)
         its call
 
     pub closes_own : (r : Reply) → r ≡ closed_reply closes → sent new ≡ sent old → is_sealed new ≡ true

@@ -1,7 +1,7 @@
 -- What a line on the bytes of a pipe does to the ends that its caller owns.
 use Rattle.std.proofs.Common.{◌≡◌, ◌≢◌, ℕ, zero, suc, ◌+◌, ◌-◌, ◌<◌, ◌≤◌, ◌==◌, min, Bool, true, false, ◌||◌, ◌&&◌}
 use Rattle.std.proofs.Common.{if◌then◌else◌, IsTrue, IsFalse, Result, Ok, Err, List, [], ◌∷◌, ◌++◌, length, get_or, set}
-use Rattle.std.proofs.Common.{take, drop, position, None, refl, sym, ap, ◌∙◌, subst, eqb-true, eq-eqb, arith, ⊎_elim}
+use Rattle.std.proofs.Common.{take, drop, position, None, refl, sym, ap, ◌∙◌, subst, eqb-true, arith, ⊎_elim}
 use Rattle.std.proofs.Common.{length-append}
 use Rattle.std.proofs.Math.Bool.{or-false}
 use Rattle.std.proofs.Math.Nat.{le_refl}
@@ -11,7 +11,7 @@ use Rattle.std.specs.List.{AllPairs}
 use Rattle.std.specs.Prelude.{OnOk, Vec}
 use Rattle.std.specs.declared.alloc.Global.{Global}
 use mathlib.Core.List.{IsPrefix}
-use Rattle.nio_base.specs.declared.numbers.ChanNo.{ChanNo}
+use Rattle.nio_base.specs.declared.numbers.ChanId.{ChanId}
 use Rattle.nio_history.proofs.Clauses.{prefix_trans}
 use Rattle.nio_language.specs.declared.call.Call.{Call}
 use Rattle.nio_language.specs.declared.call.Call.TheVariants as call
@@ -28,11 +28,13 @@ use Rattle.nio_pipe.specs.declared.source.PipeSource.{PipeSource}
 use Rattle.nio_race_text.specs.declared.call.RaceCall.{RaceCall}
 use Rattle.nio_race_text.specs.declared.call.RaceCall.TheVariants.{Script}
 use Rattle.nio_serial.specs.Replies.{closed_reply, pipe_refusal}
+use Rattle.nio_plain.specs.Seq.Pipes.{is_same_id}
+use Rattle.nio_sole.proofs.ChannelNames.{other_channel, same_channel}
 use Rattle.nio_sole.specs.PipeReplies.{read_reply, write_reply}
 use Rattle.nio_steps.specs.declared.refusal.PipeError.{PipeError}
 use Rattle.nio_steps.specs.declared.refusal.PipeError.TheVariants.{AsynchronousClose}
 use Rattle.nio_words.proofs.Beginnings.{prefix_length}
-use Rattle.nio_race.proofs.EndLists.{each_itself, each_set, none_passes, other_number}
+use Rattle.nio_race.proofs.EndLists.{differs_from, each_itself, each_set, none_passes}
 use Rattle.nio_race.proofs.FindLines.{close_keeps_room, close_takes_here, one_finds, one_takes}
 use Rattle.nio_race.proofs.FindLines.{prefix_drop, prefix_none, read_finds_elsewhere, read_finds_here}
 use Rattle.nio_race.proofs.FindLines.{write_keeps_room, write_takes_elsewhere, write_takes_here}
@@ -46,31 +48,31 @@ abbrev pub the_line : Call → Reply → List (RaceCall × Reply)
 the_line word r = (Script word, r) ∷ []
 
 -- a line that is no read tells no end
-no_end : (word : Call) (r : Reply) (c : ChanNo) → ((n : ℕ) → word ≡ call.Pread c n → ⊥)
+no_end : (word : Call) (r : Reply) (c : ChanId) → ((n : ℕ) → word ≡ call.Pread c n → ⊥)
     → TellsEnd c (the_line word r) → ⊥
 no_end word r c other told =
     let same : Script word ≡ Script (call.Pread c told.0) =
     ap (λ (x : RaceCall × Reply). x.0) (told_alone c (Script word) r told) in
     other told.0 (cc same)
 
-end_said : (word : Call) (r : Reply) (c : ChanNo) → TellsEnd c (the_line word r) → r ≡ reply.End
+end_said : (word : Call) (r : Reply) (c : ChanId) → TellsEnd c (the_line word r) → r ≡ reply.End
 end_said word r c told = ap (λ (x : RaceCall × Reply). x.1) (told_alone c (Script word) r told)
 
 -- ---- a read
 
-module _ (c : ChanNo) (n : ℕ) (r : Reply) where
+module _ (c : ChanId) (n : ℕ) (r : Reply) where
   abbrev Read : Call
   Read = call.Pread c n
 
-  read_here : (x : ChanNo) → c ≡ x → read_in x (Script Read) r ≡ bytes_of r
-  read_here x same = cond-true (c.0 == x.0) (bytes_of r) [] (eq-eqb c.0 x.0 (ap (λ (y : ChanNo). y.0) same))
+  read_here : (x : ChanId) → c ≡ x → read_in x (Script Read) r ≡ bytes_of r
+  read_here x same = cond-true (is_same_id c x) (bytes_of r) [] (same_channel c x same)
 
-  read_elsewhere : (x : ChanNo) → (x.0 ≡ c.0 → ⊥) → read_in x (Script Read) r ≡ []
-  read_elsewhere x other = cond-false (c.0 == x.0) (bytes_of r) [] (ne_eqb c.0 x.0 (λ same. other (sym same)))
+  read_elsewhere : (x : ChanId) → (x ≡ c → ⊥) → read_in x (Script Read) r ≡ []
+  read_elsewhere x other = cond-false (is_same_id c x) (bytes_of r) [] (other_channel c x (λ same. other (sym same)))
 
   -- where it gives nothing
-  read_nothing : (x : ChanNo) → bytes_of r ≡ [] → read_in x (Script Read) r ≡ []
-  read_nothing x none = by_test (c.0 == x.0)
+  read_nothing : (x : ChanId) → bytes_of r ≡ [] → read_in x (Script Read) r ≡ []
+  read_nothing x none = by_test (is_same_id c x)
     where
       by_test : (b : Bool) → (if b then bytes_of r else []) ≡ []
       by_test true = none
@@ -94,7 +96,7 @@ module _ (c : ChanNo) (n : ℕ) (r : Reply) where
   -- the source at one place went on
   pub read_goes_on : (ends : OwnEnds) (place : ℕ) (old new : PipeSource) (sources : Vec PipeSource Global)
       → place < length ends.sources.items → old ≡ get_or ends.sources.items place old → source_chan old ≡ c
-      → AllPairs (λ a b. (source_chan a).0 ≢ (source_chan b).0) ends.sources.items
+      → AllPairs (λ a b. source_chan a ≢ source_chan b) ends.sources.items
       → sources.items ≡ set ends.sources.items place new → SourceGoesOn (the_line Read r) old new
       → EndsGoOn (the_line Read r) ends (record ends { sources = sources })
   read_goes_on ends place old new sources inside here its differ items goes = record {
@@ -107,12 +109,12 @@ module _ (c : ChanNo) (n : ℕ) (r : Reply) where
       others : (k : ℕ) (x : PipeSource) → (k ≡ place → ⊥) → k < length ends.sources.items
           → get_or ends.sources.items k x ≡ x → SourceGoesOn (the_line Read r) x x
       others k x other within at =
-          let apart : (source_chan x).0 ≡ c.0 → ⊥ =
-          λ same. other_number (λ (s : PipeSource). (source_chan s).0) ends.sources.items place k old x differ inside
-          here other within at (same ∙ ap (λ (y : ChanNo). y.0) (sym its)) in
+          let apart : source_chan x ≡ c → ⊥ =
+          λ same. differs_from source_chan ends.sources.items place k old x differ inside here other within at
+          (same ∙ sym its) in
           source_stays (Script Read) r x (read_elsewhere (source_chan x) apart)
           (no_end Read r (source_chan x) (λ m same. let chan : c ≡ source_chan x = cc same in
-          apart (ap (λ (y : ChanNo). y.0) (sym chan))))
+          apart (sym chan)))
           (λ a. read_finds_elsewhere c n r (source_chan x) a apart)
 
 -- ---- what its reply tells
@@ -293,7 +295,7 @@ module _ (n : ℕ) (old new : PipeSource) (before after : List ℕ) (x : Awaited
       (x, (ReadFinds.is_refused refusal waited, knows_still old new before after gives x knows))
 
 -- the read source
-pub source_read : (c : ChanNo) (n : ℕ) (old new : PipeSource) (before after : List ℕ)
+pub source_read : (c : ChanId) (n : ℕ) (old new : PipeSource) (before after : List ℕ)
     (answer : Result PipeRead PipeError) → source_chan old ≡ c → IsSameSource old new
     → GivesBytes old new before after (bytes_read answer) → FindsBytes n old new before after answer
     → SourceGoesOn (the_line (call.Pread c n) (read_said answer after)) old new
@@ -323,35 +325,35 @@ source_read c n old new before after answer its same gives finds =
 
 -- ---- a write
 
-module _ (c : ChanNo) (bytes : List ℕ) (r : Reply) where
+module _ (c : ChanId) (bytes : List ℕ) (r : Reply) where
   abbrev Write : Call
   Write = call.Pwrite c bytes
 
-  write_here : (x : ChanNo) → c ≡ x → written_in x (Script Write) r ≡ take (number_of r) bytes
+  write_here : (x : ChanId) → c ≡ x → written_in x (Script Write) r ≡ take (number_of r) bytes
   write_here x same =
-      cond-true (c.0 == x.0) (take (number_of r) bytes) [] (eq-eqb c.0 x.0 (ap (λ (y : ChanNo). y.0) same))
+      cond-true (is_same_id c x) (take (number_of r) bytes) [] (same_channel c x same)
 
-  seal_here : (x : ChanNo) → c ≡ x → seals_in x (Script Write) r ≡ says_closed r
-  seal_here x same = ap (λ (b : Bool). b && says_closed r) (eq-eqb c.0 x.0 (ap (λ (y : ChanNo). y.0) same))
+  seal_here : (x : ChanId) → c ≡ x → seals_in x (Script Write) r ≡ says_closed r
+  seal_here x same = ap (λ (b : Bool). b && says_closed r) (same_channel c x same)
 
-  write_elsewhere : (x : ChanNo) → (x.0 ≡ c.0 → ⊥) → written_in x (Script Write) r ≡ []
+  write_elsewhere : (x : ChanId) → (x ≡ c → ⊥) → written_in x (Script Write) r ≡ []
   write_elsewhere x other =
-      cond-false (c.0 == x.0) (take (number_of r) bytes) [] (ne_eqb c.0 x.0 (λ same. other (sym same)))
+      cond-false (is_same_id c x) (take (number_of r) bytes) [] (other_channel c x (λ same. other (sym same)))
 
-  seal_elsewhere : (x : ChanNo) → (x.0 ≡ c.0 → ⊥) → seals_in x (Script Write) r ≡ false
+  seal_elsewhere : (x : ChanId) → (x ≡ c → ⊥) → seals_in x (Script Write) r ≡ false
   seal_elsewhere x other =
-      ap (λ (b : Bool). b && says_closed r) (ne_eqb c.0 x.0 (λ same. other (sym same)))
+      ap (λ (b : Bool). b && says_closed r) (other_channel c x (λ same. other (sym same)))
 
   -- where it takes nothing
-  write_nothing : (x : ChanNo) → number_of r ≡ 0 → written_in x (Script Write) r ≡ []
-  write_nothing x none = by_test (c.0 == x.0)
+  write_nothing : (x : ChanId) → number_of r ≡ 0 → written_in x (Script Write) r ≡ []
+  write_nothing x none = by_test (is_same_id c x)
     where
       by_test : (b : Bool) → (if b then take (number_of r) bytes else []) ≡ []
       by_test true = ap (λ (k : ℕ). take k bytes) none
       by_test false = refl
 
-  seal_nothing : (x : ChanNo) → says_closed r ≡ false → seals_in x (Script Write) r ≡ false
-  seal_nothing x none = by_test (c.0 == x.0)
+  seal_nothing : (x : ChanId) → says_closed r ≡ false → seals_in x (Script Write) r ≡ false
+  seal_nothing x none = by_test (is_same_id c x)
     where
       by_test : (b : Bool) → (b && says_closed r) ≡ false
       by_test true = none
@@ -375,7 +377,7 @@ module _ (c : ChanNo) (bytes : List ℕ) (r : Reply) where
   -- the sink at one place went on
   pub write_goes_on : (ends : OwnEnds) (place : ℕ) (old new : PipeSink) (sinks : Vec PipeSink Global)
       → place < length ends.sinks.items → old ≡ get_or ends.sinks.items place old → sink_chan old ≡ c
-      → AllPairs (λ a b. (sink_chan a).0 ≢ (sink_chan b).0) ends.sinks.items
+      → AllPairs (λ a b. sink_chan a ≢ sink_chan b) ends.sinks.items
       → sinks.items ≡ set ends.sinks.items place new → SinkGoesOn (the_line Write r) old new
       → EndsGoOn (the_line Write r) ends (record ends { sinks = sinks })
   write_goes_on ends place old new sinks inside here its differ items goes = record {
@@ -388,9 +390,9 @@ module _ (c : ChanNo) (bytes : List ℕ) (r : Reply) where
       others : (k : ℕ) (x : PipeSink) → (k ≡ place → ⊥) → k < length ends.sinks.items
           → get_or ends.sinks.items k x ≡ x → SinkGoesOn (the_line Write r) x x
       others k x other within at =
-          let apart : (sink_chan x).0 ≡ c.0 → ⊥ =
-          λ same. other_number (λ (s : PipeSink). (sink_chan s).0) ends.sinks.items place k old x differ inside here
-          other within at (same ∙ ap (λ (y : ChanNo). y.0) (sym its)) in
+          let apart : sink_chan x ≡ c → ⊥ =
+          λ same. differs_from sink_chan ends.sinks.items place k old x differ inside here other within at
+          (same ∙ sym its) in
           sink_stays (Script Write) r x (write_elsewhere (sink_chan x) apart) (seal_elsewhere (sink_chan x) apart)
           (write_takes_elsewhere c bytes r (sink_chan x) apart)
 
@@ -443,7 +445,7 @@ module _ (bytes : List ℕ) (old new : PipeSink) (room : ℕ) (few : room ≤ fr
       (0, (WriteFinds.is_refused refusal waited, omega arith))
 
 -- the written sink
-pub sink_written : (c : ChanNo) (bytes : List ℕ) (old new : PipeSink) (answer : Result PipeWrite PipeError)
+pub sink_written : (c : ChanId) (bytes : List ℕ) (old new : PipeSink) (answer : Result PipeWrite PipeError)
     → sink_chan old ≡ c → IsSameSink old new → TakesBytes old new bytes (bytes_written answer)
     → is_sealed new ≡ (is_sealed old || leaves_seal answer) → FindsRoom bytes old new answer
     → SinkGoesOn (the_line (call.Pwrite c bytes) (write_said answer)) old new
@@ -475,16 +477,16 @@ sink_written c bytes old new answer its same takes seals finds =
 
 -- ---- a closing
 
-module _ (c : ChanNo) (r : Reply) where
+module _ (c : ChanId) (r : Reply) where
   abbrev Closing : Call
   Closing = call.Closec c
 
-  ends_elsewhere : (x : ChanNo) → (x.0 ≡ c.0 → ⊥) → seals_in x (Script Closing) r ≡ false
+  ends_elsewhere : (x : ChanId) → (x ≡ c → ⊥) → seals_in x (Script Closing) r ≡ false
   ends_elsewhere x other =
-      ap (λ (b : Bool). b && says_closed r) (ne_eqb c.0 x.0 (λ same. other (sym same)))
+      ap (λ (b : Bool). b && says_closed r) (other_channel c x (λ same. other (sym same)))
 
-  ends_nothing : (x : ChanNo) → says_closed r ≡ false → seals_in x (Script Closing) r ≡ false
-  ends_nothing x none = by_test (c.0 == x.0)
+  ends_nothing : (x : ChanId) → says_closed r ≡ false → seals_in x (Script Closing) r ≡ false
+  ends_nothing x none = by_test (is_same_id c x)
     where
       by_test : (b : Bool) → (b && says_closed r) ≡ false
       by_test true = none
@@ -507,7 +509,7 @@ module _ (c : ChanNo) (r : Reply) where
   }
 
   -- none of the sinks has the channel
-  pub close_elsewhere : (ends : OwnEnds) → None ≡ position (λ x. (sink_chan x).0 == c.0) ends.sinks.items
+  pub close_elsewhere : (ends : OwnEnds) → None ≡ position (λ x. is_same_id (sink_chan x) c) ends.sinks.items
       → EndsGoOn (the_line Closing r) ends ends
   close_elsewhere ends none = record {
     sources = each_itself (SourceGoesOn (the_line Closing r)) ends.sources.items
@@ -519,19 +521,19 @@ module _ (c : ChanNo) (r : Reply) where
   }
     where
       apart : (k : ℕ) (x : PipeSink) → k < length ends.sinks.items → get_or ends.sinks.items k x ≡ x
-          → (sink_chan x).0 ≡ c.0 → ⊥
+          → sink_chan x ≡ c → ⊥
       apart k x within at same =
-          let fails : ((sink_chan (get_or ends.sinks.items k x)).0 == c.0) ≡ false =
-          none_passes (λ (s : PipeSink). (sink_chan s).0 == c.0) ends.sinks.items (sym none) k x within in
-          let passes : ((sink_chan (get_or ends.sinks.items k x)).0 == c.0) ≡ true =
-          eq-eqb (sink_chan (get_or ends.sinks.items k x)).0 c.0 (ap (λ (s : PipeSink). (sink_chan s).0) at ∙ same) in
+          let fails : is_same_id (sink_chan (get_or ends.sinks.items k x)) c ≡ false =
+          none_passes (λ (s : PipeSink). is_same_id (sink_chan s) c) ends.sinks.items (sym none) k x within in
+          let passes : is_same_id (sink_chan (get_or ends.sinks.items k x)) c ≡ true =
+          same_channel (sink_chan (get_or ends.sinks.items k x)) c (ap sink_chan at ∙ same) in
           let clash : true ≡ false = sym passes ∙ fails in
           absurd (cc clash)
 
   -- the sink at one place went on
   pub close_goes_on : (ends : OwnEnds) (place : ℕ) (old new : PipeSink) (sinks : Vec PipeSink Global)
       → place < length ends.sinks.items → old ≡ get_or ends.sinks.items place old → sink_chan old ≡ c
-      → AllPairs (λ a b. (sink_chan a).0 ≢ (sink_chan b).0) ends.sinks.items
+      → AllPairs (λ a b. sink_chan a ≢ sink_chan b) ends.sinks.items
       → sinks.items ≡ set ends.sinks.items place new → SinkGoesOn (the_line Closing r) old new
       → EndsGoOn (the_line Closing r) ends (record ends { sinks = sinks })
   close_goes_on ends place old new sinks inside here its differ items goes = record {
@@ -545,9 +547,9 @@ module _ (c : ChanNo) (r : Reply) where
       others : (k : ℕ) (x : PipeSink) → (k ≡ place → ⊥) → k < length ends.sinks.items
           → get_or ends.sinks.items k x ≡ x → SinkGoesOn (the_line Closing r) x x
       others k x other within at =
-          let apart : (sink_chan x).0 ≡ c.0 → ⊥ =
-          λ same. other_number (λ (s : PipeSink). (sink_chan s).0) ends.sinks.items place k old x differ inside here
-          other within at (same ∙ ap (λ (y : ChanNo). y.0) (sym its)) in
+          let apart : sink_chan x ≡ c → ⊥ =
+          λ same. differs_from sink_chan ends.sinks.items place k old x differ inside here other within at
+          (same ∙ sym its) in
           sink_stays (Script Closing) r x refl (ends_elsewhere (sink_chan x) apart) (close_keeps_room c r (sink_chan x))
 
 closed_said : (closes : Bool) → says_closed (closed_reply closes) ≡ true
@@ -555,13 +557,13 @@ closed_said true = refl
 closed_said false = refl
 
 -- the closed sink
-pub sink_closed : (c : ChanNo) (old new : PipeSink) (closes : Bool) → sink_chan old ≡ c → IsSameSink old new
+pub sink_closed : (c : ChanId) (old new : PipeSink) (closes : Bool) → sink_chan old ≡ c → IsSameSink old new
     → sent new ≡ sent old → is_sealed new ≡ true
     → SinkGoesOn (the_line (call.Closec c) (closed_reply closes)) old new
 sink_closed c old new closes its same keeps seals =
     let r = closed_reply closes in
     let here : seals_in (sink_chan old) (Script (call.Closec c)) r ≡ true =
-    λ i. (eq-eqb c.0 (sink_chan old).0 (ap (λ (y : ChanNo). y.0) (sym its))) i && closed_said closes i in
+    λ i. (same_channel c (sink_chan old) (sym its)) i && closed_said closes i in
     record {
       same = same;
       sent = keeps ∙ sym (append-nil (sent old));

@@ -42,38 +42,38 @@ each_set {A} R xs place old new inside here goes others = record {
       (cases_eq k place);
 }
 
--- no two have the same number, also where one with the same number is put in the place of another
-pub differ_set : {A : Type 0} (number : A → ℕ) (xs : List A) (place : ℕ) (old new : A) → place < length xs
-    → old ≡ get_or xs place old → number new ≡ number old
-    → AllPairs (λ a b. number a ≢ number b) xs → AllPairs (λ a b. number a ≢ number b) (set xs place new)
-differ_set {A} number xs place old new inside here same differ =
+-- no two have the same image, also where one with the same image is put in the place of another
+pub differ_set : {A B : Type 0} (f : A → B) (xs : List A) (place : ℕ) (old new : A) → place < length xs
+    → old ≡ get_or xs place old → f new ≡ f old
+    → AllPairs (λ a b. f a ≢ f b) xs → AllPairs (λ a b. f a ≢ f b) (set xs place new)
+differ_set {A} f xs place old new inside here same differ =
     λ i j d below within is.
     let size : length (set xs place new) ≡ length xs = length-set xs place new in
     let within_old : j < length xs = omega arith in
     differ i j d below within_old (sym (kept i d) ∙ (is ∙ kept j d))
   where
-    kept : (k : ℕ) (d : A) → number (get_or (set xs place new) k d) ≡ number (get_or xs k d)
+    kept : (k : ℕ) (d : A) → f (get_or (set xs place new) k d) ≡ f (get_or xs k d)
     kept k d =
         ⊎_elim
         (λ (at : k ≡ place).
-        subst (λ (i : ℕ). number (get_or (set xs place new) i d) ≡ number (get_or xs i d)) (sym at)
-        (ap number (get_or-set_same xs place new d inside)
-        ∙ (same ∙ ap number (here ∙ get_or_default xs place old d inside))))
-        (λ (other : k ≡ place → ⊥). ap number (get_or-set_other xs place k new d other))
+        subst (λ (i : ℕ). f (get_or (set xs place new) i d) ≡ f (get_or xs i d)) (sym at)
+        (ap f (get_or-set_same xs place new d inside)
+        ∙ (same ∙ ap f (here ∙ get_or_default xs place old d inside))))
+        (λ (other : k ≡ place → ⊥). ap f (get_or-set_other xs place k new d other))
         (cases_eq k place)
 
--- where one has the number no other has
-pub other_number : {A : Type 0} (number : A → ℕ) (xs : List A) (place k : ℕ) (old x : A)
-    → AllPairs (λ a b. number a ≢ number b) xs → place < length xs → old ≡ get_or xs place old
-    → (k ≡ place → ⊥) → k < length xs → get_or xs k x ≡ x → number x ≡ number old → ⊥
-other_number {A} number xs place k old x differ inside here other within at same =
+-- where no other has the image of one
+pub differs_from : {A B : Type 0} (f : A → B) (xs : List A) (place k : ℕ) (old x : A)
+    → AllPairs (λ a b. f a ≢ f b) xs → place < length xs → old ≡ get_or xs place old
+    → (k ≡ place → ⊥) → k < length xs → get_or xs k x ≡ x → f x ≡ f old → ⊥
+differs_from {A} f xs place k old x differ inside here other within at same =
     ⊎_elim
     (λ (below : k < place).
-    differ k place x below inside (ap number at ∙ (same ∙ ap number (here ∙ get_or_default xs place old x inside))))
+    differ k place x below inside (ap f at ∙ (same ∙ ap f (here ∙ get_or_default xs place old x inside))))
     (λ (up : place ≤ k).
     let above : place < k = omega (arith, up, other) in
     differ place k x above within
-    (ap number (get_or_default xs place x old inside ∙ sym here) ∙ (sym same ∙ ap number (sym at))))
+    (ap f (get_or_default xs place x old inside ∙ sym here) ∙ (sym same ∙ ap f (sym at))))
     (cases_lt k place)
 
 -- ---- the first that passes a test

@@ -1,11 +1,11 @@
 -- What a read or a write that waits says, by what it answers.
-use Rattle.std.proofs.Common.{◌≡◌, ℕ, zero, suc, ◌<◌, ◌≤◌, ◌==◌, Bool, true, false, if◌then◌else◌}
+use Rattle.std.proofs.Common.{◌≡◌, ◌≢◌, ℕ, zero, suc, ◌<◌, ◌≤◌, ◌==◌, Bool, true, false, if◌then◌else◌}
 use Rattle.std.proofs.Common.{IsFalse, Result, Ok, Err, IfOk, List, [], ◌∷◌, length, min, take, arith, refl, sym, ◌∙◌}
 use Rattle.std.proofs.Common.{eqb-true, subst}
 use Rattle.std.proofs.lemmas.Bool.{cond-false, ne_eqb}
 use Rattle.std.proofs.lemmas.List.{length-take-le, nil_from_length}
 use Rattle.nio_base.specs.declared.limits.Limits.{Limits}
-use Rattle.nio_base.specs.declared.numbers.ChanNo.{ChanNo}
+use Rattle.nio_base.specs.declared.numbers.ChanId.{ChanId}
 use Rattle.nio_history.specs.declared.act.Act.{Act}
 use Rattle.nio_language.specs.declared.reply.Reply.{Reply}
 use Rattle.nio_language.specs.declared.reply.Reply.TheVariants as reply
@@ -44,10 +44,11 @@ mode_is plan acts blocking waits =
     (subst (λ (b : Bool). waits_for_bytes b waits.runs.last.answer ≡ false) waits.found_none over)
 
 -- why a call had to wait, in other words
-as_said : {Had Had' : Type 0} {plan : Plan (Result Bool PipeError)} {none : Bool} {acts : List Act}
-    {answer : Result Bool PipeError} → (Had → Had') → WaitsWhere Had plan none acts answer
+as_said : {Had Had' : ℕ → Type 0} {plan : Plan (Result Bool PipeError)} {none : Bool} {acts : List Act}
+    {answer : Result Bool PipeError} → ((before : ℕ) → Had before → Had' before)
+    → WaitsWhere Had plan none acts answer
     → WaitsWhere Had' plan none acts answer
-as_said had waits = record { waits = waits.waits; earlier = λ other. had (waits.earlier other) }
+as_said had waits = record { waits = waits.waits; had = had (length waits.waits.runs.tries.runs) waits.had }
 
 -- ---- a read
 
@@ -67,11 +68,11 @@ read_zero room sealed is = by_test (room == 0) refl
         by_seal sealed
         (is ∙ cond-false (room == 0) (PipeRead.Bytes 0) (if sealed then PipeRead.End else PipeRead.NotYet) some)
 
-module _ (l : Limits) (c : ChanNo) (n room : ℕ) (acts : List Act) (sealed : Bool) (after : List ℕ)
-    (Had : Result PipeRead PipeError → Type 0) (room_is : room ≡ min 65536 n) (size : length after ≡ room)
-    (had_room : (answer : Result PipeRead PipeError) → Had answer → 0 < room) where
-  asks : (answer : Result PipeRead PipeError) → Had answer → 0 < n
-  asks answer had = omega (arith, had_room answer had, room_is)
+module _ (l : Limits) (c : ChanId) (n room : ℕ) (acts : List Act) (sealed : Bool) (after : List ℕ)
+    (Had : Result PipeRead PipeError → ℕ → Type 0) (room_is : room ≡ min 65536 n) (size : length after ≡ room)
+    (had_room : (answer : Result PipeRead PipeError) (before : ℕ) → Had answer before → before ≢ 0 → 0 < room) where
+  asks : (answer : Result PipeRead PipeError) (before : ℕ) → Had answer before → before ≢ 0 → 0 < n
+  asks answer before had some = omega (arith, had_room answer before had some, room_is)
 
   reads_count : (k : ℕ) → k ≤ room → IsReadAnswer room sealed k (PipeRead.Bytes k)
       → WaitsToRead l c Had acts (Ok (PipeRead.Bytes k))
@@ -99,7 +100,7 @@ module _ (l : Limits) (c : ChanNo) (n room : ℕ) (acts : List Act) (sealed : Bo
 
   pub reads_to : (answer : Result PipeRead PipeError) → bytes_read answer ≤ room
       → IfOk answer (λ a. IsReadAnswer room sealed (bytes_read answer) a)
-      → (answer ≡ Err AsynchronousClose → Had answer)
+      → (answer ≡ Err AsynchronousClose → 0 < n)
       → WaitsToRead l c Had acts answer → ReadsTo l c n acts (read_said answer after)
   reads_to (Ok (PipeRead.Bytes k)) few is closed waits = reads_count k few is waits
   reads_to (Ok PipeRead.End) few is closed waits =
@@ -116,7 +117,8 @@ module _ (l : Limits) (c : ChanNo) (n room : ℕ) (acts : List Act) (sealed : Bo
       record {
         none = true;
         answer = Ok false;
-        waits = subst (λ (b : Bool). WaitsWhere (0 < n) (try_read_plan l c) true acts (Ok b)) mode
+        waits = subst (λ (b : Bool). WaitsWhere (λ before. before ≢ 0 → 0 < n) (try_read_plan l c) true acts (Ok b))
+            mode
             (as_said (asks (Ok PipeRead.NotYet)) waits.1);
         says = finds_nothing (omega arith);
       }
@@ -124,7 +126,7 @@ module _ (l : Limits) (c : ChanNo) (n room : ℕ) (acts : List Act) (sealed : Bo
     none = false;
     answer = Err refusal;
     waits = as_said (asks (Err refusal)) waits;
-    says = ReadSays.is_refused refusal (λ same. asks (Err refusal) (closed (λ i. Err (same i))));
+    says = ReadSays.is_refused refusal (λ same. closed (λ i. Err (same i)));
   }
 
 -- ---- a write
@@ -143,46 +145,48 @@ write_zero size is = by_test (size == 0) refl
         absurd (cc clash)
 
 module _ (l : Limits) (ends : PipeEnds) (bytes : List ℕ) (acts : List Act)
-    (Had : Result PipeWrite PipeError → Type 0)
-    (offers : (answer : Result PipeWrite PipeError) → Had answer → 0 < length bytes) where
-  writes_count : (k : ℕ) → k ≤ length bytes → IsWriteAnswer (length bytes) k (PipeWrite.Bytes k)
-      → WaitsToWrite l ends.source ends.sink Had acts (Ok (PipeWrite.Bytes k))
-      → WritesTo l ends bytes acts (write_said (Ok (PipeWrite.Bytes k)))
-  writes_count zero few is waits =
-      let none : bytes ≡ [] = nil_from_length bytes (write_zero (length bytes) is) in
-      record {
-        none = false;
-        answer = Ok waits.0;
-        waits = as_said (offers (Ok (PipeWrite.Bytes 0))) waits.1;
-        says = offers_nothing none;
-      }
-  writes_count (suc k) few is waits = record {
-    none = false;
-    answer = Ok waits.0;
-    waits = as_said (offers (Ok (PipeWrite.Bytes (suc k)))) waits.1;
-    says = takes (suc k) (omega arith) few;
-  }
+    (Had : Result PipeWrite PipeError → ℕ → Type 0)
+    (offers : (answer : Result PipeWrite PipeError) (before : ℕ) → Had answer before → before ≢ 0 → 0 < length bytes)
+  where
+    writes_count : (k : ℕ) → k ≤ length bytes → IsWriteAnswer (length bytes) k (PipeWrite.Bytes k)
+        → WaitsToWrite l ends.source ends.sink Had acts (Ok (PipeWrite.Bytes k))
+        → WritesTo l ends bytes acts (write_said (Ok (PipeWrite.Bytes k)))
+    writes_count zero few is waits =
+        let none : bytes ≡ [] = nil_from_length bytes (write_zero (length bytes) is) in
+        record {
+          none = false;
+          answer = Ok waits.0;
+          waits = as_said (offers (Ok (PipeWrite.Bytes 0))) waits.1;
+          says = offers_nothing none;
+        }
+    writes_count (suc k) few is waits = record {
+      none = false;
+      answer = Ok waits.0;
+      waits = as_said (offers (Ok (PipeWrite.Bytes (suc k)))) waits.1;
+      says = takes (suc k) (omega arith) few;
+    }
 
-  pub writes_to : (answer : Result PipeWrite PipeError) → bytes_written answer ≤ length bytes
-      → IfOk answer (λ a. IsWriteAnswer (length bytes) (bytes_written answer) a)
-      → (answer ≡ Err AsynchronousClose → Had answer)
-      → WaitsToWrite l ends.source ends.sink Had acts answer → WritesTo l ends bytes acts (write_said answer)
-  writes_to (Ok (PipeWrite.Bytes k)) few is closed waits = writes_count k few is waits
-  writes_to (Ok PipeWrite.NotYet) few is closed waits =
-      let some : 0 < length bytes = write_some (length bytes) is in
-      let mode : waits.0 ≡ false = mode_is _ acts waits.0 waits.1.waits in
-      record {
-        none = true;
-        answer = Ok false;
-        waits =
-            subst
-            (λ (b : Bool). WaitsWhere (0 < length bytes) (try_write_plan l ends.source ends.sink) true acts (Ok b))
-            mode (as_said (offers (Ok PipeWrite.NotYet)) waits.1);
-        says = finds_no_place some;
-      }
-  writes_to (Err refusal) few is closed waits = record {
-    none = false;
-    answer = Err refusal;
-    waits = as_said (offers (Err refusal)) waits;
-    says = WriteSays.is_refused refusal (λ same. offers (Err refusal) (closed (λ i. Err (same i))));
-  }
+    pub writes_to : (answer : Result PipeWrite PipeError) → bytes_written answer ≤ length bytes
+        → IfOk answer (λ a. IsWriteAnswer (length bytes) (bytes_written answer) a)
+        → (answer ≡ Err AsynchronousClose → 0 < length bytes)
+        → WaitsToWrite l ends.source ends.sink Had acts answer → WritesTo l ends bytes acts (write_said answer)
+    writes_to (Ok (PipeWrite.Bytes k)) few is closed waits = writes_count k few is waits
+    writes_to (Ok PipeWrite.NotYet) few is closed waits =
+        let some : 0 < length bytes = write_some (length bytes) is in
+        let mode : waits.0 ≡ false = mode_is _ acts waits.0 waits.1.waits in
+        record {
+          none = true;
+          answer = Ok false;
+          waits =
+              subst
+              (λ (b : Bool). WaitsWhere (λ before. before ≢ 0 → 0 < length bytes)
+              (try_write_plan l ends.source ends.sink) true acts (Ok b))
+              mode (as_said (offers (Ok PipeWrite.NotYet)) waits.1);
+          says = finds_no_place some;
+        }
+    writes_to (Err refusal) few is closed waits = record {
+      none = false;
+      answer = Err refusal;
+      waits = as_said (offers (Err refusal)) waits;
+      says = WriteSays.is_refused refusal (λ same. closed (λ i. Err (same i)));
+    }

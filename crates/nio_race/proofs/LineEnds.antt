@@ -10,7 +10,7 @@ use Rattle.std.proofs.lemmas.List.{append-nil, get_or_default}
 use Rattle.std.proofs.lemmas.List.Elements.{All-weaker, Contains-append_cases, Contains-push_cases}
 use Rattle.nio_base.specs.declared.limits.Limits.{Limits}
 use Rattle.nio_base.specs.declared.numbers.CallerNo.{CallerNo}
-use Rattle.nio_base.specs.declared.numbers.ChanNo.{ChanNo}
+use Rattle.nio_base.specs.declared.numbers.ChanId.{ChanId}
 use Rattle.nio_history.proofs.PassViews.{channel_after}
 use Rattle.nio_history.specs.PassViews.{HasChannel}
 use Rattle.nio_history.specs.declared.act.Act.{Act}
@@ -61,10 +61,10 @@ each_then {A} R S T xs ys zs chain first second = record {
 
 -- ---- which ends these are
 
-abbrev these : List ChanNo → List PipeEnds → OwnedEnds
+abbrev these : List ChanId → List PipeEnds → OwnedEnds
 these sources sinks = record { sources = sources; sinks = sinks }
 
-abbrev this_sink : ChanNo → ChanNo → PipeEnds
+abbrev this_sink : ChanId → ChanId → PipeEnds
 this_sink source sink = record { source = source; sink = sink }
 
 -- lines keep the ends that their caller owns
@@ -76,9 +76,9 @@ same_names lines old new on =
     (λ x y goes. goes.same.channel) on.sources in
     let sinks : map ends_of_sink new.sinks.items ≡ map ends_of_sink old.sinks.items =
     each-same (SinkGoesOn lines) ends_of_sink ends_of_sink old.sinks.items new.sinks.items
-    (λ x y goes. ap (λ (c : ChanNo). this_sink c (sink_chan y)) goes.same.other
-    ∙ ap (λ (c : ChanNo). this_sink (other_chan x) c) goes.same.channel) on.sinks in
-    ap (λ (xs : List ChanNo). these xs (map ends_of_sink new.sinks.items)) sources
+    (λ x y goes. ap (λ (c : ChanId). this_sink c (sink_chan y)) goes.same.other
+    ∙ ap (λ (c : ChanId). this_sink (other_chan x) c) goes.same.channel) on.sinks in
+    ap (λ (xs : List ChanId). these xs (map ends_of_sink new.sinks.items)) sources
     ∙ ap (λ (xs : List PipeEnds). these (map source_chan old.sources.items) xs) sinks
 
 -- ---- lines that leave them as they are
@@ -107,20 +107,20 @@ sink_stays line r x unwritten unsealed keeps = record {
       (kept.0, (one_takes (sink_chan x) line r room kept.0 kept.1.0, le_trans kept.1.1 few));
 }
 
-reads-none : (c : ChanNo) (line : RaceCall) (r : Reply) → use_in line ≡ neither → read_in c line r ≡ []
+reads-none : (c : ChanId) (line : RaceCall) (r : Reply) → use_in line ≡ neither → read_in c line r ≡ []
 reads-none c (Script word) r is = ap (λ (u : PipeUse). read_by c u r) is
 reads-none c (Block s) r is = refl
 
-writes-none : (c : ChanNo) (line : RaceCall) (r : Reply) → use_in line ≡ neither → written_in c line r ≡ []
+writes-none : (c : ChanId) (line : RaceCall) (r : Reply) → use_in line ≡ neither → written_in c line r ≡ []
 writes-none c (Script word) r is = ap (λ (u : PipeUse). written_by c u r) is
 writes-none c (Block s) r is = refl
 
-ends-none : (c : ChanNo) (line : RaceCall) (r : Reply) → use_in line ≡ neither → seals_in c line r ≡ false
+ends-none : (c : ChanId) (line : RaceCall) (r : Reply) → use_in line ≡ neither → seals_in c line r ≡ false
 ends-none c (Script word) r is = ap (λ (u : PipeUse). seals_by c u r) is
 ends-none c (Block s) r is = refl
 
 -- where one line tells the end, it is a read of this channel
-pub told_alone : (c : ChanNo) (line : RaceCall) (r : Reply) (told : TellsEnd c ((line, r) ∷ []))
+pub told_alone : (c : ChanId) (line : RaceCall) (r : Reply) (told : TellsEnd c ((line, r) ∷ []))
     → ◌≡◌ {A = RaceCall × Reply} (line, r) (Script (call.Pread c told.0), reply.End)
 told_alone c line r told =
     ⊎_elim (λ inside. absurd (omega (arith, inside.1))) (λ same. same)
@@ -146,15 +146,15 @@ neither_stays line r ends is = record {
 
 -- ---- lines and one more
 
-all_read-append : (c : ChanNo) (xs ys : List (RaceCall × Reply))
+all_read-append : (c : ChanId) (xs ys : List (RaceCall × Reply))
     → all_read c (xs ++ ys) ≡ all_read c xs ++ all_read c ys
 all_read-append c xs ys = flat_map-append (λ (x : RaceCall × Reply). read_in c x.0 x.1) xs ys
 
-all_written-append : (c : ChanNo) (xs ys : List (RaceCall × Reply))
+all_written-append : (c : ChanId) (xs ys : List (RaceCall × Reply))
     → all_written c (xs ++ ys) ≡ all_written c xs ++ all_written c ys
 all_written-append c xs ys = flat_map-append (λ (x : RaceCall × Reply). written_in c x.0 x.1) xs ys
 
-tells-append : (c : ChanNo) (xs ys : List (RaceCall × Reply)) → TellsEnd c (xs ++ ys) → TellsEnd c xs ⊎ TellsEnd c ys
+tells-append : (c : ChanId) (xs ys : List (RaceCall × Reply)) → TellsEnd c (xs ++ ys) → TellsEnd c xs ⊎ TellsEnd c ys
 tells-append c xs ys told =
     ⊎_elim (λ before. inl (told.0, before)) (λ after. inr (told.0, after))
     (Contains-append_cases xs ys (Script (call.Pread c told.0), reply.End) told.1)
@@ -167,20 +167,20 @@ source_more xs ys a b c p q =
       same = same_source p.same q.same;
       received =
           q.received
-          ∙ (ap (λ (k : ChanNo). received b ++ all_read k ys) chan
+          ∙ (ap (λ (k : ChanId). received b ++ all_read k ys) chan
           ∙ (ap (λ bytes. bytes ++ all_read (source_chan a) ys) p.received
           ∙ (append_assoc (received a) (all_read (source_chan a) xs) (all_read (source_chan a) ys)
           ∙ ap (λ bytes. received a ++ bytes) (sym (all_read-append (source_chan a) xs ys)))));
       tells_end = λ told.
           ⊎_elim (λ before. q.stays (p.tells_end before))
-          (λ after. q.tells_end (subst (λ (k : ChanNo). TellsEnd k ys) (sym chan) after))
+          (λ after. q.tells_end (subst (λ (k : ChanId). TellsEnd k ys) (sym chan) after))
           (tells-append (source_chan a) xs ys told);
       stays = λ at_end. q.stays (p.stays at_end);
       finds = λ x knows.
           let first = p.finds x knows in
           let second = q.finds first.0 first.1.1 in
           let later : LinesFind (source_chan a) ys first.0 second.0 =
-          subst (λ (k : ChanNo). LinesFind k ys first.0 second.0) chan second.1.0 in (
+          subst (λ (k : ChanId). LinesFind k ys first.0 second.0) chan second.1.0 in (
             second.0,
             (find_append (source_chan a) xs ys x first.0 second.0 first.1.0 later, second.1.1),
           );
@@ -194,13 +194,13 @@ sink_more xs ys a b c p q =
       same = same_sink p.same q.same;
       sent =
           q.sent
-          ∙ (ap (λ (k : ChanNo). sent b ++ all_written k ys) chan
+          ∙ (ap (λ (k : ChanId). sent b ++ all_written k ys) chan
           ∙ (ap (λ bytes. bytes ++ all_written (sink_chan a) ys) p.sent
           ∙ (append_assoc (sent a) (all_written (sink_chan a) xs) (all_written (sink_chan a) ys)
           ∙ ap (λ bytes. sent a ++ bytes) (sym (all_written-append (sink_chan a) xs ys)))));
       seal =
           q.seal
-          ∙ (ap (λ (k : ChanNo). is_sealed b || leave_seal k ys) chan
+          ∙ (ap (λ (k : ChanId). is_sealed b || leave_seal k ys) chan
           ∙ (ap (λ m. m || leave_seal (sink_chan a) ys) p.seal
           ∙ (or_assoc (is_sealed a) (leave_seal (sink_chan a) xs) (leave_seal (sink_chan a) ys)
           ∙ ap (λ m. is_sealed a || m) (sym (leave_seal-append (sink_chan a) xs ys)))));
@@ -208,12 +208,12 @@ sink_more xs ys a b c p q =
           let later : is_sealed b ≡ true = p.seal ∙ ap (λ m. m || leave_seal (sink_chan a) xs) sealed in
           all_written-append (sink_chan a) xs ys
           ∙ (ap (λ bytes. bytes ++ all_written (sink_chan a) ys) (p.ended sealed)
-          ∙ (ap (λ (k : ChanNo). all_written k ys) (sym chan) ∙ q.ended later));
+          ∙ (ap (λ (k : ChanId). all_written k ys) (sym chan) ∙ q.ended later));
       takes = λ room few.
           let first = p.takes room few in
           let second = q.takes first.0 first.1.1 in
           let later : LinesTake (sink_chan a) ys first.0 second.0 =
-          subst (λ (k : ChanNo). LinesTake k ys first.0 second.0) chan second.1.0 in (
+          subst (λ (k : ChanId). LinesTake k ys first.0 second.0) chan second.1.0 in (
             second.0,
             (take_append (sink_chan a) xs ys room first.0 second.0 first.1.0 later, second.1.1),
           );

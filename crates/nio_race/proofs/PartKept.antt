@@ -7,7 +7,7 @@ use Rattle.std.proofs.lemmas.List.{get_or-map, length-map}
 use Rattle.std.proofs.lemmas.List.Elements.{All-head, All-map, All-tail}
 use Rattle.std.proofs.lemmas.List.Kept.{AllPairs-cons}
 use Rattle.nio_base.specs.declared.numbers.CallerNo.{CallerNo}
-use Rattle.nio_base.specs.declared.numbers.ChanNo.{ChanNo}
+use Rattle.nio_base.specs.declared.numbers.ChanId.{ChanId}
 use Rattle.nio_pipe.specs.Ends.{AreEnds, sink_chan, source_chan}
 use Rattle.nio_plain.specs.ScriptState.{Pipe}
 use Rattle.nio_steps.proofs.Lists.{pairs-head, pairs-none, pairs-tail}
@@ -91,9 +91,9 @@ zip_whole (p ∷ ps) (x ∷ xs) zip ends = (
 
 sink_alike : (p : Pipe) (x : PartedPipe) → IsPartedWhole p x → ends_of_sink x.sink ≡ ends_of_pipe p
 sink_alike p x is =
-    ap {B = PipeEnds} (λ (c : ChanNo). record { source = c; sink = sink_chan x.sink })
+    ap {B = PipeEnds} (λ (c : ChanId). record { source = c; sink = sink_chan x.sink })
     (is.ends.channel ∙ is.parted.source)
-    ∙ ap {B = PipeEnds} (λ (c : ChanNo). record { source = p.source; sink = c }) is.parted.sink
+    ∙ ap {B = PipeEnds} (λ (c : ChanId). record { source = p.source; sink = c }) is.parted.sink
 
 pub sinks_kept : (n : CallerNo) (pipes : List Pipe) (parted : List PartedPipe) → AllZip IsPartedWhole pipes parted
     → map (λ x. ends_of_sink x.sink) (filter (λ x. x.owners.writer.0 == n.0) parted)

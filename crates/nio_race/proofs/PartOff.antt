@@ -8,7 +8,7 @@ use Rattle.std.proofs.lemmas.List.Elements.{All-filter, All-map, All-weaker}
 use Rattle.std.proofs.lemmas.List.Kept.{AllPairs-filter}
 use Rattle.std.proofs.lemmas.Simd.{map-map}
 use Rattle.nio_base.specs.declared.numbers.CallerNo.{CallerNo}
-use Rattle.nio_base.specs.declared.numbers.ChanNo.{ChanNo}
+use Rattle.nio_base.specs.declared.numbers.ChanId.{ChanId}
 use Rattle.nio_history.specs.PassViews.{HasChannel}
 use Rattle.nio_history.specs.declared.event.Event.{Event}
 use Rattle.nio_pipe.specs.Calls.{HasEnds}
@@ -79,7 +79,7 @@ module _ (n : CallerNo) (ends : OwnEnds) (pipes : List Pipe) (parted : List Part
 
   pub ends_are : ends_of ends ≡ own_ends n pipes
   ends_are =
-      ap {B = OwnedEnds} (λ (cs : List ChanNo). record { sources = cs; sinks = map ends_of_sink ends.sinks.items })
+      ap {B = OwnedEnds} (λ (cs : List ChanId). record { sources = cs; sinks = map ends_of_sink ends.sinks.items })
       source_chans
       ∙ ap {B = OwnedEnds} (λ (es : List PipeEnds). record { sources = (own_ends n pipes).sources; sinks = es })
       sink_chans
@@ -88,7 +88,7 @@ module _ (n : CallerNo) (ends : OwnEnds) (pipes : List Pipe) (parted : List Part
       → ArePipes (limits_of w) pipes → HasMadeEnds w d ends
   ends_made w d made are = record {
     sources = all_of_map (HasChannel (view w d.pass)) source_chan ends.sources.items
-        (subst (λ (cs : List ChanNo). All (HasChannel (view w d.pass)) cs) (sym source_chans)
+        (subst (λ (cs : List ChanId). All (HasChannel (view w d.pass)) cs) (sym source_chans)
         (All-map (HasChannel (view w d.pass)) (λ (p : Pipe). p.source) (filter (λ (p : Pipe). p.reader.0 == n.0) pipes)
         (All-filter (λ (p : Pipe). p.reader.0 == n.0) (λ (p : Pipe). HasChannel (view w d.pass) p.source) pipes
         (All-weaker (λ (p : Pipe). HasEnds (view w d.pass) p.source p.sink)
@@ -100,17 +100,17 @@ module _ (n : CallerNo) (ends : OwnEnds) (pipes : List Pipe) (parted : List Part
         (filter (λ (p : Pipe). p.writer.0 == n.0) pipes)
         (All-filter (λ (p : Pipe). p.writer.0 == n.0) (λ (p : Pipe). HasEnds (view w d.pass) p.source p.sink) pipes
         made)));
-    sources_differ = pairs_of_map (λ (a b : ChanNo). a.0 ≢ b.0) source_chan ends.sources.items
-        (subst (λ (cs : List ChanNo). AllPairs (λ (a b : ChanNo). a.0 ≢ b.0) cs) (sym source_chans)
-        (pairs_map (λ (a b : ChanNo). a.0 ≢ b.0) (λ (p : Pipe). p.source)
+    sources_differ = pairs_of_map (λ (a b : ChanId). a ≢ b) source_chan ends.sources.items
+        (subst (λ (cs : List ChanId). AllPairs (λ (a b : ChanId). a ≢ b) cs) (sym source_chans)
+        (pairs_map (λ (a b : ChanId). a ≢ b) (λ (p : Pipe). p.source)
         (filter (λ (p : Pipe). p.reader.0 == n.0) pipes)
-        (AllPairs-filter (λ (p q : Pipe). p.source.0 ≢ q.source.0) (λ (p : Pipe). p.reader.0 == n.0) pipes
+        (AllPairs-filter (λ (p q : Pipe). p.source ≢ q.source) (λ (p : Pipe). p.reader.0 == n.0) pipes
         are.sources_differ)));
-    sinks_differ = pairs_of_map (λ (a b : PipeEnds). a.sink.0 ≢ b.sink.0) ends_of_sink ends.sinks.items
-        (subst (λ (es : List PipeEnds). AllPairs (λ (a b : PipeEnds). a.sink.0 ≢ b.sink.0) es) (sym sink_chans)
-        (pairs_map (λ (a b : PipeEnds). a.sink.0 ≢ b.sink.0) ends_of_pipe
+    sinks_differ = pairs_of_map (λ (a b : PipeEnds). a.sink ≢ b.sink) ends_of_sink ends.sinks.items
+        (subst (λ (es : List PipeEnds). AllPairs (λ (a b : PipeEnds). a.sink ≢ b.sink) es) (sym sink_chans)
+        (pairs_map (λ (a b : PipeEnds). a.sink ≢ b.sink) ends_of_pipe
         (filter (λ (p : Pipe). p.writer.0 == n.0) pipes)
-        (AllPairs-filter (λ (p q : Pipe). p.sink.0 ≢ q.sink.0) (λ (p : Pipe). p.writer.0 == n.0) pipes
+        (AllPairs-filter (λ (p q : Pipe). p.sink ≢ q.sink) (λ (p : Pipe). p.writer.0 == n.0) pipes
         are.sinks_differ)));
   }
 

@@ -5,10 +5,11 @@ use Rattle.std.proofs.lemmas.List.{append-nil, get_or_default}
 use Rattle.std.proofs.lemmas.List.Elements.{All-from_get_or}
 use Rattle.std.specs.List.{AllPairs}
 use Rattle.nio_base.specs.declared.limits.Limits.{Limits}
-use Rattle.nio_base.specs.declared.numbers.ChanNo.{ChanNo}
+use Rattle.nio_base.specs.declared.numbers.ChanId.{ChanId}
 use Rattle.nio_history.specs.Histories.{IsLegal}
 use Rattle.nio_language.specs.declared.call.ScriptCall.{ScriptCall}
 use Rattle.nio_language.specs.declared.reply.Reply.{Reply}
+use Rattle.nio_plain.proofs.ReachedSound.{sound-opening}
 use Rattle.nio_plain.specs.Answer.{left_by_script, left_from}
 use Rattle.nio_plain.specs.ScriptState.{Pipe, ScriptState, script_opening}
 use Rattle.nio_plain.specs.Seq.{seq}
@@ -29,10 +30,11 @@ use Rattle.nio_race.specs.Setup.{HasSetUp, KeepsPipeOfSetup, KeepsSetup}
 
 kept-opening : (l : Limits) → AreKept l [] script_opening
 kept-opening l = record {
+  sound = sound-opening Now l;
   each = λ k h. absurd (omega arith);
   sources_differ = λ j k hj hk ne. absurd (omega arith);
   sinks_differ = λ j k hj hk ne. absurd (omega arith);
-  unmade = λ c unmade n. record { read = refl; written = refl; end = refl; untold = λ tells. omega (arith, tells.1) };
+  unopened = λ c unopened n. record { read = refl; written = refl; end = refl; untold = λ tells. omega (arith, tells.1) };
 }
 
 kept-calls : (l : Limits) (calls : List ScriptCall) (log : List (ScriptCall × Reply)) (st : ScriptState)
@@ -46,14 +48,14 @@ kept-calls l (c ∷ calls) log st kept =
     (append_assoc log ((c, done.reply) ∷ []) rest)
     (kept-calls l calls (log ++ (c, done.reply) ∷ []) done.left (goes-seq l log st kept c.caller c.call))
 
-apart-of : (pipes : List Pipe) (f : Pipe → ChanNo)
-    → ((j k : ℕ) → j < length pipes → k < length pipes → j ≢ k → (f (pipe_at pipes j)).0 ≢ (f (pipe_at pipes k)).0)
-    → AllPairs (λ p q. (f p).0 ≢ (f q).0) pipes
+apart-of : (pipes : List Pipe) (f : Pipe → ChanId)
+    → ((j k : ℕ) → j < length pipes → k < length pipes → j ≢ k → f (pipe_at pipes j) ≢ f (pipe_at pipes k))
+    → AllPairs (λ p q. f p ≢ f q) pipes
 apart-of pipes f differ i j d before within same =
     let low : i < length pipes = omega arith in
     differ i j low within (λ e. omega arith)
-    (ap (λ (p : Pipe). (f p).0) (get_or_default pipes i no_pipe d low)
-    ∙ (same ∙ ap (λ (p : Pipe). (f p).0) (get_or_default pipes j d no_pipe within)))
+    (ap f (get_or_default pipes i no_pipe d low)
+    ∙ (same ∙ ap f (get_or_default pipes j d no_pipe within)))
 
 -- the owners are callers
 abbrev HasOwners : Limits → Pipe → Type 0

@@ -8,13 +8,17 @@ use Rattle.std.proofs.Math.Bool.{or-false}
 use Rattle.std.proofs.Math.Seq.{get_or-append_seam}
 use Rattle.nio_base.specs.declared.limits.Limits.{Limits}
 use Rattle.nio_base.specs.declared.numbers.CallerNo.{CallerNo}
-use Rattle.nio_base.specs.declared.numbers.ChanNo.{ChanNo}
+use Rattle.nio_base.specs.declared.numbers.ChanId.{ChanId}
+use Rattle.nio_history.specs.Sets.{was_closed, was_opened}
 use Rattle.nio_history.specs.declared.found.Chan.{Chan}
 use Rattle.nio_language.specs.declared.call.ScriptCall.{ScriptCall}
 use Rattle.nio_language.specs.declared.reply.Reply.{Reply}
+use Rattle.nio_plain.proofs.ReachedReopening.{Lasts}
+use Rattle.nio_plain.proofs.ReachedSound.{Sound}
 use Rattle.nio_plain.specs.ScriptState.{Pipe, ScriptState}
 use Rattle.nio_plain.specs.Seq.Pipes.{pipe_at}
 use Rattle.nio_plain.specs.Seq.Piping.{new_pipe}
+use Rattle.nio_plain.specs.declared.rules.Rules.TheVariants.{Now}
 use Rattle.nio_race.proofs.SetupLines.{EndsRead, ReadsEnd, end_of, is_by, lines_of, read_of, written_of}
 use Rattle.nio_race.proofs.SetupLines.{end-more, of-none, read-more, tells-more, written-more}
 use Rattle.nio_race.specs.PipeBytes.{TellsEnd, all_read, all_written, seals_by, leave_seal, read_by, written_by}
@@ -28,34 +32,43 @@ pub record HasSaid (log : List (ScriptCall × Reply)) (p : Pipe) : Type 0 where
   pub seal : p.sealed ≡ leave_seal p.sink (lines_of p.writer log)
   pub told : TellsEnd p.source (lines_of p.reader log) → (p.sealed ≡ true) × (p.waiting ≡ [])
 
--- Its owners are callers, its ends are made, and a sink that left its seal is closed.
+-- the channel was opened
+abbrev pub has_opened : (ℕ → Chan) → ChanId → Bool
+has_opened chan c = was_opened (chan c.number.0) c.serial
+
+-- the channel was closed
+abbrev pub has_closed : (ℕ → Chan) → ChanId → Bool
+has_closed chan c = was_closed (chan c.number.0) c.serial
+
+-- Its owners are callers, its ends were opened, and a sink that left its seal was closed.
 pub record IsKeptPipe (l : Limits) (log : List (ScriptCall × Reply)) (chan : ℕ → Chan) (p : Pipe) : Type 0 where
   pub reader : p.reader.0 < l.callers
   pub writer : p.writer.0 < l.callers
-  pub source : (chan p.source.0).made ≡ true
-  pub sink : (chan p.sink.0).made ≡ true
-  pub closed : p.sealed ≡ true → (chan p.sink.0).closed ≡ true
+  pub source : has_opened chan p.source ≡ true
+  pub sink : has_opened chan p.sink ≡ true
+  pub closed : p.sealed ≡ true → has_closed chan p.sink ≡ true
   pub said : HasSaid log p
 
 -- no line read from the channel, wrote into it or left its seal
-pub record IsUntouched (log : List (ScriptCall × Reply)) (c : ChanNo) (n : CallerNo) : Type 0 where
+pub record IsUntouched (log : List (ScriptCall × Reply)) (c : ChanId) (n : CallerNo) : Type 0 where
   pub read : all_read c (lines_of n log) ≡ []
   pub written : all_written c (lines_of n log) ≡ []
   pub end : leave_seal c (lines_of n log) ≡ false
   pub untold : TellsEnd c (lines_of n log) → ⊥
 
 pub record AreKept (l : Limits) (log : List (ScriptCall × Reply)) (st : ScriptState) : Type 0 where
+  pub sound : Sound Now l st
   pub each : (k : ℕ) → k < length st.pipes → IsKeptPipe l log st.shared.chan (pipe_at st.pipes k)
   pub sources_differ : (j k : ℕ) → j < length st.pipes → k < length st.pipes → j ≢ k
-      → (pipe_at st.pipes j).source.0 ≢ (pipe_at st.pipes k).source.0
+      → (pipe_at st.pipes j).source ≢ (pipe_at st.pipes k).source
   pub sinks_differ : (j k : ℕ) → j < length st.pipes → k < length st.pipes → j ≢ k
-      → (pipe_at st.pipes j).sink.0 ≢ (pipe_at st.pipes k).sink.0
-  pub unmade : (c : ChanNo) → (st.shared.chan c.0).made ≡ false → (n : CallerNo) → IsUntouched log c n
+      → (pipe_at st.pipes j).sink ≢ (pipe_at st.pipes k).sink
+  pub unopened : (c : ChanId) → has_opened st.shared.chan c ≡ false → (n : CallerNo) → IsUntouched log c n
 
 -- ---- what a line does
 
 -- it says nothing of the channel
-pub record IsSilent (c : ChanNo) (x : ScriptCall × Reply) : Type 0 where
+pub record IsSilent (c : ChanId) (x : ScriptCall × Reply) : Type 0 where
   pub read : read_by c (use_of x.0.call) x.1 ≡ []
   pub written : written_by c (use_of x.0.call) x.1 ≡ []
   pub end : seals_by c (use_of x.0.call) x.1 ≡ false
@@ -83,25 +96,27 @@ pub record PipeSteps (x : ScriptCall × Reply) (chan : ℕ → Chan) (old new : 
   pub sealed : Bool
   pub is : new ≡ changed old waiting sealed
   pub goes : GoesOn x old waiting sealed
-  pub closes : end_of old.writer old.sink x ≡ true → (chan old.sink.0).closed ≡ true
+  pub closes : end_of old.writer old.sink x ≡ true → has_closed chan old.sink ≡ true
 
--- a made channel stays made, and a closed one closed
-abbrev pub Stays : Chan → Chan → Type 0
-Stays before after = before.made ≡ true → (after.made ≡ true) × (before.closed ≡ true → after.closed ≡ true)
+-- what was opened stays opened, and what was closed stays closed
+abbrev pub AllLast : (ℕ → Chan) → (ℕ → Chan) → Type 0
+AllLast before after = (c : ℕ) → Lasts (before c) (after c)
 
-abbrev pub AllStay : (ℕ → Chan) → (ℕ → Chan) → Type 0
-AllStay before after = (c : ℕ) → Stays (before c) (after c)
+-- the state comes after a call on the other
+pub record Follows (l : Limits) (st after : ScriptState) : Type 0 where
+  pub sound : Sound Now l after
+  pub last : AllLast st.shared.chan after.shared.chan
 
-pub record Steps (x : ScriptCall × Reply) (st after : ScriptState) : Type 0 where
-  pub stay : AllStay st.shared.chan after.shared.chan
+pub record Steps (l : Limits) (x : ScriptCall × Reply) (st after : ScriptState) : Type 0 where
+  pub follows : Follows l st after
   pub count : length after.pipes ≡ length st.pipes
   pub each : (k : ℕ) → k < length st.pipes
       → PipeSteps x after.shared.chan (pipe_at st.pipes k) (pipe_at after.pipes k)
-  pub silent : (c : ChanNo) → (after.shared.chan c.0).made ≡ false → IsSilent c x
+  pub silent : (c : ChanId) → has_opened after.shared.chan c ≡ false → IsSilent c x
 
 -- ---- a line more
 
-untouched-more : (log : List (ScriptCall × Reply)) (x : ScriptCall × Reply) (c : ChanNo) (n : CallerNo)
+untouched-more : (log : List (ScriptCall × Reply)) (x : ScriptCall × Reply) (c : ChanId) (n : CallerNo)
     → IsUntouched log c n → IsSilent c x → IsUntouched (log ++ x ∷ []) c n
 untouched-more log x c n before silent = record {
   read =
@@ -148,60 +163,61 @@ said-more log x old waiting sealed said goes =
           (tells-more old.reader old.source log x tells);
     }
 
-closed-more : (chan after : ℕ → Chan) (x : ScriptCall × Reply) (old : Pipe) (sealed : Bool)
-    → Stays (chan old.sink.0) (after old.sink.0) → (chan old.sink.0).made ≡ true
-    → (old.sealed ≡ true → (chan old.sink.0).closed ≡ true)
-    → (end_of old.writer old.sink x ≡ true → (after old.sink.0).closed ≡ true)
-    → sealed ≡ (old.sealed || end_of old.writer old.sink x) → sealed ≡ true → (after old.sink.0).closed ≡ true
-closed-more chan after x old sealed stay made was closes is now = by_seal old.sealed refl (sym is ∙ now)
+closed-more : (chan after : ℕ → Chan) (x : ScriptCall × Reply) (old : Pipe) (sealed : Bool) → AllLast chan after
+    → (old.sealed ≡ true → has_closed chan old.sink ≡ true)
+    → (end_of old.writer old.sink x ≡ true → has_closed after old.sink ≡ true)
+    → sealed ≡ (old.sealed || end_of old.writer old.sink x) → sealed ≡ true → has_closed after old.sink ≡ true
+closed-more chan after x old sealed last was closes is now = by_seal old.sealed refl (sym is ∙ now)
   where
     by_seal : (b : Bool) → old.sealed ≡ b → (b || end_of old.writer old.sink x) ≡ true
-        → (after old.sink.0).closed ≡ true
-    by_seal true e h = (stay made).1 (was e)
+        → has_closed after old.sink ≡ true
+    by_seal true e h = (last old.sink.number.0).closed old.sink.serial (was e)
     by_seal false e h = closes h
 
 pipe-more : (l : Limits) (log : List (ScriptCall × Reply)) (x : ScriptCall × Reply) (chan after : ℕ → Chan)
     (old new : Pipe)
-    → AllStay chan after → IsKeptPipe l log chan old → PipeSteps x after old new
+    → AllLast chan after → IsKeptPipe l log chan old → PipeSteps x after old new
     → IsKeptPipe l (log ++ x ∷ []) after new
-pipe-more l log x chan after old new stay kept steps =
+pipe-more l log x chan after old new last kept steps =
     subst (IsKeptPipe l (log ++ x ∷ []) after) (sym steps.is)
     (record {
       reader = kept.reader;
       writer = kept.writer;
-      source = (stay old.source.0 kept.source).0;
-      sink = (stay old.sink.0 kept.sink).0;
-      closed = closed-more chan after x old steps.sealed (stay old.sink.0) kept.sink kept.closed steps.closes
-          steps.goes.seal;
+      source = (last old.source.number.0).opened old.source.serial kept.source;
+      sink = (last old.sink.number.0).opened old.sink.serial kept.sink;
+      closed = closed-more chan after x old steps.sealed last kept.closed steps.closes steps.goes.seal;
       said = said-more log x old steps.waiting steps.sealed kept.said steps.goes;
     })
 
--- what isn't made afterwards wasn't made before
-was-unmade : (before after : Chan) → Stays before after → after.made ≡ false → before.made ≡ false
-was-unmade before after stays unmade =
-    false_from_ne_true before.made (λ made. absurd (both_ways after.made unmade (stays made).0))
+-- what wasn't opened afterwards wasn't opened before
+pub was-unopened : (before after : ℕ → Chan) (c : ChanId) → AllLast before after → has_opened after c ≡ false
+    → has_opened before c ≡ false
+was-unopened before after c last unopened =
+    false_from_ne_true (has_opened before c)
+    (λ opened. both_ways (has_opened after c) unopened ((last c.number.0).opened c.serial opened))
 
 pub steps-more : (l : Limits) (log : List (ScriptCall × Reply)) (x : ScriptCall × Reply) (st after : ScriptState)
-    → AreKept l log st → Steps x st after → AreKept l (log ++ x ∷ []) after
+    → AreKept l log st → Steps l x st after → AreKept l (log ++ x ∷ []) after
 steps-more l log x st after kept steps =
     let within : (k : ℕ) → k < length after.pipes → k < length st.pipes =
     λ k h. subst (λ (n : ℕ). k < n) steps.count h in
     record {
+      sound = steps.follows.sound;
       each = λ k h.
-          pipe-more l log x st.shared.chan after.shared.chan (pipe_at st.pipes k) (pipe_at after.pipes k) steps.stay
-          (kept.each k (within k h)) (steps.each k (within k h));
+          pipe-more l log x st.shared.chan after.shared.chan (pipe_at st.pipes k) (pipe_at after.pipes k)
+          steps.follows.last (kept.each k (within k h)) (steps.each k (within k h));
       sources_differ = λ j k hj hk ne same.
           kept.sources_differ j k (within j hj) (within k hk) ne
-          (sym (ap (λ (p : Pipe). p.source.0) (steps.each j (within j hj)).is)
-          ∙ (same ∙ ap (λ (p : Pipe). p.source.0) (steps.each k (within k hk)).is));
+          (sym (ap (λ (p : Pipe). p.source) (steps.each j (within j hj)).is)
+          ∙ (same ∙ ap (λ (p : Pipe). p.source) (steps.each k (within k hk)).is));
       sinks_differ = λ j k hj hk ne same.
           kept.sinks_differ j k (within j hj) (within k hk) ne
-          (sym (ap (λ (p : Pipe). p.sink.0) (steps.each j (within j hj)).is)
-          ∙ (same ∙ ap (λ (p : Pipe). p.sink.0) (steps.each k (within k hk)).is));
-      unmade = λ c unmade n.
+          (sym (ap (λ (p : Pipe). p.sink) (steps.each j (within j hj)).is)
+          ∙ (same ∙ ap (λ (p : Pipe). p.sink) (steps.each k (within k hk)).is));
+      unopened = λ c unopened n.
           untouched-more log x c n
-          (kept.unmade c (was-unmade (st.shared.chan c.0) (after.shared.chan c.0) (steps.stay c.0) unmade) n)
-          (steps.silent c unmade);
+          (kept.unopened c (was-unopened st.shared.chan after.shared.chan c steps.follows.last unopened) n)
+          (steps.silent c unopened);
     }
 
 -- ---- which lines do what they say
@@ -229,14 +245,14 @@ beside-steps x chan p new beside is = record {
 
 -- no pipe is changed, and the line says nothing of one
 pub beside-more : (l : Limits) (log : List (ScriptCall × Reply)) (x : ScriptCall × Reply) (st after : ScriptState)
-    → AreKept l log st → AllStay st.shared.chan after.shared.chan → after.pipes ≡ st.pipes
+    → AreKept l log st → Follows l st after → after.pipes ≡ st.pipes
     → ((k : ℕ) → k < length st.pipes → IsBeside (pipe_at st.pipes k) x)
-    → ((c : ChanNo) → (after.shared.chan c.0).made ≡ false → IsSilent c x)
+    → ((c : ChanId) → has_opened after.shared.chan c ≡ false → IsSilent c x)
     → AreKept l (log ++ x ∷ []) after
-beside-more l log x st after kept stay same beside silent =
+beside-more l log x st after kept follows same beside silent =
     steps-more l log x st after kept
     (record {
-      stay = stay;
+      follows = follows;
       count = ap length same;
       each = λ k h.
           beside-steps x after.shared.chan (pipe_at st.pipes k) (pipe_at after.pipes k) (beside k h)
@@ -244,7 +260,7 @@ beside-more l log x st after kept stay same beside silent =
       silent = silent;
     })
 
-silent-beside : (p : Pipe) (x : ScriptCall × Reply) → ((c : ChanNo) → IsSilent c x) → IsBeside p x
+silent-beside : (p : Pipe) (x : ScriptCall × Reply) → ((c : ChanId) → IsSilent c x) → IsBeside p x
 silent-beside p x silent = record {
   read = of-none (is_by p.reader x) (read_by p.source (use_of x.0.call) x.1) [] (silent p.source).read;
   written = of-none (is_by p.writer x) (written_by p.sink (use_of x.0.call) x.1) [] (silent p.sink).written;
@@ -254,23 +270,23 @@ silent-beside p x silent = record {
 
 -- no pipe is changed, and the line says nothing of any channel
 pub silent-more : (l : Limits) (log : List (ScriptCall × Reply)) (x : ScriptCall × Reply) (st after : ScriptState)
-    → AreKept l log st → AllStay st.shared.chan after.shared.chan → after.pipes ≡ st.pipes
-    → ((c : ChanNo) → IsSilent c x) → AreKept l (log ++ x ∷ []) after
-silent-more l log x st after kept stay same silent =
-    beside-more l log x st after kept stay same (λ k h. silent-beside (pipe_at st.pipes k) x silent) (λ c h. silent c)
+    → AreKept l log st → Follows l st after → after.pipes ≡ st.pipes
+    → ((c : ChanId) → IsSilent c x) → AreKept l (log ++ x ∷ []) after
+silent-more l log x st after kept follows same silent =
+    beside-more l log x st after kept follows same (λ k h. silent-beside (pipe_at st.pipes k) x silent) (λ c h. silent c)
 
 -- the pipe at a place is changed as the line says, which says nothing of the others
 pub place-more : (l : Limits) (log : List (ScriptCall × Reply)) (x : ScriptCall × Reply) (st after : ScriptState)
     (i : ℕ) (waiting : List ℕ) (sealed : Bool)
-    → AreKept l log st → AllStay st.shared.chan after.shared.chan → i < length st.pipes
+    → AreKept l log st → Follows l st after → i < length st.pipes
     → after.pipes ≡ set st.pipes i (changed (pipe_at st.pipes i) waiting sealed)
     → GoesOn x (pipe_at st.pipes i) waiting sealed
     → (end_of (pipe_at st.pipes i).writer (pipe_at st.pipes i).sink x ≡ true
-    → (after.shared.chan (pipe_at st.pipes i).sink.0).closed ≡ true)
+    → has_closed after.shared.chan (pipe_at st.pipes i).sink ≡ true)
     → ((k : ℕ) → k < length st.pipes → k ≢ i → IsBeside (pipe_at st.pipes k) x)
-    → ((c : ChanNo) → (after.shared.chan c.0).made ≡ false → IsSilent c x)
+    → ((c : ChanId) → has_opened after.shared.chan c ≡ false → IsSilent c x)
     → AreKept l (log ++ x ∷ []) after
-place-more l log x st after i waiting sealed kept stay within now goes closes beside silent =
+place-more l log x st after i waiting sealed kept follows within now goes closes beside silent =
     let it = changed (pipe_at st.pipes i) waiting sealed in
     let chan = after.shared.chan in
     let here : PipeSteps x chan (pipe_at st.pipes i) (pipe_at after.pipes i) =
@@ -283,7 +299,7 @@ place-more l log x st after i waiting sealed kept stay within now goes closes be
     } in
     steps-more l log x st after kept
     (record {
-      stay = stay;
+      follows = follows;
       count = ap length now ∙ length-set st.pipes i it;
       each = λ k h.
           ⊎_elim
@@ -298,7 +314,7 @@ place-more l log x st after i waiting sealed kept stay within now goes closes be
 
 -- ---- a pipe more
 
-new-said : (log : List (ScriptCall × Reply)) (me target : CallerNo) (source sink : ChanNo)
+new-said : (log : List (ScriptCall × Reply)) (me target : CallerNo) (source sink : ChanId)
     → IsUntouched log source me → IsUntouched log sink target → HasSaid log (new_pipe me target source sink)
 new-said log me target source sink at_source at_sink = record {
   bytes = append-nil (all_read source (lines_of me log)) ∙ (at_source.read ∙ sym at_sink.written);
@@ -306,22 +322,22 @@ new-said log me target source sink at_source at_sink = record {
   told = λ tells. absurd (at_source.untold tells);
 }
 
--- A pipe comes behind the others. Its ends weren't made before.
+-- A pipe comes behind the others. Its ends weren't opened before.
 pub pipe-behind : (l : Limits) (log : List (ScriptCall × Reply)) (x : ScriptCall × Reply) (st after : ScriptState)
-    (me target : CallerNo) (source sink : ChanNo)
-    → AreKept l log st → AllStay st.shared.chan after.shared.chan
+    (me target : CallerNo) (source sink : ChanId)
+    → AreKept l log st → Follows l st after
     → after.pipes ≡ st.pipes ++ new_pipe me target source sink ∷ []
-    → ((c : ChanNo) → IsSilent c x) → me.0 < l.callers → target.0 < l.callers
-    → (st.shared.chan source.0).made ≡ false → (st.shared.chan sink.0).made ≡ false
-    → (after.shared.chan source.0).made ≡ true → (after.shared.chan sink.0).made ≡ true
+    → ((c : ChanId) → IsSilent c x) → me.0 < l.callers → target.0 < l.callers
+    → has_opened st.shared.chan source ≡ false → has_opened st.shared.chan sink ≡ false
+    → has_opened after.shared.chan source ≡ true → has_opened after.shared.chan sink ≡ true
     → AreKept l (log ++ x ∷ []) after
-pipe-behind l log x st after me target source sink kept stay now silent reads writes no_source no_sink has_source
+pipe-behind l log x st after me target source sink kept follows now silent reads writes no_source no_sink has_source
     has_sink =
     let p = new_pipe me target source sink in
     let chan = after.shared.chan in
     let log' = log ++ x ∷ [] in
-    let same : (c : ChanNo) (n : CallerNo) → (st.shared.chan c.0).made ≡ false → IsUntouched log' c n =
-    λ c n unmade. untouched-more log x c n (kept.unmade c unmade n) (silent c) in
+    let same : (c : ChanId) (n : CallerNo) → has_opened st.shared.chan c ≡ false → IsUntouched log' c n =
+    λ c n unopened. untouched-more log x c n (kept.unopened c unopened n) (silent c) in
     let count : length after.pipes ≡ length st.pipes + 1 = ap length now ∙ length-append st.pipes (p ∷ []) in
     let old : (k : ℕ) → k < length st.pipes → pipe_at after.pipes k ≡ pipe_at st.pipes k =
     λ k h. ap (λ (ps : List Pipe). pipe_at ps k) now ∙ get_or_append_left st.pipes (p ∷ []) _ k h in
@@ -329,7 +345,7 @@ pipe-behind l log x st after me target source sink kept stay now silent reads wr
     ap (λ (ps : List Pipe). pipe_at ps (length st.pipes)) now ∙ get_or-append_seam st.pipes p [] _ in
     let there : (k : ℕ) → k < length st.pipes → IsKeptPipe l log' chan (pipe_at after.pipes k) =
     λ k h.
-    pipe-more l log x st.shared.chan chan (pipe_at st.pipes k) (pipe_at after.pipes k) stay (kept.each k h)
+    pipe-more l log x st.shared.chan chan (pipe_at st.pipes k) (pipe_at after.pipes k) follows.last (kept.each k h)
     (beside-steps x chan (pipe_at st.pipes k) (pipe_at after.pipes k)
     (silent-beside (pipe_at st.pipes k) x silent) (old k h)) in
     let it : IsKeptPipe l log' chan p =
@@ -346,6 +362,7 @@ pipe-behind l log x st after me target source sink kept stay now silent reads wr
     let e : k ≡ length st.pipes = omega arith in
     ap (λ (n : ℕ). pipe_at after.pipes n) e ∙ new in
     record {
+      sound = follows.sound;
       each = λ k h.
           ⊎_elim (λ (below : k < length st.pipes). there k below)
           (λ (behind : length st.pipes ≤ k). subst (IsKeptPipe l log' chan) (sym (last k h behind)) it)
@@ -356,40 +373,37 @@ pipe-behind l log x st after me target source sink kept stay now silent reads wr
       sinks_differ =
           differ st after p now (λ q. q.sink) kept.sinks_differ no_sink
           (λ k h. (kept.each k h).sink) old last count;
-      unmade = λ c unmade n. same c n (was-unmade (st.shared.chan c.0) (chan c.0) (stay c.0) unmade);
+      unopened = λ c unopened n. same c n (was-unopened st.shared.chan chan c follows.last unopened);
     }
   where
-    differ : (st after : ScriptState) (p : Pipe) → after.pipes ≡ st.pipes ++ p ∷ [] → (f : Pipe → ChanNo)
+    differ : (st after : ScriptState) (p : Pipe) → after.pipes ≡ st.pipes ++ p ∷ [] → (f : Pipe → ChanId)
         → ((j k : ℕ) → j < length st.pipes → k < length st.pipes → j ≢ k
-        → (f (pipe_at st.pipes j)).0 ≢ (f (pipe_at st.pipes k)).0)
-        → (st.shared.chan (f p).0).made ≡ false
-        → ((k : ℕ) → k < length st.pipes → (st.shared.chan (f (pipe_at st.pipes k)).0).made ≡ true)
+        → f (pipe_at st.pipes j) ≢ f (pipe_at st.pipes k))
+        → has_opened st.shared.chan (f p) ≡ false
+        → ((k : ℕ) → k < length st.pipes → has_opened st.shared.chan (f (pipe_at st.pipes k)) ≡ true)
         → ((k : ℕ) → k < length st.pipes → pipe_at after.pipes k ≡ pipe_at st.pipes k)
         → ((k : ℕ) → k < length after.pipes → length st.pipes ≤ k → pipe_at after.pipes k ≡ p)
         → length after.pipes ≡ length st.pipes + 1
         → (j k : ℕ) → j < length after.pipes → k < length after.pipes → j ≢ k
-        → (f (pipe_at after.pipes j)).0 ≢ (f (pipe_at after.pipes k)).0
-    differ st after p now f before unmade made old last count j k hj hk ne same =
+        → f (pipe_at after.pipes j) ≢ f (pipe_at after.pipes k)
+    differ st after p now f before unopened opened old last count j k hj hk ne same =
         ⊎_elim
         (λ (low : j < length st.pipes).
         ⊎_elim
         (λ (low' : k < length st.pipes).
-        before j k low low' ne (sym (number (old j low)) ∙ (same ∙ number (old k low'))))
+        before j k low low' ne (sym (ap f (old j low)) ∙ (same ∙ ap f (old k low'))))
         (λ (behind : length st.pipes ≤ k).
-        apart j low (sym (number (old j low)) ∙ (same ∙ number (last k hk behind))))
+        apart j low (sym (ap f (old j low)) ∙ (same ∙ ap f (last k hk behind))))
         (cases_lt k (length st.pipes)))
         (λ (behind : length st.pipes ≤ j).
         ⊎_elim
         (λ (low' : k < length st.pipes).
-        apart k low' (sym (number (old k low')) ∙ (sym same ∙ number (last j hj behind))))
+        apart k low' (sym (ap f (old k low')) ∙ (sym same ∙ ap f (last j hj behind))))
         (λ (behind' : length st.pipes ≤ k). ne (omega arith))
         (cases_lt k (length st.pipes)))
         (cases_lt j (length st.pipes))
       where
-        number : {a b : Pipe} → a ≡ b → (f a).0 ≡ (f b).0
-        number e = ap (λ (q : Pipe). (f q).0) e
-
-        apart : (i : ℕ) → i < length st.pipes → (f (pipe_at st.pipes i)).0 ≡ (f p).0 → ⊥
+        apart : (i : ℕ) → i < length st.pipes → f (pipe_at st.pipes i) ≡ f p → ⊥
         apart i h e =
-            both_ways (st.shared.chan (f p).0).made unmade
-            (subst (λ (n : ℕ). (st.shared.chan n).made ≡ true) e (made i h))
+            both_ways (has_opened st.shared.chan (f p)) unopened
+            (subst (λ (c : ChanId). has_opened st.shared.chan c ≡ true) e (opened i h))

@@ -6,7 +6,7 @@ use Rattle.std.proofs.lemmas.Grind.{flat_map-append}
 use Rattle.std.proofs.lemmas.List.{append-nil, map-append}
 use Rattle.std.proofs.lemmas.List.Elements.{filter-append, Contains-append_cases, Contains-push_cases}
 use Rattle.nio_base.specs.declared.numbers.CallerNo.{CallerNo}
-use Rattle.nio_base.specs.declared.numbers.ChanNo.{ChanNo}
+use Rattle.nio_base.specs.declared.numbers.ChanId.{ChanId}
 use Rattle.nio_language.specs.declared.call.Call.TheVariants as call
 use Rattle.nio_language.specs.declared.call.ScriptCall.{ScriptCall}
 use Rattle.nio_language.specs.declared.reply.Reply.{Reply}
@@ -34,23 +34,23 @@ abbrev pub line_of : ScriptCall × Reply → RaceCall × Reply
 line_of x = (Script x.0.call, x.1)
 
 -- what it reads, what it writes, and whether it leaves the seal, where it is the caller's
-abbrev pub read_of : CallerNo → ChanNo → ScriptCall × Reply → List ℕ
+abbrev pub read_of : CallerNo → ChanId → ScriptCall × Reply → List ℕ
 read_of n c x = cond (is_by n x) (read_by c (use_of x.0.call) x.1) []
 
-abbrev pub written_of : CallerNo → ChanNo → ScriptCall × Reply → List ℕ
+abbrev pub written_of : CallerNo → ChanId → ScriptCall × Reply → List ℕ
 written_of n c x = cond (is_by n x) (written_by c (use_of x.0.call) x.1) []
 
-abbrev pub end_of : CallerNo → ChanNo → ScriptCall × Reply → Bool
+abbrev pub end_of : CallerNo → ChanId → ScriptCall × Reply → Bool
 end_of n c x = cond (is_by n x) (seals_by c (use_of x.0.call) x.1) false
 
 -- it reads the channel, and told the end
-pub record ReadsEnd (c : ChanNo) (x : ScriptCall × Reply) : Type 0 where
+pub record ReadsEnd (c : ChanId) (x : ScriptCall × Reply) : Type 0 where
   pub limit : ℕ
   pub call : x.0.call ≡ call.Pread c limit
   pub reply : x.1 ≡ reply.End
 
 -- it is the caller's, and read the end
-pub record EndsRead (n : CallerNo) (c : ChanNo) (x : ScriptCall × Reply) : Type 0 where
+pub record EndsRead (n : CallerNo) (c : ChanId) (x : ScriptCall × Reply) : Type 0 where
   pub by : is_by n x ≡ true
   pub reads : ReadsEnd c x
 
@@ -89,34 +89,34 @@ gathered-more f n log x =
     ∙ (flat_map-append f (lines_of n log) (one_of n x)
     ∙ ap (λ (xs : List ℕ). flat_map f (lines_of n log) ++ xs) (of-one f (is_by n x) (line_of x)))
 
-pub read-more : (n : CallerNo) (c : ChanNo) (log : List (ScriptCall × Reply)) (x : ScriptCall × Reply)
+pub read-more : (n : CallerNo) (c : ChanId) (log : List (ScriptCall × Reply)) (x : ScriptCall × Reply)
     → all_read c (lines_of n (log ++ x ∷ [])) ≡ all_read c (lines_of n log) ++ read_of n c x
 read-more n c log x = gathered-more (λ y. read_in c y.0 y.1) n log x
 
-pub written-more : (n : CallerNo) (c : ChanNo) (log : List (ScriptCall × Reply)) (x : ScriptCall × Reply)
+pub written-more : (n : CallerNo) (c : ChanId) (log : List (ScriptCall × Reply)) (x : ScriptCall × Reply)
     → all_written c (lines_of n (log ++ x ∷ [])) ≡ all_written c (lines_of n log) ++ written_of n c x
 written-more n c log x = gathered-more (λ y. written_in c y.0 y.1) n log x
 
-pub leave_seal-append : (c : ChanNo) (xs ys : List (RaceCall × Reply))
+pub leave_seal-append : (c : ChanId) (xs ys : List (RaceCall × Reply))
     → leave_seal c (xs ++ ys) ≡ (leave_seal c xs || leave_seal c ys)
 leave_seal-append c [] ys = refl
 leave_seal-append c (x ∷ xs) ys =
     ap (λ (b : Bool). seals_in c x.0 x.1 || b) (leave_seal-append c xs ys)
     ∙ sym (or_assoc (seals_in c x.0 x.1) (leave_seal c xs) (leave_seal c ys))
 
-end-of-one : (c : ChanNo) (b : Bool) (x : RaceCall × Reply)
+end-of-one : (c : ChanId) (b : Bool) (x : RaceCall × Reply)
     → leave_seal c (cond b (x ∷ []) []) ≡ cond b (seals_in c x.0 x.1) false
 end-of-one c true x = or-false (seals_in c x.0 x.1)
 end-of-one c false x = refl
 
-pub end-more : (n : CallerNo) (c : ChanNo) (log : List (ScriptCall × Reply)) (x : ScriptCall × Reply)
+pub end-more : (n : CallerNo) (c : ChanId) (log : List (ScriptCall × Reply)) (x : ScriptCall × Reply)
     → leave_seal c (lines_of n (log ++ x ∷ [])) ≡ (leave_seal c (lines_of n log) || end_of n c x)
 end-more n c log x =
     ap (leave_seal c) (lines-more n log x)
     ∙ (leave_seal-append c (lines_of n log) (one_of n x)
     ∙ ap (λ (b : Bool). leave_seal c (lines_of n log) || b) (end-of-one c (is_by n x) (line_of x)))
 
-is-one : (n : CallerNo) (c : ChanNo) (k : ℕ) (x : ScriptCall × Reply) (b : Bool) → is_by n x ≡ b
+is-one : (n : CallerNo) (c : ChanId) (k : ℕ) (x : ScriptCall × Reply) (b : Bool) → is_by n x ≡ b
     → Contains (cond b (line_of x ∷ []) []) (Script (call.Pread c k), reply.End) → EndsRead n c x
 is-one n c k x true by h =
     ⊎_elim (λ none. absurd (contains-none _ none))
@@ -131,7 +131,7 @@ is-one n c k x true by h =
 is-one n c k x false by h = absurd (contains-none _ h)
 
 -- a read that told the end is among the earlier lines, or is the last
-pub tells-more : (n : CallerNo) (c : ChanNo) (log : List (ScriptCall × Reply)) (x : ScriptCall × Reply)
+pub tells-more : (n : CallerNo) (c : ChanId) (log : List (ScriptCall × Reply)) (x : ScriptCall × Reply)
     → TellsEnd c (lines_of n (log ++ x ∷ [])) → TellsEnd c (lines_of n log) ⊎ EndsRead n c x
 tells-more n c log x tells =
     let it : RaceCall × Reply = (Script (call.Pread c tells.0), reply.End) in

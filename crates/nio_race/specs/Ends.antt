@@ -40,8 +40,8 @@ ends_of ends = record { sources = map source_chan ends.sources.items; sinks = ma
 pub record HasMadeEnds (w : Words) (d : Desk) (ends : OwnEnds) : Type 0 where
   pub sources : All (λ source. HasChannel (view w d.pass) (source_chan source)) ends.sources.items
   pub sinks : All (λ sink. HasEnds (view w d.pass) (other_chan sink) (sink_chan sink)) ends.sinks.items
-  pub sources_differ : AllPairs (λ a b. (source_chan a).0 ≢ (source_chan b).0) ends.sources.items
-  pub sinks_differ : AllPairs (λ a b. (sink_chan a).0 ≢ (sink_chan b).0) ends.sinks.items
+  pub sources_differ : AllPairs (λ a b. source_chan a ≢ source_chan b) ends.sources.items
+  pub sinks_differ : AllPairs (λ a b. sink_chan a ≢ sink_chan b) ends.sinks.items
 
 -- the source knows at least so much
 pub record KnowsAwaited (source : PipeSource) (x : Awaited) : Type 0 where
@@ -134,8 +134,8 @@ pub record ArePartedAmong (racers : List Racer) (owners : List Owners) : Type 0 
 -- The owners of each pipe are callers, and no two pipes have an end in common.
 pub record ArePipes (l : Limits) (pipes : List Pipe) : Type 0 where
   pub owners : All (λ p. (p.reader.0 < l.callers) × (p.writer.0 < l.callers)) pipes
-  pub sources_differ : AllPairs (λ p q. p.source.0 ≢ q.source.0) pipes
-  pub sinks_differ : AllPairs (λ p q. p.sink.0 ≢ q.sink.0) pipes
+  pub sources_differ : AllPairs (λ p q. p.source ≢ q.source) pipes
+  pub sinks_differ : AllPairs (λ p q. p.sink ≢ q.sink) pipes
 
 -- The pipe was parted with the bytes that waited and with its seal. They count as sent, and none was read.
 pub record IsPartedAs (p : Pipe) (x : PartedPipe) : Type 0 where

@@ -5,13 +5,14 @@ use Rattle.std.specs.Prelude.{filter, take, zip, flat_map, length, Contains}
 use mathlib.Core.List.{IsPrefix}
 use Rattle.nio_base.specs.declared.limits.Limits.{Limits}
 use Rattle.nio_base.specs.declared.numbers.CallerNo.{CallerNo}
-use Rattle.nio_base.specs.declared.numbers.ChanNo.{ChanNo}
+use Rattle.nio_base.specs.declared.numbers.ChanId.{ChanId}
 use Rattle.nio_language.specs.WordRows.{PipeUse, closes, neither, reads, writes}
 use Rattle.nio_language.specs.declared.call.Call.TheVariants as call
 use Rattle.nio_language.specs.declared.call.ScriptCall.{ScriptCall}
 use Rattle.nio_language.specs.declared.reply.Reply.{Reply}
 use Rattle.nio_language.specs.declared.reply.Reply.TheVariants as reply
 use Rattle.nio_plain.specs.ScriptState.{script_opening}
+use Rattle.nio_plain.specs.Seq.Pipes.{is_same_id}
 use Rattle.nio_race_text.specs.declared.call.RaceCall.{RaceCall}
 use Rattle.nio_race_text.specs.declared.call.RaceCall.TheVariants.{Script, Block}
 use Rattle.nio_serial.specs.Serial.{replies_from}
@@ -149,53 +150,53 @@ says_closed reply.BrokenPipe = false
 says_closed (reply.Group answer) = false
 
 -- what a line read from this channel, by its reply
-abbrev pub read_by : ChanNo → PipeUse → Reply → List ℕ
-read_by c (reads x n) r = if x.0 == c.0 then bytes_of r else []
+abbrev pub read_by : ChanId → PipeUse → Reply → List ℕ
+read_by c (reads x n) r = if is_same_id x c then bytes_of r else []
 read_by c (writes x bytes) r = []
 read_by c (closes x) r = []
 read_by c neither r = []
 
 -- what a line wrote into this channel, by its reply: so many of its bytes, from their front
-abbrev pub written_by : ChanNo → PipeUse → Reply → List ℕ
+abbrev pub written_by : ChanId → PipeUse → Reply → List ℕ
 written_by c (reads x n) r = []
-written_by c (writes x bytes) r = if x.0 == c.0 then take (number_of r) bytes else []
+written_by c (writes x bytes) r = if is_same_id x c then take (number_of r) bytes else []
 written_by c (closes x) r = []
 written_by c neither r = []
 
 -- A line of a sink's owner leaves the seal, by its reply: it closes the sink, or a write finds or makes it closed.
-abbrev pub seals_by : ChanNo → PipeUse → Reply → Bool
+abbrev pub seals_by : ChanId → PipeUse → Reply → Bool
 seals_by c (reads x n) r = false
-seals_by c (writes x bytes) r = (x.0 == c.0) && says_closed r
-seals_by c (closes x) r = (x.0 == c.0) && says_closed r
+seals_by c (writes x bytes) r = is_same_id x c && says_closed r
+seals_by c (closes x) r = is_same_id x c && says_closed r
 seals_by c neither r = false
 
-abbrev pub read_in : ChanNo → RaceCall → Reply → List ℕ
+abbrev pub read_in : ChanId → RaceCall → Reply → List ℕ
 read_in c (Script word) r = read_by c (use_of word) r
 read_in c (Block s) r = []
 
-abbrev pub written_in : ChanNo → RaceCall → Reply → List ℕ
+abbrev pub written_in : ChanId → RaceCall → Reply → List ℕ
 written_in c (Script word) r = written_by c (use_of word) r
 written_in c (Block s) r = []
 
-abbrev pub seals_in : ChanNo → RaceCall → Reply → Bool
+abbrev pub seals_in : ChanId → RaceCall → Reply → Bool
 seals_in c (Script word) r = seals_by c (use_of word) r
 seals_in c (Block s) r = false
 
 -- ---- of lines with their replies
 
-abbrev pub all_read : ChanNo → List (RaceCall × Reply) → List ℕ
+abbrev pub all_read : ChanId → List (RaceCall × Reply) → List ℕ
 all_read c lines = flat_map (λ x. read_in c x.0 x.1) lines
 
-abbrev pub all_written : ChanNo → List (RaceCall × Reply) → List ℕ
+abbrev pub all_written : ChanId → List (RaceCall × Reply) → List ℕ
 all_written c lines = flat_map (λ x. written_in c x.0 x.1) lines
 
 -- one of the lines leaves the seal of this sink
-abbrev pub leave_seal : ChanNo → List (RaceCall × Reply) → Bool
+abbrev pub leave_seal : ChanId → List (RaceCall × Reply) → Bool
 leave_seal c [] = false
 leave_seal c (x ∷ later) = seals_in c x.0 x.1 || leave_seal c later
 
 -- a read of this channel told the end
-abbrev pub TellsEnd : ChanNo → List (RaceCall × Reply) → Type 0
+abbrev pub TellsEnd : ChanId → List (RaceCall × Reply) → Type 0
 TellsEnd c lines = (n : ℕ) × Contains lines (Script (call.Pread c n), reply.End)
 
 -- ---- of a pipe
@@ -210,7 +211,7 @@ setup_lines n l setup =
 -- Of a pipe, by the lines of its reader and by those of its writer, the setup's first: what was read begins what was
 -- written, and at most 65,536 bytes wait. Where a read told the end, all was read, and a line of the writer leaves the
 -- seal. Nothing is said of the order between the lines of two callers.
-pub record KeepsBytes (source sink : ChanNo) (readers writers : List (RaceCall × Reply)) : Type 0 where
+pub record KeepsBytes (source sink : ChanId) (readers writers : List (RaceCall × Reply)) : Type 0 where
   pub in_order : IsPrefix (all_read source readers) (all_written sink writers)
   pub few : length (all_written sink writers) ≤ length (all_read source readers) + 65536
   pub whole : TellsEnd source readers → all_read source readers ≡ all_written sink writers

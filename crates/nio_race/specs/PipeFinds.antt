@@ -3,7 +3,7 @@
 -- its writer knows of room.
 use Rattle.std.specs.Prelude.{◌≡◌, ◌≢◌, ℕ, ◌-◌, ◌<◌, ◌≤◌, min, Bool, true, false, IsFalse, if◌then◌else◌, List, []}
 use Rattle.std.specs.Prelude.{◌∷◌, length, drop}
-use Rattle.nio_base.specs.declared.numbers.ChanNo.{ChanNo}
+use Rattle.nio_base.specs.declared.numbers.ChanId.{ChanId}
 use Rattle.nio_language.specs.WordRows.{PipeUse, closes, neither, reads, writes}
 use Rattle.nio_language.specs.declared.reply.Reply.{Reply}
 use Rattle.nio_language.specs.declared.reply.Reply.TheVariants as reply
@@ -49,18 +49,18 @@ pub data ReadFinds (n : ℕ) (before : Awaited) : Reply → Awaited → Type 0 w
   is_not_owner : ReadFinds n before reply.NotOwner before
 
 -- a line of the reader of this source: each that isn't a read of it leaves what is known
-abbrev pub UseFinds : ChanNo → PipeUse → Reply → Awaited → Awaited → Type 0
-UseFinds c (reads x n) r before after = (x.0 ≡ c.0 → ReadFinds n before r after) × (x.0 ≢ c.0 → after ≡ before)
+abbrev pub UseFinds : ChanId → PipeUse → Reply → Awaited → Awaited → Type 0
+UseFinds c (reads x n) r before after = (x ≡ c → ReadFinds n before r after) × (x ≢ c → after ≡ before)
 UseFinds c (writes x bytes) r before after = after ≡ before
 UseFinds c (closes x) r before after = after ≡ before
 UseFinds c neither r before after = after ≡ before
 
-abbrev pub LineFinds : ChanNo → RaceCall → Reply → Awaited → Awaited → Type 0
+abbrev pub LineFinds : ChanId → RaceCall → Reply → Awaited → Awaited → Type 0
 LineFinds c (Script word) r before after = UseFinds c (use_of word) r before after
 LineFinds c (Block s) r before after = after ≡ before
 
 -- its lines, one after the other
-abbrev pub LinesFind : ChanNo → List (RaceCall × Reply) → Awaited → Awaited → Type 0
+abbrev pub LinesFind : ChanId → List (RaceCall × Reply) → Awaited → Awaited → Type 0
 LinesFind c [] before after = after ≡ before
 LinesFind c (x ∷ later) before after =
     (between : Awaited) × (LineFinds c x.0 x.1 before between × LinesFind c later between after)
@@ -83,19 +83,19 @@ pub data WriteFinds (bytes : List ℕ) (room : ℕ) : Reply → ℕ → Type 0 w
   is_not_owner : WriteFinds bytes room reply.NotOwner room
 
 -- a line of the writer of this sink: behind its closing no room is known
-abbrev pub UseTakes : ChanNo → PipeUse → Reply → ℕ → ℕ → Type 0
+abbrev pub UseTakes : ChanId → PipeUse → Reply → ℕ → ℕ → Type 0
 UseTakes c (reads x n) r before after = after ≡ before
 UseTakes c (writes x bytes) r before after =
-    (x.0 ≡ c.0 → WriteFinds bytes before r after) × (x.0 ≢ c.0 → after ≡ before)
-UseTakes c (closes x) r before after = (x.0 ≡ c.0 → after ≡ 0) × (x.0 ≢ c.0 → after ≡ before)
+    (x ≡ c → WriteFinds bytes before r after) × (x ≢ c → after ≡ before)
+UseTakes c (closes x) r before after = (x ≡ c → after ≡ 0) × (x ≢ c → after ≡ before)
 UseTakes c neither r before after = after ≡ before
 
-abbrev pub LineTakes : ChanNo → RaceCall → Reply → ℕ → ℕ → Type 0
+abbrev pub LineTakes : ChanId → RaceCall → Reply → ℕ → ℕ → Type 0
 LineTakes c (Script word) r before after = UseTakes c (use_of word) r before after
 LineTakes c (Block s) r before after = after ≡ before
 
 -- its lines, one after the other
-abbrev pub LinesTake : ChanNo → List (RaceCall × Reply) → ℕ → ℕ → Type 0
+abbrev pub LinesTake : ChanId → List (RaceCall × Reply) → ℕ → ℕ → Type 0
 LinesTake c [] before after = after ≡ before
 LinesTake c (x ∷ later) before after =
     (between : ℕ) × (LineTakes c x.0 x.1 before between × LinesTake c later between after)

@@ -20,7 +20,7 @@ use Rattle.nio_serial.specs.Documented.{Progress}
 use Rattle.nio_serial.specs.Lines.{Said, line_plan, with_selection}
 use Rattle.nio_steps.specs.KeyCalls.{find_selector_plan}
 use Rattle.nio_steps.specs.Runs.{Completes}
-use Rattle.nio_steps.specs.SelectCalls.{Poll, SelectReply, selected, not_begun, left, Selects}
+use Rattle.nio_steps.specs.SelectCalls.{Poll, SelectReply, selected, not_begun, left, MakesSelection}
 use Rattle.nio_steps.specs.Waiting.{Retries, Then}
 use Rattle.nio_steps.specs.declared.refusal.BeginError.TheVariants.{ClosedSelector, Busy, Memory}
 use Rattle.nio_race.specs.Piping.{LooksAndReads, LooksAndWrites, OwnedEnds, use_of}
@@ -102,7 +102,7 @@ TellsNothing poll = poll.pairs ≡ []
 pub record Blocks (now : Progress) (s : SelNo) (acts : List Act) (said : Said) : Type 0 where
   pub polls : List Poll
   pub answer : SelectReply
-  pub selects : Selects s Wait polls acts answer
+  pub selects : MakesSelection s Wait polls acts answer
   pub untold : All TellsNothing polls
   pub unmarked : (x : SelNo) (i told : ℕ) (from : KeyMark) → Contains acts (Mark x i from told (Ok tt)) → ⊥
   pub says : BlockSays now s answer said

@@ -1,14 +1,15 @@
 //! Lines after `go` on the ends of pipes that the caller owns.
-ghost use Rattle.std.specs.Prelude.{◌≡◌, ◌==◌, IfOk, position};
+ghost use Rattle.std.specs.Prelude.{◌≡◌, IfOk, position};
 ghost use mathlib.Core.List.{IsPrefix};
 ghost use Rattle.nio_language.specs.declared.call.Call.TheVariants.{Closec, Pread, Pwrite};
 ghost use Rattle.nio_pipe.specs.Ends.{sink_chan, source_chan};
+ghost use Rattle.nio_plain.specs.Seq.Pipes.{is_same_id};
 ghost use Rattle.nio_words.specs.Passes.{IsPassOf, seen};
 ghost use Rattle.nio_race.specs.Racers.{CalledOn, StandsWith};
 
 use crate::ends::OwnEnds;
 use crate::line::script_line;
-use nio_base::{CallerNo, ChanNo};
+use nio_base::{CallerNo, ChanId};
 use nio_keys::find_channel;
 use nio_language::{Bytes, Call, Reply};
 use nio_pipe::{CAPACITY, PipeSink, PipeSource};
@@ -26,7 +27,7 @@ pub(crate) fn read_line<R: Wait>(
     d: &mut Desk,
     ends: &mut OwnEnds,
     me: CallerNo,
-    chan: ChanNo,
+    chan: ChanId,
     most: u32,
 ) -> Result<Reply, AllocError>
     requires { StandsWith w.now d.old ends.old me }
@@ -34,7 +35,7 @@ pub(crate) fn read_line<R: Wait>(
     ensures stands { StandsWith w.now d.new ends.new me }
     ensures later { IsPrefix (seen d.old.pass) (seen d.new.pass) }
 {
-    if find_channel(w, &mut d.pass, me, chan.0).is_none() {
+    if find_channel(w, &mut d.pass, me, chan.number.0, chan.serial).is_none() {
         return Ok(Reply::NoChannel);
     }
     let Some(place) = source_place(&ends.sources, chan) else {
@@ -53,7 +54,7 @@ pub(crate) fn write_line<R: Wait>(
     d: &mut Desk,
     ends: &mut OwnEnds,
     me: CallerNo,
-    chan: ChanNo,
+    chan: ChanId,
     bytes: &Bytes,
 ) -> Reply
     requires { StandsWith w.now d.old ends.old me }
@@ -61,7 +62,7 @@ pub(crate) fn write_line<R: Wait>(
     ensures stands { StandsWith w.now d.new ends.new me }
     ensures later { IsPrefix (seen d.old.pass) (seen d.new.pass) }
 {
-    if find_channel(w, &mut d.pass, me, chan.0).is_none() {
+    if find_channel(w, &mut d.pass, me, chan.number.0, chan.serial).is_none() {
         return Reply::NoChannel;
     }
     let Some(place) = sink_place(&ends.sinks, chan) else {
@@ -80,7 +81,7 @@ pub(crate) fn close_line<R: Wait>(
     d: &mut Desk,
     ends: &mut OwnEnds,
     me: CallerNo,
-    chan: ChanNo,
+    chan: ChanId,
 ) -> Result<Reply, AllocError>
     requires { StandsWith w.now d.old ends.old me }
     ensures line { IfOk result (CalledOn w.now d.old d.new ends.old ends.new me (Closec chan)) }
@@ -91,20 +92,20 @@ pub(crate) fn close_line<R: Wait>(
     let Some(place) = sink_place(&ends.sinks, chan) else {
         return script_line(rt, alloc, w, d, me, &Call::Closec(chan));
     };
-    if find_channel(w, &mut d.pass, me, chan.0).is_none() {
+    if find_channel(w, &mut d.pass, me, chan.number.0, chan.serial).is_none() {
         return Ok(Reply::NoChannel);
     }
     Ok(closed_reply(ends.sinks[place].close(w, &mut d.pass, me)))
 }
 
-fn source_place(sources: &[PipeSource], chan: ChanNo) -> Option<usize>
-    ensures { result ≡ position (λ source. (source_chan source).0 == chan.0) sources.now }
+fn source_place(sources: &[PipeSource], chan: ChanId) -> Option<usize>
+    ensures { result ≡ position (λ source. is_same_id (source_chan source) chan) sources.now }
 {
-    sources.iter().position(|source| source.chan().0 == chan.0)
+    sources.iter().position(|source| source.chan() == chan)
 }
 
-fn sink_place(sinks: &[PipeSink], chan: ChanNo) -> Option<usize>
-    ensures { result ≡ position (λ sink. (sink_chan sink).0 == chan.0) sinks.now }
+fn sink_place(sinks: &[PipeSink], chan: ChanId) -> Option<usize>
+    ensures { result ≡ position (λ sink. is_same_id (sink_chan sink) chan) sinks.now }
 {
-    sinks.iter().position(|sink| sink.chan().0 == chan.0)
+    sinks.iter().position(|sink| sink.chan() == chan)
 }

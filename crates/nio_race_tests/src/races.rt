@@ -230,6 +230,38 @@ const RACES: &[(&str, Race)] = &[
             ),
         ),
     ),
+    (
+        "a channel whose number came back",
+        (
+            (
+                "t1 selector\nt1 channel source\nt1 closec c0\nt1 channel sink\nt1 channel source\n\
+                    t1 blocking c0.1 off\ngo\nt1 is-open c0\nt1 register s0 c0 1\nt2 register s0 c0.1 1\n\
+                    t1 key-for c0 s0\nt1 key-for c0.1 s0\nt1 is-registered c0\nt1 closec c0\n\
+                    t2 is-open c0.1\nt2 is-open c0.2\n",
+                &[
+                    (1, 1),
+                    (1, 2),
+                    (2, 1),
+                    (1, 3),
+                    (1, 4),
+                    (1, 5),
+                    (1, 6),
+                    (2, 2),
+                    (2, 3),
+                ],
+            ),
+            (
+                0,
+                &[
+                    "1 t1 selector -> s0\n2 t1 channel source -> c0\n3 t1 closec c0 -> ok\n4 t1 channel sink -> c1\n\
+                        5 t1 channel source -> c0.1\n6 t1 blocking c0.1 off -> ok\nt1 1 is-open c0 -> no\n\
+                        t1 2 register s0 c0 1 -> closed-channel\nt1 3 key-for c0 s0 -> none\n\
+                        t1 4 key-for c0.1 s0 -> k0\nt1 5 is-registered c0 -> no\nt1 6 closec c0 -> already\n\
+                        t2 1 register s0 c0.1 1 -> k0\nt2 2 is-open c0.1 -> yes\nt2 3 is-open c0.2 -> no-channel\n",
+                ],
+            ),
+        ),
+    ),
     ("no lines", (("go\n", &[]), (0, &[""]))),
     (
         "a bad line",
@@ -356,6 +388,25 @@ const PIPES_IN_RACES: &[(&str, Race)] = &[
                 &[
                     "1 t1 pipe t2 -> c0 c1\nt1 1 pread c0 1 -> closed-by-interrupt\nt1 2 is-open c0 -> no\n\
                         t2 1 interrupt t1 -> ok\n",
+                ],
+            ),
+        ),
+    ),
+    (
+        "ends whose numbers came back",
+        (
+            (
+                "t1 pipe t2\nt2 pwrite c1 68\nt1 closec c0\nt2 closec c1\nt1 pipe t2\nt2 pwrite c1.1 69\ngo\n\
+                    t1 pread c0 1\nt1 pread c0.1 1\nt1 pread c0.1 1\nt2 pwrite c1 68\nt2 pwrite c1.1 6a\n",
+                &[(1, 1), (1, 2), (2, 1), (1, 3), (2, 2)],
+            ),
+            (
+                0,
+                &[
+                    "1 t1 pipe t2 -> c0 c1\n2 t2 pwrite c1 68 -> 1\n3 t1 closec c0 -> ok\n4 t2 closec c1 -> ok\n\
+                        5 t1 pipe t2 -> c0.1 c1.1\n6 t2 pwrite c1.1 69 -> 1\nt1 1 pread c0 1 -> closed-channel\n\
+                        t1 2 pread c0.1 1 -> 69\nt1 3 pread c0.1 1 -> 6a\nt2 1 pwrite c1 68 -> closed-channel\n\
+                        t2 2 pwrite c1.1 6a -> 1\n",
                 ],
             ),
         ),

@@ -12,8 +12,9 @@ use std::thread::Threads;
 use std::{fs, io};
 
 /// The examples, each with how many outputs are listed beside it.
-const EXAMPLES: [(&str, u32); 4] = [
+const EXAMPLES: [(&str, u32); 5] = [
     ("block_and_wakeup", 1),
+    ("closing_and_registering", 3),
     ("closing_while_blocked", 4),
     ("pipe_between_threads", 1),
     ("registering_and_cancelling", 3),

@@ -8,6 +8,7 @@ use Rattle.std.proofs.lemmas.List.Elements.{All-head, All-nil, All-push, All-tai
 use Rattle.std.proofs.lemmas.Option.{get_or_from_slice_get}
 use Rattle.nio_base.specs.declared.limits.Limits.{Limits}
 use Rattle.nio_base.specs.declared.numbers.CallerNo.{CallerNo}
+use Rattle.nio_base.specs.declared.numbers.ChanId.{ChanId}
 use Rattle.nio_base.specs.declared.numbers.ChanNo.{ChanNo}
 use Rattle.nio_base.specs.declared.numbers.SelNo.{SelNo}
 use Rattle.nio_history.specs.Histories.{mine, is_by, IsLegal}
@@ -57,7 +58,7 @@ joined_other w before other after joins =
 pub ready_on : (w : Words) (a p : Pass) (n : CallerNo) → StandsIn a p → IsPassOf w p → IsReady w a n → IsReady w p n
 ready_on w a p n stands pass ready = record { pass = pass; number = stands.holds n ready.number }
 
-pub registered_on : (l : Limits) (a p : Pass) (n : CallerNo) (those : List (SelNo × ChanNo)) → StandsIn a p → Holds a n
+pub registered_on : (l : Limits) (a p : Pass) (n : CallerNo) (those : List (SelNo × ChanId)) → StandsIn a p → Holds a n
     → HasRegistered l (acts_seen a n) those → HasRegistered l (acts_seen p n) those
 registered_on l a p n those stands held has =
     subst (λ (own : List Act). HasRegistered l own those) (sym (stands.own n held)) has
@@ -137,14 +138,14 @@ on_ok (Ok x) ok has = has
 on_ok (Err e) ok has = absurd (cc)
 
 -- of w workers and so many connections, these are the registrations of the caller of this number
-pub record AreOwn (w conns n : ℕ) (those : List (SelNo × ChanNo)) : Type 0 where
+pub record AreOwn (w conns n : ℕ) (those : List (SelNo × ChanId)) : Type 0 where
   pub acceptor : n ≡ 0 → those ≡ seats (Some acceptor_deal) (selector 0) 1
   pub worker : (v : ℕ) → v < w → n ≡ v + 1
       → those ≡ seats (Some (deal_of w v conns)) (selector (v + 1)) (channels_for (share w v conns))
   pub nobody : w < n → those ≡ []
 
 pub record HasOwn (w conns : ℕ) (p : Pass) (n : CallerNo) : Type 0 where
-  pub those : List (SelNo × ChanNo)
+  pub those : List (SelNo × ChanId)
   pub has : HasRegistered (table_for w) (acts_seen p n) those
   pub own : AreOwn w conns n.0 those
 
@@ -234,7 +235,7 @@ module _ {X : Type 0} (words : Words) (plan : ProxyPlan) (early : X → Bool) (o
         let found = element now v (omega (arith, within, same)) in
         let x : X = found.0 in
         let at : slice_index_or now v x ≡ x = get_or_from_slice_get now v x x found.1 in
-        let those : List (SelNo × ChanNo)
+        let those : List (SelNo × ChanId)
         = seats (Some (deal_of w v plan.conns)) (selector (v + 1)) (channels_for (share w v plan.conns)) in
         let left : LeavesSeat words (v + 1) (deal_of w v plan.conns) (channels_for (share w v plan.conns)) (pass x)
         (outcome x)

@@ -7,6 +7,8 @@ use Rattle.std.proofs.lemmas.Bool.{cases_eq, cases_lt, ne_eqb}
 use Rattle.std.proofs.lemmas.List.{map-append}
 use Rattle.std.proofs.lemmas.List.Elements.{filter-append}
 use Rattle.std.proofs.lemmas.Nat.{mod-mul-add, div-mul-add}
+use Rattle.nio_base.specs.Numbers.{first_channel}
+use Rattle.nio_base.specs.declared.numbers.ChanId.{ChanId}
 use Rattle.nio_base.specs.declared.numbers.ChanNo.{ChanNo}
 use Rattle.nio_base.specs.declared.numbers.SelNo.{SelNo}
 use Rattle.nio_serve.specs.Called.{channel_in, dealt_channel, seats}
@@ -126,48 +128,50 @@ module _ (w k conns : ℕ) (c : ChanNo) (some : 0 < w) (few : k < conns) (link :
 
   -- ---- the registrations of a share
 
-  with_more : (s : SelNo) (xs : List (SelNo × ChanNo)) (d : ChanNo)
+  with_more : (s : SelNo) (xs : List (SelNo × ChanId)) (d : ChanId)
       → selectors_with c (xs ++ (s, d) ∷ []) ≡ selectors_with c xs ++ selectors_with c ((s, d) ∷ [])
   with_more s xs d =
-      ap (map (λ (x : SelNo × ChanNo). x.0)) (filter-append (λ (x : SelNo × ChanNo). x.1.0 == c.0) xs ((s, d) ∷ []))
-      ∙ map-append (λ (x : SelNo × ChanNo). x.0) (filter (λ (x : SelNo × ChanNo). x.1.0 == c.0) xs)
-      (filter (λ (x : SelNo × ChanNo). x.1.0 == c.0) ((s, d) ∷ []))
+      ap (map (λ (x : SelNo × ChanId). x.0))
+      (filter-append (λ (x : SelNo × ChanId). x.1.number.0 == c.0) xs ((s, d) ∷ []))
+      ∙ map-append (λ (x : SelNo × ChanId). x.0) (filter (λ (x : SelNo × ChanId). x.1.number.0 == c.0) xs)
+      (filter (λ (x : SelNo × ChanId). x.1.number.0 == c.0) ((s, d) ∷ []))
 
-  with_it : (s : SelNo) (d : ChanNo) → d.0 ≡ c.0 → selectors_with c ((s, d) ∷ []) ≡ s ∷ []
+  with_it : (s : SelNo) (d : ChanId) → d.number.0 ≡ c.0 → selectors_with c ((s, d) ∷ []) ≡ s ∷ []
   with_it s d is =
-      ap (λ (b : Bool). map (λ (x : SelNo × ChanNo). x.0) (if b then (s, d) ∷ [] else [])) (eq-eqb d.0 c.0 is)
+      ap (λ (b : Bool). map (λ (x : SelNo × ChanId). x.0) (if b then (s, d) ∷ [] else [])) (eq-eqb d.number.0 c.0 is)
 
-  with_other : (s : SelNo) (d : ChanNo) → d.0 ≢ c.0 → selectors_with c ((s, d) ∷ []) ≡ []
+  with_other : (s : SelNo) (d : ChanId) → d.number.0 ≢ c.0 → selectors_with c ((s, d) ∷ []) ≡ []
   with_other s d other =
-      ap (λ (b : Bool). map (λ (x : SelNo × ChanNo). x.0) (if b then (s, d) ∷ [] else []))
-      (ne_eqb d.0 c.0 other)
+      ap (λ (b : Bool). map (λ (x : SelNo × ChanId). x.0) (if b then (s, d) ∷ [] else []))
+      (ne_eqb d.number.0 c.0 other)
 
   with_none : (deal : Deal) (s : SelNo) (n : ℕ)
       → ((i : ℕ) → i < n → (channel_in (Some deal) (channel i)).0 ≢ c.0) → selectors_with c (seats (Some deal) s n) ≡ []
   with_none deal s zero none = refl
   with_none deal s (suc n) none =
-      with_more s (seats (Some deal) s n) (channel_in (Some deal) (channel n))
-      ∙ (ap (λ l. l ++ selectors_with c ((s, channel_in (Some deal) (channel n)) ∷ []))
+      with_more s (seats (Some deal) s n) (first_channel (channel_in (Some deal) (channel n)))
+      ∙ (ap (λ l. l ++ selectors_with c ((s, first_channel (channel_in (Some deal) (channel n))) ∷ []))
       (with_none deal s n (λ i less. none i (omega (arith, less))))
-      ∙ with_other s (channel_in (Some deal) (channel n)) (none n (omega arith)))
+      ∙ with_other s (first_channel (channel_in (Some deal) (channel n))) (none n (omega arith)))
 
   with_one : (deal : Deal) (s : SelNo) (m n : ℕ) → m < n → (channel_in (Some deal) (channel m)).0 ≡ c.0
       → ((i : ℕ) → i < n → i ≢ m → (channel_in (Some deal) (channel i)).0 ≢ c.0)
       → selectors_with c (seats (Some deal) s n) ≡ s ∷ []
   with_one deal s m zero less is others = absurd (omega (arith, less))
   with_one deal s m (suc n) less is others =
-      with_more s (seats (Some deal) s n) (channel_in (Some deal) (channel n))
+      with_more s (seats (Some deal) s n) (first_channel (channel_in (Some deal) (channel n)))
       ∙ ⊎_elim
       (λ (last : n ≡ m).
-      ap (λ l. l ++ selectors_with c ((s, channel_in (Some deal) (channel n)) ∷ []))
+      ap (λ l. l ++ selectors_with c ((s, first_channel (channel_in (Some deal) (channel n))) ∷ []))
       (with_none deal s n
       (λ i below. others i (omega (arith, below)) (λ same. absurd (omega (arith, same, below, last)))))
-      ∙ with_it s (channel_in (Some deal) (channel n))
+      ∙ with_it s (first_channel (channel_in (Some deal) (channel n)))
       (ap (λ (i : ℕ). (channel_in (Some deal) (channel i)).0) last ∙ is))
       (λ (earlier : n ≡ m → ⊥).
-      ap (λ l. l ++ selectors_with c ((s, channel_in (Some deal) (channel n)) ∷ []))
+      ap (λ l. l ++ selectors_with c ((s, first_channel (channel_in (Some deal) (channel n))) ∷ []))
       (with_one deal s m n (strictly m n less earlier) is (λ i below other. others i (omega (arith, below)) other))
-      ∙ ap (λ l. s ∷ l) (with_other s (channel_in (Some deal) (channel n)) (others n (omega arith) earlier)))
+      ∙ ap (λ l. s ∷ l)
+      (with_other s (first_channel (channel_in (Some deal) (channel n))) (others n (omega arith) earlier)))
       (cases_eq n m)
     where
       strictly : (a b : ℕ) → a < suc b → (b ≡ a → ⊥) → a < b

@@ -9,7 +9,7 @@ use Rattle.std.proofs.lemmas.Result.{on_ok_weaker}
 use Rattle.nio_base.specs.declared.numbers.CallerNo.{CallerNo}
 use Rattle.nio_base.specs.declared.numbers.SelNo.{SelNo}
 use Rattle.nio_base.specs.declared.kind.Kind.{Kind}
-use Rattle.nio_base.specs.declared.numbers.ChanNo.{ChanNo}
+use Rattle.nio_base.specs.declared.numbers.ChanId.{ChanId}
 use Rattle.nio_history.proofs.OneMore.{mine-own, mine-other}
 use Rattle.nio_history.proofs.OwnPins.{pins_are_own}
 use Rattle.nio_history.specs.Histories.{event_of, mine}
@@ -95,7 +95,7 @@ after_open_selector w p q k answer some are clause ready =
     (did_unpinned (table_call open_selector answer) (λ acts run. run) (pins_are_given_back.open_selector _) clause ready
     (are (caller 0) some).unpinned) some are
 
-pub after_open_channel : (w : Words) (p q : Pass) (k : ℕ) (kind : Kind) (answer : Result ChanNo ChannelError) → 0 < k
+pub after_open_channel : (w : Words) (p q : Pass) (k : ℕ) (kind : Kind) (answer : Result ChanId ChannelError) → 0 < k
     → AreNewcomers w p k
     → CallClause (caller 0) (Completes (open_channel_plan (limits_of w) kind)) (view w p) (view w q) answer
     → IsReady w q (caller 0) → AreNewcomers w q k

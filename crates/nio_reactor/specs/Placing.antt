@@ -18,6 +18,8 @@ use Rattle.nio_serve.specs.Serving.{client_of, listener, target_of}
 use Rattle.nio_steps.specs.Names.{selector}
 use Rattle.nio_words.specs.Passes.{Holds, seen}
 use Rattle.nio_words.specs.declared.words.Pass.{Pass}
+use Rattle.nio_base.specs.Numbers.{first_channel}
+use Rattle.nio_base.specs.declared.numbers.ChanId.{ChanId}
 
 -- the limits of a table for so many workers
 abbrev pub table_for : ℕ → Limits
@@ -36,9 +38,9 @@ pub record HoldsAll (l : Limits) (pass : Pass) : Type 0 where
   pub legal : IsLegal l (seen pass)
   pub holds : (n : CallerNo) → n.0 < l.callers → Holds pass n
 
--- with which selectors this channel was registered, by these registrations in their order
-abbrev pub selectors_with : ChanNo → List (SelNo × ChanNo) → List SelNo
-selectors_with c registered = map (λ x. x.0) (filter (λ x. x.1.0 == c.0) registered)
+-- with which selectors a channel of this number was registered, by these registrations in their order
+abbrev pub selectors_with : ChanNo → List (SelNo × ChanId) → List SelNo
+selectors_with c registered = map (λ x. x.0) (filter (λ x. x.1.number.0 == c.0) registered)
 
 -- By these calls of the callers the channel was registered exactly once: by the caller of this number, with the
 -- selector of this number. No other caller registered it.
@@ -56,5 +58,5 @@ pub record IsPlaced (w : ℕ) (calls : CallerNo → List Made) (k : ℕ) : Type 
 pub record ArePlaced (w conns : ℕ) (history : List Event) : Type 0 where
   pub calls : CallerNo → List Made
   pub are : (n : CallerNo) → AreCallsOf (table_for w) (mine n history) (calls n)
-  pub acceptor : registrations (calls (caller 0)) ≡ (selector 0, listener) ∷ []
+  pub acceptor : registrations (calls (caller 0)) ≡ (selector 0, first_channel listener) ∷ []
   pub placed : (k : ℕ) → k < conns → IsPlaced w calls k

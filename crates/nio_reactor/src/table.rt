@@ -9,7 +9,7 @@ ghost use Rattle.nio_reactor.specs.Seats.{AreNewcomers, HaveDrawn, HaveSeats, Is
 ghost use Rattle.nio_reactor.specs.Seats.{deal_of};
 
 use crate::handed::LISTENER;
-use nio_base::{CallerNo, ChanNo, Kind, Limits};
+use nio_base::{CallerNo, ChanId, ChanNo, Kind, Limits};
 use nio_channel::open_channel;
 use nio_keys::find_selector;
 use nio_select::open_selector;
@@ -91,7 +91,7 @@ fn open_as(words: &Words, pass: &mut Pass, number: u32, kind: Kind) -> Result<()
     ensures { AreNewcomers words.now pass.new (limits_of words.now).callers }
 {
     match open_channel(words, pass, CallerNo(ACCEPTOR), kind) {
-        Ok(made) if made == ChanNo(number) => Ok(()),
+        Ok(made) if made == ChanId::first(ChanNo(number)) => Ok(()),
         Ok(_) | Err(_) => Err(AllocError),
     }
 }

@@ -84,7 +84,7 @@ pub(crate) fn make_step(w: &Words, p: &mut Pass, me: CallerNo, act: Act) -> Opti
         Act::SetMode(c, blocking, _) => {
             Some(Act::SetMode(c, blocking, w.set_mode(p, me, c, blocking)))
         }
-        Act::CloseBit(c, _) => Some(Act::CloseBit(c, w.close_bit(p, me, c))),
+        Act::CloseBit(c, from, _) => Some(Act::CloseBit(c, from, w.close_bit(p, me, c, from))),
         Act::ShutBit(s, _) => Some(Act::ShutBit(s, w.shut_bit(p, me, s))),
         Act::Enter(s, _) => Some(Act::Enter(s, w.enter(p, me, s))),
         Act::Pin(s, i, _) => Some(Act::Pin(s, i, w.pin(p, me, s, i))),
@@ -102,5 +102,6 @@ pub(crate) fn make_step(w: &Words, p: &mut Pass, me: CallerNo, act: Act) -> Opti
             Some(Act::PutFree(s, i))
         }
         Act::TakeFree(s, i, _) => Some(Act::TakeFree(s, i, w.take_free(p, me, s, i))),
+        Act::Reopen(c, from, _) => Some(Act::Reopen(c, from, w.reopen(p, me, c, from))),
     }
 }

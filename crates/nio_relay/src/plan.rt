@@ -1,4 +1,4 @@
-//! What a proxy is to serve, and what it has served.
+//! What a proxy and a relay of packets are to serve, and what a proxy has served.
 ghost use Rattle.std.specs.Prelude.{◌↔◌, IsTrue};
 
 use nio_base::Addr;
@@ -33,4 +33,17 @@ pub struct Served {
     pub connections: u32,
     /// How many of them had a fault.
     pub faults: u32,
+}
+
+/// What a relay of packets is to do.
+#[derive(Clone, Copy, Debug, PartialEq, Eq)]
+pub struct PacketPlan {
+    /// Where the client's packets come.
+    pub listen: Addr,
+    /// The address from which packets are sent to the target, and at which its answers come.
+    pub local: Addr,
+    /// The target.
+    pub target: Addr,
+    /// How many packets of the client are sent on, 1 to 1,000,000.
+    pub count: u32,
 }

@@ -5,7 +5,7 @@ use Rattle.nio_command.specs.Options.{Text}
 use Rattle.nio_command.specs.Words.{AsksForWay, AsksForWorkers, BeginsPackets, BeginsProxy, HasOptions}
 use Rattle.nio_command.specs.Words.{IsPacketsCommand}
 use Rattle.nio_command.specs.Words.{IsProxyCommand}
-use Rattle.nio_datagram.specs.declared.serving.PacketPlan.{PacketPlan}
+use Rattle.nio_relay.specs.declared.plan.PacketPlan.{PacketPlan}
 use Rattle.nio_command.specs.declared.command.Command.{Command}
 use Rattle.nio_command.specs.declared.command.Command.TheVariants.{Load, Packets, Proxy}
 use Rattle.nio_command.specs.declared.command.WordsError.{WordsError}

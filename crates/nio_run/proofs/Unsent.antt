@@ -6,7 +6,7 @@ use Rattle.nio_datagram.specs.Packets.{Traffic, no_traffic}
 use Rattle.nio_datagram.specs.Serving.{RelaysPackets, client_chan, target_chan}
 use Rattle.nio_datagram.specs.declared.net.Place.{Place}
 use Rattle.nio_datagram.specs.declared.net.Place.TheVariants.{Unbound}
-use Rattle.nio_datagram.specs.declared.serving.PacketPlan.{PacketPlan}
+use Rattle.nio_relay.specs.declared.plan.PacketPlan.{PacketPlan}
 use Rattle.nio_base.specs.declared.numbers.Addr.{Addr}
 use Rattle.nio_script.specs.declared.status.Status.TheVariants.{Memory}
 use Rattle.nio_run.specs.Packets.{DoesPackets}

@@ -8,7 +8,7 @@ use Rattle.nio_datagram.specs.Nets.{NoneFailed}
 use Rattle.nio_datagram.specs.Packets.{Traffic}
 use Rattle.nio_datagram.specs.Serving.{HasRelayed, LeavesNothing, NoneRose, OneRose, RelaysPackets}
 use Rattle.nio_datagram.specs.declared.net.Place.{Place}
-use Rattle.nio_datagram.specs.declared.serving.PacketPlan.{PacketPlan}
+use Rattle.nio_relay.specs.declared.plan.PacketPlan.{PacketPlan}
 use Rattle.nio_datagram.specs.declared.serving.PacketsServed.{PacketsServed}
 use Rattle.nio_script.specs.Output.{IsWritten, WritesPrefix}
 use Rattle.nio_script.specs.declared.status.Status.{Status}

@@ -1,13 +1,15 @@
 //! The command `packets`.
 ghost use Rattle.std.specs.Prelude.{◌≡◌, ◌≤◌};
 ghost use Rattle.nio_datagram.specs.Packets.{no_traffic};
-ghost use Rattle.nio_datagram.specs.Serving.{client_chan, target_chan, IsRelayable};
+ghost use Rattle.nio_datagram.specs.Serving.{client_chan, target_chan};
+ghost use Rattle.nio_relay.specs.Plan.{IsRelayable};
 ghost use Rattle.nio_datagram.specs.declared.net.Place.TheVariants as place_is;
 ghost use Rattle.nio_run.specs.Packets.{DoesPackets, sent_line};
 ghost use Rattle.nio_run.specs.Relays.{SaysLine};
 
 use nio_bytes::Sink;
-use nio_datagram::{PacketNet, PacketPlan, PacketServeError, PacketsServed, serve_packets};
+use nio_datagram::{PacketNet, PacketServeError, PacketsServed, serve_packets};
+use nio_relay::PacketPlan;
 use nio_script::{Status, write_out};
 use std::alloc::Global;
 use std::sync::Wait;

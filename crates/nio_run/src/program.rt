@@ -18,7 +18,7 @@ ghost use Rattle.nio_command.specs.Words.{IsProxyCommand, IsTimedCommand, SaysNo
 ghost use Rattle.nio_datagram.specs.Packets.{no_traffic};
 ghost use Rattle.nio_datagram.specs.Serving.{client_chan, target_chan};
 ghost use Rattle.nio_datagram.specs.declared.net.Place.TheVariants as place_is;
-ghost use Rattle.nio_datagram.specs.declared.serving.PacketPlan.{PacketPlan};
+ghost use Rattle.nio_relay.specs.declared.plan.PacketPlan.{PacketPlan};
 ghost use Rattle.nio_link.specs.Links.{IsUnused};
 ghost use Rattle.nio_link.specs.Places.{unused};
 ghost use Rattle.nio_race.specs.Does.{DoesRace};

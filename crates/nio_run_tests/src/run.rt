@@ -208,6 +208,19 @@ const HISTORIES: &[Row] = &[
         ..CHECK_FIRST
     },
     Row {
+        label: "channels_with_serials",
+        input: "1 t1 is-open c0.1 -> no-channel\n",
+        written: "legal 1\n",
+        ..CHECK
+    },
+    Row {
+        label: "channels_with_serials",
+        input: "1 t1 is-open c0.1 -> no-channel\n",
+        code: 3,
+        written: "bad line 1\n",
+        ..CHECK_FIRST
+    },
+    Row {
         label: "no_lines",
         input: "",
         written: "legal 0\n",

@@ -3,7 +3,8 @@ use Rattle.std.proofs.Common.{◌≡◌, ◌≢◌, ℕ, List, [], ◌∷◌, �
 use Rattle.std.specs.Fmt.{decimal}
 use Rattle.std.proofs.lemmas.List.{append_cancel_left, append_cancel_right}
 use Rattle.nio_language.specs.Calls.{IsLine}
-use Rattle.nio_language.proofs.OneReading.{cut_one, line_one}
+use Rattle.nio_language.proofs.Cuts.{cut_one}
+use Rattle.nio_language.proofs.OneReading.{line_one}
 use Rattle.nio_plain.specs.declared.rules.Rules.{Rules}
 use Rattle.nio_plain.specs.declared.rules.Rules.TheVariants.{First, Now}
 use Rattle.nio_script.specs.History.{Entry, IsEntry, AreEntries, no_lines, blank_line, entry_line, call_text}

@@ -1,5 +1,5 @@
 -- What puts the calls of a selection together.
-use Rattle.std.proofs.Common.{◌≡◌, ℕ, Bool, true, false, List, [], ◌∷◌, ap, sym, ◌∙◌, subst}
+use Rattle.std.proofs.Common.{◌≡◌, ℕ, Bool, true, false, [], ◌∷◌, ap, sym, ◌∙◌, subst}
 use Rattle.std.proofs.lemmas.Bool.{and_parts}
 use Rattle.nio_base.specs.declared.numbers.CallerNo.{CallerNo}
 use Rattle.nio_base.specs.declared.numbers.SelNo.{SelNo}
@@ -15,6 +15,7 @@ use Rattle.nio_steps.specs.Calls.{CallClause}
 use Rattle.nio_steps.specs.Plan.{Plan, reply, ◌>>=◌, ◌>>◌}
 use Rattle.nio_steps.specs.Runs.{Completes}
 use Rattle.nio_steps.specs.SelectCalls.{Selection, ToldReply, done, is_again, why_ended, end_selection, after_marks}
+use Rattle.nio_steps.specs.SelectCalls.{remove_all_cancelled}
 use Rattle.nio_steps.specs.Steps.{end_wake, give_turn}
 use Rattle.nio_steps.specs.declared.selected.Selected.{Selected}
 use Rattle.nio_words.specs.Passes.{IsReady, limits_of, seen, state_seen}
@@ -23,7 +24,6 @@ use Rattle.nio_words.specs.declared.words.Pass.{Pass}
 use Rattle.nio_words.specs.declared.words.Words.{Words}
 use Rattle.nio_select.specs.Begun.{HasBegun}
 use Rattle.nio_select.specs.InProgress.{Selects}
-use Rattle.nio_select.specs.Kept.{remove_kept}
 
 -- ---- who selects
 
@@ -44,20 +44,18 @@ begun_turn {p = p} {me = me} {s = s} here =
 
 -- ---- the end of a selection
 
-pub ended : {me : CallerNo} {s : SelNo} {kept : List ℕ} {found : GateWord} {v0 v1 v2 v3 : PassView}
-    (selection : Selection) (answer : Selected) → s ≡ selection.selector
-    → kept ≡ selection.kept → CallClause me (Completes (remove_kept s kept)) v0 v1 tt
+pub ended : {me : CallerNo} {s : SelNo} {found : GateWord} {v0 v1 v2 v3 : PassView} (selection : Selection)
+    (answer : Selected) → s ≡ selection.selector → CallClause me (Completes (remove_all_cancelled s)) v0 v1 tt
     → ActsClause me (EndWake s found ∷ []) v1 v2 → ActsClause me (GiveTurn s ∷ []) v2 v3
     → CallClause me (Completes (end_selection selection answer)) v0 v3 (done answer)
-ended {me = me} {s = s} {kept = kept} {v0 = v0} {v3 = v3} selection answer on is kept_removed ends gives =
-    subst (λ (s' : SelNo). CallClause me (Completes (removing s' selection.kept)) v0 v3 (done answer)) on
-    (subst (λ (kept' : List ℕ). CallClause me (Completes (removing s kept')) v0 v3 (done answer)) is
+ended {me = me} {s = s} {v0 = v0} {v3 = v3} selection answer on removed ends gives =
+    subst (λ (s' : SelNo). CallClause me (Completes (ending s')) v0 v3 (done answer)) on
     (returned
-    (ran_then (λ _. end_wake s >> (give_turn s >> reply (done answer))) kept_removed
-    (left_ask _ ends (left_ask _ gives (left_after gives))))))
+    (ran_then (λ _. end_wake s >> (give_turn s >> reply (done answer))) removed
+    (left_ask _ ends (left_ask _ gives (left_after gives)))))
   where
-    removing : SelNo → List ℕ → Plan ToldReply
-    removing s' kept' = remove_kept s' kept' >>= λ _. end_wake s' >> (give_turn s' >> reply (done answer))
+    ending : SelNo → Plan ToldReply
+    ending s' = remove_all_cancelled s' >>= λ _. end_wake s' >> (give_turn s' >> reply (done answer))
 
 -- after the marks the selection is over
 pub over : {me : CallerNo} {s : SelNo} {gate : GateWord} {interrupted : Bool} {answer : ToldReply}

@@ -1,10 +1,11 @@
 -- The indexes that a word shows as not free, from one to the next.
 use Rattle.std.proofs.Common.{◌≡◌, ℕ, zero, suc, ◌+◌, ◌-◌, ◌*◌, ◌/◌, ◌%◌, ◌^◌, ◌<◌, ◌≤◌, Bool, true, false, not, ◌&&◌}
-use Rattle.std.proofs.Common.{if◌then◌else◌, List, [], ◌∷◌, ◌++◌, refl, ap, sym, ◌∙◌}
+use Rattle.std.proofs.Common.{if◌then◌else◌, List, [], ◌∷◌, ◌++◌, length, drop, refl, ap, sym, ◌∙◌, append_assoc}
 use Rattle.std.proofs.Common.{arith, add-one, eq-eqb, ne_eqb, bit_and}
 use Rattle.std.specs.Prelude.{nat_lt}
 use Rattle.std.specs.Int.{bit_at, bit_not, trailing_zeros, w64}
 use Rattle.std.proofs.lemmas.Bool.{ltb-true, ltb-false, lt-ltb, le-ltb}
+use Rattle.std.proofs.Math.Seq.{drop-append_seam}
 use Rattle.std.proofs.lemmas.List.{append-nil}
 use Rattle.std.proofs.lemmas.Nat.{and_le_l}
 use Rattle.std.proofs.lemmas.Nat.Bits.{bit_at-zero, bit_at-lt, bit_at_not, bit_at-trailing_zeros}
@@ -65,9 +66,36 @@ none_between word j bound from to rise free =
     sym (ap (not_free word j bound) there)
     ∙ all_free_add_none word j bound from (to - from) (λ i above below. free i above (omega arith))
 
-pub none_from_start : (word j bound : ℕ) (xs : List ℕ) → xs ≡ xs ++ not_free word j bound 0
+-- one index more adds what it adds to the end
+one_more : (word j bound n : ℕ) → (last : List ℕ) × (not_free word j bound (suc n) ≡ not_free word j bound n ++ last)
 unfolding not_free
-none_from_start word j bound xs = sym (append-nil xs)
+one_more word j bound n = by_test (nat_lt (64 * j + n) bound && not (has_bit word n)) refl
+  where
+    by_test : (b : Bool) → (nat_lt (64 * j + n) bound && not (has_bit word n)) ≡ b → (last : List ℕ)
+        × (not_free word j bound (suc n) ≡ not_free word j bound n ++ last)
+    by_test true is = (
+      (64 * j + n) ∷ [],
+      ap (λ b. if b then not_free word j bound n ++ (64 * j + n) ∷ [] else not_free word j bound n) is,
+    )
+    by_test false is = (
+      [],
+      ap (λ b. if b then not_free word j bound n ++ (64 * j + n) ∷ [] else not_free word j bound n) is
+          ∙ sym (append-nil (not_free word j bound n)),
+    )
+
+-- so do some
+goes_on : (word j bound n m : ℕ) → (later : List ℕ) × (not_free word j bound (n + m) ≡ not_free word j bound n ++ later)
+goes_on word j bound n zero =
+    ([], ap (not_free word j bound) (omega arith) ∙ sym (append-nil (not_free word j bound n)))
+goes_on word j bound n (suc m) =
+    let rest = goes_on word j bound n m in
+    let more : n + suc m ≡ suc (n + m) = omega arith in
+    let last = one_more word j bound (n + m) in (
+      rest.0 ++ last.0,
+      ap (not_free word j bound) more
+          ∙ (last.1
+          ∙ (ap (λ xs. xs ++ last.0) rest.1 ∙ append_assoc (not_free word j bound n) rest.0 last.0)),
+    )
 
 -- ---- the word
 
@@ -203,20 +231,59 @@ found_next word passed rest fits some so_far =
 
 -- ---- from one index to the next
 
-pub no_more : (word j bound passed rest : ℕ) → AreLeft word passed rest → rest ≡ 0
+no_more : (word j bound passed rest : ℕ) → AreLeft word passed rest → rest ≡ 0
     → not_free word j bound 64 ≡ not_free word j bound passed
 no_more word j bound passed rest so_far none =
     none_between word j bound passed 64 so_far.inside
     (λ i above below. set_at word passed rest i so_far above below (ap (λ n. bit_at n i) none ∙ bit_at-zero i))
 
-pub next_below : (word j bound passed next : ℕ) → IsNext word passed next → 64 * j + next < bound
+next_below : (word j bound passed next : ℕ) → IsNext word passed next → 64 * j + next < bound
     → not_free word j bound (next + 1) ≡ not_free word j bound passed ++ (64 * j + next) ∷ []
 next_below word j bound passed next is below =
     not_free-below word j bound next is.clear (lt-ltb (64 * j + next) bound below)
     ∙ ap (λ xs. xs ++ (64 * j + next) ∷ []) (none_between word j bound passed next is.after is.before)
 
-pub next_above : (word j bound passed next : ℕ) → IsNext word passed next → bound ≤ 64 * j + next
+next_above : (word j bound passed next : ℕ) → IsNext word passed next → bound ≤ 64 * j + next
     → not_free word j bound (next + 1) ≡ not_free word j bound passed
 next_above word j bound passed next is above =
     not_free-above word j bound next (le-ltb (64 * j + next) bound above)
     ∙ none_between word j bound passed next is.after is.before
+
+-- ---- what is left of the list
+
+-- the indexes from `passed` on
+abbrev pub left_from : ℕ → ℕ → ℕ → ℕ → List ℕ
+left_from word j bound passed = drop (length (not_free word j bound passed)) (not_free word j bound 64)
+
+left_is : (word j bound passed : ℕ) (later : List ℕ) → not_free word j bound 64 ≡ not_free word j bound passed ++ later
+    → left_from word j bound passed ≡ later
+left_is word j bound passed later parts =
+    ap (drop (length (not_free word j bound passed))) parts ∙ drop-append_seam (not_free word j bound passed) later
+
+pub left_first : (word j bound : ℕ) → left_from word j bound 0 ≡ not_free word j bound 64
+unfolding not_free
+left_first word j bound = left_is word j bound 0 (not_free word j bound 64) refl
+
+pub left_below : (word j bound passed next : ℕ) → IsNext word passed next → 64 * j + next < bound
+    → left_from word j bound passed ≡ (64 * j + next) ∷ left_from word j bound (next + 1)
+left_below word j bound passed next is below =
+    let more = goes_on word j bound (next + 1) (64 - (next + 1)) in
+    let all : 64 ≡ next + 1 + (64 - (next + 1)) = omega (arith, is.inside) in
+    let parts : not_free word j bound 64 ≡ not_free word j bound (next + 1) ++ more.0 = ap (not_free word j bound) all
+    ∙ more.1 in
+    left_is word j bound passed ((64 * j + next) ∷ more.0)
+    (parts
+    ∙ (ap (λ xs. xs ++ more.0) (next_below word j bound passed next is below)
+    ∙ append_assoc (not_free word j bound passed) ((64 * j + next) ∷ []) more.0))
+    ∙ ap (λ xs. (64 * j + next) ∷ xs) (sym (left_is word j bound (next + 1) more.0 parts))
+
+pub left_above : (word j bound passed next : ℕ) → IsNext word passed next → bound ≤ 64 * j + next
+    → left_from word j bound passed ≡ left_from word j bound (next + 1)
+left_above word j bound passed next is above =
+    ap (λ xs. drop (length xs) (not_free word j bound 64)) (sym (next_above word j bound passed next is above))
+
+pub left_none : (word j bound passed rest : ℕ) → AreLeft word passed rest → rest ≡ 0
+    → left_from word j bound passed ≡ []
+left_none word j bound passed rest so_far none =
+    left_is word j bound passed []
+    (no_more word j bound passed rest so_far none ∙ sym (append-nil (not_free word j bound passed)))

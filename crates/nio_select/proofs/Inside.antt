@@ -1,8 +1,8 @@
--- What a selection in progress knows of its lists: they rise, and are within the limits.
+-- What a selection in progress knows of its looked list: it rises, and its indexes are within the limits.
 use Rattle.std.proofs.Common.{◌≡◌, ℕ, suc, ◌-◌, ◌<◌, ◌≤◌, List, [], ◌∷◌, ◌++◌, length, map, ap, sym, ◌∙◌, subst, arith}
 use Rattle.std.proofs.Common.{append_assoc}
-use Rattle.std.specs.List.{All, Contains}
-use Rattle.std.proofs.lemmas.List.Elements.{All-nil, All-cons, All-head, All-tail, All-weaker, All-contains}
+use Rattle.std.specs.List.{All}
+use Rattle.std.proofs.lemmas.List.Elements.{All-nil, All-cons, All-head, All-tail, All-weaker}
 use Rattle.nio_base.specs.Limits.{IsFit}
 use Rattle.nio_base.specs.declared.limits.Limits.{Limits}
 use Rattle.nio_base.specs.declared.numbers.CallerNo.{CallerNo}
@@ -18,7 +18,7 @@ use Rattle.nio_history.specs.declared.act.Act.TheVariants.{LookKeys}
 use Rattle.nio_history.specs.declared.event.Event.{Event}
 use Rattle.nio_steps.proofs.BeginLaws.{begin-parts}
 use Rattle.nio_steps.proofs.Lists.{pairs-head, pairs-tail}
-use Rattle.nio_steps.proofs.OrderLaws.{lists_in_order}
+use Rattle.nio_steps.proofs.OrderLaws.{looks_in_order}
 use Rattle.nio_steps.proofs.OwnActs.{cut_at}
 use Rattle.nio_steps.specs.Laws.{IsInOrder}
 use Rattle.nio_steps.specs.SelectCalls.{Selection}
@@ -47,12 +47,12 @@ bound_inside l n events selection legal begun =
     let s = selection.selector in
     let first = begin-parts s selection.mode begun.beginning selection begun.begins in
     let before = begun.earlier ++ (first.gate ∷ first.take ∷ first.look ∷ []) in
-    let later = (first.lists ++ first.over) ++ begun.since in
+    let later = first.over ++ begun.since in
     let act : first.keys ≡ LookKeys s selection.bound = keys-act s first.keys first.asks_keys
     ∙ ap (LookKeys s) (sym first.bound) in
     let acts : begun.beginning ≡ first.gate ∷ first.take ∷ first.look ∷ LookKeys s selection.bound
-    ∷ (first.lists ++ first.over)
-    = first.parts ∙ ap (λ x. first.gate ∷ first.take ∷ first.look ∷ x ∷ (first.lists ++ first.over)) act in
+    ∷ first.over
+    = first.parts ∙ ap (λ x. first.gate ∷ first.take ∷ first.look ∷ x ∷ first.over) act in
     let own : mine n events ≡ before ++ LookKeys s selection.bound ∷ later
     = begun.parts
     ∙ (ap (λ xs. begun.earlier ++ (xs ++ begun.since)) acts
@@ -66,7 +66,7 @@ bound_inside l n events selection legal begun =
     subst (λ (k : ℕ). k ≤ l.keys) (sym told)
     ((legal-within l cut.past (legal_beginning l cut.past (e ∷ cut.later) legal')).keys_high s.0)
 
--- ---- the lists
+-- ---- the looked list
 
 -- as many keys as there are indexes, at most
 few : (slots : List Slot) (low high : ℕ) → Rise slots → All (λ slot. low ≤ slot.key.index) slots
@@ -83,25 +83,16 @@ few (slot ∷ slots) low high rise above below =
 
 in_order : (pass : PassView) (me : CallerNo) (selection : Selection) → Selects pass me selection → IsInOrder selection
 in_order pass me selection selects =
-    lists_in_order selection.selector selection.mode selects.begun.beginning selection selects.begun.begins
+    looks_in_order selection.selector selection.mode selects.begun.beginning selection selects.begun.begins
 
--- the kept indexes are within the limits
-pub kept_inside : {w : Words} {p : Pass} {me : CallerNo} {selection : Selection} → IsReady w p me
-    → Selects (view w p) me selection
-    → All (λ i. i < (limits_of w).keys) selection.kept
-kept_inside {w = w} {p = p} {me = me} {selection = selection} ready selects =
-    let bound = bound_inside (limits_of w) me (seen p) selection ready.pass.legal selects.begun in
-    All-weaker (λ i. i < selection.bound) (λ i. i < (limits_of w).keys) (λ i below. omega arith) selection.kept
-    (in_order (view w p) me selection selects).below
-
--- so are those of the looked list
+-- the indexes of the looked list are within the limits
 pub looked_inside : {w : Words} {p : Pass} {me : CallerNo} {selection : Selection} → IsReady w p me
     → Selects (view w p) me selection
     → All (λ entry. entry.index < (limits_of w).keys) selection.looked
 looked_inside {w = w} {p = p} {me = me} {selection = selection} ready selects =
-    All-weaker (λ entry. Contains selection.kept entry.index) (λ entry. entry.index < (limits_of w).keys)
-    (λ entry there. All-contains (λ i. i < (limits_of w).keys) selection.kept entry.index
-    (kept_inside ready selects) there) selection.looked (in_order (view w p) me selection selects).kept
+    let bound = bound_inside (limits_of w) me (seen p) selection ready.pass.legal selects.begun in
+    All-weaker (λ entry. entry.index < selection.bound) (λ entry. entry.index < (limits_of w).keys)
+    (λ entry below. omega arith) selection.looked (in_order (view w p) me selection selects).below
 
 -- what holds of each key holds of each slot
 all_back : (P : LookedKey → Type 0) (slots : List Slot) → All P (map (λ (slot : Slot). slot.key) slots)

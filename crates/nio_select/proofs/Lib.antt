@@ -7,6 +7,7 @@ pub mod Inside
 pub mod Again
 pub mod Begun
 pub mod FreeBits
+pub mod OverWord
 pub mod Listed
 pub mod Renumbered
 pub mod Progress

@@ -1,45 +1,48 @@
--- The lists of a selection rise, as the calls that make them tell.
-use Rattle.std.proofs.Common.{ℕ, ◌<◌, List, sym, subst, map, length}
-use Rattle.std.specs.Prelude.{⊤, get_or}
+-- The looked list of a selection rises, as the steps that make it tell.
+use Rattle.std.proofs.Common.{ℕ, ◌<◌, false, Ok, None, List, [], ◌∷◌, refl, sym, subst, map, length}
+use Rattle.std.specs.Prelude.{get_or}
 use Rattle.std.proofs.Math.ListN.{get_or-map}
 use Rattle.std.proofs.lemmas.List.{length-map}
-use Rattle.std.specs.List.{All, AllPairs}
+use Rattle.std.specs.List.{AllPairs}
 use Rattle.nio_base.specs.declared.numbers.CallerNo.{CallerNo}
 use Rattle.nio_base.specs.declared.numbers.SelNo.{SelNo}
 use Rattle.nio_history.specs.PassViews.{PassView, done_between}
-use Rattle.nio_steps.proofs.EachLaws.{each_run}
-use Rattle.nio_steps.proofs.OrderLaws.{IsListed, list-rises, Rises, over-rises}
+use Rattle.nio_history.specs.declared.act.Act.{Act}
+use Rattle.nio_history.specs.declared.act.Act.TheVariants.{LookGate, TakeTurn, BeginLook, LookKeys}
+use Rattle.nio_history.specs.declared.found.GateWord.{GateWord}
+use Rattle.nio_history.specs.declared.found.Mode.{Mode}
+use Rattle.nio_steps.proofs.OrderLaws.{looks_in_order}
+use Rattle.nio_steps.proofs.RunLaws.{follows_bind}
 use Rattle.nio_steps.specs.Calls.{CallClause}
-use Rattle.nio_steps.specs.ChannelCalls.{words_below}
+use Rattle.nio_steps.specs.Plan.{reply}
 use Rattle.nio_steps.specs.Runs.{Completes}
-use Rattle.nio_steps.specs.SelectCalls.{LookedOver, list_below, look_over}
-use Rattle.nio_steps.specs.Sweeps.{sweep_over}
-use Rattle.nio_select.specs.Lists.{nothing_found}
+use Rattle.nio_steps.specs.SelectCalls.{Selection, Begins, over_listed, look_over, try_begin_plan}
+use Rattle.nio_steps.specs.declared.looked.LookedKey.{LookedKey}
 
-listed : (s : SelNo) (bound : ℕ) {me : CallerNo} {v0 v1 : PassView} {found : List ℕ}
-    → CallClause me (Completes (list_below s bound)) v0 v1 found
-    → IsListed bound (words_below bound) found
-listed s bound {me = me} {v0 = v0} {v1 = v1} {found = found} call =
-    (each_run (λ _. ⊤) (IsListed bound (words_below bound)) (list_below s bound) (done_between me v0 v1) found
-    (list-rises s bound) call.shape).1
+-- the same steps after a beginning up to them
+abbrev begun_with : SelNo → ℕ → List Act → List Act
+begun_with s bound over =
+    let unshut : GateWord = record { woken = false; shut = false } in
+    LookGate s unshut ∷ TakeTurn s None ∷ BeginLook s unshut ∷ LookKeys s bound ∷ over
 
-pub listed_below : (s : SelNo) (bound : ℕ) {me : CallerNo} {v0 v1 : PassView} {found : List ℕ}
-    → CallClause me (Completes (list_below s bound)) v0 v1 found
-    → All (λ i. i < bound) found
-listed_below s bound call = (listed s bound call).1
+abbrev selection_of : SelNo → ℕ → List LookedKey → Selection
+selection_of s bound looked = record { selector = s; mode = Mode.Wait; bound = bound; looked = looked }
 
-pub listed_rise : (s : SelNo) (bound : ℕ) {me : CallerNo} {v0 v1 : PassView} {found : List ℕ}
-    → CallClause me (Completes (list_below s bound)) v0 v1 found
-    → AllPairs (λ i j. i < j) found
-listed_rise s bound call = (listed s bound call).0.rising
+begun : (s : SelNo) (bound : ℕ) (over : List Act) (looked : List LookedKey)
+    → Completes (over_listed s bound (look_over s) []) over looked
+    → Begins s Mode.Wait (begun_with s bound over) (Ok (selection_of s bound looked))
+unfolding try_begin_plan
+begun s bound over looked run =
+    let rest = follows_bind (over_listed s bound (look_over s) []) (λ found. reply (Ok (selection_of s bound found))) over
+    (reply looked) run in (refl, (refl, (refl, (refl, rest))))
 
-pub looked_rise : (s : SelNo) (over : List ℕ) {me : CallerNo} {v0 v1 : PassView} {found : LookedOver}
-    → AllPairs (λ i j. i < j) over
-    → CallClause me (Completes (sweep_over over (look_over s) nothing_found)) v0 v1 found
-    → AllPairs (λ x y. x.index < y.index) found.looked
-looked_rise s over {me = me} {v0 = v0} {v1 = v1} {found = found} rising call =
-    (each_run (λ _. ⊤) (Rises over) (sweep_over over (look_over s) nothing_found) (done_between me v0 v1) found
-    (over-rises s over rising) call.shape).1.looked_rise
+pub looked_rise : (s : SelNo) (bound : ℕ) {me : CallerNo} {v0 v1 : PassView} {looked : List LookedKey}
+    → CallClause me (Completes (over_listed s bound (look_over s) [])) v0 v1 looked
+    → AllPairs (λ x y. x.index < y.index) looked
+looked_rise s bound {me = me} {v0 = v0} {v1 = v1} {looked = looked} call =
+    let over = done_between me v0 v1 in
+    (looks_in_order s Mode.Wait (begun_with s bound over) (selection_of s bound looked)
+    (begun s bound over looked call.shape)).rise
 
 -- what holds of each two of the values holds of those that they are the values of
 pub pairs_back : {A B : Type 0} (f : A → B) (R : B → B → Type 0) (xs : List A) → AllPairs R (map f xs)

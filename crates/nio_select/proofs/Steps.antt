@@ -11,18 +11,20 @@ use Rattle.nio_history.specs.Answers.{count_below}
 use Rattle.nio_history.specs.Histories.{state_after, mine, event_of, IsLegal}
 use Rattle.nio_history.specs.OwnEvents.{has, count, gives_turn}
 use Rattle.nio_history.specs.PassViews.{done_between}
-use Rattle.nio_history.specs.Sets.{was_removed}
+use Rattle.nio_history.specs.Sets.{was_published, was_cancelled, was_removed}
 use Rattle.nio_history.specs.Turns.{removes_on}
 use Rattle.nio_history.specs.declared.act.Act.{Act}
-use Rattle.nio_history.specs.declared.act.Act.TheVariants.{BeginLook, EndWake}
+use Rattle.nio_history.specs.declared.act.Act.TheVariants.{BeginLook, LookKeys}
 use Rattle.nio_history.specs.declared.event.Event.{Event}
 use Rattle.nio_history.proofs.OneMore.{mine-append}
-use Rattle.nio_steps.specs.Bound.{disturbs, finds_listed, IsWhole, SelectionIsBounded}
+use Rattle.nio_steps.proofs.OwnActs.{cut_at}
+use Rattle.nio_steps.specs.Bound.{unselects, finds_listed, count_listed, IsWholeSelection, SelectionIsBounded}
 use Rattle.nio_steps.specs.ChannelCalls.{words_below}
-use Rattle.nio_steps.specs.Laws.{CancelledKeysGo}
+use Rattle.nio_steps.specs.Laws.{CancelledKeysGo, CancelledKeysGoAtEnd}
 use Rattle.nio_steps.specs.SelectCalls.{Begins, Tells, done}
 use Rattle.nio_select.proofs.GoneOn.{done_in, mine-around}
-use Rattle.nio_select.specs.Laws.{CancelledKeysAreGone, CallsAreBounded}
+use Rattle.nio_select.proofs.Windows.{told-mark}
+use Rattle.nio_select.specs.Laws.{CancelledKeysAreGone, CancelledKeysAreGoneAtEnd, EndsFindHigh, CallsAreBounded}
 
 -- ---- cancelled keys
 
@@ -37,6 +39,42 @@ keys_are_gone law old new me s mode selection i serial call published cancelled 
     × All (λ entry. ¬ ((entry.index ≡ i) × (entry.serial ≡ serial))) selection.looked) parts
     (law old.limits me old.seen later s mode selection i serial (subst (IsLegal old.limits) (sym parts) clause.legal)
     begins published cancelled below)
+
+pub keys_are_gone_at_end : CancelledKeysGoAtEnd → CancelledKeysAreGoneAtEnd
+keys_are_gone_at_end law old new me selection poll answer mark i serial past call finds published cancelled below =
+    let s = selection.selector in
+    let looked = finds.after.0 in
+    let e = event_of me (LookKeys s mark) in
+    let in_call = looked ++ e ∷ finds.later in
+    let whole : old.seen ++ in_call ≡ new.seen
+    = sym (append_assoc old.seen looked (e ∷ finds.later))
+    ∙ (ap (λ events. events ++ e ∷ finds.later) finds.after.1 ∙ sym finds.parts) in
+    let legal : IsLegal old.limits (old.seen ++ in_call) = subst (IsLegal old.limits)
+    (sym whole) call.acts.history.legal in
+    let run = subst (λ acts. Tells selection poll acts (done answer)) (done_in me old new in_call whole) call.shape in
+    subst (λ events. IsTrue (was_removed ((state_after events).key s.0 i) serial)) whole
+    (law old.limits me old.seen looked finds.later selection poll answer mark i serial legal run
+    (subst (λ events. IsTrue (was_published ((state_after events).key s.0 i) serial)) (sym finds.after.1) published)
+    (subst (λ events. IsTrue (was_cancelled ((state_after events).key s.0 i) serial)) (sym finds.after.1) cancelled)
+    below)
+
+pub ends_find_high : EndsFindHigh
+ends_find_high old new me selection poll answer call =
+    let s = selection.selector in
+    let more = call.acts.history.goes_on in
+    let look = told-mark selection poll (done_between me old new) answer call.shape in
+    let cut = cut_at me more.0 look.before (LookKeys s look.mark) look.later
+    (sym (done_in me old new more.0 more.1) ∙ look.parts) in
+    let e = event_of me (LookKeys s look.mark) in (
+      look.mark,
+      old.seen ++ cut.past,
+      record {
+        later = cut.later;
+        parts = sym more.1
+            ∙ (ap (λ events. old.seen ++ events) cut.parts ∙ sym (append_assoc old.seen cut.past (e ∷ cut.later)));
+        after = (cut.past, refl);
+      },
+    )
 
 -- ---- a bound on the steps
 
@@ -59,8 +97,18 @@ count_below-le (suc n) p q allows = by_test (p n) refl (count_below-le n p q all
         let here : one (p n) ≡ one false = ap one is in
         omega (arith, here, rest)
 
+-- some of these acts found no more indexes not free than all of them
+fewer_listed : (s : SelNo) (mark : ℕ) (before : List Act) (act : Act) (later all : List Act)
+    → all ≡ before ++ act ∷ later → count_listed s mark later ≤ count_listed s mark all
+fewer_listed s mark before act later all parts =
+    count_below-le mark (λ k. has (finds_listed s.0 k) later) (λ k. has (finds_listed s.0 k) all)
+    (λ k there. ap (has (finds_listed s.0 k)) parts
+    ∙ (list_any-append (finds_listed s.0 k) before (act ∷ later)
+    ∙ or_right (has (finds_listed s.0 k) before) (has (finds_listed s.0 k) (act ∷ later))
+    (or_right (finds_listed s.0 k act) (has (finds_listed s.0 k) later) there)))
+
 pub calls_are_bounded : SelectionIsBounded → CallsAreBounded
-calls_are_bounded law me before_begin after_begin before_told after_told selection poll answer window fit is its =
+calls_are_bounded law me before_begin after_begin before_told after_told selection poll answer mark window fit is its =
     bounded
   where
     s : SelNo
@@ -70,7 +118,7 @@ calls_are_bounded law me before_begin after_begin before_told after_told selecti
     look = BeginLook s its.found
 
     ends : Act
-    ends = EndWake s its.woken
+    ends = LookKeys s mark
 
     e : Event
     e = event_of me look
@@ -141,7 +189,7 @@ calls_are_bounded law me before_begin after_begin before_told after_told selecti
     window_acts =
         ap (mine me) window_is ∙ (mine-append me b (m ++ d) ∙ ap (λ acts. second ++ acts) (mine-append me m d))
 
-    whole : IsWhole selection poll answer its.found its.woken first second between third fourth
+    whole : IsWholeSelection selection poll answer its.found mark first second between third fourth
     whole = record {
       begins = subst (λ acts. Begins s selection.mode acts (Ok selection)) begin_is is.begins.shape;
       tells = subst (λ acts. Tells selection poll acts (done answer)) told_is is.tells.shape;
@@ -150,26 +198,24 @@ calls_are_bounded law me before_begin after_begin before_told after_told selecti
     }
 
     at_most : length (first ++ look ∷ second) + length (third ++ ends ∷ fourth)
-        ≤ 8 + words_below selection.bound + 6 * count_below selection.bound (λ k. has (finds_listed s.0 k) second)
-        + count (disturbs s.0 selection.bound) (map (λ x. x.act) window)
+        ≤ 9 + words_below selection.bound + words_below mark + 4 * count_listed s selection.bound second
+        + 3 * count_listed s mark fourth + count (unselects s.0 selection.bound) (map (λ x. x.act) window)
     at_most =
-        law before_told.limits me its.past window its.rest selection poll answer its.found its.woken first second
-        between third fourth
+        law before_told.limits me its.past window its.rest selection poll answer its.found mark first second between
+        third fourth
         (subst IsFit is.tells.acts.limits fit)
         (subst (IsLegal before_told.limits) its.parts is.tells.acts.history.legal) window_acts whole
 
-    found_fewer : count_below selection.bound (λ k. has (finds_listed s.0 k) second) ≤ count_below selection.bound
-        (λ k. has (finds_listed s.0 k) (done_between me before_begin after_begin))
-    found_fewer =
-        count_below-le selection.bound (λ k. has (finds_listed s.0 k) second)
-        (λ k. has (finds_listed s.0 k) (done_between me before_begin after_begin))
-        (λ k there. ap (has (finds_listed s.0 k)) begin_is
-        ∙ (list_any-append (finds_listed s.0 k) first (look ∷ second)
-        ∙ or_right (has (finds_listed s.0 k) first) (has (finds_listed s.0 k) (look ∷ second))
-        (or_right (finds_listed s.0 k look) (has (finds_listed s.0 k) second) there)))
+    found_fewer : count_listed s selection.bound second
+        ≤ count_listed s selection.bound (done_between me before_begin after_begin)
+    found_fewer = fewer_listed s selection.bound first look second (done_between me before_begin after_begin) begin_is
+
+    found_fewer_at_end : count_listed s mark fourth ≤ count_listed s mark (done_between me before_told after_told)
+    found_fewer_at_end = fewer_listed s mark third ends fourth (done_between me before_told after_told) told_is
 
     bounded : length (done_between me before_begin after_begin) + length (done_between me before_told after_told)
-        ≤ 8 + words_below selection.bound + 6 * count_below selection.bound
-        (λ k. has (finds_listed s.0 k) (done_between me before_begin after_begin))
-        + count (disturbs s.0 selection.bound) (map (λ x. x.act) window)
-    bounded = omega (arith, ap length begin_is, ap length told_is, at_most, found_fewer)
+        ≤ 9 + words_below selection.bound + words_below mark
+        + 4 * count_listed s selection.bound (done_between me before_begin after_begin)
+        + 3 * count_listed s mark (done_between me before_told after_told)
+        + count (unselects s.0 selection.bound) (map (λ x. x.act) window)
+    bounded = omega (arith, ap length begin_is, ap length told_is, at_most, found_fewer, found_fewer_at_end)

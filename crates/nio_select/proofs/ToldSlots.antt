@@ -24,7 +24,7 @@ use Rattle.nio_steps.specs.Calls.{CallClause, PartClause}
 use Rattle.nio_steps.specs.Runs.{Completes}
 use Rattle.nio_steps.proofs.Lists.{pairs-head, pairs-tail}
 use Rattle.nio_steps.specs.Plan.{Plan, reply, ◌>>=◌}
-use Rattle.nio_steps.specs.SelectCalls.{told_of, mark_told, mark_entry}
+use Rattle.nio_steps.specs.SelectCalls.{told_at, mark_told, mark_entry}
 use Rattle.nio_steps.specs.Sweeps.{sweep_over}
 use Rattle.nio_steps.specs.declared.looked.LookedKey.{LookedKey}
 use Rattle.nio_select.specs.Asked.{no_entry}
@@ -110,17 +110,17 @@ one_touched pair (slot ∷ slots) (suc at) d rise within here =
     cc
 
 -- what pairs tell, and one pair more
-told_of-more : (pairs : List (ℕ × ℕ)) (pair : ℕ × ℕ) (i : ℕ)
-    → told_of (pairs ++ pair ∷ []) i ≡ (if pair.0 == i then bit_or (told_of pairs i) pair.1 else told_of pairs i)
-told_of-more pairs pair i = fold-append (λ bits p. if p.0 == i then bit_or bits p.1 else bits) 0 pairs (pair ∷ [])
+told_at-more : (pairs : List (ℕ × ℕ)) (pair : ℕ × ℕ) (i : ℕ)
+    → told_at (pairs ++ pair ∷ []) i ≡ (if pair.0 == i then bit_or (told_at pairs i) pair.1 else told_at pairs i)
+told_at-more pairs pair i = fold-append (λ bits p. if p.0 == i then bit_or bits p.1 else bits) 0 pairs (pair ∷ [])
 
 pub told_slots-more : (pairs : List (ℕ × ℕ)) (pair : ℕ × ℕ) (slots : List Slot)
     → told_once_more pair (told_slots pairs slots) ≡ told_slots (pairs ++ pair ∷ []) slots
 told_slots-more pairs pair [] = refl
 told_slots-more pairs pair (slot ∷ slots) =
-    let first : with_pair pair (with_told slot (told_of pairs slot.key.index))
-    ≡ with_told slot (told_of (pairs ++ pair ∷ []) slot.key.index) =
-    ap (with_told slot) (sym (told_of-more pairs pair slot.key.index)) in
+    let first : with_pair pair (with_told slot (told_at pairs slot.key.index))
+    ≡ with_told slot (told_at (pairs ++ pair ∷ []) slot.key.index) =
+    ap (with_told slot) (sym (told_at-more pairs pair slot.key.index)) in
     let later : told_once_more pair (told_slots pairs slots) ≡ told_slots (pairs ++ pair ∷ []) slots =
     told_slots-more pairs pair slots in
     cc
@@ -162,7 +162,7 @@ told_nowhere slots slice pair seen others =
 pub told_slots-rise : (pairs : List (ℕ × ℕ)) (slots : List Slot) → Rise slots → Rise (told_slots pairs slots)
 told_slots-rise pairs slots rise i j d before within =
     let within' : j < length slots = subst (λ (n : ℕ). j < n)
-    (length-map slots (λ (slot : Slot). with_told slot (told_of pairs slot.key.index))) within in
+    (length-map slots (λ (slot : Slot). with_told slot (told_at pairs slot.key.index))) within in
     let earlier : i < length slots = omega arith in
     subst (λ (n : ℕ). n < (get_or (told_slots pairs slots) j d).key.index) (sym (index_at pairs slots i d earlier))
     (subst (λ (n : ℕ). (get_or slots i d).key.index < n) (sym (index_at pairs slots j d within'))

@@ -1,28 +1,25 @@
--- The look with which a selection begins and the step that ends the wakeup, and what happens in between.
-use Rattle.std.proofs.Common.{◌≡◌, Ok, List, [], ◌∷◌, ◌++◌, refl, ap, sym, ◌∙◌, append_assoc}
-use Rattle.std.specs.Prelude.{⊤}
+-- The look with which a selection begins and the look at the high-water mark at its end, and what happens in between.
+use Rattle.std.proofs.Common.{◌≡◌, ℕ, Ok, List, [], ◌∷◌, ◌++◌, refl, ap, sym, ◌∙◌, append_assoc}
 use Rattle.nio_base.specs.declared.numbers.SelNo.{SelNo}
 use Rattle.nio_history.specs.Histories.{event_of}
 use Rattle.nio_history.specs.PassViews.{done_between}
-use Rattle.nio_history.specs.Questions.{Question, question_of, answer_of}
+use Rattle.nio_history.specs.Questions.{answer_of}
 use Rattle.nio_history.specs.declared.act.Act.{Act}
-use Rattle.nio_history.specs.declared.act.Act.TheVariants.{BeginLook, EndWake}
+use Rattle.nio_history.specs.declared.act.Act.TheVariants.{BeginLook, LookKeys}
 use Rattle.nio_history.specs.declared.event.Event.{Event}
 use Rattle.nio_history.specs.declared.found.GateWord.{GateWord}
 use Rattle.nio_steps.proofs.BeginLaws.{begin-parts}
 use Rattle.nio_steps.proofs.OwnActs.{Cut, cut_at}
 use Rattle.nio_steps.proofs.StandLaws.{look-act}
-use Rattle.nio_steps.proofs.Walks.{Always, always_run, always_bind, always_if, always_any}
-use Rattle.nio_steps.specs.Plan.{reply}
-use Rattle.nio_steps.specs.SelectCalls.{Selection, Begins, Poll, Tells, ToldReply, done, again, told_plan, after_marks}
-use Rattle.nio_steps.specs.SelectCalls.{end_selection, mark_entry, remove_if_cancelled}
-use Rattle.nio_steps.specs.Steps.{gate_in}
-use Rattle.nio_steps.specs.Sweeps.{sweep_over}
+use Rattle.nio_steps.proofs.ToldParts.{ended-parts}
+use Rattle.nio_steps.specs.SelectCalls.{Selection, Begins, Poll, Tells, done}
+use Rattle.nio_steps.specs.Steps.{gate_in, number_in}
 use Rattle.nio_steps.specs.declared.selected.Selected.{Selected}
 use Rattle.nio_select.proofs.GoneOn.{done_in}
+use Rattle.nio_select.proofs.Inside.{keys-act}
 use Rattle.nio_select.specs.Laws.{SelectionsHaveWindows, IsWindow}
 
--- ---- the two steps in the acts of the two calls
+-- ---- the two looks in the acts of the two calls
 
 record HasLook (s : SelNo) (acts : List Act) : Type 0 where
   before : List Act
@@ -38,59 +35,38 @@ begin-look selection acts run =
     record {
       before = first.gate ∷ first.take ∷ [];
       found = gate_in (answer_of first.look);
-      later = first.keys ∷ (first.lists ++ first.over);
+      later = first.keys ∷ first.over;
       parts = first.parts
-          ∙ ap (λ x. first.gate ∷ first.take ∷ x ∷ first.keys ∷ (first.lists ++ first.over))
+          ∙ ap (λ x. first.gate ∷ first.take ∷ x ∷ first.keys ∷ first.over)
           (look-act s first.look first.asks_look);
     }
 
-record HasEnd (s : SelNo) (acts : List Act) : Type 0 where
-  before : List Act
-  woken : GateWord
-  later : List Act
-  parts : acts ≡ before ++ EndWake s woken ∷ later
+-- the look at the keys' high-water mark at the end
+pub record HasMark (s : SelNo) (acts : List Act) : Type 0 where
+  pub before : List Act
+  pub mark : ℕ
+  pub later : List Act
+  pub parts : acts ≡ before ++ LookKeys s mark ∷ later
 
-end-act : (s : SelNo) (act : Act) → question_of act ≡ Question.end_wake s → act ≡ EndWake s (gate_in (answer_of act))
-end-act s (EndWake s' found) asks = cc asks
-end-act s _ asks = absurd (cc asks)
-
-module _ (selection : Selection) (poll : Poll) where
-  abbrev IsEnded : List Act → ToldReply → Type 0
-  IsEnded acts (done answer) = HasEnd selection.selector acts
-  IsEnded acts (again next) = ⊤
-
-  told-ends : Always IsEnded (told_plan selection poll.pairs poll.elapsed)
-  unfolding told_plan
-  told-ends =
-      let s = selection.selector in
-      always_bind (λ _ _. ⊤) IsEnded (sweep_over selection.looked (mark_entry s poll.pairs) 0)
-      (after_marks selection poll.elapsed)
-      (always_any (sweep_over selection.looked (mark_entry s poll.pairs) 0))
-      (λ marks number _. λ gate asks_gate. λ status asks_status.
-      always_if (λ xs r. IsEnded (marks ++ gate ∷ status ∷ xs) r) _ (reply (again selection))
-      (end_selection selection _)
-      (λ _. tt)
-      (λ _. always_bind (λ _ _. ⊤) (λ xs r. IsEnded (marks ++ gate ∷ status ∷ xs) r)
-      (sweep_over selection.kept (λ i _. remove_if_cancelled s i) tt) _
-      (always_any (sweep_over selection.kept (λ i _. remove_if_cancelled s i) tt))
-      (λ sweeps _ _. λ wake asks_wake. λ give asks_give. record {
-        before = marks ++ gate ∷ status ∷ sweeps;
-        woken = gate_in (answer_of wake);
-        later = give ∷ [];
-        parts = sym (append_assoc marks (gate ∷ status ∷ sweeps) (wake ∷ give ∷ []))
-            ∙ ap (λ x. (marks ++ gate ∷ status ∷ sweeps) ++ x ∷ give ∷ []) (end-act s wake asks_wake);
-      })))
-
-told-end : (selection : Selection) (poll : Poll) (acts : List Act) (answer : Selected)
-    → Tells selection poll acts (done answer) → HasEnd selection.selector acts
-told-end selection poll acts answer run =
-    always_run (IsEnded selection poll) (told_plan selection poll.pairs poll.elapsed) acts (done answer)
-    (told-ends selection poll) run
+pub told-mark : (selection : Selection) (poll : Poll) (acts : List Act) (answer : Selected)
+    → Tells selection poll acts (done answer) → HasMark selection.selector acts
+told-mark selection poll acts answer run =
+    let s = selection.selector in
+    let ended = ended-parts selection poll acts answer run in
+    let before = ended.marks ++ ended.gate ∷ ended.status ∷ [] in
+    let later = ended.sweeps ++ ended.wake ∷ ended.gives ∷ [] in
+    record {
+      before = before;
+      mark = number_in (answer_of ended.keys);
+      later = later;
+      parts = ended.parts ∙ ap (λ act. before ++ act ∷ later) (keys-act s ended.keys ended.asks_keys);
+    }
 
 -- ---- the window
 
 pub selections_have_windows : SelectionsHaveWindows
-selections_have_windows me before_begin after_begin before_told after_told selection poll answer is = (window, it)
+selections_have_windows me before_begin after_begin before_told after_told selection poll answer is =
+    (ends.mark, window, it)
   where
     s : SelNo
     s = selection.selector
@@ -98,14 +74,14 @@ selections_have_windows me before_begin after_begin before_told after_told selec
     look : HasLook s (done_between me before_begin after_begin)
     look = begin-look selection (done_between me before_begin after_begin) is.begins.shape
 
-    ends : HasEnd s (done_between me before_told after_told)
-    ends = told-end selection poll (done_between me before_told after_told) answer is.tells.shape
+    ends : HasMark s (done_between me before_told after_told)
+    ends = told-mark selection poll (done_between me before_told after_told) answer is.tells.shape
 
     e : Event
     e = event_of me (BeginLook s look.found)
 
     e' : Event
-    e' = event_of me (EndWake s ends.woken)
+    e' = event_of me (LookKeys s ends.mark)
 
     in_begin : List Event
     in_begin = is.begins.acts.history.goes_on.0
@@ -123,8 +99,8 @@ selections_have_windows me before_begin after_begin before_told after_told selec
     first = cut_at me in_begin look.before (BeginLook s look.found) look.later
         (sym (done_in me before_begin after_begin in_begin begin_parts) ∙ look.parts)
 
-    second : Cut me in_told ends.before (EndWake s ends.woken) ends.later
-    second = cut_at me in_told ends.before (EndWake s ends.woken) ends.later
+    second : Cut me in_told ends.before (LookKeys s ends.mark) ends.later
+    second = cut_at me in_told ends.before (LookKeys s ends.mark) ends.later
         (sym (done_in me before_told after_told in_told told_parts) ∙ ends.parts)
 
     between : List Event
@@ -149,11 +125,10 @@ selections_have_windows me before_begin after_begin before_told after_told selec
         ∙ (ap (λ events. events ++ (between ++ second.past)) (sym begins_before)
         ∙ (append_assoc (past ++ e ∷ []) first.later (between ++ second.past) ∙ append_assoc past (e ∷ []) window)))
 
-    it : IsWindow me before_begin after_begin before_told after_told s window
+    it : IsWindow me before_begin after_begin before_told after_told s ends.mark window
     it = record {
       past = past;
       found = look.found;
-      woken = ends.woken;
       rest = second.later;
       parts = sym told_parts
           ∙ (ap (λ events. before_told.seen ++ events) second.parts

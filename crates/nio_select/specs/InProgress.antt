@@ -23,7 +23,7 @@ pub record Selects (pass : PassView) (me : CallerNo) (selection : Selection) : T
   pub begun : IsBegun (mine me pass.seen) selection
 
 -- the caller shut the selector
-pub record Closes (pass : PassView) (me : CallerNo) (s : SelNo) : Type 0 where
+pub record HasShut (pass : PassView) (me : CallerNo) (s : SelNo) : Type 0 where
   pub inside : IsSelector pass.limits s
   pub closing : IsClosing (mine me pass.seen) s
 

@@ -6,17 +6,16 @@ use mathlib.Core.List.{IsPrefix}
 use Rattle.nio_base.specs.Limits.{IsFit}
 use Rattle.nio_base.specs.declared.numbers.CallerNo.{CallerNo}
 use Rattle.nio_base.specs.declared.numbers.SelNo.{SelNo}
-use Rattle.nio_history.specs.Answers.{count_below}
 use Rattle.nio_history.specs.Histories.{state_after, event_of, IsLegal}
 use Rattle.nio_history.specs.OwnEvents.{has, count, gives_turn}
 use Rattle.nio_history.specs.PassViews.{PassView, known, done_between}
 use Rattle.nio_history.specs.Sets.{was_claimed, was_published, was_cancelled, was_removed}
 use Rattle.nio_history.specs.Turns.{removes_on, selects_on}
-use Rattle.nio_history.specs.declared.act.Act.TheVariants.{TakeTurn, BeginLook, EndWake, LookKeys}
+use Rattle.nio_history.specs.declared.act.Act.TheVariants.{TakeTurn, BeginLook, LookKeys}
 use Rattle.nio_history.specs.declared.event.Event.{Event}
 use Rattle.nio_history.specs.declared.found.GateWord.{GateWord}
 use Rattle.nio_history.specs.declared.found.Mode.{Mode}
-use Rattle.nio_steps.specs.Bound.{disturbs, finds_listed}
+use Rattle.nio_steps.specs.Bound.{unselects, count_listed}
 use Rattle.nio_steps.specs.Calls.{CallClause}
 use Rattle.nio_steps.specs.ChannelCalls.{words_below}
 use Rattle.nio_steps.specs.Runs.{Completes}
@@ -38,6 +37,31 @@ CancelledKeysAreGone =
     → IsTrue (was_removed ((known new).key s.0 i) serial)
     × All (λ entry. ¬ ((entry.index ≡ i) × (entry.serial ≡ serial))) selection.looked
 
+-- between two moments of a pass the caller found `mark` as the keys' high-water mark, when `past` had happened
+pub record FindsHigh (me : CallerNo) (old new : PassView) (s : SelNo) (mark : ℕ) (past : List Event) : Type 0 where
+  pub later : List Event
+  pub parts : new.seen ≡ past ++ event_of me (LookKeys s mark) ∷ later
+  pub after : IsPrefix old.seen past
+
+-- After a `told` that ends its selection each key is removed whose index is below the high-water mark that it found, and
+-- that was published and cancelled before that look: also one that was registered since the selection began.
+abbrev pub CancelledKeysAreGoneAtEnd : Type 0
+CancelledKeysAreGoneAtEnd =
+    (old new : PassView) (me : CallerNo) (selection : Selection) (poll : Poll) (answer : Selected)
+    (mark i serial : ℕ) (past : List Event)
+    → let s = selection.selector in
+    CallClause me (Tells selection poll) old new (done answer) → FindsHigh me old new s mark past
+    → IsTrue (was_published ((state_after past).key s.0 i) serial)
+    → IsTrue (was_cancelled ((state_after past).key s.0 i) serial) → i < mark
+    → IsTrue (was_removed ((known new).key s.0 i) serial)
+
+-- Each such call found a keys' high-water mark.
+abbrev pub EndsFindHigh : Type 0
+EndsFindHigh =
+    (old new : PassView) (me : CallerNo) (selection : Selection) (poll : Poll) (answer : Selected)
+    → CallClause me (Tells selection poll) old new (done answer)
+    → (mark : ℕ) × (past : List Event) × FindsHigh me old new selection.selector mark past
+
 -- ---- how many steps a selection makes
 
 -- A whole selection by two calls on a pass: the `try_begin` answered Ok, and the `told` ended the selection. Between
@@ -50,36 +74,35 @@ pub record IsSelection (me : CallerNo) (before_begin after_begin before_told aft
   pub keeps_keys : IsFalse (has (removes_on selection.selector.0) (done_between me after_begin before_told))
   pub tells : CallClause me (Tells selection poll) before_told after_told (done answer)
 
--- `window` is what happened, by any caller, between the look with which the selection begins and the step that ends the
--- wakeup: the look stands in the `try_begin`, and that step in the `told`.
-pub record IsWindow (me : CallerNo) (before_begin after_begin before_told after_told : PassView) (s : SelNo)
+-- `window` is what happened, by any caller, between the look with which the selection begins and the look at the keys'
+-- high-water mark at its end, which found `mark`: the first stands in the `try_begin`, and the second in the `told`.
+pub record IsWindow (me : CallerNo) (before_begin after_begin before_told after_told : PassView) (s : SelNo) (mark : ℕ)
     (window : List Event) : Type 0 where
   pub past : List Event
   pub found : GateWord
-  pub woken : GateWord
   pub rest : List Event
   pub parts : after_told.seen ≡ past ++ event_of me (BeginLook s found)
-      ∷ (window ++ event_of me (EndWake s woken) ∷ rest)
+      ∷ (window ++ event_of me (LookKeys s mark) ∷ rest)
   pub begins_after : IsPrefix before_begin.seen past
   pub begins_before : IsPrefix (past ++ event_of me (BeginLook s found) ∷ []) after_begin.seen
   pub ends_after : IsPrefix before_told.seen (past ++ event_of me (BeginLook s found) ∷ window)
 
--- The steps of the two calls are at most 8, one for each 64 indexes below the bound, 6 for each index below the bound
--- that the `try_begin` found not free, and one for each time that anybody cancelled or unselected a key below the bound
--- in the window.
+-- The steps of the two calls are at most 9, one for each 64 indexes below the bound and below the mark, 4 for each index
+-- below the bound that the `try_begin` found not free, 3 for each index below the mark that the `told` found not free,
+-- and one for each time that anybody took a key below the bound out of the selected set in the window.
 abbrev pub CallsAreBounded : Type 0
 CallsAreBounded =
     (me : CallerNo) (before_begin after_begin before_told after_told : PassView) (selection : Selection) (poll : Poll)
-    (answer : Selected) (window : List Event)
+    (answer : Selected) (mark : ℕ) (window : List Event)
     → IsFit after_told.limits → IsSelection me before_begin after_begin before_told after_told selection poll answer
-    → IsWindow me before_begin after_begin before_told after_told selection.selector window
+    → IsWindow me before_begin after_begin before_told after_told selection.selector mark window
     → let s = selection.selector in
     let bound = selection.bound in
     let in_begin = done_between me before_begin after_begin in
     let in_told = done_between me before_told after_told in
     length in_begin + length in_told
-    ≤ 8 + words_below bound + 6 * count_below bound (λ i. has (finds_listed s.0 i) in_begin)
-    + count (disturbs s.0 bound) (map (λ e. e.act) window)
+    ≤ 9 + words_below bound + words_below mark + 4 * count_listed s bound in_begin + 3 * count_listed s mark in_told
+    + count (unselects s.0 bound) (map (λ e. e.act) window)
 
 -- Each whole selection has such a window.
 abbrev pub SelectionsHaveWindows : Type 0
@@ -87,7 +110,8 @@ SelectionsHaveWindows =
     (me : CallerNo) (before_begin after_begin before_told after_told : PassView) (selection : Selection) (poll : Poll)
     (answer : Selected)
     → IsSelection me before_begin after_begin before_told after_told selection poll answer
-    → (window : List Event) × IsWindow me before_begin after_begin before_told after_told selection.selector window
+    → (mark : ℕ) × (window : List Event)
+    × IsWindow me before_begin after_begin before_told after_told selection.selector mark window
 
 -- ---- one selection at a time
 
@@ -101,12 +125,6 @@ SelectionsAreAlone =
     → IsTrue (selects_on selection.selector.0 e.act) → e.caller ≡ me
 
 -- ---- closing
-
--- between two moments of a pass the caller found `mark` as the keys' high-water mark, when `past` had happened
-pub record FindsHigh (me : CallerNo) (old new : PassView) (s : SelNo) (mark : ℕ) (past : List Event) : Type 0 where
-  pub later : List Event
-  pub parts : new.seen ≡ past ++ event_of me (LookKeys s mark) ∷ later
-  pub after : IsPrefix old.seen past
 
 -- After a `try_finish` that answers Closed each key is removed whose index is below the high-water mark that it found,
 -- and that was claimed before that look.

@@ -7,4 +7,4 @@ pub mod Entered
 pub mod Beginning
 pub mod ToldSlots
 pub mod Laws
-pub mod Kept
+pub mod Removing

@@ -5,7 +5,7 @@ use Rattle.nio_base.specs.declared.limits.Limits.{Limits}
 use Rattle.nio_base.specs.declared.numbers.SelNo.{SelNo}
 use Rattle.nio_history.specs.Conditions.{IsKey}
 use Rattle.nio_steps.specs.Plan.{Plan, reply, ◌>>=◌}
-use Rattle.nio_steps.specs.SelectCalls.{mark_told, told_of}
+use Rattle.nio_steps.specs.SelectCalls.{mark_told, told_at}
 use Rattle.nio_select.specs.declared.asked.Slot.{Slot}
 
 -- the keys in rising order of their indexes
@@ -18,7 +18,7 @@ with_told slot told = record slot { told = told }
 
 -- beside each key stands what these pairs tell of it
 abbrev pub told_slots : List (ℕ × ℕ) → List Slot → List Slot
-told_slots pairs slots = map (λ (slot : Slot). with_told slot (told_of pairs slot.key.index)) slots
+told_slots pairs slots = map (λ (slot : Slot). with_told slot (told_at pairs slot.key.index)) slots
 
 -- of one pair more
 abbrev pub told_once_more : ℕ × ℕ → List Slot → List Slot

@@ -1,24 +1,23 @@
 //! Beginning a selection.
-ghost use Rattle.std.specs.Prelude.{◌≡◌, ◌+◌, ◌*◌, ◌<◌, ◌≤◌, ◌++◌, [], IfOk, IsTrue, All, length};
+ghost use Rattle.std.specs.Prelude.{◌≡◌, ◌+◌, ◌*◌, ◌<◌, ◌≤◌, ◌++◌, [], ◌∷◌, IfOk, IsTrue};
 ghost use Rattle.std.specs.Vec.{vec_len, vec_capacity};
 ghost use Rattle.nio_history.specs.Conditions.{IsKey, IsSelector, has_turn};
 ghost use Rattle.nio_history.specs.PassViews.{HasSelector};
 ghost use Rattle.nio_steps.specs.Calls.{CallClause};
 ghost use Rattle.nio_steps.specs.ChannelCalls.{words_below as count_words_below};
 ghost use Rattle.nio_steps.specs.Runs.{Completes};
-ghost use Rattle.nio_steps.specs.SelectCalls.{Begins, list_word as lists_word, list_below as lists_below};
-ghost use Rattle.nio_steps.specs.SelectCalls.{look_over as looks_over, look_valid as looks_valid, looked_key, not_free};
-ghost use Rattle.nio_steps.specs.Sweeps.{sweep_over};
+ghost use Rattle.nio_steps.specs.SelectCalls.{Begins, look_over as looks_over, look_valid as looks_valid};
+ghost use Rattle.nio_steps.specs.SelectCalls.{looked_key, over_listed, over_word};
 ghost use Rattle.nio_words.specs.Passes.{IsReady, limits_of, state_seen};
 ghost use Rattle.nio_words.specs.Views.{view};
 ghost use Rattle.nio_select.specs.Beginning.{BeginsOpen, BeginsWithTurn, BeginsBelow};
 ghost use Rattle.nio_select.specs.Begun.{HasBegun};
 ghost use Rattle.nio_select.specs.InProgress.{Selects};
-ghost use Rattle.nio_select.specs.Lists.{nothing_found, found_in, looked_more, HasRoom, GrewByOne};
+ghost use Rattle.nio_select.specs.Lists.{keys_of};
 
 use crate::asked::{Asked, Slot};
-use crate::lists::{Found, add};
-use crate::removing::remove_cancelled;
+use crate::lists::add;
+use crate::removing::{remove_cancelled, words_below};
 use crate::selecting::Selecting;
 use crate::stages::{is_in_cancelled_set, is_valid};
 use nio_base::{CallerNo, Ops, SelNo};
@@ -91,7 +90,7 @@ fn begin_with_turn(
     begin_below(alloc, w, p, me, sel, mode, bound)
 }
 
-// Makes the lists of the selection. Their memory is taken before the first look at an index.
+// Makes the looked list of the selection. Its memory is taken before the first look at an index.
 fn begin_below(
     alloc: Global,
     w: &Words,
@@ -106,130 +105,88 @@ fn begin_below(
     ensures call { CallClause me (BeginsBelow sel mode bound) (view w.now p.old) (view w.now p.new) result }
     ensures ready { IsReady w.now p.new me }
 {
-    let words = words_below(w, bound);
-    let room = 64 * words as usize;
-    let listed = Vec::with_capacity(alloc, room);
-    let found = Found::with_room(alloc, room);
-    let (Ok(mut listed), Ok(mut found)) = (listed, found) else {
+    let Ok(mut slots) = Vec::with_capacity(alloc, 64 * words_below(w, bound) as usize) else {
         w.give_turn(p, me, sel);
         return Err(BeginError::Memory);
     };
-    list_below(w, p, me, sel, bound, &mut listed);
-    look_at_listed(w, p, me, sel, listed.as_slice(), &mut found);
+    look_over_all(w, p, me, sel, bound, &mut slots);
     Ok(Selecting {
         selector: sel,
         mode,
         bound,
-        asked: Asked { slots: found.slots },
-        kept: found.kept,
+        asked: Asked { slots },
     })
 }
 
-// The number of words, of 64 indexes each, that the indexes below `mark` stand in.
-fn words_below(w: &Words, mark: u32) -> u32
-    requires { mark ≤ (limits_of w.now).keys }
-    ensures { result ≡ count_words_below mark }
-{
-    (mark + 63) / 64
-}
-
-// Lists the indexes below the bound that are found not free, by one look for each 64.
-fn list_below(w: &Words, p: &mut Pass, me: CallerNo, sel: SelNo, bound: u32, listed: &mut Vec<u32>)
+// Looks at each index below the bound that isn't free.
+fn look_over_all(
+    w: &Words,
+    p: &mut Pass,
+    me: CallerNo,
+    sel: SelNo,
+    bound: u32,
+    slots: &mut Vec<Slot>,
+)
     requires begun { HasBegun w.now p.old me sel }
     requires bound { bound ≤ (limits_of w.now).keys }
-    requires empty { listed.old.items ≡ [] }
-    requires room { 64 * count_words_below bound ≤ vec_capacity listed.old }
-    ensures call { CallClause me (Completes (lists_below sel bound))
-        (view w.now p.old) (view w.now p.new) listed.new.items }
+    requires empty { slots.old.items ≡ [] }
+    requires room { 64 * count_words_below bound ≤ vec_capacity slots.old }
+    ensures call { CallClause me (Completes (over_listed sel bound (looks_over sel) []))
+        (view w.now p.old) (view w.now p.new) (keys_of slots.new.items) }
     ensures begun { HasBegun w.now p.new me sel }
-    ensures below { All (λ i. i < bound) listed.new.items }
-    ensures count { vec_len listed.new ≤ 64 * count_words_below bound }
 {
     for j in 0..words_below(w, bound) {
-        list_word(w, p, me, sel, bound, j, listed);
+        look_over_word(w, p, me, sel, bound, j, slots);
     }
 }
 
-fn list_word(
+// The same of the 64 indexes from `64 * j` on: it goes from one that isn't free to the next.
+fn look_over_word(
     w: &Words,
     p: &mut Pass,
     me: CallerNo,
     sel: SelNo,
     bound: u32,
     j: u32,
-    listed: &mut Vec<u32>,
+    slots: &mut Vec<Slot>,
 )
     requires begun { HasBegun w.now p.old me sel }
+    requires bound { bound ≤ (limits_of w.now).keys }
     requires below { 64 * j < (limits_of w.now).keys }
-    requires room { vec_len listed.old + 64 ≤ vec_capacity listed.old }
-    ensures call { CallClause me (Completes (lists_word sel bound j listed.old.items))
-        (view w.now p.old) (view w.now p.new) listed.new.items }
+    requires room { vec_len slots.old + 64 ≤ vec_capacity slots.old }
+    ensures call { CallClause me (Completes (over_word sel bound (looks_over sel) j (keys_of slots.old.items)))
+        (view w.now p.old) (view w.now p.new) (keys_of slots.new.items) }
     ensures begun { HasBegun w.now p.new me sel }
-    ensures count { vec_len listed.new ≤ vec_len listed.old + 64 }
-    ensures capacity { vec_capacity listed.old ≤ vec_capacity listed.new }
+    ensures count { vec_len slots.new ≤ vec_len slots.old + 64 }
+    ensures capacity { vec_capacity slots.old ≤ vec_capacity slots.new }
 {
     let word = w.look_free(p, me, sel, j);
-    add_not_free(listed, word, j, bound);
-}
-
-// Adds those of the 64 indexes from `64 * j` on that are below the bound and that the word shows as not free. It
-// goes from one such index to the next.
-fn add_not_free(listed: &mut Vec<u32>, word: u64, j: u32, bound: u32)
-    requires below { 64 * j < 262144 }
-    requires room { vec_len listed.old + 64 ≤ vec_capacity listed.old }
-    ensures items { listed.new.items ≡ listed.old.items ++ not_free word j bound 64 }
-    ensures count { vec_len listed.new ≤ vec_len listed.old + 64 }
-    ensures capacity { vec_capacity listed.old ≤ vec_capacity listed.new }
-{
     let mut rest = !word;
     while rest != 0 {
-        let b = rest.trailing_zeros();
-        if 64 * j + b < bound {
-            add(listed, 64 * j + b);
+        let i = 64 * j + rest.trailing_zeros();
+        if i < bound {
+            look_over(w, p, me, sel, i, slots);
         }
         rest &= rest - 1;
     }
 }
 
-// Looks at each listed index: removes its key where that is cancelled, and looks at its interest where it is
-// valid.
-fn look_at_listed(
-    w: &Words,
-    p: &mut Pass,
-    me: CallerNo,
-    sel: SelNo,
-    listed: &[u32],
-    found: &mut Found,
-)
-    requires begun { HasBegun w.now p.old me sel }
-    requires inside { All (λ i. i < (limits_of w.now).keys) listed.now }
-    requires nothing { found_in found.old ≡ nothing_found }
-    requires room { HasRoom found.old (length listed.now) }
-    ensures call { CallClause me (Completes (sweep_over listed.now (looks_over sel) nothing_found))
-        (view w.now p.old) (view w.now p.new) (found_in found.new) }
-    ensures begun { HasBegun w.now p.new me sel }
-{
-    for i in listed {
-        look_over(w, p, me, sel, *i, found);
-    }
-}
-
-fn look_over(w: &Words, p: &mut Pass, me: CallerNo, sel: SelNo, i: u32, found: &mut Found)
+// Looks at the index: removes its key where that is cancelled, and looks at its interest where it is valid.
+fn look_over(w: &Words, p: &mut Pass, me: CallerNo, sel: SelNo, i: u32, slots: &mut Vec<Slot>)
     requires begun { HasBegun w.now p.old me sel }
     requires key { IsKey (limits_of w.now) sel i }
-    requires room { HasRoom found.old 1 }
-    ensures call { CallClause me (Completes (looks_over sel i (found_in found.old)))
-        (view w.now p.old) (view w.now p.new) (found_in found.new) }
+    requires room { vec_len slots.old < vec_capacity slots.old }
+    ensures call { CallClause me (Completes (looks_over sel i (keys_of slots.old.items)))
+        (view w.now p.old) (view w.now p.new) (keys_of slots.new.items) }
     ensures begun { HasBegun w.now p.new me sel }
-    ensures grew { GrewByOne found.old found.new }
+    ensures count { vec_len slots.new ≤ vec_len slots.old + 1 }
+    ensures capacity { vec_capacity slots.old ≤ vec_capacity slots.new }
 {
     let stage = w.look_key(p, me, sel, i);
     if is_in_cancelled_set(stage) {
         remove_cancelled(w, p, me, sel, i, stage);
     } else if is_valid(stage) {
-        look_valid(w, p, me, sel, i, stage, found);
-    } else if !stage.removed {
-        add(&mut found.kept, i);
+        look_valid(w, p, me, sel, i, stage, slots);
     }
 }
 
@@ -240,25 +197,27 @@ fn look_valid(
     sel: SelNo,
     i: u32,
     stage: Stage,
-    found: &mut Found,
+    slots: &mut Vec<Slot>,
 )
     requires begun { HasBegun w.now p.old me sel }
     requires key { IsKey (limits_of w.now) sel i }
-    requires room { HasRoom found.old 1 }
-    ensures call { CallClause me (Completes (looks_valid sel i stage (found_in found.old)))
-        (view w.now p.old) (view w.now p.new) (found_in found.new) }
+    requires room { vec_len slots.old < vec_capacity slots.old }
+    ensures call { CallClause me (Completes (looks_valid sel i stage (keys_of slots.old.items)))
+        (view w.now p.old) (view w.now p.new) (keys_of slots.new.items) }
     ensures begun { HasBegun w.now p.new me sel }
-    ensures grew { GrewByOne found.old found.new }
+    ensures count { vec_len slots.new ≤ vec_len slots.old + 1 }
+    ensures capacity { vec_capacity slots.old ≤ vec_capacity slots.new }
 {
     let interest = w.look_interest(p, me, sel, i);
-    add_looked(found, i, stage, interest);
+    add_looked(slots, i, stage, interest);
 }
 
 // Adds a key to those that were looked at. It makes no step: an entry that is built across a step is copied once more.
-fn add_looked(found: &mut Found, i: u32, stage: Stage, interest: Ops)
-    requires { HasRoom found.old 1 }
-    ensures found { found_in found.new ≡ looked_more (found_in found.old) (looked_key i stage interest) }
-    ensures grew { GrewByOne found.old found.new }
+fn add_looked(slots: &mut Vec<Slot>, i: u32, stage: Stage, interest: Ops)
+    requires { vec_len slots.old < vec_capacity slots.old }
+    ensures keys { keys_of slots.new.items ≡ keys_of slots.old.items ++ looked_key i stage interest ∷ [] }
+    ensures count { vec_len slots.new ≤ vec_len slots.old + 1 }
+    ensures capacity { vec_capacity slots.old ≤ vec_capacity slots.new }
 {
     let key = LookedKey {
         index: i,
@@ -267,11 +226,10 @@ fn add_looked(found: &mut Found, i: u32, stage: Stage, interest: Ops)
         interest,
     };
     add(
-        &mut found.slots,
+        slots,
         Slot {
             key,
             told: Ops::NONE,
         },
     );
-    add(&mut found.kept, i);
 }

@@ -7,7 +7,7 @@ ghost use Rattle.nio_steps.specs.SelectCalls.{shut_plan, try_finish_plan, closed
 ghost use Rattle.nio_words.specs.Passes.{IsReady};
 ghost use Rattle.nio_words.specs.Views.{view};
 ghost use Rattle.nio_select.specs.Entered.{HasEntered};
-ghost use Rattle.nio_select.specs.InProgress.{Closes, shut_reply, finish_reply, IfClosing, IfBusy};
+ghost use Rattle.nio_select.specs.InProgress.{HasShut, shut_reply, finish_reply, IfClosing, IfBusy};
 
 use nio_base::{CallerNo, SelNo};
 use nio_words::{Pass, Words};
@@ -50,7 +50,7 @@ pub fn shut(w: &Words, p: &mut Pass, me: CallerNo, sel: SelNo) -> Shutting
     requires selector { HasSelector (view w.now p.old) sel }
     ensures call { CallClause me (Completes (shut_plan sel)) (view w.now p.old) (view w.now p.new) (shut_reply result) }
     ensures ready { IsReady w.now p.new me }
-    ensures closing { IfClosing result (λ s. (s ≡ sel) × Closes (view w.now p.new) me s) }
+    ensures closing { IfClosing result (λ s. (s ≡ sel) × HasShut (view w.now p.new) me s) }
 {
     if w.shut_bit(p, me, sel) {
         Shutting::AlreadyClosed
@@ -63,11 +63,11 @@ impl Closing {
     /// Removes the selector's keys, where nobody selects there. `Busy` where somebody does.
     pub fn try_finish(self, w: &Words, p: &mut Pass, me: CallerNo) -> Finish
         requires ready { IsReady w.now p.old me }
-        requires closing { Closes (view w.now p.old) me self }
+        requires closing { HasShut (view w.now p.old) me self }
         ensures call { CallClause me (Completes (try_finish_plan self))
             (view w.now p.old) (view w.now p.new) (finish_reply result) }
         ensures ready { IsReady w.now p.new me }
-        ensures still { IfBusy result (λ s. (s ≡ self) × Closes (view w.now p.new) me s) }
+        ensures still { IfBusy result (λ s. (s ≡ self) × HasShut (view w.now p.new) me s) }
     {
         if w.enter(p, me, self.selector).is_some() {
             return Finish::Busy(self);

@@ -1,19 +1,26 @@
 //! What follows from the contracts of the calls of a selection, and from the laws of their plans. The functions do
 //! nothing: their contracts are laws.
-ghost use Rattle.nio_select.specs.Laws.{CancelledKeysAreGone, SelectionsHaveWindows, CallsAreBounded};
+ghost use Rattle.nio_select.specs.Laws.{CancelledKeysAreGone, CancelledKeysAreGoneAtEnd, EndsFindHigh};
+ghost use Rattle.nio_select.specs.Laws.{SelectionsHaveWindows, CallsAreBounded};
 ghost use Rattle.nio_select.specs.Laws.{SelectionsAreAlone, LeavingGivesBack, NoMemoryGivesBack};
 ghost use Rattle.nio_select.specs.Laws.{ClosingsRemoveKeys, ClosingsFindHigh};
 
-use nio_steps::{begin_law, bound_law, close_law};
+use nio_steps::{begin_law, bound_law, close_law, told_law};
 
-/// A key that was cancelled before a selection began is removed once it has begun, and isn't one that it looked at.
+/// A key that was cancelled before a selection began is removed once it has begun, and isn't one that it looked at. The
+/// end of a selection finds a keys' high-water mark, and has removed each key with an index below it that was cancelled
+/// before that look.
 pub fn gone_law()
-    ensures { CancelledKeysAreGone }
+    ensures begun { CancelledKeysAreGone }
+    ensures ended { CancelledKeysAreGoneAtEnd }
+    ensures finds { EndsFindHigh }
 {
-    begin_law()
+    begin_law();
+    told_law()
 }
 
-/// The steps of a selection are bounded by what it finds and by what other callers cancel and unselect meanwhile.
+/// The steps of a selection are bounded by what it finds when it begins and at its end, and by what other callers
+/// unselect meanwhile.
 pub fn steps_law()
     ensures windows { SelectionsHaveWindows }
     ensures bounded { CallsAreBounded }

@@ -2,8 +2,9 @@
 //!
 //! A selection is three calls: `try_begin` removes cancelled keys and looks at what each valid key is
 //! interested in, the caller asks a poller, and `told` marks the keys that are ready. `told` says `Again`
-//! where nothing was ready and the selection may go on waiting. A selection in progress is a value
-//! (`Selecting`) that is spent by `told` or by `leave`; a closing is one too (`Closing`).
+//! where nothing was ready and the selection may go on waiting; where it ends the selection it removes the keys that
+//! were cancelled meanwhile. A selection in progress is a value (`Selecting`) that is spent by `told` or by `leave`;
+//! a closing is one too (`Closing`).
 //!
 //! Each call ensures `CallClause` of its plan: what the caller's pass has seen grew by a whole run of the
 //! plan with the call's answer, and by what other callers did between. No call waits. `try_begin`, `keys` and

@@ -1,21 +1,76 @@
 //! Removing cancelled keys within a selection.
-ghost use Rattle.std.specs.Prelude.{◌≡◌, IsTrue};
+ghost use Rattle.std.specs.Prelude.{◌≡◌, ◌*◌, ◌<◌, ◌≤◌, IsTrue};
 ghost use Rattle.nio_history.specs.Conditions.{IsKey, has_begun, may_remove_cancelled};
 ghost use Rattle.nio_steps.specs.Calls.{CallClause};
+ghost use Rattle.nio_steps.specs.ChannelCalls.{words_below as count_words_below};
 ghost use Rattle.nio_steps.specs.Runs.{Completes};
+ghost use Rattle.nio_steps.specs.SelectCalls.{over_listed, over_word};
+ghost use Rattle.nio_steps.specs.SelectCalls.{remove_all_cancelled as removes_all_cancelled};
 ghost use Rattle.nio_steps.specs.SelectCalls.{remove_cancelled as removes_cancelled};
 ghost use Rattle.nio_steps.specs.SelectCalls.{remove_if_cancelled as removes_if_cancelled};
 ghost use Rattle.nio_words.specs.Passes.{IsReady, limits_of, state_seen};
 ghost use Rattle.nio_words.specs.Views.{view};
 ghost use Rattle.nio_select.specs.Begun.{HasBegun};
+ghost use Rattle.nio_select.specs.Removing.{removes_at};
 
 use crate::stages::is_in_cancelled_set;
 use nio_base::{CallerNo, SelNo};
 use nio_history::Stage;
 use nio_words::{Pass, Words};
 
+// The number of words, of 64 indexes each, that the indexes below `mark` stand in.
+pub(crate) fn words_below(w: &Words, mark: u32) -> u32
+    requires { mark ≤ (limits_of w.now).keys }
+    ensures { result ≡ count_words_below mark }
+{
+    (mark + 63) / 64
+}
+
+// Removes all keys of the selector's cancelled set, below the high-water mark that it finds.
+pub(crate) fn remove_all_cancelled(w: &Words, p: &mut Pass, me: CallerNo, sel: SelNo)
+    requires begun { HasBegun w.now p.old me sel }
+    ensures call { CallClause me (Completes (removes_all_cancelled sel)) (view w.now p.old) (view w.now p.new) result }
+    ensures begun { HasBegun w.now p.new me sel }
+{
+    let mark = w.look_keys(p, me, sel);
+    remove_below(w, p, me, sel, mark);
+}
+
+// The same below this mark.
+fn remove_below(w: &Words, p: &mut Pass, me: CallerNo, sel: SelNo, mark: u32)
+    requires begun { HasBegun w.now p.old me sel }
+    requires mark { mark ≤ (limits_of w.now).keys }
+    ensures call { CallClause me (Completes (over_listed sel mark (removes_at sel) tt))
+        (view w.now p.old) (view w.now p.new) result }
+    ensures begun { HasBegun w.now p.new me sel }
+{
+    for j in 0..words_below(w, mark) {
+        remove_in_word(w, p, me, sel, mark, j);
+    }
+}
+
+// The same of the 64 indexes from `64 * j` on: it goes from one that isn't free to the next.
+fn remove_in_word(w: &Words, p: &mut Pass, me: CallerNo, sel: SelNo, mark: u32, j: u32)
+    requires begun { HasBegun w.now p.old me sel }
+    requires mark { mark ≤ (limits_of w.now).keys }
+    requires below { 64 * j < (limits_of w.now).keys }
+    ensures call { CallClause me (Completes (over_word sel mark (removes_at sel) j tt))
+        (view w.now p.old) (view w.now p.new) result }
+    ensures begun { HasBegun w.now p.new me sel }
+{
+    let word = w.look_free(p, me, sel, j);
+    let mut rest = !word;
+    while rest != 0 {
+        let i = 64 * j + rest.trailing_zeros();
+        if i < mark {
+            remove_if_cancelled(w, p, me, sel, i);
+        }
+        rest &= rest - 1;
+    }
+}
+
 // Removes the key that the index has, where it is in the cancelled set.
-pub(crate) fn remove_if_cancelled(w: &Words, p: &mut Pass, me: CallerNo, sel: SelNo, i: u32)
+fn remove_if_cancelled(w: &Words, p: &mut Pass, me: CallerNo, sel: SelNo, i: u32)
     requires begun { HasBegun w.now p.old me sel }
     requires key { IsKey (limits_of w.now) sel i }
     ensures call { CallClause me (Completes (removes_if_cancelled sel i)) (view w.now p.old) (view w.now p.new) result }

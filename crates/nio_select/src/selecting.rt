@@ -1,5 +1,5 @@
 //! A selection in progress.
-ghost use Rattle.std.specs.Prelude.{◌≡◌, ◌<◌, All};
+ghost use Rattle.std.specs.Prelude.{◌≡◌};
 ghost use Rattle.nio_history.specs.PassViews.{ActsClause};
 ghost use Rattle.nio_steps.specs.Calls.{CallClause};
 ghost use Rattle.nio_steps.specs.Runs.{Completes};
@@ -8,10 +8,9 @@ ghost use Rattle.nio_words.specs.Passes.{IsReady, limits_of};
 ghost use Rattle.nio_words.specs.Views.{view};
 ghost use Rattle.nio_select.specs.Begun.{HasBegun};
 ghost use Rattle.nio_select.specs.InProgress.{Selects, poll_of, told_reply, IfAgain};
-ghost use Rattle.nio_select.specs.Kept.{remove_kept as removes_kept};
 
 use crate::asked::Asked;
-use crate::removing::remove_if_cancelled;
+use crate::removing::remove_all_cancelled;
 use crate::telling::{is_again, mark_asked, why_ended};
 use crate::told::Told;
 use nio_base::{CallerNo, SelNo};
@@ -21,13 +20,12 @@ use nio_words::{Pass, Words};
 use std::marker::Model;
 
 /// A selection in progress. It is spent by `told` where that ends it, by `leave`, or by `forget`. Contracts see
-/// its selector, its mode, its bound, the keys that it looked at, and the indexes that it hasn't dropped.
+/// its selector, its mode, its bound, and the keys that it looked at.
 pub struct Selecting {
     pub(crate) selector: SelNo,
     pub(crate) mode: Mode,
     pub(crate) bound: u32,
     pub(crate) asked: Asked,
-    pub(crate) kept: Vec<u32>,
 }
 
 impl Model for Selecting {
@@ -40,7 +38,6 @@ impl Model for Selecting {
       mode = s.mode;
       bound = s.bound;
       looked = s.asked;
-      kept = s.kept.items;
     } };
 }
 
@@ -68,8 +65,8 @@ impl Selecting {
     }
 
     /// Marks the keys of which the poller told something that they are interested in. `Again` where none was
-    /// marked and nothing else ends the wait. Else the selection is over: the keys that were cancelled meanwhile
-    /// are removed, a pending wakeup is used up, and the turn is free.
+    /// marked and nothing else ends the wait. Else the selection is over: all cancelled keys are removed, also those
+    /// that were registered meanwhile, a pending wakeup is used up, and the turn is free.
     pub fn told(self, w: &Words, p: &mut Pass, me: CallerNo, told: &Told) -> After
         requires ready { IsReady w.now p.old me }
         requires begun { Selects (view w.now p.old) me self }
@@ -87,7 +84,6 @@ impl Selecting {
     // Goes on or ends, after so many marks that succeeded.
     fn after_marks(self, w: &Words, p: &mut Pass, me: CallerNo, elapsed: bool, count: u32) -> After
         requires begun { HasBegun w.now p.old me self.selector }
-        requires keys { All (λ i. i < (limits_of w.now).keys) self.kept }
         ensures call { CallClause me (Completes (after_marks_plan self elapsed count))
             (view w.now p.old) (view w.now p.new) (told_reply result) }
         ensures ready { IsReady w.now p.new me }
@@ -101,15 +97,14 @@ impl Selecting {
         self.end(w, p, me, Selected { count, why })
     }
 
-    // Removes the keys that were cancelled meanwhile, uses up the wakeup, and gives the turn back.
+    // Removes the cancelled keys, uses up the wakeup, and gives the turn back.
     fn end(self, w: &Words, p: &mut Pass, me: CallerNo, answer: Selected) -> After
         requires begun { HasBegun w.now p.old me self.selector }
-        requires keys { All (λ i. i < (limits_of w.now).keys) self.kept }
         ensures call { CallClause me (Completes (end_selection self answer))
             (view w.now p.old) (view w.now p.new) (told_reply result) }
         ensures ready { IsReady w.now p.new me }
     {
-        remove_kept(w, p, me, self.selector, self.kept.as_slice());
+        remove_all_cancelled(w, p, me, self.selector);
         w.end_wake(p, me, self.selector);
         w.give_turn(p, me, self.selector);
         self.forget();
@@ -134,19 +129,6 @@ impl Selecting {
             mode: _mode,
             bound: _bound,
             asked: _asked,
-            kept: _kept,
         } = self;
-    }
-}
-
-// Removes the keys of these indexes that were cancelled.
-fn remove_kept(w: &Words, p: &mut Pass, me: CallerNo, sel: SelNo, kept: &[u32])
-    requires begun { HasBegun w.now p.old me sel }
-    requires keys { All (λ i. i < (limits_of w.now).keys) kept.now }
-    ensures call { CallClause me (Completes (removes_kept sel kept.now)) (view w.now p.old) (view w.now p.new) result }
-    ensures begun { HasBegun w.now p.new me sel }
-{
-    for i in kept {
-        remove_if_cancelled(w, p, me, sel, *i);
     }
 }

@@ -12,15 +12,12 @@ use Rattle.nio_history.specs.State.{State, put, put_at, with_hold, with_pin, wit
 use Rattle.nio_history.specs.declared.found.Mark.{Mark}
 use Rattle.nio_history.specs.declared.found.Stage.{Stage}
 use Rattle.nio_plain.proofs.Places.{put_same, put_at_same, put-twice, put_at-twice}
-use Rattle.nio_plain.specs.Seq.Replies.{Replied}
 use Rattle.nio_steps.proofs.PerformLaws.{perform-bind}
 use Rattle.nio_steps.specs.ChannelCalls.{under_hold}
 use Rattle.nio_steps.specs.KeyCalls.{under_pin}
 use Rattle.nio_steps.specs.Perform.{Performed, perform}
 use Rattle.nio_steps.specs.Plan.{Plan, reply, ◌>>=◌, ◌>>◌}
 use Rattle.nio_steps.specs.Steps.{unpin, release}
-use Rattle.nio_steps.specs.declared.refusal.ChannelError.{ChannelError}
-use Rattle.nio_steps.specs.declared.refusal.ChannelError.TheVariants.{Busy}
 use Rattle.nio_serial.specs.Documented.{settled, settled_mark, settled_state}
 
 -- ---- parts that are changed
@@ -98,7 +95,7 @@ in_set-is k q whole =
 -- ---- tests
 
 -- `F` is what becomes of a performed plan
-module _ {R : Type 0} (F : Performed R → Replied) (me : CallerNo) (P Q : Plan R) (st : State) (A B : Replied) where
+module _ {R S : Type 0} (F : Performed R → S) (me : CallerNo) (P Q : Plan R) (st : State) (A B : S) where
   -- one test on both sides
   pub branch : (b c : Bool) → b ≡ c → (c ≡ true → A ≡ F (perform me P st)) → (c ≡ false → B ≡ F (perform me Q st))
       → cond b A B ≡ F (perform me (if c then P else Q) st)
@@ -110,6 +107,12 @@ module _ {R : Type 0} (F : Performed R → Replied) (me : CallerNo) (P Q : Plan 
       → cond b A B ≡ F (perform me (if not c then Q else P) st)
   branch_not b true e on_true on_false = ap (λ (x : Bool). cond x A B) e ∙ on_true refl
   branch_not b false e on_true on_false = ap (λ (x : Bool). cond x A B) e ∙ on_false refl
+
+  -- the documented call asks the other way round
+  pub branch_unless : (b c : Bool) → b ≡ c → (c ≡ true → B ≡ F (perform me P st))
+      → (c ≡ false → A ≡ F (perform me Q st)) → cond (not b) A B ≡ F (perform me (if c then P else Q) st)
+  branch_unless b true e on_true on_false = ap (λ (x : Bool). cond (not x) A B) e ∙ on_true refl
+  branch_unless b false e on_true on_false = ap (λ (x : Bool). cond (not x) A B) e ∙ on_false refl
 
 -- ---- under a pin
 
@@ -151,11 +154,11 @@ settled-marked st s i x =
 abbrev pub released : {R : Type 0} → ChanNo → Performed R → Performed R
 released c done = record { answer = done.answer; state = with_hold done.state c.0 None }
 
-pub perform_held : {A : Type 0} (me : CallerNo) (c : ChanNo) (steps : Plan (Result A ChannelError)) (st : State)
+pub perform_held : {A E : Type 0} (me : CallerNo) (busy : E) (c : ChanNo) (steps : Plan (Result A E)) (st : State)
     → st.hold c.0 ≡ None
-    → perform me (under_hold c steps) st ≡ released c (perform me steps (with_hold st c.0 (Some me)))
-perform_held me c steps st unheld =
+    → perform me (under_hold busy c steps) st ≡ released c (perform me steps (with_hold st c.0 (Some me)))
+perform_held me busy c steps st unheld =
     ap (λ (o : Option CallerNo). perform me
-    (if is_some o then reply (Err Busy) else (steps >>= (λ answer. release c >> reply answer)))
+    (if is_some o then reply (Err busy) else (steps >>= (λ answer. release c >> reply answer)))
     (with_hold st c.0 (taken_by me o))) unheld
     ∙ perform-bind me steps (λ answer. release c >> reply answer) (with_hold st c.0 (Some me))

@@ -1,12 +1,12 @@
 -- Beginning a selection amounts to the documented call.
 use Rattle.std.proofs.Common.{◌≡◌, ℕ, zero, suc, ◌<◌, ◌==◌, nat_lt, Bool, true, false, cond, not, ◌&&◌, ◌||◌}
 use Rattle.std.proofs.Common.{if◌then◌else◌, Option, Some, None, option_map, is_some, Result, Ok, Err, List, [], ◌∷◌}
-use Rattle.std.proofs.Common.{◌++◌, map, filter, refl, ap, sym, ◌∙◌, subst, eq-eqb}
+use Rattle.std.proofs.Common.{map, filter, refl, ap, sym, ◌∙◌, subst, eq-eqb}
 use Rattle.std.proofs.Math.Bool.{or-true}
-use Rattle.std.proofs.lemmas.Bool.{both_ways, false_from_ne_true, and_parts, lt-ltb, ltb-true, not-true}
-use Rattle.std.proofs.lemmas.List.Elements.{All-filter, All-contains, All-map}
+use Rattle.std.proofs.lemmas.Bool.{both_ways}
+use Rattle.std.proofs.lemmas.List.Elements.{All-map}
 use Rattle.std.proofs.lemmas.List.Kept.{AllPairs-cons, AllPairs-filter}
-use Rattle.std.specs.List.{AllPairs, Contains, list_any}
+use Rattle.std.specs.List.{AllPairs}
 use Rattle.nio_base.specs.declared.numbers.CallerNo.{CallerNo}
 use Rattle.nio_base.specs.declared.numbers.SelNo.{SelNo}
 use Rattle.nio_history.specs.Acts.{taken_by}
@@ -17,27 +17,24 @@ use Rattle.nio_history.specs.declared.found.Stage.{Stage}
 use Rattle.nio_language.specs.declared.reply.Reply.TheVariants as reply
 use Rattle.nio_plain.proofs.Found.{below_all}
 use Rattle.nio_plain.proofs.Places.{put_same, put-twice}
-use Rattle.nio_plain.proofs.Registered.{any-some}
 use Rattle.nio_plain.specs.ScriptState.{ScriptState}
 use Rattle.nio_plain.specs.Seq.Replies.{unchanged}
 use Rattle.nio_plain.specs.Seq.Names.{below, key_at}
-use Rattle.nio_plain.specs.Seq.Removing.{removed_key, without_keys_where}
+use Rattle.nio_plain.specs.Seq.Removing.{removed_key}
 use Rattle.nio_plain.specs.Seq.Selections.{without_cancelled, looked_keys, selection_begun, begun_with}
 use Rattle.nio_plain.specs.declared.rules.Rules.TheVariants.{Now}
-use Rattle.nio_steps.proofs.Lists.{contains-middle, pairs-none, pairs-head, pairs-tail, pairs-push}
+use Rattle.nio_steps.proofs.Lists.{pairs-none, pairs-head, pairs-tail, pairs-push}
 use Rattle.nio_steps.proofs.PerformLaws.{perform_then_on}
 use Rattle.nio_steps.specs.Perform.{Performed, perform}
 use Rattle.nio_steps.specs.Plan.{Plan, ◌>>=◌}
-use Rattle.nio_steps.specs.SelectCalls.{Selection, LookedOver, given_back, list_below, look_over, looked_key}
+use Rattle.nio_steps.specs.SelectCalls.{Selection, given_back, over_listed, look_over, looked_key}
 use Rattle.nio_steps.specs.SelectCalls.{begin_below, begin_with_turn, begin_open, try_begin_plan}
 use Rattle.nio_steps.specs.Steps.{look_keys}
-use Rattle.nio_steps.specs.Sweeps.{sweep_over}
 use Rattle.nio_steps.specs.declared.looked.LookedKey.{LookedKey}
 use Rattle.nio_steps.specs.declared.refusal.BeginError.{BeginError}
 use Rattle.nio_serial.proofs.Base.{put-back, put-under, settled-cancelled, branch}
-use Rattle.nio_serial.proofs.FreeWords.{is_not_free, filter-same, list_below-performed}
-use Rattle.nio_serial.proofs.Removing.{settled-removed}
-use Rattle.nio_serial.proofs.Sweeping.{has_index, has_next, swept, looked_over, look-performed}
+use Rattle.nio_serial.proofs.FreeWords.{listed, filter-same}
+use Rattle.nio_serial.proofs.Sweeping.{swept, looked_over, look-performed, swept-is}
 use Rattle.nio_serial.specs.Between.{IsOn}
 use Rattle.nio_serial.specs.Documented.{Progress, settled, settled_state, looked_pair, shown, documented, amounts}
 use Rattle.nio_serial.specs.Lines.{after_begin}
@@ -54,20 +51,6 @@ filter-filter p q (x ∷ xs) = by_test (q x) (filter-filter p q xs)
         ≡ cond (b && p x) (x ∷ filter (λ i. q i && p i) xs) (filter (λ i. q i && p i) xs)
     by_test true rest = ap (λ ys. cond (p x) (x ∷ ys) ys) rest
     by_test false rest = rest
-
-any-filter : (p q : ℕ → Bool) (xs : List ℕ) → list_any p (filter q xs) ≡ list_any (λ i. q i && p i) xs
-any-filter p q [] = refl
-any-filter p q (x ∷ xs) = by_test (q x) (any-filter p q xs)
-  where
-    by_test : (b : Bool) → list_any p (filter q xs) ≡ list_any (λ i. q i && p i) xs
-        → list_any p (cond b (x ∷ filter q xs) (filter q xs)) ≡ ((b && p x) || list_any (λ i. q i && p i) xs)
-    by_test true rest = ap (λ b. p x || b) rest
-    by_test false rest = rest
-
--- the indexes below n that pass the test have an index that does
-pub index-there : (q : ℕ → Bool) (n i : ℕ) → i < n → q i ≡ true → has_index i (filter q (below n)) ≡ true
-index-there q n i low is =
-    any-filter (λ j. j == i) q (below n) ∙ any-some (λ j. q j && (j == i)) n i low (λ j. is j && eq-eqb i i refl j)
 
 below-rises : (n : ℕ) → AllPairs (λ i j. i < j) (below n)
 below-rises zero = pairs-none (λ i j. i < j)
@@ -96,35 +79,26 @@ module _ (st : State) (now : Progress) (me : CallerNo) (s : SelNo)
   abbrev turned : State
   turned = with_begun (with_turn st s.0 (Some me)) s.0 true
 
-  -- the indexes that it lists
-  abbrev listed : List ℕ
-  listed = filter (is_not_free turned me s) (below mark)
+  -- the indexes that it goes over
+  abbrev over : List ℕ
+  over = listed turned s.0 mark
 
-  abbrev over : LookedOver
-  over = looked_over turned me s none_due untaken listed
+  abbrev looked : List LookedKey
+  looked = looked_over turned me s none_due untaken over
 
   abbrev left : State
-  left = swept turned me s none_due untaken listed
+  left = swept turned me s none_due untaken over
 
   abbrev begun : Mode → Selection
-  begun mode = record { selector = s; mode = mode; bound = mark; looked = over.looked; kept = over.kept }
-
-  listed_published : (past : List ℕ) (e : ℕ) (later : List ℕ) → listed ≡ past ++ e ∷ later
-      → (st.key s.0 e).published ≡ true
-  listed_published past e later parts =
-      let low : e < mark =
-      All-contains (λ i. i < mark) listed e (All-filter (is_not_free turned me s) (λ i. i < mark) (below mark)
-      (below_all mark)) (subst (λ xs. Contains xs e) (sym parts) (contains-middle past e later)) in
-      published e ∙ lt-ltb e mark low
+  begun mode = record { selector = s; mode = mode; bound = mark; looked = looked }
 
   -- ---- what the plan does
 
   below-performed : (mode : Mode) → perform me (begin_below s mode mark false) turned
       ≡ record { answer = Ok (begun mode); state = left }
   below-performed mode =
-      perform_then_on me (list_below s mark) _ turned listed turned (list_below-performed turned me s mark)
-      ∙ perform_then_on me (sweep_over listed (look_over s) (record { looked = []; kept = [] })) _ turned over left
-      (look-performed turned me s none_due untaken listed listed_published)
+      perform_then_on me (over_listed s mark (look_over s) []) _ turned looked left
+      (look-performed turned me s none_due untaken mark)
 
   open-performed : (mode : Mode) → st.turn s.0 ≡ None → (st.gate s.0).shut ≡ false
       → perform me (begin_open s mode false) st ≡ record { answer = Ok (begun mode); state = left }
@@ -147,32 +121,8 @@ module _ (st : State) (now : Progress) (me : CallerNo) (s : SelNo)
   abbrev swept_ds : State
   swept_ds = without_cancelled Now ds.shared s.0
 
-  cancelled-listed : (i : ℕ) → (has_index i listed && in_cancelled_set (st.key s.0 i))
-      ≡ in_cancelled_set (settled (st.key s.0 i))
-  cancelled-listed i = by_test (in_cancelled_set (st.key s.0 i)) refl ∙ sym (settled-cancelled (st.key s.0 i))
-    where
-      k : Stage
-      k = st.key s.0 i
-
-      none_of : (b : Bool) → (b && false) ≡ false
-      none_of true = refl
-      none_of false = refl
-
-      by_test : (b : Bool) → in_cancelled_set k ≡ b → (has_index i listed && b) ≡ b
-      by_test true is =
-          let in_set = (and_parts (in_key_set k) k.cancelled is).0 in
-          let parts = and_parts k.published (not k.removed) in_set in
-          let low : i < mark = ltb-true i mark (sym (published i) ∙ parts.0) in
-          let not_free : st.free s.0 i ≡ false =
-          false_from_ne_true (st.free s.0 i) (λ h. both_ways k.removed (not-true k.removed parts.1) (free i h)) in
-          ap (λ b. b && true) (index-there (is_not_free turned me s) mark i low (ap not not_free))
-      by_test false is = none_of (has_index i listed)
-
   state-is : settled_state left ≡ with_begun (with_turn swept_ds s.0 (Some me)) s.0 true
-  state-is =
-      settled-removed turned has_next s.0 (λ i. has_index i listed && in_cancelled_set (st.key s.0 i)) (λ _. refl)
-      ∙ ap (λ (test : ℕ → Bool). without_keys_where (settled_state turned) s.0 test has_next)
-      (λ j i. cancelled-listed i j)
+  state-is = swept-is turned me s none_due untaken published free
 
   -- the valid keys that are listed are the key set that is left
   in_set_after : (k : Stage) → in_key_set (cond (in_cancelled_set (settled k)) (removed_key (settled k)) (settled k))
@@ -235,11 +185,11 @@ module _ (st : State) (now : Progress) (me : CallerNo) (s : SelNo)
         st.interest s.0 i,
       ) ∷ pairs-are xs j
 
-  looked-is : map looked_pair over.looked ≡ looked_keys swept_ds s.0
+  looked-is : map looked_pair looked ≡ looked_keys swept_ds s.0
   looked-is =
-      pairs-are (filter (λ i. is_valid (st.key s.0 i)) listed)
+      pairs-are (filter (λ i. is_valid (st.key s.0 i)) over)
       ∙ ap (map (λ i. (key_at swept_ds s.0 i, swept_ds.interest s.0 i)))
-      (filter-filter (λ i. is_valid (st.key s.0 i)) (is_not_free turned me s) (below mark)
+      (filter-filter (λ i. is_valid (st.key s.0 i)) (λ i. not (st.free s.0 i)) (below mark)
       ∙ filter-same (λ i. not (st.free s.0 i) && is_valid (st.key s.0 i))
       (λ i. in_key_set (swept_ds.key s.0 i)) mark listed-valid)
 
@@ -318,20 +268,14 @@ module _ (st : State) (now : Progress) (me : CallerNo) (s : SelNo)
       by_shut true e = closed
       by_shut false e = by_turn (st.turn s.0) refl e
 
-  -- the selection that has begun looks at each index once, in rising order, and keeps these indexes
-  kept-are : (xs : List ℕ) → xs ≡ map (λ (e : LookedKey). e.index)
-      (map (λ i. looked_key i (st.key s.0 i) (st.interest s.0 i)) xs)
-  kept-are [] = refl
-  kept-are (i ∷ xs) = ap (λ ys. i ∷ ys) (kept-are xs)
-
+  -- the selection that has begun looks at each index once, in rising order
   pub begun-on : (mode : Mode) → IsOn s.0 (begun mode)
   begun-on mode = record {
     selector = refl;
     rises = pairs-map (λ i. looked_key i (st.key s.0 i) (st.interest s.0 i)) (λ (a b : LookedKey). a.index < b.index)
-        (filter (λ i. is_valid (st.key s.0 i)) listed)
-        (AllPairs-filter (λ i j. i < j) (λ i. is_valid (st.key s.0 i)) listed
-        (AllPairs-filter (λ i j. i < j) (is_not_free turned me s) (below mark) (below-rises mark)));
-    kept = kept-are (filter (λ i. is_valid (st.key s.0 i)) listed);
+        (filter (λ i. is_valid (st.key s.0 i)) over)
+        (AllPairs-filter (λ i j. i < j) (λ i. is_valid (st.key s.0 i)) over
+        (AllPairs-filter (λ i j. i < j) (λ i. not (st.free s.0 i)) (below mark) (below-rises mark)));
   }
 
 -- ---- a beginning for which there is no memory

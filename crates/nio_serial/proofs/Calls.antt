@@ -5,11 +5,11 @@ use Rattle.std.proofs.Common.{Some, None, option_map, List, map, refl, ap, sym, 
 use Rattle.std.proofs.lemmas.Bool.{lt-ltb, le-ltb, or_left, or_right, cond-true}
 use Rattle.nio_base.specs.declared.limits.Limits.{Limits}
 use Rattle.nio_base.specs.declared.numbers.CallerNo.{CallerNo}
-use Rattle.nio_base.specs.declared.numbers.ChanNo.{ChanNo}
+use Rattle.nio_base.specs.declared.numbers.ChanId.{ChanId}
 use Rattle.nio_base.specs.declared.numbers.KeyId.{KeyId}
 use Rattle.nio_base.specs.declared.numbers.SelNo.{SelNo}
 use Rattle.nio_history.specs.State.{State}
-use Rattle.nio_history.specs.Sets.{is_in_key_set}
+use Rattle.nio_history.specs.Sets.{is_in_key_set, was_opened}
 use Rattle.nio_history.specs.declared.found.Mode.{Mode}
 use Rattle.nio_language.specs.declared.call.Call.{Call}
 use Rattle.nio_language.specs.declared.call.Call.TheVariants as call
@@ -50,12 +50,13 @@ use Rattle.nio_serial.proofs.KeyCalls.{valid-amounts, interest-amounts, ready-am
 use Rattle.nio_serial.proofs.KeyCalls.{iand-amounts, cancel-amounts, unselect-amounts, attach-amounts}
 use Rattle.nio_serial.proofs.KeyCalls.{attachment-amounts}
 use Rattle.nio_serial.proofs.Listing.{keys-amounts, selected-amounts}
+use Rattle.nio_serial.proofs.Opening.{channel-amounts}
 use Rattle.nio_serial.proofs.PipeLines.{read-amounts, write-amounts}
 use Rattle.nio_serial.proofs.PipeMaking.{ends-amount}
 use Rattle.nio_serial.proofs.Registering.{register-amounts}
 use Rattle.nio_serial.proofs.Simple.{is_blocking-amounts, is_open-amounts, is_registered-amounts, key_for-amounts}
 use Rattle.nio_serial.proofs.Simple.{wakeup-amounts, close-amounts, interrupt-amounts, interrupted-amounts}
-use Rattle.nio_serial.proofs.Simple.{selector-amounts, channel-amounts}
+use Rattle.nio_serial.proofs.Simple.{selector-amounts}
 use Rattle.nio_serial.proofs.Marking.{by_index-tells, by_key-tells}
 use Rattle.nio_serial.proofs.Telling.{told-amounts, failed-amounts}
 use Rattle.nio_serial.specs.Between.{IsOn, IsBetween}
@@ -121,8 +122,9 @@ module _ (l : Limits) (st : State) (now : Progress) (me : CallerNo) (between : I
     told-index elapsed told =
         subst (λ (n : SelNo). told_selection Now ds me n.0 (by_key x told) elapsed (Some (shown x))
         ≡ amounts told_reply (after_told now n) (perform me (told_plan x told elapsed) st)) selector-is
-        (told-amounts st now me x (by_key x told) told on.rises in_set (by_key-tells x told) on.kept
-        (none_due l st now between) (untaken l st now between x.selector.0) elapsed)
+        (told-amounts st now me x (by_key x told) told on.rises in_set (by_key-tells x told)
+        (none_due l st now between) (untaken l st now between x.selector.0) (published l st now between x.selector.0)
+        (free l st now between x.selector.0) elapsed)
 
     told-one : (elapsed : Bool) (pairs : List (KeyId × ℕ))
         → told_selection Now ds me s.0 pairs elapsed (Some (shown x))
@@ -131,8 +133,9 @@ module _ (l : Limits) (st : State) (now : Progress) (me : CallerNo) (between : I
         subst (λ (n : SelNo). told_selection Now ds me n.0 pairs elapsed (Some (shown x))
         ≡ amounts told_reply (after_told now n) (perform me
         (told_plan x (by_index x pairs) elapsed) st)) selector-is
-        (told-amounts st now me x pairs (by_index x pairs) on.rises in_set (by_index-tells st x pairs in_set) on.kept
-        (none_due l st now between) (untaken l st now between x.selector.0) elapsed)
+        (told-amounts st now me x pairs (by_index x pairs) on.rises in_set (by_index-tells st x pairs in_set)
+        (none_due l st now between) (untaken l st now between x.selector.0) (published l st now between x.selector.0)
+        (free l st now between x.selector.0) elapsed)
         ∙ made-is me (told_plan x (by_index x pairs) elapsed) told_reply (after_told now s) st
 
     failed-one : left_selection ds s.0 (Some (shown x)) ≡ comes_to (perform me (failed_line now s (Some x)) st)
@@ -230,7 +233,7 @@ module _ (l : Limits) (st : State) (now : Progress) (me : CallerNo) (between : I
 
   -- ---- pipes
 
-  read-line : (c : ChanNo) (n : ℕ) (place : Option ℕ)
+  read-line : (c : ChanId) (n : ℕ) (place : Option ℕ)
       → read_from ds me c n place ≡ comes_to (perform me (read_line l now c n place) st)
   read-line c n None = refl
   read-line c n (Some i) =
@@ -238,7 +241,7 @@ module _ (l : Limits) (st : State) (now : Progress) (me : CallerNo) (between : I
       (within l st now between) i n
       ∙ made-is me (try_read_plan l c) _ _ st
 
-  write-line : (c : ChanNo) (bytes : List ℕ) (place : Option ℕ)
+  write-line : (c : ChanId) (bytes : List ℕ) (place : Option ℕ)
       → write_to ds me c bytes place ≡ comes_to (perform me (write_line l now c bytes place) st)
   write-line c bytes None = refl
   write-line c bytes (Some i) =
@@ -246,24 +249,26 @@ module _ (l : Limits) (st : State) (now : Progress) (me : CallerNo) (between : I
       (within l st now between) i bytes
       ∙ made-is me (try_write_plan l (pipe_at now.pipes i).source c) _ _ st
 
-  pread-is : (c : ChanNo) (n : ℕ) → (st.chan c.0).made ≡ true
+  pread-is : (c : ChanId) (n : ℕ) → was_opened (st.chan c.number.0) c.serial ≡ true
       → pread_call ds me c n ≡ comes_to (perform me (read_line l now c n (own_source now.pipes me c)) st)
   unfolding pread_call
   pread-is c n made = channel-through ds c made _ ∙ read-line c n (own_source now.pipes me c)
 
-  pwrite-is : (c : ChanNo) (bytes : List ℕ) → (st.chan c.0).made ≡ true
+  pwrite-is : (c : ChanId) (bytes : List ℕ) → was_opened (st.chan c.number.0) c.serial ≡ true
       → pwrite_call ds me c bytes ≡ comes_to (perform me (write_line l now c bytes (own_sink now.pipes me c)) st)
   unfolding pwrite_call
   pwrite-is c bytes made = channel-through ds c made _ ∙ write-line c bytes (own_sink now.pipes me c)
 
   pipe-is : (target : CallerNo) → target.0 < l.callers
-      → pipe_call l ds me target
+      → pipe_call Now l ds me target
       ≡ comes_to (perform me (makes (pipe_plan l false) ends_reply (after_pipe now me target)) st)
   unfolding pipe_call
   pipe-is target below =
       cond-true (nat_lt target.0 l.callers) _ _ (lt-ltb target.0 l.callers below)
-      ∙ (ends-amount l st now me target (channels l st now between) (λ s k. unpinned l st now between s k me.0)
-      (whole l st now between) (within l st now between)
+      ∙ (ends-amount l st now me target
+      (record { within = between.at_rest.high.channels_within; made = channels l st now between })
+      (unheld l st now between) (λ s k. unpinned l st now between s k me.0) (whole l st now between)
+      (within l st now between)
       ∙ made-is me (pipe_plan l false) ends_reply (after_pipe now me target) st)
 
   pub call-amounts : (word : Call) → IsNamed l st word
@@ -271,9 +276,10 @@ module _ (l : Limits) (st : State) (now : Progress) (me : CallerNo) (between : I
   unfolding call_of call_plan
   call-amounts call.Selector named = selector-amounts st now me l ∙ asked-is (open_selector_plan l) selector_reply
   call-amounts (call.Channel kind) named =
-      channel-amounts st now me (channels l st now between) l kind ∙ asked-is (open_channel_plan l kind) channel_reply
+      channel-amounts l st me (channels l st now between) (unheld l st now between) kind now
+      ∙ asked-is (open_channel_plan l kind) channel_reply
   call-amounts (call.Blocking c on) named =
-      blocking-amounts l st now me c (unheld l st now between c.0) on named
+      blocking-amounts l st now me c (unheld l st now between c.number.0) on named
       ∙ asked-is (try_set_blocking_plan l c on) mode_reply
   call-amounts (call.IsBlocking c) named =
       is_blocking-amounts st now me c named ∙ asked-is (is_blocking_plan c) yes_or_no
@@ -283,7 +289,7 @@ module _ (l : Limits) (st : State) (now : Progress) (me : CallerNo) (between : I
   call-amounts (call.KeyFor c s) named =
       key_for-amounts st now me c named.0 s named.1 ∙ asked-is (key_for_plan c s) find_reply
   call-amounts (call.Register s c ops att) named =
-      register-amounts l st now me s c ops att (unheld l st now between c.0) (unpinned l st now between s.0)
+      register-amounts l st now me s c ops att (unheld l st now between c.number.0) (unpinned l st now between s.0)
       (untaken l st now between s.0) (claimed l st now between s.0)
       (fresh_mark l st now between s.0 (st.keys_high s.0) (above s))
       (fresh_free l st now between s.0 (st.keys_high s.0) (above s)) named.0 named.1

@@ -1,15 +1,18 @@
 -- Closing a channel amounts to the documented call.
-use Rattle.std.proofs.Common.{◌≡◌, ◌≢◌, ℕ, ◌+◌, ◌<◌, ◌≤◌, ◌==◌, nat_lt, Bool, true, false, cond, not, ◌&&◌, Option}
-use Rattle.std.proofs.Common.{Some, None, if◌then◌else◌, ⊎_elim, refl, ap, sym, ◌∙◌, subst, arith, eqb-true, eq-eqb}
-use Rattle.std.proofs.lemmas.Bool.{and_parts, and_left, and_right, both_ways, cases_eq, cases_lt, lt-ltb, le-ltb}
-use Rattle.std.proofs.lemmas.Bool.{ne_eqb, not-true, cond-false}
+use Rattle.std.proofs.Common.{◌≡◌, ◌≢◌, ℕ, ◌+◌, ◌<◌, ◌≤◌, ◌==◌, nat_lt, Bool, true, false, cond, not, ◌&&◌, ◌||◌}
+use Rattle.std.proofs.Common.{Option, Some, None, if◌then◌else◌, ⊎_elim, refl, ap, sym, ◌∙◌, subst, arith, eqb-true}
+use Rattle.std.proofs.Common.{eq-eqb}
+use Rattle.std.proofs.lemmas.Bool.{and_parts, and_from, and_left, and_right, both_ways, cases_eq, cases_lt, lt-ltb}
+use Rattle.std.proofs.lemmas.Bool.{le-ltb, ne_eqb, not-true, cond-false}
 use Rattle.nio_base.specs.declared.limits.Limits.{Limits}
 use Rattle.nio_base.specs.declared.numbers.CallerNo.{CallerNo}
+use Rattle.nio_base.specs.declared.numbers.ChanId.{ChanId}
 use Rattle.nio_base.specs.declared.numbers.ChanNo.{ChanNo}
 use Rattle.nio_base.specs.declared.numbers.KeyId.{KeyId}
 use Rattle.nio_base.specs.declared.numbers.SelNo.{SelNo}
-use Rattle.nio_history.proofs.Put.{put_at-same}
-use Rattle.nio_history.specs.Sets.{fits, in_key_set, is_in_key_set}
+use Rattle.nio_history.proofs.Put.{put-same, put_at-same}
+use Rattle.nio_history.specs.Acts.{closes_from}
+use Rattle.nio_history.specs.Sets.{fits, in_key_set, is_in_key_set, fits_channel, was_opened, is_open_channel}
 use Rattle.nio_history.specs.State.{State, put_at, with_chan, with_key, with_pin}
 use Rattle.nio_history.specs.declared.found.Chan.{Chan}
 use Rattle.nio_history.specs.declared.found.Mark.{Mark}
@@ -17,14 +20,15 @@ use Rattle.nio_history.specs.declared.found.Stage.{Stage}
 use Rattle.nio_language.specs.declared.reply.Reply.{Reply}
 use Rattle.nio_language.specs.declared.reply.Reply.TheVariants as reply
 use Rattle.nio_plain.proofs.Naming.{channel-through}
-use Rattle.nio_plain.proofs.Places.{put_same, put_at_same}
+use Rattle.nio_plain.proofs.Places.{put_at_same}
 use Rattle.nio_plain.specs.ScriptState.{ScriptState}
 use Rattle.nio_plain.specs.Seq.Replies.{replied}
 use Rattle.nio_plain.specs.Seq.Cancelling.{cancelled_key, channel_closed, has_index, closec_call}
 use Rattle.nio_plain.specs.Seq.Modes.{if_in_key_set, key_of}
 use Rattle.nio_plain.specs.Seq.Pipes.{sealing, own_sink}
-use Rattle.nio_steps.proofs.PerformLaws.{perform_then_on, perform_sweep}
-use Rattle.nio_steps.specs.ChannelCalls.{cancel_at, cancel_enrolled, cancel_keys, close_channel_plan}
+use Rattle.nio_steps.proofs.PerformLaws.{perform_then, perform_then_on, perform_sweep}
+use Rattle.nio_steps.specs.ChannelCalls.{cancel_at, cancel_enrolled, cancel_keys, close_once_more, close_found}
+use Rattle.nio_steps.specs.ChannelCalls.{close_channel_plan}
 use Rattle.nio_steps.specs.KeyCalls.{cancel_plan, cancel_present}
 use Rattle.nio_steps.specs.Names.{selector, key}
 use Rattle.nio_steps.specs.Perform.{Performed, perform}
@@ -81,7 +85,7 @@ cancel-performed st me s k free whole =
         (sym (put_at_same st.key s.0 k.index stage refl))
         ∙ ap (λ b. record { answer = tt; state = with_key st s.0 k.index (cond b (cancelled_key stage) stage) }) same)
 
--- ---- the keys of a channel
+-- ---- the keys of a number's channel
 
 lt_more : (s n : ℕ) → s ≢ n → nat_lt s (n + 1) ≡ nat_lt s n
 lt_more s n other =
@@ -91,7 +95,7 @@ lt_more s n other =
     (cases_lt s n)
 
 module _ (st : State) (c : ℕ) where
-  -- the keys of the channel in the selectors below n are cancelled
+  -- the keys of the number's channel in the selectors below n are cancelled
   abbrev keys_after : ℕ → ℕ → ℕ → Stage
   keys_after n s i = cond (nat_lt s n && has_index (key_of st c s) i) (cancelled_key (st.key s i)) (st.key s i)
 
@@ -176,32 +180,36 @@ module _ (st : State) (c : ℕ) where
             cond-false ((s == n) && (i == k.index)) x (keys_after n s i)
             (and_left (s == n) (i == k.index) (ne_eqb s n other)) ∙ sym (others n s i other)
 
-module _ (st : State) (me : CallerNo) (c : ChanNo) (free : (s i : ℕ) → st.pinned s i me.0 ≡ false)
-    (whole : (s i : ℕ) → (st.key s i).claimed ≡ (st.key s i).published) where
+module _ (st : State) (me : CallerNo) (c : ChanId) (free : (s i : ℕ) → st.pinned s i me.0 ≡ false)
+    (whole : (s i : ℕ) → (st.key s i).claimed ≡ (st.key s i).published)
+    (present : fits_channel (st.chan c.number.0) c.serial ≡ true) where
   abbrev stands : ℕ → State
-  stands n = record st { key = keys_after st c.0 n }
+  stands n = record st { key = keys_after st c.number.0 n }
 
   turn : (n : ℕ) → perform me (cancel_enrolled c n) (stands n) ≡ record { answer = tt; state = stands (n + 1) }
-  turn n = by_enrolled (st.enrolled c.0 n) refl
+  turn n = by_enrolled (st.enrolled c.number.0 n) refl
     where
-      by_enrolled : (o : Option KeyId) → st.enrolled c.0 n ≡ o
-          → perform me (cancel_at (selector n) o) (stands n) ≡ record { answer = tt; state = stands (n + 1) }
+      by_enrolled : (o : Option KeyId) → st.enrolled c.number.0 n ≡ o
+          → perform me (cancel_at c (selector n) o) (stands n) ≡ record { answer = tt; state = stands (n + 1) }
       by_enrolled None is =
-          ap (λ f. record { answer = tt; state = record st { key = f } }) (λ j s i. none_there st c.0 n is s i j)
+          ap (λ f. record { answer = tt; state = record st { key = f } }) (λ j s i. none_there st c.number.0 n is s i j)
       by_enrolled (Some k) is =
           let stage = st.key n k.index in
-          cancel-performed (stands n) me (selector n) k (free n k.index)
-          (ap (λ x. x.claimed) (not_yet st c.0 n k.index)
-          ∙ (whole n k.index ∙ ap (λ x. x.published) (sym (not_yet st c.0 n k.index))))
+          ap (λ (b : Bool). perform me (when b (cancel_plan (key (selector n) k))) (stands n)) present
+          ∙ (perform_then_on me (cancel_plan (key (selector n) k)) (λ _. Plan.reply tt) (stands n) _ _
+          (cancel-performed (stands n) me (selector n) k (free n k.index)
+          (ap (λ x. x.claimed) (not_yet st c.number.0 n k.index)
+          ∙ (whole n k.index ∙ ap (λ x. x.published) (sym (not_yet st c.number.0 n k.index)))))
           ∙ (ap (λ x. record {
             answer = tt;
             state =
                 record st {
-                  key = put_at (keys_after st c.0 n) n k.index
+                  key = put_at (keys_after st c.number.0 n) n k.index
                       (cond (is_in_key_set x k.serial) (cancelled_key x) x);
                 };
-          }) (not_yet st c.0 n k.index)
-          ∙ ap (λ f. record { answer = tt; state = record st { key = f } }) (λ j s i. one_there st c.0 n k is s i j))
+          }) (not_yet st c.number.0 n k.index)
+          ∙ ap (λ f. record { answer = tt; state = record st { key = f } })
+          (λ j s i. one_there st c.number.0 n k is s i j)))
 
   pub cancel_keys-performed : (l : Limits)
       → perform me (cancel_keys l c) st ≡ record { answer = true; state = stands l.selectors }
@@ -214,12 +222,12 @@ module _ (st : State) (me : CallerNo) (c : ChanNo) (free : (s i : ℕ) → st.pi
       before : st ≡ stands 0
       before =
           ap (λ f. record st { key = f }) (λ j s i. sym (ap
-          (λ b. cond (b && has_index (key_of st c.0 s) i) (cancelled_key (st.key s i)) (st.key s i))
+          (λ b. cond (b && has_index (key_of st c.number.0 s) i) (cancelled_key (st.key s i)) (st.key s i))
           (le-ltb s 0 (omega arith))) j)
 
 -- ---- the call
 
--- the channel's key at an index is in the key set
+-- the key of the number's channel at an index is in the key set
 pub index_in_set : (st : State) (s i : ℕ) (enrolled : Option KeyId) → has_index (if_in_key_set st s enrolled) i ≡ true
     → in_key_set (st.key s i) ≡ true
 index_in_set st s i None e = absurd (both_ways false refl e)
@@ -243,60 +251,88 @@ marked_where : (b : Bool) (k : Stage) (m : Mark) → settled_mark (cond b (cance
 marked_where true k m = refl
 marked_where false k m = refl
 
--- the channel is closed, and its keys in the table's selectors are cancelled
+closes_same : (x : Chan) → closes_from x x ≡ true
+closes_same x = and_from (x.serial == x.serial) (x.blocking || not x.blocking) (eq-eqb x.serial x.serial refl)
+    (either_mode x.blocking)
+  where
+    either_mode : (b : Bool) → (b || not b) ≡ true
+    either_mode true = refl
+    either_mode false = refl
+
+-- the number's channel is closed, and its keys in the table's selectors are cancelled
 abbrev pub closed_left : Limits → State → ChanNo → State
 closed_left l st c =
     let closed = with_chan st c.0 (record (st.chan c.0) { closed = true }) in
     record closed { key = keys_after closed c.0 l.selectors }
 
 -- a close of the channel on the table
-module _ (l : Limits) (st : State) (now : Progress) (me : CallerNo) (c : ChanNo)
+module _ (l : Limits) (st : State) (now : Progress) (me : CallerNo) (c : ChanId)
     (free : (s i : ℕ) → st.pinned s i me.0 ≡ false) (whole : (s i : ℕ) → (st.key s i).claimed ≡ (st.key s i).published)
     (within : (s i : ℕ) → in_key_set (st.key s i) ≡ true → s < l.selectors) where
   abbrev ds : ScriptState
   ds = documented st now
 
+  abbrev number : ℕ
+  number = c.number.0
+
+  abbrev from : Chan
+  from = st.chan number
+
   abbrev closed_chan : Chan
-  closed_chan = record (st.chan c.0) { closed = true }
+  closed_chan = record from { closed = true }
 
   abbrev closed_st : State
-  closed_st = with_chan st c.0 closed_chan
+  closed_st = with_chan st number closed_chan
 
-  keys : (s i : ℕ) → cond (has_index (key_of st c.0 s) i) (cancelled_key (settled (st.key s i))) (settled (st.key s i))
-      ≡ settled (keys_after closed_st c.0 l.selectors s i)
-  keys s i = sym (settled_where (nat_lt s l.selectors) (has_index (key_of st c.0 s) i) (st.key s i)
-      (λ h. let in_set = index_in_set st s i (st.enrolled c.0 s) h in (
+  keys : (s i : ℕ) → cond (has_index (key_of st number s) i) (cancelled_key (settled (st.key s i)))
+      (settled (st.key s i))
+      ≡ settled (keys_after closed_st number l.selectors s i)
+  keys s i = sym (settled_where (nat_lt s l.selectors) (has_index (key_of st number s) i) (st.key s i)
+      (λ h. let in_set = index_in_set st s i (st.enrolled number s) h in (
         lt-ltb s l.selectors (within s i in_set),
         not-true (st.key s i).removed (and_parts (st.key s i).published (not (st.key s i).removed) in_set).1,
       )))
 
   marks : (s i : ℕ) → settled_mark (st.key s i) (st.mark s i)
-      ≡ settled_mark (keys_after closed_st c.0 l.selectors s i) (st.mark s i)
-  marks s i = sym (marked_where (nat_lt s l.selectors && has_index (key_of st c.0 s) i) (st.key s i) (st.mark s i))
+      ≡ settled_mark (keys_after closed_st number l.selectors s i) (st.mark s i)
+  marks s i = sym (marked_where (nat_lt s l.selectors && has_index (key_of st number s) i) (st.key s i) (st.mark s i))
 
-  pub closed-documented : (r : Reply) → replied ds r (channel_closed ds.shared c.0)
-      ≡ record { reply = r; left = documented (closed_left l st c) now }
+  pub closed-documented : (r : Reply) → replied ds r (channel_closed ds.shared number)
+      ≡ record { reply = r; left = documented (closed_left l st c.number) now }
   closed-documented r =
       λ j. replied ds r (record (settled_state closed_st) { key = λ s i. keys s i j; mark = λ s i. marks s i j })
 
-  pub close-open : (st.chan c.0).closed ≡ false
-      → perform me (close_channel_plan l c) st ≡ record { answer = true; state = closed_left l st c }
+  -- the channel was found open, and nobody comes between
+  close-found : is_open_channel from c.serial ≡ true
+      → perform me (close_found l c from) st ≡ record { answer = true; state = closed_left l st c.number }
+  close-found is =
+      ap (λ (b : Bool). perform me (if b && not from.closed then cancel_keys l c else if_again)
+      (with_chan st number (if b then closed_chan else from))) (closes_same from)
+      ∙ (ap (λ (b : Bool). perform me (if b then cancel_keys l c else if_again) closed_st) parts.1
+      ∙ cancel_keys-performed closed_st me c free whole
+      (ap (λ (x : Chan). fits_channel x c.serial) (put-same st.chan number closed_chan) ∙ parts.0) l)
+    where
+      parts : (fits_channel from c.serial ≡ true) × (not from.closed ≡ true)
+      parts = and_parts (fits_channel from c.serial) (not from.closed) is
+
+      if_again : Plan Bool
+      if_again = if is_open_channel from c.serial then close_once_more l c from else Plan.reply false
+
+  pub close-open : is_open_channel from c.serial ≡ true
+      → perform me (close_channel_plan l c) st ≡ record { answer = true; state = closed_left l st c.number }
   unfolding close_channel_plan
   close-open is =
-      ap (λ (b : Bool). perform me (if b then Plan.reply false else cancel_keys l c) closed_st) is
-      ∙ cancel_keys-performed closed_st me c free whole l
+      perform_then me (is_open_channel from c.serial) (close_found l c from) (Plan.reply false) st is ∙ close-found is
 
   -- a sink that its owner closes leaves its seal
-  pub closec-amounts : (st.chan c.0).made ≡ true
+  pub closec-amounts : was_opened from c.serial ≡ true
       → closec_call ds me c
       ≡ amounts closed_reply (λ _. with_seal now (own_sink now.pipes me c)) (perform me (close_channel_plan l c) st)
   unfolding closec_call close_channel_plan
   closec-amounts made =
       channel-through ds c made _
       ∙ ap (sealing (own_sink now.pipes me c))
-      (branch (amounts closed_reply (λ _. now)) me (Plan.reply false) (cancel_keys l c) closed_st _ _
-      (st.chan c.0).closed (st.chan c.0).closed refl
-      (λ is. ap (λ f. record { reply = reply.Already; left = documented (record st { chan = f }) now })
-      (sym (put_same st.chan c.0 closed_chan (λ j. record (st.chan c.0) { closed = is j }))))
-      (λ _. closed-documented reply.«Ok»
-      ∙ sym (ap (amounts closed_reply (λ _. now)) (cancel_keys-performed closed_st me c free whole l))))
+      (branch (amounts closed_reply (λ _. now)) me (close_found l c from) (Plan.reply false) st _ _
+      _ (is_open_channel from c.serial) refl
+      (λ is. closed-documented reply.«Ok» ∙ sym (ap (amounts closed_reply (λ _. now)) (close-found is)))
+      (λ _. refl))

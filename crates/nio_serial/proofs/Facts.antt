@@ -1,6 +1,6 @@
 -- What holds between two calls, in the forms in which the equations take it.
 use Rattle.std.proofs.Common.{◌≡◌, ℕ, ◌<◌, ◌==◌, nat_lt, Bool, true, false, cond, not, ◌&&◌, Option, Some, None}
-use Rattle.std.proofs.Common.{option_map, is_some, map, refl, ap, sym, ◌∙◌, subst}
+use Rattle.std.proofs.Common.{option_map, is_some, map, refl, ap, sym, ◌∙◌}
 use Rattle.std.proofs.lemmas.Bool.{and_parts}
 use Rattle.nio_base.specs.declared.limits.Limits.{Limits}
 use Rattle.nio_base.specs.declared.numbers.CallerNo.{CallerNo}
@@ -10,20 +10,22 @@ use Rattle.nio_history.specs.Sets.{in_key_set, is_in_key_set}
 use Rattle.nio_history.specs.State.{State, unmarked, unclaimed}
 use Rattle.nio_history.specs.declared.found.Mark.{Mark}
 use Rattle.nio_history.specs.declared.found.Stage.{Stage}
-use Rattle.nio_plain.proofs.ReachedCalls.{sound-left}
+use Rattle.nio_plain.proofs.ReachedCalls.{keeps_call}
 use Rattle.nio_plain.proofs.ReachedSound.{Sound, sound-opening}
-use Rattle.nio_plain.specs.ScriptState.{ScriptState, script_opening}
+use Rattle.nio_plain.specs.ScriptState.{ScriptState}
 use Rattle.nio_plain.specs.Seq.Selections.{is_looked, is_caller, own_selection}
 use Rattle.nio_plain.specs.declared.rules.Rules.TheVariants.{Now}
-use Rattle.nio_serial.specs.Between.{IsLeft, IsBetween}
+use Rattle.nio_serial.proofs.ReopeningKept.{sound-reopened}
+use Rattle.nio_serial.specs.Between.{IsLeft, opening, line, reopening, IsBetween}
 use Rattle.nio_serial.specs.Documented.{Progress, Selecting, settled, settled_mark, looked_pair, shown, documented}
 use Rattle.nio_serial.specs.Lines.{if_own}
 use Rattle.nio_serial.specs.Lines.{own_selection as own_now}
 
--- a state that a script leaves is sound
+-- a state that documented calls leave is sound
 pub left_is_sound : (l : Limits) (st : ScriptState) → IsLeft l st → Sound Now l st
-left_is_sound l st left =
-    subst (Sound Now l) (sym left.left) (sound-left Now l left.calls script_opening (sound-opening Now l))
+left_is_sound l _ opening = sound-opening Now l
+left_is_sound l _ (line st me word left) = (keeps_call Now l st me (left_is_sound l st left) word).sound
+left_is_sound l _ (reopening st c left) = sound-reopened l st c (left_is_sound l st left)
 
 unmarked_from : (k : Stage) (m : Mark) → settled k ≡ unclaimed → settled_mark k m ≡ unmarked → m ≡ unmarked
 unmarked_from k m key mark =

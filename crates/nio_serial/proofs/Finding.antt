@@ -1,24 +1,28 @@
 -- A channel's key, and searches and sweeps over the selectors, performed.
-use Rattle.std.proofs.Common.{◌≡◌, ℕ, zero, suc, ◌+◌, ◌-◌, Bool, true, false, cond, ◌||◌, Option, Some, None}
-use Rattle.std.proofs.Common.{option_map, is_some, find, List, [], ◌∷◌, ◌++◌, refl, ap, sym, ◌∙◌, add-one, arith}
-use Rattle.std.proofs.Math.Bool.{or-false}
+use Rattle.std.proofs.Common.{◌≡◌, ℕ, zero, suc, ◌+◌, ◌-◌, Bool, true, false, cond, ◌&&◌, ◌||◌, if◌then◌else◌, Option}
+use Rattle.std.proofs.Common.{Some, None, option_map, is_some, find, List, [], ◌∷◌, ◌++◌, refl, ap, sym, ◌∙◌, add-one}
+use Rattle.std.proofs.Common.{arith}
+use Rattle.std.proofs.Math.Bool.{or-false, and-true, and-false}
 use Rattle.std.proofs.lemmas.List.Folds.{list_any-append}
 use Rattle.std.specs.List.{list_any}
 use Rattle.nio_base.specs.declared.limits.Limits.{Limits}
 use Rattle.nio_base.specs.declared.numbers.CallerNo.{CallerNo}
+use Rattle.nio_base.specs.declared.numbers.ChanId.{ChanId}
 use Rattle.nio_base.specs.declared.numbers.ChanNo.{ChanNo}
 use Rattle.nio_base.specs.declared.numbers.KeyId.{KeyId}
 use Rattle.nio_base.specs.declared.numbers.KeyNo.{KeyNo}
 use Rattle.nio_base.specs.declared.numbers.SelNo.{SelNo}
-use Rattle.nio_history.specs.Sets.{is_in_key_set}
+use Rattle.nio_history.specs.Sets.{is_in_key_set, fits_channel}
 use Rattle.nio_history.specs.State.{State}
-use Rattle.nio_plain.specs.Seq.Modes.{if_in_key_set, key_of, is_registered}
+use Rattle.nio_plain.specs.Seq.Modes.{if_in_key_set, key_of, has_key, is_registered, key_of_channel}
 use Rattle.nio_plain.specs.Seq.Names.{below}
 use Rattle.nio_steps.proofs.PerformLaws.{perform_then_on, perform_sweep, perform_seek, indexes, indexes-push, found_at}
-use Rattle.nio_steps.specs.ChannelCalls.{key_for_plan, enrolled_in_set, registered_or, is_registered_plan, first_key}
+use Rattle.nio_steps.specs.ChannelCalls.{key_for_plan, enrolled_in_set, enrolled_key, has_number, registered_or}
+use Rattle.nio_steps.specs.ChannelCalls.{is_registered_plan, first_key, key_of_channel as channel_key}
 use Rattle.nio_steps.specs.Names.{selector, key}
 use Rattle.nio_steps.specs.Perform.{Performed, perform}
 use Rattle.nio_steps.specs.Plan.{Plan}
+use Rattle.nio_steps.specs.Sweeps.{sweep_to}
 
 -- ---- numbers in rising order
 
@@ -66,30 +70,73 @@ enrolled_performed me s (Some k) st = by_set (is_in_key_set (st.key s.0 k.index)
     by_set true = refl
     by_set false = refl
 
-pub key_for-performed : (me : CallerNo) (c : ChanNo) (s : SelNo) (st : State)
-    → perform me (key_for_plan c s) st ≡ record { answer = option_map (key s) (key_of st c.0 s.0); state = st }
+pub enrolled_key-performed : (me : CallerNo) (c : ChanNo) (s : SelNo) (st : State)
+    → perform me (enrolled_key c s) st ≡ record { answer = option_map (key s) (key_of st c.0 s.0); state = st }
+enrolled_key-performed me c s st = enrolled_performed me s (st.enrolled c.0 s.0) st
+
+-- the key of the number is the channel's where the number has this channel still
+pub key_for-performed : (me : CallerNo) (c : ChanId) (s : SelNo) (st : State)
+    → perform me (key_for_plan c s) st ≡ record { answer = option_map (key s) (key_of_channel st c s.0); state = st }
 unfolding key_for_plan
-key_for-performed me c s st = enrolled_performed me s (st.enrolled c.0 s.0) st
+key_for-performed me c s st =
+    perform_then_on me (enrolled_key c.number s) (channel_key c) st (option_map (key s) (key_of st c.number.0 s.0)) st
+    (enrolled_key-performed me c.number s st)
+    ∙ by_key (fits_channel (st.chan c.number.0) c.serial) refl (key_of st c.number.0 s.0)
+  where
+    by_key : (b : Bool) → fits_channel (st.chan c.number.0) c.serial ≡ b → (o : Option KeyId)
+        → perform me (channel_key c (option_map (key s) o)) st
+        ≡ record { answer = option_map (key s) (cond (fits_channel (st.chan c.number.0) c.serial) o None); state = st }
+    by_key b is None =
+        ap (λ (a : Option KeyNo). record { answer = a; state = st })
+        (none_of b ∙ ap (λ x. option_map (key s) (cond x None None)) (sym is))
+      where
+        none_of : (x : Bool) → ◌≡◌ {A = Option KeyNo} None (option_map (key s) (cond x None None))
+        none_of true = refl
+        none_of false = refl
+    by_key true is (Some k) =
+        ap (λ x. record { answer = cond x (Some (key s k)) None; state = st }) is
+        ∙ ap (λ x. record { answer = option_map (key s) (cond x (Some k) None); state = st }) (sym is)
+    by_key false is (Some k) =
+        ap (λ x. record { answer = cond x (Some (key s k)) None; state = st }) is
+        ∙ ap (λ x. record { answer = option_map (key s) (cond x (Some k) None); state = st }) (sym is)
 
 mapped_some : {A B : Type 0} (f : A → B) (o : Option A) → is_some (option_map f o) ≡ is_some o
 mapped_some f None = refl
 mapped_some f (Some x) = refl
 
--- the channel has a key in the selector
-abbrev pub has_key : State → ℕ → ℕ → Bool
-has_key st c s = is_some (key_of st c s)
+-- the number's channel has a key in the selector
+abbrev pub has_key_in : State → ℕ → ℕ → Bool
+has_key_in st c s = is_some (key_of st c s)
 
-pub registered-performed : (l : Limits) (me : CallerNo) (c : ChanNo) (st : State)
-    → perform me (is_registered_plan l c) st ≡ record { answer = is_registered l st c.0; state = st }
+-- the looks at the keys of the number, in one selector after another
+swept-performed : (l : Limits) (me : CallerNo) (c : ChanNo) (st : State)
+    → perform me (sweep_to l.selectors 0 (registered_or c) false) st ≡ record { answer = has_key l st c.0; state = st }
+swept-performed l me c st =
+    perform_sweep me l.selectors 0 (registered_or c) (λ n. list_any (has_key_in st c.0) (below n)) (λ _. st)
+    (omega arith)
+    (λ n _ _.
+    let before = list_any (has_key_in st c.0) (below n) in
+    perform_then_on me (enrolled_key c (selector n)) (λ here. Plan.reply (before || is_some here)) st _ st
+    (enrolled_key-performed me c (selector n) st)
+    ∙ ap (λ b. record { answer = b; state = st })
+    (ap (λ b. before || b) (mapped_some (key (selector n)) (key_of st c.0 n)) ∙ sym (any-push (has_key_in st c.0) n)))
+
+pub registered-performed : (l : Limits) (me : CallerNo) (c : ChanId) (st : State)
+    → perform me (is_registered_plan l c) st ≡ record { answer = is_registered l st c; state = st }
 unfolding is_registered_plan
 registered-performed l me c st =
-    perform_sweep me l.selectors 0 (registered_or c) (λ n. list_any (has_key st c.0) (below n)) (λ _. st) (omega arith)
-    (λ n _ _.
-    let before = list_any (has_key st c.0) (below n) in
-    perform_then_on me (key_for_plan c (selector n)) (λ here. Plan.reply (before || is_some here)) st _ st
-    (key_for-performed me c (selector n) st)
-    ∙ ap (λ b. record { answer = b; state = st })
-    (ap (λ b. before || b) (mapped_some (key (selector n)) (key_of st c.0 n)) ∙ sym (any-push (has_key st c.0) n)))
+    perform_then_on me (sweep_to l.selectors 0 (registered_or c.number) false)
+    (λ registered. if registered then has_number c else Plan.reply false) st (has_key l st c.number.0) st
+    (swept-performed l me c.number st)
+    ∙ by_key (has_key l st c.number.0)
+  where
+    present : Bool
+    present = fits_channel (st.chan c.number.0) c.serial
+
+    by_key : (b : Bool) → perform me (if b then has_number c else Plan.reply false) st
+        ≡ record { answer = present && b; state = st }
+    by_key true = ap (λ b. record { answer = b; state = st }) (sym (and-true present))
+    by_key false = ap (λ b. record { answer = b; state = st }) (sym (and-false present))
 
 -- the key that is found, or any where there is none
 key_or : SelNo → Option KeyId → KeyNo
@@ -105,24 +152,24 @@ unfolding key_or
 some_mapped s None e = absurd cc
 some_mapped s (Some k) e = refl
 
--- the search for the first key of the channel leaves the state, and finds one exactly where the channel is registered
+-- the search for the first key of the number's channel leaves the state, and finds one exactly where there is one
 pub record FindsKey (l : Limits) (me : CallerNo) (c : ChanNo) (st : State) : Type 0 where
   pub found : Option KeyNo
   pub performed : perform me (first_key l c) st ≡ record { answer = found; state = st }
-  pub where_registered : is_some found ≡ is_registered l st c.0
+  pub where_registered : is_some found ≡ has_key l st c.0
 
 pub first_key-performed : (l : Limits) (me : CallerNo) (c : ChanNo) (st : State) → FindsKey l me c st
 first_key-performed l me c st =
-    let p = has_key st c.0 in
+    let p = has_key_in st c.0 in
     let x : ℕ → KeyNo = λ n. key_or (selector n) (key_of st c.0 n) in
     let o = find p (indexes 0 (l.selectors - 0)) in
     record {
       found = option_map x o;
       performed =
-          perform_seek me l.selectors 0 (λ n. key_for_plan c (selector n)) p x st (λ _. st) (omega arith)
-          (λ n _ _ not_found. key_for-performed me c (selector n) st
+          perform_seek me l.selectors 0 (λ n. enrolled_key c (selector n)) p x st (λ _. st) (omega arith)
+          (λ n _ _ not_found. enrolled_key-performed me c (selector n) st
           ∙ ap (λ a. record { answer = a; state = st }) (none_mapped (selector n) (key_of st c.0 n) not_found))
-          (λ n _ _ found. key_for-performed me c (selector n) st
+          (λ n _ _ found. enrolled_key-performed me c (selector n) st
           ∙ ap (λ a. record { answer = a; state = st }) (some_mapped (selector n) (key_of st c.0 n) found))
           ∙ found_same x o;
       where_registered = mapped_some x o ∙ (ap is_some (find-below p l.selectors) ∙ found-any p (below l.selectors));

@@ -37,8 +37,8 @@ use Rattle.nio_serial.proofs.Facts.{none_due, begun, sound}
 use Rattle.nio_serial.proofs.Listing.{list-lacking}
 use Rattle.nio_serial.proofs.Calls.{call-amounts, told-by-index}
 use Rattle.nio_serial.proofs.Lines.{unless, none-missing, name-done, line-amounts}
-use Rattle.nio_serial.proofs.Staying.{line-stays, left-more}
-use Rattle.nio_serial.specs.Between.{IsBetween, IsLeft, IsAtRest}
+use Rattle.nio_serial.proofs.Staying.{line-stays}
+use Rattle.nio_serial.specs.Between.{IsBetween, IsLeft, line as line_left, IsAtRest}
 use Rattle.nio_serial.specs.Documented.{Progress, documented, amounts}
 use Rattle.nio_serial.specs.Laws.{IsThere, IsNamed, CallsAmount, LinesAmount, DrawsStayBetween, CallsStayBetween}
 use Rattle.nio_serial.specs.Laws.{Amounts, CallRunsAmount, LineRunsAmount, PassLinesAmount, ToldAmounts, LackingLeaves}
@@ -119,7 +119,7 @@ pass-lines-amount now me word old new said fit only between call =
 -- who is drawn isn't told apart
 pub draws-stay : DrawsStayBetween
 draws-stay l st now n between = record {
-  left = record { calls = between.left.calls; left = between.left.left };
+  left = between.left;
   at_rest = between.at_rest;
   shown = λ s. let was = between.shown s in
       record { turn = was.turn; begun = was.begun; on = was.on; closing = was.closing };
@@ -157,7 +157,7 @@ told-stays l st now me s x told elapsed below between made own =
     let same : seq Now l ds me word ≡ amounts told_reply (after_told now s) (perform me (told_plan x told elapsed) st) =
     seq-through l ds me word below ∙ told-by-index l st now me between s x told elapsed made own in
     record {
-      left = subst (λ (a : Replied). IsLeft l a.left) same (left-more l ds me word between.left);
+      left = subst (λ (a : Replied). IsLeft l a.left) same (line_left ds me word between.left);
       at_rest =
           subst (λ (a : Replied). IsAtRest l a.left.shared) same
           (rests-is l (seq Now l ds me word).left.shared (rests-seq l ds (sound l st now between)

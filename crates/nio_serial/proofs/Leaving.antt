@@ -58,7 +58,8 @@ module _ (P : Progress → Type 0) (now : Progress) (here : P now) where
   name-leaves : (l : Limits) (a : LineName) (plan : Plan Said) → Leaves P plan → Leaves P (if_name l now a plan)
   name-leaves l (Caller n) plan leaves = if-leaves (nat_lt n.0 l.callers) reply.NoCaller plan leaves
   name-leaves l (Selector s) plan leaves = found-leaves (find_selector_plan l s.0) reply.NoSelector plan leaves
-  name-leaves l (Channel c) plan leaves = found-leaves (find_channel_plan l c.0) reply.NoChannel plan leaves
+  name-leaves l (Channel c) plan leaves =
+      found-leaves (find_channel_plan l c.number.0 c.serial) reply.NoChannel plan leaves
   name-leaves l (Key s k) plan leaves =
       found-leaves (find_selector_plan l s.0) reply.NoSelector _
       (found-leaves (find_plan l s k.index k.serial) reply.NoKey plan leaves)

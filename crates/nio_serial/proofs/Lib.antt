@@ -2,6 +2,8 @@ pub mod Base
 pub mod KeyCalls
 pub mod Finding
 pub mod Simple
+pub mod NextChannel
+pub mod Opening
 pub mod Blocking
 pub mod ClosingChannels
 pub mod Removing
@@ -16,6 +18,7 @@ pub mod Telling
 pub mod Claiming
 pub mod Making
 pub mod Registering
+pub mod ReopeningKept
 pub mod Facts
 pub mod Resting
 pub mod PipeLines
@@ -33,5 +36,6 @@ pub mod Serial
 pub mod Progress
 pub mod SequencePipes
 pub mod SequenceCalls
+pub mod SequenceReopening
 pub mod SequenceWaiting
 pub mod Sequences

@@ -5,12 +5,12 @@ use Rattle.std.proofs.lemmas.Bool.{both_ways, ltb-true, ltb-false, lt-ltb, le-lt
 use Rattle.nio_base.specs.Limits.{IsFit}
 use Rattle.nio_base.specs.declared.limits.Limits.{Limits}
 use Rattle.nio_base.specs.declared.numbers.CallerNo.{CallerNo}
-use Rattle.nio_base.specs.declared.numbers.ChanNo.{ChanNo}
+use Rattle.nio_base.specs.declared.numbers.ChanId.{ChanId}
 use Rattle.nio_base.specs.declared.numbers.KeyNo.{KeyNo}
 use Rattle.nio_base.specs.declared.numbers.SelNo.{SelNo}
 use Rattle.nio_history.proofs.Bits.{bits_below-at}
 use Rattle.nio_history.specs.Answers.{selectors_word}
-use Rattle.nio_history.specs.Sets.{was_published}
+use Rattle.nio_history.specs.Sets.{was_opened, was_published}
 use Rattle.nio_history.specs.State.{State, unclaimed}
 use Rattle.nio_history.specs.declared.found.Stage.{Stage}
 use Rattle.nio_language.specs.WordRows.{EachName, by_names, word_row}
@@ -40,7 +40,7 @@ use Rattle.nio_plain.specs.Seq.Wakeups.{wakeup_call, interrupt_call}
 use Rattle.nio_plain.specs.declared.rules.Rules.TheVariants.{Now}
 use Rattle.nio_steps.proofs.PerformLaws.{perform_then_on}
 use Rattle.nio_steps.specs.KeyCalls.{has_bit, find_selector_plan, find_channel_plan, find_plan}
-use Rattle.nio_steps.specs.Names.{selector, channel}
+use Rattle.nio_steps.specs.Names.{selector, channel, channel_of}
 use Rattle.nio_steps.specs.Perform.{perform}
 use Rattle.nio_steps.specs.Plan.{Plan, ◌>>=◌}
 use Rattle.nio_steps.specs.Steps.{look_selectors, look_channel, look_key}
@@ -71,7 +71,7 @@ unless refuse go (Some r) = refuse r
 abbrev pub missing : Limits → State → LineName → Option Reply
 missing l st (Caller n) = if nat_lt n.0 l.callers then None else Some reply.NoCaller
 missing l st (Selector s) = if st.selector s.0 then None else Some reply.NoSelector
-missing l st (Channel c) = if (st.chan c.0).made then None else Some reply.NoChannel
+missing l st (Channel c) = if was_opened (st.chan c.number.0) c.serial then None else Some reply.NoChannel
 missing l st (Key s k) =
     if st.selector s.0 then (if was_published (st.key s.0 k.index) k.serial then None else Some reply.NoKey)
     else Some reply.NoSelector
@@ -86,7 +86,7 @@ holds-test b r e = ap (λ (c : Bool). if c then None else Some r) e
 pub none-missing : (l : Limits) (st : State) (a : LineName) → IsThere l st a → missing l st a ≡ None
 none-missing l st (Caller n) there = holds-test (nat_lt n.0 l.callers) reply.NoCaller (lt-ltb n.0 l.callers there)
 none-missing l st (Selector s) there = holds-test (st.selector s.0) reply.NoSelector there
-none-missing l st (Channel c) there = holds-test (st.chan c.0).made reply.NoChannel there
+none-missing l st (Channel c) there = holds-test (was_opened (st.chan c.number.0) c.serial) reply.NoChannel there
 none-missing l st (Key s k) there =
     ap (λ (b : Bool). if b then (if was_published (st.key s.0 k.index) k.serial then None else Some reply.NoKey)
     else Some reply.NoSelector) there.0
@@ -95,7 +95,7 @@ none-missing l st (Key s k) there =
 is-there : (l : Limits) (st : State) (a : LineName) → missing l st a ≡ None → IsThere l st a
 is-there l st (Caller n) e = ltb-true n.0 l.callers (test-holds (nat_lt n.0 l.callers) reply.NoCaller e)
 is-there l st (Selector s) e = test-holds (st.selector s.0) reply.NoSelector e
-is-there l st (Channel c) e = test-holds (st.chan c.0).made reply.NoChannel e
+is-there l st (Channel c) e = test-holds (was_opened (st.chan c.number.0) c.serial) reply.NoChannel e
 is-there l st (Key s k) e = by_selector (st.selector s.0) refl e
   where
     by_selector : (b : Bool) → st.selector s.0 ≡ b
@@ -114,11 +114,13 @@ module _ (l : Limits) (st : State) (now : Progress) (me : CallerNo) (fit : IsFit
       false_from_ne_true (st.selector n) (λ h. let low = (sound l st now between).keys.selectors n h in both_ways
       (nat_lt n l.selectors) above (lt-ltb n l.selectors low))
 
-  channel_within : (n : ℕ) → nat_lt n l.channels ≡ false → (st.chan n).made ≡ false
-  channel_within n above =
+  channel_within : (n q : ℕ) → nat_lt n l.channels ≡ false → was_opened (st.chan n) q ≡ false
+  channel_within n q above =
       let past : l.channels ≤ n = ltb-false n l.channels above in
       let marks = between.at_rest.high.channels_within in
-      channels l st now between n ∙ le-ltb n st.channels_high (omega arith)
+      let unmade : (st.chan n).made ≡ false =
+      channels l st now between n ∙ le-ltb n st.channels_high (omega arith) in
+      ap (λ b. b && not (nat_lt (st.chan n).serial q)) unmade
 
   fresh_unpublished : (k : Stage) (q : ℕ) → settled k ≡ unclaimed → was_published k q ≡ false
   fresh_unpublished k q fresh = λ j. was_unpublished j
@@ -154,21 +156,25 @@ module _ (l : Limits) (st : State) (now : Progress) (me : CallerNo) (fit : IsFit
           ap (λ (b : Bool). record { answer = if b then Some (selector n) else None; state = st })
           (sym (selector_within n e))
 
-  pub channel-found : (n : ℕ) → perform me (find_channel_plan l n) st
-      ≡ record { answer = if (st.chan n).made then Some (channel n) else None; state = st }
+  pub channel-found : (n q : ℕ) → perform me (find_channel_plan l n q) st
+      ≡ record { answer = if was_opened (st.chan n) q then Some (channel_of (channel n) q) else None; state = st }
   unfolding find_channel_plan
-  channel-found n = by_limit (nat_lt n l.channels) refl
+  channel-found n q = by_limit (nat_lt n l.channels) refl
     where
-      looks : Plan (Option ChanNo)
-      looks = look_channel (channel n) >>= (λ found. Plan.reply (if found.made then Some (channel n) else None))
+      looks : Plan (Option ChanId)
+      looks = look_channel (channel n) >>= (λ found. Plan.reply
+          (if was_opened found q then Some (channel_of (channel n) q) else None))
 
       by_limit : (b : Bool) → nat_lt n l.channels ≡ b
           → perform me (if not b then Plan.reply None else looks) st
-          ≡ record { answer = if (st.chan n).made then Some (channel n) else None; state = st }
+          ≡ record {
+            answer = if was_opened (st.chan n) q then Some (channel_of (channel n) q) else None;
+            state = st;
+          }
       by_limit true e = refl
       by_limit false e =
-          ap (λ (b : Bool). record { answer = if b then Some (channel n) else None; state = st })
-          (sym (channel_within n e))
+          ap (λ (b : Bool). record { answer = if b then Some (channel_of (channel n) q) else None; state = st })
+          (sym (channel_within n q e))
 
   abbrev named_key : SelNo → ℕ → ℕ → KeyNo
   named_key s i q = record { sel = s; index = i; serial = q }
@@ -215,7 +221,8 @@ module _ (l : Limits) (st : State) (now : Progress) (me : CallerNo) (fit : IsFit
   name-done (Selector s) plan =
       found-done (find_selector_plan l s.0) (st.selector s.0) (selector s.0) reply.NoSelector plan (selector-found s.0)
   name-done (Channel c) plan =
-      found-done (find_channel_plan l c.0) (st.chan c.0).made (channel c.0) reply.NoChannel plan (channel-found c.0)
+      found-done (find_channel_plan l c.number.0 c.serial) (was_opened (st.chan c.number.0) c.serial) c reply.NoChannel
+      plan (channel-found c.number.0 c.serial)
   name-done (Key s k) plan =
       found-done (find_selector_plan l s.0) (st.selector s.0) (selector s.0) reply.NoSelector look (selector-found s.0)
       ∙ by_selector (st.selector s.0)
@@ -251,7 +258,7 @@ module _ (l : Limits) (st : State) (now : Progress) (me : CallerNo) (fit : IsFit
       by_name : (a' : LineName) → with_name a' inner ≡ unless (unchanged ds) inner (missing l st a')
       by_name (Caller n) = by_test (nat_lt n.0 l.callers) reply.NoCaller
       by_name (Selector s) = by_test (st.selector s.0) reply.NoSelector
-      by_name (Channel c) = by_test (st.chan c.0).made reply.NoChannel
+      by_name (Channel c) = by_test (was_opened (st.chan c.number.0) c.serial) reply.NoChannel
       by_name (Key s k) = by_selector (st.selector s.0)
         where
           by_selector : (b : Bool)

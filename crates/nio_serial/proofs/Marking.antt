@@ -23,7 +23,7 @@ use Rattle.nio_steps.proofs.Lists.{pairs-before}
 use Rattle.nio_steps.proofs.PerformLaws.{perform_then_on, perform_over}
 use Rattle.nio_steps.specs.Perform.{perform}
 use Rattle.nio_steps.specs.Plan.{Plan}
-use Rattle.nio_steps.specs.SelectCalls.{Selection, told_of, told_bits as told_bits_of, one_if, mark_told, mark_entry}
+use Rattle.nio_steps.specs.SelectCalls.{Selection, told_at, told_bits as told_bits_of, one_if, mark_told, mark_entry}
 use Rattle.nio_steps.specs.Sweeps.{sweep_over}
 use Rattle.nio_steps.specs.declared.looked.LookedKey.{LookedKey}
 use Rattle.nio_serial.proofs.Marks.{or_self, told-is, mark-performed}
@@ -62,7 +62,7 @@ pub by_index-tells : (st : State) (x : Selection) (pairs : List (KeyId × ℕ))
     → ((k : KeyId) → is_looked (map looked_pair x.looked) k ≡ true
     → is_in_key_set (st.key x.selector.0 k.index) k.serial ≡ true)
     → (k : KeyId) → is_looked (map looked_pair x.looked) k ≡ true
-    → told_of (by_index x pairs) k.index ≡ all_told pairs k
+    → told_at (by_index x pairs) k.index ≡ all_told pairs k
 by_index-tells st x pairs in_set k there = told-is (map looked_pair x.looked) apart k there pairs
   where
     apart : (m n : KeyId) → is_looked (map looked_pair x.looked) m ≡ true
@@ -73,30 +73,30 @@ by_index-tells st x pairs in_set k there = told-is (map looked_pair x.looked) ap
 
 -- and the pairs by key that are made of told pairs by index do too
 pub by_key-tells : (x : Selection) (told : List (ℕ × ℕ)) (k : KeyId) → is_looked (map looked_pair x.looked) k ≡ true
-    → told_of told k.index ≡ all_told (by_key x told) k
-by_key-tells x told k there = sym (gathered x.looked ∙ ap (λ b. cond b (told_of told k.index) 0) there)
+    → told_at told k.index ≡ all_told (by_key x told) k
+by_key-tells x told k there = sym (gathered x.looked ∙ ap (λ b. cond b (told_at told k.index) 0) there)
   where
     once : (b : Bool) (n : ℕ) → bit_or n (cond b n 0) ≡ n
     once true n = or_self n
     once false n = or_zero_r n
 
     gathered : (xs : List LookedKey)
-        → all_told (map (λ (e : LookedKey). ((looked_pair e).0, told_of told e.index)) xs) k
-        ≡ cond (is_looked (map looked_pair xs) k) (told_of told k.index) 0
+        → all_told (map (λ (e : LookedKey). ((looked_pair e).0, told_at told e.index)) xs) k
+        ≡ cond (is_looked (map looked_pair xs) k) (told_at told k.index) 0
     gathered [] = refl
     gathered (e ∷ xs) =
-        ap (λ n. bit_or (cond (is_same_key (looked_pair e).0 k) (told_of told e.index) 0) n) (gathered xs)
+        ap (λ n. bit_or (cond (is_same_key (looked_pair e).0 k) (told_at told e.index) 0) n) (gathered xs)
         ∙ by_same (is_same_key (looked_pair e).0 k) refl
       where
         by_same : (b : Bool) → is_same_key (looked_pair e).0 k ≡ b
-            → bit_or (cond b (told_of told e.index) 0)
-            (cond (is_looked (map looked_pair xs) k) (told_of told k.index) 0)
-            ≡ cond (b || is_looked (map looked_pair xs) k) (told_of told k.index) 0
+            → bit_or (cond b (told_at told e.index) 0)
+            (cond (is_looked (map looked_pair xs) k) (told_at told k.index) 0)
+            ≡ cond (b || is_looked (map looked_pair xs) k) (told_at told k.index) 0
         by_same true same =
-            ap (λ i. bit_or (told_of told i) (cond (is_looked (map looked_pair xs) k) (told_of told k.index) 0))
+            ap (λ i. bit_or (told_at told i) (cond (is_looked (map looked_pair xs) k) (told_at told k.index) 0))
             (ap (λ m. m.index) (same-is (looked_pair e).0 k same))
-            ∙ once (is_looked (map looked_pair xs) k) (told_of told k.index)
-        by_same false other = or_zero_l (cond (is_looked (map looked_pair xs) k) (told_of told k.index) 0)
+            ∙ once (is_looked (map looked_pair xs) k) (told_at told k.index)
+        by_same false other = or_zero_l (cond (is_looked (map looked_pair xs) k) (told_at told k.index) 0)
 
 -- `told` is what the poller told by index, and `pairs` by key: of each looked key the same
 module _ (st : State) (me : CallerNo) (x : Selection) (pairs : List (KeyId × ℕ)) (told : List (ℕ × ℕ))
@@ -104,7 +104,7 @@ module _ (st : State) (me : CallerNo) (x : Selection) (pairs : List (KeyId × �
     (in_set : (k : KeyId) → is_looked (map looked_pair x.looked) k ≡ true
     → is_in_key_set (st.key x.selector.0 k.index) k.serial ≡ true)
     (tells : (k : KeyId) → is_looked (map looked_pair x.looked) k ≡ true
-    → told_of told k.index ≡ all_told pairs k) where
+    → told_at told k.index ≡ all_told pairs k) where
   abbrev s : ℕ
   s = x.selector.0
 
@@ -158,7 +158,7 @@ module _ (st : State) (me : CallerNo) (x : Selection) (pairs : List (KeyId × �
     key-is : key_at st s e.index ≡ p.0
     key-is = λ j. record { index = e.index; serial = serial-is p.0 there j }
 
-    told-here : told_of told e.index ≡ all_told pairs p.0
+    told-here : told_at told e.index ≡ all_told pairs p.0
     told-here = tells p.0 there
 
     -- nothing was told of its index before

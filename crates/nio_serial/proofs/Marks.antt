@@ -20,7 +20,7 @@ use Rattle.nio_plain.specs.Seq.Selections.{all_told, is_looked, marked, is_updat
 use Rattle.nio_steps.specs.KeyCalls.{is_within}
 use Rattle.nio_steps.specs.Perform.{Performed, perform}
 use Rattle.nio_steps.specs.Plan.{Plan, ◌>>=◌}
-use Rattle.nio_steps.specs.SelectCalls.{told_of, gains_nothing, one_if, mark_again, mark_looked, mark_told}
+use Rattle.nio_steps.specs.SelectCalls.{told_at, gains_nothing, one_if, mark_again, mark_looked, mark_told}
 use Rattle.nio_steps.specs.Steps.{mark}
 
 -- ---- sets of bits
@@ -98,7 +98,7 @@ module _ (looked : List (KeyId × ℕ)) (apart : AreApart looked) (k : KeyId) (t
       by_looked false same rest =
           by_same false rest ∙ ap (λ b. bit_or bits (bit_or (cond b p.1 0) (all_told pairs k))) same
 
-  pub told-is : (pairs : List (KeyId × ℕ)) → told_of (known pairs) k.index ≡ all_told pairs k
+  pub told-is : (pairs : List (KeyId × ℕ)) → told_at (known pairs) k.index ≡ all_told pairs k
   told-is pairs = told_from pairs 0 ∙ or_zero_l (all_told pairs k)
 
 -- ---- a mark

@@ -1,11 +1,12 @@
 -- Reading and writing a pipe amount to the documented calls.
-use Rattle.std.proofs.Common.{◌≡◌, ℕ, ◌<◌, ◌==◌, Bool, true, false, ◌&&◌, if◌then◌else◌, Some, Result, Ok, Err, List}
-use Rattle.std.proofs.Common.{[], ◌∷◌, ◌++◌, length, take, refl, ap, sym, ◌∙◌}
+use Rattle.std.proofs.Common.{◌≡◌, ℕ, ◌<◌, ◌==◌, Bool, true, false, not, ◌&&◌, if◌then◌else◌, Some, Result, Ok, Err}
+use Rattle.std.proofs.Common.{List, [], ◌∷◌, ◌++◌, length, take, refl, ap, sym, ◌∙◌}
+use Rattle.std.proofs.lemmas.Bool.{not-false}
 use Rattle.std.proofs.lemmas.List.{set-get_or}
 use Rattle.nio_base.specs.declared.limits.Limits.{Limits}
 use Rattle.nio_base.specs.declared.numbers.CallerNo.{CallerNo}
-use Rattle.nio_base.specs.declared.numbers.ChanNo.{ChanNo}
-use Rattle.nio_history.specs.Sets.{in_key_set}
+use Rattle.nio_base.specs.declared.numbers.ChanId.{ChanId}
+use Rattle.nio_history.specs.Sets.{in_key_set, is_open_channel}
 use Rattle.nio_history.specs.State.{State}
 use Rattle.nio_language.specs.declared.reply.Reply.{Reply}
 use Rattle.nio_language.specs.declared.reply.Reply.TheVariants as reply
@@ -25,14 +26,17 @@ use Rattle.nio_serial.proofs.ClosingChannels.{closed_left, closed-documented, cl
 use Rattle.nio_serial.specs.Documented.{Progress, documented, amounts}
 use Rattle.nio_serial.specs.PipeLines.{with_pipe, Piped, only_says, takes, read_gives, puts, write_gives}
 
-module _ (l : Limits) (st : State) (now : Progress) (me : CallerNo) (c : ChanNo)
+module _ (l : Limits) (st : State) (now : Progress) (me : CallerNo) (c : ChanId)
     (free : (s i : ℕ) → st.pinned s i me.0 ≡ false) (whole : (s i : ℕ) → (st.key s i).claimed ≡ (st.key s i).published)
     (within : (s i : ℕ) → in_key_set (st.key s i) ≡ true → s < l.selectors) where
   abbrev ds : ScriptState
   ds = documented st now
 
   abbrev blocking : Bool
-  blocking = (st.chan c.0).blocking
+  blocking = (st.chan c.number.0).blocking
+
+  abbrev is_open : Bool
+  is_open = is_open_channel (st.chan c.number.0) c.serial
 
   abbrev ends : Result Bool PipeError → State → Performed (Result Bool PipeError)
   ends answer left = record { answer = answer; state = left }
@@ -41,33 +45,33 @@ module _ (l : Limits) (st : State) (now : Progress) (me : CallerNo) (c : ChanNo)
   abbrev looked : Bool → Bool → Performed (Result Bool PipeError)
   looked closed interrupts =
       if closed then ends (Err PipeError.ClosedChannel) st
-      else if interrupts then ends (Err PipeError.ClosedByInterrupt) (closed_left l st c)
+      else if interrupts then ends (Err PipeError.ClosedByInterrupt) (closed_left l st c.number)
       else ends (Ok blocking) st
 
-  looks : perform me (if_open l c (st.chan c.0)) st ≡ looked (st.chan c.0).closed (blocking && st.interrupted me.0)
-  looks = by_closed (st.chan c.0).closed refl
+  looks : perform me (if_open l c (st.chan c.number.0)) st ≡ looked (not is_open) (blocking && st.interrupted me.0)
+  looks = by_closed (not is_open) refl
     where
-      by_status : (b : Bool) → (st.chan c.0).closed ≡ false
+      by_status : (b : Bool) → is_open ≡ true
           → perform me (if_interrupted l c b) st
-          ≡ (if b then ends (Err PipeError.ClosedByInterrupt) (closed_left l st c) else ends (Ok true) st)
+          ≡ (if b then ends (Err PipeError.ClosedByInterrupt) (closed_left l st c.number) else ends (Ok true) st)
       by_status true opened =
           perform_then_on me (close_channel_plan l c) (λ _. Plan.reply (Err PipeError.ClosedByInterrupt)) st
-          true (closed_left l st c) (close-open l st now me c free whole within opened)
+          true (closed_left l st c.number) (close-open l st now me c free whole within opened)
       by_status false opened = refl
 
-      by_mode : (b : Bool) → (st.chan c.0).closed ≡ false
+      by_mode : (b : Bool) → is_open ≡ true
           → perform me (if b then (look_interrupt >>= if_interrupted l c) else Plan.reply (Ok false)) st
-          ≡ (if b && st.interrupted me.0 then ends (Err PipeError.ClosedByInterrupt) (closed_left l st c)
+          ≡ (if b && st.interrupted me.0 then ends (Err PipeError.ClosedByInterrupt) (closed_left l st c.number)
           else ends (Ok b) st)
       by_mode true opened = by_status (st.interrupted me.0) opened
       by_mode false opened = refl
 
-      by_closed : (b : Bool) → (st.chan c.0).closed ≡ b
+      by_closed : (b : Bool) → not is_open ≡ b
           → perform me (if b then Plan.reply (Err PipeError.ClosedChannel)
           else (if blocking then (look_interrupt >>= if_interrupted l c) else Plan.reply (Ok false))) st
           ≡ looked b (blocking && st.interrupted me.0)
       by_closed true is = refl
-      by_closed false is = by_mode blocking is
+      by_closed false is = by_mode blocking (not-false is_open is)
 
   module _ (i : ℕ) where
     abbrev p : Pipe
@@ -87,8 +91,8 @@ module _ (l : Limits) (st : State) (now : Progress) (me : CallerNo) (c : ChanNo)
     only : (r : Reply) → unchanged ds r ≡ left_as st (only_says p r)
     only r = ap (λ (x : Progress). record { reply = r; left = documented st x }) (sym same-pipes)
 
-    interrupts : replied ds reply.ClosedByInterrupt (channel_closed ds.shared c.0)
-        ≡ record { reply = reply.ClosedByInterrupt; left = documented (closed_left l st c) now }
+    interrupts : replied ds reply.ClosedByInterrupt (channel_closed ds.shared c.number.0)
+        ≡ record { reply = reply.ClosedByInterrupt; left = documented (closed_left l st c.number) now }
     interrupts = closed-documented l st now me c free whole within reply.ClosedByInterrupt
 
     module _ (n : ℕ) where
@@ -106,25 +110,28 @@ module _ (l : Limits) (st : State) (now : Progress) (me : CallerNo) (c : ChanNo)
 
       read-is : (closed interrupted : Bool)
           → (if closed then unchanged ds reply.ClosedChannel
-          else if interrupted then replied ds reply.ClosedByInterrupt (channel_closed ds.shared c.0)
+          else if interrupted then replied ds reply.ClosedByInterrupt (channel_closed ds.shared c.number.0)
           else if n == 0 then unchanged ds (reply.Number 0)
           else read_first ds blocking n i p.waiting p.sealed)
           ≡ gave (read_gives n) (looked closed interrupted)
       read-is true interrupted = only reply.ClosedChannel
       read-is false true =
           interrupts
-          ∙ ap (λ (x : Progress). record { reply = reply.ClosedByInterrupt; left = documented (closed_left l st c) x })
+          ∙ ap (λ (x : Progress). record {
+            reply = reply.ClosedByInterrupt;
+            left = documented (closed_left l st c.number) x;
+          })
           (sym same-pipes)
       read-is false false = read-some (n == 0)
 
       pub read-amounts : read_from ds me c n (Some i) ≡ gave (read_gives n) (perform me (try_read_plan l c) st)
       unfolding try_read_plan
       read-amounts =
-          read-is (st.chan c.0).closed (blocking && st.interrupted me.0) ∙ sym (ap (gave (read_gives n)) looks)
+          read-is (not is_open) (blocking && st.interrupted me.0) ∙ sym (ap (gave (read_gives n)) looks)
 
     module _ (bytes : List ℕ) where
-      abbrev broken : Bool
-      broken = (st.chan p.source.0).closed
+      abbrev readable : Bool
+      readable = is_open_channel (st.chan p.source.number.0) p.source.serial
 
       room-is : (b : Bool) (n : ℕ)
           → (if b then unchanged ds (not_now blocking) else record {
@@ -145,12 +152,12 @@ module _ (l : Limits) (st : State) (now : Progress) (me : CallerNo) (c : ChanNo)
       empty-is false = room-is (room_for bytes p == 0) (room_for bytes p)
 
       broken-is : (b : Bool)
-          → (if b then unchanged ds reply.BrokenPipe
+          → (if not b then unchanged ds reply.BrokenPipe
           else if length bytes == 0 then unchanged ds (reply.Number 0)
           else write_first ds blocking bytes i (room_for bytes p))
-          ≡ gave (write_gives bytes) (ends (if b then Err PipeError.BrokenPipe else Ok blocking) st)
-      broken-is true = only reply.BrokenPipe
-      broken-is false = empty-is (length bytes == 0)
+          ≡ gave (write_gives bytes) (ends (if b then Ok blocking else Err PipeError.BrokenPipe) st)
+      broken-is false = only reply.BrokenPipe
+      broken-is true = empty-is (length bytes == 0)
 
       -- the look at the source, after these
       abbrev and_source : Performed (Result Bool PipeError) → Performed (Result Bool PipeError)
@@ -159,19 +166,19 @@ module _ (l : Limits) (st : State) (now : Progress) (me : CallerNo) (c : ChanNo)
       write-is : (closed interrupted : Bool)
           → (if closed then sealing (Some i) (unchanged ds reply.ClosedChannel)
           else if interrupted then
-          sealing (Some i) (replied ds reply.ClosedByInterrupt (channel_closed ds.shared c.0))
-          else if broken then unchanged ds reply.BrokenPipe
+          sealing (Some i) (replied ds reply.ClosedByInterrupt (channel_closed ds.shared c.number.0))
+          else if not readable then unchanged ds reply.BrokenPipe
           else if length bytes == 0 then unchanged ds (reply.Number 0)
           else write_first ds blocking bytes i (room_for bytes p))
           ≡ gave (write_gives bytes) (and_source (looked closed interrupted))
       write-is true interrupted = refl
       write-is false true = ap (sealing (Some i)) interrupts
-      write-is false false = broken-is broken
+      write-is false false = broken-is readable
 
       pub write-amounts : write_to ds me c bytes (Some i)
           ≡ gave (write_gives bytes) (perform me (try_write_plan l p.source c) st)
       unfolding try_write_plan
       write-amounts =
-          write-is (st.chan c.0).closed (blocking && st.interrupted me.0)
+          write-is (not is_open) (blocking && st.interrupted me.0)
           ∙ sym (ap (gave (write_gives bytes))
-          (perform-bind me (if_open l c (st.chan c.0)) (if_unbroken p.source) st ∙ ap and_source looks))
+          (perform-bind me (if_open l c (st.chan c.number.0)) (if_unbroken p.source) st ∙ ap and_source looks))

@@ -1,15 +1,15 @@
 -- Registering amounts to the documented call.
 use Rattle.std.proofs.Common.{◌≡◌, ℕ, ◌==◌, nat_lt, Bool, true, false, cond, not, ◌&&◌, if◌then◌else◌, Option, Some}
 use Rattle.std.proofs.Common.{None, Result, Ok, Err, refl, ap, sym, ◌∙◌}
-use Rattle.std.proofs.lemmas.Bool.{both_ways, and_parts, not-true}
+use Rattle.std.proofs.lemmas.Bool.{both_ways, and_parts, not-true, not-false}
 use Rattle.nio_base.specs.Kind.{valid_operations}
 use Rattle.nio_base.specs.declared.limits.Limits.{Limits}
 use Rattle.nio_base.specs.declared.numbers.CallerNo.{CallerNo}
-use Rattle.nio_base.specs.declared.numbers.ChanNo.{ChanNo}
+use Rattle.nio_base.specs.declared.numbers.ChanId.{ChanId}
 use Rattle.nio_base.specs.declared.numbers.KeyId.{KeyId}
 use Rattle.nio_base.specs.declared.numbers.KeyNo.{KeyNo}
 use Rattle.nio_base.specs.declared.numbers.SelNo.{SelNo}
-use Rattle.nio_history.specs.Sets.{fits, in_key_set, is_in_key_set, is_valid_key}
+use Rattle.nio_history.specs.Sets.{fits, in_key_set, is_in_key_set, is_valid_key, was_opened, is_open_channel}
 use Rattle.nio_history.specs.State.{State, unmarked, with_hold, with_pin, with_interest, with_note}
 use Rattle.nio_history.specs.declared.found.Mark.{Mark}
 use Rattle.nio_history.specs.declared.found.Stage.{Stage}
@@ -53,11 +53,11 @@ settled-new st s c k ops att = λ j. record (with_new_key (settled_state st) s c
 
 -- ---- what the plan does with the channel's key, on a state with the hold
 
-module _ (l : Limits) (st : State) (me : CallerNo) (s : SelNo) (c : ChanNo) (ops att : ℕ)
+module _ (l : Limits) (st : State) (me : CallerNo) (s : SelNo) (c : ChanId) (ops att : ℕ)
     (free : (i n : ℕ) → st.pinned s.0 i n ≡ false) (untaken : (i : ℕ) → st.taker s.0 i ≡ None)
     (exact : (i : ℕ) → (st.key s.0 i).claimed ≡ nat_lt i (st.keys_high s.0))
     (fresh_mark : st.mark s.0 (st.keys_high s.0) ≡ unmarked) (fresh_free : st.free s.0 (st.keys_high s.0) ≡ false)
-    (is_open : (st.chan c.0).closed ≡ false) where
+    (is_open : is_open_channel (st.chan c.number.0) c.serial ≡ true) where
   abbrev Over : Type 0
   Over = Performed (Option (Result KeyNo ChannelError))
 
@@ -165,9 +165,9 @@ kept-is : (given : Option ℕ) (n : ℕ) → given_or_kept given n
 kept-is None n = refl
 kept-is (Some a) n = refl
 
-module _ (l : Limits) (st : State) (now : Progress) (me : CallerNo) (s : SelNo) (c : ChanNo) (ops : ℕ)
+module _ (l : Limits) (st : State) (now : Progress) (me : CallerNo) (s : SelNo) (c : ChanId) (ops : ℕ)
     (given : Option ℕ)
-    (unheld : st.hold c.0 ≡ None)
+    (unheld : st.hold c.number.0 ≡ None)
     (free : (i n : ℕ) → st.pinned s.0 i n ≡ false) (untaken : (i : ℕ) → st.taker s.0 i ≡ None)
     (exact : (i : ℕ) → (st.key s.0 i).claimed ≡ nat_lt i (st.keys_high s.0))
     (fresh_mark : st.mark s.0 (st.keys_high s.0) ≡ unmarked) (fresh_free : st.free s.0 (st.keys_high s.0) ≡ false) where
@@ -178,14 +178,14 @@ module _ (l : Limits) (st : State) (now : Progress) (me : CallerNo) (s : SelNo) 
   att = given_or_none given
 
   abbrev holding : State
-  holding = with_hold st c.0 (Some me)
+  holding = with_hold st c.number.0 (Some me)
 
   abbrev F : Performed (Result KeyNo ChannelError) → Replied
-  F done = amounts register_reply (λ _. now) (released c done)
+  F done = amounts register_reply (λ _. now) (released c.number done)
 
   -- the hold is as before
-  freed : (G : (ℕ → Option CallerNo) → Replied) → G st.hold ≡ G (with_hold holding c.0 None).hold
-  freed G = sym (ap G (put-back st.hold c.0 (Some me) None unheld))
+  freed : (G : (ℕ → Option CallerNo) → Replied) → G st.hold ≡ G (with_hold holding c.number.0 None).hold
+  freed G = sym (ap G (put-back st.hold c.number.0 (Some me) None unheld))
 
   refused : (e : ChannelError) (r : Reply) → register_reply (Err e) ≡ r
       → unchanged ds r ≡ F (record { answer = Err e; state = holding })
@@ -196,26 +196,30 @@ module _ (l : Limits) (st : State) (now : Progress) (me : CallerNo) (s : SelNo) 
             (record st { hold = h }) now;
       })
 
-  module _ (is_open : (st.chan c.0).closed ≡ false) where
-    newly : (st.gate s.0).shut ≡ false → registered_new ds s.0 c.0 ops att (next_key l ds.shared s.0)
+  module _ (is_open : is_open_channel (st.chan c.number.0) c.serial ≡ true) where
+    newly : (st.gate s.0).shut ≡ false → registered_new ds s.0 c.number.0 ops att (next_key l ds.shared s.0)
         ≡ F (perform me (register_new l s c ops att) holding)
     newly not_shut =
         by_next (next_key l st s.0) ∙ sym
         (ap F (new-performed l holding me s c ops att free untaken exact fresh_mark fresh_free not_shut is_open))
       where
-        by_next : (o : Option KeyId) → registered_new ds s.0 c.0 ops att o
+        by_next : (o : Option KeyId) → registered_new ds s.0 c.number.0 ops att o
             ≡ F (made l holding me s c ops att free untaken exact fresh_mark fresh_free not_shut is_open o)
         by_next None = refused ChannelError.Full reply.Full refl
         by_next (Some k) =
-            (λ j. record { reply = reply.Key k; left = with_shared ds (sym (settled-new st s.0 c.0 k ops att) j) })
+            (λ j. record {
+              reply = reply.Key k;
+              left = with_shared ds (sym (settled-new st s.0 c.number.0 k ops att) j);
+            })
             ∙ freed (λ h. record {
               reply = reply.Key k;
               left =
-                  documented (record (with_new_key st s.0 c.0 k ops att) { hold = h }) now;
+                  documented (record (with_new_key st s.0 c.number.0 k ops att) { hold = h }) now;
             })
 
     unregistered : (b : Bool) → (st.gate s.0).shut ≡ b
-        → cond b (unchanged ds reply.ClosedSelector) (registered_new ds s.0 c.0 ops att (next_key l ds.shared s.0))
+        → cond b (unchanged ds reply.ClosedSelector)
+        (registered_new ds s.0 c.number.0 ops att (next_key l ds.shared s.0))
         ≡ F (perform me (register_rest l s c ops att (if b then Some (Err ChannelError.ClosedSelector)
         else None)) holding)
     unregistered true shut = refused ChannelError.ClosedSelector reply.ClosedSelector refl
@@ -233,7 +237,7 @@ module _ (l : Limits) (st : State) (now : Progress) (me : CallerNo) (s : SelNo) 
 
       by_key : (in_set : Bool) → is_in_key_set enrolled_stage k.serial ≡ in_set → (cancelled : Bool)
           → enrolled_stage.cancelled ≡ cancelled → (shut : Bool) → (st.gate s.0).shut ≡ shut
-          → registered l ds s.0 c.0 ops given (cond in_set (Some k) None)
+          → registered l ds s.0 c.number.0 ops given (cond in_set (Some k) None)
           ≡ finish (over (in_set && cancelled) shut (is_valid_key enrolled_stage k.serial))
       by_key true e cancelled e' shut e'' =
           let both = and_parts (fits enrolled_stage k.serial) (in_key_set enrolled_stage) e in
@@ -266,17 +270,17 @@ module _ (l : Limits) (st : State) (now : Progress) (me : CallerNo) (s : SelNo) 
               ∙ ap (λ v. finish (over false false v)) (sym (valid refl)))
       by_key false e cancelled e' true shut =
           ap (λ b. cond b (unchanged ds reply.ClosedSelector)
-          (registered_new ds s.0 c.0 ops att (next_key l ds.shared s.0))) shut
+          (registered_new ds s.0 c.number.0 ops att (next_key l ds.shared s.0))) shut
           ∙ refused ChannelError.ClosedSelector reply.ClosedSelector refl
       by_key false e cancelled e' false not_shut =
           ap (λ b. cond b (unchanged ds reply.ClosedSelector)
-          (registered_new ds s.0 c.0 ops att (next_key l ds.shared s.0))) not_shut
+          (registered_new ds s.0 c.number.0 ops att (next_key l ds.shared s.0))) not_shut
           ∙ (newly not_shut
           ∙ ap (λ v. finish (over false false v)) (sym (not_valid (fits enrolled_stage k.serial)
           (in_key_set enrolled_stage) enrolled_stage.cancelled e)))
 
-    by_enrolled : (o : Option KeyId) → st.enrolled c.0 s.0 ≡ o
-        → registered l ds s.0 c.0 ops given (if_in_key_set ds.shared s.0 o)
+    by_enrolled : (o : Option KeyId) → st.enrolled c.number.0 s.0 ≡ o
+        → registered l ds s.0 c.number.0 ops given (if_in_key_set ds.shared s.0 o)
         ≡ F (perform me (register_over s ops att o >>= register_rest l s c ops att) holding)
     by_enrolled None is = unregistered (st.gate s.0).shut refl
     by_enrolled (Some k) is =
@@ -286,27 +290,28 @@ module _ (l : Limits) (st : State) (now : Progress) (me : CallerNo) (s : SelNo) 
         (register_rest l s c ops att) holding _ _
         (over-performed l holding me s c ops att free untaken exact fresh_mark fresh_free is_open k)))
 
-  pub register-amounts : st.selector s.0 ≡ true → (st.chan c.0).made ≡ true
+  pub register-amounts : st.selector s.0 ≡ true → was_opened (st.chan c.number.0) c.serial ≡ true
       → register_call l ds s c ops given ≡ amounts register_reply (λ _. now)
       (perform me (try_register_plan l s c ops att) st)
   unfolding register_call try_register_plan
   register-amounts selector made_c =
-      let chan = st.chan c.0 in
+      let chan = st.chan c.number.0 in
       let legal = is_within ops (valid_operations chan.kind) in
+      let is_open = is_open_channel chan c.serial in
       let stays = amounts register_reply (λ _. now) in
       selector-through ds s selector _ ∙ (channel-through ds c made_c _
       ∙ branch stays me (Plan.reply (Err ChannelError.IllegalOps))
-      (if chan.closed then Plan.reply (Err ChannelError.ClosedChannel) else under_hold c
+      (if not is_open then Plan.reply (Err ChannelError.ClosedChannel) else under_hold ChannelError.Busy c.number
       (register_held l s c ops att)) st _ _ (not legal) (not legal) refl
       (λ _. refl)
       (λ _. branch stays me (Plan.reply (Err ChannelError.ClosedChannel))
-      (under_hold c (register_held l s c ops att)) st _ _ chan.closed chan.closed refl
+      (under_hold ChannelError.Busy c.number (register_held l s c ops att)) st _ _ (not is_open) (not is_open) refl
       (λ _. refl)
-      (λ is_open. branch F me (Plan.reply (Err ChannelError.IllegalBlockingMode))
+      (λ open_now. branch F me (Plan.reply (Err ChannelError.IllegalBlockingMode))
       (register_unblocked l s c ops att) holding _ _ chan.blocking chan.blocking refl
       (λ _. refused ChannelError.IllegalBlockingMode reply.IllegalBlockingMode refl)
-      (λ _. by_enrolled is_open (st.enrolled c.0 s.0) refl)
-      ∙ (ap F (sym (perform_else me chan.closed (Plan.reply (Err ChannelError.ClosedChannel))
+      (λ _. by_enrolled (not-false is_open open_now) (st.enrolled c.number.0 s.0) refl)
+      ∙ (ap F (sym (perform_else me (not is_open) (Plan.reply (Err ChannelError.ClosedChannel))
       (if chan.blocking then Plan.reply (Err ChannelError.IllegalBlockingMode)
-      else register_unblocked l s c ops att) holding is_open))
-      ∙ sym (ap stays (perform_held me c (register_held l s c ops att) st unheld))))))
+      else register_unblocked l s c ops att) holding open_now))
+      ∙ sym (ap stays (perform_held me ChannelError.Busy c.number (register_held l s c ops att) st unheld))))))

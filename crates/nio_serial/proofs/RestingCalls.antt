@@ -1,13 +1,13 @@
 -- Each documented call keeps that nothing is at work.
 use Rattle.std.proofs.Common.{◌≡◌, ℕ, ◌<◌, ◌≤◌, ◌==◌, nat_lt, Bool, true, false, cond, not, ◌&&◌, Option, Some, None}
 use Rattle.std.proofs.Common.{List, [], ◌∷◌, bit_and, refl, ap, sym, ◌∙◌, subst, arith, eqb-true}
-use Rattle.std.proofs.lemmas.Bool.{both_ways, and_parts, or_parts, not-true, false_from_ne_true, cond-true, cond_both}
-use Rattle.std.proofs.lemmas.Bool.{lt-ltb, le-ltb, ltb-true, ltb-false}
+use Rattle.std.proofs.lemmas.Bool.{both_ways, and_parts, or_parts, false_from_ne_true, cond-true, cond_both, ltb-true}
 use lib.Bits.{and_zero_r}
 use Rattle.nio_base.specs.declared.kind.Kind.{Kind}
 use Rattle.nio_base.specs.declared.kind.Kind.TheVariants.{Source, Sink}
 use Rattle.nio_base.specs.declared.limits.Limits.{Limits}
 use Rattle.nio_base.specs.declared.numbers.CallerNo.{CallerNo}
+use Rattle.nio_base.specs.declared.numbers.ChanId.{ChanId}
 use Rattle.nio_base.specs.declared.numbers.KeyId.{KeyId}
 use Rattle.nio_history.proofs.Put.{put_gave, put_at_keeps}
 use Rattle.nio_history.specs.Sets.{fits, in_key_set, in_cancelled_set, is_in_key_set}
@@ -17,7 +17,7 @@ use Rattle.nio_language.specs.declared.call.Call.{Call}
 use Rattle.nio_plain.proofs.CallChanges as change
 use Rattle.nio_plain.proofs.CallChanges.{Change}
 use Rattle.nio_plain.proofs.CallLawsCases.{change_of}
-use Rattle.nio_plain.proofs.Found.{find_unmade, found_below}
+use Rattle.nio_plain.proofs.Found.{found_below}
 use Rattle.nio_plain.proofs.ReachedCalls.{own-is}
 use Rattle.nio_plain.proofs.ReachedSound.{Sound, some_same}
 use Rattle.nio_plain.specs.ScriptState.{ScriptState, Selection}
@@ -33,41 +33,21 @@ use Rattle.nio_plain.specs.Seq.Removing.{comes_back, without_keys_where}
 use Rattle.nio_plain.specs.Seq.Selections.{all_told, is_looked, looked_interest, marked, told_bits, with_marks}
 use Rattle.nio_plain.specs.declared.rules.Rules.TheVariants.{Now}
 use Rattle.nio_serial.proofs.ClosingChannels.{index_in_set}
-use Rattle.nio_serial.proofs.Resting.{MayCancel, Rests, above-out, cancelled_where, channels-changed, channels-more}
+use Rattle.nio_serial.proofs.NextChannel.{channels-next}
+use Rattle.nio_serial.proofs.Resting.{MayCancel, Rests, above-out, cancelled_where, channels-changed}
 use Rattle.nio_serial.proofs.Resting.{rests-cancelled, rests-new, rests-removed, rests-unselected, uncancelled}
 
 -- ---- channels
 
--- the least number that isn't made is the one at the high-water mark
-next-at : (l : Limits) (st : ScriptState) → Rests l st.shared → (c : ℕ) → next_channel l st ≡ Some c
-    → (c ≡ st.shared.channels_high) × (c < l.channels)
-next-at l st rest c e =
-    let mark = st.shared.channels_high in
-    let made : ℕ → Bool = λ n. (st.shared.chan n).made in
-    let found = found_below (λ n. not (made n)) l.channels c e in
-    let past : mark ≤ c = ltb-false c mark (sym (rest.channels.made c) ∙ not-true (made c) found.0) in
-    let room : c < l.channels = found.1 in (
-      some_same c mark
-          (sym e ∙ find_unmade made l.channels mark (λ n low. rest.channels.made n ∙ lt-ltb n mark low)
-          (λ n high. rest.channels.made n ∙ le-ltb n mark high) (omega arith)),
-      room,
-    )
-
--- it is made
-rests-made : (l : Limits) (st : ScriptState) → Rests l st.shared → (kind : Kind) (c : ℕ) → next_channel l st ≡ Some c
-    → Rests l (channel_made st kind (Some c)).left.shared
-rests-made l st rest kind c e =
-    let at = next-at l st rest c e in
-    let same : c ≡ st.shared.channels_high = at.0 in
-    let within : c < l.channels = at.1 in
-    subst (λ (n : ℕ). Rests l (channel_made st kind (Some n)).left.shared) (sym same)
-    (record {
-      unused = rest.unused;
-      channels = channels-more l st.shared.channels_high st.shared.chan rest.channels (omega arith)
-          (record { made = true; kind = kind; closed = false; blocking = true }) refl;
-      keys = rest.keys;
-      frees = rest.frees;
-    })
+-- a channel is opened
+rests-made : (l : Limits) (st : ScriptState) → Rests l st.shared → (kind : Kind) (c : ChanId)
+    → next_channel Now l st.shared kind ≡ Some c → Rests l (channel_made st kind (Some c)).left.shared
+rests-made l st rest kind c e = record {
+  unused = rest.unused;
+  channels = channels-next l st.shared rest.channels kind c e;
+  keys = rest.keys;
+  frees = rest.frees;
+}
 
 -- a channel is closed
 rests-closed : (l : Limits) (st : State) → Rests l st → (c : ℕ) → Rests l (channel_closed st c)
@@ -171,18 +151,18 @@ module _ (l : Limits) (st : ScriptState) (sound : Sound Now l st) (rest : Rests 
 
   changes : {c : Call} {done : Replied} → Change Now l st me c done → Rests l done.left.shared
   changes (change.channel kind c is) = rests-made l st rest kind c is
-  changes (change.blocking c on _) = record {
+  changes (change.blocking c on _ _) = record {
     unused = rest.unused;
-    channels = channels-changed l st.shared.channels_high st.shared.chan rest.channels c.0
-        (record (st.shared.chan c.0) { blocking = on }) refl;
+    channels = channels-changed l st.shared.channels_high st.shared.chan rest.channels c.number.0
+        (record (st.shared.chan c.number.0) { blocking = on }) refl;
     keys = rest.keys;
     frees = rest.frees;
   }
   changes (change.register s c ops att k note may) =
       let low = next_low l st.shared rest s.0 k may.next in
-      let new = rests-new l st.shared rest s.0 c.0 k low.0 low.1 in
+      let new = rests-new l st.shared rest s.0 c.number.0 k low.0 low.1 in
       record { unused = rest.unused; channels = rest.channels; keys = new.keys; frees = new.frees }
-  changes (change.closec c _) = rests-closed l st.shared rest c.0
+  changes (change.closec c _) = rests-closed l st.shared rest c.number.0
   changes (change.cancel s k) = rests-cancel l st.shared rest s.0 k
   changes (change.unselect s k) = rests-unselected l st.shared rest s.0 k.index
   changes (change.begin s waiting how _) =
@@ -190,9 +170,7 @@ module _ (l : Limits) (st : ScriptState) (sound : Sound Now l st) (rest : Rests 
       st.shared.mark (λ _ _ _. refl) in
       record { unused = rest.unused; channels = rest.channels; keys = swept.keys; frees = swept.frees }
   changes (change.told s elapsed pairs x count why own) =
-      let looked : ℕ → Bool = λ i. is_looked x.looked (key_at st.shared s.0 i) in
-      let swept = rests-swept l st.shared rest s.0 (λ i. looked i && in_cancelled_set (st.shared.key s.0 i))
-      (λ i h. (and_parts (looked i) (in_cancelled_set (st.shared.key s.0 i)) h).1)
+      let swept = rests-swept l st.shared rest s.0 (λ i. in_cancelled_set (st.shared.key s.0 i)) (λ i h. h)
       (with_marks st.shared s.0 x.looked pairs).mark
       (quiet_marks s.0 x pairs (own-is Now l st me sound s.0 x own)) in
       record { unused = rest.unused; channels = rest.channels; keys = swept.keys; frees = swept.frees }
@@ -200,9 +178,10 @@ module _ (l : Limits) (st : ScriptState) (sound : Sound Now l st) (rest : Rests 
   changes (change.pipe target source sink _ is then_is) =
       rests-made l (channel_made st Source (Some source)).left (rests-made l st rest Source source is) Sink sink then_is
   changes (change.pipe_spent target source is) =
-      rests-closed l (channel_made st Source (Some source)).left.shared (rests-made l st rest Source source is) source
-  changes (change.pread_interrupted c n) = rests-closed l st.shared rest c.0
-  changes (change.pwrite_interrupted c bytes i _) = rests-closed l st.shared rest c.0
+      rests-closed l (channel_made st Source (Some source)).left.shared (rests-made l st rest Source source is)
+      source.number.0
+  changes (change.pread_interrupted c n _) = rests-closed l st.shared rest c.number.0
+  changes (change.pwrite_interrupted c bytes i _ _) = rests-closed l st.shared rest c.number.0
   -- the others change nothing that rests
   changes _ = record { unused = rest.unused; channels = rest.channels; keys = rest.keys; frees = rest.frees }
 

@@ -8,7 +8,7 @@ use Rattle.std.proofs.lemmas.Bool.{both_ways}
 use Rattle.nio_base.specs.Limits.{IsFit}
 use Rattle.nio_base.specs.declared.limits.Limits.{Limits}
 use Rattle.nio_base.specs.declared.numbers.CallerNo.{CallerNo}
-use Rattle.nio_base.specs.declared.numbers.ChanNo.{ChanNo}
+use Rattle.nio_base.specs.declared.numbers.ChanId.{ChanId}
 use Rattle.nio_base.specs.declared.numbers.KeyId.{KeyId}
 use Rattle.nio_base.specs.declared.numbers.KeyNo.{KeyNo}
 use Rattle.nio_base.specs.declared.numbers.SelNo.{SelNo}
@@ -74,11 +74,11 @@ use Rattle.nio_steps.specs.SelectCalls.{again, leave_plan, shut_plan, ShutReply,
 use Rattle.nio_steps.specs.SelectCalls.{try_finish_plan, FinishReply, closed, busy, keys_plan, selected_keys_plan}
 use Rattle.nio_steps.specs.Sweeps.{sweep_over}
 use Rattle.nio_steps.specs.TableCalls.{find_selector, find_channel, find, is_valid, interest, set_interest, interest_or}
-use Rattle.nio_steps.specs.TableCalls.{interest_and, ready, cancel, unselect, attach, attachment, open_channel, is_open}
-use Rattle.nio_steps.specs.TableCalls.{is_blocking, is_registered, key_for, try_set_blocking, try_register}
-use Rattle.nio_steps.specs.TableCalls.{close_channel, open_selector, try_begin, told, leave, shut, try_finish, keys}
-use Rattle.nio_steps.specs.TableCalls.{selected_keys, wakeup, interrupt, interrupted, pipe, try_read, try_write}
-use Rattle.nio_steps.specs.TableCalls.{set_blocking, register, select, close, read, write}
+use Rattle.nio_steps.specs.TableCalls.{interest_and, ready, cancel, unselect, attach, attachment, open_channel}
+use Rattle.nio_steps.specs.TableCalls.{reopen_channel, is_open, is_blocking, is_registered, key_for, try_set_blocking}
+use Rattle.nio_steps.specs.TableCalls.{try_register, close_channel, open_selector, try_begin, told, leave, shut}
+use Rattle.nio_steps.specs.TableCalls.{try_finish, keys, selected_keys, wakeup, interrupt, interrupted, pipe, try_read}
+use Rattle.nio_steps.specs.TableCalls.{try_write, set_blocking, register, select, close, read, write}
 use Rattle.nio_steps.specs.declared.refusal.BeginError.{BeginError}
 use Rattle.nio_steps.specs.declared.refusal.ListError.{ListError}
 
@@ -109,7 +109,7 @@ abbrev pub Ends : Limits → List Event → Progress → CallerNo → Ongoing �
 Ends l past now me ongoing acts call =
     EndsAs l past now me acts (after_made now me call) (after_call ongoing call) (lacks_memory call) (script_call call)
 
--- the call doesn't wait, and isn't on a pipe
+-- the call doesn't wait, is no reopening, and isn't on a pipe
 abbrev pub IsPlain : Made → Type 0
 IsPlain made = IsTrue (is_of_script (script_call made) && not (waits made))
 
@@ -476,12 +476,12 @@ module _ (l : Limits) (past : List Event) (now : Progress) (me : CallerNo) (fit 
       unseen-ends o acts (same-state (find_selector_plan l n) acts answer
       (ap (λ p. p.state) (selector-found l st now me fit between n)) legal run) at
 
-  channel-ends : (o : Ongoing) (n : ℕ) (answer : Option ChanNo) (acts : List Act)
-      → Completes (find_channel_plan l n) acts answer → IsLegal l (after past me acts) → IsOngoing me now o
-      → Here o acts (table_call (find_channel n) answer)
-  channel-ends o n answer acts run legal at =
-      unseen-ends o acts (same-state (find_channel_plan l n) acts answer
-      (ap (λ p. p.state) (channel-found l st now me fit between n)) legal run) at
+  channel-ends : (o : Ongoing) (n q : ℕ) (answer : Option ChanId) (acts : List Act)
+      → Completes (find_channel_plan l n q) acts answer → IsLegal l (after past me acts) → IsOngoing me now o
+      → Here o acts (table_call (find_channel n q) answer)
+  channel-ends o n q answer acts run legal at =
+      unseen-ends o acts (same-state (find_channel_plan l n q) acts answer
+      (ap (λ p. p.state) (channel-found l st now me fit between n q)) legal run) at
 
   key-ends : (o : Ongoing) (s : SelNo) (i q : ℕ) (answer : Option KeyNo) (acts : List Act)
       → Completes (find_plan l s i q) acts answer → IsLegal l (after past me acts) → IsOngoing me now o
@@ -510,8 +510,8 @@ module _ (l : Limits) (past : List Event) (now : Progress) (me : CallerNo) (fit 
   ends o (draw n) acts plain run legal names at may = draw-ends o n acts run at
   ends o (table_call (find_selector n) answer) acts plain run legal names at may =
       selector-ends o n answer acts run legal at
-  ends o (table_call (find_channel n) answer) acts plain run legal names at may =
-      channel-ends o n answer acts run legal at
+  ends o (table_call (find_channel n serial) answer) acts plain run legal names at may =
+      channel-ends o n serial answer acts run legal at
   ends o (table_call (find s i serial) answer) acts plain run legal names at may =
       key-ends o s i serial answer acts run legal at
   ends o (table_call (is_valid k) answer) acts plain run legal names at may =
@@ -547,6 +547,7 @@ module _ (l : Limits) (past : List Event) (now : Progress) (me : CallerNo) (fit 
   ends o (table_call (open_channel kind) answer) acts plain run legal names at may =
       quiet-line o (call.Channel kind) (channel_reply answer) acts names legal
       (made-run (open_channel_plan l kind) channel_reply (λ _. now) acts answer run) at
+  ends o (table_call (reopen_channel c) answer) acts plain run legal names at may = absurd (cc plain)
   ends o (table_call (is_open c) answer) acts plain run legal names at may =
       quiet-line o (call.IsOpen c) (yes_or_no answer) acts names legal
       (made-run (is_open_plan c) yes_or_no (λ _. now) acts answer run) at

@@ -7,7 +7,7 @@ use Rattle.std.proofs.lemmas.List.Elements.{All-head, All-tail}
 use Rattle.nio_base.specs.Limits.{IsFit}
 use Rattle.nio_base.specs.declared.limits.Limits.{Limits}
 use Rattle.nio_base.specs.declared.numbers.CallerNo.{CallerNo}
-use Rattle.nio_base.specs.declared.numbers.ChanNo.{ChanNo}
+use Rattle.nio_base.specs.declared.numbers.ChanId.{ChanId}
 use Rattle.nio_base.specs.declared.numbers.KeyNo.{KeyNo}
 use Rattle.nio_base.specs.declared.numbers.SelNo.{SelNo}
 use Rattle.nio_history.proofs.Legal.{legal_beginning}
@@ -138,11 +138,11 @@ module _ (l : Limits) (me : CallerNo) (fit : IsFit l) (by : IsCaller l me) where
       facts_are_permanent l past (after past me acts) (map (event_of me) acts, refl) legal
       (PermanentFact.selector_made s.0) made
 
-  channel-stays : (past : List Event) (acts : List Act) (c : ChanNo) → IsLegal l (after past me acts)
+  channel-stays : (past : List Event) (acts : List Act) (c : ChanId) → IsLegal l (after past me acts)
       → IsMadeChannel (state_after past) c → IsMadeChannel (state_after (after past me acts)) c
   channel-stays past acts c legal made =
       facts_are_permanent l past (after past me acts) (map (event_of me) acts, refl) legal
-      (PermanentFact.channel_made c.0) made
+      (PermanentFact.channel_opened c.number.0 c.serial) made
 
   -- what a call leaves that begins and ends nothing
   leaves-now : (past : List Event) (now : Progress) (o : Ongoing) (acts : List Act) (lacks : Bool)
@@ -161,10 +161,10 @@ module _ (l : Limits) (me : CallerNo) (fit : IsFit l) (by : IsCaller l me) where
 
   module _ (past : List Event) (now : Progress) (o : Ongoing) (between : IsBetween l (state_after past) now)
       (no_pipes : now.pipes ≡ []) (at : IsOngoing me now o) where
-    abbrev WithChannel : ChanNo → List Event → Type 0
+    abbrev WithChannel : ChanId → List Event → Type 0
     WithChannel c p = IsBetween l (state_after p) now × IsMadeChannel (state_after p) c
 
-    abbrev WithBoth : SelNo → ChanNo → List Event → Type 0
+    abbrev WithBoth : SelNo → ChanId → List Event → Type 0
     WithBoth s c p =
         IsBetween l (state_after p) now × (IsMadeSelector (state_after p) s × IsMadeChannel (state_after p) c)
 
@@ -196,7 +196,7 @@ module _ (l : Limits) (me : CallerNo) (fit : IsFit l) (by : IsCaller l me) where
           ∙ (one.is ∙ ap (λ es. record { reply = r; left = documented (state_after es) now }) same);
     }
 
-    pub blocking-ends : (c : ChanNo) (on : Bool) (answer : Result (Unit {0}) ChannelError) (acts : List Act)
+    pub blocking-ends : (c : ChanId) (on : Bool) (answer : Result (Unit {0}) ChannelError) (acts : List Act)
         → IsRun l (waiting_call (set_blocking c on) answer) acts → IsLegal l (after past me acts)
         → IsMadeChannel (state_after past) c
         → Ends l past now me o acts (waiting_call (set_blocking c on) answer)
@@ -226,7 +226,7 @@ module _ (l : Limits) (me : CallerNo) (fit : IsFit l) (by : IsCaller l me) where
             )
         once_more p xs _ here legal' run' goes = absurd (cc goes)
 
-    pub register-ends : (s : SelNo) (c : ChanNo) (ops att : ℕ) (answer : Result KeyNo ChannelError) (acts : List Act)
+    pub register-ends : (s : SelNo) (c : ChanId) (ops att : ℕ) (answer : Result KeyNo ChannelError) (acts : List Act)
         → IsRun l (waiting_call (register s c ops att) answer) acts → IsLegal l (after past me acts)
         → IsMadeSelector (state_after past) s → IsMadeChannel (state_after past) c
         → Ends l past now me o acts (waiting_call (register s c ops att) answer)
@@ -270,7 +270,7 @@ module _ (l : Limits) (me : CallerNo) (fit : IsFit l) (by : IsCaller l me) where
         (ran-between past (pipe_plan l (pipe_lacks_memory answer)) acts answer
         (pipe-leaves l now me fit by no_pipes (state_after past) (pipe_lacks_memory answer) between) legal run) at
 
-    pub try_read-ends : (c : ChanNo) (answer : Result Bool PipeError) (acts : List Act)
+    pub try_read-ends : (c : ChanId) (answer : Result Bool PipeError) (acts : List Act)
         → IsRun l (table_call (try_read c) answer) acts → IsLegal l (after past me acts)
         → IsMadeChannel (state_after past) c
         → Ends l past now me o acts (table_call (try_read c) answer)
@@ -278,7 +278,7 @@ module _ (l : Limits) (me : CallerNo) (fit : IsFit l) (by : IsCaller l me) where
         leaves-now past now o acts false (ran-between past (try_read_plan l c) acts answer
         (read-leaves l (state_after past) now me fit by between no_pipes c made) legal run) at
 
-    pub try_write-ends : (source c : ChanNo) (answer : Result Bool PipeError) (acts : List Act)
+    pub try_write-ends : (source c : ChanId) (answer : Result Bool PipeError) (acts : List Act)
         → IsRun l (table_call (try_write source c) answer) acts → IsLegal l (after past me acts)
         → IsMadeChannel (state_after past) c
         → Ends l past now me o acts (table_call (try_write source c) answer)
@@ -286,7 +286,7 @@ module _ (l : Limits) (me : CallerNo) (fit : IsFit l) (by : IsCaller l me) where
         leaves-now past now o acts false (ran-between past (try_write_plan l source c) acts answer
         (write-leaves l (state_after past) now me fit by between no_pipes source c made) legal run) at
 
-    pub read-ends : (c : ChanNo) (none : Bool) (answer : Result Bool PipeError) (acts : List Act)
+    pub read-ends : (c : ChanId) (none : Bool) (answer : Result Bool PipeError) (acts : List Act)
         → IsRun l (waiting_call (read c none) answer) acts → IsLegal l (after past me acts)
         → IsMadeChannel (state_after past) c
         → Ends l past now me o acts (waiting_call (read c none) answer)
@@ -305,7 +305,7 @@ module _ (l : Limits) (me : CallerNo) (fit : IsFit l) (by : IsCaller l me) where
             ran-between p (try_read_plan l c) xs r (read-leaves l
             (state_after p) now me fit by here.0 no_pipes c here.1) legal' run'
 
-    pub write-ends : (source c : ChanNo) (none : Bool) (answer : Result Bool PipeError) (acts : List Act)
+    pub write-ends : (source c : ChanId) (none : Bool) (answer : Result Bool PipeError) (acts : List Act)
         → IsRun l (waiting_call (write source c none) answer) acts → IsLegal l (after past me acts)
         → IsMadeChannel (state_after past) c
         → Ends l past now me o acts (waiting_call (write source c none) answer)

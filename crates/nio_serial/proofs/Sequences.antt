@@ -25,21 +25,24 @@ use Rattle.nio_plain.specs.Seq.Replies.{Replied}
 use Rattle.nio_plain.specs.declared.rules.Rules.TheVariants.{Now}
 use Rattle.nio_serial.proofs.SequenceCalls.{after, IsScripted, Ends, ends}
 use Rattle.nio_serial.proofs.Progress.{pipes-after, pipes-in_progress}
+use Rattle.nio_serial.proofs.SequenceReopening.{reopened-is, reopen-ends}
 use Rattle.nio_serial.proofs.SequenceWaiting.{blocking-ends, register-ends, select-ends, close-ends, read-ends}
 use Rattle.nio_serial.proofs.SequenceWaiting.{write-ends, pipe-ends, try_read-ends, try_write-ends}
 use Rattle.nio_serial.specs.Called.{Scripted, as_call, unseen, unscripted, script_call, lacks_memory, HasNames}
 use Rattle.nio_serial.specs.Called.{IsNamedCall}
 use Rattle.nio_serial.specs.SequenceLaws.{is_of_script, AreOfScript, line_of, reply_of, script_of_calls}
 use Rattle.nio_serial.specs.SequenceLaws.{replies_of_calls, SequencesStand, NextCallIsDocumented, SequencesGrow}
-use Rattle.nio_serial.specs.SequenceLaws.{NothingIsSequence, SequencesAreScripts}
+use Rattle.nio_serial.specs.SequenceLaws.{NothingIsSequence, ReopeningIsDocumented, SequencesAreScripts, one_more}
 use Rattle.nio_serial.specs.Left.{after_made, in_progress, IsOngoing, AreNamed, AreEnrolled, IsSequence, IsLeftBy}
 use Rattle.nio_serial.proofs.Facts.{sound}
 use Rattle.nio_serial.proofs.Staying.{begins-between}
 use Rattle.nio_serial.specs.Between.{IsBetween}
 use Rattle.nio_serial.specs.Documented.{Progress, nothing_yet, documented}
+use Rattle.nio_serial.specs.Reopening.{Reopened}
 use Rattle.nio_serial.specs.Serial.{replies_from}
 use Rattle.nio_steps.specs.Ongoing.{Ongoing, nothing_ongoing}
-use Rattle.nio_steps.specs.TableCalls.{pipe, try_read, try_write, set_blocking, register, select, close, read, write}
+use Rattle.nio_steps.specs.TableCalls.{reopen_channel, pipe, try_read, try_write, set_blocking, register, select, close}
+use Rattle.nio_steps.specs.TableCalls.{read, write}
 
 -- ---- every call
 
@@ -55,6 +58,8 @@ module _ (l : Limits) (past : List Event) (now : Progress) (me : CallerNo) (fit 
       try_read-ends l me fit by past now o between no_pipes at source answer acts run legal names
   each-ends o (table_call (try_write source sink) answer) acts run legal names at may =
       try_write-ends l me fit by past now o between no_pipes at source sink answer acts run legal names.1
+  each-ends o (table_call (reopen_channel c) answer) acts run legal names at may =
+      reopen-ends l past now me between c acts answer legal run o at
   each-ends o (table_call call answer) acts run legal names at may =
       ends l past now me fit by between no_pipes o (table_call call answer) acts refl run legal names at may
   each-ends o (waiting_call (set_blocking c on) answer) acts run legal names at may =
@@ -259,11 +264,25 @@ after-next made one n = by_caller (one.caller.0 == n.0) refl
         ap (after_calls nothing_ongoing) (sym (calls-append n made (one ∷ [])
         ∙ (ap (λ xs. calls ++ xs) (calls-by n one [] false is) ∙ append-nil calls)))
 
+-- what a history leaves, after one call more of which this holds
+stands-next : (l : Limits) (past : List Event) (made : List MadeBy) (now : Progress) (me : CallerNo) (acts : List Act)
+    (call : Made) → IsLeftBy l past made now
+    → Ends l past now me (after_calls nothing_ongoing (calls_of me made)) acts call
+    → IsLeftBy l (after past me acts) (one_more made me call) (after_made now me call)
+stands-next l past made now me acts call stands done =
+    let one : MadeBy = record { caller = me; call = call } in
+    record {
+      between = done.between;
+      enrolled = are-enrolled l (state_after (after past me acts)) (after_made now me call) done.between;
+      ongoing =
+          λ n. subst (IsOngoing n (after_made now me call)) (after-next made one n)
+          (each-ongoing l past now (λ m. after_calls nothing_ongoing (calls_of m made)) one acts done stands.ongoing n);
+    }
+
 pub next_call_is_documented : NextCallIsDocumented
 next_call_is_documented l past made now me acts call word said fit next =
     let o = λ (m : CallerNo). after_calls nothing_ongoing (calls_of m made) in
     let stands = subst (IsLeftBy l past made) (sym next.progress) (sequences_stand l past made fit next.sequence) in
-    let one : MadeBy = record { caller = me; call = call } in
     let no_pipes : now.pipes ≡ [] = ap (λ (x : Progress). x.pipes) next.progress ∙ pipes-in_progress nothing_yet made in
     let done =
     each-ends l past now me fit next.by stands.between no_pipes (o me) call acts next.runs next.legal next.names
@@ -275,13 +294,19 @@ next_call_is_documented l past made now me acts call word said fit next =
     record {
       replies = sym (ap (λ (a : Replied). a.reply) is);
       leaves = sym (ap (λ (a : Replied). a.left) is);
-      stands = record {
-        between = done.between;
-        enrolled = are-enrolled l (state_after (after past me acts)) (after_made now me call) done.between;
-        ongoing =
-            λ n. subst (IsOngoing n (after_made now me call)) (after-next made one n)
-            (each-ongoing l past now o one acts done stands.ongoing n);
-      };
+      stands = stands-next l past made now me acts call stands done;
+    }
+
+pub reopening_is_documented : ReopeningIsDocumented
+reopening_is_documented l past made now me acts c answer fit next =
+    let stands = subst (IsLeftBy l past made) (sym next.progress) (sequences_stand l past made fit next.sequence) in
+    let is = reopened-is l past now me stands.between c acts answer next.legal next.runs in
+    record {
+      answers = sym (ap (λ (x : Reopened). x.answer) is);
+      leaves = sym (ap (λ (x : Reopened). x.left) is);
+      stands = stands-next l past made now me acts (table_call (reopen_channel c) answer) stands
+          (reopen-ends l past now me stands.between c acts answer next.legal next.runs
+          (after_calls nothing_ongoing (calls_of me made)) (stands.ongoing me));
     }
 
 -- ---- longer histories

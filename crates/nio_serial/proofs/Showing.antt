@@ -151,8 +151,9 @@ module _ (l : Limits) (st : State) (now : Progress) (me : CallerNo) (between : I
         → ShowsBy (after_told now s) (perform me (told_plan x told elapsed) st)
     told-index elapsed told =
         subst (λ (n : SelNo). ShowsBy (after_told now n) (perform me (told_plan x told elapsed) st)) selector-is
-        (told-cases st now me x (by_key x told) told on.rises in_set (by_key-tells x told) on.kept
-        (none_due l st now between) (untaken l st now between x.selector.0) elapsed
+        (told-cases st now me x (by_key x told) told on.rises in_set (by_key-tells x told)
+        (none_due l st now between) (untaken l st now between x.selector.0) (published l st now between x.selector.0)
+        (free l st now between x.selector.0) elapsed
         (ShowsBy (after_told now x.selector))
         (shows-same _ refl refl refl refl)
         (λ answer. shows-selection _ x.selector None refl refl refl refl (λ z e. absurd cc)))

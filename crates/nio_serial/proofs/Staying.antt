@@ -1,25 +1,23 @@
 -- What holds between two calls holds at the beginning and after each line.
-use Rattle.std.proofs.Common.{◌≡◌, ℕ, true, false, Option, Some, None, Result, Ok, Err, List, [], ◌∷◌, ◌++◌, refl, ap}
+use Rattle.std.proofs.Common.{◌≡◌, ℕ, true, false, Option, Some, None, Result, Ok, Err, List, refl, ap}
 use Rattle.std.proofs.Common.{sym, ◌∙◌, subst, arith}
 use Rattle.std.specs.Prelude.{⊤}
 use Rattle.std.proofs.lemmas.Bool.{both_ways, le-ltb}
 use Rattle.nio_base.specs.Limits.{IsFit}
 use Rattle.nio_base.specs.declared.limits.Limits.{Limits}
 use Rattle.nio_base.specs.declared.numbers.CallerNo.{CallerNo}
-use Rattle.nio_base.specs.declared.numbers.ChanNo.{ChanNo}
+use Rattle.nio_base.specs.declared.numbers.ChanId.{ChanId}
 use Rattle.nio_history.specs.Acts.{effect}
 use Rattle.nio_history.specs.Answers.{act_from}
 use Rattle.nio_history.specs.Questions.{answer_of}
 use Rattle.nio_history.specs.State.{State}
 use Rattle.nio_language.specs.declared.call.Call.{Call}
 use Rattle.nio_language.specs.declared.call.Call.TheVariants as call
-use Rattle.nio_language.specs.declared.call.ScriptCall.{ScriptCall}
 use Rattle.nio_language.specs.declared.reply.Reply.{Reply}
 use Rattle.nio_language.specs.declared.word_row.LineName.{LineName}
 use Rattle.nio_language.specs.declared.word_row.LineName.TheVariants.{Caller, Selector}
 use Rattle.nio_plain.proofs.CallLawsCases.{each_call}
-use Rattle.nio_plain.specs.Answer.{left_from}
-use Rattle.nio_plain.specs.ScriptState.{ScriptState, script_opening}
+use Rattle.nio_plain.specs.ScriptState.{ScriptState}
 use Rattle.nio_plain.specs.Seq.{call_of, seq}
 use Rattle.nio_plain.specs.Seq.Replies.{Replied}
 use Rattle.nio_plain.specs.Seq.Pipes.{own_source, own_sink, pipe_at}
@@ -39,7 +37,7 @@ use Rattle.nio_serial.proofs.RestingCalls.{rests-seq}
 use Rattle.nio_serial.proofs.Showing.{Shows, ShowsAsBefore, shows-on, shows-same, begin-shows, told-shows, failed-shows}
 use Rattle.nio_serial.proofs.Showing.{close-shows, close_end-shows}
 use Rattle.nio_serial.proofs.Steady.{IsSteady, is_steady, steady}
-use Rattle.nio_serial.specs.Between.{IsLeft, IsAtRest, IsBetween}
+use Rattle.nio_serial.specs.Between.{IsLeft, opening as opening_left, line as line_left, IsAtRest, IsBetween}
 use Rattle.nio_serial.specs.Documented.{Progress, documented}
 use Rattle.nio_serial.specs.Laws.{BeginsBetween, LinesStayBetween}
 use Rattle.nio_serial.specs.Lines.{Said, comes_to, asks, refused, if_name, if_named, read_line, write_line, call_plan}
@@ -62,13 +60,13 @@ asks-quiet : {R : Type 0} (now : Progress) (plan : Plan R) (said : R → Reply) 
 asks-quiet now plan said = asks-leaves (ShowsAsBefore now) now (record { selection = refl; closing = refl }) plan said
 
 -- lines on pipes
-read-quiet : (l : Limits) (now : Progress) (c : ChanNo) (n : ℕ) (place : Option ℕ)
+read-quiet : (l : Limits) (now : Progress) (c : ChanId) (n : ℕ) (place : Option ℕ)
     → Quiet now (read_line l now c n place)
 read-quiet l now c n None = record { selection = refl; closing = refl }
 read-quiet l now c n (Some i) =
     makes-leaves (ShowsAsBefore now) (try_read_plan l c) _ _ (λ _. record { selection = refl; closing = refl })
 
-write-quiet : (l : Limits) (now : Progress) (c : ChanNo) (bytes : List ℕ) (place : Option ℕ)
+write-quiet : (l : Limits) (now : Progress) (c : ChanId) (bytes : List ℕ) (place : Option ℕ)
     → Quiet now (write_line l now c bytes place)
 write-quiet l now c bytes None = record { selection = refl; closing = refl }
 write-quiet l now c bytes (Some i) =
@@ -79,23 +77,6 @@ pub pipe-quiet : (now : Progress) (me target : CallerNo) (answer : Result PipeEn
     → ShowsAsBefore now (after_pipe now me target answer)
 pipe-quiet now me target (Ok ends) = record { selection = refl; closing = refl }
 pipe-quiet now me target (Err refusal) = record { selection = refl; closing = refl }
-
--- ---- scripts with one line more
-
-one_more : (l : Limits) (calls : List ScriptCall) (c : ScriptCall) (from : ScriptState)
-    → left_from Now l from (calls ++ c ∷ []) ≡ (seq Now l (left_from Now l from calls) c.caller c.call).left
-one_more l [] c from = refl
-one_more l (d ∷ calls) c from = one_more l calls c (seq Now l from d.caller d.call).left
-
-pub left-more : (l : Limits) (st : ScriptState) (me : CallerNo) (word : Call) → IsLeft l st
-    → IsLeft l (seq Now l st me word).left
-left-more l st me word was =
-    let c : ScriptCall = record { caller = me; call = word } in
-    record {
-      calls = was.calls ++ c ∷ [];
-      left = ap (λ (x : ScriptState). (seq Now l x me word).left) was.left
-          ∙ sym (one_more l was.calls c script_opening);
-    }
 
 -- ---- after each line
 
@@ -182,7 +163,7 @@ module _ (l : Limits) (st : State) (now : Progress) (me : CallerNo) (fit : IsFit
       let done = perform me (line_plan l now me word) st in
       let same : seq Now l ds me word ≡ comes_to done = line-amounts l st now me fit between word in
       record {
-        left = subst (λ (a : Replied). IsLeft l a.left) same (left-more l ds me word between.left);
+        left = subst (λ (a : Replied). IsLeft l a.left) same (line_left ds me word between.left);
         at_rest =
             subst (λ (a : Replied). IsAtRest l a.left.shared) same
             (rests-is l (seq Now l ds me word).left.shared (rests-seq l ds (sound l st now between)
@@ -194,7 +175,7 @@ module _ (l : Limits) (st : State) (now : Progress) (me : CallerNo) (fit : IsFit
 
 pub begins-between : BeginsBetween
 begins-between l = record {
-  left = record { calls = []; left = refl };
+  left = opening_left;
   at_rest = record {
     unused = record { unheld = λ _. refl; unpinned = λ _ _ _. refl; untaken = λ _ _. refl; none_due = λ _ _. refl };
     high = record {

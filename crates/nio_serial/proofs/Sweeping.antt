@@ -1,30 +1,49 @@
--- The sweeps of a selection over its indexes: the cancelled keys among those that it went over are removed.
-use Rattle.std.proofs.Common.{◌≡◌, ℕ, ◌==◌, nat_lt, Bool, true, false, cond, not, ◌&&◌, ◌||◌, if◌then◌else◌, None, List}
-use Rattle.std.proofs.Common.{[], ◌∷◌, ◌++◌, map, filter, refl, ap, sym, ◌∙◌, subst, eqb-true, eq-eqb}
+-- The sweeps of a selection over the indexes that aren't free: the cancelled keys among those that it went over are
+-- removed.
+use Rattle.std.proofs.Common.{◌≡◌, ℕ, ◌<◌, ◌==◌, nat_lt, Bool, true, false, cond, not, ◌&&◌, ◌||◌, if◌then◌else◌, None}
+use Rattle.std.proofs.Common.{List, [], ◌∷◌, ◌++◌, map, filter, refl, ap, sym, ◌∙◌, subst, eqb-true, eq-eqb}
 use Rattle.std.proofs.Math.Bool.{or-false}
 use Rattle.std.proofs.lemmas.Bool.{and_parts, and_from, and_left, and_right, or_right, both_ways, ne_eqb, cond-true}
-use Rattle.std.proofs.lemmas.Bool.{cond-false}
+use Rattle.std.proofs.lemmas.Bool.{cond-false, false_from_ne_true, not-true, ltb-true}
 use Rattle.std.proofs.lemmas.List.{append-nil, map-append}
 use Rattle.std.proofs.lemmas.List.Elements.{filter-append}
 use Rattle.std.proofs.lemmas.List.Folds.{list_any-append}
 use Rattle.std.specs.List.{list_any}
 use Rattle.nio_base.specs.declared.numbers.CallerNo.{CallerNo}
 use Rattle.nio_base.specs.declared.numbers.SelNo.{SelNo}
-use Rattle.nio_history.specs.Sets.{in_cancelled_set, is_valid}
+use Rattle.nio_history.specs.Sets.{in_key_set, in_cancelled_set, is_valid}
 use Rattle.nio_history.specs.State.{State, put_at, last_serial}
 use Rattle.nio_history.specs.declared.found.Stage.{Stage}
-use Rattle.nio_steps.proofs.PerformLaws.{perform_then, perform_else, perform_then_on, perform_over}
+use Rattle.nio_plain.proofs.Registered.{any-some}
+use Rattle.nio_plain.specs.Seq.Names.{below}
+use Rattle.nio_plain.specs.Seq.Removing.{without_keys_where}
+use Rattle.nio_plain.specs.Seq.Selections.{without_cancelled}
+use Rattle.nio_plain.specs.declared.rules.Rules.TheVariants.{Now}
+use Rattle.nio_steps.proofs.PerformLaws.{perform_then, perform_else, perform_then_on}
 use Rattle.nio_steps.specs.Perform.{Performed, perform}
 use Rattle.nio_steps.specs.Plan.{Plan, when, ◌>>◌}
-use Rattle.nio_steps.specs.SelectCalls.{LookedOver, looked_key, remove_cancelled, look_valid, look_on, look_over}
+use Rattle.nio_steps.specs.SelectCalls.{over_listed, looked_key, remove_cancelled, look_valid, look_on, look_over}
 use Rattle.nio_steps.specs.SelectCalls.{remove_if_cancelled}
-use Rattle.nio_steps.specs.Sweeps.{sweep_over}
 use Rattle.nio_steps.specs.declared.looked.LookedKey.{LookedKey}
+use Rattle.nio_serial.proofs.Base.{settled-cancelled}
+use Rattle.nio_serial.proofs.FreeWords.{has_index, listed, over_listed-performed}
 use Rattle.nio_serial.proofs.Removing.{gone, removed_where, removed_none, removed_same, removed_more, removal-performed}
+use Rattle.nio_serial.proofs.Removing.{settled-removed}
+use Rattle.nio_serial.specs.Documented.{settled, settled_state}
 
--- the list has the index
-abbrev pub has_index : ℕ → List ℕ → Bool
-has_index i xs = list_any (λ j. j == i) xs
+any-filter : (p q : ℕ → Bool) (xs : List ℕ) → list_any p (filter q xs) ≡ list_any (λ i. q i && p i) xs
+any-filter p q [] = refl
+any-filter p q (x ∷ xs) = by_test (q x) (any-filter p q xs)
+  where
+    by_test : (b : Bool) → list_any p (filter q xs) ≡ list_any (λ i. q i && p i) xs
+        → list_any p (cond b (x ∷ filter q xs) (filter q xs)) ≡ ((b && p x) || list_any (λ i. q i && p i) xs)
+    by_test true rest = ap (λ b. p x || b) rest
+    by_test false rest = rest
+
+-- the indexes below n that pass the test have an index that does
+index-there : (q : ℕ → Bool) (n i : ℕ) → i < n → q i ≡ true → has_index i (filter q (below n)) ≡ true
+index-there q n i low is =
+    any-filter (λ j. j == i) q (below n) ∙ any-some (λ j. q j && (j == i)) n i low (λ j. is j && eq-eqb i i refl j)
 
 index-push : (i : ℕ) (past : List ℕ) (e : ℕ) → has_index i (past ++ e ∷ []) ≡ (has_index i past || (e == i))
 index-push i past e = list_any-append (λ j. j == i) past (e ∷ []) ∙ ap (λ b. has_index i past || b) (or-false (e == i))
@@ -181,13 +200,21 @@ module _ (st : State) (me : CallerNo) (s : SelNo) (none_due : (i : ℕ) → st.p
           kept (ap in_cancelled_set (here_gone past e is) ∙ not_again (st.key s.0 e)) (goes_again past e is)
       by_gone false is = by_test is (test e) refl
 
-  pub sweep-performed : (xs : List ℕ) → perform me (sweep_over xs (λ i _. remove_if_cancelled s i) tt) st ≡ record {
-    answer = tt;
-    state = swept xs;
-  }
-  sweep-performed xs =
-      ap (perform me (sweep_over xs (λ i _. remove_if_cancelled s i) tt)) swept_none
-      ∙ perform_over me xs (λ i _. remove_if_cancelled s i) (λ _. tt) swept (λ past e later _. swept_turn past e)
+  -- an index that isn't among these is as free as it was
+  frees_others : (past : List ℕ) (i : ℕ) → has_index i past ≡ false → (swept past).free s.0 i ≡ st.free s.0 i
+  frees_others past i out =
+      ap (λ b. (((s.0 == s.0) && (b && test i)) && has_next (st.key s.0 i)) || st.free s.0 i) out
+      ∙ none_goes (s.0 == s.0) (has_next (st.key s.0 i)) (st.free s.0 i)
+    where
+      none_goes : (x y z : Bool) → (((x && false) && y) || z) ≡ z
+      none_goes true y z = refl
+      none_goes false y z = refl
+
+  pub sweep-performed : (bound : ℕ) → perform me (over_listed s bound (λ i _. remove_if_cancelled s i) tt) st
+      ≡ record { answer = tt; state = swept (listed st s.0 bound) }
+  sweep-performed bound =
+      ap (perform me (over_listed s bound (λ i _. remove_if_cancelled s i) tt)) swept_none
+      ∙ over_listed-performed st me s bound (λ i _. remove_if_cancelled s i) (λ _. tt) swept swept_turn frees_others
 
   -- ---- a sweep that looks at the valid keys
 
@@ -197,26 +224,20 @@ module _ (st : State) (me : CallerNo) (s : SelNo) (none_due : (i : ℕ) → st.p
   abbrev entry : ℕ → LookedKey
   entry i = looked_key i (st.key s.0 i) (st.interest s.0 i)
 
-  abbrev pub looked_over : List ℕ → LookedOver
-  looked_over past = record { looked = map entry (filter valid past); kept = filter valid past }
+  abbrev pub looked_over : List ℕ → List LookedKey
+  looked_over past = map entry (filter valid past)
 
   looked-push : (past : List ℕ) (e : ℕ) → valid e ≡ true
-      → record { looked = (looked_over past).looked ++ entry e ∷ []; kept = (looked_over past).kept ++ e ∷ [] }
-      ≡ looked_over (past ++ e ∷ [])
+      → looked_over past ++ entry e ∷ [] ≡ looked_over (past ++ e ∷ [])
   looked-push past e is =
-      let more : filter valid past ++ e ∷ [] ≡ filter valid (past ++ e ∷ []) = ap
-      (λ b. filter valid past ++ cond b (e ∷ []) []) (sym is) ∙ sym (filter-append valid past (e ∷ [])) in
-      λ j. record {
-        looked = (sym (map-append entry (filter valid past) (e ∷ [])) ∙ ap (map entry) more) j;
-        kept = more j;
-      }
+      sym (map-append entry (filter valid past) (e ∷ []))
+      ∙ ap (map entry) (ap (λ b. filter valid past ++ cond b (e ∷ []) []) (sym is)
+      ∙ sym (filter-append valid past (e ∷ [])))
 
   looked-same : (past : List ℕ) (e : ℕ) → valid e ≡ false → looked_over past ≡ looked_over (past ++ e ∷ [])
   looked-same past e is =
-      let same : filter valid past ≡ filter valid (past ++ e ∷ []) =
-      sym (append-nil (filter valid past))
-      ∙ (ap (λ b. filter valid past ++ cond b (e ∷ []) []) (sym is) ∙ sym (filter-append valid past (e ∷ []))) in
-      λ j. record { looked = map entry (same j); kept = same j }
+      ap (map entry) (sym (append-nil (filter valid past))
+      ∙ (ap (λ b. filter valid past ++ cond b (e ∷ []) []) (sym is) ∙ sym (filter-append valid past (e ∷ []))))
 
   not_valid_gone : (k : Stage) → is_valid (gone k) ≡ false
   not_valid_gone k = and_left (k.published && false) (not k.cancelled) (and_right k.published false refl)
@@ -227,64 +248,49 @@ module _ (st : State) (me : CallerNo) (s : SelNo) (none_due : (i : ℕ) → st.p
   not_both true false c e = absurd (both_ways false refl e)
   not_both false r c e = absurd (both_ways false refl e)
 
-  -- a published key is cancelled, or valid, or removed
-  one_of : (p r c : Bool) → p ≡ true → ((p && not r) && c) ≡ false → ((p && not r) && not c) ≡ false → r ≡ true
-  one_of true true c published out invalid = refl
-  one_of true false true published out invalid = absurd (both_ways true out refl)
-  one_of true false false published out invalid = absurd (both_ways true invalid refl)
-  one_of false r c published out invalid = absurd (both_ways false refl published)
-
-  look_turn : (past : List ℕ) (e : ℕ) → (st.key s.0 e).published ≡ true
-      → perform me (look_over s e (looked_over past)) (swept past) ≡ record {
-        answer = looked_over (past ++ e ∷ []);
-        state = swept (past ++ e ∷ []);
-      }
-  look_turn past e published = by_gone (goes past s.0 e) refl
+  look_turn : (past : List ℕ) (e : ℕ) → perform me (look_over s e (looked_over past)) (swept past) ≡ record {
+    answer = looked_over (past ++ e ∷ []);
+    state = swept (past ++ e ∷ []);
+  }
+  look_turn past e = by_gone (goes past s.0 e) refl
     where
       stage : Stage
       stage = (swept past).key s.0 e
 
-      found : LookedOver
+      found : List LookedKey
       found = looked_over past
 
-      after : Performed LookedOver
+      after : Performed (List LookedKey)
       after = record { answer = looked_over (past ++ e ∷ []); state = swept (past ++ e ∷ []) }
 
-      unlisted : Plan LookedOver
-      unlisted = if stage.removed then Plan.reply found else Plan.reply (record found { kept = found.kept ++ e ∷ [] })
+      others : Plan (List LookedKey)
+      others = if is_valid stage then look_valid s e stage found else Plan.reply found
 
-      others : Plan LookedOver
-      others = if is_valid stage then look_valid s e stage found else unlisted
-
-      dropped : Plan LookedOver
+      dropped : Plan (List LookedKey)
       dropped = remove_cancelled s e stage >> Plan.reply found
 
-      -- a removed key is neither listed nor removed again
-      passed : in_cancelled_set stage ≡ false → is_valid stage ≡ false → stage.removed ≡ true
+      -- a key that is neither cancelled nor valid isn't looked at
+      passed : in_cancelled_set stage ≡ false → is_valid stage ≡ false
           → ((t i : ℕ) → goes past t i ≡ goes (past ++ e ∷ []) t i) → valid e ≡ false
           → perform me (look_on s e found stage) (swept past) ≡ after
-      passed out invalid removed same invalid_e =
+      passed out invalid same invalid_e =
           perform_else me (in_cancelled_set stage) dropped others (swept past) out
-          ∙ (perform_else me (is_valid stage) (look_valid s e stage found) unlisted (swept past) invalid
-          ∙ (perform_then me stage.removed (Plan.reply found)
-          (Plan.reply (record found { kept = found.kept ++ e ∷ [] })) (swept past) removed
+          ∙ (perform_else me (is_valid stage) (look_valid s e stage found) (Plan.reply found) (swept past) invalid
           ∙ (λ j. record {
             answer = looked-same past e invalid_e j;
             state =
                 removed_same st has_next (goes past) (goes (past ++ e ∷ [])) same j;
-          })))
+          }))
 
       by_valid : goes past s.0 e ≡ false → test e ≡ false → (b : Bool) → valid e ≡ b
           → perform me (look_on s e found stage) (swept past) ≡ after
       by_valid stays out true v =
           let same = here_stays past e stays in
           perform_else me (in_cancelled_set stage) dropped others (swept past) (ap in_cancelled_set same ∙ out)
-          ∙ (perform_then me (is_valid stage) (look_valid s e stage found) unlisted (swept past) (ap is_valid same ∙ v)
+          ∙ (perform_then me (is_valid stage) (look_valid s e stage found) (Plan.reply found) (swept past)
+          (ap is_valid same ∙ v)
           ∙ (ap (λ k. record {
-            answer = record {
-              looked = found.looked ++ looked_key e k (st.interest s.0 e) ∷ [];
-              kept = found.kept ++ e ∷ [];
-            };
+            answer = found ++ looked_key e k (st.interest s.0 e) ∷ [];
             state = swept past;
           }) same
           ∙ (λ j. record {
@@ -293,11 +299,8 @@ module _ (st : State) (me : CallerNo) (s : SelNo) (none_due : (i : ℕ) → st.p
                 removed_same st has_next (goes past) (goes (past ++ e ∷ [])) (goes_same past e out) j;
           })))
       by_valid stays out false v =
-          let k = st.key s.0 e in
           let same = here_stays past e stays in
-          passed (ap in_cancelled_set same ∙ out) (ap is_valid same ∙ v)
-          (ap (λ x. x.removed) same ∙ one_of k.published k.removed k.cancelled published out v)
-          (goes_same past e out) v
+          passed (ap in_cancelled_set same ∙ out) (ap is_valid same ∙ v) (goes_same past e out) v
 
       by_test : goes past s.0 e ≡ false → (b : Bool) → test e ≡ b
           → perform me (look_on s e found stage) (swept past) ≡ after
@@ -315,17 +318,44 @@ module _ (st : State) (me : CallerNo) (s : SelNo) (none_due : (i : ℕ) → st.p
           let k = st.key s.0 e in
           let same = here_gone past e is in
           passed (ap in_cancelled_set same ∙ not_again k) (ap is_valid same ∙ not_valid_gone k)
-          (ap (λ x. x.removed) same) (goes_again past e is)
+          (goes_again past e is)
           (not_both k.published (not k.removed) k.cancelled (gone_cancelled past e is))
       by_gone false is = by_test is (test e) refl
 
-  pub look-performed : (xs : List ℕ)
-      → ((past : List ℕ) (e : ℕ) (later : List ℕ) → xs ≡ past ++ e ∷ later → (st.key s.0 e).published ≡ true)
-      → perform me (sweep_over xs (look_over s) (record { looked = []; kept = [] })) st ≡ record {
-        answer = looked_over xs;
-        state = swept xs;
-      }
-  look-performed xs published =
-      ap (perform me (sweep_over xs (look_over s) (record { looked = []; kept = [] }))) swept_none
-      ∙ perform_over me xs (look_over s) looked_over swept
-      (λ past e later parts. look_turn past e (published past e later parts))
+  pub look-performed : (bound : ℕ) → perform me (over_listed s bound (look_over s) []) st ≡ record {
+    answer = looked_over (listed st s.0 bound);
+    state = swept (listed st s.0 bound);
+  }
+  look-performed bound =
+      ap (perform me (over_listed s bound (look_over s) [])) swept_none
+      ∙ over_listed-performed st me s bound (look_over s) looked_over swept look_turn frees_others
+
+  -- ---- below the high-water mark, where what is published is below it and what is free is removed: the cancelled set
+  -- goes
+
+  module _ (published : (i : ℕ) → (st.key s.0 i).published ≡ nat_lt i (st.keys_high s.0))
+      (free : (i : ℕ) → st.free s.0 i ≡ true → (st.key s.0 i).removed ≡ true) where
+    abbrev pub gone_over : List ℕ
+    gone_over = listed st s.0 (st.keys_high s.0)
+
+    cancelled-listed : (i : ℕ) → (has_index i gone_over && test i) ≡ in_cancelled_set (settled (st.key s.0 i))
+    cancelled-listed i = by_cancelled (test i) refl ∙ sym (settled-cancelled (st.key s.0 i))
+      where
+        k : Stage
+        k = st.key s.0 i
+
+        by_cancelled : (b : Bool) → test i ≡ b → (has_index i gone_over && b) ≡ b
+        by_cancelled true is =
+            let in_set = (and_parts (in_key_set k) k.cancelled is).0 in
+            let parts = and_parts k.published (not k.removed) in_set in
+            let low : i < st.keys_high s.0 = ltb-true i (st.keys_high s.0) (sym (published i) ∙ parts.0) in
+            let not_free : st.free s.0 i ≡ false =
+            false_from_ne_true (st.free s.0 i) (λ h. both_ways k.removed (not-true k.removed parts.1) (free i h)) in
+            ap (λ b. b && true) (index-there (λ n. not (st.free s.0 n)) (st.keys_high s.0) i low (ap not not_free))
+        by_cancelled false is = and_right (has_index i gone_over) false refl
+
+    pub swept-is : settled_state (swept gone_over) ≡ without_cancelled Now (settled_state st) s.0
+    swept-is =
+        settled-removed st has_next s.0 (λ i. has_index i gone_over && test i) (λ _. refl)
+        ∙ ap (λ (goes : ℕ → Bool). without_keys_where (settled_state st) s.0 goes has_next)
+        (λ j i. cancelled-listed i j)

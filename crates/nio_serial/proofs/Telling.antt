@@ -1,16 +1,14 @@
 -- Telling a selection, and leaving it, amount to the documented calls.
-use Rattle.std.proofs.Common.{◌≡◌, ℕ, ◌+◌, ◌<◌, ◌==◌, Bool, true, false, cond, not, ◌&&◌, ◌||◌, if◌then◌else◌, Some}
-use Rattle.std.proofs.Common.{None, option_map, List, [], ◌∷◌, map, count_by, bit_and, bit_or, refl, ap, sym, ◌∙◌}
-use Rattle.std.proofs.Common.{subst, arith, eqb-true, eq-eqb}
+use Rattle.std.proofs.Common.{◌≡◌, ℕ, ◌+◌, ◌<◌, ◌==◌, nat_lt, Bool, true, false, cond, not, ◌&&◌, ◌||◌, if◌then◌else◌}
+use Rattle.std.proofs.Common.{Some, None, option_map, List, [], ◌∷◌, map, count_by, bit_and, bit_or, refl, ap, sym, ◌∙◌}
+use Rattle.std.proofs.Common.{subst, arith, eqb-true}
 use Rattle.std.proofs.lemmas.Bool.{both_ways, and_parts, or_parts}
 use Rattle.std.proofs.lemmas.List.Sums.{sum_by-cons}
-use Rattle.std.proofs.lemmas.List.{map-append}
-use Rattle.std.proofs.lemmas.List.Elements.{Contains-push, Contains-append_left, Contains-append_right}
-use Rattle.std.specs.List.{AllPairs, Contains}
+use Rattle.std.specs.List.{AllPairs}
 use lib.Bits.{and_zero_r}
 use Rattle.nio_base.specs.declared.numbers.CallerNo.{CallerNo}
 use Rattle.nio_base.specs.declared.numbers.KeyId.{KeyId}
-use Rattle.nio_history.specs.Sets.{in_cancelled_set, is_in_key_set}
+use Rattle.nio_history.specs.Sets.{is_in_key_set}
 use Rattle.nio_history.specs.State.{State, with_turn, with_begun, with_gate}
 use Rattle.nio_history.specs.declared.found.GateWord.{GateWord}
 use Rattle.nio_history.specs.declared.found.Mark.{Mark}
@@ -22,28 +20,26 @@ use Rattle.nio_plain.proofs.Lists.{same-is}
 use Rattle.nio_plain.specs.ScriptState.{ScriptState}
 use Rattle.nio_plain.specs.Seq.Replies.{Replied}
 use Rattle.nio_plain.specs.Seq.Names.{is_same_key, key_at}
-use Rattle.nio_plain.specs.Seq.Removing.{without_keys_where}
 use Rattle.nio_plain.specs.Seq.Selections.{all_told, looked_interest, told_bits, is_looked, marked, is_updated}
-use Rattle.nio_plain.specs.Seq.Selections.{with_marks, goes_on, is_again, why_ended, selection_ended, told_selection}
-use Rattle.nio_plain.specs.Seq.Selections.{left_selection}
+use Rattle.nio_plain.specs.Seq.Selections.{without_cancelled, with_marks, goes_on, is_again, why_ended, selection_ended}
+use Rattle.nio_plain.specs.Seq.Selections.{told_selection, left_selection}
 use Rattle.nio_plain.specs.declared.rules.Rules.TheVariants.{Now}
-use Rattle.nio_steps.proofs.Lists.{parted}
 use Rattle.nio_steps.proofs.PerformLaws.{perform_then_on}
 use Rattle.nio_steps.specs.Perform.{Performed, perform}
 use Rattle.nio_steps.specs.Plan.{Plan, ◌>>◌}
-use Rattle.nio_steps.specs.SelectCalls.{Selection, mark_entry, remove_if_cancelled, after_marks, end_selection}
+use Rattle.nio_steps.specs.SelectCalls.{Selection, mark_entry, remove_all_cancelled, after_marks, end_selection}
 use Rattle.nio_steps.specs.SelectCalls.{told_plan, leave_plan, ToldReply, done, again, is_again as is_again_by_look}
-use Rattle.nio_steps.specs.SelectCalls.{why_ended as why_over, told_of}
+use Rattle.nio_steps.specs.SelectCalls.{why_ended as why_over, told_at}
 use Rattle.nio_steps.specs.Steps.{end_wake, give_turn}
 use Rattle.nio_steps.specs.Sweeps.{sweep_over}
 use Rattle.nio_steps.specs.declared.looked.LookedKey.{LookedKey}
 use Rattle.nio_steps.specs.declared.selected.Selected.{Selected}
-use Rattle.nio_serial.proofs.Base.{put-under, settled-cancelled, branch}
-use Rattle.nio_serial.proofs.Marking.{looked-middle, updated, counts, serial-is, not-removed, marks-performed}
+use Rattle.nio_serial.proofs.Base.{put-under, branch}
+use Rattle.nio_serial.proofs.FreeWords.{listed}
+use Rattle.nio_serial.proofs.Marking.{updated, counts, not-removed, marks-performed}
 use Rattle.nio_serial.proofs.Marks.{marked-same}
-use Rattle.nio_serial.proofs.Removing.{settled-removed}
-use Rattle.nio_serial.proofs.Sweeping.{has_index, has_next, swept, sweep-performed}
-use Rattle.nio_serial.specs.Documented.{Progress, settled, settled_mark, settled_state, looked_pair, shown, documented}
+use Rattle.nio_serial.proofs.Sweeping.{swept, sweep-performed, swept-is}
+use Rattle.nio_serial.specs.Documented.{Progress, settled_mark, settled_state, looked_pair, shown, documented}
 use Rattle.nio_serial.specs.Documented.{amounts}
 use Rattle.nio_serial.specs.Lines.{after_told, with_selection}
 use Rattle.nio_serial.specs.Replies.{told_reply}
@@ -117,9 +113,10 @@ module _ (st : State) (now : Progress) (me : CallerNo) (x : Selection) (pairs : 
     (rises : AllPairs (λ (a b : LookedKey). a.index < b.index) x.looked)
     (in_set : (k : KeyId) → is_looked (map looked_pair x.looked) k ≡ true
     → is_in_key_set (st.key x.selector.0 k.index) k.serial ≡ true)
-    (tells : (k : KeyId) → is_looked (map looked_pair x.looked) k ≡ true → told_of told k.index ≡ all_told pairs k)
-    (kept : x.kept ≡ map (λ (e : LookedKey). e.index) x.looked)
-    (none_due : (t i : ℕ) → st.put_due t i ≡ false) (untaken : (i : ℕ) → st.taker x.selector.0 i ≡ None) where
+    (tells : (k : KeyId) → is_looked (map looked_pair x.looked) k ≡ true → told_at told k.index ≡ all_told pairs k)
+    (none_due : (t i : ℕ) → st.put_due t i ≡ false) (untaken : (i : ℕ) → st.taker x.selector.0 i ≡ None)
+    (published : (i : ℕ) → (st.key x.selector.0 i).published ≡ nat_lt i (st.keys_high x.selector.0))
+    (free : (i : ℕ) → st.free x.selector.0 i ≡ true → (st.key x.selector.0 i).removed ≡ true) where
   abbrev s : ℕ
   s = x.selector.0
 
@@ -246,40 +243,9 @@ module _ (st : State) (now : Progress) (me : CallerNo) (x : Selection) (pairs : 
               (sym (eqb-true t s same)) (quiet i))
           by_selector false other = refl
 
-  -- the kept indexes are those of the looked keys, each with the key that was looked at
-  index-looked : (i : ℕ) (xs : List LookedKey)
-      → ((e : LookedKey) → Contains xs e → (st.key s e.index).serial ≡ e.serial)
-      → has_index i (map (λ (e : LookedKey). e.index) xs) ≡ is_looked (map looked_pair xs) (key_at st s i)
-  index-looked i [] serials = refl
-  index-looked i (e ∷ xs) serials =
-      (λ j. one j || index-looked i xs (λ f there. serials f (Contains-append_right (e ∷ []) xs f there)) j)
-    where
-      one : (e.index == i) ≡ ((e.index == i) && (e.serial == (st.key s i).serial))
-      one = by_index (e.index == i) refl
-        where
-          by_index : (b : Bool) → (e.index == i) ≡ b → b ≡ (b && (e.serial == (st.key s i).serial))
-          by_index true same =
-              sym (eq-eqb e.serial (st.key s i).serial (sym (serials e
-              (Contains-append_left (e ∷ []) xs e (Contains-push [] e)))
-              ∙ ap (λ n. (st.key s n).serial) (eqb-true e.index i same)))
-          by_index false other = refl
-
-  serials-are : (e : LookedKey) → Contains x.looked e → (st.key s e.index).serial ≡ e.serial
-  serials-are e there =
-      serial-is st me x pairs told rises in_set tells (looked_pair e).0
-      (let cut = parted x.looked e there in
-      ap (λ xs. is_looked (map looked_pair xs) (looked_pair e).0) cut.parts
-      ∙ (ap (λ xs. is_looked xs (looked_pair e).0) (map-append looked_pair cut.past (e ∷ cut.later))
-      ∙ looked-middle (map looked_pair cut.past) (looked_pair e) (map looked_pair cut.later)))
-
-  swept-is : (i : ℕ) → (has_index i x.kept && in_cancelled_set (st.key s i))
-      ≡ (is_looked looked (key_at st s i) && in_cancelled_set (settled (st.key s i)))
-  swept-is i =
-      λ j. (ap (has_index i) kept ∙ index-looked i x.looked serials-are) j && sym (settled-cancelled (st.key s i)) j
-
   -- what is left of the plan
   abbrev swept_st : State
-  swept_st = swept marked_st me x.selector (none_due s) untaken x.kept
+  swept_st = swept marked_st me x.selector (none_due s) untaken (listed marked_st s (st.keys_high s))
 
   abbrev ended : State
   ended = with_begun (with_turn (with_gate swept_st s (record (st.gate s) { woken = false })) s None) s false
@@ -287,9 +253,9 @@ module _ (st : State) (now : Progress) (me : CallerNo) (x : Selection) (pairs : 
   ending-performed : (answer : Selected) → perform me (end_selection x answer) marked_st
       ≡ record { answer = done answer; state = ended }
   ending-performed answer =
-      perform_then_on me (sweep_over x.kept (λ i _. remove_if_cancelled x.selector i) tt)
+      perform_then_on me (remove_all_cancelled x.selector)
       (λ _. end_wake x.selector >> (give_turn x.selector >> Plan.reply (done answer))) marked_st tt swept_st
-      (sweep-performed marked_st me x.selector (none_due s) untaken x.kept)
+      (sweep-performed marked_st me x.selector (none_due s) untaken (st.keys_high s))
       ∙ (λ j. record {
         answer = done answer;
         state =
@@ -299,8 +265,8 @@ module _ (st : State) (now : Progress) (me : CallerNo) (x : Selection) (pairs : 
   ended-is : settled_state ended ≡ selection_ended Now ds.shared s (shown x) pairs
   ended-is =
       ap (λ (y : State). with_begun (with_turn (with_gate y s (record (st.gate s) { woken = false })) s None) s false)
-      (settled-removed marked_st has_next s (λ i. has_index i x.kept && in_cancelled_set (st.key s i)) (λ _. refl)
-      ∙ (λ j. without_keys_where (settled-marks j) s (λ i. swept-is i j) has_next))
+      (swept-is marked_st me x.selector (none_due s) untaken published free
+      ∙ ap (λ (y : State). without_cancelled Now y s) settled-marks)
 
   -- ---- the call
 

@@ -1,19 +1,22 @@
 -- What holds between two calls of a serial history, in which each call ends before the next begins.
 use Rattle.std.specs.Prelude.{◌≡◌, ℕ, ◌<◌, ◌≤◌, nat_lt, ◌&&◌, if◌then◌else◌, IsTrue, IsFalse, Some, None, option_map}
-use Rattle.std.specs.Prelude.{is_some, List, length, map}
+use Rattle.std.specs.Prelude.{is_some, length}
 use Rattle.std.specs.List.{AllPairs}
 use Rattle.nio_base.specs.declared.kind.Kind.{Kind}
 use Rattle.nio_base.specs.declared.kind.Kind.TheVariants.{Source, Sink}
 use Rattle.nio_base.specs.declared.limits.Limits.{Limits}
-use Rattle.nio_base.specs.declared.numbers.ChanNo.{ChanNo}
+use Rattle.nio_base.specs.declared.numbers.CallerNo.{CallerNo}
+use Rattle.nio_base.specs.declared.numbers.ChanId.{ChanId}
+use Rattle.nio_history.specs.Sets.{was_opened}
 use Rattle.nio_history.specs.State.{State, unclaimed, unmarked, last_serial}
 use Rattle.nio_history.specs.declared.found.Chan.{Chan}
-use Rattle.nio_language.specs.declared.call.ScriptCall.{ScriptCall}
-use Rattle.nio_plain.specs.Answer.{left_by_script}
-use Rattle.nio_plain.specs.ScriptState.{Pipe, ScriptState}
+use Rattle.nio_language.specs.declared.call.Call.{Call}
+use Rattle.nio_plain.specs.ScriptState.{Pipe, ScriptState, script_opening}
+use Rattle.nio_plain.specs.Seq.{seq}
 use Rattle.nio_plain.specs.declared.rules.Rules.TheVariants.{Now}
 use Rattle.nio_steps.specs.SelectCalls.{Selection}
 use Rattle.nio_serial.specs.Documented.{Progress, Selecting, documented}
+use Rattle.nio_serial.specs.Reopening.{reopen_call}
 
 -- nobody holds a channel, has a pin on an index, has taken one, or has still to put one
 pub record IsUnused (st : State) : Type 0 where
@@ -50,11 +53,10 @@ pub record IsAtRest (l : Limits) (st : State) : Type 0 where
   pub high : HasExactHigh l st
   pub free : AreFree st
 
--- a selection in progress on the selector: it looks at each index once, in rising order, and keeps these indexes
+-- a selection in progress on the selector: it looks at each index once, in rising order
 pub record IsOn (s : ℕ) (x : Selection) : Type 0 where
   pub selector : x.selector.0 ≡ s
   pub rises : AllPairs (λ a b. a.index < b.index) x.looked
-  pub kept : x.kept ≡ map (λ entry. entry.index) x.looked
 
 -- the state has the same callers selecting and closing on the selector as the progress shows
 pub record IsShownBy (st : State) (now : Progress) (s : ℕ) : Type 0 where
@@ -63,13 +65,15 @@ pub record IsShownBy (st : State) (now : Progress) (s : ℕ) : Type 0 where
   pub on : (x : Selecting) → now.selection s ≡ Some x → IsOn s x.selection
   pub closing : now.closing s ≡ (if st.entered s then None else st.closer s)
 
--- the state is one that a script leaves, by the rules of now
-pub record IsLeft (l : Limits) (st : ScriptState) : Type 0 where
-  pub calls : List ScriptCall
-  pub left : st ≡ left_by_script Now l calls
+-- The state is one that documented calls leave, by the rules of now, one after the other. Such a call is a line of a
+-- script, or a reopening.
+pub data IsLeft (l : Limits) : ScriptState → Type 0 where
+  opening : IsLeft l script_opening
+  line : (st : ScriptState) (me : CallerNo) (word : Call) → IsLeft l st → IsLeft l (seq Now l st me word).left
+  reopening : (st : ScriptState) (c : ChanId) → IsLeft l st → IsLeft l (reopen_call l st c).left
 
--- All that holds between two calls: what a script sees is a state that a script leaves, in which nothing is at work,
--- and what is in progress is what the state shows.
+-- All that holds between two calls: what a script sees is a state that documented calls leave, in which nothing is at
+-- work, and what is in progress is what the state shows.
 pub record IsBetween (l : Limits) (st : State) (now : Progress) : Type 0 where
   pub left : IsLeft l (documented st now)
   pub at_rest : IsAtRest l (documented st now).shared
@@ -77,11 +81,11 @@ pub record IsBetween (l : Limits) (st : State) (now : Progress) : Type 0 where
 
 -- ---- what follows of the pipes
 
--- a made channel of this kind
-abbrev pub IsChannelOf : (ℕ → Chan) → ChanNo → Kind → Type 0
-IsChannelOf chan c kind = IsTrue (chan c.0).made × ((chan c.0).kind ≡ kind)
+-- a channel that was opened, of this kind
+abbrev pub IsChannelOf : (ℕ → Chan) → ChanId → Kind → Type 0
+IsChannelOf chan c kind = IsTrue (was_opened (chan c.number.0) c.serial) × ((chan c.number.0).kind ≡ kind)
 
--- a pipe whose ends are made channels of their kinds, and in which at most 65,536 bytes wait
+-- a pipe whose ends are channels of their kinds, and in which at most 65,536 bytes wait
 pub record IsWholePipe (chan : ℕ → Chan) (p : Pipe) : Type 0 where
   pub source : IsChannelOf chan p.source Source
   pub sink : IsChannelOf chan p.sink Sink

@@ -19,8 +19,9 @@ use Rattle.nio_serial.specs.Replies.{register_reply, closed_reply, selector_repl
 use Rattle.nio_serial.specs.Replies.{finish_reply, list_reply}
 use Rattle.nio_steps.specs.TableCalls.{Name, the_selector, the_channel, the_key, row_of, wait_row_of, find_selector}
 use Rattle.nio_steps.specs.TableCalls.{find_channel, find, is_valid, interest, set_interest, interest_or, interest_and}
-use Rattle.nio_steps.specs.TableCalls.{ready, cancel, unselect, attach, attachment, open_channel, is_open, is_blocking}
-use Rattle.nio_steps.specs.TableCalls.{is_registered, key_for, try_set_blocking, try_register, close_channel}
+use Rattle.nio_steps.specs.TableCalls.{ready, cancel, unselect, attach, attachment, open_channel, reopen_channel}
+use Rattle.nio_steps.specs.TableCalls.{is_open, is_blocking, is_registered, key_for, try_set_blocking, try_register}
+use Rattle.nio_steps.specs.TableCalls.{close_channel}
 use Rattle.nio_steps.specs.TableCalls.{open_selector, try_begin, told, leave, shut, try_finish, keys, selected_keys}
 use Rattle.nio_steps.specs.TableCalls.{wakeup, interrupt, interrupted, pipe, try_read, try_write, set_blocking}
 use Rattle.nio_steps.specs.TableCalls.{register, select, close, read, write}
@@ -33,7 +34,8 @@ pub data Scripted : Type 0 where
   as_call : Call → Reply → Scripted
   -- nothing: the call draws, or only looks a name up
   unseen : Scripted
-  -- no call: it is on a pipe, or it is a whole selection or closing, which is several calls
+  -- no call: it opens a closed number again, it is on a pipe, or it is a whole selection or closing, which is several
+  -- calls
   unscripted : Scripted
 
 -- how long a selection waits, as a line says it
@@ -45,7 +47,7 @@ waiting_of (Mode.For ms) = waiting.For (pos (suc ms.after_the_first))
 abbrev pub script_call : Made → Scripted
 script_call (draw n) = unseen
 script_call (table_call (find_selector n) answer) = unseen
-script_call (table_call (find_channel n) answer) = unseen
+script_call (table_call (find_channel n serial) answer) = unseen
 script_call (table_call (find s i serial) answer) = unseen
 script_call (table_call (is_valid k) answer) = as_call (call.Valid k.sel (key_id k)) (yes_or_no answer)
 script_call (table_call (interest k) answer) = as_call (call.Interest k.sel (key_id k)) (set_reply answer)
@@ -58,6 +60,7 @@ script_call (table_call (unselect k) answer) = as_call (call.Unselect k.sel (key
 script_call (table_call (attach k att) answer) = as_call (call.Attach k.sel (key_id k) att) (reply.Number answer)
 script_call (table_call (attachment k) answer) = as_call (call.Attachment k.sel (key_id k)) (reply.Number answer)
 script_call (table_call (open_channel kind) answer) = as_call (call.Channel kind) (channel_reply answer)
+script_call (table_call (reopen_channel c) answer) = unscripted
 script_call (table_call (is_open c) answer) = as_call (call.IsOpen c) (yes_or_no answer)
 script_call (table_call (is_blocking c) answer) = as_call (call.IsBlocking c) (yes_or_no answer)
 script_call (table_call (is_registered c) answer) = as_call (call.IsRegistered c) (yes_or_no answer)
@@ -97,7 +100,7 @@ lacks_memory (waiting_call call answer) = (wait_row_of call).lacks_memory answer
 
 -- ---- the names of a call
 
--- the selector or channel is made, or the key was published
+-- the selector is made, the channel was opened, or the key was published
 abbrev pub IsPresent : State → Name → Type 0
 IsPresent st (the_selector s) = IsMadeSelector st s
 IsPresent st (the_channel c) = IsMadeChannel st c

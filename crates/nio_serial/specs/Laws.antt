@@ -4,13 +4,13 @@ use Rattle.std.specs.List.{All}
 use Rattle.nio_base.specs.Limits.{IsFit}
 use Rattle.nio_base.specs.declared.limits.Limits.{Limits}
 use Rattle.nio_base.specs.declared.numbers.CallerNo.{CallerNo}
-use Rattle.nio_base.specs.declared.numbers.ChanNo.{ChanNo}
+use Rattle.nio_base.specs.declared.numbers.ChanId.{ChanId}
 use Rattle.nio_base.specs.declared.numbers.KeyId.{KeyId}
 use Rattle.nio_base.specs.declared.numbers.SelNo.{SelNo}
 use Rattle.nio_history.specs.Conditions.{IsCaller}
 use Rattle.nio_history.specs.Histories.{state_after, event_of, IsLegal}
 use Rattle.nio_history.specs.PassViews.{PassView, known}
-use Rattle.nio_history.specs.Sets.{was_published}
+use Rattle.nio_history.specs.Sets.{was_opened, was_published}
 use Rattle.nio_history.specs.State.{State, opening, with_drawn}
 use Rattle.nio_history.specs.declared.act.Act.{Act}
 use Rattle.nio_history.specs.declared.event.Event.{Event}
@@ -26,7 +26,7 @@ use Rattle.nio_plain.specs.declared.rules.Rules.TheVariants.{Now}
 use Rattle.nio_steps.specs.Calls.{CallClause}
 use Rattle.nio_steps.specs.Perform.{perform}
 use Rattle.nio_steps.specs.Runs.{Completes}
-use Rattle.nio_steps.specs.SelectCalls.{Selection, told_of, told_plan, try_begin_plan, keys_plan, selected_keys_plan}
+use Rattle.nio_steps.specs.SelectCalls.{Selection, told_at, told_plan, try_begin_plan, keys_plan, selected_keys_plan}
 use Rattle.nio_steps.specs.SelectCalls.{ToldReply}
 use Rattle.nio_serial.specs.Between.{IsBetween, IsWholePipe}
 use Rattle.nio_serial.specs.Documented.{Progress, nothing_yet, looked_pair, documented, amounts}
@@ -38,13 +38,13 @@ use Rattle.nio_serial.specs.Replies.{told_reply}
 abbrev pub IsMadeSelector : State → SelNo → Type 0
 IsMadeSelector st s = IsTrue (st.selector s.0)
 
-abbrev pub IsMadeChannel : State → ChanNo → Type 0
-IsMadeChannel st c = IsTrue (st.chan c.0).made
+abbrev pub IsMadeChannel : State → ChanId → Type 0
+IsMadeChannel st c = IsTrue (was_opened (st.chan c.number.0) c.serial)
 
 abbrev pub IsMadeKey : State → SelNo → KeyId → Type 0
 IsMadeKey st s k = IsMadeSelector st s × IsTrue (was_published (st.key s.0 k.index) k.serial)
 
--- what is named is there: a selector or a channel is made, a key was published, a caller may be drawn
+-- what is named is there: a selector is made, a channel was opened, a key was published, a caller may be drawn
 abbrev pub IsThere : Limits → State → LineName → Type 0
 IsThere l st (Caller n) = IsCaller l n
 IsThere l st (Selector s) = IsMadeSelector st s
@@ -64,7 +64,7 @@ CallsAmount = (l : Limits) (st : State) (now : Progress) (me : CallerNo) (word :
 
 -- the told pairs of a selection, each looked key with what was told of its index
 abbrev pub by_key : Selection → List (ℕ × ℕ) → List (KeyId × ℕ)
-by_key x told = map (λ entry. ((looked_pair entry).0, told_of told entry.index)) x.looked
+by_key x told = map (λ entry. ((looked_pair entry).0, told_at told entry.index)) x.looked
 
 -- A `told` gives what the poller told by index: it amounts to the documented call that names the looked keys.
 abbrev pub ToldAmounts : Type 0

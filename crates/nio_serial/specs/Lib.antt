@@ -2,6 +2,7 @@ pub mod Documented
 pub mod Replies
 pub mod PipeLines
 pub mod Lines
+pub mod Reopening
 pub mod Between
 pub mod Laws
 pub mod Serial

@@ -4,7 +4,7 @@ use Rattle.std.specs.Prelude.{ℕ, ◌==◌, nat_lt, Bool, false, if◌then◌el
 use Rattle.std.specs.Prelude.{List, map, filter}
 use Rattle.nio_base.specs.declared.limits.Limits.{Limits}
 use Rattle.nio_base.specs.declared.numbers.CallerNo.{CallerNo}
-use Rattle.nio_base.specs.declared.numbers.ChanNo.{ChanNo}
+use Rattle.nio_base.specs.declared.numbers.ChanId.{ChanId}
 use Rattle.nio_base.specs.declared.numbers.KeyId.{KeyId}
 use Rattle.nio_base.specs.declared.numbers.SelNo.{SelNo}
 use Rattle.nio_history.specs.State.{put}
@@ -132,11 +132,11 @@ on_pipe now i plan gives =
     (λ answer. with_pipe now i (gives (pipe_at now.pipes i) answer).left)
 
 -- of the caller's own pipe
-abbrev pub read_line : Limits → Progress → ChanNo → ℕ → Option ℕ → Plan Said
+abbrev pub read_line : Limits → Progress → ChanId → ℕ → Option ℕ → Plan Said
 read_line l now c n None = refused now reply.NotOwner
 read_line l now c n (Some i) = on_pipe now i (try_read_plan l c) (read_gives n)
 
-abbrev pub write_line : Limits → Progress → ChanNo → List ℕ → Option ℕ → Plan Said
+abbrev pub write_line : Limits → Progress → ChanId → List ℕ → Option ℕ → Plan Said
 write_line l now c bytes None = refused now reply.NotOwner
 write_line l now c bytes (Some i) = on_pipe now i (try_write_plan l (pipe_at now.pipes i).source c) (write_gives bytes)
 
@@ -190,8 +190,8 @@ if_found now r plan found = if is_some found then plan else refused now r
 abbrev pub if_selector : Limits → Progress → SelNo → Plan Said → Plan Said
 if_selector l now s plan = find_selector_plan l s.0 >>= if_found now reply.NoSelector plan
 
-abbrev pub if_channel : Limits → Progress → ChanNo → Plan Said → Plan Said
-if_channel l now c plan = find_channel_plan l c.0 >>= if_found now reply.NoChannel plan
+abbrev pub if_channel : Limits → Progress → ChanId → Plan Said → Plan Said
+if_channel l now c plan = find_channel_plan l c.number.0 c.serial >>= if_found now reply.NoChannel plan
 
 abbrev pub if_key : Limits → Progress → SelNo → KeyId → Plan Said → Plan Said
 if_key l now s k plan = if_selector l now s (find_plan l s k.index k.serial >>= if_found now reply.NoKey plan)

@@ -1,6 +1,6 @@
 -- The reply of a script's line to what a call on the table answers.
 use Rattle.std.specs.Prelude.{ℕ, Bool, true, false, Option, Some, None, Result, Ok, Err, List, map}
-use Rattle.nio_base.specs.declared.numbers.ChanNo.{ChanNo}
+use Rattle.nio_base.specs.declared.numbers.ChanId.{ChanId}
 use Rattle.nio_base.specs.declared.numbers.KeyId.{KeyId}
 use Rattle.nio_base.specs.declared.numbers.KeyNo.{KeyNo}
 use Rattle.nio_base.specs.declared.numbers.SelNo.{SelNo}
@@ -75,7 +75,7 @@ find_reply (Some k) = reply.Key (key_id k)
 
 -- ---- channels
 
-abbrev pub channel_reply : Result ChanNo ChannelError → Reply
+abbrev pub channel_reply : Result ChanId ChannelError → Reply
 channel_reply (Ok c) = reply.Channel c
 channel_reply (Err refusal) = channel_refusal refusal
 

@@ -1,9 +1,10 @@
 -- Where calls don't overlap, the table is the sequential selector of Java.
-use Rattle.std.specs.Prelude.{◌≡◌, Bool, true, false, not, ◌&&◌, IsTrue, IsFalse, List, [], ◌∷◌, ◌++◌, map}
+use Rattle.std.specs.Prelude.{◌≡◌, Bool, true, false, not, ◌&&◌, IsTrue, IsFalse, Result, List, [], ◌∷◌, ◌++◌, map}
 use Rattle.std.specs.List.{All}
 use Rattle.nio_base.specs.Limits.{IsFit}
 use Rattle.nio_base.specs.declared.limits.Limits.{Limits}
 use Rattle.nio_base.specs.declared.numbers.CallerNo.{CallerNo}
+use Rattle.nio_base.specs.declared.numbers.ChanId.{ChanId}
 use Rattle.nio_history.specs.Conditions.{IsCaller}
 use Rattle.nio_history.specs.Histories.{state_after, event_of, IsLegal}
 use Rattle.nio_history.specs.declared.act.Act.{Act}
@@ -11,7 +12,7 @@ use Rattle.nio_history.specs.declared.event.Event.{Event}
 use Rattle.nio_language.specs.declared.call.Call.{Call}
 use Rattle.nio_language.specs.declared.call.ScriptCall.{ScriptCall}
 use Rattle.nio_language.specs.declared.reply.Reply.{Reply}
-use Rattle.nio_orderly.specs.Made.{Made, IsRun, MayCome, after_calls}
+use Rattle.nio_orderly.specs.Made.{Made, table_call, IsRun, MayCome, after_calls}
 use Rattle.nio_orderly.specs.Orderly.{MadeBy, calls_of}
 use Rattle.nio_plain.specs.Answer.{left_by_script}
 use Rattle.nio_plain.specs.ScriptState.{script_opening}
@@ -21,8 +22,12 @@ use Rattle.nio_serial.specs.Called.{Scripted, as_call, unseen, unscripted, scrip
 use Rattle.nio_serial.specs.Called.{IsNamedCall}
 use Rattle.nio_serial.specs.Left.{after_made, in_progress, IsSequence, IsLeftBy}
 use Rattle.nio_serial.specs.Documented.{Progress, nothing_yet, documented}
+use Rattle.nio_serial.specs.Laws.{IsMadeChannel}
+use Rattle.nio_serial.specs.Reopening.{reopen_call}
 use Rattle.nio_serial.specs.Serial.{replies_from}
 use Rattle.nio_steps.specs.Ongoing.{nothing_ongoing}
+use Rattle.nio_steps.specs.TableCalls.{reopen_channel}
+use Rattle.nio_steps.specs.declared.refusal.ReopenError.{ReopenError}
 
 -- ---- what every serial history leaves
 
@@ -71,7 +76,42 @@ NextCallIsDocumented =
     (call : Made) (word : Call) (said : Reply)
     → IsFit l → IsNextCall l past made now me acts call word said → IsDocumented l past made now me acts call word said
 
--- the history with the call is one again, whatever the call is
+-- ---- a reopening, which no word of a script is
+
+-- The history `past` of the calls `made`, and then a reopening of a caller, which did these acts in it.
+pub record IsNextReopening (l : Limits) (past : List Event) (made : List MadeBy) (now : Progress) (me : CallerNo)
+    (acts : List Act) (c : ChanId) (answer : Result ChanId ReopenError) : Type 0 where
+  -- the history is legal and serial
+  pub sequence : IsSequence l past made
+  -- it is legal still where the acts follow, with no event of another caller between
+  pub legal : IsLegal l (past ++ map (event_of me) acts)
+  -- the acts are a whole run of the reopening, to its answer
+  pub runs : IsRun l (table_call (reopen_channel c) answer) acts
+  -- it is of one of the table's callers, and the channel was opened
+  pub by : IsCaller l me
+  pub names : IsMadeChannel (state_after past) c
+  -- the selections and closings in progress are those that the calls leave
+  pub progress : now ≡ in_progress nothing_yet made
+
+-- The answer is the documented system's in the state that the history leaves, and the history with the reopening
+-- leaves its next state.
+pub record IsReopened (l : Limits) (past : List Event) (made : List MadeBy) (now : Progress) (me : CallerNo)
+    (acts : List Act) (c : ChanId) (answer : Result ChanId ReopenError) : Type 0 where
+  pub answers : answer ≡ (reopen_call l (documented (state_after past) now) c).answer
+  pub leaves : documented (state_after (past ++ map (event_of me) acts)) now
+      ≡ (reopen_call l (documented (state_after past) now) c).left
+  pub stands : IsLeftBy l (past ++ map (event_of me) acts) (one_more made me (table_call (reopen_channel c) answer)) now
+
+-- Where calls don't overlap, a reopening is the documented one.
+abbrev pub ReopeningIsDocumented : Type 0
+ReopeningIsDocumented =
+    (l : Limits) (past : List Event) (made : List MadeBy) (now : Progress) (me : CallerNo) (acts : List Act)
+    (c : ChanId) (answer : Result ChanId ReopenError)
+    → IsFit l → IsNextReopening l past made now me acts c answer → IsReopened l past made now me acts c answer
+
+-- ---- one call more, whatever it is
+
+-- the history with the call is one again
 abbrev pub SequencesGrow : Type 0
 SequencesGrow =
     (l : Limits) (past : List Event) (made : List MadeBy) (me : CallerNo) (acts : List Act) (call : Made)

@@ -4,7 +4,7 @@ ghost use Rattle.nio_serial.specs.Laws.{CallsStayBetween, ToldStaysBetween, Line
 ghost use Rattle.nio_serial.specs.Laws.{CallRunsAmount, ToldRunsAmount, LineRunsAmount, PassLinesAmount, LackingLeaves};
 ghost use Rattle.nio_serial.specs.Serial.{SerialLinesAmount};
 ghost use Rattle.nio_serial.specs.SequenceLaws.{SequencesStand, NextCallIsDocumented, SequencesGrow, NothingIsSequence};
-ghost use Rattle.nio_serial.specs.SequenceLaws.{SequencesAreScripts};
+ghost use Rattle.nio_serial.specs.SequenceLaws.{ReopeningIsDocumented, SequencesAreScripts};
 
 /// The steps of a call between which nobody comes amount to the documented call: the reply and the state
 /// are its own. So do those of a `told` by index, which names the looked keys, and those of a script's line
@@ -46,11 +46,13 @@ pub fn serial_law()
 
 /// Where calls don't overlap, the table is the sequential selector of Java. A legal serial history leaves a
 /// state between two calls, whatever its calls are. One call more that has a word in a script has the reply of the
-/// documented system in that state, and leaves its next state. So a history of such calls has the replies of its
-/// script, and leaves the state that the script leaves. A history with one call more is serial again.
+/// documented system in that state, and leaves its next state. The same is true of a reopening, which has no word.
+/// So a history of calls that have one has the replies of its script, and leaves the state that the script
+/// leaves. A history with one call more is serial again.
 pub fn seq_law()
     ensures stands { SequencesStand }
     ensures next { NextCallIsDocumented }
+    ensures reopening { ReopeningIsDocumented }
     ensures grows { SequencesGrow }
     ensures nothing { NothingIsSequence }
     ensures scripts { SequencesAreScripts }

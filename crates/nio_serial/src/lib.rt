@@ -2,10 +2,10 @@
 //!
 //! `specs/Documented` has the map from a state of the table, with the selections in progress, to a state of
 //! a script, and `specs/Lines` how the line of a script is made on the table: its look-ups, the plan of its
-//! call and its reply. `specs/Between` says what holds between two calls of a serial history, and
-//! `specs/Laws` has the laws: each call, performed on such a state, has the reply and leaves the state of
-//! the documented call, by the rules of now, and what holds between calls holds again. `specs/Serial` says the
-//! same of whole histories of lines.
+//! call and its reply. `specs/Reopening` has the one documented call that no line of a script is. `specs/Between` says
+//! what holds between two calls of a serial history, and `specs/Laws` has the laws: each call, performed on such a
+//! state, has the reply and leaves the state of the documented call, by the rules of now, and what holds between calls
+//! holds again. `specs/Serial` says the same of whole histories of lines.
 //!
 //! Of calls that aren't made for a script: `specs/Called` says which call of the documented system a call on the table
 //! is, and what it names, `specs/Left` what a serial history leaves: a state between two calls, and what its calls left

@@ -1,10 +1,12 @@
 -- Which calls were made, from the clauses of the calls on the table.
 use Rattle.std.proofs.Common.{◌≡◌, ◌≢◌, ℕ, Bool, true, false, Option, Some, None, Result, Ok, Err, OnOk, OnErr, is_err}
 use Rattle.std.proofs.Common.{List, [], ◌∷◌, ◌++◌}
-use Rattle.std.proofs.Common.{◌==◌, refl, ap, sym, ◌∙◌, subst, append_assoc, eq-eqb}
+use Rattle.std.proofs.Common.{◌==◌, ◌&&◌, refl, ap, sym, ◌∙◌, subst, append_assoc, eq-eqb}
 use Rattle.std.proofs.lemmas.Bool.{false≢true}
 use Rattle.std.proofs.lemmas.List.{append-nil}
 use Rattle.nio_base.specs.declared.kind.Kind.{Kind}
+use Rattle.nio_base.specs.Numbers.{first_channel}
+use Rattle.nio_base.specs.declared.numbers.ChanId.{ChanId}
 use Rattle.nio_base.specs.declared.numbers.ChanNo.{ChanNo}
 use Rattle.nio_base.specs.declared.numbers.KeyNo.{KeyNo}
 use Rattle.nio_base.specs.declared.numbers.SelNo.{SelNo}
@@ -178,22 +180,23 @@ cancel_finds_none w p q at k is found = record {
 
 -- ---- channels
 
-pub made_find_channel : {answer : Option ChanNo} (w : Words) (p q : Pass) (at : Station) (c : ChanNo) (found : Option ChanNo)
-    → answer ≡ found
-    → CallClause at.caller (Completes (find_channel_plan (limits_of w) c.0)) (view w p) (view w q) answer
+pub made_find_channel : {answer : Option ChanId} (w : Words) (p q : Pass) (at : Station) (c : ChanNo)
+    (found : Option ChanId) → answer ≡ found
+    → CallClause at.caller (Completes (find_channel_plan (limits_of w) c.0 0)) (view w p) (view w q) answer
     → AreMade (board_of w p at) (board_of w q at) (finds_channel c found ∷ [])
 made_find_channel w p q at c found is clause =
     made_call w p q at (finds_channel c found) found is (λ _ run. run) clause
 
-made_close : (w : Words) (p q : Pass) (at : Station) (c : ChanNo) (first : Bool)
+made_close : (w : Words) (p q : Pass) (at : Station) (c : ChanId) (first : Bool)
     → CallClause at.caller (Completes (close_channel_plan (limits_of w) c)) (view w p) (view w q) first
     → AreMade (board_of w p at) (board_of w q at) (table_call (close_channel c) first ∷ [])
 made_close w p q at c first clause =
     made_call w p q at (table_call (close_channel c) first) first refl (λ _ run. run) clause
 
-pub closes_channel : {found : Option ChanNo} (w : Words) (p q r : Pass) (at : Station) (c made : ChanNo) (first : Bool)
+pub closes_channel : {found : Option ChanId} (w : Words) (p q r : Pass) (at : Station) (c : ChanNo) (made : ChanId)
+    (first : Bool)
     → found ≡ Some made
-    → CallClause at.caller (Completes (find_channel_plan (limits_of w) c.0)) (view w p) (view w q) found
+    → CallClause at.caller (Completes (find_channel_plan (limits_of w) c.0 0)) (view w p) (view w q) found
     → CallClause at.caller (Completes (close_channel_plan (limits_of w) made)) (view w q) (view w r) first
     → HasMade (board_of w p at) (board_of w r at) (ClosesChannel c)
 closes_channel w p q r at c made first is found closed = record {
@@ -203,8 +206,8 @@ closes_channel w p q r at c made first is found closed = record {
       (made_find_channel w p q at c (Some made) is found) (made_close w q r at made first closed);
 }
 
-pub close_finds_none : {found : Option ChanNo} (w : Words) (p q : Pass) (at : Station) (c : ChanNo) → found ≡ None
-    → CallClause at.caller (Completes (find_channel_plan (limits_of w) c.0)) (view w p) (view w q) found
+pub close_finds_none : {found : Option ChanId} (w : Words) (p q : Pass) (at : Station) (c : ChanNo) → found ≡ None
+    → CallClause at.caller (Completes (find_channel_plan (limits_of w) c.0 0)) (view w p) (view w q) found
     → HasMade (board_of w p at) (board_of w q at) (ClosesChannel c)
 close_finds_none w p q at c is found = record {
   calls = finds_channel c None ∷ [];
@@ -214,8 +217,8 @@ close_finds_none w p q at c is found = record {
 
 -- ---- watching a channel
 
-pub fails_to_find : {found : Option ChanNo} (w : Words) (p q : Pass) (at : Station) (c : ChanNo) → found ≡ None
-    → CallClause at.caller (Completes (find_channel_plan (limits_of w) c.0)) (view w p) (view w q) found
+pub fails_to_find : {found : Option ChanId} (w : Words) (p q : Pass) (at : Station) (c : ChanNo) → found ≡ None
+    → CallClause at.caller (Completes (find_channel_plan (limits_of w) c.0 0)) (view w p) (view w q) found
     → HasMade (board_of w p at) (board_of w q at) (FailsToFind c)
 fails_to_find w p q at c is found = record {
   calls = finds_channel c None ∷ [];
@@ -223,9 +226,9 @@ fails_to_find w p q at c is found = record {
   made = made_find_channel w p q at c None is found;
 }
 
-pub finds_other : {found : Option ChanNo} (w : Words) (p q : Pass) (at : Station) (c other : ChanNo)
-    → found ≡ Some other → other ≢ c
-    → CallClause at.caller (Completes (find_channel_plan (limits_of w) c.0)) (view w p) (view w q) found
+pub finds_other : {found : Option ChanId} (w : Words) (p q : Pass) (at : Station) (c : ChanNo) (other : ChanId)
+    → found ≡ Some other → other ≢ first_channel c
+    → CallClause at.caller (Completes (find_channel_plan (limits_of w) c.0 0)) (view w p) (view w q) found
     → HasMade (board_of w p at) (board_of w q at) (FailsToFind c)
 finds_other w p q at c other is differs found = record {
   calls = finds_channel c (Some other) ∷ [];
@@ -233,14 +236,14 @@ finds_other w p q at c other is differs found = record {
   made = made_find_channel w p q at c (Some other) is found;
 }
 
-pub made_open : {answer : Result ChanNo ChannelError} (w : Words) (p q : Pass) (at : Station) (kind : Kind)
-    (reply : Result ChanNo ChannelError) → answer ≡ reply
+pub made_open : {answer : Result ChanId ChannelError} (w : Words) (p q : Pass) (at : Station) (kind : Kind)
+    (reply : Result ChanId ChannelError) → answer ≡ reply
     → CallClause at.caller (Completes (open_channel_plan (limits_of w) kind)) (view w p) (view w q) answer
     → AreMade (board_of w p at) (board_of w q at) (table_call (open_channel kind) reply ∷ [])
 made_open w p q at kind reply is clause =
     made_call w p q at (table_call (open_channel kind) reply) reply is (λ _ run. run) clause
 
-pub fails_to_open : {answer : Result ChanNo ChannelError} (w : Words) (p q : Pass) (at : Station) (kind : Kind)
+pub fails_to_open : {answer : Result ChanId ChannelError} (w : Words) (p q : Pass) (at : Station) (kind : Kind)
     (c : ChanNo) (refusal : ChannelError) → answer ≡ Err refusal
     → CallClause at.caller (Completes (open_channel_plan (limits_of w) kind)) (view w p) (view w q) answer
     → HasMade (board_of w p at) (board_of w q at) (FailsToOpen kind c)
@@ -250,8 +253,8 @@ fails_to_open w p q at kind c refusal is opened = record {
   made = made_open w p q at kind (Err refusal) is opened;
 }
 
-pub opens_other : {answer : Result ChanNo ChannelError} (w : Words) (p q r : Pass) (at : Station) (kind : Kind)
-    (c other : ChanNo) (first : Bool) → answer ≡ Ok other → other ≢ c
+pub opens_other : {answer : Result ChanId ChannelError} (w : Words) (p q r : Pass) (at : Station) (kind : Kind)
+    (c : ChanNo) (other : ChanId) (first : Bool) → answer ≡ Ok other → other ≢ first_channel c
     → CallClause at.caller (Completes (open_channel_plan (limits_of w) kind)) (view w p) (view w q) answer
     → CallClause at.caller (Completes (close_channel_plan (limits_of w) other)) (view w q) (view w r) first
     → HasMade (board_of w p at) (board_of w r at) (FailsToOpen kind c)
@@ -271,11 +274,12 @@ takes_opened a b r deal kind next c none same taken =
     (subst (λ x. OnOk r (AreMade a b (takes None kind x ∷ []))) same taken)
 
 pub takes_found : {A E : Type 0} (a b : BoardView) (r : Result A E) (deal : Option Deal) (some : Deal) (kind : Kind)
-    (next c : ChanNo) → deal ≡ Some some → next ≡ c → OnOk r (AreMade a b (finds_channel next (Some next) ∷ []))
+    (next c : ChanNo) → deal ≡ Some some → next ≡ c
+    → OnOk r (AreMade a b (finds_channel next (Some (first_channel next)) ∷ []))
     → OnOk r (AreMade a b (takes deal kind c ∷ []))
 takes_found a b r deal some kind next c is same taken =
     subst (λ d. OnOk r (AreMade a b (takes d kind c ∷ []))) (sym is)
-    (subst (λ x. OnOk r (AreMade a b (finds_channel x (Some x) ∷ []))) same taken)
+    (subst (λ x. OnOk r (AreMade a b (finds_channel x (Some (first_channel x)) ∷ []))) same taken)
 
 pub take_isnt_opened : {A E : Type 0} (a b : BoardView) (r : Result A E) (deal : Option Deal) (kind : Kind)
     (next c : ChanNo) → deal ≡ None → next ≡ c → OnErr r (HasMade a b (FailsToOpen kind next))
@@ -300,9 +304,13 @@ pub refusal_of : {A E : Type 0} (r : Result A E) → is_err r ≡ true → (e : 
 refusal_of (Ok value) failed = absurd (cc)
 refusal_of (Err error) failed = (error, refl)
 
--- numbers that differ are of other channels
-pub is_other : (c d : ChanNo) → (c.0 == d.0) ≡ false → c ≢ d
-is_other c d test same = absurd (false≢true (sym test ∙ eq-eqb c.0 d.0 (ap (λ (x : ChanNo). x.0) same)))
+-- channels whose numbers or serials differ are other ones
+pub is_other : (c d : ChanId) → ((c.number.0 == d.number.0) && (c.serial == d.serial)) ≡ false → c ≢ d
+is_other c d test same =
+    let number : (c.number.0 == d.number.0) ≡ true = eq-eqb c.number.0 d.number.0 (ap (λ (x : ChanId). x.number.0) same)
+    in
+    let serial : (c.serial == d.serial) ≡ true = eq-eqb c.serial d.serial (ap (λ (x : ChanId). x.serial) same) in
+    absurd (false≢true (sym test ∙ (ap (λ (b : Bool). b && (c.serial == d.serial)) number ∙ serial)))
 
 pub on_err_any : {T E P : Type 0} (r : Result T E) → P → OnErr r P
 on_err_any (Ok value) p = tt
@@ -312,96 +320,102 @@ pub done_of : {E : Type 0} (r : Result (Unit {0}) E) → is_err r ≡ false → 
 done_of (Ok value) over = refl
 done_of (Err error) over = absurd (cc)
 
-made_unblocked : {answer : Result (Unit {0}) ChannelError} (w : Words) (p q : Pass) (at : Station) (c : ChanNo)
+made_unblocked : {answer : Result (Unit {0}) ChannelError} (w : Words) (p q : Pass) (at : Station) (c : ChanId)
     (reply : Result (Unit {0}) ChannelError) → answer ≡ reply
     → CallClause at.caller (SetsBlocking (limits_of w) c false) (view w p) (view w q) answer
     → AreMade (board_of w p at) (board_of w q at) (waiting_call (set_blocking c false) reply ∷ [])
 made_unblocked w p q at c reply is clause =
     made_call w p q at (waiting_call (set_blocking c false) reply) reply is (λ _ run. run) clause
 
-pub made_registration : {answer : Result KeyNo ChannelError} (w : Words) (p q : Pass) (at : Station) (c : ChanNo)
+pub made_registration : {answer : Result KeyNo ChannelError} (w : Words) (p q : Pass) (at : Station) (c : ChanId)
     (ops : ℕ) (reply : Result KeyNo ChannelError) → answer ≡ reply
     → CallClause at.caller (Registers (limits_of w) at.selector c ops 0) (view w p) (view w q) answer
     → AreMade (board_of w p at) (board_of w q at) (waiting_call (register at.selector c ops 0) reply ∷ [])
 made_registration w p q at c ops reply is clause =
     made_call w p q at (waiting_call (register at.selector c ops 0) reply) reply is (λ _ run. run) clause
 
-pub fails_to_register : {answer : Result KeyNo ChannelError} (w : Words) (p q r : Pass) (at : Station) (c : ChanNo)
-    (ops : ℕ) (refusal : ChannelError) (first : Bool) → answer ≡ Err refusal
+-- a call on a channel that is the first one of a number
+pub made_as_first : {a b : BoardView} (call : ChanId → Made) (c : ChanId) (next : ChanNo) → c ≡ first_channel next
+    → AreMade a b (call c ∷ []) → AreMade a b (call (first_channel next) ∷ [])
+made_as_first {a} {b} call c next same made = subst (λ (x : ChanId). AreMade a b (call x ∷ [])) same made
+
+pub fails_to_register : {answer : Result KeyNo ChannelError} (w : Words) (p q r : Pass) (at : Station) (c : ChanId)
+    (next : ChanNo) (ops : ℕ) (refusal : ChannelError) (first : Bool) → c ≡ first_channel next → answer ≡ Err refusal
     → CallClause at.caller (Registers (limits_of w) at.selector c ops 0) (view w p) (view w q) answer
     → CallClause at.caller (Completes (close_channel_plan (limits_of w) c)) (view w q) (view w r) first
-    → HasMade (board_of w p at) (board_of w r at) (FailsToRegister at.selector c ops)
-fails_to_register w p q r at c ops refusal first is registered closed = record {
-  calls = waiting_call (register at.selector c ops 0) (Err refusal) ∷ table_call (close_channel c) first ∷ [];
+    → HasMade (board_of w p at) (board_of w r at) (FailsToRegister at.selector next ops)
+fails_to_register w p q r at c next ops refusal first same is registered closed = record {
+  calls = waiting_call (register at.selector (first_channel next) ops 0) (Err refusal)
+      ∷ table_call (close_channel (first_channel next)) first ∷ [];
   holds = register_refused refusal first;
-  made = made_then (waiting_call (register at.selector c ops 0) (Err refusal) ∷ [])
-      (table_call (close_channel c) first ∷ []) refl
-      (made_registration w p q at c ops (Err refusal) is registered) (made_close w q r at c first closed);
+  made = made_then (waiting_call (register at.selector (first_channel next) ops 0) (Err refusal) ∷ [])
+      (table_call (close_channel (first_channel next)) first ∷ []) refl
+      (made_as_first (λ x. waiting_call (register at.selector x ops 0) (Err refusal)) c next same
+      (made_registration w p q at c ops (Err refusal) is registered))
+      (made_as_first (λ x. table_call (close_channel x) first) c next same (made_close w q r at c first closed));
 }
 
--- the channel that was taken, under another name
-taken_as : {a b : BoardView} (deal : Option Deal) (kind : Kind) (c next : ChanNo) → c ≡ next
-    → AreMade a b (takes deal kind next ∷ []) → AreMade a b (takes deal kind c ∷ [])
-taken_as {a} {b} deal kind c next same taken = subst (λ x. AreMade a b (takes deal kind x ∷ [])) (sym same) taken
-
 pub watches_channel : {answer : Result (Unit {0}) ChannelError} (w : Words) (p q r t : Pass) (at : Station)
-    (kind : Kind) (c next : ChanNo) (ops : ℕ) (k : KeyNo) → c ≡ next → answer ≡ Ok tt
+    (kind : Kind) (c : ChanId) (next : ChanNo) (ops : ℕ) (k : KeyNo) → c ≡ first_channel next → answer ≡ Ok tt
     → AreMade (board_of w p at) (board_of w q at) (takes at.deal kind next ∷ [])
     → CallClause at.caller (SetsBlocking (limits_of w) c false) (view w q) (view w r) answer
-    → AreMade (board_of w r at) (board_of w t at) (registers at.selector c ops k ∷ [])
+    → AreMade (board_of w r at) (board_of w t at) (registers at.selector next ops k ∷ [])
     → HasMade (board_of w p at) (board_of w t at) (WatchesChannel at.deal at.selector kind next ops k)
-watches_channel w p q r t at kind c next ops k same is taken unblocked registered =
-    subst (λ x. HasMade (board_of w p at) (board_of w t at) (WatchesChannel at.deal at.selector kind x ops k)) same
-    (record {
-      calls = takes at.deal kind c
-          ∷ waiting_call (set_blocking c false) (Ok tt)
-          ∷ registers at.selector c ops k ∷ [];
-      holds = channel_watched;
-      made = made_then (takes at.deal kind c ∷ [])
-          (waiting_call (set_blocking c false) (Ok tt) ∷ registers at.selector c ops k ∷ []) refl
-          (taken_as at.deal kind c next same taken)
-          (made_then (waiting_call (set_blocking c false) (Ok tt) ∷ []) (registers at.selector c ops k ∷ []) refl
-          (made_unblocked w q r at c (Ok tt) is unblocked) registered);
-    })
+watches_channel w p q r t at kind c next ops k same is taken unblocked registered = record {
+  calls = takes at.deal kind next
+      ∷ waiting_call (set_blocking (first_channel next) false) (Ok tt)
+      ∷ registers at.selector next ops k ∷ [];
+  holds = channel_watched;
+  made = made_then (takes at.deal kind next ∷ [])
+      (waiting_call (set_blocking (first_channel next) false) (Ok tt) ∷ registers at.selector next ops k ∷ []) refl
+      taken
+      (made_then (waiting_call (set_blocking (first_channel next) false) (Ok tt) ∷ [])
+      (registers at.selector next ops k ∷ []) refl
+      (made_as_first (λ x. waiting_call (set_blocking x false) (Ok tt)) c next same
+      (made_unblocked w q r at c (Ok tt) is unblocked)) registered);
+}
 
 pub watch_stays_blocking : {answer : Result (Unit {0}) ChannelError} (w : Words) (p q r t : Pass) (at : Station)
-    (kind : Kind) (c next : ChanNo) (ops : ℕ) (first : Bool) → c ≡ next → is_err answer ≡ true
+    (kind : Kind) (c : ChanId) (next : ChanNo) (ops : ℕ) (first : Bool) → c ≡ first_channel next
+    → is_err answer ≡ true
     → AreMade (board_of w p at) (board_of w q at) (takes at.deal kind next ∷ [])
     → CallClause at.caller (SetsBlocking (limits_of w) c false) (view w q) (view w r) answer
     → CallClause at.caller (Completes (close_channel_plan (limits_of w) c)) (view w r) (view w t) first
     → HasMade (board_of w p at) (board_of w t at) (FailsToWatch at.deal at.selector kind next ops)
 watch_stays_blocking {answer} w p q r t at kind c next ops first same failed taken unblocked closed =
     let refused = refusal_of answer failed in
-    subst (λ x. HasMade (board_of w p at) (board_of w t at) (FailsToWatch at.deal at.selector kind x ops)) same
-    (record {
-      calls = takes at.deal kind c
-          ∷ waiting_call (set_blocking c false) (Err refused.0)
-          ∷ table_call (close_channel c) first ∷ [];
+    record {
+      calls = takes at.deal kind next
+          ∷ waiting_call (set_blocking (first_channel next) false) (Err refused.0)
+          ∷ table_call (close_channel (first_channel next)) first ∷ [];
       holds = watch_still_blocking refused.0 first;
-      made = made_then (takes at.deal kind c ∷ [])
-          (waiting_call (set_blocking c false) (Err refused.0) ∷ table_call (close_channel c) first ∷ []) refl
-          (taken_as at.deal kind c next same taken)
-          (made_then (waiting_call (set_blocking c false) (Err refused.0) ∷ [])
-          (table_call (close_channel c) first ∷ []) refl
-          (made_unblocked w q r at c (Err refused.0) refused.1 unblocked) (made_close w r t at c first closed));
-    })
+      made = made_then (takes at.deal kind next ∷ [])
+          (waiting_call (set_blocking (first_channel next) false) (Err refused.0)
+          ∷ table_call (close_channel (first_channel next)) first ∷ []) refl taken
+          (made_then (waiting_call (set_blocking (first_channel next) false) (Err refused.0) ∷ [])
+          (table_call (close_channel (first_channel next)) first ∷ []) refl
+          (made_as_first (λ x. waiting_call (set_blocking x false) (Err refused.0)) c next same
+          (made_unblocked w q r at c (Err refused.0) refused.1 unblocked))
+          (made_as_first (λ x. table_call (close_channel x) first) c next same (made_close w r t at c first closed)));
+    }
 
 pub watch_isnt_registered : {answer : Result (Unit {0}) ChannelError} (w : Words) (p q r t : Pass) (at : Station)
-    (kind : Kind) (c next : ChanNo) (ops : ℕ) → c ≡ next → answer ≡ Ok tt
+    (kind : Kind) (c : ChanId) (next : ChanNo) (ops : ℕ) → c ≡ first_channel next → answer ≡ Ok tt
     → AreMade (board_of w p at) (board_of w q at) (takes at.deal kind next ∷ [])
     → CallClause at.caller (SetsBlocking (limits_of w) c false) (view w q) (view w r) answer
-    → HasMade (board_of w r at) (board_of w t at) (FailsToRegister at.selector c ops)
+    → HasMade (board_of w r at) (board_of w t at) (FailsToRegister at.selector next ops)
     → HasMade (board_of w p at) (board_of w t at) (FailsToWatch at.deal at.selector kind next ops)
-watch_isnt_registered w p q r t at kind c next ops same is taken unblocked failed =
-    subst (λ x. HasMade (board_of w p at) (board_of w t at) (FailsToWatch at.deal at.selector kind x ops)) same
-    (record {
-      calls = takes at.deal kind c ∷ waiting_call (set_blocking c false) (Ok tt) ∷ failed.calls;
-      holds = watch_not_registered failed.holds;
-      made = made_then (takes at.deal kind c ∷ []) (waiting_call (set_blocking c false) (Ok tt) ∷ failed.calls) refl
-          (taken_as at.deal kind c next same taken)
-          (made_then (waiting_call (set_blocking c false) (Ok tt) ∷ []) failed.calls refl
-          (made_unblocked w q r at c (Ok tt) is unblocked) failed.made);
-    })
+watch_isnt_registered w p q r t at kind c next ops same is taken unblocked failed = record {
+  calls = takes at.deal kind next
+      ∷ waiting_call (set_blocking (first_channel next) false) (Ok tt)
+      ∷ failed.calls;
+  holds = watch_not_registered failed.holds;
+  made = made_then (takes at.deal kind next ∷ [])
+      (waiting_call (set_blocking (first_channel next) false) (Ok tt) ∷ failed.calls) refl taken
+      (made_then (waiting_call (set_blocking (first_channel next) false) (Ok tt) ∷ []) failed.calls refl
+      (made_as_first (λ x. waiting_call (set_blocking x false) (Ok tt)) c next same
+      (made_unblocked w q r at c (Ok tt) is unblocked)) failed.made);
+}
 
 pub watch_isnt_taken : {a b : BoardView} (deal : Option Deal) (s : SelNo) (kind : Kind) (c : ChanNo) (ops : ℕ)
     → HasMade a b (FailsToTake kind c deal) → HasMade a b (FailsToWatch deal s kind c ops)

@@ -4,7 +4,8 @@ use Rattle.std.proofs.Common.{◌++◌, refl, ap, sym, ◌∙◌, subst, append_
 use Rattle.std.proofs.lemmas.List.{append-nil}
 use Rattle.nio_base.specs.declared.limits.Limits.{Limits}
 use Rattle.nio_base.specs.declared.numbers.CallerNo.{CallerNo}
-use Rattle.nio_base.specs.declared.numbers.ChanNo.{ChanNo}
+use Rattle.nio_base.specs.Numbers.{first_channel}
+use Rattle.nio_base.specs.declared.numbers.ChanId.{ChanId}
 use Rattle.nio_base.specs.declared.numbers.KeyNo.{KeyNo}
 use Rattle.nio_base.specs.declared.numbers.SelNo.{SelNo}
 use Rattle.nio_history.proofs.Put.{put-same}
@@ -49,7 +50,7 @@ registrations-append (call ∷ calls) later =
     ap (λ those. registration call ++ those) (registrations-append calls later)
     ∙ sym (append_assoc (registration call) (registrations calls) (registrations later))
 
-call_more : (l : Limits) (own acts : List Act) (those : List (SelNo × ChanNo)) (call : Made)
+call_more : (l : Limits) (own acts : List Act) (those : List (SelNo × ChanId)) (call : Made)
     (has : HasRegistered l own those) → MayCome (after_calls nothing_ongoing has.calls) call → IsRun l call acts
     → HasRegistered l (own ++ acts) (those ++ registration call)
 call_more l own acts those call has may run = record {
@@ -85,7 +86,7 @@ pub did_unpinned : {R : Type 0} {Shape : List Act → R → Type 0} {answer : R}
 did_unpinned {answer = answer} call is_run gives clause ready none =
     did_call call is_run clause ready (no_pin_after (λ acts shape. gives acts answer shape) clause none)
 
-has_after : {w : Words} {p q : Pass} {me : CallerNo} {those : List (SelNo × ChanNo)} (call : Made)
+has_after : {w : Words} {p q : Pass} {me : CallerNo} {those : List (SelNo × ChanId)} (call : Made)
     (has : HasRegistered (limits_of w) (acts_seen p me) those) → DidCall w p q me call
     → MayCome (after_calls nothing_ongoing has.calls) call
     → HasRegistered (limits_of w) (acts_seen q me) (those ++ registration call)
@@ -99,7 +100,7 @@ has_after {w} {p} {q} {me} {those} call has did may =
     }
 
 -- the same, under another name of the list
-those_are : {l : Limits} {own : List Act} {those these : List (SelNo × ChanNo)} → those ≡ these
+those_are : {l : Limits} {own : List Act} {those these : List (SelNo × ChanId)} → those ≡ these
     → HasRegistered l own those → HasRegistered l own these
 those_are same has = record { calls = has.calls; are = has.are; registered = has.registered ∙ same }
 
@@ -108,7 +109,7 @@ pub record IsFree (call : Made) : Type 0 where
   pub may_come : (now : Ongoing) → MayCome now call
   pub registers_nothing : registration call ≡ []
 
-quiet_after : {w : Words} {p q : Pass} {me : CallerNo} {those : List (SelNo × ChanNo)} (call : Made)
+quiet_after : {w : Words} {p q : Pass} {me : CallerNo} {those : List (SelNo × ChanId)} (call : Made)
     (has : HasRegistered (limits_of w) (acts_seen p me) those) → registration call ≡ [] → DidCall w p q me call
     → MayCome (after_calls nothing_ongoing has.calls) call → HasRegistered (limits_of w) (acts_seen q me) those
 quiet_after {those = those} call has nothing did may =
@@ -128,16 +129,17 @@ rest_after call free did rest = record {
 -- ---- a registration
 
 seats-more : (deal : Option Deal) (s : SelNo) (n : ℕ)
-    → seats deal s n ++ (s, channel_in deal (record { 0 = n })) ∷ [] ≡ seats deal s (n + 1)
+    → seats deal s n ++ (s, first_channel (channel_in deal (record { 0 = n }))) ∷ [] ≡ seats deal s (n + 1)
 seats-more deal s n = ap (seats deal s) (sym (add-one n))
 
-pub rest_registered : {w : Words} {p q : Pass} {at : Station} (c : ChanNo) (ops att : ℕ) (k : KeyNo)
-    → c ≡ next_channel at → DidCall w p q at.caller (waiting_call (register at.selector c ops att) (Ok k))
+pub rest_registered : {w : Words} {p q : Pass} {at : Station} (c : ChanId) (ops att : ℕ) (k : KeyNo)
+    → c ≡ first_channel (next_channel at)
+    → DidCall w p q at.caller (waiting_call (register at.selector c ops att) (Ok k))
     → IsAtRest (board_of w p at) → IsAtRest (board_of w q (one_more at))
 rest_registered {at = at} c ops att k next did rest = record {
   idle = idle_after did.did did.ready did.unpinned rest.idle;
   watched = those_are
-      (ap (λ (x : ChanNo). seats at.deal at.selector at.registered ++ (at.selector, x) ∷ []) next
+      (ap (λ (x : ChanId). seats at.deal at.selector at.registered ++ (at.selector, x) ∷ []) next
       ∙ seats-more at.deal at.selector at.registered)
       (has_after (waiting_call (register at.selector c ops att) (Ok k)) rest.watched did tt);
 }

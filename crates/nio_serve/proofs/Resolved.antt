@@ -6,7 +6,7 @@ use Rattle.nio_base.specs.declared.numbers.ChanNo.{ChanNo}
 use Rattle.nio_poller.proofs.Marks.{IsPart, part_met, part_then, told_in_channel, told_in_pairs}
 use Rattle.nio_steps.proofs.Lists.{all-one}
 use Rattle.nio_steps.specs.KeyCalls.{is_within}
-use Rattle.nio_steps.specs.SelectCalls.{told_of}
+use Rattle.nio_steps.specs.SelectCalls.{told_at}
 use Rattle.nio_steps.specs.declared.looked.LookedKey.{LookedKey}
 use Rattle.nio_poller.specs.Polls.{told_of_channel}
 use Rattle.nio_serve.specs.Board.{AreReady, IsAskedFor}
@@ -16,10 +16,10 @@ told_one : (asked : List LookedKey) (pairs : List (ℕ × ℕ)) (i bits : ℕ) (
     → IsAskedFor asked i found
     → IsPart (bit_and bits found.1) (told_of_channel asked pairs found.0)
 told_one asked pairs i bits found there is =
-    let of_key : IsPart bits (told_of pairs is.entry.index) = subst (λ n. IsPart bits (told_of pairs n))
+    let of_key : IsPart bits (told_at pairs is.entry.index) = subst (λ n. IsPart bits (told_at pairs n))
     (sym is.at_index) (told_in_pairs pairs i bits there) in
     let of_entry : IsPart bits (told_of_channel asked pairs is.entry.channel) =
-    part_then bits (told_of pairs is.entry.index) (told_of_channel asked pairs is.entry.channel) of_key
+    part_then bits (told_at pairs is.entry.index) (told_of_channel asked pairs is.entry.channel) of_key
     (told_in_channel asked pairs is.entry is.is_looked) in
     part_met bits found.1 (told_of_channel asked pairs found.0)
     (subst (λ (c : ChanNo). IsPart bits (told_of_channel asked pairs c)) is.channel of_entry)

@@ -1,7 +1,8 @@
 -- After each call that a board makes on its table the board is at rest.
 use Rattle.std.proofs.Common.{◌≡◌, ℕ, Bool, Option, Result, Ok, Err, refl, subst}
 use Rattle.nio_base.specs.declared.kind.Kind.{Kind}
-use Rattle.nio_base.specs.declared.numbers.ChanNo.{ChanNo}
+use Rattle.nio_base.specs.Numbers.{first_channel}
+use Rattle.nio_base.specs.declared.numbers.ChanId.{ChanId}
 use Rattle.nio_base.specs.declared.numbers.KeyNo.{KeyNo}
 use Rattle.nio_history.specs.PassViews.{HasNoPin}
 use Rattle.nio_history.specs.declared.found.Mode.{Mode}
@@ -39,12 +40,14 @@ module _ {w : Words} {p q : Pass} {at : Station} where
       (pins_are_given_back.find _ _ _ _) clause
       ready rest.idle.unpinned) rest
 
-  pub rest_found_channel : (n : ℕ) {answer : Option ChanNo}
-      → CallClause at.caller (Completes (find_channel_plan (limits_of w) n)) (view w p) (view w q) answer
+  pub rest_found_channel : (n serial : ℕ) {answer : Option ChanId}
+      → CallClause at.caller (Completes (find_channel_plan (limits_of w) n serial)) (view w p) (view w q) answer
       → IsReady w q at.caller → IsAtRest (board_of w p at) → IsAtRest (board_of w q at)
-  rest_found_channel n {answer} clause ready rest =
-      rest_after (table_call (find_channel n) answer) (record { may_come = λ _. tt; registers_nothing = refl })
-      (did_unpinned (table_call (find_channel n) answer) (λ _ run. run) (pins_are_given_back.find_channel _ _) clause
+  rest_found_channel n serial {answer} clause ready rest =
+      rest_after (table_call (find_channel n serial) answer)
+      (record { may_come = λ _. tt; registers_nothing = refl })
+      (did_unpinned (table_call (find_channel n serial) answer) (λ _ run. run)
+      (pins_are_given_back.find_channel _ _ _) clause
       ready
       rest.idle.unpinned) rest
 
@@ -64,7 +67,7 @@ module _ {w : Words} {p q : Pass} {at : Station} where
       rest_after (table_call (cancel k) tt) (record { may_come = λ _. tt; registers_nothing = refl })
       (did_call (table_call (cancel k) tt) (λ _ run. run) clause ready none) rest
 
-  pub rest_opened : (kind : Kind) {answer : Result ChanNo ChannelError}
+  pub rest_opened : (kind : Kind) {answer : Result ChanId ChannelError}
       → CallClause at.caller (Completes (open_channel_plan (limits_of w) kind)) (view w p) (view w q) answer
       → IsReady w q at.caller → IsAtRest (board_of w p at) → IsAtRest (board_of w q at)
   rest_opened kind {answer} clause ready rest =
@@ -73,7 +76,7 @@ module _ {w : Words} {p q : Pass} {at : Station} where
       clause ready
       rest.idle.unpinned) rest
 
-  pub rest_closed : (c : ChanNo) {answer : Bool}
+  pub rest_closed : (c : ChanId) {answer : Bool}
       → CallClause at.caller (Completes (close_channel_plan (limits_of w) c)) (view w p) (view w q) answer
       → IsReady w q at.caller → HasNoPin (view w q) at.caller
       → IsAtRest (board_of w p at) → IsAtRest (board_of w q at)
@@ -81,7 +84,7 @@ module _ {w : Words} {p q : Pass} {at : Station} where
       rest_after (table_call (close_channel c) answer) (record { may_come = λ _. tt; registers_nothing = refl })
       (did_call (table_call (close_channel c) answer) (λ _ run. run) clause ready none) rest
 
-  pub rest_unblocked : (c : ChanNo) (on : Bool) {answer : Result (Unit {0}) ChannelError}
+  pub rest_unblocked : (c : ChanId) (on : Bool) {answer : Result (Unit {0}) ChannelError}
       → CallClause at.caller (SetsBlocking (limits_of w) c on) (view w p) (view w q) answer
       → IsReady w q at.caller → IsAtRest (board_of w p at) → IsAtRest (board_of w q at)
   rest_unblocked c on {answer} clause ready rest =
@@ -90,7 +93,7 @@ module _ {w : Words} {p q : Pass} {at : Station} where
       clause ready
       rest.idle.unpinned) rest
 
-  pub rest_refused : (c : ChanNo) (ops att : ℕ) {answer : Result KeyNo ChannelError} (refusal : ChannelError)
+  pub rest_refused : (c : ChanId) (ops att : ℕ) {answer : Result KeyNo ChannelError} (refusal : ChannelError)
       → answer ≡ Err refusal
       → CallClause at.caller (Registers (limits_of w) at.selector c ops att) (view w p) (view w q) answer
       → IsReady w q at.caller → HasNoPin (view w q) at.caller
@@ -101,8 +104,8 @@ module _ {w : Words} {p q : Pass} {at : Station} where
       (did_call (waiting_call (register at.selector c ops att) (Err refusal))
       (λ acts run. subst (Registers (limits_of w) at.selector c ops att acts) is run) clause ready none) rest
 
-  pub rest_watched : (c : ChanNo) (ops att : ℕ) {answer : Result KeyNo ChannelError} (k : KeyNo) → answer ≡ Ok k
-      → c ≡ next_channel at
+  pub rest_watched : (c : ChanId) (ops att : ℕ) {answer : Result KeyNo ChannelError} (k : KeyNo) → answer ≡ Ok k
+      → c ≡ first_channel (next_channel at)
       → CallClause at.caller (Registers (limits_of w) at.selector c ops att) (view w p) (view w q) answer
       → IsReady w q at.caller → HasNoPin (view w q) at.caller
       → IsAtRest (board_of w p at) → IsAtRest (board_of w q (one_more at))

@@ -19,6 +19,8 @@ use Rattle.nio_steps.specs.declared.refusal.ChannelError.{ChannelError}
 use Rattle.nio_steps.specs.declared.refusal.KeyError.{KeyError}
 use Rattle.nio_steps.specs.declared.selected.Selected.{Selected}
 use Rattle.nio_words.specs.Passes.{acts_seen, limits_of}
+use Rattle.nio_base.specs.Numbers.{first_channel}
+use Rattle.nio_base.specs.declared.numbers.ChanId.{ChanId}
 
 -- From one moment of a board to a later one its caller made these calls on the table, each whole, one after the other,
 -- and did nothing else there.
@@ -39,9 +41,9 @@ pub record HasMade (before now : BoardView) (Holds : List Made → Type 0) : Typ
 abbrev pub finds : SelNo → KeyNo → Option KeyNo → Made
 finds s k found = table_call (find s k.index k.serial) found
 
--- the same of a channel
-abbrev pub finds_channel : ChanNo → Option ChanNo → Made
-finds_channel c found = table_call (find_channel c.0) found
+-- the same of the first channel of a number
+abbrev pub finds_channel : ChanNo → Option ChanId → Made
+finds_channel c found = table_call (find_channel c.0 0) found
 
 -- it finds the key, and sets its interest set
 pub data SetsInterest (s : SelNo) (k : KeyNo) (ops : ℕ) : List Made → Type 0 where
@@ -63,7 +65,7 @@ pub data CancelsKey (s : SelNo) (k : KeyNo) : List Made → Type 0 where
 pub data ClosesChannel (c : ChanNo) : List Made → Type 0 where
   no_number : 2 ^ 32 ≤ c.0 → ClosesChannel c []
   channel_not_found : ClosesChannel c (finds_channel c None ∷ [])
-  channel_closed : (found : ChanNo) (first : Bool)
+  channel_closed : (found : ChanId) (first : Bool)
       → ClosesChannel c (finds_channel c (Some found) ∷ table_call (close_channel found) first ∷ [])
 
 -- it cancels the key, and then closes the board's channel
@@ -107,23 +109,23 @@ pub data FailsToSelect (s : SelNo) : List Made → Type 0 where
 
 -- it has the table's channel: without a deal the table opens it, with one the table finds it
 abbrev pub takes : Option Deal → Kind → ChanNo → Made
-takes None kind c = table_call (open_channel kind) (Ok c)
-takes (Some deal) kind c = finds_channel c (Some c)
+takes None kind c = table_call (open_channel kind) (Ok (first_channel c))
+takes (Some deal) kind c = finds_channel c (Some (first_channel c))
 
 -- it registers the channel, which answers this key
 abbrev pub registers : SelNo → ChanNo → ℕ → KeyNo → Made
-registers s c ops k = waiting_call (register s c ops 0) (Ok k)
+registers s c ops k = waiting_call (register s (first_channel c) ops 0) (Ok k)
 
 -- the table opens no channel, or another one, which it closes
 pub data FailsToOpen (kind : Kind) (c : ChanNo) : List Made → Type 0 where
   open_refused : (refusal : ChannelError) → FailsToOpen kind c (table_call (open_channel kind) (Err refusal) ∷ [])
-  opened_other : (other : ChanNo) (first : Bool) → other ≢ c
+  opened_other : (other : ChanId) (first : Bool) → other ≢ first_channel c
       → FailsToOpen kind c (table_call (open_channel kind) (Ok other) ∷ table_call (close_channel other) first ∷ [])
 
 -- the table finds no channel, or another one
 pub data FailsToFind (c : ChanNo) : List Made → Type 0 where
   found_none : FailsToFind c (finds_channel c None ∷ [])
-  found_other : (other : ChanNo) → other ≢ c → FailsToFind c (finds_channel c (Some other) ∷ [])
+  found_other : (other : ChanId) → other ≢ first_channel c → FailsToFind c (finds_channel c (Some other) ∷ [])
 
 -- it hasn't the channel; for a number of 2^32 and more it makes no call
 pub data FailsToTake (kind : Kind) (c : ChanNo) : Option Deal → List Made → Type 0 where
@@ -135,13 +137,14 @@ pub data FailsToTake (kind : Kind) (c : ChanNo) : Option Deal → List Made → 
 pub data FailsToRegister (s : SelNo) (c : ChanNo) (ops : ℕ) : List Made → Type 0 where
   register_refused : (refusal : ChannelError) (first : Bool)
       → FailsToRegister s c ops
-      (waiting_call (register s c ops 0) (Err refusal) ∷ table_call (close_channel c) first ∷ [])
+      (waiting_call (register s (first_channel c) ops 0) (Err refusal)
+      ∷ table_call (close_channel (first_channel c)) first ∷ [])
 
 -- it takes the channel, makes it non-blocking and registers it, which answers this key
 pub data WatchesChannel (deal : Option Deal) (s : SelNo) (kind : Kind) (c : ChanNo) (ops : ℕ) (k : KeyNo)
     : List Made → Type 0 where
   channel_watched : WatchesChannel deal s kind c ops k
-      (takes deal kind c ∷ waiting_call (set_blocking c false) (Ok tt) ∷ registers s c ops k ∷ [])
+      (takes deal kind c ∷ waiting_call (set_blocking (first_channel c) false) (Ok tt) ∷ registers s c ops k ∷ [])
 
 -- one of the three fails, and a channel that it took is closed
 pub data FailsToWatch (deal : Option Deal) (s : SelNo) (kind : Kind) (c : ChanNo) (ops : ℕ) : List Made → Type 0 where
@@ -149,11 +152,11 @@ pub data FailsToWatch (deal : Option Deal) (s : SelNo) (kind : Kind) (c : ChanNo
   watch_still_blocking : (refusal : ChannelError) (first : Bool)
       → FailsToWatch deal s kind c ops
       (takes deal kind c
-      ∷ waiting_call (set_blocking c false) (Err refusal)
-      ∷ table_call (close_channel c) first ∷ [])
+      ∷ waiting_call (set_blocking (first_channel c) false) (Err refusal)
+      ∷ table_call (close_channel (first_channel c)) first ∷ [])
   watch_not_registered : {calls : List Made} → FailsToRegister s c ops calls
       → FailsToWatch deal s kind c ops
-      (takes deal kind c ∷ waiting_call (set_blocking c false) (Ok tt) ∷ calls)
+      (takes deal kind c ∷ waiting_call (set_blocking (first_channel c) false) (Ok tt) ∷ calls)
 
 -- the channel is the next one of the board, whose numbers have room for one more
 pub record IsNext (board : BoardView) (chan : ChanNo) : Type 0 where

@@ -9,6 +9,8 @@ use Rattle.nio_orderly.specs.Made.{Made, draw, table_call, waiting_call}
 use Rattle.nio_orderly.specs.Orderly.{AreCallsOf}
 use Rattle.nio_serve.specs.declared.deal.Deal.{Deal}
 use Rattle.nio_steps.specs.TableCalls.{row_of, wait_row_of}
+use Rattle.nio_base.specs.Numbers.{first_channel}
+use Rattle.nio_base.specs.declared.numbers.ChanId.{ChanId}
 
 -- ---- the channels of a board
 
@@ -30,27 +32,28 @@ board_channel deal c =
     if c.0 == deal.listener.0 then record { 0 = 0 }
     else record { 0 = 2 * ((c.0 - 1) / 2 / max deal.workers 1) + 1 + (c.0 - 1) % 2 }
 
--- the selector with each of the board's channels below n, in their order, as the table numbers them
-abbrev pub seats : Option Deal → SelNo → ℕ → List (SelNo × ChanNo)
+-- the selector with each of the board's channels below n, in their order, as the table names them: each is the first
+-- channel of its number
+abbrev pub seats : Option Deal → SelNo → ℕ → List (SelNo × ChanId)
 seats deal s zero = []
-seats deal s (suc n) = seats deal s n ++ (s, channel_in deal (record { 0 = n })) ∷ []
+seats deal s (suc n) = seats deal s n ++ (s, first_channel (channel_in deal (record { 0 = n }))) ∷ []
 
 -- ---- the calls of a caller
 
 -- the selector and the channel, where the call registered a channel
-abbrev pub registration : Made → List (SelNo × ChanNo)
+abbrev pub registration : Made → List (SelNo × ChanId)
 registration (draw n) = []
 registration (table_call call answer) = (row_of call).registers answer
 registration (waiting_call call answer) = (wait_row_of call).registers answer
 
 -- those of all calls, in their order
-abbrev pub registrations : List Made → List (SelNo × ChanNo)
+abbrev pub registrations : List Made → List (SelNo × ChanId)
 registrations [] = []
 registrations (call ∷ later) = registration call ++ registrations later
 
 -- A caller that did this made whole calls, one after the other. They registered these channels with these selectors,
 -- in this order, and no others.
-pub record HasRegistered (l : Limits) (own : List Act) (those : List (SelNo × ChanNo)) : Type 0 where
+pub record HasRegistered (l : Limits) (own : List Act) (those : List (SelNo × ChanId)) : Type 0 where
   pub calls : List Made
   pub are : AreCallsOf l own calls
   pub registered : registrations calls ≡ those

@@ -7,7 +7,7 @@ use Rattle.std.proofs.lemmas.List.{append-nil}
 use Rattle.nio_base.specs.declared.kind.Kind.TheVariants.{Source, Sink}
 use Rattle.nio_base.specs.declared.limits.Limits.{Limits}
 use Rattle.nio_base.specs.declared.numbers.CallerNo.{CallerNo}
-use Rattle.nio_base.specs.declared.numbers.ChanNo.{ChanNo}
+use Rattle.nio_base.specs.declared.numbers.ChanId.{ChanId}
 use Rattle.nio_base.specs.declared.numbers.KeyId.{KeyId}
 use Rattle.nio_base.specs.declared.numbers.KeyNo.{KeyNo}
 use Rattle.nio_base.specs.declared.numbers.SelNo.{SelNo}
@@ -66,13 +66,13 @@ use Rattle.nio_steps.specs.PipeCalls.{with_source, without_sink}
 use Rattle.nio_steps.specs.Plan.{Plan, ◌>>=◌}
 use Rattle.nio_steps.specs.Runs.{Follows, Completes}
 use Rattle.nio_steps.specs.SelectCalls.{Selection, open_selector_plan, try_begin_plan, begin_lacks_memory, begin_open}
-use Rattle.nio_steps.specs.SelectCalls.{begin_with_turn, given_back, list_below, look_over, told_plan}
+use Rattle.nio_steps.specs.SelectCalls.{begin_with_turn, given_back, over_listed, look_over, told_plan}
 use Rattle.nio_steps.specs.SelectCalls.{Poll, ToldReply, done, again, leave_plan, shut_plan, ShutReply}
 use Rattle.nio_steps.specs.SelectCalls.{closing, already_closed, try_finish_plan, FinishReply, closed, busy, keys_plan}
 use Rattle.nio_steps.specs.SelectCalls.{selected_keys_plan, list_lacks_memory, list_plan, list_open, list_key}
 use Rattle.nio_steps.specs.SelectCalls.{list_selected, wakeup_plan, interrupt_plan, interrupted_plan}
 use Rattle.nio_steps.specs.Steps.{flag_in, gate_in, holder_in, number_in}
-use Rattle.nio_steps.specs.Sweeps.{sweep_over, sweep_to}
+use Rattle.nio_steps.specs.Sweeps.{sweep_to}
 use Rattle.nio_steps.specs.TableCalls.{find_selector, find_channel, find, is_valid, interest, set_interest, interest_or}
 use Rattle.nio_steps.specs.TableCalls.{interest_and, ready, cancel, unselect, attach, attachment, open_channel, is_open}
 use Rattle.nio_steps.specs.TableCalls.{is_blocking, is_registered, key_for, try_set_blocking, try_register}
@@ -360,9 +360,8 @@ begin_has_memory s mode =
     (λ _ look asks''. always_if (λ _ r. begin_lacks_memory r ≡ false) (gate_in (answer_of look)).shut
     (given_back s (Err BeginError.ClosedSelector)) _ (λ _ give _. refl)
     (λ _ looked asks'''. let bound = number_in (answer_of looked) in
-    always_bind anything (λ _ r. begin_lacks_memory r ≡ false) (list_below s bound) _ (always_any (list_below s bound))
-    (λ _ listed _. always_bind anything (λ _ r. begin_lacks_memory r ≡ false)
-    (sweep_over listed (look_over s) (record { looked = []; kept = [] })) _ (always_any _) (λ _ _ _. refl)))))
+    always_bind anything (λ _ r. begin_lacks_memory r ≡ false) (over_listed s bound (look_over s) []) _
+    (always_any (over_listed s bound (look_over s) [])) (λ _ _ _. refl))))
 
 -- a `try_begin` that answers Ok found the turn free
 begin_takes : (s : SelNo) (mode : Mode) (lacks : Bool)
@@ -419,12 +418,12 @@ list_has_memory list_one s =
 abbrev has_memory : {R : Type 0} → List Act → Result R PipeMakeError → Type 0
 has_memory acts answer = pipe_lacks_memory answer ≡ false
 
-without_sink_memory : (l : Limits) (source : ChanNo) → Always has_memory (without_sink l source)
+without_sink_memory : (l : Limits) (source : ChanId) → Always has_memory (without_sink l source)
 without_sink_memory l source =
     always_bind anything has_memory (close_channel_plan l source) _ (always_any (close_channel_plan l source))
     (λ _ _ _. refl)
 
-sink_memory : (l : Limits) (source : ChanNo) (answer : Result ChanNo ChannelError)
+sink_memory : (l : Limits) (source : ChanId) (answer : Result ChanId ChannelError)
     → Always has_memory (with_sink l source answer)
 sink_memory l source (Ok sink) = refl
 sink_memory l source (Err ChannelError.ChannelsSpent) = without_sink_memory l source
@@ -436,7 +435,7 @@ sink_memory l source (Err ChannelError.CancelledKey) = without_sink_memory l sou
 sink_memory l source (Err ChannelError.ClosedSelector) = without_sink_memory l source
 sink_memory l source (Err ChannelError.Full) = without_sink_memory l source
 
-source_memory : (l : Limits) (answer : Result ChanNo ChannelError) → Always has_memory (with_source l answer)
+source_memory : (l : Limits) (answer : Result ChanId ChannelError) → Always has_memory (with_source l answer)
 source_memory l (Ok source) =
     always_bind anything has_memory (open_channel_plan l Sink) (with_sink l source)
     (always_any (open_channel_plan l Sink)) (λ _ answer _. sink_memory l source answer)
@@ -773,7 +772,7 @@ module _ (l : Limits) (me : CallerNo) (now : Progress) where
           subst (λ b. Completes (pipe_plan l b) acts a)
           (sym (always_run (λ _ r. pipe_lacks_memory r ≡ false) (pipe_plan l false) acts a (pipe_has_memory l) run)) run
 
-  leads_read : (c : ChanNo) (n : ℕ) (place : Option ℕ) → Leads l me now (read_line l now c n place)
+  leads_read : (c : ChanId) (n : ℕ) (place : Option ℕ) → Leads l me now (read_line l now c n place)
   leads_read c n None = leads_refused l me now _
   leads_read c n (Some i) =
       leads_leaving (try_read_plan l c) (λ a. table_call (try_read c) a)
@@ -782,7 +781,7 @@ module _ (l : Limits) (me : CallerNo) (now : Progress) where
       (λ _. record { selection = refl; closing = refl })
       (λ o acts a run at. quiet l me now o (table_call (try_read c) a) acts run tt at)
 
-  leads_write : (c : ChanNo) (bytes : List ℕ) (place : Option ℕ) → Leads l me now (write_line l now c bytes place)
+  leads_write : (c : ChanId) (bytes : List ℕ) (place : Option ℕ) → Leads l me now (write_line l now c bytes place)
   leads_write c bytes None = leads_refused l me now _
   leads_write c bytes (Some i) =
       let source = (pipe_at now.pipes i).source in
@@ -895,11 +894,11 @@ module _ (l : Limits) (me : CallerNo) (now : Progress) where
       (λ o acts a run at. quiet l me now o (table_call (find_selector s.0) a) acts run tt at)
       (leads_found reply.NoSelector plan later)
 
-  leads_channel : (c : ChanNo) (plan : Plan Said) → Leads l me now plan → Leads l me now (if_channel l now c plan)
+  leads_channel : (c : ChanId) (plan : Plan Said) → Leads l me now plan → Leads l me now (if_channel l now c plan)
   leads_channel c plan later =
-      leads_call l me now (find_channel_plan l c.0) (λ a. table_call (find_channel c.0) a) (λ _. now)
+      leads_call l me now (find_channel_plan l c.number.0 c.serial) (λ a. table_call (find_channel c.number.0 c.serial) a) (λ _. now)
       (if_found now reply.NoChannel plan)
-      (λ o acts a run at. quiet l me now o (table_call (find_channel c.0) a) acts run tt at)
+      (λ o acts a run at. quiet l me now o (table_call (find_channel c.number.0 c.serial) a) acts run tt at)
       (leads_found reply.NoChannel plan later)
 
   leads_key : (s : SelNo) (k : KeyId) (plan : Plan Said) → Leads l me now plan → Leads l me now (if_key l now s k plan)

@@ -3,7 +3,7 @@ use Rattle.std.specs.Prelude.{IfNone}
 use Rattle.std.proofs.Common.{◌≡◌, ℕ, nat_lt, not, Option, Some, None, List, sym, subst}
 use Rattle.nio_base.specs.declared.limits.Limits.{Limits}
 use Rattle.nio_base.specs.declared.numbers.CallerNo.{CallerNo}
-use Rattle.nio_base.specs.declared.numbers.ChanNo.{ChanNo}
+use Rattle.nio_base.specs.declared.numbers.ChanId.{ChanId}
 use Rattle.nio_base.specs.declared.numbers.KeyNo.{KeyNo}
 use Rattle.nio_base.specs.declared.numbers.SelNo.{SelNo}
 use Rattle.nio_history.proofs.PassViews.{selector_after, channel_after, key_after}
@@ -25,7 +25,7 @@ use Rattle.nio_sole.specs.Named.{HasName, HasNames, Finds, after_names}
 use Rattle.nio_steps.proofs.CallLaws.{left_more, left_start}
 use Rattle.nio_steps.specs.Calls.{PartClause}
 use Rattle.nio_steps.specs.KeyCalls.{find_channel_plan, find_plan}
-use Rattle.nio_steps.specs.Names.{channel}
+use Rattle.nio_steps.specs.Names.{channel, channel_of}
 use Rattle.nio_steps.specs.Plan.{Plan}
 use Rattle.nio_steps.specs.Runs.{Completes}
 use Rattle.nio_words.specs.Passes.{IsReady, limits_of}
@@ -35,10 +35,11 @@ use Rattle.nio_words.specs.declared.words.Words.{Words}
 
 -- ---- a look-up that finds something finds what it looked for
 
-pub channel_found : (l : Limits) (n : ℕ) (acts : List Act) (c : ChanNo)
-    → Completes (find_channel_plan l n) acts (Some c) → c ≡ channel n
+pub channel_found : (l : Limits) (n serial : ℕ) (acts : List Act) (c : ChanId)
+    → Completes (find_channel_plan l n serial) acts (Some c) → c ≡ channel_of (channel n) serial
 unfolding find_channel_plan
-channel_found l n acts c run = found_is (not (nat_lt n l.channels)) _ _ (channel n) c acts run
+channel_found l n serial acts c run =
+    found_is (not (nat_lt n l.channels)) _ _ (channel_of (channel n) serial) c acts run
 
 pub key_found : (l : Limits) (s : SelNo) (i serial : ℕ) (acts : List Act) (k : KeyNo)
     → Completes (find_plan l s i serial) acts (Some k) → k ≡ record { sel = s; index = i; serial = serial }

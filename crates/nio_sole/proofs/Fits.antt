@@ -1,8 +1,8 @@
 -- The looked list is no longer than the limit of indexes.
 use Rattle.std.proofs.Common.{◌≡◌, ℕ, suc, ◌+◌, ◌<◌, ◌≤◌, Ok, List, [], ◌∷◌, ◌++◌, length, ap, sym, ◌∙◌, subst}
 use Rattle.std.proofs.Common.{append_assoc, arith}
-use Rattle.std.specs.List.{All, AllPairs, Contains}
-use Rattle.std.proofs.lemmas.List.Elements.{All-head, All-tail, All-weaker, All-contains}
+use Rattle.std.specs.List.{All, AllPairs}
+use Rattle.std.proofs.lemmas.List.Elements.{All-head, All-tail}
 use Rattle.nio_base.specs.declared.limits.Limits.{Limits}
 use Rattle.nio_base.specs.declared.numbers.CallerNo.{CallerNo}
 use Rattle.nio_base.specs.declared.numbers.SelNo.{SelNo}
@@ -17,7 +17,7 @@ use Rattle.nio_history.specs.declared.found.Mode.{Mode}
 use Rattle.nio_select.proofs.Inside.{keys-act}
 use Rattle.nio_steps.proofs.BeginLaws.{begin-parts}
 use Rattle.nio_steps.proofs.Lists.{pairs-head, pairs-tail}
-use Rattle.nio_steps.proofs.OrderLaws.{lists_in_order}
+use Rattle.nio_steps.proofs.OrderLaws.{looks_in_order}
 use Rattle.nio_steps.proofs.OwnActs.{cut_at}
 use Rattle.nio_steps.specs.Calls.{CallClause}
 use Rattle.nio_steps.specs.SelectCalls.{Selection, Begins}
@@ -30,14 +30,13 @@ bound_fits : (l : Limits) (n : CallerNo) (events : List Event) (own acts : List 
 bound_fits l n events own acts s mode x legal did run =
     let first = begin-parts s mode acts x run in
     let before = first.gate ∷ first.take ∷ first.look ∷ [] in
-    let later = first.lists ++ first.over in
     let look : first.keys ≡ LookKeys s x.bound = keys-act s first.keys first.asks_keys
     ∙ ap (LookKeys s) (sym first.bound) in
-    let parts : mine n events ≡ (own ++ before) ++ LookKeys s x.bound ∷ later
+    let parts : mine n events ≡ (own ++ before) ++ LookKeys s x.bound ∷ first.over
     = did ∙ (ap (λ xs. own ++ xs)
-    (first.parts ∙ ap (λ (a : Act). first.gate ∷ first.take ∷ first.look ∷ a ∷ later) look)
-    ∙ sym (append_assoc own before (LookKeys s x.bound ∷ later))) in
-    let cut = cut_at n events (own ++ before) (LookKeys s x.bound) later parts in
+    (first.parts ∙ ap (λ (a : Act). first.gate ∷ first.take ∷ first.look ∷ a ∷ first.over) look)
+    ∙ sym (append_assoc own before (LookKeys s x.bound ∷ first.over))) in
+    let cut = cut_at n events (own ++ before) (LookKeys s x.bound) first.over parts in
     let e = event_of n (LookKeys s x.bound) in
     let legal' = subst (IsLegal l) cut.parts legal in
     let found : x.bound ≡ (state_after cut.past).keys_high s.0 = cc
@@ -64,10 +63,7 @@ looked_fits me s mode v0 v1 x call =
     let acts = done_between me v0 v1 in
     let bound = bound_fits v0.limits me v1.seen (mine me v0.seen) acts s mode x call.acts.history.legal
     call.acts.history.own call.shape in
-    let order = lists_in_order s mode acts x call.shape in
-    let below : All (λ entry. entry.index < x.bound) x.looked
-    = All-weaker (λ entry. Contains x.kept entry.index) (λ entry. entry.index < x.bound)
-    (λ entry there. All-contains (λ i. i < x.bound) x.kept entry.index order.below there) x.looked order.kept in
-    let count : 0 + length x.looked ≤ x.bound = few x.looked 0 x.bound (omega arith) order.looked_rise
-    (λ k d within. omega arith) below in
+    let order = looks_in_order s mode acts x call.shape in
+    let count : 0 + length x.looked ≤ x.bound = few x.looked 0 x.bound (omega arith) order.rise
+    (λ k d within. omega arith) order.below in
     omega (arith, bound, count)

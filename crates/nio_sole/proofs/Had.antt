@@ -31,7 +31,7 @@ use Rattle.nio_steps.proofs.BeginLaws.{begin-parts}
 use Rattle.nio_steps.proofs.Lists.{parted, contains-middle}
 use Rattle.nio_steps.proofs.OwnActs.{cut_at}
 use Rattle.nio_steps.proofs.SelectionLaws.{asks_give, not-gives}
-use Rattle.nio_steps.proofs.StandLaws.{over-keeps, lists-keep}
+use Rattle.nio_steps.proofs.StandLaws.{over-keeps}
 use Rattle.nio_steps.proofs.Walks.{Always, always_weaker, always_if, always_any, always_run}
 use Rattle.nio_steps.specs.Plan.{Plan, reply, ask}
 use Rattle.nio_steps.specs.Runs.{Completes}
@@ -56,7 +56,7 @@ mode_set : IsSet Mode
 mode_set = hlevel (ℕ_set, ⊎_set)
 
 selection_set : IsSet Selection
-selection_set = hlevel (ℕ_set, mode_set, lists.is_set entry_set, lists.is_set ℕ_set)
+selection_set = hlevel (ℕ_set, mode_set, lists.is_set entry_set)
 
 result_set : {A B : Type 0} → IsSet A → IsSet B → IsSet (Result A B)
 result_set a b = hlevel (a, b, ⊎_set)
@@ -193,19 +193,15 @@ taken_so own x earlier beginning since parts run goes_on =
     let at = always_run (λ acts r. is_ok r ≡ true → TakesFree s acts) (try_begin_plan s x.mode false) beginning (Ok x)
     (begin-takes s x.mode) run refl in
     let first = begin-parts s x.mode beginning x run in
-    let both : at.gate ∷ TakeTurn s None ∷ at.rest ≡ first.gate ∷ first.take ∷ first.look ∷ first.keys
-    ∷ (first.lists ++ first.over) = sym at.parts ∙ first.parts in
-    let rest_is : at.rest ≡ first.look ∷ first.keys ∷ (first.lists ++ first.over) = cc both in
+    let both : at.gate ∷ TakeTurn s None ∷ at.rest ≡ first.gate ∷ first.take ∷ first.look ∷ first.keys ∷ first.over
+    = sym at.parts ∙ first.parts in
+    let rest_is : at.rest ≡ first.look ∷ first.keys ∷ first.over = cc both in
     let look_gives = not-gives s.0 first.look (ap (asks_give s.0) first.asks_look) in
     let keys_give = not-gives s.0 first.keys (ap (asks_give s.0) first.asks_keys) in
-    let over_gives = has-neither (gives_turn s.0) first.lists first.over
-    (lists-keep s x.bound first.lists first.listed first.runs_lists)
-    (over-keeps s first.listed first.over _ first.runs_over) in
-    let rest_gives : has (gives_turn s.0) (first.look ∷ first.keys ∷ (first.lists ++ first.over)) ≡ false
-    = has-neither (gives_turn s.0) (first.look ∷ []) (first.keys ∷ (first.lists ++ first.over))
-    (ap (λ b. b || false) look_gives)
-    (has-neither (gives_turn s.0) (first.keys ∷ []) (first.lists ++ first.over)
-    (ap (λ b. b || false) keys_give) over_gives) in
+    let over_gives = over-keeps s x.bound first.over x.looked first.runs_over in
+    let rest_gives : has (gives_turn s.0) (first.look ∷ first.keys ∷ first.over) ≡ false
+    = has-neither (gives_turn s.0) (first.look ∷ []) (first.keys ∷ first.over) (ap (λ b. b || false) look_gives)
+    (has-neither (gives_turn s.0) (first.keys ∷ []) first.over (ap (λ b. b || false) keys_give) over_gives) in
     record {
       gate = at.gate;
       rest = at.rest;

@@ -8,7 +8,7 @@ use Rattle.nio_base.specs.declared.numbers.KeyNo.{KeyNo}
 use Rattle.nio_base.specs.declared.numbers.SelNo.{SelNo}
 use Rattle.nio_history.specs.Histories.{mine}
 use Rattle.nio_history.specs.PassViews.{PassView, known}
-use Rattle.nio_history.specs.Sets.{was_published}
+use Rattle.nio_history.specs.Sets.{was_opened, was_published}
 use Rattle.nio_history.specs.State.{State}
 use Rattle.nio_language.proofs.KeptNames.{kept_by_names}
 use Rattle.nio_language.specs.WordRows.{word_row}
@@ -32,22 +32,23 @@ use Rattle.nio_sole.proofs.Others.{line_made}
 use Rattle.nio_sole.specs.Made.{HasMade}
 use Rattle.nio_steps.specs.Calls.{CallClause}
 use Rattle.nio_steps.specs.KeyCalls.{find_channel_plan, find_plan}
-use Rattle.nio_steps.specs.Names.{channel}
+use Rattle.nio_steps.specs.Names.{channel, channel_of}
 use Rattle.nio_steps.specs.Plan.{Plan, ◌>>=◌}
 use Rattle.nio_steps.specs.Runs.{Completes}
 use Rattle.nio_steps.specs.Steps.{look_channel, look_key}
 
 -- ---- look-ups leave the state
 
-find_channel-rests : (l : Limits) (me : CallerNo) (n : ℕ) (st : State) → Rests me (find_channel_plan l n) st
+find_channel-rests : (l : Limits) (me : CallerNo) (n serial : ℕ) (st : State)
+    → Rests me (find_channel_plan l n serial) st
 unfolding find_channel_plan
-find_channel-rests l me n st = by_test (not (nat_lt n l.channels))
+find_channel-rests l me n serial st = by_test (not (nat_lt n l.channels))
   where
     by_test : (b : Bool)
         → Rests me
         (if b then Plan.reply None
-        else (look_channel (channel n) >>= λ found. Plan.reply (if found.made then Some (channel n) else None)))
-        st
+        else (look_channel (channel n)
+        >>= λ found. Plan.reply (if was_opened found serial then Some (channel_of (channel n) serial) else None))) st
     by_test true = refl
     by_test false = refl
 
@@ -70,7 +71,8 @@ module _ (l : Limits) (me : CallerNo) (now : Progress) (st : State) where
   name-rests (Caller n) plan here = if-rests me now reply.NoCaller (nat_lt n.0 l.callers) plan st here
   name-rests (Selector s) plan here = selector-rests l me now s plan st here
   name-rests (Channel c) plan here =
-      found-rests me now (find_channel_plan l c.0) reply.NoChannel plan st (find_channel-rests l me c.0 st) here
+      found-rests me now (find_channel_plan l c.number.0 c.serial) reply.NoChannel plan st
+      (find_channel-rests l me c.number.0 c.serial st) here
   name-rests (Key s k) plan here =
       selector-rests l me now s _ st
       (found-rests me now (find_plan l s k.index k.serial) reply.NoKey plan st

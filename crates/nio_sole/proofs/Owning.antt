@@ -14,7 +14,7 @@ use Rattle.nio_sole.proofs.Progress.{made_begun}
 use Rattle.nio_sole.specs.Made.{HasMade}
 use Rattle.nio_sole.specs.Stands.{selections_of, progress_of, HasPlaces}
 use Rattle.nio_sole.specs.declared.desk.Desk.{Desk}
-use Rattle.nio_steps.proofs.OrderLaws.{lists_in_order}
+use Rattle.nio_steps.proofs.OrderLaws.{looks_in_order}
 use Rattle.nio_steps.specs.SelectCalls.{Selection}
 use Rattle.nio_steps.specs.declared.looked.LookedKey.{LookedKey}
 use Rattle.nio_words.specs.Passes.{IsReady, limits_of, seen, acts_seen}
@@ -40,4 +40,4 @@ pub looked_rise : (w : Words) (d : Desk) (me : CallerNo) (s : SelNo) (x : Select
 looked_rise w d me s x ready has places made own looked is =
     let begun = (its_selects w d me s x ready has places made own).begun in
     subst (λ (entries : List LookedKey). AllPairs (λ a b. a.index < b.index) entries) (sym is)
-    (lists_in_order x.selector x.mode begun.beginning x begun.begins).looked_rise
+    (looks_in_order x.selector x.mode begun.beginning x begun.begins).rise

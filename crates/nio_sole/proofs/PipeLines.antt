@@ -1,7 +1,7 @@
 -- From the calls on a desk's group and pipes to the lines.
 use Rattle.std.proofs.Common.{◌≡◌, ℕ, ◌<◌, ◌==◌, ◌&&◌, true, Bool, Option, Some, None, Result, Ok, Err, List, []}
 use Rattle.std.proofs.Common.{◌∷◌, ◌++◌, ◌-◌, length, get_or, min, set, take, position, refl, sym, ap, ◌∙◌, subst}
-use Rattle.std.proofs.lemmas.Bool.{and_parts, eqb-true}
+use Rattle.std.proofs.lemmas.Bool.{and_parts}
 use Rattle.std.proofs.lemmas.List.{map-append}
 use Rattle.std.proofs.lemmas.List.Elements.{All-append, All-cons, All-get_or, All-nil, All-set}
 use Rattle.std.proofs.lemmas.List.Quantifiers.{position-Some}
@@ -10,7 +10,7 @@ use Rattle.std.specs.declared.alloc.AllocError.{AllocError}
 use Rattle.std.specs.declared.alloc.Global.{Global}
 use Rattle.nio_base.specs.declared.limits.Limits.{Limits}
 use Rattle.nio_base.specs.declared.numbers.CallerNo.{CallerNo}
-use Rattle.nio_base.specs.declared.numbers.ChanNo.{ChanNo}
+use Rattle.nio_base.specs.declared.numbers.ChanId.{ChanId}
 use Rattle.nio_group.specs.Group.{Group}
 use Rattle.nio_history.specs.PassViews.{PassView}
 use Rattle.nio_language.specs.declared.call.Call.TheVariants as call
@@ -26,12 +26,13 @@ use Rattle.nio_pipe.specs.declared.answers.PipeWrite.{PipeWrite}
 use Rattle.nio_plain.proofs.Piping.{position-map}
 use Rattle.nio_plain.specs.ScriptState.{Pipe}
 use Rattle.nio_plain.specs.Seq.Grouping.{group_left, group_reply}
-use Rattle.nio_plain.specs.Seq.Pipes.{owns_sink, owns_source, own_sink, own_source, pipe_at}
+use Rattle.nio_plain.specs.Seq.Pipes.{is_same_id, owns_sink, owns_source, own_sink, own_source, pipe_at}
 use Rattle.nio_serial.specs.Documented.{Progress}
 use Rattle.nio_serial.specs.Lines.{Said, call_plan, makes, read_line, write_line}
 use Rattle.nio_serial.specs.PipeLines.{Piped, after_pipe, read_gives, with_seal}
 use Rattle.nio_serial.specs.PipeLines.{with_pipe, write_gives}
 use Rattle.nio_serial.specs.Replies.{closed_reply, ends_reply}
+use Rattle.nio_sole.proofs.ChannelNames.{channel_is}
 use Rattle.nio_sole.proofs.Asking.{makes_ran, refused_at, replied_as}
 use Rattle.nio_sole.proofs.Desks.{left_as, places_same, still_made}
 use Rattle.nio_sole.proofs.Piping.{read_gave, read_refused, shown_at, shown_set, slice_says, with_held, write_gave}
@@ -132,52 +133,49 @@ made_set pass items i x x' made within is source sink =
 
 -- ---- the caller's own pipe
 
-abbrev pub IsSourceAt : Desk → CallerNo → ChanNo → Option ℕ → Type 0
-IsSourceAt d me c place = place ≡ position (λ x. (x.pipe.source.0 == c.0) && (x.reader.0 == me.0)) d.pipes.items
+abbrev pub IsSourceAt : Desk → CallerNo → ChanId → Option ℕ → Type 0
+IsSourceAt d me c place = place ≡ position (λ x. is_same_id x.pipe.source c && (x.reader.0 == me.0)) d.pipes.items
 
-abbrev pub IsSinkAt : Desk → CallerNo → ChanNo → Option ℕ → Type 0
-IsSinkAt d me c place = place ≡ position (λ x. (x.pipe.sink.0 == c.0) && (x.writer.0 == me.0)) d.pipes.items
+abbrev pub IsSinkAt : Desk → CallerNo → ChanId → Option ℕ → Type 0
+IsSinkAt d me c place = place ≡ position (λ x. is_same_id x.pipe.sink c && (x.writer.0 == me.0)) d.pipes.items
 
-own_source_is : (d : Desk) (me : CallerNo) (c : ChanNo) (place : Option ℕ) → IsSourceAt d me c place
+own_source_is : (d : Desk) (me : CallerNo) (c : ChanId) (place : Option ℕ) → IsSourceAt d me c place
     → own_source (progress_of d).pipes me c ≡ place
 own_source_is d me c place is = position-map (owns_source me c) pipe_of d.pipes.items ∙ sym is
 
-own_sink_is : (d : Desk) (me : CallerNo) (c : ChanNo) (place : Option ℕ) → IsSinkAt d me c place
+own_sink_is : (d : Desk) (me : CallerNo) (c : ChanId) (place : Option ℕ) → IsSinkAt d me c place
     → own_sink (progress_of d).pipes me c ≡ place
 own_sink_is d me c place is = position-map (owns_sink me c) pipe_of d.pipes.items ∙ sym is
 
-pub channel_is : (a b : ChanNo) → (a.0 == b.0) ≡ true → a ≡ b
-channel_is a b same = ap {B = ChanNo} (λ (n : ℕ). record { 0 = n }) (eqb-true a.0 b.0 same)
-
 -- it stands within the list, and its source is the channel
-pub source_at : (d : Desk) (me : CallerNo) (c : ChanNo) (i : ℕ) (x : OwnedPipe) → IsSourceAt d me c (Some i)
+pub source_at : (d : Desk) (me : CallerNo) (c : ChanId) (i : ℕ) (x : OwnedPipe) → IsSourceAt d me c (Some i)
     → x ≡ get_or d.pipes.items i x
     → (i < length d.pipes.items) × (x.pipe.source ≡ c)
 source_at d me c i x at is =
-    let found = position-Some (λ (y : OwnedPipe). (y.pipe.source.0 == c.0) && (y.reader.0 == me.0)) d.pipes.items i x
+    let found = position-Some (λ (y : OwnedPipe). is_same_id y.pipe.source c && (y.reader.0 == me.0)) d.pipes.items i x
     (sym at) in
-    let both = ap (λ (y : OwnedPipe). (y.pipe.source.0 == c.0) && (y.reader.0 == me.0)) is ∙ found.1 in
-    (found.0, channel_is x.pipe.source c (and_parts (x.pipe.source.0 == c.0) (x.reader.0 == me.0) both).0)
+    let both = ap (λ (y : OwnedPipe). is_same_id y.pipe.source c && (y.reader.0 == me.0)) is ∙ found.1 in
+    (found.0, channel_is x.pipe.source c (and_parts (is_same_id x.pipe.source c) (x.reader.0 == me.0) both).0)
 
-pub sink_at : (d : Desk) (me : CallerNo) (c : ChanNo) (i : ℕ) (x : OwnedPipe) → IsSinkAt d me c (Some i)
+pub sink_at : (d : Desk) (me : CallerNo) (c : ChanId) (i : ℕ) (x : OwnedPipe) → IsSinkAt d me c (Some i)
     → x ≡ get_or d.pipes.items i x
     → (i < length d.pipes.items) × (x.pipe.sink ≡ c)
 sink_at d me c i x at is =
-    let found = position-Some (λ (y : OwnedPipe). (y.pipe.sink.0 == c.0) && (y.writer.0 == me.0)) d.pipes.items i x
+    let found = position-Some (λ (y : OwnedPipe). is_same_id y.pipe.sink c && (y.writer.0 == me.0)) d.pipes.items i x
     (sym at) in
-    let both = ap (λ (y : OwnedPipe). (y.pipe.sink.0 == c.0) && (y.writer.0 == me.0)) is ∙ found.1 in
-    (found.0, channel_is x.pipe.sink c (and_parts (x.pipe.sink.0 == c.0) (x.writer.0 == me.0) both).0)
+    let both = ap (λ (y : OwnedPipe). is_same_id y.pipe.sink c && (y.writer.0 == me.0)) is ∙ found.1 in
+    (found.0, channel_is x.pipe.sink c (and_parts (is_same_id x.pipe.sink c) (x.writer.0 == me.0) both).0)
 
 -- ---- reads and writes
 
-read_by : {me : CallerNo} (l : Limits) (now : Progress) (c : ChanNo) (n : ℕ) {place place' : Option ℕ} {said : Said}
+read_by : {me : CallerNo} (l : Limits) (now : Progress) (c : ChanId) (n : ℕ) {place place' : Option ℕ} {said : Said}
     {v0 v1 : PassView}
     → place ≡ place' → CallClause me (Completes (read_line l now c n place')) v0 v1 said
     → CallClause me (Completes (read_line l now c n place)) v0 v1 said
 read_by {me = me} l now c n {said = said} {v0 = v0} {v1 = v1} is call =
     subst (λ (x : Option ℕ). CallClause me (Completes (read_line l now c n x)) v0 v1 said) (sym is) call
 
-write_by : {me : CallerNo} (l : Limits) (now : Progress) (c : ChanNo) (bytes : List ℕ) {place place' : Option ℕ}
+write_by : {me : CallerNo} (l : Limits) (now : Progress) (c : ChanId) (bytes : List ℕ) {place place' : Option ℕ}
     {said : Said} {v0 v1 : PassView}
     → place ≡ place' → CallClause me (Completes (write_line l now c bytes place')) v0 v1 said
     → CallClause me (Completes (write_line l now c bytes place)) v0 v1 said
@@ -203,7 +201,7 @@ module _ (d : Desk) (i : ℕ) (x x' : OwnedPipe) (gives : Pipe → Piped) (r : R
       (ap (λ (g : Piped). set (pipes_of d.pipes.items) i g.left) gives_at
       ∙ (sym (shown_set d.pipes.items i x') ∙ ap pipes_of (sym items)))
 
-pub read_none : (w : Words) (d : Desk) (me : CallerNo) (c : ChanNo) (n : ℕ) → MayMake w d me (call.Pread c n)
+pub read_none : (w : Words) (d : Desk) (me : CallerNo) (c : ChanId) (n : ℕ) → MayMake w d me (call.Pread c n)
     → IsSourceAt d me c None
     → Makes w d d me (call_plan (limits_of w) (progress_of d) me (call.Pread c n)) reply.NotOwner
 unfolding call_plan
@@ -214,7 +212,7 @@ read_none w d me c n may none = record {
   places = may.places;
 }
 
-pub read_made : (w : Words) (d : Desk) (q : Pass) (me : CallerNo) (c : ChanNo) (n i : ℕ) (x x' : OwnedPipe)
+pub read_made : (w : Words) (d : Desk) (q : Pass) (me : CallerNo) (c : ChanId) (n i : ℕ) (x x' : OwnedPipe)
     (pipes : Vec OwnedPipe Global) (found : Result Bool PipeError) (r : Reply)
     → MayMake w d me (call.Pread c n) → IsSourceAt d me c (Some i) → x ≡ get_or d.pipes.items i x
     → CallClause me (Completes (try_read_plan (limits_of w) x.pipe.source)) (view w d.pass) (view w q) found
@@ -228,7 +226,7 @@ read_made w d q me c n i x x' pipes found r may at is ran ready items source sin
     let now = progress_of d in
     let here = source_at d me c i x at is in
     let call : CallClause me (Completes (try_read_plan l c)) (view w d.pass) (view w q) found =
-    subst (λ (s : ChanNo). CallClause me (Completes (try_read_plan l s)) (view w d.pass) (view w q) found) here.1 ran in
+    subst (λ (s : ChanId). CallClause me (Completes (try_read_plan l s)) (view w d.pass) (view w q) found) here.1 ran in
     let gives : Pipe → Piped = λ p. read_gives n p found in
     record {
       call = read_by l now c n (own_source_is d me c (Some i) at)
@@ -241,7 +239,7 @@ read_made w d q me c n i x x' pipes found r may at is ran ready items source sin
           (made_set (view w q) d.pipes.items i x x' (still_made q may.places call) here.0 is source sink));
     }
 
-pub write_none : (w : Words) (d : Desk) (me : CallerNo) (c : ChanNo) (bytes : List ℕ)
+pub write_none : (w : Words) (d : Desk) (me : CallerNo) (c : ChanId) (bytes : List ℕ)
     → MayMake w d me (call.Pwrite c bytes) → IsSinkAt d me c None
     → Makes w d d me (call_plan (limits_of w) (progress_of d) me (call.Pwrite c bytes)) reply.NotOwner
 unfolding call_plan
@@ -252,7 +250,7 @@ write_none w d me c bytes may none = record {
   places = may.places;
 }
 
-pub write_made : (w : Words) (d : Desk) (q : Pass) (me : CallerNo) (c : ChanNo) (bytes : List ℕ) (i : ℕ)
+pub write_made : (w : Words) (d : Desk) (q : Pass) (me : CallerNo) (c : ChanId) (bytes : List ℕ) (i : ℕ)
     (x x' : OwnedPipe) (pipes : Vec OwnedPipe Global) (found : Result Bool PipeError) (r : Reply)
     → MayMake w d me (call.Pwrite c bytes) → IsSinkAt d me c (Some i) → x ≡ get_or d.pipes.items i x
     → CallClause me (Completes (try_write_plan (limits_of w) x.pipe.source x.pipe.sink)) (view w d.pass)
@@ -265,13 +263,13 @@ write_made w d q me c bytes i x x' pipes found r may at is ran ready items sourc
     let l = limits_of w in
     let now = progress_of d in
     let here = sink_at d me c i x at is in
-    let own : ChanNo = (pipe_at now.pipes i).source in
+    let own : ChanId = (pipe_at now.pipes i).source in
     let source_shown : x.pipe.source ≡ own = sym
     (ap (λ (p : Pipe). p.source) (shown_at d.pipes.items i x here.0 is)) in
     let call : CallClause me (Completes (try_write_plan l own c)) (view w d.pass) (view w q) found =
-    subst (λ (s : ChanNo). CallClause me (Completes (try_write_plan l s c)) (view w d.pass) (view w q) found)
+    subst (λ (s : ChanId). CallClause me (Completes (try_write_plan l s c)) (view w d.pass) (view w q) found)
     source_shown
-    (subst (λ (s : ChanNo). CallClause me (Completes (try_write_plan l x.pipe.source s)) (view w d.pass)
+    (subst (λ (s : ChanId). CallClause me (Completes (try_write_plan l x.pipe.source s)) (view w d.pass)
     (view w q) found) here.1 ran) in
     let gives : Pipe → Piped = λ p. write_gives bytes p found in
     record {
@@ -286,7 +284,7 @@ write_made w d q me c bytes i x x' pipes found r may at is ran ready items sourc
     }
 
 -- with what the call answers, and what its slice then has
-pub read_said : (w : Words) (d : Desk) (q : Pass) (me : CallerNo) (c : ChanNo) (n room i : ℕ) (x : OwnedPipe)
+pub read_said : (w : Words) (d : Desk) (q : Pass) (me : CallerNo) (c : ChanId) (n room i : ℕ) (x : OwnedPipe)
     (pipes : Vec OwnedPipe Global)
     (into rest : List ℕ) (result : Result (PipeRead × Bool) PipeError)
     → MayMake w d me (call.Pread c n) → IsSourceAt d me c (Some i) → x ≡ get_or d.pipes.items i x → IsLawful x.pipe
@@ -310,7 +308,7 @@ read_said w d q me c n room i x pipes into rest (Err refusal) may at is lawful r
     (Err refusal) _ may at is ran ready items refl refl
     (read_refused x lawful n refusal)
 
-written : (w : Words) (d : Desk) (q : Pass) (me : CallerNo) (c : ChanNo) (bytes : List ℕ) (i : ℕ) (x : OwnedPipe)
+written : (w : Words) (d : Desk) (q : Pass) (me : CallerNo) (c : ChanId) (bytes : List ℕ) (i : ℕ) (x : OwnedPipe)
     (pipes : Vec OwnedPipe Global)
     (result : Result (PipeWrite × Bool) PipeError)
     → MayMake w d me (call.Pwrite c bytes) → IsSinkAt d me c (Some i) → x ≡ get_or d.pipes.items i x → IsLawful x.pipe
@@ -331,7 +329,7 @@ written w d q me c bytes i x pipes (Err refusal) may at is lawful ran ready answ
     (write_refused x lawful bytes refusal)
 
 -- the slice that is written has the bytes of the line
-pub write_said : (w : Words) (d : Desk) (q : Pass) (me : CallerNo) (c : ChanNo) (bytes from : List ℕ) (i : ℕ)
+pub write_said : (w : Words) (d : Desk) (q : Pass) (me : CallerNo) (c : ChanId) (bytes from : List ℕ) (i : ℕ)
     (x : OwnedPipe) (pipes : Vec OwnedPipe Global)
     (result : Result (PipeWrite × Bool) PipeError) → from ≡ bytes
     → MayMake w d me (call.Pwrite c bytes) → IsSinkAt d me c (Some i) → x ≡ get_or d.pipes.items i x → IsLawful x.pipe
@@ -348,17 +346,17 @@ write_said w d q me c bytes from i x pipes result same may at is lawful ran read
     (items ∙ ap (λ (b : List ℕ). set d.pipes.items i (with_held x (after_write x.pipe b (without_mode result)))) same)
 
 -- a place that was found among the same pipes
-pub source_found : (d : Desk) (me : CallerNo) (c : ChanNo) (place : Option ℕ) (xs : List OwnedPipe)
-    → place ≡ position (λ x. (x.pipe.source.0 == c.0) && (x.reader.0 == me.0)) xs → xs ≡ d.pipes.items
+pub source_found : (d : Desk) (me : CallerNo) (c : ChanId) (place : Option ℕ) (xs : List OwnedPipe)
+    → place ≡ position (λ x. is_same_id x.pipe.source c && (x.reader.0 == me.0)) xs → xs ≡ d.pipes.items
     → IsSourceAt d me c place
 source_found d me c place xs is same =
-    is ∙ ap (position (λ (x : OwnedPipe). (x.pipe.source.0 == c.0) && (x.reader.0 == me.0))) same
+    is ∙ ap (position (λ (x : OwnedPipe). is_same_id x.pipe.source c && (x.reader.0 == me.0))) same
 
-pub sink_found : (d : Desk) (me : CallerNo) (c : ChanNo) (place : Option ℕ) (xs : List OwnedPipe)
-    → place ≡ position (λ x. (x.pipe.sink.0 == c.0) && (x.writer.0 == me.0)) xs → xs ≡ d.pipes.items
+pub sink_found : (d : Desk) (me : CallerNo) (c : ChanId) (place : Option ℕ) (xs : List OwnedPipe)
+    → place ≡ position (λ x. is_same_id x.pipe.sink c && (x.writer.0 == me.0)) xs → xs ≡ d.pipes.items
     → IsSinkAt d me c place
 sink_found d me c place xs is same =
-    is ∙ ap (position (λ (x : OwnedPipe). (x.pipe.sink.0 == c.0) && (x.writer.0 == me.0))) same
+    is ∙ ap (position (λ (x : OwnedPipe). is_same_id x.pipe.sink c && (x.writer.0 == me.0))) same
 
 -- with a reply that is the same
 pub said_so : {w : Words} {d d' : Desk} {me : CallerNo} {plan : Plan Said} {r r' : Reply} → r' ≡ r
@@ -368,7 +366,7 @@ said_so {w = w} {d = d} {d' = d'} {me = me} {plan = plan} same makes =
 
 -- ---- closing
 
-pub close_none : (w : Words) (d : Desk) (q : Pass) (me : CallerNo) (c : ChanNo) (closes : Bool)
+pub close_none : (w : Words) (d : Desk) (q : Pass) (me : CallerNo) (c : ChanId) (closes : Bool)
     → MayMake w d me (call.Closec c) → IsSinkAt d me c None
     → CallClause me (Completes (close_channel_plan (limits_of w) c)) (view w d.pass) (view w q) closes → IsReady w q me
     → Makes w d (record d { pass = q }) me (call_plan (limits_of w) (progress_of d) me (call.Closec c))
@@ -383,7 +381,7 @@ close_none w d q me c closes may none ran ready =
       places = places_same q ran may.places;
     }
 
-pub close_made : (w : Words) (d : Desk) (q : Pass) (me : CallerNo) (c : ChanNo) (i : ℕ) (x : OwnedPipe)
+pub close_made : (w : Words) (d : Desk) (q : Pass) (me : CallerNo) (c : ChanId) (i : ℕ) (x : OwnedPipe)
     (pipes : Vec OwnedPipe Global) (closes : Bool) → MayMake w d me (call.Closec c)
     → IsSinkAt d me c (Some i) → x ≡ get_or d.pipes.items i x
     → CallClause me (Completes (close_channel_plan (limits_of w) x.pipe.sink)) (view w d.pass) (view w q) closes
@@ -398,7 +396,7 @@ close_made w d q me c i x pipes closes may at is ran ready items =
     let here = sink_at d me c i x at is in
     let x' = with_held x (after_end x.pipe) in
     let call : CallClause me (Completes (close_channel_plan l c)) (view w d.pass) (view w q) closes =
-    subst (λ (s : ChanNo). CallClause me (Completes (close_channel_plan l s)) (view w d.pass) (view w q) closes) here.1
+    subst (λ (s : ChanId). CallClause me (Completes (close_channel_plan l s)) (view w d.pass) (view w q) closes) here.1
     ran in
     record {
       call = left_as (makes_ran closed_reply (λ _. with_seal now (own_sink now.pipes me c)) call)
@@ -506,7 +504,7 @@ pipe_unplaced w d me target pipes may items =
       same = sym same;
     }
 
-pub read_lacks : (w : Words) (d : Desk) (me : CallerNo) (c : ChanNo) (n : ℕ) → MayMake w d me (call.Pread c n)
+pub read_lacks : (w : Words) (d : Desk) (me : CallerNo) (c : ChanId) (n : ℕ) → MayMake w d me (call.Pread c n)
     → Lacks (λ plan. plan) w d d me (call.Pread c n)
 read_lacks w d me c n may = record {
   want = Want.read_unmade c n;

@@ -20,20 +20,19 @@ use Rattle.nio_history.specs.Questions.{Question, question_of, answer_of}
 use Rattle.nio_history.specs.State.{put}
 use Rattle.nio_history.specs.Turns.{removes_on}
 use Rattle.nio_history.specs.declared.act.Act.{Act}
-use Rattle.nio_history.specs.declared.act.Act.TheVariants.{TakeTurn, Enter, ShutBit}
+use Rattle.nio_history.specs.declared.act.Act.TheVariants.{DrawBit, TakeTurn, Enter, ShutBit}
 use Rattle.nio_history.specs.declared.event.Event.{Event}
 use Rattle.nio_history.specs.declared.found.Mode.{Mode}
 use Rattle.nio_orderly.proofs.ListWords.{has-neither}
 use Rattle.nio_orderly.proofs.WaitedCalls.{calls_without_waiting}
-use Rattle.nio_orderly.specs.Made.{Made, IsRun, after_call, after_calls, MayCome, AreInOrder, table_call, waiting_call}
+use Rattle.nio_orderly.specs.Made.{Made, IsRun, after_call, after_calls, MayCome, AreInOrder, draw, table_call}
+use Rattle.nio_orderly.specs.Made.{waiting_call}
 use Rattle.nio_orderly.specs.Orderly.{AreRuns}
 use Rattle.nio_orderly.specs.Waited.{waits}
 use Rattle.nio_plain.specs.Seq.Selections.{is_caller}
 use Rattle.nio_serial.proofs.SequenceCalls.{again-same}
 use Rattle.nio_serial.specs.Documented.{Progress}
 use Rattle.nio_serial.specs.Lines.{own_selection}
-use Rattle.nio_sole.proofs.Spared.{touches, Spared, LeavesSelection, none-leaves, one-leaves, leaves-append, is_on}
-use Rattle.nio_sole.proofs.Spared.{call-leaves}
 use Rattle.nio_sole.specs.Made.{HasMade}
 use Rattle.nio_sole.specs.MadeLaws.{OngoingIsBegun, OngoingIsClosing}
 use Rattle.nio_steps.proofs.BeginLaws.{begin-parts}
@@ -42,6 +41,8 @@ use Rattle.nio_steps.proofs.OwnActs.{cut_at}
 use Rattle.nio_steps.proofs.SelectionLaws.{begins_selection, again_goes_on}
 use Rattle.nio_steps.proofs.StandLaws.{selections_stand}
 use Rattle.nio_steps.proofs.Walks.{Always, always_weaker, always_if, always_any, always_run}
+use Rattle.nio_steps.proofs.WorksLaws.{touches, Spared, none-leaves, one-leaves, leaves-append, works_only_there}
+use Rattle.nio_steps.specs.Laws.{LeavesSelector, is_selector}
 use Rattle.nio_steps.specs.Ongoing.{Ongoing, nothing_ongoing}
 use Rattle.nio_steps.specs.Plan.{reply}
 use Rattle.nio_steps.specs.SelectCalls.{Selection, try_begin_plan, begin_lacks_memory, begin_open, begin_with_turn}
@@ -49,7 +50,7 @@ use Rattle.nio_steps.specs.SelectCalls.{done, again, shut_plan, closing, already
 use Rattle.nio_steps.specs.SelectCalls.{remove_keys}
 use Rattle.nio_steps.specs.Selections.{marks_on, IsBegun, IsClosing}
 use Rattle.nio_steps.specs.Steps.{flag_in, gate_in, holder_in}
-use Rattle.nio_steps.specs.TableCalls.{try_begin, told, leave, shut, try_finish, select, close}
+use Rattle.nio_steps.specs.TableCalls.{row_of, try_begin, told, leave, shut, try_finish, select, close}
 use Rattle.nio_steps.specs.declared.refusal.BeginError.{BeginError}
 
 -- ---- numbers
@@ -64,6 +65,23 @@ other_number a b is = by_test (b == a) refl
     by_test true same = absurd (both_ways (a == b) (same_number b a same) is)
     by_test false same = refl
 
+-- ---- what a call leaves of a selection
+
+-- the call begins, tells, leaves or closes on selector t
+abbrev is_on : ℕ → Made → Bool
+is_on t (draw n) = false
+is_on t (table_call call answer) = is_selector t (row_of call).works_on
+is_on t (waiting_call call answer) = false
+
+-- any other that doesn't wait leaves a selection there
+call-leaves : (l : Limits) (t : ℕ) (call : Made) (acts : List Act) → is_on t call ≡ false → waits call ≡ false
+    → IsRun l call acts → LeavesSelector t acts
+call-leaves l t (draw n) acts off at_once run =
+    subst (LeavesSelector t) (sym run) (one-leaves t (DrawBit n false) refl)
+call-leaves l t (table_call call answer) acts off at_once run =
+    works_only_there l ((row_of call).lacks_memory answer) call acts answer t run off
+call-leaves l t (waiting_call call answer) acts off at_once run = absurd (cc at_once)
+
 -- ---- a selection in progress
 
 record IsBegunOn (s : ℕ) (own : List Act) (x : Selection) : Type 0 where
@@ -74,7 +92,7 @@ record IsBegunOn (s : ℕ) (own : List Act) (x : Selection) : Type 0 where
 abbrev AreBegun : List Act → Ongoing → Type 0
 AreBegun own now = (s : ℕ) (x : Selection) → now.selection s ≡ Some x → IsBegunOn s own x
 
-longer : (own : List Act) (x : Selection) (acts : List Act) → IsBegun own x → LeavesSelection x.selector.0 acts
+longer : (own : List Act) (x : Selection) (acts : List Act) → IsBegun own x → LeavesSelector x.selector.0 acts
     → IsBegun (own ++ acts) x
 longer own x acts begun leaves = record {
   earlier = begun.earlier;
@@ -89,11 +107,11 @@ longer own x acts begun leaves = record {
   unremoved = has-neither (removes_on x.selector.0) begun.since acts begun.unremoved leaves.removes;
 }
 
-longer_on : (s : ℕ) (own : List Act) (x : Selection) (acts : List Act) → IsBegunOn s own x → LeavesSelection s acts
+longer_on : (s : ℕ) (own : List Act) (x : Selection) (acts : List Act) → IsBegunOn s own x → LeavesSelector s acts
     → IsBegunOn s (own ++ acts) x
 longer_on s own x acts here leaves =
     record {
-      begun = longer own x acts here.begun (subst (λ (k : ℕ). LeavesSelection k acts) (sym here.on) leaves);
+      begun = longer own x acts here.begun (subst (λ (k : ℕ). LeavesSelector k acts) (sym here.on) leaves);
       on = here.on;
     }
 
@@ -104,24 +122,24 @@ record FindsFree (s : SelNo) (found : Act) (acts : List Act) : Type 0 where
   before : List Act
   rest : List Act
   parts : acts ≡ before ++ found ∷ rest
-  leaves : LeavesSelection s.0 before
+  leaves : LeavesSelector s.0 before
 
 two-leaves : (t : ℕ) (first second : Act) → Spared t (question_of first) → Spared t (question_of second)
-    → LeavesSelection t (first ∷ second ∷ [])
+    → LeavesSelector t (first ∷ second ∷ [])
 two-leaves t first second spared spared' =
     leaves-append t (first ∷ []) (second ∷ []) (one-leaves t first spared) (one-leaves t second spared')
 
 begin-finds : (s : SelNo) (mode : Mode) (lacks : Bool)
-    → Always (λ acts _. LeavesSelection s.0 acts ⊎ FindsFree s (TakeTurn s None) acts) (try_begin_plan s mode lacks)
+    → Always (λ acts _. LeavesSelector s.0 acts ⊎ FindsFree s (TakeTurn s None) acts) (try_begin_plan s mode lacks)
 unfolding try_begin_plan
 begin-finds s mode lacks = λ gate asks_gate.
-    always_if (λ acts _. LeavesSelection s.0 (gate ∷ acts) ⊎ FindsFree s (TakeTurn s None) (gate ∷ acts))
+    always_if (λ acts _. LeavesSelector s.0 (gate ∷ acts) ⊎ FindsFree s (TakeTurn s None) (gate ∷ acts))
     (gate_in (answer_of gate)).shut (reply (Err BeginError.ClosedSelector)) (begin_open s mode lacks)
     (λ _. inl (one-leaves s.0 gate (ap (touches s.0) asks_gate)))
     (λ _ take asks_take. by_take gate (ap (touches s.0) asks_gate) take asks_take)
   where
     by_take : (gate : Act) → Spared s.0 (question_of gate) → (take : Act) → question_of take ≡ Question.take_turn s
-        → Always (λ acts _. LeavesSelection s.0 (gate ∷ take ∷ acts)
+        → Always (λ acts _. LeavesSelector s.0 (gate ∷ take ∷ acts)
         ⊎ FindsFree s (TakeTurn s None) (gate ∷ take ∷ acts))
         (if is_some (holder_in (answer_of take)) then reply (Err BeginError.Busy)
         else begin_with_turn s mode lacks)
@@ -129,7 +147,7 @@ begin-finds s mode lacks = λ gate asks_gate.
     by_take gate spared (TakeTurn s' None) asks =
         let same : s' ≡ s = cc asks in
         always_weaker (λ _ _. Unit {0})
-        (λ acts _. LeavesSelection s.0 (gate ∷ TakeTurn s' None ∷ acts)
+        (λ acts _. LeavesSelector s.0 (gate ∷ TakeTurn s' None ∷ acts)
         ⊎ FindsFree s (TakeTurn s None) (gate ∷ TakeTurn s' None ∷ acts)) (begin_with_turn s mode lacks)
         (λ acts _ _. inr
         (record {
@@ -143,18 +161,18 @@ begin-finds s mode lacks = λ gate asks_gate.
     by_take gate spared _ asks = absurd (cc asks)
 
 finish-finds : (s : SelNo)
-    → Always (λ acts _. LeavesSelection s.0 acts ⊎ FindsFree s (Enter s None) acts) (try_finish_plan s)
+    → Always (λ acts _. LeavesSelector s.0 acts ⊎ FindsFree s (Enter s None) acts) (try_finish_plan s)
 unfolding try_finish_plan
 finish-finds s = λ act asks. by_act act asks
   where
     by_act : (act : Act) → question_of act ≡ Question.enter s
-        → Always (λ acts _. LeavesSelection s.0 (act ∷ acts) ⊎ FindsFree s (Enter s None) (act ∷ acts))
+        → Always (λ acts _. LeavesSelector s.0 (act ∷ acts) ⊎ FindsFree s (Enter s None) (act ∷ acts))
         (if is_some (holder_in (answer_of act)) then reply busy else remove_keys s)
     by_act (Enter s' (Some n)) asks = inl (one-leaves s.0 (Enter s' (Some n)) refl)
     by_act (Enter s' None) asks =
         let same : s' ≡ s = cc asks in
         always_weaker (λ _ _. Unit {0})
-        (λ acts _. LeavesSelection s.0 (Enter s' None ∷ acts) ⊎ FindsFree s (Enter s None) (Enter s' None ∷ acts))
+        (λ acts _. LeavesSelector s.0 (Enter s' None ∷ acts) ⊎ FindsFree s (Enter s None) (Enter s' None ∷ acts))
         (remove_keys s)
         (λ acts _ _. inr
         (record {
@@ -176,7 +194,7 @@ module _ (l : Limits) (events : List Event) (n : CallerNo) (legal : IsLegal l ev
     turn : is_held_by n ((state_after past).turn x.selector.0) ≡ true
 
   does : (own before rest : List Act) (x : Selection) (act : Act) → mine n events ≡ own ++ (before ++ act ∷ rest)
-      → IsBegun own x → LeavesSelection x.selector.0 before → Does x act
+      → IsBegun own x → LeavesSelector x.selector.0 before → Does x act
   does own before rest x act did begun leaves =
       let cut = cut_at n events (own ++ before) act rest (did ∙ sym (append_assoc own before (act ∷ rest))) in
       let legal' = subst (IsLegal l) cut.parts legal in
@@ -203,13 +221,13 @@ module _ (l : Limits) (events : List Event) (n : CallerNo) (legal : IsLegal l ev
   -- what a call on the selector of a selection in progress did left it
   leaves-own : (own acts later : List Act) (s : SelNo) (x : Selection) (found : Act)
       → mine n events ≡ own ++ (acts ++ later) → IsBegunOn s.0 own x → (Does x found → ⊥)
-      → LeavesSelection s.0 acts ⊎ FindsFree s found acts → LeavesSelection s.0 acts
+      → LeavesSelector s.0 acts ⊎ FindsFree s found acts → LeavesSelector s.0 acts
   leaves-own own acts later s x found did here never (inl leaves) = leaves
   leaves-own own acts later s x found did here never (inr finds) =
       absurd (never (does own finds.before (finds.rest ++ later) x found
       (did ∙ (ap (λ xs. own ++ (xs ++ later)) finds.parts
       ∙ ap (λ xs. own ++ xs) (append_assoc finds.before (found ∷ finds.rest) later)))
-      here.begun (subst (λ (k : ℕ). LeavesSelection k finds.before) (sym here.on) finds.leaves)))
+      here.begun (subst (λ (k : ℕ). LeavesSelector k finds.before) (sym here.on) finds.leaves)))
 
   -- ---- one call more
 
@@ -242,7 +260,7 @@ module _ (l : Limits) (events : List Event) (n : CallerNo) (legal : IsLegal l ev
     -- a call that refuses, or closes, while the selection goes on
     goes_on : (s : SelNo) (t : ℕ) (y : Selection) (found : Act) → (s.0 == t) ≡ true → now.selection t ≡ Some y
         → ((x : Selection) → x.selector.0 ≡ s.0 → Does x found → ⊥)
-        → LeavesSelection s.0 acts ⊎ FindsFree s found acts → IsBegunOn t (own ++ acts) y
+        → LeavesSelector s.0 acts ⊎ FindsFree s found acts → IsBegunOn t (own ++ acts) y
     goes_on s t y found on is never finds =
         let same : t ≡ s.0 = sym (eqb-true s.0 t on) in
         let here : IsBegunOn s.0 own y = before s.0 y (sym (ap now.selection same) ∙ is) in
@@ -260,7 +278,7 @@ module _ (l : Limits) (events : List Event) (n : CallerNo) (legal : IsLegal l ev
         }
     on-it (table_call (try_begin s mode) (Err refusal)) may run t y on is =
         goes_on s t y (TakeTurn s None) on is (no_free_turn s)
-        (always_run (λ xs _. LeavesSelection s.0 xs ⊎ FindsFree s (TakeTurn s None) xs)
+        (always_run (λ xs _. LeavesSelector s.0 xs ⊎ FindsFree s (TakeTurn s None) xs)
         (try_begin_plan s mode (begin_lacks_memory {A = Selection} (Err refusal))) acts (Err refusal)
         (begin-finds s mode (begin_lacks_memory {A = Selection} (Err refusal))) run)
     on-it (table_call (told x poll) (done answer)) may run t y on is =
@@ -277,11 +295,11 @@ module _ (l : Limits) (events : List Event) (n : CallerNo) (legal : IsLegal l ev
         absurd (cc (sym (put-there now.selection x.selector.0 None t on) ∙ is))
     on-it (table_call (try_finish s) closed) may run t y on is =
         goes_on s t y (Enter s None) on is (no_free_entry s)
-        (always_run (λ xs _. LeavesSelection s.0 xs ⊎ FindsFree s (Enter s None) xs) (try_finish_plan s) acts closed
+        (always_run (λ xs _. LeavesSelector s.0 xs ⊎ FindsFree s (Enter s None) xs) (try_finish_plan s) acts closed
         (finish-finds s) run)
     on-it (table_call (try_finish s) busy) may run t y on is =
         goes_on s t y (Enter s None) on is (no_free_entry s)
-        (always_run (λ xs _. LeavesSelection s.0 xs ⊎ FindsFree s (Enter s None) xs) (try_finish_plan s) acts busy
+        (always_run (λ xs _. LeavesSelector s.0 xs ⊎ FindsFree s (Enter s None) xs) (try_finish_plan s) acts busy
         (finish-finds s) run)
     on-it _ may run t y on is = absurd (cc on)
 

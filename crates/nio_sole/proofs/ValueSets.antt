@@ -58,7 +58,7 @@ endpoint_set : IsSet Endpoint
 endpoint_set = hlevel (Bool-set, ⊎_set)
 
 channel_set : IsSet Channel
-channel_set = hlevel (Bool-set, endpoint_set)
+channel_set = hlevel (ℕ_set, Bool-set, endpoint_set)
 
 group_set : IsSet Group
 group_set = hlevel (ℕ_set, Bool-set, flight_set, lists.is_set channel_set)

@@ -2,7 +2,7 @@
 use Rattle.std.specs.Prelude.{◌≡◌, ℕ, Bool, true, false, List, Result, Ok, Err}
 use Rattle.std.specs.declared.alloc.AllocError.{AllocError}
 use Rattle.nio_base.specs.declared.numbers.CallerNo.{CallerNo}
-use Rattle.nio_base.specs.declared.numbers.ChanNo.{ChanNo}
+use Rattle.nio_base.specs.declared.numbers.ChanId.{ChanId}
 use Rattle.nio_base.specs.declared.numbers.KeyId.{KeyId}
 use Rattle.nio_base.specs.declared.numbers.SelNo.{SelNo}
 use Rattle.nio_history.specs.declared.found.Mode.{Mode}
@@ -53,7 +53,7 @@ pub data Want : Type 0 where
   selected_refused : SelNo → Want
   selected_unsaid : SelNo → Want
   pipe_unmade : CallerNo → Want
-  read_unmade : ChanNo → ℕ → Want
+  read_unmade : ChanId → ℕ → Want
   group_unmade : GroupCall → Want
 
 abbrev pub word_of : Want → Call

@@ -4,6 +4,7 @@ use Rattle.std.proofs.Math.Bool.{Bool-set}
 use Rattle.std.proofs.Math.Nat.{ℕ_set}
 use Rattle.std.proofs.Props.{props}
 use mathlib.Core.Sum.{⊎_set}
+use Rattle.nio_base.specs.declared.kind.Kind.{Kind}
 use Rattle.nio_base.specs.declared.limits.Limits.{Limits}
 use Rattle.nio_base.specs.declared.numbers.CallerNo.{CallerNo}
 use Rattle.nio_history.specs.Answers.{Answers}
@@ -26,7 +27,7 @@ use Rattle.nio_history.specs.declared.act.Act.TheVariants.{LookMark, Mark, Unsel
 use Rattle.nio_history.specs.declared.act.Act.TheVariants.{RaiseChannels, TryHoldBit, Release, SetMode, CloseBit}
 use Rattle.nio_history.specs.declared.act.Act.TheVariants.{ShutBit}
 use Rattle.nio_history.specs.declared.act.Act.TheVariants.{Enter, Pin, Unpin, ClearMark, ClaimAgain, LookFree, PutFree}
-use Rattle.nio_history.specs.declared.act.Act.TheVariants.{TakeFree}
+use Rattle.nio_history.specs.declared.act.Act.TheVariants.{TakeFree, Reopen}
 use Rattle.nio_history.specs.declared.event.Event.{Event}
 use Rattle.nio_history.specs.declared.found.Stage.{Stage}
 use Rattle.nio_sole.specs.Stands.{Stands}
@@ -46,6 +47,9 @@ stage_set = hlevel (ℕ_set, Bool-set)
 
 claim_set : IsSet OwnClaim
 claim_set = hlevel ℕ_set
+
+kind_set : IsSet Kind
+kind_set = hlevel ⊎_set
 
 answer_set : IsSet Answer
 answer_set = hlevel (ℕ_set, Bool-set, ⊎_set)
@@ -124,8 +128,8 @@ condition_prop l own st me (TryHoldBit c found) =
 condition_prop l own st me (Release c) = hlevel (props, ℕ_set, Bool-set, caller_set, stage_set, claim_set)
 condition_prop l own st me (SetMode c blocking found) =
     hlevel (props, ℕ_set, Bool-set, caller_set, stage_set, claim_set)
-condition_prop l own st me (CloseBit c found) =
-    hlevel (props, ℕ_set, Bool-set, caller_set, stage_set, claim_set)
+condition_prop l own st me (CloseBit c from found) =
+    hlevel (props, ℕ_set, Bool-set, caller_set, stage_set, claim_set, kind_set)
 condition_prop l own st me (ShutBit s found) =
     hlevel (props, ℕ_set, Bool-set, caller_set, stage_set, claim_set)
 condition_prop l own st me (Enter s found) =
@@ -141,6 +145,8 @@ condition_prop l own st me (LookFree s j found) =
     hlevel (props, ℕ_set, Bool-set, caller_set, stage_set, claim_set)
 condition_prop l own st me (PutFree s i) = hlevel (props, ℕ_set, Bool-set, caller_set, stage_set, claim_set)
 condition_prop l own st me (TakeFree s i found) =
+    hlevel (props, ℕ_set, Bool-set, caller_set, stage_set, claim_set)
+condition_prop l own st me (Reopen c from failed) =
     hlevel (props, ℕ_set, Bool-set, caller_set, stage_set, claim_set)
 
 answers_prop : (st : State) (me : CallerNo) (act : Act) → IsProp (Answers st me act)

@@ -4,7 +4,7 @@ ghost use Rattle.nio_plain.specs.Seq.Registering.{given_or_none};
 ghost use Rattle.nio_sole.specs.Asked.{MayAsk, Asks};
 
 use crate::replies::{channel_reply, find_reply, mode_reply, register_reply};
-use nio_base::{CallerNo, ChanNo, Kind, Ops, SelNo};
+use nio_base::{CallerNo, ChanId, Kind, Ops, SelNo};
 use nio_channel::{try_register, try_set_blocking};
 use nio_language::{Call, Reply};
 use nio_plain::replies::yes_or_no;
@@ -19,7 +19,7 @@ pub(crate) fn open_channel(w: &Words, p: &mut Pass, me: CallerNo, kind: Kind) ->
 }
 
 #[tactic(auto, unfolding(nio_serial::specs::Lines::call_plan))]
-pub(crate) fn set_blocking(w: &Words, p: &mut Pass, me: CallerNo, chan: ChanNo, on: bool) -> Reply
+pub(crate) fn set_blocking(w: &Words, p: &mut Pass, me: CallerNo, chan: ChanId, on: bool) -> Reply
     requires { MayAsk w.now p.old me (Call.Blocking chan on) }
     ensures { Asks w.now p.old p.new me (Call.Blocking chan on) result }
 {
@@ -27,7 +27,7 @@ pub(crate) fn set_blocking(w: &Words, p: &mut Pass, me: CallerNo, chan: ChanNo, 
 }
 
 #[tactic(auto, unfolding(nio_serial::specs::Lines::call_plan))]
-pub(crate) fn is_blocking(w: &Words, p: &mut Pass, me: CallerNo, chan: ChanNo) -> Reply
+pub(crate) fn is_blocking(w: &Words, p: &mut Pass, me: CallerNo, chan: ChanId) -> Reply
     requires { MayAsk w.now p.old me (Call.IsBlocking chan) }
     ensures { Asks w.now p.old p.new me (Call.IsBlocking chan) result }
 {
@@ -35,7 +35,7 @@ pub(crate) fn is_blocking(w: &Words, p: &mut Pass, me: CallerNo, chan: ChanNo) -
 }
 
 #[tactic(auto, unfolding(nio_serial::specs::Lines::call_plan))]
-pub(crate) fn is_open(w: &Words, p: &mut Pass, me: CallerNo, chan: ChanNo) -> Reply
+pub(crate) fn is_open(w: &Words, p: &mut Pass, me: CallerNo, chan: ChanId) -> Reply
     requires { MayAsk w.now p.old me (Call.IsOpen chan) }
     ensures { Asks w.now p.old p.new me (Call.IsOpen chan) result }
 {
@@ -43,7 +43,7 @@ pub(crate) fn is_open(w: &Words, p: &mut Pass, me: CallerNo, chan: ChanNo) -> Re
 }
 
 #[tactic(auto, unfolding(nio_serial::specs::Lines::call_plan))]
-pub(crate) fn is_registered(w: &Words, p: &mut Pass, me: CallerNo, chan: ChanNo) -> Reply
+pub(crate) fn is_registered(w: &Words, p: &mut Pass, me: CallerNo, chan: ChanId) -> Reply
     requires { MayAsk w.now p.old me (Call.IsRegistered chan) }
     ensures { Asks w.now p.old p.new me (Call.IsRegistered chan) result }
 {
@@ -51,7 +51,7 @@ pub(crate) fn is_registered(w: &Words, p: &mut Pass, me: CallerNo, chan: ChanNo)
 }
 
 #[tactic(auto, unfolding(nio_serial::specs::Lines::call_plan))]
-pub(crate) fn key_for(w: &Words, p: &mut Pass, me: CallerNo, chan: ChanNo, sel: SelNo) -> Reply
+pub(crate) fn key_for(w: &Words, p: &mut Pass, me: CallerNo, chan: ChanId, sel: SelNo) -> Reply
     requires { MayAsk w.now p.old me (Call.KeyFor chan sel) }
     ensures { Asks w.now p.old p.new me (Call.KeyFor chan sel) result }
 {
@@ -64,7 +64,7 @@ pub(crate) fn register(
     p: &mut Pass,
     me: CallerNo,
     sel: SelNo,
-    chan: ChanNo,
+    chan: ChanId,
     ops: Ops,
     att: Option<u64>,
 ) -> Reply

@@ -7,7 +7,7 @@ ghost use Rattle.nio_words.specs.Passes.{IsReady, limits_of};
 ghost use Rattle.nio_words.specs.Views.{view};
 ghost use Rattle.nio_sole.specs.Named.{Finds, HasName, HasNames, if_present};
 
-use nio_base::{CallerNo, ChanNo, KeyId, SelNo};
+use nio_base::{CallerNo, ChanId, KeyId, SelNo};
 use nio_keys::{find, find_channel, find_selector};
 use nio_language::{Call, LineName, LineNames, Reply};
 use nio_words::{Pass, Words};
@@ -69,13 +69,13 @@ fn look_up_selector(w: &Words, p: &mut Pass, me: CallerNo, sel: SelNo) -> Option
     }
 }
 
-fn look_up_channel(w: &Words, p: &mut Pass, me: CallerNo, chan: ChanNo) -> Option<Reply>
+fn look_up_channel(w: &Words, p: &mut Pass, me: CallerNo, chan: ChanId) -> Option<Reply>
     requires ready { IsReady w.now p.old me }
     requires unpinned { HasNoPin (view w.now p.old) me }
     ensures { Finds (λ now plan. if_channel (limits_of w.now) now chan plan) (λ pass. HasChannel pass chan) w.now p.old
         p.new me result }
 {
-    match find_channel(w, p, me, chan.0) {
+    match find_channel(w, p, me, chan.number.0, chan.serial) {
         Some(_) => None,
         None => Some(Reply::NoChannel),
     }

@@ -1,10 +1,11 @@
 //! The calls of lines on pipes, and the seal that a close of an own sink leaves.
 ghost use Rattle.std.specs.Prelude.{◌≡◌, ◌==◌, ◌&&◌, position};
+ghost use Rattle.nio_plain.specs.Seq.Pipes.{is_same_id};
 ghost use Rattle.nio_sole.specs.Makes.{MayMake, MakesCall};
 
 use crate::desk::{Desk, OwnedPipe};
 use crate::replies::{closed_reply, read_reply, write_reply};
-use nio_base::{CallerNo, ChanNo};
+use nio_base::{CallerNo, ChanId};
 use nio_language::{Bytes, Call, Reply};
 use nio_pipe::{CAPACITY, PipeMakeError, held_pipe};
 use nio_words::Words;
@@ -45,7 +46,7 @@ pub(crate) fn pread(
     w: &Words,
     d: &mut Desk,
     me: CallerNo,
-    chan: ChanNo,
+    chan: ChanId,
     most: u32,
 ) -> Result<Reply, AllocError>
     requires { MayMake w.now d.old me (Call.Pread chan most) }
@@ -70,7 +71,7 @@ pub(crate) fn pwrite(
     w: &Words,
     d: &mut Desk,
     me: CallerNo,
-    chan: ChanNo,
+    chan: ChanId,
     bytes: &Bytes,
 ) -> Result<Reply, AllocError>
     requires { MayMake w.now d.old me (Call.Pwrite chan bytes.now) }
@@ -90,7 +91,7 @@ pub(crate) fn close_channel(
     w: &Words,
     d: &mut Desk,
     me: CallerNo,
-    chan: ChanNo,
+    chan: ChanId,
 ) -> Result<Reply, AllocError>
     requires { MayMake w.now d.old me (Call.Closec chan) }
     ensures { MakesCall (λ plan. plan) w.now d.old d.new me (Call.Closec chan) result }
@@ -102,15 +103,19 @@ pub(crate) fn close_channel(
 }
 
 // The place of the caller's own pipe with this source.
-fn source_place(pipes: &[OwnedPipe], me: CallerNo, chan: ChanNo) -> Option<usize>
-    ensures { result ≡ position (λ x. (x.pipe.source.0 == chan.0) && (x.reader.0 == me.0)) pipes.now }
+fn source_place(pipes: &[OwnedPipe], me: CallerNo, chan: ChanId) -> Option<usize>
+    ensures { result ≡ position (λ x. is_same_id x.pipe.source chan && (x.reader.0 == me.0)) pipes.now }
 {
-    pipes.iter().position(|owned| owned.pipe.source().0 == chan.0 && owned.reader.0 == me.0)
+    pipes
+        .iter()
+        .position(|owned| owned.pipe.source() == chan && owned.reader == me)
 }
 
 // The place of the caller's own pipe with this sink.
-fn sink_place(pipes: &[OwnedPipe], me: CallerNo, chan: ChanNo) -> Option<usize>
-    ensures { result ≡ position (λ x. (x.pipe.sink.0 == chan.0) && (x.writer.0 == me.0)) pipes.now }
+fn sink_place(pipes: &[OwnedPipe], me: CallerNo, chan: ChanId) -> Option<usize>
+    ensures { result ≡ position (λ x. is_same_id x.pipe.sink chan && (x.writer.0 == me.0)) pipes.now }
 {
-    pipes.iter().position(|owned| owned.pipe.sink().0 == chan.0 && owned.writer.0 == me.0)
+    pipes
+        .iter()
+        .position(|owned| owned.pipe.sink() == chan && owned.writer == me)
 }

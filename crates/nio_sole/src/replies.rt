@@ -5,7 +5,7 @@ ghost use Rattle.nio_serial.specs.Replies.{channel_reply, mode_reply, register_r
 ghost use Rattle.nio_serial.specs.Replies.{selector_reply};
 ghost use Rattle.nio_sole.specs.PipeReplies.{read_reply, read_says, write_reply, write_says};
 
-use nio_base::{ChanNo, KeyId, KeyNo, Ops, SelNo};
+use nio_base::{ChanId, KeyId, KeyNo, Ops, SelNo};
 use nio_language::{Bytes, Reply};
 use nio_pipe::{PipeError, PipeRead, PipeWrite};
 use nio_plain::replies::not_now;
@@ -65,7 +65,7 @@ pub(crate) fn find_reply(answer: Option<KeyNo>) -> Reply
     }
 }
 
-pub(crate) fn channel_reply(answer: Result<ChanNo, ChannelError>) -> Reply
+pub(crate) fn channel_reply(answer: Result<ChanId, ChannelError>) -> Reply
     ensures { result ≡ channel_reply answer }
 {
     match answer {

@@ -1,5 +1,5 @@
 -- The parts of a `try_begin` that answers Ok.
-use Rattle.std.proofs.Common.{◌≡◌, ℕ, false, Result, Ok, Err, List, [], ◌∷◌, ◌++◌, refl, ap}
+use Rattle.std.proofs.Common.{◌≡◌, false, Result, Ok, Err, List, [], ◌∷◌, refl, ap}
 use Rattle.std.specs.Prelude.{⊤, is_some}
 use Rattle.std.proofs.lemmas.List.{append-nil}
 use Rattle.nio_base.specs.declared.numbers.SelNo.{SelNo}
@@ -9,35 +9,27 @@ use Rattle.nio_history.specs.declared.found.Mode.{Mode}
 use Rattle.nio_steps.proofs.Walks.{Always, always_if, always_bind, always_itself, always_run}
 use Rattle.nio_steps.specs.Plan.{reply}
 use Rattle.nio_steps.specs.Runs.{Completes}
-use Rattle.nio_steps.specs.SelectCalls.{Selection, LookedOver, Begins, try_begin_plan, begin_with_turn, begin_below}
-use Rattle.nio_steps.specs.SelectCalls.{given_back, list_below, look_over}
+use Rattle.nio_steps.specs.SelectCalls.{Selection, Begins, try_begin_plan, begin_with_turn, begin_below}
+use Rattle.nio_steps.specs.SelectCalls.{given_back, over_listed, look_over}
 use Rattle.nio_steps.specs.Steps.{gate_in, number_in, holder_in}
-use Rattle.nio_steps.specs.Sweeps.{sweep_over}
 use Rattle.nio_steps.specs.declared.refusal.BeginError.{BeginError}
 
-abbrev pub none_yet : LookedOver
-none_yet = record { looked = []; kept = [] }
-
 -- the look at the gate and the taking of the turn, the look by which the selection begins, the look at the
--- keys' high-water mark, the looks at which indexes are free, and what is done at each listed index
+-- keys' high-water mark, and the going over the indexes below it that aren't free
 pub record Begun (s : SelNo) (mode : Mode) (acts : List Act) (selection : Selection) : Type 0 where
   pub gate : Act
   pub take : Act
   pub look : Act
   pub keys : Act
-  pub lists : List Act
-  pub listed : List ℕ
   pub over : List Act
-  pub parts : acts ≡ gate ∷ take ∷ look ∷ keys ∷ (lists ++ over)
+  pub parts : acts ≡ gate ∷ take ∷ look ∷ keys ∷ over
   pub asks_gate : question_of gate ≡ Question.look_gate s
   pub asks_take : question_of take ≡ Question.take_turn s
   pub asks_look : question_of look ≡ Question.begin_look s
   pub opens : (gate_in (answer_of look)).shut ≡ false
   pub asks_keys : question_of keys ≡ Question.look_keys s
   pub bound : selection.bound ≡ number_in (answer_of keys)
-  pub runs_lists : Completes (list_below s selection.bound) lists listed
-  pub runs_over : Completes (sweep_over listed (look_over s) none_yet) over
-      (record { looked = selection.looked; kept = selection.kept })
+  pub runs_over : Completes (over_listed s selection.bound (look_over s) []) over selection.looked
   pub selector : selection.selector ≡ s
   pub mode_is : selection.mode ≡ mode
 
@@ -53,31 +45,26 @@ module _ (s : SelNo) (mode : Mode) where
       (begin_below s mode (number_in (answer_of keys)) false)
   below-begun gate take look keys asks_gate asks_take asks_look opens asks_keys =
       let bound = number_in (answer_of keys) in
-      always_bind (Completes (list_below s bound)) (λ acts r. IsBegunBy (gate ∷ take ∷ look ∷ keys ∷ acts) r)
-      (list_below s bound) _ (always_itself (list_below s bound))
-      (λ xs listed lists. always_bind (Completes (sweep_over listed (look_over s) none_yet))
-      (λ acts r. IsBegunBy (gate ∷ take ∷ look ∷ keys ∷ (xs ++ acts)) r)
-      (sweep_over listed (look_over s) none_yet) _ (always_itself (sweep_over listed (look_over s) none_yet))
-      (λ ys found over. record {
+      let looks = over_listed s bound (look_over s) [] in
+      always_bind (Completes looks) (λ acts r. IsBegunBy (gate ∷ take ∷ look ∷ keys ∷ acts) r) looks _
+      (always_itself looks)
+      (λ xs found over. record {
         gate = gate;
         take = take;
         look = look;
         keys = keys;
-        lists = xs;
-        listed = listed;
-        over = ys;
-        parts = ap (λ acts. gate ∷ take ∷ look ∷ keys ∷ (xs ++ acts)) (append-nil ys);
+        over = xs;
+        parts = ap (λ acts. gate ∷ take ∷ look ∷ keys ∷ acts) (append-nil xs);
         asks_gate = asks_gate;
         asks_take = asks_take;
         asks_look = asks_look;
         opens = opens;
         asks_keys = asks_keys;
         bound = refl;
-        runs_lists = lists;
         runs_over = over;
         selector = refl;
         mode_is = refl;
-      }))
+      })
 
   begin-begun : Always IsBegunBy (try_begin_plan s mode false)
   unfolding try_begin_plan

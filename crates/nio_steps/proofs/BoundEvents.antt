@@ -1,9 +1,9 @@
--- What happened where a selection marks a key twice, or removes a key that it looked at.
-use Rattle.std.proofs.Common.{◌≡◌, ℕ, ◌≤◌, ◌==◌, ◌&&◌, ◌||◌, cond, not, Bool, true, false, if◌then◌else◌, Result, Ok}
-use Rattle.std.proofs.Common.{Err, List, [], ◌∷◌, ◌++◌, map, refl, ap, sym, ◌∙◌, subst, append_assoc, eq-eqb, eqb-true}
-use Rattle.std.proofs.Common.{arith}
+-- What happened where a selection marks a key twice: it was taken out of the selected set meanwhile.
+use Rattle.std.proofs.Common.{◌≡◌, ℕ, ◌<◌, ◌≤◌, ◌==◌, ◌&&◌, ◌||◌, cond, nat_lt, not, Bool, true, false, if◌then◌else◌}
+use Rattle.std.proofs.Common.{Result, Ok, Err, List, [], ◌∷◌, ◌++◌, map, refl, ap, sym, ◌∙◌, subst, append_assoc}
+use Rattle.std.proofs.Common.{eq-eqb, eqb-true, arith}
 use Rattle.std.specs.Bool.{beq}
-use Rattle.std.proofs.lemmas.Bool.{and_parts, and_from, or_from, or_right}
+use Rattle.std.proofs.lemmas.Bool.{and_parts, and_from, or_from, or_right, lt-ltb}
 use Rattle.std.proofs.lemmas.List.{append-nil, map-append}
 use Rattle.std.proofs.lemmas.List.Folds.{list_any-append}
 use Rattle.nio_base.specs.Limits.{IsFit}
@@ -18,7 +18,7 @@ use Rattle.nio_history.proofs.Selections.{key_set_stays, selects_alone}
 use Rattle.nio_history.proofs.Soundness.{legal-sound, beyond-claimed}
 use Rattle.nio_history.proofs.Stays.{only_itself_gives_back}
 use Rattle.nio_history.proofs.Unpublished.{unpublished_keys_stay}
-use Rattle.nio_history.specs.Acts.{effect, new_key}
+use Rattle.nio_history.specs.Acts.{effect}
 use Rattle.nio_history.specs.Answers.{is_same_mark, exchange_from}
 use Rattle.nio_history.specs.Conditions.{Condition, has_turn, has_begun}
 use Rattle.nio_history.specs.Histories.{state_after, mine, event_of, IsStep, IsLegal}
@@ -26,19 +26,21 @@ use Rattle.nio_history.specs.Holders.{Keeps}
 use Rattle.nio_history.specs.Permanent.{a_selection}
 use Rattle.nio_history.specs.OwnEvents.{has, count, gives_turn}
 use Rattle.nio_history.specs.Pins.{removes}
-use Rattle.nio_history.specs.Sets.{fits, in_key_set, in_cancelled_set, is_valid, is_in_key_set}
+use Rattle.nio_history.specs.Sets.{fits, in_key_set, is_valid, is_in_key_set}
 use Rattle.nio_history.specs.State.{State, put}
 use Rattle.nio_history.specs.Turns.{selects_on}
 use Rattle.nio_history.specs.declared.act.Act.{Act}
-use Rattle.nio_history.specs.declared.act.Act.TheVariants.{LookKey, CancelKey, Claim, Publish, BeginLook, Remove}
-use Rattle.nio_history.specs.declared.act.Act.TheVariants.{LookMark, Mark, UnselectBit, EndWake, ClearMark, ClaimAgain}
+use Rattle.nio_history.specs.declared.act.Act.TheVariants.{LookKey, BeginLook, LookMark, Mark, UnselectBit, ClearMark}
 use Rattle.nio_history.specs.declared.event.Event.{Event}
 use Rattle.nio_history.specs.declared.found.GateWord.{GateWord}
 use Rattle.nio_history.specs.declared.found.Mark.{Mark as KeyMark}
 use Rattle.nio_history.specs.declared.found.Stage.{Stage}
+use Rattle.nio_steps.proofs.LookedLaws.{FoundValid}
 use Rattle.nio_steps.proofs.OwnActs.{cut_at, mine-own_first}
 use Rattle.nio_steps.proofs.SelectionLaws.{count-append, count-cons}
+use Rattle.nio_steps.specs.Bound.{unselects}
 use Rattle.nio_steps.specs.Steps.{stage_in, mark_in, exchange_in}
+use Rattle.nio_steps.specs.declared.looked.LookedKey.{LookedKey}
 
 -- ---- where a test of the state turned
 
@@ -89,39 +91,22 @@ turned test past (e ∷ later) was now =
               ∙ further.turns;
         }
 
--- ---- cancelling, and taking out of the selected set
-
-abbrev pub cancels_at : ℕ → ℕ → Act → Bool
-cancels_at s i (CancelKey s' i' found) = (s'.0 == s) && (i' == i)
-cancels_at s i _ = false
-
-abbrev pub unselects_at : ℕ → ℕ → Act → Bool
-unselects_at s i (UnselectBit s' i' found) = (s'.0 == s) && (i' == i)
-unselects_at s i _ = false
-
 both_ways : (b : Bool) → b ≡ true → b ≡ false → ⊥
 both_ways true is is_not = cc is_not
 both_ways false is is_not = cc is
 
--- a key that isn't cancelled is cancelled by nothing else
-uncancelled_kept : (st : State) (me : CallerNo) (act : Act) (s i : ℕ) → cancels_at s i act ≡ false
-    → (st.key s i).cancelled ≡ false → ((effect st me act).key s i).cancelled ≡ false
-uncancelled_kept st me (CancelKey s' i' found) s i other = λ now.
-    put_at_keeps (λ m t k. ((s'.0 == m) && (i' == t)) ≡ false → k.cancelled ≡ false) st.key s'.0 i' _
-    (λ _ other'. absurd (both_ways ((s'.0 == s'.0) && (i' == i')) (same_two s'.0 i') other')) s i (λ _. now) other
-uncancelled_kept st me (Claim s' i' c true) s i other =
-    put_at_keeps (λ _ _ k. k.cancelled ≡ false) st.key s'.0 i' _ (λ h. h) s i
-uncancelled_kept st me (Claim s' i' c false) s i other =
-    put_at_keeps (λ _ _ k. k.cancelled ≡ false) st.key s'.0 i' (new_key c 0) (λ _. refl) s i
-uncancelled_kept st me (Publish s' i' found) s i other =
-    put_at_keeps (λ _ _ k. k.cancelled ≡ false) st.key s'.0 i' _ (λ h. h) s i
-uncancelled_kept st me (Remove s' i' found) s i other =
-    put_at_keeps (λ _ _ k. k.cancelled ≡ false) st.key s'.0 i' _ (λ h. h) s i
-uncancelled_kept st me (ClaimAgain s' i' c from true) s i other =
-    put_at_keeps (λ _ _ k. k.cancelled ≡ false) st.key s'.0 i' _ (λ h. h) s i
-uncancelled_kept st me (ClaimAgain s' i' c from false) s i other =
-    put_at_keeps (λ _ _ k. k.cancelled ≡ false) st.key s'.0 i' _ (λ _. refl) s i
-uncancelled_kept st me act s i other = λ now. now
+-- ---- taking out of the selected set
+
+abbrev unselects_at : ℕ → ℕ → Act → Bool
+unselects_at s i (UnselectBit s' i' found) = (s'.0 == s) && (i' == i)
+unselects_at s i _ = false
+
+unselects_below : (s i bound : ℕ) (act : Act) → i < bound → unselects_at s i act ≡ true → unselects s bound act ≡ true
+unselects_below s i bound (UnselectBit s' i' found) low is =
+    let both = and_parts (s'.0 == s) (i' == i) is in
+    let same : i' ≡ i = eqb-true i' i both.1 in
+    and_from (s'.0 == s) (nat_lt i' bound) both.0 (lt-ltb i' bound (omega (arith, low, same)))
+unselects_below s i bound act low is = absurd (cc is)
 
 abbrev changes_mark : ℕ → ℕ → Act → Bool
 changes_mark s i (Mark s' i' from told found) = (s'.0 == s) && (i' == i)
@@ -183,9 +168,8 @@ first_none (x ∷ xs) ys is = absurd (cc is)
 
 -- ---- while a selection is in progress
 
-module _ (l : Limits) (n : CallerNo) (past window rest : List Event) (s : SelNo) (found woken : GateWord)
-    (fit : IsFit l)
-    (legal : IsLegal l (past ++ event_of n (BeginLook s found) ∷ (window ++ event_of n (EndWake s woken) ∷ rest)))
+module _ (l : Limits) (n : CallerNo) (past window : List Event) (s : SelNo) (found : GateWord) (fit : IsFit l)
+    (legal : IsLegal l ((past ++ event_of n (BeginLook s found) ∷ []) ++ window))
     (opens : found.shut ≡ false) (none_gives : has (gives_turn s.0) (mine n window) ≡ false) where
   start : List Event
   start = past ++ event_of n (BeginLook s found) ∷ []
@@ -194,14 +178,9 @@ module _ (l : Limits) (n : CallerNo) (past window rest : List Event) (s : SelNo)
   legal_at : (xs ys : List Event) → window ≡ xs ++ ys → IsLegal l (start ++ xs)
   unfolding start
   legal_at xs ys parts =
-      let later : List Event = ys ++ event_of n (EndWake s woken) ∷ rest in
-      let joined : past ++ event_of n (BeginLook s found) ∷ (window ++ event_of n (EndWake s woken) ∷ rest)
-      ≡ (start ++ xs) ++ later
-      = sym (append_assoc past (event_of n (BeginLook s found) ∷ []) (window ++ event_of n (EndWake s woken) ∷ rest))
-      ∙ (ap (λ w. start ++ (w ++ event_of n (EndWake s woken) ∷ rest)) parts
-      ∙ (ap (λ w. start ++ w) (append_assoc xs ys (event_of n (EndWake s woken) ∷ rest))
-      ∙ sym (append_assoc start xs later))) in
-      legal_beginning l (start ++ xs) later (subst (IsLegal l) joined legal)
+      let joined : start ++ window ≡ (start ++ xs) ++ ys = ap (λ w. start ++ w) parts
+      ∙ sym (append_assoc start xs ys) in
+      legal_beginning l (start ++ xs) ys (subst (IsLegal l) joined legal)
 
   step_at : (xs : List Event) (e : Event) (ys : List Event) → window ≡ xs ++ e ∷ ys → IsStep l (start ++ xs) e
   step_at xs e ys parts =
@@ -214,7 +193,7 @@ module _ (l : Limits) (n : CallerNo) (past window rest : List Event) (s : SelNo)
   begun_first =
       let e = event_of n (BeginLook s found) in
       let st = state_after past in
-      let step = legal_next l past e (window ++ event_of n (EndWake s woken) ∷ rest) legal in
+      let step = legal_next l past e [] (legal_beginning l (past ++ e ∷ []) window legal) in
       let begins : (st.begun s.0 || not found.shut) ≡ true = or_right (st.begun s.0) (not found.shut) (ap not opens) in
       ap (λ x. has_begun x n s) (state_after-more past e)
       ∙ and_from (has_turn st n s) (put st.begun s.0 (st.begun s.0 || not found.shut) s.0) step.condition.1
@@ -230,55 +209,9 @@ module _ (l : Limits) (n : CallerNo) (past window rest : List Event) (s : SelNo)
   begun_at xs ys parts =
       only_itself_gives_back l n start xs (legal_at xs ys parts) (a_selection s) (gives_none xs ys parts) begun_first
 
-  -- ---- a key that was valid and is cancelled was cancelled meanwhile
-
-  pub cancelled_meanwhile : (i : ℕ) (before between after : List Act) (was now : Stage)
-      → mine n window ≡ before ++ LookKey s i was ∷ (between ++ LookKey s i now ∷ after)
-      → is_valid was ≡ true → in_cancelled_set now ≡ true → 1 ≤ count (cancels_at s.0 i) (map (λ x. x.act) window)
-  cancelled_meanwhile i before between after was now own valid cancelled =
-      let first = cut_at n window before (LookKey s i was) (between ++ LookKey s i now ∷ after) own in
-      let second = cut_at n first.later between (LookKey s i now) after first.mine_later in
-      let e0 = event_of n (LookKey s i was) in
-      let e1 = event_of n (LookKey s i now) in
-      let mid : List Event = first.past ++ e0 ∷ second.past in
-      let parts : window ≡ mid ++ e1 ∷ second.later = first.parts
-      ∙ (ap (λ es. first.past ++ e0 ∷ es) second.parts
-      ∙ sym (append_assoc first.past (e0 ∷ second.past) (e1 ∷ second.later))) in
-      let was_is : was ≡ (state_after (start ++ first.past)).key s.0 i = ap stage_in
-      (step_at first.past e0 first.later first.parts).answers in
-      let now_is : now ≡ (state_after (start ++ mid)).key s.0 i = ap stage_in
-      (step_at mid e1 second.later parts).answers in
-      let test : State → Bool = λ st. not (st.key s.0 i).cancelled in
-      let before_is : test (state_after (start ++ first.past)) ≡ true = ap (λ (k : Stage). not k.cancelled) (sym was_is)
-      ∙ (and_parts (in_key_set was) (not was.cancelled) valid).1 in
-      let after_is : test (state_after ((start ++ first.past) ++ e0 ∷ second.past)) ≡ false
-      = ap (λ es. test (state_after es)) (append_assoc start first.past (e0 ∷ second.past))
-      ∙ (ap (λ (k : Stage). not k.cancelled) (sym now_is)
-      ∙ ap not (and_parts (in_key_set now) now.cancelled cancelled).1) in
-      let turn = turned test (start ++ first.past) (e0 ∷ second.past) before_is after_is in
-      let whole : window ≡ (first.past ++ turn.middle) ++ turn.event ∷ (turn.rest ++ e1 ∷ second.later)
-      = parts ∙ (append_assoc first.past (e0 ∷ second.past) (e1 ∷ second.later)
-      ∙ (ap (λ es. first.past ++ (es ++ e1 ∷ second.later)) turn.parts
-      ∙ (ap (λ es. first.past ++ es) (append_assoc turn.middle (turn.event ∷ turn.rest) (e1 ∷ second.later))
-      ∙ sym (append_assoc first.past turn.middle (turn.event ∷ (turn.rest ++ e1 ∷ second.later)))))) in
-      subst (λ w. 1 ≤ count (cancels_at s.0 i) (map (λ x. x.act) w)) (sym whole)
-      (counted (cancels_at s.0 i) (first.past ++ turn.middle) turn.event (turn.rest ++ e1 ∷ second.later)
-      (by_cancel (cancels_at s.0 i turn.event.act) refl
-      (uncancelled_kept (state_after ((start ++ first.past) ++ turn.middle)) turn.event.caller turn.event.act s.0 i)
-      turn.was turn.turns))
-    where
-      by_cancel : {old new : Bool} (b : Bool) {c : Bool} → c ≡ b → (c ≡ false → old ≡ false → new ≡ false)
-          → not old ≡ true → not new ≡ false → c ≡ true
-      by_cancel true is kept was_not turns = is
-      by_cancel {old = true} false is kept was_not turns = absurd (cc was_not)
-      by_cancel {old = false} {new = true} false is kept was_not turns = absurd (cc (sym (kept is refl)))
-      by_cancel {old = false} {new = false} false is kept was_not turns = absurd (cc turns)
-
   -- ---- a mark that changed just before it was marked was taken out of the selected set
 
-  module _ (i : ℕ) (before between after : List Act) (stage : Stage) (was stands : KeyMark) (told : ℕ)
-      (own : mine n window ≡ before ++ LookKey s i stage
-      ∷ (between ++ LookMark s i was ∷ Mark s i was told (Err stands) ∷ after))
+  module _ (i bound : ℕ) (low : i < bound) (between : List Act) (stage : Stage) (was : KeyMark)
       (valid : is_valid stage ≡ true) (spared : has (removes s.0 i) between ≡ false) where
     -- the key is published at each moment between the look at its mark and the marking
     published_at : (xs ys : List Event) (w0 w1 : List Event)
@@ -386,7 +319,7 @@ module _ (l : Limits) (n : CallerNo) (past window rest : List Event) (s : SelNo)
       from_middle : (middle : List Event) (e : Event) (rest' : List Event) → e1 ∷ w2 ≡ middle ++ e ∷ rest'
           → test (state_after ((start ++ mid) ++ middle)) ≡ true
           → test (effect (state_after ((start ++ mid) ++ middle)) e.caller e.act) ≡ false
-          → 1 ≤ count (unselects_at s.0 i) (map (λ x. x.act) window)
+          → 1 ≤ count (unselects s.0 bound) (map (λ x. x.act) w2)
       from_middle [] e rest' is was_same turns =
           let same : e ≡ e1 = sym (cc is) in
           let st = state_after ((start ++ mid) ++ []) in
@@ -406,41 +339,40 @@ module _ (l : Limits) (n : CallerNo) (past window rest : List Event) (s : SelNo)
           let joined : (xs ++ e ∷ []) ++ rest' ≡ w2 = append_assoc xs (e ∷ []) rest' ∙ sym later in
           let none : mine n (xs ++ e ∷ []) ≡ [] = first_none (mine n (xs ++ e ∷ [])) (mine n rest')
           (sym (mine-append n (xs ++ e ∷ []) rest') ∙ (ap (mine n) joined ∙ mine_w2)) in
-          let unselects = unselecting xs e (rest' ++ ys) here none
+          let takes_out = unselecting xs e (rest' ++ ys) here none
           (ap (λ es. test (state_after es)) (sym flat) ∙ was_same)
           (ap (λ es. test (effect (state_after es) e.caller e.act)) (sym flat) ∙ turns)
           (changes_mark s.0 i e.act) refl in
-          subst (λ w. 1 ≤ count (unselects_at s.0 i) (map (λ z. z.act) w)) (sym here)
-          (counted (unselects_at s.0 i) (mid ++ e1 ∷ xs) e (rest' ++ ys) unselects)
+          subst (λ w. 1 ≤ count (unselects s.0 bound) (map (λ z. z.act) w)) (sym later)
+          (counted (unselects s.0 bound) xs e rest' (unselects_below s.0 i bound e.act low takes_out))
 
-      by_turn : Turned test (start ++ mid) (e1 ∷ w2) → 1 ≤ count (unselects_at s.0 i) (map (λ x. x.act) window)
+      by_turn : Turned test (start ++ mid) (e1 ∷ w2) → 1 ≤ count (unselects s.0 bound) (map (λ x. x.act) w2)
       by_turn turn = from_middle turn.middle turn.event turn.rest turn.parts turn.was turn.turns
 
-    pub unselected_meanwhile : 1 ≤ count (unselects_at s.0 i) (map (λ x. x.act) window)
-    unselected_meanwhile =
-        let e0 = event_of n (LookKey s i stage) in
-        let e1 = event_of n (LookMark s i was) in
-        let e2 = event_of n (Mark s i was told (Err stands)) in
-        let first = cut_at n window before (LookKey s i stage)
-        (between ++ LookMark s i was ∷ Mark s i was told (Err stands) ∷ after) own in
-        let second = cut_at n first.later between (LookMark s i was) (Mark s i was told (Err stands) ∷ after)
-        first.mine_later in
-        let third = cut_at n second.later [] (Mark s i was told (Err stands)) after second.mine_later in
-        let mid : List Event = first.past ++ e0 ∷ second.past in
-        let to_mark : List Event = mid ++ e1 ∷ third.past in
-        let parts_mid : window ≡ mid ++ e1 ∷ second.later = first.parts
-        ∙ (ap (λ es. first.past ++ e0 ∷ es) second.parts
-        ∙ sym (append_assoc first.past (e0 ∷ second.past) (e1 ∷ second.later))) in
-        let parts_mark : window ≡ to_mark ++ e2 ∷ third.later = parts_mid
-        ∙ (ap (λ es. mid ++ e1 ∷ es) third.parts ∙ sym (append_assoc mid (e1 ∷ third.past) (e2 ∷ third.later))) in
-        let test : State → Bool = λ st. is_same_mark (st.mark s.0 i) was in
-        let was_is : was ≡ (state_after (start ++ mid)).mark s.0 i = ap mark_in
-        (step_at mid e1 second.later parts_mid).answers in
-        let before_is : test (state_after (start ++ mid)) ≡ true = ap (λ (m : KeyMark). is_same_mark m was) (sym was_is)
-        ∙ same_as_itself was in
-        let fails = ap exchange_in (step_at to_mark e2 third.later parts_mark).answers in
-        let after_is : test (state_after ((start ++ mid) ++ e1 ∷ third.past)) ≡ false
-        = ap (λ es. test (state_after es)) (append_assoc start mid (e1 ∷ third.past))
-        ∙ not_exchanged was ((state_after (start ++ to_mark)).mark s.0 i) stands fails in
-        let turn = turned test (start ++ mid) (e1 ∷ third.past) before_is after_is in
-        by_turn first.past second.past third.past (e2 ∷ third.later) parts_mark second.mine_past third.mine_past turn
+  pub unselected_meanwhile : (entry : LookedKey) (bound : ℕ) (w0 gap w1 : List Event) (was stands : KeyMark) (told : ℕ)
+      → window ≡ w0 ++ event_of n (LookMark s entry.index was)
+      ∷ (gap ++ event_of n (Mark s entry.index was told (Err stands)) ∷ w1)
+      → mine n gap ≡ [] → FoundValid s (mine n w0) entry → entry.index < bound
+      → 1 ≤ count (unselects s.0 bound) (map (λ x. x.act) gap)
+  unselected_meanwhile entry bound w0 gap w1 was stands told parts none valid low =
+      let i = entry.index in
+      let e0 = event_of n (LookKey s i valid.stage) in
+      let e1 = event_of n (LookMark s i was) in
+      let e2 = event_of n (Mark s i was told (Err stands)) in
+      let first = cut_at n w0 valid.before (LookKey s i valid.stage) valid.later valid.parts in
+      let mid : List Event = first.past ++ e0 ∷ first.later in
+      let to_mark : List Event = mid ++ e1 ∷ gap in
+      let parts_mid : window ≡ mid ++ e1 ∷ (gap ++ e2 ∷ w1) = parts
+      ∙ ap (λ es. es ++ e1 ∷ (gap ++ e2 ∷ w1)) first.parts in
+      let parts_mark : window ≡ to_mark ++ e2 ∷ w1 = parts_mid ∙ sym (append_assoc mid (e1 ∷ gap) (e2 ∷ w1)) in
+      let test : State → Bool = λ st. is_same_mark (st.mark s.0 i) was in
+      let was_is : was ≡ (state_after (start ++ mid)).mark s.0 i = ap mark_in
+      (step_at mid e1 (gap ++ e2 ∷ w1) parts_mid).answers in
+      let before_is : test (state_after (start ++ mid)) ≡ true = ap (λ (m : KeyMark). is_same_mark m was) (sym was_is)
+      ∙ same_as_itself was in
+      let fails = ap exchange_in (step_at to_mark e2 w1 parts_mark).answers in
+      let after_is : test (state_after ((start ++ mid) ++ e1 ∷ gap)) ≡ false
+      = ap (λ es. test (state_after es)) (append_assoc start mid (e1 ∷ gap))
+      ∙ not_exchanged was ((state_after (start ++ to_mark)).mark s.0 i) stands fails in
+      by_turn i bound low valid.later valid.stage was valid.valid valid.spared first.past first.later gap (e2 ∷ w1)
+      parts_mark first.mine_later none (turned test (start ++ mid) (e1 ∷ gap) before_is after_is)

@@ -1,192 +1,315 @@
 -- The bound on the steps of a selection.
-use Rattle.std.proofs.Common.{◌≡◌, ℕ, zero, suc, ◌+◌, ◌*◌, ◌/◌, ◌%◌, ◌<◌, ◌≤◌, ◌==◌, ◌&&◌, inl, inr, nat_lt, Bool, true}
-use Rattle.std.proofs.Common.{false, not, if◌then◌else◌, Err, List, [], ◌∷◌, ◌++◌, length, map, refl, ap, sym, ◌∙◌}
-use Rattle.std.proofs.Common.{subst, append_assoc, eq-eqb, arith}
+use Rattle.std.proofs.Common.{◌≡◌, ℕ, zero, suc, ◌+◌, ◌*◌, ◌<◌, ◌≤◌, ◌==◌, Bool, true, false, if◌then◌else◌, Result, Ok}
+use Rattle.std.proofs.Common.{Err, List, [], ◌∷◌, ◌++◌, length, map, refl, ap, sym, ◌∙◌, subst, append_assoc}
+use Rattle.std.proofs.Common.{arith}
 use Rattle.std.specs.Prelude.{⊤}
 use Rattle.std.specs.List.{All, Contains}
-use Rattle.std.proofs.lemmas.Bool.{and_parts, and_from, or_from, or_left, or_right}
-use Rattle.std.proofs.lemmas.List.{length-append}
-use Rattle.std.proofs.lemmas.List.Elements.{All-nil, All-cons, All-head, All-tail, All-append, All-push, All-weaker}
-use Rattle.std.proofs.lemmas.List.Elements.{All-contains, All-contains_itself}
+use Rattle.std.proofs.lemmas.Bool.{or_from, or_left, or_right}
+use Rattle.std.proofs.lemmas.List.{append-nil, length-append, map-append}
+use Rattle.std.proofs.lemmas.List.Elements.{All-nil, All-cons, All-head, All-tail, All-weaker, All-contains}
+use Rattle.std.proofs.lemmas.List.Elements.{All-contains_itself}
 use Rattle.std.proofs.lemmas.List.Folds.{list_any-append}
 use Rattle.nio_base.specs.Limits.{IsFit}
 use Rattle.nio_base.specs.declared.limits.Limits.{Limits}
 use Rattle.nio_base.specs.declared.numbers.CallerNo.{CallerNo}
 use Rattle.nio_base.specs.declared.numbers.SelNo.{SelNo}
-use Rattle.nio_history.proofs.OneMore.{has_none-append}
-use Rattle.nio_history.proofs.LastsAlone.{same_two}
+use Rattle.nio_history.proofs.Legal.{legal_beginning}
+use Rattle.nio_history.proofs.OneMore.{mine-append}
 use Rattle.nio_history.specs.Answers.{count_below}
 use Rattle.nio_history.specs.Histories.{mine, event_of, IsLegal}
 use Rattle.nio_history.specs.OwnEvents.{has, count, gives_turn}
 use Rattle.nio_history.specs.Pins.{removes}
 use Rattle.nio_history.specs.Questions.{Question, question_of, answer_of}
 use Rattle.nio_history.specs.declared.act.Act.{Act}
-use Rattle.nio_history.specs.declared.act.Act.TheVariants.{LookKey, BeginLook, LookMark, Mark, EndWake, LookFree}
+use Rattle.nio_history.specs.declared.act.Act.TheVariants.{BeginLook, LookKeys, LookMark, Mark}
 use Rattle.nio_history.specs.declared.event.Event.{Event}
 use Rattle.nio_history.specs.declared.found.GateWord.{GateWord}
-use Rattle.nio_steps.proofs.BeginLaws.{Begun, none_yet, begin-parts}
-use Rattle.nio_steps.proofs.BoundActs.{asks_at, acts_at, FoundValid, FoundChanged, FoundCancelled, Unseen, Seen}
-use Rattle.nio_steps.proofs.BoundActs.{is_dropped, is_kept, is_looked, Unmarked, Marked, is_marked, is_failed, Unswept}
-use Rattle.nio_steps.proofs.BoundActs.{Swept, is_swept, is_cancelled, over-visits, marks-visits, sweeps-visits}
-use Rattle.nio_steps.proofs.BoundEvents.{cancels_at, unselects_at, cancelled_meanwhile, unselected_meanwhile}
-use Rattle.nio_steps.proofs.BoundSums.{total, total-add, total-le, total-six, IsAmong, length-among, disturbed}
-use Rattle.nio_steps.proofs.BoundSums.{rising-count}
-use Rattle.nio_steps.proofs.EachLaws.{each_over, each_run}
-use Rattle.nio_steps.proofs.Lists.{contains-middle}
-use Rattle.nio_steps.proofs.LookedLaws.{free-look}
-use Rattle.nio_steps.proofs.OrderLaws.{lists_in_order, list-rises, IsListed, Rises, over-rises}
-use Rattle.nio_steps.proofs.SelectionAsks.{AsksAt, AsksMark, each_list, each_look, each_marks, each_remove_if_cancelled}
-use Rattle.nio_steps.proofs.SelectionAsks.{goes_any}
-use Rattle.nio_steps.proofs.SelectionLaws.{marks-no_remove, removes_none, NoGive, asks_give, no_gives, not-gives}
-use Rattle.nio_steps.proofs.Visits.{OneVisit}
-use Rattle.nio_steps.proofs.Walks.{Always, always_if, always_bind, always_itself, always_run, always_sweep}
-use Rattle.nio_steps.specs.Bound.{finds_listed, disturbs, IsWhole, SelectionIsBounded}
+use Rattle.nio_history.specs.declared.found.Mark.{Mark as KeyMark}
+use Rattle.nio_steps.proofs.BeginLaws.{Begun, begin-parts}
+use Rattle.nio_steps.proofs.BoundEvents.{unselected_meanwhile}
+use Rattle.nio_steps.proofs.EachLaws.{each_run, split}
+use Rattle.nio_steps.proofs.Listing.{Turns, Removes, Passes, always_listed, always_look, always_remove}
+use Rattle.nio_steps.proofs.Lists.{only_place}
+use Rattle.nio_steps.proofs.LookedLaws.{FoundValid, found_valid, found_valid-after, found_valid-more}
+use Rattle.nio_steps.proofs.OrderLaws.{looks_in_order}
+use Rattle.nio_steps.proofs.OwnActs.{cut_at, part_at}
+use Rattle.nio_steps.proofs.SelectionAsks.{each_over_looked, each_entry}
+use Rattle.nio_steps.proofs.SelectionLaws.{marks-no_give, removes_none, no_removes, NoRemove, asks_give, not-gives}
+use Rattle.nio_steps.proofs.SelectionLaws.{count-append}
+use Rattle.nio_steps.proofs.StandLaws.{over-keeps}
+use Rattle.nio_steps.proofs.ToldParts.{CutAtKeys, cut_at_keys}
+use Rattle.nio_steps.proofs.Walks.{Always, always_if, always_bind, always_run}
+use Rattle.nio_steps.specs.Bound.{finds_listed, unselects, count_listed, IsWholeSelection, SelectionIsBounded}
 use Rattle.nio_steps.specs.ChannelCalls.{words_below}
-use Rattle.nio_steps.specs.KeyCalls.{has_bit}
 use Rattle.nio_steps.specs.Laws.{IsInOrder}
-use Rattle.nio_steps.specs.Plan.{reply}
+use Rattle.nio_steps.specs.Plan.{reply, ◌>>=◌}
 use Rattle.nio_steps.specs.Runs.{Completes}
-use Rattle.nio_steps.specs.SelectCalls.{Selection, Poll, Tells, ToldReply, done, again, not_free, list_word, list_below}
-use Rattle.nio_steps.specs.SelectCalls.{look_over, mark_entry, remove_if_cancelled, is_again, end_selection}
-use Rattle.nio_steps.specs.SelectCalls.{after_marks, told_plan}
-use Rattle.nio_steps.specs.Steps.{flag_in, gate_in, word_in}
+use Rattle.nio_steps.specs.SelectCalls.{Selection, Poll, over_listed, look_over, looked_key, mark_entry}
+use Rattle.nio_steps.specs.SelectCalls.{mark_told, mark_looked}
+use Rattle.nio_steps.specs.SelectCalls.{mark_again, told_bits, gains_nothing, remove_if_cancelled}
+use Rattle.nio_steps.specs.Steps.{gate_in, mark, mark_in, stage_in, operations_in, exchange_in}
 use Rattle.nio_steps.specs.Sweeps.{sweep_over}
+use Rattle.nio_steps.specs.declared.looked.LookedKey.{LookedKey}
 use Rattle.nio_steps.specs.declared.selected.Selected.{Selected}
 
--- ---- one place of an act
+-- ---- how many numbers pass a test
 
-only_place : (p : Act → Bool) (xs : List Act) (x : Act) (ys us : List Act) (v : Act) (vs : List Act) → p x ≡ true
-    → All (λ act. p act ≡ false) us → All (λ act. p act ≡ false) vs
-    → xs ++ x ∷ ys ≡ us ++ v ∷ vs → (xs ≡ us) × (x ≡ v) × (ys ≡ vs)
-only_place p [] x ys [] v vs it none_us none_vs same = (refl, cc same, cc same)
-only_place p [] x ys (u ∷ us) v vs it none_us none_vs same =
-    let is : x ≡ u = cc same in
-    absurd (cc (sym it ∙ (ap p is ∙ All-head (λ act. p act ≡ false) u us none_us)))
-only_place p (a ∷ xs) x ys [] v vs it none_us none_vs same =
-    let is : xs ++ x ∷ ys ≡ vs = cc same in
-    absurd (cc
-    (sym it ∙ All-contains (λ act. p act ≡ false) vs x none_vs
-    (subst (λ acts. Contains acts x) is (contains-middle xs x ys))))
-only_place p (a ∷ xs) x ys (u ∷ us) v vs it none_us none_vs same =
-    let first : a ≡ u = cc same in
-    let rest = only_place p xs x ys us v vs it (All-tail (λ act. p act ≡ false) u us none_us) none_vs (cc same) in
-    (ap (λ (b : Act). b ∷ xs) first ∙ ap (λ acts. u ∷ acts) rest.0, rest.1, rest.2)
+below-suc : (p : ℕ → Bool) (n : ℕ) → count_below (suc n) p ≡ count_below n p + (if p n then 1 else 0)
+unfolding count_below
+below-suc p n = refl
 
--- ---- the parts of a `told` that ends its selection
+below-next : (p : ℕ → Bool) (n : ℕ) → count_below (n + 1) p ≡ count_below n p + (if p n then 1 else 0)
+below-next p n =
+    let same : suc n ≡ n + 1 = omega arith in
+    subst (λ (m : ℕ). count_below m p ≡ count_below n p + (if p n then 1 else 0)) same (below-suc p n)
 
-record Ended (selection : Selection) (poll : Poll) (acts : List Act) : Type 0 where
-  marks : List Act
-  marked : ℕ
-  gate : Act
-  status : Act
-  sweeps : List Act
-  wake : Act
-  gives : Act
-  parts : acts ≡ (marks ++ gate ∷ status ∷ sweeps) ++ wake ∷ gives ∷ []
-  runs_marks : Completes (sweep_over selection.looked (mark_entry selection.selector poll.pairs) 0) marks marked
-  asks_gate : question_of gate ≡ Question.look_gate selection.selector
-  asks_status : question_of status ≡ Question.look_interrupt
-  runs_sweeps : Completes (sweep_over selection.kept (λ i _. remove_if_cancelled selection.selector i) tt) sweeps tt
-  asks_wake : question_of wake ≡ Question.end_wake selection.selector
-  asks_gives : question_of gives ≡ Question.give_turn selection.selector
+below-more : (p : ℕ → Bool) (n : ℕ) → count_below n p ≤ count_below (n + 1) p
+below-more p n = let next = below-next p n in omega (arith, next)
 
-module _ (selection : Selection) (poll : Poll) where
-  abbrev IsEnded : List Act → ToldReply → Type 0
-  IsEnded acts (done answer) = Ended selection poll acts
-  IsEnded acts (again next) = ⊤
+below-one : (p : ℕ → Bool) (n : ℕ) → p n ≡ true → count_below (n + 1) p ≡ count_below n p + 1
+below-one p n is = below-next p n ∙ ap (λ (b : Bool). count_below n p + (if b then 1 else 0)) is
 
-  told-ended : Always IsEnded (told_plan selection poll.pairs poll.elapsed)
-  unfolding told_plan
-  told-ended =
-      let s = selection.selector in
-      always_bind (Completes (sweep_over selection.looked (mark_entry s poll.pairs) 0)) IsEnded
-      (sweep_over selection.looked (mark_entry s poll.pairs) 0) (after_marks selection poll.elapsed)
-      (always_itself (sweep_over selection.looked (mark_entry s poll.pairs) 0))
-      (λ marks number runs gate asks_gate status asks_status.
-      always_if (λ xs r. IsEnded (marks ++ gate ∷ status ∷ xs) r)
-      (is_again selection.mode number (gate_in (answer_of gate)) (flag_in (answer_of status)) poll.elapsed)
-      (reply (again selection)) (end_selection selection _)
-      (λ _. tt)
-      (λ _. always_bind (Completes (sweep_over selection.kept (λ i _. remove_if_cancelled s i) tt))
-      (λ xs r. IsEnded (marks ++ gate ∷ status ∷ xs) r)
-      (sweep_over selection.kept (λ i _. remove_if_cancelled s i) tt) _
-      (always_itself (sweep_over selection.kept (λ i _. remove_if_cancelled s i) tt))
-      (λ sweeps u runs' wake asks_wake gives asks_gives. record {
-        marks = marks;
-        marked = number;
-        gate = gate;
-        status = status;
-        sweeps = sweeps;
-        wake = wake;
-        gives = gives;
-        parts = sym (append_assoc marks (gate ∷ status ∷ sweeps) (wake ∷ gives ∷ []));
-        runs_marks = runs;
-        asks_gate = asks_gate;
-        asks_status = asks_status;
-        runs_sweeps = runs';
-        asks_wake = asks_wake;
-        asks_gives = asks_gives;
-      })))
+below-weaker : (p q : ℕ → Bool) (n : ℕ) → ((i : ℕ) → p i ≡ true → q i ≡ true) → count_below n p ≤ count_below n q
+unfolding count_below
+below-weaker p q zero weaker = omega arith
+below-weaker p q (suc n) weaker = by_test (p n) refl (q n) refl (below-weaker p q n weaker)
+  where
+    by_test : (b : Bool) → p n ≡ b → (c : Bool) → q n ≡ c → count_below n p ≤ count_below n q
+        → count_below n p + (if b then 1 else 0) ≤ count_below n q + (if c then 1 else 0)
+    by_test true is true is' rest = omega (arith, rest)
+    by_test true is false is' rest = absurd (cc (sym (weaker n is) ∙ is'))
+    by_test false is c is' rest = omega (arith, rest)
 
-ended-parts : (selection : Selection) (poll : Poll) (acts : List Act) (answer : Selected)
-    → Tells selection poll acts (done answer) → Ended selection poll acts
-ended-parts selection poll acts answer run =
-    always_run (IsEnded selection poll) (told_plan selection poll.pairs poll.elapsed) acts (done answer)
-    (told-ended selection poll) run
+-- ---- going over the indexes
 
--- ---- the looks at which indexes are free
+module _ (s : SelNo) where
+  abbrev listed : List Act → ℕ → Bool
+  listed acts k = has (finds_listed s.0 k) acts
 
-module _ (s : SelNo) (bound : ℕ) where
-  list-length : Always (λ acts _. length acts ≡ words_below bound) (list_below s bound)
-  list-length =
-      always_sweep (λ j acts _. length acts ≡ j) (words_below bound) 0 (list_word s bound) [] (omega arith) refl
-      (λ j acts listed _ _ here look _. length-append acts (look ∷ []) ∙ ap (λ (n : ℕ). n + 1) here)
+  -- what more acts find
+  listed-more : (k : ℕ) (acts more : List Act) → count_below k (listed acts) ≤ count_below k (listed (acts ++ more))
+  listed-more k acts more =
+      below-weaker (listed acts) (listed (acts ++ more)) k
+      (λ i is. list_any-append (finds_listed s.0 i) acts more ∙ or_left _ _ is)
 
-  abbrev AreFound : List Act → List ℕ → Type 0
-  AreFound acts listed = All (λ k. has (finds_listed s.0 k) acts ≡ true) listed
+  listed-later : (k : ℕ) (earlier acts : List Act)
+      → count_below k (listed acts) ≤ count_below k (listed (earlier ++ acts))
+  listed-later k earlier acts =
+      below-weaker (listed acts) (listed (earlier ++ acts)) k
+      (λ i is. list_any-append (finds_listed s.0 i) earlier acts ∙ or_right _ _ is)
 
-  found-later : (acts later : List Act) (listed : List ℕ) → AreFound acts listed → AreFound (acts ++ later) listed
-  found-later acts later listed each =
-      All-weaker (λ k. has (finds_listed s.0 k) acts ≡ true) (λ k. has (finds_listed s.0 k) (acts ++ later) ≡ true)
-      (λ k here. list_any-append (finds_listed s.0 k) acts later ∙ or_left _ _ here) listed each
+  listed-one : (i : ℕ) (acts more : List Act) → listed acts i ≡ true
+      → count_below i (listed acts) + 1 ≤ count_below (i + 1) (listed (acts ++ more))
+  listed-one i acts more found =
+      let one = below-one (listed acts) i found in
+      let all = listed-more (i + 1) acts more in
+      omega (arith, one, all)
 
-  -- the listed ones of a word were found in it
-  word-found : (j word : ℕ) (n : ℕ) → n ≤ 64
-      → All (λ k. finds_listed s.0 k (LookFree s j word) ≡ true) (not_free word j bound n)
-  unfolding not_free
-  word-found j word zero fits = All-nil (λ k. finds_listed s.0 k (LookFree s j word) ≡ true)
-  word-found j word (suc n) fits =
-      by_test (nat_lt (64 * j + n) bound && not (has_bit word n)) refl (word-found j word n (omega arith))
-    where
-      by_test : (b : Bool) → (nat_lt (64 * j + n) bound && not (has_bit word n)) ≡ b
-          → All (λ k. finds_listed s.0 k (LookFree s j word) ≡ true) (not_free word j bound n)
-          → All (λ k. finds_listed s.0 k (LookFree s j word) ≡ true)
-          (if b then not_free word j bound n ++ (64 * j + n) ∷ [] else not_free word j bound n)
-      by_test false is rest = rest
-      by_test true is rest =
-          let clear = (and_parts (nat_lt (64 * j + n) bound) (not (has_bit word n)) is).1 in
-          let word_is : j ≡ (64 * j + n) / 64 = omega arith in
-          let bit_is : n ≡ (64 * j + n) % 64 = omega arith in
-          All-push (λ k. finds_listed s.0 k (LookFree s j word) ≡ true) (not_free word j bound n) (64 * j + n) rest
-          (and_from ((s.0 == s.0) && (j == (64 * j + n) / 64)) (not (has_bit word ((64 * j + n) % 64)))
-          (and_from (s.0 == s.0) (j == (64 * j + n) / 64) (eq-eqb s.0 s.0 refl) (eq-eqb j ((64 * j + n) / 64) word_is))
-          (ap (λ (b : ℕ). not (has_bit word b)) (sym bit_is) ∙ clear))
+  removes-length : (i : ℕ) (acts : List Act) → Removes s i acts → length acts ≤ 3
+  removes-length i acts turn = let all = ap length turn.parts in omega (arith, all, turn.is_put.few)
 
-  list-found : Always AreFound (list_below s bound)
-  list-found =
-      always_sweep (λ _ acts listed. AreFound acts listed) (words_below bound) 0 (list_word s bound) [] (omega arith)
-      (All-nil (λ k. has (finds_listed s.0 k) [] ≡ true))
-      (λ j acts listed _ _ here look asks.
-      let word = word_in (answer_of look) in
-      All-append (λ k. has (finds_listed s.0 k) (acts ++ look ∷ []) ≡ true) listed (not_free word j bound 64)
-      (found-later acts (look ∷ []) listed here)
-      (All-weaker (λ k. finds_listed s.0 k (LookFree s j word) ≡ true)
-      (λ k. has (finds_listed s.0 k) (acts ++ look ∷ []) ≡ true)
-      (λ k finds. list_any-append (finds_listed s.0 k) acts (look ∷ [])
-      ∙ or_right _ _ (or_left _ _ (ap (finds_listed s.0 k) (free-look s j look asks) ∙ finds)))
-      (not_free word j bound 64) (word-found j word 64 (omega arith))))
+  passes-length : (i : ℕ) (acts : List Act) → Passes s i acts → length acts ≤ 1
+  passes-length i acts turn = let all = ap length turn.parts in omega (arith, all)
 
--- ---- removals
+  -- with two acts to come at each looked key, at most four for each index that was found not free
+  abbrev Looks : ℕ → ℕ → List Act → List LookedKey → Type 0
+  Looks w k acts looked = length acts + 2 * length looked ≤ w + 4 * count_below k (listed acts)
+
+  looks-turns : (bound : ℕ) → Turns s bound (look_over s) Looks
+  looks-turns bound = record {
+    looks = λ j acts looked act asks here.
+        let more = listed-more (64 * j) acts (act ∷ []) in
+        let all = length-append acts (act ∷ []) in
+        omega (arith, here, more, all);
+    at = λ w i acts looked within found here. always_look s i (λ xs y. Looks w (i + 1) (acts ++ xs) y) looked
+        (λ xs turn.
+        let one = listed-one i acts xs found in
+        let all = length-append acts xs in
+        omega (arith, here, one, all, removes-length i xs turn))
+        (λ xs turn.
+        let one = listed-one i acts xs found in
+        let all = length-append acts xs in
+        let few = ap length turn.parts in
+        let entry = looked_key i (stage_in (answer_of turn.look)) (operations_in (answer_of turn.interest)) in
+        let more = length-append looked (entry ∷ []) in
+        omega (arith, here, one, all, few, more))
+        (λ xs turn.
+        let one = listed-one i acts xs found in
+        let all = length-append acts xs in
+        omega (arith, here, one, all, passes-length i xs turn));
+    passes = λ w j b word acts looked low there bit here.
+        let more = below-more (listed acts) (64 * j + b) in
+        omega (arith, here, more);
+  }
+
+  looks_bounded : (bound : ℕ) (over : List Act) (looked : List LookedKey)
+      → Completes (over_listed s bound (look_over s) []) over looked → Looks (words_below bound) bound over looked
+  looks_bounded bound over looked run =
+      always_run (Looks (words_below bound) bound) (over_listed s bound (look_over s) []) over looked
+      (always_listed s bound (look_over s) Looks (looks-turns bound) [] (omega arith)) run
+
+  -- and at the end at most three
+  abbrev Sweeps : ℕ → ℕ → List Act → Unit {0} → Type 0
+  Sweeps w k acts u = length acts ≤ w + 3 * count_below k (listed acts)
+
+  sweeps-turns : (mark : ℕ) → Turns s mark (λ i _. remove_if_cancelled s i) Sweeps
+  sweeps-turns mark = record {
+    looks = λ j acts u act asks here.
+        let more = listed-more (64 * j) acts (act ∷ []) in
+        let all = length-append acts (act ∷ []) in
+        omega (arith, here, more, all);
+    at = λ w i acts u within found here. always_remove s i (λ xs. Sweeps w (i + 1) (acts ++ xs) tt)
+        (λ xs turn.
+        let one = listed-one i acts xs found in
+        let all = length-append acts xs in
+        omega (arith, here, one, all, removes-length i xs turn))
+        (λ xs turn.
+        let one = listed-one i acts xs found in
+        let all = length-append acts xs in
+        omega (arith, here, one, all, passes-length i xs turn));
+    passes = λ w j b word acts u low there bit here.
+        let more = below-more (listed acts) (64 * j + b) in
+        omega (arith, here, more);
+  }
+
+  sweeps_bounded : (mark : ℕ) (sweeps : List Act)
+      → Completes (over_listed s mark (λ i _. remove_if_cancelled s i) tt) sweeps tt
+      → Sweeps (words_below mark) mark sweeps tt
+  sweeps_bounded mark sweeps run =
+      always_run (Sweeps (words_below mark) mark) (over_listed s mark (λ i _. remove_if_cancelled s i) tt) sweeps tt
+      (always_listed s mark (λ i _. remove_if_cancelled s i) Sweeps (sweeps-turns mark) tt (omega arith)) run
+
+-- ---- the marks of one key
+
+-- at most two acts, or three where the first mark failed, just after the look at the mark
+data Marks (s : SelNo) (i : ℕ) (acts : List Act) : Type 0 where
+  is_marked : length acts ≤ 2 → Marks s i acts
+  is_failed : (was : KeyMark) (told : ℕ) (stands : KeyMark) (second : Act)
+      → acts ≡ LookMark s i was ∷ Mark s i was told (Err stands) ∷ second ∷ [] → Marks s i acts
+
+module _ (s : SelNo) (i : ℕ) where
+  mark-look : (act : Act) → question_of act ≡ Question.look_mark s i → act ≡ LookMark s i (mark_in (answer_of act))
+  mark-look (LookMark s' i' found) asks = cc asks
+  mark-look _ asks = absurd (cc asks)
+
+  failed-mark : (act : Act) (from : KeyMark) (told : ℕ) (stands : KeyMark)
+      → question_of act ≡ Question.mark s i from told → exchange_in (answer_of act) ≡ Err stands
+      → act ≡ Mark s i from told (Err stands)
+  failed-mark (Mark s' i' from' told' found) from told stands asks is = cc
+  failed-mark _ from told stands asks is = absurd (cc asks)
+
+  again-marks : (look act : Act) (told : ℕ) (was : KeyMark) → look ≡ LookMark s i was
+      → question_of act ≡ Question.mark s i was told → (found : Result (Unit {0}) KeyMark)
+      → exchange_in (answer_of act) ≡ found
+      → Always (λ xs _. Marks s i (look ∷ act ∷ xs)) (mark_again s i told found)
+  again-marks look act told was looks asks (Ok u) is = is_marked (omega arith)
+  again-marks look act told was looks asks (Err stands) is = λ second _.
+      is_failed was told stands second
+      (ap (λ x. x ∷ act ∷ second ∷ []) looks
+      ∙ ap (λ x. LookMark s i was ∷ x ∷ second ∷ []) (failed-mark act was told stands asks is))
+
+  told-marks : (told : ℕ) → Always (λ xs _. Marks s i xs) (mark_told s i told)
+  told-marks told =
+      always_if (λ xs _. Marks s i xs) (told == 0) (reply 0) (mark_looked s i told) (λ _. is_marked (omega arith))
+      (λ _ look asks.
+      always_if (λ xs _. Marks s i (look ∷ xs)) (gains_nothing (mark_in (answer_of look)) told) (reply 0)
+      (mark s i (mark_in (answer_of look)) told >>= mark_again s i told)
+      (λ _. is_marked (omega arith))
+      (λ _ act asks'. again-marks look act told (mark_in (answer_of look)) (mark-look look asks) asks'
+      (exchange_in (answer_of act)) refl))
+
+entry-marks : (s : SelNo) (pairs : List (ℕ × ℕ)) (entry : LookedKey) (before : ℕ)
+    → Always (λ xs _. Marks s entry.index xs) (mark_entry s pairs entry before)
+entry-marks s pairs entry before =
+    let told = told_bits pairs entry in
+    always_bind (λ xs _. Marks s entry.index xs) (λ xs _. Marks s entry.index xs) (mark_told s entry.index told)
+    (λ marked. reply (before + marked)) (told-marks s entry.index told)
+    (λ xs marked here. subst (Marks s entry.index) (sym (append-nil xs)) here)
+
+entry-removes_none : (s : SelNo) (pairs : List (ℕ × ℕ)) (entry : LookedKey) (before after : ℕ) (acts : List Act)
+    → Completes (mark_entry s pairs entry before) acts after → (i : ℕ) → has (removes s.0 i) acts ≡ false
+entry-removes_none s pairs entry before after acts run i =
+    removes_none s.0 i acts (no_removes s.0 acts (each_run (NoRemove s.0) (λ _. ⊤) (mark_entry s pairs entry before)
+    acts after (each_entry (NoRemove s.0) s pairs entry before (record { looks = refl; marks = λ _ _. refl })) run).0)
+
+-- ---- the marks of a selection
+
+acts_in : List Event → List Act
+acts_in events = map (λ e. e.act) events
+
+count-parts : (p : Act → Bool) (events xs ys : List Event) → events ≡ xs ++ ys
+    → count p (acts_in events) ≡ count p (acts_in xs) + count p (acts_in ys)
+unfolding acts_in
+count-parts p events xs ys parts =
+    ap (λ es. count p (acts_in es)) parts
+    ∙ (ap (count p) (map-append (λ e. e.act) xs ys) ∙ count-append p (acts_in xs) (acts_in ys))
+
+module _ (l : Limits) (n : CallerNo) (past window : List Event) (s : SelNo) (found : GateWord) (fit : IsFit l)
+    (legal : IsLegal l ((past ++ event_of n (BeginLook s found) ∷ []) ++ window))
+    (opens : found.shut ≡ false) (none_gives : has (gives_turn s.0) (mine n window) ≡ false) (bound : ℕ)
+    (pairs : List (ℕ × ℕ)) where
+  -- the entry of a key that was found valid, and wasn't removed in these events
+  abbrev IsValid : List Event → LookedKey → Type 0
+  IsValid events entry = FoundValid s (mine n events) entry × (entry.index < bound)
+
+  one_marked : (entry : LookedKey) (w0 w1 w2 : List Event) (acts : List Act) → window ≡ w0 ++ (w1 ++ w2)
+      → mine n w1 ≡ acts → IsValid w0 entry → Marks s entry.index acts
+      → length acts ≤ 2 + count (unselects s.0 bound) (acts_in w1)
+  unfolding acts_in
+  one_marked entry w0 w1 w2 acts parts own valid (is_marked few) = omega (arith, few)
+  one_marked entry w0 w1 w2 acts parts own valid (is_failed was told stands second is) =
+      let i = entry.index in
+      let first = cut_at n w1 [] (LookMark s i was) (Mark s i was told (Err stands) ∷ second ∷ []) (own ∙ is) in
+      let next = cut_at n first.later [] (Mark s i was told (Err stands)) (second ∷ []) first.mine_later in
+      let e1 = event_of n (LookMark s i was) in
+      let e2 = event_of n (Mark s i was told (Err stands)) in
+      let w1_is : w1 ≡ first.past ++ e1 ∷ (next.past ++ e2 ∷ next.later) = first.parts
+      ∙ ap (λ es. first.past ++ e1 ∷ es) next.parts in
+      let at : window ≡ (w0 ++ first.past) ++ e1 ∷ (next.past ++ e2 ∷ (next.later ++ w2))
+      = parts ∙ (ap (λ es. w0 ++ (es ++ w2)) w1_is ∙ simp append_assoc) in
+      let here : FoundValid s (mine n (w0 ++ first.past)) entry
+      = subst (λ xs. FoundValid s xs entry)
+      (sym (mine-append n w0 first.past ∙ (ap (λ xs. mine n w0 ++ xs) first.mine_past ∙ append-nil (mine n w0))))
+      valid.0 in
+      let one = unselected_meanwhile l n past window s found fit legal opens none_gives entry bound (w0 ++ first.past)
+      next.past (next.later ++ w2) was stands told at next.mine_past here valid.1 in
+      let all = count-parts (unselects s.0 bound) w1 first.past (e1 ∷ (next.past ++ e2 ∷ next.later)) w1_is in
+      let rest = count-parts (unselects s.0 bound) (e1 ∷ (next.past ++ e2 ∷ next.later)) (e1 ∷ [])
+      (next.past ++ e2 ∷ next.later) refl in
+      let last = count-parts (unselects s.0 bound) (next.past ++ e2 ∷ next.later) next.past (e2 ∷ next.later) refl in
+      let three = ap length is in
+      omega (arith, one, all, rest, last, three)
+
+  marks_bounded : (entries : List LookedKey) (before after : ℕ) (w0 w1 : List Event) (acts rest : List Act)
+      → window ≡ w0 ++ w1 → mine n w1 ≡ acts ++ rest
+      → Completes (sweep_over entries (mark_entry s pairs) before) acts after → All (IsValid w0) entries
+      → length acts ≤ 2 * length entries + count (unselects s.0 bound) (acts_in w1)
+  unfolding sweep_over
+  marks_bounded [] before after w0 w1 [] rest parts own run each = omega arith
+  marks_bounded [] before after w0 w1 (act ∷ acts) rest parts own run each = absurd run
+  marks_bounded (entry ∷ entries) before after w0 w1 acts rest parts own run each =
+      let parted = split (mark_entry s pairs entry before) (λ y. sweep_over entries (mark_entry s pairs) y) acts after
+      run in
+      let cut = part_at n w1 parted.first (parted.second ++ rest)
+      (own ∙ (ap (λ xs. xs ++ rest) parted.parts ∙ append_assoc parted.first parted.second rest)) in
+      let here = one_marked entry w0 cut.past cut.later parted.first (parts ∙ ap (λ es. w0 ++ es) cut.parts)
+      cut.mine_past (All-head (IsValid w0) entry entries each)
+      (always_run (λ xs _. Marks s entry.index xs) (mark_entry s pairs entry before) parted.first parted.middle
+      (entry-marks s pairs entry before) parted.runs_first) in
+      let mine_is : mine n (w0 ++ cut.past) ≡ mine n w0 ++ parted.first = mine-append n w0 cut.past
+      ∙ ap (λ xs. mine n w0 ++ xs) cut.mine_past in
+      let later = marks_bounded entries parted.middle after (w0 ++ cut.past) cut.later parted.second rest
+      (parts ∙ (ap (λ es. w0 ++ es) cut.parts ∙ sym (append_assoc w0 cut.past cut.later))) cut.mine_later
+      parted.runs_second
+      (All-weaker (IsValid w0) (IsValid (w0 ++ cut.past))
+      (λ x valid. (
+        subst (λ xs. FoundValid s xs x) (sym mine_is) (found_valid-more s (mine n w0) parted.first x
+            (entry-removes_none s pairs entry before parted.middle parted.first parted.runs_first x.index) valid.0),
+        valid.1,
+      )) entries (All-tail (IsValid w0) entry entries each)) in
+      let all = ap length parted.parts ∙ length-append parted.first parted.second in
+      let counted = count-parts (unselects s.0 bound) w1 cut.past cut.later cut.parts in
+      omega (arith, here, later, all, counted)
 
 -- ---- a whole selection
 
@@ -194,392 +317,116 @@ abbrev asks_begin : Question → Bool
 asks_begin (Question.begin_look s) = true
 asks_begin _ = false
 
-abbrev asks_end : Question → Bool
-asks_end (Question.end_wake s) = true
-asks_end _ = false
-
-module _ (selection : Selection) (poll : Poll) (answer : Selected) (found woken : GateWord)
+module _ (selection : Selection) (poll : Poll) (answer : Selected) (found : GateWord) (mark_then : ℕ)
     (first second between third fourth : List Act)
-    (whole : IsWhole selection poll answer found woken first second between third fourth) where
+    (whole : IsWholeSelection selection poll answer found mark_then first second between third fourth) where
   abbrev s : SelNo
   s = selection.selector
 
-  abbrev beginning : List Act
-  beginning = first ++ BeginLook s found ∷ second
+  abbrev bound : ℕ
+  bound = selection.bound
 
-  abbrev telling : List Act
-  telling = third ++ EndWake s woken ∷ fourth
+  begun : Begun s selection.mode (first ++ BeginLook s found ∷ second) selection
+  begun = begin-parts s selection.mode (first ++ BeginLook s found ∷ second) selection whole.begins
 
-  begun : Begun s selection.mode beginning selection
-  begun = begin-parts s selection.mode beginning selection whole.begins
+  told : CutAtKeys selection poll third mark_then fourth
+  told = cut_at_keys selection poll third mark_then fourth answer whole.tells
 
-  ended : Ended selection poll telling
-  ended = ended-parts selection poll telling answer whole.tells
-
-  -- of each part: nothing of it is such an act
-  module _ (Asks : Question → Type 0) (at : (i : ℕ) → AsksAt Asks s i) (marks : (i : ℕ) → AsksMark Asks s i) where
-    of_lists : ((j : ℕ) → Asks (Question.look_free s j)) → All (λ act. Asks (question_of act)) begun.lists
-    of_lists frees =
-        (each_run Asks (λ _. ⊤) (list_below s selection.bound) begun.lists begun.listed
-        (each_list Asks s selection.bound frees) begun.runs_lists).0
-
-    of_over : All (λ act. Asks (question_of act)) begun.over
-    of_over = (each_run Asks (λ _. ⊤) (sweep_over begun.listed (look_over s) none_yet) begun.over _
-        (each_over Asks (λ _. ⊤) (λ _. ⊤) begun.listed (look_over s) none_yet (λ k d _. tt) tt
-        (λ i over _ _. each_look Asks s i (at i) (λ _. ⊤) over (goes_any i over))) begun.runs_over).0
-
-    of_marks : All (λ act. Asks (question_of act)) ended.marks
-    of_marks =
-        (each_run Asks (λ _. ⊤) (sweep_over selection.looked (mark_entry s poll.pairs) 0) ended.marks ended.marked
-        (each_marks Asks s poll.pairs selection.looked (λ k d _. marks _)) ended.runs_marks).0
-
-    of_sweeps : All (λ act. Asks (question_of act)) ended.sweeps
-    of_sweeps = (each_run Asks (λ _. ⊤) (sweep_over selection.kept (λ i _. remove_if_cancelled s i) tt) ended.sweeps tt
-        (each_over Asks (λ _. ⊤) (λ _. ⊤) selection.kept (λ i _. remove_if_cancelled s i) tt (λ k d _. tt) tt
-        (λ i _ _ _. each_remove_if_cancelled Asks s i (at i))) ended.runs_sweeps).0
-
-  -- where the two calls are cut
-  first_cut : (first ≡ begun.gate ∷ begun.take ∷ []) × (BeginLook s found ≡ begun.look)
-      × (second ≡ begun.keys ∷ (begun.lists ++ begun.over))
-  first_cut =
-      let none = λ (act : Act). asks_begin (question_of act) ≡ false in
+  -- where the beginning is cut
+  begin_cut : (first ≡ begun.gate ∷ begun.take ∷ []) × (BeginLook s found ≡ begun.look)
+      × (second ≡ begun.keys ∷ begun.over)
+  begin_cut =
+      let NoBegin = λ (q : Question). asks_begin q ≡ false in
+      let none = λ (act : Act). NoBegin (question_of act) in
       only_place (λ act. asks_begin (question_of act)) first (BeginLook s found) second
-      (begun.gate ∷ begun.take ∷ []) begun.look (begun.keys ∷ (begun.lists ++ begun.over)) refl
+      (begun.gate ∷ begun.take ∷ []) begun.look (begun.keys ∷ begun.over) refl
       (All-cons none begun.gate (begun.take ∷ []) (ap asks_begin begun.asks_gate)
       (All-cons none begun.take [] (ap asks_begin begun.asks_take) (All-nil none)))
-      (All-cons none begun.keys (begun.lists ++ begun.over) (ap asks_begin begun.asks_keys)
-      (All-append none begun.lists begun.over
-      (of_lists (λ q. asks_begin q ≡ false)
-      (λ i. record { looks = refl; looks_interest = refl; removes = refl; puts = refl })
-      (λ i. record { looks = refl; marks = λ _ _. refl }) (λ _. refl))
-      (of_over (λ q. asks_begin q ≡ false)
-      (λ i. record { looks = refl; looks_interest = refl; removes = refl; puts = refl })
-      (λ i. record { looks = refl; marks = λ _ _. refl }))))
+      (All-cons none begun.keys begun.over (ap asks_begin begun.asks_keys)
+      (each_run NoBegin (λ _. ⊤) (over_listed s bound (look_over s) []) begun.over selection.looked
+      (each_over_looked NoBegin s bound
+      (record {
+        frees = λ _. refl;
+        at = λ _. record { looks = refl; looks_interest = refl; removes = refl; puts = refl };
+      })) begun.runs_over).0)
       begun.parts
 
-  abbrev before_wake : List Act
-  before_wake = ended.marks ++ ended.gate ∷ ended.status ∷ ended.sweeps
-
-  second_cut : (third ≡ before_wake) × (EndWake s woken ≡ ended.wake) × (fourth ≡ ended.gives ∷ [])
-  second_cut =
-      let none = λ (act : Act). asks_end (question_of act) ≡ false in
-      only_place (λ act. asks_end (question_of act)) third (EndWake s woken) fourth before_wake ended.wake
-      (ended.gives ∷ []) refl
-      (All-append none ended.marks (ended.gate ∷ ended.status ∷ ended.sweeps)
-      (of_marks (λ q. asks_end q ≡ false)
-      (λ i. record { looks = refl; looks_interest = refl; removes = refl; puts = refl })
-      (λ i. record { looks = refl; marks = λ _ _. refl }))
-      (All-cons none ended.gate (ended.status ∷ ended.sweeps) (ap asks_end ended.asks_gate)
-      (All-cons none ended.status ended.sweeps (ap asks_end ended.asks_status)
-      (of_sweeps (λ q. asks_end q ≡ false)
-      (λ i. record { looks = refl; looks_interest = refl; removes = refl; puts = refl })
-      (λ i. record { looks = refl; marks = λ _ _. refl })))))
-      (All-cons none ended.gives [] (ap asks_end ended.asks_gives) (All-nil none))
-      ended.parts
-
   opens : found.shut ≡ false
-  opens = ap (λ act. (gate_in (answer_of act)).shut) first_cut.1 ∙ begun.opens
+  opens = ap (λ act. (gate_in (answer_of act)).shut) begin_cut.1 ∙ begun.opens
 
-  lengths : length beginning + length telling ≡ 8 + words_below selection.bound
-      + ((length begun.over + length ended.marks) + length ended.sweeps)
+  lengths : length (first ++ BeginLook s found ∷ second) + length (third ++ LookKeys s mark_then ∷ fourth)
+      ≡ 9 + length begun.over + length told.ended.marks + length told.ended.sweeps
   lengths =
       let one = ap length begun.parts in
-      let two = ap length ended.parts in
-      let lists = always_run (λ acts _. length acts ≡ words_below selection.bound)
-      (list_below s selection.bound) begun.lists begun.listed (list-length s selection.bound) begun.runs_lists in
-      let a = length-append begun.lists begun.over in
-      let b = length-append before_wake (ended.wake ∷ ended.gives ∷ []) in
-      let c = length-append ended.marks (ended.gate ∷ ended.status ∷ ended.sweeps) in
-      omega (arith, one, two, lists, a, b, c)
-
-  -- ---- at each listed index
-
-  abbrev At_i : ℕ → List Act → ℕ
-  At_i i acts = count (acts_at s.0 i) acts
+      let two = length-append third (LookKeys s mark_then ∷ fourth) in
+      let three = ap length told.before ∙ length-append told.ended.marks (told.ended.gate ∷ told.ended.status ∷ []) in
+      let four = ap length told.after ∙ length-append told.ended.sweeps (told.ended.wake ∷ told.ended.gives ∷ []) in
+      omega (arith, one, two, three, four)
 
   order : IsInOrder selection
-  order = lists_in_order s selection.mode beginning selection whole.begins
+  order = looks_in_order s selection.mode (first ++ BeginLook s found ∷ second) selection whole.begins
 
-  listed_is : IsListed selection.bound (words_below selection.bound) begun.listed
-  listed_is =
-      (each_run (λ _. ⊤) (IsListed selection.bound (words_below selection.bound))
-      (list_below s selection.bound) begun.lists begun.listed (list-rises s selection.bound) begun.runs_lists).1
+  -- each looked key was found valid before the caller tells
+  looked_valid : All (λ entry. FoundValid s (second ++ between) entry × (entry.index < bound)) selection.looked
+  looked_valid =
+      All-weaker (Contains selection.looked) (λ entry. FoundValid s (second ++ between) entry × (entry.index < bound))
+      (λ entry there. (
+        found_valid-more s second between entry (removes_none s.0 entry.index between whole.unremoved)
+            (subst (λ xs. FoundValid s xs entry) (sym begin_cut.2)
+            (found_valid-after s (begun.keys ∷ []) begun.over entry
+            (found_valid s bound begun.over selection.looked entry begun.runs_over there))),
+        All-contains (λ x. x.index < bound) selection.looked entry order.below there,
+      )) selection.looked (All-contains_itself selection.looked)
 
-  kept_listed : All (Contains begun.listed) selection.kept
-  kept_listed =
-      (each_run (λ _. ⊤) (Rises begun.listed) (sweep_over begun.listed (look_over s) none_yet) begun.over _
-      (over-rises s begun.listed listed_is.0.rising) begun.runs_over).1.of_past
-
-  abbrev Among : Question → Type 0
-  Among q = (k : ℕ) × Contains begun.listed k × (asks_at s.0 k q ≡ true)
-
-  at_among : (i : ℕ) → Contains begun.listed i → AsksAt Among s i
-  at_among i there =
-      record {
-        looks = (i, there, same_two s.0 i);
-        looks_interest = (i, there, same_two s.0 i);
-        removes = (i, there, same_two s.0 i);
-        puts = (i, there, same_two s.0 i);
-      }
-
-  is_among : (acts : List Act) → All (λ act. Among (question_of act)) acts → All (IsAmong s begun.listed) acts
-  is_among acts each =
-      All-weaker (λ act. Among (question_of act)) (IsAmong s begun.listed)
-      (λ act is. record { index = is.0; there = is.1; is = is.2 }) acts each
-
-  over_among : length begun.over ≤ total (λ i. At_i i begun.over) begun.listed
-  over_among =
-      length-among s begun.listed begun.over
-      (is_among begun.over (each_run Among (λ _. ⊤) (sweep_over begun.listed (look_over s) none_yet) begun.over _
-      (each_over Among (Contains begun.listed) (λ _. ⊤) begun.listed (look_over s) none_yet
-      (All-contains_itself begun.listed) tt
-      (λ i over there _. each_look Among s i (at_among i there) (λ _. ⊤) over (goes_any i over))) begun.runs_over).0)
-
-  marks_among : length ended.marks ≤ total (λ i. At_i i ended.marks) begun.listed
-  marks_among =
-      length-among s begun.listed ended.marks
-      (is_among ended.marks
-      (each_run Among (λ _. ⊤) (sweep_over selection.looked (mark_entry s poll.pairs) 0) ended.marks
-      ended.marked
-      (each_marks Among s poll.pairs selection.looked
-      (All-weaker (λ entry. Contains selection.kept entry.index) (λ entry. AsksMark Among s entry.index)
-      (λ entry there.
-      let in_list = All-contains (Contains begun.listed) selection.kept entry.index kept_listed there in
-      record {
-        looks = (entry.index, in_list, same_two s.0 entry.index);
-        marks = λ _ _. (entry.index, in_list, same_two s.0 entry.index);
-      })
-      selection.looked order.kept)) ended.runs_marks).0)
-
-  sweeps_among : length ended.sweeps ≤ total (λ i. At_i i ended.sweeps) begun.listed
-  sweeps_among =
-      length-among s begun.listed ended.sweeps
-      (is_among ended.sweeps
-      (each_run Among (λ _. ⊤) (sweep_over selection.kept (λ i _. remove_if_cancelled s i) tt) ended.sweeps tt
-      (each_over Among (Contains begun.listed) (λ _. ⊤) selection.kept (λ i _. remove_if_cancelled s i) tt kept_listed
-      tt (λ i _ there _. each_remove_if_cancelled Among s i (at_among i there))) ended.runs_sweeps).0)
-
-  -- as many as are listed were found not free
-  found_listed : length begun.listed ≤ count_below selection.bound (λ k. has (finds_listed s.0 k) second)
-  found_listed =
-      let p = λ (k : ℕ). has (finds_listed s.0 k) second in
-      let each = always_run (AreFound s selection.bound) (list_below s selection.bound) begun.lists begun.listed
-      (list-found s selection.bound) begun.runs_lists in
-      let passes : All (λ k. p k ≡ true) begun.listed =
-      All-weaker (λ k. has (finds_listed s.0 k) begun.lists ≡ true) (λ k. p k ≡ true)
-      (λ k here. ap (has (finds_listed s.0 k)) first_cut.2
-      ∙ or_right (finds_listed s.0 k begun.keys) _
-      (list_any-append (finds_listed s.0 k) begun.lists begun.over ∙ or_left _ _ here))
-      begun.listed each in
-      let within : All (λ i. (0 ≤ i) × (i < selection.bound)) begun.listed = All-weaker (λ i. i < selection.bound)
-      (λ i. (0 ≤ i) × (i < selection.bound)) (λ i low. (omega arith, low)) begun.listed listed_is.1 in
-      let as_many = rising-count p 0 selection.bound begun.listed listed_is.0.rising within passes (omega arith) in
-      omega (arith, as_many)
-
-  -- ---- in a legal history
+  keeps : has (gives_turn s.0) (second ++ (between ++ third)) ≡ false
+  keeps =
+      let g = gives_turn s.0 in
+      let over = over-keeps s bound begun.over selection.looked begun.runs_over in
+      let of_second : has g second ≡ false = ap (has g) begin_cut.2
+      ∙ or_from _ _ (not-gives s.0 begun.keys (ap (asks_give s.0) begun.asks_keys)) over in
+      let marks = marks-no_give s poll.pairs selection.looked told.ended.marks told.ended.marked
+      told.ended.runs_marks in
+      let of_third : has g third ≡ false = ap (has g) told.before
+      ∙ (list_any-append g told.ended.marks (told.ended.gate ∷ told.ended.status ∷ [])
+      ∙ or_from _ _ marks
+      (or_from _ _ (not-gives s.0 told.ended.gate (ap (asks_give s.0) told.ended.asks_gate))
+      (or_from _ _ (not-gives s.0 told.ended.status (ap (asks_give s.0) told.ended.asks_status)) refl))) in
+      list_any-append g second (between ++ third)
+      ∙ or_from _ _ of_second (list_any-append g between third ∙ or_from _ _ whole.kept of_third)
 
   module _ (l : Limits) (n : CallerNo) (past window rest : List Event) (fit : IsFit l)
-      (legal : IsLegal l (past ++ event_of n (BeginLook s found) ∷ (window ++ event_of n (EndWake s woken) ∷ rest)))
+      (legal : IsLegal l
+      (past ++ event_of n (BeginLook s found) ∷ (window ++ event_of n (LookKeys s mark_then) ∷ rest)))
       (own : mine n window ≡ second ++ (between ++ third)) where
-    abbrev done_in : List Act
-    done_in = map (λ e. e.act) window
-
-    -- what the caller did in the window, part by part
-    own_parts : mine n window ≡ (begun.keys ∷ (begun.lists ++ begun.over)) ++ (between ++ before_wake)
-    own_parts =
-        own ∙ (ap (λ xs. xs ++ (between ++ third)) first_cut.2
-        ∙ ap (λ xs. (begun.keys ∷ (begun.lists ++ begun.over)) ++ (between ++ xs)) second_cut.0)
-
-    none_gives : has (gives_turn s.0) (mine n window) ≡ false
-    none_gives =
-        let g = gives_turn s.0 in
-        let at : (i : ℕ)
-        → AsksAt (NoGive s.0) s i = λ i. record {
-          looks = refl;
-          looks_interest = refl;
-          removes = refl;
-          puts = refl;
-        } in
-        let marks : (i : ℕ) → AsksMark (NoGive s.0) s i = λ i. record { looks = refl; marks = λ _ _. refl } in
-        let lists = no_gives s.0 begun.lists (of_lists (NoGive s.0) at marks (λ _. refl)) in
-        let over = no_gives s.0 begun.over (of_over (NoGive s.0) at marks) in
-        let marked = no_gives s.0 ended.marks (of_marks (NoGive s.0) at marks) in
-        let swept = no_gives s.0 ended.sweeps (of_sweeps (NoGive s.0) at marks) in
-        let tail = or_from _ _ (not-gives s.0 ended.gate (ap (asks_give s.0) ended.asks_gate))
-        (or_from _ _ (not-gives s.0 ended.status (ap (asks_give s.0) ended.asks_status)) swept) in
-        let last_none = list_any-append g ended.marks (ended.gate ∷ ended.status ∷ ended.sweeps)
-        ∙ or_from _ _ marked tail in
-        let first_none = or_from _ _ (not-gives s.0 begun.keys (ap (asks_give s.0) begun.asks_keys))
-        (list_any-append g begun.lists begun.over ∙ or_from _ _ lists over) in
-        ap (has g) own_parts ∙ (list_any-append g (begun.keys ∷ (begun.lists ++ begun.over)) (between ++ before_wake)
-        ∙ or_from _ _ first_none (list_any-append g between before_wake ∙ or_from _ _ whole.kept last_none))
-
-    -- an index whose key was found valid, and then cancelled
-    cancelled_in : (i : ℕ) → FoundValid s i begun.over → FoundCancelled s i ended.sweeps
-        → 1 ≤ count (cancels_at s.0 i) done_in
-    cancelled_in i valid cancelled =
-        let before = begun.keys ∷ (begun.lists ++ valid.before) in
-        let middle = valid.later ++ (between ++ (ended.marks ++ ended.gate ∷ ended.status ∷ cancelled.before)) in
-        let at : mine n window ≡ before ++ LookKey s i valid.stage
-        ∷ (middle ++ LookKey s i cancelled.stage ∷ cancelled.later)
-        = own_parts
-        ∙ (ap (λ xs. (begun.keys ∷ (begun.lists ++ xs)) ++ (between ++ before_wake)) valid.parts
-        ∙ (ap (λ xs. (begun.keys ∷ (begun.lists ++ (valid.before ++ LookKey s i valid.stage ∷ valid.later)))
-        ++ (between ++ (ended.marks ++ ended.gate ∷ ended.status ∷ xs))) cancelled.parts
-        ∙ simp append_assoc)) in
-        cancelled_meanwhile l n past window rest s found woken fit legal opens none_gives i before middle
-        cancelled.later valid.stage cancelled.stage at valid.valid cancelled.cancelled
-
-    -- an index whose key was found valid, and whose mark changed before it was marked
-    unselected_in : (i : ℕ) → FoundValid s i begun.over → FoundChanged s i ended.marks
-        → 1 ≤ count (unselects_at s.0 i) done_in
-    unselected_in i valid changed =
-        let before = begun.keys ∷ (begun.lists ++ valid.before) in
-        let middle = valid.later ++ (between ++ changed.before) in
-        let after = changed.later ++ ended.gate ∷ ended.status ∷ ended.sweeps in
-        let at : mine n window ≡ before ++ LookKey s i valid.stage
-        ∷ (middle ++ LookMark s i changed.was ∷ Mark s i changed.was changed.told (Err changed.stands) ∷ after)
-        = own_parts
-        ∙ (ap (λ xs. (begun.keys ∷ (begun.lists ++ xs)) ++ (between ++ before_wake)) valid.parts
-        ∙ (ap (λ xs. (begun.keys ∷ (begun.lists ++ (valid.before ++ LookKey s i valid.stage ∷ valid.later)))
-        ++ (between ++ (xs ++ ended.gate ∷ ended.status ∷ ended.sweeps))) changed.parts
-        ∙ simp append_assoc)) in
-        let marks_none : has (removes s.0 i) ended.marks ≡ false = removes_none s.0 i ended.marks
-        (marks-no_remove s poll.pairs selection.looked ended.marks ended.marked ended.runs_marks) in
-        let first_marks : has (removes s.0 i) changed.before ≡ false
-        = (has_none-append (removes s.0 i) changed.before _ (ap (has (removes s.0 i)) (sym changed.parts) ∙ marks_none)).0 in
-        let between_none : has (removes s.0 i) between ≡ false = removes_none s.0 i between whole.unremoved in
-        let spared : has (removes s.0 i) middle ≡ false
-        = list_any-append (removes s.0 i) valid.later (between ++ changed.before)
-        ∙ or_from _ _ valid.spared
-        (list_any-append (removes s.0 i) between changed.before ∙ or_from _ _ between_none first_marks) in
-        unselected_meanwhile l n past window rest s found woken fit legal opens none_gives i before middle after
-        valid.stage changed.was changed.stands changed.told at valid.valid spared
-
-    abbrev disturbs_at : ℕ → ℕ
-    disturbs_at i = count (cancels_at s.0 i) done_in + count (unselects_at s.0 i) done_in
-
-    -- an index that isn't looked at, or isn't kept, has no acts there
-    unmarked_in : (i : ℕ) → All (λ entry. entry.index ≡ i → ⊥) selection.looked → At_i i ended.marks ≡ 0
-    unmarked_in i none =
-        by_visit (always_run (OneVisit (λ entry. entry.index) i (Unmarked s i) (Marked s i) selection.looked)
-        (sweep_over selection.looked (mark_entry s poll.pairs) 0) ended.marks ended.marked
-        (marks-visits s i poll.pairs selection.looked order.looked_rise) ended.runs_marks)
-      where
-        by_visit : OneVisit (λ entry. entry.index) i (Unmarked s i) (Marked s i) selection.looked ended.marks
-            ended.marked → At_i i ended.marks ≡ 0
-        by_visit (inl unvisited) = unvisited.1
-        by_visit (inr visited) =
-            absurd (All-contains (λ entry. entry.index ≡ i → ⊥) selection.looked visited.at none visited.there
-            visited.is)
-
-    swept_in : (i : ℕ) → OneVisit (λ k. k) i (Unswept s i) (Swept s i) selection.kept ended.sweeps tt
-    swept_in i =
-        always_run (OneVisit (λ k. k) i (Unswept s i) (Swept s i) selection.kept)
-        (sweep_over selection.kept (λ k _. remove_if_cancelled s k) tt) ended.sweeps tt
-        (sweeps-visits s i selection.kept order.kept_rise) ended.runs_sweeps
-
-    marked_in : (i : ℕ) → FoundValid s i begun.over → At_i i ended.marks ≤ 2 + count (unselects_at s.0 i) done_in
-    marked_in i valid =
-        by_visit (always_run (OneVisit (λ entry. entry.index) i (Unmarked s i) (Marked s i) selection.looked)
-        (sweep_over selection.looked (mark_entry s poll.pairs) 0) ended.marks ended.marked
-        (marks-visits s i poll.pairs selection.looked order.looked_rise) ended.runs_marks)
-      where
-        by_marked : Marked s i ended.marks ended.marked → At_i i ended.marks ≤ 2 + count (unselects_at s.0 i) done_in
-        by_marked (is_marked fits) = omega (arith, fits)
-        by_marked (is_failed fits changed) = omega (arith, fits, unselected_in i valid changed)
-
-        by_visit : OneVisit (λ entry. entry.index) i (Unmarked s i) (Marked s i) selection.looked ended.marks
-            ended.marked → At_i i ended.marks ≤ 2 + count (unselects_at s.0 i) done_in
-        by_visit (inl unvisited) = omega (arith, unvisited.1)
-        by_visit (inr visited) = by_marked visited.after
-
-    -- at most three acts at its end; two, and one where it was cancelled
-    swept_any : (i : ℕ) → At_i i ended.sweeps ≤ 3
-    swept_any i = by_visit (swept_in i)
-      where
-        by_swept : Swept s i ended.sweeps tt → At_i i ended.sweeps ≤ 3
-        by_swept (is_swept fits) = omega (arith, fits)
-        by_swept (is_cancelled fits found_) = fits
-
-        by_visit : OneVisit (λ k. k) i (Unswept s i) (Swept s i) selection.kept ended.sweeps tt
-            → At_i i ended.sweeps ≤ 3
-        by_visit (inl unvisited) = omega (arith, unvisited.1)
-        by_visit (inr visited) = by_swept visited.after
-
-    swept_valid : (i : ℕ) → FoundValid s i begun.over → At_i i ended.sweeps ≤ 2 + count (cancels_at s.0 i) done_in
-    swept_valid i valid = by_visit (swept_in i)
-      where
-        by_swept : Swept s i ended.sweeps tt → At_i i ended.sweeps ≤ 2 + count (cancels_at s.0 i) done_in
-        by_swept (is_swept fits) = omega (arith, fits)
-        by_swept (is_cancelled fits cancelled) = omega (arith, fits, cancelled_in i valid cancelled)
-
-        by_visit : OneVisit (λ k. k) i (Unswept s i) (Swept s i) selection.kept ended.sweeps tt
-            → At_i i ended.sweeps ≤ 2 + count (cancels_at s.0 i) done_in
-        by_visit (inl unvisited) = omega (arith, unvisited.1)
-        by_visit (inr visited) = by_swept visited.after
-
-    swept_none : (i : ℕ) → (Contains selection.kept i → ⊥) → At_i i ended.sweeps ≡ 0
-    swept_none i not_kept = by_visit (swept_in i)
-      where
-        by_visit : OneVisit (λ k. k) i (Unswept s i) (Swept s i) selection.kept ended.sweeps tt
-            → At_i i ended.sweeps ≡ 0
-        by_visit (inl unvisited) = unvisited.1
-        by_visit (inr visited) = absurd (not_kept (subst (Contains selection.kept) visited.is visited.there))
-
-    -- at most six acts at an index, and one for each disturbance of it
-    at_most : (i : ℕ) → Contains begun.listed i
-        → (At_i i begun.over + At_i i ended.marks) + At_i i ended.sweeps ≤ 6 + disturbs_at i
-    at_most i there =
-        by_over (always_run (OneVisit (λ k. k) i (Unseen s i) (Seen s i) begun.listed)
-        (sweep_over begun.listed (look_over s) none_yet) begun.over _
-        (over-visits s i begun.listed listed_is.0.rising) begun.runs_over)
-      where
-        by_seen : Seen s i begun.over (record { looked = selection.looked; kept = selection.kept })
-            → (At_i i begun.over + At_i i ended.marks) + At_i i ended.sweeps ≤ 6 + disturbs_at i
-        by_seen (is_dropped fits not_looked not_kept) =
-            omega (arith, fits, unmarked_in i not_looked, swept_none i not_kept)
-        by_seen (is_kept fits not_looked) = omega (arith, fits, unmarked_in i not_looked, swept_any i)
-        by_seen (is_looked fits valid _) = omega (arith, fits, marked_in i valid, swept_valid i valid)
-
-        by_over : OneVisit (λ k. k) i (Unseen s i) (Seen s i) begun.listed begun.over
-            (record { looked = selection.looked; kept = selection.kept })
-            → (At_i i begun.over + At_i i ended.marks) + At_i i ended.sweeps ≤ 6 + disturbs_at i
-        by_over (inl unvisited) = absurd (All-contains (λ k. k ≡ i → ⊥) begun.listed i unvisited.0 there refl)
-        by_over (inr visited) = by_seen visited.after
-
-    bounded : length beginning + length telling
-        ≤ 8 + words_below selection.bound + 6 * count_below selection.bound (λ k. has (finds_listed s.0 k) second)
-        + count (disturbs s.0 selection.bound) done_in
+    bounded : length (first ++ BeginLook s found ∷ second) + length (third ++ LookKeys s mark_then ∷ fourth)
+        ≤ 9 + words_below bound + words_below mark_then + 4 * count_listed s bound second
+        + 3 * count_listed s mark_then fourth + count (unselects s.0 bound) (map (λ e. e.act) window)
+    unfolding acts_in
     bounded =
-        let each : All (λ i. (At_i i begun.over + At_i i ended.marks) + At_i i ended.sweeps ≤ 6 + disturbs_at i)
-        begun.listed
-        = All-weaker (Contains begun.listed)
-        (λ i. (At_i i begun.over + At_i i ended.marks) + At_i i ended.sweeps ≤ 6 + disturbs_at i) at_most
-        begun.listed (All-contains_itself begun.listed) in
-        let all = total-le (λ i. (At_i i begun.over + At_i i ended.marks) + At_i i ended.sweeps)
-        (λ i. 6 + disturbs_at i) begun.listed each in
-        let sides = total-add (λ i. At_i i begun.over + At_i i ended.marks) (λ i. At_i i ended.sweeps) begun.listed in
-        let left_sum = total-add (λ i. At_i i begun.over) (λ i. At_i i ended.marks) begun.listed in
-        let bounds = total-add (λ _. 6) disturbs_at begun.listed in
-        let six = total-six begun.listed in
-        let hit = disturbed s selection.bound begun.listed listed_is.0.rising listed_is.1 done_in in
-        omega (
-          arith,
-          lengths,
-          over_among,
-          marks_among,
-          sweeps_among,
-          all,
-          sides,
-          left_sum,
-          bounds,
-          six,
-          hit,
-          found_listed,
-        )
+        let e = event_of n (BeginLook s found) in
+        let later = event_of n (LookKeys s mark_then) ∷ rest in
+        let joined : past ++ e ∷ (window ++ later) ≡ ((past ++ e ∷ []) ++ window) ++ later
+        = sym (append_assoc (past ++ e ∷ []) window later ∙ append_assoc past (e ∷ []) (window ++ later)) in
+        let legal' = legal_beginning l ((past ++ e ∷ []) ++ window) later (subst (IsLegal l) joined legal) in
+        let cut = part_at n window (second ++ between) third (own ∙ sym (append_assoc second between third)) in
+        let marks = marks_bounded l n past window s found fit legal' opens (ap (has (gives_turn s.0)) own ∙ keeps) bound
+        poll.pairs selection.looked 0 told.ended.marked cut.past cut.later told.ended.marks
+        (told.ended.gate ∷ told.ended.status ∷ []) cut.parts (cut.mine_later ∙ told.before) told.ended.runs_marks
+        (subst (λ xs. All (λ entry. FoundValid s xs entry × (entry.index < bound)) selection.looked) (sym cut.mine_past)
+        looked_valid) in
+        let looks = looks_bounded s bound begun.over selection.looked begun.runs_over in
+        let sweeps = sweeps_bounded s mark_then told.ended.sweeps told.runs_sweeps in
+        let found_first : count_below bound (listed s begun.over) ≤ count_listed s bound second
+        = subst (λ xs. count_below bound (listed s begun.over) ≤ count_below bound (listed s xs)) (sym begin_cut.2)
+        (listed-later s bound (begun.keys ∷ []) begun.over) in
+        let found_last : count_below mark_then (listed s told.ended.sweeps) ≤ count_listed s mark_then fourth
+        = subst (λ xs. count_below mark_then (listed s told.ended.sweeps) ≤ count_below mark_then (listed s xs))
+        (sym told.after) (listed-more s mark_then told.ended.sweeps (told.ended.wake ∷ told.ended.gives ∷ [])) in
+        let counted = count-parts (unselects s.0 bound) window cut.past cut.later cut.parts in
+        omega (arith, lengths, marks, looks, sweeps, found_first, found_last, counted)
 
 pub selection_is_bounded : SelectionIsBounded
-selection_is_bounded l n past window rest selection poll answer found woken first second between third fourth fit legal
-    own whole =
-    bounded selection poll answer found woken first second between third fourth whole l n past window rest fit legal own
+selection_is_bounded l n past window rest selection poll answer found mark_then first second between third fourth fit
+    legal own whole =
+    bounded selection poll answer found mark_then first second between third fourth whole l n past window rest fit legal
+    own

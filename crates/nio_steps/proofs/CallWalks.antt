@@ -1,42 +1,48 @@
 -- The walk over the plan of each call on the table.
-use Rattle.std.proofs.Common.{◌≡◌, ℕ, Bool, not, Option, Some, None, Result, Ok, Err, List, [], refl}
+use Rattle.std.proofs.Common.{◌≡◌, ℕ, Bool, false, not, Option, Some, None, Result, Ok, Err, List, [], refl}
 use Rattle.nio_base.specs.Kind.{valid_operations}
 use Rattle.nio_base.specs.declared.kind.Kind.{Kind}
 use Rattle.nio_base.specs.declared.kind.Kind.TheVariants.{Source, Sink}
 use Rattle.nio_base.specs.declared.limits.Limits.{Limits}
+use Rattle.nio_base.specs.declared.numbers.ChanId.{ChanId}
 use Rattle.nio_base.specs.declared.numbers.ChanNo.{ChanNo}
 use Rattle.nio_base.specs.declared.numbers.KeyId.{KeyId}
 use Rattle.nio_base.specs.declared.numbers.KeyNo.{KeyNo}
 use Rattle.nio_base.specs.declared.numbers.SelNo.{SelNo}
 use Rattle.nio_history.specs.Questions.{Question}
+use Rattle.nio_history.specs.Sets.{is_open_channel}
 use Rattle.nio_history.specs.declared.found.Chan.{Chan}
 use Rattle.nio_history.specs.declared.found.Mark.{Mark as KeyMark}
 use Rattle.nio_history.specs.declared.found.Mode.{Mode}
 use Rattle.nio_history.specs.declared.found.Stage.{Stage}
 use Rattle.nio_steps.proofs.PlanWalks.{Walk, Walks, walks_reply, walks_calm, walks_ask, walks_bind, walks_if}
-use Rattle.nio_steps.proofs.PlanWalks.{walks_sweep, walks_under_pin, walking, IsCalmOn}
-use Rattle.nio_steps.specs.ChannelCalls.{open_channel_plan, opened_channel, is_open_plan, is_blocking_plan}
-use Rattle.nio_steps.specs.ChannelCalls.{is_registered_plan, enrolled_in_set, key_for_plan, under_hold, set_mode_held}
+use Rattle.nio_steps.proofs.PlanWalks.{walks_sweep, walks_seek, walks_under_pin, walking, IsCalmOn}
+use Rattle.nio_steps.specs.ChannelCalls.{open_channel_plan, opened_channel, reopen_channel_plan, reopens_number}
+use Rattle.nio_steps.specs.ChannelCalls.{reopened, reopen_found, reopen_clear, is_open_plan, is_blocking_plan}
+use Rattle.nio_steps.specs.ChannelCalls.{is_registered_plan, enrolled_in_set, enrolled_key, first_key, key_of_channel}
+use Rattle.nio_steps.specs.ChannelCalls.{key_for_plan, under_hold, set_mode_held}
 use Rattle.nio_steps.specs.ChannelCalls.{try_set_blocking_plan, register_enrolled, register_over, make_key}
 use Rattle.nio_steps.specs.ChannelCalls.{register_new, register_rest, register_held, try_register_plan, cancel_at}
-use Rattle.nio_steps.specs.ChannelCalls.{close_channel_plan}
+use Rattle.nio_steps.specs.ChannelCalls.{cancel_keys, close_once_more, close_found, close_channel_plan}
 use Rattle.nio_steps.specs.KeyCalls.{is_within, find_selector_plan, find_channel_plan, find_plan, is_valid_plan}
 use Rattle.nio_steps.specs.KeyCalls.{on_valid, if_valid, on_supported, look_set, put_set, add_set, keep_set, look_ready}
 use Rattle.nio_steps.specs.KeyCalls.{interest_plan, set_interest_plan, interest_or_plan, interest_and_plan, ready_plan}
 use Rattle.nio_steps.specs.KeyCalls.{cancel_plan, cancel_present, unselect_plan, unselect_present, attach_plan}
 use Rattle.nio_steps.specs.KeyCalls.{attach_present, attachment_plan, attachment_present}
-use Rattle.nio_steps.specs.Names.{key}
+use Rattle.nio_steps.specs.Names.{selector, channel}
 use Rattle.nio_steps.specs.PipeCalls.{pipe_plan, without_sink, with_sink, with_source, if_interrupted, if_open}
 use Rattle.nio_steps.specs.PipeCalls.{if_unbroken, try_read_plan, try_write_plan}
-use Rattle.nio_steps.specs.Plan.{Plan, reply, when}
-use Rattle.nio_steps.specs.SelectCalls.{Selection, LookedOver, open_selector_plan, try_begin_plan, begin_below}
-use Rattle.nio_steps.specs.SelectCalls.{look_over, told_plan, mark_entry, mark_again, after_marks, leave_plan}
+use Rattle.nio_steps.specs.Plan.{Plan, reply, ◌>>=◌, when}
+use Rattle.nio_steps.specs.SelectCalls.{Selection, open_selector_plan, try_begin_plan, begin_below}
+use Rattle.nio_steps.specs.SelectCalls.{look_over, told_plan, mark_entry, mark_again, remove_if_cancelled}
+use Rattle.nio_steps.specs.SelectCalls.{remove_all_cancelled, after_marks, leave_plan}
 use Rattle.nio_steps.specs.SelectCalls.{shut_plan, try_finish_plan, keys_plan, list_selected, list_present}
 use Rattle.nio_steps.specs.SelectCalls.{selected_keys_plan, wakeup_plan, interrupt_plan, interrupted_plan}
-use Rattle.nio_steps.specs.Steps.{cancel_key, flag_in, channel_in, number_in}
+use Rattle.nio_steps.specs.Steps.{cancel_key, flag_in, channel_in, number_in, enrolled_in}
 use Rattle.nio_steps.specs.TableCalls.{TableCall, find_selector, find_channel, find, is_valid, interest, set_interest}
 use Rattle.nio_steps.specs.TableCalls.{interest_or, interest_and, ready, cancel, unselect, attach, attachment}
-use Rattle.nio_steps.specs.TableCalls.{open_channel, is_open, is_blocking, is_registered, key_for, try_set_blocking}
+use Rattle.nio_steps.specs.TableCalls.{open_channel, reopen_channel, is_open, is_blocking, is_registered, key_for}
+use Rattle.nio_steps.specs.TableCalls.{try_set_blocking}
 use Rattle.nio_steps.specs.TableCalls.{try_register, close_channel, open_selector, try_begin, told, leave, shut}
 use Rattle.nio_steps.specs.TableCalls.{try_finish, keys, selected_keys, wakeup, interrupt, interrupted, pipe, try_read}
 use Rattle.nio_steps.specs.TableCalls.{try_write, row_of}
@@ -44,6 +50,7 @@ use Rattle.nio_steps.specs.declared.looked.LookedKey.{LookedKey}
 use Rattle.nio_steps.specs.declared.refusal.ChannelError.{ChannelError}
 use Rattle.nio_steps.specs.declared.refusal.KeyError.{KeyError}
 use Rattle.nio_steps.specs.declared.refusal.PipeError.{PipeError}
+use Rattle.nio_steps.specs.declared.refusal.ReopenError.{ReopenError}
 
 -- ---- keys
 
@@ -59,46 +66,89 @@ cancel-walks k = walks_under_pin k.sel k.index (cancel_present k) (λ stage. sea
 
 -- ---- channels
 
-opened_channel-walks : {w : Walk} (made : Option ChanNo) → Walks w (opened_channel made)
-opened_channel-walks None = search walking
-opened_channel-walks (Some c) = search walking
+in_set-walks : {w : Walk} (s : SelNo) (enrolled : Option KeyId) → Walks w (enrolled_in_set s enrolled)
+in_set-walks s None = search walking
+in_set-walks s (Some k) = search walking
+
+enrolled-walks : {w : Walk} (c : ChanNo) (s : SelNo) → Walks w (enrolled_key c s)
+enrolled-walks c s = walks_ask _ _ refl (λ answer. in_set-walks s (enrolled_in answer))
+
+first_key-walks : {w : Walk} (l : Limits) (c : ChanNo) → Walks w (first_key l c)
+first_key-walks l c = walks_seek l.selectors 0 (λ s. enrolled_key c (selector s)) (λ s. enrolled-walks c (selector s))
+
+under_hold-walks : {A E : Type 0} {w : Walk} (busy : E) (c : ChanNo) (steps : Plan (Result A E)) → Walks w steps
+    → Walks w (under_hold busy c steps)
+under_hold-walks busy c steps here =
+    walks_ask _ _ refl
+    (λ answer. walks_if _ _ _ (walks_reply _)
+    (walks_bind steps _ here (λ a. walks_ask _ _ refl (λ _. walks_reply a))))
+
+reopen_found-walks : {w : Walk} (l : Limits) (c : ChanNo) (from : Chan) → Walks w (reopen_found l c from)
+reopen_found-walks l c from =
+    under_hold-walks ReopenError.Busy c (first_key l c >>= reopen_clear c from)
+    (walks_bind (first_key l c) (reopen_clear c from) (first_key-walks l c) (λ registered. search walking depth 12))
+
+reopened-walks : {w : Walk} (answer : Result ChanId ReopenError) → Walks w (reopened answer)
+reopened-walks (Ok c) = walks_reply _
+reopened-walks (Err ReopenError.Lost) = walks_reply _
+reopened-walks (Err ReopenError.Open) = walks_reply _
+reopened-walks (Err ReopenError.SerialsSpent) = walks_reply _
+reopened-walks (Err ReopenError.Busy) = walks_reply _
+reopened-walks (Err ReopenError.Registered) = walks_reply _
+
+number-walks : {w : Walk} (l : Limits) (kind : Kind) (c : ChanNo) → Walks w (reopens_number l kind c)
+number-walks l kind c =
+    walks_ask _ _ refl
+    (λ answer. let found = channel_in answer in
+    walks_if _ _ _ (walks_bind (reopen_found l c found) reopened (reopen_found-walks l c found) reopened-walks)
+    (walks_reply None))
+
+opened_channel-walks : {w : Walk} (l : Limits) (kind : Kind) (made : Option ChanNo)
+    → Walks w (opened_channel l kind made)
+opened_channel-walks l kind None =
+    walks_bind _ _
+    (walks_seek l.channels 0 (λ n. reopens_number l kind (channel n)) (λ n. number-walks l kind (channel n)))
+    (λ again. walks_reply _)
+opened_channel-walks l kind (Some c) = search walking
 
 open_channel-walks : {w : Walk} (l : Limits) (kind : Kind) → Walks w (open_channel_plan l kind)
 unfolding open_channel_plan
 open_channel-walks l kind = search (walking, opened_channel-walks) depth 12
 
-enrolled-walks : {w : Walk} (s : SelNo) (enrolled : Option KeyId) → Walks w (enrolled_in_set s enrolled)
-enrolled-walks s None = search walking
-enrolled-walks s (Some k) = search walking
+reopen_channel-walks : {w : Walk} (l : Limits) (c : ChanId) → Walks w (reopen_channel_plan l c)
+unfolding reopen_channel_plan
+reopen_channel-walks l c = search (walking, reopen_found-walks) depth 12
 
-key_for-walks : {w : Walk} (c : ChanNo) (s : SelNo) → Walks w (key_for_plan c s)
+of_channel-walks : {w : Walk} (c : ChanId) (found : Option KeyNo) → Walks w (key_of_channel c found)
+of_channel-walks c None = walks_reply None
+of_channel-walks c (Some k) = search walking depth 12
+
+key_for-walks : {w : Walk} (c : ChanId) (s : SelNo) → Walks w (key_for_plan c s)
 unfolding key_for_plan
-key_for-walks c s = search (walking, enrolled-walks) depth 12
+key_for-walks c s =
+    walks_bind (enrolled_key c.number s) (key_of_channel c) (enrolled-walks c.number s) (of_channel-walks c)
 
-under_hold-walks : {A : Type 0} {w : Walk} (c : ChanNo) (steps : Plan (Result A ChannelError)) → Walks w steps
-    → Walks w (under_hold c steps)
-under_hold-walks c steps here =
-    walks_ask _ _ refl
-    (λ answer. walks_if _ _ _ (walks_reply _)
-    (walks_bind steps _ here (λ a. walks_ask _ _ refl (λ _. walks_reply a))))
+is_registered-walks : {w : Walk} (l : Limits) (c : ChanId) → Walks w (is_registered_plan l c)
+unfolding is_registered_plan
+is_registered-walks l c = search (walking, enrolled-walks) depth 12
 
-mode_held-walks : {w : Walk} (l : Limits) (c : ChanNo) (on : Bool) → Walks w (set_mode_held l c on)
-mode_held-walks l c on = search (walking, key_for-walks) depth 12
+mode_held-walks : {w : Walk} (l : Limits) (c : ChanId) (on : Bool) → Walks w (set_mode_held l c on)
+mode_held-walks l c on = search (walking, first_key-walks) depth 12
 
 over-walks : {w : Walk} (s : SelNo) (ops att : ℕ) (enrolled : Option KeyId) → Walks w (register_over s ops att enrolled)
 over-walks s ops att None = search walking depth 12
 over-walks s ops att (Some k) =
     walks_under_pin s k.index (register_enrolled s ops att k) (λ stage. search walking depth 16)
 
-cancel_at-walks : {w : Walk} (s : SelNo) (enrolled : Option KeyId) → Walks w (cancel_at s enrolled)
-cancel_at-walks s None = walks_reply tt
-cancel_at-walks s (Some k) = cancel-walks (key s k)
+cancel_at-walks : {w : Walk} (c : ChanId) (s : SelNo) (enrolled : Option KeyId) → Walks w (cancel_at c s enrolled)
+cancel_at-walks c s None = walks_reply tt
+cancel_at-walks c s (Some k) = search (walking, cancel-walks) depth 12
 
 -- ---- selections
 
 module _ {w : Walk} (s : SelNo) (calm : IsCalmOn w s) where
-  look_over-walks : (i : ℕ) (found : LookedOver) → Walks w (look_over s i found)
-  look_over-walks i found = search (walking, walks_calm, calm.removes) depth 16
+  look_over-walks : (i : ℕ) (looked : List LookedKey) → Walks w (look_over s i looked)
+  look_over-walks i looked = search (walking, walks_calm, calm.removes) depth 16
 
   below-walks : (mode : Mode) (bound : ℕ) (lacks : Bool) → Walks w (begin_below s mode bound lacks)
   below-walks mode bound lacks = search (walking, walks_calm, calm.gives, look_over-walks) depth 12
@@ -115,8 +165,14 @@ module _ {w : Walk} (s : SelNo) (calm : IsCalmOn w s) where
   entry-walks pairs entry count = search (walking, walks_calm, calm.marks, again-walks) depth 16
 
 module _ {w : Walk} (selection : Selection) (calm : IsCalmOn w selection.selector) where
+  removed-walks : (i : ℕ) → Walks w (remove_if_cancelled selection.selector i)
+  removed-walks i = search (walking, walks_calm, calm.removes) depth 12
+
+  all_removed-walks : Walks w (remove_all_cancelled selection.selector)
+  all_removed-walks = search (walking, removed-walks) depth 12
+
   marked-walks : (elapsed : Bool) (count : ℕ) → Walks w (after_marks selection elapsed count)
-  marked-walks elapsed count = search (walking, walks_calm, calm.removes, calm.gives) depth 20
+  marked-walks elapsed count = search (walking, walks_calm, calm.gives, all_removed-walks) depth 20
 
   told-walks : (pairs : List (ℕ × ℕ)) (elapsed : Bool) → Walks w (told_plan selection pairs elapsed)
   unfolding told_plan
@@ -140,11 +196,11 @@ selected_keys-walks s lacks =
 
 -- ---- pipes
 
-module _ {w : Walk} (l : Limits) (closes : (c : ChanNo) → Walks w (close_channel_plan l c)) where
-  without_sink-walks : (source : ChanNo) → Walks w (without_sink l source)
+module _ {w : Walk} (l : Limits) (closes : (c : ChanId) → Walks w (close_channel_plan l c)) where
+  without_sink-walks : (source : ChanId) → Walks w (without_sink l source)
   without_sink-walks source = walks_bind (close_channel_plan l source) _ (closes source) (λ _. walks_reply _)
 
-  sink-walks : (source : ChanNo) (made : Result ChanNo ChannelError) → Walks w (with_sink l source made)
+  sink-walks : (source : ChanId) (made : Result ChanId ChannelError) → Walks w (with_sink l source made)
   sink-walks source (Ok sink) = walks_reply _
   sink-walks source (Err ChannelError.ChannelsSpent) = without_sink-walks source
   sink-walks source (Err ChannelError.IllegalOps) = without_sink-walks source
@@ -155,7 +211,7 @@ module _ {w : Walk} (l : Limits) (closes : (c : ChanNo) → Walks w (close_chann
   sink-walks source (Err ChannelError.ClosedSelector) = without_sink-walks source
   sink-walks source (Err ChannelError.Full) = without_sink-walks source
 
-  source-walks : (made : Result ChanNo ChannelError) → Walks w (with_source l made)
+  source-walks : (made : Result ChanId ChannelError) → Walks w (with_source l made)
   source-walks (Ok source) =
       walks_bind (open_channel_plan l Sink) (with_sink l source) (open_channel-walks l Sink) (sink-walks source)
   source-walks (Err ChannelError.ChannelsSpent) = walks_reply _
@@ -173,25 +229,25 @@ module _ {w : Walk} (l : Limits) (closes : (c : ChanNo) → Walks w (close_chann
       walks_if lacks _ _ (walks_reply _)
       (walks_bind (open_channel_plan l Source) (with_source l) (open_channel-walks l Source) source-walks)
 
-  interrupted_there-walks : (c : ChanNo) (found : Bool) → Walks w (if_interrupted l c found)
+  interrupted_there-walks : (c : ChanId) (found : Bool) → Walks w (if_interrupted l c found)
   interrupted_there-walks c found =
       walks_if found _ _ (walks_bind (close_channel_plan l c) _ (closes c) (λ _. walks_reply _)) (walks_reply _)
 
-  open-walks : (c : ChanNo) (found : Chan) → Walks w (if_open l c found)
+  open-walks : (c : ChanId) (found : Chan) → Walks w (if_open l c found)
   open-walks c found =
-      walks_if found.closed _ _ (walks_reply _)
+      walks_if (not (is_open_channel found c.serial)) _ _ (walks_reply _)
       (walks_if found.blocking _ _ (walks_ask _ _ refl (λ answer. interrupted_there-walks c (flag_in answer)))
       (walks_reply _))
 
-  try_read-walks : (source : ChanNo) → Walks w (try_read_plan l source)
+  try_read-walks : (source : ChanId) → Walks w (try_read_plan l source)
   unfolding try_read_plan
   try_read-walks source = walks_ask _ _ refl (λ answer. open-walks source (channel_in answer))
 
-  unbroken-walks : (source : ChanNo) (found : Result Bool PipeError) → Walks w (if_unbroken source found)
+  unbroken-walks : (source : ChanId) (found : Result Bool PipeError) → Walks w (if_unbroken source found)
   unbroken-walks source (Ok blocking) = walks_ask _ _ refl (λ answer. walks_reply _)
   unbroken-walks source (Err refusal) = walks_reply _
 
-  try_write-walks : (source sink : ChanNo) → Walks w (try_write_plan l source sink)
+  try_write-walks : (source sink : ChanId) → Walks w (try_write_plan l source sink)
   unfolding try_write_plan
   try_write-walks source sink =
       walks_ask _ _ refl
@@ -202,8 +258,8 @@ module _ {w : Walk} (l : Limits) (closes : (c : ChanNo) → Walks w (close_chann
 
 -- the calls that a law may mind: registering, closing a channel, and finishing the closing of a selector
 pub record Blocks (w : Walk) (l : Limits) : Type 0 where
-  pub registers : (s : SelNo) (c : ChanNo) (ops att : ℕ) → Walks w (try_register_plan l s c ops att)
-  pub closes : (c : ChanNo) → Walks w (close_channel_plan l c)
+  pub registers : (s : SelNo) (c : ChanId) (ops att : ℕ) → Walks w (try_register_plan l s c ops att)
+  pub closes : (c : ChanId) → Walks w (close_channel_plan l c)
   pub finishes : (s : SelNo) → IsCalmOn w s → Walks w (try_finish_plan s)
 
 pub each_call : {w : Walk} (l : Limits) (lacks : Bool) (call : TableCall) → Blocks w l
@@ -213,7 +269,7 @@ unfolding find_selector_plan find_channel_plan find_plan is_valid_plan interest_
     is_blocking_plan is_registered_plan try_set_blocking_plan open_selector_plan shut_plan keys_plan wakeup_plan
     interrupt_plan interrupted_plan
 each_call l lacks (find_selector n) blocks calm = search walking depth 12
-each_call l lacks (find_channel n) blocks calm = search walking depth 12
+each_call l lacks (find_channel n serial) blocks calm = search walking depth 12
 each_call l lacks (find s i serial) blocks calm = search walking depth 12
 each_call l lacks (is_valid k) blocks calm = search walking depth 12
 each_call l lacks (interest k) blocks calm = on_valid-walks k (λ _. look_set k) (λ stage. search walking depth 12)
@@ -232,14 +288,16 @@ each_call l lacks (attach k att) blocks calm =
 each_call l lacks (attachment k) blocks calm =
     walks_under_pin k.sel k.index (attachment_present k) (λ stage. search walking depth 12)
 each_call l lacks (open_channel kind) blocks calm = open_channel-walks l kind
+each_call l lacks (reopen_channel c) blocks calm = reopen_channel-walks l c
 each_call l lacks (is_open c) blocks calm = search walking depth 12
 each_call l lacks (is_blocking c) blocks calm = search walking depth 12
-each_call l lacks (is_registered c) blocks calm = search (walking, key_for-walks) depth 12
+each_call l lacks (is_registered c) blocks calm = is_registered-walks l c
 each_call l lacks (key_for c s) blocks calm = key_for-walks c s
 each_call l lacks (try_set_blocking c on) blocks calm =
     walks_ask _ _ refl
-    (λ answer. walks_if _ _ _ (walks_reply _)
-    (under_hold-walks c (set_mode_held l c on) (mode_held-walks l c on)))
+    (λ answer. walks_if _ _ _
+    (under_hold-walks ChannelError.Busy c.number (set_mode_held l c on) (mode_held-walks l c on))
+    (walks_reply _))
 each_call l lacks (try_register s c ops att) blocks calm = blocks.registers s c ops att
 each_call l lacks (close_channel c) blocks calm = blocks.closes c
 each_call l lacks open_selector blocks calm = search walking depth 12
@@ -260,16 +318,29 @@ each_call l lacks (try_write source sink) blocks calm = try_write-walks l blocks
 
 -- ---- where the calls that a law may mind are calm, or partly so
 
-pub close_channel-walks : {w : Walk} (l : Limits) (c : ChanNo) → w.Calm (Question.close_bit c)
-    → Walks w (close_channel_plan l c)
+pub close_channel-walks : {w : Walk} (l : Limits) (c : ChanId)
+    → ((from : Chan) → w.Calm (Question.close_bit c.number from)) → Walks w (close_channel_plan l c)
 unfolding close_channel_plan
-close_channel-walks l c calm = walks_calm _ _ calm (λ answer. search (walking, cancel_at-walks) depth 12)
+close_channel-walks {w = w} l c calm =
+    walks_ask _ _ refl (λ answer. walks_if _ _ _ (found-walks (channel_in answer)) (walks_reply false))
+  where
+    keys-walks : Walks w (cancel_keys l c)
+    keys-walks = search (walking, cancel_at-walks) depth 12
+
+    more-walks : (from : Chan) → Walks w (close_once_more l c from)
+    more-walks from =
+        walks_calm _ _ (calm from) (λ answer. walks_if _ _ _ keys-walks (walks_reply false))
+
+    found-walks : (from : Chan) → Walks w (close_found l c from)
+    found-walks from =
+        walks_calm _ _ (calm from) (λ answer. walks_if _ _ _ keys-walks
+        (walks_if _ _ _ (more-walks (channel_in answer)) (walks_reply false)))
 
 pub finish-walks : {w : Walk} (s : SelNo) → w.Calm (Question.enter s) → IsCalmOn w s → Walks w (try_finish_plan s)
 unfolding try_finish_plan
 finish-walks s enters calm = walks_calm _ _ enters (λ answer. search (walking, walks_calm, calm.removes) depth 12)
 
-pub make_key-walks : {w : Walk} (s : SelNo) (c : ChanNo) (ops att : ℕ) (k : KeyId)
+pub make_key-walks : {w : Walk} (s : SelNo) (c : ChanId) (ops att : ℕ) (k : KeyId)
     → w.Calm (Question.publish s k.index) → Walks w (make_key s c ops att k)
 make_key-walks s c ops att k calm =
     walks_ask _ _ refl (λ gate. walks_if _ _ _ (walks_reply _)
@@ -277,17 +348,18 @@ make_key-walks s c ops att k calm =
     (λ _. walks_ask _ _ refl
     (λ _. walks_ask _ _ refl (λ _. walks_calm _ _ calm (λ before. walks_if _ _ _ (walks_reply _)
     (walks_ask _ _ refl
-    (λ found. walks_bind (when (channel_in found).closed (cancel_key s k.index)) _ (search walking)
+    (λ found. walks_bind (when (not (is_open_channel (channel_in found) c.serial)) (cancel_key s k.index)) _
+    (search walking)
     (λ _. walks_reply _)))))))))
 
-rest-walks : {w : Walk} (l : Limits) (s : SelNo) (c : ChanNo) (ops att : ℕ)
+rest-walks : {w : Walk} (l : Limits) (s : SelNo) (c : ChanId) (ops att : ℕ)
     → Walks w (register_new l s c ops att)
     → (over : Option (Result KeyNo ChannelError)) → Walks w (register_rest l s c ops att over)
 rest-walks l s c ops att makes None = makes
 rest-walks l s c ops att makes (Some answer) = walks_reply answer
 
 -- where a new key may be made
-pub register-walks : {w : Walk} (l : Limits) (s : SelNo) (c : ChanNo) (ops att : ℕ)
+pub register-walks : {w : Walk} (l : Limits) (s : SelNo) (c : ChanId) (ops att : ℕ)
     → Walks w (register_new l s c ops att) → Walks w (try_register_plan l s c ops att)
 unfolding try_register_plan
 register-walks {w = w} l s c ops att makes =
@@ -295,8 +367,10 @@ register-walks {w = w} l s c ops att makes =
     let found = channel_in answer in
     walks_if (not (is_within ops (valid_operations found.kind))) (reply (Err ChannelError.IllegalOps)) _
     (walks_reply (Err ChannelError.IllegalOps))
-    (walks_if found.closed (reply (Err ChannelError.ClosedChannel)) (under_hold c (register_held l s c ops att))
-    (walks_reply (Err ChannelError.ClosedChannel)) (under_hold-walks c (register_held l s c ops att) held)))
+    (walks_if (not (is_open_channel found c.serial)) (reply (Err ChannelError.ClosedChannel))
+    (under_hold ChannelError.Busy c.number (register_held l s c ops att))
+    (walks_reply (Err ChannelError.ClosedChannel))
+    (under_hold-walks ChannelError.Busy c.number (register_held l s c ops att) held)))
   where
     held : Walks w (register_held l s c ops att)
     held = search (walking, over-walks, rest-walks l s c ops att makes) depth 12

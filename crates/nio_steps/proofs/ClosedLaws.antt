@@ -19,7 +19,7 @@ use Rattle.nio_history.specs.declared.found.Stage.{Stage}
 use Rattle.nio_steps.proofs.EachLaws.{each_sweep, each_run}
 use Rattle.nio_steps.proofs.GoneLaws.{claimed_removed, removal_stands}
 use Rattle.nio_steps.proofs.Lists.{contains-middle}
-use Rattle.nio_steps.proofs.LookedLaws.{removal}
+use Rattle.nio_steps.proofs.Listing.{removal}
 use Rattle.nio_steps.proofs.OwnActs.{mine-own_first}
 use Rattle.nio_steps.proofs.Walks.{Always, always_if, always_bind, always_itself, always_sweep, always_run}
 use Rattle.nio_steps.specs.Laws.{ClosedRemovesKeys}

@@ -1,9 +1,8 @@
 -- What holds of each question and each reply of a plan holds of what follows it.
 use Rattle.std.proofs.Common.{◌≡◌, ℕ, zero, suc, ◌+◌, ◌-◌, ◌<◌, ◌≤◌, Bool, true, false, if◌then◌else◌, List, [], ◌∷◌}
-use Rattle.std.proofs.Common.{◌++◌, refl, ap, sym, ◌∙◌, subst, append_assoc, add-zero, arith}
+use Rattle.std.proofs.Common.{refl, ap, sym, subst, arith}
 use Rattle.std.specs.Prelude.{⊤}
 use Rattle.std.specs.List.{All}
-use Rattle.std.proofs.lemmas.List.{append-nil}
 use Rattle.std.proofs.lemmas.List.Elements.{All-nil, All-cons, All-head, All-tail}
 use Rattle.nio_history.specs.Questions.{Question, question_of, answer_of}
 use Rattle.nio_history.specs.declared.act.Act.{Act}
@@ -34,32 +33,19 @@ each_when Asks false plan here = tt
 
 -- ---- of sweeps
 
--- `Left k` is what is left before the turn of index k
-by_count : {A : Type 0} (Asks : Question → Type 0) (Left : ℕ → A → Type 0) (n i : ℕ) (f : ℕ → A → Plan A) (x : A)
-    → Left i x → ((k : ℕ) (y : A) → i ≤ k → k < i + n → Left k y → Each Asks (Left (k + 1)) (f k y))
-    → Each Asks (Left (i + n)) (sweep n i f x)
+by_count : {A : Type 0} (Asks : Question → Type 0) (Left : A → Type 0) (n i : ℕ) (f : ℕ → A → Plan A) (x : A)
+    → Left x → ((k : ℕ) (y : A) → i ≤ k → k < i + n → Left y → Each Asks Left (f k y))
+    → Each Asks Left (sweep n i f x)
 unfolding sweep
-by_count Asks Left zero i f x here each = subst (λ (m : ℕ). Left m x) (sym (add-zero i)) here
+by_count Asks Left zero i f x here each = here
 by_count Asks Left (suc n) i f x here each =
-    let same : (i + 1) + n ≡ i + suc n = omega arith in
-    subst (λ (m : ℕ). Each Asks (Left m) (f i x >>= λ y. sweep n (i + 1) f y)) same
-    (each_bind Asks (Left (i + 1)) (Left ((i + 1) + n)) (f i x) (λ y. sweep n (i + 1) f y)
-    (each i x (omega arith) (omega arith) here)
-    (λ y left. by_count Asks Left n (i + 1) f y left (λ k z low high. each k z (omega arith) (omega arith))))
-
-pub each_sweep_at : {A : Type 0} (Asks : Question → Type 0) (Left : ℕ → A → Type 0) (b i : ℕ) (f : ℕ → A → Plan A)
-    (x : A) → i ≤ b
-    → Left i x → ((k : ℕ) (y : A) → i ≤ k → k < b → Left k y → Each Asks (Left (k + 1)) (f k y))
-    → Each Asks (Left b) (sweep_to b i f x)
-each_sweep_at Asks Left b i f x within here each =
-    let end : i + (b - i) ≡ b = omega arith in
-    subst (λ (m : ℕ). Each Asks (Left m) (sweep_to b i f x)) end
-    (by_count Asks Left (b - i) i f x here (λ k y low high. each k y low (omega arith)))
+    each_bind Asks Left Left (f i x) (λ y. sweep n (i + 1) f y) (each i x (omega arith) (omega arith) here)
+    (λ y left. by_count Asks Left n (i + 1) f y left (λ k z low high. each k z (omega arith) (omega arith)))
 
 pub each_sweep : {A : Type 0} (Asks : Question → Type 0) (Left : A → Type 0) (b i : ℕ) (f : ℕ → A → Plan A) (x : A)
     → Left x → ((k : ℕ) (y : A) → i ≤ k → k < b → Left y → Each Asks Left (f k y)) → Each Asks Left (sweep_to b i f x)
 each_sweep Asks Left b i f x here each =
-    by_count Asks (λ _. Left) (b - i) i f x here (λ k y low high. each k y low (omega arith))
+    by_count Asks Left (b - i) i f x here (λ k y low high. each k y low (omega arith))
 
 -- at each element of a list that passes `Fits`
 pub each_over : {X A : Type 0} (Asks : Question → Type 0) (Fits : X → Type 0) (Left : A → Type 0) (xs : List X)
@@ -71,25 +57,6 @@ each_over Asks Fits Left [] f x fit here each = here
 each_over Asks Fits Left (e ∷ later) f x fit here each =
     each_bind Asks Left Left (f e x) (λ y. sweep_over later f y) (each e x (All-head Fits e later fit) here)
     (λ y left. each_over Asks Fits Left later f y (All-tail Fits e later fit) left each)
-
--- the same, where `Left past` is what is left after the turns of these elements
-pub each_over_at : {X A : Type 0} (Asks : Question → Type 0) (Left : List X → A → Type 0) (xs : List X)
-    (f : X → A → Plan A) (x : A)
-    → Left [] x
-    → ((past : List X) (e : X) (later : List X) (y : A) → xs ≡ past ++ e ∷ later → Left past y
-    → Each Asks (Left (past ++ e ∷ [])) (f e y)) → Each Asks (Left xs) (sweep_over xs f x)
-unfolding sweep_over
-each_over_at {X = X} {A = A} Asks Left xs f x here each = from_here [] xs x refl here
-  where
-    from_here : (past later : List X) (y : A) → xs ≡ past ++ later → Left past y
-        → Each Asks (Left xs) (sweep_over later f y)
-    from_here past [] y parts left =
-        let same : past ≡ xs = sym (append-nil past) ∙ sym parts in
-        subst (λ done. Left done y) same left
-    from_here past (e ∷ later) y parts left =
-        each_bind Asks (Left (past ++ e ∷ [])) (Left xs) (f e y) (λ z. sweep_over later f z)
-        (each past e later y parts left)
-        (λ z left'. from_here (past ++ e ∷ []) later z (parts ∙ sym (append_assoc past (e ∷ []) later)) left')
 
 -- ---- of what follows them
 

@@ -1,4 +1,5 @@
--- A key that was cancelled before a selection begins is gone when it has begun.
+-- A key that was cancelled before a selection begins is gone when it has begun, and one that was cancelled before its
+-- end looks for such keys is gone when it is over.
 use Rattle.std.proofs.Common.{◌≡◌, ℕ, ◌+◌, ◌*◌, ◌<◌, ◌==◌, nat_lt, Bool, true, false, not, ◌&&◌, ◌||◌, if◌then◌else◌}
 use Rattle.std.proofs.Common.{List, [], ◌∷◌, ◌++◌, refl, ap, sym, ◌∙◌, subst, append_assoc, eqb-true, eq-eqb, arith}
 use Rattle.std.specs.List.{Contains}
@@ -11,7 +12,7 @@ use Rattle.nio_base.specs.declared.numbers.SelNo.{SelNo}
 use Rattle.nio_history.proofs.Bits.{bits_below-at}
 use Rattle.nio_history.proofs.KeyChanges.{back_parts}
 use Rattle.nio_history.proofs.Legal.{legal_beginning, legal_next}
-use Rattle.nio_history.proofs.OneMore.{state_after-more}
+use Rattle.nio_history.proofs.OneMore.{state_after-more, mine-append}
 use Rattle.nio_history.proofs.Put.{put_at-same}
 use Rattle.nio_history.proofs.Soundness.{legal-sound}
 use Rattle.nio_history.proofs.Stays.{facts_are_permanent}
@@ -22,13 +23,16 @@ use Rattle.nio_history.specs.Sets.{in_cancelled_set, is_valid, fits, was_claimed
 use Rattle.nio_history.specs.Sets.{was_removed}
 use Rattle.nio_history.specs.State.{State}
 use Rattle.nio_history.specs.declared.act.Act.{Act}
-use Rattle.nio_history.specs.declared.act.Act.TheVariants.{LookKey, LookFree, Remove}
+use Rattle.nio_history.specs.declared.act.Act.TheVariants.{LookKey, LookKeys, LookFree, Remove}
 use Rattle.nio_history.specs.declared.event.Event.{Event}
 use Rattle.nio_history.specs.declared.found.Stage.{Stage}
-use Rattle.nio_steps.proofs.LookedLaws.{Settled, is_free, stands_outside, is_gone, begin-settles, looks_at_valid_keys}
-use Rattle.nio_steps.proofs.OwnActs.{at_own}
+use Rattle.nio_steps.proofs.LookedLaws.{Settled, is_free, stands_outside, is_gone, settled-left, settled-right}
+use Rattle.nio_steps.proofs.LookedLaws.{begin-settles, end-settles, looks_at_valid_keys}
+use Rattle.nio_steps.proofs.OwnActs.{at_own, mine-own_first}
+use Rattle.nio_steps.proofs.ToldParts.{cut_at_keys}
 use Rattle.nio_steps.specs.KeyCalls.{has_bit}
-use Rattle.nio_steps.specs.Laws.{IsLookedAt, CancelledKeysGo}
+use Rattle.nio_steps.specs.Laws.{IsLookedAt, CancelledKeysGo, CancelledKeysGoAtEnd}
+use Rattle.nio_steps.specs.SelectCalls.{Tells, done}
 use Rattle.nio_steps.specs.Steps.{stage_in, word_in}
 
 -- ---- stages
@@ -216,3 +220,24 @@ cancelled_keys_go l n before later s mode selection i serial legal run published
       (subst (λ (k : ℕ). Contains (mine n later) (LookKey s k is.stage)) same.0 is.look) is.valid (is.serial ∙ same.1))
       selection.looked (looks_at_valid_keys s mode (mine n later) selection run),
 )
+
+pub cancelled_keys_go_at_end : CancelledKeysGoAtEnd
+cancelled_keys_go_at_end l n before looked later selection poll answer mark i serial legal run published cancelled
+    below =
+    let s = selection.selector in
+    let e = event_of n (LookKeys s mark) in
+    let own : mine n (looked ++ e ∷ later) ≡ mine n looked ++ LookKeys s mark ∷ mine n later = mine-append n looked
+    (e ∷ later) ∙ ap (λ xs. mine n looked ++ xs) (mine-own_first n e later (eq-eqb n.0 n.0 refl)) in
+    let cut = cut_at_keys selection poll (mine n looked) mark (mine n later) answer
+    (subst (λ xs. Tells selection poll xs (done answer)) own run) in
+    let swept = end-settles s mark cut.ended.sweeps cut.runs_sweeps i below in
+    let settled : Settled s i (mine n (e ∷ later))
+    = subst (Settled s i)
+    (sym (mine-own_first n e later (eq-eqb n.0 n.0 refl) ∙ ap (λ xs. LookKeys s mark ∷ xs) cut.after))
+    (settled-right s i (LookKeys s mark ∷ []) (cut.ended.sweeps ++ cut.ended.wake ∷ cut.ended.gives ∷ [])
+    (settled-left s i cut.ended.sweeps (cut.ended.wake ∷ cut.ended.gives ∷ []) swept)) in
+    let joined : (before ++ looked) ++ e ∷ later ≡ before ++ (looked ++ e ∷ later) = append_assoc before looked
+    (e ∷ later) in
+    subst (λ events. was_removed ((state_after events).key s.0 i) serial ≡ true) joined
+    (settled-gone l n (before ++ looked) (e ∷ later) s i serial (subst (IsLegal l) (sym joined) legal) published
+    cancelled settled)

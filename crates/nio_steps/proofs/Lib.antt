@@ -3,15 +3,18 @@ pub mod CallLaws
 pub mod WaitingLaws
 pub mod SweepLaws
 pub mod PerformLaws
+pub mod ListedLaws
 pub mod Each
 pub mod EachLaws
 pub mod Walks
 pub mod PlanWalks
 pub mod CallWalks
 pub mod Lists
+pub mod Listing
 mod Worked
 mod SelectionAsks
 pub mod ToldLaws
+pub mod ToldParts
 pub mod BeginLaws
 pub mod SelectionLaws
 pub mod UnmarkedLaws
@@ -24,9 +27,7 @@ pub mod ClosedLaws
 pub mod PinBack
 mod WaitingPins
 pub mod PinLaws
-mod Visits
-mod BoundActs
+pub mod WorksLaws
 mod MarkedLaws
 mod BoundEvents
-mod BoundSums
 mod BoundLaws

@@ -1,13 +1,13 @@
 -- Lists: pairs of elements, and where an element stands.
-use Rattle.std.proofs.Common.{◌≡◌, suc, ◌⊎◌, inl, inr, List, [], ◌∷◌, ◌++◌, ap, arith}
-use Rattle.std.specs.List.{All, AllPairs, Contains}
+use Rattle.std.proofs.Common.{◌≡◌, suc, ◌⊎◌, inl, inr, Bool, true, false, List, [], ◌∷◌, ◌++◌, refl}
+use Rattle.std.proofs.Common.{ap, sym, ◌∙◌, subst, arith}
+use Rattle.std.specs.List.{All, AllPairs, Contains, list_any}
+use Rattle.std.proofs.lemmas.Bool.{or_left, or_right}
+use Rattle.std.proofs.lemmas.List.Folds.{list_any-append}
 use Rattle.std.proofs.lemmas.List.Elements.{All-nil, All-cons, All-append, All-tail, All-head, All-weaker, All-contains}
 use Rattle.std.proofs.lemmas.List.Elements.{Contains-push, Contains-append_left, Contains-append_right}
 use Rattle.std.proofs.lemmas.List.Elements.{Contains-append_cases, Contains-push_cases}
 use Rattle.std.proofs.lemmas.List.Kept.{AllPairs-cons}
-
-pub all_any : {X : Type 0} (xs : List X) → All (λ _. Unit {0}) xs
-all_any xs k d below = tt
 
 -- ---- an element of a list
 
@@ -35,6 +35,30 @@ parted {X = X} (x ∷ xs) e there = by_place (Contains-append_cases (x ∷ []) x
     by_place (inl here) rest = by_head (Contains-push_cases [] x e here)
     by_place (inr further) rest = let found =
         rest further in record { past = x ∷ found.past; later = found.later; parts = ap (λ ys. x ∷ ys) found.parts }
+
+-- a test that an element passes
+pub any-of_one : {X : Type 0} (p : X → Bool) (xs : List X) (e : X) → Contains xs e → p e ≡ true → list_any p xs ≡ true
+any-of_one p xs e there is =
+    let at = parted xs e there in
+    ap (list_any p) at.parts ∙ (list_any-append p at.past (e ∷ at.later) ∙ or_right _ _ (or_left _ _ is))
+
+-- where a list has one element that passes a test, it is cut there in one way
+pub only_place : {X : Type 0} (p : X → Bool) (xs : List X) (x : X) (ys us : List X) (v : X) (vs : List X) → p x ≡ true
+    → All (λ y. p y ≡ false) us → All (λ y. p y ≡ false) vs
+    → xs ++ x ∷ ys ≡ us ++ v ∷ vs → (xs ≡ us) × (x ≡ v) × (ys ≡ vs)
+only_place p [] x ys [] v vs it none_us none_vs same = (refl, cc same, cc same)
+only_place p [] x ys (u ∷ us) v vs it none_us none_vs same =
+    let is : x ≡ u = cc same in
+    absurd (cc (sym it ∙ (ap p is ∙ All-head (λ y. p y ≡ false) u us none_us)))
+only_place p (a ∷ xs) x ys [] v vs it none_us none_vs same =
+    let is : xs ++ x ∷ ys ≡ vs = cc same in
+    absurd (cc
+    (sym it ∙ All-contains (λ y. p y ≡ false) vs x none_vs
+    (subst (λ zs. Contains zs x) is (contains-middle xs x ys))))
+only_place p (a ∷ xs) x ys (u ∷ us) v vs it none_us none_vs same =
+    let first : a ≡ u = cc same in
+    let rest = only_place p xs x ys us v vs it (All-tail (λ y. p y ≡ false) u us none_us) none_vs (cc same) in
+    (ap (λ z. z ∷ xs) first ∙ ap (λ zs. u ∷ zs) rest.0, rest.1, rest.2)
 
 -- ---- pairs of a list
 

@@ -1,126 +1,209 @@
--- What a beginning selection finds of the indexes below its bound.
-use Rattle.std.proofs.Common.{◌≡◌, ℕ, zero, suc, ◌+◌, ◌*◌, ◌-◌, ◌<◌, ◌≤◌, nat_lt, ◌==◌, ◌⊎◌, inl, inr, Bool, true}
-use Rattle.std.proofs.Common.{false, not, ◌&&◌, if◌then◌else◌, Ok, List, [], ◌∷◌, ◌++◌, refl, ap, sym, subst, eqb-true}
-use Rattle.std.proofs.Common.{arith}
-use Rattle.std.specs.Prelude.{⊤}
+-- What a beginning selection finds of the indexes below its bound, and what an ending one does.
+use Rattle.std.proofs.Common.{◌≡◌, ℕ, suc, ◌+◌, ◌*◌, ◌<◌, ◌==◌, nat_lt, Bool, true, false, ◌&&◌, Ok, List, []}
+use Rattle.std.proofs.Common.{◌∷◌, ◌++◌, refl, ap, sym, ◌∙◌, subst, append_assoc, eqb-true, arith}
 use Rattle.std.specs.List.{All, Contains}
-use Rattle.std.proofs.lemmas.Bool.{and_from, lt-ltb, ltb-true, ltb-false, eqb-false}
-use Rattle.std.proofs.lemmas.List.Elements.{All-nil, All-push, All-weaker, Contains-push, Contains-push_cases}
+use Rattle.std.proofs.lemmas.Bool.{or_from, ltb-true, ltb-false}
+use Rattle.std.proofs.lemmas.List.{append-nil}
+use Rattle.std.proofs.lemmas.List.Elements.{All-nil, All-push, All-weaker, All-contains, All-contains_itself}
 use Rattle.std.proofs.lemmas.List.Elements.{Contains-append_left, Contains-append_right}
+use Rattle.std.proofs.lemmas.List.Folds.{list_any-append, list_any_none}
 use Rattle.nio_base.specs.declared.numbers.SelNo.{SelNo}
+use Rattle.nio_history.specs.OwnEvents.{has}
+use Rattle.nio_history.specs.Pins.{removes}
 use Rattle.nio_history.specs.Questions.{Question, question_of, answer_of}
 use Rattle.nio_history.specs.Sets.{in_cancelled_set, is_valid}
 use Rattle.nio_history.specs.declared.act.Act.{Act}
 use Rattle.nio_history.specs.declared.act.Act.TheVariants.{LookKey, LookInterest, LookFree, Remove}
 use Rattle.nio_history.specs.declared.found.Mode.{Mode}
 use Rattle.nio_history.specs.declared.found.Stage.{Stage}
-use Rattle.nio_steps.proofs.BeginLaws.{none_yet, begin-parts}
-use Rattle.nio_steps.proofs.Lists.{contains-middle, contains-none}
-use Rattle.nio_steps.proofs.Walks.{Always, always_if, always_bind, always_any, always_over, always_sweep, always_run}
+use Rattle.nio_steps.proofs.BeginLaws.{begin-parts}
+use Rattle.nio_steps.proofs.Listing.{Turns, Removes, Finds, Passes, always_listed, always_look, always_remove, key-look}
+use Rattle.nio_steps.proofs.Listing.{removal}
+use Rattle.nio_steps.proofs.Lists.{contains-middle}
+use Rattle.nio_steps.proofs.Walks.{Always, always_weaker, always_run}
 use Rattle.nio_steps.specs.ChannelCalls.{words_below}
 use Rattle.nio_steps.specs.KeyCalls.{has_bit}
 use Rattle.nio_steps.specs.Laws.{IsLookedAt, LooksAtValidKeys}
-use Rattle.nio_steps.specs.Plan.{reply, ◌>>◌}
-use Rattle.nio_steps.specs.SelectCalls.{Selection, LookedOver, Begins, not_free, list_word, list_below, look_over}
-use Rattle.nio_steps.specs.SelectCalls.{look_on, look_valid, looked_key, remove_cancelled}
-use Rattle.nio_steps.specs.Steps.{stage_in, word_in, operations_in}
-use Rattle.nio_steps.specs.Sweeps.{sweep_over}
+use Rattle.nio_steps.specs.Plan.{Plan}
+use Rattle.nio_steps.specs.Runs.{Completes}
+use Rattle.nio_steps.specs.SelectCalls.{Selection, Begins, over_listed, look_over, looked_key, remove_if_cancelled}
+use Rattle.nio_steps.specs.Steps.{stage_in, operations_in}
 use Rattle.nio_steps.specs.declared.looked.LookedKey.{LookedKey}
 
--- ---- what was asked
+-- ---- each looked key was found valid
 
-pub key-look : (s : SelNo) (i : ℕ) (act : Act) → question_of act ≡ Question.look_key s i
-    → act ≡ LookKey s i (stage_in (answer_of act))
-key-look s i (LookKey s' i' found) asks = cc asks
-key-look s i _ asks = absurd (cc asks)
-
-interest-look : (s : SelNo) (i : ℕ) (act : Act) → question_of act ≡ Question.look_interest s i
+pub interest-look : (s : SelNo) (i : ℕ) (act : Act) → question_of act ≡ Question.look_interest s i
     → act ≡ LookInterest s i (operations_in (answer_of act))
 interest-look s i (LookInterest s' i' found) asks = cc asks
 interest-look s i _ asks = absurd (cc asks)
 
-pub free-look : (s : SelNo) (j : ℕ) (act : Act) → question_of act ≡ Question.look_free s j
-    → act ≡ LookFree s j (word_in (answer_of act))
-free-look s j (LookFree s' j' found) asks = cc asks
-free-look s j _ asks = absurd (cc asks)
+-- a question for a removal of the key of an index
+abbrev asks_removal : ℕ → ℕ → Question → Bool
+asks_removal s i (Question.remove s' i') = (s'.0 == s) && (i' == i)
+asks_removal s i _ = false
 
-pub removal : (s : SelNo) (i : ℕ) (act : Act) → question_of act ≡ Question.remove s i
-    → act ≡ Remove s i (stage_in (answer_of act))
-removal s i (Remove s' i' found) asks = cc asks
-removal s i _ asks = absurd (cc asks)
+not-removes_at : (s i : ℕ) (act : Act) → asks_removal s i (question_of act) ≡ false → removes s i act ≡ false
+not-removes_at s i (Remove s' i' found) e = e
+not-removes_at s i _ e = refl
 
--- an act that is this one stands among others
-among : (before : List Act) (act : Act) (after : List Act) (this : Act) → act ≡ this
-    → Contains (before ++ act ∷ after) this
-among before act after this is = subst (Contains (before ++ act ∷ after)) is (contains-middle before act after)
+-- the key of an entry was found valid, with its interest set, and wasn't removed by these acts since
+pub record FoundValid (s : SelNo) (acts : List Act) (entry : LookedKey) : Type 0 where
+  pub before : List Act
+  pub stage : Stage
+  pub later : List Act
+  pub parts : acts ≡ before ++ LookKey s entry.index stage ∷ later
+  pub valid : is_valid stage ≡ true
+  pub serial : stage.serial ≡ entry.serial
+  pub channel : stage.chan ≡ entry.channel
+  pub interest : Contains later (LookInterest s entry.index entry.interest)
+  pub spared : has (removes s.0 entry.index) later ≡ false
 
--- ---- each looked key was found valid
+pub found_valid-more : (s : SelNo) (acts more : List Act) (entry : LookedKey)
+    → has (removes s.0 entry.index) more ≡ false → FoundValid s acts entry → FoundValid s (acts ++ more) entry
+found_valid-more s acts more entry spares found = record {
+  before = found.before;
+  stage = found.stage;
+  later = found.later ++ more;
+  parts = ap (λ xs. xs ++ more) found.parts
+      ∙ append_assoc found.before (LookKey s entry.index found.stage ∷ found.later) more;
+  valid = found.valid;
+  serial = found.serial;
+  channel = found.channel;
+  interest = Contains-append_left found.later more (LookInterest s entry.index entry.interest) found.interest;
+  spared = list_any-append (removes s.0 entry.index) found.later more ∙ or_from _ _ found.spared spares;
+}
+
+pub found_valid-after : (s : SelNo) (earlier acts : List Act) (entry : LookedKey) → FoundValid s acts entry
+    → FoundValid s (earlier ++ acts) entry
+found_valid-after s earlier acts entry found = record {
+  before = earlier ++ found.before;
+  stage = found.stage;
+  later = found.later;
+  parts = ap (λ xs. earlier ++ xs) found.parts
+      ∙ sym (append_assoc earlier found.before (LookKey s entry.index found.stage ∷ found.later));
+  valid = found.valid;
+  serial = found.serial;
+  channel = found.channel;
+  interest = found.interest;
+  spared = found.spared;
+}
 
 module _ (s : SelNo) where
-  abbrev AreLookedAt : List Act → LookedOver → Type 0
-  AreLookedAt acts found = All (IsLookedAt s acts) found.looked
+  abbrev AreFound : ℕ → ℕ → List Act → List LookedKey → Type 0
+  AreFound w k acts looked = All (λ entry. (entry.index < k) × FoundValid s acts entry) looked
 
-  looked-later : (acts later : List Act) (looked : List LookedKey) → All (IsLookedAt s acts) looked
-      → All (IsLookedAt s (acts ++ later)) looked
-  looked-later acts later looked each =
-      All-weaker (IsLookedAt s acts) (IsLookedAt s (acts ++ later))
-      (λ entry is. record {
-        stage = is.stage;
-        look = Contains-append_left acts later (LookKey s entry.index is.stage) is.look;
-        valid = is.valid;
-        serial = is.serial;
-        channel = is.channel;
-        interest = Contains-append_left acts later (LookInterest s entry.index entry.interest) is.interest;
-      }) looked each
+  found-later : (k k' : ℕ) (acts more : List Act) (looked : List LookedKey) → k < suc k'
+      → ((i : ℕ) → i < k → has (removes s.0 i) more ≡ false)
+      → All (λ entry. (entry.index < k) × FoundValid s acts entry) looked
+      → All (λ entry. (entry.index < k') × FoundValid s (acts ++ more) entry) looked
+  found-later k k' acts more looked order spares each =
+      All-weaker (λ entry. (entry.index < k) × FoundValid s acts entry)
+      (λ entry. (entry.index < k') × FoundValid s (acts ++ more) entry)
+      (λ entry here. (
+        omega (arith, here.0),
+        found_valid-more s acts more entry (spares entry.index here.0) here.1,
+      )) looked each
 
-  on-looked : (i : ℕ) (acts : List Act) (found : LookedOver) (look : Act) → question_of look ≡ Question.look_key s i
-      → AreLookedAt acts found
-      → Always (λ xs r. AreLookedAt (acts ++ look ∷ xs) r) (look_on s i found (stage_in (answer_of look)))
-  on-looked i acts found look asks each =
-      let stage = stage_in (answer_of look) in
-      always_if (λ xs r. AreLookedAt (acts ++ look ∷ xs) r) (in_cancelled_set stage)
-      (remove_cancelled s i stage >> reply found) _
-      (λ _. always_bind (λ _ _. ⊤) (λ xs r. AreLookedAt (acts ++ look ∷ xs) r) (remove_cancelled s i stage)
-      (λ _. reply found) (always_any (remove_cancelled s i stage))
-      (λ xs _ _. looked-later acts (look ∷ (xs ++ [])) found.looked each))
-      (λ _. always_if (λ xs r. AreLookedAt (acts ++ look ∷ xs) r) (is_valid stage) (look_valid s i stage found) _
-      (λ valid act asks'.
-      let entry : LookedKey = looked_key i stage (operations_in (answer_of act)) in
-      All-push (IsLookedAt s (acts ++ look ∷ act ∷ [])) found.looked entry
-      (looked-later acts (look ∷ act ∷ []) found.looked each)
-      (record {
-        stage = stage;
-        look = among acts look (act ∷ []) (LookKey s i stage) (key-look s i look asks);
-        valid = valid;
-        serial = refl;
-        channel = refl;
-        interest = Contains-append_right acts (look ∷ act ∷ []) (LookInterest s i entry.interest)
-            (among (look ∷ []) act [] (LookInterest s i entry.interest) (interest-look s i act asks'));
-      }))
-      (λ _. always_if (λ xs r. AreLookedAt (acts ++ look ∷ xs) r) stage.removed (reply found) _
-      (λ _. looked-later acts (look ∷ []) found.looked each) (λ _. looked-later acts (look ∷ []) found.looked each)))
+  -- what is done at an index removes the key of no lower one
+  lower : (i k : ℕ) → k < i → (i == k) ≡ false
+  lower i k low = by_test (i == k) refl
+    where
+      by_test : (b : Bool) → (i == k) ≡ b → (i == k) ≡ false
+      by_test true is = absurd (omega (arith, eqb-true i k is, low))
+      by_test false is = is
 
-  over-looked : (listed : List ℕ) → Always AreLookedAt (sweep_over listed (look_over s) none_yet)
-  over-looked listed =
-      always_over (λ _ acts found. AreLookedAt acts found) listed (look_over s) none_yet (All-nil (IsLookedAt s []))
-      (λ past i later acts found _ each look asks. on-looked i acts found look asks each)
+  spares-one : (k : ℕ) (q : Question) (act : Act) → question_of act ≡ q → asks_removal s.0 k q ≡ false
+      → removes s.0 k act ≡ false
+  spares-one k q act asks none = not-removes_at s.0 k act (ap (asks_removal s.0 k) asks ∙ none)
+
+  removes-lower : (i : ℕ) (acts : List Act) → Removes s i acts → (k : ℕ) → k < i → has (removes s.0 k) acts ≡ false
+  removes-lower i acts turn k low =
+      let other : ((s.0 == s.0) && (i == k)) ≡ false = ap (λ b. (s.0 == s.0) && b) (lower i k low)
+      ∙ and_none (s.0 == s.0) in
+      ap (has (removes s.0 k)) turn.parts
+      ∙ or_from _ _ (spares-one k _ turn.look turn.asks_look refl)
+      (or_from _ _ (spares-one k _ turn.remove turn.asks_remove other)
+      (list_any_none (removes s.0 k) turn.puts
+      (All-weaker (λ act. question_of act ≡ Question.put_free s i) (λ act. removes s.0 k act ≡ false)
+      (λ act asks. spares-one k _ act asks refl) turn.puts turn.is_put.each)))
+    where
+      and_none : (b : Bool) → (b && false) ≡ false
+      and_none true = refl
+      and_none false = refl
+
+  finds-spares : (i : ℕ) (acts : List Act) → Finds s i acts → (k : ℕ) → has (removes s.0 k) acts ≡ false
+  finds-spares i acts turn k =
+      ap (has (removes s.0 k)) turn.parts
+      ∙ or_from _ _ (spares-one k _ turn.look turn.asks_look refl)
+      (or_from _ _ (spares-one k _ turn.interest turn.asks_interest refl) refl)
+
+  passes-spares : (i : ℕ) (acts : List Act) → Passes s i acts → (k : ℕ) → has (removes s.0 k) acts ≡ false
+  passes-spares i acts turn k =
+      ap (has (removes s.0 k)) turn.parts ∙ or_from _ _ (spares-one k _ turn.look turn.asks_look refl) refl
+
+  found-turns : (bound : ℕ) → Turns s bound (look_over s) AreFound
+  found-turns bound = record {
+    looks = λ j acts looked act asks each. found-later (64 * j) (64 * j) acts (act ∷ []) looked (omega arith)
+        (λ i low. or_from _ _ (spares-one i _ act asks refl) refl) each;
+    at = λ w i acts looked within found each. always_look s i (λ xs y. AreFound w (i + 1) (acts ++ xs) y) looked
+        (λ xs turn. found-later i (i + 1) acts xs looked (omega arith) (removes-lower i xs turn) each)
+        (λ xs turn.
+        let stage = stage_in (answer_of turn.look) in
+        let entry : LookedKey = looked_key i stage (operations_in (answer_of turn.interest)) in
+        All-push (λ x. (x.index < i + 1) × FoundValid s (acts ++ xs) x) looked entry
+        (found-later i (i + 1) acts xs looked (omega arith) (λ k _. finds-spares i xs turn k) each) (
+          omega arith,
+          record {
+            before = acts;
+            stage = stage;
+            later = turn.interest ∷ [];
+            parts = ap (λ ys. acts ++ ys) (turn.parts ∙ ap (λ act. act ∷ turn.interest ∷ [])
+                (key-look s i turn.look turn.asks_look));
+            valid = turn.valid;
+            serial = refl;
+            channel = refl;
+            interest = subst (Contains (turn.interest ∷ [])) (interest-look s i turn.interest turn.asks_interest)
+                (contains-middle [] turn.interest []);
+            spared = or_from _ _ (spares-one i _ turn.interest turn.asks_interest refl) refl;
+          },
+        ))
+        (λ xs turn. found-later i (i + 1) acts xs looked (omega arith) (λ k _. passes-spares i xs turn k) each);
+    passes = λ w j b word acts looked low there bit each.
+        All-weaker (λ entry. (entry.index < 64 * j + b) × FoundValid s acts entry)
+        (λ entry. (entry.index < 64 * j + b + 1) × FoundValid s acts entry)
+        (λ entry here. (omega (arith, here.0), here.1)) looked each;
+  }
+
+  pub found_valid : (bound : ℕ) (over : List Act) (looked : List LookedKey) (entry : LookedKey)
+      → Completes (over_listed s bound (look_over s) []) over looked → Contains looked entry → FoundValid s over entry
+  found_valid bound over looked entry run there =
+      (All-contains (λ x. (x.index < bound) × FoundValid s over x) looked entry
+      (always_run (AreFound (words_below bound) bound) (over_listed s bound (look_over s) []) over looked
+      (always_listed s bound (look_over s) AreFound (found-turns bound) []
+      (All-nil (λ entry. (entry.index < 0) × FoundValid s [] entry))) run) there).1
 
 pub looks_at_valid_keys : LooksAtValidKeys
 looks_at_valid_keys s mode acts selection run =
     let begun = begin-parts s mode acts selection run in
-    let each = always_run (AreLookedAt s) (sweep_over begun.listed (look_over s) none_yet) begun.over _
-    (over-looked s begun.listed) begun.runs_over in
-    let first = begun.gate ∷ begun.take ∷ begun.look ∷ begun.keys ∷ begun.lists in
-    subst (λ xs. All (IsLookedAt s xs) selection.looked) (sym begun.parts)
-    (All-weaker (IsLookedAt s begun.over) (IsLookedAt s (first ++ begun.over))
-    (λ entry is. record {
-      stage = is.stage;
-      look = Contains-append_right first begun.over (LookKey s entry.index is.stage) is.look;
-      valid = is.valid;
-      serial = is.serial;
-      channel = is.channel;
-      interest = Contains-append_right first begun.over (LookInterest s entry.index entry.interest) is.interest;
-    }) selection.looked each)
+    let first = begun.gate ∷ begun.take ∷ begun.look ∷ begun.keys ∷ [] in
+    All-weaker (Contains selection.looked) (IsLookedAt s acts)
+    (λ entry there.
+    let found = found_valid s selection.bound begun.over selection.looked entry begun.runs_over there in
+    let parts : acts ≡ (first ++ found.before) ++ LookKey s entry.index found.stage ∷ found.later = begun.parts
+    ∙ ap (λ xs. first ++ xs) found.parts in
+    record {
+      stage = found.stage;
+      look = subst (λ xs. Contains xs (LookKey s entry.index found.stage)) (sym parts)
+          (contains-middle (first ++ found.before) (LookKey s entry.index found.stage) found.later);
+      valid = found.valid;
+      serial = found.serial;
+      channel = found.channel;
+      interest = subst (λ xs. Contains xs (LookInterest s entry.index entry.interest)) (sym parts)
+          (Contains-append_right (first ++ found.before) (LookKey s entry.index found.stage ∷ found.later)
+          (LookInterest s entry.index entry.interest)
+          (Contains-append_right (LookKey s entry.index found.stage ∷ []) found.later
+          (LookInterest s entry.index entry.interest) found.interest));
+    }) selection.looked (All-contains_itself selection.looked)
 
 -- ---- each index below the bound is found free, or its key not in the cancelled set, or is removed
 
@@ -131,7 +214,7 @@ pub data Settled (s : SelNo) (i : ℕ) (acts : List Act) : Type 0 where
       → Settled s i acts
   is_gone : (found : Stage) → Contains acts (Remove s i found) → Settled s i acts
 
-settled-left : (s : SelNo) (i : ℕ) (acts later : List Act) → Settled s i acts → Settled s i (acts ++ later)
+pub settled-left : (s : SelNo) (i : ℕ) (acts later : List Act) → Settled s i acts → Settled s i (acts ++ later)
 settled-left s i acts later (is_free j b word at low look bit) =
     is_free j b word at low (Contains-append_left acts later (LookFree s j word) look) bit
 settled-left s i acts later (stands_outside stage look outside) =
@@ -139,7 +222,7 @@ settled-left s i acts later (stands_outside stage look outside) =
 settled-left s i acts later (is_gone found there) =
     is_gone found (Contains-append_left acts later (Remove s i found) there)
 
-settled-right : (s : SelNo) (i : ℕ) (earlier acts : List Act) → Settled s i acts → Settled s i (earlier ++ acts)
+pub settled-right : (s : SelNo) (i : ℕ) (earlier acts : List Act) → Settled s i acts → Settled s i (earlier ++ acts)
 settled-right s i earlier acts (is_free j b word at low look bit) =
     is_free j b word at low (Contains-append_right earlier acts (LookFree s j word) look) bit
 settled-right s i earlier acts (stands_outside stage look outside) =
@@ -147,139 +230,78 @@ settled-right s i earlier acts (stands_outside stage look outside) =
 settled-right s i earlier acts (is_gone found there) =
     is_gone found (Contains-append_right earlier acts (Remove s i found) there)
 
--- a bit that isn't set lists its index
-not_free-has : (word j bound n b : ℕ) → b < n → 64 * j + b < bound → has_bit word b ≡ false
-    → Contains (not_free word j bound n) (64 * j + b)
-unfolding not_free
-not_free-has word j bound zero b low below clear = absurd (omega arith)
-not_free-has word j bound (suc n) b low below clear =
-    by_place (b == n) refl (λ lower. not_free-has word j bound n b lower below clear)
-  where
-    here_too : (c : Bool) → Contains (not_free word j bound n) (64 * j + b)
-        → Contains (if c then not_free word j bound n ++ (64 * j + n) ∷ [] else not_free word j bound n) (64 * j + b)
-    here_too true there = Contains-append_left (not_free word j bound n) ((64 * j + n) ∷ []) (64 * j + b) there
-    here_too false there = there
+-- what is done at the index settles it
+settles-removed : (s : SelNo) (i : ℕ) (acts : List Act) → Removes s i acts → Settled s i acts
+settles-removed s i acts turn =
+    is_gone (stage_in (answer_of turn.remove))
+    (subst (λ xs. Contains xs (Remove s i (stage_in (answer_of turn.remove)))) (sym turn.parts)
+    (subst (Contains (turn.look ∷ turn.remove ∷ turn.puts)) (removal s i turn.remove turn.asks_remove)
+    (contains-middle (turn.look ∷ []) turn.remove turn.puts)))
 
-    by_place : (c : Bool) → (b == n) ≡ c → (b < n → Contains (not_free word j bound n) (64 * j + b))
-        → Contains
-        (if nat_lt (64 * j + n) bound && not (has_bit word n) then not_free word j bound n ++ (64 * j + n) ∷ []
-        else not_free word j bound n) (64 * j + b)
-    by_place true is rest =
-        let same : b ≡ n = eqb-true b n is in
-        let test : (nat_lt (64 * j + b) bound && not (has_bit word b)) ≡ true = and_from (nat_lt (64 * j + b) bound)
-        (not (has_bit word b)) (lt-ltb (64 * j + b) bound below) (ap not clear) in
-        subst (λ (m : ℕ). Contains
-        (if nat_lt (64 * j + m) bound && not (has_bit word m) then not_free word j bound n ++ (64 * j + m) ∷ []
-        else not_free word j bound n) (64 * j + b)) same
-        (subst (λ (c : Bool). Contains
-        (if c then not_free word j bound n ++ (64 * j + b) ∷ [] else not_free word j bound n) (64 * j + b))
-        (sym test)
-        (Contains-push (not_free word j bound n) (64 * j + b)))
-    by_place false is rest =
-        here_too (nat_lt (64 * j + n) bound && not (has_bit word n)) (rest (omega (arith, eqb-false b n is)))
+settles-look : (s : SelNo) (i : ℕ) (look : Act) (later : List Act) → question_of look ≡ Question.look_key s i
+    → in_cancelled_set (stage_in (answer_of look)) ≡ false → Settled s i (look ∷ later)
+settles-look s i look later asks outside =
+    stands_outside (stage_in (answer_of look))
+    (subst (Contains (look ∷ later)) (key-look s i look asks) (contains-middle [] look later)) outside
 
-module _ (s : SelNo) (bound : ℕ) where
-  -- each index below the bound, of the first ones, is settled or listed
-  abbrev AreListed : ℕ → List Act → List ℕ → Type 0
-  AreListed j acts listed = (i : ℕ) → i < bound → i < 64 * j → Settled s i acts ⊎ Contains listed i
+settles-found : (s : SelNo) (i : ℕ) (acts : List Act) → Finds s i acts → Settled s i acts
+settles-found s i acts turn =
+    subst (Settled s i) (sym turn.parts) (settles-look s i turn.look (turn.interest ∷ []) turn.asks_look turn.outside)
 
-  list-settles : Always (AreListed (words_below bound)) (list_below s bound)
-  list-settles =
-      always_sweep AreListed (words_below bound) 0 (list_word s bound) [] (omega arith)
-      (λ i below low. absurd (omega arith))
-      (λ j acts listed _ _ here act asks i below low. by_word j acts listed here act asks i below low
-      (nat_lt i (64 * j)) refl)
+settles-passed : (s : SelNo) (i : ℕ) (acts : List Act) → Passes s i acts → Settled s i acts
+settles-passed s i acts turn =
+    subst (Settled s i) (sym turn.parts) (settles-look s i turn.look [] turn.asks_look turn.outside)
+
+module _ {A : Type 0} (s : SelNo) (f : ℕ → A → Plan A)
+    (settles : (i : ℕ) (x : A) → Always (λ acts _. Settled s i acts) (f i x)) where
+  -- each index below k is settled
+  abbrev AreSettled : ℕ → ℕ → List Act → A → Type 0
+  AreSettled w k acts x = (i : ℕ) → i < k → Settled s i acts
+
+  by_place : (k : ℕ) (acts more : List Act) → ((i : ℕ) → i < k → Settled s i acts) → Settled s k (acts ++ more)
+      → (i : ℕ) → i < k + 1 → Settled s i (acts ++ more)
+  by_place k acts more before here i low = by_test (nat_lt i k) refl
     where
-      still : (j : ℕ) (acts : List Act) (listed more : List ℕ) (act : Act) (i : ℕ)
-          → Settled s i acts ⊎ Contains listed i → Settled s i (acts ++ act ∷ []) ⊎ Contains (listed ++ more) i
-      still j acts listed more act i (inl settled) = inl (settled-left s i acts (act ∷ []) settled)
-      still j acts listed more act i (inr there) = inr (Contains-append_left listed more i there)
+      by_test : (b : Bool) → nat_lt i k ≡ b → Settled s i (acts ++ more)
+      by_test true is = settled-left s i acts more (before i (ltb-true i k is))
+      by_test false is =
+          let same : k ≡ i = omega (arith, ltb-false i k is, low) in
+          subst (λ (j : ℕ). Settled s j (acts ++ more)) same here
 
-      by_bit : (j : ℕ) (acts : List Act) (listed : List ℕ) (act : Act) → question_of act ≡ Question.look_free s j
-          → (b : ℕ) → b < 64 → 64 * j + b < bound
-          → (c : Bool) → has_bit (word_in (answer_of act)) b ≡ c → Settled s (64 * j + b) (acts ++ act ∷ [])
-          ⊎ Contains (listed ++ not_free (word_in (answer_of act)) j bound 64) (64 * j + b)
-      by_bit j acts listed act asks b low below true is =
-          let word = word_in (answer_of act) in
-          inl (is_free j b word refl low (among acts act [] (LookFree s j word) (free-look s j act asks)) is)
-      by_bit j acts listed act asks b low below false is =
-          let word = word_in (answer_of act) in
-          inr (Contains-append_right listed (not_free word j bound 64) (64 * j + b)
-          (not_free-has word j bound 64 b low below is))
+  settled-turns : (bound : ℕ) → Turns s bound f AreSettled
+  settled-turns bound = record {
+    looks = λ j acts x act asks before i low. settled-left s i acts (act ∷ []) (before i low);
+    at = λ w i acts x within found before. always_weaker (λ xs _. Settled s i xs)
+        (λ xs y. AreSettled w (i + 1) (acts ++ xs) y) (f i x)
+        (λ xs y here. by_place i acts xs before (settled-right s i acts xs here)) (settles i x);
+    passes = λ w j b word acts x low there bit before.
+        let k = 64 * j + b in
+        subst (λ ys. (i : ℕ) → i < k + 1 → Settled s i ys) (append-nil acts)
+        (by_place k acts [] before
+        (settled-left s k acts [] (is_free j b word refl low there bit)));
+  }
 
-      by_word : (j : ℕ) (acts : List Act) (listed : List ℕ) → AreListed j acts listed → (act : Act)
-          → question_of act ≡ Question.look_free s j
-          → (i : ℕ) → i < bound → i < 64 * (j + 1) → (c : Bool) → nat_lt i (64 * j) ≡ c
-          → Settled s i (acts ++ act ∷ []) ⊎ Contains (listed ++ not_free (word_in (answer_of act)) j bound 64) i
-      by_word j acts listed here act asks i below low true is =
-          still j acts listed (not_free (word_in (answer_of act)) j bound 64) act i
-          (here i below (ltb-true i (64 * j) is))
-      by_word j acts listed here act asks i below low false is =
-          let above : 64 * j ≤ i = ltb-false i (64 * j) is in
-          let at : 64 * j + (i - 64 * j) ≡ i = omega arith in
-          subst (λ (k : ℕ). Settled s k (acts ++ act ∷ [])
-          ⊎ Contains (listed ++ not_free (word_in (answer_of act)) j bound 64) k) at
-          (by_bit j acts listed act asks (i - 64 * j) (omega arith) (omega arith)
-          (has_bit (word_in (answer_of act)) (i - 64 * j)) refl)
-
-module _ (s : SelNo) where
-  -- each of these indexes is settled
-  abbrev AreSettled : List ℕ → List Act → Type 0
-  AreSettled past acts = (i : ℕ) → Contains past i → Settled s i acts
-
-  on-settles : (e : ℕ) (past : List ℕ) (acts : List Act) (found : LookedOver) (look : Act)
-      → question_of look ≡ Question.look_key s e → AreSettled past acts
-      → Always (λ xs _. AreSettled (past ++ e ∷ []) (acts ++ look ∷ xs)) (look_on s e found (stage_in (answer_of look)))
-  on-settles e past acts found look asks settled =
-      let stage = stage_in (answer_of look) in
-      let Goal = λ (xs : List Act) (_ : LookedOver). AreSettled (past ++ e ∷ []) (acts ++ look ∷ xs) in
-      always_if Goal (in_cancelled_set stage) (remove_cancelled s e stage >> reply found) _
-      (λ _ act asks'. always_bind (λ _ _. ⊤) (λ xs r. Goal (act ∷ xs) r) _ (λ _. reply found) (always_any _)
-      (λ xs _ _. both (look ∷ act ∷ (xs ++ [])) (is_gone (stage_in (answer_of act))
-      (Contains-append_right acts (look ∷ act ∷ (xs ++ [])) (Remove s e (stage_in (answer_of act)))
-      (among (look ∷ []) act (xs ++ []) (Remove s e (stage_in (answer_of act))) (removal s e act asks'))))))
-      (λ outside. always_if Goal (is_valid stage) (look_valid s e stage found) _
-      (λ _ act _. both (look ∷ act ∷ []) (here outside (act ∷ [])))
-      (λ _. always_if Goal stage.removed (reply found) _ (λ _. both (look ∷ []) (here outside []))
-      (λ _. both (look ∷ []) (here outside []))))
-    where
-      here : in_cancelled_set (stage_in (answer_of look)) ≡ false → (xs : List Act) → Settled s e (acts ++ look ∷ xs)
-      here outside xs =
-          stands_outside (stage_in (answer_of look))
-          (among acts look xs (LookKey s e (stage_in (answer_of look))) (key-look s e look asks)) outside
-
-      by_place : (xs : List Act) (i : ℕ) → Settled s e (acts ++ xs) → Contains past i ⊎ (e ≡ i)
-          → Settled s i (acts ++ xs)
-      by_place xs i it (inl earlier) = settled-left s i acts xs (settled i earlier)
-      by_place xs i it (inr same) = subst (λ (k : ℕ). Settled s k (acts ++ xs)) same it
-
-      both : (xs : List Act) → Settled s e (acts ++ xs) → AreSettled (past ++ e ∷ []) (acts ++ xs)
-      both xs it i there = by_place xs i it (Contains-push_cases past e i there)
-
-  over-settles : (listed : List ℕ)
-      → Always (λ acts _. AreSettled listed acts) (sweep_over listed (look_over s) none_yet)
-  over-settles listed =
-      always_over (λ past acts _. AreSettled past acts) listed (look_over s) none_yet
-      (λ i there. absurd (contains-none i there))
-      (λ past e later acts found _ settled look asks. on-settles e past acts found look asks settled)
+  settled_below : (bound : ℕ) (x y : A) (acts : List Act) → Completes (over_listed s bound f x) acts y
+      → (i : ℕ) → i < bound → Settled s i acts
+  settled_below bound x y acts run =
+      always_run (AreSettled (words_below bound) bound) (over_listed s bound f x) acts y
+      (always_listed s bound f AreSettled (settled-turns bound) x (λ i none. absurd (omega (arith, none)))) run
 
 -- in a `try_begin` that answers Ok each index below the bound is settled
 pub begin-settles : (s : SelNo) (mode : Mode) (acts : List Act) (selection : Selection)
     → Begins s mode acts (Ok selection) → (i : ℕ) → i < selection.bound → Settled s i acts
 begin-settles s mode acts selection run i below =
     let begun = begin-parts s mode acts selection run in
-    let listed = always_run (AreListed s selection.bound (words_below selection.bound))
-    (list_below s selection.bound) begun.lists begun.listed (list-settles s selection.bound) begun.runs_lists in
-    let over = always_run (λ xs _. AreSettled s begun.listed xs) (sweep_over begun.listed (look_over s) none_yet)
-    begun.over _ (over-settles s begun.listed) begun.runs_over in
-    let four = begun.gate ∷ begun.take ∷ begun.look ∷ begun.keys ∷ [] in
-    subst (Settled s i) (sym begun.parts) (by_list four begun.lists begun.over (listed i below (omega arith)) (over i))
-  where
-    by_list : (four lists over : List Act)
-        → Settled s i lists ⊎ Contains (begin-parts s mode acts selection run).listed i
-        → (Contains (begin-parts s mode acts selection run).listed i → Settled s i over)
-        → Settled s i (four ++ (lists ++ over))
-    by_list four lists over (inl settled) rest =
-        settled-right s i four (lists ++ over) (settled-left s i lists over settled)
-    by_list four lists over (inr there) rest =
-        settled-right s i four (lists ++ over) (settled-right s i lists over (rest there))
+    let settled = settled_below s (look_over s)
+    (λ k looked. always_look s k (λ xs _. Settled s k xs) looked (settles-removed s k) (settles-found s k)
+    (settles-passed s k)) selection.bound [] selection.looked begun.over begun.runs_over i below in
+    subst (Settled s i) (sym begun.parts)
+    (settled-right s i (begun.gate ∷ begun.take ∷ begun.look ∷ begun.keys ∷ []) begun.over settled)
+
+-- where a `told` ends its selection each index below the high-water mark that it finds is settled since it found that
+pub end-settles : (s : SelNo) (mark : ℕ) (sweeps : List Act)
+    → Completes (over_listed s mark (λ i _. remove_if_cancelled s i) tt) sweeps tt
+    → (i : ℕ) → i < mark → Settled s i sweeps
+end-settles s mark sweeps run i below =
+    settled_below s (λ k _. remove_if_cancelled s k)
+    (λ k _. always_remove s k (Settled s k) (settles-removed s k) (settles-passed s k)) mark tt tt sweeps run i below

@@ -1,5 +1,5 @@
 -- A selection marks keys that it looked at and that are in the key set.
-use Rattle.std.proofs.Common.{◌≡◌, ℕ, ◌≤◌, ◌==◌, ◌||◌, inl, inr, not, Bool, true, false, List, [], ◌∷◌, ◌++◌, refl, ap}
+use Rattle.std.proofs.Common.{◌≡◌, ℕ, ◌≤◌, ◌==◌, ◌||◌, not, Bool, true, false, List, [], ◌∷◌, ◌++◌, refl, ap}
 use Rattle.std.proofs.Common.{sym, ◌∙◌, subst, append_assoc, eq-eqb, eqb-true, arith}
 use Rattle.std.specs.List.{All, Contains}
 use Rattle.std.proofs.lemmas.Bool.{and_parts, and_from, or_from}
@@ -27,22 +27,17 @@ use Rattle.nio_history.specs.declared.act.Act.{Act}
 use Rattle.nio_history.specs.declared.act.Act.TheVariants.{LookKey, BeginLook, Mark}
 use Rattle.nio_history.specs.declared.event.Event.{Event}
 use Rattle.nio_history.specs.declared.found.Stage.{Stage}
-use Rattle.nio_steps.proofs.BeginLaws.{Begun, none_yet, begin-parts}
-use Rattle.nio_steps.proofs.BoundActs.{FoundValid, IsOf, Unseen, Seen, is_dropped, is_kept, is_looked, over-visits}
+use Rattle.nio_steps.proofs.BeginLaws.{begin-parts}
 use Rattle.nio_steps.proofs.EachLaws.{each_run, split}
 use Rattle.nio_steps.proofs.Lists.{contains-middle}
-use Rattle.nio_steps.proofs.OrderLaws.{list-rises, IsListed}
+use Rattle.nio_steps.proofs.LookedLaws.{found_valid}
 use Rattle.nio_steps.proofs.OwnActs.{cut_at, mine-own_first}
 use Rattle.nio_steps.proofs.SelectionLaws.{NoMark, Replies, after-replies, asks_mark, marks-no_give, marks-no_remove}
 use Rattle.nio_steps.proofs.SelectionLaws.{removes_none, not-gives, asks_give}
-use Rattle.nio_steps.proofs.StandLaws.{look-act, begun_since, over-keeps, lists-keep}
+use Rattle.nio_steps.proofs.StandLaws.{look-act, begun_since, over-keeps}
 use Rattle.nio_steps.proofs.ToldLaws.{marks_only_as_told}
-use Rattle.nio_steps.proofs.Visits.{OneVisit}
-use Rattle.nio_steps.proofs.Walks.{always_run}
-use Rattle.nio_steps.specs.ChannelCalls.{words_below}
 use Rattle.nio_steps.specs.Laws.{MarksLookedKeys}
-use Rattle.nio_steps.specs.SelectCalls.{Selection, LookedOver, list_below, look_over, mark_entry, after_marks}
-use Rattle.nio_steps.specs.SelectCalls.{told_plan}
+use Rattle.nio_steps.specs.SelectCalls.{Selection, mark_entry, after_marks, told_plan}
 use Rattle.nio_steps.specs.Selections.{IsBegun}
 use Rattle.nio_steps.specs.Steps.{stage_in, gate_in}
 use Rattle.nio_steps.specs.Sweeps.{sweep_over}
@@ -111,49 +106,6 @@ none_before p q (a ∷ xs) x ys (u ∷ us) vs same it none_vs none_us =
     or_none true c none = absurd (cc none)
     or_none false c none = (refl, none)
 
--- ---- a looked key, in the acts of the call that began the selection
-
--- the look that found its key valid, and what is so of it
-record LookedAt (s : SelNo) (acts : List Act) (entry : LookedKey) : Type 0 where
-  valid : FoundValid s entry.index acts
-  entry_of : IsOf s entry.index valid.stage entry
-
-looked_at : (s : SelNo) (selection : Selection) (beginning : List Act)
-    (begun : Begun s selection.mode beginning selection) (entry : LookedKey) → Contains selection.looked entry
-    → LookedAt s begun.over entry
-looked_at s selection beginning begun entry there =
-    by_over (always_run (OneVisit (λ k. k) i (Unseen s i) (Seen s i) begun.listed)
-    (sweep_over begun.listed (look_over s) none_yet) begun.over whole
-    (over-visits s i begun.listed listed_is.0.rising) begun.runs_over)
-  where
-    i : ℕ
-    i = entry.index
-
-    whole : LookedOver
-    whole = record { looked = selection.looked; kept = selection.kept }
-
-    listed_is : IsListed selection.bound (words_below selection.bound) begun.listed
-    listed_is =
-        (each_run (λ _. Unit {0}) (IsListed selection.bound (words_below selection.bound))
-        (list_below s selection.bound) begun.lists begun.listed (list-rises s selection.bound) begun.runs_lists).1
-
-    is_among : All (λ x. x.index ≡ i → ⊥) selection.looked → ⊥
-    is_among none = All-contains (λ x. x.index ≡ i → ⊥) selection.looked entry none there refl
-
-    by_seen : Seen s i begun.over whole → LookedAt s begun.over entry
-    by_seen (is_dropped fits none not_kept) = absurd (is_among none)
-    by_seen (is_kept fits none) = absurd (is_among none)
-    by_seen (is_looked fits valid of_stage) =
-        record {
-          valid = valid;
-          entry_of = All-contains (λ x. x.index ≡ i → IsOf s i valid.stage x) selection.looked
-              entry of_stage there refl;
-        }
-
-    by_over : OneVisit (λ k. k) i (Unseen s i) (Seen s i) begun.listed begun.over whole → LookedAt s begun.over entry
-    by_over (inl unvisited) = absurd (is_among unvisited.1.not_looked)
-    by_over (inr visited) = by_seen visited.after
-
 -- ---- the key stays till a mark
 
 module _ (l : Limits) (n : CallerNo) (before past : List Event) (selection : Selection) (entry : LookedKey)
@@ -166,24 +118,22 @@ module _ (l : Limits) (n : CallerNo) (before past : List Event) (selection : Sel
       let s = selection.selector in
       let i = entry.index in
       let first = begin-parts s selection.mode begun.beginning selection begun.begins in
-      let looked = looked_at s selection begun.beginning first entry there in
-      let valid = looked.valid in
-      let stage = valid.stage in
+      let looked = found_valid s selection.bound first.over selection.looked entry first.runs_over there in
+      let stage = looked.stage in
       let found = gate_in (answer_of first.look) in
       let e0 = event_of n (LookKey s i stage) in
       -- the history up to the look at the key
       let earlier = begun.earlier ++ first.gate ∷ first.take ∷ [] in
-      let middle = first.keys ∷ (first.lists ++ valid.before) in
+      let middle = first.keys ∷ looked.before in
       let to_look : List Act = earlier ++ BeginLook s found ∷ middle in
-      let since : List Act = valid.later ++ begun.since in
+      let since : List Act = looked.later ++ begun.since in
       let own : mine n before ≡ to_look ++ LookKey s i stage ∷ since
       = begun.parts ∙ (ap (λ xs. begun.earlier ++ (xs ++ begun.since)) first.parts
-      ∙ (ap (λ x. begun.earlier
-      ++ ((first.gate ∷ first.take ∷ x ∷ first.keys ∷ (first.lists ++ first.over)) ++ begun.since))
+      ∙ (ap (λ x. begun.earlier ++ ((first.gate ∷ first.take ∷ x ∷ first.keys ∷ first.over) ++ begun.since))
       (look-act s first.look first.asks_look)
       ∙ (ap (λ xs. begun.earlier
-      ++ ((first.gate ∷ first.take ∷ BeginLook s found ∷ first.keys ∷ (first.lists ++ xs)) ++ begun.since))
-      valid.parts ∙ simp append_assoc))) in
+      ++ ((first.gate ∷ first.take ∷ BeginLook s found ∷ first.keys ∷ xs) ++ begun.since))
+      looked.parts ∙ simp append_assoc))) in
       let cut = cut_at n before to_look (LookKey s i stage) since own in
       let later : List Event = e0 ∷ (cut.later ++ past) in
       let joined : cut.past ++ later ≡ before ++ past = sym (append_assoc cut.past (e0 ∷ cut.later) past)
@@ -191,18 +141,16 @@ module _ (l : Limits) (n : CallerNo) (before past : List Event) (selection : Sel
       let legal' : IsLegal l (cut.past ++ later) = subst (IsLegal l) (sym joined) legal in
       let legal_past = legal_beginning l cut.past later legal' in
       -- the caller has begun there
-      let over_keeps = over-keeps s first.listed first.over _ first.runs_over in
-      let over_parts : has (gives_turn s.0) (valid.before ++ LookKey s i stage ∷ valid.later)
-      ≡ false = ap (has (gives_turn s.0)) (sym valid.parts) ∙ over_keeps in
-      let before_keeps : has (gives_turn s.0) valid.before ≡ false
-      = (has_none-append (gives_turn s.0) valid.before (LookKey s i stage ∷ valid.later) over_parts).0 in
-      let later_keeps : has (gives_turn s.0) (LookKey s i stage ∷ valid.later)
+      let over_keeps = over-keeps s selection.bound first.over selection.looked first.runs_over in
+      let over_parts : has (gives_turn s.0) (looked.before ++ LookKey s i stage ∷ looked.later)
+      ≡ false = ap (has (gives_turn s.0)) (sym looked.parts) ∙ over_keeps in
+      let before_keeps : has (gives_turn s.0) looked.before ≡ false
+      = (has_none-append (gives_turn s.0) looked.before (LookKey s i stage ∷ looked.later) over_parts).0 in
+      let later_keeps : has (gives_turn s.0) (LookKey s i stage ∷ looked.later)
       ≡ false
-      = (has_none-append (gives_turn s.0) valid.before (LookKey s i stage ∷ valid.later) over_parts).1 in
-      let lists_keep = lists-keep s selection.bound first.lists first.listed first.runs_lists in
+      = (has_none-append (gives_turn s.0) looked.before (LookKey s i stage ∷ looked.later) over_parts).1 in
       let middle_keeps : has (gives_turn s.0) middle ≡ false
-      = or_from _ _ (not-gives s.0 first.keys (ap (asks_give s.0) first.asks_keys))
-      (list_any-append (gives_turn s.0) first.lists valid.before ∙ or_from _ _ lists_keep before_keeps) in
+      = or_from _ _ (not-gives s.0 first.keys (ap (asks_give s.0) first.asks_keys)) before_keeps in
       let has_begun_there = begun_since l n cut.past s earlier found middle legal_past cut.mine_past first.opens
       middle_keeps in
       -- what the caller did from there on
@@ -210,13 +158,13 @@ module _ (l : Limits) (n : CallerNo) (before past : List Event) (selection : Sel
       = mine-own_first n e0 (cut.later ++ past) (eq-eqb n.0 n.0 refl)
       ∙ ap (λ xs. LookKey s i stage ∷ xs)
       (mine-append n cut.later past ∙ ap (λ xs. xs ++ mine n past) cut.mine_later) in
-      let keeps_since : has (gives_turn s.0) since ≡ false = list_any-append (gives_turn s.0) valid.later begun.since
+      let keeps_since : has (gives_turn s.0) since ≡ false = list_any-append (gives_turn s.0) looked.later begun.since
       ∙ or_from _ _ later_keeps begun.goes_on in
       let kept : has (gives_turn s.0) (mine n later) ≡ false = ap (has (gives_turn s.0)) acts
       ∙ (list_any-append (gives_turn s.0) since (mine n past) ∙ or_from _ _ keeps_since no_give) in
       let spares_since : has (removes s.0 i) since ≡ false
-      = list_any-append (removes s.0 i) valid.later begun.since
-      ∙ or_from _ _ valid.spared (removes_none s.0 i begun.since begun.unremoved) in
+      = list_any-append (removes s.0 i) looked.later begun.since
+      ∙ or_from _ _ looked.spared (removes_none s.0 i begun.since begun.unremoved) in
       let spared : has (removes s.0 i) (mine n later) ≡ false
       = ap (has (removes s.0 i)) acts
       ∙ (list_any-append (removes s.0 i) since (mine n past)
@@ -226,11 +174,11 @@ module _ (l : Limits) (n : CallerNo) (before past : List Event) (selection : Sel
       let k : Stage = st.key s.0 i in
       let is : stage ≡ k = ap stage_in (legal_next l cut.past e0 (cut.later ++ past) legal').answers in
       let in_set : in_key_set k ≡ true = ap in_key_set (sym is)
-      ∙ (and_parts (in_key_set stage) (not stage.cancelled) valid.valid).0 in
+      ∙ (and_parts (in_key_set stage) (not stage.cancelled) looked.valid).0 in
       let published : k.published ≡ true = (and_parts k.published (not k.removed) in_set).0 in
       let claimed : k.claimed ≡ true = beyond-claimed st (legal-sound l cut.past legal_past) s.0 i
       (ap (λ (b : Bool). b || k.cancelled || k.removed) published) in
-      let serial_is : k.serial ≡ entry.serial = ap (λ (x : Stage). x.serial) (sym is) ∙ looked.entry_of.serial in
+      let serial_is : k.serial ≡ entry.serial = ap (λ (x : Stage). x.serial) (sym is) ∙ looked.serial in
       let here : is_in_key_set k entry.serial ≡ true = and_from (fits k entry.serial) (in_key_set k)
       (and_from k.claimed (k.serial == entry.serial) claimed (eq-eqb k.serial entry.serial serial_is)) in_set in
       let keeps : Keeps l n (a_selection s) cut.past later = record {
@@ -248,7 +196,7 @@ module _ (l : Limits) (n : CallerNo) (before past : List Event) (selection : Sel
       (record { claimed = claimed; serial = omega arith; channel = λ _. refl })).channel same in
       subst (λ events. (is_in_key_set ((state_after events).key s.0 i) entry.serial ≡ true)
       × (((state_after events).key s.0 i).chan ≡ entry.channel)) joined
-      (set, channel ∙ (ap (λ (x : Stage). x.chan) (sym is) ∙ looked.entry_of.channel))
+      (set, channel ∙ (ap (λ (x : Stage). x.chan) (sym is) ∙ looked.channel))
 
 -- ---- the law
 

@@ -1,5 +1,7 @@
 -- Where an own act stands in a history.
 use Rattle.std.proofs.Common.{◌≡◌, ℕ, Bool, true, false, cond, List, [], ◌∷◌, ◌++◌, map, refl, ap, sym, ◌∙◌, eqb-true}
+use Rattle.std.proofs.Common.{eq-eqb}
+use Rattle.std.proofs.lemmas.List.{append-nil}
 use Rattle.std.specs.List.{filter, Contains}
 use Rattle.nio_base.specs.declared.numbers.CallerNo.{CallerNo}
 use Rattle.nio_history.proofs.Legal.{not_empty}
@@ -73,3 +75,31 @@ at_own n events act there =
     let found = parted (mine n events) act there in
     let cut = cut_at n events found.past act found.later found.parts in
     record { past = cut.past; later = cut.later; parts = cut.parts }
+
+-- the history is cut where what the caller did is cut
+pub record PartedOwn (n : CallerNo) (events : List Event) (xs ys : List Act) : Type 0 where
+  pub past : List Event
+  pub later : List Event
+  pub parts : events ≡ past ++ later
+  pub mine_past : mine n past ≡ xs
+  pub mine_later : mine n later ≡ ys
+
+pub part_at : (n : CallerNo) (events : List Event) (xs ys : List Act) → mine n events ≡ xs ++ ys
+    → PartedOwn n events xs ys
+part_at n events xs [] own = record {
+  past = events;
+  later = [];
+  parts = sym (append-nil events);
+  mine_past = own ∙ append-nil xs;
+  mine_later = refl;
+}
+part_at n events xs (y ∷ ys) own =
+    let cut = cut_at n events xs y ys own in
+    record {
+      past = cut.past;
+      later = event_of n y ∷ cut.later;
+      parts = cut.parts;
+      mine_past = cut.mine_past;
+      mine_later = mine-own_first n (event_of n y) cut.later (eq-eqb n.0 n.0 refl)
+          ∙ ap (λ acts. y ∷ acts) cut.mine_later;
+    }

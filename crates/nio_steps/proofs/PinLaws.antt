@@ -3,6 +3,7 @@ use Rattle.std.proofs.Common.{◌≡◌, ℕ, suc, ◌+◌, ◌*◌, nat_lt, Boo
 use Rattle.std.proofs.Common.{None, List, [], ◌∷◌, ◌++◌, refl, ap, sym, subst, append_assoc}
 use Rattle.std.proofs.lemmas.List.{append-nil}
 use Rattle.nio_base.specs.declared.limits.Limits.{Limits}
+use Rattle.nio_base.specs.declared.numbers.ChanId.{ChanId}
 use Rattle.nio_base.specs.declared.numbers.ChanNo.{ChanNo}
 use Rattle.nio_base.specs.declared.numbers.KeyId.{KeyId}
 use Rattle.nio_base.specs.declared.numbers.SelNo.{SelNo}
@@ -25,7 +26,8 @@ use Rattle.nio_steps.specs.Steps.{put_free, flag_in, stage_in, word_in, number_i
 use Rattle.nio_steps.specs.Sweeps.{seek_to}
 use Rattle.nio_steps.specs.TableCalls.{TableCall, row_of, find_selector, find_channel, find, is_valid, interest}
 use Rattle.nio_steps.specs.TableCalls.{set_interest, interest_or, interest_and, ready, cancel, unselect, attach}
-use Rattle.nio_steps.specs.TableCalls.{attachment, open_channel, is_open, is_blocking, is_registered, key_for}
+use Rattle.nio_steps.specs.TableCalls.{attachment, open_channel, reopen_channel, is_open, is_blocking, is_registered}
+use Rattle.nio_steps.specs.TableCalls.{key_for}
 use Rattle.nio_steps.specs.TableCalls.{try_set_blocking, try_register, close_channel, open_selector, try_begin, told}
 use Rattle.nio_steps.specs.TableCalls.{leave, shut, try_finish, keys, selected_keys, wakeup, interrupt, interrupted}
 use Rattle.nio_steps.specs.TableCalls.{pipe, try_read, try_write, WaitCall, wait_row_of, set_blocking, register, select}
@@ -99,12 +101,12 @@ new-found s c i = λ act asks. by_test act asks (flag_in (answer_of act)) refl
     by_test act asks false was = claim-only s i act c asks
 
 -- with the pin of the claim
-claimed-leaves : (s : SelNo) (c : ChanNo) (ops att : ℕ) (k : KeyId) (before : List Act) → OnlyPin s k.index before
+claimed-leaves : (s : SelNo) (c : ChanId) (ops att : ℕ) (k : KeyId) (before : List Act) → OnlyPin s k.index before
     → Always (λ acts _. NoPins (before ++ acts)) (make_claimed s c ops att k)
 claimed-leaves s c ops att k before only =
     leaves_pinned s k.index before (make_key s c ops att k) only (make_key-walks {w = pins} s c ops att k refl).always
 
-first-leaves : (s : SelNo) (c : ChanNo) (ops att : ℕ) (found : Option KeyId) (before : List Act)
+first-leaves : (s : SelNo) (c : ChanId) (ops att : ℕ) (found : Option KeyId) (before : List Act)
     → IsFound before found s → Always (λ acts _. NoPins (before ++ acts)) (register_first s c ops att found)
 first-leaves s c ops att None before none = subst NoPins (sym (append-nil before)) none
 first-leaves s c ops att (Some k) before only = λ act asks.
@@ -112,14 +114,14 @@ first-leaves s c ops att (Some k) before only = λ act asks.
     (claimed-leaves s c ops att k (before ++ act ∷ [])
     (only_pin-append s k.index before (act ∷ []) only (λ s' i' _. leaves-none act (ap leaves_pins asks) s' i')))
 
-next-leaves : (l : Limits) (s : SelNo) (c : ChanNo) (ops att mark : ℕ) (found : Option KeyId) (before : List Act)
+next-leaves : (l : Limits) (s : SelNo) (c : ChanId) (ops att mark : ℕ) (found : Option KeyId) (before : List Act)
     → IsFound before found s
     → Always (λ acts _. NoPins (before ++ acts)) (register_next l s c ops att mark found)
 next-leaves l s c ops att mark None before none =
     always_bind (λ acts r. IsFound (before ++ acts) r s) (λ acts _. NoPins (before ++ acts))
-    (seek_to l.keys mark (claim_new s c)) (register_first s c ops att)
+    (seek_to l.keys mark (claim_new s c.number)) (register_first s c ops att)
     (found_leaves s (λ k. k.index) before _ none
-    (found_seek s (λ k. k.index) l.keys mark (claim_new s c) (λ i. new-found s c i)))
+    (found_seek s (λ k. k.index) l.keys mark (claim_new s c.number) (λ i. new-found s c.number i)))
     (λ xs found here. always_weaker (λ acts _. NoPins ((before ++ xs) ++ acts))
     (λ acts _. NoPins (before ++ (xs ++ acts))) (register_first s c ops att found)
     (λ acts _ none'. subst NoPins (append_assoc before xs acts) none')
@@ -129,14 +131,14 @@ next-leaves l s c ops att mark (Some k) before only = λ act asks.
     (claimed-leaves s c ops att k (before ++ act ∷ [])
     (only_pin-append s k.index before (act ∷ []) only (λ s' i' _. leaves-none act (ap leaves_pins asks) s' i')))
 
-new-leaves : (l : Limits) (s : SelNo) (c : ChanNo) (ops att : ℕ) → Walks pins (register_new l s c ops att)
+new-leaves : (l : Limits) (s : SelNo) (c : ChanId) (ops att : ℕ) → Walks pins (register_new l s c ops att)
 new-leaves l s c ops att = record {
   always = λ look asks.
       let mark = number_in (answer_of look) in
       let none = leaves-none look (ap leaves_pins asks) in
-      always_bind (λ acts r. IsFound (look ∷ acts) r s) (λ acts _. NoPins (look ∷ acts)) (search_free s c mark)
-      (register_next l s c ops att mark)
-      (found_leaves s (λ k. k.index) (look ∷ []) (search_free s c mark) none (search-found s c mark))
+      always_bind (λ acts r. IsFound (look ∷ acts) r s) (λ acts _. NoPins (look ∷ acts))
+      (search_free s c.number mark) (register_next l s c ops att mark)
+      (found_leaves s (λ k. k.index) (look ∷ []) (search_free s c.number mark) none (search-found s c.number mark))
       (λ xs found here. next-leaves l s c ops att mark found (look ∷ xs) here);
 }
 
@@ -152,7 +154,7 @@ gives l lacks call acts answer run =
     (each_call l lacks call
     (record {
       registers = λ s c ops att. register-walks l s c ops att (new-leaves l s c ops att);
-      closes = λ c. close_channel-walks l c refl;
+      closes = λ c. close_channel-walks l c (λ _. refl);
       finishes = λ s calm. finish-walks s refl calm;
     })
     (λ s _. record { gives = refl; marks = λ i from bits. refl; removes = λ i. refl })) run
@@ -172,7 +174,7 @@ pins_are_given_back = record {
   each = gives;
   each_waiting = waiting_gives;
   find_selector = λ l n. gives l false (find_selector n);
-  find_channel = λ l n. gives l false (find_channel n);
+  find_channel = λ l n serial. gives l false (find_channel n serial);
   find = λ l s i serial. gives l false (find s i serial);
   is_valid = λ k. gives no_limits false (is_valid k);
   interest = λ k. gives no_limits false (interest k);
@@ -185,6 +187,7 @@ pins_are_given_back = record {
   attach = λ k att. gives no_limits false (attach k att);
   attachment = λ k. gives no_limits false (attachment k);
   open_channel = λ l kind. gives l false (open_channel kind);
+  reopen_channel = λ l c. gives l false (reopen_channel c);
   is_open = λ c. gives no_limits false (is_open c);
   is_blocking = λ c. gives no_limits false (is_blocking c);
   is_registered = λ l c. gives l false (is_registered c);

@@ -1,5 +1,5 @@
 -- What the calls of a selection ask, part by part.
-use Rattle.std.proofs.Common.{◌≡◌, ℕ, ◌==◌, nat_lt, Result, Ok, Err, List, [], ◌∷◌, ◌++◌, refl}
+use Rattle.std.proofs.Common.{ℕ, ◌==◌, nat_lt, Result, Ok, Err, List, []}
 use Rattle.std.specs.Prelude.{⊤}
 use Rattle.std.specs.List.{All}
 use Rattle.nio_base.specs.declared.numbers.SelNo.{SelNo}
@@ -8,14 +8,15 @@ use Rattle.nio_history.specs.Sets.{in_cancelled_set, is_valid}
 use Rattle.nio_history.specs.State.{last_serial}
 use Rattle.nio_history.specs.declared.found.Mark.{Mark as KeyMark}
 use Rattle.nio_history.specs.declared.found.Stage.{Stage}
-use Rattle.nio_steps.proofs.EachLaws.{each_bind, each_if, each_when, each_sweep, each_over}
+use Rattle.nio_steps.proofs.EachLaws.{each_bind, each_if, each_when, each_over}
+use Rattle.nio_steps.proofs.Listing.{each_listed}
 use Rattle.nio_steps.proofs.Each.{Each}
 use Rattle.nio_steps.specs.Plan.{reply, ◌>>=◌, ◌>>◌}
-use Rattle.nio_steps.specs.SelectCalls.{Selection, ToldReply, done, LookedOver, told_bits, list_word, list_below}
-use Rattle.nio_steps.specs.SelectCalls.{look_over, look_on, look_valid, looked_key, remove_cancelled, mark_entry}
+use Rattle.nio_steps.specs.SelectCalls.{Selection, ToldReply, done, told_bits, over_listed}
+use Rattle.nio_steps.specs.SelectCalls.{look_over, look_on, look_valid, remove_cancelled, mark_entry}
 use Rattle.nio_steps.specs.SelectCalls.{mark_told, mark_looked, mark_again, gains_nothing, remove_if_cancelled}
-use Rattle.nio_steps.specs.SelectCalls.{end_selection}
-use Rattle.nio_steps.specs.Steps.{put_free, mark, mark_in, stage_in, operations_in, exchange_in}
+use Rattle.nio_steps.specs.SelectCalls.{remove_all_cancelled, end_selection}
+use Rattle.nio_steps.specs.Steps.{put_free, mark, mark_in, stage_in, number_in, exchange_in}
 use Rattle.nio_steps.specs.Sweeps.{sweep_over}
 use Rattle.nio_steps.specs.declared.looked.LookedKey.{LookedKey}
 use Rattle.nio_steps.specs.declared.selected.Selected.{Selected}
@@ -27,31 +28,21 @@ pub record AsksAt (Asks : Question → Type 0) (s : SelNo) (i : ℕ) : Type 0 wh
   pub removes : Asks (Question.remove s i)
   pub puts : Asks (Question.put_free s i)
 
--- what it has after an index: it drops it, or keeps it, or looks at its key
-pub record GoesOver (Left : LookedOver → Type 0) (i : ℕ) (found : LookedOver) : Type 0 where
-  pub dropped : Left found
-  pub looked : (entry : LookedKey) → entry.index ≡ i
-      → Left (record { looked = found.looked ++ entry ∷ []; kept = found.kept ++ i ∷ [] })
-  pub kept : Left (record found { kept = found.kept ++ i ∷ [] })
-
 module _ (Asks : Question → Type 0) (s : SelNo) (i : ℕ) (asks : AsksAt Asks s i) where
   pub each_remove : (stage : Stage) → Each Asks (λ _. ⊤) (remove_cancelled s i stage)
   each_remove stage =
       (asks.removes, λ _. each_when Asks (nat_lt stage.serial last_serial) (put_free s i) (asks.puts, λ _. tt))
 
-  each_on : (Left : LookedOver → Type 0) (found : LookedOver) (stage : Stage) → GoesOver Left i found
-      → Each Asks Left (look_on s i found stage)
-  each_on Left found stage goes =
-      each_if Asks Left (in_cancelled_set stage) (remove_cancelled s i stage >> reply found) _
-      (λ _. each_bind Asks (λ _. ⊤) Left (remove_cancelled s i stage) (λ _. reply found) (each_remove stage)
-      (λ _ _. goes.dropped))
-      (λ _. each_if Asks Left (is_valid stage) (look_valid s i stage found) _
-      (λ _. (asks.looks_interest, λ ops. goes.looked (looked_key i stage (operations_in ops)) refl))
-      (λ _. each_if Asks Left stage.removed (reply found) _ (λ _. goes.dropped) (λ _. goes.kept)))
+  each_on : (looked : List LookedKey) (stage : Stage) → Each Asks (λ _. ⊤) (look_on s i looked stage)
+  each_on looked stage =
+      each_if Asks (λ _. ⊤) (in_cancelled_set stage) (remove_cancelled s i stage >> reply looked) _
+      (λ _. each_bind Asks (λ _. ⊤) (λ _. ⊤) (remove_cancelled s i stage) (λ _. reply looked) (each_remove stage)
+      (λ _ _. tt))
+      (λ _. each_if Asks (λ _. ⊤) (is_valid stage) (look_valid s i stage looked) (reply looked)
+      (λ _. (asks.looks_interest, λ _. tt)) (λ _. tt))
 
-  pub each_look : (Left : LookedOver → Type 0) (found : LookedOver) → GoesOver Left i found
-      → Each Asks Left (look_over s i found)
-  each_look Left found goes = (asks.looks, λ answer. each_on Left found (stage_in answer) goes)
+  pub each_look : (looked : List LookedKey) → Each Asks (λ _. ⊤) (look_over s i looked)
+  each_look looked = (asks.looks, λ answer. each_on looked (stage_in answer))
 
   pub each_remove_if_cancelled : Each Asks (λ _. ⊤) (remove_if_cancelled s i)
   each_remove_if_cancelled = (
@@ -60,14 +51,24 @@ module _ (Asks : Question → Type 0) (s : SelNo) (i : ℕ) (asks : AsksAt Asks 
         (remove_cancelled s i (stage_in answer)) (each_remove (stage_in answer)),
   )
 
--- where nothing is said of what it has
-pub goes_any : (i : ℕ) (found : LookedOver) → GoesOver (λ _. ⊤) i found
-goes_any i found = record { dropped = tt; looked = λ _ _. tt; kept = tt }
+-- what a selection asks of a selector as it goes over its indexes
+pub record AsksOver (Asks : Question → Type 0) (s : SelNo) : Type 0 where
+  pub frees : (j : ℕ) → Asks (Question.look_free s j)
+  pub at : (i : ℕ) → AsksAt Asks s i
 
-pub each_list : (Asks : Question → Type 0) (s : SelNo) (bound : ℕ) → ((j : ℕ) → Asks (Question.look_free s j))
-    → Each Asks (λ _. ⊤) (list_below s bound)
-each_list Asks s bound asks =
-    each_sweep Asks (λ _. ⊤) _ 0 (list_word s bound) [] tt (λ j listed _ _ _. (asks j, λ _. tt))
+pub each_over_looked : (Asks : Question → Type 0) (s : SelNo) (bound : ℕ) → AsksOver Asks s
+    → Each Asks (λ _. ⊤) (over_listed s bound (look_over s) [])
+each_over_looked Asks s bound asks =
+    each_listed Asks (λ _. ⊤) s bound (look_over s) [] asks.frees tt
+    (λ i looked _. each_look Asks s i (asks.at i) looked)
+
+pub each_remove_all : (Asks : Question → Type 0) (s : SelNo) → Asks (Question.look_keys s) → AsksOver Asks s
+    → Each Asks (λ _. ⊤) (remove_all_cancelled s)
+each_remove_all Asks s keys asks = (
+  keys,
+  λ mark. each_listed Asks (λ _. ⊤) s (number_in mark) (λ i _. remove_if_cancelled s i) tt asks.frees tt
+      (λ i _ _. each_remove_if_cancelled Asks s i (asks.at i)),
+)
 
 -- ---- telling
 
@@ -105,12 +106,9 @@ each_marks Asks s pairs entries asks =
     (λ entry before asks' _. each_entry Asks s pairs entry before asks')
 
 pub each_end : (Asks : Question → Type 0) (Replies : ToldReply → Type 0) (selection : Selection) (answer : Selected)
-    → All (AsksAt Asks selection.selector) selection.kept
+    → Asks (Question.look_keys selection.selector) → AsksOver Asks selection.selector
     → Asks (Question.end_wake selection.selector) → Asks (Question.give_turn selection.selector) → Replies (done answer)
     → Each Asks Replies (end_selection selection answer)
-each_end Asks Replies selection answer asks ends gives fits =
-    each_bind Asks (λ _. ⊤) Replies (sweep_over selection.kept (λ i _. remove_if_cancelled selection.selector i) tt) _
-    (each_over Asks (AsksAt Asks selection.selector) (λ _. ⊤) selection.kept
-    (λ i _. remove_if_cancelled selection.selector i) tt asks tt
-    (λ i _ at _. each_remove_if_cancelled Asks selection.selector i at))
-    (λ _ _. (ends, λ _. (gives, λ _. fits)))
+each_end Asks Replies selection answer keys asks ends gives fits =
+    each_bind Asks (λ _. ⊤) Replies (remove_all_cancelled selection.selector) _
+    (each_remove_all Asks selection.selector keys asks) (λ _ _. (ends, λ _. (gives, λ _. fits)))

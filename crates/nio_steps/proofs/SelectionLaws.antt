@@ -26,7 +26,7 @@ use Rattle.nio_steps.specs.Laws.{BeginsSelection, AgainGoesOn, CountsSelection}
 use Rattle.nio_steps.specs.Plan.{reply, ◌>>=◌}
 use Rattle.nio_steps.specs.Runs.{Completes}
 use Rattle.nio_steps.specs.SelectCalls.{Selection, ToldReply, Begins, told_plan, told_bits, mark_entry, mark_told}
-use Rattle.nio_steps.specs.SelectCalls.{mark_looked, mark_again, one_if, gains_nothing, is_again, remove_if_cancelled}
+use Rattle.nio_steps.specs.SelectCalls.{mark_looked, mark_again, one_if, gains_nothing, is_again, remove_all_cancelled}
 use Rattle.nio_steps.specs.SelectCalls.{end_selection, after_marks, again, done}
 use Rattle.nio_steps.specs.Selections.{marks_on, IsBegun}
 use Rattle.nio_steps.specs.Steps.{mark, flag_in, gate_in, mark_in, exchange_in}
@@ -67,7 +67,7 @@ no_gives s acts each =
     (All-weaker (λ act. asks_give s (question_of act) ≡ false) (λ act. gives_turn s act ≡ false)
     (not-gives s) acts each)
 
-abbrev asks_remove : ℕ → Question → Bool
+abbrev pub asks_remove : ℕ → Question → Bool
 asks_remove s (Question.remove s' i) = s'.0 == s
 asks_remove s _ = false
 
@@ -75,7 +75,7 @@ not-removes : (s : ℕ) (act : Act) → asks_remove s (question_of act) ≡ fals
 not-removes s (Remove s' i found) e = e
 not-removes s _ e = refl
 
-no_removes : (s : ℕ) (acts : List Act) → All (λ act. asks_remove s (question_of act) ≡ false) acts
+pub no_removes : (s : ℕ) (acts : List Act) → All (λ act. asks_remove s (question_of act) ≡ false) acts
     → has (removes_on s) acts ≡ false
 no_removes s acts each =
     list_any_none (removes_on s) acts
@@ -188,7 +188,7 @@ abbrev pub NoGive : ℕ → Question → Type 0
 NoGive s q = asks_give s q ≡ false
 
 -- and no key is removed
-abbrev NoRemove : ℕ → Question → Type 0
+abbrev pub NoRemove : ℕ → Question → Type 0
 NoRemove s q = asks_remove s q ≡ false
 
 module _ (s : SelNo) (pairs : List (ℕ × ℕ)) (entries : List LookedKey) (acts : List Act) (n : ℕ)
@@ -228,8 +228,11 @@ after-replies selection elapsed n = (
         (is_again selection.mode n (gate_in gate) (flag_in interrupted) elapsed) (reply (again selection))
         (end_selection selection _)
         (λ goes_on. (refl, eqb-true n 0 (second_of _ _ _ _ _ _ goes_on)))
-        (λ _. each_end (NoMark selection.selector.0) (Replies selection n) selection _
-        (λ k d _. record { looks = refl; looks_interest = refl; removes = refl; puts = refl }) refl refl refl),
+        (λ _. each_end (NoMark selection.selector.0) (Replies selection n) selection _ refl
+        (record {
+          frees = λ _. refl;
+          at = λ _. record { looks = refl; looks_interest = refl; removes = refl; puts = refl };
+        }) refl refl refl),
   ),
 )
 
@@ -242,8 +245,8 @@ any-done : (s : ℕ) (xs : List Act) (selection : Selection) (answer : Selected)
     → Always (λ acts r. KeepsTurn s (xs ++ acts) r) (end_selection selection answer)
 any-done s xs selection answer =
     always_bind (λ _ _. ⊤) (λ acts r. KeepsTurn s (xs ++ acts) r)
-    (sweep_over selection.kept (λ i _. remove_if_cancelled selection.selector i) tt) _
-    (always_any (sweep_over selection.kept (λ i _. remove_if_cancelled selection.selector i) tt)) (λ _ _ _ _ _ _ _. tt)
+    (remove_all_cancelled selection.selector) _ (always_any (remove_all_cancelled selection.selector))
+    (λ _ _ _ _ _ _ _. tt)
 
 after-keeps : (selection : Selection) (elapsed : Bool) (n : ℕ)
     → Always (KeepsTurn selection.selector.0) (after_marks selection elapsed n)

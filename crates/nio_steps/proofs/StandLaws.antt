@@ -22,17 +22,16 @@ use Rattle.nio_history.specs.declared.act.Act.{Act}
 use Rattle.nio_history.specs.declared.act.Act.TheVariants.{BeginLook, ShutBit}
 use Rattle.nio_history.specs.declared.event.Event.{Event}
 use Rattle.nio_history.specs.declared.found.GateWord.{GateWord}
-use Rattle.nio_steps.proofs.BeginLaws.{none_yet, begin-parts}
-use Rattle.nio_steps.proofs.EachLaws.{each_over, each_run}
+use Rattle.nio_steps.proofs.BeginLaws.{begin-parts}
+use Rattle.nio_steps.proofs.EachLaws.{each_run}
 use Rattle.nio_steps.proofs.OwnActs.{cut_at, at_own}
-use Rattle.nio_steps.proofs.SelectionAsks.{each_list, each_look, goes_any}
+use Rattle.nio_steps.proofs.SelectionAsks.{each_over_looked}
 use Rattle.nio_steps.proofs.SelectionLaws.{NoGive, asks_give, no_gives, not-gives}
-use Rattle.nio_steps.proofs.Lists.{all_any}
 use Rattle.nio_steps.specs.Laws.{SelectionsStand, ClosingsStand}
 use Rattle.nio_steps.specs.Runs.{Completes}
-use Rattle.nio_steps.specs.SelectCalls.{LookedOver, list_below, look_over}
+use Rattle.nio_steps.specs.SelectCalls.{over_listed, look_over}
 use Rattle.nio_steps.specs.Steps.{gate_in}
-use Rattle.nio_steps.specs.Sweeps.{sweep_over}
+use Rattle.nio_steps.specs.declared.looked.LookedKey.{LookedKey}
 
 -- ---- a beginning of a selection
 
@@ -64,22 +63,16 @@ begun_since l n events s before found later legal own opens keeps =
     (only_itself_gives_back l n (cut.past ++ e ∷ []) cut.later (subst (IsLegal l) (sym joined) legal) (a_selection s)
     (ap (has (gives_turn s.0)) cut.mine_later ∙ keeps) there)
 
--- the acts over the listed indexes don't give the turn back
-pub over-keeps : (s : SelNo) (listed : List ℕ) (over : List Act) (found : LookedOver)
-    → Completes (sweep_over listed (look_over s) none_yet) over found → has (gives_turn s.0) over ≡ false
-over-keeps s listed over found run =
-    no_gives s.0 over (each_run (NoGive s.0) (λ _. ⊤) (sweep_over listed (look_over s) none_yet) over found
-    (each_over (NoGive s.0) (λ _. ⊤) (λ _. ⊤) listed (look_over s) none_yet (all_any listed) tt
-    (λ i past _ _. each_look (NoGive s.0) s i
-    (record { looks = refl; looks_interest = refl; removes = refl; puts = refl }) (λ _. ⊤) past
-    (goes_any i past))) run).0
-
-pub lists-keep : (s : SelNo) (bound : ℕ) (lists : List Act) (listed : List ℕ)
-    → Completes (list_below s bound) lists listed → has (gives_turn s.0) lists ≡ false
-lists-keep s bound lists listed run =
-    no_gives s.0 lists
-    (each_run (NoGive s.0) (λ _. ⊤) (list_below s bound) lists listed (each_list (NoGive s.0) s bound (λ _. refl))
-    run).0
+-- going over the indexes doesn't give the turn back
+pub over-keeps : (s : SelNo) (bound : ℕ) (over : List Act) (looked : List LookedKey)
+    → Completes (over_listed s bound (look_over s) []) over looked → has (gives_turn s.0) over ≡ false
+over-keeps s bound over looked run =
+    no_gives s.0 over (each_run (NoGive s.0) (λ _. ⊤) (over_listed s bound (look_over s) []) over looked
+    (each_over_looked (NoGive s.0) s bound
+    (record {
+      frees = λ _. refl;
+      at = λ _. record { looks = refl; looks_interest = refl; removes = refl; puts = refl };
+    })) run).0
 
 -- who began a selection has begun on its selector, in every legal history
 pub selections_stand : SelectionsStand
@@ -88,12 +81,10 @@ selections_stand l n events selection legal begun =
     let first = begin-parts s selection.mode begun.beginning selection begun.begins in
     let found = gate_in (answer_of first.look) in
     let before = first.gate ∷ first.take ∷ [] in
-    let rest = first.keys ∷ (first.lists ++ first.over) in
-    let keeps_lists = lists-keep s selection.bound first.lists first.listed first.runs_lists in
-    let keeps_over = over-keeps s first.listed first.over _ first.runs_over in
+    let rest = first.keys ∷ first.over in
+    let keeps_over = over-keeps s selection.bound first.over selection.looked first.runs_over in
     let keeps_rest : has (gives_turn s.0) rest ≡ false
-    = or_from _ _ (not-gives s.0 first.keys (ap (asks_give s.0) first.asks_keys))
-    (list_any-append (gives_turn s.0) first.lists first.over ∙ or_from _ _ keeps_lists keeps_over) in
+    = or_from _ _ (not-gives s.0 first.keys (ap (asks_give s.0) first.asks_keys)) keeps_over in
     let acts : begun.beginning ≡ before ++ BeginLook s found ∷ rest
     = first.parts ∙ ap (λ x. first.gate ∷ first.take ∷ x ∷ rest) (look-act s first.look first.asks_look) in
     let own : mine n events ≡ (begun.earlier ++ before) ++ BeginLook s found ∷ (rest ++ begun.since)

@@ -73,8 +73,11 @@ module _ (selection : Selection) (pairs : List (ℕ × ℕ)) where
         λ gate. (
           tt,
           λ interrupted. each_if Asks (λ _. ⊤) _ (reply (again selection)) (end_selection selection _) (λ _. tt)
-              (λ _. each_end Asks (λ _. ⊤) selection _
-              (λ k d _. record { looks = tt; looks_interest = tt; removes = tt; puts = tt }) tt tt tt),
+              (λ _. each_end Asks (λ _. ⊤) selection _ tt
+              (record {
+                frees = λ _. tt;
+                at = λ _. record { looks = tt; looks_interest = tt; removes = tt; puts = tt };
+              }) tt tt tt),
         ),
       ))
 

@@ -1,20 +1,19 @@
 -- What marks no key: the beginning of a selection, and a `told` after which it goes on.
-use Rattle.std.proofs.Common.{◌≡◌, ℕ, Bool, false, Result, Err, List, refl, ap, ◌∙◌}
+use Rattle.std.proofs.Common.{◌≡◌, ℕ, Bool, false, Result, Err, List, [], refl, ap, ◌∙◌}
 use Rattle.std.specs.Prelude.{⊤, is_some}
 use Rattle.nio_base.specs.declared.numbers.SelNo.{SelNo}
 use Rattle.nio_history.specs.OwnEvents.{has, count}
 use Rattle.nio_history.specs.declared.act.Act.{Act}
 use Rattle.nio_history.specs.declared.found.Mode.{Mode}
-use Rattle.nio_steps.proofs.BeginLaws.{none_yet}
 use Rattle.nio_steps.proofs.Each.{Each}
-use Rattle.nio_steps.proofs.EachLaws.{each_bind, each_if, each_over, each_run, split}
-use Rattle.nio_steps.proofs.SelectionAsks.{AsksAt, each_list, each_look, goes_any}
+use Rattle.nio_steps.proofs.EachLaws.{each_bind, each_if, each_run, split}
+use Rattle.nio_steps.proofs.SelectionAsks.{each_over_looked}
 use Rattle.nio_steps.proofs.SelectionLaws.{NoMark, Replies, after-replies, no_marks, none-count, none_of-append}
 use Rattle.nio_steps.proofs.SelectionLaws.{over-counts}
 use Rattle.nio_steps.proofs.Walks.{always_run}
 use Rattle.nio_steps.specs.Plan.{reply}
 use Rattle.nio_steps.specs.SelectCalls.{Selection, Begins, Poll, Tells, again, begin_lacks_memory, begin_below}
-use Rattle.nio_steps.specs.SelectCalls.{begin_open, begin_with_turn, given_back, list_below, look_over, try_begin_plan}
+use Rattle.nio_steps.specs.SelectCalls.{begin_open, begin_with_turn, given_back, over_listed, look_over, try_begin_plan}
 use Rattle.nio_steps.specs.SelectCalls.{mark_entry, after_marks, told_plan}
 use Rattle.nio_steps.specs.Selections.{marks_on}
 use Rattle.nio_steps.specs.Steps.{gate_in, holder_in}
@@ -25,12 +24,12 @@ module _ (n : ℕ) (s : SelNo) (mode : Mode) (lacks : Bool) where
   below-unmarked : (bound : ℕ) → Each (NoMark n) (λ _. ⊤) (begin_below s mode bound lacks)
   below-unmarked bound =
       each_if (NoMark n) (λ _. ⊤) lacks (given_back s (Err BeginError.Memory)) _ (λ _. (refl, λ _. tt))
-      (λ _. each_bind (NoMark n) (λ _. ⊤) (λ _. ⊤) (list_below s bound) _ (each_list (NoMark n) s bound (λ j. refl))
-      (λ listed _. each_bind (NoMark n) (λ _. ⊤) (λ _. ⊤) (sweep_over listed (look_over s) none_yet) _
-      (each_over (NoMark n) (AsksAt (NoMark n) s) (λ _. ⊤) listed (look_over s) none_yet
-      (λ k d _. record { looks = refl; looks_interest = refl; removes = refl; puts = refl }) tt
-      (λ i found asks _. each_look (NoMark n) s i asks (λ _. ⊤) found (goes_any i found)))
-      (λ _ _. tt)))
+      (λ _. each_bind (NoMark n) (λ _. ⊤) (λ _. ⊤) (over_listed s bound (look_over s) []) _
+      (each_over_looked (NoMark n) s bound
+      (record {
+        frees = λ _. refl;
+        at = λ _. record { looks = refl; looks_interest = refl; removes = refl; puts = refl };
+      })) (λ _ _. tt))
 
   begin-unmarked : Each (NoMark n) (λ _. ⊤) (try_begin_plan s mode lacks)
   unfolding try_begin_plan

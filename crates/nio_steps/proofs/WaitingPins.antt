@@ -10,9 +10,10 @@ use Rattle.nio_steps.specs.PinLaws.{GivesPinsBack}
 use Rattle.nio_steps.specs.PipeCalls.{Waits}
 use Rattle.nio_steps.specs.Plan.{Plan}
 use Rattle.nio_steps.specs.Runs.{Completes}
-use Rattle.nio_steps.specs.SelectCalls.{Selection, Begins, Poll, Tells, SelectsRest, Selects, selected, not_begun, left}
+use Rattle.nio_steps.specs.SelectCalls.{Selection, Begins, Poll, Tells, SelectsRest, MakesSelection, selected}
+use Rattle.nio_steps.specs.SelectCalls.{not_begun, left}
 use Rattle.nio_steps.specs.SelectCalls.{leave_plan, try_finish_plan, shut_plan, ShutReply, closing, already_closed}
-use Rattle.nio_steps.specs.SelectCalls.{ClosesRest, Closes}
+use Rattle.nio_steps.specs.SelectCalls.{ClosesRest, ClosesSelector}
 use Rattle.nio_steps.specs.Waiting.{Then, Run, acts_of, Tries, Repeats, Retries}
 use Rattle.nio_steps.specs.declared.refusal.BeginError.{BeginError}
 
@@ -68,13 +69,13 @@ module _ (tells : (selection : Selection) (poll : Poll) → GivesPinsBack (Tells
 pub selects-give : (s : SelNo) (mode : Mode) (polls : List Poll) → GivesPinsBack (Begins s mode)
     → ((selection : Selection) (poll : Poll) → GivesPinsBack (Tells selection poll))
     → ((selection : Selection) → GivesPinsBack (Completes (leave_plan selection)))
-    → GivesPinsBack (Selects s mode polls)
+    → GivesPinsBack (MakesSelection s mode polls)
 selects-give s mode polls begins tells leaves = then-give (retries-give begins) (rest-gives tells leaves polls)
 
 -- ---- closing a selector
 
 pub closes-give : (s : SelNo) → GivesPinsBack (Completes (shut_plan s)) → GivesPinsBack (Completes (try_finish_plan s))
-    → GivesPinsBack (Closes s)
+    → GivesPinsBack (ClosesSelector s)
 closes-give s shuts finishes = then-give shuts by_reply
   where
     by_reply : (reply : ShutReply) → GivesPinsBack (ClosesRest s reply)

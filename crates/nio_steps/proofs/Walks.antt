@@ -38,6 +38,13 @@ always_bind First P (ask q next) f here later =
     λ act asks. always_bind (λ xs a. First (act ∷ xs) a) (λ xs b. P (act ∷ xs) b) (next (answer_of act)) f
     (here act asks) (λ xs a. later (act ∷ xs) a)
 
+-- what holds of each run of one plan and then another holds of the first with each run of the second
+pub always_unbind : {A B : Type 0} (P : List Act → B → Type 0) (plan : Plan A) (f : A → Plan B)
+    → Always P (plan >>= f) → Always (λ xs a. Always (λ ys r. P (xs ++ ys) r) (f a)) plan
+always_unbind P (reply a) f here = here
+always_unbind P (ask q next) f here =
+    λ act asks. always_unbind (λ xs b. P (act ∷ xs) b) (next (answer_of act)) f (here act asks)
+
 pub always_if : {R : Type 0} (P : List Act → R → Type 0) (b : Bool) (x y : Plan R)
     → (b ≡ true → Always P x) → (b ≡ false → Always P y) → Always P (if b then x else y)
 always_if P true x y this that = this refl

@@ -4,21 +4,22 @@ use Rattle.nio_base.specs.declared.kind.Kind.{Kind}
 use Rattle.nio_base.specs.declared.kind.Kind.TheVariants.{Stream, Source}
 use Rattle.nio_base.specs.declared.limits.Limits.{Limits}
 use Rattle.nio_base.specs.declared.numbers.CallerNo.{CallerNo}
-use Rattle.nio_base.specs.declared.numbers.ChanNo.{ChanNo}
+use Rattle.nio_base.specs.declared.numbers.ChanId.{ChanId}
 use Rattle.nio_base.specs.declared.numbers.KeyNo.{KeyNo}
 use Rattle.nio_base.specs.declared.numbers.SelNo.{SelNo}
 use Rattle.nio_history.specs.Answers.{bits_below, count_below}
-use Rattle.nio_history.specs.State.{State, opening}
+use Rattle.nio_history.specs.State.{State, opening, with_chan, last_serial}
 use Rattle.nio_history.specs.declared.found.Mode.{Mode}
 use Rattle.nio_history.specs.declared.found.Mode.TheVariants.{Now as WithoutWaiting, Wait, For}
 use Rattle.nio_history.specs.declared.found.Stage.{Stage}
 use Rattle.nio_history.specs.declared.why.Why.TheVariants.{Ready, Closed, Now, Woken, Interrupted, Elapsed}
-use Rattle.nio_steps.specs.ChannelCalls.{open_channel_plan, is_open_plan, is_blocking_plan, is_registered_plan}
+use Rattle.nio_steps.specs.ChannelCalls.{open_channel_plan, reopen_channel_plan, is_open_plan, is_blocking_plan}
+use Rattle.nio_steps.specs.ChannelCalls.{is_registered_plan}
 use Rattle.nio_steps.specs.ChannelCalls.{key_for_plan, try_set_blocking_plan, try_register_plan, close_channel_plan}
 use Rattle.nio_steps.specs.KeyCalls.{find_selector_plan, find_channel_plan, find_plan, is_valid_plan, interest_plan}
 use Rattle.nio_steps.specs.KeyCalls.{set_interest_plan, interest_or_plan, interest_and_plan, ready_plan, cancel_plan}
 use Rattle.nio_steps.specs.KeyCalls.{unselect_plan, attach_plan, attachment_plan}
-use Rattle.nio_steps.specs.Names.{selector, channel}
+use Rattle.nio_steps.specs.Names.{selector, channel, channel_of}
 use Rattle.nio_steps.specs.Perform.{perform}
 use Rattle.nio_steps.specs.PipeCalls.{PipeEnds, pipe_plan, try_read_plan, try_write_plan}
 use Rattle.nio_steps.specs.Plan.{Plan}
@@ -26,7 +27,7 @@ use Rattle.nio_steps.specs.SelectCalls.{open_selector_plan, try_begin_plan, told
 use Rattle.nio_steps.specs.SelectCalls.{try_finish_plan, keys_plan, selected_keys_plan, wakeup_plan, interrupt_plan}
 use Rattle.nio_steps.specs.SelectCalls.{interrupted_plan, done, again, closing, already_closed, closed, busy, Selection}
 use Rattle.nio_steps.specs.SelectCalls.{not_free}
-use Rattle.nio_steps.specs.Steps.{pin, unpin}
+use Rattle.nio_steps.specs.Steps.{pin, unpin, try_hold_bit, release}
 use Rattle.nio_steps.specs.Sweeps.{sweep, seek, sweep_over}
 use Rattle.nio_steps.specs.declared.refusal.BeginError.{BeginError}
 use Rattle.nio_steps.specs.declared.refusal.ChannelError.{ChannelError}
@@ -34,14 +35,16 @@ use Rattle.nio_steps.specs.declared.refusal.KeyError.{KeyError}
 use Rattle.nio_steps.specs.declared.refusal.ListError.{ListError}
 use Rattle.nio_steps.specs.declared.refusal.PipeError.{PipeError}
 use Rattle.nio_steps.specs.declared.refusal.PipeMakeError.{PipeMakeError}
+use Rattle.nio_steps.specs.declared.refusal.ReopenError.{ReopenError}
+use Rattle.nio_steps.specs.declared.refusal.ReopenError.TheVariants.{Lost, Open, SerialsSpent, Registered}
 
 -- all that the cases compute with
 plans : Unit {0}
 unfolding not_free count_below pipe_plan try_read_plan try_write_plan open_channel_plan is_open_plan is_blocking_plan
-    is_registered_plan key_for_plan try_set_blocking_plan try_register_plan close_channel_plan find_selector_plan
-    find_channel_plan find_plan is_valid_plan interest_plan set_interest_plan interest_or_plan interest_and_plan
-    ready_plan cancel_plan unselect_plan attach_plan attachment_plan open_selector_plan try_begin_plan told_plan
-    leave_plan shut_plan try_finish_plan keys_plan selected_keys_plan wakeup_plan interrupt_plan
+    reopen_channel_plan is_registered_plan key_for_plan try_set_blocking_plan try_register_plan close_channel_plan
+    find_selector_plan find_channel_plan find_plan is_valid_plan interest_plan set_interest_plan interest_or_plan
+    interest_and_plan ready_plan cancel_plan unselect_plan attach_plan attachment_plan open_selector_plan try_begin_plan
+    told_plan leave_plan shut_plan try_finish_plan keys_plan selected_keys_plan wakeup_plan interrupt_plan
     interrupted_plan sweep seek sweep_over bits_below
 plans = tt
 
@@ -59,8 +62,12 @@ t2 = record { 0 = 2 }
 abbrev s0 : SelNo
 s0 = selector 0
 
-abbrev c0 : ChanNo
-c0 = channel 0
+-- the channel of this number with this serial
+abbrev c : ℕ → ℕ → ChanId
+c n serial = channel_of (channel n) serial
+
+abbrev c0 : ChanId
+c0 = c 0 0
 
 -- the key of selector 0 with this index and serial
 abbrev k : ℕ → ℕ → KeyNo
@@ -93,14 +100,13 @@ sel mode ops =
       looked = record {
         index = 0;
         serial = 0;
-        channel = c0;
+        channel = channel 0;
         interest = ops;
       } ∷ [];
-      kept = 0 ∷ [];
     }
 
 abbrev no_key : Mode → Selection
-no_key mode = record { selector = s0; mode = mode; bound = 1; looked = []; kept = [] }
+no_key mode = record { selector = s0; mode = mode; bound = 1; looked = [] }
 
 abbrev Begins : CallerNo → Mode → ℕ → (State → Type 0) → State → Type 0
 Begins me mode ops = Says me (try_begin_plan s0 mode false) (Ok (sel mode ops))
@@ -230,8 +236,12 @@ attachments : Setup Source 1
 unfolding plans
 attachments = (refl, (refl, (refl, (refl, (refl, (refl, (refl, (refl, (refl, (refl, tt))))))))))
 
-timeouts : Setup Source 1 (Begins t1 (For (record { after_the_first = 4 })) 1 (Says t1 (told_plan (sel (For (record { after_the_first = 4 })) 1) [] false) (again (sel (For (record { after_the_first = 4 })) 1))
-    (Says t1 (told_plan (sel (For (record { after_the_first = 4 })) 1) [] true) (done (record { count = 0; why = Elapsed })) (Begins t1 Wait 1
+-- five milliseconds
+abbrev five : Mode
+five = For (record { after_the_first = 4 })
+
+timeouts : Setup Source 1 (Begins t1 five 1 (Says t1 (told_plan (sel five 1) [] false) (again (sel five 1))
+    (Says t1 (told_plan (sel five 1) [] true) (done (record { count = 0; why = Elapsed })) (Begins t1 Wait 1
     (Says t1 (told_plan (sel Wait 1) [] true) (again (sel Wait 1)) End))))) opening
 unfolding plans
 timeouts = (refl, (refl, (refl, (refl, (refl, (refl, (refl, (refl, (refl, tt)))))))))
@@ -240,20 +250,20 @@ abbrev few : Limits
 few = record { callers = 2; selectors = 1; channels = 4; keys = 2 }
 
 abbrev Opens : ℕ → (State → Type 0) → State → Type 0
-Opens n = Says t1 (open_channel_plan few Source) (Ok (channel n))
+Opens n = Says t1 (open_channel_plan few Source) (Ok (c n 0))
 
 abbrev Unblocks : ℕ → (State → Type 0) → State → Type 0
-Unblocks n = Says t1 (try_set_blocking_plan few (channel n) false) (Ok tt)
+Unblocks n = Says t1 (try_set_blocking_plan few (c n 0) false) (Ok tt)
 
 small_limits : Says t1 (open_selector_plan few) (Ok s0) (Says t1 (open_selector_plan few) (Err (record {}))
     (Opens 0 (Opens 1 (Opens 2 (Opens 3 (Says t1 (open_channel_plan few Source) (Err ChannelError.ChannelsSpent)
     (Unblocks 0
     (Unblocks 1
     (Unblocks 2
-    (Says t1 (try_register_plan few s0 (channel 0) 1 0) (Ok k0)
-    (Says t1 (try_register_plan few s0 (channel 1) 1 0) (Ok (k 1 0))
-    (Says t1 (try_register_plan few s0 (channel 2) 1 0) (Err ChannelError.Full)
-    (Says t1 (try_register_plan few s0 (channel 0) 0 0) (Ok k0) End))))))))))))) opening
+    (Says t1 (try_register_plan few s0 (c 0 0) 1 0) (Ok k0)
+    (Says t1 (try_register_plan few s0 (c 1 0) 1 0) (Ok (k 1 0))
+    (Says t1 (try_register_plan few s0 (c 2 0) 1 0) (Err ChannelError.Full)
+    (Says t1 (try_register_plan few s0 (c 0 0) 0 0) (Ok k0) End))))))))))))) opening
 unfolding plans
 small_limits =
     (refl, (refl, (refl, (refl, (refl, (refl, (refl, (refl, (refl, (refl, (refl, (refl, (refl, (refl, tt))))))))))))))
@@ -269,8 +279,8 @@ no_memory = (refl, (refl, (refl, (refl, (refl, (refl, (refl, (refl, tt))))))))
 names : Setup Source 1
     (Says t1 (find_selector_plan limits 0) (Some s0)
     (Says t1 (find_selector_plan limits 1) None (Says t1 (find_selector_plan limits 2) None
-    (Says t1 (find_channel_plan limits 0) (Some c0)
-    (Says t1 (find_channel_plan limits 1) None
+    (Says t1 (find_channel_plan limits 0 0) (Some c0)
+    (Says t1 (find_channel_plan limits 1 0) None
     (Says t1 (find_plan limits s0 0 0) (Some k0) (Says t1 (find_plan limits s0 1 0) None
     (Says t1 (find_plan limits s0 4 0) None
     (Says t1 (is_blocking_plan c0) false
@@ -295,17 +305,17 @@ one_key = record { callers = 4; selectors = 1; channels = 2; keys = 1 }
 
 -- a removed key, on which another caller has a pin
 abbrev removed : Stage
-removed = record { claimed = true; published = true; cancelled = true; removed = true; chan = c0; serial = 0 }
+removed = record { claimed = true; published = true; cancelled = true; removed = true; chan = channel 0; serial = 0 }
 
-abbrev Registers : ChanNo → ℕ → Result KeyNo ChannelError → (State → Type 0) → State → Type 0
-Registers c att = Says t1 (try_register_plan one_key s0 c 1 att)
+abbrev Registers : ChanId → ℕ → Result KeyNo ChannelError → (State → Type 0) → State → Type 0
+Registers ch att = Says t1 (try_register_plan one_key s0 ch 1 att)
 
 index_given_again : Says t1 (open_selector_plan one_key) (Ok s0)
     (Opens 0 (Opens 1 (Unblocks 0 (Unblocks 1 (Registers c0 5 (Ok k0)
     (Says t1 (cancel_plan k0) tt (Says t1 (try_begin_plan s0 WithoutWaiting false) (Ok (no_key WithoutWaiting))
     (Says t1 (told_plan (no_key WithoutWaiting) [] false) (done (record { count = 0; why = Now }))
     (Says t2 (pin s0 0) removed
-    (Registers (channel 1) 0 (Err ChannelError.Full) (Says t2 (unpin s0 0) tt (Registers (channel 1) 0 (Ok (k 0 1))
+    (Registers (c 1 0) 0 (Err ChannelError.Full) (Says t2 (unpin s0 0) tt (Registers (c 1 0) 0 (Ok (k 0 1))
     (Says t1 (is_valid_plan k0) false
     (Says t1 (attachment_plan k0) 0
     (Says t1 (ready_plan (k 0 1)) (Ok 0) (Says t1 (find_plan one_key s0 0 0) (Some k0)
@@ -331,19 +341,147 @@ index_given_again = (
   ),
 )
 
+-- ---- a number that is given again
+
+abbrev one_channel : Limits
+one_channel = record { callers = 4; selectors = 1; channels = 1; keys = 1 }
+
+abbrev Reopens : ℕ → Result ChanId ReopenError → (State → Type 0) → State → Type 0
+Reopens serial = Says t1 (reopen_channel_plan one_channel (c 0 serial))
+
+-- a closed channel's number goes to a channel of its kind, and the old name is that of a closed channel
+number_given_again : Says t1 (open_channel_plan one_channel Source) (Ok c0)
+    (Reopens 0 (Err Open)
+    (Says t1 (open_channel_plan one_channel Source) (Err ChannelError.ChannelsSpent)
+    (Says t1 (close_channel_plan one_channel c0) true
+    (Says t1 (open_channel_plan one_channel Stream) (Err ChannelError.ChannelsSpent)
+    (Says t1 (open_channel_plan one_channel Source) (Ok (c 0 1))
+    (Says t1 (is_open_plan c0) false (Says t1 (is_open_plan (c 0 1)) true
+    (Says t1 (is_blocking_plan c0) false (Says t1 (is_blocking_plan (c 0 1)) true
+    (Says t1 (try_set_blocking_plan one_channel c0 false) (Err ChannelError.ClosedChannel)
+    (Says t1 (close_channel_plan one_channel c0) false
+    (Reopens 0 (Err Lost)
+    (Says t1 (find_channel_plan one_channel 0 0) (Some c0) (Says t1 (find_channel_plan one_channel 0 1) (Some (c 0 1))
+    (Says t1 (find_channel_plan one_channel 0 2) None End))))))))))))))) opening
+unfolding plans
+number_given_again = (
+  refl,
+  (
+    refl,
+    (
+      refl,
+      (
+        refl,
+        (
+          refl,
+          (
+            refl,
+            (
+              refl,
+              (
+                refl,
+                (refl, (refl, (refl, (refl, (refl, (refl, (refl, (refl, tt)))))))),
+              ),
+            ),
+          ),
+        ),
+      ),
+    ),
+  ),
+)
+
+-- not while a key of the channel is in a key set, nor while another caller has the hold
+reopened_once_clear : Says t1 (open_selector_plan one_channel) (Ok s0)
+    (Says t1 (open_channel_plan one_channel Source) (Ok c0)
+    (Says t1 (try_set_blocking_plan one_channel c0 false) (Ok tt)
+    (Says t1 (try_register_plan one_channel s0 c0 1 0) (Ok k0)
+    (Says t1 (close_channel_plan one_channel c0) true (Says t1 (key_for_plan c0 s0) (Some k0)
+    (Says t1 (is_registered_plan one_channel c0) true
+    (Reopens 0 (Err Registered)
+    (Says t1 (open_channel_plan one_channel Source) (Err ChannelError.ChannelsSpent)
+    (Says t1 (try_begin_plan s0 WithoutWaiting false) (Ok (no_key WithoutWaiting))
+    (Says t1 (told_plan (no_key WithoutWaiting) [] false) (done (record { count = 0; why = Now }))
+    (Says t2 (try_hold_bit (channel 0)) None
+    (Reopens 0 (Err ReopenError.Busy) (Says t2 (release (channel 0)) tt
+    (Reopens 0 (Ok (c 0 1))
+    (Says t1 (try_set_blocking_plan one_channel (c 0 1) false) (Ok tt)
+    (Says t1 (try_register_plan one_channel s0 c0 1 0) (Err ChannelError.ClosedChannel)
+    (Says t1 (try_register_plan one_channel s0 (c 0 1) 1 0) (Ok (k 0 1))
+    (Says t1 (key_for_plan c0 s0) None (Says t1 (is_registered_plan one_channel c0) false
+    (Says t1 (key_for_plan (c 0 1) s0) (Some (k 0 1))
+    (Says t1 (is_registered_plan one_channel (c 0 1)) true End))))))))))))))))))))) opening
+unfolding plans
+reopened_once_clear = (
+  refl,
+  (
+    refl,
+    (
+      refl,
+      (
+        refl,
+        (
+          refl,
+          (
+            refl,
+            (
+              refl,
+              (
+                refl,
+                (
+                  refl,
+                  (
+                    refl,
+                    (
+                      refl,
+                      (refl, (refl, (refl, (refl, (refl, (refl, (refl, (refl, (refl, (refl, (refl, tt))))))))))),
+                    ),
+                  ),
+                ),
+              ),
+            ),
+          ),
+        ),
+      ),
+    ),
+  ),
+)
+
+-- a closed channel with the last serial
+abbrev worn : State
+worn = with_chan opening 0
+    (record { made = true; kind = Source; closed = true; blocking = true; serial = last_serial })
+
+serials_spent : Reopens last_serial (Err SerialsSpent)
+    (Says t1 (open_channel_plan one_channel Source) (Err ChannelError.ChannelsSpent) End) worn
+unfolding plans
+serials_spent = (refl, (refl, tt))
+
+-- ---- a key that is registered during a selection
+
+cancelled_meanwhile : Setup Source 1
+    (Says t2 (open_channel_plan limits Source) (Ok (c 1 0))
+    (Says t2 (try_set_blocking_plan limits (c 1 0) false) (Ok tt)
+    (Begins t1 WithoutWaiting 1
+    (Says t2 (try_register_plan limits s0 (c 1 0) 1 0) (Ok (k 1 0)) (Says t2 (cancel_plan (k 1 0)) tt
+    (Says t1 (keys_plan s0 false) (Ok (k0 ∷ k 1 0 ∷ []))
+    (Says t1 (told_plan (sel WithoutWaiting 1) [] false) (done (record { count = 0; why = Now }))
+    (Says t1 (keys_plan s0 false) (Ok (k0 ∷ [])) End)))))))) opening
+unfolding plans
+cancelled_meanwhile = (refl, (refl, (refl, (refl, (refl, (refl, (refl, (refl, (refl, (refl, (refl, (refl, tt))))))))))))
+
 -- ---- pipes
 
 abbrev ends : PipeEnds
-ends = record { source = channel 0; sink = channel 1 }
+ends = record { source = c 0 0; sink = c 1 0 }
 
 pipes : Says t1 (pipe_plan few false) (Ok ends)
-    (Says t1 (try_read_plan few (channel 0)) (Ok true) (Says t1 (try_set_blocking_plan few (channel 1) false) (Ok tt)
-    (Says t1 (try_write_plan few (channel 0) (channel 1)) (Ok false)
-    (Says t2 (interrupt_plan t1) tt (Says t1 (try_read_plan few (channel 0)) (Err PipeError.ClosedByInterrupt)
-    (Says t1 (try_read_plan few (channel 0)) (Err PipeError.ClosedChannel)
-    (Says t1 (try_write_plan few (channel 0) (channel 1)) (Err PipeError.BrokenPipe)
+    (Says t1 (try_read_plan few (c 0 0)) (Ok true) (Says t1 (try_set_blocking_plan few (c 1 0) false) (Ok tt)
+    (Says t1 (try_write_plan few (c 0 0) (c 1 0)) (Ok false)
+    (Says t2 (interrupt_plan t1) tt (Says t1 (try_read_plan few (c 0 0)) (Err PipeError.ClosedByInterrupt)
+    (Says t1 (try_read_plan few (c 0 0)) (Err PipeError.ClosedChannel)
+    (Says t1 (try_write_plan few (c 0 0) (c 1 0)) (Err PipeError.BrokenPipe)
     (Opens 2 (Says t1 (pipe_plan few true) (Err PipeMakeError.Memory)
     (Says t1 (pipe_plan few false) (Err PipeMakeError.ChannelsSpent)
-    (Says t1 (is_open_plan (channel 3)) false End))))))))))) opening
+    (Says t1 (is_open_plan (c 3 0)) false End))))))))))) opening
 unfolding plans
 pipes = (refl, (refl, (refl, (refl, (refl, (refl, (refl, (refl, (refl, (refl, (refl, (refl, tt))))))))))))

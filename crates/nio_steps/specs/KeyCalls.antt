@@ -4,13 +4,13 @@ use Rattle.std.specs.Prelude.{Err, bit_and}
 use Rattle.std.specs.Int.{bit_at}
 use Rattle.nio_base.specs.Kind.{valid_operations}
 use Rattle.nio_base.specs.declared.limits.Limits.{Limits}
-use Rattle.nio_base.specs.declared.numbers.ChanNo.{ChanNo}
+use Rattle.nio_base.specs.declared.numbers.ChanId.{ChanId}
 use Rattle.nio_base.specs.declared.numbers.KeyNo.{KeyNo}
 use Rattle.nio_base.specs.declared.numbers.SelNo.{SelNo}
-use Rattle.nio_history.specs.Sets.{fits, was_published, is_in_key_set, is_valid_key}
+use Rattle.nio_history.specs.Sets.{fits, was_published, is_in_key_set, is_valid_key, was_opened}
 use Rattle.nio_history.specs.declared.found.Chan.{Chan}
 use Rattle.nio_history.specs.declared.found.Stage.{Stage}
-use Rattle.nio_steps.specs.Names.{selector, channel}
+use Rattle.nio_steps.specs.Names.{selector, channel, channel_of}
 use Rattle.nio_steps.specs.Plan.{Plan, reply, ◌>>=◌, ◌>>◌, when}
 use Rattle.nio_steps.specs.Steps.{look_selectors, look_key, cancel_key, look_interest, swap_interest, or_interest}
 use Rattle.nio_steps.specs.Steps.{and_interest, swap_note, look_note, look_channel, look_mark, unselect_bit, pin, unpin}
@@ -29,10 +29,11 @@ find_selector_plan l n = if not (nat_lt n l.selectors) then reply None else do
   made ← look_selectors
   reply (if has_bit made n then Some (selector n) else None)
 
-unfoldable pub find_channel_plan : Limits → ℕ → Plan (Option ChanNo)
-find_channel_plan l n = if not (nat_lt n l.channels) then reply None else do
+-- the same of a channel, by its number and its serial. A lower serial than the one that the number has was opened
+unfoldable pub find_channel_plan : Limits → ℕ → ℕ → Plan (Option ChanId)
+find_channel_plan l n serial = if not (nat_lt n l.channels) then reply None else do
   found ← look_channel (channel n)
-  reply (if found.made then Some (channel n) else None)
+  reply (if was_opened found serial then Some (channel_of (channel n) serial) else None)
 
 -- the same of a key, by its index and its serial: it has to have been published. A lower serial than the one
 -- that the index has was published

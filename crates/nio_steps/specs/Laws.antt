@@ -1,14 +1,16 @@
 -- Laws of the plans: what holds after a call that made the steps of its plan.
-use Rattle.std.specs.Prelude.{◌≡◌, ℕ, ◌==◌, ◌<◌, not, Result, Ok, List, ◌∷◌, ◌++◌, map, IsTrue}
+use Rattle.std.specs.Prelude.{◌≡◌, ℕ, ◌==◌, ◌<◌, Bool, false, not, Option, Some, None, Result, Ok, List, ◌∷◌, ◌++◌}
+use Rattle.std.specs.Prelude.{map, IsTrue, IsFalse}
 use Rattle.std.specs.List.{All, AllPairs, Contains}
 use Rattle.nio_base.specs.declared.limits.Limits.{Limits}
 use Rattle.nio_base.specs.declared.numbers.CallerNo.{CallerNo}
 use Rattle.nio_base.specs.declared.numbers.SelNo.{SelNo}
 use Rattle.nio_history.specs.Conditions.{has_begun, is_closer}
 use Rattle.nio_history.specs.Histories.{state_after, mine, event_of, IsLegal}
-use Rattle.nio_history.specs.OwnEvents.{count}
+use Rattle.nio_history.specs.OwnEvents.{has, count, gives_turn}
 use Rattle.nio_history.specs.Sets.{is_in_key_set, is_valid, was_claimed, was_published, was_cancelled, was_removed}
 use Rattle.nio_history.specs.State.{State}
+use Rattle.nio_history.specs.Turns.{removes_on}
 use Rattle.nio_history.specs.declared.act.Act.{Act}
 use Rattle.nio_history.specs.declared.act.Act.TheVariants.{LookKey, LookInterest, LookKeys, Mark}
 use Rattle.nio_history.specs.declared.event.Event.{Event}
@@ -21,6 +23,7 @@ use Rattle.nio_steps.specs.Runs.{Completes}
 use Rattle.nio_steps.specs.SelectCalls.{Selection, Begins, Poll, Tells, ToldReply, done, again, told_bits, closed}
 use Rattle.nio_steps.specs.SelectCalls.{try_finish_plan}
 use Rattle.nio_steps.specs.Selections.{marks_on, IsBegun, IsClosing}
+use Rattle.nio_steps.specs.TableCalls.{TableCall, row_of}
 use Rattle.nio_steps.specs.declared.looked.LookedKey.{LookedKey}
 use Rattle.nio_steps.specs.declared.selected.Selected.{Selected}
 
@@ -44,17 +47,14 @@ BeginsSelection =
     (s : SelNo) (mode : Mode) (own acts : List Act) (selection : Selection)
     → Begins s mode acts (Ok selection) → IsBegun (own ++ acts) selection
 
--- The indexes of the looked keys rise, and so do the kept indexes; so none stands in its list twice. Each kept index is
--- below the bound, and the index of each looked key is kept.
+-- The indexes of the looked keys rise, so none stands there twice, and each is below the bound.
 pub record IsInOrder (selection : Selection) : Type 0 where
-  pub looked_rise : AllPairs (λ x y. x.index < y.index) selection.looked
-  pub kept_rise : AllPairs (λ i j. i < j) selection.kept
-  pub below : All (λ i. i < selection.bound) selection.kept
-  pub kept : All (λ entry. Contains selection.kept entry.index) selection.looked
+  pub rise : AllPairs (λ x y. x.index < y.index) selection.looked
+  pub below : All (λ entry. entry.index < selection.bound) selection.looked
 
--- The lists of a selection that has begun are in this order.
-abbrev pub ListsInOrder : Type 0
-ListsInOrder =
+-- The looked list of a selection that has begun is in this order.
+abbrev pub LooksInOrder : Type 0
+LooksInOrder =
     (s : SelNo) (mode : Mode) (acts : List Act) (selection : Selection)
     → Begins s mode acts (Ok selection) → IsInOrder selection
 
@@ -139,6 +139,22 @@ CountsSelection =
     → (begun : IsBegun own selection) → Tells selection poll acts (done answer)
     → answer.count ≡ count (marks_on selection.selector.0) (begun.since ++ acts)
 
+-- A `told` that ends its selection looks at the selector's high-water mark. When it returns, each key that was
+-- published and cancelled before that look, at an index below the high-water mark, is removed: also one that was
+-- registered since the selection began. `before` is the history before the call; what the caller did after it is this
+-- call, and `looked` is what stands before the look.
+abbrev pub CancelledKeysGoAtEnd : Type 0
+CancelledKeysGoAtEnd =
+    (l : Limits) (n : CallerNo) (before looked later : List Event) (selection : Selection) (poll : Poll)
+    (answer : Selected) (mark i serial : ℕ)
+    → let s = selection.selector in
+    let call = looked ++ event_of n (LookKeys s mark) ∷ later in
+    IsLegal l (before ++ call) → Tells selection poll (mine n call) (done answer)
+    → IsTrue (was_published ((state_after (before ++ looked)).key s.0 i) serial)
+    → IsTrue (was_cancelled ((state_after (before ++ looked)).key s.0 i) serial)
+    → i < mark
+    → IsTrue (was_removed ((state_after (before ++ call)).key s.0 i) serial)
+
 -- ---- what is in progress
 
 -- In every legal history, where a caller's own acts began a selection and haven't given its turn back, the state says
@@ -165,3 +181,22 @@ ClosedRemovesKeys =
     IsLegal l (before ++ call) → Completes (try_finish_plan s) (mine n call) closed
     → IsTrue (was_claimed ((state_after (before ++ looked)).key s.0 i) serial) → i < mark
     → IsTrue (was_removed ((state_after (before ++ call)).key s.0 i) serial)
+
+-- ---- what a call works on
+
+-- the acts give no turn of selector t back, and mark and remove no key of it
+pub record LeavesSelector (t : ℕ) (acts : List Act) : Type 0 where
+  pub gives : has (gives_turn t) acts ≡ false
+  pub marks : has (marks_on t) acts ≡ false
+  pub removes : has (removes_on t) acts ≡ false
+
+abbrev pub is_selector : ℕ → Option SelNo → Bool
+is_selector t None = false
+is_selector t (Some s) = s.0 == t
+
+-- A call that doesn't wait gives a turn back, marks keys and removes keys only on the selector that its row names.
+abbrev pub WorksOnlyThere : Type 0
+WorksOnlyThere =
+    (l : Limits) (lacks : Bool) (call : TableCall) (acts : List Act) (answer : (row_of call).Reply) (t : ℕ)
+    → Completes ((row_of call).plan l lacks) acts answer → IsFalse (is_selector t (row_of call).works_on)
+    → LeavesSelector t acts

@@ -4,13 +4,14 @@ use Rattle.std.specs.Prelude.{ℕ, Bool, IsFalse, List}
 use Rattle.nio_base.specs.declared.kind.Kind.{Kind}
 use Rattle.nio_base.specs.declared.limits.Limits.{Limits}
 use Rattle.nio_base.specs.declared.numbers.CallerNo.{CallerNo}
-use Rattle.nio_base.specs.declared.numbers.ChanNo.{ChanNo}
+use Rattle.nio_base.specs.declared.numbers.ChanId.{ChanId}
 use Rattle.nio_base.specs.declared.numbers.KeyNo.{KeyNo}
 use Rattle.nio_base.specs.declared.numbers.SelNo.{SelNo}
 use Rattle.nio_history.specs.OwnEvents.{keeps_pin}
 use Rattle.nio_history.specs.declared.act.Act.{Act}
 use Rattle.nio_history.specs.declared.found.Mode.{Mode}
-use Rattle.nio_steps.specs.ChannelCalls.{open_channel_plan, is_open_plan, is_blocking_plan, is_registered_plan}
+use Rattle.nio_steps.specs.ChannelCalls.{open_channel_plan, reopen_channel_plan, is_open_plan, is_blocking_plan}
+use Rattle.nio_steps.specs.ChannelCalls.{is_registered_plan}
 use Rattle.nio_steps.specs.ChannelCalls.{key_for_plan, try_set_blocking_plan, try_register_plan, close_channel_plan}
 use Rattle.nio_steps.specs.ChannelCalls.{SetsBlocking, Registers}
 use Rattle.nio_steps.specs.KeyCalls.{find_selector_plan, find_channel_plan, find_plan, is_valid_plan, interest_plan}
@@ -20,7 +21,7 @@ use Rattle.nio_steps.specs.PipeCalls.{pipe_plan, try_read_plan, try_write_plan, 
 use Rattle.nio_steps.specs.Runs.{Completes}
 use Rattle.nio_steps.specs.SelectCalls.{Selection, open_selector_plan, try_begin_plan, told_plan, leave_plan, shut_plan}
 use Rattle.nio_steps.specs.SelectCalls.{try_finish_plan, keys_plan, selected_keys_plan, wakeup_plan, interrupt_plan}
-use Rattle.nio_steps.specs.SelectCalls.{interrupted_plan, Poll, Selects, Closes}
+use Rattle.nio_steps.specs.SelectCalls.{interrupted_plan, Poll, MakesSelection, ClosesSelector}
 use Rattle.nio_steps.specs.TableCalls.{TableCall, WaitCall, row_of, wait_row_of}
 
 -- after a call of this shape the caller keeps no pin that it took in the call
@@ -33,7 +34,7 @@ pub record PinsAreGivenBack : Type 0 where
   pub each_waiting : (l : Limits) (call : WaitCall) → GivesPinsBack ((wait_row_of call).Shape l)
   -- so each of them by its plan
   pub find_selector : (l : Limits) (n : ℕ) → GivesPinsBack (Completes (find_selector_plan l n))
-  pub find_channel : (l : Limits) (n : ℕ) → GivesPinsBack (Completes (find_channel_plan l n))
+  pub find_channel : (l : Limits) (n serial : ℕ) → GivesPinsBack (Completes (find_channel_plan l n serial))
   pub find : (l : Limits) (s : SelNo) (i serial : ℕ) → GivesPinsBack (Completes (find_plan l s i serial))
   pub is_valid : (k : KeyNo) → GivesPinsBack (Completes (is_valid_plan k))
   pub interest : (k : KeyNo) → GivesPinsBack (Completes (interest_plan k))
@@ -46,15 +47,16 @@ pub record PinsAreGivenBack : Type 0 where
   pub attach : (k : KeyNo) (att : ℕ) → GivesPinsBack (Completes (attach_plan k att))
   pub attachment : (k : KeyNo) → GivesPinsBack (Completes (attachment_plan k))
   pub open_channel : (l : Limits) (kind : Kind) → GivesPinsBack (Completes (open_channel_plan l kind))
-  pub is_open : (c : ChanNo) → GivesPinsBack (Completes (is_open_plan c))
-  pub is_blocking : (c : ChanNo) → GivesPinsBack (Completes (is_blocking_plan c))
-  pub is_registered : (l : Limits) (c : ChanNo) → GivesPinsBack (Completes (is_registered_plan l c))
-  pub key_for : (c : ChanNo) (s : SelNo) → GivesPinsBack (Completes (key_for_plan c s))
-  pub try_set_blocking : (l : Limits) (c : ChanNo) (on : Bool)
+  pub reopen_channel : (l : Limits) (c : ChanId) → GivesPinsBack (Completes (reopen_channel_plan l c))
+  pub is_open : (c : ChanId) → GivesPinsBack (Completes (is_open_plan c))
+  pub is_blocking : (c : ChanId) → GivesPinsBack (Completes (is_blocking_plan c))
+  pub is_registered : (l : Limits) (c : ChanId) → GivesPinsBack (Completes (is_registered_plan l c))
+  pub key_for : (c : ChanId) (s : SelNo) → GivesPinsBack (Completes (key_for_plan c s))
+  pub try_set_blocking : (l : Limits) (c : ChanId) (on : Bool)
       → GivesPinsBack (Completes (try_set_blocking_plan l c on))
-  pub try_register : (l : Limits) (s : SelNo) (c : ChanNo) (ops att : ℕ)
+  pub try_register : (l : Limits) (s : SelNo) (c : ChanId) (ops att : ℕ)
       → GivesPinsBack (Completes (try_register_plan l s c ops att))
-  pub close_channel : (l : Limits) (c : ChanNo) → GivesPinsBack (Completes (close_channel_plan l c))
+  pub close_channel : (l : Limits) (c : ChanId) → GivesPinsBack (Completes (close_channel_plan l c))
   pub open_selector : (l : Limits) → GivesPinsBack (Completes (open_selector_plan l))
   pub try_begin : (s : SelNo) (mode : Mode) (lacks : Bool) → GivesPinsBack (Completes (try_begin_plan s mode lacks))
   pub told : (selection : Selection) (pairs : List (ℕ × ℕ)) (elapsed : Bool)
@@ -68,12 +70,12 @@ pub record PinsAreGivenBack : Type 0 where
   pub interrupt : (target : CallerNo) → GivesPinsBack (Completes (interrupt_plan target))
   pub interrupted : GivesPinsBack (Completes interrupted_plan)
   pub pipe : (l : Limits) (lacks : Bool) → GivesPinsBack (Completes (pipe_plan l lacks))
-  pub try_read : (l : Limits) (source : ChanNo) → GivesPinsBack (Completes (try_read_plan l source))
-  pub try_write : (l : Limits) (source sink : ChanNo) → GivesPinsBack (Completes (try_write_plan l source sink))
+  pub try_read : (l : Limits) (source : ChanId) → GivesPinsBack (Completes (try_read_plan l source))
+  pub try_write : (l : Limits) (source sink : ChanId) → GivesPinsBack (Completes (try_write_plan l source sink))
   -- the calls that wait
-  pub set_blocking : (l : Limits) (c : ChanNo) (on : Bool) → GivesPinsBack (SetsBlocking l c on)
-  pub register : (l : Limits) (s : SelNo) (c : ChanNo) (ops att : ℕ) → GivesPinsBack (Registers l s c ops att)
-  pub select : (s : SelNo) (mode : Mode) (polls : List Poll) → GivesPinsBack (Selects s mode polls)
-  pub close : (s : SelNo) → GivesPinsBack (Closes s)
-  pub read : (l : Limits) (source : ChanNo) (none : Bool) → GivesPinsBack (Reads l source none)
-  pub write : (l : Limits) (source sink : ChanNo) (none : Bool) → GivesPinsBack (Writes l source sink none)
+  pub set_blocking : (l : Limits) (c : ChanId) (on : Bool) → GivesPinsBack (SetsBlocking l c on)
+  pub register : (l : Limits) (s : SelNo) (c : ChanId) (ops att : ℕ) → GivesPinsBack (Registers l s c ops att)
+  pub select : (s : SelNo) (mode : Mode) (polls : List Poll) → GivesPinsBack (MakesSelection s mode polls)
+  pub close : (s : SelNo) → GivesPinsBack (ClosesSelector s)
+  pub read : (l : Limits) (source : ChanId) (none : Bool) → GivesPinsBack (Reads l source none)
+  pub write : (l : Limits) (source sink : ChanId) (none : Bool) → GivesPinsBack (Writes l source sink none)

@@ -1,9 +1,10 @@
 -- The steps of the calls on pipes. What a pipe holds stands in no part of the state: a plan says which looks
 -- a call makes, and with which refusal it ends.
-use Rattle.std.specs.Prelude.{◌≡◌, Bool, true, false, ◌&&◌, if◌then◌else◌, Result, Ok, Err, List, [], ◌∷◌}
+use Rattle.std.specs.Prelude.{◌≡◌, Bool, true, false, not, ◌&&◌, if◌then◌else◌, Result, Ok, Err, List, [], ◌∷◌}
 use Rattle.nio_base.specs.declared.kind.Kind.TheVariants.{Source, Sink}
 use Rattle.nio_base.specs.declared.limits.Limits.{Limits}
-use Rattle.nio_base.specs.declared.numbers.ChanNo.{ChanNo}
+use Rattle.nio_base.specs.declared.numbers.ChanId.{ChanId}
+use Rattle.nio_history.specs.Sets.{is_open_channel}
 use Rattle.nio_history.specs.declared.act.Act.{Act}
 use Rattle.nio_history.specs.declared.found.Chan.{Chan}
 use Rattle.nio_steps.specs.ChannelCalls.{open_channel_plan, close_channel_plan}
@@ -21,17 +22,17 @@ use Rattle.nio_steps.specs.declared.refusal.PipeMakeError.{PipeMakeError}
 
 -- the channels of a pipe
 pub record PipeEnds : Type 0 where
-  pub source : ChanNo
-  pub sink : ChanNo
+  pub source : ChanId
+  pub sink : ChanId
 
 -- the source is closed where no sink was made for it
-abbrev pub without_sink : Limits → ChanNo → Plan (Result PipeEnds PipeMakeError)
+abbrev pub without_sink : Limits → ChanId → Plan (Result PipeEnds PipeMakeError)
 without_sink l source = do
   close_channel_plan l source
   reply (Err PipeMakeError.ChannelsSpent)
 
 -- a sink for the source. Opening a channel is refused with `ChannelsSpent` alone
-abbrev pub with_sink : Limits → ChanNo → Result ChanNo ChannelError → Plan (Result PipeEnds PipeMakeError)
+abbrev pub with_sink : Limits → ChanId → Result ChanId ChannelError → Plan (Result PipeEnds PipeMakeError)
 with_sink l source (Ok sink) = reply (Ok (record { source = source; sink = sink }))
 with_sink l source (Err ChannelError.ChannelsSpent) = without_sink l source
 with_sink l source (Err ChannelError.IllegalOps) = without_sink l source
@@ -42,7 +43,7 @@ with_sink l source (Err ChannelError.CancelledKey) = without_sink l source
 with_sink l source (Err ChannelError.ClosedSelector) = without_sink l source
 with_sink l source (Err ChannelError.Full) = without_sink l source
 
-abbrev pub with_source : Limits → Result ChanNo ChannelError → Plan (Result PipeEnds PipeMakeError)
+abbrev pub with_source : Limits → Result ChanId ChannelError → Plan (Result PipeEnds PipeMakeError)
 with_source l (Ok source) = open_channel_plan l Sink >>= with_sink l source
 with_source l (Err ChannelError.ChannelsSpent) = reply (Err PipeMakeError.ChannelsSpent)
 with_source l (Err ChannelError.IllegalOps) = reply (Err PipeMakeError.ChannelsSpent)
@@ -71,29 +72,29 @@ MakesPipe l acts answer = Completes (pipe_plan l (pipe_lacks_memory answer)) act
 -- The answer of these plans is a refusal, or the channel's mode that was found: true for blocking.
 
 -- an interrupted caller closes the channel
-abbrev pub if_interrupted : Limits → ChanNo → Bool → Plan (Result Bool PipeError)
+abbrev pub if_interrupted : Limits → ChanId → Bool → Plan (Result Bool PipeError)
 if_interrupted l c interrupted = if interrupted then (do
   close_channel_plan l c
   reply (Err ClosedByInterrupt)) else reply (Ok true)
 
 -- in blocking mode the caller looks whether it is interrupted
-abbrev pub if_open : Limits → ChanNo → Chan → Plan (Result Bool PipeError)
+abbrev pub if_open : Limits → ChanId → Chan → Plan (Result Bool PipeError)
 if_open l c found =
-    if found.closed then reply (Err ClosedChannel) else
+    if not (is_open_channel found c.serial) then reply (Err ClosedChannel) else
     (if found.blocking then (look_interrupt >>= if_interrupted l c) else reply (Ok false))
 
-unfoldable pub try_read_plan : Limits → ChanNo → Plan (Result Bool PipeError)
-try_read_plan l source = look_channel source >>= if_open l source
+unfoldable pub try_read_plan : Limits → ChanId → Plan (Result Bool PipeError)
+try_read_plan l source = look_channel source.number >>= if_open l source
 
 -- a write needs that the source isn't closed
-abbrev pub if_unbroken : ChanNo → Result Bool PipeError → Plan (Result Bool PipeError)
+abbrev pub if_unbroken : ChanId → Result Bool PipeError → Plan (Result Bool PipeError)
 if_unbroken source (Ok blocking) = do
-  found ← look_channel source
-  reply (if found.closed then Err BrokenPipe else Ok blocking)
+  found ← look_channel source.number
+  reply (if is_open_channel found source.serial then Ok blocking else Err BrokenPipe)
 if_unbroken source (Err refusal) = reply (Err refusal)
 
-unfoldable pub try_write_plan : Limits → ChanNo → ChanNo → Plan (Result Bool PipeError)
-try_write_plan l source sink = look_channel sink >>= if_open l sink >>= if_unbroken source
+unfoldable pub try_write_plan : Limits → ChanId → ChanId → Plan (Result Bool PipeError)
+try_write_plan l source sink = look_channel sink.number >>= if_open l sink >>= if_unbroken source
 
 -- ---- calls that wait
 
@@ -124,8 +125,8 @@ pub record Waits (plan : Plan (Result Bool PipeError)) (none : Bool) (acts : Lis
   pub found_none : runs.last.given ≡ none
   pub answer_is : answer ≡ as_waited runs.tries.runs found
 
-abbrev pub Reads : Limits → ChanNo → Bool → List Act → Result Bool PipeError → Type 0
+abbrev pub Reads : Limits → ChanId → Bool → List Act → Result Bool PipeError → Type 0
 Reads l source = Waits (try_read_plan l source)
 
-abbrev pub Writes : Limits → ChanNo → ChanNo → Bool → List Act → Result Bool PipeError → Type 0
+abbrev pub Writes : Limits → ChanId → ChanId → Bool → List Act → Result Bool PipeError → Type 0
 Writes l source sink = Waits (try_write_plan l source sink)

@@ -49,23 +49,7 @@ open_selector_plan l = do
   made ← seek_to l.selectors 0 (λ n. makes_selector (selector n))
   reply (opened_selector made)
 
--- ---- beginning a selection
-
--- A selection in progress: its selector and mode, its bound, its looked list, and the indexes that it has
--- not dropped. It lists the indexes below the bound that it found not free, and drops those of them whose key
--- it found removed or removed itself. The looked list has each key that it found valid. Both lists rise.
-pub record Selection : Type 0 where
-  pub selector : SelNo
-  pub mode : Mode
-  pub bound : ℕ
-  pub looked : List LookedKey
-  pub kept : List ℕ
-
--- a refusal after the turn was taken
-abbrev pub given_back : {A : Type 0} → SelNo → A → Plan A
-given_back s answer = do
-  give_turn s
-  reply answer
+-- ---- going over the indexes of a selector that aren't free
 
 -- those of the first n of the 64 indexes from 64 times j on that are below the bound and that the look shows
 -- as not free
@@ -75,19 +59,15 @@ not_free word j bound (suc n) =
     if nat_lt (64 * j + n) bound && not (has_bit word n) then not_free word j bound n ++ (64 * j + n) ∷ []
     else not_free word j bound n
 
-abbrev pub list_word : SelNo → ℕ → ℕ → List ℕ → Plan (List ℕ)
-list_word s bound j listed = do
+-- makes the steps `f` of each of these 64 indexes that is below the bound and that one look finds not free
+abbrev pub over_word : {A : Type 0} → SelNo → ℕ → (ℕ → A → Plan A) → ℕ → A → Plan A
+over_word s bound f j x = do
   word ← look_free s j
-  reply (listed ++ not_free word j bound 64)
+  sweep_over (not_free word j bound 64) f x
 
--- the listed indexes, by one look for each 64
-abbrev pub list_below : SelNo → ℕ → Plan (List ℕ)
-list_below s bound = sweep_to (words_below bound) 0 (list_word s bound) []
-
--- what a selection has of the listed indexes that it went over
-pub record LookedOver : Type 0 where
-  pub looked : List LookedKey
-  pub kept : List ℕ
+-- the same of all indexes below the bound, 64 after 64
+abbrev pub over_listed : {A : Type 0} → SelNo → ℕ → (ℕ → A → Plan A) → A → Plan A
+over_listed s bound f x = sweep_to (words_below bound) 0 (over_word s bound f) x
 
 -- a key of the cancelled set is removed, and its index is free then, unless this was its last serial
 abbrev pub remove_cancelled : SelNo → ℕ → Stage → Plan (Unit {0})
@@ -95,32 +75,45 @@ remove_cancelled s i stage = do
   remove s i
   when (nat_lt stage.serial last_serial) (put_free s i)
 
+-- ---- beginning a selection
+
+-- A selection in progress: its selector and mode, its bound, which is the keys' high-water mark that it found when it
+-- began, and its looked list. That has each key below the bound that it found valid, and rises.
+pub record Selection : Type 0 where
+  pub selector : SelNo
+  pub mode : Mode
+  pub bound : ℕ
+  pub looked : List LookedKey
+
+-- a refusal after the turn was taken
+abbrev pub given_back : {A : Type 0} → SelNo → A → Plan A
+given_back s answer = do
+  give_turn s
+  reply answer
+
 abbrev pub looked_key : ℕ → Stage → ℕ → LookedKey
 looked_key i stage ops = record { index = i; serial = stage.serial; channel = stage.chan; interest = ops }
 
 -- a valid key is looked at
-abbrev pub look_valid : SelNo → ℕ → Stage → LookedOver → Plan LookedOver
-look_valid s i stage found = do
+abbrev pub look_valid : SelNo → ℕ → Stage → List LookedKey → Plan (List LookedKey)
+look_valid s i stage looked = do
   ops ← look_interest s i
-  reply (record { looked = found.looked ++ looked_key i stage ops ∷ []; kept = found.kept ++ i ∷ [] })
+  reply (looked ++ looked_key i stage ops ∷ [])
 
--- How a selection goes on after its look at a listed index. An index whose key is neither valid nor removed is
--- kept: its key isn't published yet, and may be published and cancelled before the selection ends.
-abbrev pub look_on : SelNo → ℕ → LookedOver → Stage → Plan LookedOver
-look_on s i found stage =
-    if in_cancelled_set stage then (remove_cancelled s i stage >> reply found) else
-    (if is_valid stage then look_valid s i stage found else
-    (if stage.removed then reply found else reply (record found { kept = found.kept ++ i ∷ [] })))
+-- how a selection goes on after its look at an index that isn't free
+abbrev pub look_on : SelNo → ℕ → List LookedKey → Stage → Plan (List LookedKey)
+look_on s i looked stage =
+    if in_cancelled_set stage then (remove_cancelled s i stage >> reply looked) else
+    (if is_valid stage then look_valid s i stage looked else reply looked)
 
-abbrev pub look_over : SelNo → ℕ → LookedOver → Plan LookedOver
-look_over s i found = look_key s i >>= look_on s i found
+abbrev pub look_over : SelNo → ℕ → List LookedKey → Plan (List LookedKey)
+look_over s i looked = look_key s i >>= look_on s i looked
 
--- below the bound, unless there is no memory for the lists
+-- below the bound, unless there is no memory for the looked list
 abbrev pub begin_below : SelNo → Mode → ℕ → Bool → Plan (Result Selection BeginError)
 begin_below s mode bound lacks = if lacks then given_back s (Err BeginError.Memory) else do
-  listed ← list_below s bound
-  found ← sweep_over listed (look_over s) (record { looked = []; kept = [] })
-  reply (Ok (record { selector = s; mode = mode; bound = bound; looked = found.looked; kept = found.kept }))
+  looked ← over_listed s bound (look_over s) []
+  reply (Ok (record { selector = s; mode = mode; bound = bound; looked = looked }))
 
 -- with the turn
 abbrev pub begin_with_turn : SelNo → Mode → Bool → Plan (Result Selection BeginError)
@@ -136,7 +129,7 @@ begin_open s mode lacks = do
   holder ← take_turn s
   if is_some holder then reply (Err BeginError.Busy) else begin_with_turn s mode lacks
 
--- `lacks` says whether there is no memory for the lists
+-- `lacks` says whether there is no memory for the looked list
 unfoldable pub try_begin_plan : SelNo → Mode → Bool → Plan (Result Selection BeginError)
 try_begin_plan s mode lacks = do
   gate ← look_gate s
@@ -156,12 +149,12 @@ Begins s mode acts answer = Completes (try_begin_plan s mode (begin_lacks_memory
 -- ---- telling
 
 -- what the poller's answer says of an index: where the index stands twice, its bits are united
-abbrev pub told_of : List (ℕ × ℕ) → ℕ → ℕ
-told_of pairs i = fold (λ bits pair. if pair.0 == i then bit_or bits pair.1 else bits) 0 pairs
+abbrev pub told_at : List (ℕ × ℕ) → ℕ → ℕ
+told_at pairs i = fold (λ bits pair. if pair.0 == i then bit_or bits pair.1 else bits) 0 pairs
 
 -- the told bits of a looked key: those that the poller told of it and that the selection looked for
 abbrev pub told_bits : List (ℕ × ℕ) → LookedKey → ℕ
-told_bits pairs entry = bit_and (told_of pairs entry.index) entry.interest
+told_bits pairs entry = bit_and (told_at pairs entry.index) entry.interest
 
 -- whether the key is selected already and its ready set would gain nothing
 abbrev pub gains_nothing : KeyMark → ℕ → Bool
@@ -219,21 +212,27 @@ why_ended mode count gate interrupted =
     (if gate.woken then Woken else
     (if interrupted then Interrupted else Elapsed))))
 
--- a key that was cancelled meanwhile is removed
 abbrev pub remove_if_cancelled : SelNo → ℕ → Plan (Unit {0})
 remove_if_cancelled s i = do
   stage ← look_key s i
   when (in_cancelled_set stage) (remove_cancelled s i stage)
+
+-- Java's third step: the keys that were added to the cancelled set meanwhile are removed as in the first step. It goes
+-- over the indexes below the high-water mark that it finds now, so over those too that were claimed since.
+abbrev pub remove_all_cancelled : SelNo → Plan (Unit {0})
+remove_all_cancelled s = do
+  mark ← look_keys s
+  over_listed s mark (λ i _. remove_if_cancelled s i) tt
 
 -- the selection is over, or goes on
 pub data ToldReply : Type 0 where
   done : Selected → ToldReply
   again : Selection → ToldReply
 
--- the keys that were cancelled meanwhile are removed, the wakeup is used up, and the turn is free
+-- the cancelled keys are removed, the wakeup is used up, and the turn is free
 abbrev pub end_selection : Selection → Selected → Plan ToldReply
 end_selection selection answer = do
-  sweep_over selection.kept (λ i _. remove_if_cancelled selection.selector i) tt
+  remove_all_cancelled selection.selector
   end_wake selection.selector
   give_turn selection.selector
   reply (done answer)
@@ -422,8 +421,8 @@ SelectsRest polls (Err refusal) acts answer = (acts ≡ []) × (polls ≡ []) ×
 
 -- A whole selection, with these polls that the poller answered: it begins once nobody has the turn, and then
 -- polls and is told until it is over.
-abbrev pub Selects : SelNo → Mode → List Poll → List Act → SelectReply → Type 0
-Selects s mode polls = Then (Retries (Begins s mode) begin_finds_busy) (SelectsRest polls)
+abbrev pub MakesSelection : SelNo → Mode → List Poll → List Act → SelectReply → Type 0
+MakesSelection s mode polls = Then (Retries (Begins s mode) begin_finds_busy) (SelectsRest polls)
 
 -- ---- calls that wait: closing
 
@@ -439,5 +438,5 @@ ClosesRest s closing acts answer =
 ClosesRest s already_closed acts answer = (answer ≡ false) × (acts ≡ [])
 
 -- closing a selector: whether this call shut it
-abbrev pub Closes : SelNo → List Act → Bool → Type 0
-Closes s = Then (Completes (shut_plan s)) (ClosesRest s)
+abbrev pub ClosesSelector : SelNo → List Act → Bool → Type 0
+ClosesSelector s = Then (Completes (shut_plan s)) (ClosesRest s)

@@ -175,8 +175,8 @@ release c = ask (Question.release c) (λ _. reply tt)
 abbrev pub set_mode : ChanNo → Bool → Plan Chan
 set_mode c blocking = ask (Question.set_mode c blocking) (λ answer. reply (channel_in answer))
 
-abbrev pub close_bit : ChanNo → Plan Bool
-close_bit c = ask (Question.close_bit c) (λ answer. reply (flag_in answer))
+abbrev pub close_bit : ChanNo → Chan → Plan Chan
+close_bit c from = ask (Question.close_bit c from) (λ answer. reply (channel_in answer))
 
 abbrev pub shut_bit : SelNo → Plan Bool
 shut_bit s = ask (Question.shut_bit s) (λ answer. reply (flag_in answer))
@@ -204,3 +204,6 @@ put_free s i = ask (Question.put_free s i) (λ _. reply tt)
 
 abbrev pub take_free : SelNo → ℕ → Plan Bool
 take_free s i = ask (Question.take_free s i) (λ answer. reply (flag_in answer))
+
+abbrev pub reopen : ChanNo → Chan → Plan Bool
+reopen c from = ask (Question.reopen c from) (λ answer. reply (flag_in answer))

@@ -3,12 +3,13 @@ use Rattle.std.specs.Prelude.{◌≡◌, ℕ, Bool, false, IsTrue, Option, Some,
 use Rattle.nio_base.specs.declared.kind.Kind.{Kind}
 use Rattle.nio_base.specs.declared.limits.Limits.{Limits}
 use Rattle.nio_base.specs.declared.numbers.CallerNo.{CallerNo}
-use Rattle.nio_base.specs.declared.numbers.ChanNo.{ChanNo}
+use Rattle.nio_base.specs.declared.numbers.ChanId.{ChanId}
 use Rattle.nio_base.specs.declared.numbers.KeyNo.{KeyNo}
 use Rattle.nio_base.specs.declared.numbers.SelNo.{SelNo}
 use Rattle.nio_history.specs.declared.act.Act.{Act}
 use Rattle.nio_history.specs.declared.found.Mode.{Mode}
-use Rattle.nio_steps.specs.ChannelCalls.{open_channel_plan, is_open_plan, is_blocking_plan, is_registered_plan}
+use Rattle.nio_steps.specs.ChannelCalls.{open_channel_plan, reopen_channel_plan, is_open_plan, is_blocking_plan}
+use Rattle.nio_steps.specs.ChannelCalls.{is_registered_plan}
 use Rattle.nio_steps.specs.ChannelCalls.{key_for_plan, try_set_blocking_plan, try_register_plan, close_channel_plan}
 use Rattle.nio_steps.specs.ChannelCalls.{SetsBlocking, Registers}
 use Rattle.nio_steps.specs.KeyCalls.{find_selector_plan, find_channel_plan, find_plan, is_valid_plan, interest_plan}
@@ -21,7 +22,7 @@ use Rattle.nio_steps.specs.Plan.{Plan}
 use Rattle.nio_steps.specs.SelectCalls.{Selection, open_selector_plan, try_begin_plan, begin_lacks_memory, Poll}
 use Rattle.nio_steps.specs.SelectCalls.{told_plan, leave_plan, shut_plan, try_finish_plan, keys_plan}
 use Rattle.nio_steps.specs.SelectCalls.{selected_keys_plan, list_lacks_memory, wakeup_plan, interrupt_plan}
-use Rattle.nio_steps.specs.SelectCalls.{interrupted_plan, Selects, select_lacks_memory, Closes}
+use Rattle.nio_steps.specs.SelectCalls.{interrupted_plan, MakesSelection, select_lacks_memory, ClosesSelector}
 use Rattle.nio_steps.specs.declared.refusal.ChannelError.{ChannelError}
 
 -- ---- the calls that don't wait
@@ -29,7 +30,7 @@ use Rattle.nio_steps.specs.declared.refusal.ChannelError.{ChannelError}
 -- a call that doesn't wait, with what it is given
 pub data TableCall : Type 0 where
   find_selector : ℕ → TableCall
-  find_channel : ℕ → TableCall
+  find_channel : ℕ → ℕ → TableCall
   find : SelNo → ℕ → ℕ → TableCall
   is_valid : KeyNo → TableCall
   interest : KeyNo → TableCall
@@ -42,13 +43,14 @@ pub data TableCall : Type 0 where
   attach : KeyNo → ℕ → TableCall
   attachment : KeyNo → TableCall
   open_channel : Kind → TableCall
-  is_open : ChanNo → TableCall
-  is_blocking : ChanNo → TableCall
-  is_registered : ChanNo → TableCall
-  key_for : ChanNo → SelNo → TableCall
-  try_set_blocking : ChanNo → Bool → TableCall
-  try_register : SelNo → ChanNo → ℕ → ℕ → TableCall
-  close_channel : ChanNo → TableCall
+  reopen_channel : ChanId → TableCall
+  is_open : ChanId → TableCall
+  is_blocking : ChanId → TableCall
+  is_registered : ChanId → TableCall
+  key_for : ChanId → SelNo → TableCall
+  try_set_blocking : ChanId → Bool → TableCall
+  try_register : SelNo → ChanId → ℕ → ℕ → TableCall
+  close_channel : ChanId → TableCall
   open_selector : TableCall
   try_begin : SelNo → Mode → TableCall
   told : Selection → Poll → TableCall
@@ -62,13 +64,13 @@ pub data TableCall : Type 0 where
   interrupted : TableCall
   pipe : TableCall
   -- a read of a pipe's source, and a write by a source and its sink
-  try_read : ChanNo → TableCall
-  try_write : ChanNo → ChanNo → TableCall
+  try_read : ChanId → TableCall
+  try_write : ChanId → ChanId → TableCall
 
 -- a selector, a channel or a key that a call is given
 pub data Name : Type 0 where
   the_selector : SelNo → Name
-  the_channel : ChanNo → Name
+  the_channel : ChanId → Name
   the_key : KeyNo → Name
 
 -- what is true of a call: its row
@@ -80,29 +82,43 @@ pub record Row : Type 1 where
   -- the reply is that there was no memory
   pub lacks_memory : Reply → Bool
   -- the selector and the channel, where the call registered a channel
-  pub registers : Reply → List (SelNo × ChanNo)
-  -- the selector whose turn the call gives back, or whose keys it marks or removes
+  pub registers : Reply → List (SelNo × ChanId)
+  -- the one selector whose turn the call may give back, and whose keys it may mark or remove
   pub works_on : Option SelNo
   -- the call may come next, by what its caller has in progress
   pub may_come : Ongoing → Type 0
   -- what it changes of what its caller has in progress
   pub change : Reply → Change
 
--- a call that lacks no memory, registers nothing, works on no selector, may always come and changes nothing in progress
-abbrev pub plain : {R : Type 0} → List Name → (Limits → Plan R) → Row
-plain {R} names plan_of = record {
+abbrev pub row : {R : Type 0} → List Name → (Limits → Bool → Plan R) → (R → Bool) → (R → List (SelNo × ChanId))
+    → Option SelNo → (Ongoing → Type 0) → (R → Change) → Row
+row {R} names plan lacks_memory registers works_on may_come change = record {
   names = names;
   Reply = R;
-  plan = λ l _. plan_of l;
-  lacks_memory = λ _. false;
-  registers = λ _. [];
-  works_on = None;
-  may_come = λ _. ⊤;
-  change = λ _. no_change;
+  plan = plan;
+  lacks_memory = lacks_memory;
+  registers = registers;
+  works_on = works_on;
+  may_come = may_come;
+  change = change;
 }
 
+-- the usual answers
+
+abbrev pub never_lacks : {R : Type 0} → R → Bool
+never_lacks _ = false
+
+abbrev pub registers_nothing : {R : Type 0} → R → List (SelNo × ChanId)
+registers_nothing _ = []
+
+abbrev pub at_any_time : Ongoing → Type 0
+at_any_time _ = ⊤
+
+abbrev pub changes_nothing : {R : Type 0} → R → Change
+changes_nothing _ = no_change
+
 -- what a registration that answers so registered
-abbrev pub registered : {A : Type 0} → SelNo → ChanNo → Result A ChannelError → List (SelNo × ChanNo)
+abbrev pub registered : {A : Type 0} → SelNo → ChanId → Result A ChannelError → List (SelNo × ChanId)
 registered s c (Ok answer) = (s, c) ∷ []
 registered s c (Err refusal) = []
 
@@ -111,81 +127,105 @@ abbrev pub HasSelection : Selection → Ongoing → Type 0
 HasSelection selection now = now.selection selection.selector.0 ≡ Some selection
 
 abbrev pub row_of : TableCall → Row
-row_of (find_selector n) = plain [] (λ l. find_selector_plan l n)
-row_of (find_channel n) = plain [] (λ l. find_channel_plan l n)
-row_of (find s i serial) = plain (the_selector s ∷ []) (λ l. find_plan l s i serial)
-row_of (is_valid k) = plain (the_key k ∷ []) (λ _. is_valid_plan k)
-row_of (interest k) = plain (the_key k ∷ []) (λ _. interest_plan k)
-row_of (set_interest k ops) = plain (the_key k ∷ []) (λ _. set_interest_plan k ops)
-row_of (interest_or k ops) = plain (the_key k ∷ []) (λ _. interest_or_plan k ops)
-row_of (interest_and k ops) = plain (the_key k ∷ []) (λ _. interest_and_plan k ops)
-row_of (ready k) = plain (the_key k ∷ []) (λ _. ready_plan k)
-row_of (cancel k) = plain (the_key k ∷ []) (λ _. cancel_plan k)
-row_of (unselect k) = plain (the_key k ∷ []) (λ _. unselect_plan k)
-row_of (attach k att) = plain (the_key k ∷ []) (λ _. attach_plan k att)
-row_of (attachment k) = plain (the_key k ∷ []) (λ _. attachment_plan k)
-row_of (open_channel kind) = plain [] (λ l. open_channel_plan l kind)
-row_of (is_open c) = plain (the_channel c ∷ []) (λ _. is_open_plan c)
-row_of (is_blocking c) = plain (the_channel c ∷ []) (λ _. is_blocking_plan c)
-row_of (is_registered c) = plain (the_channel c ∷ []) (λ l. is_registered_plan l c)
-row_of (key_for c s) = plain (the_channel c ∷ the_selector s ∷ []) (λ _. key_for_plan c s)
-row_of (try_set_blocking c on) = plain (the_channel c ∷ []) (λ l. try_set_blocking_plan l c on)
+row_of (find_selector n) =
+    row [] (λ l _. find_selector_plan l n) never_lacks registers_nothing None at_any_time changes_nothing
+row_of (find_channel n serial) =
+    row [] (λ l _. find_channel_plan l n serial) never_lacks registers_nothing None at_any_time changes_nothing
+row_of (find s i serial) =
+    row (the_selector s ∷ []) (λ l _. find_plan l s i serial)
+    never_lacks registers_nothing None at_any_time changes_nothing
+row_of (is_valid k) =
+    row (the_key k ∷ []) (λ _ _. is_valid_plan k) never_lacks registers_nothing None at_any_time changes_nothing
+row_of (interest k) =
+    row (the_key k ∷ []) (λ _ _. interest_plan k) never_lacks registers_nothing None at_any_time changes_nothing
+row_of (set_interest k ops) =
+    row (the_key k ∷ []) (λ _ _. set_interest_plan k ops) never_lacks registers_nothing None at_any_time changes_nothing
+row_of (interest_or k ops) =
+    row (the_key k ∷ []) (λ _ _. interest_or_plan k ops) never_lacks registers_nothing None at_any_time changes_nothing
+row_of (interest_and k ops) =
+    row (the_key k ∷ []) (λ _ _. interest_and_plan k ops) never_lacks registers_nothing None at_any_time changes_nothing
+row_of (ready k) =
+    row (the_key k ∷ []) (λ _ _. ready_plan k) never_lacks registers_nothing None at_any_time changes_nothing
+row_of (cancel k) =
+    row (the_key k ∷ []) (λ _ _. cancel_plan k) never_lacks registers_nothing None at_any_time changes_nothing
+row_of (unselect k) =
+    row (the_key k ∷ []) (λ _ _. unselect_plan k) never_lacks registers_nothing None at_any_time changes_nothing
+row_of (attach k att) =
+    row (the_key k ∷ []) (λ _ _. attach_plan k att) never_lacks registers_nothing None at_any_time changes_nothing
+row_of (attachment k) =
+    row (the_key k ∷ []) (λ _ _. attachment_plan k) never_lacks registers_nothing None at_any_time changes_nothing
+row_of (open_channel kind) =
+    row [] (λ l _. open_channel_plan l kind) never_lacks registers_nothing None at_any_time changes_nothing
+row_of (reopen_channel c) =
+    row (the_channel c ∷ []) (λ l _. reopen_channel_plan l c)
+    never_lacks registers_nothing None at_any_time changes_nothing
+row_of (is_open c) =
+    row (the_channel c ∷ []) (λ _ _. is_open_plan c) never_lacks registers_nothing None at_any_time changes_nothing
+row_of (is_blocking c) =
+    row (the_channel c ∷ []) (λ _ _. is_blocking_plan c) never_lacks registers_nothing None at_any_time changes_nothing
+row_of (is_registered c) =
+    row (the_channel c ∷ []) (λ l _. is_registered_plan l c)
+    never_lacks registers_nothing None at_any_time changes_nothing
+row_of (key_for c s) =
+    row (the_channel c ∷ the_selector s ∷ []) (λ _ _. key_for_plan c s)
+    never_lacks registers_nothing None at_any_time changes_nothing
+row_of (try_set_blocking c on) =
+    row (the_channel c ∷ []) (λ l _. try_set_blocking_plan l c on)
+    never_lacks registers_nothing None at_any_time changes_nothing
 row_of (try_register s c ops att) =
-    record (plain (the_selector s ∷ the_channel c ∷ []) (λ l. try_register_plan l s c ops att)) {
-      registers = registered s c;
-    }
-row_of (close_channel c) = plain (the_channel c ∷ []) (λ l. close_channel_plan l c)
-row_of open_selector = plain [] open_selector_plan
-row_of (try_begin s mode) = record (plain (the_selector s ∷ []) (λ _. try_begin_plan s mode false)) {
-  plan = λ _ lacks. try_begin_plan s mode lacks;
-  lacks_memory = begin_lacks_memory;
-  works_on = Some s;
-  change = begin_change s;
-}
+    row (the_selector s ∷ the_channel c ∷ []) (λ l _. try_register_plan l s c ops att)
+    never_lacks (registered s c) None at_any_time changes_nothing
+row_of (close_channel c) =
+    row (the_channel c ∷ []) (λ l _. close_channel_plan l c)
+    never_lacks registers_nothing None at_any_time changes_nothing
+row_of open_selector =
+    row [] (λ l _. open_selector_plan l) never_lacks registers_nothing None at_any_time changes_nothing
+row_of (try_begin s mode) =
+    row (the_selector s ∷ []) (λ _ lacks. try_begin_plan s mode lacks)
+    begin_lacks_memory registers_nothing (Some s) at_any_time (begin_change s)
 row_of (told selection poll) =
-    record (plain (the_selector selection.selector ∷ []) (λ _. told_plan selection poll.pairs poll.elapsed)) {
-      works_on = Some selection.selector;
-      may_come = HasSelection selection;
-      change = told_change selection.selector;
-    }
-row_of (leave selection) = record (plain (the_selector selection.selector ∷ []) (λ _. leave_plan selection)) {
-  works_on = Some selection.selector;
-  may_come = HasSelection selection;
-  change = λ _. selection_ends selection.selector;
-}
-row_of (shut s) = record (plain (the_selector s ∷ []) (λ _. shut_plan s)) { change = shut_change s }
-row_of (try_finish s) = record (plain (the_selector s ∷ []) (λ _. try_finish_plan s)) {
-  works_on = Some s;
-  may_come = λ now. IsTrue (now.closes s.0);
-  change = finish_change s;
-}
-row_of (keys s) = record (plain (the_selector s ∷ []) (λ _. keys_plan s false)) {
-  plan = λ _ lacks. keys_plan s lacks;
-  lacks_memory = list_lacks_memory;
-}
-row_of (selected_keys s) = record (plain (the_selector s ∷ []) (λ _. selected_keys_plan s false)) {
-  plan = λ _ lacks. selected_keys_plan s lacks;
-  lacks_memory = list_lacks_memory;
-}
-row_of (wakeup s) = plain (the_selector s ∷ []) (λ _. wakeup_plan s)
-row_of (interrupt target) = plain [] (λ _. interrupt_plan target)
-row_of interrupted = plain [] (λ _. interrupted_plan)
-row_of pipe = record (plain [] (λ l. pipe_plan l false)) { plan = pipe_plan; lacks_memory = pipe_lacks_memory }
+    row (the_selector selection.selector ∷ []) (λ _ _. told_plan selection poll.pairs poll.elapsed)
+    never_lacks registers_nothing (Some selection.selector) (HasSelection selection) (told_change selection.selector)
+row_of (leave selection) =
+    row (the_selector selection.selector ∷ []) (λ _ _. leave_plan selection)
+    never_lacks registers_nothing (Some selection.selector) (HasSelection selection)
+    (λ _. selection_ends selection.selector)
+row_of (shut s) =
+    row (the_selector s ∷ []) (λ _ _. shut_plan s) never_lacks registers_nothing None at_any_time (shut_change s)
+row_of (try_finish s) =
+    row (the_selector s ∷ []) (λ _ _. try_finish_plan s)
+    never_lacks registers_nothing (Some s) (λ now. IsTrue (now.closes s.0)) (finish_change s)
+row_of (keys s) =
+    row (the_selector s ∷ []) (λ _ lacks. keys_plan s lacks)
+    list_lacks_memory registers_nothing None at_any_time changes_nothing
+row_of (selected_keys s) =
+    row (the_selector s ∷ []) (λ _ lacks. selected_keys_plan s lacks)
+    list_lacks_memory registers_nothing None at_any_time changes_nothing
+row_of (wakeup s) =
+    row (the_selector s ∷ []) (λ _ _. wakeup_plan s) never_lacks registers_nothing None at_any_time changes_nothing
+row_of (interrupt target) =
+    row [] (λ _ _. interrupt_plan target) never_lacks registers_nothing None at_any_time changes_nothing
+row_of interrupted = row [] (λ _ _. interrupted_plan) never_lacks registers_nothing None at_any_time changes_nothing
+row_of pipe = row [] pipe_plan pipe_lacks_memory registers_nothing None at_any_time changes_nothing
 -- the reply to each of these: a refusal, or the mode that was found
-row_of (try_read source) = plain (the_channel source ∷ []) (λ l. try_read_plan l source)
-row_of (try_write source sink) = plain (the_channel source ∷ the_channel sink ∷ []) (λ l. try_write_plan l source sink)
+row_of (try_read source) =
+    row (the_channel source ∷ []) (λ l _. try_read_plan l source)
+    never_lacks registers_nothing None at_any_time changes_nothing
+row_of (try_write source sink) =
+    row (the_channel source ∷ the_channel sink ∷ []) (λ l _. try_write_plan l source sink)
+    never_lacks registers_nothing None at_any_time changes_nothing
 
 -- ---- the calls that wait
 
 -- What a call is given. A selection is given what the poller answered; a call that reads or writes, whether there were
 -- no bytes, or no room, at last.
 pub data WaitCall : Type 0 where
-  set_blocking : ChanNo → Bool → WaitCall
-  register : SelNo → ChanNo → ℕ → ℕ → WaitCall
+  set_blocking : ChanId → Bool → WaitCall
+  register : SelNo → ChanId → ℕ → ℕ → WaitCall
   select : SelNo → Mode → List Poll → WaitCall
   close : SelNo → WaitCall
-  read : ChanNo → Bool → WaitCall
-  write : ChanNo → ChanNo → Bool → WaitCall
+  read : ChanId → Bool → WaitCall
+  write : ChanId → ChanId → Bool → WaitCall
 
 pub record WaitRow : Type 1 where
   pub names : List Name
@@ -195,32 +235,34 @@ pub record WaitRow : Type 1 where
   -- the reply is that there was no memory
   pub lacks_memory : Reply → Bool
   -- the selector and the channel, where the call registered a channel
-  pub registers : Reply → List (SelNo × ChanNo)
+  pub registers : Reply → List (SelNo × ChanId)
   -- what it changes of what its caller has in progress
   pub change : Reply → Change
 
--- a call that lacks no memory, registers nothing, and changes nothing in progress
-abbrev pub plain_wait : {R : Type 0} → List Name → (Limits → List Act → R → Type 0) → WaitRow
-plain_wait {R} names Shape = record {
+abbrev pub wait_row : {R : Type 0} → List Name → (Limits → List Act → R → Type 0) → (R → Bool)
+    → (R → List (SelNo × ChanId)) → (R → Change) → WaitRow
+wait_row {R} names Shape lacks_memory registers change = record {
   names = names;
   Reply = R;
   Shape = Shape;
-  lacks_memory = λ _. false;
-  registers = λ _. [];
-  change = λ _. no_change;
+  lacks_memory = lacks_memory;
+  registers = registers;
+  change = change;
 }
 
 abbrev pub wait_row_of : WaitCall → WaitRow
-wait_row_of (set_blocking c on) = plain_wait (the_channel c ∷ []) (λ l. SetsBlocking l c on)
+wait_row_of (set_blocking c on) =
+    wait_row (the_channel c ∷ []) (λ l. SetsBlocking l c on) never_lacks registers_nothing changes_nothing
 wait_row_of (register s c ops att) =
-    record (plain_wait (the_selector s ∷ the_channel c ∷ []) (λ l. Registers l s c ops att)) {
-      registers = registered s c;
-    }
-wait_row_of (select s mode polls) = record (plain_wait (the_selector s ∷ []) (λ _. Selects s mode polls)) {
-  lacks_memory = select_lacks_memory;
-  change = select_change s;
-}
-wait_row_of (close s) = record (plain_wait (the_selector s ∷ []) (λ _. Closes s)) { change = close_change s }
-wait_row_of (read source none) = plain_wait (the_channel source ∷ []) (λ l. Reads l source none)
+    wait_row (the_selector s ∷ the_channel c ∷ []) (λ l. Registers l s c ops att)
+    never_lacks (registered s c) changes_nothing
+wait_row_of (select s mode polls) =
+    wait_row (the_selector s ∷ []) (λ _. MakesSelection s mode polls)
+    select_lacks_memory registers_nothing (select_change s)
+wait_row_of (close s) =
+    wait_row (the_selector s ∷ []) (λ _. ClosesSelector s) never_lacks registers_nothing (close_change s)
+wait_row_of (read source none) =
+    wait_row (the_channel source ∷ []) (λ l. Reads l source none) never_lacks registers_nothing changes_nothing
 wait_row_of (write source sink none) =
-    plain_wait (the_channel source ∷ the_channel sink ∷ []) (λ l. Writes l source sink none)
+    wait_row (the_channel source ∷ the_channel sink ∷ []) (λ l. Writes l source sink none)
+    never_lacks registers_nothing changes_nothing

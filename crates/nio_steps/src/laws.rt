@@ -1,7 +1,8 @@
 //! What the plans promise, as the contracts of functions that do nothing.
-ghost use Rattle.nio_steps.specs.Laws.{RunsArePerformed, BeginsSelection, ListsInOrder, LooksAtValidKeys};
+ghost use Rattle.nio_steps.specs.Laws.{RunsArePerformed, BeginsSelection, LooksInOrder, LooksAtValidKeys};
 ghost use Rattle.nio_steps.specs.Laws.{CancelledKeysGo, MarksOnlyAsTold, MarksLookedKeys, AgainGoesOn, CountsSelection};
-ghost use Rattle.nio_steps.specs.Laws.{SelectionsStand, ClosingsStand, ClosedRemovesKeys};
+ghost use Rattle.nio_steps.specs.Laws.{CancelledKeysGoAtEnd, SelectionsStand, ClosingsStand, ClosedRemovesKeys};
+ghost use Rattle.nio_steps.specs.Laws.{WorksOnlyThere};
 ghost use Rattle.nio_steps.specs.PinLaws.{PinsAreGivenBack};
 ghost use Rattle.nio_steps.specs.Bound.{SelectionIsBounded};
 
@@ -12,23 +13,25 @@ pub fn run_law<R>()
 {}
 
 /// What `try_begin` answers is the selection that it began, until the turn is given back or a key
-/// is marked or removed. Its lists are in rising order. Each looked key was found valid by a look of that
+/// is marked or removed. Its looked list is in rising order. Each looked key was found valid by a look of that
 /// call, with the channel, the serial and the interest set of its entry. A key with an index below the bound
 /// that was cancelled before is removed, and isn't in the looked list.
 pub fn begin_law()
     ensures begins { BeginsSelection }
-    ensures in_order { ListsInOrder }
+    ensures in_order { LooksInOrder }
     ensures valid { LooksAtValidKeys }
     ensures cancelled { CancelledKeysGo }
 {}
 
 /// A selection marks an index only for what the poller told of it, and the index has the key that the selection
-/// looked at then. It counts each mark that succeeded, and ends with the first `told` that makes one.
+/// looked at then. It counts each mark that succeeded, and ends with the first `told` that makes one. At its end it
+/// removes each cancelled key with an index below the high-water mark that it then finds.
 pub fn told_law()
     ensures only_as_told { MarksOnlyAsTold }
     ensures looked { MarksLookedKeys }
     ensures goes_on { AgainGoesOn }
     ensures counts { CountsSelection }
+    ensures cancelled { CancelledKeysGoAtEnd }
 {}
 
 /// A selection and a closing that a caller's own steps show in progress stand in the state, whatever
@@ -49,9 +52,15 @@ pub fn given_back_law()
     ensures { PinsAreGivenBack }
 {}
 
-/// A selection makes a bounded number of steps, whatever other callers do meanwhile: at most 8, one for each
-/// 64 indexes below its bound, 6 for each index that it found not free, and one for each time that
-/// anybody cancels or unselects a key.
+/// A call that doesn't wait gives a turn back, and marks and removes keys, only on the selector that its row names.
+pub fn works_law()
+    ensures { WorksOnlyThere }
+{}
+
+/// A selection makes a bounded number of steps, whatever other callers do meanwhile: at most 9, one for each 64 indexes
+/// below the high-water mark that it found when it began and below the one that it found at its end, 4 for each index
+/// that it found not free when it began, 3 for each that it found not free at its end, and one for each time that
+/// anybody unselects a key.
 pub fn bound_law()
     ensures { SelectionIsBounded }
 {}

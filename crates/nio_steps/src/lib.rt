@@ -10,10 +10,13 @@
 #![tactic(auto)]
 
 pub use found::{has_bit, supports};
-pub use laws::{begin_law, bound_law, close_law, given_back_law, progress_law, run_law, told_law};
+pub use laws::{
+    begin_law, bound_law, close_law, given_back_law, progress_law, run_law, told_law, works_law,
+};
 pub use looked::LookedKey;
 pub use refusal::{
-    BeginError, ChannelError, KeyError, ListError, PipeError, PipeMakeError, SelectorsSpent,
+    BeginError, ChannelError, KeyError, ListError, PipeError, PipeMakeError, ReopenError,
+    SelectorsSpent,
 };
 pub use selected::Selected;
 

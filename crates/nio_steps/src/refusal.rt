@@ -18,7 +18,8 @@ pub enum KeyError {
 /// Why a channel isn't opened, registered or set to a mode.
 #[derive(Clone, Copy, Debug, PartialEq, Eq, Error)]
 pub enum ChannelError {
-    /// As many channels are made as may be.
+    /// No number is left for a channel of the kind: each has one that is open, still registered, of another kind, held
+    /// by another caller, or the last that it may have.
     #[error("as many channels are made as may be")]
     ChannelsSpent,
     /// A channel of this kind doesn't support the operations: Java's `IllegalArgumentException`.
@@ -43,6 +44,26 @@ pub enum ChannelError {
     /// The selector has as many keys as it may.
     #[error("the selector has as many keys as it may")]
     Full,
+}
+
+/// Why a channel's number isn't given to a new channel.
+#[derive(Clone, Copy, Debug, PartialEq, Eq, Error)]
+pub enum ReopenError {
+    /// The number was given to another channel since.
+    #[error("the channel's number was given to another channel")]
+    Lost,
+    /// The channel is open.
+    #[error("the channel is open")]
+    Open,
+    /// The number had as many channels as it may.
+    #[error("the channel's number had as many channels as it may")]
+    SerialsSpent,
+    /// Another caller registers a channel of this number, sets its mode or opens it.
+    #[error("another caller registers the channel, sets its mode or opens it")]
+    Busy,
+    /// A key of the channel is in a key set: a selection on its selector removes it.
+    #[error("the channel is still registered")]
+    Registered,
 }
 
 /// As many selectors are made as may be.

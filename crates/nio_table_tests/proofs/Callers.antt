@@ -3,7 +3,7 @@ use Rattle.std.proofs.Common.{◌≡◌, List, ◌∷◌, ◌++◌, [], false, r
 use Rattle.nio_base.specs.Limits.{IsFit}
 use Rattle.nio_base.specs.declared.limits.Limits.{Limits}
 use Rattle.nio_base.specs.declared.numbers.CallerNo.{CallerNo}
-use Rattle.nio_base.specs.declared.numbers.ChanNo.{ChanNo}
+use Rattle.nio_base.specs.declared.numbers.ChanId.{ChanId}
 use Rattle.nio_channel.proofs.Idle.{zero_other, unpinned_same, selector_same, channel_same}
 use Rattle.nio_channel.specs.Idle.{AreIdle, zero, one, first_selector}
 use Rattle.nio_history.proofs.PassViews.{selector_after}
@@ -57,7 +57,7 @@ may_go {w = w} {before = before} {given = given} over idle = record {
   selector = selector_same w before given over.sees.given_sight idle.selector;
 }
 
-pub both_have : {w : Words} {before after given : Pass} → HandsOver w one before after given → (c : ChanNo)
+pub both_have : {w : Words} {before after given : Pass} → HandsOver w one before after given → (c : ChanId)
     → HasChannel (view w before) c → HasChannel (view w after) c × HasChannel (view w given) c
 both_have {w = w} {before = before} {after = after} {given = given} over c has = (
   channel_same w before after over.sees.sight has,

@@ -10,7 +10,7 @@ use Rattle.nio_channel.specs.Idle.{AreIdle, zero, one}
 use Rattle.nio_history.specs.Conditions.{IsSelector}
 use Rattle.nio_history.specs.PassViews.{PassView, Holds as HoldsNumber, ActsClause}
 use Rattle.nio_history.specs.declared.act.Act.{Act}
-use Rattle.nio_select.specs.InProgress.{Selects, Closes}
+use Rattle.nio_select.specs.InProgress.{Selects, HasShut}
 use Rattle.nio_steps.proofs.PinBack.{no_pin_after}
 use Rattle.nio_steps.specs.Calls.{CallClause}
 use Rattle.nio_steps.specs.PinLaws.{GivesPinsBack}
@@ -52,7 +52,7 @@ selects_beside {selection = selection} clause held has = record {
 }
 
 pub closes_beside : {acts : List Act} {v0 v1 : PassView} {s : SelNo} → ActsClause zero acts v0 v1 → HoldsNumber v0 one
-    → Closes v0 one s → Closes v1 one s
+    → HasShut v0 one s → HasShut v1 one s
 closes_beside {s = s} clause held has = record {
   inside = subst (λ (l : Limits). IsSelector l s) (sym clause.limits) has.inside;
   closing = subst (λ own. IsClosing own s) (sym (clause.history.others one held (λ same. zero_other (sym same))))

@@ -2,12 +2,12 @@
 use crate::tables::{ONE as V, S, ZERO as U};
 use crate::words::SMALL;
 use crate::words::history::{
-    self, BLOCKING, C, CLAIMED, FIRST, NEXT, NEXT_REMOVED, QUIET, READABLE, REMOVED, UNBLOCKED,
-    UNMARKED, VALID,
+    self, BLOCKING, C, CLAIMED, CLOSED, FIRST, NEXT, NEXT_CHANNEL, NEXT_REMOVED, QUIET, READABLE,
+    REMOVED, UNBLOCKED, UNMARKED, VALID,
 };
 use nio_audit::{AuditError, audit};
-use nio_base::{CallerNo, Ops};
-use nio_history::{Act, Event, Mark};
+use nio_base::{CallerNo, Kind, Ops};
+use nio_history::{Act, Chan, Event, Mark};
 use std::alloc::{AllocError, Global};
 use std::process::Abort;
 
@@ -31,6 +31,7 @@ fn worked(alloc: Global) -> Result<Vec<Event>, AllocError> {
     add(&mut events, &history::removing_again())?;
     add(&mut events, &history::blocking_again())?;
     add(&mut events, &history::closing())?;
+    add(&mut events, &history::reopening())?;
     Ok(events)
 }
 
@@ -64,7 +65,7 @@ fn are_refused<R: Abort>(rt: &R, alloc: Global, rows: &[Row]) -> Result<(), Allo
 }
 
 /// Events of the worked history with another answer, each with its place.
-const ALTERED: [Row; 12] = [
+const ALTERED: [Row; 14] = [
     (3, U, Act::LookSelectors(0)),
     (10, V, Act::TryHoldBit(C, None)),
     (16, U, Act::LookReg(C, S, Some(FIRST))),
@@ -75,8 +76,10 @@ const ALTERED: [Row; 12] = [
     (64, U, Act::LookFree(S, 0, 0)),
     (68, U, Act::ClaimAgain(S, 0, C, REMOVED, false)),
     (80, U, Act::Enrol(C, S, 0, 1, Some(NEXT))),
+    (103, V, Act::CloseBit(C, BLOCKING, CLOSED)),
     (106, V, Act::LookGate(S, QUIET)),
     (113, U, Act::LookInterrupt(true)),
+    (120, U, Act::CloseBit(C, BLOCKING, CLOSED)),
 ];
 
 const REFUSED_AT_FIRST: [Row; 11] = [
@@ -139,6 +142,30 @@ const REFUSED_AT_LAST: [Row; 11] = [
     (108, U, Act::Enter(S, None)),
 ];
 
+const OF_ANOTHER_KIND: Chan = Chan {
+    made: true,
+    kind: Kind::Stream,
+    closed: false,
+    blocking: true,
+    serial: 0,
+};
+
+const REFUSED_OF_CHANNELS: [Row; 10] = [
+    // a channel is closed from one that was found open, of the kind and of a serial that its number has or had
+    (114, U, Act::CloseBit(C, CLOSED, CLOSED)),
+    (114, U, Act::CloseBit(C, OF_ANOTHER_KIND, CLOSED)),
+    (114, U, Act::CloseBit(C, NEXT_CHANNEL, CLOSED)),
+    // a number is given to a new channel by its holder, after a look at its enrolled keys under this hold
+    (114, V, Act::Reopen(C, CLOSED, false)),
+    (115, V, Act::Reopen(C, CLOSED, false)),
+    (116, V, Act::Reopen(C, CLOSED, false)),
+    (117, U, Act::Reopen(C, CLOSED, false)),
+    // the channel that stands there gives it, where it is closed, and no other one
+    (117, V, Act::Reopen(C, CLOSED, true)),
+    (118, V, Act::Reopen(C, CLOSED, false)),
+    (118, V, Act::Reopen(C, NEXT_CHANNEL, false)),
+];
+
 #[test]
 fn worked_history_is_legal(rt: HostRuntime) -> Result<(), AllocError> {
     let alloc = rt.alloc();
@@ -150,6 +177,7 @@ fn worked_history_is_legal(rt: HostRuntime) -> Result<(), AllocError> {
 #[test]
 fn refused_events_are_no_steps(rt: HostRuntime) -> Result<(), AllocError> {
     let (first, later, last) = (REFUSED_AT_FIRST, REFUSED_LATER, REFUSED_AT_LAST);
+    let of_channels = REFUSED_OF_CHANNELS;
     are_refused(&rt, rt.alloc(), &first)?;
     are_refused(&rt, rt.alloc(), &later)?;
     // A mark is cleared by who claimed the index.
@@ -158,7 +186,8 @@ fn refused_events_are_no_steps(rt: HostRuntime) -> Result<(), AllocError> {
         ready: Ops::READ.union(Ops::WRITE),
     };
     are_refused(&rt, rt.alloc(), &[(76, V, Act::ClearMark(S, 0, mark))])?;
-    are_refused(&rt, rt.alloc(), &last)
+    are_refused(&rt, rt.alloc(), &last)?;
+    are_refused(&rt, rt.alloc(), &of_channels)
 }
 
 #[test]

@@ -1,9 +1,15 @@
-//! Callers that are parted and joined, and their calls on pipes.
+//! Callers that are parted and joined, their calls on pipes, and what one finds as another rings a bell.
+use crate::calls::Reply;
+use crate::several::selects;
 use nio_base::{CallerNo, Limits};
 use nio_caller::Caller;
+use nio_history::Why;
 use nio_pipe::{PipeRead, PipeWrite};
-use nio_poller::NoBell;
+use nio_poller::{Bell, NoBell};
+use nio_select::{BeginError, Mode};
 use nio_words::Words;
+use std::alloc::Global;
+use std::sync::Mutex;
 use std::test::Fail;
 
 const LIMITS: Limits = Limits {
@@ -47,5 +53,65 @@ fn a_caller_reads_what_it_wrote(rt: HostRuntime) -> Result<(), Fail> {
     assert!(rt; written == PipeWrite::Bytes(2) && more == PipeWrite::Bytes(2));
     assert!(rt; read == PipeRead::Bytes(4) && bytes == *b"pipe");
     assert!(rt; closes && caller.close_source(&mut source));
+    Ok(())
+}
+
+/// A caller, and what the selection answered that it made at the last ring.
+#[derive(Drop)]
+struct Listener<'a> {
+    caller: Caller<'a>,
+    heard: Option<Reply>,
+}
+
+impl<'a> Listener<'a> {
+    /// Selects at the first selector, where no key is: it ends only by what was done before.
+    fn listen(&mut self, alloc: Global) {
+        if let Some(sel) = self.caller.find_selector(0) {
+            self.heard = Some(selects(alloc, &mut self.caller, sel, Mode::Wait));
+        }
+    }
+}
+
+/// A bell at whose rings a caller listens: it finds what was done before.
+#[derive(Drop)]
+struct Listening<'a> {
+    alloc: Global,
+    listener: Mutex<Listener<'a>>,
+}
+
+impl<'a> Listening<'a> {
+    /// What was heard since the last call of this.
+    fn heard(&self) -> Option<Reply> {
+        self.listener.try_lock()?.heard.take()
+    }
+}
+
+impl<'a> Bell for Listening<'a> {
+    fn ring(&self) {
+        if let Some(mut listener) = self.listener.try_lock() {
+            listener.listen(self.alloc);
+        }
+    }
+}
+
+#[test]
+fn bells_are_rung_after_the_step(rt: HostRuntime) -> Result<(), Fail> {
+    let (words, pass) = Words::make(rt.alloc(), LIMITS)?;
+    let mut first = Caller::first(&words, pass);
+    let mut second = first.split(CallerNo(1))?;
+    let sel = second.open_selector()?;
+    let bell = Listening {
+        alloc: rt.alloc(),
+        listener: Mutex::new(Listener {
+            caller: first,
+            heard: None,
+        }),
+    };
+    second.wakeup(sel, &bell);
+    assert!(rt; bell.heard() == Some(Reply::Done(0, Why::Woken)));
+    second.interrupt(CallerNo(0), &bell);
+    assert!(rt; bell.heard() == Some(Reply::Done(0, Why::Interrupted)));
+    second.close(&rt, sel, &bell);
+    assert!(rt; bell.heard() == Some(Reply::NotBegun(BeginError::ClosedSelector)));
     Ok(())
 }

@@ -4,14 +4,14 @@ ghost use Rattle.nio_base.specs.Limits.{IsFit};
 ghost use Rattle.nio_base.specs.declared.numbers.SelNo.{SelNo as Selector};
 ghost use Rattle.nio_channel.specs.Idle.{AreIdle, zero, one};
 ghost use Rattle.nio_history.specs.PassViews.{HasChannel, HasKey};
-ghost use Rattle.nio_select.specs.InProgress.{Selects, Closes};
+ghost use Rattle.nio_select.specs.InProgress.{Selects, HasShut};
 ghost use Rattle.nio_words.specs.Views.{view};
 
 use crate::tables::{ONE, S, ZERO, table};
-use nio_base::{ChanNo, KeyNo, Kind, Limits, Ops, SelNo};
+use nio_base::{ChanId, ChanNo, KeyNo, Kind, Limits, Ops, SelNo};
 use nio_channel::{
-    ChannelError, close_channel, is_blocking, is_open, is_registered, key_for, open_channel,
-    try_register, try_set_blocking,
+    ChannelError, ReopenError, close_channel, is_blocking, is_open, is_registered, key_for,
+    open_channel, reopen_channel, try_register, try_set_blocking,
 };
 use nio_history::Why;
 use nio_keys::{
@@ -40,9 +40,8 @@ pub(crate) enum Call {
     OpenChannel(Kind),
     /// Opens so many streams and makes them non-blocking.
     OpenStreams(u32),
-    FindChannel(u32),
-    /// A call on the channel with this number.
-    OnChannel(u32, OnChannel),
+    FindChannel(ChanId),
+    OnChannel(ChanId, OnChannel),
     /// The two calls on the key with this index and serial.
     FindKey(u32, u32),
     OnKey(u32, u32, OnKey),
@@ -71,6 +70,7 @@ pub(crate) enum OnChannel {
     SetBlocking(bool),
     Register(u8, u64),
     Close,
+    Reopen,
     /// The other caller takes the hold of the channel.
     Hold,
 }
@@ -87,8 +87,8 @@ pub(crate) enum OnKey {
     Unselect,
     Attach(u64),
     Attachment,
-    /// The channel with this number is registered while the other caller has a pin on the key's index.
-    RegisterBesidePin(u32),
+    /// The channel is registered while the other caller has a pin on the key's index.
+    RegisterBesidePin(ChanId),
 }
 
 #[derive(Clone, Copy, Debug, PartialEq, Eq)]
@@ -97,12 +97,13 @@ pub(crate) enum Reply {
     Flag(bool),
     Number(u64),
     Selector(Option<SelNo>),
-    Channel(Option<ChanNo>),
+    Channel(Option<ChanId>),
     Key(Option<KeyNo>),
     OpenedSelector(Result<SelNo, SelectorsSpent>),
-    OpenedChannel(Result<ChanNo, ChannelError>),
+    OpenedChannel(Result<ChanId, ChannelError>),
     Mode(Result<(), ChannelError>),
     Registered(Result<KeyNo, ChannelError>),
+    Reopened(Result<ChanId, ReopenError>),
     Operations(Result<u8, KeyError>),
     Interest(Result<(), KeyError>),
     /// How many keys, and the last of them.
@@ -127,7 +128,7 @@ fn open_streams(w: &Words, p: &mut Pass, count: u32) -> Result<(), ChannelError>
     Ok(())
 }
 
-pub(crate) fn open_stream(w: &Words, p: &mut Pass) -> Result<ChanNo, ChannelError>
+pub(crate) fn open_stream(w: &Words, p: &mut Pass) -> Result<ChanId, ChannelError>
     requires { AreIdle w.now p.old }
     ensures idle { AreIdle w.now p.new }
     ensures made { IfOk result (HasChannel (view w.now p.new)) }
@@ -137,7 +138,7 @@ pub(crate) fn open_stream(w: &Words, p: &mut Pass) -> Result<ChanNo, ChannelErro
     Ok(chan)
 }
 
-pub(crate) fn opened(w: &Words, p: &mut Pass, kind: Kind) -> Result<ChanNo, ChannelError>
+pub(crate) fn opened(w: &Words, p: &mut Pass, kind: Kind) -> Result<ChanId, ChannelError>
     requires { AreIdle w.now p.old }
     ensures idle { AreIdle w.now p.new }
     ensures made { IfOk result (HasChannel (view w.now p.new)) }
@@ -145,25 +146,25 @@ pub(crate) fn opened(w: &Words, p: &mut Pass, kind: Kind) -> Result<ChanNo, Chan
     open_channel(w, p, ZERO, kind)
 }
 
-fn channel_with(w: &Words, p: &mut Pass, number: u32) -> Option<ChanNo>
+fn channel_with(w: &Words, p: &mut Pass, chan: ChanId) -> Option<ChanId>
     requires { AreIdle w.now p.old }
     ensures idle { AreIdle w.now p.new }
     ensures found { IfSome result (HasChannel (view w.now p.new)) }
 {
-    find_channel(w, p, ZERO, number)
+    find_channel(w, p, ZERO, chan.number.0, chan.serial)
 }
 
-fn answer_on_channel(w: &Words, p: &mut Pass, number: u32, call: OnChannel) -> Reply
+fn answer_on_channel(w: &Words, p: &mut Pass, chan: ChanId, call: OnChannel) -> Reply
     requires { AreIdle w.now p.old }
     ensures { AreIdle w.now p.new }
 {
-    match channel_with(w, p, number) {
+    match channel_with(w, p, chan) {
         Some(chan) => on_channel(w, p, chan, call),
         None => Reply::Missing,
     }
 }
 
-fn on_channel(w: &Words, p: &mut Pass, chan: ChanNo, call: OnChannel) -> Reply
+fn on_channel(w: &Words, p: &mut Pass, chan: ChanId, call: OnChannel) -> Reply
     requires idle { AreIdle w.now p.old }
     requires channel { HasChannel (view w.now p.old) chan }
     ensures { AreIdle w.now p.new }
@@ -178,8 +179,9 @@ fn on_channel(w: &Words, p: &mut Pass, chan: ChanNo, call: OnChannel) -> Reply
             Reply::Registered(try_register(w, p, ZERO, S, chan, Ops::of(ops), att))
         }
         OnChannel::Close => Reply::Flag(close_channel(w, p, ZERO, chan)),
+        OnChannel::Reopen => Reply::Reopened(reopen_channel(w, p, ZERO, chan)),
         OnChannel::Hold => {
-            w.try_hold_bit(p, ONE, chan);
+            w.try_hold_bit(p, ONE, chan.number);
             Reply::Nothing
         }
     }
@@ -229,16 +231,16 @@ fn on_key(w: &Words, p: &mut Pass, key: KeyNo, call: OnKey) -> Reply
         OnKey::Unselect => Reply::Flag(unselect(w, p, ZERO, key)),
         OnKey::Attach(att) => Reply::Number(attach(w, p, ZERO, key, att)),
         OnKey::Attachment => Reply::Number(attachment(w, p, ZERO, key)),
-        OnKey::RegisterBesidePin(number) => register_beside_pin(w, p, number, key),
+        OnKey::RegisterBesidePin(chan) => register_beside_pin(w, p, chan, key),
     }
 }
 
-fn register_beside_pin(w: &Words, p: &mut Pass, number: u32, key: KeyNo) -> Reply
+fn register_beside_pin(w: &Words, p: &mut Pass, chan: ChanId, key: KeyNo) -> Reply
     requires idle { AreIdle w.now p.old }
     requires key { HasKey (view w.now p.old) key }
     ensures { AreIdle w.now p.new }
 {
-    match find_channel(w, p, ZERO, number) {
+    match find_channel(w, p, ZERO, chan.number.0, chan.serial) {
         Some(chan) => Reply::Registered(registered_beside_pin(w, p, chan, key)),
         None => Reply::Missing,
     }
@@ -248,7 +250,7 @@ fn register_beside_pin(w: &Words, p: &mut Pass, number: u32, key: KeyNo) -> Repl
 fn registered_beside_pin(
     w: &Words,
     p: &mut Pass,
-    chan: ChanNo,
+    chan: ChanId,
     key: KeyNo,
 ) -> Result<KeyNo, ChannelError>
     requires idle { AreIdle w.now p.old }
@@ -315,7 +317,7 @@ pub(crate) fn is_told(w: &Words, p: &mut Pass, selection: Selecting, told: &Told
     requires idle { AreIdle w.now p.old }
     requires begun { Selects (view w.now p.old) zero selection }
     ensures idle { AreIdle w.now p.new }
-    ensures closing { (s : Selector) → Closes (view w.now p.old) one s → Closes (view w.now p.new) one s }
+    ensures closing { (s : Selector) → HasShut (view w.now p.old) one s → HasShut (view w.now p.new) one s }
 {
     match selection.told(w, p, ZERO, told) {
         After::Done(answer) => Reply::Done(answer.count, answer.why),
@@ -347,8 +349,8 @@ pub(crate) fn answer(alloc: Global, w: &Words, p: &mut Pass, call: Call) -> Repl
         Call::FindSelector(number) => Reply::Selector(find_selector(w, p, ZERO, number)),
         Call::OpenChannel(kind) => Reply::OpenedChannel(opened(w, p, kind)),
         Call::OpenStreams(count) => Reply::Mode(open_streams(w, p, count)),
-        Call::FindChannel(number) => Reply::Channel(channel_with(w, p, number)),
-        Call::OnChannel(number, call) => answer_on_channel(w, p, number, call),
+        Call::FindChannel(chan) => Reply::Channel(channel_with(w, p, chan)),
+        Call::OnChannel(chan, call) => answer_on_channel(w, p, chan, call),
         Call::FindKey(index, serial) => Reply::Key(key_with(w, p, index, serial)),
         Call::OnKey(index, serial, call) => answer_on_key(w, p, index, serial, call),
         Call::Keys => listed(keys(alloc, w, p, ZERO, S)),

@@ -9,8 +9,8 @@ ghost use Rattle.nio_words.specs.Views.{view};
 ghost use Rattle.nio_table_tests.specs.Callers.{MayCall};
 
 use crate::calls::{Call, NOTHING, OnChannel, OnKey, Reply, follow, open_stream, opened};
-use crate::tables::{ONE, S, ZERO, hand_over, is_invalid, table};
-use nio_base::{CallerNo, ChanNo, KeyNo, Kind, Limits, Ops};
+use crate::tables::{C0, C1, ONE, S, ZERO, hand_over, is_invalid, table};
+use nio_base::{CallerNo, ChanId, ChanNo, KeyNo, Kind, Limits, Ops};
 use nio_channel::{ChannelError, close_channel, register, set_blocking, try_register};
 use nio_history::Why;
 use nio_keys::cancel;
@@ -19,6 +19,8 @@ use nio_words::{Pass, Words};
 use std::sync::Wait;
 use std::test::Fail;
 use std::thread::{Threads, join};
+
+mod reopening;
 
 const SMALL: Limits = Limits {
     callers: 2,
@@ -47,128 +49,139 @@ const SECOND: KeyNo = KeyNo {
     serial: 1,
 };
 
+/// The last channel of the largest table, and one beyond it.
+const LAST: ChanId = ChanId {
+    number: ChanNo(262_143),
+    serial: 0,
+};
+
+const BEYOND: ChanId = ChanId {
+    number: ChanNo(262_144),
+    serial: 0,
+};
+
 const ON_A_CHANNEL: &[(Call, Reply)] = &[
     (
         Call::OpenChannel(Kind::Source),
-        Reply::OpenedChannel(Ok(ChanNo(0))),
+        Reply::OpenedChannel(Ok(C0)),
     ),
-    (
-        Call::OpenChannel(Kind::Sink),
-        Reply::OpenedChannel(Ok(ChanNo(1))),
-    ),
+    (Call::OpenChannel(Kind::Sink), Reply::OpenedChannel(Ok(C1))),
     (
         Call::OpenChannel(Kind::Source),
         Reply::OpenedChannel(Err(ChannelError::ChannelsSpent)),
     ),
-    (Call::OnChannel(0, OnChannel::IsOpen), Reply::Flag(true)),
-    (Call::OnChannel(0, OnChannel::IsBlocking), Reply::Flag(true)),
+    (Call::OnChannel(C0, OnChannel::IsOpen), Reply::Flag(true)),
     (
-        Call::OnChannel(0, OnChannel::Register(1, 5)),
-        Reply::Registered(Err(ChannelError::IllegalBlockingMode)),
-    ),
-    (
-        Call::OnChannel(0, OnChannel::Register(4, 5)),
-        Reply::Registered(Err(ChannelError::IllegalOps)),
-    ),
-    (
-        Call::OnChannel(0, OnChannel::SetBlocking(false)),
-        Reply::Mode(Ok(())),
-    ),
-    (
-        Call::OnChannel(0, OnChannel::IsBlocking),
-        Reply::Flag(false),
-    ),
-    (
-        Call::OnChannel(0, OnChannel::IsRegistered),
-        Reply::Flag(false),
-    ),
-    (Call::OnChannel(0, OnChannel::KeyFor), Reply::Key(None)),
-    (
-        Call::OnChannel(0, OnChannel::Register(1, 5)),
-        Reply::Registered(Ok(FIRST)),
-    ),
-    (
-        Call::OnChannel(0, OnChannel::Register(0, 0)),
-        Reply::Registered(Ok(FIRST)),
-    ),
-    (
-        Call::OnChannel(0, OnChannel::IsRegistered),
+        Call::OnChannel(C0, OnChannel::IsBlocking),
         Reply::Flag(true),
     ),
     (
-        Call::OnChannel(0, OnChannel::KeyFor),
+        Call::OnChannel(C0, OnChannel::Register(1, 5)),
+        Reply::Registered(Err(ChannelError::IllegalBlockingMode)),
+    ),
+    (
+        Call::OnChannel(C0, OnChannel::Register(4, 5)),
+        Reply::Registered(Err(ChannelError::IllegalOps)),
+    ),
+    (
+        Call::OnChannel(C0, OnChannel::SetBlocking(false)),
+        Reply::Mode(Ok(())),
+    ),
+    (
+        Call::OnChannel(C0, OnChannel::IsBlocking),
+        Reply::Flag(false),
+    ),
+    (
+        Call::OnChannel(C0, OnChannel::IsRegistered),
+        Reply::Flag(false),
+    ),
+    (Call::OnChannel(C0, OnChannel::KeyFor), Reply::Key(None)),
+    (
+        Call::OnChannel(C0, OnChannel::Register(1, 5)),
+        Reply::Registered(Ok(FIRST)),
+    ),
+    (
+        Call::OnChannel(C0, OnChannel::Register(0, 0)),
+        Reply::Registered(Ok(FIRST)),
+    ),
+    (
+        Call::OnChannel(C0, OnChannel::IsRegistered),
+        Reply::Flag(true),
+    ),
+    (
+        Call::OnChannel(C0, OnChannel::KeyFor),
         Reply::Key(Some(FIRST)),
     ),
     (
-        Call::OnChannel(0, OnChannel::SetBlocking(true)),
+        Call::OnChannel(C0, OnChannel::SetBlocking(true)),
         Reply::Mode(Err(ChannelError::IllegalBlockingMode)),
     ),
     (
-        Call::OnChannel(1, OnChannel::SetBlocking(false)),
+        Call::OnChannel(C1, OnChannel::SetBlocking(false)),
         Reply::Mode(Ok(())),
     ),
     (
-        Call::OnChannel(1, OnChannel::Register(4, 0)),
+        Call::OnChannel(C1, OnChannel::Register(4, 0)),
         Reply::Registered(Err(ChannelError::Full)),
     ),
     (
-        Call::OnChannel(1, OnChannel::SetBlocking(true)),
+        Call::OnChannel(C1, OnChannel::SetBlocking(true)),
         Reply::Mode(Ok(())),
     ),
     (
-        Call::OnChannel(1, OnChannel::SetBlocking(false)),
+        Call::OnChannel(C1, OnChannel::SetBlocking(false)),
         Reply::Mode(Ok(())),
     ),
     (Call::Shut, Reply::Flag(false)),
     (
-        Call::OnChannel(1, OnChannel::Register(4, 0)),
+        Call::OnChannel(C1, OnChannel::Register(4, 0)),
         Reply::Registered(Err(ChannelError::ClosedSelector)),
     ),
     (
-        Call::OnChannel(0, OnChannel::Register(1, 0)),
+        Call::OnChannel(C0, OnChannel::Register(1, 0)),
         Reply::Registered(Err(ChannelError::ClosedSelector)),
     ),
     (Call::OnKey(0, 0, OnKey::Cancel), Reply::Nothing),
     (
-        Call::OnChannel(0, OnChannel::Register(1, 0)),
+        Call::OnChannel(C0, OnChannel::Register(1, 0)),
         Reply::Registered(Err(ChannelError::CancelledKey)),
     ),
-    (Call::OnChannel(0, OnChannel::Close), Reply::Flag(true)),
-    (Call::OnChannel(0, OnChannel::Close), Reply::Flag(false)),
-    (Call::OnChannel(0, OnChannel::IsOpen), Reply::Flag(false)),
+    (Call::OnChannel(C0, OnChannel::Close), Reply::Flag(true)),
+    (Call::OnChannel(C0, OnChannel::Close), Reply::Flag(false)),
+    (Call::OnChannel(C0, OnChannel::IsOpen), Reply::Flag(false)),
     (
-        Call::OnChannel(0, OnChannel::IsRegistered),
+        Call::OnChannel(C0, OnChannel::IsRegistered),
         Reply::Flag(true),
     ),
     (
-        Call::OnChannel(0, OnChannel::KeyFor),
+        Call::OnChannel(C0, OnChannel::KeyFor),
         Reply::Key(Some(FIRST)),
     ),
     (
-        Call::OnChannel(0, OnChannel::Register(1, 0)),
+        Call::OnChannel(C0, OnChannel::Register(1, 0)),
         Reply::Registered(Err(ChannelError::ClosedChannel)),
     ),
     (
-        Call::OnChannel(0, OnChannel::SetBlocking(true)),
+        Call::OnChannel(C0, OnChannel::SetBlocking(true)),
         Reply::Mode(Err(ChannelError::ClosedChannel)),
     ),
-    (Call::OnChannel(1, OnChannel::Hold), Reply::Nothing),
+    (Call::OnChannel(C1, OnChannel::Hold), Reply::Nothing),
     (
-        Call::OnChannel(1, OnChannel::Register(4, 0)),
+        Call::OnChannel(C1, OnChannel::Register(4, 0)),
         Reply::Registered(Err(ChannelError::Busy)),
     ),
     (
-        Call::OnChannel(1, OnChannel::SetBlocking(true)),
+        Call::OnChannel(C1, OnChannel::SetBlocking(true)),
         Reply::Mode(Err(ChannelError::Busy)),
     ),
-    (Call::OnChannel(1, OnChannel::Close), Reply::Flag(true)),
+    (Call::OnChannel(C1, OnChannel::Close), Reply::Flag(true)),
 ];
 
 /// A selection removes the first key. Its index isn't given again while the other caller has a pin on it.
 const ON_AN_INDEX: &[(Call, Reply)] = &[
     (Call::OpenStreams(2), Reply::Mode(Ok(()))),
     (
-        Call::OnChannel(0, OnChannel::Register(1, 5)),
+        Call::OnChannel(C0, OnChannel::Register(1, 5)),
         Reply::Registered(Ok(FIRST)),
     ),
     (Call::OnKey(0, 0, OnKey::Cancel), Reply::Nothing),
@@ -177,11 +190,11 @@ const ON_AN_INDEX: &[(Call, Reply)] = &[
         Reply::Done(0, Why::Now),
     ),
     (
-        Call::OnKey(0, 0, OnKey::RegisterBesidePin(1)),
+        Call::OnKey(0, 0, OnKey::RegisterBesidePin(C1)),
         Reply::Registered(Err(ChannelError::Full)),
     ),
     (
-        Call::OnChannel(1, OnChannel::Register(1, 5)),
+        Call::OnChannel(C1, OnChannel::Register(1, 5)),
         Reply::Registered(Ok(SECOND)),
     ),
 ];
@@ -193,10 +206,10 @@ const ON_THE_LARGEST: &[(Call, Reply)] = &[
         Reply::OpenedChannel(Err(ChannelError::ChannelsSpent)),
     ),
     (
-        Call::OnChannel(262_143, OnChannel::Register(1, 5)),
+        Call::OnChannel(LAST, OnChannel::Register(1, 5)),
         Reply::Registered(Ok(FIRST)),
     ),
-    (Call::FindChannel(262_144), Reply::Channel(None)),
+    (Call::FindChannel(BEYOND), Reply::Channel(None)),
 ];
 
 #[test]
@@ -215,20 +228,20 @@ fn largest_table(rt: HostRuntime) -> Result<(), Fail> {
 }
 
 /// The other caller takes the hold of the channel. Says whether nobody had it.
-fn holds(w: &Words, p: &mut Pass, chan: ChanNo) -> bool
+fn holds(w: &Words, p: &mut Pass, chan: ChanId) -> bool
     requires may { MayCall w.now p.old ONE }
     requires channel { HasChannel (view w.now p.old) chan }
-    ensures { IsTrue result → HoldsChannel w.now p.new ONE chan }
+    ensures { IsTrue result → HoldsChannel w.now p.new ONE chan.number }
 {
-    w.try_hold_bit(p, ONE, chan).is_none()
+    w.try_hold_bit(p, ONE, chan.number).is_none()
 }
 
 /// The other caller gives the hold back.
-fn gives_back(w: &Words, mut p: Pass, chan: ChanNo) -> Pass
-    requires { HoldsChannel w.now p ONE chan }
+fn gives_back(w: &Words, mut p: Pass, chan: ChanId) -> Pass
+    requires { HoldsChannel w.now p ONE chan.number }
     ensures { IsReady w.now result ONE }
 {
-    w.release(&mut p, ONE, chan);
+    w.release(&mut p, ONE, chan.number);
     p
 }
 
@@ -237,7 +250,7 @@ fn waits_and_registers<R: Wait>(
     rt: &R,
     w: &Words,
     mut p: Pass,
-    chan: ChanNo,
+    chan: ChanId,
 ) -> (Result<(), ChannelError>, Result<KeyNo, ChannelError>)
     requires may { MayCall w.now p ZERO }
     requires channel { HasChannel (view w.now p) chan }
@@ -253,11 +266,11 @@ fn waits_beside<R: Threads + Wait + Sync>(
     w: &Words,
     p: Pass,
     q: Pass,
-    chan: ChanNo,
+    chan: ChanId,
 ) -> (Result<(), ChannelError>, Result<KeyNo, ChannelError>)
     requires may { MayCall w.now p ZERO }
     requires channel { HasChannel (view w.now p) chan }
-    requires holds { HoldsChannel w.now q ONE chan }
+    requires holds { HoldsChannel w.now q ONE chan.number }
 {
     let (answers, _q) = join(
         rt,
@@ -265,7 +278,7 @@ fn waits_beside<R: Threads + Wait + Sync>(
             requires { MayCall w.now p ZERO × HasChannel (view w.now p) chan }
         { waits_and_registers(rt, w, p, chan) },
         || -> Pass
-            requires { HoldsChannel w.now q ONE chan }
+            requires { HoldsChannel w.now q ONE chan.number }
             ensures { IsReady w.entry.now result ONE }
         { gives_back(w, q, chan) },
     );
@@ -285,7 +298,7 @@ fn calls_wait_for_the_hold(rt: HostRuntime) -> Result<(), Fail> {
 }
 
 /// Registers the channel and cancels its key.
-fn registers_and_cancels(w: &Words, p: &mut Pass, me: CallerNo, chan: ChanNo)
+fn registers_and_cancels(w: &Words, p: &mut Pass, me: CallerNo, chan: ChanId)
     requires may { MayCall w.now p.old me }
     requires channel { HasChannel (view w.now p.old) chan }
     ensures may { MayCall w.now p.new me }
@@ -301,7 +314,7 @@ pub(crate) fn registers_and_closes(
     w: &Words,
     mut p: Pass,
     me: CallerNo,
-    chan: ChanNo,
+    chan: ChanId,
 ) -> (Pass, bool)
     requires may { MayCall w.now p me }
     requires channel { HasChannel (view w.now p) chan }
@@ -318,7 +331,7 @@ fn both_close<R: Threads + Sync>(
     w: &Words,
     p: Pass,
     q: Pass,
-    chan: ChanNo,
+    chan: ChanId,
 ) -> (bool, bool, bool)
     requires first { MayCall w.now p ZERO × HasChannel (view w.now p) chan }
     requires second { MayCall w.now q ONE × HasChannel (view w.now q) chan }

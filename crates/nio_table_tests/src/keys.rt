@@ -1,8 +1,8 @@
 //! Each call on a key with its answer and with each refusal: on a key that is selected, and on a key whose index was
 //! given to another.
 use crate::calls::{Call, NOTHING, OnChannel, OnKey, Reply, follow};
-use crate::tables::S;
-use nio_base::{ChanNo, KeyNo, Kind, Limits, SelNo};
+use crate::tables::{C0, C1, C2, S};
+use nio_base::{KeyNo, Kind, Limits, SelNo};
 use nio_channel::ChannelError;
 use nio_history::Why;
 use nio_keys::KeyError;
@@ -34,14 +34,14 @@ const GONE: Reply = Reply::Operations(Err(KeyError::CancelledKey));
 const ON_A_KEY: &[(Call, Reply)] = &[
     (
         Call::OpenChannel(Kind::Source),
-        Reply::OpenedChannel(Ok(ChanNo(0))),
+        Reply::OpenedChannel(Ok(C0)),
     ),
     (
-        Call::OnChannel(0, OnChannel::SetBlocking(false)),
+        Call::OnChannel(C0, OnChannel::SetBlocking(false)),
         Reply::Mode(Ok(())),
     ),
     (
-        Call::OnChannel(0, OnChannel::Register(0, 0)),
+        Call::OnChannel(C0, OnChannel::Register(0, 0)),
         Reply::Registered(Ok(EARLIER)),
     ),
     (Call::OnKey(0, 0, OnKey::IsValid), Reply::Flag(true)),
@@ -85,14 +85,14 @@ const ON_A_KEY: &[(Call, Reply)] = &[
 const ON_AN_INDEX_WITH_ANOTHER_KEY: &[(Call, Reply)] = &[
     (
         Call::OpenChannel(Kind::Source),
-        Reply::OpenedChannel(Ok(ChanNo(0))),
+        Reply::OpenedChannel(Ok(C0)),
     ),
     (
-        Call::OnChannel(0, OnChannel::SetBlocking(false)),
+        Call::OnChannel(C0, OnChannel::SetBlocking(false)),
         Reply::Mode(Ok(())),
     ),
     (
-        Call::OnChannel(0, OnChannel::Register(0, 0)),
+        Call::OnChannel(C0, OnChannel::Register(0, 0)),
         Reply::Registered(Ok(EARLIER)),
     ),
     (Call::OnKey(0, 0, OnKey::Cancel), Reply::Nothing),
@@ -101,15 +101,15 @@ const ON_AN_INDEX_WITH_ANOTHER_KEY: &[(Call, Reply)] = &[
         Reply::Done(0, Why::Now),
     ),
     (
-        Call::OnChannel(0, OnChannel::Register(0, 0)),
+        Call::OnChannel(C0, OnChannel::Register(0, 0)),
         Reply::Registered(Ok(PRESENT)),
     ),
     (Call::FindSelector(0), Reply::Selector(Some(S))),
     (Call::FindSelector(1), Reply::Selector(None)),
     (Call::FindSelector(2), Reply::Selector(None)),
-    (Call::FindChannel(0), Reply::Channel(Some(ChanNo(0)))),
-    (Call::FindChannel(1), Reply::Channel(None)),
-    (Call::FindChannel(2), Reply::Channel(None)),
+    (Call::FindChannel(C0), Reply::Channel(Some(C0))),
+    (Call::FindChannel(C1), Reply::Channel(None)),
+    (Call::FindChannel(C2), Reply::Channel(None)),
     (Call::FindKey(0, 0), Reply::Key(Some(EARLIER))),
     (Call::FindKey(0, 1), Reply::Key(Some(PRESENT))),
     (Call::FindKey(0, 2), Reply::Key(None)),
@@ -138,10 +138,7 @@ const ON_AN_INDEX_WITH_ANOTHER_KEY: &[(Call, Reply)] = &[
         Reply::OpenedSelector(Err(SelectorsSpent)),
     ),
     (Call::FindSelector(1), Reply::Selector(Some(SelNo(1)))),
-    (
-        Call::OpenChannel(Kind::Sink),
-        Reply::OpenedChannel(Ok(ChanNo(1))),
-    ),
+    (Call::OpenChannel(Kind::Sink), Reply::OpenedChannel(Ok(C1))),
     (
         Call::OpenChannel(Kind::Sink),
         Reply::OpenedChannel(Err(ChannelError::ChannelsSpent)),

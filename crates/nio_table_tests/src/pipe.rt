@@ -1,5 +1,6 @@
-//! A pipe in one hand, with each answer and each refusal; one that is filled to the brim by its two ends; one
-//! that is parted with bytes in it; two ends in two threads; and readers that an interrupt or a close ends.
+//! A pipe in one hand, with each answer and each refusal, also after its numbers were given to new channels; one that
+//! is filled to the brim by its two ends; one that is parted with bytes in it; two ends in two threads; and readers
+//! that an interrupt or a close ends.
 ghost use Rattle.std.specs.Prelude.{◌≡◌, ◌≤◌, length, IfOk};
 ghost use Rattle.nio_channel.specs.Idle.{AreIdle};
 ghost use Rattle.nio_history.specs.Conditions.{IsCaller};
@@ -10,9 +11,10 @@ ghost use Rattle.nio_pipe.specs.Idle.{HasBoth, MayUse};
 ghost use Rattle.nio_words.specs.Passes.{limits_of};
 ghost use Rattle.nio_words.specs.Views.{view};
 
-use crate::tables::{ONE, ZERO, table};
-use nio_base::{CallerNo, ChanNo, Limits};
-use nio_channel::{close_channel, try_set_blocking};
+use crate::calls::{self, Call, OnChannel, Reply};
+use crate::tables::{C0, C0_AGAIN, C1, C1_AGAIN, ONE, ZERO, table};
+use nio_base::{CallerNo, ChanId, Limits};
+use nio_channel::{close_channel, reopen_channel, try_set_blocking};
 use nio_pipe::{
     HeldPipe, PipeError, PipeMakeError, PipeRead, PipeSink, PipeSource, PipeWrite, held_pipe, pipe,
 };
@@ -43,6 +45,8 @@ enum OnPipe {
     Interrupt,
     /// Both channels are set to non-blocking mode.
     Unblock,
+    /// The source is reopened, and the sink.
+    Reopen,
 }
 
 #[derive(Clone, Copy, Debug, PartialEq, Eq)]
@@ -50,6 +54,8 @@ enum Told {
     Read(Result<PipeRead, PipeError>),
     Write(Result<PipeWrite, PipeError>),
     Closes(bool),
+    /// What has the number of the source then, and of the sink, where it was reopened.
+    Reopened(Option<ChanId>, Option<ChanId>),
     Done,
 }
 
@@ -61,7 +67,7 @@ fn made(alloc: Global, w: &Words, p: &mut Pass) -> Result<HeldPipe, PipeMakeErro
     held_pipe(alloc, w, p, ZERO)
 }
 
-fn unblock(w: &Words, p: &mut Pass, source: ChanNo, sink: ChanNo)
+fn unblock(w: &Words, p: &mut Pass, source: ChanId, sink: ChanId)
     requires { MayUse w.now p.old ZERO source sink }
     ensures { MayUse w.now p.new ZERO source sink }
 {
@@ -74,6 +80,22 @@ fn unblock_ends(w: &Words, p: &mut Pass, source: &PipeSource, sink: &PipeSink)
     ensures { MayUse w.now p.new ZERO source.now.chan sink.now.chan }
 {
     unblock(w, p, source.chan(), sink.chan());
+}
+
+fn reopen(w: &Words, p: &mut Pass, source: ChanId, sink: ChanId) -> Told
+    requires { MayUse w.now p.old ZERO source sink }
+    ensures { MayUse w.now p.new ZERO source sink }
+{
+    let first = reopen_channel(w, p, ZERO, source);
+    let second = reopen_channel(w, p, ZERO, sink);
+    Told::Reopened(first.ok(), second.ok())
+}
+
+fn reopen_ends(w: &Words, p: &mut Pass, source: &PipeSource, sink: &PipeSink) -> Told
+    requires { MayUse w.now p.old ZERO source.now.chan sink.now.chan }
+    ensures { MayUse w.now p.new ZERO source.now.chan sink.now.chan }
+{
+    reopen(w, p, source.chan(), sink.chan())
 }
 
 fn answer(w: &Words, p: &mut Pass, pipe: &mut HeldPipe, bytes: &mut [u8], call: OnPipe) -> Told
@@ -101,6 +123,7 @@ fn answer(w: &Words, p: &mut Pass, pipe: &mut HeldPipe, bytes: &mut [u8], call: 
             unblock(w, p, pipe.source(), pipe.sink());
             Told::Done
         }
+        OnPipe::Reopen => reopen(w, p, pipe.source(), pipe.sink()),
     }
 }
 
@@ -170,10 +193,40 @@ const BREAKS: &[(OnPipe, Told)] = &[
     (OnPipe::Write(0), Told::Write(Err(PipeError::BrokenPipe))),
 ];
 
+/// The source's number is given to another channel, and then the sink's.
+const IS_REOPENED: &[(OnPipe, Told)] = &[
+    (OnPipe::Write(2), Told::Write(Ok(PipeWrite::Bytes(2)))),
+    (OnPipe::CloseSource, Told::Closes(true)),
+    (OnPipe::Reopen, Told::Reopened(Some(C0_AGAIN), None)),
+    (OnPipe::Read(1), Told::Read(Err(PipeError::ClosedChannel))),
+    (OnPipe::Write(1), Told::Write(Err(PipeError::BrokenPipe))),
+    (OnPipe::CloseSource, Told::Closes(false)),
+    (OnPipe::CloseSink, Told::Closes(true)),
+    (OnPipe::Reopen, Told::Reopened(None, Some(C1_AGAIN))),
+    (OnPipe::Write(1), Told::Write(Err(PipeError::ClosedChannel))),
+    (OnPipe::CloseSink, Told::Closes(false)),
+];
+
+/// The sink's number alone is.
+const HAS_A_REOPENED_SINK: &[(OnPipe, Told)] = &[
+    (OnPipe::Write(2), Told::Write(Ok(PipeWrite::Bytes(2)))),
+    (OnPipe::CloseSink, Told::Closes(true)),
+    (OnPipe::Reopen, Told::Reopened(None, Some(C1_AGAIN))),
+    (OnPipe::Write(1), Told::Write(Err(PipeError::ClosedChannel))),
+    (OnPipe::Read(3), Told::Read(Ok(PipeRead::Bytes(2)))),
+    (OnPipe::Read(1), Told::Read(Ok(PipeRead::End))),
+];
+
 #[test]
 fn a_pipe_in_one_hand(rt: HostRuntime) -> Result<(), Fail> {
     let mut bytes = vec![in rt.alloc(); 0u8; 65_537]?;
-    for calls in [FILLS_AND_ENDS, IS_INTERRUPTED, BREAKS] {
+    for calls in [
+        FILLS_AND_ENDS,
+        IS_INTERRUPTED,
+        BREAKS,
+        IS_REOPENED,
+        HAS_A_REOPENED_SINK,
+    ] {
         let (words, mut p) = table(rt.alloc(), SMALL)?;
         let mut pipe = made(rt.alloc(), &words, &mut p)?;
         assert!(rt; are_answered(&words, &mut p, &mut pipe, &mut bytes, calls));
@@ -187,6 +240,35 @@ fn no_number_is_left_for_a_sink(rt: HostRuntime) -> Result<(), Fail> {
     made(rt.alloc(), &words, &mut p)?;
     let refused = made(rt.alloc(), &words, &mut p).err();
     assert!(rt; refused == Some(PipeMakeError::ChannelsSpent));
+    Ok(())
+}
+
+/// A table whose only pipe has all channels.
+const FOR_A_PIPE: Limits = Limits {
+    callers: 2,
+    selectors: 1,
+    channels: 2,
+    keys: 1,
+};
+
+const CARRIES: &[(OnPipe, Told)] = &[
+    (OnPipe::Read(3), Told::Read(Ok(PipeRead::NotYet))),
+    (OnPipe::Write(2), Told::Write(Ok(PipeWrite::Bytes(2)))),
+    (OnPipe::Read(3), Told::Read(Ok(PipeRead::Bytes(2)))),
+];
+
+#[test]
+fn the_numbers_of_a_pipe_come_back(rt: HostRuntime) -> Result<(), Fail> {
+    let (words, mut p) = table(rt.alloc(), FOR_A_PIPE)?;
+    made(rt.alloc(), &words, &mut p)?;
+    for chan in [C0, C1] {
+        let close = Call::OnChannel(chan, OnChannel::Close);
+        assert!(rt; calls::answer(rt.alloc(), &words, &mut p, close) == Reply::Flag(true));
+    }
+    let mut pipe = made(rt.alloc(), &words, &mut p)?;
+    assert!(rt; pipe.source() == C0_AGAIN && pipe.sink() == C1_AGAIN);
+    let mut bytes = [1, 2, 3];
+    assert!(rt; are_answered(&words, &mut p, &mut pipe, &mut bytes, CARRIES));
     Ok(())
 }
 
@@ -220,7 +302,7 @@ fn reads(
     p: &mut Pass,
     me: CallerNo,
     source: &mut PipeSource,
-    other: ChanNo,
+    other: ChanId,
     into: &mut [u8],
 ) -> Result<PipeRead, PipeError>
     requires { MayUse w.now p.old me source.old.chan other }
@@ -282,6 +364,7 @@ fn answer_at_ends(
             unblock_ends(w, p, source, sink);
             Told::Done
         }
+        OnPipe::Reopen => reopen_ends(w, p, source, sink),
     }
 }
 
@@ -303,14 +386,35 @@ const FILLS_TO_THE_BRIM: &[(OnPipe, Told)] = &[
     (OnPipe::CloseSource, Told::Closes(true)),
 ];
 
+/// Whether each call is answered so.
+fn are_answered_at_ends(
+    w: &Words,
+    p: &mut Pass,
+    source: &mut PipeSource,
+    sink: &mut PipeSink,
+    bytes: &mut [u8],
+    calls: &[(OnPipe, Told)],
+) -> bool
+    requires { HasBoth w.now p.old source.old sink.old }
+    ensures { HasBoth w.now p.new source.new sink.new }
+{
+    for (call, told) in calls {
+        if answer_at_ends(w, p, source, sink, bytes, *call) != *told {
+            return false;
+        }
+    }
+    true
+}
+
 #[test]
-fn one_hand_fills_a_pipe_to_the_brim(rt: HostRuntime) -> Result<(), Fail> {
-    let (words, mut p) = table(rt.alloc(), SMALL)?;
-    let (mut source, mut sink) = ends_made(rt.alloc(), &words, &mut p)?;
+fn both_ends_in_one_hand(rt: HostRuntime) -> Result<(), Fail> {
     let mut bytes = vec![in rt.alloc(); 7u8; 65_537]?;
-    for (call, told) in FILLS_TO_THE_BRIM {
-        let answer = answer_at_ends(&words, &mut p, &mut source, &mut sink, &mut bytes, *call);
-        assert!(rt; answer == *told);
+    for calls in [FILLS_TO_THE_BRIM, IS_REOPENED, HAS_A_REOPENED_SINK] {
+        let (words, mut p) = table(rt.alloc(), SMALL)?;
+        let (mut source, mut sink) = ends_made(rt.alloc(), &words, &mut p)?;
+        assert!(rt;
+            are_answered_at_ends(&words, &mut p, &mut source, &mut sink, &mut bytes, calls)
+        );
     }
     Ok(())
 }
@@ -423,7 +527,7 @@ fn reads_all(
     mut p: Pass,
     me: CallerNo,
     mut source: PipeSource,
-    other: ChanNo,
+    other: ChanId,
 ) -> (PipeSource, bool)
     requires { MayUse w.now p me source.chan other }
     ensures { IsSameSource source result.0 }
@@ -490,7 +594,7 @@ fn reads_on<R: Wait>(
     w: &Words,
     mut p: Pass,
     mut source: PipeSource,
-    other: ChanNo,
+    other: ChanId,
 ) -> Option<Result<PipeRead, PipeError>>
     requires { MayUse w.now p ZERO source.chan other }
 {
@@ -511,7 +615,7 @@ fn writes_and_ends<R: Wait>(
     w: &Words,
     mut q: Pass,
     mut sink: PipeSink,
-    source: ChanNo,
+    source: ChanId,
     bytes: &[u8],
     closes: bool,
 ) -> (Result<PipeWrite, PipeError>, Result<PipeWrite, PipeError>)
@@ -605,7 +709,7 @@ fn reads_and_ends<R: Wait>(
     w: &Words,
     mut p: Pass,
     mut source: PipeSource,
-    sink: ChanNo,
+    sink: ChanId,
     closes_sink: bool,
 ) -> Result<PipeRead, PipeError>
     requires { MayUse w.now p ZERO source.chan sink }

@@ -8,12 +8,14 @@ use crate::tables::{ONE, S, ZERO};
 use crate::words::SMALL as TABLE;
 use crate::words::history::C;
 use nio_audit::{AuditError, audit};
-use nio_base::{CallerNo, ChanNo, Kind, Limits, Ops};
+use nio_base::{CallerNo, ChanNo, KeyId, Kind, Limits, Ops};
 use nio_history::{Act, Chan, Event, GateWord, Mark, Stage};
 use nio_record::{RecordError, Recorder};
 use std::alloc::{AllocError, Global};
 use std::process::Abort;
 use std::test::Fail;
+
+mod closing;
 
 // What stands in an act that asks for a step: the step puts what it finds in its place.
 
@@ -26,7 +28,8 @@ const CHANNEL: Chan = Chan {
     made: false,
     kind: Kind::Stream,
     closed: false,
-    blocking: false,
+    blocking: true,
+    serial: 0,
 };
 
 const STAGE: Stage = Stage {
@@ -41,6 +44,15 @@ const STAGE: Stage = Stage {
 const MARK: Mark = Mark {
     selected: false,
     ready: Ops::NONE,
+};
+
+/// The stream as who closes it finds it.
+const REGISTERED: Chan = Chan {
+    made: true,
+    kind: Kind::Stream,
+    closed: false,
+    blocking: false,
+    serial: 0,
 };
 
 /// What the other caller does.
@@ -124,15 +136,16 @@ fn disturb(r: &mut Recorder, alloc: Global, other: Other) -> Result<(), RecordEr
         Act::UnselectBit(S, 0, false),
         Act::Unpin(S, 0),
     ];
+    let closes = [
+        Act::LookChannel(C, CHANNEL),
+        Act::CloseBit(C, REGISTERED, CHANNEL),
+        Act::LookReg(C, S, None),
+        Act::LookChannel(C, CHANNEL),
+    ];
     match other {
         Other::Cancels => play(r, alloc, ONE, &cancels),
         Other::Closes => {
-            play(
-                r,
-                alloc,
-                ONE,
-                &[Act::CloseBit(C, false), Act::LookReg(C, S, None)],
-            )?;
+            play(r, alloc, ONE, &closes)?;
             play(r, alloc, ONE, &cancels)
         }
         Other::Shuts => play(r, alloc, ONE, &[Act::ShutBit(S, false)]),
@@ -456,7 +469,11 @@ enum Found {
     Free(u64),
     Key(Stage),
     Interest(Ops),
-    /// The step is none of a selection.
+    Mark(Mark),
+    Channel(Chan),
+    /// The key that is noted.
+    Noted(Option<KeyId>),
+    /// Another step.
     Other,
 }
 
@@ -476,8 +493,20 @@ fn found_by(act: Act) -> Found {
         Act::LookKey(_, _, stage) => Found::Key(stage),
         Act::Remove(_, _, stage) => Found::Key(stage),
         Act::LookInterest(_, _, ops) => Found::Interest(ops),
+        Act::LookMark(_, _, mark) => Found::Mark(mark),
+        Act::LookChannel(_, chan) => Found::Channel(chan),
+        Act::CloseBit(_, _, chan) => Found::Channel(chan),
+        Act::LookReg(_, _, noted) => Found::Noted(noted),
         _ => Found::Other,
     }
+}
+
+/// Makes a step of a caller.
+fn find(r: &mut Recorder, alloc: Global, caller: CallerNo, act: Act) -> Result<Found, RecordError>
+    requires { IsRecorded r.old }
+    ensures { IsRecorded r.new }
+{
+    Ok(found_by(r.step(alloc, caller, act)?))
 }
 
 /// Makes these steps of a caller, up to the first that finds something else than is listed. How many found what is
@@ -492,8 +521,7 @@ fn agree(
     ensures { IsRecorded r.new }
 {
     for (at, (act, wanted)) in rows.iter().enumerate() {
-        let made = r.step(alloc, caller, *act)?;
-        if found_by(made) != *wanted {
+        if find(r, alloc, caller, *act)? != *wanted {
             return Ok(at);
         }
     }

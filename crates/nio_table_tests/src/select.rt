@@ -1,10 +1,11 @@
 //! Whole selections: what they ask and mark, why they end, and whose turn it is; selections on a table without a
-//! channel; keys that are cancelled before a selection; closing beside one; and two threads, one of which selects.
+//! channel; keys that are cancelled before a selection and during one; closing beside one; and two threads, one of
+//! which selects.
 ghost use Rattle.std.specs.Prelude.{IfSome};
 ghost use Rattle.nio_channel.specs.Idle.{AreIdle, zero, one};
 ghost use Rattle.nio_history.specs.Conditions.{IsKey};
 ghost use Rattle.nio_history.specs.PassViews.{HasChannel, HasSelector};
-ghost use Rattle.nio_select.specs.InProgress.{Selects, Closes};
+ghost use Rattle.nio_select.specs.InProgress.{Selects, HasShut};
 ghost use Rattle.nio_steps.specs.SelectCalls.{Selection};
 ghost use Rattle.nio_words.specs.Passes.{IsReady, limits_of};
 ghost use Rattle.nio_words.specs.Views.{view};
@@ -14,11 +15,11 @@ use crate::calls::{
     Call, NOTHING, OnChannel, OnKey, Reply, answer, asked, follow, is_told, open_stream, told,
 };
 use crate::channel::registers_and_closes;
-use crate::tables::{ONE, S, ZERO, hand_over, is_invalid, table};
-use nio_base::{ChanNo, KeyNo, Limits};
-use nio_channel::ChannelError;
+use crate::tables::{C0, C1, C2, ONE, S, ZERO, hand_over, is_invalid, table};
+use nio_base::{ChanId, ChanNo, KeyNo, Limits, Ops};
+use nio_channel::{ChannelError, try_register};
 use nio_history::{Milliseconds, Why};
-use nio_keys::KeyError;
+use nio_keys::{KeyError, cancel};
 use nio_select::{
     After, BeginError, Closing, Finish, ListError, Mode, Selecting, Shutting, Told, shut, try_begin,
 };
@@ -71,7 +72,7 @@ const MARKS: &[(Call, Reply)] = &[
     (Call::OpenStreams(3), Reply::Mode(Ok(()))),
     (Call::Begin, Reply::Asked(0, None)),
     (
-        Call::OnChannel(2, OnChannel::Register(5, 0)),
+        Call::OnChannel(C2, OnChannel::Register(5, 0)),
         Reply::Registered(Ok(FIRST)),
     ),
     (Call::Begin, Reply::Asked(1, Some((0, ChanNo(2), 5, 0)))),
@@ -107,21 +108,21 @@ fn what_selections_mark(rt: HostRuntime) -> Result<(), Fail> {
 const REMOVES_CANCELLED: &[(Call, Reply)] = &[
     (Call::OpenStreams(3), Reply::Mode(Ok(()))),
     (
-        Call::OnChannel(0, OnChannel::Register(5, 0)),
+        Call::OnChannel(C0, OnChannel::Register(5, 0)),
         Reply::Registered(Ok(FIRST)),
     ),
     (
-        Call::OnChannel(1, OnChannel::Register(5, 0)),
+        Call::OnChannel(C1, OnChannel::Register(5, 0)),
         Reply::Registered(Ok(MIDDLE)),
     ),
     (
-        Call::OnChannel(2, OnChannel::Register(5, 0)),
+        Call::OnChannel(C2, OnChannel::Register(5, 0)),
         Reply::Registered(Ok(LAST)),
     ),
     (Call::OnKey(1, 0, OnKey::Cancel), Reply::Nothing),
     (Call::Keys, Reply::Listed(Ok((3, Some(LAST))))),
     (
-        Call::OnChannel(1, OnChannel::Register(5, 0)),
+        Call::OnChannel(C1, OnChannel::Register(5, 0)),
         Reply::Registered(Err(ChannelError::CancelledKey)),
     ),
     (
@@ -135,7 +136,7 @@ const REMOVES_CANCELLED: &[(Call, Reply)] = &[
     (Call::Keys, Reply::Listed(Ok((2, Some(LAST))))),
     (Call::Begin, Reply::Asked(2, Some((2, ChanNo(2), 5, 0)))),
     (
-        Call::OnChannel(1, OnChannel::Register(5, 0)),
+        Call::OnChannel(C1, OnChannel::Register(5, 0)),
         Reply::Registered(Ok(MIDDLE_AGAIN)),
     ),
     (Call::Keys, Reply::Listed(Ok((3, Some(LAST))))),
@@ -156,7 +157,7 @@ const TIMED: Mode = Mode::For(Milliseconds { after_the_first: 4 });
 const ENDS: &[(Call, Reply)] = &[
     (Call::OpenStreams(3), Reply::Mode(Ok(()))),
     (
-        Call::OnChannel(0, OnChannel::Register(5, 0)),
+        Call::OnChannel(C0, OnChannel::Register(5, 0)),
         Reply::Registered(Ok(FIRST)),
     ),
     (Call::Select(Mode::Wait, NOTHING, true), Reply::Again),
@@ -208,7 +209,7 @@ fn shuts(w: &Words, p: &mut Pass) -> Option<Closing>
     ensures idle { AreIdle w.now p.new }
     ensures selecting { (selection : Selection) → Selects (view w.now p.old) zero selection
         → Selects (view w.now p.new) zero selection }
-    ensures closing { IfSome result (Closes (view w.now p.new) one) }
+    ensures closing { IfSome result (HasShut (view w.now p.new) one) }
 {
     match shut(w, p, ONE, S) {
         Shutting::Closing(closing) => Some(closing),
@@ -219,11 +220,11 @@ fn shuts(w: &Words, p: &mut Pass) -> Option<Closing>
 /// The other caller tries to finish its closing, where one is in progress.
 fn finishes(w: &Words, p: &mut Pass, closing: Option<Closing>) -> Option<Closing>
     requires idle { AreIdle w.now p.old }
-    requires closing { IfSome closing (Closes (view w.now p.old) one) }
+    requires closing { IfSome closing (HasShut (view w.now p.old) one) }
     ensures idle { AreIdle w.now p.new }
     ensures selecting { (selection : Selection) → Selects (view w.now p.old) zero selection
         → Selects (view w.now p.new) zero selection }
-    ensures closing { IfSome result (Closes (view w.now p.new) one) }
+    ensures closing { IfSome result (HasShut (view w.now p.new) one) }
 {
     let Some(closing) = closing else {
         return None;
@@ -295,6 +296,52 @@ fn a_selector_is_closed(rt: HostRuntime) -> Result<(), Fail> {
     ] {
         assert!(rt; answer(rt.alloc(), &words, &mut p, call) == reply);
     }
+    Ok(())
+}
+
+/// The other caller registers the channel and cancels its key.
+fn cancels_beside(w: &Words, p: &mut Pass, chan: ChanId) -> Reply
+    requires idle { AreIdle w.now p.old }
+    requires channel { HasChannel (view w.now p.old) chan }
+    ensures idle { AreIdle w.now p.new }
+    ensures selecting { (selection : Selection) → Selects (view w.now p.old) zero selection
+        → Selects (view w.now p.new) zero selection }
+{
+    match try_register(w, p, ONE, S, chan, Ops::READ, 0) {
+        Ok(key) => {
+            cancel(w, p, ONE, key);
+            Reply::Registered(Ok(key))
+        }
+        Err(error) => Reply::Registered(Err(error)),
+    }
+}
+
+/// A selection of the first caller beside which the other does so: what the registration answers, and the selection.
+fn removes_beside(alloc: Global, w: &Words, p: &mut Pass, chan: ChanId) -> Option<(Reply, Reply)>
+    requires idle { AreIdle w.now p.old }
+    requires channel { HasChannel (view w.now p.old) chan }
+    ensures { AreIdle w.now p.new }
+{
+    let told = told(alloc, NOTHING, false).ok()?;
+    match try_begin(alloc, w, p, ZERO, S, Mode::Now) {
+        Ok(selection) => {
+            let registered = cancels_beside(w, p, chan);
+            Some((registered, is_told(w, p, selection, &told)))
+        }
+        Err(_) => None,
+    }
+}
+
+#[test]
+fn a_key_cancelled_meanwhile_is_removed(rt: HostRuntime) -> Result<(), Fail> {
+    let (words, mut p) = table(rt.alloc(), SMALL)?;
+    let chan = open_stream(&words, &mut p)?;
+    assert!(rt;
+        removes_beside(rt.alloc(), &words, &mut p, chan)
+            == Some((Reply::Registered(Ok(FIRST)), Reply::Done(0, Why::Now)))
+    );
+    let left = answer(rt.alloc(), &words, &mut p, Call::Keys);
+    assert!(rt; left == Reply::Listed(Ok((0, None))));
     Ok(())
 }
 
@@ -417,7 +464,7 @@ fn ends(w: &Words, p: &mut Pass, selection: Selecting, told: &Told) -> bool
 }
 
 /// Wakes the selector, registers the channel, cancels its key and closes the channel. Says whether this closed it.
-fn wakes_and_closes(w: &Words, mut p: Pass, chan: ChanNo) -> (Pass, bool)
+fn wakes_and_closes(w: &Words, mut p: Pass, chan: ChanId) -> (Pass, bool)
     requires may { MayCall w.now p ONE }
     requires channel { HasChannel (view w.now p) chan }
     ensures { IsReady w.now result.0 ONE }
@@ -434,7 +481,7 @@ fn select_beside<R: Threads + Sync>(
     w: &Words,
     p: Pass,
     q: Pass,
-    chan: ChanNo,
+    chan: ChanId,
 ) -> (bool, bool)
     requires first { MayCall w.now p ZERO }
     requires second { MayCall w.now q ONE × HasChannel (view w.now q) chan }

@@ -4,8 +4,8 @@ ghost use Rattle.nio_caller.specs.Callers.{sees};
 ghost use Rattle.nio_history.specs.PassViews.{HasSelector};
 
 use crate::calls::{Reply, listed, told};
-use crate::tables::S;
-use nio_base::{ChanNo, KeyNo, Kind, Limits, Ops, SelNo};
+use crate::tables::{C0, C1, S};
+use nio_base::{ChanId, ChanNo, KeyNo, Kind, Limits, Ops, SelNo};
 use nio_caller::Caller;
 use nio_channel::ChannelError;
 use nio_history::Why;
@@ -52,11 +52,8 @@ enum OnChannel {
 }
 
 const ROWS: &[(Call, Reply)] = &[
-    (
-        Call::Open(Kind::Source),
-        Reply::OpenedChannel(Ok(ChanNo(0))),
-    ),
-    (Call::Open(Kind::Sink), Reply::OpenedChannel(Ok(ChanNo(1)))),
+    (Call::Open(Kind::Source), Reply::OpenedChannel(Ok(C0))),
+    (Call::Open(Kind::Sink), Reply::OpenedChannel(Ok(C1))),
     // there is no such channel; it has no key
     (Call::TakeSelected(2), Reply::Key(None)),
     (Call::TakeSelected(0), Reply::Key(None)),
@@ -120,7 +117,7 @@ fn answer_on_channel<R: Wait>(
     requires { HasSelector (sees caller.old) sel }
     ensures { HasSelector (sees caller.new) sel }
 {
-    let Some(chan) = caller.find_channel(number) else {
+    let Some(chan) = caller.find_channel(number, 0) else {
         return Reply::Missing;
     };
     match call {
@@ -132,15 +129,15 @@ fn answer_on_channel<R: Wait>(
     }
 }
 
-/// Selects without waiting, and is told that the only key is ready to be read.
-fn selects(alloc: Global, caller: &mut Caller<'_>, sel: SelNo) -> Reply
+/// A selection that is told once, that the only key is ready to be read. Where it would go on, it is left.
+pub(crate) fn selects(alloc: Global, caller: &mut Caller<'_>, sel: SelNo, mode: Mode) -> Reply
     requires { HasSelector (sees caller.old) sel }
     ensures { HasSelector (sees caller.new) sel }
 {
     let Ok(told) = told(alloc, ((0, 1), (9, 1), (9, 4)), false) else {
         return Reply::NotBegun(BeginError::Memory);
     };
-    let selection = match caller.try_begin(alloc, sel, Mode::Now) {
+    let selection = match caller.try_begin(alloc, sel, mode) {
         Ok(selection) => selection,
         Err(error) => return Reply::NotBegun(error),
     };
@@ -169,10 +166,13 @@ fn answer<R: Wait>(rt: &R, alloc: Global, caller: &mut Caller<'_>, sel: SelNo, c
     ensures { HasSelector (sees caller.new) sel }
 {
     match call {
-        Call::TakeSelected(number) => Reply::Key(caller.take_selected(ChanNo(number), sel)),
+        Call::TakeSelected(number) => Reply::Key(caller.take_selected(
+            ChanId::first(ChanNo(number)),
+            sel,
+        )),
         Call::OnChannel(number, call) => answer_on_channel(rt, caller, sel, number, call),
         Call::Open(kind) => Reply::OpenedChannel(caller.open_channel(kind)),
-        Call::Select => selects(alloc, caller, sel),
+        Call::Select => selects(alloc, caller, sel, Mode::Now),
         Call::SelectedKeys => listed(caller.selected_keys(alloc, sel)),
         Call::Cancel => cancels(caller, sel),
         Call::CloseSelector => Reply::Flag(caller.close(rt, sel, &NoBell)),

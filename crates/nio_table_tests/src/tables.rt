@@ -1,7 +1,7 @@
 //! Tables that tests begin with, and the passes of two threads.
 ghost use Rattle.std.specs.Prelude.{◌≡◌, IfOk};
 ghost use Rattle.nio_base.specs.Limits.{IsFit};
-ghost use Rattle.nio_base.specs.declared.numbers.ChanNo.{ChanNo as AChannel};
+ghost use Rattle.nio_base.specs.declared.numbers.ChanId.{ChanId as AChannel};
 ghost use Rattle.nio_channel.specs.Idle.{AreIdle};
 ghost use Rattle.nio_history.specs.Conditions.{IsKey};
 ghost use Rattle.nio_history.specs.PassViews.{HasChannel};
@@ -9,7 +9,7 @@ ghost use Rattle.nio_words.specs.Passes.{IsPassOf, IsReady, limits_of};
 ghost use Rattle.nio_words.specs.Views.{view};
 ghost use Rattle.nio_table_tests.specs.Callers.{AreDrawn, MayCall};
 
-use nio_base::{CallerNo, Limits, SelNo};
+use nio_base::{CallerNo, ChanId, ChanNo, Limits, SelNo};
 use nio_words::{Pass, Words};
 use std::alloc::Global;
 use std::test::Fail;
@@ -22,6 +22,33 @@ pub(crate) const ONE: CallerNo = CallerNo(1);
 
 /// The first selector.
 pub(crate) const S: SelNo = SelNo(0);
+
+/// The first channels of the first three numbers.
+pub(crate) const C0: ChanId = ChanId {
+    number: ChanNo(0),
+    serial: 0,
+};
+
+pub(crate) const C1: ChanId = ChanId {
+    number: ChanNo(1),
+    serial: 0,
+};
+
+pub(crate) const C2: ChanId = ChanId {
+    number: ChanNo(2),
+    serial: 0,
+};
+
+/// The second channels of the first two.
+pub(crate) const C0_AGAIN: ChanId = ChanId {
+    number: ChanNo(0),
+    serial: 1,
+};
+
+pub(crate) const C1_AGAIN: ChanId = ChanId {
+    number: ChanNo(1),
+    serial: 1,
+};
 
 /// A table on which both callers are drawn.
 pub(crate) fn drawn_table(alloc: Global, limits: Limits) -> Result<(Words, Pass), Fail>

@@ -1,8 +1,7 @@
 //! Command lines, and the commands that are read from them, as tables.
 use nio_base::Addr;
 use nio_command::*;
-use nio_datagram::PacketPlan;
-use nio_relay::ProxyPlan;
+use nio_relay::{PacketPlan, ProxyPlan};
 use std::alloc::{AllocError, Global};
 use std::test::Fail;
 

@@ -19,10 +19,14 @@ pub(crate) const LIMITS: Limits = Limits {
 };
 
 /// Each row's name and its lines, which a new system answers.
-pub(crate) const ROWS: [(&str, Lines); 8] = [
+pub(crate) const ROWS: [(&str, Lines); 12] = [
     ("calls_of_selections", CALLS_OF_SELECTIONS),
     ("new_channel_and_key", NEW_CHANNEL_AND_KEY),
     ("least_free_index", LEAST_FREE_INDEX),
+    ("number_comes_back", NUMBER_COMES_BACK),
+    ("ends_come_back", ENDS_COME_BACK),
+    ("source_comes_back", SOURCE_COMES_BACK),
+    ("cancelled_meanwhile", CANCELLED_MEANWHILE),
     ("pipe_bytes", PIPE_BYTES),
     ("broken_pipe", BROKEN_PIPE),
     ("group_shutdown_now", GROUP_SHUTDOWN_NOW),
@@ -107,6 +111,104 @@ const LEAST_FREE_INDEX: Lines = &[
     ("t1 selected s0", "none"),
 ];
 
+/// The number of a closed channel is given to one of its kind once no key of it is in a key set; its first name is a
+/// closed channel from then on.
+const NUMBER_COMES_BACK: Lines = &[
+    ("t1 selector", "s0"),
+    ("t1 channel source", "c0"),
+    ("t1 channel source", "c1"),
+    ("t1 channel sink", "c2"),
+    ("t1 channel source", "channels-spent"),
+    ("t1 blocking c0 off", "ok"),
+    ("t1 register s0 c0 1", "k0"),
+    ("t1 closec c0", "ok"),
+    ("t1 channel source", "channels-spent"),
+    ("t1 begin s0 now", "looked none"),
+    ("t1 told s0", "selected 0 now"),
+    ("t1 channel sink", "channels-spent"),
+    ("t1 is-open c0.1", "no-channel"),
+    ("t1 channel source", "c0.1"),
+    ("t1 channel source", "channels-spent"),
+    ("t1 is-open c0", "no"),
+    ("t1 is-blocking c0", "no"),
+    ("t1 is-registered c0", "no"),
+    ("t1 key-for c0 s0", "none"),
+    ("t1 blocking c0 off", "closed-channel"),
+    ("t1 register s0 c0 4", "illegal-ops"),
+    ("t1 register s0 c0 1", "closed-channel"),
+    ("t1 closec c0", "already"),
+    ("t1 pread c0 1", "not-owner"),
+    ("t1 is-open c0.1", "yes"),
+    ("t1 is-blocking c0.1", "yes"),
+    ("t1 is-registered c0.1", "no"),
+    ("t1 is-open c0.2", "no-channel"),
+    ("t1 closec c1.1", "no-channel"),
+    ("t1 register s0 c0.1 1", "illegal-blocking-mode"),
+    ("t1 blocking c0.1 off", "ok"),
+    ("t1 register s0 c0.1 1 7", "k0.1"),
+    ("t1 is-registered c0", "no"),
+    ("t1 is-registered c0.1", "yes"),
+    ("t1 key-for c0 s0", "none"),
+    ("t1 key-for c0.1 s0", "k0.1"),
+    ("t1 closec c0", "already"),
+    ("t1 valid s0 k0.1", "yes"),
+    ("t1 closec c0.1", "ok"),
+    ("t1 valid s0 k0.1", "no"),
+    ("t1 is-open c0.1", "no"),
+];
+
+/// A pipe gets the numbers of closed ends. One that finds no second number closes the end that it opened.
+const ENDS_COME_BACK: Lines = &[
+    ("t1 channel stream", "c0"),
+    ("t1 pipe t2", "c1 c2"),
+    ("t2 pwrite c2 6f", "1"),
+    ("t1 pipe t2", "channels-spent"),
+    ("t1 closec c1", "ok"),
+    ("t1 pipe t2", "channels-spent"),
+    ("t1 is-open c1.1", "no"),
+    ("t2 closec c2", "ok"),
+    ("t1 pipe t2", "c1.2 c2.1"),
+    ("t1 pread c1 1", "closed-channel"),
+    ("t1 pread c1.1 1", "not-owner"),
+    ("t2 pwrite c2 00", "closed-channel"),
+    ("t2 closec c2", "already"),
+    ("t2 pwrite c2.1 6162", "2"),
+    ("t2 pread c1.2 9", "not-owner"),
+    ("t1 pread c1.2 9", "6162"),
+    ("t1 pread c1.3 1", "no-channel"),
+];
+
+/// A pipe whose source's number was given to another channel is broken.
+const SOURCE_COMES_BACK: Lines = &[
+    ("t1 channel stream", "c0"),
+    ("t1 pipe t2", "c1 c2"),
+    ("t1 closec c1", "ok"),
+    ("t1 channel source", "c1.1"),
+    ("t2 pwrite c2 00", "broken-pipe"),
+    ("t1 pread c1.1 1", "not-owner"),
+    ("t1 pread c1 1", "closed-channel"),
+];
+
+/// A key that is registered and cancelled during a selection is removed where that ends.
+const CANCELLED_MEANWHILE: Lines = &[
+    ("t1 selector", "s0"),
+    ("t1 channel source", "c0"),
+    ("t1 channel source", "c1"),
+    ("t1 blocking c0 off", "ok"),
+    ("t1 blocking c1 off", "ok"),
+    ("t1 register s0 c0 1", "k0"),
+    ("t1 begin s0 wait", "looked k0:1"),
+    ("t2 register s0 c1 1", "k1"),
+    ("t2 cancel s0 k1", "ok"),
+    ("t2 register s0 c1 1", "cancelled-key"),
+    ("t1 told s0", "again"),
+    ("t1 keys s0", "k0 k1"),
+    ("t1 told s0 k0:1 k1:1", "selected 1 ready"),
+    ("t1 keys s0", "k0"),
+    ("t1 is-registered c1", "no"),
+    ("t2 register s0 c1 1", "k1.1"),
+];
+
 const PIPE_BYTES: Lines = &[
     ("t1 pipe t5", "no-caller"),
     ("t1 pipe t2", "c0 c1"),
@@ -140,7 +242,7 @@ const BROKEN_PIPE: Lines = &[
     ("t1 pread c1 1", "not-owner"),
     ("t1 pread c2 1", "no-channel"),
     ("t1 pread c0 1", "closed-channel"),
-    ("t1 pipe t2", "channels-spent"),
+    ("t1 pipe t2", "c2 c1.1"),
 ];
 
 const GROUP_SHUTDOWN_NOW: Lines = &[

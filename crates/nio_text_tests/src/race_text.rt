@@ -1,5 +1,5 @@
 //! Race texts and the lines of their output, as tables of worked rows.
-use nio_base::{CallerNo, ChanNo, KeyId, Ops, SelNo};
+use nio_base::{CallerNo, ChanId, ChanNo, KeyId, Ops, SelNo};
 use nio_history::Why;
 use nio_language::{Call, Reply};
 use nio_race_text::{RaceCall, RaceLine, parse_race, print_race_line};
@@ -115,7 +115,11 @@ fn race_block_wakeup(rt: HostRuntime) {
 #[test]
 fn lines_of_the_output(rt: HostRuntime) -> Result<(), Fail> {
     let alloc = rt.alloc();
-    let register = Call::Register(SelNo(0), ChanNo(1), Ops::of(1), Some(7));
+    let chan = ChanId {
+        number: ChanNo(1),
+        serial: 3,
+    };
+    let register = Call::Register(SelNo(0), chan, Ops::of(1), Some(7));
     let rows = [
         (
             CallerNo(1),
@@ -132,7 +136,7 @@ fn lines_of_the_output(rt: HostRuntime) -> Result<(), Fail> {
                 index: 2,
                 serial: 1,
             }),
-            "t12 345 register s0 c1 1 7 -> k2.1\n",
+            "t12 345 register s0 c1.3 1 7 -> k2.1\n",
         ),
         (
             CallerNo(63),

@@ -1,11 +1,12 @@
 -- What is started at a desk once a ticket was handed its result.
-use Rattle.std.specs.Prelude.{ℕ, ◌==◌, ◌*◌, ◌^◌, if◌then◌else◌, nat_lt, Result, Ok, Err, Option, Some, None, List, [], ◌∷◌}
-use Rattle.std.specs.Prelude.{length, replicate, slice_index_or, slice_set}
+use Rattle.std.specs.Prelude.{ℕ, ◌==◌, ◌*◌, ◌^◌, if◌then◌else◌, Result, Ok, Err, Option, Some, None, List, [], ◌∷◌}
+use Rattle.std.specs.Prelude.{replicate, slice_index_or, slice_set}
 use Rattle.nio_base.specs.declared.numbers.GChan.{GChan}
 use Rattle.nio_base.specs.declared.group.Finished.{Finished}
 use Rattle.nio_base.specs.declared.group.GKind.TheVariants.{Stream, Listener}
 use Rattle.nio_base.specs.declared.group.OpKind.{OpKind}
 use Rattle.nio_base.specs.declared.group.OpKind.TheVariants.{Accept, Connect, Read, Write}
+use Rattle.nio_group.specs.Group.{is_made}
 use Rattle.nio_group.specs.Run as group
 use Rattle.nio_group.specs.Steps.{answer_to_open}
 use Rattle.nio_group.specs.declared.limits.GroupLimits.{GroupLimits}
@@ -16,6 +17,7 @@ use Rattle.nio_future.specs.Steps.{after_poll, after_start, answer_to_poll, answ
 use Rattle.nio_future.specs.Ticket.{Ticket}
 use Rattle.nio_future.specs.declared.ticket.Polled.{Polled}
 use Rattle.nio_future.specs.declared.ticket.Polled.TheVariants.{Ready, NotYet}
+use Rattle.nio_link.specs.Jobs.{of_net}
 use Rattle.nio_jobs.specs.Next.{held_after_finished, listener, next_after, start_of}
 use Rattle.nio_jobs.specs.declared.exchange.Done.{Done}
 use Rattle.nio_jobs.specs.declared.exchange.Done.TheVariants as done
@@ -38,9 +40,9 @@ starting_on o start = record o {
   seats = with_ticket (answer_to_start o.desk start.chan start.kind) o.seats start.chan start.kind;
 }
 
--- an operation is started on a channel, if there is one with this number
+-- an operation is started on a channel, if that was made
 abbrev pub starting : Office → Start → Office
-starting o start = if nat_lt start.chan.0 (length o.desk.group.channels) then starting_on o start else o
+starting o start = if is_made o.desk.group start.chan then starting_on o start else o
 
 -- a read or a write is started, if it is for any bytes
 abbrev pub starting_some : Office → Start → Office
@@ -56,7 +58,7 @@ after_listening_as o (Ok chan) =
 after_listening_as o (Err refused) = o
 
 abbrev pub after_listening : Office → Office
-after_listening o = after_listening_as o (answer_to_open o.desk.group)
+after_listening o = after_listening_as o (answer_to_open o.desk.group Listener)
 
 -- A client was accepted: its target's channel is opened and connected, and then the next client is accepted. Where no
 -- channel can be opened, nothing is started.
@@ -68,7 +70,7 @@ after_accepted_as o (Ok target) =
 after_accepted_as o (Err refused) = o
 
 abbrev pub after_accepted : Office → Office
-after_accepted o = after_accepted_as o (answer_to_open o.desk.group)
+after_accepted o = after_accepted_as o (answer_to_open o.desk.group Stream)
 
 -- what is due is done
 abbrev pub after_next : Office → Next → Office
@@ -97,7 +99,7 @@ polling_taken o chan kind (Some t) =
 -- the ticket of this kind for this channel is polled, if it is out
 abbrev pub polling : Office → GChan → OpKind → Office
 polling o chan kind =
-    if nat_lt chan.0 (length o.desk.group.channels)
+    if is_made o.desk.group chan
     then polling_taken (record o { seats = slice_set o.seats (place_of chan kind) None }) chan kind
     (slice_index_or o.seats (place_of chan kind) None)
     else o
@@ -117,7 +119,7 @@ polling_held o (Some operation) = polling o operation.chan operation.kind
 abbrev pub polling_reported : Office → Done → Office
 polling_reported o (done.Outcome op outcome) = polling_held o (held_at o.desk op.0)
 polling_reported o (done.Again chan kind) = o
-polling_reported o (done.Closed chan) = polling_channel o (record { 0 = chan.0 })
+polling_reported o (done.Closed chan) = polling_channel o (of_net chan)
 
 -- so of each report, in their order
 abbrev pub polling_all : Office → List Done → Office

@@ -8,12 +8,12 @@ use Rattle.nio_future.specs.Ticket.{Ticket}
 use Rattle.nio_future.specs.Tickets.{AreTicketsOf}
 use Rattle.nio_tickets.specs.declared.streams.Streams.{Streams}
 
--- each channel has a seat for a ticket of each kind
+-- the channels of each number have a seat for a ticket of each kind
 abbrev pub place_of : GChan → OpKind → ℕ
-place_of chan Accept = 4 * chan.0
-place_of chan Connect = 4 * chan.0 + 1
-place_of chan Read = 4 * chan.0 + 2
-place_of chan Write = 4 * chan.0 + 3
+place_of chan Accept = 4 * chan.number
+place_of chan Connect = 4 * chan.number + 1
+place_of chan Read = 4 * chan.number + 2
+place_of chan Write = 4 * chan.number + 3
 
 -- the tickets in these seats
 abbrev pub seated : List (Option Ticket) → List Ticket

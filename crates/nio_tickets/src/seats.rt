@@ -7,7 +7,7 @@ use nio_future::OpTicket;
 use std::alloc::{AllocError, Global};
 use std::marker::Model;
 
-/// The tickets that are out, one of a channel and kind at most.
+/// The tickets that are out, one of a number and kind at most. A net uses each number once, and so does its desk.
 #[derive(Drop)]
 pub(crate) struct Seats {
     seats: Vec<Option<OpTicket>>,
@@ -26,7 +26,7 @@ impl Model for Seats {
 fn place(chan: GChan, kind: OpKind) -> usize
     ensures { result ≡ place_of chan kind }
 {
-    let first = 4 * chan.0 as usize;
+    let first = 4 * chan.number as usize;
     match kind {
         OpKind::Accept => first,
         OpKind::Connect => first + 1,

@@ -2,6 +2,7 @@
 ghost use mathlib.Core.List.{IsPrefix};
 ghost use Rattle.std.specs.Prelude.{◌≡◌, ◌<◌, ◌*◌, [], ◌++◌, IfOk, None, length, replicate};
 ghost use Rattle.nio_future.specs.Desk.{held_at};
+ghost use Rattle.nio_group.specs.Group.{IsMade};
 ghost use Rattle.nio_tickets.specs.Handling.{after_accepted, after_listening, after_next, after_result, polling};
 ghost use Rattle.nio_tickets.specs.Handling.{polling_all, polling_channel, polling_held, starting, starting_on};
 ghost use Rattle.nio_tickets.specs.Handling.{starting_some};
@@ -14,10 +15,14 @@ use nio_base::{Finished, GChan, GKind, OpKind, OpNo};
 use nio_future::{Desk, Polled};
 use nio_group::Job;
 use nio_jobs::{Directions, Done, Next, Start};
+use nio_link::of_net;
 use std::alloc::{AllocError, Global};
 
 /// The desk's channel of the listener.
-const LISTENER: GChan = GChan(0);
+const LISTENER: GChan = GChan {
+    number: 0,
+    serial: 0,
+};
 
 /// How many bytes the directions hold, the tickets that are out, and the jobs of the operations that were started.
 #[derive(Drop)]
@@ -81,7 +86,7 @@ impl Streams {
             match *one {
                 Done::Outcome(op, _) => self.poll_operation(desk, cx, op),
                 Done::Again(_, _) => {}
-                Done::Closed(chan) => self.poll_channel(desk, cx, GChan(chan.0)),
+                Done::Closed(chan) => self.poll_channel(desk, cx, of_net(chan)),
             }
         }
     }
@@ -116,7 +121,7 @@ impl Streams {
         ensures office { office_of desk.new self.new ≡ polling (office_of desk.old self.old) chan kind }
         ensures tickets { AreSeated desk.new self.new.seats }
     {
-        if chan.0 >= desk.channels() {
+        if !desk.is_made(chan) {
             return;
         }
         let Some(ticket) = self.seats.take(chan, kind) else {
@@ -131,7 +136,7 @@ impl Streams {
     /// Starts what is due once an operation has this result. Nothing is where it failed, or where the stream has ended.
     fn go_on(&mut self, desk: &mut Desk, chan: GChan, kind: OpKind, finished: Finished)
         requires tickets { AreSeated desk.old self.old.seats }
-        requires few { chan.0 < 4294967295 }
+        requires few { chan.number < 4294967295 }
         ensures office { office_of desk.new self.new ≡ after_result (office_of desk.old self.old) chan kind finished }
         ensures tickets { AreSeated desk.new self.new.seats }
     {
@@ -188,13 +193,13 @@ impl Streams {
         }
     }
 
-    // Starts an operation, if there is such a channel.
+    // Starts an operation, if its channel was made.
     fn start(&mut self, desk: &mut Desk, start: Start)
         requires tickets { AreSeated desk.old self.old.seats }
         ensures office { office_of desk.new self.new ≡ starting (office_of desk.old self.old) start }
         ensures tickets { AreSeated desk.new self.new.seats }
     {
-        if start.chan.0 < desk.channels() {
+        if desk.is_made(start.chan) {
             self.start_on(desk, start);
         }
     }
@@ -202,7 +207,7 @@ impl Streams {
     // Starts an operation, and keeps its ticket and its job. Where it is refused nothing more is due; nor is it where
     // the channel was closed: then the operation fails at once, and its ticket stays in its seat.
     fn start_on(&mut self, desk: &mut Desk, start: Start)
-        requires made { start.chan.0 < length desk.old.group.channels }
+        requires made { IsMade desk.old.group start.chan }
         requires tickets { AreSeated desk.old self.old.seats }
         ensures office { office_of desk.new self.new ≡ starting_on (office_of desk.old self.old) start }
         ensures tickets { AreSeated desk.new self.new.seats }

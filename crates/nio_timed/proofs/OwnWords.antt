@@ -50,7 +50,7 @@ own_plain (StartTimed s) own =
       (len.1.0, (len.1.1.0, (len.1.1.1.0, (now.1.1.1.0, (limit.1.1.1.0, tt))))),
     )
 own_plain (Expire now) own =
-    let len = call_plain (call.Group (group.Start (record { 0 = 0 }) Read now)) in
+    let len = call_plain (call.Group (group.Start (record { number = 0; serial = 0 }) Read now)) in
     (literal (codes "expire") refl, (len.1.1.1.0, tt))
 own_plain Next own = (literal (codes "next") refl, tt)
 

@@ -6,7 +6,7 @@ use Rattle.std.specs.Fmt.{decimal}
 use Rattle.std.proofs.lemmas.Option.{same_Some}
 use Rattle.nio_base.specs.declared.group.OpKind.{OpKind}
 use Rattle.nio_base.specs.declared.numbers.GChan.{GChan}
-use Rattle.nio_language.specs.GroupWords.{group_channel_word, operation_kind_word}
+use Rattle.nio_language.specs.GroupWords.{IsGroupName, group_channel_word, operation_kind_word}
 use Rattle.nio_language.specs.Reading.{Reads}
 use Rattle.nio_language.specs.Words.{IsNumber}
 use Rattle.nio_language.proofs.Ones.{word_at}
@@ -24,7 +24,7 @@ same_start s r chan kind len now limit =
     ∙ ap (λ x. start_of r.chan r.kind r.len r.now x) limit
 
 module _ (chan : GChan) (kind : OpKind) (len now limit big : ℕ) (is_big : big ≡ 4294967295) where
-  five : (a b l n m : List ℕ) → Reads (λ (g : GChan). IsNumber g.0) group_channel_word a (Some chan)
+  five : (a b l n m : List ℕ) → Reads IsGroupName group_channel_word a (Some chan)
       → Reads (λ (k : OpKind). ⊤) operation_kind_word b (Some kind) → Reads (λ n. n ≤ big) decimal l (Some len)
       → Reads (λ n. n ≤ 18446744073709551615) decimal n (Some now)
       → Reads (λ n. n ≤ 18446744073709551615) decimal m (Some limit)
@@ -54,7 +54,7 @@ module _ (chan : GChan) (kind : OpKind) (len now limit big : ℕ) (is_big : big 
   }
 
   pub reads_start : (args : List (Bor (List ℕ))) (d : Bor (List ℕ)) → 5 ≤ length args → length args < 6
-      → Reads (λ (g : GChan). IsNumber g.0) group_channel_word (get_or args 0 d).now (Some chan)
+      → Reads IsGroupName group_channel_word (get_or args 0 d).now (Some chan)
       → Reads (λ (k : OpKind). ⊤) operation_kind_word (get_or args 1 d).now (Some kind)
       → Reads (λ n. n ≤ big) decimal (get_or args 2 d).now (Some len)
       → Reads (λ n. n ≤ 18446744073709551615) decimal (get_or args 3 d).now (Some now)

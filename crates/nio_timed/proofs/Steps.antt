@@ -1,10 +1,11 @@
 -- A timed script as a run of timed steps, and what times out in it.
-use Rattle.std.proofs.Common.{◌≡◌, ◌↔◌, ◌<◌, nat_lt, Bool, true, false, if◌then◌else◌, List, [], ◌∷◌, ◌++◌, Option}
-use Rattle.std.proofs.Common.{Some, None, length, inl, inr, refl, sym, ap, ◌∙◌, subst}
+use Rattle.std.proofs.Common.{◌≡◌, ◌↔◌, Bool, true, false, if◌then◌else◌, List, [], ◌∷◌, ◌++◌, Option}
+use Rattle.std.proofs.Common.{Some, None, inl, inr, refl, sym, ap, ◌∙◌, subst}
 use Rattle.std.specs.Prelude.{IsTrue}
-use Rattle.std.proofs.lemmas.Bool.{ltb-true}
 use Rattle.nio_base.specs.declared.numbers.GChan.{GChan}
 use Rattle.nio_base.specs.declared.numbers.OpNo.{OpNo}
+use Rattle.nio_group.specs.Group.{IsMade, is_made}
+use Rattle.nio_group.proofs.NumberLemmas.{made-so}
 use Rattle.nio_deadline.specs.Run as step
 use Rattle.nio_deadline.specs.Run.{IsCallOf, IsRunOf, after, left_by, was_due}
 use Rattle.nio_deadline.specs.Steps.{answer_to_take}
@@ -39,13 +40,13 @@ left_append t (x ∷ xs) ys = left_append (after t x) xs ys
 abbrev AreStepsOf : Timed → Timed → List step.Call → Type 0
 AreStepsOf t left steps = IsRunOf t steps × (left ≡ left_by t steps)
 
-named : (t : Timed) (chan : GChan) (call : step.Call) → (chan.0 < length t.group.channels → IsCallOf t call)
+named : (t : Timed) (chan : GChan) (call : step.Call) → (IsMade t.group chan → IsCallOf t call)
     → AreStepsOf t (with_named_channel t chan (stepped t call)).left (if_made t chan call)
-named t chan call of = by_test (nat_lt chan.0 (length t.group.channels)) refl
+named t chan call of = by_test (is_made t.group chan) refl
   where
-    by_test : (b : Bool) → nat_lt chan.0 (length t.group.channels) ≡ b
+    by_test : (b : Bool) → is_made t.group chan ≡ b
         → AreStepsOf t (if b then stepped t call else kept t plain.NoChannel).left (if b then call ∷ [] else [])
-    by_test true e = ((of (ltb-true chan.0 (length t.group.channels) e), tt), refl)
+    by_test true e = ((of (made-so t.group chan e), tt), refl)
     by_test false e = (tt, refl)
 
 one_call : (t : Timed) (c : TimedCall) → AreStepsOf t (timed_left t c) (steps_of t c)

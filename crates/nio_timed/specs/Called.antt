@@ -1,7 +1,7 @@
 -- What each call of a timed script replies, and the group that it leaves; and the answer to a whole script. Each call
 -- but those that only ask is one timed step. `start` is a `start-timed` at the moment 0 with the limit 0, which is
 -- none.
-use Rattle.std.specs.Prelude.{◌≡◌, ◌≢◌, ℕ, ◌+◌, ◌<◌, List, [], ◌∷◌, ◌++◌, length, nat_lt, if◌then◌else◌, Option}
+use Rattle.std.specs.Prelude.{◌≡◌, ◌≢◌, ℕ, ◌+◌, List, [], ◌∷◌, ◌++◌, if◌then◌else◌, Option}
 use Rattle.std.specs.Prelude.{Some, None, Ok, Err, IsTrue}
 use Rattle.nio_base.specs.declared.numbers.GChan.{GChan}
 use Rattle.nio_deadline.specs.Deadlines.{first_moment}
@@ -13,7 +13,7 @@ use Rattle.nio_deadline.specs.declared.done.TimedResult.{TimedResult}
 use Rattle.nio_deadline.specs.declared.done.TimedResult.TheVariants.{Core, InterruptedByTimeout}
 use Rattle.nio_deadline.specs.declared.refusal.TimedError.{TimedError}
 use Rattle.nio_deadline.specs.declared.refusal.TimedError.TheVariants as refused
-use Rattle.nio_group.specs.Group.{channel_at, is_terminated}
+use Rattle.nio_group.specs.Group.{IsMade, is_made, is_open, is_terminated}
 use Rattle.nio_group.specs.Run as group_step
 use Rattle.nio_language.specs.declared.group_call.GroupCall.TheVariants as group
 use Rattle.nio_language.specs.declared.group_reply.GroupReply.TheVariants as of_group
@@ -80,9 +80,9 @@ stepped t call = record { reply = timed_line_reply (reply_to t call); left = aft
 abbrev pub kept : Timed → Reply → TimedReplied
 kept t reply = record { reply = Script reply; left = t }
 
--- a channel that a line names has to be made
+-- a channel that a line names has to have been made
 abbrev pub with_named_channel : Timed → GChan → TimedReplied → TimedReplied
-with_named_channel t chan done = if nat_lt chan.0 (length t.group.channels) then done else kept t plain.NoChannel
+with_named_channel t chan done = if is_made t.group chan then done else kept t plain.NoChannel
 
 abbrev pub timed_replied : Timed → TimedCall → TimedReplied
 timed_replied t (Group (group.Gopen kind)) = stepped t (step.open_channel kind)
@@ -113,12 +113,12 @@ timed_left t call = (timed_replied t call).left
 -- a start that keeps a deadline: of a read or write of some bytes, with a limit, on an open channel, where no rule of
 -- deadlines refuses it
 pub record KeepsDeadline (t : Timed) (s : TimedStart) : Type 0 where
-  pub made : s.chan.0 < length t.group.channels
+  pub made : IsMade t.group s.chan
   pub limited : s.limit ≢ 0
   pub some : s.len ≢ 0
   pub kind : IsTrue (may_have_limit s.kind)
-  pub is_open : IsTrue (channel_at t.group s.chan.0).is_open
-  pub allowed : own_refusal t s.chan.0 s.kind s.now s.limit ≡ None
+  pub opened : IsTrue (is_open t.group s.chan)
+  pub allowed : own_refusal t s.chan s.kind s.now s.limit ≡ None
 
 -- the call takes memory
 abbrev pub TakesMemory : Timed → TimedCall → Type 0

@@ -1,8 +1,9 @@
 -- Laws of timed scripts.
-use Rattle.std.specs.Prelude.{◌≡◌, ◌⊎◌, ◌↔◌, ℕ, List, [], ◌∷◌, ◌++◌, length, nat_lt, if◌then◌else◌, IsTrue}
+use Rattle.std.specs.Prelude.{◌≡◌, ◌⊎◌, ◌↔◌, ℕ, List, [], ◌∷◌, ◌++◌, if◌then◌else◌, IsTrue}
 use Rattle.nio_base.specs.declared.group.Finished.{Finished}
 use Rattle.nio_base.specs.declared.numbers.GChan.{GChan}
 use Rattle.nio_base.specs.declared.numbers.OpNo.{OpNo}
+use Rattle.nio_group.specs.Group.{is_made}
 use Rattle.nio_deadline.specs.Run as step
 use Rattle.nio_deadline.specs.Run.{IsRunOf, left_by, was_due}
 use Rattle.nio_deadline.specs.Timed.{Timed}
@@ -24,11 +25,11 @@ IsReadOneWay = (text : List ℕ) (calls others : List TimedLine) → IsTimedScri
 
 -- ---- the timed steps of a script
 
--- a channel that isn't made makes the call no step
+-- a channel that was never made makes the call no step
 abbrev pub if_made : Timed → GChan → step.Call → List step.Call
-if_made t chan call = if nat_lt chan.0 (length t.group.channels) then call ∷ [] else []
+if_made t chan call = if is_made t.group chan then call ∷ [] else []
 
--- the timed steps of a call: one, or none where it only asks or names a channel that isn't made
+-- the timed steps of a call: one, or none where it only asks or names a channel that was never made
 abbrev pub steps_of : Timed → TimedCall → List step.Call
 steps_of t (Group (group.Gopen kind)) = step.open_channel kind ∷ []
 steps_of t (Group (group.Gbind chan)) = if_made t chan (step.bind chan)

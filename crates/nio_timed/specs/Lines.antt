@@ -5,7 +5,7 @@ use Rattle.std.specs.Fmt.{decimal}
 use Rattle.std.specs.List.{join_with_byte}
 use Rattle.nio_language.specs.Calls.{IsBlank, call_words}
 use Rattle.nio_language.specs.GroupCalls.{IsGroupCall}
-use Rattle.nio_language.specs.GroupWords.{group_channel_word, operation_kind_word}
+use Rattle.nio_language.specs.GroupWords.{IsGroupName, group_channel_word, operation_kind_word}
 use Rattle.nio_language.specs.Script.{lines_of}
 use Rattle.nio_language.specs.Words.{IsNumber, caller_word}
 use Rattle.nio_language.specs.declared.call.Call.TheVariants as call
@@ -29,7 +29,7 @@ timed_words (Expire now) = codes "expire" ∷ decimal now ∷ []
 timed_words Next = codes "next" ∷ []
 
 pub record IsTimedStart (s : TimedStart) : Type 0 where
-  pub chan : IsNumber s.chan.0
+  pub chan : IsGroupName s.chan
   pub len : IsNumber s.len
   pub now : s.now < 2 ^ 64
   pub limit : s.limit < 2 ^ 64

@@ -83,7 +83,7 @@ fn start(timed: &mut TimedCore, wanted: TimedStart) -> Result<TimedReply, AllocE
         now,
         limit,
     } = wanted;
-    if chan.0 >= timed.channels() {
+    if !timed.is_made(chan) {
         return Ok(TimedReply::Script(Reply::NoChannel));
     }
     started(timed.start_timed(chan, kind, len, now, limit))
@@ -93,7 +93,7 @@ fn bind(timed: &mut TimedCore, chan: GChan) -> TimedReply
     ensures reply { result ≡ (with_named_channel timed.old chan (stepped timed.old (step.bind chan))).reply }
     ensures left { timed.new ≡ (with_named_channel timed.old chan (stepped timed.old (step.bind chan))).left }
 {
-    if chan.0 >= timed.channels() {
+    if !timed.is_made(chan) {
         return TimedReply::Script(Reply::NoChannel);
     }
     bound(timed.bind(chan))
@@ -103,7 +103,7 @@ fn close_channel(timed: &mut TimedCore, chan: GChan) -> TimedReply
     ensures reply { result ≡ (with_named_channel timed.old chan (stepped timed.old (step.close_channel chan))).reply }
     ensures left { timed.new ≡ (with_named_channel timed.old chan (stepped timed.old (step.close_channel chan))).left }
 {
-    if chan.0 >= timed.channels() {
+    if !timed.is_made(chan) {
         return TimedReply::Script(Reply::NoChannel);
     }
     closed(timed.close_channel(chan))

@@ -3,6 +3,7 @@ ghost use Rattle.std.specs.Prelude.{◌≡◌, ◌∷◌, ◌++◌, codes, IfOk,
 ghost use Rattle.std.specs.Fmt.{decimal};
 ghost use Rattle.std.specs.List.{join_with_byte};
 ghost use Rattle.nio_language.specs.GroupWords.{group_channel_word, operation_kind_word};
+ghost use Rattle.nio_language.specs.Words.{serial_text};
 ghost use Rattle.nio_timed.specs.Lines.{start_words, timed_line_text};
 ghost use Rattle.nio_timed.specs.Replies.{timed_history_line, timed_reply_text};
 ghost use Rattle.nio_timed.specs.declared.call.TimedCall.TheVariants.{Group, StartTimed};
@@ -10,7 +11,7 @@ ghost use Rattle.nio_timed.specs.declared.call.TimedCall.TheVariants.{Group, Sta
 use crate::call::{TimedCall, TimedLine, TimedStart};
 use crate::reply::TimedReply;
 use itoa::Buffer;
-use nio_base::{CallerNo, OpKind, OpNo};
+use nio_base::{CallerNo, GChan, OpKind, OpNo};
 use nio_language::{Call, GroupCall, Reply, print_line, print_reply};
 use std::alloc::{AllocError, Global};
 
@@ -93,13 +94,31 @@ fn push_start(text: &mut Vec<u8>, start: TimedStart) -> Result<(), AllocError>
     push_times(text, start.now, start.limit)
 }
 
+fn push_channel(text: &mut Vec<u8>, chan: GChan) -> Result<(), AllocError>
+    ensures { OnOk result (text.new.items ≡ text.old.items ++ group_channel_word chan) }
+{
+    text.push(b'g')?;
+    push_number(text, u64::from(chan.number))?;
+    push_serial(text, chan.serial)
+}
+
+// A point and a serial; nothing where it is 0.
+fn push_serial(text: &mut Vec<u8>, serial: u32) -> Result<(), AllocError>
+    ensures { OnOk result (text.new.items ≡ text.old.items ++ serial_text serial) }
+{
+    if serial == 0 {
+        return Ok(());
+    }
+    text.push(b'.')?;
+    push_number(text, u64::from(serial))
+}
+
 // The channel, the kind and the length.
 fn push_operation(text: &mut Vec<u8>, start: TimedStart) -> Result<(), AllocError>
     ensures { OnOk result (text.new.items ≡ text.old.items
         ++ group_channel_word start.chan ++ 32 ∷ operation_kind_word start.kind ++ 32 ∷ decimal start.len) }
 {
-    text.push(b'g')?;
-    push_number(text, u64::from(start.chan.0))?;
+    push_channel(text, start.chan)?;
     text.push(b' ')?;
     push_kind(text, start.kind)?;
     text.push(b' ')?;

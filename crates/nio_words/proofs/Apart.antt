@@ -16,6 +16,7 @@ use Rattle.nio_history.specs.declared.act.Act.TheVariants.{GiveTurn, Remove, Mar
 use Rattle.nio_history.specs.declared.act.Act.TheVariants.{RaiseChannels, TryHoldBit, Release, SetMode, CloseBit}
 use Rattle.nio_history.specs.declared.act.Act.TheVariants.{ShutBit}
 use Rattle.nio_history.specs.declared.act.Act.TheVariants.{Pin, Unpin, ClearMark, ClaimAgain, PutFree, TakeFree}
+use Rattle.nio_history.specs.declared.act.Act.TheVariants.{Reopen}
 use Rattle.nio_history.specs.declared.found.Stage.{Stage}
 use Rattle.nio_history.proofs.Put.{put-other}
 use Rattle.nio_words.proofs.Bits.{bits_below-same}
@@ -61,7 +62,8 @@ apart st me (RaiseChannels n found) ChannelsHigh ne = absurd (ne refl)
 apart st me act ChannelsHigh ne = refl
 apart st me (MakeChannel c kind found) (Chan d) ne = ap channel_word (put-other st.chan c.0 _ d (λ e. ne (ap Chan e)))
 apart st me (SetMode c blocking found) (Chan d) ne = ap channel_word (put-other st.chan c.0 _ d (λ e. ne (ap Chan e)))
-apart st me (CloseBit c found) (Chan d) ne = ap channel_word (put-other st.chan c.0 _ d (λ e. ne (ap Chan e)))
+apart st me (CloseBit c from found) (Chan d) ne = ap channel_word (put-other st.chan c.0 _ d (λ e. ne (ap Chan e)))
+apart st me (Reopen c from found) (Chan d) ne = ap channel_word (put-other st.chan c.0 _ d (λ e. ne (ap Chan e)))
 apart st me act (Chan d) ne = refl
 apart st me (TryHoldBit c found) (Hold d) ne = ap holder_word (put-other st.hold c.0 _ d (λ e. ne (ap Hold e)))
 apart st me (Release c) (Hold d) ne = ap holder_word (put-other st.hold c.0 _ d (λ e. ne (ap Hold e)))

@@ -38,16 +38,23 @@ sets k hi lo b small =
     ∙ (ap (λ (n : ℕ). n * 2 ^ k + bit_or lo 0) (sets_low hi b)
     ∙ ap (λ (n : ℕ). (hi * 2 + 1) * 2 ^ k + n) (or_comm lo 0))
 
--- the highest bit is cleared by what has none of it, and the others are as they were
-pub clears_top : (k top lo : ℕ) (b : Bool) → lo < 2 ^ k → lo % 2 ^ k ≡ lo → bit_and (bit b) top ≡ 0
-    → bit_and (bit b * 2 ^ k + lo) (top * 2 ^ k + (2 ^ k - 1)) ≡ lo
-clears_top k top lo b small same none_of =
-    and_block k (bit b) top lo (2 ^ k - 1) small (let positive = pow_pos k in omega arith)
-    ∙ (ap (λ (n : ℕ). n * 2 ^ k + bit_and lo (2 ^ k - 1)) none_of
-    ∙ (no_block (bit_and lo (2 ^ k - 1)) ∙ (and_mask lo k ∙ same)))
+-- the lowest bit is cleared
+clears_low : (hi mask : ℕ) (b : Bool) → bit_and hi mask ≡ hi → bit_and (hi * 2 + bit b) (mask * 2 + 0) ≡ hi * 2 + 0
+clears_low hi mask b all =
+    and_block 1 hi mask (bit b) 0 (bit-lt b) (omega arith)
+    ∙ (ap (λ (n : ℕ). n * 2 + bit_and (bit b) 0) all ∙ ap (λ (n : ℕ). hi * 2 + n) (none_of b))
   where
-    no_block : (n : ℕ) → 0 * 2 ^ k + n ≡ n
-    no_block n = omega arith
+    none_of : (x : Bool) → bit_and (bit x) 0 ≡ 0
+    none_of true = refl
+    none_of false = refl
+
+-- a bit is cleared, and the others are as they were: those above it are among the bits of the mask
+pub clears : (k hi mask lo : ℕ) (b : Bool) → lo < 2 ^ k → lo % 2 ^ k ≡ lo → bit_and hi mask ≡ hi
+    → bit_and ((hi * 2 + bit b) * 2 ^ k + lo) ((mask * 2 + 0) * 2 ^ k + (2 ^ k - 1)) ≡ (hi * 2 + 0) * 2 ^ k + lo
+clears k hi mask lo b small same all =
+    and_block k (hi * 2 + bit b) (mask * 2 + 0) lo (2 ^ k - 1) small (let positive = pow_pos k in omega arith)
+    ∙ (ap (λ (n : ℕ). n * 2 ^ k + bit_and lo (2 ^ k - 1)) (clears_low hi mask b all)
+    ∙ ap (λ (n : ℕ). (hi * 2 + 0) * 2 ^ k + n) (and_mask lo k ∙ same))
 
 -- an exchange of 0 for a new word puts it there where 0 stands there, and else changes nothing
 pub exchanges : (w new : ℕ) (was : Bool) → (was ≡ true → w ≢ 0) → (was ≡ false → w ≡ 0)

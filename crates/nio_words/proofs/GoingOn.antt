@@ -4,7 +4,8 @@ use Rattle.std.proofs.Common.{◌≡◌, Bool, true, false, List, [], ◌∷◌,
 use Rattle.std.proofs.lemmas.List.{append-nil, append_cancel_left}
 use Rattle.std.specs.Option.{ForSome}
 use Rattle.nio_base.specs.declared.numbers.CallerNo.{CallerNo}
-use Rattle.nio_history.proofs.Holds.{mode_stays, enrolled_stays, found_enrolled_stays, outside_stays, found_clear_stays}
+use Rattle.nio_history.proofs.Holds.{channel_stays, mode_stays, enrolled_stays, found_enrolled_stays, outside_stays}
+use Rattle.nio_history.proofs.Holds.{found_clear_stays}
 use Rattle.nio_history.proofs.Legal.{legal_beginning}
 use Rattle.nio_history.proofs.PinLaws.{pinned_keys_stay}
 use Rattle.nio_history.proofs.SelectedKeys.{selections_keep_keys}
@@ -12,7 +13,7 @@ use Rattle.nio_history.proofs.Selections.{selects_alone as selects_alone_there, 
 use Rattle.nio_history.proofs.Stays.{facts_are_permanent, invalid_keys_stay_invalid, only_itself_gives_back}
 use Rattle.nio_history.specs.Histories.{state_after, mine, IsLegal}
 use Rattle.nio_history.specs.Permanent.{OwnFact, a_selection, is_had_by, gives_back}
-use Rattle.nio_history.specs.Holders.{IsAtMostUnselected}
+use Rattle.nio_history.specs.Holders.{KeepsMode, IsAtMostUnselected}
 use Rattle.nio_history.specs.OwnEvents.{has, last, enrolled_found, is_clear_by}
 use Rattle.nio_history.specs.Pins.{IsSameKey, IsKeptInSelection}
 use Rattle.nio_history.specs.Sets.{is_in_key_set}
@@ -23,7 +24,8 @@ use Rattle.nio_history.proofs.OneMore.{has_none-append, mine-append}
 use Rattle.nio_history.proofs.Clauses.{prefix_trans}
 use Rattle.nio_words.specs.Laws.{IsLater, GoesOn, KeepsBetween, CallsGoOn, DrawsGoOn, SplitsGoOn, JoinsGoOn}
 use Rattle.nio_words.specs.Laws.{GoingOnChains, HistoriesGoOn, FactsStand, InvalidKeysStand, OwnStands, PinnedKeysStand}
-use Rattle.nio_words.specs.Laws.{ModeStands, EnrolledStands, FoundEnrolledStands, OutsideStands, FoundClearStands}
+use Rattle.nio_words.specs.Laws.{ChannelStands, ModeStands, EnrolledStands, FoundEnrolledStands, OutsideStands}
+use Rattle.nio_words.specs.Laws.{FoundClearStands}
 use Rattle.nio_words.specs.Laws.{SelectsAlone, KeySetStands, SelectedKeysStand, MarksStand, WakeupStands}
 use Rattle.nio_words.specs.Passes.{seen, state_seen, acts_seen, IsPassOf}
 use Rattle.nio_words.specs.declared.words.Pass.{Pass}
@@ -133,10 +135,16 @@ module _ {w : Words} {me : CallerNo} {what : OwnFact} {acts : List Act} {before 
   at_last : (P : State → Type 0) → P (state_after (seen before ++ there.later)) → P (state_seen after)
   at_last P here = subst (λ es. P (state_after es)) there.parts here
 
+pub channel_stands : ChannelStands
+channel_stands w me c acts before after keeps spared =
+    let there = histories_go_on w me _ acts before after keeps in
+    at_last there (λ st. (st.chan c.0).serial ≡ ((state_seen before).chan c.0).serial)
+    (channel_stays w.limits me c (seen before) there.later there.keeps (none_such there _ spared))
+
 pub mode_stands : ModeStands
 mode_stands w me c acts before after keeps spared =
     let there = histories_go_on w me _ acts before after keeps in
-    at_last there (λ st. (st.chan c.0).blocking ≡ ((state_seen before).chan c.0).blocking)
+    at_last there (λ st. KeepsMode ((state_seen before).chan c.0) (st.chan c.0))
     (mode_stays w.limits me c (seen before) there.later there.keeps (none_such there _ spared))
 
 pub enrolled_stands : EnrolledStands

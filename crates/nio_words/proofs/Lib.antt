@@ -13,6 +13,7 @@ pub mod Details
 pub mod Draws
 pub mod Looks
 pub mod Gates
+pub mod ChannelWords
 pub mod Channels
 pub mod Holders
 pub mod Enrolled

@@ -18,7 +18,7 @@ use Rattle.nio_history.specs.Questions.{flag, key_mark, exchange}
 use Rattle.nio_history.specs.State.{unmarked}
 use Rattle.nio_history.specs.declared.act.Act.TheVariants.{LookMark, Mark as MarkKey, UnselectBit, ClearMark}
 use Rattle.nio_history.specs.declared.found.Mark.{Mark as KeyMark}
-use Rattle.nio_words.proofs.Fields.{bit-lt, reads, clears_top, exchange_small}
+use Rattle.nio_words.proofs.Fields.{bit-lt, reads, clears, exchange_small}
 use Rattle.nio_words.specs.Decodings.{is_set, mark_of, exchange_found}
 use Rattle.nio_words.specs.Encodings.{bit, mark_word}
 use Rattle.nio_words.specs.Moves.{Moves}
@@ -37,13 +37,9 @@ reads_mark m fits =
 unselects : (m : KeyMark) → m.ready < 256
     → bit_and (mark_word m) (bit_not w64 256) ≡ mark_word (record m { selected = false })
 unselects m fits =
-    let fields : mark_word m ≡ bit m.selected * 2 ^ 8 + m.ready = omega arith in
+    let fields : mark_word m ≡ (0 * 2 + bit m.selected) * 2 ^ 8 + m.ready = omega arith in
     ap (λ (n : ℕ). bit_and n (bit_not w64 256)) fields
-    ∙ (clears_top 8 (2 ^ 56 - 2) m.ready m.selected (omega arith) (omega arith) (none_of m.selected) ∙ omega arith)
-  where
-    none_of : (b : Bool) → bit_and (bit b) (2 ^ 56 - 2) ≡ 0
-    none_of true = refl
-    none_of false = refl
+    ∙ (clears 8 0 (2 ^ 55 - 1) m.ready m.selected (omega arith) (omega arith) refl ∙ omega arith)
 
 pub look_mark_moves : (l : Limits) (me : CallerNo) (s : SelNo) (i : ℕ) → IsKey l s i
     → Moves l me (Mark s.0 i) Load (λ n. LookMark s i (mark_of n))

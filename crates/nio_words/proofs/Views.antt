@@ -1,25 +1,27 @@
 -- From the steps on a table to the acts that calls are made of.
 use Rattle.std.proofs.Common.{◌≡◌, ℕ, ◌==◌, ◌&&◌, ◌||◌, Bool, true, false, [], ◌∷◌, ◌++◌, refl, ap, sym, ◌∙◌, subst}
-use Rattle.std.proofs.Common.{append_assoc, eqb-true, eq-eqb, Option, None, not}
+use Rattle.std.proofs.Common.{append_assoc, eqb-true, eq-eqb, Option, None, not, arith}
 use Rattle.std.specs.Int.{bit_at}
-use Rattle.std.specs.Prelude.{IsTrue}
-use Rattle.std.proofs.lemmas.Bool.{or_right}
-use Rattle.std.proofs.lemmas.Bool.{and_from}
+use Rattle.std.specs.Prelude.{nat_lt, IsTrue, IsFalse}
+use Rattle.std.proofs.lemmas.Bool.{or_right, and_parts, and_from, le-ltb}
+use Rattle.nio_base.specs.Kind.{kind_code, is_same_kind}
 use Rattle.nio_base.specs.declared.numbers.CallerNo.{CallerNo}
 use Rattle.nio_base.specs.declared.numbers.ChanNo.{ChanNo}
 use Rattle.nio_base.specs.declared.numbers.KeyNo.{KeyNo}
 use Rattle.nio_base.specs.declared.numbers.SelNo.{SelNo}
+use Rattle.nio_history.proofs.ChannelChanges.{same_kind}
 use Rattle.nio_history.proofs.Finds.{step_leaves, looks_tell, found_stands}
 use Rattle.nio_history.proofs.OneMore.{has-more}
 use Rattle.nio_history.proofs.Soundness.{legal-sound}
 use Rattle.nio_history.specs.Answers.{Answers}
-use Rattle.nio_history.specs.Conditions.{is_made, is_claimed, is_held_by, has_turn, has_begun}
-use Rattle.nio_history.specs.Found.{is_look, finds}
+use Rattle.nio_history.specs.Conditions.{WasOpen, is_claimed, is_held_by, has_turn, has_begun}
+use Rattle.nio_history.specs.Found.{is_look, finds, channel_tells}
 use Rattle.nio_history.specs.Histories.{state_after, event_of, mine, HistoryClause, IsLegal}
-use Rattle.nio_history.specs.Permanent.{PermanentFact, stands, channel_made, key_published}
+use Rattle.nio_history.specs.Permanent.{PermanentFact, stands, channel_of_kind, channel_opened}
+use Rattle.nio_history.specs.Permanent.{key_published}
 use Rattle.nio_history.specs.OwnEvents.{has}
 use Rattle.nio_history.specs.PassViews.{PassView, Holds as HoldsNumber, known, ActsClause, HasKey}
-use Rattle.nio_history.specs.Sets.{was_published}
+use Rattle.nio_history.specs.Sets.{was_opened, was_published}
 use Rattle.nio_history.specs.State.{State, put}
 use Rattle.nio_history.specs.declared.act.Act.{Act}
 use Rattle.nio_history.specs.declared.act.Act.TheVariants.{DrawBit, LookKey, LookChannel, TakeTurn, BeginLook}
@@ -85,10 +87,41 @@ found_now {me = me} {act = act} {v0 = v0} {v1 = v1} f clause told =
     ∙ (has-more (λ x. finds x f) (mine me v0.seen) act
     ∙ or_right (has (λ x. finds x f) (mine me v0.seen)) (finds act f) told))
 
-pub channel_found : {me : CallerNo} {c : ChanNo} {found : Chan} {v0 v1 : PassView}
-    → ActsClause me (LookChannel c found ∷ []) v0 v1 → IsTrue found.made → IsTrue (is_made (known v1) c)
-channel_found {c = c} {found = found} clause made =
-    found_now (channel_made c.0) clause (ap (λ b. b && found.made) (eq-eqb c.0 c.0 refl) ∙ made)
+pub channel_found : {me : CallerNo} {c : ChanNo} {found : Chan} {v0 v1 : PassView} (serial : ℕ)
+    → ActsClause me (LookChannel c found ∷ []) v0 v1 → IsTrue (was_opened found serial)
+    → IsTrue (was_opened ((known v1).chan c.0) serial)
+channel_found {c = c} {found = found} serial clause opened =
+    found_now (channel_opened c.0 serial) clause
+    (ap (λ b. b && was_opened found serial) (eq-eqb c.0 c.0 refl) ∙ opened)
+
+-- a channel that a look or a closing found open is one that a closing may name, whatever others do meanwhile
+pub was_open_found : {me : CallerNo} {act : Act} {c : ChanNo} {found : Chan} {v0 v1 : PassView}
+    → ActsClause me (act ∷ []) v0 v1 → ((f : PermanentFact) → finds act f ≡ channel_tells c.0 found f)
+    → IsTrue found.made → IsFalse found.closed → WasOpen (known v1) c found
+was_open_found {c = c} {found = found} {v1 = v1} clause tells made open_then = record {
+  made = made;
+  open_then = open_then;
+  kind = sym (same_kind now.kind found.kind (and_parts now.made (is_same_kind now.kind found.kind) of_kind).1);
+  was = found_now (channel_opened c.0 found.serial) clause
+      (tells (channel_opened c.0 found.serial)
+      ∙ and_from (c.0 == c.0) (was_opened found found.serial) here
+      (and_from found.made (not (nat_lt found.serial found.serial)) made
+      (ap not (le-ltb found.serial found.serial (omega arith)))));
+}
+  where
+    now : Chan
+    now = (known v1).chan c.0
+
+    here : (c.0 == c.0) ≡ true
+    here = eq-eqb c.0 c.0 refl
+
+    of_kind : (now.made && is_same_kind now.kind found.kind) ≡ true
+    of_kind =
+        found_now (channel_of_kind c.0 found.kind) clause
+        (tells (channel_of_kind c.0 found.kind)
+        ∙ and_from (c.0 == c.0) (found.made && is_same_kind found.kind found.kind) here
+        (and_from found.made (is_same_kind found.kind found.kind) made
+        (eq-eqb (kind_code found.kind) (kind_code found.kind) refl)))
 
 pub key_found : {me : CallerNo} {s : SelNo} {i : ℕ} {found : Stage} {v0 v1 : PassView} (serial : ℕ)
     → ActsClause me (LookKey s i found ∷ []) v0 v1 → IsTrue (was_published found serial)

@@ -9,7 +9,7 @@ use Rattle.nio_history.specs.declared.found.Chan.{Chan as Channel}
 use Rattle.nio_history.specs.declared.found.GateWord.{GateWord}
 use Rattle.nio_history.specs.declared.found.Mark.{Mark as KeyMark}
 use Rattle.nio_history.specs.declared.found.Stage.{Stage}
-use Rattle.nio_words.specs.Encodings.{stage_word, mark_word}
+use Rattle.nio_words.specs.Encodings.{channel_word, stage_word, mark_word}
 
 -- bit k is set
 abbrev pub is_set : ℕ → ℕ → Bool
@@ -57,8 +57,13 @@ chan_of word = record {
   made = is_set word 0;
   kind = kind_of (word / 2 ^ 1 % 8);
   closed = is_set word 4;
-  blocking = is_set word 5;
+  blocking = not (is_set word 5);
+  serial = word / 2 ^ 32;
 }
+
+-- what an exchange from a channel finds: whether its number had another one
+abbrev pub is_other_channel : Channel → ℕ → Bool
+is_other_channel from word = not (word == channel_word from)
 
 -- 0 for nobody, and else one more than the caller's number
 abbrev pub holder_of : ℕ → Option CallerNo

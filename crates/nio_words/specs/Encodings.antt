@@ -1,9 +1,8 @@
 -- The word of each part of the state, and below which number it stays. In the opening state every
 -- word is 0.
-use Rattle.std.specs.Prelude.{ℕ, ◌+◌, ◌*◌, ◌^◌, ◌<◌, Bool, if◌then◌else◌, Option, Some, None, ⊤}
+use Rattle.std.specs.Prelude.{ℕ, ◌+◌, ◌*◌, ◌^◌, ◌<◌, Bool, not, if◌then◌else◌, Option, Some, None, ⊤}
 use Rattle.std.specs.Option.{IfSome}
-use Rattle.nio_base.specs.declared.kind.Kind.{Kind}
-use Rattle.nio_base.specs.declared.kind.Kind.TheVariants.{Stream, Listener, Source, Sink, Datagram}
+use Rattle.nio_base.specs.Kind.{kind_code}
 use Rattle.nio_base.specs.declared.limits.Limits.{Limits}
 use Rattle.nio_base.specs.declared.numbers.CallerNo.{CallerNo}
 use Rattle.nio_base.specs.declared.numbers.KeyId.{KeyId}
@@ -32,16 +31,12 @@ stage_word k count =
     bit k.claimed + 2 * bit k.published + 4 * bit k.cancelled + 8 * bit k.removed + 2 ^ 4 * count + 2 ^ 12 * k.chan.0
     + 2 ^ 32 * k.serial
 
-abbrev pub kind_code : Kind → ℕ
-kind_code Stream = 0
-kind_code Listener = 1
-kind_code Source = 2
-kind_code Sink = 3
-kind_code Datagram = 4
-
--- bit 0 made; bits 1 to 3 kind; bit 4 closed; bit 5 blocking
+-- bit 0 made; bits 1 to 3 kind; bit 4 closed; bit 5 non-blocking; bits 32 to 63 the serial. So of two words of one
+-- kind the one of the later channel is the greater; of two of one channel the non-blocking one, and of two in one mode
+-- the closed one
 abbrev pub channel_word : Channel → ℕ
-channel_word c = bit c.made + 2 * kind_code c.kind + 16 * bit c.closed + 32 * bit c.blocking
+channel_word c =
+    bit c.made + 2 * kind_code c.kind + 16 * bit c.closed + 32 * bit (not c.blocking) + 2 ^ 32 * c.serial
 
 -- bits 0 to 7 ready; bit 8 selected
 abbrev pub mark_word : KeyMark → ℕ
@@ -84,7 +79,7 @@ bound Callers = 2 ^ 64
 bound Interrupts = 2 ^ 64
 bound Selectors = 2 ^ 64
 bound ChannelsHigh = 2 ^ 32
-bound (Chan c) = 2 ^ 6
+bound (Chan c) = 2 ^ 64
 bound (Hold c) = 2 ^ 32 + 1
 bound (Enrolled c s) = 2 ^ 64
 bound (Gate s) = 4

@@ -8,10 +8,11 @@ use Rattle.nio_base.specs.declared.numbers.ChanNo.{ChanNo}
 use Rattle.nio_base.specs.declared.numbers.KeyId.{KeyId}
 use Rattle.nio_base.specs.declared.numbers.SelNo.{SelNo}
 use Rattle.nio_history.specs.Histories.{mine, HistoryClause}
-use Rattle.nio_history.specs.Holders.{Keeps as KeepsHistory, marks, ends_wakeup, IsAtMostUnselected}
+use Rattle.nio_history.specs.Holders.{Keeps as KeepsHistory, KeepsMode, marks, ends_wakeup, IsAtMostUnselected}
 use Rattle.nio_history.specs.Permanent.{PermanentFact, stands, OwnFact, a_selection, the_hold, a_pin, is_had_by}
 use Rattle.nio_history.specs.Permanent.{gives_back}
-use Rattle.nio_history.specs.OwnEvents.{has, last, sets_mode, enrols_key, publishes, enrolled_found, is_clear_by}
+use Rattle.nio_history.specs.OwnEvents.{has, last, reopens, sets_mode, enrols_key, publishes, enrolled_found}
+use Rattle.nio_history.specs.OwnEvents.{is_clear_by}
 use Rattle.nio_history.specs.Pins.{IsSameKey, IsKeptInSelection, removes}
 use Rattle.nio_history.specs.Sets.{was_published, is_valid_key, is_in_key_set}
 use Rattle.nio_history.specs.Turns.{selects_on}
@@ -114,12 +115,20 @@ PinnedKeysStand = (w : Words) (me : CallerNo) (s : SelNo) (i : ℕ) (acts : List
 
 -- ---- what stands under a hold
 
--- a channel keeps its mode while a caller holds it and doesn't set it itself
+-- a number keeps its channel while a caller holds it and doesn't give it to a new one itself
+abbrev pub ChannelStands : Type 0
+ChannelStands = (w : Words) (me : CallerNo) (c : ChanNo) (acts : List Act) (before after : Pass)
+    → Keeps w me (the_hold c) acts before after
+    → IsFalse (has (reopens c.0) acts)
+    → ((state_seen after).chan c.0).serial ≡ ((state_seen before).chan c.0).serial
+
+-- the channel doesn't become blocking, and keeps its mode while it is open, while a caller holds it and doesn't set
+-- it itself
 abbrev pub ModeStands : Type 0
 ModeStands = (w : Words) (me : CallerNo) (c : ChanNo) (acts : List Act) (before after : Pass)
     → Keeps w me (the_hold c) acts before after
     → IsFalse (has (sets_mode c.0) acts)
-    → ((state_seen after).chan c.0).blocking ≡ ((state_seen before).chan c.0).blocking
+    → KeepsMode ((state_seen before).chan c.0) ((state_seen after).chan c.0)
 
 -- which key is enrolled for a channel stays while a caller holds it and enrols none itself
 abbrev pub EnrolledStands : Type 0

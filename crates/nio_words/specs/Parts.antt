@@ -17,7 +17,7 @@ use Rattle.nio_history.specs.declared.act.Act.TheVariants.{LookChannels}
 use Rattle.nio_history.specs.declared.act.Act.TheVariants.{RaiseChannels, TryHoldBit, Release, SetMode, CloseBit}
 use Rattle.nio_history.specs.declared.act.Act.TheVariants.{ShutBit}
 use Rattle.nio_history.specs.declared.act.Act.TheVariants.{Enter, Pin, Unpin, ClearMark, ClaimAgain, LookFree, PutFree}
-use Rattle.nio_history.specs.declared.act.Act.TheVariants.{TakeFree}
+use Rattle.nio_history.specs.declared.act.Act.TheVariants.{TakeFree, Reopen}
 use Rattle.nio_words.specs.declared.part.Part.{Part}
 use Rattle.nio_words.specs.declared.part.Part.TheVariants.{Callers, Interrupts, Selectors, ChannelsHigh, Chan, Hold}
 use Rattle.nio_words.specs.declared.part.Part.TheVariants.{Enrolled, Gate, Turn, KeysHigh, Key, Interest, Mark, Note}
@@ -61,7 +61,7 @@ part_of (RaiseChannels n found) = ChannelsHigh
 part_of (TryHoldBit c found) = Hold c.0
 part_of (Release c) = Hold c.0
 part_of (SetMode c blocking found) = Chan c.0
-part_of (CloseBit c found) = Chan c.0
+part_of (CloseBit c from found) = Chan c.0
 part_of (ShutBit s found) = Gate s.0
 part_of (Enter s found) = Turn s.0
 part_of (Pin s i found) = Key s.0 i
@@ -71,6 +71,7 @@ part_of (ClaimAgain s i c from found) = Key s.0 i
 part_of (LookFree s j found) = Free s.0 j
 part_of (PutFree s i) = Free s.0 (i / 64)
 part_of (TakeFree s i found) = Free s.0 (i / 64)
+part_of (Reopen c from found) = Chan c.0
 
 -- the numbers in a part: its selector, its channel, and the index of its key or the number of its word of free
 -- indexes; 0 where it has none

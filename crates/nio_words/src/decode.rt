@@ -74,7 +74,8 @@ pub(crate) fn chan_of(word: u64) -> Chan
         made: is_set(word, 0),
         kind: kind_of((word >> 1) % 8),
         closed: is_set(word, 4),
-        blocking: is_set(word, 5),
+        blocking: !is_set(word, 5),
+        serial: (word >> 32) as u32,
     }
 }
 

@@ -1,11 +1,11 @@
 //! Parts of the state as words.
 ghost use Rattle.std.specs.Prelude.{◌≡◌, ◌+◌, ◌^◌, ◌<◌, Some};
+ghost use Rattle.nio_base.specs.Kind.{kind_code};
 ghost use Rattle.nio_history.specs.Acts.{new_channel, new_key, selected_with};
-ghost use Rattle.nio_words.specs.Encodings.{bit, kind_code, channel_word, stage_word, mark_word, holder_word};
-ghost use Rattle.nio_words.specs.Encodings.{enrolled_word};
+ghost use Rattle.nio_words.specs.Encodings.{bit, channel_word, stage_word, mark_word, holder_word, enrolled_word};
 
 use nio_base::{CallerNo, ChanNo, KeyId, Kind, Ops};
-use nio_history::Stage;
+use nio_history::{Chan, Stage};
 
 #[inline(always)]
 fn bit(set: bool) -> u64
@@ -29,12 +29,22 @@ fn kind_code(kind: Kind) -> u64
     }
 }
 
-/// The word of a new channel: made, of this kind, open, and in blocking mode.
+/// The word of a channel.
 #[inline(always)]
-pub(crate) fn new_channel(kind: Kind) -> u64
-    ensures { result ≡ channel_word (new_channel kind) }
+pub(crate) fn channel(c: Chan) -> u64
+    ensures word { result ≡ channel_word c }
+    ensures serial { c.serial < 2 ^ 32 }
 {
-    1 + 2 * kind_code(kind) + 32
+    let mode = 16 * bit(c.closed) + 32 * bit(!c.blocking);
+    bit(c.made) + 2 * kind_code(c.kind) + mode + u64::from(c.serial) * (1 << 32)
+}
+
+/// The word of a new channel: made, of this kind, open, in blocking mode, and with this serial.
+#[inline(always)]
+pub(crate) fn new_channel(kind: Kind, serial: u32) -> u64
+    ensures { result ≡ channel_word (new_channel kind serial) }
+{
+    1 + 2 * kind_code(kind) + u64::from(serial) * (1 << 32)
 }
 
 /// One pin, as the word of an index counts it.

@@ -1,8 +1,9 @@
 //! What follows from the table's rule and from the laws of legal histories alone. The functions do
 //! nothing: their contracts are laws.
 ghost use Rattle.nio_words.specs.Laws.{CallsGoOn, DrawsGoOn, SplitsGoOn, JoinsGoOn, GoingOnChains, HistoriesGoOn};
-ghost use Rattle.nio_words.specs.Laws.{FactsStand, InvalidKeysStand, OwnStands, PinnedKeysStand, ModeStands};
-ghost use Rattle.nio_words.specs.Laws.{EnrolledStands, FoundEnrolledStands, OutsideStands, FoundClearStands};
+ghost use Rattle.nio_words.specs.Laws.{FactsStand, InvalidKeysStand, OwnStands, PinnedKeysStand};
+ghost use Rattle.nio_words.specs.Laws.{ChannelStands, ModeStands, EnrolledStands, FoundEnrolledStands};
+ghost use Rattle.nio_words.specs.Laws.{OutsideStands, FoundClearStands};
 ghost use Rattle.nio_words.specs.Laws.{SelectsAlone, KeySetStands, SelectedKeysStand, MarksStand, WakeupStands};
 ghost use Rattle.nio_words.specs.Whole.{HoldersOfAllSeeAll};
 
@@ -25,6 +26,7 @@ pub fn going_on_law()
 
 /// What is drawn, made, claimed, published, cancelled, removed, closed or shut, and what is below a high-water
 /// mark, is so in what every later pass has seen, and a key that was published and isn't valid isn't valid there.
+/// So is a channel closed there that was closed, also where its number was given to a new one.
 pub fn permanent_law()
     ensures facts { FactsStand }
     ensures invalid { InvalidKeysStand }
@@ -37,9 +39,11 @@ pub fn own_law()
     ensures pinned { PinnedKeysStand }
 {}
 
-/// While a caller holds a channel nobody else changes its mode, enrols a key for it or publishes one of
-/// its keys. So what the caller found of these stands until it changes it or gives the hold back.
+/// While a caller holds a channel number nobody else gives it to a new channel, sets the channel's mode, enrols
+/// a key for it or publishes one of its keys. So what the caller found of these stands until it changes it or gives
+/// the hold back; only a closing by others may leave the closed channel non-blocking.
 pub fn hold_law()
+    ensures channel { ChannelStands }
     ensures mode { ModeStands }
     ensures enrolled { EnrolledStands }
     ensures found_enrolled { FoundEnrolledStands }

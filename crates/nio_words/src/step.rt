@@ -14,7 +14,7 @@ use crate::view::View;
 use crate::words::{Pass, Words};
 use atomic_table::{Play, Seat};
 use nio_base::{CallerNo, ChanNo, KeyId, Kind, Ops};
-use nio_history::Stage;
+use nio_history::{Chan, Stage};
 use std::marker::Brand;
 
 /// What the part and the instruction of a step leave out of the event that it adds.
@@ -32,6 +32,8 @@ pub enum Details {
     Enrolled(KeyId),
     /// Whether a channel is blocking from now on.
     Mode(bool),
+    /// The channel that was found, which is closed, or whose number is given to a new one.
+    Found(Chan),
     /// Whether the key was selected, its ready set, and what was told of it.
     Told(bool, Ops, Ops),
 }

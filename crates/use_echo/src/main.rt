@@ -2,7 +2,7 @@
 #![tactic(auto)]
 
 use nio::net::{ByteBuffer, CheckedNet, Got, MioNet, Net};
-use nio::{Addr, Caller, ChanNo, Kind, Ops, USUAL_LIMITS, Words};
+use nio::{Addr, Caller, ChanId, ChanNo, Kind, Ops, USUAL_LIMITS, Words};
 use std::collections::BTreeMap;
 use std::io::{Result, Write, read_to_string};
 use std::net::{OpenListener, OpenStream, Shutdown, TcpListener, TcpStream};
@@ -17,7 +17,7 @@ fn main(rt: HostRuntime) -> anyhow::Result<()> {
     caller.register_non_blocking(&rt, sel, listener, Ops::ACCEPT, 0)?;
     let ip = [127, 0, 0, 1];
     let port = TcpListener::bind(&rt, "127.0.0.1:0")?.local_addr()?.port();
-    net.listen(listener, Addr { ip, port })?;
+    net.listen(listener.number, Addr { ip, port })?;
     let clients = (send(&rt, port, "hello")?, send(&rt, port, "again")?);
 
     // What came on each link and isn't written back yet.
@@ -28,24 +28,26 @@ fn main(rt: HostRuntime) -> anyhow::Result<()> {
         if open == 0 {
             break;
         }
-        let Some((chan, _)) = net.next_told() else {
+        let Some((number, _)) = net.next_told() else {
             caller.select(&rt, rt.alloc(), sel, &mut net)?;
             continue;
         };
+        // A net has one channel of each number: the first.
+        let chan = ChanId::first(number);
         let Some(key) = caller.take_selected(chan, sel) else {
             continue;
         };
-        if let Some(buffer) = buffers.get_mut(&chan.0) {
-            if let Some(ops) = echo(&mut net, chan, buffer) {
+        if let Some(buffer) = buffers.get_mut(&number.0) {
+            if let Some(ops) = echo(&mut net, number, buffer) {
                 caller.set_interest(key, ops)?;
             } else {
-                buffers.remove(&chan.0);
-                net.close(chan);
+                buffers.remove(&number.0);
+                net.close(number);
                 caller.close_channel(chan);
                 open -= 1;
             }
-        } else if net.accept(listener, link)? {
-            buffers.insert(link.0, ByteBuffer::with_capacity(rt.alloc(), 512)?)?;
+        } else if net.accept(listener.number, link.number)? {
+            buffers.insert(link.number.0, ByteBuffer::with_capacity(rt.alloc(), 512)?)?;
             caller.register_non_blocking(&rt, sel, link, Ops::READ, 0)?;
             link = caller.open_channel(Kind::Stream)?;
         }

@@ -71,7 +71,7 @@ fn complete(
     kind: OpKind,
     outcome: Outcome,
 ) -> anyhow::Result<()> {
-    if chan.0 < core.channels() {
+    if core.is_made(chan) {
         let op = core.start(chan, kind, 5)?;
         core.report(op, outcome)?;
     }

@@ -7,12 +7,12 @@ use crate::judge::Judge;
 use crate::memory::Claim;
 use crate::state::LAST_SERIAL;
 use nio_base::{CallerNo, ChanNo, SelNo};
-use nio_history::{Act, Stage};
+use nio_history::{Act, Chan, Stage};
 
 impl Judge {
     ghost use Rattle.nio_history.specs.Conditions.{has_begun, has_entered, has_pin, has_taken, has_turn, holds};
     ghost use Rattle.nio_history.specs.Conditions.{is_claimed, is_closer, is_made, may_put_due, may_remove_cancelled};
-    ghost use Rattle.nio_history.specs.Conditions.{IsChannel, IsKey, IsSelector};
+    ghost use Rattle.nio_history.specs.Conditions.{IsChannel, IsKey, IsSelector, WasOpen};
     ghost use Rattle.nio_audit.specs.Allowing.{may_clear_out_by, may_publish_by, state_of, IsAllowed};
     ghost use Rattle.nio_audit.specs.Found.{is_clear_for};
     ghost use Rattle.nio_audit.specs.Remembering.{knowledge_of};
@@ -77,11 +77,10 @@ impl Judge {
             }
             Act::EndWake(sel, _) => self.is_selector(sel) && self.state.has_begun(me, sel),
             Act::RaiseChannels(n, _) => n <= self.limits.channels && n <= self.counts.channels(),
-            Act::TryHoldBit(chan, _) | Act::CloseBit(chan, _) => {
-                self.is_channel(chan) && self.state.is_made(chan)
-            }
+            Act::TryHoldBit(chan, _) => self.is_channel(chan) && self.state.is_made(chan),
             Act::Release(chan) => self.is_channel(chan) && self.state.holds(me, chan),
             Act::SetMode(chan, blocking, _) => self.may_set_mode(me, chan, blocking),
+            Act::CloseBit(chan, from, _) => self.is_channel(chan) && self.was_open(chan, from),
             Act::Enter(sel, _) => self.is_selector(sel) && self.state.is_closer(me, sel),
             Act::Pin(sel, index, _) => {
                 self.is_key(sel, index)
@@ -96,6 +95,7 @@ impl Judge {
             }
             Act::LookFree(sel, part, _) => self.is_selector(sel) && self.is_part(part),
             Act::PutFree(sel, index) => self.is_key(sel, index) && self.may_put(me, sel, index),
+            Act::Reopen(chan, from, _) => self.may_reopen(me, chan, from),
         }
     }
 
@@ -185,6 +185,29 @@ impl Judge {
         self.is_channel(chan)
             && self.state.holds(me, chan)
             && (!blocking || self.is_clear_everywhere(me, chan))
+    }
+
+    /// Whether it is an open channel, of the number's kind, that the number has or had.
+    fn was_open(&self, chan: ChanNo, from: Chan) -> bool
+        ensures { IsTrue result ↔ WasOpen (state_of self.now) chan from }
+    {
+        let stands = self.state.channel(chan);
+        from.made
+            && !from.closed
+            && from.kind == stands.kind
+            && stands.made
+            && from.serial <= stands.serial
+    }
+
+    fn may_reopen(&self, me: CallerNo, chan: ChanNo, from: Chan) -> bool
+        ensures { (found : Bool) → IsTrue result ↔ IsAllowed self.now me (Act.Reopen chan from found) }
+    {
+        self.is_channel(chan)
+            && self.state.holds(me, chan)
+            && from.made
+            && from.closed
+            && from.serial < LAST_SERIAL
+            && self.is_clear_everywhere(me, chan)
     }
 
     fn may_publish(&self, me: CallerNo, sel: SelNo, index: u32) -> bool

@@ -1,12 +1,12 @@
 //! Whether what a step found is what the state answers.
-ghost use Rattle.std.specs.Prelude.{◌≡◌, ◌<◌, ◌+◌, ◌*◌, ◌↔◌, ℕ, Bool, IsTrue};
+ghost use Rattle.std.specs.Prelude.{◌≡◌, ◌<◌, ◌+◌, ◌*◌, ◌↔◌, ℕ, Bool, not, IsTrue};
 
 use crate::state::StateTables;
-use nio_base::{CallerNo, SelNo};
-use nio_history::{Act, Mark};
+use nio_base::{CallerNo, ChanNo, SelNo};
+use nio_history::{Act, Chan, Mark};
 
 impl StateTables {
-    ghost use Rattle.nio_history.specs.Answers.{Answers, bits_below, exchange_from, is_pinned};
+    ghost use Rattle.nio_history.specs.Answers.{Answers, bits_below, exchange_from, is_pinned, is_same_channel};
     ghost use Rattle.nio_audit.specs.Bounds.{IsReadable};
     ghost use Rattle.nio_audit.specs.StateOf.{state_with};
     ghost use Rattle.nio_audit.specs.StepNumbers.{number_of};
@@ -55,7 +55,7 @@ impl StateTables {
             Act::TryHoldBit(chan, found) => found == self.hold.get(chan.0),
             Act::Release(_) => true,
             Act::SetMode(chan, _, found) => found == self.chan.get(chan.0),
-            Act::CloseBit(chan, found) => found == self.chan.get(chan.0).closed,
+            Act::CloseBit(chan, _, found) => found == self.chan.get(chan.0),
             Act::ShutBit(sel, found) => found == self.gate.get(sel.0).shut,
             Act::Enter(sel, found) => found == self.turn.get(sel.0),
             Act::Pin(sel, index, found) => found == self.key.get(sel.0, index),
@@ -65,6 +65,7 @@ impl StateTables {
             Act::LookFree(sel, part, found) => found == self.free_word(sel, part),
             Act::PutFree(_, _) => true,
             Act::TakeFree(sel, index, found) => found == self.free.get(sel.0, index),
+            Act::Reopen(chan, from, found) => found == self.has_another(chan, from),
         }
     }
 
@@ -105,6 +106,13 @@ impl StateTables {
             }
         }
         false
+    }
+
+    /// Whether the number has another channel than this one.
+    fn has_another(&self, chan: ChanNo, from: Chan) -> bool
+        ensures { result ≡ not (is_same_channel (row self.now.chan chan.0) from) }
+    {
+        self.chan.get(chan.0) != from
     }
 
     /// What an exchange from this mark finds.

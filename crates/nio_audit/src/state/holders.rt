@@ -4,6 +4,7 @@ ghost use Rattle.nio_history.specs.Conditions.{is_held_by};
 
 use crate::state::StateTables;
 use nio_base::{CallerNo, ChanNo, SelNo};
+use nio_history::Chan;
 
 impl StateTables {
     ghost use Rattle.nio_history.specs.Sets.{in_cancelled_set};
@@ -15,10 +16,16 @@ impl StateTables {
         self.selector.get(sel.0)
     }
 
+    pub(crate) fn channel(&self, chan: ChanNo) -> Chan
+        ensures { result ≡ row self.now.chan chan.0 }
+    {
+        self.chan.get(chan.0)
+    }
+
     pub(crate) fn is_made(&self, chan: ChanNo) -> bool
         ensures { result ≡ (row self.now.chan chan.0).made }
     {
-        self.chan.get(chan.0).made
+        self.channel(chan).made
     }
 
     pub(crate) fn is_claimed(&self, sel: SelNo, index: u32) -> bool

@@ -12,7 +12,7 @@ ghost use Rattle.nio_caller.specs.Callers.{IsSameCaller, StillHas, sees};
 ghost use Rattle.nio_caller.specs.Several.{TakesSelected};
 
 use super::Caller;
-use nio_base::{ChanNo, KeyNo, Ops, SelNo};
+use nio_base::{ChanId, KeyNo, Ops, SelNo};
 use nio_steps::KeyError;
 
 impl<'a> Caller<'a> {
@@ -27,15 +27,15 @@ impl<'a> Caller<'a> {
         nio_keys::find_selector(self.words, &mut self.pass, self.number, number)
     }
 
-    /// The channel with this number, where it is made.
-    pub fn find_channel(&mut self, number: u32) -> Option<ChanNo>
-        ensures call { CallClause self.old.number (Completes (find_channel_plan (limits_of self.old.table) number))
-            (sees self.old) (sees self.new) result }
+    /// The channel with this number and serial, where it was opened.
+    pub fn find_channel(&mut self, number: u32, serial: u32) -> Option<ChanId>
+        ensures call { CallClause self.old.number (Completes (find_channel_plan (limits_of self.old.table) number
+            serial)) (sees self.old) (sees self.new) result }
         ensures same { IsSameCaller self.old self.new }
         ensures still { StillHas (sees self.old) (sees self.new) }
         ensures found { IfSome result (HasChannel (sees self.new)) }
     {
-        nio_keys::find_channel(self.words, &mut self.pass, self.number, number)
+        nio_keys::find_channel(self.words, &mut self.pass, self.number, number, serial)
     }
 
     /// The key with this index and serial in the selector, where it was published.
@@ -141,7 +141,7 @@ impl<'a> Caller<'a> {
 
     /// Takes the channel's key in the selector out of the selected set, and answers it: as a Java program does by `next`
     /// and `remove` on the iterator of `selectedKeys`. None where there is no such channel, or it has no key there.
-    pub fn take_selected(&mut self, chan: ChanNo, sel: SelNo) -> Option<KeyNo>
+    pub fn take_selected(&mut self, chan: ChanId, sel: SelNo) -> Option<KeyNo>
         requires { HasSelector (sees self.old) sel }
         ensures call { CallClause self.old.number (TakesSelected (limits_of self.old.table) chan sel)
             (sees self.old) (sees self.new) result }
@@ -150,7 +150,7 @@ impl<'a> Caller<'a> {
         ensures channel { IfSome result (λ _. HasChannel (sees self.new) chan) }
         ensures key { IfSome result (HasKey (sees self.new)) }
     {
-        let found = self.find_channel(chan.0)?;
+        let found = self.find_channel(chan.number.0, chan.serial)?;
         let key = self.key_for(found, sel)?;
         self.unselect(key);
         Some(key)

@@ -1,11 +1,12 @@
 //! The calls of a caller on pipes. What the ends of a pipe hold stands in no part of the table.
-ghost use Rattle.std.specs.Prelude.{◌≡◌, ◌+◌, ◌<◌, ◌≤◌, ◌||◌, [], length, min, true, Err, IfOk, Ok, OnOk};
+ghost use Rattle.std.specs.Prelude.{◌≡◌, ◌+◌, ◌<◌, ◌≤◌, ◌||◌, [], length, min, true, Err, IfOk, Ok, OnErr, OnOk};
+ghost use Rattle.nio_channel.specs.Closed.{IsClosed};
 ghost use Rattle.nio_history.specs.PassViews.{HasChannel};
 ghost use Rattle.nio_pipe.specs.Answers.{bytes_read, bytes_written, leaves_seal, read_answer, write_answer};
-ghost use Rattle.nio_pipe.specs.Calls.{HasEnds, IsClosed, TriesRead, TriesWrite, WaitsToRead, WaitsToWrite};
-ghost use Rattle.nio_pipe.specs.Ends.{GivesBytes, HadNoByte, HadNoPlace, IsAtEnd, IsSameSink, IsSameSource};
-ghost use Rattle.nio_pipe.specs.Ends.{KnowsNothing, TakesBytes, free, is_sealed, known, knows_end, other_chan, sent};
-ghost use Rattle.nio_pipe.specs.Ends.{sink_chan, source_chan};
+ghost use Rattle.nio_pipe.specs.Calls.{HasEnds, TriesRead, TriesWrite, WaitsToRead, WaitsToWrite};
+ghost use Rattle.nio_pipe.specs.Ends.{GivesBytes, HadNoByte, HadNoPlace, HasTriedToRead, HasTriedToWrite, IsAtEnd};
+ghost use Rattle.nio_pipe.specs.Ends.{IsSameSink, IsSameSource, KnowsNothing, TakesBytes, free, is_sealed, known};
+ghost use Rattle.nio_pipe.specs.Ends.{knows_end, other_chan, places, sent, sink_chan, source_chan};
 ghost use Rattle.nio_pipe.specs.Making.{AreNew, ends_made};
 ghost use Rattle.nio_pipe.specs.declared.answers.PipeRead.TheVariants as read;
 ghost use Rattle.nio_pipe.specs.declared.answers.PipeWrite.TheVariants as write;
@@ -72,7 +73,7 @@ impl<'a> Caller<'a> {
     ) -> Result<PipeRead, PipeError>
         requires { HasChannel (sees self.old) (source_chan source.old) }
         ensures call { CallClause self.old.number (WaitsToRead (limits_of self.old.table) (source_chan source.old)
-            (HadNoByte source.old source.new into.old)) (sees self.old) (sees self.new) result }
+            (HasTriedToRead source.old source.new into.old)) (sees self.old) (sees self.new) result }
         ensures same { IsSameCaller self.old self.new }
         ensures still { StillHas (sees self.old) (sees self.new) }
         ensures closed { result ≡ Err ClosedByInterrupt → IsClosed (sees self.new) (source_chan source.old) }
@@ -101,6 +102,7 @@ impl<'a> Caller<'a> {
         ensures still { StillHas (sees self.old) (sees self.new) }
         ensures closed { result ≡ Err ClosedByInterrupt → IsClosed (sees self.new) (sink_chan sink.old) }
         ensures broken { result ≡ Err BrokenPipe → sink.new ≡ sink.old }
+        ensures refused { OnErr result (places sink.new ≡ places sink.old) }
         ensures sink { IsSameSink sink.old sink.new }
         ensures bytes { TakesBytes sink.old sink.new from.now (bytes_written result) }
         ensures seal { is_sealed sink.new ≡ (is_sealed sink.old || leaves_seal result) }
@@ -124,13 +126,14 @@ impl<'a> Caller<'a> {
         requires { HasEnds (sees self.old) (other_chan sink.old) (sink_chan sink.old) }
         ensures call { CallClause self.old.number
             (WaitsToWrite (limits_of self.old.table) (other_chan sink.old) (sink_chan sink.old)
-            (HadNoPlace sink.old sink.new from.now)) (sees self.old) (sees self.new) result }
+            (HasTriedToWrite sink.old sink.new from.now)) (sees self.old) (sees self.new) result }
         ensures same { IsSameCaller self.old self.new }
         ensures still { StillHas (sees self.old) (sees self.new) }
         ensures closed { result ≡ Err ClosedByInterrupt → IsClosed (sees self.new) (sink_chan sink.old) }
         ensures closed_meanwhile { result ≡ Err AsynchronousClose
             → HadNoPlace sink.old sink.new from.now result }
         ensures broken { result ≡ Err BrokenPipe → free sink.old ≤ free sink.new }
+        ensures refused { OnErr result (places sink.old ≤ places sink.new) }
         ensures sink { IsSameSink sink.old sink.new }
         ensures bytes { TakesBytes sink.old sink.new from.now (bytes_written result) }
         ensures seal { is_sealed sink.new ≡ (is_sealed sink.old || leaves_seal result) }
@@ -168,6 +171,7 @@ impl<'a> Caller<'a> {
         ensures closed { IsClosed (sees self.new) (sink_chan sink.old) }
         ensures sink { IsSameSink sink.old sink.new }
         ensures sent { sent sink.new ≡ sent sink.old }
+        ensures places { places sink.new ≡ places sink.old }
         ensures seal { is_sealed sink.new ≡ true }
     {
         sink.close(self.words, &mut self.pass, self.number)

@@ -7,7 +7,7 @@ ghost use Rattle.nio_poller.specs.Polls.{CountsFaults};
 ghost use Rattle.nio_poller.specs.Selecting.{SelectClause, TimedClause};
 ghost use Rattle.nio_poller.specs.declared.selecting.SelectError.TheVariants.{PollFault, ClosedSelector};
 ghost use Rattle.nio_poller.specs.declared.selecting.SelectError.TheVariants.{NegativeTimeout};
-ghost use Rattle.nio_select.specs.InProgress.{Closes as IsClosingIt, IfAgain, IfBusy, IfClosing, Selects, finish_reply};
+ghost use Rattle.nio_select.specs.InProgress.{HasShut, IfAgain, IfBusy, IfClosing, Selects, finish_reply};
 ghost use Rattle.nio_select.specs.InProgress.{poll_of, shut_reply, told_reply};
 ghost use Rattle.nio_steps.specs.Calls.{CallClause};
 ghost use Rattle.nio_steps.specs.Runs.{Completes};
@@ -167,7 +167,7 @@ impl<'a> Caller<'a> {
             (sees self.old) (sees self.new) (shut_reply result) }
         ensures same { IsSameCaller self.old self.new }
         ensures still { StillHas (sees self.old) (sees self.new) }
-        ensures closing { IfClosing result (λ s. (s ≡ sel) × IsClosingIt (sees self.new) self.old.number s) }
+        ensures closing { IfClosing result (λ s. (s ≡ sel) × HasShut (sees self.new) self.old.number s) }
     {
         nio_select::shut(self.words, &mut self.pass, self.number, sel)
     }
@@ -175,12 +175,12 @@ impl<'a> Caller<'a> {
     /// Removes the keys of a selector that the caller began to close, where nobody selects there. `Busy` where somebody
     /// does.
     pub fn try_finish(&mut self, closing: Closing) -> Finish
-        requires { IsClosingIt (sees self.old) self.old.number closing }
+        requires { HasShut (sees self.old) self.old.number closing }
         ensures call { CallClause self.old.number (Completes (try_finish_plan closing))
             (sees self.old) (sees self.new) (finish_reply result) }
         ensures same { IsSameCaller self.old self.new }
         ensures still { StillHas (sees self.old) (sees self.new) }
-        ensures busy { IfBusy result (λ s. (s ≡ closing) × IsClosingIt (sees self.new) self.old.number s) }
+        ensures busy { IfBusy result (λ s. (s ≡ closing) × HasShut (sees self.new) self.old.number s) }
     {
         closing.try_finish(self.words, &mut self.pass, self.number)
     }

@@ -5,8 +5,8 @@ ghost use Rattle.nio_history.specs.PassViews.{HasSelector};
 ghost use Rattle.nio_select.specs.Listed.{ok_seen};
 ghost use Rattle.nio_steps.specs.Calls.{CallClause};
 ghost use Rattle.nio_steps.specs.Runs.{Completes};
-ghost use Rattle.nio_steps.specs.SelectCalls.{open_selector_plan, ListsKeys, ListsSelected, wakeup_plan, Closes};
-ghost use Rattle.nio_steps.specs.SelectCalls.{interrupt_plan, interrupted_plan};
+ghost use Rattle.nio_steps.specs.SelectCalls.{open_selector_plan, ListsKeys, ListsSelected, wakeup_plan};
+ghost use Rattle.nio_steps.specs.SelectCalls.{ClosesSelector, interrupt_plan, interrupted_plan};
 ghost use Rattle.nio_words.specs.Passes.{limits_of};
 ghost use Rattle.nio_caller.specs.Callers.{IsSameCaller, StillHas, sees};
 
@@ -68,7 +68,7 @@ impl<'a> Caller<'a> {
     /// of its own in progress there would wait for ever.
     pub fn close<R: Wait, B: Bell>(&mut self, rt: &R, sel: SelNo, bell: &B) -> bool
         requires { HasSelector (sees self.old) sel }
-        ensures call { CallClause self.old.number (Closes sel) (sees self.old) (sees self.new) result }
+        ensures call { CallClause self.old.number (ClosesSelector sel) (sees self.old) (sees self.new) result }
         ensures same { IsSameCaller self.old self.new }
         ensures still { StillHas (sees self.old) (sees self.new) }
     {

@@ -9,7 +9,7 @@ ghost use Rattle.nio_language.specs.Words.{kind_word};
 
 use super::name::{read_caller, read_channel, read_key, read_ops, read_selector};
 use super::number::read_number;
-use nio_base::{CallerNo, ChanNo, KeyId, Kind, Ops, SelNo};
+use nio_base::{CallerNo, ChanId, KeyId, Kind, Ops, SelNo};
 
 /// No arguments.
 pub fn read_none(args: &[&[u8]]) -> Option<()>
@@ -39,7 +39,7 @@ pub fn read_one_selector(args: &[&[u8]]) -> Option<SelNo>
 }
 
 /// One channel.
-pub fn read_one_channel(args: &[&[u8]]) -> Option<ChanNo>
+pub fn read_one_channel(args: &[&[u8]]) -> Option<ChanId>
     ensures { ReadsArguments one_channel (map (λ w. w.now) args.now) result }
 {
     let [channel] = args else {
@@ -72,7 +72,7 @@ fn read_kind_word(word: &[u8]) -> Option<Kind>
 }
 
 /// A channel, and `on` or `off`.
-pub fn read_mode(args: &[&[u8]]) -> Option<(ChanNo, bool)>
+pub fn read_mode(args: &[&[u8]]) -> Option<(ChanId, bool)>
     ensures { ReadsArguments (λ p. channel_mode p.0 p.1) (map (λ w. w.now) args.now) result }
 {
     let [channel, mode] = args else {
@@ -94,7 +94,7 @@ fn read_mode_word(word: &[u8]) -> Option<bool>
 }
 
 /// A channel and a selector.
-pub fn read_channel_selector(args: &[&[u8]]) -> Option<(ChanNo, SelNo)>
+pub fn read_channel_selector(args: &[&[u8]]) -> Option<(ChanId, SelNo)>
     ensures { ReadsArguments (λ p. channel_selector p.0 p.1) (map (λ w. w.now) args.now) result }
 {
     let [channel, selector] = args else {
@@ -106,7 +106,7 @@ pub fn read_channel_selector(args: &[&[u8]]) -> Option<(ChanNo, SelNo)>
 }
 
 /// A channel, and how many bytes to read at most.
-pub fn read_channel_count(args: &[&[u8]]) -> Option<(ChanNo, u32)>
+pub fn read_channel_count(args: &[&[u8]]) -> Option<(ChanId, u32)>
     ensures { ReadsArguments (λ p. channel_count p.0 p.1) (map (λ w. w.now) args.now) result }
 {
     let [channel, count] = args else {
@@ -121,7 +121,7 @@ pub fn read_channel_count(args: &[&[u8]]) -> Option<(ChanNo, u32)>
 const COUNT_LIMIT: u64 = 2048;
 
 /// A selector, a channel, operations, and an attachment or none.
-pub fn read_registration(args: &[&[u8]]) -> Option<(SelNo, ChanNo, Ops, Option<u64>)>
+pub fn read_registration(args: &[&[u8]]) -> Option<(SelNo, ChanId, Ops, Option<u64>)>
     ensures { ReadsArguments (λ p. registration p.0 p.1 p.2 p.3) (map (λ w. w.now) args.now) result }
 {
     let [selector, channel, ops, attachment @ ..] = args else {

@@ -9,7 +9,7 @@ use super::name::read_channel;
 use crate::bytes::Bytes;
 use crate::print::push_hex;
 use hex::FromHexError;
-use nio_base::ChanNo;
+use nio_base::ChanId;
 use std::alloc::{AllocError, Global};
 
 /// The most bytes of a line.
@@ -19,7 +19,7 @@ const BYTES_LIMIT: usize = 2000;
 pub fn read_channel_bytes(
     alloc: Global,
     args: &[&[u8]],
-) -> Result<Option<(ChanNo, Bytes)>, AllocError>
+) -> Result<Option<(ChanId, Bytes)>, AllocError>
     ensures { IfOk result (ReadsArguments (λ p. channel_bytes p.0 p.1) (map (λ w. w.now) args.now)) }
 {
     let [channel, bytes] = args else {

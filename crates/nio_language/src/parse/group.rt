@@ -4,6 +4,7 @@ ghost use Rattle.std.specs.Fmt.{decimal};
 ghost use Rattle.nio_language.specs.GroupCalls.{IsOutcome, ReadsGroupCall};
 ghost use Rattle.nio_language.specs.GroupWords.{group_channel_word, group_kind_word, operation_kind_word};
 ghost use Rattle.nio_language.specs.GroupWords.{operation_word, outcome_words};
+ghost use Rattle.nio_language.specs.GroupWords.{IsGroupName};
 ghost use Rattle.nio_language.specs.Reading.{Reads};
 ghost use Rattle.nio_language.specs.Words.{IsNumber};
 
@@ -54,7 +55,7 @@ fn read_kind_word(word: &[u8]) -> Option<GKind>
 }
 
 fn read_channel(args: &[&[u8]]) -> Option<GChan>
-    ensures { Reads (λ g. IsNumber g.0) (λ g. group_channel_word g ∷ []) (map (λ w. w.now) args.now) result }
+    ensures { Reads IsGroupName (λ g. group_channel_word g ∷ []) (map (λ w. w.now) args.now) result }
 {
     let [channel] = args else {
         return None;
@@ -73,7 +74,7 @@ fn read_done(args: &[&[u8]]) -> Option<OpNo>
 
 /// A channel, what is to be done, and a number of bytes.
 fn read_start(args: &[&[u8]]) -> Option<(GChan, OpKind, u64)>
-    ensures { Reads (λ p. IsNumber p.0.0 × IsNumber p.2)
+    ensures { Reads (λ p. IsGroupName p.0 × IsNumber p.2)
         (λ p. group_channel_word p.0 ∷ operation_kind_word p.1 ∷ decimal p.2 ∷ []) (map (λ w. w.now) args.now) result }
 {
     let [channel, kind, len] = args else {

@@ -1,14 +1,18 @@
-//! The words of a line that name something: `t1`, `s0`, `c2`, `g0`, `k3`, `k3.1`, and `k3:5`.
-ghost use Rattle.std.specs.Prelude.{◌<◌, ◌≤◌, ◌^◌, ◌∷◌};
+//! The words of a line that name something: `t1`, `s0`, `c2`, `c2.1`, `g0`, `g0.1`, `k3`, `k3.1`, and `k3:5`.
+ghost use Rattle.std.specs.Prelude.{◌≢◌, ◌<◌, ◌≤◌, ◌^◌, ◌∷◌};
 ghost use Rattle.std.specs.Fmt.{decimal};
-ghost use Rattle.nio_language.specs.Arguments.{IsKeyName, IsPair, IsSerial};
+ghost use Rattle.nio_language.specs.Arguments.{IsChannelName, IsKeyName, IsPair};
+ghost use Rattle.nio_language.specs.GroupWords.{IsGroupName};
+ghost use Rattle.nio_language.specs.Words.{IsName};
+ghost use Rattle.nio_language.specs.Arguments.{IsSerial};
 ghost use Rattle.nio_language.specs.GroupWords.{group_channel_word, operation_word};
 ghost use Rattle.nio_language.specs.Reading.{Reads};
-ghost use Rattle.nio_language.specs.Words.{IsNumber, caller_word, selector_word, channel_word, key_word, pair_word};
+ghost use Rattle.nio_language.specs.Words.{IsNumber, caller_word, selector_word, channel_word, key_word, name_word};
+ghost use Rattle.nio_language.specs.Words.{pair_word};
 
 use super::cut::cut_at;
 use super::number::read_number;
-use nio_base::{CallerNo, ChanNo, GChan, KeyId, OpNo, Ops, SelNo};
+use nio_base::{CallerNo, ChanId, ChanNo, GChan, KeyId, OpNo, Ops, SelNo};
 
 /// The largest number of a caller.
 const CALLER_MAX: u32 = 63;
@@ -28,17 +32,22 @@ pub fn read_selector(word: &[u8]) -> Option<SelNo>
 }
 
 /// A channel.
-pub fn read_channel(word: &[u8]) -> Option<ChanNo>
-    ensures { Reads (λ c. c.0 < 2 ^ 32) channel_word word.now result }
+pub fn read_channel(word: &[u8]) -> Option<ChanId>
+    ensures { Reads IsChannelName channel_word word.now result }
 {
-    read_numbered(word, b'c', u32::MAX).map(ChanNo)
+    let (number, serial) = read_name(word, b'c')?;
+    Some(ChanId {
+        number: ChanNo(number),
+        serial,
+    })
 }
 
 /// A channel of the group.
 pub fn read_group_channel(word: &[u8]) -> Option<GChan>
-    ensures { Reads (λ g. IsNumber g.0) group_channel_word word.now result }
+    ensures { Reads IsGroupName group_channel_word word.now result }
 {
-    read_numbered(word, b'g', u32::MAX).map(GChan)
+    let (number, serial) = read_name(word, b'g')?;
+    Some(GChan { number, serial })
 }
 
 /// The number of an operation of the group.
@@ -48,27 +57,30 @@ pub fn read_operation(word: &[u8]) -> Option<OpNo>
     read_number(word, u64::from(u32::MAX)).map(OpNo)
 }
 
-/// A key's index, and its serial behind a point, where that isn't 0.
+/// A key.
 pub fn read_key(word: &[u8]) -> Option<KeyId>
     ensures { Reads IsKeyName key_word word.now result }
 {
-    match cut_at(word, b'.') {
-        None => {
-            let index = read_index(word)?;
-            Some(KeyId { index, serial: 0 })
-        }
-        Some((index, serial)) => {
-            let index = read_index(index)?;
-            let serial = read_serial(serial)?;
-            Some(KeyId { index, serial })
-        }
-    }
+    let (index, serial) = read_name(word, b'k')?;
+    Some(KeyId { index, serial })
 }
 
-fn read_index(word: &[u8]) -> Option<u32>
-    ensures { Reads IsNumber (λ i. 107 ∷ decimal i) word.now result }
+/// A letter and a number, and behind a point a serial, where that isn't 0.
+fn read_name(word: &[u8], letter: u8) -> Option<(u32, u32)>
+    requires { letter ≢ 46 }
+    ensures { Reads (λ p. IsName p.0 p.1) (name_word letter) word.now result }
 {
-    read_numbered(word, b'k', u32::MAX)
+    match cut_at(word, b'.') {
+        None => {
+            let number = read_numbered(word, letter, u32::MAX)?;
+            Some((number, 0))
+        }
+        Some((number, serial)) => {
+            let number = read_numbered(number, letter, u32::MAX)?;
+            let serial = read_serial(serial)?;
+            Some((number, serial))
+        }
+    }
 }
 
 /// A serial that isn't 0.

@@ -9,11 +9,11 @@ ghost use Rattle.nio_language.specs.Printing.{spaced};
 ghost use Rattle.nio_language.specs.Words.{kind_word};
 
 use super::piece::{
-    push_hex, push_key_word, push_name, push_number_word, push_ops, push_pairs, push_time,
-    push_word,
+    push_channel_word, push_hex, push_key_word, push_name, push_number_word, push_ops, push_pairs,
+    push_time, push_word,
 };
 use crate::call::Waiting;
-use nio_base::{ChanNo, KeyId, Kind, Ops, SelNo};
+use nio_base::{ChanId, KeyId, Kind, Ops, SelNo};
 use std::alloc::AllocError;
 
 /// A kind of channel.
@@ -24,46 +24,46 @@ pub fn push_kind(line: &mut Vec<u8>, kind: Kind) -> Result<(), AllocError>
 }
 
 /// A channel, and `on` or `off`.
-pub fn push_mode(line: &mut Vec<u8>, channel: ChanNo, on: bool) -> Result<(), AllocError>
+pub fn push_mode(line: &mut Vec<u8>, channel: ChanId, on: bool) -> Result<(), AllocError>
     ensures { OnOk result (line.new.items ≡ line.old.items ++ spaced (argument_words (channel_mode channel on))) }
 {
-    push_name(line, b'c', channel.0)?;
+    push_channel_word(line, channel)?;
     push_word(line, mode_text(on))
 }
 
 /// A channel and a selector.
 pub fn push_channel_selector(
     line: &mut Vec<u8>,
-    channel: ChanNo,
+    channel: ChanId,
     selector: SelNo,
 ) -> Result<(), AllocError>
     ensures { OnOk result
         (line.new.items ≡ line.old.items ++ spaced (argument_words (channel_selector channel selector))) }
 {
-    push_name(line, b'c', channel.0)?;
+    push_channel_word(line, channel)?;
     push_name(line, b's', selector.0)
 }
 
 /// A channel and bytes in hexadecimal digits.
 pub fn push_channel_bytes(
     line: &mut Vec<u8>,
-    channel: ChanNo,
+    channel: ChanId,
     bytes: &[u8],
 ) -> Result<(), AllocError>
     ensures { OnOk result
         (line.new.items ≡ line.old.items ++ spaced (argument_words (channel_bytes channel bytes.now))) }
 {
-    push_name(line, b'c', channel.0)?;
+    push_channel_word(line, channel)?;
     line.push(b' ')?;
     push_hex(line, bytes)
 }
 
 /// A channel and a number of bytes.
-pub fn push_channel_count(line: &mut Vec<u8>, channel: ChanNo, count: u32) -> Result<(), AllocError>
+pub fn push_channel_count(line: &mut Vec<u8>, channel: ChanId, count: u32) -> Result<(), AllocError>
     ensures { OnOk result
         (line.new.items ≡ line.old.items ++ spaced (argument_words (channel_count channel count))) }
 {
-    push_name(line, b'c', channel.0)?;
+    push_channel_word(line, channel)?;
     push_number_word(line, u64::from(count))
 }
 
@@ -71,7 +71,7 @@ pub fn push_channel_count(line: &mut Vec<u8>, channel: ChanNo, count: u32) -> Re
 pub fn push_registration(
     line: &mut Vec<u8>,
     selector: SelNo,
-    channel: ChanNo,
+    channel: ChanId,
     ops: Ops,
     attachment: Option<u64>,
 ) -> Result<(), AllocError>
@@ -79,7 +79,7 @@ pub fn push_registration(
         (line.new.items ≡ line.old.items ++ spaced (argument_words (registration selector channel ops attachment))) }
 {
     push_name(line, b's', selector.0)?;
-    push_name(line, b'c', channel.0)?;
+    push_channel_word(line, channel)?;
     push_ops(line, ops)?;
     push_attachment(line, attachment)
 }

@@ -10,7 +10,7 @@ use super::arguments::{
     push_kind, push_mode, push_registration, push_selector_key, push_told, push_wait,
 };
 use super::group::push_group_arguments;
-use super::piece::{push_name, push_numbered, push_word};
+use super::piece::{push_channel_word, push_name, push_numbered, push_word};
 use crate::call::Call;
 use crate::call_word::CallWord;
 use nio_base::CallerNo;
@@ -47,7 +47,7 @@ fn push_arguments(line: &mut Vec<u8>, call: &Call) -> Result<(), AllocError>
         Call::IsBlocking(channel)
         | Call::IsOpen(channel)
         | Call::IsRegistered(channel)
-        | Call::Closec(channel) => push_name(line, b'c', channel.0),
+        | Call::Closec(channel) => push_channel_word(line, *channel),
         Call::Channel(kind) => push_kind(line, *kind),
         Call::Blocking(channel, on) => push_mode(line, *channel, *on),
         Call::KeyFor(channel, selector) => push_channel_selector(line, *channel, *selector),

@@ -4,11 +4,11 @@ ghost use Rattle.std.specs.List.{join_with_byte};
 ghost use Rattle.nio_language.specs.GroupCalls.{group_argument_words};
 ghost use Rattle.nio_language.specs.GroupReplies.{group_reply_words};
 ghost use Rattle.nio_language.specs.GroupWords.{failure_word, finished_words, group_kind_word, operation_kind_word};
-ghost use Rattle.nio_language.specs.GroupWords.{operation_word, outcome_words};
+ghost use Rattle.nio_language.specs.GroupWords.{group_channel_word, operation_word, outcome_words};
 ghost use Rattle.nio_language.specs.Printing.{spaced};
 
 use super::piece::{
-    push_bytes, push_name, push_number, push_number_word, push_numbered, push_word,
+    push_bytes, push_number, push_number_word, push_numbered, push_serial, push_word,
 };
 use crate::group_call::GroupCall;
 use crate::group_reply::GroupReply;
@@ -21,7 +21,7 @@ pub fn push_group_arguments(line: &mut Vec<u8>, call: GroupCall) -> Result<(), A
 {
     match call {
         GroupCall::Gopen(kind) => push_word(line, kind_text(kind)),
-        GroupCall::Gbind(channel) | GroupCall::Gclose(channel) => push_name(line, b'g', channel.0),
+        GroupCall::Gbind(channel) | GroupCall::Gclose(channel) => push_channel_word(line, channel),
         GroupCall::Start(channel, kind, len) => push_start(line, channel, kind, len),
         GroupCall::Report(operation, outcome) => {
             push_number_word(line, operation.0)?;
@@ -36,11 +36,27 @@ pub fn push_group_arguments(line: &mut Vec<u8>, call: GroupCall) -> Result<(), A
     }
 }
 
+/// A channel's name.
+fn push_channel(line: &mut Vec<u8>, channel: GChan) -> Result<(), AllocError>
+    ensures { OnOk result (line.new.items ≡ line.old.items ++ group_channel_word channel) }
+{
+    push_numbered(line, b'g', channel.number)?;
+    push_serial(line, channel.serial)
+}
+
+/// A space and a channel's name.
+fn push_channel_word(line: &mut Vec<u8>, channel: GChan) -> Result<(), AllocError>
+    ensures { OnOk result (line.new.items ≡ line.old.items ++ 32 ∷ group_channel_word channel) }
+{
+    line.push(b' ')?;
+    push_channel(line, channel)
+}
+
 fn push_start(line: &mut Vec<u8>, channel: GChan, kind: OpKind, len: u64) -> Result<(), AllocError>
     ensures { OnOk result
         (line.new.items ≡ line.old.items ++ spaced (group_argument_words (GroupCall.Start channel kind len))) }
 {
-    push_name(line, b'g', channel.0)?;
+    push_channel_word(line, channel)?;
     push_word(line, operation_kind_text(kind))?;
     push_number_word(line, len)
 }
@@ -65,7 +81,7 @@ pub fn push_group_reply(line: &mut Vec<u8>, reply: GroupReply) -> Result<(), All
     ensures { OnOk result (line.new.items ≡ line.old.items ++ join_with_byte 32 (group_reply_words reply)) }
 {
     match reply {
-        GroupReply::Channel(channel) => push_numbered(line, b'g', channel.0),
+        GroupReply::Channel(channel) => push_channel(line, channel),
         GroupReply::Op(operation) => {
             push_bytes(line, b"op ")?;
             push_number(line, operation.0)
@@ -117,7 +133,7 @@ fn push_finished(line: &mut Vec<u8>, finished: Finished) -> Result<(), AllocErro
         Finished::Connected => push_word(line, b"connected"),
         Finished::Accepted(channel) => {
             push_word(line, b"accepted")?;
-            push_name(line, b'g', channel.0)
+            push_channel_word(line, channel)
         }
         Finished::Failed(why) => push_word(line, failure_text(why)),
     }

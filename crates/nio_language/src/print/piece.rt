@@ -2,10 +2,11 @@
 ghost use Rattle.std.specs.Prelude.{◌≡◌, ◌<◌, ◌/◌, ◌%◌, [], ◌∷◌, ◌++◌, OnOk, map};
 ghost use Rattle.std.specs.Fmt.{decimal, signed_decimal};
 ghost use Rattle.nio_language.specs.Printing.{spaced};
-ghost use Rattle.nio_language.specs.Words.{bytes_word, hex_digit, hex_digits, key_word, pair_word, serial_text};
+ghost use Rattle.nio_language.specs.Words.{bytes_word, channel_word, hex_digit, hex_digits, key_word, pair_word};
+ghost use Rattle.nio_language.specs.Words.{serial_text};
 
 use itoa::Buffer;
-use nio_base::{KeyId, Ops};
+use nio_base::{ChanId, KeyId, Ops};
 use std::alloc::AllocError;
 
 /// Bytes as they are.
@@ -69,6 +70,14 @@ pub fn push_ops(line: &mut Vec<u8>, ops: Ops) -> Result<(), AllocError>
     push_number_word(line, u64::from(ops.bits()))
 }
 
+/// A channel's name.
+pub fn push_channel(line: &mut Vec<u8>, channel: ChanId) -> Result<(), AllocError>
+    ensures { OnOk result (line.new.items ≡ line.old.items ++ channel_word channel) }
+{
+    push_numbered(line, b'c', channel.number.0)?;
+    push_serial(line, channel.serial)
+}
+
 /// A key's name.
 pub fn push_key(line: &mut Vec<u8>, key: KeyId) -> Result<(), AllocError>
     ensures { OnOk result (line.new.items ≡ line.old.items ++ key_word key) }
@@ -78,7 +87,7 @@ pub fn push_key(line: &mut Vec<u8>, key: KeyId) -> Result<(), AllocError>
 }
 
 /// A point and a serial; nothing where it is 0.
-fn push_serial(line: &mut Vec<u8>, serial: u32) -> Result<(), AllocError>
+pub fn push_serial(line: &mut Vec<u8>, serial: u32) -> Result<(), AllocError>
     ensures { OnOk result (line.new.items ≡ line.old.items ++ serial_text serial) }
 {
     if serial == 0 {
@@ -86,6 +95,14 @@ fn push_serial(line: &mut Vec<u8>, serial: u32) -> Result<(), AllocError>
     } else {
         push_numbered(line, b'.', serial)
     }
+}
+
+/// A space and a channel's name.
+pub fn push_channel_word(line: &mut Vec<u8>, channel: ChanId) -> Result<(), AllocError>
+    ensures { OnOk result (line.new.items ≡ line.old.items ++ 32 ∷ channel_word channel) }
+{
+    line.push(b' ')?;
+    push_channel(line, channel)
 }
 
 /// A space and a key's name.

@@ -7,8 +7,8 @@ ghost use Rattle.nio_language.specs.Words.{key_word};
 
 use super::group::push_group_reply;
 use super::piece::{
-    push_bytes, push_hex, push_key, push_keys, push_name, push_number, push_numbered, push_pairs,
-    push_word,
+    push_bytes, push_channel, push_channel_word, push_hex, push_key, push_keys, push_number,
+    push_numbered, push_pairs, push_word,
 };
 use crate::reply::Reply;
 use nio_base::{KeyId, Ops};
@@ -21,7 +21,7 @@ pub fn push_reply(line: &mut Vec<u8>, reply: &Reply) -> Result<(), AllocError>
 {
     match reply {
         Reply::Selector(selector) => push_numbered(line, b's', selector.0),
-        Reply::Channel(channel) => push_numbered(line, b'c', channel.0),
+        Reply::Channel(channel) => push_channel(line, *channel),
         Reply::Key(key) => push_key(line, *key),
         Reply::Number(number) => push_number(line, *number),
         Reply::Names(names) => push_names(line, names.as_slice()),
@@ -60,8 +60,8 @@ pub fn push_reply(line: &mut Vec<u8>, reply: &Reply) -> Result<(), AllocError>
         Reply::NoChannel => push_bytes(line, b"no-channel"),
         Reply::NoKey => push_bytes(line, b"no-key"),
         Reply::Ends(source, sink) => {
-            push_numbered(line, b'c', source.0)?;
-            push_name(line, b'c', sink.0)
+            push_channel(line, *source)?;
+            push_channel_word(line, *sink)
         }
         Reply::Bytes(bytes) => push_hex(line, bytes.as_slice()),
         Reply::End => push_bytes(line, b"end"),

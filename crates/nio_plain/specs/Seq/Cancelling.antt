@@ -1,12 +1,12 @@
 -- Cancelling keys and closing channels. Cancelling a key again changes nothing, and so does cancelling
 -- one whose index was given to a later key. Closing a channel cancels all its keys: the one in each
--- selector.
+-- selector. A channel whose number was given to a later one is closed already.
 use Rattle.std.specs.Prelude.{ℕ, ◌==◌, Bool, true, false, if◌then◌else◌, Option, Some, None}
 use Rattle.nio_base.specs.declared.numbers.CallerNo.{CallerNo}
-use Rattle.nio_base.specs.declared.numbers.ChanNo.{ChanNo}
+use Rattle.nio_base.specs.declared.numbers.ChanId.{ChanId}
 use Rattle.nio_base.specs.declared.numbers.KeyId.{KeyId}
 use Rattle.nio_base.specs.declared.numbers.SelNo.{SelNo}
-use Rattle.nio_history.specs.Sets.{is_in_key_set}
+use Rattle.nio_history.specs.Sets.{is_in_key_set, is_open_channel}
 use Rattle.nio_history.specs.State.{State, with_chan, with_key}
 use Rattle.nio_history.specs.declared.found.Stage.{Stage}
 use Rattle.nio_language.specs.declared.reply.Reply.TheVariants as reply
@@ -23,7 +23,7 @@ abbrev pub has_index : Option KeyId → ℕ → Bool
 has_index None i = false
 has_index (Some k) i = k.index == i
 
--- the channel's key in each selector is cancelled
+-- the key of the number's channel in each selector is cancelled
 abbrev pub with_keys_cancelled : State → ℕ → State
 with_keys_cancelled st c = record st {
   key = λ s i. if has_index (key_of st c s) i then cancelled_key (st.key s i) else st.key s i;
@@ -33,12 +33,13 @@ abbrev pub channel_closed : State → ℕ → State
 channel_closed st c = with_keys_cancelled (with_chan st c (record (st.chan c) { closed = true })) c
 
 -- a sink that its owner closes leaves its seal
-unfoldable pub closec_call : ScriptState → CallerNo → ChanNo → Replied
+unfoldable pub closec_call : ScriptState → CallerNo → ChanId → Replied
 closec_call st me c =
     with_named_channel st c
     (sealing (own_sink st.pipes me c)
-    (if (st.shared.chan c.0).closed then unchanged st reply.Already
-    else replied st reply.«Ok» (channel_closed st.shared c.0)))
+    (if is_open_channel (st.shared.chan c.number.0) c.serial
+    then replied st reply.«Ok» (channel_closed st.shared c.number.0)
+    else unchanged st reply.Already))
 
 -- a key that is in the key set is cancelled, and no other
 abbrev pub cancelled_in_set : Stage → ℕ → Stage

@@ -1,9 +1,9 @@
 -- Calls on the group. Each but the two that only ask is one step of the group, whose answer is the reply. A
--- channel of the group that the line names has to be made. The reply, and the group that the call leaves, depend on
+-- channel of the group that the line names has to have been made. The reply, and the group that the call leaves, depend on
 -- the group alone.
-use Rattle.std.specs.Prelude.{length, nat_lt, true, false, if◌then◌else◌, Ok, Err, Some, None}
+use Rattle.std.specs.Prelude.{true, false, if◌then◌else◌, Ok, Err, Some, None}
 use Rattle.nio_base.specs.declared.numbers.GChan.{GChan}
-use Rattle.nio_group.specs.Group.{Group, is_terminated}
+use Rattle.nio_group.specs.Group.{Group, is_made, is_terminated}
 use Rattle.nio_group.specs.Run as step
 use Rattle.nio_group.specs.Run.{after, reply_to}
 use Rattle.nio_group.specs.declared.refusal.ReportError.{ReportError}
@@ -74,7 +74,7 @@ group_kept g reply = record { reply = reply; left = g }
 
 abbrev pub with_named_group_channel : Group → GChan → GroupReplied → GroupReplied
 with_named_group_channel g chan done =
-    if nat_lt chan.0 (length g.channels) then done else group_kept g reply.NoChannel
+    if is_made g chan then done else group_kept g reply.NoChannel
 
 unfoldable pub group_replied : Group → GroupCall → GroupReplied
 group_replied g (group.Gopen kind) = stepped g (step.open_channel kind)

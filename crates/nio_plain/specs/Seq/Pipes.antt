@@ -2,28 +2,32 @@
 use Rattle.std.specs.Prelude.{ℕ, ◌==◌, ◌&&◌, Bool, true, false, Option, Some, None, List, [], position, slice_index_or}
 use Rattle.std.specs.Prelude.{slice_set}
 use Rattle.nio_base.specs.declared.numbers.CallerNo.{CallerNo}
-use Rattle.nio_base.specs.declared.numbers.ChanNo.{ChanNo}
+use Rattle.nio_base.specs.declared.numbers.ChanId.{ChanId}
 use Rattle.nio_plain.specs.ScriptState.{Pipe, ScriptState, with_pipes}
 use Rattle.nio_plain.specs.Seq.Replies.{Replied}
 
-abbrev pub owns_source : CallerNo → ChanNo → Pipe → Bool
-owns_source me c p = (p.source.0 == c.0) && (p.reader.0 == me.0)
+-- two names of one channel
+abbrev pub is_same_id : ChanId → ChanId → Bool
+is_same_id c d = (c.number.0 == d.number.0) && (c.serial == d.serial)
 
-abbrev pub owns_sink : CallerNo → ChanNo → Pipe → Bool
-owns_sink me c p = (p.sink.0 == c.0) && (p.writer.0 == me.0)
+abbrev pub owns_source : CallerNo → ChanId → Pipe → Bool
+owns_source me c p = is_same_id p.source c && (p.reader.0 == me.0)
+
+abbrev pub owns_sink : CallerNo → ChanId → Pipe → Bool
+owns_sink me c p = is_same_id p.sink c && (p.writer.0 == me.0)
 
 -- the place of the pipe whose source, or whose sink, is this channel and the caller's own
-abbrev pub own_source : List Pipe → CallerNo → ChanNo → Option ℕ
+abbrev pub own_source : List Pipe → CallerNo → ChanId → Option ℕ
 own_source pipes me c = position (owns_source me c) pipes
 
-abbrev pub own_sink : List Pipe → CallerNo → ChanNo → Option ℕ
+abbrev pub own_sink : List Pipe → CallerNo → ChanId → Option ℕ
 own_sink pipes me c = position (owns_sink me c) pipes
 
 -- what `pipe_at` gives past the end
 abbrev pub no_pipe : Pipe
 no_pipe = record {
-  source = record { 0 = 0 };
-  sink = record { 0 = 0 };
+  source = record { number = record { 0 = 0 }; serial = 0 };
+  sink = record { number = record { 0 = 0 }; serial = 0 };
   reader = record { 0 = 0 };
   writer = record { 0 = 0 };
   waiting = [];

@@ -1,4 +1,4 @@
--- Registering. A channel must be non-blocking, and no key of it there may be cancelled and still in
+-- Registering. A channel must be open and non-blocking, and no key of it there may be cancelled and still in
 -- the key set. A valid key gets the new interest; else there is a new key. Its index is the least free
 -- one, with the next serial; where none is free, it is the number of indexes claimed so far, with
 -- serial 0.
@@ -7,9 +7,10 @@ use Rattle.std.specs.Prelude.{bit_and, find}
 use Rattle.nio_base.specs.Kind.{valid_operations}
 use Rattle.nio_base.specs.declared.kind.Kind.{Kind}
 use Rattle.nio_base.specs.declared.limits.Limits.{Limits}
-use Rattle.nio_base.specs.declared.numbers.ChanNo.{ChanNo}
+use Rattle.nio_base.specs.declared.numbers.ChanId.{ChanId}
 use Rattle.nio_base.specs.declared.numbers.KeyId.{KeyId}
 use Rattle.nio_base.specs.declared.numbers.SelNo.{SelNo}
+use Rattle.nio_history.specs.Sets.{is_open_channel}
 use Rattle.nio_history.specs.State.{State, unmarked, with_enrolled, with_keys_high, with_key, with_interest, with_mark}
 use Rattle.nio_history.specs.State.{with_note, with_free}
 use Rattle.nio_history.specs.declared.found.Stage.{Stage}
@@ -81,12 +82,12 @@ registered l st s c ops att (Some k) =
 abbrev pub are_legal : Kind → ℕ → Bool
 are_legal kind ops = bit_and ops (valid_operations kind) == ops
 
-unfoldable pub register_call : Limits → ScriptState → SelNo → ChanNo → ℕ → Option ℕ → Replied
+unfoldable pub register_call : Limits → ScriptState → SelNo → ChanId → ℕ → Option ℕ → Replied
 register_call l st s c ops att =
-    let chan = st.shared.chan c.0 in
+    let chan = st.shared.chan c.number.0 in
     with_named_selector st s
     (with_named_channel st c
     (if not (are_legal chan.kind ops) then unchanged st reply.IllegalOps
-    else if chan.closed then unchanged st reply.ClosedChannel
+    else if not (is_open_channel chan c.serial) then unchanged st reply.ClosedChannel
     else if chan.blocking then unchanged st reply.IllegalBlockingMode
-    else registered l st s.0 c.0 ops att (key_of st.shared c.0 s.0)))
+    else registered l st s.0 c.number.0 ops att (key_of st.shared c.number.0 s.0)))

@@ -13,7 +13,7 @@ removed_key k = record k { removed = true; cancelled = false }
 abbrev pub unselected : Mark → Mark
 unselected m = record m { selected = false }
 
--- THE TWO RULES DIFFER HERE ALONE: under the rules of now the index of a key that a selection removes
+-- THE TWO RULES DIFFER HERE: under the rules of now the index of a key that a selection removes
 -- becomes free, unless the key's serial is the last; under the first rules no index ever becomes free.
 -- A registration takes the least free index, so that under the first rules each new key has a new index.
 abbrev pub comes_back : Rules → Stage → Bool

@@ -23,6 +23,7 @@ use Rattle.nio_plain.specs.Seq.Replies.{Replied, unchanged}
 use Rattle.nio_plain.specs.Seq.Names.{below, key_at, is_same_key, with_named_selector}
 use Rattle.nio_plain.specs.Seq.Removing.{comes_back, without_keys_where}
 use Rattle.nio_plain.specs.declared.rules.Rules.{Rules}
+use Rattle.nio_plain.specs.declared.rules.Rules.TheVariants.{First, Now}
 
 -- A SELECTION, STEP 1. Each cancelled key is removed from every set, and the selection looks at each
 -- key that is left, with its interest. One caller selects on a selector at a time.
@@ -101,8 +102,8 @@ with_marks st s looked pairs = record st {
 }
 
 -- THE END OF A SELECTION. It goes on where it waits, no key was updated, and neither a wakeup, a
--- closing, an interrupt nor the end of its time is there. Else the looked keys that were cancelled
--- meanwhile are removed (step 3), the wakeup is used up and the turn is given back.
+-- closing, an interrupt nor the end of its time is there. Else the cancelled set is removed (step 3), the wakeup is
+-- used up and the turn is given back.
 
 abbrev pub goes_on : Mode → Bool → Bool
 goes_on mode.Now elapsed = false
@@ -133,14 +134,21 @@ why_ended gate interrupted how count =
 abbrev pub is_looked : List (KeyId × ℕ) → KeyId → Bool
 is_looked looked k = list_any (λ p. is_same_key p.0 k) looked
 
--- the looked keys that are cancelled are removed
-abbrev pub without_looked_cancelled : Rules → State → ℕ → List (KeyId × ℕ) → State
-without_looked_cancelled rules st s looked =
-    without_keys_where st s (λ i. is_looked looked (key_at st s i) && in_cancelled_set (st.key s i)) (comes_back rules)
+-- THE TWO RULES DIFFER HERE: under the rules of now the end of a selection removes the whole cancelled set; under the
+-- first rules it removes of that set the keys that the selection looked at, and a key that was registered and cancelled
+-- meanwhile stays.
+abbrev pub goes_at_end : Rules → List (KeyId × ℕ) → KeyId → Bool
+goes_at_end First looked k = is_looked looked k
+goes_at_end Now looked k = true
+
+abbrev pub without_ended : Rules → State → ℕ → List (KeyId × ℕ) → State
+without_ended rules st s looked =
+    without_keys_where st s (λ i. goes_at_end rules looked (key_at st s i) && in_cancelled_set (st.key s i))
+    (comes_back rules)
 
 abbrev pub selection_ended : Rules → State → ℕ → Selection → List (KeyId × ℕ) → State
 selection_ended rules st s selection pairs =
-    let swept = without_looked_cancelled rules (with_marks st s selection.looked pairs) s selection.looked in
+    let swept = without_ended rules (with_marks st s selection.looked pairs) s selection.looked in
     let slept = with_gate swept s (record (st.gate s) { woken = false }) in
     with_begun (with_turn slept s None) s false
 

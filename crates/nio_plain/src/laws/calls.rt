@@ -1,6 +1,7 @@
 //! Laws of one call, and of the calls between two wakeups.
 ghost use Rattle.nio_plain.specs.CallLaws.{RefusalsChangeNothing, OnlyToldBitsAreSelected, BitsAreToldAndLookedFor};
-ghost use Rattle.nio_plain.specs.CallLaws.{LookedIsReplied, OnlyItselfEndsASelection, WakeupsArePending};
+ghost use Rattle.nio_plain.specs.CallLaws.{EndLeavesNoneCancelled, LookedIsReplied, OnlyItselfEndsASelection};
+ghost use Rattle.nio_plain.specs.CallLaws.{WakeupsArePending};
 ghost use Rattle.nio_plain.specs.CallLaws.{FurtherWakeupsChangeNothing, WakeupsHaveReplies, WakeupsActAsOne};
 
 /// A refused call changes nothing, nor does one that only asks. The exceptions are calls on pipes: an owner's
@@ -18,10 +19,11 @@ pub fn told_law()
 {}
 
 /// A selection in progress looks at what its `begin` replied, the valid keys with their interests, and
-/// stays so until its own caller ends it.
+/// stays so until its own caller ends it. Its end, by the rules of now, leaves no cancelled key in the key set.
 pub fn selections_law()
     ensures begun { LookedIsReplied }
     ensures stay { OnlyItselfEndsASelection }
+    ensures ended { EndLeavesNoneCancelled }
 {}
 
 /// A wakeup stays until a selection of its selector ends, which uses it up, and further ones change

@@ -1,7 +1,9 @@
 //! Laws of the states that scripts leave, whatever is called and within whatever limits.
 ghost use Rattle.nio_plain.specs.ReachedLaws.{SetsAreWithinKeySet, KeysAreBelowHigh, LookedAreInKeySet, PublishedStays};
 ghost use Rattle.nio_plain.specs.ReachedLaws.{InvalidKeysStayInvalid, FreeIndexHasNoKey, FirstRulesFreeNone};
-ghost use Rattle.nio_plain.specs.ReachedLaws.{FirstRulesRemoveBelowTheBound, NewKeyIsNew, NewKeysDiffer};
+ghost use Rattle.nio_plain.specs.ReachedLaws.{FirstRulesRemoveBelowTheBound, FirstRulesReopenNone, NewKeyIsNew};
+ghost use Rattle.nio_plain.specs.ReachedLaws.{NewKeysDiffer, OpenedStays, ClosedStays, KindStays, NewChannelIsNew};
+ghost use Rattle.nio_plain.specs.ReachedLaws.{KeyKeepsItsChannel};
 ghost use Rattle.nio_plain.specs.ReachedLaws.{KeyOfAChannelIsFound, OneKeyOfAChannel, RegisteredIsInAKeySet};
 ghost use Rattle.nio_plain.specs.ReachedLaws.{RegisteredIsNonBlocking, ClosedChannelHasNoValidKey};
 ghost use Rattle.nio_plain.specs.ReachedLaws.{ClosedSelectorIsEmpty, GroupIsLeftByARun, GroupIsLawful};
@@ -34,14 +36,26 @@ pub fn new_key_law()
     ensures differ { NewKeysDiffer }
 {}
 
-/// By the first rules no index is ever free, so that a registration takes none, and what a selection
-/// removes at its end are the cancelled keys below the number of indexes that it began with.
+/// By the first rules no index is ever free, so that a registration takes none, no number is given to a second channel,
+/// and what a selection removes at its end are the cancelled keys below the number of indexes that it began with.
 pub fn first_rules_law()
     ensures free { FirstRulesFreeNone }
+    ensures reopen { FirstRulesReopenNone }
     ensures removed { FirstRulesRemoveBelowTheBound }
 {}
 
-/// A channel has at most one key in a key set, and the calls find just that one.
+/// A channel that was opened stays so, and one that was closed stays so, also after its number was given to a later
+/// one, which is of the same kind. A new channel was no channel of its number before, and has no key of an earlier one:
+/// as long as a key is in a key set its number has the same channel.
+pub fn channels_law()
+    ensures opened { OpenedStays }
+    ensures closed { ClosedStays }
+    ensures kind { KindStays }
+    ensures new { NewChannelIsNew }
+    ensures keys { KeyKeepsItsChannel }
+{}
+
+/// A number has at most one key in a key set, and the calls find just that one.
 pub fn key_of_channel_law()
     ensures one { OneKeyOfAChannel }
     ensures found { KeyOfAChannelIsFound }

@@ -5,49 +5,58 @@ ghost use Rattle.nio_plain.specs.Seq.Modes.{is_blocking_call, is_open_call, is_r
 
 use super::Plain;
 use crate::replies::yes_or_no;
-use nio_base::{ChanNo, SelNo};
+use nio_base::{ChanId, SelNo};
 use nio_language::Reply;
 
 impl Plain {
-    pub(super) fn is_blocking_channel(&self, chan: ChanNo) -> Reply
+    pub(super) fn is_blocking_channel(&self, chan: ChanId) -> Reply
         ensures { Replies self.now self.now result (is_blocking_call (state_of self.now) chan) }
     {
         match self.channel(chan) {
-            Ok(channel) => yes_or_no(channel.blocking),
+            Ok(channel) => yes_or_no(channel.is_blocking(chan.serial)),
             Err(refusal) => refusal,
         }
     }
 
-    pub(super) fn is_open_channel(&self, chan: ChanNo) -> Reply
+    pub(super) fn is_open_channel(&self, chan: ChanId) -> Reply
         ensures { Replies self.now self.now result (is_open_call (state_of self.now) chan) }
     {
         match self.channel(chan) {
-            Ok(channel) => yes_or_no(!channel.closed),
+            Ok(channel) => yes_or_no(channel.is_open(chan.serial)),
             Err(refusal) => refusal,
         }
     }
 
-    pub(super) fn is_registered_channel(&self, chan: ChanNo) -> Reply
+    pub(super) fn is_registered_channel(&self, chan: ChanId) -> Reply
         ensures { Replies self.now self.now result (is_registered_call (limits_of self.now) (state_of self.now) chan) }
     {
-        match self.channel(chan) {
-            Ok(_) => yes_or_no(self.is_registered(chan)),
-            Err(refusal) => refusal,
+        let channel = match self.channel(chan) {
+            Ok(channel) => channel,
+            Err(refusal) => return refusal,
+        };
+        if !channel.fits(chan.serial) {
+            return Reply::No;
         }
+        yes_or_no(self.has_key(chan.number))
     }
 
-    pub(super) fn key_for(&self, chan: ChanNo, sel: SelNo) -> Reply
+    pub(super) fn key_for(&self, chan: ChanId, sel: SelNo) -> Reply
         ensures { Replies self.now self.now result (key_for_call (state_of self.now) chan sel) }
     {
-        if let Err(refusal) = self.channel(chan) {
-            return refusal;
+        let channel = match self.channel(chan) {
+            Ok(channel) => channel,
+            Err(refusal) => return refusal,
+        };
+        let place = match self.selector(sel) {
+            Ok(place) => place,
+            Err(refusal) => return refusal,
+        };
+        if !channel.fits(chan.serial) {
+            return Reply::None;
         }
-        match self.selector(sel) {
-            Ok(place) => match self.selectors[place].key_of(chan) {
-                Some(key) => Reply::Key(key),
-                None => Reply::None,
-            },
-            Err(refusal) => refusal,
+        match self.selectors[place].key_of(chan.number) {
+            Some(key) => Reply::Key(key),
+            None => Reply::None,
         }
     }
 }

@@ -8,7 +8,7 @@ ghost use Rattle.nio_plain.specs.Seq.Closing.{close_call, close_end_call};
 
 use super::Plain;
 use super::selector::Closing;
-use nio_base::{CallerNo, ChanNo, SelNo};
+use nio_base::{CallerNo, ChanId, ChanNo, SelNo};
 use nio_language::Reply;
 
 impl Plain {
@@ -56,23 +56,23 @@ impl Plain {
     }
 
     /// Closes the channel, and cancels its key in each selector. The caller's own sink leaves its seal.
-    pub(super) fn close_channel(&mut self, me: CallerNo, chan: ChanNo) -> Reply
+    pub(super) fn close_channel(&mut self, me: CallerNo, chan: ChanId) -> Reply
         ensures { Replies self.old self.new result (closec_call (state_of self.old) me chan) }
     {
         let channel = match self.channel(chan) {
             Ok(channel) => channel,
             Err(refusal) => return refusal,
         };
-        if channel.closed {
+        if !channel.is_open(chan.serial) {
             self.leave_seal(me, chan);
             return Reply::Already;
         }
-        self.shut_channel(chan);
+        self.shut_channel(chan.number);
         self.leave_seal(me, chan);
         Reply::Ok
     }
 
-    /// Closes a channel that is made.
+    /// Closes the channel of a number that is made.
     pub(super) fn shut_channel(&mut self, chan: ChanNo)
         requires { chan.0 < vec_len self.old.channels }
         ensures left { state_of self.new ≡ with_shared (state_of self.old)
@@ -83,7 +83,7 @@ impl Plain {
         self.cancel_keys_of(chan);
     }
 
-    /// Cancels the channel's key in each selector.
+    /// Cancels the key of the number's channel in each selector.
     fn cancel_keys_of(&mut self, chan: ChanNo)
         ensures left { state_of self.new ≡ with_shared (state_of self.old)
             (with_keys_cancelled (state_of self.old).shared chan.0) }

@@ -40,7 +40,7 @@ fn bind(group: &mut GroupCore, chan: GChan) -> Reply
     ensures reply { result ≡ (with_named_group_channel group.old chan (stepped group.old (step.bind chan))).reply }
     ensures left { group.new ≡ (with_named_group_channel group.old chan (stepped group.old (step.bind chan))).left }
 {
-    if chan.0 >= group.channels() {
+    if !group.is_made(chan) {
         return Reply::NoChannel;
     }
     bound(group.bind(chan))
@@ -52,7 +52,7 @@ fn start(group: &mut GroupCore, chan: GChan, kind: OpKind, len: u64) -> Reply
     ensures left { group.new ≡
         (with_named_group_channel group.old chan (stepped group.old (step.start chan kind len))).left }
 {
-    if chan.0 >= group.channels() {
+    if !group.is_made(chan) {
         return Reply::NoChannel;
     }
     started(group.start(chan, kind, len))
@@ -64,7 +64,7 @@ fn close_channel(group: &mut GroupCore, chan: GChan) -> Reply
     ensures left { group.new ≡
         (with_named_group_channel group.old chan (stepped group.old (step.close_channel chan))).left }
 {
-    if chan.0 >= group.channels() {
+    if !group.is_made(chan) {
         return Reply::NoChannel;
     }
     closed(group.close_channel(chan))

@@ -10,21 +10,26 @@ ghost use Rattle.nio_plain.specs.Seq.Names.{with_named_channel, with_named_key, 
 use super::Plain;
 use super::channel::Channel;
 use super::selector::Key;
-use nio_base::{ChanNo, KeyId, SelNo};
+use nio_base::{ChanId, KeyId, SelNo};
 use nio_language::Reply;
 
 impl Plain {
-    /// The channel of this name.
-    pub(super) fn channel(&self, chan: ChanNo) -> Result<Channel, Reply>
+    /// The present channel of the number of this name, where the channel of this name was opened.
+    pub(super) fn channel(&self, chan: ChanId) -> Result<Channel, Reply>
         ensures through { IfOk result (λ _. LetsThrough (with_named_channel (state_of self.now) chan)) }
-        ensures row { IfOk result (λ channel. (state_of self.now).shared.chan chan.0 ≡ channel_row channel) }
-        ensures made { IfOk result (λ _. chan.0 < vec_len self.now.channels) }
+        ensures row { IfOk result (λ channel. (state_of self.now).shared.chan chan.number.0 ≡ channel_row channel) }
+        ensures made { IfOk result (λ _. chan.number.0 < vec_len self.now.channels) }
         ensures refused { IfErr result (Refuses (state_of self.now) (with_named_channel (state_of self.now) chan)) }
     {
-        if chan.0 as usize >= self.channels.len() {
+        let number = chan.number.0 as usize;
+        if number >= self.channels.len() {
             return Err(Reply::NoChannel);
         }
-        Ok(self.channels[chan.0 as usize])
+        let channel = self.channels[number];
+        if channel.serial < chan.serial {
+            return Err(Reply::NoChannel);
+        }
+        Ok(channel)
     }
 
     /// The place of the selector of this name.

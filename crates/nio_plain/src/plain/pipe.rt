@@ -2,14 +2,14 @@
 ghost use Rattle.std.specs.Prelude.{◌≡◌, ◌++◌, IfOk, OnErr, OnOk, drop, take};
 ghost use Rattle.nio_plain.specs.PlainState.{pipe_of};
 
-use nio_base::{CallerNo, ChanNo};
+use nio_base::{CallerNo, ChanId};
 use std::alloc::{AllocError, Global};
 
 /// A pipe with the bytes that wait in it, the first to be read first.
 #[derive(Drop)]
 pub(super) struct Pipe {
-    pub(super) source: ChanNo,
-    pub(super) sink: ChanNo,
+    pub(super) source: ChanId,
+    pub(super) sink: ChanId,
     pub(super) reader: CallerNo,
     pub(super) writer: CallerNo,
     pub(super) waiting: Vec<u8>,

@@ -1,8 +1,9 @@
 //! Pipes: making, reading and writing them, and the seal.
 ghost use Rattle.std.specs.Prelude.{◌≡◌, ◌<◌, ◌==◌, ◌&&◌, if◌then◌else◌, Some, position, vec_len};
+ghost use Rattle.nio_history.specs.Sets.{is_open_channel};
 ghost use Rattle.nio_plain.specs.Plain.{RepliesAs, Kept};
-ghost use Rattle.nio_plain.specs.PlainState.{limits_of, state_of};
-ghost use Rattle.nio_plain.specs.Seq.Pipes.{own_sink, own_source, pipe_at, with_seal};
+ghost use Rattle.nio_plain.specs.PlainState.{limits_of, rules_of, state_of};
+ghost use Rattle.nio_plain.specs.Seq.Pipes.{is_same_id, own_sink, own_source, pipe_at, with_seal};
 ghost use Rattle.nio_plain.specs.Seq.Piping.{not_now, pipe_call, pread_call, pwrite_call, read_first, room_for};
 ghost use Rattle.nio_plain.specs.Seq.Piping.{write_first};
 
@@ -10,7 +11,7 @@ use super::Plain;
 use super::channel::Channel;
 use super::pipe::Pipe;
 use crate::replies::not_now;
-use nio_base::{CallerNo, ChanNo, Kind};
+use nio_base::{CallerNo, ChanId, Kind};
 use nio_language::{Bytes, Reply};
 use std::alloc::{AllocError, Global};
 
@@ -25,25 +26,23 @@ impl Plain {
         me: CallerNo,
         target: CallerNo,
     ) -> Result<Reply, AllocError>
-        ensures { RepliesAs self.old self.new result (pipe_call (limits_of self.old) (state_of self.old) me target) }
+        ensures { RepliesAs self.old self.new result
+            (pipe_call (rules_of self.old) (limits_of self.old) (state_of self.old) me target) }
     {
         if target.0 >= self.limits.callers {
             return Ok(Reply::NoCaller);
         }
-        let number = self.channels.len();
-        if number >= self.limits.channels as usize {
+        let Some(source) = self.next_channel(Kind::Source) else {
             return Ok(Reply::ChannelsSpent);
-        }
+        };
         self.channels.reserve(2)?;
         self.pipes.reserve(1)?;
-        self.channels.push_reserved(Channel::new(Kind::Source));
-        let source = ChanNo(number as u32);
-        if number + 1 >= self.limits.channels as usize {
-            self.shut_channel(source);
+        self.put_channel(source, Kind::Source);
+        let Some(sink) = self.next_channel(Kind::Sink) else {
+            self.shut_channel(source.number);
             return Ok(Reply::ChannelsSpent);
-        }
-        self.channels.push_reserved(Channel::new(Kind::Sink));
-        let sink = ChanNo(number as u32 + 1);
+        };
+        self.put_channel(sink, Kind::Sink);
         self.pipes.push_reserved(Pipe {
             source,
             sink,
@@ -56,21 +55,21 @@ impl Plain {
     }
 
     /// The place of the pipe whose source is this channel and the caller's own.
-    fn own_source(&self, me: CallerNo, chan: ChanNo) -> Option<usize>
+    fn own_source(&self, me: CallerNo, chan: ChanId) -> Option<usize>
         ensures { result ≡ own_source (state_of self.now).pipes me chan }
     {
         source_place(&self.pipes, me, chan)
     }
 
     /// The place of the pipe whose sink is this channel and the caller's own.
-    fn own_sink(&self, me: CallerNo, chan: ChanNo) -> Option<usize>
+    fn own_sink(&self, me: CallerNo, chan: ChanId) -> Option<usize>
         ensures { result ≡ own_sink (state_of self.now).pipes me chan }
     {
         sink_place(&self.pipes, me, chan)
     }
 
     /// The caller's own sink leaves its seal, where the channel is one.
-    pub(super) fn leave_seal(&mut self, me: CallerNo, chan: ChanNo)
+    pub(super) fn leave_seal(&mut self, me: CallerNo, chan: ChanId)
         ensures left { state_of self.new ≡ with_seal (own_sink (state_of self.old).pipes me chan) (state_of self.old) }
         ensures kept { Kept self.old self.new }
     {
@@ -84,7 +83,7 @@ impl Plain {
         &mut self,
         alloc: Global,
         me: CallerNo,
-        chan: ChanNo,
+        chan: ChanId,
         most: u32,
     ) -> Result<Reply, AllocError>
         requires { me.0 < (limits_of self.old).callers }
@@ -97,11 +96,11 @@ impl Plain {
         let Some(place) = self.own_source(me, chan) else {
             return Ok(Reply::NotOwner);
         };
-        if channel.closed {
+        if !channel.is_open(chan.serial) {
             return Ok(Reply::ClosedChannel);
         }
         if self.finds_interrupt(me, channel.blocking) {
-            self.shut_channel(chan);
+            self.shut_channel(chan.number);
             return Ok(Reply::ClosedByInterrupt);
         }
         if most == 0 {
@@ -135,7 +134,7 @@ impl Plain {
     pub(super) fn pwrite(
         &mut self,
         me: CallerNo,
-        chan: ChanNo,
+        chan: ChanId,
         bytes: &[u8],
     ) -> Result<Reply, AllocError>
         requires { me.0 < (limits_of self.old).callers }
@@ -148,17 +147,17 @@ impl Plain {
         let Some(place) = self.own_sink(me, chan) else {
             return Ok(Reply::NotOwner);
         };
-        if channel.closed {
+        if !channel.is_open(chan.serial) {
             self.seal(place);
             return Ok(Reply::ClosedChannel);
         }
         if self.finds_interrupt(me, channel.blocking) {
-            self.shut_channel(chan);
+            self.shut_channel(chan.number);
             self.seal(place);
             return Ok(Reply::ClosedByInterrupt);
         }
         let source = self.pipes[place].source;
-        if self.is_closed(source) {
+        if !self.is_open(source) {
             return Ok(Reply::BrokenPipe);
         }
         if bytes.is_empty() {
@@ -205,12 +204,12 @@ impl Plain {
         blocking && self.is_interrupted(me)
     }
 
-    /// Whether a channel is made and closed.
-    fn is_closed(&self, chan: ChanNo) -> bool
-        ensures { result ≡ ((state_of self.now).shared.chan chan.0).closed }
+    /// Whether a channel is open.
+    fn is_open(&self, chan: ChanId) -> bool
+        ensures { result ≡ is_open_channel ((state_of self.now).shared.chan chan.number.0) chan.serial }
     {
-        let number = chan.0 as usize;
-        number < self.channels.len() && self.channels[number].closed
+        let number = chan.number.0 as usize;
+        number < self.channels.len() && self.channels[number].is_open(chan.serial)
     }
 }
 
@@ -225,18 +224,18 @@ fn end_or_not_now(sealed: bool, blocking: bool) -> Reply
     }
 }
 
-fn source_place(pipes: &[Pipe], me: CallerNo, chan: ChanNo) -> Option<usize>
-    ensures { result ≡ position (λ p. (p.source.0 == chan.0) && (p.reader.0 == me.0)) pipes.now }
+fn source_place(pipes: &[Pipe], me: CallerNo, chan: ChanId) -> Option<usize>
+    ensures { result ≡ position (λ p. is_same_id p.source chan && (p.reader.0 == me.0)) pipes.now }
 {
     pipes
         .iter()
-        .position(|pipe| pipe.source.0 == chan.0 && pipe.reader.0 == me.0)
+        .position(|pipe| pipe.source == chan && pipe.reader == me)
 }
 
-fn sink_place(pipes: &[Pipe], me: CallerNo, chan: ChanNo) -> Option<usize>
-    ensures { result ≡ position (λ p. (p.sink.0 == chan.0) && (p.writer.0 == me.0)) pipes.now }
+fn sink_place(pipes: &[Pipe], me: CallerNo, chan: ChanId) -> Option<usize>
+    ensures { result ≡ position (λ p. is_same_id p.sink chan && (p.writer.0 == me.0)) pipes.now }
 {
     pipes
         .iter()
-        .position(|pipe| pipe.sink.0 == chan.0 && pipe.writer.0 == me.0)
+        .position(|pipe| pipe.sink == chan && pipe.writer == me)
 }

@@ -9,7 +9,7 @@ ghost use Rattle.nio_plain.specs.Seq.Registering.{given_or_kept, register_call, 
 
 use super::Plain;
 use super::selector::Key;
-use nio_base::{ChanNo, Ops, SelNo};
+use nio_base::{ChanId, Ops, SelNo};
 use nio_language::Reply;
 use std::alloc::AllocError;
 
@@ -17,7 +17,7 @@ impl Plain {
     pub(super) fn register(
         &mut self,
         sel: SelNo,
-        chan: ChanNo,
+        chan: ChanId,
         ops: Ops,
         note: Option<u64>,
     ) -> Result<Reply, AllocError>
@@ -28,7 +28,7 @@ impl Plain {
             return Ok(refusal);
         }
         let selector = &self.selectors[sel.0 as usize];
-        match selector.key_of(chan) {
+        match selector.key_of(chan.number) {
             Some(id) => {
                 let key = selector.keys[id.index as usize];
                 if key.cancelled {
@@ -52,7 +52,7 @@ impl Plain {
                 let Some(id) = selector.next_key(self.limits.keys) else {
                     return Ok(Reply::Full);
                 };
-                let key = Key::new(chan, id.serial, ops, note.unwrap_or(0));
+                let key = Key::new(chan.number, id.serial, ops, note.unwrap_or(0));
                 self.selectors[sel.0 as usize].add_key(id, key)?;
                 Ok(Reply::Key(id))
             }
@@ -61,27 +61,27 @@ impl Plain {
 
     /// Why the channel can't be registered so with any selector, and first of all that a name of
     /// the call isn't made.
-    fn refusal(&self, sel: SelNo, chan: ChanNo, ops: Ops) -> Option<Reply>
+    fn refusal(&self, sel: SelNo, chan: ChanId, ops: Ops) -> Option<Reply>
         ensures refused { IfSome result (λ reply. (note : Option ℕ)
             → register_call (limits_of self.now) (state_of self.now) sel chan ops note
             ≡ unchanged (state_of self.now) reply) }
         ensures passed { IfNone result ((note : Option ℕ) → register_call (limits_of self.now) (state_of self.now)
             sel chan ops note
-            ≡ registered (limits_of self.now) (state_of self.now) sel.0 chan.0 ops note
-            (key_of (state_of self.now).shared chan.0 sel.0)) }
+            ≡ registered (limits_of self.now) (state_of self.now) sel.0 chan.number.0 ops note
+            (key_of (state_of self.now).shared chan.number.0 sel.0)) }
         ensures made { IfNone result (sel.0 < vec_len self.now.selectors) }
     {
         if sel.0 as usize >= self.selectors.len() {
             return Some(Reply::NoSelector);
         }
-        if chan.0 as usize >= self.channels.len() {
-            return Some(Reply::NoChannel);
-        }
-        let channel = self.channels[chan.0 as usize];
+        let channel = match self.channel(chan) {
+            Ok(channel) => channel,
+            Err(refusal) => return Some(refusal),
+        };
         if !ops.within(channel.kind.valid_ops()) {
             return Some(Reply::IllegalOps);
         }
-        if channel.closed {
+        if !channel.is_open(chan.serial) {
             return Some(Reply::ClosedChannel);
         }
         if channel.blocking {

@@ -388,8 +388,8 @@ impl Selector {
         }
     }
 
-    /// Ends the selection in progress: its keys are marked, those that were cancelled meanwhile are
-    /// removed, and the wakeup is used up.
+    /// Ends the selection in progress: its keys are marked, the cancelled keys are removed, by the first rules those
+    /// alone that it looked at, and the wakeup is used up.
     pub(super) fn end_selection(&mut self, rules: Rules, told: &[Ops])
         requires { IfSome self.old.selecting (λ x. length told.now ≡ x.bound) }
         ensures { IfSome self.old.selecting
@@ -398,7 +398,10 @@ impl Selector {
     {
         if let Some(selecting) = self.selecting.take() {
             self.mark(&selecting.looked, told);
-            self.sweep_looked(rules, &selecting.looked);
+            match rules {
+                Rules::First => self.sweep_looked(rules, &selecting.looked),
+                Rules::Now => self.sweep(rules),
+            }
             self.woken = false;
         }
     }

@@ -41,7 +41,7 @@ const BOTH_WAYS: Lines = &[
 ];
 
 /// Each row's name, the lines that it begins with, and its own lines.
-const ROWS: [(&str, Lines, Lines); 24] = [
+const ROWS: [(&str, Lines, Lines); 25] = [
     (
         "refusals_before_non_blocking",
         NOTHING,
@@ -106,6 +106,22 @@ const ROWS: [(&str, Lines, Lines); 24] = [
             ("t1 told s0", "selected 0 now"),
             ("t1 begin s0 wait", "looked k0:1"),
             ("t1 told s0", "again"),
+        ],
+    ),
+    (
+        "registered_and_cancelled_during_selection",
+        READING,
+        &[
+            ("t1 channel source", "c1"),
+            ("t1 blocking c1 off", "ok"),
+            ("t1 begin s0 wait", "looked k0:1"),
+            ("t2 register s0 c1 1", "k1"),
+            ("t2 cancel s0 k1", "ok"),
+            ("t1 told s0", "again"),
+            ("t1 keys s0", "k0 k1"),
+            ("t1 told s0 k0:1", "selected 1 ready"),
+            ("t1 keys s0", "k0"),
+            ("t2 register s0 c1 1", "k1.1"),
         ],
     ),
     (
@@ -289,8 +305,9 @@ const ROWS: [(&str, Lines, Lines); 24] = [
             ("t1 begin s0 now", "looked none"),
             ("t1 register s0 c0 1", "k0.1"),
             ("t1 cancel s0 k0.1", "ok"),
-            ("t1 told s0", "selected 0 now"),
             ("t1 register s0 c0 1", "cancelled-key"),
+            ("t1 told s0", "selected 0 now"),
+            ("t1 register s0 c0 1", "k0.2"),
         ],
     ),
     (
@@ -377,6 +394,33 @@ const INDEX_GIVEN_AGAIN: Lines = &[
     ("t1 valid s0 k0", "no"),
     ("t1 attachment s0 k0", "0"),
     ("t1 ready s0 k0.1", "0"),
+];
+
+/// The number of a closed channel is given to one of its kind once a selection has removed its key.
+const NUMBER_GIVEN_AGAIN: Lines = &[
+    ("t1 selector", "s0"),
+    ("t1 channel source", "c0"),
+    ("t1 channel sink", "c1"),
+    ("t1 channel source", "channels-spent"),
+    ("t1 blocking c0 off", "ok"),
+    ("t0 register s0 c0 1", "k0"),
+    ("t0 closec c0", "ok"),
+    ("t1 channel source", "channels-spent"),
+    ("t0 begin s0 now", "looked none"),
+    ("t0 told s0", "selected 0 now"),
+    ("t1 channel sink", "channels-spent"),
+    ("t1 channel source", "c0.1"),
+    ("t1 is-open c0", "no"),
+    ("t0 closec c0", "already"),
+    ("t1 is-open c0.1", "yes"),
+    ("t1 register s0 c0.1 1", "illegal-blocking-mode"),
+    ("t1 blocking c0.1 off", "ok"),
+    ("t1 register s0 c0.1 1", "k0.1"),
+    ("t0 closec c0", "already"),
+    ("t1 valid s0 k0.1", "yes"),
+    ("t1 closec c1", "ok"),
+    ("t1 channel sink", "c1.1"),
+    ("t1 is-open c1.2", "no-channel"),
 ];
 
 /// A script and its history.
@@ -488,5 +532,12 @@ fn rows_on_small_tables(rt: HostRuntime) -> Result<(), Fail> {
         channels: 2,
         keys: 1,
     };
-    row_on(&rt, alloc, "index_given_again", one_key, INDEX_GIVEN_AGAIN)
+    row_on(&rt, alloc, "index_given_again", one_key, INDEX_GIVEN_AGAIN)?;
+    row_on(
+        &rt,
+        alloc,
+        "number_given_again",
+        one_key,
+        NUMBER_GIVEN_AGAIN,
+    )
 }

@@ -7,10 +7,11 @@ ghost use Rattle.nio_serve.specs.BoardCalls.{AreMade, CancelsKey, ClosesChannel,
 ghost use Rattle.nio_serve.specs.BoardCalls.{FailsToRegister, FailsToSet};
 ghost use Rattle.nio_serve.specs.BoardCalls.{FailsToTake, FailsToWatch, HasMade, SetsInterest, Unwatches};
 ghost use Rattle.nio_serve.specs.BoardCalls.{WatchesChannel, finds_channel, registers, takes};
+ghost use Rattle.nio_base.specs.Numbers.{first_channel};
 ghost use Rattle.nio_serve.specs.Called.{channel_in};
 
 use super::{Port, Refused, Station};
-use nio_base::{ChanNo, KeyNo, Kind, Ops};
+use nio_base::{ChanId, ChanNo, KeyNo, Kind, Ops};
 use nio_channel::{close_channel, open_channel, register, set_blocking};
 use nio_keys::{cancel, find, find_channel, set_interest};
 use nio_words::{Pass, Words};
@@ -54,11 +55,11 @@ pub(super) fn watch_next<R: Wait>(
     register_made(rt, w, p, at, chan, ops)
 }
 
-// The table's channel that is the next one of the board: it opens it, where it has no deal.
-fn take_next(w: &Words, p: &mut Pass, at: Station, kind: Kind) -> Result<ChanNo, Refused>
+// The table's channel that is the next one of the board, the first of its number: it opens it, where it has no deal.
+fn take_next(w: &Words, p: &mut Pass, at: Station, kind: Kind) -> Result<ChanId, Refused>
     requires { IsAtRest (board_of w.now p.old at) }
     ensures rest { IsAtRest (board_of w.now p.new at) }
-    ensures next { IfOk result (λ c. c ≡ next_channel at) }
+    ensures next { IfOk result (λ c. c ≡ first_channel (next_channel at)) }
     ensures made { IfOk result (HasChannel (view w.now p.new)) }
     ensures taken { OnOk result (AreMade (board_of w.now p.old at) (board_of w.now p.new at)
         (takes at.deal kind (next_channel at) ∷ [])) }
@@ -81,10 +82,10 @@ fn open_next(
     at: Station,
     chan: ChanNo,
     kind: Kind,
-) -> Result<ChanNo, Refused>
+) -> Result<ChanId, Refused>
     requires { IsAtRest (board_of w.now p.old at) }
     ensures rest { IsAtRest (board_of w.now p.new at) }
-    ensures its { IfOk result (λ c. c ≡ chan) }
+    ensures its { IfOk result (λ c. c ≡ first_channel chan) }
     ensures made { IfOk result (HasChannel (view w.now p.new)) }
     ensures taken { OnOk result (AreMade (board_of w.now p.old at) (board_of w.now p.new at)
         (takes None kind chan ∷ [])) }
@@ -92,7 +93,7 @@ fn open_next(
         (FailsToOpen kind chan)) }
 {
     match open_channel(w, p, at.caller, kind) {
-        Ok(made) if made == chan => Ok(made),
+        Ok(made) if made == ChanId::first(chan) => Ok(made),
         Ok(made) => {
             close_channel(w, p, at.caller, made);
             Err(Refused)
@@ -102,20 +103,24 @@ fn open_next(
 }
 
 // Finds a channel that was opened.
-fn find_made(w: &Words, p: &mut Pass, at: Station, chan: ChanNo) -> Result<ChanNo, Refused>
+fn find_made(w: &Words, p: &mut Pass, at: Station, chan: ChanNo) -> Result<ChanId, Refused>
     requires { IsAtRest (board_of w.now p.old at) }
     ensures rest { IsAtRest (board_of w.now p.new at) }
-    ensures its { IfOk result (λ c. c ≡ chan) }
+    ensures its { IfOk result (λ c. c ≡ first_channel chan) }
     ensures made { IfOk result (HasChannel (view w.now p.new)) }
     ensures taken { OnOk result (AreMade (board_of w.now p.old at) (board_of w.now p.new at)
-        (finds_channel chan (Some chan) ∷ [])) }
+        (finds_channel chan (Some (first_channel chan)) ∷ [])) }
     ensures failed { OnErr result (HasMade (board_of w.now p.old at) (board_of w.now p.new at)
         (FailsToFind chan)) }
 {
-    let Some(made) = find_channel(w, p, at.caller, chan.0) else {
+    let Some(made) = find_channel(w, p, at.caller, chan.0, 0) else {
         return Err(Refused);
     };
-    if made == chan { Ok(made) } else { Err(Refused) }
+    if made == ChanId::first(chan) {
+        Ok(made)
+    } else {
+        Err(Refused)
+    }
 }
 
 // Registers the next channel of the board, which is this one of the table, and closes it where that is refused.
@@ -124,18 +129,18 @@ fn register_made<R: Wait>(
     w: &Words,
     p: &mut Pass,
     at: Station,
-    chan: ChanNo,
+    chan: ChanId,
     ops: Ops,
 ) -> Result<KeyNo, Refused>
     requires rest { IsAtRest (board_of w.now p.old at) }
-    requires next { chan ≡ next_channel at }
+    requires next { chan ≡ first_channel (next_channel at) }
     requires channel { HasChannel (view w.now p.old) chan }
     ensures watched { OnOk result (IsAtRest (board_of w.now p.new (one_more at))) }
     ensures refused { OnErr result (IsAtRest (board_of w.now p.new at)) }
     ensures made { IfOk result (λ key. AreMade (board_of w.now p.old at) (board_of w.now p.new at)
-        (registers at.selector chan ops key ∷ [])) }
+        (registers at.selector (next_channel at) ops key ∷ [])) }
     ensures failed { OnErr result (HasMade (board_of w.now p.old at) (board_of w.now p.new at)
-        (FailsToRegister at.selector chan ops)) }
+        (FailsToRegister at.selector (next_channel at) ops)) }
 {
     match register(rt, w, p, at.caller, at.selector, chan, ops, 0) {
         Ok(key) => Ok(key),
@@ -200,7 +205,7 @@ fn close_made(w: &Words, p: &mut Pass, at: Station, chan: ChanNo)
     ensures made { HasMade (board_of w.now p.old at) (board_of w.now p.new at)
         (ClosesChannel chan) }
 {
-    if let Some(made) = find_channel(w, p, at.caller, chan.0) {
+    if let Some(made) = find_channel(w, p, at.caller, chan.0, 0) {
         close_channel(w, p, at.caller, made);
     }
 }

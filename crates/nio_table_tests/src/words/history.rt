@@ -84,6 +84,7 @@ pub(crate) const BLOCKING: Chan = Chan {
     kind: Kind::Source,
     closed: false,
     blocking: true,
+    serial: 0,
 };
 
 pub(crate) const UNBLOCKED: Chan = Chan {
@@ -91,6 +92,7 @@ pub(crate) const UNBLOCKED: Chan = Chan {
     kind: Kind::Source,
     closed: false,
     blocking: false,
+    serial: 0,
 };
 
 pub(crate) const CLOSED: Chan = Chan {
@@ -98,6 +100,16 @@ pub(crate) const CLOSED: Chan = Chan {
     kind: Kind::Source,
     closed: true,
     blocking: true,
+    serial: 0,
+};
+
+/// The one that has the channel's number after it.
+pub(crate) const NEXT_CHANNEL: Chan = Chan {
+    made: true,
+    kind: Kind::Source,
+    closed: false,
+    blocking: true,
+    serial: 1,
 };
 
 pub(crate) const QUIET: GateWord = GateWord {
@@ -352,7 +364,7 @@ pub(crate) fn closing() -> [(CallerNo, Act); 11]
     ensures { IsPart 103 result }
 {
     [
-        (ONE, Act::CloseBit(C, false)),
+        (ONE, Act::CloseBit(C, BLOCKING, BLOCKING)),
         (ONE, Act::LookChannel(C, CLOSED)),
         (ONE, Act::ShutBit(S, false)),
         (ONE, Act::LookGate(S, SHUT)),
@@ -363,5 +375,21 @@ pub(crate) fn closing() -> [(CallerNo, Act); 11]
         (ONE, Act::SetInterrupt(ZERO, false)),
         (ZERO, Act::TakeInterrupt(true)),
         (ZERO, Act::LookInterrupt(false)),
+    ]
+}
+
+/// Caller 1 gives the channel's number to a new channel, once; a closing of the old one that comes late leaves it.
+pub(crate) fn reopening() -> [(CallerNo, Act); 8]
+    ensures { IsPart 114 result }
+{
+    [
+        (ONE, Act::TryHoldBit(C, None)),
+        (ONE, Act::LookReg(C, S, Some(NEXT))),
+        (ONE, Act::LookKey(S, 0, NEXT_REMOVED)),
+        (ONE, Act::Reopen(C, CLOSED, false)),
+        (ONE, Act::Reopen(C, CLOSED, true)),
+        (ONE, Act::Release(C)),
+        (ZERO, Act::CloseBit(C, BLOCKING, NEXT_CHANNEL)),
+        (ZERO, Act::LookChannel(C, NEXT_CHANNEL)),
     ]
 }

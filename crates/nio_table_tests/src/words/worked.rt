@@ -1,5 +1,6 @@
 //! Two callers do, step by step on a table, what the worked history says. In it a caller's pin holds back the
-//! other's claim of a free index; once it is taken off, the index is given again, with the next serial.
+//! other's claim of a free index; once it is taken off, the index is given again, with the next serial. At last
+//! the number of the closed channel is given to a new one.
 ghost use Rattle.std.specs.Prelude.{◌≡◌, ◌+◌, IsTrue, length};
 ghost use Rattle.nio_history.specs.Conditions.{Condition};
 ghost use Rattle.nio_words.specs.Passes.{IsReady, acts_seen, limits_of, state_seen};
@@ -77,7 +78,7 @@ fn repeats(w: &Words, p: &mut Pass, me: CallerNo, act: Act) -> bool
             true
         }
         Act::SetMode(c, blocking, found) => same_channel(w.set_mode(p, me, c, blocking), found),
-        Act::CloseBit(c, found) => w.close_bit(p, me, c) == found,
+        Act::CloseBit(c, from, found) => same_channel(w.close_bit(p, me, c, from), found),
         Act::ShutBit(s, found) => w.shut_bit(p, me, s) == found,
         Act::Enter(s, found) => w.enter(p, me, s) == found,
         Act::Pin(s, i, found) => same_stage(w.pin(p, me, s, i), found),
@@ -93,6 +94,7 @@ fn repeats(w: &Words, p: &mut Pass, me: CallerNo, act: Act) -> bool
             true
         }
         Act::TakeFree(s, i, found) => w.take_free(p, me, s, i) == found,
+        Act::Reopen(c, from, found) => w.reopen(p, me, c, from) == found,
     }
 }
 
@@ -131,5 +133,6 @@ fn table_follows_the_worked_history(rt: HostRuntime) -> Result<(), Fail> {
     follow(&rt, &words, &mut p, 85, &history::removing_again());
     follow(&rt, &words, &mut p, 98, &history::blocking_again());
     follow(&rt, &words, &mut p, 103, &history::closing());
+    follow(&rt, &words, &mut p, 114, &history::reopening());
     Ok(())
 }

@@ -1,10 +1,19 @@
 //! The text of each reply.
-use nio_base::{CallerNo, ChanNo, Finished, GChan, KeyId, OpNo, Ops, SelNo, Why as Failure};
+use nio_base::{
+    CallerNo, ChanId, ChanNo, Finished, GChan, KeyId, OpNo, Ops, SelNo, Why as Failure,
+};
 use nio_history::Why;
 use nio_language::{Bytes, Call, GroupReply, Names, Pairs, Reply, print_line, print_reply};
 use std::alloc::Global;
 use std::process::Abort;
 use std::test::Fail;
+
+fn channel(number: u32, serial: u32) -> ChanId {
+    ChanId {
+        number: ChanNo(number),
+        serial,
+    }
+}
 
 /// Prints the reply alone, and in a line of a history.
 fn prints(rt: &impl Abort, alloc: Global, reply: &Reply, wanted: &str) -> Result<(), Fail> {
@@ -33,7 +42,11 @@ fn prints_each_reply(rt: HostRuntime) -> Result<(), Fail> {
     let names = vec![in rt.alloc(); first, last]?;
     let replies = [
         (Reply::Selector(SelNo(0)), "s0"),
-        (Reply::Channel(ChanNo(12)), "c12"),
+        (Reply::Channel(channel(12, 0)), "c12"),
+        (
+            Reply::Channel(channel(4294967295, 4294967295)),
+            "c4294967295.4294967295",
+        ),
         (Reply::Key(first), "k3"),
         (Reply::Key(last), "k4294967295.4294967295"),
         (Reply::Number(18446744073709551615), "18446744073709551615"),
@@ -80,14 +93,28 @@ fn prints_each_reply(rt: HostRuntime) -> Result<(), Fail> {
         (Reply::NoSelector, "no-selector"),
         (Reply::NoChannel, "no-channel"),
         (Reply::NoKey, "no-key"),
-        (Reply::Ends(ChanNo(3), ChanNo(14)), "c3 c14"),
+        (Reply::Ends(channel(3, 0), channel(14, 0)), "c3 c14"),
+        (Reply::Ends(channel(3, 1), channel(14, 20)), "c3.1 c14.20"),
         (Reply::Bytes(Bytes::from_vec(bytes)), "000f6dff"),
         (Reply::End, "end"),
         (Reply::NotOwner, "not-owner"),
         (Reply::ClosedByInterrupt, "closed-by-interrupt"),
         (Reply::AsyncClose, "async-close"),
         (Reply::BrokenPipe, "broken-pipe"),
-        (Reply::Group(GroupReply::Channel(GChan(7))), "g7"),
+        (
+            Reply::Group(GroupReply::Channel(GChan {
+                number: 7,
+                serial: 0,
+            })),
+            "g7",
+        ),
+        (
+            Reply::Group(GroupReply::Channel(GChan {
+                number: 7,
+                serial: 2,
+            })),
+            "g7.2",
+        ),
         (Reply::Group(GroupReply::Op(OpNo(7))), "op 7"),
         (
             Reply::Group(GroupReply::Completed(OpNo(7), Finished::Count(5))),
@@ -102,7 +129,13 @@ fn prints_each_reply(rt: HostRuntime) -> Result<(), Fail> {
             "op 7 connected",
         ),
         (
-            Reply::Group(GroupReply::Completed(OpNo(7), Finished::Accepted(GChan(1)))),
+            Reply::Group(GroupReply::Completed(
+                OpNo(7),
+                Finished::Accepted(GChan {
+                    number: 1,
+                    serial: 0,
+                }),
+            )),
             "op 7 accepted g1",
         ),
         (

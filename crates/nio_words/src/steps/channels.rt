@@ -1,8 +1,11 @@
-//! Steps on a channel: whether it is made, its kind, whether it is closed, and its mode.
+//! Steps on the channel that a number has: whether it is made, its kind, whether it is closed, its mode, and its
+//! serial.
 ghost use Rattle.std.specs.Prelude.{◌≡◌, ℕ, ◌<◌, IsTrue};
-ghost use Rattle.nio_history.specs.Conditions.{IsChannel, AllMade, is_made, holds};
+ghost use Rattle.nio_history.specs.Conditions.{IsChannel, AllMade, WasOpen, holds};
 ghost use Rattle.nio_history.specs.OwnEvents.{is_clear};
+ghost use Rattle.nio_history.specs.State.{last_serial};
 ghost use Rattle.nio_history.specs.declared.act.Act.TheVariants.{MakeChannel, LookChannel, SetMode, CloseBit};
+ghost use Rattle.nio_history.specs.declared.act.Act.TheVariants.{Reopen};
 ghost use Rattle.nio_words.specs.Passes.{IsReady, acts_seen, limits_of, state_seen};
 ghost use Rattle.nio_words.specs.Steps.{Steps};
 
@@ -15,20 +18,18 @@ use crate::words::{Pass, Words};
 use nio_base::{CallerNo, ChanNo, Kind};
 use nio_history::Chan;
 
-// The bits of a channel that is closed, and of one that is in blocking mode.
-const CLOSED: u32 = 4;
-
-const BLOCKING: u32 = 5;
+// The bit of a channel that is in non-blocking mode.
+const NON_BLOCKING: u32 = 5;
 
 impl Words {
-    /// Makes the channel of this kind, open and in blocking mode. Says whether it was made.
+    /// Makes the number's first channel, of this kind, open and in blocking mode. Says whether it was made.
     pub fn make_channel(&self, p: &mut Pass, me: CallerNo, c: ChanNo, kind: Kind) -> bool
         requires ready { IsReady self.now p.old me }
         requires channel { IsChannel (limits_of self.now) c }
         requires lower { AllMade (state_seen p.old) c.0 }
         ensures { Steps self.now p.old p.new me (MakeChannel c kind result) }
     {
-        let new = encode::new_channel(kind);
+        let new = encode::new_channel(kind, 0);
         let found = self.step_that(
             p,
             me,
@@ -39,7 +40,7 @@ impl Words {
         is_set(found, 0)
     }
 
-    /// Looks at the channel.
+    /// Looks at the channel that the number has.
     pub fn look_channel(&self, p: &mut Pass, me: CallerNo, c: ChanNo) -> Chan
         requires ready { IsReady self.now p.old me }
         requires channel { IsChannel (limits_of self.now) c }
@@ -58,19 +59,55 @@ impl Words {
             → IsTrue (is_clear c.0 s (acts_seen p.old me)) }
         ensures { Steps self.now p.old p.new me (SetMode c blocking result) }
     {
-        let instruction = Instruction::to_put_bit(BLOCKING, blocking);
+        let instruction = Instruction::to_put_bit(NON_BLOCKING, !blocking);
         let found = self.step_that(p, me, Part::Chan(c.0), instruction, Details::Mode(blocking));
         chan_of(found)
     }
 
-    /// Closes the channel. Says whether it was closed.
-    pub fn close_bit(&self, p: &mut Pass, me: CallerNo, c: ChanNo) -> bool
+    /// Closes the channel that was found as `from`, open, where the number has it still; a channel that was set to
+    /// non-blocking since stays as it is. Answers the channel before: where the number was given to a new one, that
+    /// one.
+    pub fn close_bit(&self, p: &mut Pass, me: CallerNo, c: ChanNo, from: Chan) -> Chan
         requires ready { IsReady self.now p.old me }
         requires channel { IsChannel (limits_of self.now) c }
-        requires made { IsTrue (is_made (state_seen p.old) c) }
-        ensures { Steps self.now p.old p.new me (CloseBit c result) }
+        requires was_open { WasOpen (state_seen p.old) c from }
+        ensures { Steps self.now p.old p.new me (CloseBit c from result) }
     {
-        let found = self.step(p, me, Part::Chan(c.0), Instruction::SetBit(CLOSED));
-        is_set(found, CLOSED)
+        let closed = encode::channel(Chan {
+            closed: true,
+            ..from
+        });
+        let found = self.step_that(
+            p,
+            me,
+            Part::Chan(c.0),
+            Instruction::Max(closed),
+            Details::Found(from),
+        );
+        chan_of(found)
+    }
+
+    /// Gives the number to a new channel of the same kind with the next serial, open and in blocking mode, where it
+    /// has the closed channel `from`. Says whether it has another one: then nothing is changed.
+    pub fn reopen(&self, p: &mut Pass, me: CallerNo, c: ChanNo, from: Chan) -> bool
+        requires ready { IsReady self.now p.old me }
+        requires channel { IsChannel (limits_of self.now) c }
+        requires holds { IsTrue (holds (state_seen p.old) me c) }
+        requires made { IsTrue from.made }
+        requires closed { IsTrue from.closed }
+        requires serial { from.serial < last_serial }
+        requires clear { (s : ℕ) → s < (limits_of self.now).selectors → IsTrue (is_clear c.0 s (acts_seen p.old me)) }
+        ensures { Steps self.now p.old p.new me (Reopen c from result) }
+    {
+        let old = encode::channel(from);
+        let new = encode::new_channel(from.kind, from.serial + 1);
+        let found = self.step_that(
+            p,
+            me,
+            Part::Chan(c.0),
+            Instruction::Exchange(old, new),
+            Details::Found(from),
+        );
+        found != old
     }
 }

@@ -6,6 +6,10 @@ loop-init g c =
     let s2 = c.in_ok-register_non_blocking.ensures.still.selectors _ s1 in
     (c.in_ok-link.ensures.still.selectors _ s2, c.in_ok-link.ensures.made)
 
+pub loop-preserved-in_default : goal.loop-preserved-in_default
+loop-preserved-in_default g c =
+    (c.select.ensures.still.selectors _ c.loop.invariant.0, c.select.ensures.still.channels _ c.loop.invariant.1)
+
 pub loop-preserved-in_default-take_selected : goal.loop-preserved-in_default-take_selected
 loop-preserved-in_default-take_selected g c =
     let s1 = c.in_default-take_selected.ensures.still.selectors _ c.loop.invariant.0 in

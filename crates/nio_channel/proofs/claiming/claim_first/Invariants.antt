@@ -12,5 +12,6 @@ use Rattle.nio_words.specs.Views.{view}
 abbrev pub invariant-loop-i : goal.invariant-loop-i
 invariant-loop-i l =
     MayEnrol l.w l.p l.me l.chan l.sel × HasNoPin (view l.w l.p) l.me × AllClaimed (state_seen l.p) l.sel l.i
-    × PartClause l.me (seek_to (limits_of l.w).keys l.mark (claim_new l.sel l.chan)) (view l.w l.fn.p) (view l.w l.p)
-    (seek_to (limits_of l.w).keys l.i (claim_new l.sel l.chan) >>= reply)
+    × PartClause l.me (seek_to (limits_of l.w).keys l.mark (claim_new l.sel l.chan.number)) (view l.w l.fn.p)
+    (view l.w l.p)
+    (seek_to (limits_of l.w).keys l.i (claim_new l.sel l.chan.number) >>= reply)

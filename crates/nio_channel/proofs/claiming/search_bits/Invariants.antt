@@ -10,5 +10,6 @@ use Rattle.nio_words.specs.Views.{view}
 abbrev pub invariant-loop-b : goal.invariant-loop-b
 invariant-loop-b l =
     MayEnrol l.w l.p l.me l.chan l.sel × HasNoPin (view l.w l.p) l.me
-    × PartClause l.me (seek_to 64 0 (claim_at_bit l.sel l.chan l.mark l.j l.word)) (view l.w l.fn.p) (view l.w l.p)
-    (seek_to 64 l.b (claim_at_bit l.sel l.chan l.mark l.j l.word) >>= reply)
+    × PartClause l.me (seek_to 64 0 (claim_at_bit l.sel l.chan.number l.mark l.j l.word)) (view l.w l.fn.p)
+    (view l.w l.p)
+    (seek_to 64 l.b (claim_at_bit l.sel l.chan.number l.mark l.j l.word) >>= reply)

@@ -10,5 +10,5 @@ use Rattle.nio_words.specs.Views.{view}
 abbrev pub invariant-loop-j : goal.invariant-loop-j
 invariant-loop-j l =
     MayEnrol l.w l.p l.me l.chan l.sel × HasNoPin (view l.w l.p) l.me
-    × PartClause l.me (search_free l.sel l.chan l.mark) (view l.w l.fn.p) (view l.w l.p)
-    (seek_to (words_below l.mark) l.j (claim_in_word l.sel l.chan l.mark) >>= reply)
+    × PartClause l.me (search_free l.sel l.chan.number l.mark) (view l.w l.fn.p) (view l.w l.p)
+    (seek_to (words_below l.mark) l.j (claim_in_word l.sel l.chan.number l.mark) >>= reply)

@@ -20,7 +20,7 @@ returns-clause-call c =
 pub returns-then-word-eq0-clause-call : goal.returns-then-word-eq0-clause-call
 returns-then-word-eq0-clause-call c =
     returned (left_ask _ (step_acts c.look_free-word.ensures refl)
-    (left_at (none_free c.args.sel c.args.chan c.args.mark c.args.j c.look_free-word.result (search rules))
+    (left_at (none_free c.args.sel c.args.chan.number c.args.mark c.args.j c.look_free-word.result (search rules))
     (step_acts c.look_free-word.ensures refl)))
 
 pub returns-then-word-eq0-clause-may : goal.returns-then-word-eq0-clause-may

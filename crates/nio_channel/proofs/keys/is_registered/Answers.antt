@@ -1,19 +1,17 @@
-use Rattle.std.proofs.Common.{rules}
-use Rattle.nio_steps.proofs.CallLaws.{returned, left_reply, left_start}
-use Rattle.nio_steps.proofs.SweepLaws.{sweep_turn, sweep_done}
-use Rattle.nio_steps.specs.ChannelCalls.{is_registered_plan}
+use Rattle.std.proofs.Common.{if◌then◌else◌, false}
+use Rattle.nio_steps.proofs.CallLaws.{returned, ran_then, left_then, left_else, left_of_call, left_after_call}
+use Rattle.nio_steps.specs.ChannelCalls.{has_number, is_registered_plan}
 use Rattle.nio_steps.specs.Plan.{reply}
 use Rattle.nio_channel.proofs.keys.is_registered.Goals as goal
 
-pub loop-number-init : goal.loop-number-init
+pub returns-then-has_keys-clause-call : goal.returns-then-has_keys-clause-call
 unfolding is_registered_plan
-loop-number-init c = (c.requires.ready, left_reply (left_start _ _ _ c.requires.ready.pass.legal))
+returns-then-has_keys-clause-call c =
+    returned (ran_then (λ registered. if registered then has_number c.args.chan else reply false)
+    c.has_keys.ensures.call (left_then _ _ _ c.if-has_keys.true (left_of_call c.has_number.ensures.call)))
 
-pub loop-number-preserved : goal.loop-number-preserved
-loop-number-preserved c = (
-  c.is_registered_in-registered.ensures.ready,
-  sweep_turn _ _ _ _ _ reply (search rules) c.loop-number.invariant.1 c.is_registered_in-registered.ensures.call,
-)
-
-pub returns-clause-call : goal.returns-clause-call
-returns-clause-call c = returned (sweep_done _ _ _ _ reply (search rules) c.loop-number.invariant.1)
+pub returns-else-has_keys-clause-call : goal.returns-else-has_keys-clause-call
+unfolding is_registered_plan
+returns-else-has_keys-clause-call c =
+    returned (ran_then (λ registered. if registered then has_number c.args.chan else reply false)
+    c.has_keys.ensures.call (left_else _ _ _ c.if-has_keys.false (left_after_call c.has_keys.ensures.call)))

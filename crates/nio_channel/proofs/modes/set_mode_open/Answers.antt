@@ -4,5 +4,5 @@ use Rattle.nio_channel.proofs.modes.set_mode_open.Goals as goal
 
 pub returns-clause-call : goal.returns-clause-call
 returns-clause-call c =
-    returned (ran_then (set_mode_clear c.args.chan c.args.on) c.key_if_blocking-registered.ensures.call
+    returned (ran_then (set_mode_clear c.args.number c.args.on) c.key_if_blocking-registered.ensures.call
     (left_of_call c.set_mode_clear.ensures.call))

@@ -1,4 +1,4 @@
-use Rattle.std.proofs.Common.{rules}
+use Rattle.std.proofs.Common.{◌<◌, rules}
 use Rattle.nio_steps.proofs.CallLaws.{returned, left_reply, left_start}
 use Rattle.nio_steps.proofs.SweepLaws.{seek_no, seek_yes, seek_done}
 use Rattle.nio_steps.specs.Plan.{reply}
@@ -20,3 +20,8 @@ loop-number-preserved c = (
 
 pub returns-clause-call : goal.returns-clause-call
 returns-clause-call c = returned (seek_done _ _ _ reply (search rules) c.loop-number.invariant.2)
+
+pub returns-clause-all : goal.returns-clause-all
+returns-clause-all c = λ _ chan below.
+    let before : chan < c.loop-number.number = search rules in
+    c.loop-number.invariant.1 chan before

@@ -20,8 +20,8 @@ update_key-requires c =
     record {
       unblocked = unblocked_stays c.look_gate.ensures refl refl c.requires.unblocked;
       pinned = stays_pinned c.look_gate.ensures refl refl c.requires.pinned;
-      enrolled = enrolled_stays c.args.wanted.now.chan c.args.wanted.now.sel c.args.k c.look_gate.ensures refl refl refl
-          c.requires.enrolled;
+      enrolled = enrolled_stays c.args.wanted.now.chan.number c.args.wanted.now.sel c.args.k c.look_gate.ensures refl
+          refl refl c.requires.enrolled;
       has = key_after (step_acts c.look_gate.ensures refl)
           (c.requires.has (valid_in_set c.args.stage c.args.k.serial valid));
     }

@@ -13,7 +13,7 @@ make_claimed-requires-clause-may c = may_enrol_stays c.raise_keys.ensures refl r
 
 pub make_claimed-requires-clause-claimed : goal.make_claimed-requires-clause-claimed
 make_claimed-requires-clause-claimed c =
-    let claimed : HasClaimed c.args.w.now c.args.p.now c.args.me c.args.wanted.now.chan c.args.wanted.now.sel
+    let claimed : HasClaimed c.args.w.now c.args.p.now c.args.me c.args.wanted.now.chan.number c.args.wanted.now.sel
     c.in-Some.k = search rules in
     claimed_stays c.raise_keys.ensures refl refl refl claimed
 

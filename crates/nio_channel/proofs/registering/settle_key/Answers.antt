@@ -1,4 +1,5 @@
-use Rattle.std.proofs.Common.{◌≡◌, true, false, Ok, refl, rules}
+use Rattle.std.proofs.Common.{◌≡◌, true, not, Ok, refl, rules}
+use Rattle.nio_history.specs.Sets.{is_open_channel}
 use Rattle.nio_steps.proofs.CallLaws.{returned, left_ask, left_after}
 use Rattle.nio_steps.specs.Names.{key}
 use Rattle.nio_steps.specs.Plan.{reply, ◌>>◌, when}
@@ -10,16 +11,16 @@ use Rattle.nio_channel.proofs.Held.{hold_stays}
 use Rattle.nio_channel.proofs.Registered.{settled_open, settled_cancelled}
 use Rattle.nio_channel.proofs.registering.settle_key.Goals as goal
 
-pub returns-then-not-found-clause-held : goal.returns-then-not-found-clause-held
-returns-then-not-found-clause-held c = hold_stays c.look_channel-found.ensures refl refl c.requires.known.unblocked.held
+pub returns-then-is_open-clause-held : goal.returns-then-is_open-clause-held
+returns-then-is_open-clause-held c = hold_stays c.look_channel-found.ensures refl refl c.requires.known.unblocked.held
 
-pub returns-then-not-found-clause-registered : goal.returns-then-not-found-clause-registered
-returns-then-not-found-clause-registered c =
-    let unclosed : c.look_channel-found.result.closed ≡ false = search rules in
-    settled_open c.look_channel-found.ensures unclosed c.requires
+pub returns-then-is_open-clause-registered : goal.returns-then-is_open-clause-registered
+returns-then-is_open-clause-registered c =
+    let opens : is_open_channel c.look_channel-found.result c.args.wanted.now.chan.serial ≡ true = search rules in
+    settled_open c.look_channel-found.ensures opens c.requires
 
-pub returns-then-not-found-clause-pinned : goal.returns-then-not-found-clause-pinned
-returns-then-not-found-clause-pinned c = stays_pinned c.look_channel-found.ensures refl refl c.requires.known.pinned
+pub returns-then-is_open-clause-pinned : goal.returns-then-is_open-clause-pinned
+returns-then-is_open-clause-pinned c = stays_pinned c.look_channel-found.ensures refl refl c.requires.known.pinned
 
 pub cancel_key-requires-clause-claimed : goal.cancel_key-requires-clause-claimed
 cancel_key-requires-clause-claimed c =
@@ -31,10 +32,11 @@ cancel_key-requires-clause-pinned c =
 
 pub returns-clause-call : goal.returns-clause-call
 returns-clause-call c =
-    let closed : c.look_channel-found.result.closed ≡ true = search rules in
+    let unopen : not (is_open_channel c.look_channel-found.result c.args.wanted.now.chan.serial)
+    ≡ true = search rules in
     returned (left_ask _ (step_acts c.look_channel-found.ensures refl)
     (left_choice (λ b. when b (cancel_key c.args.wanted.now.sel c.args.k.index)
-    >> reply (Ok (key c.args.wanted.now.sel c.args.k))) closed
+    >> reply (Ok (key c.args.wanted.now.sel c.args.k))) unopen
     (left_ask _ (step_acts c.cancel_key.ensures refl) (left_after (step_acts c.cancel_key.ensures refl)))))
 
 pub returns-clause-held : goal.returns-clause-held

@@ -1,6 +1,6 @@
 use Rattle.std.proofs.Common.{Option, ◌≡◌, ◌∙◌, ap, subst, sym}
 use Rattle.std.specs.Option.{ok_or}
-use Rattle.nio_datagram.specs.declared.serving.PacketPlan.{PacketPlan}
+use Rattle.nio_relay.specs.declared.plan.PacketPlan.{PacketPlan}
 use Rattle.nio_command.specs.Texts.{packet_texts_of}
 use Rattle.nio_command.specs.Values.{PacketValues}
 use Rattle.nio_command.specs.Words.{AsksForPackets}

@@ -1,6 +1,9 @@
-use Rattle.nio_history.proofs.Holds.{mode_stays, enrolled_stays, found_enrolled_stays, outside_stays, found_clear_stays}
-use Rattle.nio_history.proofs.Holds.{clear_is_true}
+use Rattle.nio_history.proofs.Holds.{channel_stays, mode_stays, enrolled_stays, found_enrolled_stays, outside_stays}
+use Rattle.nio_history.proofs.Holds.{found_clear_stays, clear_is_true}
 use Rattle.nio_history.proofs.laws.hold_law.Goals as goal
+
+pub returns-clause-channel : goal.returns-clause-channel
+returns-clause-channel c = channel_stays
 
 pub returns-clause-mode : goal.returns-clause-mode
 returns-clause-mode c = mode_stays

@@ -8,7 +8,7 @@ use Rattle.nio_command.specs.declared.way.ProxyWay.TheVariants.{Many}
 use Rattle.nio_reactor.specs.Many.{meanings}
 use Rattle.nio_run.specs.Load.{DoesLoad}
 use Rattle.nio_run.specs.Many.{DoesMany}
-use Rattle.nio_datagram.specs.declared.serving.PacketPlan.{PacketPlan}
+use Rattle.nio_relay.specs.declared.plan.PacketPlan.{PacketPlan}
 use Rattle.nio_run.specs.Packets.{DoesPackets}
 use Rattle.nio_run.specs.Proxy.{AcceptsInOrder, DoesProxy, HasOneNet}
 use Rattle.nio_run.specs.Relays.{EndsRelay}

@@ -3,7 +3,7 @@ use Rattle.nio_steps.proofs.CallLaws.{returned, left_ask, left_then, left_else, 
 use Rattle.nio_steps.specs.Plan.{reply}
 use Rattle.nio_words.proofs.Views.{step_acts}
 use Rattle.nio_select.proofs.Begun.{begun_stays, stage_now, may_remove_now}
-use Rattle.nio_select.specs.Lists.{found_in}
+use Rattle.nio_select.specs.Lists.{keys_of}
 use Rattle.nio_select.proofs.beginning.look_over.Goals as goal
 
 pub remove_cancelled-requires-clause-begun : goal.remove_cancelled-requires-clause-begun
@@ -24,7 +24,7 @@ pub returns-then-is_in_cancelled_set-clause-call : goal.returns-then-is_in_cance
 returns-then-is_in_cancelled_set-clause-call c =
     returned (left_ask _ (step_acts c.look_key-stage.ensures refl)
     (left_then _ _ _ (sym c.if-is_in_cancelled_set.ensures)
-    (ran_then (λ _. reply (found_in c.args.found.now)) c.remove_cancelled.ensures.call
+    (ran_then (λ _. reply (keys_of c.args.slots.now.items)) c.remove_cancelled.ensures.call
     (left_after c.remove_cancelled.ensures.call.acts))))
 
 pub returns-then-is_valid-clause-call : goal.returns-then-is_valid-clause-call
@@ -33,8 +33,5 @@ returns-then-is_valid-clause-call c =
     (left_else _ _ _ (sym c.if-is_in_cancelled_set.ensures)
     (left_then _ _ _ (sym c.if-is_valid.ensures) (left_of_call c.look_valid.ensures.call))))
 
-pub returns-then-not-stage-clause-begun : goal.returns-then-not-stage-clause-begun
-returns-then-not-stage-clause-begun c = begun_stays c.look_key-stage.ensures refl refl c.requires.begun
-
-pub returns-else-not-stage-clause-begun : goal.returns-else-not-stage-clause-begun
-returns-else-not-stage-clause-begun c = begun_stays c.look_key-stage.ensures refl refl c.requires.begun
+pub returns-else-is_valid-clause-begun : goal.returns-else-is_valid-clause-begun
+returns-else-is_valid-clause-begun c = begun_stays c.look_key-stage.ensures refl refl c.requires.begun

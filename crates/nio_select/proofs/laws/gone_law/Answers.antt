@@ -1,5 +1,11 @@
-use Rattle.nio_select.proofs.Steps.{keys_are_gone}
+use Rattle.nio_select.proofs.Steps.{keys_are_gone, keys_are_gone_at_end, ends_find_high}
 use Rattle.nio_select.proofs.laws.gone_law.Goals as goal
 
-pub returns : goal.returns
-returns c = keys_are_gone c.begin_law.ensures.cancelled
+pub returns-clause-begun : goal.returns-clause-begun
+returns-clause-begun c = keys_are_gone c.begin_law.ensures.cancelled
+
+pub returns-clause-ended : goal.returns-clause-ended
+returns-clause-ended c = keys_are_gone_at_end c.told_law.ensures.cancelled
+
+pub returns-clause-finds : goal.returns-clause-finds
+returns-clause-finds c = ends_find_high

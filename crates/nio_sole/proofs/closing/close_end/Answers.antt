@@ -4,7 +4,7 @@ use Rattle.nio_base.specs.declared.numbers.SelNo.{SelNo}
 use Rattle.nio_history.specs.Histories.{mine}
 use Rattle.nio_language.specs.declared.reply.Reply.TheVariants as reply
 use Rattle.nio_plain.specs.Seq.Selections.{is_caller}
-use Rattle.nio_select.specs.InProgress.{Closes}
+use Rattle.nio_select.specs.InProgress.{HasShut}
 use Rattle.nio_serial.specs.Lines.{call_plan, refused, after_finish}
 use Rattle.nio_serial.specs.Replies.{finish_reply}
 use Rattle.nio_sole.proofs.Asking.{makes_ran}
@@ -45,7 +45,7 @@ try_finish-requires-clause-closing c =
     let same : c.in-Some.closing ≡ s = its_selector (c.requires.places.closes s.0 _ c.in-Some.ensures.taken.was) in
     let own : is_caller c.args.me (closings_of d.closings.items s.0)
     ≡ true = own_closing c.args.me _ c.in-Some.ensures.taken.was in
-    subst (Closes (view w d.pass) c.args.me) (sym same) (record {
+    subst (HasShut (view w d.pass) c.args.me) (sym same) (record {
       inside = c.requires.ask.named.inside;
       closing = closing_had _ s
           (∥∥₁_map c.requires.made

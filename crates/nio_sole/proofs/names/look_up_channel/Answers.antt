@@ -13,17 +13,17 @@ pub returns-in-Some : goal.returns-in-Some
 returns-in-Some c = record {
   call = λ now plan. left_bind (if_found now reply.NoChannel plan) (left_of_call c.in-Some.ensures.call);
   ready = c.in-Some.ensures.ready;
-  unpinned = no_pin_after (λ acts run. pins_are_given_back.find_channel _ _ acts _ run) c.in-Some.ensures.call
+  unpinned = no_pin_after (λ acts run. pins_are_given_back.find_channel _ _ _ acts _ run) c.in-Some.ensures.call
       c.requires.unpinned;
   named = subst (HasChannel (view c.args.w.now c.find_channel.new.p))
-      (channel_found _ _ _ _ c.in-Some.ensures.call.shape) c.in-Some.ensures.found;
+      (channel_found _ _ _ _ _ c.in-Some.ensures.call.shape) c.in-Some.ensures.found;
 }
 
 pub returns-in-None : goal.returns-in-None
 returns-in-None c = record {
   call = λ now plan. left_bind (if_found now reply.NoChannel plan) (left_of_call c.in-None.ensures.call);
   ready = c.in-None.ensures.ready;
-  unpinned = no_pin_after (λ acts run. pins_are_given_back.find_channel _ _ acts _ run) c.in-None.ensures.call
+  unpinned = no_pin_after (λ acts run. pins_are_given_back.find_channel _ _ _ acts _ run) c.in-None.ensures.call
       c.requires.unpinned;
   named = tt;
 }

@@ -1,6 +1,6 @@
 use Rattle.nio_steps.proofs.GoneLaws.{cancelled_keys_go}
 use Rattle.nio_steps.proofs.LookedLaws.{looks_at_valid_keys}
-use Rattle.nio_steps.proofs.OrderLaws.{lists_in_order}
+use Rattle.nio_steps.proofs.OrderLaws.{looks_in_order}
 use Rattle.nio_steps.proofs.SelectionLaws.{begins_selection}
 use Rattle.nio_steps.proofs.laws.begin_law.Goals as goal
 
@@ -8,7 +8,7 @@ pub returns : goal.returns
 returns c =
     record {
       begins = begins_selection;
-      in_order = lists_in_order;
+      in_order = looks_in_order;
       valid = looks_at_valid_keys;
       cancelled = cancelled_keys_go;
     }

@@ -1,3 +1,4 @@
+use Rattle.nio_steps.proofs.GoneLaws.{cancelled_keys_go_at_end}
 use Rattle.nio_steps.proofs.MarkedLaws.{marks_looked_keys}
 use Rattle.nio_steps.proofs.SelectionLaws.{again_goes_on, counts_selection}
 use Rattle.nio_steps.proofs.ToldLaws.{marks_only_as_told}
@@ -10,4 +11,5 @@ returns c =
       looked = marks_looked_keys;
       goes_on = again_goes_on;
       counts = counts_selection;
+      cancelled = cancelled_keys_go_at_end;
     }

@@ -1,11 +1,11 @@
 use Rattle.std.proofs.Common.{◌≡◌, sym, subst, ◌∙◌}
-use Rattle.nio_base.specs.declared.numbers.ChanNo.{ChanNo}
+use Rattle.nio_base.specs.declared.numbers.ChanId.{ChanId}
 use Rattle.nio_history.specs.PassViews.{PassView, HasChannel}
 use Rattle.nio_table_tests.proofs.caller.a_caller_reads_what_it_wrote.Goals as goal
 
 -- an end of a pipe keeps its channel
-along : {pass : PassView} {old new : ChanNo} → new ≡ old → HasChannel pass old → HasChannel pass new
-along {pass = pass} same has = subst (λ (chan : ChanNo). HasChannel pass chan) (sym same) has
+along : {pass : PassView} {old new : ChanId} → new ≡ old → HasChannel pass old → HasChannel pass new
+along {pass = pass} same has = subst (λ (chan : ChanId). HasChannel pass chan) (sym same) has
 
 pub read-requires : goal.read-requires
 read-requires g c =

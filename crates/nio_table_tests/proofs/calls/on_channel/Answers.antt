@@ -42,3 +42,8 @@ pub returns-in-Hold : goal.returns-in-Hold
 returns-in-Hold c =
     idle_after_other (step_acts c.try_hold_bit.ensures refl) c.try_hold_bit.ensures.pass
     (no_pin_stays (step_acts c.try_hold_bit.ensures refl) refl c.requires.idle.one_unpinned) c.requires.idle
+
+pub returns-in-Reopen : goal.returns-in-Reopen
+returns-in-Reopen c =
+    idle_call (pins_are_given_back.reopen_channel _ _) c.reopen_channel.ensures.call c.reopen_channel.ensures.ready
+    c.requires.idle

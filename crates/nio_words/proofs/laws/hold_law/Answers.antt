@@ -1,6 +1,9 @@
-use Rattle.nio_words.proofs.GoingOn.{mode_stands, enrolled_stands, found_enrolled_stands, outside_stands}
-use Rattle.nio_words.proofs.GoingOn.{found_clear_stands}
+use Rattle.nio_words.proofs.GoingOn.{channel_stands, mode_stands, enrolled_stands, found_enrolled_stands}
+use Rattle.nio_words.proofs.GoingOn.{outside_stands, found_clear_stands}
 use Rattle.nio_words.proofs.laws.hold_law.Goals as goal
+
+pub returns-clause-channel : goal.returns-clause-channel
+returns-clause-channel c = channel_stands
 
 pub returns-clause-mode : goal.returns-clause-mode
 returns-clause-mode c = mode_stands

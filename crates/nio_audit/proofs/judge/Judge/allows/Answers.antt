@@ -11,3 +11,6 @@ returns-in-SetMode c = rw c.in-SetMode.is (c.may_set_mode.ensures c.in-SetMode.f
 
 pub returns-in-ClaimAgain : goal.returns-in-ClaimAgain
 returns-in-ClaimAgain c = rw c.in-ClaimAgain.is (c.may_claim_again.ensures c.in-ClaimAgain.field-4)
+
+pub returns-in-Reopen : goal.returns-in-Reopen
+returns-in-Reopen c = rw c.in-Reopen.is (c.may_reopen.ensures c.in-Reopen.field-2)

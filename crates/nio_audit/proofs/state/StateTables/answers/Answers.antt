@@ -6,3 +6,6 @@ returns-in-ClaimAgain c = λ due. rw c.in-ClaimAgain.is (flag_iff _ _ _ (c.is_pi
 
 pub returns-in-LookFree : goal.returns-in-LookFree
 returns-in-LookFree c = λ due. rw c.in-LookFree.is (word_iff _ _ _ c.free_word.ensures)
+
+pub returns-in-Reopen : goal.returns-in-Reopen
+returns-in-Reopen c = λ due. rw c.in-Reopen.is (flag_iff _ _ _ c.has_another.ensures)

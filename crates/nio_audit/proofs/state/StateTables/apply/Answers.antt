@@ -10,6 +10,11 @@ claim_again-requires c =
     subst (λ (a : Act). IsBounded (state_with c.args.self.now (λ _ _. false)) (number_of a)) c.in-ClaimAgain.is
     (c.requires (λ _ _. false))
 
+pub reopen-requires : goal.reopen-requires
+reopen-requires c =
+    subst (λ (a : Act). IsBounded (state_with c.args.self.now (λ _ _. false)) (number_of a)) c.in-Reopen.is
+    (c.requires (λ _ _. false))
+
 pub returns-in-MakeChannel : goal.returns-in-MakeChannel
 returns-in-MakeChannel c = rw c.in-MakeChannel.is (c.make_channel.ensures c.args.me)
 
@@ -36,3 +41,6 @@ returns-in-PutFree c = rw c.in-PutFree.is (c.put_free.ensures c.args.me)
 
 pub returns-in-TakeFree : goal.returns-in-TakeFree
 returns-in-TakeFree c = rw c.in-TakeFree.is c.take_free.ensures
+
+pub returns-in-Reopen : goal.returns-in-Reopen
+returns-in-Reopen c = rw c.in-Reopen.is (c.reopen.ensures c.args.me)

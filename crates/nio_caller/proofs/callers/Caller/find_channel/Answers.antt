@@ -4,7 +4,7 @@ use Rattle.nio_caller.proofs.callers.Caller.find_channel.Goals as goal
 
 pub invariant_of-self : goal.invariant_of-self
 invariant_of-self c =
-    may_call_after (pins_are_given_back.find_channel _ _) c.find_channel.ensures.call c.find_channel.ensures.ready
+    may_call_after (pins_are_given_back.find_channel _ _ _) c.find_channel.ensures.call c.find_channel.ensures.ready
     c.self.invariant
 
 pub returns-clause-still : goal.returns-clause-still

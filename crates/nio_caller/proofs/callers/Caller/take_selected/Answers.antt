@@ -1,5 +1,5 @@
 use Rattle.std.proofs.Common.{Some, refl, subst}
-use Rattle.nio_base.specs.declared.numbers.ChanNo.{ChanNo}
+use Rattle.nio_base.specs.declared.numbers.ChanId.{ChanId}
 use Rattle.nio_history.specs.PassViews.{HasChannel}
 use Rattle.nio_poller.proofs.Trying.{then_nothing}
 use Rattle.nio_steps.proofs.WaitingLaws.{then_call}
@@ -40,6 +40,6 @@ returns-clause-still c =
 pub returns-clause-channel : goal.returns-clause-channel
 returns-clause-channel c =
     let its = c.in_ok-found.ensures in
-    let is = found_is c.args.chan.0 c.in_ok-found.found _ _ its.call.shape in
-    subst (λ (x : ChanNo). HasChannel (sees c.unselect.new.self) x) is
+    let is = found_is c.args.chan.number.0 c.args.chan.serial c.in_ok-found.found _ _ its.call.shape in
+    subst (λ (x : ChanId). HasChannel (sees c.unselect.new.self) x) is
     (c.unselect.ensures.still.channels _ (c.key_for.ensures.still.channels _ its.found))

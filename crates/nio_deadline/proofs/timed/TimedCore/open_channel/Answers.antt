@@ -1,10 +1,12 @@
-use Rattle.std.proofs.Common.{ap, deque_len, deque_capacity, [], ◌∷◌, ◌++◌, length}
-use Rattle.nio_group.specs.Group.{Group, new_channel}
-use Rattle.nio_group.specs.Refusals.{open_refusal}
+use Rattle.std.proofs.Common.{◌≡◌, ap, sym, ◌∙◌, refl, deque_len, deque_capacity, Result, Ok, Err, OnErr}
+use Rattle.nio_base.specs.declared.numbers.GChan.{GChan}
+use Rattle.nio_group.specs.declared.refusal.StartError.{StartError}
+use Rattle.nio_group.specs.Group.{Group}
+use Rattle.nio_group.proofs.MakingLemmas.{refused-open}
 use Rattle.nio_group.specs.Run.{open_channel}
 use Rattle.nio_group.specs.Steps.{after_open}
 use Rattle.nio_deadline.specs.Kept.{timed_of}
-use Rattle.nio_deadline.proofs.TimedLemmas.{all-stay, kept-call, refused-keeps}
+use Rattle.nio_deadline.proofs.TimedLemmas.{all-stay, kept-call}
 use Rattle.nio_deadline.proofs.PendingLemmas.{stays-open}
 use Rattle.nio_deadline.proofs.QueueLemmas.{keeps-open}
 use Rattle.nio_deadline.proofs.timed.TimedCore.open_channel.Goals as goal
@@ -32,7 +34,12 @@ pub returns-clause-refused : goal.returns-clause-refused
 returns-clause-refused c =
     let i = c.self.inside in
     let g : Group = i.core in
-    refused-keeps (open_refusal g) (record { 0 = length g.channels }) c.open_channel.result
-    (timed_of i.core i.deadlines i.timed_out.items i.kinds.items)
-    (record g { channels = g.channels ++ new_channel c.args.kind ∷ [] }) c.open_channel.ensures.answer
-    c.open_channel.ensures.after c.self.view_is
+    by_answer c.open_channel.result
+    (λ e is. ap (λ (h : Group). timed_of h i.deadlines i.timed_out.items i.kinds.items)
+    (c.open_channel.ensures.after ∙ refused-open g c.args.kind e (sym c.open_channel.ensures.answer ∙ is))
+    ∙ c.self.view_is)
+  where
+    by_answer : {P : Type 0} (answer : Result GChan StartError) → ((e : StartError) → answer ≡ Err e → P)
+        → OnErr answer P
+    by_answer (Ok chan) holds = tt
+    by_answer (Err e) holds = holds e refl

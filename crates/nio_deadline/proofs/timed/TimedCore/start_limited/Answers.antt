@@ -1,6 +1,6 @@
 use Rattle.std.proofs.Common.{◌≡◌, ◌<◌, ◌≤◌, ◌+◌, List, true, ap, refl, ◌∙◌, arith, length, deque_len, deque_capacity}
 use Rattle.nio_group.specs.Flight.{accepted}
-use Rattle.nio_group.specs.Group.{Group, channel_at}
+use Rattle.nio_group.specs.Group.{Group, IsMade, is_open}
 use Rattle.nio_group.specs.Refusals.{start_refusal}
 use Rattle.nio_group.specs.Steps.{after_start}
 use Rattle.nio_deadline.specs.Deadlines.{Deadline, with_deadline, without}
@@ -21,9 +21,9 @@ pub invariant_of-self-in-Ok : goal.invariant_of-self-in-Ok
 invariant_of-self-in-Ok c =
     let i = c.self.inside in
     let g : Group = i.core in
-    let within : c.args.chan.0 < length g.channels = rw (← c.self.view_is) at c.requires.made in
-    let is_open : (channel_at g c.args.chan.0).is_open ≡ true = rw (← c.self.view_is) at c.requires.is_open in
-    let free = ok-free (start_refusal g c.args.chan.0 c.args.kind) (record { 0 = accepted g.flight }) c.in-Ok.op
+    let within : IsMade g c.args.chan = rw (← c.self.view_is) at c.requires.made in
+    let opened : is_open g c.args.chan ≡ true = rw (← c.self.view_is) at c.requires.is_open in
+    let free = ok-free (start_refusal g c.args.chan c.args.kind) (record { 0 = accepted g.flight }) c.in-Ok.op
     c.in-Ok.ensures.answer in
     let fits : deque_len i.timed_out + (length i.deadlines + 1) ≤ deque_capacity c.reserve.new.self = omega
     (arith, c.in_ok-reserve.ensures.ok, c.reserve.ensures.len, c.len.ensures.is) in
@@ -31,7 +31,7 @@ invariant_of-self-in-Ok c =
     (kept-limited (timed_of g i.deadlines i.timed_out.items i.kinds.items) c.args.chan c.args.kind c.args.len
     c.args.at
     (deque_len i.timed_out) (deque_len c.reserve.new.self) (deque_capacity i.timed_out)
-    (deque_capacity c.reserve.new.self) c.self.invariant within free is_open c.requires.some c.requires.limited
+    (deque_capacity c.reserve.new.self) c.self.invariant within free opened c.requires.some c.requires.limited
     c.reserve.ensures.len fits)
 
 pub returns-in-Ok-clause-after : goal.returns-in-Ok-clause-after
@@ -39,16 +39,16 @@ returns-in-Ok-clause-after c = λ apart.
     let i = c.self.inside in
     let g : Group = i.core in
     let t : Timed = timed_of g i.deadlines i.timed_out.items i.kinds.items in
-    let is_open : (channel_at g c.args.chan.0).is_open ≡ true = rw (← c.self.view_is) at c.requires.is_open in
-    let free = ok-free (start_refusal g c.args.chan.0 c.args.kind) (record { 0 = accepted g.flight }) c.in-Ok.op
+    let opened : is_open g c.args.chan ≡ true = rw (← c.self.view_is) at c.requires.is_open in
+    let free = ok-free (start_refusal g c.args.chan c.args.kind) (record { 0 = accepted g.flight }) c.in-Ok.op
     c.in-Ok.ensures.answer in
     let made : timed_of c.start.new.self c.insert.new.self c.reserve.new.self.items i.kinds.items
     ≡ timed_of (after_start g c.args.chan c.args.kind c.args.len)
-    (with_deadline (record { at = c.args.at; op = accepted g.flight; chan = c.args.chan.0; kind = c.args.kind })
+    (with_deadline (record { at = c.args.at; op = accepted g.flight; chan = c.args.chan; kind = c.args.kind })
     i.deadlines) i.timed_out.items i.kinds.items =
     rw (c.start.ensures.after, c.in_ok-insert.ensures.ok, c.accepted-op.ensures, c.reserve.ensures.items) refl in
     made
-    ∙ with-limit t c.args.chan c.args.kind c.args.len c.args.at c.self.invariant.lawful free is_open c.requires.some
+    ∙ with-limit t c.args.chan c.args.kind c.args.len c.args.at c.self.invariant.lawful free opened c.requires.some
     c.requires.limited
     ∙ ap
     (λ (x : Timed).
@@ -60,7 +60,7 @@ pub invariant_of-self-in-Err : goal.invariant_of-self-in-Err
 invariant_of-self-in-Err c =
     let i = c.self.inside in
     let g : Group = i.core in
-    let refused = err-refused (start_refusal g c.args.chan.0 c.args.kind) (record { 0 = accepted g.flight })
+    let refused = err-refused (start_refusal g c.args.chan c.args.kind) (record { 0 = accepted g.flight })
     c.in-Err.refused c.in-Err.ensures.answer in
     let group = c.start.ensures.after ∙ refused-group g c.args.chan c.args.kind c.args.len c.in-Err.refused refused in
     let above : IsAboveAll c.accepted-op.result i.deadlines =
@@ -70,7 +70,7 @@ invariant_of-self-in-Err c =
     ∙ without-inserted (record {
       at = c.args.at;
       op = c.accepted-op.result;
-      chan = c.args.chan.0;
+      chan = c.args.chan;
       kind = c.args.kind;
     }) i.deadlines above in
     rw (group, gone, c.reserve.ensures.items)
@@ -83,7 +83,7 @@ returns-in-Err-clause-after c = λ apart.
     let i = c.self.inside in
     let g : Group = i.core in
     let t : Timed = timed_of g i.deadlines i.timed_out.items i.kinds.items in
-    let refused = err-refused (start_refusal g c.args.chan.0 c.args.kind) (record { 0 = accepted g.flight })
+    let refused = err-refused (start_refusal g c.args.chan c.args.kind) (record { 0 = accepted g.flight })
     c.in-Err.refused c.in-Err.ensures.answer in
     let group = c.start.ensures.after ∙ refused-group g c.args.chan c.args.kind c.args.len c.in-Err.refused refused in
     let above : IsAboveAll c.accepted-op.result i.deadlines =
@@ -93,7 +93,7 @@ returns-in-Err-clause-after c = λ apart.
     ∙ without-inserted (record {
       at = c.args.at;
       op = c.accepted-op.result;
-      chan = c.args.chan.0;
+      chan = c.args.chan;
       kind = c.args.kind;
     }) i.deadlines above in
     let made : timed_of c.start.new.self c.remove.new.self c.reserve.new.self.items i.kinds.items ≡ t =
@@ -111,7 +111,7 @@ returns-in-Err-clause-refused c =
     let i = c.self.inside in
     let g : Group = i.core in
     let t : Timed = timed_of g i.deadlines i.timed_out.items i.kinds.items in
-    let refused = err-refused (start_refusal g c.args.chan.0 c.args.kind) (record { 0 = accepted g.flight })
+    let refused = err-refused (start_refusal g c.args.chan c.args.kind) (record { 0 = accepted g.flight })
     c.in-Err.refused c.in-Err.ensures.answer in
     let group = c.start.ensures.after ∙ refused-group g c.args.chan c.args.kind c.args.len c.in-Err.refused refused in
     let above : IsAboveAll c.accepted-op.result i.deadlines =
@@ -121,7 +121,7 @@ returns-in-Err-clause-refused c =
     ∙ without-inserted (record {
       at = c.args.at;
       op = c.accepted-op.result;
-      chan = c.args.chan.0;
+      chan = c.args.chan;
       kind = c.args.kind;
     }) i.deadlines above in
     let made : timed_of c.start.new.self c.remove.new.self c.reserve.new.self.items i.kinds.items ≡ t =

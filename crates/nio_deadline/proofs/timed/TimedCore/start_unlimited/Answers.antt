@@ -1,5 +1,5 @@
 use Rattle.std.proofs.Common.{ap, deque_len, deque_capacity, ◌<◌, length, List}
-use Rattle.nio_group.specs.Group.{Group}
+use Rattle.nio_group.specs.Group.{Group, IsMade}
 use Rattle.nio_group.specs.Run as run
 use Rattle.nio_deadline.specs.Deadlines.{Deadline}
 use Rattle.nio_deadline.specs.Kept.{timed_of}
@@ -15,7 +15,7 @@ pub invariant_of-self : goal.invariant_of-self
 invariant_of-self c =
     let i = c.self.inside in
     let g : Group = i.core in
-    let within : c.args.chan.0 < length g.channels = rw (← c.self.view_is) at c.requires in
+    let within : IsMade g c.args.chan = rw (← c.self.view_is) at c.requires in
     rw c.start.ensures.after
     (kept-call (timed_of g i.deadlines i.timed_out.items i.kinds.items) (run.start c.args.chan c.args.kind c.args.len) _
     (deque_len i.timed_out) (deque_capacity i.timed_out) c.self.invariant within
@@ -38,6 +38,6 @@ pub returns-clause-refused : goal.returns-clause-refused
 returns-clause-refused c =
     let i = c.self.inside in
     let g : Group = i.core in
-    refused-keeps (start_refusal g c.args.chan.0 c.args.kind) (record { 0 = accepted g.flight }) c.start.result
+    refused-keeps (start_refusal g c.args.chan c.args.kind) (record { 0 = accepted g.flight }) c.start.result
     (timed_of i.core i.deadlines i.timed_out.items i.kinds.items)
     (started g c.args.chan c.args.kind c.args.len) c.start.ensures.answer c.start.ensures.after c.self.view_is

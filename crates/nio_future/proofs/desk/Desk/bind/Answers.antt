@@ -1,6 +1,6 @@
 use Rattle.std.proofs.Common.{true, refl, ◌<◌, length}
 use Rattle.nio_group.specs.declared.channel.Endpoint.TheVariants.{Listener}
-use Rattle.nio_group.specs.Group.{Group, channel_at}
+use Rattle.nio_group.specs.Group.{Group, IsMade, channel_at, is_open}
 use Rattle.nio_group.specs.Refusals.{bind_refusal}
 use Rattle.nio_group.specs.Steps.{with_endpoint}
 use Rattle.nio_group.specs.Run.{bind}
@@ -12,7 +12,7 @@ use Rattle.nio_future.proofs.desk.Desk.bind.Goals.{After-settle}
 pub settle-requires : goal.settle-requires
 settle-requires c =
     let i = c.self.inside in
-    let made : c.args.chan.0 < length i.core.channels = rw (← c.self.view_is) at c.requires in
+    let made : IsMade i.core c.args.chan = rw (← c.self.view_is) at c.requires in
     settles-call (desk_of i.core i.out i.source.id) (bind c.args.chan) _ c.self.invariant made refl
     c.bind-answer.ensures.after
 
@@ -21,7 +21,7 @@ leaves : (c : After-settle) → IsCalled c.args.self.now
     (desk_of c.settle.new.core c.settle.new.out c.self.inside.source.id) (bind c.args.chan)
 leaves c =
     let i = c.self.inside in
-    let made : c.args.chan.0 < length i.core.channels = rw (← c.self.view_is) at c.requires in
+    let made : IsMade i.core c.args.chan = rw (← c.self.view_is) at c.requires in
     called (desk_of i.core i.out i.source.id) _ _ (bind c.args.chan) _ c.self.view_is
     c.self.invariant made refl c.bind-answer.ensures.after c.settle.ensures.settles
 
@@ -40,7 +40,7 @@ returns-clause-refused c =
     let g : Group = i.core in
     let call = leaves (goal.at.returns-clause-refused c).After-settle in
     refused-keeps
-    (bind_refusal (channel_at g c.args.chan.0).is_open (channel_at g c.args.chan.0).endpoint) tt c.bind-answer.result
+    (bind_refusal (is_open g c.args.chan) (channel_at g c.args.chan.number).endpoint) tt c.bind-answer.result
     (desk_of i.core i.out i.source.id) _ _
-    (with_endpoint g c.args.chan.0 (Listener true)) (bind c.args.chan)
+    (with_endpoint g c.args.chan.number (Listener true)) (bind c.args.chan)
     c.bind-answer.ensures.answer refl c.self.invariant c.self.view_is call.after

@@ -1,5 +1,6 @@
 use Rattle.std.proofs.Common.{ap, ◌∙◌, subst, length, ◌≤◌, sym}
 use Rattle.nio_group.specs.Flight.{op_at}
+use Rattle.nio_group.specs.Group.{StaysMade}
 use Rattle.nio_future.specs.Desk.{DeskState, is_out}
 use Rattle.nio_future.specs.Tickets.{KeepsTickets}
 use Rattle.nio_future.proofs.SettleLemmas.{desk_of}
@@ -26,7 +27,7 @@ returns-clause-after c = (left c).after
 
 pub returns-clause-made : goal.returns-clause-made
 returns-clause-made c =
-    subst (λ (x : DeskState). length c.args.self.now.group.channels ≤ length x.group.channels) (sym c.self.view_is)
+    subst (λ (x : DeskState). StaysMade c.args.self.now.group x.group) (sym c.self.view_is)
     c.close_for-pending.ensures.made
 
 pub returns-clause-tickets : goal.returns-clause-tickets

@@ -1,4 +1,5 @@
 use Rattle.std.proofs.Common.{refl, ◌<◌, length}
+use Rattle.nio_group.specs.Group.{IsMade}
 use Rattle.nio_group.specs.Run.{close_channel}
 use Rattle.nio_future.proofs.CallLemmas.{called, settles-call, IsCalled}
 use Rattle.nio_future.proofs.SettleLemmas.{desk_of}
@@ -8,7 +9,7 @@ use Rattle.nio_future.proofs.desk.Desk.close_channel.Goals.{After-settle}
 pub settle-requires : goal.settle-requires
 settle-requires c =
     let i = c.self.inside in
-    let made : c.args.chan.0 < length i.core.channels = rw (← c.self.view_is) at c.requires in
+    let made : IsMade i.core c.args.chan = rw (← c.self.view_is) at c.requires in
     settles-call (desk_of i.core i.out i.source.id) (close_channel c.args.chan) _ c.self.invariant made refl
     c.close_channel-answer.ensures.after
 
@@ -17,7 +18,7 @@ leaves : (c : After-settle) → IsCalled c.args.self.now
     (desk_of c.settle.new.core c.settle.new.out c.self.inside.source.id) (close_channel c.args.chan)
 leaves c =
     let i = c.self.inside in
-    let made : c.args.chan.0 < length i.core.channels = rw (← c.self.view_is) at c.requires in
+    let made : IsMade i.core c.args.chan = rw (← c.self.view_is) at c.requires in
     called (desk_of i.core i.out i.source.id) _ _ (close_channel c.args.chan) _ c.self.view_is
     c.self.invariant made refl c.close_channel-answer.ensures.after c.settle.ensures.settles
 

@@ -1,4 +1,5 @@
 use Rattle.std.proofs.Common.{◌≡◌, ◌<◌, length, sym, ◌∙◌, subst, true, Some}
+use Rattle.nio_group.specs.Group.{IsMade}
 use Rattle.nio_future.specs.Desk.{DeskState, held_at}
 use Rattle.nio_future.proofs.SettleLemmas.{desk_of}
 use Rattle.nio_future.proofs.TicketLemmas.{closes, pending-made, waiting-from, ClosesFor}
@@ -11,7 +12,7 @@ close_channel-requires c =
     let there : held_at d c.args.op.0 ≡ Some c.in-Some.held = sym c.get.ensures ∙ c.in-Some.is in
     let slot = waiting-from d c.args.op.0 c.in-Some.held c.self.invariant there c.in-Pending.is in
     let made = pending-made d c.args.op.0 c.in-Some.held c.self.invariant slot c.in-Pending.is in
-    subst (λ (x : DeskState). c.in-Some.held.chan.0 < length x.group.channels) c.self.view_is made.1
+    subst (λ (x : DeskState). IsMade x.group c.in-Some.held.chan) c.self.view_is made.1
 
 closed : (c : goal.After-close_channel) → ClosesFor c.args.self.now c.close_channel.new.self c.args.op.0 true
 closed c =

@@ -1,8 +1,6 @@
-use Rattle.std.proofs.Common.{length, ◌++◌, ◌∷◌, [], refl}
-use Rattle.nio_group.specs.Group.{Group, new_channel}
-use Rattle.nio_group.specs.Refusals.{open_refusal}
+use Rattle.std.proofs.Common.{refl}
 use Rattle.nio_group.specs.Run.{open_channel}
-use Rattle.nio_future.proofs.CallLemmas.{called, refused-keeps, opened-made, settles-call, IsCalled}
+use Rattle.nio_future.proofs.CallLemmas.{called, open-keeps, opened-made, settles-call, IsCalled}
 use Rattle.nio_future.proofs.SettleLemmas.{desk_of}
 use Rattle.nio_future.proofs.desk.Desk.open_channel.Goals as goal
 use Rattle.nio_future.proofs.desk.Desk.open_channel.Goals.{After-settle}
@@ -39,9 +37,6 @@ returns-clause-opened c =
 pub returns-clause-refused : goal.returns-clause-refused
 returns-clause-refused c =
     let i = c.self.inside in
-    let g : Group = i.core in
     let call = leaves (goal.at.returns-clause-refused c).After-settle in
-    refused-keeps (open_refusal g) (record { 0 = length g.channels }) c.open_channel-answer.result
-    (desk_of i.core i.out i.source.id) _ _
-    (record g { channels = g.channels ++ new_channel c.args.kind ∷ [] }) (open_channel c.args.kind)
-    c.open_channel-answer.ensures.answer refl c.self.invariant c.self.view_is call.after
+    open-keeps c.args.kind c.open_channel-answer.result (desk_of i.core i.out i.source.id) _ _
+    c.open_channel-answer.ensures.answer c.self.invariant c.self.view_is call.after

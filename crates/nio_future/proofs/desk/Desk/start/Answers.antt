@@ -1,4 +1,5 @@
 use Rattle.std.proofs.Common.{◌≡◌, ◌<◌, length, sym, ◌∙◌, ap, subst, ◌∷◌, [], Ok, Some}
+use Rattle.nio_group.specs.Group.{IsMade}
 use Rattle.nio_group.specs.declared.refusal.StartError.TheVariants.{FlightFull}
 use Rattle.nio_future.specs.Desk.{DeskState}
 use Rattle.nio_future.specs.Ticket.{Ticket}
@@ -13,7 +14,7 @@ never : (c : goal.After-from_residual) → ⊥
 never c =
     let i = c.self.inside in
     let d = desk_of i.core i.out i.source.id in
-    let free = free-of d _ c.args.chan.0 c.args.kind c.self.invariant c.self.view_is
+    let free = free-of d _ c.args.chan c.args.kind c.self.invariant c.self.view_is
     (sym c.start_refusal.ensures ∙ c.in_default.is) in
     not-refused d c.args.chan c.args.kind c.in_err-op.field-0.0 free.0 (sym c.in_err-op.was ∙ c.start.ensures.answer)
 
@@ -39,7 +40,7 @@ pub accept-requires-clause-room : goal.accept-requires-clause-room
 accept-requires-clause-room c =
     let i = c.self.inside in
     let d = desk_of i.core i.out i.source.id in
-    let free = free-of d _ c.args.chan.0 c.args.kind c.self.invariant c.self.view_is
+    let free = free-of d _ c.args.chan c.args.kind c.self.invariant c.self.view_is
     (sym c.start_refusal.ensures ∙ c.in_default.is) in
     free.1
 
@@ -47,17 +48,17 @@ pub accept-requires-clause-numbers : goal.accept-requires-clause-numbers
 accept-requires-clause-numbers c =
     let i = c.self.inside in
     let d = desk_of i.core i.out i.source.id in
-    let free = free-of d _ c.args.chan.0 c.args.kind c.self.invariant c.self.view_is
+    let free = free-of d _ c.args.chan c.args.kind c.self.invariant c.self.view_is
     (sym c.start_refusal.ensures ∙ c.in_default.is) in
-    numbers-left d c.args.chan.0 c.args.kind c.self.invariant free.0
+    numbers-left d c.args.chan c.args.kind c.self.invariant free.0
 
 pub settle-requires : goal.settle-requires
 settle-requires c =
     let i = c.self.inside in
     let d = desk_of i.core i.out i.source.id in
-    let free = free-of d _ c.args.chan.0 c.args.kind c.self.invariant c.self.view_is
+    let free = free-of d _ c.args.chan c.args.kind c.self.invariant c.self.view_is
     (sym c.start_refusal.ensures ∙ c.in_default.is) in
-    let made : c.args.chan.0 < length d.group.channels = rw (← c.self.view_is) at c.requires in
+    let made : IsMade d.group c.args.chan = rw (← c.self.view_is) at c.requires in
     settling-start d c.args.chan c.args.kind c.args.len _ _ c.self.invariant made free.0 free.1 c.start.ensures.after
     c.accept.ensures.accepts
 
@@ -66,7 +67,7 @@ begun : (c : goal.After-make) → IsStarted c.args.self.now
 begun c =
     let i = c.self.inside in
     let d = desk_of i.core i.out i.source.id in
-    let made : c.args.chan.0 < length d.group.channels = rw (← c.self.view_is) at c.requires in
+    let made : IsMade d.group c.args.chan = rw (← c.self.view_is) at c.requires in
     started-facts d _ _ c.args.chan c.args.kind c.args.len _ _ c.in_ok-op.op c.self.invariant c.self.view_is made
     (sym c.start_refusal.ensures ∙ c.in_default.is) (sym c.in_ok-op.was ∙ c.start.ensures.answer)
     c.start.ensures.after c.accept.ensures.accepts c.settle.ensures.settles
@@ -98,7 +99,7 @@ returns-clause-tickets c =
 pub returns-in-Some-clause-full : goal.returns-in-Some-clause-full
 returns-in-Some-clause-full c = λ is.
     let full : c.in-Some.refused ≡ FlightFull = cc in
-    full-cause c.args.self.now c.args.chan.0 c.args.kind
+    full-cause c.args.self.now c.args.chan c.args.kind
     (sym c.start_refusal.ensures ∙ c.in-Some.is ∙ ap Some full)
 
 pub returns-in_err-op-clause-given : goal.returns-in_err-op-clause-given

@@ -14,14 +14,15 @@ group_at c =
     group_of c.self.inside.flight c.self.inside.channels.items c.self.inside.shut c.self.inside.limits
 
 -- the refusal, by what is read of the channel
-refusal-is : (c : After-start) → start_refusal (group_at c) c.args.chan.0 c.args.kind
+refusal-is : (c : After-start) → start_refusal (group_at c) c.args.chan c.args.kind
     ≡ option_or c.start.result (limit_refusal (group_at c))
 refusal-is c =
-    let within = rw (← c.self.view_is) at c.requires in
+    let within = (rw (← c.self.view_is) at c.requires).0 in
     let going : is_terminated (group_at c) ≡ false = rw (← c.self.view_is) at
     (sym c.is_terminated.ensures ∙ c.if-is_terminated.false) in
-    start_refusal-read c.args.chan.0 c.args.kind c.index-channel.result.now c.index.result.now
-    c.is_some-pending.result c.start.result c.self.invariant within going c.index-channel.ensures c.index.ensures
+    start_refusal-read c.args.chan c.args.kind c.index-channel.result.now c.is_open.result c.index.result.now
+    c.is_some-pending.result c.start.result c.self.invariant within going c.index-channel.ensures
+    (rw (← c.self.view_is) at c.is_open.ensures) c.index.ensures
     (rw c.get.ensures at c.is_some-pending.ensures) c.start.ensures
 
 pub returns-in-Some : goal.returns-in-Some

@@ -1,5 +1,7 @@
-use Rattle.std.proofs.Common.{◌≡◌, ◌+◌, ◌≤◌, ◌&&◌, true, false, length, Ok, Err, sym, ◌∙◌, subst, rules, arith}
+use Rattle.std.proofs.Common.{◌≡◌, ℕ, [], ◌∷◌, ◌++◌, ap, ◌+◌, ◌≤◌, ◌&&◌, true, false, length, Ok, Err, sym, ◌∙◌, subst}
+use Rattle.std.proofs.Common.{rules}
 use Rattle.std.proofs.lemmas.Bool.{and_parts}
+use Rattle.std.proofs.lemmas.List.{append-nil}
 use Rattle.nio_history.proofs.PassViews.{channel_after}
 use Rattle.nio_steps.specs.Calls.{CallClause}
 use Rattle.nio_steps.specs.declared.refusal.PipeError.TheVariants.{AsynchronousClose}
@@ -7,12 +9,12 @@ use Rattle.nio_words.specs.Passes.{limits_of}
 use Rattle.nio_words.specs.Views.{view}
 use Rattle.nio_pipe.specs.Answers.{bytes_written, refusal_after, write_answer, write_waits}
 use Rattle.nio_pipe.specs.Calls.{WaitsToWrite}
-use Rattle.nio_pipe.specs.Ends.{HadNoPlace, TakesBytes, free}
+use Rattle.nio_pipe.specs.Ends.{HasTriedToWrite, TakesBytes, free, places, tries_to_write}
 use Rattle.nio_pipe.specs.declared.answers.PipeWrite.{PipeWrite}
 use Rattle.nio_pipe.specs.declared.answers.PipeWrite.TheVariants.{NotYet}
-use Rattle.nio_pipe.proofs.EndLemmas.{no_place_before, sink_looks_none, sink_looks_more}
+use Rattle.nio_pipe.proofs.EndLemmas.{no_place_before, no_place_left, sink_looks_none, sink_looks_more}
 use Rattle.nio_pipe.proofs.Waits.{tried_none, tried_more, tried_last, refused_ends, found_no_place, write_done}
-use Rattle.nio_pipe.proofs.Waits.{waited_before, write_refused, write_some}
+use Rattle.nio_pipe.proofs.Waits.{some_run, told_then, waited_before, write_refused, write_some}
 use Rattle.nio_pipe.proofs.sink.PipeSink.write.Goals as goal
 
 pub loop-init : goal.loop-init
@@ -20,7 +22,7 @@ loop-init g c = record {
   ready = c.requires.ready;
   ends = c.requires.ends;
   unpinned = c.requires.unpinned;
-  tried = tried_none _ _ _ c.requires.ready.pass.legal;
+  tried = tried_none _ _ (tries_to_write c.args.self.now) _ c.requires.ready.pass.legal;
   looks = sink_looks_none c.args.self.now;
   room = λ waited. absurd (cc waited);
   nothing = λ waited. absurd (cc waited);
@@ -34,9 +36,12 @@ loop-preserved g c =
     let takes : TakesBytes c.loop.self c.push-answer.new.self c.args.from.now 0 =
     subst (λ answer. TakesBytes c.loop.self c.push-answer.new.self c.args.from.now (bytes_written (Ok answer))) none
     c.push-answer.ensures.bytes in
-    let places : free c.loop.self ≤ free c.push-answer.new.self + 0 =
+    let fills : free c.loop.self ≤ free c.push-answer.new.self + 0 =
     subst (λ answer. free c.loop.self ≤ free c.push-answer.new.self + bytes_written (Ok answer)) none
     c.push-answer.ensures.places in
+    let looked : places c.loop.self ≤ places c.push-answer.new.self + 0 =
+    subst (λ answer. places c.loop.self ≤ places c.push-answer.new.self + bytes_written (Ok answer)) none
+    c.push-answer.ensures.looked in
     let answers : NotYet ≡ write_answer (length c.args.from.now) 0 =
     subst (λ (answer : PipeWrite). answer ≡ write_answer (length c.args.from.now) (bytes_written (Ok answer))) none
     c.push-answer.ensures.answer in
@@ -47,8 +52,12 @@ loop-preserved g c =
         sink = channel_after c.in-Ok.ensures.call.acts c.loop.invariant.ends.sink;
       };
       unpinned = c.in-Ok.ensures.unpinned;
-      tried = tried_more (Ok c.in-Ok.blocking) c.loop.invariant.tried c.in-Ok.ensures.call both.1;
-      looks = sink_looks_more c.loop.invariant.looks c.push-answer.ensures.same takes c.push-answer.ensures.seal places;
+      tried = tried_more (Ok c.in-Ok.blocking) (tries_to_write c.push-answer.new.self) c.loop.invariant.tried
+          c.in-Ok.ensures.call both.1
+          (c.push-answer.ensures.tries
+          ∙ ap (λ (n : ℕ). tries_to_write c.loop.self ++ n ∷ []) (c.push-answer.ensures.not_yet none).1);
+      looks = sink_looks_more c.loop.invariant.looks c.push-answer.ensures.same takes c.push-answer.ensures.seal looked
+          fills;
       room = λ _. write_some (length c.args.from.now) answers;
       nothing = λ _. (c.push-answer.ensures.not_yet none).1;
     }
@@ -57,29 +66,46 @@ pub returns-then-not-write_goes_on-clause-call : goal.returns-then-not-write_goe
 returns-then-not-write_goes_on-clause-call g c =
     let over : (write_waits (Ok c.push-answer.result) && c.in-Ok.blocking) ≡ false = search rules in
     let answer = c.push-answer.result in
-    let had = HadNoPlace c.args.self.now c.push-answer.new.self c.args.from.now in
+    let tried = c.loop.invariant.tried in
+    let had = HasTriedToWrite c.args.self.now c.push-answer.new.self c.args.from.now in
     write_done _ _ _ had answer c.in-Ok.blocking
-    (tried_last (had (Ok answer)) (write_waits (Ok answer)) (Ok c.in-Ok.blocking) (λ waited. record {
-      bytes = c.loop.invariant.room waited;
-      before = no_place_before c.loop.invariant.looks (c.loop.invariant.nothing waited);
-      after = tt;
-    }) c.loop.invariant.tried c.in-Ok.ensures.call over)
+    (tried_last (had (Ok answer)) (write_waits (Ok answer)) (Ok c.in-Ok.blocking) tried (record {
+      had = λ some.
+          let waited : c.loop.waited ≡ true = tried.counted ∙ some_run tried.count some in
+          record {
+            bytes = c.loop.invariant.room waited;
+            before = no_place_before c.loop.invariant.looks (c.loop.invariant.nothing waited);
+            after = tt;
+          };
+      told = told_then (tries_to_write c.args.self.now) (tries_to_write c.loop.self)
+          (tries_to_write c.push-answer.new.self) (free c.push-answer.new.self ∷ []) tried.count tried.told_is
+          c.push-answer.ensures.tries;
+    }) c.in-Ok.ensures.call over)
 
 pub returns-in-Err-clause-call : goal.returns-in-Err-clause-call
 returns-in-Err-clause-call g c =
     let l = limits_of c.args.w.now in
     let source = c.args.self.now.source in
     let sink = c.args.self.now.chan in
-    let had = HadNoPlace c.args.self.now c.seal_after.new.self c.args.from.now in
+    let tried = c.loop.invariant.tried in
+    let had = HasTriedToWrite c.args.self.now c.seal_after.new.self c.args.from.now in
     subst (λ refusal. CallClause c.args.me (WaitsToWrite l source sink had) (view c.args.w.now c.args.p.now)
     (view c.args.w.now c.check_write.new.p) (Err refusal)) (sym c.refusal_after.ensures)
     (write_refused l source sink had c.loop.waited c.in-Err.refusal
-    (tried_last (had (Err (refusal_after c.loop.waited c.in-Err.refusal))) false (Err c.in-Err.refusal)
-    (λ waited. record {
-      bytes = c.loop.invariant.room waited;
-      before = no_place_before c.loop.invariant.looks (c.loop.invariant.nothing waited);
-      after = omega (arith, c.loop.invariant.nothing waited, c.seal_after.ensures.free);
-    }) c.loop.invariant.tried c.in-Err.ensures.call
+    (tried_last (had (Err (refusal_after c.loop.waited c.in-Err.refusal))) false (Err c.in-Err.refusal) tried
+    (record {
+      had = λ some.
+          let waited : c.loop.waited ≡ true = tried.counted ∙ some_run tried.count some in
+          record {
+            bytes = c.loop.invariant.room waited;
+            before = no_place_before c.loop.invariant.looks (c.loop.invariant.nothing waited);
+            after = no_place_left c.seal_after.new.self c.loop.invariant.looks (c.loop.invariant.nothing waited)
+                c.seal_after.ensures.ring;
+          };
+      told = told_then (tries_to_write c.args.self.now) (tries_to_write c.loop.self)
+          (tries_to_write c.seal_after.new.self) [] tried.count tried.told_is
+          (c.seal_after.ensures.tries ∙ sym (append-nil (tries_to_write c.loop.self)));
+    }) c.in-Err.ensures.call
     (refused_ends false c.in-Err.refusal)))
 
 pub returns-in-Err-clause-closed_meanwhile : goal.returns-in-Err-clause-closed_meanwhile
@@ -91,5 +117,6 @@ returns-in-Err-clause-closed_meanwhile g c = λ is.
     record {
       bytes = c.loop.invariant.room waited;
       before = no_place_before c.loop.invariant.looks (c.loop.invariant.nothing waited);
-      after = omega (arith, c.loop.invariant.nothing waited, c.seal_after.ensures.free);
+      after = no_place_left c.seal_after.new.self c.loop.invariant.looks (c.loop.invariant.nothing waited)
+          c.seal_after.ensures.ring;
     }

@@ -4,8 +4,8 @@ use Rattle.nio_pipe.specs.Ends.{known}
 use Rattle.nio_pipe.proofs.EndLemmas.{known_nothing, knew_end}
 use Rattle.nio_pipe.proofs.source.PipeSource.look_for_end.Goals as goal
 
-pub returns : goal.returns
-returns c =
+pub returns-clause-looks : goal.returns-clause-looks
+returns-clause-looks c =
     let old = c.args.self.now in
     let new = c.reach_end.new.self in
     record {

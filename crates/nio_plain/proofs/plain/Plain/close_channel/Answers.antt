@@ -1,4 +1,5 @@
-use Rattle.std.proofs.Common.{refl, ap, ◌∙◌}
+use Rattle.std.proofs.Common.{refl, sym, ap, ◌∙◌}
+use Rattle.nio_history.specs.Sets.{is_open_channel}
 use Rattle.nio_history.specs.declared.found.Chan.{Chan}
 use Rattle.nio_plain.proofs.Replying.{unchanged_without_memory, replied_without_memory}
 use Rattle.nio_plain.specs.PlainState.{state_of}
@@ -12,12 +13,13 @@ unfolding closec_call
 returns-in-Err c =
     unchanged_without_memory c.args.self.now _ _ (c.in-Err.ensures.refused _)
 
-pub returns-then-channel : goal.returns-then-channel
+pub returns-then-not-is_open : goal.returns-then-not-is_open
 unfolding closec_call
-returns-then-channel c =
+returns-then-not-is_open c =
     let p = c.args.self.now in
     let st = state_of p in
-    let closed = ap (λ (x : Chan). x.closed) c.in-Ok.ensures.row ∙ c.if-channel.true in
+    let closed = ap (λ (x : Chan). is_open_channel x c.args.chan.serial) c.in-Ok.ensures.row
+    ∙ (sym c.is_open.ensures ∙ c.if-not-is_open.true) in
     replied_without_memory p _ _ _ _
     (c.in-Ok.ensures.through _
     ∙ ap (sealing (own_sink st.pipes c.args.me c.args.chan))
@@ -31,7 +33,8 @@ unfolding closec_call
 returns c =
     let p = c.args.self.now in
     let st = state_of p in
-    let opened = ap (λ (x : Chan). x.closed) c.in-Ok.ensures.row ∙ c.if-channel.false in
+    let opened = ap (λ (x : Chan). is_open_channel x c.args.chan.serial) c.in-Ok.ensures.row
+    ∙ (sym c.is_open.ensures ∙ c.if-not-is_open.false) in
     replied_without_memory p _ _ _ _
     (c.in-Ok.ensures.through _
     ∙ ap (sealing (own_sink st.pipes c.args.me c.args.chan))

@@ -1,4 +1,5 @@
-use Rattle.std.proofs.Common.{sym, ap, ◌∙◌}
+use Rattle.std.proofs.Common.{◌&&◌, sym, ap, ◌∙◌}
+use Rattle.nio_history.specs.Sets.{fits_channel}
 use Rattle.nio_history.specs.declared.found.Chan.{Chan}
 use Rattle.nio_plain.proofs.Replying.{unchanged_without_memory}
 use Rattle.nio_plain.specs.PlainState.{state_of}
@@ -12,8 +13,9 @@ returns-in-Ok c =
     let st = state_of c.args.self.now in
     unchanged_without_memory c.args.self.now _ _
     (c.in-Ok.ensures.through _
-    ∙ (ap (λ (x : Chan). unchanged st (yes_or_no (x.blocking))) c.in-Ok.ensures.row
-    ∙ ap (unchanged st) (sym c.yes_or_no.ensures)))
+    ∙ (ap (λ (x : Chan). unchanged st (yes_or_no (fits_channel x c.args.chan.serial && x.blocking)))
+    c.in-Ok.ensures.row
+    ∙ ap (unchanged st) (sym (c.yes_or_no.ensures ∙ ap yes_or_no c.is_blocking.ensures))))
 
 pub returns-in-Err : goal.returns-in-Err
 unfolding is_blocking_call

@@ -1,15 +1,13 @@
-use Rattle.std.proofs.Common.{◌≡◌, ◌+◌, ◌<◌, ◌≤◌, false, Some, None, List, [], ◌∷◌, ◌++◌, length, refl, sym, ap, ◌∙◌}
-use Rattle.std.proofs.Common.{arith}
+use Rattle.std.proofs.Common.{◌≡◌, ◌<◌, ◌≤◌, false, Some, None, List, [], ◌∷◌, ◌++◌, length, refl, sym, ap, ◌∙◌, arith}
 use Rattle.std.proofs.lemmas.Bool.{le-ltb, lt-ltb}
-use Rattle.std.proofs.lemmas.List.{length_push}
 use Rattle.nio_base.specs.declared.kind.Kind.TheVariants.{Source, Sink}
 use Rattle.nio_language.specs.declared.reply.Reply.TheVariants as reply
-use Rattle.nio_plain.proofs.Replying.{replied_as, unchanged_as}
-use Rattle.nio_plain.proofs.Piping.{channel_added, next_end, no_next_end, pipe_call-is, sink_made}
-use Rattle.nio_plain.specs.PlainState.{channel_row, pipe_of, state_of}
+use Rattle.nio_plain.proofs.Replying.{failed_as, replied_as, unchanged_as}
+use Rattle.nio_plain.proofs.Piping.{pipe_call-is, pipe_made, with_ends}
+use Rattle.nio_plain.specs.PlainState.{limits_of, pipe_of, rules_of, state_of}
 use Rattle.nio_plain.specs.ScriptState.{ScriptState, with_pipes, with_shared}
 use Rattle.nio_plain.specs.Seq.Cancelling.{channel_closed}
-use Rattle.nio_plain.specs.Seq.Opening.{channel_made, next_channel}
+use Rattle.nio_plain.specs.Seq.Opening.{next_channel, with_new_channel}
 use Rattle.nio_plain.specs.Seq.Piping.{new_pipe, pipe_call, with_source}
 use Rattle.nio_plain.specs.declared.plain.channel.Channel.{Channel}
 use Rattle.nio_plain.specs.declared.plain.pipe.Pipe.{Pipe as PlainPipe}
@@ -22,86 +20,79 @@ returns-then-target-self c =
     unchanged_as p _ _
     (rw (le-ltb c.args.target.0 p.limits.callers c.if-target-self.true) refl)
 
-pub returns-then-number-self : goal.returns-then-number-self
+pub returns-in_default : goal.returns-in_default
 unfolding pipe_call
-returns-then-number-self c =
+returns-in_default c =
     let p = c.args.self.now in
-    let l = p.limits in
-    let xs = p.channels.items in
-    let within : c.args.target.0 < l.callers = omega arith in
-    let full : l.channels ≤ length xs = omega (arith, p.channels.ok.0) in
+    let within : c.args.target.0 < p.limits.callers = omega arith in
     unchanged_as p _ _
-    (rw (lt-ltb c.args.target.0 l.callers within) (ap (with_source l (state_of p) c.args.me c.args.target)
-    (no_next_end p p.pipes.items xs full)))
+    (rw (lt-ltb c.args.target.0 p.limits.callers within)
+    (ap (with_source p.rules p.limits (state_of p) c.args.me c.args.target) (sym c.in_default.ensures.next)))
 
-pub returns-then-number-self-2 : goal.returns-then-number-self-2
-returns-then-number-self-2 c =
+pub returns-in_default-next_channel : goal.returns-in_default-next_channel
+returns-in_default-next_channel c =
     let p = c.args.self.now in
-    let l = p.limits in
     let st = state_of p in
-    let xs = p.channels.items in
-    let ys = c.push_reserved.new.self.items in
-    let within : c.args.target.0 < l.callers = omega arith in
-    let number : c.len-number.result ≡ length xs = omega (arith, p.channels.ok.0) in
-    let room : length xs < l.channels = omega (arith, number) in
-    let more : ys ≡ xs ++ c.new.result ∷ [] =
-    c.push_reserved.ensures.items ∙ ap (λ (zs : List Channel). zs ++ c.new.result ∷ []) c.reserve.ensures.items in
-    let full : l.channels ≤ length ys = omega (arith, number, ap length more, length_push xs c.new.result) in
-    let made =
-    channel_added p Source c.reserve-2.new.self.items ys c.new.result c.reserve-2.ensures.items more
-    (ap channel_row c.new.ensures) in
-    let next = next_end p p.pipes.items xs room in
-    let none = sym (ap (next_channel l) made) ∙ no_next_end p c.reserve-2.new.self.items ys full in
+    let source = c.in-Some.source in
+    let within : c.args.target.0 < p.limits.callers = omega arith in
+    let kept = c.put_channel.ensures.kept in
+    let reserved : with_ends p c.reserve-2.new.self.items c.reserve.new.self.items ≡ st =
+    λ i. with_ends p (c.reserve-2.ensures.items i) (c.reserve.ensures.items i) in
+    let made = c.put_channel.ensures.left
+    ∙ ap (λ (m : ScriptState). with_shared m (with_new_channel m.shared Source source)) reserved in
+    let none = sym (c.in_default-next_channel.ensures.next
+    ∙ (λ i. next_channel (kept.rules i) (kept.limits i) (made i).shared Sink)) in
     replied_as p _ _ _ _
-    (pipe_call-is l st c.args.me c.args.target (length xs) None within next none)
+    (pipe_call-is p.rules p.limits st c.args.me c.args.target source None within (sym c.in-Some.ensures.next) none)
     refl
-    (c.shut_channel.ensures.left ∙ (λ i. with_shared (made i) (channel_closed (made i).shared (number i))))
-    (record { limits = c.shut_channel.ensures.kept.limits; rules = c.shut_channel.ensures.kept.rules })
+    (c.shut_channel.ensures.left
+    ∙ ap (λ (m : ScriptState). with_shared m (channel_closed m.shared source.number.0)) made)
+    (record {
+      limits = c.shut_channel.ensures.kept.limits ∙ kept.limits;
+      rules = c.shut_channel.ensures.kept.rules ∙ kept.rules;
+    })
 
 pub returns : goal.returns
 returns c =
     let p = c.args.self.now in
-    let l = p.limits in
     let st = state_of p in
-    let xs = p.channels.items in
-    let ps = p.pipes.items in
-    let ys = c.push_reserved.new.self.items in
-    let within : c.args.target.0 < l.callers = omega arith in
-    let number : c.len-number.result ≡ length xs = omega (arith, p.channels.ok.0) in
-    let room : length xs < l.channels = omega (arith, number) in
-    let more : ys ≡ xs ++ c.new.result ∷ [] =
-    c.push_reserved.ensures.items ∙ ap (λ (zs : List Channel). zs ++ c.new.result ∷ []) c.reserve.ensures.items in
-    let size : length ys ≡ length xs + 1 = ap length more ∙ length_push xs c.new.result in
-    let further : length ys < l.channels = omega (arith, number, size) in
-    let second : c.len-number.result + 1 ≡ length ys = omega (arith, number, size) in
-    let made = channel_added p Source ps ys c.new.result refl more (ap channel_row c.new.ensures) in
-    let next = next_end p ps xs room in
-    let after = sym (ap (next_channel l) made) ∙ next_end p ps ys further in
-    let pipe = new_pipe c.args.me c.args.target (record { 0 = length xs }) (record { 0 = length ys }) in
+    let source = c.in-Some.source in
+    let sink = c.in-Some-next_channel.sink in
+    let within : c.args.target.0 < p.limits.callers = omega arith in
+    let kept = c.put_channel.ensures.kept in
+    let reserved : with_ends p c.reserve-2.new.self.items c.reserve.new.self.items ≡ st =
+    λ i. with_ends p (c.reserve-2.ensures.items i) (c.reserve.ensures.items i) in
+    let made = c.put_channel.ensures.left
+    ∙ ap (λ (m : ScriptState). with_shared m (with_new_channel m.shared Source source)) reserved in
+    let further = sym (c.in-Some-next_channel.ensures.next
+    ∙ (λ i. next_channel (kept.rules i) (kept.limits i) (made i).shared Sink)) in
+    let q = c.put_channel-2.new.self in
+    let both = c.put_channel-2.ensures.left
+    ∙ ap (λ (m : ScriptState). with_shared m (with_new_channel m.shared Sink sink)) made in
+    let pipe = new_pipe c.args.me c.args.target source sink in
     let one : PlainPipe = record {
-      source = record { 0 = c.len-number.result };
-      sink = record { 0 = c.len-number.result + 1 };
+      source = source;
+      sink = sink;
       reader = c.args.me;
       writer = c.args.target;
-      waiting = c.new-3.result;
+      waiting = c.new.result;
       sealed = false;
     } in
-    let is : pipe_of one ≡ pipe =
-    λ i. record {
-      source = record { 0 = number i };
-      sink = record { 0 = second i };
+    let is : pipe_of one ≡ pipe = λ i. record {
+      source = source;
+      sink = sink;
       reader = c.args.me;
       writer = c.args.target;
-      waiting = c.new-3.ensures.items i;
+      waiting = c.new.ensures.items i;
       sealed = false;
     } in
-    let one_more =
-    c.push_reserved-3.ensures.items ∙ ap (λ (qs : List PlainPipe). qs ++ one ∷ []) c.reserve-2.ensures.items in
     replied_as p _ _ _ _
-    (pipe_call-is l st c.args.me c.args.target (length xs) (Some (length ys)) within next after)
-    (λ i. reply.Ends (record { 0 = number i }) (record { 0 = second i }))
-    (sink_made p ps c.push_reserved-3.new.self.items ys c.push_reserved-2.new.self.items c.new-2.result one pipe
-    one_more
-    c.push_reserved-2.ensures.items (ap channel_row c.new-2.ensures) is
-    ∙ ap (λ (m : ScriptState). with_pipes (channel_made m Sink (Some (length ys))).left (m.pipes ++ pipe ∷ [])) made)
-    (record { limits = refl; rules = refl })
+    (pipe_call-is p.rules p.limits st c.args.me c.args.target source (Some sink) within (sym c.in-Some.ensures.next)
+    further)
+    refl
+    (pipe_made q q.pipes.items c.push_reserved.new.self.items q.channels.items one pipe c.push_reserved.ensures.items is
+    ∙ ap (λ (m : ScriptState). with_pipes m (m.pipes ++ pipe ∷ [])) both)
+    (record {
+      limits = c.put_channel-2.ensures.kept.limits ∙ kept.limits;
+      rules = c.put_channel-2.ensures.kept.rules ∙ kept.rules;
+    })

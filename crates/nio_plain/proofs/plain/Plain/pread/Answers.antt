@@ -1,5 +1,6 @@
 use Rattle.std.proofs.Common.{◌<◌, ◌&&◌, length, refl, sym, ap, ◌∙◌, arith}
 use Rattle.std.proofs.lemmas.Bool.{eq-eqb, ne_eqb}
+use Rattle.nio_history.specs.Sets.{is_open_channel}
 use Rattle.nio_history.specs.declared.found.Chan.{Chan}
 use Rattle.nio_plain.proofs.Replying.{unchanged_as, replied_as, of_word}
 use Rattle.nio_plain.proofs.Piping.{place_within}
@@ -20,12 +21,13 @@ returns-in_default c =
     unchanged_as p _ _
     (c.in-Ok.ensures.through _ ∙ ap (read_from st c.args.me c.args.chan c.args.most) (sym c.in_default.ensures))
 
-pub returns-then-channel : goal.returns-then-channel
+pub returns-then-not-is_open : goal.returns-then-not-is_open
 unfolding pread_call
-returns-then-channel c =
+returns-then-not-is_open c =
     let p = c.args.self.now in
     let st = state_of p in
-    let closed = ap (λ (x : Chan). x.closed) c.in-Ok.ensures.row ∙ c.if-channel.true in
+    let closed = ap (λ (x : Chan). is_open_channel x c.args.chan.serial) c.in-Ok.ensures.row
+    ∙ (sym c.is_open.ensures ∙ c.if-not-is_open.true) in
     unchanged_as p _ _
     (c.in-Ok.ensures.through _ ∙ (ap (read_from st c.args.me c.args.chan c.args.most) (sym c.in-Some.ensures)
     ∙ rw closed refl))
@@ -35,7 +37,8 @@ unfolding pread_call
 returns-then-finds_interrupt c =
     let p = c.args.self.now in
     let st = state_of p in
-    let opened = ap (λ (x : Chan). x.closed) c.in-Ok.ensures.row ∙ c.if-channel.false in
+    let opened = ap (λ (x : Chan). is_open_channel x c.args.chan.serial) c.in-Ok.ensures.row
+    ∙ (sym c.is_open.ensures ∙ c.if-not-is_open.false) in
     let found =
     ap (λ (x : Chan). x.blocking && st.shared.interrupted c.args.me.0) c.in-Ok.ensures.row
     ∙ sym c.if-finds_interrupt.ensures in
@@ -51,7 +54,8 @@ unfolding pread_call
 returns-then-most-eq0 c =
     let p = c.args.self.now in
     let st = state_of p in
-    let opened = ap (λ (x : Chan). x.closed) c.in-Ok.ensures.row ∙ c.if-channel.false in
+    let opened = ap (λ (x : Chan). is_open_channel x c.args.chan.serial) c.in-Ok.ensures.row
+    ∙ (sym c.is_open.ensures ∙ c.if-not-is_open.false) in
     let none =
     ap (λ (x : Chan). x.blocking && st.shared.interrupted c.args.me.0) c.in-Ok.ensures.row
     ∙ sym c.if-finds_interrupt.ensures in
@@ -71,7 +75,8 @@ unfolding pread_call
 returns c =
     let p = c.args.self.now in
     let st = state_of p in
-    let opened = ap (λ (x : Chan). x.closed) c.in-Ok.ensures.row ∙ c.if-channel.false in
+    let opened = ap (λ (x : Chan). is_open_channel x c.args.chan.serial) c.in-Ok.ensures.row
+    ∙ (sym c.is_open.ensures ∙ c.if-not-is_open.false) in
     let none =
     ap (λ (x : Chan). x.blocking && st.shared.interrupted c.args.me.0) c.in-Ok.ensures.row
     ∙ sym c.if-finds_interrupt.ensures in

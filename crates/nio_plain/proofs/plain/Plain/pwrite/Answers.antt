@@ -1,11 +1,12 @@
 use Rattle.std.proofs.Common.{◌<◌, ◌&&◌, Some, length, refl, sym, ap, ◌∙◌, arith}
+use Rattle.nio_history.specs.Sets.{is_open_channel}
 use Rattle.nio_history.specs.declared.found.Chan.{Chan}
 use Rattle.nio_plain.proofs.Replying.{unchanged_as, replied_as, of_word}
 use Rattle.nio_plain.proofs.Piping.{pipe_at-is, place_within}
 use Rattle.nio_plain.specs.PlainState.{state_of}
 use Rattle.nio_plain.specs.ScriptState.{Pipe}
 use Rattle.nio_plain.specs.Seq.Pipes.{owns_sink, pipe_at, with_seal}
-use Rattle.nio_plain.specs.Seq.Piping.{pwrite_call, room_for, write_first, write_to}
+use Rattle.nio_plain.specs.Seq.Piping.{has_open_source, pwrite_call, room_for, write_first, write_to}
 use Rattle.nio_plain.proofs.plain.Plain.pwrite.Goals as goal
 
 pub returns-in-Err : goal.returns-in-Err
@@ -27,12 +28,13 @@ seal-requires c =
     place_within (owns_sink c.args.me c.args.chan) p.pipes.items c.in-Some.place (sym c.in-Some.ensures) in
     omega (arith, p.pipes.ok.0)
 
-pub returns-then-channel : goal.returns-then-channel
+pub returns-then-not-is_open : goal.returns-then-not-is_open
 unfolding pwrite_call
-returns-then-channel c =
+returns-then-not-is_open c =
     let p = c.args.self.now in
     let st = state_of p in
-    let closed = ap (λ (x : Chan). x.closed) c.in-Ok.ensures.row ∙ c.if-channel.true in
+    let closed = ap (λ (x : Chan). is_open_channel x c.args.chan.serial) c.in-Ok.ensures.row
+    ∙ (sym c.is_open.ensures ∙ c.if-not-is_open.true) in
     replied_as p _ _ _ _
     (c.in-Ok.ensures.through _ ∙ (ap (write_to st c.args.me c.args.chan c.args.bytes.now) (sym c.in-Some.ensures)
     ∙ rw closed refl))
@@ -45,7 +47,8 @@ unfolding pwrite_call
 returns-then-finds_interrupt c =
     let p = c.args.self.now in
     let st = state_of p in
-    let opened = ap (λ (x : Chan). x.closed) c.in-Ok.ensures.row ∙ c.if-channel.false in
+    let opened = ap (λ (x : Chan). is_open_channel x c.args.chan.serial) c.in-Ok.ensures.row
+    ∙ (sym c.is_open.ensures ∙ c.if-not-is_open.false) in
     let found =
     ap (λ (x : Chan). x.blocking && st.shared.interrupted c.args.me.0) c.in-Ok.ensures.row
     ∙ sym c.if-finds_interrupt.ensures in
@@ -66,22 +69,23 @@ index-requires c =
     place_within (owns_sink c.args.me c.args.chan) p.pipes.items c.in-Some.place (sym c.in-Some.ensures) in
     omega (arith, p.pipes.ok.0)
 
-pub returns-then-is_closed : goal.returns-then-is_closed
+pub returns-then-not-is_open-2 : goal.returns-then-not-is_open-2
 unfolding pwrite_call
-returns-then-is_closed c =
+returns-then-not-is_open-2 c =
     let p = c.args.self.now in
     let st = state_of p in
     let place = c.in-Some.place in
     let within : place < length p.pipes.items =
     place_within (owns_sink c.args.me c.args.chan) p.pipes.items place (sym c.in-Some.ensures) in
-    let opened = ap (λ (x : Chan). x.closed) c.in-Ok.ensures.row ∙ c.if-channel.false in
+    let opened = ap (λ (x : Chan). is_open_channel x c.args.chan.serial) c.in-Ok.ensures.row
+    ∙ (sym c.is_open.ensures ∙ c.if-not-is_open.false) in
     let none =
     ap (λ (x : Chan). x.blocking && st.shared.interrupted c.args.me.0) c.in-Ok.ensures.row
     ∙ sym c.if-finds_interrupt.ensures in
     let broken =
-    ap (λ (q : Pipe). (st.shared.chan q.source.0).closed)
+    ap (has_open_source st.shared)
     (pipe_at-is p.pipes.items place c.index.result.now within c.index.ensures)
-    ∙ sym c.if-is_closed.ensures in
+    ∙ (sym c.is_open-2.ensures ∙ c.if-not-is_open-2.true) in
     unchanged_as p _ _
     (c.in-Ok.ensures.through _ ∙ (ap (write_to st c.args.me c.args.chan c.args.bytes.now) (sym c.in-Some.ensures)
     ∙ (rw (opened, none, broken) refl)))
@@ -94,14 +98,15 @@ returns-then-is_empty c =
     let place = c.in-Some.place in
     let within : place < length p.pipes.items =
     place_within (owns_sink c.args.me c.args.chan) p.pipes.items place (sym c.in-Some.ensures) in
-    let opened = ap (λ (x : Chan). x.closed) c.in-Ok.ensures.row ∙ c.if-channel.false in
+    let opened = ap (λ (x : Chan). is_open_channel x c.args.chan.serial) c.in-Ok.ensures.row
+    ∙ (sym c.is_open.ensures ∙ c.if-not-is_open.false) in
     let none =
     ap (λ (x : Chan). x.blocking && st.shared.interrupted c.args.me.0) c.in-Ok.ensures.row
     ∙ sym c.if-finds_interrupt.ensures in
     let whole =
-    ap (λ (q : Pipe). (st.shared.chan q.source.0).closed)
+    ap (has_open_source st.shared)
     (pipe_at-is p.pipes.items place c.index.result.now within c.index.ensures)
-    ∙ sym c.if-is_closed.ensures in
+    ∙ (sym c.is_open-2.ensures ∙ c.if-not-is_open-2.false) in
     unchanged_as p _ _
     (c.in-Ok.ensures.through _ ∙ (ap (write_to st c.args.me c.args.chan c.args.bytes.now) (sym c.in-Some.ensures)
     ∙ (rw (opened, none, whole, sym c.if-is_empty.ensures) refl)))
@@ -121,14 +126,15 @@ returns c =
     let place = c.in-Some.place in
     let within : place < length p.pipes.items =
     place_within (owns_sink c.args.me c.args.chan) p.pipes.items place (sym c.in-Some.ensures) in
-    let opened = ap (λ (x : Chan). x.closed) c.in-Ok.ensures.row ∙ c.if-channel.false in
+    let opened = ap (λ (x : Chan). is_open_channel x c.args.chan.serial) c.in-Ok.ensures.row
+    ∙ (sym c.is_open.ensures ∙ c.if-not-is_open.false) in
     let none =
     ap (λ (x : Chan). x.blocking && st.shared.interrupted c.args.me.0) c.in-Ok.ensures.row
     ∙ sym c.if-finds_interrupt.ensures in
     let whole =
-    ap (λ (q : Pipe). (st.shared.chan q.source.0).closed)
+    ap (has_open_source st.shared)
     (pipe_at-is p.pipes.items place c.index.result.now within c.index.ensures)
-    ∙ sym c.if-is_closed.ensures in
+    ∙ (sym c.is_open-2.ensures ∙ c.if-not-is_open-2.false) in
     of_word _ _ _ _ _
     (c.in-Ok.ensures.through _ ∙ (ap (write_to st c.args.me c.args.chan c.args.bytes.now) (sym c.in-Some.ensures)
     ∙ (rw (opened, none, whole, sym c.if-is_empty.ensures)

@@ -78,7 +78,7 @@ pub returns-in_ok-add_key-in-None : goal.returns-in_ok-add_key-in-None
 returns-in_ok-add_key-in-None c =
     let p = c.args.self.now in
     let x = c.index-selector.result.now in
-    let chan = c.args.chan.0 in
+    let chan = c.args.chan.number.0 in
     let id = c.in-Some-next_key.id in
     let within : c.args.sel.0 < length p.selectors.items = omega (arith, p.selectors.ok.0, c.in_default.ensures.made) in
     let y = c.index_mut-in-None.result.now in

@@ -4,10 +4,12 @@ use Rattle.nio_select.proofs.Begun.{begun_stays}
 use Rattle.nio_select.proofs.Ended.{over}
 use Rattle.nio_select.proofs.selecting.Selecting.after_marks.Goals as goal
 
-pub end-requires-clause-begun : goal.end-requires-clause-begun
-end-requires-clause-begun c =
-    begun_stays c.look_interrupt-interrupted.ensures refl refl
-    (begun_stays c.look_gate-gate.ensures refl refl c.requires.begun)
+pub end-requires : goal.end-requires
+end-requires c =
+    record {
+      begun = begun_stays c.look_interrupt-interrupted.ensures refl refl
+          (begun_stays c.look_gate-gate.ensures refl refl c.requires.begun);
+    }
 
 pub returns-clause-call : goal.returns-clause-call
 returns-clause-call c =

@@ -1,14 +1,14 @@
-use Rattle.std.proofs.Common.{refl, ap, ◌∙◌}
+use Rattle.std.proofs.Common.{refl, ap}
 use Rattle.nio_words.proofs.Views.{step_acts}
 use Rattle.nio_select.proofs.Begun.{begun_stays}
 use Rattle.nio_select.proofs.Ended.{begun_turn, ended}
 use Rattle.nio_select.proofs.selecting.Selecting.end.Goals as goal
 
 pub give_turn-requires-clause-turn : goal.give_turn-requires-clause-turn
-give_turn-requires-clause-turn c = begun_turn (begun_stays c.end_wake.ensures refl refl c.remove_kept.ensures.begun)
+give_turn-requires-clause-turn c =
+    begun_turn (begun_stays c.end_wake.ensures refl refl c.remove_all_cancelled.ensures.begun)
 
 pub returns-clause-call : goal.returns-clause-call
 returns-clause-call c =
-    ended c.args.self c.args.answer (ap (λ x. x.selector) c.self.view_is)
-    (c.as_slice.ensures.value ∙ ap (λ x. x.kept) c.self.view_is)
-    c.remove_kept.ensures.call (step_acts c.end_wake.ensures refl) (step_acts c.give_turn.ensures refl)
+    ended c.args.self c.args.answer (ap (λ x. x.selector) c.self.view_is) c.remove_all_cancelled.ensures.call
+    (step_acts c.end_wake.ensures refl) (step_acts c.give_turn.ensures refl)

@@ -1,4 +1,4 @@
-use Rattle.std.proofs.Common.{◌<◌, List, ℕ, ap, sym, ◌∙◌, subst}
+use Rattle.std.proofs.Common.{◌<◌, List, ap, sym, ◌∙◌, subst}
 use Rattle.std.specs.List.{All}
 use Rattle.nio_steps.specs.declared.looked.LookedKey.{LookedKey}
 use Rattle.nio_words.specs.Passes.{limits_of}
@@ -7,7 +7,7 @@ use Rattle.nio_select.specs.contracts.selecting.Selecting.{the_view}
 use Rattle.nio_select.specs.InProgress.{poll_of}
 use Rattle.nio_select.proofs.Again.{tells, goes_on}
 use Rattle.nio_select.proofs.Ended.{selecting_begun}
-use Rattle.nio_select.proofs.Inside.{kept_inside, looked_inside}
+use Rattle.nio_select.proofs.Inside.{looked_inside}
 use Rattle.nio_select.proofs.selecting.Selecting.told.Goals as goal
 
 pub mark_asked-count-requires-clause-begun : goal.mark_asked-count-requires-clause-begun
@@ -19,11 +19,6 @@ pub mark_asked-count-requires-clause-keys : goal.mark_asked-count-requires-claus
 mark_asked-count-requires-clause-keys c =
     subst (λ (xs : List LookedKey). All (λ entry. entry.index < (limits_of c.args.w.now).keys) xs)
     (ap (λ x. x.looked) (sym c.selection.view_is)) (looked_inside c.requires.ready c.requires.begun)
-
-pub after_marks-requires-clause-keys : goal.after_marks-requires-clause-keys
-after_marks-requires-clause-keys c =
-    subst (λ (xs : List ℕ). All (λ i. i < (limits_of c.args.w.now).keys) xs)
-    (ap (λ x. x.kept) (sym c.selection.view_is)) (kept_inside c.requires.ready c.requires.begun)
 
 pub returns-clause-call : goal.returns-clause-call
 returns-clause-call c =

@@ -4,15 +4,16 @@ use Rattle.nio_serve.proofs.board.table.close_made.Goals as goal
 
 pub close_channel-requires-clause-unpinned : goal.close_channel-requires-clause-unpinned
 close_channel-requires-clause-unpinned c =
-    (rest_found_channel _ c.find_channel.ensures.call c.find_channel.ensures.ready c.requires).idle.unpinned
+    (rest_found_channel _ _ c.find_channel.ensures.call c.find_channel.ensures.ready c.requires).idle.unpinned
 
 pub returns-in-Some-clause-rest : goal.returns-in-Some-clause-rest
 returns-in-Some-clause-rest c =
     rest_closed _ c.close_channel.ensures.call c.close_channel.ensures.ready c.close_channel.ensures.unpinned
-    (rest_found_channel _ c.find_channel.ensures.call c.find_channel.ensures.ready c.requires)
+    (rest_found_channel _ _ c.find_channel.ensures.call c.find_channel.ensures.ready c.requires)
 
 pub returns-in_default-clause-rest : goal.returns-in_default-clause-rest
-returns-in_default-clause-rest c = rest_found_channel _ c.find_channel.ensures.call c.find_channel.ensures.ready c.requires
+returns-in_default-clause-rest c =
+    rest_found_channel _ _ c.find_channel.ensures.call c.find_channel.ensures.ready c.requires
 
 pub returns-in-Some-clause-made : goal.returns-in-Some-clause-made
 returns-in-Some-clause-made c =

@@ -1,11 +1,13 @@
-use Rattle.std.proofs.Common.{◌≡◌, ◌∙◌, Some, ap, rules, sym}
+use Rattle.std.proofs.Common.{◌≡◌, ◌≢◌, ◌∙◌, Some, ap, rules, subst, sym}
+use Rattle.nio_base.specs.Numbers.{first_channel}
+use Rattle.nio_base.specs.declared.numbers.ChanId.{ChanId}
 use Rattle.nio_serve.proofs.BoardCalls.{fails_to_find, finds_other, is_other, made_find_channel}
 use Rattle.nio_serve.proofs.TableCalls.{rest_found_channel}
 use Rattle.nio_serve.proofs.board.table.find_made.Goals as goal
 
 pub returns-in_default-clause-rest : goal.returns-in_default-clause-rest
 returns-in_default-clause-rest c =
-    rest_found_channel _ c.find_channel.ensures.call c.find_channel.ensures.ready c.requires
+    rest_found_channel _ _ c.find_channel.ensures.call c.find_channel.ensures.ready c.requires
 
 pub returns-in_default-clause-failed : goal.returns-in_default-clause-failed
 returns-in_default-clause-failed c =
@@ -13,19 +15,20 @@ returns-in_default-clause-failed c =
 
 pub returns-then-eq-clause-rest : goal.returns-then-eq-clause-rest
 returns-then-eq-clause-rest c =
-    rest_found_channel _ c.find_channel.ensures.call c.find_channel.ensures.ready c.requires
+    rest_found_channel _ _ c.find_channel.ensures.call c.find_channel.ensures.ready c.requires
 
 pub returns-then-eq-clause-taken : goal.returns-then-eq-clause-taken
 returns-then-eq-clause-taken c =
-    let same : c.in-Some.made ≡ c.args.chan = search rules in
-    made_find_channel _ _ _ c.args.at c.args.chan (Some c.args.chan) (c.in-Some.is ∙ ap Some same)
+    let same : c.in-Some.made ≡ first_channel c.args.chan = search rules in
+    made_find_channel _ _ _ c.args.at c.args.chan (Some (first_channel c.args.chan)) (c.in-Some.is ∙ ap Some same)
     c.find_channel.ensures.call
 
 pub returns-else-eq-clause-rest : goal.returns-else-eq-clause-rest
 returns-else-eq-clause-rest c =
-    rest_found_channel _ c.find_channel.ensures.call c.find_channel.ensures.ready c.requires
+    rest_found_channel _ _ c.find_channel.ensures.call c.find_channel.ensures.ready c.requires
 
 pub returns-else-eq-clause-failed : goal.returns-else-eq-clause-failed
 returns-else-eq-clause-failed c =
+    let other = is_other c.in-Some.made c.first.result (sym c.eq.ensures ∙ c.if-eq.false) in
     finds_other _ _ _ c.args.at c.args.chan c.in-Some.made c.in-Some.is
-    (is_other c.in-Some.made c.args.chan (sym c.eq.ensures ∙ c.if-eq.false)) c.find_channel.ensures.call
+    (subst (λ (x : ChanId). c.in-Some.made ≢ x) c.first.ensures other) c.find_channel.ensures.call

@@ -1,4 +1,6 @@
-use Rattle.std.proofs.Common.{◌≡◌, ◌∙◌, Ok, ap, rules, sym}
+use Rattle.std.proofs.Common.{◌≡◌, ◌≢◌, ◌∙◌, Ok, ap, rules, subst, sym}
+use Rattle.nio_base.specs.Numbers.{first_channel}
+use Rattle.nio_base.specs.declared.numbers.ChanId.{ChanId}
 use Rattle.nio_serve.proofs.BoardCalls.{fails_to_open, is_other, made_open, opens_other}
 use Rattle.nio_serve.proofs.TableCalls.{rest_closed, rest_opened}
 use Rattle.nio_serve.proofs.board.table.open_next.Goals as goal
@@ -24,10 +26,13 @@ returns-in-Err-clause-failed c =
 
 pub returns-in-Ok-clause-taken : goal.returns-in-Ok-clause-taken
 returns-in-Ok-clause-taken c =
-    let same : c.in-Ok.made ≡ c.args.chan = search rules in
-    made_open _ _ _ c.args.at c.args.kind (Ok c.args.chan) (c.in-Ok.is ∙ ap Ok same) c.open_channel.ensures.call
+    let same : c.in-Ok.made ≡ first_channel c.args.chan = search rules in
+    made_open _ _ _ c.args.at c.args.kind (Ok (first_channel c.args.chan)) (c.in-Ok.is ∙ ap Ok same)
+    c.open_channel.ensures.call
 
 pub returns-in-Ok-2-clause-failed : goal.returns-in-Ok-2-clause-failed
 returns-in-Ok-2-clause-failed c =
+    let other = is_other c.in-Ok.made c.first.result (sym c.eq.ensures ∙ c.if-eq.false) in
     opens_other _ _ c.open_channel.new.p _ c.args.at c.args.kind c.args.chan c.in-Ok.made c.close_channel.result
-    c.in-Ok.is (is_other c.in-Ok.made c.args.chan (sym c.eq.ensures ∙ c.if-eq.false)) c.open_channel.ensures.call c.close_channel.ensures.call
+    c.in-Ok.is (subst (λ (x : ChanId). c.in-Ok.made ≢ x) c.first.ensures other) c.open_channel.ensures.call
+    c.close_channel.ensures.call

@@ -1,6 +1,9 @@
 use Rattle.std.proofs.Common.{Ok}
 use Rattle.nio_history.proofs.PassViews.{channel_after}
-use Rattle.nio_serve.proofs.BoardCalls.{fails_to_register, made_registration}
+use Rattle.nio_orderly.specs.Made.{waiting_call}
+use Rattle.nio_steps.specs.TableCalls.{register}
+use Rattle.nio_serve.specs.Board.{next_channel}
+use Rattle.nio_serve.proofs.BoardCalls.{fails_to_register, made_as_first, made_registration}
 use Rattle.nio_serve.proofs.TableCalls.{rest_closed, rest_refused, rest_watched}
 use Rattle.nio_serve.proofs.board.table.register_made.Goals as goal
 
@@ -20,9 +23,12 @@ returns-in-Err-clause-refused g c =
 
 pub returns-in-Ok-clause-made : goal.returns-in-Ok-clause-made
 returns-in-Ok-clause-made g c =
-    made_registration _ _ _ c.args.at c.args.chan c.args.ops (Ok c.in-Ok.key) c.in-Ok.is c.register.ensures.call
+    made_as_first (λ x. waiting_call (register c.args.at.selector x c.args.ops 0) (Ok c.in-Ok.key)) c.args.chan
+    (next_channel c.args.at) c.requires.next
+    (made_registration _ _ _ c.args.at c.args.chan c.args.ops (Ok c.in-Ok.key) c.in-Ok.is c.register.ensures.call)
 
 pub returns-in-Err-clause-failed : goal.returns-in-Err-clause-failed
 returns-in-Err-clause-failed g c =
-    fails_to_register _ _ c.register.new.p _ c.args.at c.args.chan c.args.ops c.in-Err._refusal c.close_channel.result c.in-Err.is
-    c.register.ensures.call c.close_channel.ensures.call
+    fails_to_register _ _ c.register.new.p _ c.args.at c.args.chan (next_channel c.args.at) c.args.ops
+    c.in-Err._refusal c.close_channel.result c.requires.next c.in-Err.is c.register.ensures.call
+    c.close_channel.ensures.call

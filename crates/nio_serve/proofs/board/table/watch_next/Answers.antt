@@ -46,7 +46,7 @@ returns-clause-made g c =
     IfOk-weaker c.register_made.result
     (λ key. AreMade (board_of c.args.w.now c.set_blocking.new.p c.args.at)
     (board_of c.args.w.now c.register_made.new.p c.args.at)
-    (registers c.args.at.selector c.in_ok-chan.chan c.args.ops key ∷ []))
+    (registers c.args.at.selector (next_channel c.args.at) c.args.ops key ∷ []))
     (λ key. HasMade (board_of c.args.w.now c.args.p.now c.args.at)
     (board_of c.args.w.now c.register_made.new.p c.args.at)
     (WatchesChannel c.args.at.deal c.args.at.selector c.args.kind (next_channel c.args.at) c.args.ops key))

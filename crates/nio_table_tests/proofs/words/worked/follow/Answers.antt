@@ -1,4 +1,4 @@
-use Rattle.std.proofs.Common.{ℕ, ◌+◌, ◌≡◌, true, rules, sym, subst, arith}
+use Rattle.std.proofs.Common.{ℕ, ◌≡◌, true, rules, sym, subst, arith}
 use Rattle.nio_table_tests.proofs.Following.{ready, may, follows_on}
 use Rattle.nio_table_tests.specs.Following.{Follows}
 use Rattle.nio_table_tests.proofs.words.worked.follow.Goals as goal

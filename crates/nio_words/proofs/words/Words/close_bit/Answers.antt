@@ -1,8 +1,12 @@
 use Rattle.nio_words.proofs.Channels.{close_bit_moves}
 use Rattle.nio_words.proofs.words.Words.close_bit.Goals as goal
 
-pub step-found-requires : goal.step-found-requires
-step-found-requires c = (
+pub step_that-found-requires : goal.step_that-found-requires
+step_that-found-requires c = (
   c.requires.ready,
-  (close_bit_moves _ c.args.me c.args.c c.requires.channel, λ _. (c.requires.channel, c.requires.made)),
+  (
+    rw c.channel-closed.ensures.word
+        (close_bit_moves _ c.args.me c.args.c c.args.from c.requires.channel c.channel-closed.ensures.serial),
+    λ _. (c.requires.channel, c.requires.was_open),
+  ),
 )

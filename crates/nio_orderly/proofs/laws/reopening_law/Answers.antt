@@ -1,0 +1,10 @@
+use Rattle.nio_orderly.proofs.ClosersKeys.{closers_cancel_their_own}
+use Rattle.nio_orderly.proofs.Reopening.{keys_keep_their_channel, selections_keep_channels}
+use Rattle.nio_orderly.proofs.laws.reopening_law.Goals as goal
+
+pub returns : goal.returns
+returns c = record {
+  keys = keys_keep_their_channel;
+  selections = selections_keep_channels;
+  closers = closers_cancel_their_own;
+}

@@ -1,0 +1,9 @@
+-- Going over the indexes of a selector at the end of a selection.
+use Rattle.std.specs.Prelude.{ℕ}
+use Rattle.nio_base.specs.declared.numbers.SelNo.{SelNo}
+use Rattle.nio_steps.specs.Plan.{Plan}
+use Rattle.nio_steps.specs.SelectCalls.{remove_if_cancelled}
+
+-- what is done at an index that isn't free
+abbrev pub removes_at : SelNo → ℕ → Unit {0} → Plan (Unit {0})
+removes_at s i before = remove_if_cancelled s i
