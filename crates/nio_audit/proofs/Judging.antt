@@ -26,7 +26,8 @@ use Rattle.nio_history.specs.Answers.{Answers}
 use Rattle.nio_history.specs.Conditions.{Condition, IsCaller}
 use Rattle.nio_history.specs.Histories.{state_after, mine, event_of, IsStep, IsLegal}
 use Rattle.nio_history.specs.Sound.{IsSound}
-use Rattle.nio_history.specs.State.{State, last_serial}
+use Rattle.nio_base.specs.Numbers.{last_serial}
+use Rattle.nio_history.specs.State.{State}
 use Rattle.nio_history.specs.declared.act.Act.{Act}
 use Rattle.nio_history.specs.declared.act.Act.TheVariants.{ClaimAgain, Reopen}
 use Rattle.nio_history.specs.declared.event.Event.{Event}

@@ -2,7 +2,8 @@
 use Rattle.std.specs.Prelude.{◌*◌, ◌<◌, ⊤}
 use Rattle.nio_audit.specs.StepNumbers.{StepNumber, no_number, channel_made, index_claimed, index_claimed_again}
 use Rattle.nio_audit.specs.StepNumbers.{part_looked_at, channel_reopened}
-use Rattle.nio_history.specs.State.{State, last_serial}
+use Rattle.nio_base.specs.Numbers.{last_serial}
+use Rattle.nio_history.specs.State.{State}
 
 -- an index that is claimed again has a next serial, and so has a channel whose number is given to a new one
 abbrev pub IsBounded : State → StepNumber → Type 0

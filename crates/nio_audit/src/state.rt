@@ -2,7 +2,8 @@
 ghost use Rattle.std.specs.Prelude.{◌≡◌, ◌<◌, OnOk, ℕ, Bool, false, ◌&&◌};
 ghost use Rattle.nio_base.specs.declared.numbers.CallerNo.{CallerNo};
 ghost use Rattle.nio_history.specs.Acts.{closed_from, effect, frees_index, new_channel, new_key, taken_by};
-ghost use Rattle.nio_history.specs.State.{last_serial, opening};
+ghost use Rattle.nio_base.specs.Numbers.{last_serial};
+ghost use Rattle.nio_history.specs.State.{opening};
 ghost use Rattle.nio_history.specs.declared.found.Stage.{Stage};
 
 use crate::table::{Cube, Grid, Row};

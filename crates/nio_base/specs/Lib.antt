@@ -1,3 +1,4 @@
 pub mod Kind
 pub mod Limits
 pub mod Numbers
+pub mod Ops

@@ -9,10 +9,10 @@ use Rattle.std.proofs.Math.Bool.{and-false}
 use Rattle.nio_base.specs.declared.numbers.ChanId.{ChanId}
 use Rattle.nio_history.specs.Acts.{closes_from, closed_from, takes_close}
 use Rattle.nio_history.specs.Sets.{fits_channel, was_opened, was_closed, is_open_channel, can_reopen}
-use Rattle.nio_history.specs.State.{last_serial}
+use Rattle.nio_base.specs.Numbers.{last_serial}
 use Rattle.nio_history.specs.declared.act.Act.TheVariants.{CloseBit}
 use Rattle.nio_history.specs.declared.found.Chan.{Chan}
-use Rattle.nio_channel.specs.Closed.{closes}
+use Rattle.nio_history.specs.OwnEvents.{closes}
 
 -- what stands of a channel that a look finds open
 pub record IsOpen (found : Chan) (n : ℕ) : Type 0 where

@@ -20,7 +20,8 @@ use Rattle.nio_history.specs.Permanent.{index_claimed}
 use Rattle.nio_history.specs.OwnEvents.{own_claim, is_unpublished}
 use Rattle.nio_history.specs.PassViews.{PassView, Holds, known, ActsClause, HasNoPin}
 use Rattle.nio_history.specs.Sets.{can_come_back}
-use Rattle.nio_history.specs.State.{State, last_serial}
+use Rattle.nio_base.specs.Numbers.{last_serial}
+use Rattle.nio_history.specs.State.{State}
 use Rattle.nio_history.specs.declared.act.Act.{Act}
 use Rattle.nio_history.specs.declared.act.Act.TheVariants.{LookKey, Claim, LookKeys, TakeFree, ClaimAgain}
 use Rattle.nio_history.specs.declared.found.Stage.{Stage}

@@ -13,7 +13,8 @@ ghost use Rattle.nio_steps.specs.Names.{key};
 ghost use Rattle.nio_steps.specs.Runs.{Completes};
 ghost use Rattle.nio_words.specs.Passes.{IsReady, limits_of, state_seen};
 ghost use Rattle.nio_words.specs.Views.{view, IsPinned};
-ghost use Rattle.nio_channel.specs.Closed.{IsClosed, closes};
+ghost use Rattle.nio_history.specs.OwnEvents.{closes};
+ghost use Rattle.nio_channel.specs.Closed.{IsClosed};
 
 use crate::keys::look_enrolled;
 use crate::looks::has_number;

@@ -4,7 +4,7 @@ ghost use Rattle.nio_history.specs.Conditions.{IsChannel, is_made};
 ghost use Rattle.nio_history.specs.OwnEvents.{has, reopens};
 ghost use Rattle.nio_history.specs.PassViews.{HasChannel, done_between};
 ghost use Rattle.nio_history.specs.Sets.{can_reopen as may_come_back};
-ghost use Rattle.nio_history.specs.State.{last_serial};
+ghost use Rattle.nio_base.specs.Numbers.{last_serial};
 ghost use Rattle.nio_steps.specs.Calls.{CallClause};
 ghost use Rattle.nio_steps.specs.ChannelCalls.{reopen_channel_plan, reopens_number};
 ghost use Rattle.nio_steps.specs.ChannelCalls.{reopen_clear as reopens_clear, reopen_found as reopens_found};

@@ -16,7 +16,7 @@ use Rattle.nio_link.specs.Readiness.{without}
 use Rattle.nio_link.specs.declared.place.Place.{Place}
 use Rattle.nio_link.specs.declared.place.Standing.{Standing}
 use Rattle.nio_poller.proofs.Marks.{within_trans}
-use Rattle.nio_steps.specs.KeyCalls.{is_within}
+use Rattle.nio_base.specs.Ops.{is_within}
 use Rattle.nio_checked.specs.Checked.{IsKept, kept_at}
 use Rattle.nio_checked.specs.Listed.{AreReady, IsTold, changed_at, told_after}
 

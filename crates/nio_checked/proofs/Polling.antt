@@ -6,7 +6,7 @@ use Rattle.nio_base.specs.declared.numbers.ChanNo.{ChanNo}
 use Rattle.nio_poller.proofs.Marks.{bits_in_channel}
 use Rattle.nio_poller.specs.Polls.{told_of_channel}
 use Rattle.nio_steps.proofs.Lists.{contains-middle}
-use Rattle.nio_steps.specs.KeyCalls.{is_within}
+use Rattle.nio_base.specs.Ops.{is_within}
 use Rattle.nio_steps.specs.SelectCalls.{told_bits}
 use Rattle.nio_steps.specs.declared.looked.LookedKey.{LookedKey}
 use Rattle.nio_checked.proofs.Keeping.{ready_same}

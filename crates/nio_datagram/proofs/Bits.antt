@@ -2,7 +2,7 @@
 use Rattle.std.proofs.Common.{ℕ, Bool, true, false, Result, Ok, Err, IsTrue}
 use Rattle.nio_link.specs.declared.net.Failed.{Failed}
 use Rattle.nio_serve.proofs.Bits.{keeps_read, keeps_write}
-use Rattle.nio_steps.specs.KeyCalls.{is_within}
+use Rattle.nio_base.specs.Ops.{is_within}
 use Rattle.nio_datagram.specs.Readiness.{ready_after_receive, ready_after_send}
 use Rattle.nio_datagram.specs.declared.net.Came.{Came}
 use Rattle.nio_datagram.specs.declared.net.Came.TheVariants as came

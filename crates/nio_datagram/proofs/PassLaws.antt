@@ -14,7 +14,7 @@ use Rattle.nio_bytes.specs.Cause.{HasCause}
 use Rattle.nio_link.proofs.Channels.{all_same}
 use Rattle.nio_link.specs.Links.{IsSameBut}
 use Rattle.nio_link.specs.declared.net.Failed.{Failed}
-use Rattle.nio_steps.specs.KeyCalls.{is_within}
+use Rattle.nio_base.specs.Ops.{is_within}
 use Rattle.nio_serve.proofs.Working.{later_all}
 use Rattle.nio_datagram.proofs.Bits.{receive_keeps_write, send_keeps_read}
 use Rattle.nio_datagram.specs.Datagrams.{Datagram, as_fault, heard_of}

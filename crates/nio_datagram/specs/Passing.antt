@@ -6,7 +6,7 @@ use Rattle.std.specs.Option.{option_to_list}
 use Rattle.nio_base.specs.declared.numbers.Addr.{Addr}
 use Rattle.nio_base.specs.declared.numbers.ChanNo.{ChanNo}
 use Rattle.nio_link.specs.declared.net.Failed.{Failed}
-use Rattle.nio_steps.specs.KeyCalls.{is_within}
+use Rattle.nio_base.specs.Ops.{is_within}
 use Rattle.nio_datagram.specs.Datagrams.{Datagram, heard_of, as_fault}
 use Rattle.nio_datagram.specs.Nets.{PacketView, Receives, Sends}
 use Rattle.nio_datagram.specs.Packets.{Packet, bytes_of, heard_from, first_sender}

@@ -2,7 +2,7 @@
 ghost use Rattle.std.specs.Prelude.{◌≡◌, ◌+◌, ◌<◌, ◌≤◌, ◌⊎◌, false, IfOk, IfSome, IsErr, IsSome, IsTrue, None, OnOk};
 ghost use Rattle.std.specs.Prelude.{Some, is_some};
 ghost use Rattle.nio_bytes.specs.Cause.{Rose};
-ghost use Rattle.nio_steps.specs.KeyCalls.{is_within};
+ghost use Rattle.nio_base.specs.Ops.{is_within};
 ghost use Rattle.nio_datagram.specs.Nets.{view_by, NoneFailed};
 ghost use Rattle.nio_datagram.specs.Packets.{is_stranger};
 ghost use Rattle.nio_datagram.specs.Passing.{Takes, Gives, IsKnown, IsPassing, Advances, peer_after, peer_told};

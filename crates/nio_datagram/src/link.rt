@@ -1,7 +1,7 @@
 //! A datagram channel that keeps whether it is bound and to whom it is connected, and refuses the calls that its state
 //! doesn't allow.
 ghost use Rattle.std.specs.Prelude.{◌≡◌, ◌≤◌, IsTrue, None, length};
-ghost use Rattle.nio_steps.specs.KeyCalls.{is_within};
+ghost use Rattle.nio_base.specs.Ops.{is_within};
 ghost use Rattle.nio_datagram.specs.Packets.{is_stranger};
 ghost use Rattle.nio_datagram.specs.Nets.{view_by};
 ghost use Rattle.nio_datagram.specs.Datagrams.{StandsAs, as_fault, heard_of, bind_refusal, connect_refusal};

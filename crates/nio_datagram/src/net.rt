@@ -2,7 +2,7 @@
 ghost use Rattle.std.specs.Prelude.{◌≡◌, ◌≤◌, IfOk, IsTrue, length};
 ghost use Rattle.nio_bytes.specs.Cause.{HasCause};
 ghost use Rattle.nio_link.specs.Links.{IsSameBut};
-ghost use Rattle.nio_steps.specs.KeyCalls.{is_within};
+ghost use Rattle.nio_base.specs.Ops.{is_within};
 ghost use Rattle.nio_datagram.specs.Packets.{Traffic, IsCame, after_receive, after_send};
 ghost use Rattle.nio_datagram.specs.Places.{IsBound, place_after_bind, place_after_close};
 ghost use Rattle.nio_datagram.specs.Readiness.{ready_after_receive, ready_after_send};

@@ -1,7 +1,7 @@
 //! A relay of packets at work: two links, and a direction from each to the other.
 ghost use Rattle.std.specs.Prelude.{◌≡◌, ℕ, ◌<◌, ◌≤◌, ◌⊎◌, IfOk, IsErr, IsTrue, OnOk, Some};
 ghost use Rattle.nio_bytes.specs.Cause.{Rose};
-ghost use Rattle.nio_steps.specs.KeyCalls.{is_within};
+ghost use Rattle.nio_base.specs.Ops.{is_within};
 ghost use Rattle.nio_datagram.specs.Nets.{view_by, NoneFailed};
 ghost use Rattle.nio_datagram.specs.Relaying.{fresh_relay, relay_between, AreBound, IsRelaying, Moves, Opens, Quits};
 ghost use Rattle.nio_datagram.specs.Packets.{no_traffic};

@@ -2,7 +2,7 @@
 ghost use Rattle.std.specs.Prelude.{◌≡◌, ◌<◌, ◌≤◌, ◌⊎◌, Err, IfOk, IsTrue, OnOk};
 ghost use Rattle.nio_bytes.specs.Cause.{Rose};
 ghost use Rattle.nio_poller.specs.Polls.{told_of_channel};
-ghost use Rattle.nio_steps.specs.KeyCalls.{is_within};
+ghost use Rattle.nio_base.specs.Ops.{is_within};
 ghost use Rattle.nio_words.specs.Passes.{IsFirstPass};
 ghost use Rattle.nio_datagram.specs.Nets.{view_by, NoneFailed};
 ghost use Rattle.nio_datagram.specs.Packets.{no_traffic};

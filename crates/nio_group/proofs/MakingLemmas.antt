@@ -20,7 +20,8 @@ use Rattle.nio_group.specs.declared.pending.Pending as slots
 use Rattle.nio_group.specs.Flight.{Flight, IsPendingAs, in_flight_on}
 use Rattle.nio_group.specs.Group.{Group, IsLawful, IsMade, no_channel, new_channel, new_endpoint, channel_at}
 use Rattle.nio_group.specs.GroupKept.{IsGroupKept, group_of, is_open}
-use Rattle.nio_group.specs.Making.{is_of_kind, gives_way, comes_back, first_back, next_name, put_channel, with_made, last_serial}
+use Rattle.nio_base.specs.Numbers.{last_serial}
+use Rattle.nio_group.specs.Making.{is_of_kind, gives_way, comes_back, first_back, next_name, put_channel, with_made}
 use Rattle.nio_group.specs.Pending.{nothing_pending}
 use Rattle.nio_group.specs.Steps.{answer_to_open, after_open, name_or_spent}
 use Rattle.nio_group.specs.declared.refusal.StartError.{StartError}

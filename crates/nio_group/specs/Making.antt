@@ -1,6 +1,7 @@
 -- Under which name the next channel of a kind is made.
 use Rattle.std.specs.Prelude.{ℕ, ◌+◌, Bool, true, false, if◌then◌else◌, not, ◌&&◌, ◌==◌, nat_lt, List, [], ◌∷◌, ◌++◌}
 use Rattle.std.specs.Prelude.{length, slice_set, Option, Some, None}
+use Rattle.nio_base.specs.Numbers.{last_serial}
 use Rattle.nio_base.specs.declared.numbers.GChan.{GChan}
 use Rattle.nio_base.specs.declared.group.GKind.{GKind}
 use Rattle.nio_base.specs.declared.group.GKind.TheVariants as kind
@@ -9,10 +10,6 @@ use Rattle.nio_group.specs.declared.channel.Endpoint.{Endpoint}
 use Rattle.nio_group.specs.declared.channel.Endpoint.TheVariants.{Stream, Listener}
 use Rattle.nio_group.specs.Flight.{Flight, in_flight_on}
 use Rattle.nio_group.specs.Group.{Group, new_channel}
-
--- the greatest serial
-abbrev pub last_serial : ℕ
-last_serial = 4294967295
 
 abbrev pub is_of_kind : GKind → Endpoint → Bool
 is_of_kind kind.Stream (Stream link) = true

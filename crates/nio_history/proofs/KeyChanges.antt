@@ -10,7 +10,8 @@ use Rattle.nio_history.proofs.Put.{put_at_keeps}
 use Rattle.nio_history.specs.Acts.{effect, new_key}
 use Rattle.nio_history.specs.Answers.{Answers, is_pinned}
 use Rattle.nio_history.specs.Sets.{can_come_back}
-use Rattle.nio_history.specs.State.{State, last_serial}
+use Rattle.nio_base.specs.Numbers.{last_serial}
+use Rattle.nio_history.specs.State.{State}
 use Rattle.nio_history.specs.declared.act.Act.{Act}
 use Rattle.nio_history.specs.declared.act.Act.TheVariants.{CancelKey, Claim, Publish, Remove, ClaimAgain}
 use Rattle.nio_history.specs.declared.found.Stage.{Stage}

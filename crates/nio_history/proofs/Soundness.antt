@@ -25,7 +25,8 @@ use Rattle.nio_history.specs.Histories.{state_after, mine, IsStep, IsLegal}
 use Rattle.nio_history.specs.OwnEvents.{OwnClaim, has, enters, finds_below, since_entered, own_claim}
 use Rattle.nio_history.specs.Sets.{in_cancelled_set, can_come_back}
 use Rattle.nio_history.specs.Sound.{IsSound}
-use Rattle.nio_history.specs.State.{State, opening, unmade_channel, unclaimed, last_serial}
+use Rattle.nio_base.specs.Numbers.{last_serial}
+use Rattle.nio_history.specs.State.{State, opening, unmade_channel, unclaimed}
 use Rattle.nio_history.specs.declared.act.Act.{Act}
 use Rattle.nio_history.specs.declared.act.Act.TheVariants.{Claim, RaiseKeys, TakeTurn, BeginLook, GiveTurn}
 use Rattle.nio_history.specs.declared.act.Act.TheVariants.{Remove, RaiseChannels, TryHoldBit, Release}

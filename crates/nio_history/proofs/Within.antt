@@ -20,7 +20,8 @@ use Rattle.nio_history.specs.Conditions.{Condition, IsCaller, IsChannel}
 use Rattle.nio_history.specs.Histories.{state_after, mine, IsStep, IsLegal}
 use Rattle.nio_history.specs.OwnEvents.{OwnClaim, claim_changed, own_claim}
 use Rattle.nio_history.specs.Sound.{IsSound, IsWithin}
-use Rattle.nio_history.specs.State.{State, opening, last_serial, put_at}
+use Rattle.nio_base.specs.Numbers.{last_serial}
+use Rattle.nio_history.specs.State.{State, opening, put_at}
 use Rattle.nio_history.specs.declared.act.Act.{Act}
 use Rattle.nio_history.specs.declared.act.Act.TheVariants.{DrawBit, MakeSelector, SetInterrupt, TakeInterrupt}
 use Rattle.nio_history.specs.declared.act.Act.TheVariants.{CancelKey}

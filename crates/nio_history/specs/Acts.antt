@@ -12,7 +12,8 @@ use Rattle.nio_history.specs.State.{State, with_drawn, with_interrupted, with_se
 use Rattle.nio_history.specs.State.{with_hold, with_enrolled, with_gate, with_turn, with_keys_high, with_key}
 use Rattle.nio_history.specs.State.{with_interest}
 use Rattle.nio_history.specs.State.{with_mark, with_note, with_pin, with_free, with_begun, with_closer, with_entered}
-use Rattle.nio_history.specs.State.{with_taker, with_put_due, with_no_put_due, unmarked, last_serial}
+use Rattle.nio_base.specs.Numbers.{last_serial}
+use Rattle.nio_history.specs.State.{with_taker, with_put_due, with_no_put_due, unmarked}
 use Rattle.nio_history.specs.declared.act.Act.{Act}
 use Rattle.nio_history.specs.declared.act.Act.TheVariants.{DrawBit, MakeSelector, LookSelectors, Wake, LookGate}
 use Rattle.nio_history.specs.declared.act.Act.TheVariants.{SetInterrupt, TakeInterrupt, LookInterrupt, LookKey}

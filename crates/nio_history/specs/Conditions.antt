@@ -18,7 +18,8 @@ use Rattle.nio_base.specs.declared.numbers.SelNo.{SelNo}
 use Rattle.nio_history.specs.OwnEvents.{OwnClaim, has, last, under, since_entered, since_taken, stage_found}
 use Rattle.nio_history.specs.OwnEvents.{finds_unblocked, finds_below, own_claim, is_unpublished, is_clear}
 use Rattle.nio_history.specs.Sets.{in_cancelled_set}
-use Rattle.nio_history.specs.State.{State, last_serial}
+use Rattle.nio_base.specs.Numbers.{last_serial}
+use Rattle.nio_history.specs.State.{State}
 use Rattle.nio_history.specs.declared.act.Act.{Act}
 use Rattle.nio_history.specs.declared.act.Act.TheVariants.{DrawBit, MakeSelector, LookSelectors, Wake, LookGate}
 use Rattle.nio_history.specs.declared.act.Act.TheVariants.{SetInterrupt, TakeInterrupt, LookInterrupt, LookKey}

@@ -84,8 +84,9 @@ FoundClearStays = (l : Limits) (n : CallerNo) (c : ChanNo) (before later : List 
     → ForSome ((state_after (before ++ later)).enrolled c.0 s.0)
     (λ k. IsFalse (is_in_key_set ((state_after (before ++ later)).key s.0 k.index) k.serial))
 
--- Where `is_clear` is true of the caller's acts under its present hold, no key of the key set is enrolled.
--- `is_clear` is the condition of enrolling a key, and of blocking mode
+-- Where `is_clear` is true of the caller's acts under its present hold, the key that is enrolled for the channel, if
+-- any, isn't in the key set. `is_clear` is a condition of enrolling a key, of blocking mode and of giving the number
+-- to a new channel.
 abbrev pub ClearIsTrue : Type 0
 ClearIsTrue = (l : Limits) (n : CallerNo) (c : ChanNo) (events : List Event) → IsFit l → IsLegal l events
     → IsTrue (holds (state_after events) n c)

@@ -5,15 +5,17 @@ use Rattle.std.specs.Prelude.{ℕ, suc, ◌==◌, nat_lt, Bool, true, false, not
 use Rattle.std.specs.Prelude.{None, List, [], ◌∷◌, ◌++◌, fold, count_by}
 use Rattle.std.specs.List.{list_any}
 use Rattle.std.specs.Option.{option_or}
+use Rattle.nio_base.specs.declared.numbers.ChanId.{ChanId}
 use Rattle.nio_base.specs.declared.numbers.ChanNo.{ChanNo}
 use Rattle.nio_base.specs.declared.numbers.KeyId.{KeyId}
+use Rattle.nio_history.specs.Acts.{takes_close}
 use Rattle.nio_history.specs.Sets.{is_in_key_set}
 use Rattle.nio_history.specs.declared.act.Act.{Act}
 use Rattle.nio_history.specs.declared.act.Act.TheVariants.{LookKey, LookChannel, Claim, LookKeys, LookReg, Enrol}
 use Rattle.nio_history.specs.declared.act.Act.TheVariants.{GiveTurn, TryHoldBit, Release, SetMode, Enter, Publish, Pin}
 use Rattle.nio_history.specs.declared.act.Act.TheVariants.{Unpin, ClaimAgain, PutFree, TakeFree}
 use Rattle.nio_history.specs.declared.found.Stage.{Stage}
-use Rattle.nio_history.specs.declared.act.Act.TheVariants.{Reopen}
+use Rattle.nio_history.specs.declared.act.Act.TheVariants.{Reopen, CloseBit}
 
 -- ---- general words
 
@@ -42,6 +44,11 @@ since_first opens (act ∷ later) = if opens act then later else since_first ope
 abbrev pub is_yes : Option Bool → Bool
 is_yes None = false
 is_yes (Some b) = b
+
+-- it closed the channel of number c with this serial, which was open
+abbrev pub closes : ChanId → Act → Bool
+closes c (CloseBit c' from found) = (c'.0 == c.number.0) && (from.serial == c.serial) && takes_close from found
+closes c _ = false
 
 -- ---- spans
 

@@ -4,7 +4,8 @@
 -- A key is an index with its serial. The stage of an index tells of its present key; a key with a lower
 -- serial was published, cancelled and removed before.
 use Rattle.std.specs.Prelude.{◌≡◌, ℕ, ◌==◌, nat_lt, Bool, not, ◌&&◌, ◌||◌, IsTrue}
-use Rattle.nio_history.specs.State.{State, last_serial}
+use Rattle.nio_base.specs.Numbers.{last_serial}
+use Rattle.nio_history.specs.State.{State}
 use Rattle.nio_history.specs.declared.found.Stage.{Stage}
 use Rattle.nio_history.specs.declared.found.Chan.{Chan}
 use Rattle.nio_base.specs.declared.numbers.ChanId.{ChanId}

@@ -4,7 +4,8 @@ use Rattle.std.specs.Option.{ForSome}
 use Rattle.nio_base.specs.declared.limits.Limits.{Limits}
 use Rattle.nio_history.specs.Conditions.{IsCaller, IsChannel}
 use Rattle.nio_history.specs.Sets.{can_come_back}
-use Rattle.nio_history.specs.State.{State, unmade_channel, unclaimed, last_serial}
+use Rattle.nio_base.specs.Numbers.{last_serial}
+use Rattle.nio_history.specs.State.{State, unmade_channel, unclaimed}
 
 pub record IsSound (st : State) : Type 0 where
   -- every channel below the channels' high-water mark is made

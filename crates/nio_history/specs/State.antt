@@ -77,10 +77,6 @@ unclaimed =
 abbrev pub unmarked : Mark
 unmarked = record { selected = false; ready = 0 }
 
--- the last serial that a key and a channel can have: the index and the number don't come back
-abbrev pub last_serial : ℕ
-last_serial = 4294967295
-
 -- the opening state: nothing is drawn, made, shut, claimed or interrupted
 abbrev pub opening : State
 opening = record {

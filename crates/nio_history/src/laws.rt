@@ -101,9 +101,10 @@ pub fn found_law()
     ensures stands { FoundStands }
 {}
 
-/// While a caller holds a number of channels, nobody else gives it to a new channel, sets its channel's mode,
-/// enrols a key for it or publishes a key of it. So what the caller last found enrolled is enrolled, and a key
-/// that it found outside the key set is outside.
+/// While a caller holds a channel number, nobody else gives the number to a new channel, sets the mode of its
+/// channel, enrols a key for it or publishes a key of it. So what the caller last found enrolled is enrolled, and
+/// a key that it found outside the key set is outside. Others may still close the channel; a closing that began
+/// while the channel was non-blocking may leave the closed channel non-blocking.
 pub fn hold_law()
     ensures channel { ChannelStays }
     ensures mode { ModeStays }

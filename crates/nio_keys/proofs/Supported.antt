@@ -10,7 +10,8 @@ use Rattle.nio_history.specs.Sets.{is_valid_key}
 use Rattle.nio_history.specs.declared.found.Stage.{Stage}
 use Rattle.nio_steps.proofs.CallLaws.{ran_then, left_of_call, left_after_call, returned}
 use Rattle.nio_steps.specs.Calls.{CallClause}
-use Rattle.nio_steps.specs.KeyCalls.{if_valid, is_within, on_supported}
+use Rattle.nio_base.specs.Ops.{is_within}
+use Rattle.nio_steps.specs.KeyCalls.{if_valid, on_supported}
 use Rattle.nio_steps.specs.Plan.{Plan, reply, ask, ◌>>=◌}
 use Rattle.nio_steps.specs.Runs.{Completes}
 use Rattle.nio_steps.specs.Steps.{channel_in}

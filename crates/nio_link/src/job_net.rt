@@ -1,7 +1,7 @@
 //! A net whose links are made, read and written for pending operations of a group alone.
 ghost use Rattle.std.specs.Prelude.{◌≡◌, ◌≢◌, [], IsTrue};
 ghost use Rattle.nio_base.specs.declared.group.OpKind.TheVariants as op;
-ghost use Rattle.nio_steps.specs.KeyCalls.{is_within};
+ghost use Rattle.nio_base.specs.Ops.{is_within};
 ghost use Rattle.nio_link.specs.Accepts.{accepted_after};
 ghost use Rattle.nio_link.specs.Jobs.{of_net};
 ghost use Rattle.nio_link.specs.Nets.{view_by, Listens, Accepts, Connects, Finishes, Reads, Writes, Shuts, Closes};

@@ -1,7 +1,7 @@
 //! What carries bytes over links.
 ghost use Rattle.std.specs.Prelude.{◌≡◌, ◌≢◌, [], IfOk, IsTrue};
 ghost use Rattle.nio_bytes.specs.Cause.{HasCause};
-ghost use Rattle.nio_steps.specs.KeyCalls.{is_within};
+ghost use Rattle.nio_base.specs.Ops.{is_within};
 ghost use Rattle.nio_link.specs.Accepts.{accepted_after};
 ghost use Rattle.nio_link.specs.Links.{Link, IsSameBut, IsGot, IsPut, after_read, after_write, after_shut};
 ghost use Rattle.nio_link.specs.Places.{unused, IsLinked, place_after_listen, place_after_accept, place_after_connect};

@@ -1,6 +1,6 @@
 //! A link that keeps how far it is connected, and refuses the calls that its state doesn't allow.
 ghost use Rattle.std.specs.Prelude.{◌≡◌, ◌≢◌, [], IsTrue};
-ghost use Rattle.nio_steps.specs.KeyCalls.{is_within};
+ghost use Rattle.nio_base.specs.Ops.{is_within};
 ghost use Rattle.nio_link.specs.Nets.{view_by};
 ghost use Rattle.nio_link.specs.Streams.{StandsAs, as_fault, connect_refusal, transfer_refusal, state_after};
 ghost use Rattle.nio_link.specs.Streams.{ConnectClause, FinishClause, ReadClause, WriteClause, CloseClause};

@@ -39,7 +39,8 @@ use Rattle.nio_orderly.proofs.Owed.{valid_coming}
 use Rattle.nio_orderly.proofs.Published.{IsPublish, is_publish, MayClaim, may_claim}
 use Rattle.nio_orderly.specs.AfterClosing.{OnlyPublishersOwe, ClosedSelectorsHaveNoKey}
 use Rattle.nio_orderly.specs.Careful.{IsCareful}
-use Rattle.nio_orderly.specs.Owed.{publishes_key, closes, owes, publisher_duty, closing_duty, clearing_duty, OwesSince}
+use Rattle.nio_history.specs.OwnEvents.{closes}
+use Rattle.nio_orderly.specs.Owed.{publishes_key, owes, publisher_duty, closing_duty, clearing_duty, OwesSince}
 use Rattle.nio_orderly.specs.Owed.{key_of, channel_of_key}
 use Rattle.nio_orderly.specs.Settled.{IsSettled, SettledLosesNoKey}
 use Rattle.nio_steps.proofs.OwnActs.{Cut, cut_at}

@@ -36,7 +36,8 @@ use Rattle.nio_orderly.proofs.KeySet.{WasThere, was_valid, came, came_closed}
 use Rattle.nio_orderly.proofs.KeysStand.{KeysStand, keys_stand, set_claimed, set_fits, same_channel_step}
 use Rattle.nio_orderly.proofs.Standing.{claimed_made}
 use Rattle.nio_orderly.specs.Careful.{IsCareful}
-use Rattle.nio_orderly.specs.Owed.{publishes_key, closes, looks_at_channel, finds_closed, looks_for_key, finds_key}
+use Rattle.nio_history.specs.OwnEvents.{closes}
+use Rattle.nio_orderly.specs.Owed.{publishes_key, looks_at_channel, finds_closed, looks_for_key, finds_key}
 use Rattle.nio_orderly.specs.Owed.{cancels, settles_key, Duty, owes, publisher_duty, closing_duty, OwesSince}
 use Rattle.nio_orderly.specs.Owed.{finds_another, OwesCancelling, key_of, channel_of_key}
 use Rattle.nio_steps.proofs.OwnActs.{cut_at}

@@ -26,7 +26,8 @@ use Rattle.nio_orderly.proofs.LookingBackLaw.{careful_from_acts}
 use Rattle.nio_orderly.proofs.Owed.{nothing_is_lost}
 use Rattle.nio_orderly.specs.Careful.{IsCareful}
 use Rattle.nio_orderly.specs.Examples.{closed_meanwhile, DebtStands, unenrolled_key, CancellationIsLost}
-use Rattle.nio_orderly.specs.Owed.{publishes_key, closes, Duty, owes, publisher_duty, closing_duty, OwesSince, Owed}
+use Rattle.nio_history.specs.OwnEvents.{closes}
+use Rattle.nio_orderly.specs.Owed.{publishes_key, Duty, owes, publisher_duty, closing_duty, OwesSince, Owed}
 
 -- ---- for each caller
 

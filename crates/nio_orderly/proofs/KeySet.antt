@@ -15,7 +15,8 @@ use Rattle.nio_history.specs.declared.act.Act.TheVariants.{CancelKey, Claim, Pub
 use Rattle.nio_history.specs.declared.act.Act.TheVariants.{ClaimAgain}
 use Rattle.nio_history.specs.declared.found.Chan.{Chan}
 use Rattle.nio_history.specs.declared.found.Stage.{Stage}
-use Rattle.nio_orderly.specs.Owed.{publishes_key, closes}
+use Rattle.nio_history.specs.OwnEvents.{closes}
+use Rattle.nio_orderly.specs.Owed.{publishes_key}
 use Rattle.nio_steps.specs.Names.{channel_of}
 
 -- the key of an index was in the key set before, and is the same key

@@ -34,7 +34,8 @@ use Rattle.nio_steps.specs.ChannelCalls.{under_hold, register_enrolled, register
 use Rattle.nio_steps.specs.ChannelCalls.{claim_at_bit, claim_in_word, search_free, words_below, claim_new, settle_key}
 use Rattle.nio_steps.specs.ChannelCalls.{publish_key, make_key, make_claimed, register_first, register_next}
 use Rattle.nio_steps.specs.ChannelCalls.{register_rest, register_unblocked, register_held, try_register_plan}
-use Rattle.nio_steps.specs.KeyCalls.{has_bit, is_within}
+use Rattle.nio_base.specs.Ops.{is_within}
+use Rattle.nio_steps.specs.KeyCalls.{has_bit}
 use Rattle.nio_steps.specs.Names.{key}
 use Rattle.nio_steps.specs.Plan.{Plan, reply, ask, ◌>>=◌, ◌>>◌, when}
 use Rattle.nio_steps.specs.Runs.{Completes}

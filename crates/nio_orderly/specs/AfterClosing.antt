@@ -14,7 +14,8 @@ use Rattle.nio_history.specs.Sets.{is_valid}
 use Rattle.nio_history.specs.declared.act.Act.{Act}
 use Rattle.nio_history.specs.declared.event.Event.{Event}
 use Rattle.nio_orderly.specs.Careful.{IsCareful}
-use Rattle.nio_orderly.specs.Owed.{owes, closes, closing_duty, clearing_duty, publishes_key, publisher_duty, key_of}
+use Rattle.nio_history.specs.OwnEvents.{closes}
+use Rattle.nio_orderly.specs.Owed.{owes, closing_duty, clearing_duty, publishes_key, publisher_duty, key_of}
 use Rattle.nio_orderly.specs.Owed.{channel_of_key, OwesSince}
 
 -- the caller closed the channel, and owes the cancelling of no key of it

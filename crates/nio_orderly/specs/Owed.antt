@@ -12,7 +12,7 @@ use Rattle.nio_base.specs.declared.numbers.ChanId.{ChanId}
 use Rattle.nio_base.specs.declared.numbers.KeyId.{KeyId}
 use Rattle.nio_history.specs.Acts.{takes_close}
 use Rattle.nio_history.specs.Histories.{state_after, mine, IsLegal}
-use Rattle.nio_history.specs.OwnEvents.{has, since_entered, finds_outside, finds_below}
+use Rattle.nio_history.specs.OwnEvents.{closes, has, since_entered, finds_outside, finds_below}
 use Rattle.nio_history.specs.Pins.{removes}
 use Rattle.nio_history.specs.Sets.{is_valid, fits_channel, IsRegistered}
 use Rattle.nio_history.specs.State.{State}
@@ -29,11 +29,6 @@ publishes_key c s k (Publish s' i found) =
     (s'.0 == s) && (i == k.index) && (found.chan.0 == c) && (found.serial == k.serial) && not found.published
     && not found.removed
 publishes_key c s k _ = false
-
--- it closed the channel of number c with this serial, which was open
-abbrev pub closes : ChanId → Act → Bool
-closes c (CloseBit c' from found) = (c'.0 == c.number.0) && (from.serial == c.serial) && takes_close from found
-closes c _ = false
 
 -- it looked at the channel of number c; found it closed; found another one than this channel
 abbrev pub looks_at_channel : ℕ → Act → Bool

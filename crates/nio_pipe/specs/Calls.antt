@@ -24,8 +24,8 @@ TriesRead l source = RefusesBy (try_read_plan l source)
 abbrev pub TriesWrite : Limits → ChanId → ChanId → List Act → Result PipeWrite PipeError → Type 0
 TriesWrite l source sink = RefusesBy (try_write_plan l source sink)
 
--- A call that waits is runs of a plan. `none` says whether the last one found no bytes, or no room; `HadToWait` what
--- stands where so many went before it.
+-- A call that waits runs the plan once or more. `none` says whether the last run found no bytes, or no room.
+-- `HadToWait n` has to hold where `n` runs went before the last.
 pub record WaitsWhere (HadToWait : ℕ → Type 0) (plan : Plan (Result Bool PipeError)) (none : Bool) (acts : List Act)
     (answer : Result Bool PipeError) : Type 0 where
   pub waits : Waits plan none acts answer

@@ -10,7 +10,7 @@ use Rattle.nio_base.specs.declared.numbers.CallerNo.{CallerNo}
 use Rattle.nio_base.specs.declared.numbers.ChanId.{ChanId}
 use Rattle.nio_history.proofs.ChannelChanges.{same_kind}
 use Rattle.nio_history.specs.Sets.{can_reopen, in_key_set, was_opened}
-use Rattle.nio_history.specs.State.{last_serial}
+use Rattle.nio_base.specs.Numbers.{last_serial}
 use Rattle.nio_history.specs.declared.found.Chan.{Chan}
 use Rattle.nio_language.specs.declared.reply.Reply.TheVariants as reply
 use Rattle.nio_plain.proofs.Found.{found_below}

@@ -7,7 +7,8 @@ use Rattle.nio_base.specs.declared.limits.Limits.{Limits}
 use Rattle.nio_base.specs.declared.numbers.CallerNo.{CallerNo}
 use Rattle.nio_base.specs.declared.numbers.KeyId.{KeyId}
 use Rattle.nio_group.specs.Group.{Group}
-use Rattle.nio_history.specs.State.{unmade_channel, open_gate, unclaimed, unmarked, last_serial, put, with_key}
+use Rattle.nio_base.specs.Numbers.{last_serial}
+use Rattle.nio_history.specs.State.{unmade_channel, open_gate, unclaimed, unmarked, put, with_key}
 use Rattle.nio_history.specs.State.{with_interest, with_mark, with_note, with_free}
 use Rattle.nio_history.specs.Sets.{in_key_set, in_cancelled_set, is_in_key_set, is_valid}
 use Rattle.nio_history.specs.declared.found.Mode.{Mode}

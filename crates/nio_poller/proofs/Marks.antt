@@ -20,7 +20,7 @@ use Rattle.nio_history.specs.declared.found.Mode.{Mode}
 use Rattle.nio_steps.proofs.Lists.{parted, contains-none}
 use Rattle.nio_steps.proofs.ToldLaws.{marks_only_as_told}
 use Rattle.nio_steps.proofs.UnmarkedLaws.{begin_unmarked, again_unmarked}
-use Rattle.nio_steps.specs.KeyCalls.{is_within}
+use Rattle.nio_base.specs.Ops.{is_within}
 use Rattle.nio_steps.specs.SelectCalls.{Selection, Begins, Poll, Tells, ToldReply, again, told_at, told_bits}
 use Rattle.nio_steps.specs.SelectCalls.{begin_finds_busy}
 use Rattle.nio_steps.specs.Selections.{marks_on}

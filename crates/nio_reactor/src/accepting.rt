@@ -8,7 +8,7 @@ ghost use Rattle.nio_link.specs.declared.place.Standing.TheVariants.{Listening};
 ghost use Rattle.nio_relay.specs.Plan.{IsServable};
 ghost use Rattle.nio_serve.specs.Board.{AreReady, IsSameBoard, IsSameSeat};
 ghost use Rattle.nio_serve.specs.Serving.{client_of, clients_below, listener};
-ghost use Rattle.nio_steps.specs.KeyCalls.{is_within};
+ghost use Rattle.nio_base.specs.Ops.{is_within};
 ghost use Rattle.nio_reactor.specs.Accepting.{Accepts, AreEnded, Deals, HasAccepted, HasSent, IsAccepting};
 ghost use Rattle.nio_reactor.specs.Many.{meanings, LeavesAcceptor};
 ghost use Rattle.nio_reactor.specs.Placing.{caller};

@@ -20,7 +20,8 @@ use Rattle.nio_history.specs.Permanent.{a_selection}
 use Rattle.nio_history.specs.Pins.{removes, IsKeptInSelection}
 use Rattle.nio_history.specs.PassViews.{PassView, Holds, known, ActsClause}
 use Rattle.nio_history.specs.Sets.{in_cancelled_set}
-use Rattle.nio_history.specs.State.{State, last_serial}
+use Rattle.nio_base.specs.Numbers.{last_serial}
+use Rattle.nio_history.specs.State.{State}
 use Rattle.nio_history.specs.declared.act.Act.{Act}
 use Rattle.nio_history.specs.declared.act.Act.TheVariants.{LookKey, BeginLook, Remove}
 use Rattle.nio_history.specs.declared.found.GateWord.{GateWord}

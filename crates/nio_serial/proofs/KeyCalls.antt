@@ -22,7 +22,8 @@ use Rattle.nio_plain.specs.Seq.Keys.{iand_call, unselect_call, attach_call, atta
 use Rattle.nio_plain.specs.Seq.Names.{with_named_key}
 use Rattle.nio_steps.specs.KeyCalls.{under_pin, is_valid_plan, interest_plan, ready_plan, set_interest_plan}
 use Rattle.nio_steps.specs.KeyCalls.{interest_or_plan, interest_and_plan, cancel_plan, unselect_plan, attach_plan}
-use Rattle.nio_steps.specs.KeyCalls.{attachment_plan, on_valid, if_valid, is_within, look_set, look_ready, put_set}
+use Rattle.nio_base.specs.Ops.{is_within}
+use Rattle.nio_steps.specs.KeyCalls.{attachment_plan, on_valid, if_valid, look_set, look_ready, put_set}
 use Rattle.nio_steps.specs.KeyCalls.{add_set, keep_set, on_supported, cancel_present, unselect_present, attach_present}
 use Rattle.nio_steps.specs.KeyCalls.{attachment_present}
 use Rattle.nio_steps.specs.Names.{key}

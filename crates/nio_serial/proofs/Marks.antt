@@ -17,7 +17,7 @@ use Rattle.nio_plain.proofs.Lists.{same-is}
 use Rattle.nio_plain.proofs.Places.{put_at_same}
 use Rattle.nio_plain.specs.Seq.Names.{is_same_key}
 use Rattle.nio_plain.specs.Seq.Selections.{all_told, is_looked, marked, is_updated}
-use Rattle.nio_steps.specs.KeyCalls.{is_within}
+use Rattle.nio_base.specs.Ops.{is_within}
 use Rattle.nio_steps.specs.Perform.{Performed, perform}
 use Rattle.nio_steps.specs.Plan.{Plan, ◌>>=◌}
 use Rattle.nio_steps.specs.SelectCalls.{told_at, gains_nothing, one_if, mark_again, mark_looked, mark_told}

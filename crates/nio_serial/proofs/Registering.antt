@@ -25,7 +25,8 @@ use Rattle.nio_plain.specs.Seq.Registering.{registered_new, registered, register
 use Rattle.nio_steps.proofs.PerformLaws.{perform_else, perform_then_on}
 use Rattle.nio_steps.specs.ChannelCalls.{under_hold, update_key, register_enrolled, register_over, register_rest}
 use Rattle.nio_steps.specs.ChannelCalls.{register_new, register_unblocked, register_held, try_register_plan}
-use Rattle.nio_steps.specs.KeyCalls.{under_pin, is_within}
+use Rattle.nio_base.specs.Ops.{is_within}
+use Rattle.nio_steps.specs.KeyCalls.{under_pin}
 use Rattle.nio_steps.specs.Names.{key}
 use Rattle.nio_steps.specs.Perform.{Performed, perform}
 use Rattle.nio_steps.specs.Plan.{Plan, when, ◌>>=◌, ◌>>◌}

@@ -9,7 +9,8 @@ use Rattle.nio_base.specs.declared.numbers.CallerNo.{CallerNo}
 use Rattle.nio_base.specs.declared.numbers.KeyId.{KeyId}
 use Rattle.nio_history.proofs.Put.{put_keeps, put_at_keeps}
 use Rattle.nio_history.specs.Sets.{in_key_set}
-use Rattle.nio_history.specs.State.{State, unclaimed, unmarked, last_serial, put, put_at, with_mark}
+use Rattle.nio_base.specs.Numbers.{last_serial}
+use Rattle.nio_history.specs.State.{State, unclaimed, unmarked, put, put_at, with_mark}
 use Rattle.nio_history.specs.declared.found.Chan.{Chan}
 use Rattle.nio_history.specs.declared.found.Mark.{Mark}
 use Rattle.nio_history.specs.declared.found.Stage.{Stage}

@@ -12,7 +12,8 @@ use Rattle.std.specs.List.{list_any}
 use Rattle.nio_base.specs.declared.numbers.CallerNo.{CallerNo}
 use Rattle.nio_base.specs.declared.numbers.SelNo.{SelNo}
 use Rattle.nio_history.specs.Sets.{in_key_set, in_cancelled_set, is_valid}
-use Rattle.nio_history.specs.State.{State, put_at, last_serial}
+use Rattle.nio_base.specs.Numbers.{last_serial}
+use Rattle.nio_history.specs.State.{State, put_at}
 use Rattle.nio_history.specs.declared.found.Stage.{Stage}
 use Rattle.nio_plain.proofs.Registered.{any-some}
 use Rattle.nio_plain.specs.Seq.Names.{below}

@@ -8,7 +8,8 @@ use Rattle.nio_base.specs.declared.limits.Limits.{Limits}
 use Rattle.nio_base.specs.declared.numbers.CallerNo.{CallerNo}
 use Rattle.nio_base.specs.declared.numbers.ChanId.{ChanId}
 use Rattle.nio_history.specs.Sets.{was_opened}
-use Rattle.nio_history.specs.State.{State, unclaimed, unmarked, last_serial}
+use Rattle.nio_base.specs.Numbers.{last_serial}
+use Rattle.nio_history.specs.State.{State, unclaimed, unmarked}
 use Rattle.nio_history.specs.declared.found.Chan.{Chan}
 use Rattle.nio_language.specs.declared.call.Call.{Call}
 use Rattle.nio_plain.specs.ScriptState.{Pipe, ScriptState, script_opening}

@@ -7,7 +7,7 @@ use Rattle.nio_link.specs.declared.net.Got.{Got}
 use Rattle.nio_link.specs.declared.net.Got.TheVariants as got
 use Rattle.nio_link.specs.declared.net.Put.{Put}
 use Rattle.nio_link.specs.declared.net.Put.TheVariants as put
-use Rattle.nio_steps.specs.KeyCalls.{is_within}
+use Rattle.nio_base.specs.Ops.{is_within}
 use Rattle.nio_serve.specs.Ways.{ReadyAfterRead, ReadyAfterWrite, MayLose}
 
 -- WRITE stays where READ is taken away

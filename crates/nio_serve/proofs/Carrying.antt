@@ -7,7 +7,7 @@ use Rattle.std.proofs.lemmas.List.{append-nil, length-take}
 use Rattle.nio_base.specs.declared.numbers.ChanNo.{ChanNo}
 use Rattle.nio_link.proofs.Channels.{all_same}
 use Rattle.nio_relay.specs.Flow.{Flow, IsLawful, buffered, takes, writes}
-use Rattle.nio_steps.specs.KeyCalls.{is_within}
+use Rattle.nio_base.specs.Ops.{is_within}
 use Rattle.nio_serve.specs.declared.way.Way.{Ghosts}
 use Rattle.nio_serve.specs.Nets.{Works}
 use Rattle.nio_serve.specs.Passing.{Passes}

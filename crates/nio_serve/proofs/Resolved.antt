@@ -5,7 +5,7 @@ use Rattle.std.proofs.lemmas.List.Elements.{All-append}
 use Rattle.nio_base.specs.declared.numbers.ChanNo.{ChanNo}
 use Rattle.nio_poller.proofs.Marks.{IsPart, part_met, part_then, told_in_channel, told_in_pairs}
 use Rattle.nio_steps.proofs.Lists.{all-one}
-use Rattle.nio_steps.specs.KeyCalls.{is_within}
+use Rattle.nio_base.specs.Ops.{is_within}
 use Rattle.nio_steps.specs.SelectCalls.{told_at}
 use Rattle.nio_steps.specs.declared.looked.LookedKey.{LookedKey}
 use Rattle.nio_poller.specs.Polls.{told_of_channel}

@@ -11,7 +11,7 @@ use Rattle.nio_select.specs.InProgress.{Selects}
 use Rattle.nio_serve.specs.Called.{HasCalled, channel_in}
 use Rattle.nio_serve.specs.declared.board.Station.{Station}
 use Rattle.nio_serve.specs.declared.deal.Deal.{Deal}
-use Rattle.nio_steps.specs.KeyCalls.{is_within}
+use Rattle.nio_base.specs.Ops.{is_within}
 use Rattle.nio_steps.specs.Ongoing.{nothing_ongoing}
 use Rattle.nio_steps.specs.SelectCalls.{Selection}
 use Rattle.nio_steps.specs.declared.looked.LookedKey.{LookedKey}

@@ -6,7 +6,7 @@ use Rattle.nio_link.specs.declared.net.Failed.{Failed}
 use Rattle.nio_link.specs.declared.net.Got.{Got}
 use Rattle.nio_link.specs.declared.net.Got.TheVariants as got
 use Rattle.nio_relay.specs.Flow.{Flow, ends, takes}
-use Rattle.nio_steps.specs.KeyCalls.{is_within}
+use Rattle.nio_base.specs.Ops.{is_within}
 use Rattle.nio_serve.specs.declared.way.Way.{Ghosts}
 use Rattle.nio_serve.specs.Nets.{Works}
 use Rattle.nio_serve.specs.Relaying.{KeepsSink, KeepsSource}

@@ -7,7 +7,7 @@ ghost use Rattle.nio_link.specs.Links.{IsSameBut};
 ghost use Rattle.nio_link.specs.Places.{unused, IsVacant};
 ghost use Rattle.nio_link.specs.declared.place.Role.TheVariants as role;
 ghost use Rattle.nio_link.specs.declared.place.Standing.TheVariants.{Linked, Listening, Nothing};
-ghost use Rattle.nio_steps.specs.KeyCalls.{is_within};
+ghost use Rattle.nio_base.specs.Ops.{is_within};
 ghost use Rattle.nio_serve.specs.Board.{IsSameBoard};
 ghost use Rattle.nio_serve.specs.Nets.{Accepts, FailsToAccept, IsQuiet, IsStill};
 ghost use Rattle.nio_serve.specs.Serving.{client_of, listener, target_of};

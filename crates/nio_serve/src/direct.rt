@@ -6,7 +6,7 @@ ghost use Rattle.nio_link.specs.Places.{unused, IsLinked};
 ghost use Rattle.nio_link.specs.declared.place.Standing.TheVariants as standing;
 ghost use Rattle.nio_poller.specs.Polls.{CountsFaults, AddsPoll, told_of_channel};
 ghost use Rattle.nio_poller.specs.declared.poller.PollError.TheVariants.{Fault};
-ghost use Rattle.nio_steps.specs.KeyCalls.{is_within};
+ghost use Rattle.nio_base.specs.Ops.{is_within};
 
 use crate::way::Way;
 use nio_base::{Addr, ChanNo, Ops};

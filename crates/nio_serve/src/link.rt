@@ -5,7 +5,7 @@ ghost use Rattle.nio_bytes.specs.Cause.{Rose};
 ghost use Rattle.nio_link.specs.Links.{IsGot};
 ghost use Rattle.nio_link.specs.Places.{IsLinked};
 ghost use Rattle.nio_relay.specs.Flow.{Flow, MayTake, buffered, takes};
-ghost use Rattle.nio_steps.specs.KeyCalls.{is_within};
+ghost use Rattle.nio_base.specs.Ops.{is_within};
 ghost use Rattle.nio_serve.specs.Nets.{Works};
 ghost use Rattle.nio_serve.specs.Passing.{BothSame, OneRose, Passes, flow_after_read};
 ghost use Rattle.nio_serve.specs.Ways.{ReadyAfterRead};

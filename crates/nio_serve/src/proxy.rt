@@ -6,7 +6,7 @@ ghost use Rattle.nio_bytes.specs.Cause.{Rose};
 ghost use Rattle.nio_link.specs.Links.{IsSameBut};
 ghost use Rattle.nio_link.specs.Places.{IsVacant};
 ghost use Rattle.nio_link.specs.declared.place.Standing.TheVariants.{Listening};
-ghost use Rattle.nio_steps.specs.KeyCalls.{is_within};
+ghost use Rattle.nio_base.specs.Ops.{is_within};
 ghost use Rattle.nio_serve.specs.Board.{AreOrdered, AreReady, IsSameBoard, IsSameSeat};
 ghost use Rattle.nio_serve.specs.Nets.{IsQuiet};
 ghost use Rattle.nio_serve.specs.Passing.{channel_after};

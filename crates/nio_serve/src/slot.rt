@@ -11,7 +11,7 @@ ghost use Rattle.nio_link.specs.declared.place.Role.{Role};
 ghost use Rattle.nio_link.specs.declared.place.Role.TheVariants as role;
 ghost use Rattle.nio_link.specs.declared.place.Standing.TheVariants.{Connecting, Linked};
 ghost use Rattle.nio_relay.specs.Flow.{fresh, IsLawful};
-ghost use Rattle.nio_steps.specs.KeyCalls.{is_within};
+ghost use Rattle.nio_base.specs.Ops.{is_within};
 ghost use Rattle.nio_serve.specs.Board.{IsSameBoard, IsSameSeat};
 ghost use Rattle.nio_serve.specs.Nets.{Begins, IsQuiet, Works};
 ghost use Rattle.nio_serve.specs.Passing.{BothSame, OneRose};

@@ -8,7 +8,7 @@ ghost use Rattle.nio_link.specs.Places.{unused, IsLinked, place_after_listen, pl
 ghost use Rattle.nio_link.specs.Places.{place_after_finish, place_after_shut, place_after_close};
 ghost use Rattle.nio_poller.specs.Polls.{CountsFaults, told_of_channel};
 ghost use Rattle.nio_poller.specs.declared.poller.PollError.TheVariants.{Fault};
-ghost use Rattle.nio_steps.specs.KeyCalls.{is_within};
+ghost use Rattle.nio_base.specs.Ops.{is_within};
 ghost use Rattle.nio_serve.specs.Ways.{ReadyAfterAccept, ReadyAfterConnect, ReadyAfterRead, ReadyAfterWrite};
 
 use nio_base::{Addr, ChanNo, Ops};

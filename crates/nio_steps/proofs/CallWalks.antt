@@ -24,7 +24,8 @@ use Rattle.nio_steps.specs.ChannelCalls.{key_for_plan, under_hold, set_mode_held
 use Rattle.nio_steps.specs.ChannelCalls.{try_set_blocking_plan, register_enrolled, register_over, make_key}
 use Rattle.nio_steps.specs.ChannelCalls.{register_new, register_rest, register_held, try_register_plan, cancel_at}
 use Rattle.nio_steps.specs.ChannelCalls.{cancel_keys, close_once_more, close_found, close_channel_plan}
-use Rattle.nio_steps.specs.KeyCalls.{is_within, find_selector_plan, find_channel_plan, find_plan, is_valid_plan}
+use Rattle.nio_base.specs.Ops.{is_within}
+use Rattle.nio_steps.specs.KeyCalls.{find_selector_plan, find_channel_plan, find_plan, is_valid_plan}
 use Rattle.nio_steps.specs.KeyCalls.{on_valid, if_valid, on_supported, look_set, put_set, add_set, keep_set, look_ready}
 use Rattle.nio_steps.specs.KeyCalls.{interest_plan, set_interest_plan, interest_or_plan, interest_and_plan, ready_plan}
 use Rattle.nio_steps.specs.KeyCalls.{cancel_plan, cancel_present, unselect_plan, unselect_present, attach_plan}

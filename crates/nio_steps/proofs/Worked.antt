@@ -8,7 +8,8 @@ use Rattle.nio_base.specs.declared.numbers.ChanId.{ChanId}
 use Rattle.nio_base.specs.declared.numbers.KeyNo.{KeyNo}
 use Rattle.nio_base.specs.declared.numbers.SelNo.{SelNo}
 use Rattle.nio_history.specs.Answers.{bits_below, count_below}
-use Rattle.nio_history.specs.State.{State, opening, with_chan, last_serial}
+use Rattle.nio_base.specs.Numbers.{last_serial}
+use Rattle.nio_history.specs.State.{State, opening, with_chan}
 use Rattle.nio_history.specs.declared.found.Mode.{Mode}
 use Rattle.nio_history.specs.declared.found.Mode.TheVariants.{Now as WithoutWaiting, Wait, For}
 use Rattle.nio_history.specs.declared.found.Stage.{Stage}

@@ -14,7 +14,8 @@ use Rattle.nio_history.specs.Sets.{is_in_key_set, is_valid_key, fits_channel, is
 use Rattle.nio_history.specs.declared.act.Act.{Act}
 use Rattle.nio_history.specs.declared.found.Chan.{Chan}
 use Rattle.nio_history.specs.declared.found.Stage.{Stage}
-use Rattle.nio_steps.specs.KeyCalls.{has_bit, is_within, under_pin, cancel_plan}
+use Rattle.nio_base.specs.Ops.{is_within}
+use Rattle.nio_steps.specs.KeyCalls.{has_bit, under_pin, cancel_plan}
 use Rattle.nio_steps.specs.Names.{selector, channel, channel_of, key}
 use Rattle.nio_steps.specs.Plan.{Plan, reply, ◌>>=◌, ◌>>◌, when}
 use Rattle.nio_steps.specs.Runs.{Completes}

@@ -3,6 +3,7 @@ use Rattle.std.specs.Prelude.{ℕ, ◌==◌, nat_lt, Bool, false, not, ◌&&◌,
 use Rattle.std.specs.Prelude.{Err, bit_and}
 use Rattle.std.specs.Int.{bit_at}
 use Rattle.nio_base.specs.Kind.{valid_operations}
+use Rattle.nio_base.specs.Ops.{is_within}
 use Rattle.nio_base.specs.declared.limits.Limits.{Limits}
 use Rattle.nio_base.specs.declared.numbers.ChanId.{ChanId}
 use Rattle.nio_base.specs.declared.numbers.KeyNo.{KeyNo}
@@ -74,10 +75,6 @@ look_set k = do
 
 unfoldable pub interest_plan : KeyNo → Plan (Result ℕ KeyError)
 interest_plan k = on_valid k (λ _. look_set k)
-
--- each of these operations is one of those
-abbrev pub is_within : ℕ → ℕ → Bool
-is_within these those = bit_and these those == these
 
 -- how a call goes on with the channel that it looked at, and operations that the channel's kind has to have
 abbrev pub if_supported : {A : Type 0} → ℕ → Plan (Result A KeyError) → Chan → Plan (Result A KeyError)

@@ -7,7 +7,7 @@ use Rattle.nio_base.specs.declared.numbers.CallerNo.{CallerNo}
 use Rattle.nio_base.specs.declared.numbers.KeyNo.{KeyNo}
 use Rattle.nio_base.specs.declared.numbers.SelNo.{SelNo}
 use Rattle.nio_history.specs.Sets.{in_key_set, in_cancelled_set, is_valid}
-use Rattle.nio_history.specs.State.{last_serial}
+use Rattle.nio_base.specs.Numbers.{last_serial}
 use Rattle.nio_history.specs.declared.act.Act.{Act}
 use Rattle.nio_history.specs.declared.found.GateWord.{GateWord}
 use Rattle.nio_history.specs.declared.found.Mark.{Mark as KeyMark}
@@ -17,7 +17,8 @@ use Rattle.nio_history.specs.declared.found.Stage.{Stage}
 use Rattle.nio_history.specs.declared.why.Why.{Why}
 use Rattle.nio_history.specs.declared.why.Why.TheVariants.{Ready, Closed, Now, Woken, Interrupted, Elapsed}
 use Rattle.nio_steps.specs.ChannelCalls.{words_below}
-use Rattle.nio_steps.specs.KeyCalls.{has_bit, is_within, under_pin}
+use Rattle.nio_base.specs.Ops.{is_within}
+use Rattle.nio_steps.specs.KeyCalls.{has_bit, under_pin}
 use Rattle.nio_steps.specs.Names.{selector}
 use Rattle.nio_steps.specs.Plan.{Plan, reply, ◌>>=◌, ◌>>◌, when}
 use Rattle.nio_steps.specs.Runs.{Completes}

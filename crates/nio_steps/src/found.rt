@@ -1,7 +1,8 @@
 //! What the plans ask of what steps found.
 ghost use Rattle.std.specs.Prelude.{◌≡◌, ◌<◌};
 ghost use Rattle.nio_base.specs.Kind.{valid_operations};
-ghost use Rattle.nio_steps.specs.KeyCalls.{has_bit as bit_of, is_within};
+ghost use Rattle.nio_base.specs.Ops.{is_within};
+ghost use Rattle.nio_steps.specs.KeyCalls.{has_bit as bit_of};
 
 use nio_base::{Kind, Ops};
 

@@ -20,7 +20,7 @@ pub enum KeyError {
 pub enum ChannelError {
     /// No number is left for a channel of the kind: each has one that is open, still registered, of another kind, held
     /// by another caller, or the last that it may have.
-    #[error("as many channels are made as may be")]
+    #[error("no number is free for a channel of this kind")]
     ChannelsSpent,
     /// A channel of this kind doesn't support the operations: Java's `IllegalArgumentException`.
     #[error("the channel doesn't support these operations")]
@@ -58,8 +58,9 @@ pub enum ReopenError {
     /// The number had as many channels as it may.
     #[error("the channel's number had as many channels as it may")]
     SerialsSpent,
-    /// Another caller registers a channel of this number, sets its mode or opens it.
-    #[error("another caller registers the channel, sets its mode or opens it")]
+    /// Another caller registers a channel of this number, sets its mode or opens it; or the mode of the closed
+    /// channel changed during the call, by a closing that began before.
+    #[error("another caller registers the channel, sets its mode, opens it or is still closing it")]
     Busy,
     /// A key of the channel is in a key set: a selection on its selector removes it.
     #[error("the channel is still registered")]
@@ -119,8 +120,8 @@ impl From<AllocError> for ListError {
 /// Why a pipe isn't made.
 #[derive(Clone, Copy, Debug, PartialEq, Eq, Error)]
 pub enum PipeMakeError {
-    /// As many channels are made as may be. A pipe needs two; the one that was made is closed.
-    #[error("as many channels are made as may be")]
+    /// No number is free for one of a pipe's two channels. The one that was made is closed.
+    #[error("no number is free for a channel of the pipe")]
     ChannelsSpent,
     /// There is no memory for the pipe.
     #[error("out of memory")]

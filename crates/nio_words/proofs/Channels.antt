@@ -13,7 +13,8 @@ use Rattle.nio_history.specs.Acts.{new_channel, closed_from}
 use Rattle.nio_history.specs.Conditions.{IsChannel}
 use Rattle.nio_history.specs.Questions.{flag, channel}
 use Rattle.nio_history.specs.Sound.{IsSound}
-use Rattle.nio_history.specs.State.{State, unmade_channel, last_serial}
+use Rattle.nio_base.specs.Numbers.{last_serial}
+use Rattle.nio_history.specs.State.{State, unmade_channel}
 use Rattle.nio_history.specs.declared.act.Act.TheVariants.{MakeChannel, LookChannel, SetMode, CloseBit, Reopen}
 use Rattle.nio_history.specs.declared.found.Chan.{Chan as Channel}
 use Rattle.nio_words.proofs.ChannelWords.{channel_word-lt, serial-lt, reads_made, reads_channel, unblocks_channel}

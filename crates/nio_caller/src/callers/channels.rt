@@ -1,12 +1,13 @@
 //! The calls of a caller on channels.
 ghost use Rattle.std.specs.Prelude.{◌≡◌, ◌≢◌, ◌≤◌, Err, IfOk, IfSome, IsTrue, false, is_ok, suc};
-ghost use Rattle.nio_channel.specs.Closed.{IsClosed, closes};
+ghost use Rattle.nio_history.specs.OwnEvents.{closes};
+ghost use Rattle.nio_channel.specs.Closed.{IsClosed};
 ghost use Rattle.nio_channel.specs.Registered.{IsKeyOf, IsCancelledWhereClosed};
 ghost use Rattle.nio_history.specs.Conditions.{AllMade};
 ghost use Rattle.nio_history.specs.OwnEvents.{has, reopens};
 ghost use Rattle.nio_history.specs.PassViews.{HasChannel, HasKey, HasSelector, done_between, known};
 ghost use Rattle.nio_history.specs.Permanent.{channel_of_kind, stands};
-ghost use Rattle.nio_history.specs.State.{last_serial};
+ghost use Rattle.nio_base.specs.Numbers.{last_serial};
 ghost use Rattle.nio_steps.specs.Calls.{CallClause};
 ghost use Rattle.nio_steps.specs.ChannelCalls.{open_channel_plan, reopen_channel_plan, is_open_plan};
 ghost use Rattle.nio_steps.specs.ChannelCalls.{is_blocking_plan, SetsBlocking};

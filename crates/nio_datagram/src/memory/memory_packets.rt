@@ -11,7 +11,7 @@ ghost use Rattle.nio_link.specs.NetPlans.{numbers_of};
 ghost use Rattle.nio_poller.specs.Polls.{CountsFaults, AddsPoll, told_of_channel};
 ghost use Rattle.nio_poller.specs.declared.poller.PollError.TheVariants.{Fault, Memory};
 ghost use Rattle.nio_select.specs.InProgress.{poll_of};
-ghost use Rattle.nio_steps.specs.KeyCalls.{is_within};
+ghost use Rattle.nio_base.specs.Ops.{is_within};
 ghost use Rattle.nio_datagram.specs.Packets.{no_traffic, IsCame, after_receive as traffic_after_receive};
 ghost use Rattle.nio_datagram.specs.Packets.{after_send as traffic_after_send};
 ghost use Rattle.nio_datagram.specs.Places.{IsBound, place_after_bind, place_after_close};

@@ -6,7 +6,7 @@ ghost use Rattle.nio_bytes.specs.Cause.{HasCause};
 ghost use Rattle.nio_poller.specs.Polls.{CountsFaults, AddsPoll, told_of_channel};
 ghost use Rattle.nio_poller.specs.declared.poller.PollError.TheVariants.{Fault, Memory};
 ghost use Rattle.nio_select.specs.InProgress.{poll_of};
-ghost use Rattle.nio_steps.specs.KeyCalls.{is_within};
+ghost use Rattle.nio_base.specs.Ops.{is_within};
 ghost use Rattle.nio_link.specs.Accepts.{accepted_after, accepted_by};
 ghost use Rattle.nio_link.specs.Links.{Link, IsSameBut, IsGot, IsPut, after_read as carried_after_read};
 ghost use Rattle.nio_link.specs.Links.{after_write as carried_after_write, after_shut as carried_after_shut};

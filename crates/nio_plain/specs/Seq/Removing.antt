@@ -1,7 +1,8 @@
 -- Removing keys from every set. A selection removes cancelled keys, and the end of a selector's closing
 -- removes all.
 use Rattle.std.specs.Prelude.{ℕ, ◌==◌, nat_lt, Bool, true, false, ◌&&◌, ◌||◌, if◌then◌else◌}
-use Rattle.nio_history.specs.State.{State, last_serial}
+use Rattle.nio_base.specs.Numbers.{last_serial}
+use Rattle.nio_history.specs.State.{State}
 use Rattle.nio_history.specs.declared.found.Mark.{Mark}
 use Rattle.nio_history.specs.declared.found.Stage.{Stage}
 use Rattle.nio_plain.specs.declared.rules.Rules.{Rules}

@@ -3,7 +3,7 @@
 ghost use Rattle.std.specs.Prelude.{◌≡◌, ℕ, ◌<◌, IsTrue};
 ghost use Rattle.nio_history.specs.Conditions.{IsChannel, AllMade, WasOpen, holds};
 ghost use Rattle.nio_history.specs.OwnEvents.{is_clear};
-ghost use Rattle.nio_history.specs.State.{last_serial};
+ghost use Rattle.nio_base.specs.Numbers.{last_serial};
 ghost use Rattle.nio_history.specs.declared.act.Act.TheVariants.{MakeChannel, LookChannel, SetMode, CloseBit};
 ghost use Rattle.nio_history.specs.declared.act.Act.TheVariants.{Reopen};
 ghost use Rattle.nio_words.specs.Passes.{IsReady, acts_seen, limits_of, state_seen};

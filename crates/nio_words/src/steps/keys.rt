@@ -3,7 +3,7 @@ ghost use Rattle.std.specs.Prelude.{◌≡◌, ◌<◌, ◌||◌, not, IsTrue, S
 ghost use Rattle.nio_history.specs.Conditions.{IsChannel, IsKey, AllClaimed, is_claimed, holds, has_pin, has_taken};
 ghost use Rattle.nio_history.specs.Conditions.{may_publish, may_remove_cancelled, may_clear_out};
 ghost use Rattle.nio_history.specs.OwnEvents.{last, own_claim, since_taken, stage_found};
-ghost use Rattle.nio_history.specs.State.{last_serial};
+ghost use Rattle.nio_base.specs.Numbers.{last_serial};
 ghost use Rattle.nio_history.specs.declared.act.Act.TheVariants.{LookKey, CancelKey, Claim, Publish, Remove, Pin};
 ghost use Rattle.nio_history.specs.declared.act.Act.TheVariants.{Unpin};
 ghost use Rattle.nio_history.specs.declared.act.Act.TheVariants.{ClaimAgain};

@@ -2,7 +2,7 @@ use Rattle.std.proofs.Common.{◌≡◌, ◌<◌, true, ℕ, Some, refl, ap, sym
 use Rattle.std.proofs.lemmas.Bool.{or_left}
 use Rattle.nio_history.specs.Conditions.{has_taken, may_put_due}
 use Rattle.nio_history.specs.Permanent.{a_taken_index}
-use Rattle.nio_history.specs.State.{last_serial}
+use Rattle.nio_base.specs.Numbers.{last_serial}
 use Rattle.nio_steps.proofs.CallLaws.{returned, left_ask, left_after}
 use Rattle.nio_steps.specs.Plan.{reply}
 use Rattle.nio_words.proofs.Pins.{no_pin_stays}

@@ -8,7 +8,7 @@ use Rattle.nio_words.proofs.Views.{step_acts, was_open_found}
 use Rattle.nio_channel.proofs.Chans.{open_parts}
 use Rattle.nio_channel.proofs.Done.{has_done, has_then}
 use Rattle.nio_channel.proofs.Made.{unopen_closed}
-use Rattle.nio_channel.specs.Closed.{closes}
+use Rattle.nio_history.specs.OwnEvents.{closes}
 use Rattle.nio_channel.proofs.closing.close_channel.Goals as goal
 
 pub returns-then-not-is_open-clause-took : goal.returns-then-not-is_open-clause-took

@@ -9,7 +9,7 @@ use Rattle.nio_words.proofs.Views.{step_acts}
 use Rattle.nio_channel.proofs.Chans.{closed_unblocked, closes_not, closes_now}
 use Rattle.nio_channel.proofs.Done.{has_done, has_then}
 use Rattle.nio_channel.proofs.Made.{closed_after, closed_found, opened_then, taken_closed}
-use Rattle.nio_channel.specs.Closed.{closes}
+use Rattle.nio_history.specs.OwnEvents.{closes}
 use Rattle.nio_channel.proofs.closing.close_once_more.Goals as goal
 
 pub cancel_all-requires-clause-unpinned : goal.cancel_all-requires-clause-unpinned

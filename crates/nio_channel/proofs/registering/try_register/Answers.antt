@@ -5,7 +5,7 @@ use Rattle.nio_history.proofs.PassViews.{channel_after, key_after}
 use Rattle.nio_history.specs.Sets.{is_open_channel}
 use Rattle.nio_steps.proofs.CallLaws.{returned, left_ask, left_then, left_else, left_after, ran_then}
 use Rattle.nio_steps.specs.ChannelCalls.{try_register_plan}
-use Rattle.nio_steps.specs.KeyCalls.{is_within}
+use Rattle.nio_base.specs.Ops.{is_within}
 use Rattle.nio_words.proofs.Pins.{no_pin_stays}
 use Rattle.nio_words.proofs.Stepping.{still_ready}
 use Rattle.nio_words.proofs.Views.{step_acts}

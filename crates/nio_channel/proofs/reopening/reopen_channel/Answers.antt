@@ -1,7 +1,7 @@
 use Rattle.std.proofs.Common.{◌≡◌, ◌≤◌, ◌==◌, ℕ, true, false, not, ◌&&◌, suc, refl, ap, subst, eqb-true, rules}
 use Rattle.std.proofs.lemmas.Bool.{and_parts}
 use Rattle.nio_history.specs.Sets.{can_reopen, fits_channel}
-use Rattle.nio_history.specs.State.{last_serial}
+use Rattle.nio_base.specs.Numbers.{last_serial}
 use Rattle.nio_steps.proofs.CallLaws.{returned, left_ask, left_then, left_else, left_of_call}
 use Rattle.nio_steps.specs.ChannelCalls.{reopen_channel_plan}
 use Rattle.nio_words.proofs.Views.{channel_found, step_acts}

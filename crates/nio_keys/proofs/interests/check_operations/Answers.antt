@@ -2,7 +2,7 @@ use Rattle.std.proofs.Common.{not, refl, rules}
 use Rattle.nio_base.specs.Kind.{valid_operations}
 use Rattle.nio_history.specs.Sets.{is_valid_key}
 use Rattle.nio_steps.proofs.CallLaws.{left_ask, left_then, left_else, left_after, returned}
-use Rattle.nio_steps.specs.KeyCalls.{is_within}
+use Rattle.nio_base.specs.Ops.{is_within}
 use Rattle.nio_words.proofs.Pins.{stays_pinned}
 use Rattle.nio_words.proofs.Views.{step_acts}
 use Rattle.nio_keys.proofs.interests.check_operations.Goals as goal

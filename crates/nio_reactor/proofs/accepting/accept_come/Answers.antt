@@ -1,5 +1,5 @@
 use Rattle.std.proofs.Common.{◌+◌, IsTrue, refl, sym, subst, ◌∙◌, arith}
-use Rattle.nio_steps.specs.KeyCalls.{is_within}
+use Rattle.nio_base.specs.Ops.{is_within}
 use Rattle.nio_reactor.proofs.Asked.{accepts_then, asked_more}
 use Rattle.nio_reactor.proofs.Dealing.{deals_then}
 use Rattle.nio_reactor.specs.Accepting.{Accepts, Deals}

@@ -1,5 +1,5 @@
 use Rattle.std.proofs.Common.{◌≡◌, IsTrue}
-use Rattle.nio_steps.specs.KeyCalls.{is_within}
+use Rattle.nio_base.specs.Ops.{is_within}
 use Rattle.nio_serve.specs.Serving.{listener}
 use Rattle.nio_reactor.specs.Accepting.{Accepts, Deals, IsAccepting}
 use Rattle.nio_reactor.specs.Many.{meanings}

@@ -2,7 +2,7 @@ use Rattle.std.proofs.Common.{◌≡◌, true, false, refl, rules}
 use Rattle.std.specs.Prelude.{nat_lt}
 use Rattle.std.proofs.lemmas.Bool.{or_left, or_right}
 use Rattle.nio_history.specs.Conditions.{may_remove_cancelled, may_clear_out, has_taken, may_put_due}
-use Rattle.nio_history.specs.State.{last_serial}
+use Rattle.nio_base.specs.Numbers.{last_serial}
 use Rattle.nio_steps.proofs.CallLaws.{returned, left_ask, left_then, left_else, left_after}
 use Rattle.nio_words.proofs.Views.{step_acts}
 use Rattle.nio_words.specs.Passes.{acts_seen, state_seen}

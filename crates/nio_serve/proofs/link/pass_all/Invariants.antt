@@ -1,6 +1,6 @@
 use Rattle.std.proofs.Common.{◌≡◌, [], IsTrue}
 use Rattle.nio_relay.specs.Flow.{buffered}
-use Rattle.nio_steps.specs.KeyCalls.{is_within}
+use Rattle.nio_base.specs.Ops.{is_within}
 use Rattle.nio_serve.specs.Passing.{BothSame, Passes}
 use Rattle.nio_serve.proofs.link.pass_all.Given as goal
 

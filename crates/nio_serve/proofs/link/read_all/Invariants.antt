@@ -1,5 +1,5 @@
 use Rattle.std.proofs.Common.{◌≡◌, IsTrue}
-use Rattle.nio_steps.specs.KeyCalls.{is_within}
+use Rattle.nio_base.specs.Ops.{is_within}
 use Rattle.nio_serve.specs.Nets.{Works}
 use Rattle.nio_serve.specs.Relaying.{KeepsSource, SameSink}
 use Rattle.nio_serve.proofs.link.read_all.Given as goal

@@ -1,6 +1,6 @@
 use Rattle.std.proofs.Common.{◌≡◌, IsTrue}
 use Rattle.nio_link.specs.Links.{IsSameBut}
-use Rattle.nio_steps.specs.KeyCalls.{is_within}
+use Rattle.nio_base.specs.Ops.{is_within}
 use Rattle.nio_serve.specs.Board.{IsSameSeat}
 use Rattle.nio_serve.specs.Serving.{listener}
 use Rattle.nio_serve.specs.Watching.{WatchesAll}

@@ -1,6 +1,6 @@
 use Rattle.std.proofs.Common.{IsTrue, subst}
 use Rattle.nio_link.proofs.Channels.{chan_as}
-use Rattle.nio_steps.specs.KeyCalls.{is_within}
+use Rattle.nio_base.specs.Ops.{is_within}
 use Rattle.nio_serve.specs.Serving.{listener}
 use Rattle.nio_serve.proofs.proxy.Proxy.serve_told.Goals as goal
 

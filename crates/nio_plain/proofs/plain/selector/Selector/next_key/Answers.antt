@@ -1,7 +1,7 @@
 use Rattle.std.proofs.Common.{◌≡◌, suc, ◌+◌, ◌<◌, Some, ap, sym, ◌∙◌, length, arith, add-one}
 use Rattle.std.proofs.lemmas.Bool.{and_parts, ltb-true}
 use Rattle.nio_base.specs.declared.numbers.KeyId.{KeyId}
-use Rattle.nio_history.specs.State.{last_serial}
+use Rattle.nio_base.specs.Numbers.{last_serial}
 use Rattle.nio_plain.proofs.Found.{found_below}
 use Rattle.nio_plain.proofs.Places.{places_at}
 use Rattle.nio_plain.specs.PlainState.{KeyRow, places, key_row, no_key, selector_row, next_by_row}
