@@ -9,7 +9,7 @@ use Rattle.nio_base.specs.declared.numbers.CallerNo.{CallerNo}
 use Rattle.nio_base.specs.declared.numbers.ChanId.{ChanId}
 use Rattle.nio_base.specs.declared.numbers.KeyId.{KeyId}
 use Rattle.nio_base.specs.declared.numbers.SelNo.{SelNo}
-use Rattle.nio_language.specs.GroupCalls.{IsGroupCall, group_argument_words}
+use Rattle.nio_language.specs.GroupCalls.{IsGroupCall, IsLaterGroupCall, group_argument_words}
 use Rattle.nio_language.specs.Reading.{Reads}
 use Rattle.nio_language.specs.Words.{IsName, IsNumber, caller_word, selector_word, bytes_word, channel_word, key_word}
 use Rattle.nio_language.specs.Words.{kind_word}
@@ -146,8 +146,8 @@ IsLaterKind Source = ⊥
 IsLaterKind Sink = ⊥
 IsLaterKind Datagram = ⊤
 
--- no line had these arguments by the first rules: they name a channel or a key whose serial isn't 0, or a later kind
--- of channel
+-- no line had these arguments by the first rules: they name a channel, a key or a channel of the group whose serial
+-- isn't 0, or a later kind of channel
 abbrev pub AreLater : Arguments → Type 0
 AreLater nothing = ⊥
 AreLater (one_caller t) = ⊥
@@ -164,7 +164,7 @@ AreLater (key_ops s k ops) = k.serial ≢ 0
 AreLater (key_number s k n) = k.serial ≢ 0
 AreLater (selector_wait s waiting) = ⊥
 AreLater (selector_told s elapsed pairs) = Any (λ p. p.0.serial ≢ 0) pairs
-AreLater (on_group g) = ⊥
+AreLater (on_group g) = IsLaterGroupCall g
 
 -- ---- reading them
 

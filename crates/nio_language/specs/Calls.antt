@@ -15,8 +15,8 @@ call_words call = call_word_text (call_word call) ∷ argument_words (arguments 
 abbrev pub IsCall : Call → Type 0
 IsCall call = ArgumentsFit (arguments call)
 
--- the call came later than the first rules: it names a channel or a key whose serial isn't 0, or opens a datagram
--- channel
+-- the call came later than the first rules: it names a channel, a key or a channel of the group whose serial isn't 0,
+-- or opens a datagram channel
 abbrev pub IsLaterCall : Call → Type 0
 IsLaterCall call = AreLater (arguments call)
 

@@ -1,5 +1,5 @@
 -- The calls of a script on its group: for each its word, the words of its arguments, and their ranges.
-use Rattle.std.specs.Prelude.{◌≡◌, ℕ, ⊤, List, [], ◌∷◌, Option, codes}
+use Rattle.std.specs.Prelude.{◌≡◌, ◌≢◌, ℕ, ⊤, List, [], ◌∷◌, Option, codes}
 use Rattle.std.specs.Fmt.{decimal}
 use Rattle.nio_base.specs.declared.group.Outcome.{Outcome}
 use Rattle.nio_base.specs.declared.group.Outcome.TheVariants as outcome
@@ -69,6 +69,22 @@ IsGroupCall group.Shutdown = ⊤
 IsGroupCall group.ShutdownNow = ⊤
 IsGroupCall group.IsShutdown = ⊤
 IsGroupCall group.Terminated = ⊤
+
+-- ---- what came later than the first rules
+
+-- no line had this call by the first rules: it names a channel whose serial isn't 0
+abbrev pub IsLaterGroupCall : GroupCall → Type 0
+IsLaterGroupCall (group.Gopen kind) = ⊥
+IsLaterGroupCall (group.Gbind g) = g.serial ≢ 0
+IsLaterGroupCall (group.Start g kind len) = g.serial ≢ 0
+IsLaterGroupCall (group.Report n outcome) = ⊥
+IsLaterGroupCall group.Take = ⊥
+IsLaterGroupCall (group.Done n) = ⊥
+IsLaterGroupCall (group.Gclose g) = g.serial ≢ 0
+IsLaterGroupCall group.Shutdown = ⊥
+IsLaterGroupCall group.ShutdownNow = ⊥
+IsLaterGroupCall group.IsShutdown = ⊥
+IsLaterGroupCall group.Terminated = ⊥
 
 -- ---- reading
 

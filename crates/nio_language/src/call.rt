@@ -84,8 +84,8 @@ pub enum Call {
 impl Call {
     ghost use Rattle.nio_language.specs.Calls.{IsLaterCall};
 
-    /// Whether the call came later than the first rules: no line named a channel or a key with a serial, or opened a
-    /// datagram channel, then.
+    /// Whether the call came later than the first rules: no line named a channel, a key or a channel of the group with
+    /// a serial, or opened a datagram channel, then.
     pub fn is_later(&self) -> bool
         ensures { IsTrue result ↔ IsLaterCall self.now }
     {
@@ -100,8 +100,8 @@ impl Call {
             | Call::Selected(..)
             | Call::Interrupt(..)
             | Call::Interrupted
-            | Call::Pipe(..)
-            | Call::Group(..) => false,
+            | Call::Pipe(..) => false,
+            Call::Group(call) => call.is_later(),
             Call::Channel(kind) => is_later_kind(*kind),
             Call::Blocking(chan, _)
             | Call::IsBlocking(chan)

@@ -1,5 +1,7 @@
 //! The calls of a script on its group of asynchronous channels: one variant for each call word, its
 //! arguments in the order of the line.
+ghost use Rattle.std.specs.Prelude.{◌↔◌, IsTrue};
+
 use nio_base::{GChan, GKind, OpKind, OpNo, Outcome};
 
 /// A call on the group as a line of a script gives it.
@@ -27,4 +29,26 @@ pub enum GroupCall {
     IsShutdown,
     /// `terminated`: whether the group is shut down, its channels are closed and no handler is to run.
     Terminated,
+}
+
+impl GroupCall {
+    ghost use Rattle.nio_language.specs.GroupCalls.{IsLaterGroupCall};
+
+    /// Whether the call came later than the first rules: no line named a channel of the group with a serial then.
+    pub fn is_later(self) -> bool
+        ensures { IsTrue result ↔ IsLaterGroupCall self }
+    {
+        match self {
+            GroupCall::Gopen(..)
+            | GroupCall::Report(..)
+            | GroupCall::Take
+            | GroupCall::Done(..)
+            | GroupCall::Shutdown
+            | GroupCall::ShutdownNow
+            | GroupCall::IsShutdown
+            | GroupCall::Terminated => false,
+            GroupCall::Gbind(chan) | GroupCall::Start(chan, _, _) | GroupCall::Gclose(chan) =>
+                chan.serial != 0,
+        }
+    }
 }

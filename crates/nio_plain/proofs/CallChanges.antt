@@ -27,7 +27,7 @@ use Rattle.nio_plain.specs.ScriptState.{ScriptState, Selection, with_shared, wit
 use Rattle.nio_plain.specs.Seq.Replies.{Replied, unchanged, replied, yes_or_no}
 use Rattle.nio_plain.specs.Seq.Cancelling.{channel_closed, cancelled_in_set}
 use Rattle.nio_plain.specs.Seq.Closing.{without_keys}
-use Rattle.nio_plain.specs.Seq.Grouping.{replied_by_group, stepped}
+use Rattle.nio_plain.specs.Seq.Grouping.{lacks_a_number, replied_by_group, stepped}
 use Rattle.nio_plain.specs.Seq.Modes.{has_key, key_of}
 use Rattle.nio_plain.specs.Seq.Opening.{channel_made, next_channel, selector_made, with_new_channel}
 use Rattle.nio_plain.specs.Seq.Pipes.{own_source, own_sink, pipe_at, with_pipe, sealing}
@@ -204,7 +204,7 @@ pub data Change (rules : Rules) (l : Limits) (st : ScriptState) (me : CallerNo) 
       → is_open_channel (st.shared.chan c.number.0) c.serial ≡ true
       → Change rules l st me (call.Pwrite c bytes)
       (sealing (Some i) (replied st reply.ClosedByInterrupt (channel_closed st.shared c.number.0)))
-  group : (g : GroupCall) (s : step.Call) → step_of g ≡ Some s → IsCallOf st.group s
-      → Change rules l st me (call.Group g) (replied_by_group st (stepped st.group s))
+  group : (g : GroupCall) (s : step.Call) → step_of g ≡ Some s → lacks_a_number rules st.group g ≡ false
+      → IsCallOf st.group s → Change rules l st me (call.Group g) (replied_by_group st (stepped st.group s))
   interrupted : Change rules l st me call.Interrupted
       (replied st (yes_or_no (st.shared.interrupted me.0)) (with_interrupted st.shared me.0 false))

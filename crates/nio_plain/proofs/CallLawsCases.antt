@@ -28,7 +28,7 @@ use Rattle.nio_plain.specs.Seq.{call_of, seq}
 use Rattle.nio_plain.specs.Seq.Replies.{Replied, unchanged, replied, yes_or_no}
 use Rattle.nio_plain.specs.Seq.Cancelling.{channel_closed, closec_call, cancel_call}
 use Rattle.nio_plain.specs.Seq.Closing.{close_call, close_end_call}
-use Rattle.nio_plain.specs.Seq.Grouping.{GroupReplied, replied_by_group, group_replied, group_call}
+use Rattle.nio_plain.specs.Seq.Grouping.{GroupReplied, replied_by_group, group_replied, group_call, lacks_a_number}
 use Rattle.nio_plain.specs.Seq.Grouping.{with_named_group_channel}
 use Rattle.nio_plain.specs.Seq.Keys.{are_legal_at, is_in_selected_set, valid_call, interest_call, ready_call, iset_call}
 use Rattle.nio_plain.specs.Seq.Keys.{ior_call, iand_call, unselect_call, attach_call, attachment_call}
@@ -267,20 +267,29 @@ module _ (rules : Rules) (l : Limits) (st : ScriptState) (me : CallerNo) where
   group_channel_named {c = c} g x done =
       either_group (is_made st.group g) x _ (λ e. done (made-so st.group g e)) (says c reply.NoChannel refl)
 
-  of_group : (g : GroupCall) → C (call.Group g) (group_call st g)
+  of_group_replied : (g : GroupCall) → lacks_a_number rules st.group g ≡ false
+      → C (call.Group g) (replied_by_group st (group_replied st.group g))
   unfolding group_replied
-  of_group (group.Gopen kind) = change.group (group.Gopen kind) (step.open_channel kind) refl tt
-  of_group (group.Gbind g) = group_channel_named g _ (change.group (group.Gbind g) (step.bind g) refl)
-  of_group (group.Start g kind len) =
-      group_channel_named g _ (change.group (group.Start g kind len) (step.start g kind len) refl)
-  of_group (group.Report n outcome) = change.group (group.Report n outcome) (step.report n outcome) refl tt
-  of_group group.Take = change.group group.Take step.take refl tt
-  of_group (group.Done n) = change.group (group.Done n) (step.finish n) refl tt
-  of_group (group.Gclose g) = group_channel_named g _ (change.group (group.Gclose g) (step.close_channel g) refl)
-  of_group group.Shutdown = change.group group.Shutdown step.shutdown refl tt
-  of_group group.ShutdownNow = change.group group.ShutdownNow step.shutdown_now refl tt
-  of_group group.IsShutdown = says_whether (call.Group group.IsShutdown) st.group.is_shut
-  of_group group.Terminated = says_whether (call.Group group.Terminated) (is_terminated st.group)
+  of_group_replied (group.Gopen kind) has = change.group (group.Gopen kind) (step.open_channel kind) refl has tt
+  of_group_replied (group.Gbind g) has =
+      group_channel_named g _ (change.group (group.Gbind g) (step.bind g) refl has)
+  of_group_replied (group.Start g kind len) has =
+      group_channel_named g _ (change.group (group.Start g kind len) (step.start g kind len) refl has)
+  of_group_replied (group.Report n outcome) has =
+      change.group (group.Report n outcome) (step.report n outcome) refl has tt
+  of_group_replied group.Take has = change.group group.Take step.take refl has tt
+  of_group_replied (group.Done n) has = change.group (group.Done n) (step.finish n) refl has tt
+  of_group_replied (group.Gclose g) has =
+      group_channel_named g _ (change.group (group.Gclose g) (step.close_channel g) refl has)
+  of_group_replied group.Shutdown has = change.group group.Shutdown step.shutdown refl has tt
+  of_group_replied group.ShutdownNow has = change.group group.ShutdownNow step.shutdown_now refl has tt
+  of_group_replied group.IsShutdown has = says_whether (call.Group group.IsShutdown) st.group.is_shut
+  of_group_replied group.Terminated has = says_whether (call.Group group.Terminated) (is_terminated st.group)
+
+  of_group : (g : GroupCall) → C (call.Group g) (group_call rules st g)
+  of_group g =
+      either_where (lacks_a_number rules st.group g) (λ _. says (call.Group g) reply.ChannelsSpent refl)
+      (of_group_replied g)
 
   -- whoever the caller is
   pub each_call : (c : Call) → C c (call_of rules l st me c)

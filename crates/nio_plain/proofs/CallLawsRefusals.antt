@@ -41,7 +41,7 @@ changes (change.pipe_spent target source _) e free = changed free
 changes (change.pread_interrupted c n _) e free = changed free
 changes (change.pwrite_closed c bytes i _ _) e free = changed free
 changes (change.pwrite_interrupted c bytes i _ _) e free = changed free
-changes {st = st} (change.group g s is made) e free =
+changes {st = st} (change.group g s is _ made) e free =
     ap (with_group st) (refused_step st.group s (sym (same_effect g s is (line_reply (reply_to st.group s))) ∙ e))
 changes {st = st} {me = me} change.interrupted e free = said (st.shared.interrupted me.0) e
 changes _ e free = no_refusal e

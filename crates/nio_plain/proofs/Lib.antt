@@ -9,7 +9,6 @@ pub mod Rows
 pub mod Registered
 pub mod KeyChange
 pub mod Calling
-pub mod Grouping
 pub mod Piping
 pub mod Lists
 pub mod Sweeping

@@ -16,7 +16,7 @@ use Rattle.nio_history.specs.State.{unmade_channel}
 use Rattle.nio_language.specs.declared.reply.Reply.TheVariants as reply
 use Rattle.nio_plain.proofs.Replying.{channel_made-below, channel_made-past, rows_of}
 use Rattle.nio_plain.proofs.Found.{find_spent, find_unmade}
-use Rattle.nio_plain.specs.PlainState.{channel_row, pipe_of, places, state_from, state_of}
+use Rattle.nio_plain.specs.PlainState.{channel_row, pipe_of, places, state_from}
 use Rattle.nio_plain.specs.ScriptState.{Pipe, ScriptState, with_pipes}
 use Rattle.nio_plain.specs.Seq.Replies.{unchanged}
 use Rattle.nio_plain.specs.Seq.Opening.{channel_made, next_channel, unmade_number, with_new_channel}

@@ -1,6 +1,6 @@
 -- The channel that is opened next, and what opening channels and pipes keeps.
-use Rattle.std.proofs.Common.{◌≡◌, ℕ, ◌==◌, ◌<◌, suc, nat_lt, true, false, not, ◌&&◌, Option, Some, None, refl, ap}
-use Rattle.std.proofs.Common.{subst, arith, is_some}
+use Rattle.std.proofs.Common.{◌≡◌, ℕ, ◌<◌, suc, nat_lt, true, false, not, ◌&&◌, Option, Some, None, refl}
+use Rattle.std.proofs.Common.{subst, arith}
 use Rattle.std.proofs.lemmas.Bool.{and_parts, both_ways, ltb-false, ltb-true, not-true}
 use Rattle.nio_base.specs.Kind.{is_same_kind}
 use Rattle.nio_base.specs.declared.kind.Kind.{Kind}
@@ -9,7 +9,7 @@ use Rattle.nio_base.specs.declared.limits.Limits.{Limits}
 use Rattle.nio_base.specs.declared.numbers.CallerNo.{CallerNo}
 use Rattle.nio_base.specs.declared.numbers.ChanId.{ChanId}
 use Rattle.nio_history.proofs.ChannelChanges.{same_kind}
-use Rattle.nio_history.specs.Sets.{can_reopen, in_key_set, was_opened}
+use Rattle.nio_history.specs.Sets.{can_reopen, was_opened}
 use Rattle.nio_base.specs.Numbers.{last_serial}
 use Rattle.nio_history.specs.declared.found.Chan.{Chan}
 use Rattle.nio_language.specs.declared.reply.Reply.TheVariants as reply

@@ -8,7 +8,7 @@ use Rattle.nio_base.specs.declared.numbers.CallerNo.{CallerNo}
 use Rattle.nio_base.specs.declared.numbers.ChanId.{ChanId}
 use Rattle.nio_base.specs.declared.numbers.KeyId.{KeyId}
 use Rattle.nio_base.specs.declared.numbers.SelNo.{SelNo}
-use Rattle.nio_group.specs.Group.{Group, IsLawful, empty_group}
+use Rattle.nio_group.specs.Group.{Group, IsLawful, empty_group, channel_at}
 use Rattle.nio_group.specs.Run as step
 use Rattle.nio_group.specs.Run.{IsRunOf, left_by}
 use Rattle.nio_history.specs.Sets.{in_key_set, in_cancelled_set, in_selected_set, is_valid, was_published}
@@ -175,6 +175,11 @@ KeyKeepsItsChannel = (rules : Rules) (l : Limits) (calls more : List ScriptCall)
 abbrev pub FirstRulesReopenNone : Type 0
 FirstRulesReopenNone = (l : Limits) (calls : List ScriptCall) (c : ℕ)
     → ((left_by_script First l calls).shared.chan c).serial ≡ 0
+
+-- and so has each channel of the group
+abbrev pub FirstRulesReopenNoneOfTheGroup : Type 0
+FirstRulesReopenNoneOfTheGroup = (l : Limits) (calls : List ScriptCall) (c : ℕ)
+    → (channel_at (left_by_script First l calls).group c).serial ≡ 0
 
 -- the key of a number's channel in a selector, as the calls find it, is the one of the key set that has the number
 abbrev pub KeyOfAChannelIsFound : Type 0

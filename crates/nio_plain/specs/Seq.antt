@@ -5,9 +5,9 @@
 -- A refusal changes nothing, but for some calls on pipes. Refusals are tested in the order in which they
 -- stand: first the caller, then the names of the line, then the call's own.
 --
--- It replies by one of two rules. They differ in three words: `comes_back`, which only the beginning and the end of a
--- selection cite, `number_comes_back`, which only the opening of a channel and of a pipe cites, and `goes_at_end`,
--- which only the end of a selection cites.
+-- It replies by one of two rules. They differ in four words: `comes_back`, which only the beginning and the end of a
+-- selection cite, `number_comes_back`, which only the opening of a channel and of a pipe cites, `goes_at_end`, which
+-- only the end of a selection cites, and `lacks_a_number`, which only `group_call` cites.
 pub mod Replies
 pub mod Names
 pub mod Pipes
@@ -79,7 +79,7 @@ call_of rules l st me call.Interrupted = interrupted_call st me
 call_of rules l st me (call.Pipe target) = pipe_call rules l st me target
 call_of rules l st me (call.Pwrite c bytes) = pwrite_call st me c bytes
 call_of rules l st me (call.Pread c n) = pread_call st me c n
-call_of rules l st me (call.Group g) = group_call st g
+call_of rules l st me (call.Group g) = group_call rules st g
 
 unfoldable pub seq : Rules → Limits → ScriptState → CallerNo → Call → Replied
 seq rules l st me call =

@@ -22,8 +22,8 @@ call_text e = line_text e.line.caller e.line.call
 abbrev pub entry_text : ℕ → Entry → List ℕ
 entry_text n e = decimal n ++ codes " " ++ call_text e ++ codes " -> " ++ e.reply
 
--- The call is in the grammar of these rules. By the first rules each channel and each key has the serial 0, so no call
--- names another, and there are no datagram channels.
+-- The call is in the grammar of these rules. By the first rules each channel, each key and each channel of the group has
+-- the serial 0, so no call names another, and there are no datagram channels.
 abbrev pub IsCallOf : Rules → Call → Type 0
 IsCallOf First call = ¬ IsLaterCall call
 IsCallOf Now call = Unit {0}

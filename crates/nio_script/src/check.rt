@@ -215,8 +215,8 @@ fn check_text<K: Sink>(
 /// Reads a history, and says whether each of its replies is the one that the documented system gives
 /// by these rules. The whole input is read, and every line of it parsed, before the first call.
 ///
-/// By the first rules a line whose call names a channel or a key with a serial, as `c0.1` and `k0.1`, or opens a
-/// datagram channel is a bad line.
+/// By the first rules a line whose call names a channel, a key or a channel of the group with a serial, as `c0.1`,
+/// `k0.1` and `g0.1`, or opens a datagram channel is a bad line.
 pub fn run_check<S: Source, K: Sink>(
     alloc: Global,
     input: &mut S,

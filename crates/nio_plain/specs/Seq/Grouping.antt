@@ -1,7 +1,8 @@
 -- Calls on the group. Each but the two that only ask is one step of the group, whose answer is the reply. A
 -- channel of the group that the line names has to have been made. The reply, and the group that the call leaves, depend on
--- the group alone.
-use Rattle.std.specs.Prelude.{true, false, if◌then◌else◌, Ok, Err, Some, None}
+-- the group and the rules alone.
+use Rattle.std.specs.Prelude.{◌==◌, Bool, true, false, not, ◌&&◌, if◌then◌else◌, length, Ok, Err, Some, None}
+use Rattle.nio_base.specs.declared.group.Outcome.TheVariants as outcome
 use Rattle.nio_base.specs.declared.numbers.GChan.{GChan}
 use Rattle.nio_group.specs.Group.{Group, is_made, is_terminated}
 use Rattle.nio_group.specs.Run as step
@@ -15,8 +16,10 @@ use Rattle.nio_language.specs.declared.group_call.GroupCall.TheVariants as group
 use Rattle.nio_language.specs.declared.group_reply.GroupReply.TheVariants as of_group
 use Rattle.nio_language.specs.declared.reply.Reply.{Reply}
 use Rattle.nio_language.specs.declared.reply.Reply.TheVariants as reply
-use Rattle.nio_plain.specs.ScriptState.{ScriptState, with_group}
-use Rattle.nio_plain.specs.Seq.Replies.{Replied, yes_or_no}
+use Rattle.nio_plain.specs.ScriptState.{ScriptState, group_limits, with_group}
+use Rattle.nio_plain.specs.Seq.Replies.{Replied, unchanged, yes_or_no}
+use Rattle.nio_plain.specs.declared.rules.Rules.{Rules}
+use Rattle.nio_plain.specs.declared.rules.Rules.TheVariants.{First, Now}
 
 -- the reply to what is refused
 
@@ -99,5 +102,36 @@ group_left g call = (group_replied g call).left
 abbrev pub replied_by_group : ScriptState → GroupReplied → Replied
 replied_by_group st done = record { reply = done.reply; left = with_group st done.left }
 
-abbrev pub group_call : ScriptState → GroupCall → Replied
-group_call st call = replied_by_group st (group_replied st.group call)
+-- the call asks for a new channel
+abbrev pub asks_for_a_channel : GroupCall → Bool
+asks_for_a_channel (group.Gopen kind) = true
+asks_for_a_channel (group.Gbind chan) = false
+asks_for_a_channel (group.Start chan kind len) = false
+asks_for_a_channel (group.Report n (outcome.Count k)) = false
+asks_for_a_channel (group.Report n outcome.End) = false
+asks_for_a_channel (group.Report n outcome.Connected) = false
+asks_for_a_channel (group.Report n outcome.Accepted) = true
+asks_for_a_channel (group.Report n outcome.Fault) = false
+asks_for_a_channel group.Take = false
+asks_for_a_channel (group.Done n) = false
+asks_for_a_channel (group.Gclose chan) = false
+asks_for_a_channel group.Shutdown = false
+asks_for_a_channel group.ShutdownNow = false
+asks_for_a_channel group.IsShutdown = false
+asks_for_a_channel group.Terminated = false
+
+-- each number of a script's group was given to a channel
+abbrev pub gave_each_number : Group → Bool
+gave_each_number g = length g.channels == group_limits.channels
+
+-- THE TWO RULES DIFFER HERE: under the rules of now the number of a closed channel comes back, as nio_group says it;
+-- under the first rules no number ever comes back, so that a group that gave each number lacks one for another channel.
+-- (A shut group makes no channel by either.)
+abbrev pub lacks_a_number : Rules → Group → GroupCall → Bool
+lacks_a_number First g call = asks_for_a_channel call && (not g.is_shut && gave_each_number g)
+lacks_a_number Now g call = false
+
+abbrev pub group_call : Rules → ScriptState → GroupCall → Replied
+group_call rules st call =
+    if lacks_a_number rules st.group call then unchanged st reply.ChannelsSpent
+    else replied_by_group st (group_replied st.group call)

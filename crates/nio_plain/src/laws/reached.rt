@@ -1,7 +1,8 @@
 //! Laws of the states that scripts leave, whatever is called and within whatever limits.
 ghost use Rattle.nio_plain.specs.ReachedLaws.{SetsAreWithinKeySet, KeysAreBelowHigh, LookedAreInKeySet, PublishedStays};
 ghost use Rattle.nio_plain.specs.ReachedLaws.{InvalidKeysStayInvalid, FreeIndexHasNoKey, FirstRulesFreeNone};
-ghost use Rattle.nio_plain.specs.ReachedLaws.{FirstRulesRemoveBelowTheBound, FirstRulesReopenNone, NewKeyIsNew};
+ghost use Rattle.nio_plain.specs.ReachedLaws.{FirstRulesRemoveBelowTheBound, FirstRulesReopenNone};
+ghost use Rattle.nio_plain.specs.ReachedLaws.{FirstRulesReopenNoneOfTheGroup, NewKeyIsNew};
 ghost use Rattle.nio_plain.specs.ReachedLaws.{NewKeysDiffer, OpenedStays, ClosedStays, KindStays, NewChannelIsNew};
 ghost use Rattle.nio_plain.specs.ReachedLaws.{KeyKeepsItsChannel};
 ghost use Rattle.nio_plain.specs.ReachedLaws.{KeyOfAChannelIsFound, OneKeyOfAChannel, RegisteredIsInAKeySet};
@@ -37,10 +38,12 @@ pub fn new_key_law()
 {}
 
 /// By the first rules no index is ever free, so that a registration takes none, no number is given to a second channel,
-/// and what a selection removes at its end are the cancelled keys below the number of indexes that it began with.
+/// be it one of the group, and what a selection removes at its end are the cancelled keys below the number of indexes
+/// that it began with.
 pub fn first_rules_law()
     ensures free { FirstRulesFreeNone }
     ensures reopen { FirstRulesReopenNone }
+    ensures group { FirstRulesReopenNoneOfTheGroup }
     ensures removed { FirstRulesRemoveBelowTheBound }
 {}
 

@@ -5,7 +5,6 @@ ghost use Rattle.nio_plain.specs.PlainState.{limits_of, rules_of, state_of};
 ghost use Rattle.nio_plain.specs.Seq.{call_of};
 
 use super::Plain;
-use super::grouping::call_group;
 use nio_base::CallerNo;
 use nio_language::{Call, Reply};
 use std::alloc::{AllocError, Global};
@@ -55,7 +54,7 @@ impl Plain {
             Call::Pipe(target) => self.pipe(alloc, me, *target),
             Call::Pwrite(chan, bytes) => self.pwrite(me, *chan, bytes.as_slice()),
             Call::Pread(chan, most) => self.pread(alloc, me, *chan, *most),
-            Call::Group(call) => Ok(call_group(&mut self.group, *call)),
+            Call::Group(call) => Ok(self.call_on_group(*call)),
         }
     }
 }

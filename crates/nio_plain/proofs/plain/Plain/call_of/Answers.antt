@@ -1,8 +1,6 @@
-use Rattle.std.proofs.Common.{ℕ, List, ap, refl, sym, ◌∙◌}
+use Rattle.std.proofs.Common.{ℕ, List, ap, sym, ◌∙◌}
 use Rattle.nio_plain.proofs.Replying.{of_word, without_memory}
-use Rattle.nio_plain.proofs.Grouping.{replies_by_group}
 use Rattle.nio_plain.specs.PlainState.{limits_of, rules_of, state_of}
-use Rattle.nio_plain.specs.ScriptState.{with_group}
 use Rattle.nio_plain.specs.Seq.{call_of}
 use Rattle.nio_plain.specs.Seq.Piping.{pwrite_call}
 use Rattle.nio_plain.proofs.plain.Plain.call_of.Goals as goal
@@ -233,5 +231,4 @@ unfolding call_of
 returns-in-Group c =
     let p = c.args.self.now in
     of_word _ _ _ _ _ (ap (call_of (rules_of p) (limits_of p) (state_of p) c.args.me) c.in-Group.is)
-    (replies_by_group p _ c.in-Group.call c.call_group.result c.call_group.ensures.reply
-    (ap (with_group (state_of p)) c.call_group.ensures.left) (record { limits = refl; rules = refl }))
+    (without_memory _ _ _ _ c.call_on_group.ensures)

@@ -1,4 +1,4 @@
-use Rattle.std.proofs.Common.{◌≡◌, ◌<◌, Option, Some, None, true, false, get_or, length, refl, sym, ap, ◌∙◌, arith}
+use Rattle.std.proofs.Common.{◌<◌, Option, Some, None, get_or, length, refl, sym, ap, ◌∙◌, arith}
 use Rattle.nio_base.specs.declared.numbers.KeyId.{KeyId}
 use Rattle.nio_history.specs.Sets.{fits_channel}
 use Rattle.nio_history.specs.declared.found.Chan.{Chan}

@@ -1,4 +1,4 @@
-use Rattle.std.proofs.Common.{◌≡◌, Bool, true, false, not, ◌&&◌, length, refl, sym, ap, ◌∙◌}
+use Rattle.std.proofs.Common.{not, ◌&&◌, length, sym, ap, ◌∙◌}
 use Rattle.std.proofs.lemmas.Bool.{ltb-false}
 use Rattle.nio_base.specs.Kind.{is_same_kind}
 use Rattle.nio_history.specs.Sets.{can_reopen}

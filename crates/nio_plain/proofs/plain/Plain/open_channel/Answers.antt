@@ -1,4 +1,4 @@
-use Rattle.std.proofs.Common.{refl, sym, ap, ◌∙◌, ◌≤◌, arith}
+use Rattle.std.proofs.Common.{refl, sym, ap, ◌∙◌}
 use Rattle.nio_plain.proofs.Replying.{unchanged_as, replied_as}
 use Rattle.nio_plain.proofs.Piping.{with_ends}
 use Rattle.nio_plain.specs.PlainState.{state_of}

@@ -1,15 +1,13 @@
-use Rattle.std.proofs.Common.{◌≡◌, ◌<◌, ◌≤◌, false, Some, None, List, [], ◌∷◌, ◌++◌, length, refl, sym, ap, ◌∙◌, arith}
+use Rattle.std.proofs.Common.{◌≡◌, ◌<◌, false, Some, None, [], ◌∷◌, ◌++◌, refl, sym, ap, ◌∙◌, arith}
 use Rattle.std.proofs.lemmas.Bool.{le-ltb, lt-ltb}
 use Rattle.nio_base.specs.declared.kind.Kind.TheVariants.{Source, Sink}
-use Rattle.nio_language.specs.declared.reply.Reply.TheVariants as reply
-use Rattle.nio_plain.proofs.Replying.{failed_as, replied_as, unchanged_as}
+use Rattle.nio_plain.proofs.Replying.{replied_as, unchanged_as}
 use Rattle.nio_plain.proofs.Piping.{pipe_call-is, pipe_made, with_ends}
-use Rattle.nio_plain.specs.PlainState.{limits_of, pipe_of, rules_of, state_of}
+use Rattle.nio_plain.specs.PlainState.{pipe_of, state_of}
 use Rattle.nio_plain.specs.ScriptState.{ScriptState, with_pipes, with_shared}
 use Rattle.nio_plain.specs.Seq.Cancelling.{channel_closed}
 use Rattle.nio_plain.specs.Seq.Opening.{next_channel, with_new_channel}
 use Rattle.nio_plain.specs.Seq.Piping.{new_pipe, pipe_call, with_source}
-use Rattle.nio_plain.specs.declared.plain.channel.Channel.{Channel}
 use Rattle.nio_plain.specs.declared.plain.pipe.Pipe.{Pipe as PlainPipe}
 use Rattle.nio_plain.proofs.plain.Plain.pipe.Goals as goal
 

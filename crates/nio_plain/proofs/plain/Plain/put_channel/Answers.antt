@@ -1,4 +1,4 @@
-use Rattle.std.proofs.Common.{◌≡◌, ℕ, ◌+◌, ◌<◌, suc, max, Bool, false, length, map, refl, sym, ap, ◌∙◌, arith}
+use Rattle.std.proofs.Common.{◌≡◌, ◌+◌, ◌<◌, suc, max, Bool, false, length, map, refl, ◌∙◌, arith}
 use Rattle.nio_history.specs.State.{put, unmade_channel}
 use Rattle.nio_plain.proofs.Replying.{rows_of, state-push_channel, state-set_channel}
 use Rattle.nio_plain.specs.PlainState.{channel_row, places, state_from, pipe_of}

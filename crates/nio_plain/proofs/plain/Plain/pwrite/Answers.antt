@@ -4,7 +4,6 @@ use Rattle.nio_history.specs.declared.found.Chan.{Chan}
 use Rattle.nio_plain.proofs.Replying.{unchanged_as, replied_as, of_word}
 use Rattle.nio_plain.proofs.Piping.{pipe_at-is, place_within}
 use Rattle.nio_plain.specs.PlainState.{state_of}
-use Rattle.nio_plain.specs.ScriptState.{Pipe}
 use Rattle.nio_plain.specs.Seq.Pipes.{owns_sink, pipe_at, with_seal}
 use Rattle.nio_plain.specs.Seq.Piping.{has_open_source, pwrite_call, room_for, write_first, write_to}
 use Rattle.nio_plain.proofs.plain.Plain.pwrite.Goals as goal
