@@ -34,5 +34,6 @@ pub mod ReachedRegistering
 pub mod ReachedPipes
 pub mod ReachedCalls
 pub mod ReachedReopening
+pub mod ReachedLater
 pub mod ReachedLaws
 pub mod ReachedGroups

@@ -1,18 +1,15 @@
--- Each call of the documented system leaves a sound state, ends no invalid key and no closing, and so
--- does every list of calls.
-use Rattle.std.proofs.Common.{◌≡◌, ℕ, Bool, true, false, cond, Some, None, List, [], ◌∷◌}
+-- Each call of the documented system leaves a sound state, and ends no invalid key and no closing.
+use Rattle.std.proofs.Common.{◌≡◌, ℕ, Bool, true, false, cond, Some, None}
 use Rattle.nio_base.specs.declared.limits.Limits.{Limits}
 use Rattle.nio_base.specs.declared.numbers.CallerNo.{CallerNo}
 use Rattle.nio_language.specs.declared.call.Call.{Call}
-use Rattle.nio_language.specs.declared.call.ScriptCall.{ScriptCall}
 use Rattle.nio_language.specs.declared.reply.Reply.TheVariants as reply
 use Rattle.nio_plain.proofs.ReachedChanges.{keeps_woken, keeps_unselected, keeps_shut, keeps_left, keeps_cancelled_key}
 use Rattle.nio_plain.proofs.ReachedChannels.{keeps_selector, keeps_mode, keeps_closed_channel}
 use Rattle.nio_plain.proofs.ReachedPipes.{keeps_made, keeps_pipe, keeps_pipe_spent}
 use Rattle.nio_plain.proofs.ReachedRegistering.{next-is, keeps_new_key}
 use Rattle.nio_plain.proofs.ReachedRemoving.{keeps_begun, keeps_ended, keeps_closed}
-use Rattle.nio_plain.proofs.ReachedSound.{Sound, Keeps, Stays, same_stays, stays_then}
-use Rattle.nio_plain.specs.Answer.{left_from}
+use Rattle.nio_plain.proofs.ReachedSound.{Sound, Keeps, same_stays}
 use Rattle.nio_plain.specs.ScriptState.{ScriptState, Selection}
 use Rattle.nio_plain.specs.Seq.{seq}
 use Rattle.nio_plain.specs.Seq.Replies.{Replied}
@@ -64,19 +61,3 @@ module _ (rules : Rules) (l : Limits) (st : ScriptState) (me : CallerNo) (sound 
 
   pub keeps_call : (word : Call) → Keeps rules l st (seq rules l st me word)
   keeps_call word = keeps_change (change_of rules l st me word)
-
--- ---- over lists of calls
-
-pub sound-left : (rules : Rules) (l : Limits) (calls : List ScriptCall) (st : ScriptState) → Sound rules l st
-    → Sound rules l (left_from rules l st calls)
-sound-left rules l [] st sound = sound
-sound-left rules l (c ∷ calls) st sound =
-    sound-left rules l calls (seq rules l st c.caller c.call).left (keeps_call rules l st c.caller sound c.call).sound
-
-pub stays-left : (rules : Rules) (l : Limits) (calls : List ScriptCall) (st : ScriptState) → Sound rules l st
-    → Stays st.shared.key (left_from rules l st calls).shared.key st.shared.entered
-    (left_from rules l st calls).shared.entered
-stays-left rules l [] st sound = same_stays st.shared.key st.shared.entered
-stays-left rules l (c ∷ calls) st sound =
-    let first = keeps_call rules l st c.caller sound c.call in
-    stays_then first.stays (stays-left rules l calls (seq rules l st c.caller c.call).left first.sound)

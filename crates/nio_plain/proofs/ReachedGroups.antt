@@ -36,8 +36,8 @@ use Rattle.nio_plain.proofs.CallChanges as change
 use Rattle.nio_plain.proofs.CallChanges.{Change, step_of}
 use Rattle.nio_plain.proofs.CallLawsCases.{change_of}
 use Rattle.nio_plain.proofs.ReachedSound.{some_same}
-use Rattle.nio_plain.specs.Answer.{left_from}
-use Rattle.nio_plain.specs.ReachedLaws.{FirstRulesReopenNoneOfTheGroup, GroupIsLawful, GroupIsLeftByARun}
+use Rattle.nio_plain.specs.Answer.{left_by_script, left_from}
+use Rattle.nio_plain.specs.ReachedLaws.{FirstRulesReopenNoneOfTheGroup, GroupIsLawful, GroupIsLeftByARun, IsLeftByARun}
 use Rattle.nio_plain.specs.ScriptState.{ScriptState, group_limits, script_opening}
 use Rattle.nio_plain.specs.Seq.{seq}
 use Rattle.nio_plain.specs.Seq.Grouping.{gave_each_number, lacks_a_number}
@@ -61,32 +61,44 @@ pub record IsRunTo (before left : Group) : Type 0 where
   pub run : IsRunOf before steps
   pub leaves : left ≡ left_by before steps
 
-runs : (rules : Rules) (l : Limits) (calls : List ScriptCall) (st : ScriptState)
-    → IsRunTo st.group (left_from rules l st calls).group
-runs rules l [] st = record { steps = []; run = tt; leaves = refl }
-runs rules l (c ∷ calls) st =
-    let done = seq rules l st c.caller c.call in
-    let rest = runs rules l calls done.left in
-    elim (changes (change_of rules l st c.caller c.call)) [
-      | inl same ↦ subst (λ (g : Group). IsRunTo g (left_from rules l done.left calls).group) same rest
+-- a call, and then what is run on the group that it leaves
+pub run_on : (rules : Rules) (l : Limits) (st : ScriptState) (me : CallerNo) (word : Call) (g : Group)
+    → IsRunTo (seq rules l st me word).left.group g → IsRunTo st.group g
+run_on rules l st me word g rest =
+    elim (changes (change_of rules l st me word)) [
+      | inl same ↦ subst (λ (h : Group). IsRunTo h g) same rest
       | inr first ↦
-          let on = subst (λ (g : Group). IsRunTo g (left_from rules l done.left calls).group) first.2 rest in
+          let on = subst (λ (h : Group). IsRunTo h g) first.2 rest in
           record { steps = first.0 ∷ on.steps; run = (first.1, on.run); leaves = on.leaves }
     ]
+
+pub run_to_itself : (g : Group) → IsRunTo g g
+run_to_itself g = record { steps = []; run = tt; leaves = refl }
+
+runs : (rules : Rules) (l : Limits) (calls : List ScriptCall) (st : ScriptState)
+    → IsRunTo st.group (left_from rules l st calls).group
+runs rules l [] st = run_to_itself st.group
+runs rules l (c ∷ calls) st =
+    let next = (seq rules l st c.caller c.call).left in
+    run_on rules l st c.caller c.call (left_from rules l next calls).group (runs rules l calls next)
 
 lawful_run : (g : Group) (steps : List step.Call) → IsLawful g → IsRunOf g steps → IsLawful (left_by g steps)
 lawful_run g [] lawful run = lawful
 lawful_run g (s ∷ steps) lawful run = lawful_run (after g s) steps (lawful-after g s lawful run.0) run.1
 
+pub is_left_by_a_run : (g : Group) → IsRunTo (empty_group group_limits) g → IsLeftByARun g
+is_left_by_a_run g is = record { steps = is.steps; run = is.run; leaves = is.leaves }
+
+pub is_lawful : (g : Group) → IsRunTo (empty_group group_limits) g → IsLawful g
+is_lawful g is =
+    subst IsLawful (sym is.leaves) (lawful_run (empty_group group_limits) is.steps (lawful-empty group_limits) is.run)
+
 pub group_is_left_by_a_run : GroupIsLeftByARun
 group_is_left_by_a_run rules l calls =
-    let is = runs rules l calls script_opening in
-    record { steps = is.steps; run = is.run; leaves = is.leaves }
+    is_left_by_a_run (left_by_script rules l calls).group (runs rules l calls script_opening)
 
 pub group_is_lawful : GroupIsLawful
-group_is_lawful rules l calls =
-    let is = runs rules l calls script_opening in
-    subst IsLawful (sym is.leaves) (lawful_run (empty_group group_limits) is.steps (lawful-empty group_limits) is.run)
+group_is_lawful rules l calls = is_lawful (left_by_script rules l calls).group (runs rules l calls script_opening)
 
 -- ---- by the first rules no number comes back
 

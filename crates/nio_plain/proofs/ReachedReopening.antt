@@ -1,6 +1,6 @@
 -- What stays of channels, whatever is called, and what is true of a new one.
-use Rattle.std.proofs.Common.{◌≡◌, ◌≢◌, ℕ, ◌==◌, ◌<◌, nat_lt, Bool, true, false, not, ◌&&◌, ⊎_elim}
-use Rattle.std.proofs.Common.{Some, List, [], ◌∷◌, ◌++◌, refl, sym, ap, ◌∙◌, subst, arith, eq-eqb}
+use Rattle.std.proofs.Common.{◌≡◌, ℕ, ◌==◌, ◌<◌, nat_lt, Bool, true, false, not, ◌&&◌, ⊎_elim, Some, List, [], ◌∷◌}
+use Rattle.std.proofs.Common.{refl, sym, ap, ◌∙◌, subst, arith, eq-eqb}
 use Rattle.std.proofs.lemmas.Bool.{and_from, and_parts, both_ways, eqb-true, false_from_ne_true, le-ltb, lt-ltb}
 use Rattle.std.proofs.lemmas.Bool.{ltb-true, or_cases, or_left, or_right}
 use Rattle.nio_base.specs.declared.kind.Kind.{Kind}
@@ -8,12 +8,9 @@ use Rattle.nio_base.specs.declared.kind.Kind.TheVariants.{Source, Sink}
 use Rattle.nio_base.specs.declared.limits.Limits.{Limits}
 use Rattle.nio_base.specs.declared.numbers.CallerNo.{CallerNo}
 use Rattle.nio_base.specs.declared.numbers.ChanId.{ChanId}
-use Rattle.nio_base.specs.declared.numbers.ChanNo.{ChanNo}
-use Rattle.nio_base.specs.declared.numbers.KeyId.{KeyId}
 use Rattle.nio_history.proofs.Put.{put-same, put_keeps}
 use Rattle.nio_history.specs.Acts.{new_channel}
-use Rattle.nio_history.specs.Sets.{fits, fits_channel, in_key_set, is_in_key_set, is_open_channel, was_closed}
-use Rattle.nio_history.specs.Sets.{was_opened}
+use Rattle.nio_history.specs.Sets.{fits_channel, in_key_set, is_open_channel, was_closed, was_opened}
 use Rattle.nio_history.specs.State.{State, put}
 use Rattle.nio_history.specs.declared.found.Chan.{Chan}
 use Rattle.nio_history.specs.declared.found.Stage.{Stage}
@@ -24,14 +21,13 @@ use Rattle.nio_language.specs.declared.reply.Reply.TheVariants as reply
 use Rattle.nio_plain.proofs.CallChanges as change
 use Rattle.nio_plain.proofs.CallChanges.{Change, may_keep}
 use Rattle.nio_plain.proofs.CallLawsCases.{change_of}
-use Rattle.nio_plain.proofs.CallLawsWakeups.{left_from-append}
-use Rattle.nio_plain.proofs.ReachedCalls.{keeps_call, sound-left, stays-left}
+use Rattle.nio_plain.proofs.ReachedCalls.{keeps_call}
 use Rattle.nio_plain.proofs.ReachedChannels.{IsNextChannel}
 use Rattle.nio_plain.proofs.ReachedPipes.{keeps_made, next_channel-is}
-use Rattle.nio_plain.proofs.ReachedSound.{Keeps, Sound, sound-opening, in_set-published}
-use Rattle.nio_plain.specs.Answer.{left_from, left_by_script}
-use Rattle.nio_plain.specs.ReachedLaws.{ClosedStays, FirstRulesReopenNone, IsNewChannel, KeyKeepsItsChannel, KindStays}
-use Rattle.nio_plain.specs.ReachedLaws.{NewChannelIsNew, OpenedStays, alone, as_sink, as_source}
+use Rattle.nio_plain.proofs.ReachedSound.{Sound, sound-opening}
+use Rattle.nio_plain.specs.Answer.{left_from}
+use Rattle.nio_plain.specs.ReachedLaws.{FirstRulesReopenNone, IsNew, IsNewChannel, MakesNewChannels, alone, as_sink}
+use Rattle.nio_plain.specs.ReachedLaws.{as_source}
 use Rattle.nio_plain.specs.ScriptState.{ScriptState, script_opening}
 use Rattle.nio_plain.specs.Seq.{seq}
 use Rattle.nio_plain.specs.Seq.Opening.{channel_made, next_channel, with_new_channel}
@@ -51,7 +47,7 @@ pub record Lasts (x after : Chan) : Type 0 where
 pub lasts_same : (x : Chan) → Lasts x x
 lasts_same x = record { opened = λ q h. h; closed = λ q h. h; made = λ h. h; kind = λ h. refl }
 
-lasts_then : (x y z : Chan) → Lasts x y → Lasts y z → Lasts x z
+pub lasts_then : (x y z : Chan) → Lasts x y → Lasts y z → Lasts x z
 lasts_then x y z first second = record {
   opened = λ q h. second.opened q (first.opened q h);
   closed = λ q h. second.closed q (first.closed q h);
@@ -145,14 +141,19 @@ channels_put rules key chan c new lasts serial first = record {
 }
 
 module _ (rules : Rules) (l : Limits) where
-  pub channels_made : (st : ScriptState) (kind : Kind) (c : ChanId) → next_channel rules l st.shared kind ≡ Some c
+  -- a number gets its next channel
+  pub channels_next : (st : ScriptState) (kind : Kind) (c : ChanId) → IsNextChannel rules st.shared kind c
       → Sound rules l st
       → ChannelsStay rules st.shared.key st.shared.chan (with_new_channel st.shared kind c).chan
-  channels_made st kind c is sound =
-      let next = next_channel-is rules l st sound kind c is in
+  channels_next st kind c next sound =
       channels_put rules st.shared.key st.shared.chan c.number.0 (new_channel kind c.serial)
       (lasts_new rules st.shared kind c next (sound.keys.channels.fresh c.number.0))
       (λ s i h of_channel. absurd (next.no_key s i h of_channel)) (λ e _. next.first e)
+
+  pub channels_made : (st : ScriptState) (kind : Kind) (c : ChanId) → next_channel rules l st.shared kind ≡ Some c
+      → Sound rules l st
+      → ChannelsStay rules st.shared.key st.shared.chan (with_new_channel st.shared kind c).chan
+  channels_made st kind c is sound = channels_next st kind c (next_channel-is rules l st sound kind c is) sound
 
   channels_closed : (key : ℕ → ℕ → Stage) (chan : ℕ → Chan) (c : ℕ)
       → ChannelsStay rules key chan (put chan c (record (chan c) { closed = true }))
@@ -189,64 +190,7 @@ module _ (rules : Rules) (l : Limits) where
         → ChannelsStay rules st.shared.key st.shared.chan (seq rules l st me word).left.shared.chan
     channels_call word = channels_change (change_of rules l st me word)
 
-  -- over lists of calls
-
-  lasts_left : (calls : List ScriptCall) (st : ScriptState) → Sound rules l st → (c : ℕ)
-      → Lasts (st.shared.chan c) ((left_from rules l st calls).shared.chan c)
-  lasts_left [] st sound c = lasts_same (st.shared.chan c)
-  lasts_left (w ∷ calls) st sound c =
-      let next = (seq rules l st w.caller w.call).left in
-      lasts_then (st.shared.chan c) (next.shared.chan c) ((left_from rules l next calls).shared.chan c)
-      ((channels_call st w.caller sound w.call).lasts c)
-      (lasts_left calls next (keeps_call rules l st w.caller sound w.call).sound c)
-
-  -- a key that is in the key set before and after is one of the same channel
-  kept_left : (calls : List ScriptCall) (st : ScriptState) → Sound rules l st → (s : ℕ) (k : KeyId)
-      → is_in_key_set (st.shared.key s k.index) k.serial ≡ true
-      → is_in_key_set ((left_from rules l st calls).shared.key s k.index) k.serial ≡ true
-      → let c = (st.shared.key s k.index).chan in
-      let left = (left_from rules l st calls).shared in
-      ((left.key s k.index).chan ≡ c) × ((left.chan c.0).serial ≡ (st.shared.chan c.0).serial)
-  kept_left [] st sound s k here there = (refl, refl)
-  kept_left (w ∷ calls) st sound s k here there =
-      between (λ e. kept_left calls next kept.sound s k e there) (is_in_key_set (next.shared.key s k.index) k.serial)
-      refl
-    where
-      next : ScriptState
-      next = (seq rules l st w.caller w.call).left
-
-      left : State
-      left = (left_from rules l next calls).shared
-
-      kept : Keeps rules l st (seq rules l st w.caller w.call)
-      kept = keeps_call rules l st w.caller sound w.call
-
-      c : ChanNo
-      c = (st.shared.key s k.index).chan
-
-      between : (is_in_key_set (next.shared.key s k.index) k.serial ≡ true
-          → let d = (next.shared.key s k.index).chan in
-          ((left.key s k.index).chan ≡ d) × ((left.chan d.0).serial ≡ (next.shared.chan d.0).serial)) → (m : Bool)
-          → is_in_key_set (next.shared.key s k.index) k.serial ≡ m
-          → ((left.key s k.index).chan ≡ c) × ((left.chan c.0).serial ≡ (st.shared.chan c.0).serial)
-      between later true e =
-          let rest = later e in
-          let same = kept.stays.chan s k.index k.serial here e in
-          let in_set = (and_parts (fits (st.shared.key s k.index) k.serial) _ here).1 in (
-            rest.0 ∙ same,
-            ap (λ (n : ChanNo). (left.chan n.0).serial) (sym same)
-                ∙ (rest.1
-                ∙ (ap (λ (n : ChanNo). (next.shared.chan n.0).serial) same
-                ∙ (channels_call st w.caller sound w.call).serial s k.index in_set)),
-          )
-      between later false e =
-          let out = (stays-left rules l calls next kept.sound).outside s k.index k.serial (record {
-            published = kept.stays.published s k.index k.serial
-                (in_set-published (st.shared.key s k.index) k.serial here);
-            out = e;
-          }) in
-          absurd (both_ways (is_in_key_set (left.key s k.index) k.serial) out.out there)
-
+  -- over lists of calls, by the first rules
   first_left : rules ≡ First → (calls : List ScriptCall) (st : ScriptState) → Sound rules l st
       → ((c : ℕ) → (st.shared.chan c).serial ≡ 0) → (c : ℕ) → ((left_from rules l st calls).shared.chan c).serial ≡ 0
   first_left e [] st sound none c = none c
@@ -254,51 +198,11 @@ module _ (rules : Rules) (l : Limits) where
       first_left e calls (seq rules l st w.caller w.call).left (keeps_call rules l st w.caller sound w.call).sound
       (λ n. (channels_call st w.caller sound w.call).first e n (none n)) c
 
--- ---- the laws
-
-reached : (rules : Rules) (l : Limits) (calls : List ScriptCall) → Sound rules l (left_by_script rules l calls)
-reached rules l calls = sound-left rules l calls script_opening (sound-opening rules l)
-
--- what stays of a channel over further calls
-lasts_more : (rules : Rules) (l : Limits) (calls more : List ScriptCall) (c : ℕ)
-    → Lasts ((left_by_script rules l calls).shared.chan c) ((left_by_script rules l (calls ++ more)).shared.chan c)
-lasts_more rules l calls more c =
-    let before = left_by_script rules l calls in
-    subst (λ (st : ScriptState). Lasts (before.shared.chan c) (st.shared.chan c))
-    (sym (left_from-append rules l script_opening calls more))
-    (lasts_left rules l more before (reached rules l calls) c)
-
-pub opened_stays : OpenedStays
-opened_stays rules l calls more c h = (lasts_more rules l calls more c.number.0).opened c.serial h
-
-pub closed_stays : ClosedStays
-closed_stays rules l calls more c h = (lasts_more rules l calls more c.number.0).closed c.serial h
-
-pub kind_stays : KindStays
-kind_stays rules l calls more c h = (lasts_more rules l calls more c).kind h
-
-pub key_keeps_its_channel : KeyKeepsItsChannel
-key_keeps_its_channel rules l calls more s k here there =
-    let before = left_by_script rules l calls in
-    let c = (before.shared.key s k.index).chan in
-    let join = left_from-append rules l script_opening calls more in
-    subst (λ (st : ScriptState). ((st.shared.key s k.index).chan ≡ c)
-    × ((st.shared.chan c.0).serial ≡ (before.shared.chan c.0).serial)) (sym join)
-    (kept_left rules l more before (reached rules l calls) s k here
-    (subst (λ (st : ScriptState). is_in_key_set (st.shared.key s k.index) k.serial ≡ true) join there))
-
 pub first_rules_reopen_none : FirstRulesReopenNone
 first_rules_reopen_none l calls c =
     first_left First l refl calls script_opening (sound-opening First l) (λ _. refl) c
 
 -- ---- a new channel
-
--- what is true of it, from one state to the next
-pub record IsNew (before after : State) (c : ChanId) : Type 0 where
-  pub not_yet : was_opened (before.chan c.number.0) c.serial ≡ false
-  pub is_open : is_open_channel (after.chan c.number.0) c.serial ≡ true
-  pub blocking : (after.chan c.number.0).blocking ≡ true
-  pub no_key : (s i : ℕ) → in_key_set (after.key s i) ≡ true → (after.key s i).chan ≢ c.number
 
 new_is_open : (x : Chan) (kind : Kind) (serial : ℕ) → x ≡ new_channel kind serial
     → (is_open_channel x serial ≡ true) × (x.blocking ≡ true)
@@ -315,19 +219,22 @@ module _ (rules : Rules) (l : Limits) where
       false_from_ne_true (was_opened (st.shared.chan c.number.0) c.serial)
       (λ h. let less = next.older c.serial h in absurd (omega (arith, less)))
 
+  pub next_is_new : (st : ScriptState) (kind : Kind) (c : ChanId) → IsNextChannel rules st.shared kind c
+      → IsNew st.shared (with_new_channel st.shared kind c) c
+  next_is_new st kind c next =
+      let there = new_is_open _ kind c.serial
+      (put-same st.shared.chan c.number.0 (new_channel kind c.serial)) in
+      record {
+        not_yet = not_yet_opened st kind c next;
+        is_open = there.0;
+        blocking = there.1;
+        no_key = λ s i h e. next.no_key s i h (ap (λ n. n.0) e);
+      }
+
   module _ (st : ScriptState) (sound : Sound rules l st) where
     pub made_is_new : (kind : Kind) (c : ChanId) → next_channel rules l st.shared kind ≡ Some c
         → IsNew st.shared (with_new_channel st.shared kind c) c
-    made_is_new kind c is =
-        let next = next_channel-is rules l st sound kind c is in
-        let there = new_is_open _ kind c.serial
-        (put-same st.shared.chan c.number.0 (new_channel kind c.serial)) in
-        record {
-          not_yet = not_yet_opened st kind c next;
-          is_open = there.0;
-          blocking = there.1;
-          no_key = λ s i h e. next.no_key s i h (ap (λ n. n.0) e);
-        }
+    made_is_new kind c is = next_is_new st kind c (next_channel-is rules l st sound kind c is)
 
     module _ (source sink : ChanId) (is : next_channel rules l st.shared Source ≡ Some source)
         (then_is : next_channel rules l (with_new_channel st.shared Source source) Sink ≡ Some sink) where
@@ -414,8 +321,5 @@ module _ (rules : Rules) (l : Limits) where
       of_new c new (as_sink target source called said) =
           of_sink target source new (change_of rules l st me c) called said
 
-pub new_channel_is_new : NewChannelIsNew
-new_channel_is_new rules l calls c new opened =
-    let st = left_by_script rules l calls in
-    let is = of_new rules l st (reached rules l calls) c.caller c.call new opened in
-    (is.not_yet, is.is_open, is.blocking, is.no_key)
+    pub makes_new_channels : MakesNewChannels rules l st
+    makes_new_channels c new opened = of_new c.caller c.call new opened

@@ -10,22 +10,33 @@ use Rattle.nio_history.specs.Sets.{in_key_set, is_in_key_set}
 use Rattle.nio_history.specs.State.{State, unmarked, unclaimed}
 use Rattle.nio_history.specs.declared.found.Mark.{Mark}
 use Rattle.nio_history.specs.declared.found.Stage.{Stage}
-use Rattle.nio_plain.proofs.ReachedCalls.{keeps_call}
+use Rattle.nio_plain.proofs.ReachedLater.{IsLater, later_call, later_same, later_then}
 use Rattle.nio_plain.proofs.ReachedSound.{Sound, sound-opening}
-use Rattle.nio_plain.specs.ScriptState.{ScriptState}
+use Rattle.nio_plain.specs.ScriptState.{ScriptState, script_opening}
+use Rattle.nio_plain.specs.Seq.{seq}
 use Rattle.nio_plain.specs.Seq.Selections.{is_looked, is_caller, own_selection}
 use Rattle.nio_plain.specs.declared.rules.Rules.TheVariants.{Now}
-use Rattle.nio_serial.proofs.ReopeningKept.{sound-reopened}
-use Rattle.nio_serial.specs.Between.{IsLeft, opening, line, reopening, IsBetween}
+use Rattle.nio_serial.proofs.ReopeningKept.{later-reopened}
+use Rattle.nio_serial.specs.Between.{IsLeft, LeadsTo, no_call, line, reopening, IsBetween}
 use Rattle.nio_serial.specs.Documented.{Progress, Selecting, settled, settled_mark, looked_pair, shown, documented}
 use Rattle.nio_serial.specs.Lines.{if_own}
 use Rattle.nio_serial.specs.Lines.{own_selection as own_now}
+use Rattle.nio_serial.specs.Reopening.{reopen_call}
+
+-- what documented calls lead to from a sound state is a later one
+pub leads-later : (l : Limits) (before after : ScriptState) → Sound Now l before → LeadsTo l before after
+    → IsLater Now l before after
+leads-later l before _ sound no_call = later_same Now l before sound
+leads-later l before _ sound (line st me word leads) =
+    let first = leads-later l before st sound leads in
+    later_then Now l before st (seq Now l st me word).left first (later_call Now l st me first.sound word)
+leads-later l before _ sound (reopening st c leads) =
+    let first = leads-later l before st sound leads in
+    later_then Now l before st (reopen_call l st c).left first (later-reopened l st c first.sound)
 
 -- a state that documented calls leave is sound
 pub left_is_sound : (l : Limits) (st : ScriptState) → IsLeft l st → Sound Now l st
-left_is_sound l _ opening = sound-opening Now l
-left_is_sound l _ (line st me word left) = (keeps_call Now l st me (left_is_sound l st left) word).sound
-left_is_sound l _ (reopening st c left) = sound-reopened l st c (left_is_sound l st left)
+left_is_sound l st left = (leads-later l script_opening st (sound-opening Now l) left).sound
 
 unmarked_from : (k : Stage) (m : Mark) → settled k ≡ unclaimed → settled_mark k m ≡ unmarked → m ≡ unmarked
 unmarked_from k m key mark =

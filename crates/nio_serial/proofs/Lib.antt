@@ -31,6 +31,7 @@ pub mod Steady
 pub mod Leaving
 pub mod Staying
 pub mod WholePipes
+pub mod LeftLaws
 pub mod Histories
 pub mod Serial
 pub mod Progress

@@ -8,7 +8,9 @@ use Rattle.nio_history.specs.Sets.{fits_channel, can_reopen}
 use Rattle.nio_history.specs.declared.found.Chan.{Chan}
 use Rattle.nio_language.specs.declared.reply.Reply.TheVariants as reply
 use Rattle.nio_plain.proofs.ReachedChannels.{IsNextChannel, keeps_channel}
+use Rattle.nio_plain.proofs.ReachedLater.{IsLater, later_changed, later_same}
 use Rattle.nio_plain.proofs.ReachedPipes.{returning-is}
+use Rattle.nio_plain.proofs.ReachedReopening.{channels_next}
 use Rattle.nio_plain.proofs.ReachedSound.{Sound}
 use Rattle.nio_plain.specs.ScriptState.{ScriptState, with_shared}
 use Rattle.nio_plain.specs.Seq.Modes.{has_key}
@@ -58,12 +60,16 @@ next-reopened l st c sound comes keyless =
     (and_from (can_reopen x) (is_same_kind x.kind x.kind) comes (eq-eqb (kind_code x.kind) (kind_code x.kind) refl))
     keyless)
 
-pub sound-reopened : (l : Limits) (st : ScriptState) (c : ChanId) → Sound Now l st
-    → Sound Now l (reopen_call l st c).left
-sound-reopened l st c sound =
-    reopen-cases l st c (λ done. Sound Now l done.left) (λ _. sound) (λ comes keyless.
-    (keeps_channel Now l st reply.«Ok» (st.shared.chan c.number.0).kind (next_of_number st.shared c)
-    (next-reopened l st c sound comes keyless) sound).sound)
+pub later-reopened : (l : Limits) (st : ScriptState) (c : ChanId) → Sound Now l st
+    → IsLater Now l st (reopen_call l st c).left
+later-reopened l st c sound =
+    reopen-cases l st c (λ done. IsLater Now l st done.left) (λ _. later_same Now l st sound) (λ comes keyless.
+    let kind = (st.shared.chan c.number.0).kind in
+    let new = next_of_number st.shared c in
+    let next = next-reopened l st c sound comes keyless in
+    let kept = keeps_channel Now l st reply.«Ok» kind new next sound in
+    later_changed Now l st (with_shared st (with_new_channel st.shared kind new)) kept.sound kept.stays
+    (channels_next Now l st kind new next sound))
 
 pub rests-reopened : (l : Limits) (st : ScriptState) (c : ChanId) → Rests l st.shared
     → Rests l (reopen_call l st c).left.shared

@@ -37,7 +37,7 @@ use Rattle.nio_serial.proofs.RestingCalls.{rests-seq}
 use Rattle.nio_serial.proofs.Showing.{Shows, ShowsAsBefore, shows-on, shows-same, begin-shows, told-shows, failed-shows}
 use Rattle.nio_serial.proofs.Showing.{close-shows, close_end-shows}
 use Rattle.nio_serial.proofs.Steady.{IsSteady, is_steady, steady}
-use Rattle.nio_serial.specs.Between.{IsLeft, opening as opening_left, line as line_left, IsAtRest, IsBetween}
+use Rattle.nio_serial.specs.Between.{IsLeft, no_call, line as line_left, IsAtRest, IsBetween}
 use Rattle.nio_serial.specs.Documented.{Progress, documented}
 use Rattle.nio_serial.specs.Laws.{BeginsBetween, LinesStayBetween}
 use Rattle.nio_serial.specs.Lines.{Said, comes_to, asks, refused, if_name, if_named, read_line, write_line, call_plan}
@@ -175,7 +175,7 @@ module _ (l : Limits) (st : State) (now : Progress) (me : CallerNo) (fit : IsFit
 
 pub begins-between : BeginsBetween
 begins-between l = record {
-  left = opening_left;
+  left = no_call;
   at_rest = record {
     unused = record { unheld = λ _. refl; unpinned = λ _ _ _. refl; untaken = λ _ _. refl; none_due = λ _ _. refl };
     high = record {

@@ -32,7 +32,7 @@ use Rattle.nio_plain.specs.Seq.Piping.{room_for, with_sink}
 use Rattle.nio_plain.specs.declared.rules.Rules.TheVariants.{Now}
 use Rattle.nio_serial.proofs.Facts.{left_is_sound}
 use Rattle.nio_serial.proofs.ReopeningKept.{reopen-cases, next-reopened}
-use Rattle.nio_serial.specs.Between.{IsLeft, opening, line, reopening, IsChannelOf, IsWholePipe}
+use Rattle.nio_serial.specs.Between.{IsLeft, no_call, line, reopening, IsChannelOf, IsWholePipe}
 use Rattle.nio_serial.specs.Documented.{documented}
 use Rattle.nio_serial.specs.Laws.{PipesAreWhole}
 use Rattle.nio_serial.specs.Reopening.{next_of_number, reopen_call}
@@ -177,7 +177,7 @@ reopened-whole l st sound whole c =
 -- ---- one after the other
 
 left-whole : (l : Limits) (st : ScriptState) → IsLeft l st → Whole st
-left-whole l _ opening = All-nil (IsWholePipe script_opening.shared.chan)
+left-whole l _ no_call = All-nil (IsWholePipe script_opening.shared.chan)
 left-whole l _ (line st me word left) =
     changes l st (left_is_sound l st left) (left-whole l st left) me (change_of Now l st me word)
 left-whole l _ (reopening st c left) = reopened-whole l st (left_is_sound l st left) (left-whole l st left) c

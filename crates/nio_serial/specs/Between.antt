@@ -66,15 +66,21 @@ pub record IsShownBy (st : State) (now : Progress) (s : ℕ) : Type 0 where
   pub on : (x : Selecting) → now.selection s ≡ Some x → IsOn s x.selection
   pub closing : now.closing s ≡ (if st.entered s then None else st.closer s)
 
--- The state is one that documented calls leave, by the rules of now, one after the other. Such a call is a line of a
--- script, or a reopening.
-pub data IsLeft (l : Limits) : ScriptState → Type 0 where
-  opening : IsLeft l script_opening
-  line : (st : ScriptState) (me : CallerNo) (word : Call) → IsLeft l st → IsLeft l (seq Now l st me word).left
-  reopening : (st : ScriptState) (c : ChanId) → IsLeft l st → IsLeft l (reopen_call l st c).left
+-- Documented calls, none or more, lead from the first state to the second, by the rules of now, one after the other.
+-- Such a call is a line of a script, or a reopening.
+pub data LeadsTo (l : Limits) (before : ScriptState) : ScriptState → Type 0 where
+  no_call : LeadsTo l before before
+  line : (st : ScriptState) (me : CallerNo) (word : Call)
+      → LeadsTo l before st → LeadsTo l before (seq Now l st me word).left
+  reopening : (st : ScriptState) (c : ChanId) → LeadsTo l before st → LeadsTo l before (reopen_call l st c).left
+
+-- the state is one that documented calls leave
+abbrev pub IsLeft : Limits → ScriptState → Type 0
+IsLeft l st = LeadsTo l script_opening st
 
 -- All that holds between two calls: what a script sees is a state that documented calls leave, in which nothing is at
--- work, and what is in progress is what the state shows.
+-- work, and what is in progress is what the state shows. `between_law` always gives the premise `left` of the laws that
+-- ask for it.
 pub record IsBetween (l : Limits) (st : State) (now : Progress) : Type 0 where
   pub left : IsLeft l (documented st now)
   pub at_rest : IsAtRest l (documented st now).shared

@@ -9,3 +9,4 @@ pub mod Serial
 pub mod Called
 pub mod Left
 pub mod SequenceLaws
+pub mod LeftLaws

@@ -2,6 +2,14 @@
 ghost use Rattle.nio_serial.specs.Laws.{CallsAmount, ToldAmounts, LinesAmount, BeginsBetween, DrawsStayBetween};
 ghost use Rattle.nio_serial.specs.Laws.{CallsStayBetween, ToldStaysBetween, LinesStayBetween, PipesAreWhole};
 ghost use Rattle.nio_serial.specs.Laws.{CallRunsAmount, ToldRunsAmount, LineRunsAmount, PassLinesAmount, LackingLeaves};
+ghost use Rattle.nio_serial.specs.LeftLaws.{LeftAreWithinKeySet, LeftHasKeysBelowHigh, LeftHasLookedInKeySet};
+ghost use Rattle.nio_serial.specs.LeftLaws.{LeadingKeepsPublished, LeadingKeepsInvalid, LeftHasNoKeyAtFree};
+ghost use Rattle.nio_serial.specs.LeftLaws.{LeftMakesNewKeys, LeadingMakesOtherKeys, LeadingKeepsOpened};
+ghost use Rattle.nio_serial.specs.LeftLaws.{LeadingKeepsClosed, LeadingKeepsKinds, LeftMakesNewChannels, ReopenedIsNew};
+ghost use Rattle.nio_serial.specs.LeftLaws.{LeadingKeepsChannelsOfKeys, LeftFindsKeysOfChannels};
+ghost use Rattle.nio_serial.specs.LeftLaws.{LeftHasOneKeyOfAChannel, LeftHasRegisteredInKeySets};
+ghost use Rattle.nio_serial.specs.LeftLaws.{LeftHasRegisteredNonBlocking, LeftHasNoValidKeyOfClosed};
+ghost use Rattle.nio_serial.specs.LeftLaws.{LeadingEmptiesClosed, LeftGroupIsLeftByARun, LeftGroupIsLawful};
 ghost use Rattle.nio_serial.specs.Serial.{SerialLinesAmount};
 ghost use Rattle.nio_serial.specs.SequenceLaws.{SequencesStand, NextCallIsDocumented, SequencesGrow, NothingIsSequence};
 ghost use Rattle.nio_serial.specs.SequenceLaws.{ReopeningIsDocumented, SequencesAreScripts};
@@ -42,6 +50,35 @@ pub fn runs_law()
 /// the rules of now: each line has its reply, and the state that is left is the script's.
 pub fn serial_law()
     ensures { SerialLinesAmount }
+{}
+
+/// What the laws of `nio_plain` say of the states that scripts leave, and of an earlier and a later one, is true of all
+/// states that documented calls leave, by the rules of now, also where reopenings are among the calls, which no line of a
+/// script is. A channel that a reopening gives a number to is new, as any that is opened. `between_law` says that what
+/// stands between two calls shows such a state.
+pub fn left_law()
+    ensures within { LeftAreWithinKeySet }
+    ensures below { LeftHasKeysBelowHigh }
+    ensures looked { LeftHasLookedInKeySet }
+    ensures published { LeadingKeepsPublished }
+    ensures invalid { LeadingKeepsInvalid }
+    ensures free { LeftHasNoKeyAtFree }
+    ensures new_keys { LeftMakesNewKeys }
+    ensures other_keys { LeadingMakesOtherKeys }
+    ensures opened { LeadingKeepsOpened }
+    ensures closed { LeadingKeepsClosed }
+    ensures kinds { LeadingKeepsKinds }
+    ensures new_channels { LeftMakesNewChannels }
+    ensures reopened { ReopenedIsNew }
+    ensures keys { LeadingKeepsChannelsOfKeys }
+    ensures found { LeftFindsKeysOfChannels }
+    ensures one { LeftHasOneKeyOfAChannel }
+    ensures registered { LeftHasRegisteredInKeySets }
+    ensures non_blocking { LeftHasRegisteredNonBlocking }
+    ensures no_valid_key { LeftHasNoValidKeyOfClosed }
+    ensures emptied { LeadingEmptiesClosed }
+    ensures run { LeftGroupIsLeftByARun }
+    ensures lawful { LeftGroupIsLawful }
 {}
 
 /// Where calls don't overlap, the table is the sequential selector of Java. A legal serial history leaves a

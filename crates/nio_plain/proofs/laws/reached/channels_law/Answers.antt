@@ -1,5 +1,5 @@
-use Rattle.nio_plain.proofs.ReachedReopening.{closed_stays, key_keeps_its_channel, kind_stays, new_channel_is_new}
-use Rattle.nio_plain.proofs.ReachedReopening.{opened_stays}
+use Rattle.nio_plain.proofs.ReachedLaws.{closed_stays, key_keeps_its_channel, kind_stays, new_channel_is_new}
+use Rattle.nio_plain.proofs.ReachedLaws.{opened_stays}
 use Rattle.nio_plain.proofs.laws.reached.channels_law.Goals as goal
 
 pub returns-clause-opened : goal.returns-clause-opened
