@@ -24,6 +24,7 @@ pub mod CallLawsCases
 pub mod GroupSteps
 pub mod CallLawsRefusals
 pub mod CallLawsWakeups
+pub mod CallLawsWaking
 pub mod CallLawsMarks
 pub mod CallLawsSelections
 pub mod ReachedSound

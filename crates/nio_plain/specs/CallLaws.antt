@@ -11,6 +11,7 @@ use Rattle.nio_base.specs.declared.numbers.KeyId.{KeyId}
 use Rattle.nio_base.specs.declared.numbers.SelNo.{SelNo}
 use Rattle.nio_history.specs.Sets.{in_cancelled_set, in_key_set, is_valid}
 use Rattle.nio_history.specs.declared.found.Mark.{Mark}
+use Rattle.nio_language.specs.WordRows.{word_row}
 use Rattle.nio_language.specs.declared.call.Call.{Call}
 use Rattle.nio_language.specs.declared.call.Call.TheVariants as call
 use Rattle.nio_language.specs.declared.call.ScriptCall.{ScriptCall}
@@ -338,3 +339,24 @@ WakeupsActAsOne =
     → NoneEnds rules l st s.0 (first ∷ between)
     → further.call ≡ call.Wakeup s
     → left_from rules l st (first ∷ between ++ further ∷ later) ≡ left_from rules l st (first ∷ between ++ later)
+
+-- WAKING. Besides what its poller tells and the end of its time, three things end a selection that waits
+-- (`is_again`): a pending wakeup of its selector, the closing of that selector, and its caller's interrupt status.
+
+abbrev pub is_shut : ScriptState → ℕ → Bool
+is_shut st s = (st.shared.gate s).shut
+
+abbrev pub is_interrupted : ScriptState → ℕ → Bool
+is_interrupted st n = st.shared.interrupted n
+
+-- each of these that is there after was there before
+pub record WakesNobody (before after : ScriptState) : Type 0 where
+  pub woken : (s : ℕ) → IsTrue (is_woken after s) → IsTrue (is_woken before s)
+  pub shut : (s : ℕ) → IsTrue (is_shut after s) → IsTrue (is_shut before s)
+  pub interrupted : (n : ℕ) → IsTrue (is_interrupted after n) → IsTrue (is_interrupted before n)
+
+-- a call whose word's row says that it doesn't wake sets no pending wakeup, shuts no selector and sets no caller's
+-- interrupt status
+abbrev pub OnlyWakingCallsWake : Type 0
+OnlyWakingCallsWake = (rules : Rules) (l : Limits) (st : ScriptState) (me : CallerNo) (c : Call)
+    → IsFalse (word_row c).wakes → WakesNobody st (seq rules l st me c).left

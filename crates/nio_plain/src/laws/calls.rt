@@ -3,6 +3,7 @@ ghost use Rattle.nio_plain.specs.CallLaws.{RefusalsChangeNothing, OnlyToldBitsAr
 ghost use Rattle.nio_plain.specs.CallLaws.{EndLeavesNoneCancelled, LookedIsReplied, OnlyItselfEndsASelection};
 ghost use Rattle.nio_plain.specs.CallLaws.{WakeupsArePending};
 ghost use Rattle.nio_plain.specs.CallLaws.{FurtherWakeupsChangeNothing, WakeupsHaveReplies, WakeupsActAsOne};
+ghost use Rattle.nio_plain.specs.CallLaws.{OnlyWakingCallsWake};
 
 /// A refused call changes nothing, nor does one that only asks. The exceptions are calls on pipes: an owner's
 /// `closec` or `pwrite` that finds its sink closed leaves the seal, an interrupted caller's `pread` or
@@ -33,4 +34,10 @@ pub fn wakeups_law()
     ensures further { FurtherWakeupsChangeNothing }
     ensures replied { WakeupsHaveReplies }
     ensures one { WakeupsActAsOne }
+{}
+
+/// A call whose word's row says that it doesn't wake (`wakes`) sets no pending wakeup, shuts no selector and sets no
+/// caller's interrupt status.
+pub fn waking_law()
+    ensures { OnlyWakingCallsWake }
 {}
