@@ -1,10 +1,13 @@
 pub mod DeadlineLemmas
+pub mod Due
 pub mod ExpireLemmas
 pub mod FilterLemmas
+pub mod LimitLemmas
 pub mod PendingLemmas
 pub mod QueueLemmas
 pub mod RunLemmas
 pub mod StartLemmas
 pub mod TakeLemmas
 pub mod TimedLemmas
+pub mod TimedTakeLemmas
 pub mod TimeoutLemmas

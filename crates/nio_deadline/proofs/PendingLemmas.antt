@@ -1,5 +1,5 @@
 -- Which operations each call of a group leaves pending.
-use Rattle.std.proofs.Common.{◌≡◌, ◌≢◌, inl, inr, ℕ, ◌<◌, zero, suc, true, false, not, eqb, List, [], drop, ◌∷◌, ◌++◌}
+use Rattle.std.proofs.Common.{◌≡◌, ◌≢◌, inl, inr, ℕ, ◌<◌, zero, suc, true, false, not, eqb, List, [], drop, ◌∷◌}
 use Rattle.std.proofs.Common.{Option, Some, None, length, get_or, set, refl, sym, ap, ◌∙◌, subst, arith}
 use Rattle.std.proofs.Common.{get_or-set_same, get_or-set_other}
 use Rattle.std.specs.Option.{option_map}

@@ -1,7 +1,7 @@
 -- Each timed step leads from a lawful state to a lawful one.
 use Rattle.std.specs.Bool.{⊤}
-use Rattle.std.proofs.Common.{◌≡◌, ℕ, ◌<◌, ◌≤◌, ◌+◌, Bool, true, false, not, ◌&&◌, eqb, leb, List, [], ◌∷◌, ◌++◌, cond}
-use Rattle.std.proofs.Common.{◌⊎◌, inl, inr, Option, Some, None, length, refl, sym, ap, ◌∙◌, subst, get_or}
+use Rattle.std.proofs.Common.{◌≡◌, ℕ, ◌≤◌, ◌+◌, Bool, true, false, not, ◌&&◌, eqb, leb, List, [], ◌∷◌, ◌++◌, cond}
+use Rattle.std.proofs.Common.{◌⊎◌, inl, inr, Option, Some, None, refl, sym, ap, ◌∙◌, subst, get_or}
 use Rattle.std.specs.Option.{option_or}
 use Rattle.std.proofs.lemmas.Bool.{false≢true, eqb-false, leb-false, leb-true}
 use Rattle.std.proofs.lemmas.List.{get_or_push, length-replicate}
@@ -11,7 +11,7 @@ use Rattle.nio_base.specs.declared.group.OpKind.TheVariants.{Accept, Connect, Re
 use Rattle.nio_group.specs.declared.limits.GroupLimits.{GroupLimits}
 use Rattle.nio_group.specs.declared.operation.Operation.{Operation}
 use Rattle.nio_group.specs.Completion.{CompletionFields}
-use Rattle.nio_group.specs.Flight.{op_at, accepted, IsPendingAs}
+use Rattle.nio_group.specs.Flight.{op_at, accepted}
 use Rattle.nio_group.specs.Group.{Group, IsMade, is_open as open_by}
 use Rattle.nio_group.specs.Refusals.{start_refusal}
 use Rattle.nio_group.specs.Run as run
@@ -28,12 +28,12 @@ use Rattle.nio_deadline.specs.Deadlines.{Deadline, AreInOrder, due}
 use Rattle.nio_deadline.specs.Kept.{timed_of, IsAboveAll}
 use Rattle.nio_deadline.specs.Run.{Call, open_channel, bind, start_timed, report, expire, take, finish, close_channel}
 use Rattle.nio_deadline.specs.Run.{shutdown, shutdown_now, IsCallOf, IsRunOf, after, reply_to, left_by, StepsAreLawful}
-use Rattle.nio_deadline.specs.Run.{is_due_at}
 use Rattle.nio_deadline.specs.Steps.{after_start, after_expire, after_take, with_timeout, with_timeouts, with_limit}
 use Rattle.nio_deadline.specs.Steps.{kept_if_refused, started}
 use Rattle.nio_deadline.specs.Timed.{Timed, IsLawful, no_number, with_group, may_have_limit, own_refusal, late_refusal}
 use Rattle.nio_deadline.specs.Timed.{empty_timed, no_kinds, last_moment, IsPendingBy}
 use Rattle.nio_deadline.specs.declared.refusal.TimedError.{TimedError}
+use Rattle.nio_deadline.proofs.Due.{is_due_at}
 use Rattle.nio_deadline.proofs.DeadlineLemmas.{insert-in_order, none-due}
 use Rattle.nio_deadline.proofs.ExpireLemmas.{expire-first, lawful-timeout, timeout-deadlines}
 use Rattle.nio_deadline.proofs.PendingLemmas.{stays-start}

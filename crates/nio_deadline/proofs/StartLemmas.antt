@@ -8,7 +8,7 @@ use Rattle.nio_base.specs.declared.group.OpKind.{OpKind}
 use Rattle.nio_base.specs.declared.group.OpKind.TheVariants.{Accept, Connect, Read, Write}
 use Rattle.nio_group.specs.declared.operation.Stage.TheVariants.{Pending}
 use Rattle.nio_group.specs.declared.refusal.StartError.{StartError}
-use Rattle.nio_group.specs.Flight.{Flight, op_at, accepted, IsPendingAs}
+use Rattle.nio_group.specs.Flight.{Flight, op_at, accepted}
 use Rattle.nio_group.specs.declared.operation.Operation.{Operation}
 use Rattle.nio_group.specs.Group.{Group, IsMade, is_open as open_by}
 use Rattle.nio_group.specs.Refusals.{start_refusal}

@@ -31,14 +31,15 @@ use Rattle.nio_group.proofs.StageLemmas.{IsStepped, stepped-after, next-not_pend
 use Rattle.nio_group.proofs.TableLemmas.{by_test}
 use Rattle.nio_deadline.specs.Deadlines.{Deadline, due}
 use Rattle.nio_deadline.specs.Kept.{timed_of}
-use Rattle.nio_deadline.specs.Run.{Call, take, IsRunOf, after, left_by, is_due, is_due_at, was_due, TimesOutExactly}
+use Rattle.nio_deadline.specs.Run.{Call, take, IsRunOf, after, left_by}
 use Rattle.nio_deadline.specs.Run.{completions, CompletesOnce, LosesNone, IsCallOf}
 use Rattle.nio_deadline.specs.Steps.{after_start, after_expire, after_take, with_timeout, started, is_among}
-use Rattle.nio_deadline.specs.Steps.{without_number, done_of}
+use Rattle.nio_deadline.specs.Steps.{without_number, done_of, answer_to_take as timed_answer}
 use Rattle.nio_deadline.specs.Timed.{Timed, IsLawful, with_group, own_refusal, empty_timed}
 use Rattle.nio_deadline.specs.declared.done.TimedDone.{TimedDone}
 use Rattle.nio_deadline.specs.declared.done.TimedResult.{TimedResult}
 use Rattle.nio_deadline.specs.declared.done.TimedResult.TheVariants.{Core, InterruptedByTimeout}
+use Rattle.nio_deadline.proofs.Due.{is_due, is_due_at, was_due}
 use Rattle.nio_deadline.proofs.ExpireLemmas.{fault-free, timeout-deadlines, first-pending}
 use Rattle.nio_deadline.proofs.PendingLemmas.{pending-completed, stays-take}
 use Rattle.nio_deadline.proofs.RunLemmas.{expire-by, kept-or, lawful-step, lawful-left, lawful-empty_timed, by-call}
@@ -58,11 +59,11 @@ record Tells (n : ℕ) (late : Bool) (t : Timed) : Type 0 where
   unknown : accepted t.group.flight ≤ n → late ≡ false
   queued : is_queued (op_at t.group.flight n) ≡ true → is_among n t.timed_out ≡ late
 
-pending-idle : (slot : Option Operation) → is_pending slot ≡ true → is_queued slot ≡ false
+pub pending-idle : (slot : Option Operation) → is_pending slot ≡ true → is_queued slot ≡ false
 pending-idle None p = refl
 pending-idle (Some op) p = not_queued-pending op p
 
-next-pending : (slot next : Option Operation) → IsNext slot next → is_pending next ≡ true → is_pending slot ≡ true
+pub next-pending : (slot next : Option Operation) → IsNext slot next → is_pending next ≡ true → is_pending slot ≡ true
 next-pending slot next is p =
     by_test (is_pending slot) (λ t. t) (λ f. absurd (false≢true (sym (next-not_pending slot next is f) ∙ p)))
 
@@ -117,7 +118,7 @@ among-push n m [] = or-false (eqb m n)
 among-push n m (k ∷ ms) =
     ap (λ b. eqb k n || b) (among-push n m ms) ∙ sym (or_assoc (eqb k n) (is_among n ms) (eqb m n))
 
-timeout-stepped : (t : Timed) (d : Deadline) → IsLawful t → IsStepped t.group.flight (with_timeout t d).group.flight
+pub timeout-stepped : (t : Timed) (d : Deadline) → IsLawful t → IsStepped t.group.flight (with_timeout t d).group.flight
 timeout-stepped t d lawful = stepped-after t.group (run.report (record { 0 = d.op }) Fault) lawful.group
 
 -- the operation that times out isn't pending any more, and the others are as they were
@@ -161,7 +162,7 @@ tells-timeout t d ds n late lawful is tells =
     subst (λ (b : Bool). Tells n b (with_timeout t d)) (sym (ap (λ b. late || b) f ∙ or-false late))
     (tells-stepped t (with_timeout t d) n late lawful step among tells))
 
-abbrev comes_by : ℕ → ℕ → Deadline → Bool
+abbrev pub comes_by : ℕ → ℕ → Deadline → Bool
 comes_by now n d = eqb d.op n && leb d.at now
 
 -- the operation is due where it is the one that times out, or is due later
@@ -289,11 +290,11 @@ tells-take t n late lawful tells = by_answer (answer_to_take t.group) refl
 
 -- ---- `start_timed`
 
-record Starts (t x : Timed) : Type 0 where
-  stepped : IsStepped t.group.flight x.group.flight
-  same : x.timed_out ≡ t.timed_out
+pub record Starts (t x : Timed) : Type 0 where
+  pub stepped : IsStepped t.group.flight x.group.flight
+  pub same : x.timed_out ≡ t.timed_out
 
-starts : (t : Timed) (chan : GChan) (kind : OpKind) (len now limit : ℕ) → IsLawful t
+pub starts : (t : Timed) (chan : GChan) (kind : OpKind) (len now limit : ℕ) → IsLawful t
     → Starts t (after_start t chan kind len now limit)
 starts t chan kind len now limit lawful =
     let g = group_steps.after_start t.group chan kind len in
@@ -371,8 +372,11 @@ taken-done t late (Some x) done lawful some answer tells =
     exactly late done.result x.finished
     (result ∙ ap (λ (b : Bool). cond b InterruptedByTimeout (Core x.finished)) among)
 
-pub times-out-exactly : TimesOutExactly
-times-out-exactly limits calls done is answer =
+-- by the deadlines that the group has
+pub due-exactly : (limits : GroupLimits) (calls : List Call) (done : TimedDone) → IsRunOf (empty_timed limits) calls
+    → timed_answer (left_by (empty_timed limits) calls) ≡ Some done
+    → (done.result ≡ InterruptedByTimeout) ↔ (was_due done.op.0 (empty_timed limits) calls ≡ true)
+due-exactly limits calls done is answer =
     let t = left_by (empty_timed limits) calls in
     taken-done t (was_due done.op.0 (empty_timed limits) calls) (answer_to_take t.group) done
     (lawful-left (empty_timed limits) calls (lawful-empty_timed limits) is) refl answer
@@ -381,7 +385,7 @@ times-out-exactly limits calls done is answer =
 
 -- ---- completions
 
-completed-step : (t : Timed) (call : Call) (n : ℕ) → IsLawful t → IsCallOf t call → has_completed t.group n ≡ true
+pub completed-step : (t : Timed) (call : Call) (n : ℕ) → IsLawful t → IsCallOf t call → has_completed t.group n ≡ true
     → has_completed (after t call).group n ≡ true
 completed-step t call n lawful made is =
     by-call t (λ c x. has_completed x.group n ≡ true)

@@ -1,7 +1,6 @@
 -- The calls that change a group with time limits, one timed step for each, runs of them, and their laws.
-use Rattle.std.specs.Prelude.{◌≡◌, ℕ, ◌+◌, ◌<◌, ◌↔◌, ◌==◌, Bool, false, not, ◌&&◌, ◌||◌, List, [], ◌∷◌, length}
-use Rattle.std.specs.Prelude.{Option, Some, Result, IsTrue, nat_le}
-use Rattle.std.specs.List.{list_any}
+use Rattle.std.specs.Prelude.{◌≡◌, ◌≢◌, ℕ, ◌+◌, ◌<◌, ◌≤◌, ◌↔◌, ◌==◌, Bool, false, not, ◌&&◌, List, [], ◌∷◌, ◌++◌}
+use Rattle.std.specs.Prelude.{Option, Some, None, Result, Ok, IsTrue}
 use Rattle.nio_base.specs.declared.numbers.OpNo.{OpNo}
 use Rattle.nio_base.specs.declared.numbers.GChan.{GChan}
 use Rattle.nio_base.specs.declared.group.GKind.{GKind}
@@ -110,35 +109,57 @@ abbrev pub left_by : Timed → List Call → Timed
 left_by t [] = t
 left_by t (call ∷ calls) = left_by (after t call) calls
 
--- the operation is pending, and its deadline has come
-abbrev pub is_due : Timed → ℕ → ℕ → Bool
-is_due t now n = is_pending (op_at t.group.flight n) && list_any (λ d. (d.op == n) && nat_le d.at now) t.deadlines
+-- the operation is pending after these calls
+abbrev pub IsPendingAfter : Timed → List Call → ℕ → Type 0
+IsPendingAfter t calls n = IsTrue (is_pending (op_at (left_by t calls).group.flight n))
 
--- the call is an `expire` at which the operation is pending and its deadline has come
-abbrev pub is_due_at : ℕ → Timed → Call → Bool
-is_due_at n t (open_channel kind) = false
-is_due_at n t (bind chan) = false
-is_due_at n t (start_timed chan kind len now limit) = false
-is_due_at n t (report op outcome) = false
-is_due_at n t (expire now) = is_due t now n
-is_due_at n t take = false
-is_due_at n t (finish op) = false
-is_due_at n t (close_channel chan) = false
-is_due_at n t shutdown = false
-is_due_at n t shutdown_now = false
+-- The operation times out in a run: a `start_timed` with a moment and a limit started it, and a later `expire`, at which
+-- it was pending, had a moment of at least their sum.
+pub record TimesOut (n : ℕ) (t : Timed) (calls : List Call) : Type 0 where
+  pub before : List Call
+  pub chan : GChan
+  pub kind : OpKind
+  pub len : ℕ
+  pub now : ℕ
+  pub limit : ℕ
+  pub between : List Call
+  pub moment : ℕ
+  pub later : List Call
+  pub are : calls ≡ before ++ start_timed chan kind len now limit ∷ between ++ expire moment ∷ later
+  pub has_limit : limit ≢ 0
+  pub starts : answer_to_start (left_by t before) chan kind now limit ≡ Ok (record { 0 = n })
+  pub pending : IsPendingAfter t (before ++ start_timed chan kind len now limit ∷ between) n
+  pub has_come : now + limit ≤ moment
 
--- some call of the run is
-abbrev pub was_due : ℕ → Timed → List Call → Bool
-was_due n t [] = false
-was_due n t (call ∷ calls) = is_due_at n t call || was_due n (after t call) calls
-
--- in every run an operation completes with InterruptedByTimeout exactly where it was pending at an `expire` whose
--- moment is at least its deadline: after any list of calls that is what the next completion to be taken says
+-- in every run an operation completes with InterruptedByTimeout exactly where it times out: after any list of calls that
+-- is what the next completion to be taken says
 abbrev pub TimesOutExactly : Type 0
 TimesOutExactly =
     (limits : GroupLimits) (calls : List Call) (done : TimedDone) → IsRunOf (empty_timed limits) calls
     → answer_to_take (left_by (empty_timed limits) calls) ≡ Some done
-    → (done.result ≡ InterruptedByTimeout) ↔ IsTrue (was_due done.op.0 (empty_timed limits) calls)
+    → (done.result ≡ InterruptedByTimeout) ↔ TimesOut done.op.0 (empty_timed limits) calls
+
+-- the reply is the completion of this operation, with a result or a timeout
+abbrev pub hands_out : ℕ → Reply → Bool
+hands_out n (opened answer) = false
+hands_out n (bound answer) = false
+hands_out n (started answer) = false
+hands_out n (reported answer) = false
+hands_out n (expired count) = false
+hands_out n (taken None) = false
+hands_out n (taken (Some handed)) = handed.op.0 == n
+hands_out n (finished answer) = false
+hands_out n (closed was_open) = false
+hands_out n done = false
+
+-- how often the completion of this operation is taken in a run
+abbrev pub times_taken : ℕ → Timed → List Call → ℕ
+times_taken n t [] = 0
+times_taken n t (call ∷ calls) = once_where (hands_out n (reply_to t call)) + times_taken n (after t call) calls
+
+-- in a run from a lawful group the completion of each operation is taken at most once
+abbrev pub TakesOnce : Type 0
+TakesOnce = (t : Timed) (calls : List Call) (n : ℕ) → IsLawful t → IsRunOf t calls → times_taken n t calls ≤ 1
 
 -- how often an operation completes in a run
 abbrev pub completions : ℕ → Timed → List Call → ℕ

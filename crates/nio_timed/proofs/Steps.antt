@@ -1,19 +1,18 @@
 -- A timed script as a run of timed steps, and what times out in it.
 use Rattle.std.proofs.Common.{◌≡◌, ◌↔◌, Bool, true, false, if◌then◌else◌, List, [], ◌∷◌, ◌++◌, Option}
 use Rattle.std.proofs.Common.{Some, None, inl, inr, refl, sym, ap, ◌∙◌, subst}
-use Rattle.std.specs.Prelude.{IsTrue}
 use Rattle.nio_base.specs.declared.numbers.GChan.{GChan}
 use Rattle.nio_base.specs.declared.numbers.OpNo.{OpNo}
 use Rattle.nio_group.specs.Group.{IsMade, is_made}
 use Rattle.nio_group.proofs.NumberLemmas.{made-so}
 use Rattle.nio_deadline.specs.Run as step
-use Rattle.nio_deadline.specs.Run.{IsCallOf, IsRunOf, after, left_by, was_due}
+use Rattle.nio_deadline.specs.Run.{IsCallOf, IsRunOf, TimesOut, after, left_by}
 use Rattle.nio_deadline.specs.Steps.{answer_to_take}
 use Rattle.nio_deadline.specs.Timed.{Timed}
 use Rattle.nio_deadline.specs.declared.done.TimedDone.{TimedDone}
 use Rattle.nio_deadline.specs.declared.done.TimedResult.{TimedResult}
 use Rattle.nio_deadline.specs.declared.done.TimedResult.TheVariants.{Core, InterruptedByTimeout}
-use Rattle.nio_deadline.proofs.TimeoutLemmas.{times-out-exactly}
+use Rattle.nio_deadline.proofs.LimitLemmas.{left-append, times-out-exactly}
 use Rattle.nio_language.specs.declared.group_call.GroupCall.TheVariants as group
 use Rattle.nio_language.specs.declared.reply.Reply.TheVariants as plain
 use Rattle.nio_plain.specs.ScriptState.{group_limits}
@@ -30,10 +29,6 @@ use Rattle.nio_timed.specs.declared.reply.TimedReply.TheVariants.{Timeout}
 run_append : (t : Timed) (xs ys : List step.Call) → IsRunOf t xs → IsRunOf (left_by t xs) ys → IsRunOf t (xs ++ ys)
 run_append t [] ys run more = more
 run_append t (x ∷ xs) ys run more = (run.0, run_append (after t x) xs ys run.1 more)
-
-left_append : (t : Timed) (xs ys : List step.Call) → left_by t (xs ++ ys) ≡ left_by (left_by t xs) ys
-left_append t [] ys = refl
-left_append t (x ∷ xs) ys = left_append (after t x) xs ys
 
 -- ---- one call
 
@@ -76,7 +71,7 @@ all_calls t (l ∷ calls) =
     let first = steps_of t l.call in
     let rest = steps_from (timed_left t l.call) calls in (
       run_append t first rest one.0 (subst (λ u. IsRunOf u rest) one.1 more.0),
-      more.1 ∙ ap (λ u. left_by u rest) one.1 ∙ sym (left_append t first rest),
+      more.1 ∙ ap (λ u. left_by u rest) one.1 ∙ sym (left-append t first rest),
     )
 
 pub are_runs : AreRuns
@@ -110,5 +105,5 @@ times_out calls n hands =
     let exact = times-out-exactly group_limits (steps_to calls) done.0 runs.run
     (ap answer_to_take (sym runs.left) ∙ done.1) in
     subst (λ (m : OpNo). (timed_reply (timed_left_from timed_opening calls) (Group group.Take) ≡ Timeout n)
-    ↔ IsTrue (was_due m.0 timed_opening (steps_to calls))) done.2
+    ↔ TimesOut m.0 timed_opening (steps_to calls)) done.2
     ((λ late. exact.0 (done.3.0 late)), (λ due. done.3.1 (exact.1 due)))

@@ -1,11 +1,11 @@
 -- Laws of timed scripts.
-use Rattle.std.specs.Prelude.{◌≡◌, ◌⊎◌, ◌↔◌, ℕ, List, [], ◌∷◌, ◌++◌, if◌then◌else◌, IsTrue}
+use Rattle.std.specs.Prelude.{◌≡◌, ◌⊎◌, ◌↔◌, ℕ, List, [], ◌∷◌, ◌++◌, if◌then◌else◌}
 use Rattle.nio_base.specs.declared.group.Finished.{Finished}
 use Rattle.nio_base.specs.declared.numbers.GChan.{GChan}
 use Rattle.nio_base.specs.declared.numbers.OpNo.{OpNo}
 use Rattle.nio_group.specs.Group.{is_made}
 use Rattle.nio_deadline.specs.Run as step
-use Rattle.nio_deadline.specs.Run.{IsRunOf, left_by, was_due}
+use Rattle.nio_deadline.specs.Run.{IsRunOf, TimesOut, left_by}
 use Rattle.nio_deadline.specs.Timed.{Timed}
 use Rattle.nio_language.specs.declared.group_call.GroupCall.TheVariants as group
 use Rattle.nio_language.specs.declared.group_reply.GroupReply.TheVariants.{Completed}
@@ -68,11 +68,11 @@ AreRuns = (calls : List TimedLine) → IsRunOfSteps calls
 abbrev pub HandsOut : TimedReply → OpNo → Type 0
 HandsOut r n = (r ≡ Timeout n) ⊎ ((finished : Finished) × (r ≡ Script (plain.Group (Completed n finished))))
 
--- after any calls of a timed script a `take` says that an operation has timed out exactly where it was pending at an
--- `expire` whose moment is at least its deadline
+-- after any calls of a timed script a `take` says that an operation has timed out exactly where a start with a moment and
+-- a limit started it, and a later `expire`, at which it was pending, had a moment of at least their sum
 abbrev pub TimesOutInScripts : Type 0
 TimesOutInScripts =
     (calls : List TimedLine) (n : OpNo)
     → HandsOut (timed_reply (timed_left_from timed_opening calls) (Group group.Take)) n
     → (timed_reply (timed_left_from timed_opening calls) (Group group.Take) ≡ Timeout n)
-    ↔ IsTrue (was_due n.0 timed_opening (steps_to calls))
+    ↔ TimesOut n.0 timed_opening (steps_to calls)

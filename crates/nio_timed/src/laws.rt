@@ -12,8 +12,8 @@ pub fn timed_run_law()
     ensures { AreRuns }
 {}
 
-/// After any calls of a timed script a `take` says that an operation has timed out exactly where it was pending at an
-/// `expire` whose moment is at least its deadline.
+/// After any calls of a timed script a `take` says that an operation has timed out exactly where a start with a moment
+/// and a limit started it, and a later `expire`, at which it was pending, had a moment of at least their sum.
 pub fn script_timeout_law()
     ensures { TimesOutInScripts }
 {}

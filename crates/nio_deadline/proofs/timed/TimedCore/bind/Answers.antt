@@ -1,4 +1,4 @@
-use Rattle.std.proofs.Common.{ap, deque_len, deque_capacity, ◌<◌, length, true}
+use Rattle.std.proofs.Common.{ap, deque_len, deque_capacity, true}
 use Rattle.nio_group.specs.declared.channel.Endpoint.TheVariants.{Listener}
 use Rattle.nio_group.specs.Group.{Group, IsMade, channel_at, is_open}
 use Rattle.nio_group.specs.Refusals.{bind_refusal}

@@ -1,4 +1,4 @@
-use Rattle.std.proofs.Common.{ap, ◌∙◌, deque_len, deque_capacity, ◌<◌, length, List}
+use Rattle.std.proofs.Common.{ap, ◌∙◌, deque_len, deque_capacity, List}
 use Rattle.nio_group.specs.Group.{Group, IsMade}
 use Rattle.nio_group.specs.Run as run
 use Rattle.nio_deadline.specs.Deadlines.{Deadline}

@@ -1,4 +1,4 @@
-use Rattle.std.proofs.Common.{◌≡◌, ◌<◌, ◌≤◌, ◌+◌, List, true, ap, refl, ◌∙◌, arith, length, deque_len, deque_capacity}
+use Rattle.std.proofs.Common.{◌≡◌, ◌≤◌, ◌+◌, List, true, ap, refl, ◌∙◌, arith, length, deque_len, deque_capacity}
 use Rattle.nio_group.specs.Flight.{accepted}
 use Rattle.nio_group.specs.Group.{Group, IsMade, is_open}
 use Rattle.nio_group.specs.Refusals.{start_refusal}
