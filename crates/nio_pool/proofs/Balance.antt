@@ -1,7 +1,6 @@
 -- Each step keeps the rule of a queue.
 use Rattle.std.proofs.Common.{◌≡◌, ◌≢◌, ℕ, ◌+◌, ◌-◌, ◌<◌, ◌≤◌, List, [], ◌∷◌, ◌++◌, length, set, map, sum_by}
 use Rattle.std.proofs.Common.{sym, refl, ap, ◌∙◌, subst, ⊎_elim, arith, cond, eqb}
-use Rattle.std.specs.List.{flat_map}
 use Rattle.std.proofs.lemmas.List.{map-append, length-map}
 use Rattle.std.proofs.lemmas.List.Sums.{sum_by-cons, sum_by-append, sum_by_push}
 use mathlib.Core.Option.{some, some-ne-none}
@@ -12,7 +11,7 @@ use Rattle.nio_group.specs.Completion.{CompletionFields}
 use Rattle.nio_pool.specs.declared.hand.Hand.{Hand}
 use Rattle.nio_pool.specs.Hands.{number, hand, spent, joined, after_put, after_take, parts_of, Fits, IsBalanced}
 use Rattle.nio_pool.specs.Hands.{Moment, Puts, Takes}
-use Rattle.nio_pool.proofs.Totals.{total_set, none_has_parts, weigh_all, all_empty, all_set, count_all, times_more}
+use Rattle.nio_pool.proofs.Totals.{total_set, none_has_parts, all_none, all_set, count_all, times_more}
 
 abbrev AllFit : List Hand → Type 0
 AllFit views = (place : ℕ) (v : Hand) → get_elem? views place ≡ some v → Fits (parts_of views) v
@@ -61,31 +60,37 @@ others_idle views place v at some_part whole fit i u there =
 -- what a pass knows of each moment
 pub moment : (place : ℕ) (v : Hand) → 0 < v.parts → Learns IsBalanced place v (Moment v)
 moment place v some_part items views b at =
-    let others = set views place spent in
     record {
-      others_put = flat_map (λ u. u.put) others;
-      others_taken = flat_map (λ u. u.taken) others;
-      together = λ weight.
-          let all = b.weights weight in
-          let put = total_set (λ (u : Hand). sum_by weight u.put) views place v spent at in
-          let taken = total_set (λ (u : Hand). sum_by weight u.taken) views place v spent at in
-          let put' = weigh_all weight (λ u. u.put) others in
-          let taken' = weigh_all weight (λ u. u.taken) others in
-          omega arith;
-      alone = λ whole.
-          let idle = others_idle views place v at some_part whole b.passes in (
-            all_empty (λ u. u.put) others (λ i u there. (idle i u there).0),
-            all_empty (λ u. u.taken) others (λ i u there. (idle i u there).1),
-          );
+      passes = views;
+      mine = place;
+      is_one = at;
+      balanced = b;
+      alone = λ whole other w apart there.
+          others_idle views place v at some_part whole b.passes other w
+          (set_else views place other spent apart ∙ there);
     }
+
+-- what the passes have put or taken weighs no more than what one of them has, where the others have none
+weighs_one : (weight : ℕ → ℕ) (f : Hand → List ℕ) (views : List Hand) (place : ℕ) (v : Hand)
+    → get_elem? views place ≡ some v
+    → ((i : ℕ) (u : Hand) → i ≢ place → get_elem? views i ≡ some u → f u ≡ []) → f spent ≡ []
+    → sum_by (λ u. sum_by weight (f u)) views ≡ sum_by weight (f v)
+weighs_one weight f views place v at none idle =
+    let total = total_set (λ (u : Hand). sum_by weight (f u)) views place v spent at in
+    let others = all_none weight f (set views place spent)
+    (all_set (λ (u : Hand). f u ≡ []) views place spent idle none) in
+    let mine : sum_by weight (f spent) ≡ 0 = ap (sum_by weight) idle in
+    omega arith
 
 -- what a pass with all parts knows of each moment
 pub weighs_alone : (v : Hand) (items : List CompletionFields) → Moment v items → v.parts ≡ v.all → (weight : ℕ → ℕ)
     → sum_by weight v.put ≡ sum_by weight v.taken + sum_by weight (map number items)
 weighs_alone v items m whole weight =
-    let all = m.together weight in
-    let put : sum_by weight m.others_put ≡ 0 = ap (sum_by weight) (m.alone whole).0 in
-    let taken : sum_by weight m.others_taken ≡ 0 = ap (sum_by weight) (m.alone whole).1 in
+    let all = m.balanced.weights weight in
+    let put = weighs_one weight (λ u. u.put) m.passes m.mine v m.is_one
+    (λ i u apart there. (m.alone whole i u apart there).0) refl in
+    let taken = weighs_one weight (λ u. u.taken) m.passes m.mine v m.is_one
+    (λ i u apart there. (m.alone whole i u apart there).1) refl in
     omega arith
 
 pub counts_alone : (v : Hand) (items : List CompletionFields) → Moment v items → v.parts ≡ v.all

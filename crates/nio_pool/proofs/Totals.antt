@@ -1,8 +1,7 @@
 -- Sums over what all passes know.
-use Rattle.std.proofs.Common.{◌≡◌, ◌≢◌, ℕ, zero, suc, ◌+◌, List, [], ◌∷◌, ◌++◌, length, set, sum_by}
+use Rattle.std.proofs.Common.{◌≡◌, ◌≢◌, ℕ, zero, suc, ◌+◌, List, [], ◌∷◌, length, set, sum_by}
 use Rattle.std.proofs.Common.{sym, refl, ap, ◌∙◌, subst, ⊎_elim, arith, Bool, eqb, eq-eqb, cond, add_comm}
-use Rattle.std.specs.List.{flat_map}
-use Rattle.std.proofs.lemmas.List.Sums.{sum_by-cons, sum_by-append}
+use Rattle.std.proofs.lemmas.List.Sums.{sum_by-cons}
 use mathlib.Core.Option.{some, some-injective, some-ne-none}
 use lib.ListN.{get_elem?}
 use Rattle.crossbeam_queue.proofs.Lists.{at_set}
@@ -30,19 +29,15 @@ none_has_parts (x ∷ xs) zero_sum zero v at =
 none_has_parts (x ∷ xs) zero_sum (suc i) v at =
     none_has_parts xs (omega (arith, sum_by-cons (λ (u : Hand). u.parts) x xs)) i v at
 
--- what all passes together have put or taken, weighed at once or pass by pass
-pub weigh_all : (weight : ℕ → ℕ) (f : Hand → List ℕ) (views : List Hand)
-    → sum_by weight (flat_map f views) ≡ sum_by (λ v. sum_by weight (f v)) views
-weigh_all weight f [] = refl
-weigh_all weight f (x ∷ xs) =
-    let later = weigh_all weight f xs in
-    omega (arith, sum_by-append weight (f x) (flat_map f xs), sum_by-cons (λ (v : Hand). sum_by weight (f v)) x xs)
-
-pub all_empty : (f : Hand → List ℕ) (views : List Hand)
-    → ((place : ℕ) (v : Hand) → get_elem? views place ≡ some v → f v ≡ []) → flat_map f views ≡ []
-all_empty f [] none = refl
-all_empty f (x ∷ xs) none =
-    ap (λ (l : List ℕ). l ++ flat_map f xs) (none zero x refl) ∙ all_empty f xs (λ i v at. none (suc i) v at)
+-- where no pass has put or taken anything it weighs nothing
+pub all_none : (weight : ℕ → ℕ) (f : Hand → List ℕ) (views : List Hand)
+    → ((place : ℕ) (v : Hand) → get_elem? views place ≡ some v → f v ≡ [])
+    → sum_by (λ v. sum_by weight (f v)) views ≡ 0
+all_none weight f [] none = refl
+all_none weight f (x ∷ xs) none =
+    let here : sum_by weight (f x) ≡ 0 = ap (sum_by weight) (none zero x refl) in
+    let later = all_none weight f xs (λ i v at. none (suc i) v at) in
+    omega (arith, sum_by-cons (λ (v : Hand). sum_by weight (f v)) x xs)
 
 -- what holds of all views after one has changed
 pub all_set : (F : Hand → Type 0) (views : List Hand) (place : ℕ) (w : Hand) → F w

@@ -1,5 +1,5 @@
 -- What the passes of a queue of completions know, and the rule that ties them to what waits in the queue.
-use Rattle.std.specs.Prelude.{◌≡◌, ℕ, ◌+◌, ◌<◌, ◌≤◌, ◌==◌, List, [], ◌∷◌, ◌++◌, length, map, count_by, sum_by}
+use Rattle.std.specs.Prelude.{◌≡◌, ◌≢◌, ℕ, ◌+◌, ◌<◌, ◌≤◌, ◌==◌, List, [], ◌∷◌, ◌++◌, length, map, count_by, sum_by}
 use mathlib.Core.Option.{some}
 use lib.ListN.{get_elem?}
 use Rattle.nio_group.specs.Completion.{CompletionFields}
@@ -53,14 +53,19 @@ pub record IsBalanced (items : List CompletionFields) (views : List Hand) : Type
       ≡ sum_by (λ v. sum_by weight v.taken) views + sum_by weight (map number items)
   pub passes : (place : ℕ) (v : Hand) → get_elem? views place ≡ some v → Fits (parts_of views) v
 
--- What a pass knows of a moment at which `items` waited in the queue: what all other passes had put and taken by
--- then. Where it has all parts there is no other pass.
+-- the other passes than the one at this place have put and taken nothing
+abbrev pub OthersIdle : ℕ → List Hand → Type 0
+OthersIdle mine views =
+    (place : ℕ) (v : Hand) → place ≢ mine → get_elem? views place ≡ some v → (v.put ≡ []) × (v.taken ≡ [])
+
+-- What a pass knows of a moment at which `items` waited in the queue: it was one of the queue's passes, for which the
+-- rule held. Where it has all parts there is no other pass that has put or taken anything.
 pub record Moment (v : Hand) (items : List CompletionFields) : Type 0 where
-  pub others_put : List ℕ
-  pub others_taken : List ℕ
-  pub together : (weight : ℕ → ℕ) → sum_by weight v.put + sum_by weight others_put
-      ≡ sum_by weight v.taken + sum_by weight others_taken + sum_by weight (map number items)
-  pub alone : v.parts ≡ v.all → (others_put ≡ []) × (others_taken ≡ [])
+  pub passes : List Hand
+  pub mine : ℕ
+  pub is_one : get_elem? passes mine ≡ some v
+  pub balanced : IsBalanced items passes
+  pub alone : v.parts ≡ v.all → OthersIdle mine passes
 
 -- what a put tells: where the pass has all parts, there was room
 pub record Puts (room : ℕ) (v : Hand) (done : CompletionFields) (w : Hand) : Type 0 where
@@ -72,9 +77,21 @@ pub record Takes (v : Hand) (done : CompletionFields) (w : Hand) : Type 0 where
   pub after : w ≡ after_take v done
   pub waited : v.parts ≡ v.all → times (number done) v.taken < times (number done) v.put
 
--- Where a number was put at most once by all passes together, it was taken or waits at most once: so no completion is
--- taken twice, by one pass or by two.
+-- how often all passes together have put a number, and taken it
+abbrev pub times_put : ℕ → List Hand → ℕ
+times_put n views = sum_by (λ v. times n v.put) views
+
+abbrev pub times_taken : ℕ → List Hand → ℕ
+times_taken n views = sum_by (λ v. times n v.taken) views
+
+-- no pass has taken this number and it waits, or one pass has taken it and it doesn't wait, or neither
+pub record IsTakenOnce (n : ℕ) (items : List CompletionFields) (views : List Hand) : Type 0 where
+  pub once : times_taken n views ≤ 1
+  pub waits_once : times n (map number items) ≤ 1
+  pub gone : times_taken n views ≡ 1 → times n (map number items) ≡ 0
+
+-- At every moment of a queue: where all its passes together have put a number at most once, they have taken it at most
+-- once, and once it is taken it doesn't wait. So no completion is taken twice, by one pass or by two.
 abbrev pub TakenOnce : Type 0
-TakenOnce = (v : Hand) (items : List CompletionFields) (m : Moment v items) (n : ℕ)
-    → times n v.put + times n m.others_put ≤ 1
-    → times n v.taken + times n m.others_taken + times n (map number items) ≤ 1
+TakenOnce = (items : List CompletionFields) (views : List Hand) → IsBalanced items views
+    → (n : ℕ) → times_put n views ≤ 1 → IsTakenOnce n items views
