@@ -3,6 +3,7 @@ pub use Rattle.nio_caller.specs.Callers
 pub use Rattle.nio_caller.specs.Several
 pub use Rattle.nio_history.specs.Conditions
 pub use Rattle.nio_history.specs.PassViews
+pub use Rattle.nio_pool.specs.Batches
 pub use Rattle.nio_pool.specs.Queues
 pub use Rattle.nio_steps.specs.Calls
 pub use Rattle.nio_steps.specs.ChannelCalls

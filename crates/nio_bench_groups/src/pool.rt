@@ -155,6 +155,6 @@ fn work_all<R: Threads + Wait + Sync>(
         rt,
         passes,
         threads,
-        &|_, pass| drop(work(rt, group, queue, pass, &Empty, &NoGate, 0)),
+        &|_, pass| work(rt, group, queue, pass, &Empty, &NoGate, 0),
     );
 }

@@ -112,7 +112,7 @@ fn work_all<R: Threads + Wait + Sync, B: Bell + Sync, G: Gate + Sync>(
         {
             streams.join_in();
             let handler = WorkerHandler { streams, bell };
-            drop(work(rt, group, queue, pass, &handler, gate, me as u32));
+            work(rt, group, queue, pass, &handler, gate, me as u32);
         },
     );
 }

@@ -1,3 +1,4 @@
 pub mod Totals
 pub mod Balance
 pub mod Whole
+pub mod BatchLemmas

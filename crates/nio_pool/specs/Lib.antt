@@ -2,3 +2,4 @@ pub mod Hands
 pub mod Queues
 pub mod Kept
 pub mod Threads
+pub mod Batches

@@ -1,6 +1,8 @@
 //! The operations whose handlers have ended. A worker notes them here without the group's lock, and who gets the lock
 //! next finishes them in the core before anything else. So the lock is taken once for many operations, and yet nobody
 //! who gets the lock finds an operation running that was noted before.
+ghost use Rattle.nio_pool.specs.Batches.{Finishes};
+
 use crossbeam_utils::CachePadded;
 use nio_base::OpNo;
 use nio_group::GroupCore;
@@ -87,7 +89,9 @@ impl Ended {
     }
 
     /// Finishes what was noted before this call. Only who has the group's lock calls this.
-    pub fn finish_all(&self, core: &mut GroupCore) {
+    pub fn finish_all(&self, core: &mut GroupCore)
+        ensures { Finishes core.old core.new }
+    {
         if self.noted.load(Ordering::SeqCst) == 0 {
             return;
         }
@@ -131,7 +135,9 @@ impl Slate {
         }
     }
 
-    fn finish_all(&self, core: &mut GroupCore) {
+    fn finish_all(&self, core: &mut GroupCore)
+        ensures { Finishes core.old core.new }
+    {
         for place in &self.places {
             let number = place.load(Ordering::SeqCst);
             if number != VACANT {

@@ -1,7 +1,9 @@
 //! The workers of a group.
-ghost use Rattle.std.specs.Prelude.{◌≡◌, IfNone, IsTrue};
+ghost use Rattle.std.specs.Prelude.{◌≡◌, ◌∷◌, ◌++◌, [], IfErr, IfNone, IsTrue, OnErr, OnOk};
 ghost use Rattle.std.specs.Sync.Mutex.{mutex_guard_value};
 ghost use Rattle.nio_group.specs.Group.{is_terminated, IsLawful};
+ghost use Rattle.nio_pool.specs.Batches.{numbers_in, FindsBatch, IsBatch, PutsBatches, TakesInto};
+ghost use Rattle.nio_pool.specs.Hands.{number};
 ghost use Rattle.nio_pool.specs.Queues.{IsPassOf, GoesOn, IsDrained};
 ghost use Rattle.nio_pool.specs.declared.worker.Found.TheVariants.{End};
 
@@ -51,21 +53,19 @@ struct Worker<'a, H, G> {
 /// calls that one before it passes the gate. Where the queue has no room for all that it took from the group, it handles
 /// one from the queue before it goes on: the rest waits until that handler has returned, also while other workers sleep.
 /// With room for as many as can be in flight that doesn't come. With a pass that has all parts it leaves the queue empty.
-/// Lends the core of the terminated group, as `await_termination` does.
-pub fn work<'a, R: Wait, H: Handler, G: Gate>(
+pub fn work<R: Wait, H: Handler, G: Gate>(
     rt: &R,
-    group: &'a Group,
+    group: &Group,
     queue: &CompletionQueue,
     pass: &mut QueuePass,
     handler: &H,
     gate: &G,
     me: u32,
-) -> MutexGuard<'a, GroupCore>
+)
     requires { IsPassOf queue.now pass.old }
     ensures pass { GoesOn queue.now pass.old pass.new }
+    ensures put { PutsBatches pass.old.hand.put pass.new.hand.put }
     ensures drained { IsDrained queue.now pass.new }
-    ensures terminated { IsTrue (is_terminated (mutex_guard_value result)) }
-    ensures lawful { IsLawful (mutex_guard_value result) }
 {
     let worker = Worker {
         group,
@@ -75,26 +75,14 @@ pub fn work<'a, R: Wait, H: Handler, G: Gate>(
         me,
         slate: group.take_slate(),
     };
-    for _ in rt.forever() {
-        match take(rt, queue, pass) {
-            Some(handed) => worker.serve(rt, pass, handed),
-            None => match worker.find(rt, pass) {
-                Found::Fresh(batch) => worker.put_all(rt, pass, batch),
-                Found::Waiting(handed) => worker.serve(rt, pass, handed),
-                Found::End => {
-                    worker.leave();
-                    return group.await_termination(rt);
-                }
-            },
-        }
-    }
-    unreachable!()
+    drop(worker.work(rt, pass));
 }
 
 // As the queue's `take`, with the clause that loops keep.
 fn take<R: Wait>(rt: &R, queue: &CompletionQueue, pass: &mut QueuePass) -> Option<Handed>
     requires { IsPassOf queue.now pass.old }
     ensures pass { GoesOn queue.now pass.old pass.new }
+    ensures put { pass.new.hand.put ≡ pass.old.hand.put }
     ensures drained { IfNone result (IsDrained queue.now pass.new) }
 {
     queue.take(rt, pass)
@@ -108,22 +96,58 @@ fn put<R: Wait>(
     done: Completion,
 ) -> Result<(), Completion>
     requires { IsPassOf queue.now pass.old }
-    ensures { GoesOn queue.now pass.old pass.new }
+    ensures pass { GoesOn queue.now pass.old pass.new }
+    ensures put { OnOk result (pass.new.hand.put ≡ pass.old.hand.put ++ number done ∷ []) }
+    ensures back { IfErr result (λ back. back ≡ done) }
+    ensures unchanged { OnErr result (pass.new.hand.put ≡ pass.old.hand.put) }
 {
     queue.put(rt, pass, done)
 }
 
 // The completions at the front of the group's own queue.
-fn next_batch(core: &mut GroupCore) -> Batch {
-    array::from_fn(|_| core.take())
+fn next_batch(core: &mut GroupCore) -> Batch
+    ensures takes { TakesInto result core.old core.new }
+    ensures batch { IsBatch result }
+{
+    core.law();
+    let mut batch = array::from_fn(|_| None);
+    for slot in &mut batch {
+        *slot = core.take();
+    }
+    batch
 }
 
 impl<'a, H: Handler, G: Gate> Worker<'a, H, G> {
+    // Works until the group has terminated, and lends its core.
+    fn work<R: Wait>(&self, rt: &R, pass: &mut QueuePass) -> MutexGuard<'a, GroupCore>
+        requires { IsPassOf self.now.queue.now pass.old }
+        ensures pass { GoesOn self.now.queue.now pass.old pass.new }
+        ensures put { PutsBatches pass.old.hand.put pass.new.hand.put }
+        ensures drained { IsDrained self.now.queue.now pass.new }
+        ensures terminated { IsTrue (is_terminated (mutex_guard_value result)) }
+        ensures lawful { IsLawful (mutex_guard_value result) }
+    {
+        for _ in rt.forever() {
+            match take(rt, self.queue, pass) {
+                Some(handed) => self.serve(rt, pass, handed),
+                None => match self.find(rt, pass) {
+                    Found::Fresh(batch) => self.put_all(rt, pass, batch),
+                    Found::Waiting(handed) => self.serve(rt, pass, handed),
+                    Found::End => {
+                        self.leave();
+                        return self.group.await_termination(rt);
+                    }
+                },
+            }
+        }
+        unreachable!()
+    }
+
     // Calls a sleeping worker for what else waits in the queue, and then the handler, with which the operation ends.
     // Where it was the last one, this worker finds next that the group has terminated.
     fn serve<R: Wait>(&self, rt: &R, pass: &mut QueuePass, handed: Handed)
         requires { IsPassOf self.now.queue.now pass.old }
-        ensures { GoesOn self.now.queue.now pass.old pass.new }
+        ensures { pass.new ≡ pass.old }
     {
         if self.group.can_call() && !self.queue.is_empty(pass) {
             self.group.call(rt);
@@ -147,6 +171,8 @@ impl<'a, H: Handler, G: Gate> Worker<'a, H, G> {
         requires pass { IsPassOf self.now.queue.now pass.old }
         requires drained { IsDrained self.now.queue.now pass.old }
         ensures pass { GoesOn self.now.queue.now pass.old pass.new }
+        ensures put { pass.new.hand.put ≡ pass.old.hand.put }
+        ensures batch { FindsBatch result }
         ensures end { result ≡ End → IsDrained self.now.queue.now pass.new }
     {
         let mut core = self.group.lock(rt);
@@ -175,7 +201,8 @@ impl<'a, H: Handler, G: Gate> Worker<'a, H, G> {
     // Puts the completions into the queue. Calls a sleeping worker for what may be left in the group.
     fn put_all<R: Wait>(&self, rt: &R, pass: &mut QueuePass, batch: Batch)
         requires { IsPassOf self.now.queue.now pass.old }
-        ensures { GoesOn self.now.queue.now pass.old pass.new }
+        ensures pass { GoesOn self.now.queue.now pass.old pass.new }
+        ensures put { pass.new.hand.put ≡ pass.old.hand.put ++ numbers_in batch }
     {
         // a full batch may have left more in the group
         if batch[15].is_some() && self.group.can_call() {
@@ -191,7 +218,8 @@ impl<'a, H: Handler, G: Gate> Worker<'a, H, G> {
     // Puts one more completion. While the queue is full it handles one itself.
     fn put_next<R: Wait>(&self, rt: &R, pass: &mut QueuePass, done: Completion)
         requires { IsPassOf self.now.queue.now pass.old }
-        ensures { GoesOn self.now.queue.now pass.old pass.new }
+        ensures pass { GoesOn self.now.queue.now pass.old pass.new }
+        ensures put { pass.new.hand.put ≡ pass.old.hand.put ++ number done ∷ [] }
     {
         let mut done = done;
         for _ in rt.forever() {

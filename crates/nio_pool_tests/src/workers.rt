@@ -35,7 +35,7 @@ fn run_workers<R: Threads + Wait + Sync, H: Handler + Sync, G: Gate + Sync>(
         threads,
         &|me, pass|
             requires { (me < 65) × IsPassOf queue.now pass.old }
-        { drop(work(rt, group, queue, pass, handler, gate, me as u32)) },
+        { work(rt, group, queue, pass, handler, gate, me as u32) },
     );
 }
 
@@ -73,7 +73,7 @@ fn worker_uses_its_queue(rt: HostRuntime) -> Result<(), Fail> {
         met: AtomicU64::new(0),
         failed: AtomicBool::new(false),
     };
-    drop(work(&rt, &group, &queue, &mut pass, &handler, &NoGate, 0));
+    work(&rt, &group, &queue, &mut pass, &handler, &NoGate, 0);
     assert!(rt; !handler.failed.load(Ordering::SeqCst));
     assert_eq!(rt; handler.met.load(Ordering::SeqCst), 2);
     assert!(rt; group.await_termination(&rt).is_terminated());
@@ -183,7 +183,7 @@ fn operation_ends_with_its_handler(rt: HostRuntime) -> Result<(), Fail> {
         handled: AtomicU64::new(0),
         had_too_many: AtomicBool::new(false),
     };
-    drop(work(&rt, &group, &queue, &mut pass, &handler, &NoGate, 0));
+    work(&rt, &group, &queue, &mut pass, &handler, &NoGate, 0);
     assert!(rt; !handler.had_too_many.load(Ordering::SeqCst));
     assert_eq!(rt; handler.handled.load(Ordering::SeqCst), 100);
     Ok(())
