@@ -1,4 +1,4 @@
-//! A worked row of a queue of completions with two passes.
+//! Worked rows of a queue of completions.
 ghost use Rattle.std.specs.Prelude.{◌≡◌, ◌∷◌, [], All, IfSome, IsTrue};
 ghost use Rattle.nio_pool.specs.Hands.{hand};
 ghost use Rattle.nio_pool.specs.Queues.{new_pass};
@@ -6,6 +6,7 @@ ghost use Rattle.nio_pool.specs.Queues.{new_pass};
 use crate::group::{close_stream, limits, start_read};
 use nio_group::{Completion, GroupCore};
 use nio_pool::{CompletionQueue, QueuePass};
+use std::alloc::Global;
 use std::sync::Wait;
 use std::test::Fail;
 
@@ -53,12 +54,18 @@ fn hands_back<R: Wait>(
     true
 }
 
-#[test]
-fn queue_hands_back(rt: HostRuntime) -> Result<(), Fail> {
-    let mut core = GroupCore::make(rt.alloc(), limits(2))?;
+/// A core with the completions of operations 0 and 1.
+fn with_two_completed(alloc: Global) -> Result<GroupCore, Fail> {
+    let mut core = GroupCore::make(alloc, limits(2))?;
     close_stream(&mut core)?;
     start_read(&mut core)?;
     start_read(&mut core)?;
+    Ok(core)
+}
+
+#[test]
+fn queue_hands_back(rt: HostRuntime) -> Result<(), Fail> {
+    let mut core = with_two_completed(rt.alloc())?;
     let zero = core.take().expect(&rt, "operation 0 has completed");
     let one = core.take().expect(&rt, "operation 1 has completed");
     let (queue, mut passes) = CompletionQueue::make(rt.alloc(), 2, 1)?;
@@ -66,5 +73,22 @@ fn queue_hands_back(rt: HostRuntime) -> Result<(), Fail> {
     let mut first = next_pass(&queue, &mut passes).expect(&rt, "the first pass");
     assert!(rt; hands_back(&rt, &queue, &mut first, second, zero, one));
     assert_eq!(rt; first.parts(), 2);
+    Ok(())
+}
+
+/// What was put first is taken first.
+#[test]
+fn queue_is_in_order(rt: HostRuntime) -> Result<(), Fail> {
+    let mut core = with_two_completed(rt.alloc())?;
+    let zero = core.take().expect(&rt, "operation 0 has completed");
+    let one = core.take().expect(&rt, "operation 1 has completed");
+    let (queue, mut passes) = CompletionQueue::make(rt.alloc(), 1, 2)?;
+    let mut pass = next_pass(&queue, &mut passes).expect(&rt, "the one pass");
+    assert!(rt; queue.put(&rt, &mut pass, zero).is_ok());
+    assert!(rt; queue.put(&rt, &mut pass, one).is_ok());
+    let first = queue.take(&rt, &mut pass).expect(&rt, "operation 0 waits");
+    let second = queue.take(&rt, &mut pass).expect(&rt, "operation 1 waits");
+    assert_eq!(rt; first.done().op().0, 0);
+    assert_eq!(rt; second.done().op().0, 1);
     Ok(())
 }

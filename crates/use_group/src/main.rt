@@ -2,6 +2,9 @@
 //! the handler with each. A stream is connected and read; then the handler shuts the group down.
 #![tactic(auto)]
 
+ghost use Rattle.std.specs.Prelude.{◌<◌};
+ghost use Rattle.nio.specs.Queues.{IsPassOf};
+
 use nio::group::{
     CompletionQueue, Finished, GChan, GKind, Group, GroupCore, GroupLimits, Handed, Handler,
     NoGate, OpKind, Outcome, work,
@@ -56,7 +59,9 @@ fn main(rt: HostRuntime) -> anyhow::Result<()> {
         &rt,
         passes.as_mut_slice(),
         2,
-        &|_, pass| drop(work(&rt, &group, &queue, pass, &reading, &NoGate, 0)),
+        &|me, pass|
+            requires { (me < 2) × IsPassOf queue pass.old }
+        { work(&rt, &group, &queue, pass, &reading, &NoGate, me as u32) },
     );
     let bytes = reading.bytes.load(Ordering::SeqCst);
     let ended = group.await_termination(&rt).is_terminated();
