@@ -1,5 +1,5 @@
 -- A judge that follows a history decides which event is a step, and follows the history with it.
-use Rattle.std.proofs.Common.{◌≡◌, ℕ, ◌+◌, ◌<◌, ◌↔◌, List, [], ◌∷◌, ◌++◌, length, ap, sym, ◌∙◌, subst, arith}
+use Rattle.std.proofs.Common.{◌≡◌, ℕ, ◌+◌, ◌*◌, ◌<◌, ◌≤◌, ◌↔◌, List, [], ◌∷◌, ◌++◌, length, ap, sym, ◌∙◌, subst, arith}
 use Rattle.std.proofs.lemmas.List.{length-append}
 use Rattle.nio_audit.proofs.Counted.{counted-step}
 use Rattle.nio_audit.proofs.Knowing.{remembers-more}
@@ -15,6 +15,7 @@ use Rattle.nio_audit.specs.Remembers.{Remembers}
 use Rattle.nio_audit.specs.StepNumbers.{number_of}
 use Rattle.nio_audit.specs.TableWords.{row}
 use Rattle.nio_audit.specs.declared.judge.Judge.{Judge}
+use Rattle.nio_base.specs.Limits.{IsFit}
 use Rattle.nio_base.specs.declared.limits.Limits.{Limits}
 use Rattle.nio_base.specs.declared.numbers.CallerNo.{CallerNo}
 use Rattle.nio_history.proofs.Legal.{legal_more}
@@ -29,7 +30,7 @@ use Rattle.nio_history.specs.Sound.{IsSound}
 use Rattle.nio_base.specs.Numbers.{last_serial}
 use Rattle.nio_history.specs.State.{State}
 use Rattle.nio_history.specs.declared.act.Act.{Act}
-use Rattle.nio_history.specs.declared.act.Act.TheVariants.{ClaimAgain, Reopen}
+use Rattle.nio_history.specs.declared.act.Act.TheVariants.{ClaimAgain, Reopen, TakeTouched}
 use Rattle.nio_history.specs.declared.event.Event.{Event}
 use Rattle.nio_history.specs.declared.found.Stage.{Stage}
 
@@ -58,22 +59,27 @@ module _ {j : Judge} {past : List Event} (e : Event) (f : Follows j past) where
     ),
   )
 
-bounded_act : (l : _) (past : List Event) (me : _) (act : Act) → IsLegal l past
+bounded_act : (l : _) (past : List Event) (me : _) (act : Act) → IsFit l → IsLegal l past
     → IsStep l past (record { caller = me; act = act }) → IsBounded (state_after past) (number_of act)
-bounded_act l past me (ClaimAgain s i c from found) legal step =
+bounded_act l past me (ClaimAgain s i c from found) fit legal step =
     let law = claims_again_the_removed l me s i c from found past []
     (legal_more l past (event_of me (ClaimAgain s i c from found)) legal step) in
     subst (λ (k : Stage). k.serial < last_serial) (sym law.0) step.condition.5
-bounded_act l past me (Reopen c from found) legal step = step.condition.4
-bounded_act l past me _ legal step = tt
+bounded_act l past me (Reopen c from found) fit legal step = step.condition.4
+bounded_act l past me (TakeTouched s j found) fit legal step =
+    let below : 64 * j < l.keys = step.condition.1 in
+    let few : l.keys ≤ 262144 = fit.few_keys in
+    omega arith
+bounded_act l past me _ fit legal step = tt
 
 -- the serial of an index that is claimed again has a next, and so has that of a channel whose number is given to a
--- new one
-pub step-bounded : {j : Judge} {past : List Event} (e : Event) → Follows j past → IsLegal j.limits past → IsPassed j e
+-- new one; a table can have the indexes whose bits are taken
+pub step-bounded : {j : Judge} {past : List Event} (e : Event) → IsFit j.limits → Follows j past → IsLegal j.limits past
+    → IsPassed j e
     → IsBounded (state_of j) (number_of e.act)
-step-bounded {j = j} {past = past} e f legal passed =
+step-bounded {j = j} {past = past} e fit f legal passed =
     subst (λ (st : State). IsBounded st (number_of e.act)) (sym f.state)
-    (bounded_act j.limits past e.caller e.act legal ((step_iff e f).0 passed))
+    (bounded_act j.limits past e.caller e.act fit legal ((step_iff e f).0 passed))
 
 -- what going on by an event leaves
 pub record GoesOn (j j' : Judge) (now : ℕ) (e : Event) : Type 0 where

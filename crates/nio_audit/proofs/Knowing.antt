@@ -22,6 +22,7 @@ use Rattle.nio_history.specs.State.{put, put_at}
 use Rattle.nio_history.specs.declared.act.Act.{Act}
 use Rattle.nio_history.specs.declared.act.Act.TheVariants.{LookKey, LookChannel, Claim, LookKeys, LookReg, Enrol}
 use Rattle.nio_history.specs.declared.act.Act.TheVariants.{TryHoldBit, Enter, Publish, Pin, Unpin, ClaimAgain, TakeFree}
+use Rattle.nio_history.specs.declared.act.Act.TheVariants.{LookIndex}
 use Rattle.nio_history.specs.declared.event.Event.{Event}
 use Rattle.nio_history.proofs.OwnPins.{swapped}
 
@@ -116,6 +117,9 @@ indexes-heard now me (LookKey s' i' found) k n s i =
 indexes-heard now me (Pin s' i' found) k n s i =
     heard_three k.indexes me.0 s'.0 i' (looked_again now found)
     (λ b m. heard_parts now (if b then Some found else None) false false None None m) (λ m. refl) (λ m. refl) n s i
+indexes-heard now me (LookIndex s' i' found) k n s i =
+    heard_three k.indexes me.0 s'.0 i' (looked_again now found.stage)
+    (λ b m. heard_parts now (if b then Some found.stage else None) false false None None m) (λ m. refl) (λ m. refl) n s i
 indexes-heard now me (Publish s' i' found) k n s i =
     heard_three k.indexes me.0 s'.0 i' (published_now now)
     (λ b m. heard_parts now None b false None (if b then Some false else None) m) (λ m. refl) (λ m. refl) n s i

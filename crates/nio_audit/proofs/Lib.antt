@@ -4,6 +4,7 @@ pub mod Owing
 pub mod Latest
 pub mod Hearing
 pub mod BitWords
+pub mod Taking
 pub mod Answering
 pub mod Counted
 pub mod Recalling

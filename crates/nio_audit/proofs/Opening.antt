@@ -35,9 +35,12 @@ pub same_state : (t : StateTables)
     → row t.closer ≡ opening.closer
     → row t.entered ≡ opening.entered
     → grid t.taker ≡ opening.taker
+    → grid t.touched ≡ opening.touched
+    → row t.lister ≡ opening.lister
+    → cube t.amid ≡ opening.amid
     → t.channels_high ≡ opening.channels_high → state_with t (λ _ _. false) ≡ opening
 same_state t drawn interrupted selector chan hold enrolled gate turn keys_high key interest mark note pinned free begun
-    closer entered taker channels_high = λ i. record {
+    closer entered taker touched lister amid channels_high = λ i. record {
       drawn = drawn i;
       interrupted = interrupted i;
       selector = selector i;
@@ -57,6 +60,9 @@ same_state t drawn interrupted selector chan hold enrolled gate turn keys_high k
       closer = closer i;
       entered = entered i;
       taker = taker i;
+      touched = touched i;
+      lister = lister i;
+      amid = amid i;
       channels_high = channels_high i;
       put_due = λ _ _. false;
     }

@@ -149,7 +149,8 @@ allowed_iff l me (RaiseKeys s n found) h counted =
 allowed_iff l me (RaiseChannels n found) h counted =
     (λ may. (may.0, (all_made counted n).0 may.1), λ may. (may.0, (all_made counted n).1 may.1))
 allowed_iff {st = st} l me (Publish s i found) h counted =
-    let same = same_test (publish-may h st me s i) in (λ may. (may.0, same.0 may.1), λ may. (may.0, same.1 may.1))
+    let same = same_test (publish-may h st me s i) in
+    (λ may. (may.0, same.0 may.1, may.2), λ may. (may.0, same.1 may.1, may.2))
 allowed_iff l me (Enrol c s i serial found) h counted =
     let same = same_test (clear-found h me c.0 s.0) in
     let claim = claim_iff _ _ c serial (h.indexes me s.0 i).claim in (

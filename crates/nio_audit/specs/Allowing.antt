@@ -11,7 +11,7 @@ use Rattle.nio_base.specs.declared.limits.Limits.{Limits}
 use Rattle.nio_base.specs.declared.numbers.CallerNo.{CallerNo}
 use Rattle.nio_base.specs.declared.numbers.SelNo.{SelNo}
 use Rattle.nio_history.specs.Conditions.{Condition, IsChannel, IsKey, IsSelector, holds, has_entered, has_taken}
-use Rattle.nio_history.specs.Conditions.{may_remove_cancelled}
+use Rattle.nio_history.specs.Conditions.{may_remove_cancelled, is_amid}
 use Rattle.nio_base.specs.Numbers.{last_serial}
 use Rattle.nio_history.specs.State.{State}
 use Rattle.nio_history.specs.declared.act.Act.{Act}
@@ -24,7 +24,7 @@ use Rattle.nio_history.specs.declared.act.Act.TheVariants.{Enrol, TakeTurn, Begi
 use Rattle.nio_history.specs.declared.act.Act.TheVariants.{UnselectBit, EndWake, LookChannels, RaiseChannels}
 use Rattle.nio_history.specs.declared.act.Act.TheVariants.{TryHoldBit, Release, SetMode, CloseBit, ShutBit, Enter, Pin}
 use Rattle.nio_history.specs.declared.act.Act.TheVariants.{Unpin, ClearMark, ClaimAgain, LookFree, PutFree, TakeFree}
-use Rattle.nio_history.specs.declared.act.Act.TheVariants.{Reopen}
+use Rattle.nio_history.specs.declared.act.Act.TheVariants.{Reopen, Touch, LookTouched, TakeTouched, LookIndex, TakeList}
 
 -- the state that a judge has
 abbrev pub state_of : Judge → State
@@ -68,7 +68,7 @@ module _ (l : Limits) (k : Knowledge) (channels : ℕ) (keys : ℕ → ℕ) (st 
   Allowed (RaiseKeys s n found) = IsSelector l s × (n ≤ l.keys) × (n ≤ keys s.0)
   Allowed (LookKeys s found) = ByState (LookKeys s found)
   Allowed (Publish s i found) =
-      IsKey l s i × IsTrue (may_publish_by st k me (k.indexes me.0 s.0 i).claim)
+      IsKey l s i × IsTrue (may_publish_by st k me (k.indexes me.0 s.0 i).claim) × IsTrue (is_amid st me s i)
   Allowed (LookReg c s found) = ByState (LookReg c s found)
   Allowed (Enrol c s i serial found) =
       IsChannel l c × IsKey l s i × ((k.indexes me.0 s.0 i).claim ≡ Some (record { channel = c; serial = serial }))
@@ -106,6 +106,11 @@ module _ (l : Limits) (k : Knowledge) (channels : ℕ) (keys : ℕ → ℕ) (st 
   Allowed (Reopen c from found) =
       IsChannel l c × IsTrue (holds st me c) × IsTrue from.made × IsTrue from.closed × (from.serial < last_serial)
       × ((s : ℕ) → s < l.selectors → IsTrue (is_clear_for k me c.0 s))
+  Allowed (Touch s i found) = ByState (Touch s i found)
+  Allowed (LookTouched s j found) = ByState (LookTouched s j found)
+  Allowed (TakeTouched s j found) = ByState (TakeTouched s j found)
+  Allowed (LookIndex s i found) = ByState (LookIndex s i found)
+  Allowed (TakeList s found) = ByState (TakeList s found)
 
 -- the same of a judge
 abbrev pub IsAllowed : Judge → CallerNo → Act → Type 0

@@ -23,7 +23,7 @@ use Rattle.nio_history.specs.declared.act.Act.TheVariants.{Enrol, TakeTurn, Begi
 use Rattle.nio_history.specs.declared.act.Act.TheVariants.{UnselectBit, EndWake, LookChannels, RaiseChannels}
 use Rattle.nio_history.specs.declared.act.Act.TheVariants.{TryHoldBit, Release, SetMode, CloseBit, ShutBit, Enter, Pin}
 use Rattle.nio_history.specs.declared.act.Act.TheVariants.{Unpin, ClearMark, ClaimAgain, LookFree, PutFree, TakeFree}
-use Rattle.nio_history.specs.declared.act.Act.TheVariants.{Reopen}
+use Rattle.nio_history.specs.declared.act.Act.TheVariants.{Reopen, Touch, LookTouched, TakeTouched, LookIndex, TakeList}
 use Rattle.nio_history.specs.declared.found.Chan.{Chan}
 use Rattle.nio_history.specs.declared.found.Stage.{Stage}
 
@@ -178,3 +178,8 @@ learned now me (LookFree _ _ _) k = k
 learned now me (PutFree _ _) k = k
 learned now me (TakeFree s i found) k = with_index me s i (free_tried now found) k
 learned now me (Reopen _ _ _) k = k
+learned now me (Touch _ _ _) k = k
+learned now me (LookTouched _ _ _) k = k
+learned now me (TakeTouched _ _ _) k = k
+learned now me (LookIndex s i found) k = with_index me s i (looked_again now found.stage) k
+learned now me (TakeList _ _) k = k

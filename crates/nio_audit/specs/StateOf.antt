@@ -26,11 +26,14 @@ state_with t due = record {
   note = grid t.note;
   pinned = cube t.pinned;
   free = grid t.free;
+  touched = grid t.touched;
+  lister = row t.lister;
   begun = row t.begun;
   closer = row t.closer;
   entered = row t.entered;
   taker = grid t.taker;
   put_due = due;
+  amid = cube t.amid;
 }
 
 -- which indexes selections have still to put after an act

@@ -10,7 +10,7 @@ use Rattle.nio_history.specs.declared.act.Act.TheVariants.{TakeTurn, BeginLook, 
 use Rattle.nio_history.specs.declared.act.Act.TheVariants.{UnselectBit, EndWake, LookChannels, RaiseChannels}
 use Rattle.nio_history.specs.declared.act.Act.TheVariants.{TryHoldBit, Release, SetMode, CloseBit, ShutBit, Enter, Pin}
 use Rattle.nio_history.specs.declared.act.Act.TheVariants.{Unpin, ClearMark, ClaimAgain, LookFree, PutFree, TakeFree}
-use Rattle.nio_history.specs.declared.act.Act.TheVariants.{Reopen}
+use Rattle.nio_history.specs.declared.act.Act.TheVariants.{Reopen, Touch, LookTouched, TakeTouched, LookIndex, TakeList}
 use Rattle.nio_history.specs.declared.found.Stage.{Stage}
 
 pub data StepNumber : Type 0 where
@@ -23,6 +23,8 @@ pub data StepNumber : Type 0 where
   index_claimed_again : ℕ → ℕ → Stage → StepNumber
   -- which 64 indexes are looked at
   part_looked_at : ℕ → StepNumber
+  -- which 64 indexes have their bits taken
+  part_taken : ℕ → StepNumber
   -- the serial of the channel whose number is given to a new one
   channel_reopened : ℕ → StepNumber
 
@@ -75,3 +77,8 @@ number_of (LookFree _ j _) = part_looked_at j
 number_of (PutFree _ _) = no_number
 number_of (TakeFree _ _ _) = no_number
 number_of (Reopen _ from _) = channel_reopened from.serial
+number_of (Touch _ _ _) = no_number
+number_of (LookTouched _ j _) = part_looked_at j
+number_of (TakeTouched _ j _) = part_taken j
+number_of (LookIndex _ _ _) = no_number
+number_of (TakeList _ _) = no_number

@@ -100,7 +100,12 @@ impl Counts {
             | Act::LookFree(..)
             | Act::PutFree(..)
             | Act::TakeFree(..)
-            | Act::Reopen(..) => Ok(()),
+            | Act::Reopen(..)
+            | Act::Touch(..)
+            | Act::LookTouched(..)
+            | Act::TakeTouched(..)
+            | Act::LookIndex(..)
+            | Act::TakeList(..) => Ok(()),
         }
     }
 }

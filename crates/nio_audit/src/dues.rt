@@ -100,7 +100,12 @@ impl Dues {
             | Act::ClaimAgain(..)
             | Act::LookFree(..)
             | Act::TakeFree(..)
-            | Act::Reopen(..) => Ok(()),
+            | Act::Reopen(..)
+            | Act::Touch(..)
+            | Act::LookTouched(..)
+            | Act::TakeTouched(..)
+            | Act::LookIndex(..)
+            | Act::TakeList(..) => Ok(()),
         }
     }
 

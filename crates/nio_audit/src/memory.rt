@@ -208,6 +208,11 @@ impl Memory {
                     *memory = memory.looked_again(now, found);
                 })
             }
+            Act::LookIndex(sel, index, found) => {
+                self.indexes.update(me.0, sel.0, index, |memory| {
+                    *memory = memory.looked_again(now, found.stage);
+                })
+            }
             Act::Publish(sel, index, _) => self.indexes.update(me.0, sel.0, index, |memory| {
                 memory.published = now;
                 memory.unpublished = false;
@@ -270,7 +275,11 @@ impl Memory {
             | Act::ClearMark(..)
             | Act::LookFree(..)
             | Act::PutFree(..)
-            | Act::Reopen(..) => Ok(()),
+            | Act::Reopen(..)
+            | Act::Touch(..)
+            | Act::LookTouched(..)
+            | Act::TakeTouched(..)
+            | Act::TakeList(..) => Ok(()),
         }
     }
 

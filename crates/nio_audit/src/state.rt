@@ -1,5 +1,5 @@
 //! The state after the events so far, each part in a table of its own.
-ghost use Rattle.std.specs.Prelude.{◌≡◌, ◌<◌, OnOk, ℕ, Bool, false, ◌&&◌};
+ghost use Rattle.std.specs.Prelude.{◌≡◌, ◌<◌, ◌*◌, OnOk, ℕ, Bool, false, ◌&&◌};
 ghost use Rattle.nio_base.specs.declared.numbers.CallerNo.{CallerNo};
 ghost use Rattle.nio_history.specs.Acts.{closed_from, effect, frees_index, new_channel, new_key, taken_by};
 ghost use Rattle.nio_base.specs.Numbers.{last_serial};
@@ -64,10 +64,13 @@ pub(crate) struct StateTables {
     note: Grid<u64>,
     pinned: Cube<bool>,
     free: Grid<bool>,
+    touched: Grid<bool>,
+    lister: Row<Option<CallerNo>>,
     begun: Row<bool>,
     closer: Row<Option<CallerNo>>,
     entered: Row<bool>,
     taker: Grid<Option<CallerNo>>,
+    amid: Cube<bool>,
 }
 
 impl StateTables {
@@ -97,10 +100,13 @@ impl StateTables {
             note: Grid::new(alloc, 0),
             pinned: Cube::new(alloc, false),
             free: Grid::new(alloc, false),
+            touched: Grid::new(alloc, false),
+            lister: Row::new(alloc, None),
             begun: Row::new(alloc, false),
             closer: Row::new(alloc, None),
             entered: Row::new(alloc, false),
             taker: Grid::new(alloc, None),
+            amid: Cube::new(alloc, false),
         }
     }
 
@@ -167,7 +173,7 @@ impl StateTables {
                 .entered
                 .update(sel.0, |entered| *entered = *entered || found.is_none()),
             Act::Pin(sel, index, _) => self.pinned.set(sel.0, index, me.0, true),
-            Act::Unpin(sel, index) => self.pinned.set(sel.0, index, me.0, false),
+            Act::Unpin(sel, index) => self.unpin(me, sel, index),
             Act::ClearMark(sel, index, _) => self.mark.set(sel.0, index, UNMARKED),
             Act::ClaimAgain(sel, index, chan, _, found) => {
                 self.claim_again(me, sel, index, chan, found)
@@ -175,6 +181,9 @@ impl StateTables {
             Act::PutFree(sel, index) => self.put_free(sel, index),
             Act::TakeFree(sel, index, found) => self.take_free(me, sel, index, found),
             Act::Reopen(chan, from, found) => self.reopen(chan, from, found),
+            Act::Touch(sel, index, _) => self.touch(me, sel, index),
+            Act::TakeTouched(sel, part, _) => self.take_touched(sel, part),
+            Act::TakeList(sel, found) => self.lister.set(sel.0, taken_by(me, found)),
             Act::LookSelectors(..)
             | Act::LookGate(..)
             | Act::LookInterrupt(..)
@@ -186,7 +195,9 @@ impl StateTables {
             | Act::LookReg(..)
             | Act::LookMark(..)
             | Act::LookChannels(..)
-            | Act::LookFree(..) => Ok(()),
+            | Act::LookFree(..)
+            | Act::LookTouched(..)
+            | Act::LookIndex(..) => Ok(()),
         }
     }
 
@@ -266,6 +277,37 @@ impl StateTables {
         self.pinned.set(sel.0, index, me.0, pinned || !found)?;
         self.taker
             .set(sel.0, index, if found { taker } else { None })
+    }
+
+    fn unpin(&mut self, me: CallerNo, sel: SelNo, index: u32) -> Result<(), AllocError>
+        ensures { OnOk result ((due : ℕ → ℕ → Bool) → state_with self.new
+            (due_after self.old due me (Act.Unpin sel index))
+            ≡ effect (state_with self.old due) me (Act.Unpin sel index)) }
+    {
+        self.pinned.set(sel.0, index, me.0, false)?;
+        self.amid.set(sel.0, index, me.0, false)
+    }
+
+    fn touch(&mut self, me: CallerNo, sel: SelNo, index: u32) -> Result<(), AllocError>
+        ensures { (found : Bool) → OnOk result ((due : ℕ → ℕ → Bool)
+            → state_with self.new (due_after self.old due me (Act.Touch sel index found))
+            ≡ effect (state_with self.old due) me (Act.Touch sel index found)) }
+    {
+        let pinned = self.pinned.get(sel.0, index, me.0);
+        self.touched.set(sel.0, index, true)?;
+        self.amid.set(sel.0, index, me.0, pinned)
+    }
+
+    fn take_touched(&mut self, sel: SelNo, part: u32) -> Result<(), AllocError>
+        requires { 64 * part < 262144 }
+        ensures { (me : CallerNo) (found : ℕ) → OnOk result ((due : ℕ → ℕ → Bool)
+            → state_with self.new (due_after self.old due me (Act.TakeTouched sel part found))
+            ≡ effect (state_with self.old due) me (Act.TakeTouched sel part found)) }
+    {
+        for bit in 0..64 {
+            self.touched.set(sel.0, 64 * part + bit, false)?;
+        }
+        Ok(())
     }
 
     fn take_turn(
@@ -385,7 +427,7 @@ fn closed_from(from: Chan, found: Chan) -> Chan
     }
 }
 
-/// Who has a turn or a hold after `me` tried to take it.
+/// Who has a turn, a hold or a list after `me` tried to take it.
 fn taken_by(me: CallerNo, found: Option<CallerNo>) -> Option<CallerNo>
     ensures { result ≡ taken_by me found }
 {

@@ -98,6 +98,7 @@ fn swaps(words: &Words, p: &mut Pass, me: CallerNo, s: SelNo, turns: u32)
     requires pinned { IsTrue (has_pin (state_seen p.old) me s 0) }
     ensures { IsReady words.now p.new me }
 {
+    words.touch(p, me, s, 0);
     for turn in 0..turns {
         words.swap_interest(p, me, s, 0, Ops::of((turn % 256) as u8));
     }

@@ -1,6 +1,6 @@
 -- What stands of the key that a registration answers.
-use Rattle.std.proofs.Common.{◌≡◌, ℕ, ◌==◌, true, false, ◌&&◌, ◌||◌, Option, Some, None, List, [], ◌∷◌, ◌++◌, refl, ap}
-use Rattle.std.proofs.Common.{sym, ◌∙◌, subst, append_assoc, eq-eqb}
+use Rattle.std.proofs.Common.{◌≡◌, ℕ, ◌==◌, Bool, true, false, ◌&&◌, ◌||◌, Option, Some, None, List, [], ◌∷◌, ◌++◌}
+use Rattle.std.proofs.Common.{refl, ap, sym, ◌∙◌, subst, append_assoc, eq-eqb}
 use Rattle.std.specs.Prelude.{nat_lt}
 use Rattle.std.proofs.lemmas.Bool.{and_from, or_right}
 use Rattle.std.proofs.lemmas.List.{append-nil}
@@ -20,10 +20,10 @@ use Rattle.nio_history.proofs.PassViews.{key_after, lasts_over}
 use Rattle.nio_history.proofs.PinLaws.{own_claims_stand, enrolled_keys_are_claimed}
 use Rattle.nio_history.proofs.Put.{put_at-same}
 use Rattle.nio_history.proofs.Stays.{beginnings_are_legal}
-use Rattle.nio_history.specs.Conditions.{IsKey, holds, may_publish}
+use Rattle.nio_history.specs.Conditions.{IsKey, holds, may_publish, is_amid}
 use Rattle.nio_history.specs.Found.{finds, Leaves}
 use Rattle.nio_history.specs.Histories.{state_after, event_of, mine, IsLegal}
-use Rattle.nio_history.specs.Permanent.{channel_closed, key_published, key_cancelled}
+use Rattle.nio_history.specs.Permanent.{channel_closed, key_published, key_cancelled, a_change}
 use Rattle.nio_history.specs.OwnEvents.{has, last, under, takes_hold, finds_unblocked, enrolled_found, own_claim}
 use Rattle.nio_history.specs.OwnEvents.{is_clear}
 use Rattle.nio_history.specs.PassViews.{Holds as HoldsNumber, HasKey}
@@ -32,19 +32,21 @@ use Rattle.nio_history.specs.Sets.{fits, is_in_key_set, was_published, is_open_c
 use Rattle.nio_channel.proofs.Chans.{open_unclosed}
 use Rattle.nio_history.specs.State.{State}
 use Rattle.nio_history.specs.declared.act.Act.{Act}
-use Rattle.nio_history.specs.declared.act.Act.TheVariants.{LookChannel, CancelKey, Enrol, Publish, Pin, Release}
+use Rattle.nio_history.specs.declared.act.Act.TheVariants.{LookChannel, CancelKey, Enrol, Publish, Pin, Release, Touch}
+use Rattle.nio_history.specs.declared.act.Act.TheVariants.{SwapInterest, SwapNote}
 use Rattle.nio_history.specs.declared.event.Event.{Event}
 use Rattle.nio_history.specs.declared.found.Chan.{Chan}
 use Rattle.nio_history.specs.declared.found.Stage.{Stage}
 use Rattle.nio_steps.specs.Names.{key}
 use Rattle.nio_words.proofs.Pins.{changes_pins, stays_pinned}
-use Rattle.nio_words.proofs.Views.{finds_drawn, step_acts, found_now}
+use Rattle.nio_words.proofs.Views.{finds_drawn, step_acts, found_now, touched_amid}
 use Rattle.nio_words.specs.Passes.{seen, state_seen, acts_seen, limits_of}
 use Rattle.nio_words.specs.Steps.{Steps}
-use Rattle.nio_words.specs.Views.{view}
+use Rattle.nio_words.specs.Views.{view, IsPinned}
 use Rattle.nio_words.specs.declared.words.Pass.{Pass}
 use Rattle.nio_words.specs.declared.words.Words.{Words}
-use Rattle.nio_channel.proofs.Held.{finds_closed, own_more, unblocked_over, unblocked_stays, in_set_published}
+use Rattle.nio_channel.proofs.Held.{finds_closed, own_more, had_stays, unblocked_over, unblocked_stays}
+use Rattle.nio_channel.proofs.Held.{in_set_published}
 use Rattle.nio_channel.proofs.Own.{is_quiet, under-more, told_quiet, told_enrol, told_over, clear_pinned}
 use Rattle.nio_channel.proofs.Own.{claim_published, claim_stays}
 use Rattle.nio_channel.specs.Held.{HoldsUnblocked, MayEnrol, KnowsEnrolled, KnowsKey, HasClaimed, HasPublished}
@@ -143,11 +145,25 @@ fits_claim : (stage : Stage) (c : ChanNo) (serial : ℕ) → IsOfClaim (record {
 fits_claim stage c serial its =
     and_from stage.claimed (stage.serial == serial) its.claimed (eq-eqb stage.serial serial its.serial)
 
+-- who touched the index under its pin is amid a change of it still when the key is enrolled
+pub amid_enrolled : {w : Words} {p q r x y : Pass} {me : CallerNo} {c : ChanNo} {s : SelNo} {i serial : ℕ}
+    {ops ops_before att att_before : ℕ} {was : Bool} {enrolled_before : Option KeyId}
+    → Steps w p q me (Touch s i was) → Steps w q r me (SwapInterest s i ops ops_before)
+    → Steps w r x me (SwapNote s i att att_before) → Steps w x y me (Enrol c s i serial enrolled_before)
+    → IsPinned w q me s i → is_amid (state_seen y) me s i ≡ true
+amid_enrolled {s = s} {i = i} touch set note enrol pinned =
+    had_stays (a_change s i) enrol refl refl note.pass
+    (had_stays (a_change s i) note refl refl set.pass
+    (had_stays (a_change s i) set refl refl touch.pass
+    (touched_amid (step_acts touch refl) pinned.only.here)))
+
 -- its key was just published
 pub has_published : {w : Words} {p q : Pass} {me : CallerNo} {c : ChanId} {s : SelNo} {k : KeyId} {stage : Stage}
     → Steps w p q me (Publish s k.index stage) → HoldsUnblocked w p me c
-    → KnowsEnrolled p me c.number s k → HasClaimed w p me c.number s k → HasPublished w q me c s k
-has_published {w = w} {p = p} {q = q} {me = me} {c = c} {s = s} {k = k} {stage = stage} steps here enrolled claimed =
+    → KnowsEnrolled p me c.number s k → HasClaimed w p me c.number s k
+    → is_amid (state_seen p) me s k.index ≡ true → HasPublished w q me c s k
+has_published {w = w} {p = p} {q = q} {me = me} {c = c} {s = s} {k = k} {stage = stage} steps here enrolled claimed
+    amid =
     record {
       known = record {
         unblocked = unblocked_over steps refl refl refl refl here;
@@ -161,6 +177,7 @@ has_published {w = w} {p = p} {q = q} {me = me} {c = c} {s = s} {k = k} {stage =
         };
       };
       claim = claim;
+      amid = had_stays (a_change s k.index) steps refl refl claimed.pinned.ready.pass amid;
     }
   where
     now : Stage

@@ -6,7 +6,7 @@ use Rattle.nio_base.specs.declared.numbers.ChanNo.{ChanNo}
 use Rattle.nio_base.specs.declared.numbers.KeyId.{KeyId}
 use Rattle.nio_base.specs.declared.numbers.KeyNo.{KeyNo}
 use Rattle.nio_base.specs.declared.numbers.SelNo.{SelNo}
-use Rattle.nio_history.specs.Conditions.{IsChannel, holds}
+use Rattle.nio_history.specs.Conditions.{IsChannel, holds, is_amid}
 use Rattle.nio_history.specs.OwnEvents.{has, last, under, finds_unblocked, enrolled_found, own_claim, is_unpublished}
 use Rattle.nio_history.specs.OwnEvents.{is_clear}
 use Rattle.nio_history.specs.PassViews.{HasKey}
@@ -52,10 +52,11 @@ pub record HasClaimed (w : Words) (p : Pass) (me : CallerNo) (c : ChanNo) (s : S
   pub claim : own_claim s.0 k.index (acts_seen p me) ≡ Some (record { channel = c; serial = k.serial })
   pub unpublished : IsTrue (is_unpublished s.0 k.index (acts_seen p me))
 
--- it published that key after it enrolled it for the channel
+-- it published that key after it enrolled it for the channel, and it is still amid the change of its index
 pub record HasPublished (w : Words) (p : Pass) (me : CallerNo) (c : ChanId) (s : SelNo) (k : KeyId) : Type 0 where
   pub known : KnowsKey w p me c s k
   pub claim : own_claim s.0 k.index (acts_seen p me) ≡ Some (record { channel = c.number; serial = k.serial })
+  pub amid : IsTrue (is_amid (state_seen p) me s k.index)
 
 -- the key was published, it is enrolled for the channel, and where the channel was found closed it is cancelled
 pub record HasRegistered (w : Words) (p : Pass) (me : CallerNo) (c : ChanId) (s : SelNo) (k : KeyNo) : Type 0 where

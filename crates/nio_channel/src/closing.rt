@@ -167,6 +167,7 @@ fn cancel_pinned(w: &Words, p: &mut Pass, me: CallerNo, sel: SelNo, k: KeyId, st
     ensures pinned { IsPinned w.now p.new me sel k.index }
 {
     if stage.fits(k.serial) && !stage.removed {
+        w.touch(p, me, sel, k.index);
         w.cancel_key(p, me, sel, k.index);
     }
 }

@@ -265,6 +265,7 @@ fn update_key(
         index: k.index,
         serial: k.serial,
     };
+    w.touch(p, me, wanted.sel, k.index);
     w.swap_interest(p, me, wanted.sel, k.index, wanted.ops);
     if wanted.att == 0 {
         return Ok(answer);
@@ -434,7 +435,8 @@ fn make_key(
     publish_key(w, p, me, wanted, k)
 }
 
-// The key's parts are set before it is enrolled, and it is enrolled before it is published.
+// The index is touched before the key's parts are set, they are set before it is enrolled, and it is enrolled before it
+// is published.
 fn publish_key(
     w: &Words,
     p: &mut Pass,
@@ -450,6 +452,7 @@ fn publish_key(
     ensures registered { IfOk result (HasRegistered w.now p.new me wanted.now.chan wanted.now.sel) }
     ensures pinned { IsPinned w.now p.new me wanted.now.sel k.index }
 {
+    w.touch(p, me, wanted.sel, k.index);
     w.swap_interest(p, me, wanted.sel, k.index, wanted.ops);
     w.swap_note(p, me, wanted.sel, k.index, wanted.att);
     w.enrol(p, me, wanted.chan.number, wanted.sel, k.index, k.serial);

@@ -17,7 +17,7 @@ use Rattle.nio_history.proofs.OneMore.{state_after-more, mine-append, mine-own, 
 use Rattle.nio_history.proofs.Put.{same_pair}
 use Rattle.nio_history.proofs.Told.{has_told}
 use Rattle.nio_history.specs.Acts.{effect}
-use Rattle.nio_history.specs.Answers.{Answers, bits_below}
+use Rattle.nio_history.specs.Answers.{Answers, bits_below, index_at}
 use Rattle.nio_history.specs.Found.{Leaves, StepsLeave, is_look, LooksTell, gate_tells, channel_tells, stage_tells}
 use Rattle.nio_history.specs.Found.{selectors_tell, keys_high_tells, channels_high_tells, finds, FoundStands}
 use Rattle.nio_history.specs.Histories.{state_after, event_of, last_of, is_by, mine, HistoryClause}
@@ -32,7 +32,7 @@ use Rattle.nio_history.specs.declared.act.Act.TheVariants.{LookSelectors, LookGa
 use Rattle.nio_history.specs.declared.act.Act.TheVariants.{LookInterest, LookNote, LookChannel, RaiseKeys, LookKeys}
 use Rattle.nio_history.specs.declared.act.Act.TheVariants.{Publish, LookReg, BeginLook, Remove, LookMark, EndWake}
 use Rattle.nio_history.specs.declared.act.Act.TheVariants.{LookChannels, RaiseChannels, SetMode, CloseBit, Enter, Pin}
-use Rattle.nio_history.specs.declared.act.Act.TheVariants.{LookFree}
+use Rattle.nio_history.specs.declared.act.Act.TheVariants.{LookFree, LookTouched, LookIndex}
 use Rattle.nio_history.specs.declared.event.Event.{Event}
 use Rattle.nio_history.specs.declared.found.Chan.{Chan}
 use Rattle.nio_history.specs.declared.found.GateWord.{GateWord}
@@ -116,6 +116,8 @@ look_keeps st me (LookChannels found) looks answers = answers
 look_keeps st me (Enter s found) looks answers = answers
 look_keeps st me (Pin s i found) looks answers = answers
 look_keeps st me (LookFree s j found) looks answers = answers
+look_keeps st me (LookTouched s j found) looks answers = answers
+look_keeps st me (LookIndex s i found) looks answers = answers
 look_keeps st me act looks answers = absurd (cc looks)
 
 pub looks_tell : LooksTell
@@ -218,6 +220,9 @@ step_finds st me (LookKeys s found) f answers told = keys_high_stands st s.0 fou
 step_finds st me (RaiseKeys s n found) f answers told = keys_high_stands st s.0 found f (cc) told
 step_finds st me (LookChannels found) f answers told = channels_high_stands st found f (cc) told
 step_finds st me (RaiseChannels n found) f answers told = channels_high_stands st found f (cc) told
+step_finds st me (LookIndex s i found) f answers told =
+    let stands_there : found ≡ index_at st s.0 i = cc in
+    stage_stands st s.0 i found.stage f (ap (λ x. x.stage) stands_there) told
 step_finds st me act f answers told = absurd (cc told)
 
 pub found_stands : FoundStands

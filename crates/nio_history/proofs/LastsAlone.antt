@@ -9,21 +9,21 @@ use Rattle.nio_base.specs.declared.numbers.CallerNo.{CallerNo}
 use Rattle.nio_history.proofs.Claims.{pin_stays}
 use Rattle.nio_history.proofs.Legal.{without_from}
 use Rattle.nio_history.proofs.OneMore.{state_after-more, mine-append}
-use Rattle.nio_history.proofs.Put.{put_keeps, put_at_keeps}
+use Rattle.nio_history.proofs.Put.{put_keeps, put_at_keeps, put_pin_keeps}
 use Rattle.nio_history.proofs.Soundness.{legal-sound, held_some, both_ways}
 use Rattle.nio_history.specs.Acts.{effect, taken_by}
 use Rattle.nio_history.specs.Answers.{Answers}
 use Rattle.nio_history.specs.Conditions.{Condition, is_held_by, has_turn, has_begun, has_taken, may_put_due}
 use Rattle.nio_history.specs.Histories.{state_after, is_by, mine, IsLegal}
-use Rattle.nio_history.specs.Permanent.{OwnFact, the_turn, a_selection, the_hold, a_pin, a_taken_index, is_had_by}
+use Rattle.nio_history.specs.Permanent.{OwnFact, the_turn, a_selection, the_hold, a_pin, a_taken_index, a_change, is_had_by}
 use Rattle.nio_history.specs.Permanent.{gives_back}
-use Rattle.nio_history.specs.OwnEvents.{has, gives_turn, releases, gives_index}
+use Rattle.nio_history.specs.OwnEvents.{has, gives_turn, releases, gives_index, unpins}
 use Rattle.nio_history.specs.Sound.{IsSound}
 use Rattle.nio_history.specs.State.{State, put}
 use Rattle.nio_history.specs.declared.act.Act.{Act}
 use Rattle.nio_history.specs.declared.act.Act.TheVariants.{TakeTurn, BeginLook, GiveTurn, TryHoldBit, Release}
 use Rattle.nio_history.specs.declared.act.Act.TheVariants.{ClaimAgain}
-use Rattle.nio_history.specs.declared.act.Act.TheVariants.{PutFree, TakeFree}
+use Rattle.nio_history.specs.declared.act.Act.TheVariants.{PutFree, TakeFree, Unpin, Touch}
 use Rattle.nio_history.specs.declared.event.Event.{Event}
 
 -- a place has one holder: two that hold it are one caller
@@ -51,7 +51,7 @@ not_spared me n o there is_there mine' has_it spared =
     spares_not me n there (one_holder me n o mine' has_it) is_there spared
 
 -- who holds a place holds it still when another tries to take it
-take_keeps : (f : ℕ → Option CallerNo) (me n : CallerNo) (k i : ℕ) (found : Option CallerNo) → found ≡ f k
+pub take_keeps : (f : ℕ → Option CallerNo) (me n : CallerNo) (k i : ℕ) (found : Option CallerNo) → found ≡ f k
     → is_held_by n (f i) ≡ true → is_held_by n (put f k (taken_by me found) i) ≡ true
 take_keeps f me n k i found is =
     put_keeps (λ _ o. is_held_by n o ≡ true) f k _
@@ -138,6 +138,17 @@ taken_stays l own st me n (TakeFree k j false) sound may answers s i spared =
     put_at_keeps (λ _ _ o. is_held_by n o ≡ true) st.taker k.0 j (st.taker k.0 j) (λ h. h) s i
 taken_stays l own st me n act sound may answers s i spared = λ h. h
 
+change_stays : (st : State) (me n : CallerNo) (act : Act) → IsSound st → (s i : ℕ)
+    → ((me.0 == n.0) && unpins s i act) ≡ false → st.amid s i n.0 ≡ true → (effect st me act).amid s i n.0 ≡ true
+change_stays st me n (Touch s' i' found) sound s i spared amid =
+    put_pin_keeps (λ a b m x. st.pinned a b m ≡ true → x ≡ true) st.amid s'.0 i' me.0 (st.pinned s'.0 i' me.0)
+    (λ _ pin. pin) s i n.0 (λ _. amid) (sound.amid_pinned s i n.0 amid)
+change_stays st me n (Unpin s' i') sound s i spared amid =
+    put_pin_keeps (λ a b m x. ((me.0 == m) && ((s'.0 == a) && (i' == b))) ≡ false → x ≡ true) st.amid s'.0 i' me.0 false
+    (λ _ spared'. absurd (spares_not me me ((s'.0 == s'.0) && (i' == i')) refl (same_two s'.0 i') spared')) s i n.0
+    (λ _. amid) spared
+change_stays st me n act sound s i spared amid = amid
+
 -- what a caller has stays but where it gives it back itself
 pub lasts_alone : (l : Limits) (own : List Act) (st : State) (me n : CallerNo) (act : Act) → IsSound st
     → Condition l own st me act → Answers st me act
@@ -155,6 +166,8 @@ lasts_alone l own st me n act sound may answers (the_hold c) spared h =
 lasts_alone l own st me n act sound may answers (a_pin s i) spared h = pin_stays st me n act s.0 i spared h
 lasts_alone l own st me n act sound may answers (a_taken_index s i) spared h =
     taken_stays l own st me n act sound may answers s.0 i spared h
+lasts_alone l own st me n act sound may answers (a_change s i) spared h =
+    change_stays st me n act sound s.0 i spared h
 
 -- ---- over histories
 

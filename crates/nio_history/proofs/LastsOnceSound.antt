@@ -13,6 +13,7 @@ use Rattle.nio_history.proofs.ChannelChanges.{KeepsChannels, channels_keep}
 use Rattle.nio_history.proofs.KeyChanges.{KeepsStages, stages_keep}
 use Rattle.nio_history.proofs.Lasts.{drawn_lasts, selector_lasts, shut_lasts, entered_lasts, made_lasts, claimed_lasts}
 use Rattle.nio_history.proofs.Lasts.{keys_high_lasts, channels_high_lasts}
+use Rattle.nio_history.proofs.LastsAlone.{take_keeps}
 use Rattle.nio_history.proofs.Legal.{legal_from}
 use Rattle.nio_history.proofs.OneMore.{state_after-more}
 use Rattle.nio_history.proofs.Put.{put_keeps}
@@ -25,13 +26,13 @@ use Rattle.nio_history.specs.Permanent.{PermanentFact, caller_drawn, selector_ma
 use Rattle.nio_history.specs.Permanent.{selector_entered, channel_made, channel_of_kind, channel_opened, channel_closed}
 use Rattle.nio_history.specs.Permanent.{index_claimed, key_claimed}
 use Rattle.nio_history.specs.Permanent.{key_published, key_cancelled, key_removed, below_keys_high, below_channels_high}
-use Rattle.nio_history.specs.Permanent.{stands}
+use Rattle.nio_history.specs.Permanent.{list_had_by, stands}
 use Rattle.nio_history.specs.Sets.{fits, was_claimed, was_published, was_cancelled, was_removed, fits_channel}
 use Rattle.nio_history.specs.Sets.{was_opened, was_closed}
 use Rattle.nio_history.specs.Sound.{IsSound}
 use Rattle.nio_history.specs.State.{State, unclaimed}
 use Rattle.nio_history.specs.declared.act.Act.{Act}
-use Rattle.nio_history.specs.declared.act.Act.TheVariants.{ShutBit}
+use Rattle.nio_history.specs.declared.act.Act.TheVariants.{ShutBit, TakeList}
 use Rattle.nio_history.specs.declared.event.Event.{Event}
 use Rattle.nio_history.specs.declared.found.Chan.{Chan}
 use Rattle.nio_history.specs.declared.found.Stage.{Stage}
@@ -195,6 +196,11 @@ closer_lasts st me (ShutBit k false) answers sound s n =
         both_ways (st.gate k.0).shut is_shut open_still
 closer_lasts st me act answers sound s n = λ h. h
 
+pub lister_lasts : (st : State) (me : CallerNo) (act : Act) → Answers st me act → (s : ℕ) (n : CallerNo)
+    → is_held_by n (st.lister s) ≡ true → is_held_by n ((effect st me act).lister s) ≡ true
+lister_lasts st me (TakeList k found) answers s n = take_keeps st.lister me n k.0 s found (cc)
+lister_lasts st me act answers s n = λ h. h
+
 -- no step ends what is permanent
 lasts : (l : Limits) (own : List Act) (st : State) (me : CallerNo) (act : Act) → Condition l own st me act
     → Answers st me act → IsSound st
@@ -233,6 +239,7 @@ lasts l own st me act may answers sound (below_keys_high s i) h =
     lt-ltb i _ (keys_high_lasts st me act s i (ltb-true i _ h))
 lasts l own st me act may answers sound (below_channels_high c) h =
     lt-ltb c _ (channels_high_lasts st me act c (ltb-true c _ h))
+lasts l own st me act may answers sound (list_had_by s n) h = lister_lasts st me act answers s.0 n h
 
 -- ---- over histories
 

@@ -28,3 +28,7 @@ pub mod Selections
 pub mod Finds
 pub mod OwnPins
 pub mod OwnTaken
+pub mod OwnChanges
+pub mod WhatIsFound
+pub mod RightLists
+pub mod Spans

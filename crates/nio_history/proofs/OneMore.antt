@@ -13,7 +13,7 @@ use Rattle.std.proofs.lemmas.List.Sums.{fold-append}
 use Rattle.nio_base.specs.declared.numbers.CallerNo.{CallerNo}
 use Rattle.nio_history.specs.Acts.{effect}
 use Rattle.nio_history.specs.Histories.{state_after, is_by, mine}
-use Rattle.nio_history.specs.OwnEvents.{has, last, since_from, since_first}
+use Rattle.nio_history.specs.OwnEvents.{first, has, last, since_from, since_first}
 use Rattle.nio_history.specs.State.{opening}
 use Rattle.nio_history.specs.declared.act.Act.{Act}
 use Rattle.nio_history.specs.declared.event.Event.{Event}
@@ -49,6 +49,10 @@ has_none-append p xs ys none = or_parts (has p xs) (has p ys) (sym (list_any-app
 pub last-more : {A : Type 0} (tells : Act → Option A) (own : List Act) (act : Act)
     → last tells (own ++ act ∷ []) ≡ option_or (tells act) (last tells own)
 last-more tells own act = fold-append (λ told act'. option_or (tells act') told) None own (act ∷ [])
+
+pub first-more : {A : Type 0} (tells : Act → Option A) (own : List Act) (act : Act)
+    → first tells (own ++ act ∷ []) ≡ option_or (first tells own) (tells act)
+first-more tells own act = fold-append (λ told act'. option_or told (tells act')) None own (act ∷ [])
 
 pub since_from-more : (opens : Act → Bool) (own : List Act) (act : Act)
     → since_from opens (own ++ act ∷ []) ≡ (if opens act then [] else since_from opens own ++ act ∷ [])

@@ -79,3 +79,13 @@ pub put_pin_keeps : {A : Type 0} (R : ℕ → ℕ → ℕ → A → Type 0) (f :
     → (m n o : ℕ) → R m n o (f m n o) → R m n o (put_at f i j (put (f i j) k x) m n o)
 put_pin_keeps {A = A} R f i j k x new m n o = put_at_keeps (λ m' n' g. R m' n' o (g o)) f i j (put (f i j) k x)
     (put_keeps (R i j) (f i j) k x new o) m n
+
+-- the same of what stands at three numbers in two functions
+pub put_pin_both : {A B : Type 0} (R : ℕ → ℕ → ℕ → A → B → Type 0) (f : ℕ → ℕ → ℕ → A) (g : ℕ → ℕ → ℕ → B) (i j k : ℕ)
+    (x : A) (y : B)
+    → R i j k x y
+    → (m n o : ℕ) → R m n o (f m n o) (g m n o)
+    → R m n o (put_at f i j (put (f i j) k x) m n o) (put_at g i j (put (g i j) k y) m n o)
+put_pin_both {A = A} {B = B} R f g i j k x y new m n o =
+    put_at_both (λ m' n' a b. R m' n' o (a o) (b o)) f g i j (put (f i j) k x) (put (g i j) k y)
+    (put_both (R i j) (f i j) (g i j) k x y new o) m n

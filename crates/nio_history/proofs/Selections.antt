@@ -18,14 +18,14 @@ use Rattle.nio_history.proofs.Unpublished.{unpublished_keys_stay}
 use Rattle.nio_history.specs.Acts.{effect}
 use Rattle.nio_history.specs.Conditions.{Condition, has_begun}
 use Rattle.nio_history.specs.Histories.{state_after, is_by, mine, IsStep, IsLegal}
-use Rattle.nio_history.specs.Holders.{marks, ends_wakeup, SelectsAlone, KeySetStays, IsAtMostUnselected, MarksStay}
+use Rattle.nio_history.specs.Holders.{marks, SelectsAlone, KeySetStays, IsAtMostUnselected, MarksStay}
 use Rattle.nio_history.specs.Holders.{WakeupStays}
 use Rattle.nio_history.specs.Permanent.{index_claimed, a_selection}
 use Rattle.nio_history.specs.OwnEvents.{has, gives_turn}
 use Rattle.nio_history.specs.Pins.{removes, IsKeptInSelection}
 use Rattle.nio_history.specs.Sets.{fits, in_key_set, is_in_key_set}
 use Rattle.nio_history.specs.State.{State, unmarked}
-use Rattle.nio_history.specs.Turns.{selects_on}
+use Rattle.nio_history.specs.Turns.{selects_on, ends_wakeup}
 use Rattle.nio_history.specs.declared.act.Act.{Act}
 use Rattle.nio_history.specs.declared.act.Act.TheVariants.{Wake, Mark, UnselectBit, EndWake, ShutBit, ClearMark}
 use Rattle.nio_history.specs.declared.event.Event.{Event}
@@ -106,7 +106,7 @@ mark_kept l past me n (Mark s' i' from told found) s i was fit legal may alone s
     → IsAtMostUnselected was x) (state_after past).mark s'.0 i' _
     (λ _ alone' spared'. absurd
     (spares_not me n ((s'.0 == s'.0) && (i' == i')) (alone' (eq-eqb s'.0 s'.0 refl)) (same_two s'.0 i') spared'))
-    s i (λ _ _. now) alone spared
+    s i (λ _ _. now) (λ e. alone (ap (λ b. b || false) e)) spared
 mark_kept l past me n (UnselectBit s' i' found) s i was fit legal may alone spared published =
     put_at_keeps (λ _ _ x. IsAtMostUnselected was x) (state_after past).mark s'.0 i' _
     (λ old. record { ready = old.ready; selected = λ now. absurd cc }) s i

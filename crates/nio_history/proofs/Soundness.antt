@@ -15,7 +15,7 @@ use Rattle.nio_history.proofs.KeyChanges.{cancelled_already, removed_already}
 use Rattle.nio_history.proofs.Lasts.{shut_lasts, made_lasts, claimed_lasts}
 use Rattle.nio_history.proofs.Legal.{legal_induction}
 use Rattle.nio_history.proofs.OneMore.{state_after-more, has-since_first}
-use Rattle.nio_history.proofs.Put.{put_keeps, put_at_keeps, put_both, put_at_both, put_pin_keeps}
+use Rattle.nio_history.proofs.Put.{put_keeps, put_at_keeps, put_both, put_at_both, put_pin_keeps, put_pin_both}
 use Rattle.nio_history.proofs.Told.{below_told}
 use Rattle.nio_history.specs.Acts.{effect, taken_by, frees_index}
 use Rattle.nio_history.specs.Answers.{Answers}
@@ -30,7 +30,7 @@ use Rattle.nio_history.specs.State.{State, opening, unmade_channel, unclaimed}
 use Rattle.nio_history.specs.declared.act.Act.{Act}
 use Rattle.nio_history.specs.declared.act.Act.TheVariants.{Claim, RaiseKeys, TakeTurn, BeginLook, GiveTurn}
 use Rattle.nio_history.specs.declared.act.Act.TheVariants.{Remove, RaiseChannels, TryHoldBit, Release}
-use Rattle.nio_history.specs.declared.act.Act.TheVariants.{ShutBit, Enter, Pin, Unpin, ClaimAgain, PutFree, TakeFree}
+use Rattle.nio_history.specs.declared.act.Act.TheVariants.{ShutBit, Enter, Pin, Unpin, ClaimAgain, PutFree, TakeFree, Touch}
 use Rattle.nio_history.specs.declared.event.Event.{Event}
 use Rattle.nio_history.specs.declared.found.Stage.{Stage}
 
@@ -287,6 +287,25 @@ unclaimed_unpinned_step l own st me act may sound s i n = λ e.
     sound.unclaimed_unpinned s i n
     (false_from_ne_true (st.key s i).claimed (λ was. both_ways _ (claimed_lasts st me act s i was) e))
 
+-- a caller that is amid a change of an index has a pin on it
+amid_pinned_step : (st : State) (me : CallerNo) (act : Act) → IsSound st
+    → (s i n : ℕ) → (effect st me act).amid s i n ≡ true → (effect st me act).pinned s i n ≡ true
+amid_pinned_step st me (Claim s' i' c found) sound s i n = λ amid.
+    put_pin_keeps (λ _ _ _ x. x ≡ true) st.pinned s'.0 i' me.0 _ (λ e. ap (λ b. b || not found) e) s i n
+    (sound.amid_pinned s i n amid)
+amid_pinned_step st me (ClaimAgain s' i' c from found) sound s i n = λ amid.
+    put_pin_keeps (λ _ _ _ x. x ≡ true) st.pinned s'.0 i' me.0 _ (λ e. ap (λ b. b || not found) e) s i n
+    (sound.amid_pinned s i n amid)
+amid_pinned_step st me (Pin s' i' found) sound s i n = λ amid.
+    put_pin_keeps (λ _ _ _ x. x ≡ true) st.pinned s'.0 i' me.0 true (λ _. refl) s i n (sound.amid_pinned s i n amid)
+amid_pinned_step st me (Unpin s' i') sound s i n =
+    put_pin_both (λ _ _ _ x y. x ≡ true → y ≡ true) st.amid st.pinned s'.0 i' me.0 false false (λ e. e) s i n
+    (sound.amid_pinned s i n)
+amid_pinned_step st me (Touch s' i' found) sound s i n =
+    put_pin_keeps (λ a b m x. x ≡ true → st.pinned a b m ≡ true) st.amid s'.0 i' me.0 (st.pinned s'.0 i' me.0)
+    (λ _ e. e) s i n (sound.amid_pinned s i n)
+amid_pinned_step st me act sound s i n = sound.amid_pinned s i n
+
 -- ---- indexes that are free, taken, or still to be put
 
 -- who may put an index puts one that can come back
@@ -532,6 +551,7 @@ sound_opening = record {
   free_not_due = λ s i h. refl;
   taken_not_due = λ s i h. refl;
   due_begun = λ s i h. absurd cc;
+  amid_pinned = λ s i n h. absurd cc;
 }
 
 sound_step : (l : Limits) (past : List Event) (e : Event) → IsLegal l past → IsStep l past e
@@ -557,6 +577,7 @@ sound_step l past e legal step sound = record {
   free_not_due = free_undropped_step (state_after past) e.caller e.act step.answers sound;
   taken_not_due = taken_undropped_step (state_after past) e.caller e.act step.answers sound;
   due_begun = dropped_begun_step (state_after past) e.caller e.act step.answers sound;
+  amid_pinned = amid_pinned_step (state_after past) e.caller e.act sound;
 }
 
 pub legal-sound : (l : Limits) (events : List Event) → IsLegal l events → IsSound (state_after events)

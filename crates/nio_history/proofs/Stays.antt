@@ -28,7 +28,7 @@ use Rattle.nio_history.specs.Permanent.{PermanentFact, selector_made, selector_c
 use Rattle.nio_history.specs.Permanent.{channel_made, channel_of_kind, channel_opened}
 use Rattle.nio_history.specs.Permanent.{index_claimed, key_cancelled, key_removed, stands, OwnFact, the_turn}
 use Rattle.nio_history.specs.Permanent.{a_selection}
-use Rattle.nio_history.specs.Permanent.{the_hold, a_pin, a_taken_index, is_had_by}
+use Rattle.nio_history.specs.Permanent.{the_hold, a_pin, a_taken_index, a_change, list_had_by, is_had_by}
 use Rattle.nio_history.specs.OwnEvents.{OwnClaim, has, under, since_entered, finds_below, finds_unblocked, own_claim}
 use Rattle.nio_history.specs.OwnEvents.{gives_turn}
 use Rattle.nio_history.specs.Sets.{in_cancelled_set, fits, was_published, was_cancelled, was_removed, is_valid}
@@ -45,7 +45,7 @@ use Rattle.nio_history.specs.declared.act.Act.TheVariants.{RaiseKeys}
 use Rattle.nio_history.specs.declared.act.Act.TheVariants.{Publish, Enrol, BeginLook, GiveTurn, Remove, LookMark, Mark}
 use Rattle.nio_history.specs.declared.act.Act.TheVariants.{UnselectBit, EndWake, RaiseChannels, TryHoldBit, Release}
 use Rattle.nio_history.specs.declared.act.Act.TheVariants.{SetMode, CloseBit, Enter, Pin, Unpin, ClaimAgain, PutFree}
-use Rattle.nio_history.specs.declared.act.Act.TheVariants.{Reopen}
+use Rattle.nio_history.specs.declared.act.Act.TheVariants.{Reopen, Touch, TakeTouched}
 use Rattle.nio_history.specs.declared.event.Event.{Event}
 use Rattle.nio_history.specs.declared.found.Chan.{Chan}
 use Rattle.nio_history.specs.declared.found.Stage.{Stage}
@@ -105,11 +105,14 @@ condition_stays : (l : Limits) (n : CallerNo) (own : List Act) (st st' : State) 
     → Condition l own st n act → Condition l own st' n act
 condition_stays l n own st st' stays (Wake s found) may = (may.0, stays.permanent (selector_made s.0) may.1)
 condition_stays l n own st st' stays (CancelKey s i found) may =
-    (may.0, stays.permanent (index_claimed s.0 i) may.1, stays.had (a_pin s i) may.2)
+    (may.0, stays.permanent (index_claimed s.0 i) may.1, stays.had (a_pin s i) may.2, stays.had (a_change s i) may.3)
 condition_stays l n own st st' stays (LookInterest s i found) may = (may.0, pin_or_begun_stays n st st' stays s i may.1)
-condition_stays l n own st st' stays (SwapInterest s i ops found) may = (may.0, stays.had (a_pin s i) may.1)
-condition_stays l n own st st' stays (OrInterest s i ops found) may = (may.0, stays.had (a_pin s i) may.1)
-condition_stays l n own st st' stays (AndInterest s i ops found) may = (may.0, stays.had (a_pin s i) may.1)
+condition_stays l n own st st' stays (SwapInterest s i ops found) may =
+    (may.0, stays.had (a_pin s i) may.1, stays.had (a_change s i) may.2)
+condition_stays l n own st st' stays (OrInterest s i ops found) may =
+    (may.0, stays.had (a_pin s i) may.1, stays.had (a_change s i) may.2)
+condition_stays l n own st st' stays (AndInterest s i ops found) may =
+    (may.0, stays.had (a_pin s i) may.1, stays.had (a_change s i) may.2)
 condition_stays l n own st st' stays (SwapNote s i att found) may = (may.0, stays.had (a_pin s i) may.1)
 condition_stays l n own st st' stays (LookNote s i found) may = (may.0, stays.had (a_pin s i) may.1)
 condition_stays l n own st st' stays (MakeChannel c kind found) may =
@@ -119,7 +122,7 @@ condition_stays l n own st st' stays (Claim s i c found) may =
 condition_stays l n own st st' stays (RaiseKeys s k found) may =
     (may.0, may.1, λ i below. stays.permanent (index_claimed s.0 i) (may.2 i below))
 condition_stays l n own st st' stays (Publish s i found) may =
-    (may.0, publish_stays n own st st' stays (own_claim s.0 i own) may.1)
+    (may.0, publish_stays n own st st' stays (own_claim s.0 i own) may.1, stays.had (a_change s i) may.2)
 condition_stays l n own st st' stays (Enrol c s i serial found) may =
     (may.0, may.1, may.2, stays.had (the_hold c) may.3, may.4)
 condition_stays l n own st st' stays (BeginLook s found) may = (may.0, stays.had (the_turn s) may.1)
@@ -152,6 +155,9 @@ condition_stays l n own st st' stays (PutFree s i) may = (
 )
 condition_stays l n own st st' stays (Reopen c from found) may =
     (may.0, stays.had (the_hold c) may.1, may.2, may.3, may.4, may.5)
+condition_stays l n own st st' stays (Touch s i found) may = (may.0, pin_or_begun_stays n st st' stays s i may.1)
+condition_stays l n own st st' stays (TakeTouched s j found) may =
+    (may.0, may.1, stays.had (a_selection s) may.2, stays.permanent (list_had_by s n) may.3)
 condition_stays l n own st st' stays act may = may
 
 -- ---- the steps of others

@@ -12,12 +12,12 @@ use Rattle.nio_history.proofs.Legal.{legal_induction}
 use Rattle.nio_history.proofs.OneMore.{state_after-more, mine-own, mine-other, has-more, last-more}
 use Rattle.nio_history.proofs.Put.{same_pair}
 use Rattle.nio_history.specs.Acts.{effect}
-use Rattle.nio_history.specs.Answers.{Answers}
+use Rattle.nio_history.specs.Answers.{Answers, index_at}
 use Rattle.nio_history.specs.Histories.{state_after, is_by, mine, IsStep, IsLegal}
 use Rattle.nio_history.specs.OwnEvents.{has, last, is_yes, finds_below, stage_found}
 use Rattle.nio_history.specs.State.{State, opening}
 use Rattle.nio_history.specs.declared.act.Act.{Act}
-use Rattle.nio_history.specs.declared.act.Act.TheVariants.{LookKey, LookKeys, Pin}
+use Rattle.nio_history.specs.declared.act.Act.TheVariants.{LookKey, LookKeys, Pin, LookIndex}
 use Rattle.nio_history.specs.declared.event.Event.{Event}
 use Rattle.nio_history.specs.declared.found.Stage.{Stage}
 
@@ -92,6 +92,10 @@ stage_told st me (LookKey s' i' there) s i found answers told =
 stage_told st me (Pin s' i' there) s i found answers told =
     let parts = if_some ((s'.0 == s) && (i' == i)) there found told in
     same_pair (λ a b. st.key a b ≡ found) s'.0 i' s i parts.0 (cc (parts.1))
+stage_told st me (LookIndex s' i' there) s i found answers told =
+    let parts = if_some ((s'.0 == s) && (i' == i)) there.stage found told in
+    let stands : there ≡ index_at st s'.0 i' = cc in
+    same_pair (λ a b. st.key a b ≡ found) s'.0 i' s i parts.0 (ap (λ x. x.stage) (sym stands) ∙ cc (parts.1))
 stage_told st me act s i found answers told = absurd (cc told)
 
 -- ---- below the keys' high-water mark

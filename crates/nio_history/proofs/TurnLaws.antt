@@ -2,6 +2,7 @@
 use Rattle.std.proofs.Common.{◌≡◌, ℕ, ◌==◌, Bool, true, false, ◌&&◌, ◌||◌, not, inl, inr, Option, Some, None, List, []}
 use Rattle.std.proofs.Common.{◌∷◌, ◌++◌, append_assoc, refl, ap, sym, ◌∙◌, subst, eqb-true, eq-eqb}
 use Rattle.std.proofs.lemmas.Bool.{and_parts, and_from, or_cases, or_right, true_from_ne_false}
+use Rattle.std.proofs.Math.Bool.{or-false}
 use Rattle.nio_base.specs.declared.limits.Limits.{Limits}
 use Rattle.nio_base.specs.declared.numbers.CallerNo.{CallerNo}
 use Rattle.nio_base.specs.declared.numbers.SelNo.{SelNo}
@@ -85,12 +86,19 @@ begun_is st me n s s' has_it same begun =
     let its : is_held_by n (st.turn s.0) ≡ true = (and_parts (has_turn st n s) (st.begun s.0) has_it).0 in
     one_holder me n (st.turn s.0) (subst (λ (k : ℕ). is_held_by me (st.turn k) ≡ true) same mine') its
 
+-- what is one or two other things or not is it where it is neither of those
+pub of_one : (b : Bool) → (b || false) ≡ true → b ≡ true
+of_one b e = sym (or-false b) ∙ e
+
+pub of_two : (b : Bool) → (b || false || false) ≡ true → b ≡ true
+of_two b e = of_one b (of_one (b || false) e)
+
 -- while caller n selects, whoever does what only the selecting caller does is n
 pub selecting_is : (l : Limits) (own : List Act) (st : State) (me n : CallerNo) (s : SelNo) (act : Act) → IsSound st
     → has_begun st n s ≡ true
     → Condition l own st me act → selects_on s.0 act ≡ true → me.0 ≡ n.0
 selecting_is l own st me n s (Remove s' i found) sound has_it may on =
-    let same : s'.0 ≡ s.0 = eqb-true s'.0 s.0 on in
+    let same : s'.0 ≡ s.0 = eqb-true s'.0 s.0 (of_two (s'.0 == s.0) on) in
     elim (or_cases (may_remove_cancelled st me s' i) (may_clear_out st own me s' i) may.1) [
       | inl sweep ↦ begun_is st me n s s' has_it same
           (and_parts (has_begun st me s') (in_cancelled_set (st.key s'.0 i)) sweep).0
@@ -104,7 +112,7 @@ selecting_is l own st me n s (Remove s' i found) sound has_it may on =
           absurd cc
     ]
 selecting_is l own st me n s (Mark s' i from told found) sound has_it may on =
-    begun_is st me n s s' has_it (eqb-true s'.0 s.0 on) may.1
+    begun_is st me n s s' has_it (eqb-true s'.0 s.0 (of_one (s'.0 == s.0) on)) may.1
 selecting_is l own st me n s (EndWake s' found) sound has_it may on =
     begun_is st me n s s' has_it (eqb-true s'.0 s.0 on) may.1
 selecting_is l own st me n s act sound has_it may on = absurd (cc on)
@@ -145,7 +153,7 @@ may_select_by : (l : Limits) (own : List Act) (st : State) (me : CallerNo) (s : 
     → Condition l own st me act → selects_on s.0 act ≡ true
     → (has_begun st me s || (removes_on s.0 act && has_entered st me s)) ≡ true
 may_select_by l own st me s (Remove s' i found) may on =
-    let same : s'.0 ≡ s.0 = eqb-true s'.0 s.0 on in
+    let same : s'.0 ≡ s.0 = eqb-true s'.0 s.0 (of_two (s'.0 == s.0) on) in
     elim (or_cases (may_remove_cancelled st me s' i) (may_clear_out st own me s' i) may.1) [
       | inl sweep ↦
           ap (λ b. b || ((s'.0 == s.0) && has_entered st me s))
@@ -155,10 +163,10 @@ may_select_by l own st me s (Remove s' i found) may on =
           let entered =
           (and_parts (has_entered st me s') (has (finds_below s'.0 i) (since_entered s'.0 own)) clear).0 in
           or_right (has_begun st me s) ((s'.0 == s.0) && has_entered st me s)
-          (and_from (s'.0 == s.0) (has_entered st me s) on (moved (has_entered st me) s' s same entered))
+          (and_from (s'.0 == s.0) (has_entered st me s) (of_two (s'.0 == s.0) on) (moved (has_entered st me) s' s same entered))
     ]
 may_select_by l own st me s (Mark s' i from told found) may on =
-    ap (λ b. b || false) (moved (has_begun st me) s' s (eqb-true s'.0 s.0 on) may.1)
+    ap (λ b. b || false) (moved (has_begun st me) s' s (eqb-true s'.0 s.0 (of_one (s'.0 == s.0) on)) may.1)
 may_select_by l own st me s (EndWake s' found) may on =
     ap (λ b. b || false) (moved (has_begun st me) s' s (eqb-true s'.0 s.0 on) may.1)
 may_select_by l own st me s act may on = absurd (cc on)

@@ -1,6 +1,6 @@
 -- Every number that the state after a legal history speaks of is within the limits: each step keeps
 -- that.
-use Rattle.std.proofs.Common.{◌≡◌, ℕ, ◌==◌, ◌<◌, ◌≤◌, max, true, false, ◌&&◌, suc, ap, Option, Some, None, List, sym}
+use Rattle.std.proofs.Common.{◌≡◌, ℕ, ◌/◌, ◌==◌, ◌<◌, ◌≤◌, max, Bool, true, false, cond, ◌&&◌, suc, ap, Option, Some, None, List, sym}
 use Rattle.std.proofs.Common.{subst, arith}
 use Rattle.std.specs.Option.{ForSome}
 use Rattle.std.proofs.lemmas.Bool.{ltb-true}
@@ -27,7 +27,8 @@ use Rattle.nio_history.specs.declared.act.Act.TheVariants.{DrawBit, MakeSelector
 use Rattle.nio_history.specs.declared.act.Act.TheVariants.{CancelKey}
 use Rattle.nio_history.specs.declared.act.Act.TheVariants.{Claim, RaiseKeys, Publish, Enrol, TakeTurn}
 use Rattle.nio_history.specs.declared.act.Act.TheVariants.{GiveTurn, Remove, RaiseChannels, TryHoldBit, Release}
-use Rattle.nio_history.specs.declared.act.Act.TheVariants.{ShutBit, Pin, Unpin, ClaimAgain, PutFree, TakeFree}
+use Rattle.nio_history.specs.declared.act.Act.TheVariants.{ShutBit, Pin, Unpin, ClaimAgain, PutFree, TakeFree, Touch}
+use Rattle.nio_history.specs.declared.act.Act.TheVariants.{TakeTouched, TakeList}
 use Rattle.nio_history.specs.declared.event.Event.{Event}
 use Rattle.nio_history.specs.declared.found.Stage.{Stage}
 
@@ -254,6 +255,28 @@ takers_within l st me (ClaimAgain s' i' c from false) own_number here s i =
     put_at_keeps (λ _ _ o. ForSome o (IsCaller l)) st.taker s'.0 i' None (λ _. none_within l) s i (here.takers s i)
 takers_within l st me act own_number here s i = here.takers s i
 
+touched_within : (l : Limits) (own : List Act) (st : State) (me : CallerNo) (act : Act) → Condition l own st me act
+    → IsWithin l st
+    → (s i : ℕ) → (effect st me act).touched s i ≡ true → (s < l.selectors) × (i < l.keys)
+touched_within l own st me (Touch s' i' found) may here s i =
+    put_at_keeps (λ a b x. x ≡ true → (a < l.selectors) × (b < l.keys)) st.touched s'.0 i' true (λ _ _. may.0) s i
+    (here.touched s i)
+touched_within l own st me (TakeTouched s' j found) may here s i = by_test ((s == s'.0) && (i / 64 == j))
+  where
+    by_test : (b : Bool) → cond b false (st.touched s i) ≡ true → (s < l.selectors) × (i < l.keys)
+    by_test true e = absurd cc
+    by_test false e = here.touched s i e
+touched_within l own st me act may here s i = here.touched s i
+
+listers_within : (l : Limits) (st : State) (me : CallerNo) (act : Act) → IsCaller l me → Answers st me act
+    → IsWithin l st
+    → (s : ℕ) → ForSome ((effect st me act).lister s) (IsCaller l)
+listers_within l st me (TakeList k found) own_number answers here s =
+    put_keeps (λ _ o. ForSome o (IsCaller l)) st.lister k.0 (taken_by me found)
+    (λ old. let found_is : found ≡ st.lister k.0 = cc in
+    taken_within l me found own_number (subst (λ o. ForSome o (IsCaller l)) (sym found_is) old)) s (here.listers s)
+listers_within l st me act own_number answers here s = here.listers s
+
 within_opening : (l : Limits) → IsWithin l opening
 within_opening l = record {
   drawn = λ n e. absurd cc;
@@ -271,6 +294,8 @@ within_opening l = record {
   channel_serials = λ c. omega arith;
   pins = λ s i n e. absurd cc;
   takers = λ s i. none_within l;
+  touched = λ s i e. absurd cc;
+  listers = λ s. none_within l;
 }
 
 within_step : (l : Limits) (past : List Event) (e : Event) → IsLegal l past → IsStep l past e
@@ -293,6 +318,8 @@ within_step l past e legal step here = record {
       step.answers here;
   pins = pins_within l (state_after past) e.caller e.act step.by_caller here;
   takers = takers_within l (state_after past) e.caller e.act step.by_caller here;
+  touched = touched_within l (mine e.caller past) (state_after past) e.caller e.act step.condition here;
+  listers = listers_within l (state_after past) e.caller e.act step.by_caller step.answers here;
 }
 
 pub legal-within : (l : Limits) (events : List Event) → IsLegal l events → IsWithin l (state_after events)

@@ -65,7 +65,7 @@ opening =
     record { by_caller = lit< tt; condition = (lit< tt, refl); answers = refl } ▸
     tt
 
-registering : NextSteps 14 20
+registering : NextSteps 14 22
 unfolding bits_below count_below
 registering =
     -- it registers the channel: no index was claimed yet, so it claims index 0, which pins it
@@ -87,21 +87,23 @@ registering =
     } ▸
     record { by_caller = lit< tt; condition = lit< tt; answers = refl } ▸
     record { by_caller = lit< tt; condition = ((lit< tt, lit< tt), refl); answers = refl } ▸
+    record { by_caller = lit< tt; condition = ((lit< tt, lit< tt), refl, refl); answers = refl } ▸
     record { by_caller = lit< tt; condition = ((lit< tt, lit< tt), refl); answers = refl } ▸
     record { by_caller = lit< tt; condition = (lit< tt, (lit< tt, lit< tt), refl, refl, refl); answers = refl } ▸
-    record { by_caller = lit< tt; condition = ((lit< tt, lit< tt), refl); answers = refl } ▸
+    record { by_caller = lit< tt; condition = ((lit< tt, lit< tt), refl, refl); answers = refl } ▸
     record { by_caller = lit< tt; condition = lit< tt; answers = refl } ▸
     record { by_caller = lit< tt; condition = ((lit< tt, lit< tt), refl); answers = refl } ▸
     record { by_caller = lit< tt; condition = (lit< tt, refl); answers = refl } ▸
     -- under a pin it changes the interest set to and fro
     record { by_caller = lit< tt; condition = ((lit< tt, lit< tt), refl, refl); answers = refl } ▸
     record { by_caller = lit< tt; condition = ((lit< tt, lit< tt), refl); answers = refl } ▸
-    record { by_caller = lit< tt; condition = ((lit< tt, lit< tt), refl); answers = refl } ▸
+    record { by_caller = lit< tt; condition = ((lit< tt, lit< tt), refl, refl); answers = refl } ▸
+    record { by_caller = lit< tt; condition = ((lit< tt, lit< tt), refl, refl); answers = refl } ▸
     record { by_caller = lit< tt; condition = ((lit< tt, lit< tt), refl); answers = refl } ▸
     record { by_caller = lit< tt; condition = ((lit< tt, lit< tt), refl); answers = refl } ▸
     tt
 
-selecting : NextSteps 34 22
+selecting : NextSteps 36 29
 unfolding bits_below count_below
 selecting =
     -- it begins a selection; caller 1 finds the turn taken
@@ -110,12 +112,19 @@ selecting =
     record { by_caller = lit< tt; condition = (lit< tt, refl); answers = refl } ▸
     record { by_caller = lit< tt; condition = lit< tt; answers = refl } ▸
     record { by_caller = lit< tt; condition = (lit< tt, lit< tt); answers = refl } ▸
+    -- it takes the selector's list, which caller 1 finds taken, and the bit of index 0, and looks there
+    record { by_caller = lit< tt; condition = lit< tt; answers = refl } ▸
+    record { by_caller = lit< tt; condition = lit< tt; answers = refl } ▸
+    record { by_caller = lit< tt; condition = (lit< tt, lit< tt); answers = refl } ▸
+    record { by_caller = lit< tt; condition = (lit< tt, lit< tt, refl, refl); answers = refl } ▸
+    record { by_caller = lit< tt; condition = (lit< tt, lit< tt); answers = refl } ▸
     record { by_caller = lit< tt; condition = (lit< tt, lit< tt); answers = refl } ▸
     record { by_caller = lit< tt; condition = ((lit< tt, lit< tt), refl); answers = refl } ▸
     -- caller 1 wakes it, and cancels the key under a pin, which it keeps
     record { by_caller = lit< tt; condition = (lit< tt, refl); answers = refl } ▸
     record { by_caller = lit< tt; condition = ((lit< tt, lit< tt), refl, refl); answers = refl } ▸
-    record { by_caller = lit< tt; condition = ((lit< tt, lit< tt), refl, refl); answers = refl } ▸
+    record { by_caller = lit< tt; condition = ((lit< tt, lit< tt), refl); answers = refl } ▸
+    record { by_caller = lit< tt; condition = ((lit< tt, lit< tt), refl, refl, refl); answers = refl } ▸
     -- it is told of the key twice, and ends the selection: the key is removed, and its index becomes free
     record { by_caller = lit< tt; condition = ((lit< tt, lit< tt), refl); answers = refl } ▸
     record { by_caller = lit< tt; condition = ((lit< tt, lit< tt), refl, refl); answers = refl } ▸
@@ -125,13 +134,14 @@ selecting =
     record { by_caller = lit< tt; condition = lit< tt; answers = refl } ▸
     record { by_caller = lit< tt; condition = tt; answers = refl } ▸
     record { by_caller = lit< tt; condition = (lit< tt, lit< tt); answers = refl } ▸
+    record { by_caller = lit< tt; condition = (lit< tt, lit< tt); answers = refl } ▸
     record { by_caller = lit< tt; condition = ((lit< tt, lit< tt), refl); answers = refl } ▸
     record { by_caller = lit< tt; condition = ((lit< tt, lit< tt), refl); answers = refl } ▸
     record { by_caller = lit< tt; condition = (lit< tt, refl); answers = refl } ▸
     record { by_caller = lit< tt; condition = (lit< tt, refl); answers = refl } ▸
     tt
 
-claiming_again : NextSteps 56 29
+claiming_again : NextSteps 65 30
 unfolding bits_below count_below
 claiming_again =
     -- it registers the channel again: index 0 is free, but caller 1 still has its pin on it
@@ -161,34 +171,42 @@ claiming_again =
     record { by_caller = lit< tt; condition = ((lit< tt, lit< tt), refl); answers = refl } ▸
     record { by_caller = lit< tt; condition = lit< tt; answers = refl } ▸
     record { by_caller = lit< tt; condition = ((lit< tt, lit< tt), refl); answers = refl } ▸
+    record { by_caller = lit< tt; condition = ((lit< tt, lit< tt), refl, refl); answers = refl } ▸
     record { by_caller = lit< tt; condition = ((lit< tt, lit< tt), refl); answers = refl } ▸
     record { by_caller = lit< tt; condition = (lit< tt, (lit< tt, lit< tt), refl, refl, refl); answers = refl } ▸
-    record { by_caller = lit< tt; condition = ((lit< tt, lit< tt), refl); answers = refl } ▸
+    record { by_caller = lit< tt; condition = ((lit< tt, lit< tt), refl, refl); answers = refl } ▸
     record { by_caller = lit< tt; condition = lit< tt; answers = refl } ▸
     record { by_caller = lit< tt; condition = ((lit< tt, lit< tt), refl); answers = refl } ▸
     record { by_caller = lit< tt; condition = (lit< tt, refl); answers = refl } ▸
     tt
 
-removing_again : NextSteps 85 13
+removing_again : NextSteps 95 19
 unfolding bits_below count_below
 removing_again =
     -- it cancels this key too, and a selection removes it
     record { by_caller = lit< tt; condition = ((lit< tt, lit< tt), refl, refl); answers = refl } ▸
     record { by_caller = lit< tt; condition = ((lit< tt, lit< tt), refl); answers = refl } ▸
+    record { by_caller = lit< tt; condition = ((lit< tt, lit< tt), refl); answers = refl } ▸
+    record { by_caller = lit< tt; condition = ((lit< tt, lit< tt), refl, refl, refl); answers = refl } ▸
+    record { by_caller = lit< tt; condition = ((lit< tt, lit< tt), refl); answers = refl } ▸
     record { by_caller = lit< tt; condition = ((lit< tt, lit< tt), refl, refl); answers = refl } ▸
-    record { by_caller = lit< tt; condition = ((lit< tt, lit< tt), refl); answers = refl } ▸
     record { by_caller = lit< tt; condition = lit< tt; answers = refl } ▸
     record { by_caller = lit< tt; condition = (lit< tt, refl); answers = refl } ▸
     record { by_caller = lit< tt; condition = lit< tt; answers = refl } ▸
     record { by_caller = lit< tt; condition = (lit< tt, lit< tt); answers = refl } ▸
+    -- it finds the index pinned by caller 1, so it touches it again
+    record { by_caller = lit< tt; condition = (lit< tt, lit< tt, refl, refl); answers = refl } ▸
+    record { by_caller = lit< tt; condition = (lit< tt, lit< tt); answers = refl } ▸
+    record { by_caller = lit< tt; condition = ((lit< tt, lit< tt), refl); answers = refl } ▸
     record { by_caller = lit< tt; condition = (lit< tt, lit< tt); answers = refl } ▸
     record { by_caller = lit< tt; condition = ((lit< tt, lit< tt), refl); answers = refl } ▸
     record { by_caller = lit< tt; condition = ((lit< tt, lit< tt), refl); answers = refl } ▸
     record { by_caller = lit< tt; condition = (lit< tt, refl); answers = refl } ▸
     record { by_caller = lit< tt; condition = (lit< tt, refl); answers = refl } ▸
+    record { by_caller = lit< tt; condition = ((lit< tt, lit< tt), refl); answers = refl } ▸
     tt
 
-closing : NextSteps 98 16
+closing : NextSteps 114 16
 unfolding bits_below count_below
 closing =
     -- caller 1 sets blocking mode again: the enrolled key is removed
@@ -198,7 +216,7 @@ closing =
     record {
       by_caller = lit< tt;
       condition =
-          (lit< tt, refl, λ e. below_one (λ k. is_clear 0 k (mine v (take 101 worked_history)) ≡ true) refl);
+          (lit< tt, refl, λ e. below_one (λ k. is_clear 0 k (mine v (take 117 worked_history)) ≡ true) refl);
       answers = refl;
     } ▸
     record { by_caller = lit< tt; condition = (lit< tt, refl); answers = refl } ▸
@@ -220,7 +238,7 @@ closing =
     record { by_caller = lit< tt; condition = tt; answers = refl } ▸
     tt
 
-reopening : NextSteps 114 8
+reopening : NextSteps 130 8
 unfolding bits_below count_below
 reopening =
     -- caller 1 gives the channel's number to a new channel, once; a closing of the old one that comes late leaves it
@@ -235,7 +253,7 @@ reopening =
         refl,
         refl,
         lit< tt,
-        below_one (λ k. is_clear 0 k (mine v (take 117 worked_history)) ≡ true) refl,
+        below_one (λ k. is_clear 0 k (mine v (take 133 worked_history)) ≡ true) refl,
       );
       answers = refl;
     } ▸
@@ -247,7 +265,7 @@ reopening =
         refl,
         refl,
         lit< tt,
-        below_one (λ k. is_clear 0 k (mine v (take 118 worked_history)) ≡ true) refl,
+        below_one (λ k. is_clear 0 k (mine v (take 134 worked_history)) ≡ true) refl,
       );
       answers = refl;
     } ▸
@@ -270,14 +288,14 @@ pub worked_history_is_legal : WorkedHistoryIsLegal
 worked_history_is_legal =
     let legal_opening : IsLegal small_limits (take 14 worked_history) = longer 0 14
     (legal_empty small_limits) opening in
-    let legal_registering : IsLegal small_limits (take 34 worked_history) = longer 14 20 legal_opening registering in
-    let legal_selecting : IsLegal small_limits (take 56 worked_history) = longer 34 22 legal_registering selecting in
-    let legal_claiming_again : IsLegal small_limits (take 85 worked_history) =
-    longer 56 29 legal_selecting claiming_again in
-    let legal_removing_again : IsLegal small_limits (take 98 worked_history) =
-    longer 85 13 legal_claiming_again removing_again in
-    let legal_closing : IsLegal small_limits (take 114 worked_history) = longer 98 16 legal_removing_again closing in
-    longer 114 8 legal_closing reopening
+    let legal_registering : IsLegal small_limits (take 36 worked_history) = longer 14 22 legal_opening registering in
+    let legal_selecting : IsLegal small_limits (take 65 worked_history) = longer 36 29 legal_registering selecting in
+    let legal_claiming_again : IsLegal small_limits (take 95 worked_history) =
+    longer 65 30 legal_selecting claiming_again in
+    let legal_removing_again : IsLegal small_limits (take 114 worked_history) =
+    longer 95 19 legal_claiming_again removing_again in
+    let legal_closing : IsLegal small_limits (take 130 worked_history) = longer 114 16 legal_removing_again closing in
+    longer 130 8 legal_closing reopening
 
 not_so : false ≡ true → ⊥
 not_so e = cc
@@ -360,4 +378,16 @@ refused_events_are_no_steps =
     (λ step. cc step.answers) ▸
     (λ step. cc step.answers) ▸
     (λ step. not_so step.condition.3) ▸
+    -- an index is touched by who has a pin on it, or has begun
+    (λ step. not_so step.condition.1) ▸
+    -- a change is made by who touched the index since it pinned it
+    (λ step. not_so step.condition.2) ▸
+    (λ step. not_so step.condition.3) ▸
+    -- a list is taken once, and only who has it takes the bits, while it selects
+    (λ step. not_so step.condition.3) ▸
+    (λ step. cc step.answers) ▸
+    (λ step. not_so step.condition.2) ▸
+    (λ step. not_so step.condition.2) ▸
+    -- what is touched is what stands there
+    (λ step. cc step.answers) ▸
     tt

@@ -1,8 +1,9 @@
 -- What each kind of step does to the state. A step changes the part that it names. Claiming an index also
 -- pins it; taking and giving a turn, beginning, shutting and entering also keep who has begun, closes and
 -- has entered; taking an index, putting it, claiming it again, removing its key and giving the turn also keep
--- who took it, and whether the selection in progress has still to put it. Nothing else is changed. The lines
--- stand in the order in which `Act` lists the kinds.
+-- who took it, and whether the selection in progress has still to put it; touching an index and taking a pin off
+-- also keep whether the caller is amid a change there. Nothing else is changed. The lines stand in the order in
+-- which `Act` lists the kinds.
 use Rattle.std.specs.Prelude.{ℕ, suc, max, nat_lt, Bool, true, false, not, ◌&&◌, ◌||◌, if◌then◌else◌, Option, Some}
 use Rattle.std.specs.Prelude.{None, is_some, is_none, Result, Ok, Err, bit_and, bit_or}
 use Rattle.nio_base.specs.declared.kind.Kind.{Kind}
@@ -14,6 +15,7 @@ use Rattle.nio_history.specs.State.{with_interest}
 use Rattle.nio_history.specs.State.{with_mark, with_note, with_pin, with_free, with_begun, with_closer, with_entered}
 use Rattle.nio_base.specs.Numbers.{last_serial}
 use Rattle.nio_history.specs.State.{with_taker, with_put_due, with_no_put_due, unmarked}
+use Rattle.nio_history.specs.State.{with_touched, with_none_touched, with_lister, with_amid}
 use Rattle.nio_history.specs.declared.act.Act.{Act}
 use Rattle.nio_history.specs.declared.act.Act.TheVariants.{DrawBit, MakeSelector, LookSelectors, Wake, LookGate}
 use Rattle.nio_history.specs.declared.act.Act.TheVariants.{SetInterrupt, TakeInterrupt, LookInterrupt, LookKey}
@@ -32,7 +34,7 @@ use Rattle.nio_history.specs.declared.act.Act.TheVariants.{TakeFree}
 use Rattle.nio_history.specs.declared.found.Chan.{Chan}
 use Rattle.nio_history.specs.declared.found.Mark.{Mark as KeyMark}
 use Rattle.nio_history.specs.declared.found.Stage.{Stage}
-use Rattle.nio_history.specs.declared.act.Act.TheVariants.{Reopen}
+use Rattle.nio_history.specs.declared.act.Act.TheVariants.{Reopen, Touch, LookTouched, TakeTouched, LookIndex, TakeList}
 use Rattle.std.specs.Prelude.{◌==◌}
 
 -- a new channel is open and in blocking mode
@@ -167,8 +169,8 @@ effect st me (ShutBit s found) =
 effect st me (Enter s found) = with_entered st s.0 (st.entered s.0 || is_none found)
 -- the caller has a pin on the index
 effect st me (Pin s i found) = with_pin st s.0 i me.0 true
--- the caller has no pin on it
-effect st me (Unpin s i) = with_pin st s.0 i me.0 false
+-- the caller has no pin on it, and is amid no change there
+effect st me (Unpin s i) = with_amid (with_pin st s.0 i me.0 false) s.0 i me.0 false
 -- the key isn't selected, and its ready set is empty
 effect st me (ClearMark s i found) = with_mark st s.0 i unmarked
 -- where nobody has a pin on the index, it is claimed for the channel with the next serial, the caller has a
@@ -189,3 +191,13 @@ effect st me (TakeFree s i found) =
 -- where its number has the channel `from`, the number has a new one of that kind with the next serial
 effect st me (Reopen c from found) =
     with_chan st c.0 (if found then st.chan c.0 else new_channel from.kind (suc from.serial))
+-- the index is touched; a caller that has a pin on it is amid a change there
+effect st me (Touch s i found) = with_amid (with_touched st s.0 i true) s.0 i me.0 (st.pinned s.0 i me.0)
+-- looks
+effect st me (LookTouched s j found) = st
+-- none of the 64 indexes is touched
+effect st me (TakeTouched s j found) = with_none_touched st s.0 j
+-- looks
+effect st me (LookIndex s i found) = st
+-- where nobody had the list, the caller has it
+effect st me (TakeList s found) = with_lister st s.0 (taken_by me found)

@@ -30,10 +30,11 @@ use Rattle.nio_history.specs.declared.act.Act.TheVariants.{ShutBit}
 use Rattle.nio_history.specs.declared.act.Act.TheVariants.{Enter, Pin, Unpin, ClearMark, ClaimAgain, LookFree, PutFree}
 use Rattle.nio_history.specs.declared.act.Act.TheVariants.{TakeFree}
 use Rattle.nio_history.specs.declared.found.Mark.{Mark as KeyMark}
-use Rattle.nio_history.specs.declared.act.Act.TheVariants.{Reopen}
+use Rattle.nio_history.specs.declared.act.Act.TheVariants.{Reopen, Touch, LookTouched, TakeTouched, LookIndex, TakeList}
 use Rattle.nio_history.specs.declared.found.Chan.{Chan}
+use Rattle.nio_history.specs.declared.found.IndexWord.{IndexWord}
 use Rattle.nio_base.specs.Kind.{is_same_kind}
-use Rattle.nio_history.specs.Questions.{reopen}
+use Rattle.nio_history.specs.Questions.{reopen, touch, look_touched, take_touched, look_index, take_list}
 
 -- the number whose bit k is set where `test` passes at k, for each k below n
 unfoldable pub bits_below : ℕ → (ℕ → Bool) → ℕ
@@ -56,6 +57,14 @@ is_pinned st s i = not (pins st s i == 0)
 -- which of the 64 indexes from 64 times j on are free, as one number
 abbrev pub free_word : State → ℕ → ℕ → ℕ
 free_word st s j = bits_below 64 (λ b. st.free s (64 * j + b))
+
+-- which of them are touched
+abbrev pub touched_word : State → ℕ → ℕ → ℕ
+touched_word st s j = bits_below 64 (λ b. st.touched s (64 * j + b))
+
+-- the stage of an index's key, and whether the index is pinned
+abbrev pub index_at : State → ℕ → ℕ → IndexWord
+index_at st s i = record { stage = st.key s i; pinned = is_pinned st s i }
 
 -- all selectors that are made, as one number
 abbrev pub selectors_word : State → ℕ
@@ -171,6 +180,16 @@ act_from st me (put_free s i) = PutFree s i
 act_from st me (take_free s i) = TakeFree s i (st.free s.0 i)
 -- whether the number has another channel than the one that is named
 act_from st me (reopen c from) = Reopen c from (not (is_same_channel (st.chan c.0) from))
+-- whether it was touched
+act_from st me (touch s i) = Touch s i (st.touched s.0 i)
+-- which of the 64 indexes are touched
+act_from st me (look_touched s j) = LookTouched s j (touched_word st s.0 j)
+-- which of them were touched
+act_from st me (take_touched s j) = TakeTouched s j (touched_word st s.0 j)
+-- the stage, and whether anybody has a pin on the index
+act_from st me (look_index s i) = LookIndex s i (index_at st s.0 i)
+-- who had the list
+act_from st me (take_list s) = TakeList s (st.lister s.0)
 
 -- what the state answers
 abbrev pub answer_from : State → CallerNo → Question → Answer

@@ -3,8 +3,8 @@
 -- The numbers of a step are below the table's limits; operations and attachments are of their types
 -- in `Act`, below 256 and below 2 ^ 64, of which no condition speaks.
 --
--- Read in the state: what is permanent (made, claimed); who has a turn, a hold, a pin or a taken index; who
--- has begun, closes or has entered; that a key is in the cancelled set, where the caller selects, since then
+-- Read in the state: what is permanent (made, claimed); who has a turn, a hold, a pin, a taken index or a list; who
+-- is amid a change of an index; who has begun, closes or has entered; that a key is in the cancelled set, where the caller selects, since then
 -- nobody else removes it; which indexes the selection in progress has still to put.
 -- Read in the caller's own acts: its claim of an index, while it has the pin of that claim, and whether it
 -- published the key since; what it found under its present hold, among it that an enrolled key is outside the
@@ -35,7 +35,7 @@ use Rattle.nio_history.specs.declared.act.Act.TheVariants.{RaiseChannels, TryHol
 use Rattle.nio_history.specs.declared.act.Act.TheVariants.{ShutBit}
 use Rattle.nio_history.specs.declared.act.Act.TheVariants.{Enter, Pin, Unpin, ClearMark, ClaimAgain, LookFree, PutFree}
 use Rattle.nio_history.specs.declared.act.Act.TheVariants.{TakeFree}
-use Rattle.nio_history.specs.declared.act.Act.TheVariants.{Reopen}
+use Rattle.nio_history.specs.declared.act.Act.TheVariants.{Reopen, Touch, LookTouched, TakeTouched, LookIndex, TakeList}
 use Rattle.nio_history.specs.declared.found.Chan.{Chan}
 use Rattle.nio_history.specs.Sets.{was_opened}
 use Rattle.std.specs.Prelude.{IsFalse}
@@ -106,6 +106,14 @@ has_entered st me s = is_closer st me s && st.entered s.0
 abbrev pub has_pin : State → CallerNo → SelNo → ℕ → Bool
 has_pin st me s i = st.pinned s.0 i me.0
 
+-- `me` is amid a change of the index: it has a pin on it, and touched it since it pinned it
+abbrev pub is_amid : State → CallerNo → SelNo → ℕ → Bool
+is_amid st me s i = st.amid s.0 i me.0
+
+-- `me` has the list of the selector
+abbrev pub has_list : State → CallerNo → SelNo → Bool
+has_list st me s = is_held_by me (st.lister s.0)
+
 -- `me` took the index when it was free, and neither put it back nor claimed it since
 abbrev pub has_taken : State → CallerNo → SelNo → ℕ → Bool
 has_taken st me s i = is_held_by me (st.taker s.0 i)
@@ -143,16 +151,19 @@ Condition l own st me (SetInterrupt n found) = IsCaller l n
 Condition l own st me (TakeInterrupt found) = ⊤
 Condition l own st me (LookInterrupt found) = ⊤
 Condition l own st me (LookKey s i found) = IsKey l s i
--- i is claimed; the caller has a pin on it
-Condition l own st me (CancelKey s i found) = IsKey l s i × IsTrue (is_claimed st s i) × IsTrue (has_pin st me s i)
+-- i is claimed; the caller has a pin on it, and touched it since it pinned it
+Condition l own st me (CancelKey s i found) =
+    IsKey l s i × IsTrue (is_claimed st s i) × IsTrue (has_pin st me s i) × IsTrue (is_amid st me s i)
 -- the caller has a pin on i, or has begun on s
 Condition l own st me (LookInterest s i found) = IsKey l s i × IsTrue (has_pin st me s i || has_begun st me s)
--- the caller has a pin on i
-Condition l own st me (SwapInterest s i ops found) = IsKey l s i × IsTrue (has_pin st me s i)
--- the caller has a pin on i
-Condition l own st me (OrInterest s i ops found) = IsKey l s i × IsTrue (has_pin st me s i)
--- the caller has a pin on i
-Condition l own st me (AndInterest s i ops found) = IsKey l s i × IsTrue (has_pin st me s i)
+-- the caller has a pin on i, and touched it since it pinned it
+Condition l own st me (SwapInterest s i ops found) =
+    IsKey l s i × IsTrue (has_pin st me s i) × IsTrue (is_amid st me s i)
+-- the caller has a pin on i, and touched it since it pinned it
+Condition l own st me (OrInterest s i ops found) = IsKey l s i × IsTrue (has_pin st me s i) × IsTrue (is_amid st me s i)
+-- the caller has a pin on i, and touched it since it pinned it
+Condition l own st me (AndInterest s i ops found) =
+    IsKey l s i × IsTrue (has_pin st me s i) × IsTrue (is_amid st me s i)
 -- the caller has a pin on i
 Condition l own st me (SwapNote s i att found) = IsKey l s i × IsTrue (has_pin st me s i)
 -- the caller has a pin on i
@@ -165,9 +176,10 @@ Condition l own st me (Claim s i c found) = IsKey l s i × IsChannel l c × IsTr
 -- all indexes below n are claimed
 Condition l own st me (RaiseKeys s n found) = IsSelector l s × (n ≤ l.keys) × AllClaimed st s n
 Condition l own st me (LookKeys s found) = IsSelector l s
--- the caller claimed i and still has the pin of that claim; it holds the channel that it claimed i for, which
--- it found non-blocking under this hold
-Condition l own st me (Publish s i found) = IsKey l s i × IsTrue (may_publish st own me (own_claim s.0 i own))
+-- the caller claimed i and still has the pin of that claim, and touched i since it pinned it; it holds the channel
+-- that it claimed i for, which it found non-blocking under this hold
+Condition l own st me (Publish s i found) =
+    IsKey l s i × IsTrue (may_publish st own me (own_claim s.0 i own)) × IsTrue (is_amid st me s i)
 Condition l own st me (LookReg c s found) = IsChannel l c × IsSelector l s
 -- the caller claimed i for c with this serial, still has the pin of that claim, and holds c; the key that was
 -- enrolled till now, if any, it found outside the key set
@@ -230,3 +242,12 @@ Condition l own st me (TakeFree s i found) = IsKey l s i
 Condition l own st me (Reopen c from found) =
     IsChannel l c × IsTrue (holds st me c) × IsTrue from.made × IsTrue from.closed × (from.serial < last_serial)
     × ((s : ℕ) → s < l.selectors → IsTrue (is_clear c.0 s own))
+-- the caller has a pin on i, or has begun on s
+Condition l own st me (Touch s i found) = IsKey l s i × IsTrue (has_pin st me s i || has_begun st me s)
+-- there are indexes in these 64
+Condition l own st me (LookTouched s j found) = IsSelector l s × (64 * j < l.keys)
+-- there are indexes in these 64; the caller has begun on s, and has its list
+Condition l own st me (TakeTouched s j found) =
+    IsSelector l s × (64 * j < l.keys) × IsTrue (has_begun st me s) × IsTrue (has_list st me s)
+Condition l own st me (LookIndex s i found) = IsKey l s i
+Condition l own st me (TakeList s found) = IsSelector l s

@@ -30,7 +30,7 @@ use Rattle.nio_history.specs.declared.event.Event.{Event}
 use Rattle.nio_history.specs.declared.found.Chan.{Chan}
 use Rattle.nio_history.specs.declared.found.GateWord.{GateWord}
 use Rattle.nio_history.specs.declared.found.Stage.{Stage}
-use Rattle.nio_history.specs.declared.act.Act.TheVariants.{Reopen}
+use Rattle.nio_history.specs.declared.act.Act.TheVariants.{Reopen, Touch, LookTouched, TakeTouched, LookIndex, TakeList}
 use Rattle.nio_history.specs.Sets.{was_opened, was_closed}
 use Rattle.nio_base.specs.Kind.{is_same_kind}
 use Rattle.nio_history.specs.Permanent.{channel_of_kind, channel_opened}
@@ -55,65 +55,6 @@ abbrev pub StepsLeave : Type 0
 StepsLeave = (l : Limits) (held : CallerNo → Bool) (me : CallerNo) (act : Act) (before after : List Event)
     → HistoryClause l (λ n. IsTrue (held n)) me (act ∷ []) before after
     → Leaves l (λ n. IsTrue (held n)) me act before after
-
--- ---- what a look finds
-
--- what the step finds stands there after it too
-abbrev pub is_look : Act → Bool
-is_look (DrawBit n found) = false
-is_look (MakeSelector s found) = false
-is_look (LookSelectors found) = true
-is_look (Wake s found) = false
-is_look (LookGate s found) = true
-is_look (SetInterrupt n found) = false
-is_look (TakeInterrupt found) = false
-is_look (LookInterrupt found) = true
-is_look (LookKey s i found) = true
-is_look (CancelKey s i found) = false
-is_look (LookInterest s i found) = true
-is_look (SwapInterest s i ops found) = false
-is_look (OrInterest s i ops found) = false
-is_look (AndInterest s i ops found) = false
-is_look (SwapNote s i att found) = false
-is_look (LookNote s i found) = true
-is_look (MakeChannel c kind found) = false
-is_look (LookChannel c found) = true
-is_look (Claim s i c found) = false
-is_look (RaiseKeys s n found) = false
-is_look (LookKeys s found) = true
-is_look (Publish s i found) = false
-is_look (LookReg c s found) = true
-is_look (Enrol c s i serial found) = false
-is_look (TakeTurn s found) = false
-is_look (BeginLook s found) = true
-is_look (GiveTurn s) = false
-is_look (Remove s i found) = false
-is_look (LookMark s i found) = true
-is_look (Mark s i from told found) = false
-is_look (UnselectBit s i found) = false
-is_look (EndWake s found) = false
-is_look (LookChannels found) = true
-is_look (RaiseChannels n found) = false
-is_look (TryHoldBit c found) = false
-is_look (Release c) = false
-is_look (SetMode c blocking found) = false
-is_look (CloseBit c from found) = false
-is_look (ShutBit s found) = false
-is_look (Enter s found) = true
-is_look (Pin s i found) = true
-is_look (Unpin s i) = false
-is_look (ClearMark s i found) = false
-is_look (ClaimAgain s i c from found) = false
-is_look (LookFree s j found) = true
-is_look (PutFree s i) = false
-is_look (TakeFree s i found) = false
-is_look (Reopen c from found) = false
-
--- just after a look what it found is what the state gives
-abbrev pub LooksTell : Type 0
-LooksTell = (l : Limits) (me : CallerNo) (act : Act) (past later : List Event)
-    → IsLegal l (past ++ event_of me act ∷ later)
-    → IsTrue (is_look act) → Answers (state_after (past ++ event_of me act ∷ [])) me act
 
 -- ---- what is permanent, by what a step finds
 
@@ -152,57 +93,89 @@ abbrev pub channels_high_tells : ℕ → PermanentFact → Bool
 channels_high_tells found (below_channels_high c) = nat_lt c found
 channels_high_tells found _ = false
 
--- what the step found tells that the fact stands: a gate, a channel, a stage, the word of the selectors or a
--- high-water mark. A flag or a holder tells of none here
+-- a flag, a holder, a set of operations, a mark and an attachment tell of none here
+abbrev pub nothing : PermanentFact → Bool
+nothing f = false
+
+-- ---- what is found, for each kind of step
+
+pub record FoundRow : Type 0 where
+  -- whether what the step finds stands there after it too
+  pub stands_after : Bool
+  -- which permanent facts follow from what it finds: of a gate, a channel, a stage, the word of the selectors or a
+  -- high-water mark
+  pub tells : PermanentFact → Bool
+
+abbrev pub found_row : Act → FoundRow
+found_row (DrawBit n found) = record { stands_after = false; tells = nothing }
+found_row (MakeSelector s found) = record { stands_after = false; tells = nothing }
+found_row (LookSelectors found) = record { stands_after = true; tells = selectors_tell found }
+found_row (Wake s found) = record { stands_after = false; tells = nothing }
+found_row (LookGate s found) = record { stands_after = true; tells = gate_tells s.0 found }
+found_row (SetInterrupt n found) = record { stands_after = false; tells = nothing }
+found_row (TakeInterrupt found) = record { stands_after = false; tells = nothing }
+found_row (LookInterrupt found) = record { stands_after = true; tells = nothing }
+found_row (LookKey s i found) = record { stands_after = true; tells = stage_tells s.0 i found }
+found_row (CancelKey s i found) = record { stands_after = false; tells = stage_tells s.0 i found }
+found_row (LookInterest s i found) = record { stands_after = true; tells = nothing }
+found_row (SwapInterest s i ops found) = record { stands_after = false; tells = nothing }
+found_row (OrInterest s i ops found) = record { stands_after = false; tells = nothing }
+found_row (AndInterest s i ops found) = record { stands_after = false; tells = nothing }
+found_row (SwapNote s i att found) = record { stands_after = false; tells = nothing }
+found_row (LookNote s i found) = record { stands_after = true; tells = nothing }
+found_row (MakeChannel c kind found) = record { stands_after = false; tells = nothing }
+found_row (LookChannel c found) = record { stands_after = true; tells = channel_tells c.0 found }
+found_row (Claim s i c found) = record { stands_after = false; tells = nothing }
+found_row (RaiseKeys s n found) = record { stands_after = false; tells = keys_high_tells s.0 found }
+found_row (LookKeys s found) = record { stands_after = true; tells = keys_high_tells s.0 found }
+found_row (Publish s i found) = record { stands_after = false; tells = stage_tells s.0 i found }
+found_row (LookReg c s found) = record { stands_after = true; tells = nothing }
+found_row (Enrol c s i serial found) = record { stands_after = false; tells = nothing }
+found_row (TakeTurn s found) = record { stands_after = false; tells = nothing }
+found_row (BeginLook s found) = record { stands_after = true; tells = gate_tells s.0 found }
+found_row (GiveTurn s) = record { stands_after = false; tells = nothing }
+found_row (Remove s i found) = record { stands_after = false; tells = stage_tells s.0 i found }
+found_row (LookMark s i found) = record { stands_after = true; tells = nothing }
+found_row (Mark s i from told found) = record { stands_after = false; tells = nothing }
+found_row (UnselectBit s i found) = record { stands_after = false; tells = nothing }
+found_row (EndWake s found) = record { stands_after = false; tells = gate_tells s.0 found }
+found_row (LookChannels found) = record { stands_after = true; tells = channels_high_tells found }
+found_row (RaiseChannels n found) = record { stands_after = false; tells = channels_high_tells found }
+found_row (TryHoldBit c found) = record { stands_after = false; tells = nothing }
+found_row (Release c) = record { stands_after = false; tells = nothing }
+found_row (SetMode c blocking found) = record { stands_after = false; tells = channel_tells c.0 found }
+found_row (CloseBit c from found) = record { stands_after = false; tells = channel_tells c.0 found }
+found_row (ShutBit s found) = record { stands_after = false; tells = nothing }
+found_row (Enter s found) = record { stands_after = true; tells = nothing }
+found_row (Pin s i found) = record { stands_after = true; tells = stage_tells s.0 i found }
+found_row (Unpin s i) = record { stands_after = false; tells = nothing }
+found_row (ClearMark s i found) = record { stands_after = false; tells = nothing }
+found_row (ClaimAgain s i c from found) = record { stands_after = false; tells = nothing }
+found_row (LookFree s j found) = record { stands_after = true; tells = nothing }
+found_row (PutFree s i) = record { stands_after = false; tells = nothing }
+found_row (TakeFree s i found) = record { stands_after = false; tells = nothing }
+found_row (Reopen c from found) = record { stands_after = false; tells = nothing }
+found_row (Touch s i found) = record { stands_after = false; tells = nothing }
+found_row (LookTouched s j found) = record { stands_after = true; tells = nothing }
+found_row (TakeTouched s j found) = record { stands_after = false; tells = nothing }
+found_row (LookIndex s i found) = record { stands_after = true; tells = stage_tells s.0 i found.stage }
+found_row (TakeList s found) = record { stands_after = false; tells = nothing }
+
+-- what the step finds stands there after it too
+abbrev pub is_look : Act → Bool
+is_look act = (found_row act).stands_after
+
+-- what the step found tells that the fact stands
 abbrev pub finds : Act → PermanentFact → Bool
-finds (DrawBit n found) f = false
-finds (MakeSelector s found) f = false
-finds (LookSelectors found) f = selectors_tell found f
-finds (Wake s found) f = false
-finds (LookGate s found) f = gate_tells s.0 found f
-finds (SetInterrupt n found) f = false
-finds (TakeInterrupt found) f = false
-finds (LookInterrupt found) f = false
-finds (LookKey s i found) f = stage_tells s.0 i found f
-finds (CancelKey s i found) f = stage_tells s.0 i found f
-finds (LookInterest s i found) f = false
-finds (SwapInterest s i ops found) f = false
-finds (OrInterest s i ops found) f = false
-finds (AndInterest s i ops found) f = false
-finds (SwapNote s i att found) f = false
-finds (LookNote s i found) f = false
-finds (MakeChannel c kind found) f = false
-finds (LookChannel c found) f = channel_tells c.0 found f
-finds (Claim s i c found) f = false
-finds (RaiseKeys s n found) f = keys_high_tells s.0 found f
-finds (LookKeys s found) f = keys_high_tells s.0 found f
-finds (Publish s i found) f = stage_tells s.0 i found f
-finds (LookReg c s found) f = false
-finds (Enrol c s i serial found) f = false
-finds (TakeTurn s found) f = false
-finds (BeginLook s found) f = gate_tells s.0 found f
-finds (GiveTurn s) f = false
-finds (Remove s i found) f = stage_tells s.0 i found f
-finds (LookMark s i found) f = false
-finds (Mark s i from told found) f = false
-finds (UnselectBit s i found) f = false
-finds (EndWake s found) f = gate_tells s.0 found f
-finds (LookChannels found) f = channels_high_tells found f
-finds (RaiseChannels n found) f = channels_high_tells found f
-finds (TryHoldBit c found) f = false
-finds (Release c) f = false
-finds (SetMode c blocking found) f = channel_tells c.0 found f
-finds (CloseBit c from found) f = channel_tells c.0 found f
-finds (ShutBit s found) f = false
-finds (Enter s found) f = false
-finds (Pin s i found) f = stage_tells s.0 i found f
-finds (Unpin s i) f = false
-finds (ClearMark s i found) f = false
-finds (ClaimAgain s i c from found) f = false
-finds (LookFree s j found) f = false
-finds (PutFree s i) f = false
-finds (TakeFree s i found) f = false
-finds (Reopen c from found) f = false
+finds act f = (found_row act).tells f
+
+-- ---- the laws
+
+-- just after a look what it found is what the state gives
+abbrev pub LooksTell : Type 0
+LooksTell = (l : Limits) (me : CallerNo) (act : Act) (past later : List Event)
+    → IsLegal l (past ++ event_of me act ∷ later)
+    → IsTrue (is_look act) → Answers (state_after (past ++ event_of me act ∷ [])) me act
 
 -- whatever a caller found so, whenever that was, stands
 abbrev pub FoundStands : Type 0

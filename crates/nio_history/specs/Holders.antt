@@ -15,9 +15,9 @@ use Rattle.nio_history.specs.OwnEvents.{has, last, sets_mode, enrols_key, publis
 use Rattle.nio_history.specs.OwnEvents.{is_clear}
 use Rattle.nio_history.specs.Pins.{removes}
 use Rattle.nio_history.specs.Sets.{is_in_key_set}
-use Rattle.nio_history.specs.Turns.{selects_on}
+use Rattle.nio_history.specs.Turns.{selects_on, ends_wakeup}
 use Rattle.nio_history.specs.declared.act.Act.{Act}
-use Rattle.nio_history.specs.declared.act.Act.TheVariants.{Mark, EndWake}
+use Rattle.nio_history.specs.declared.act.Act.TheVariants.{Mark}
 use Rattle.nio_history.specs.declared.event.Event.{Event}
 use Rattle.nio_history.specs.declared.found.Mark.{Mark as KeyMark}
 use Rattle.nio_history.specs.OwnEvents.{reopens}
@@ -100,11 +100,6 @@ ClearIsTrue = (l : Limits) (n : CallerNo) (c : ChanNo) (events : List Event) →
 abbrev pub marks : ℕ → ℕ → Act → Bool
 marks s i (Mark s' i' from told found) = (s'.0 == s) && (i' == i)
 marks s i _ = false
-
--- it ended the wakeup of selector s
-abbrev pub ends_wakeup : ℕ → Act → Bool
-ends_wakeup s (EndWake s' found) = s'.0 == s
-ends_wakeup s _ = false
 
 -- all marks and removals of keys of the selector, and all ends of its wakeup, are the caller's own
 abbrev pub SelectsAlone : Type 0

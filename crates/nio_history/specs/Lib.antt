@@ -14,5 +14,8 @@ pub mod Turns
 pub mod Pins
 pub mod Holders
 pub mod Found
+pub mod Lists
+pub mod Spans
+pub mod WhatIsFound
 pub mod Worked
 pub mod Timeout

@@ -15,7 +15,7 @@ use Rattle.nio_history.specs.declared.act.Act.TheVariants.{LookKey, LookChannel,
 use Rattle.nio_history.specs.declared.act.Act.TheVariants.{GiveTurn, TryHoldBit, Release, SetMode, Enter, Publish, Pin}
 use Rattle.nio_history.specs.declared.act.Act.TheVariants.{Unpin, ClaimAgain, PutFree, TakeFree}
 use Rattle.nio_history.specs.declared.found.Stage.{Stage}
-use Rattle.nio_history.specs.declared.act.Act.TheVariants.{Reopen, CloseBit}
+use Rattle.nio_history.specs.declared.act.Act.TheVariants.{Reopen, CloseBit, Touch, LookIndex, TakeList}
 
 -- ---- general words
 
@@ -30,6 +30,10 @@ count p own = count_by p own
 -- the answer of `tells` for the latest act that it has an answer for; None where it has none for any act
 abbrev pub last : {A : Type 0} → (Act → Option A) → List Act → Option A
 last tells own = fold (λ told act. option_or (tells act) told) None own
+
+-- the same for the first such act
+abbrev pub first : {A : Type 0} → (Act → Option A) → List Act → Option A
+first tells own = fold (λ told act. option_or told (tells act)) None own
 
 -- what it did after the last act that opens a span, or all that it did where none does
 abbrev pub since_from : (Act → Bool) → List Act → List Act
@@ -101,6 +105,7 @@ sets_mode c _ = false
 abbrev pub stage_found : ℕ → ℕ → Act → Option Stage
 stage_found s i (LookKey s' i' found) = if (s'.0 == s) && (i' == i) then Some found else None
 stage_found s i (Pin s' i' found) = if (s'.0 == s) && (i' == i) then Some found else None
+stage_found s i (LookIndex s' i' found) = if (s'.0 == s) && (i' == i) then Some found.stage else None
 stage_found s i _ = None
 
 abbrev pub is_outside : ℕ → Option Stage → Bool
@@ -157,6 +162,33 @@ pin_changed s i _ = None
 -- it pinned or claimed index i of selector s, and didn't take the pin off since
 abbrev pub keeps_pin : ℕ → ℕ → List Act → Bool
 keeps_pin s i own = is_yes (last (pin_changed s i) own)
+
+-- it pinned index i of selector s, or claimed it, which pins it too
+abbrev pub pins_index : ℕ → ℕ → Act → Bool
+pins_index s i (Pin s' i' found) = (s'.0 == s) && (i' == i)
+pins_index s i (Claim s' i' c false) = (s'.0 == s) && (i' == i)
+pins_index s i (ClaimAgain s' i' c from false) = (s'.0 == s) && (i' == i)
+pins_index s i _ = false
+
+-- it touched index i of selector s
+abbrev pub touches : ℕ → ℕ → Act → Bool
+touches s i (Touch s' i' found) = (s'.0 == s) && (i' == i)
+touches s i _ = false
+
+-- what it did since it pinned the index last
+abbrev pub since_pinned : ℕ → ℕ → List Act → List Act
+since_pinned s i own = since_from (pins_index s i) own
+
+-- it has a pin on index i of selector s, and touched it since it pinned it
+abbrev pub keeps_touch : ℕ → ℕ → List Act → Bool
+keeps_touch s i own = keeps_pin s i own && has (touches s i) (since_pinned s i own)
+
+-- ---- a list that it took
+
+-- it took the list of selector s
+abbrev pub takes_list : ℕ → Act → Bool
+takes_list s (TakeList s' None) = s'.0 == s
+takes_list s _ = false
 
 -- ---- a free index that it took
 

@@ -4,7 +4,7 @@ use Rattle.std.specs.Prelude.{ℕ, nat_lt, Bool}
 use Rattle.nio_base.specs.declared.numbers.CallerNo.{CallerNo}
 use Rattle.nio_base.specs.declared.numbers.ChanNo.{ChanNo}
 use Rattle.nio_base.specs.declared.numbers.SelNo.{SelNo}
-use Rattle.nio_history.specs.Conditions.{holds, has_turn, has_begun, is_closer, has_pin, has_taken}
+use Rattle.nio_history.specs.Conditions.{holds, has_turn, has_begun, is_closer, has_pin, has_taken, has_list, is_amid}
 use Rattle.nio_history.specs.OwnEvents.{gives_turn, releases, unpins, gives_index}
 use Rattle.nio_history.specs.Sets.{was_claimed, was_published, was_cancelled, was_removed}
 use Rattle.nio_history.specs.State.{State}
@@ -33,6 +33,7 @@ pub data PermanentFact : Type 0 where
   key_removed : ℕ → ℕ → ℕ → PermanentFact
   below_keys_high : ℕ → ℕ → PermanentFact
   below_channels_high : ℕ → PermanentFact
+  list_had_by : SelNo → CallerNo → PermanentFact
 
 abbrev pub stands : PermanentFact → State → Bool
 stands (caller_drawn n) st = st.drawn n
@@ -51,6 +52,7 @@ stands (key_cancelled s i serial) st = was_cancelled (st.key s i) serial
 stands (key_removed s i serial) st = was_removed (st.key s i) serial
 stands (below_keys_high s i) st = nat_lt i (st.keys_high s)
 stands (below_channels_high c) st = nat_lt c st.channels_high
+stands (list_had_by s n) st = has_list st n s
 
 -- what a caller has until it gives it back itself
 pub data OwnFact : Type 0 where
@@ -59,6 +61,7 @@ pub data OwnFact : Type 0 where
   the_hold : ChanNo → OwnFact
   a_pin : SelNo → ℕ → OwnFact
   a_taken_index : SelNo → ℕ → OwnFact
+  a_change : SelNo → ℕ → OwnFact
 
 abbrev pub is_had_by : CallerNo → OwnFact → State → Bool
 is_had_by n (the_turn s) st = has_turn st n s
@@ -66,6 +69,7 @@ is_had_by n (a_selection s) st = has_begun st n s
 is_had_by n (the_hold c) st = holds st n c
 is_had_by n (a_pin s i) st = has_pin st n s i
 is_had_by n (a_taken_index s i) st = has_taken st n s i
+is_had_by n (a_change s i) st = is_amid st n s i
 
 -- the act by which it gives that back
 abbrev pub gives_back : OwnFact → Act → Bool
@@ -74,3 +78,4 @@ gives_back (a_selection s) act = gives_turn s.0 act
 gives_back (the_hold c) act = releases c.0 act
 gives_back (a_pin s i) act = unpins s.0 i act
 gives_back (a_taken_index s i) act = gives_index s.0 i act
+gives_back (a_change s i) act = unpins s.0 i act

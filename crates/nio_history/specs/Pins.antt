@@ -8,10 +8,10 @@ use Rattle.nio_base.specs.declared.numbers.CallerNo.{CallerNo}
 use Rattle.nio_base.specs.declared.numbers.ChanNo.{ChanNo}
 use Rattle.nio_base.specs.declared.numbers.KeyId.{KeyId}
 use Rattle.nio_base.specs.declared.numbers.SelNo.{SelNo}
-use Rattle.nio_history.specs.Conditions.{has_pin, has_taken, has_begun}
+use Rattle.nio_history.specs.Conditions.{has_pin, has_taken, has_begun, is_amid, has_list}
 use Rattle.nio_history.specs.Histories.{state_after, event_of, mine, IsLegal}
 use Rattle.nio_history.specs.OwnEvents.{OwnClaim, has, own_claim, is_unpublished, keeps_pin, keeps_taken, unpins}
-use Rattle.nio_history.specs.OwnEvents.{gives_turn}
+use Rattle.nio_history.specs.OwnEvents.{gives_turn, keeps_touch, takes_list}
 use Rattle.nio_history.specs.Sets.{was_claimed, can_come_back}
 use Rattle.nio_history.specs.declared.act.Act.{Act}
 use Rattle.nio_history.specs.declared.act.Act.TheVariants.{ClaimAgain, Remove}
@@ -33,6 +33,16 @@ PinsAreOwn = (l : Limits) (n : CallerNo) (s : SelNo) (i : ℕ) (events : List Ev
 abbrev pub TakenIsOwn : Type 0
 TakenIsOwn = (l : Limits) (n : CallerNo) (s : SelNo) (i : ℕ) (events : List Event) → IsLegal l events
     → has_taken (state_after events) n s i ≡ keeps_taken s.0 i (mine n events)
+
+-- a caller is amid a change of an index where it has a pin on it, and touched it since it pinned it
+abbrev pub ChangesAreOwn : Type 0
+ChangesAreOwn = (l : Limits) (n : CallerNo) (s : SelNo) (i : ℕ) (events : List Event) → IsFit l → IsLegal l events
+    → is_amid (state_after events) n s i ≡ keeps_touch s.0 i (mine n events)
+
+-- a caller has the list of a selector where it took it
+abbrev pub ListsAreOwn : Type 0
+ListsAreOwn = (l : Limits) (n : CallerNo) (s : SelNo) (events : List Event) → IsLegal l events
+    → has_list (state_after events) n s ≡ has (takes_list s.0) (mine n events)
 
 -- from a pin until the same caller takes it off the index keeps its key, whatever others do
 abbrev pub PinnedKeysStay : Type 0

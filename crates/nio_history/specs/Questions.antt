@@ -23,9 +23,10 @@ use Rattle.nio_history.specs.declared.act.Act.TheVariants.{Enter, Pin, Unpin, Cl
 use Rattle.nio_history.specs.declared.act.Act.TheVariants.{TakeFree}
 use Rattle.nio_history.specs.declared.found.Chan.{Chan}
 use Rattle.nio_history.specs.declared.found.GateWord.{GateWord}
+use Rattle.nio_history.specs.declared.found.IndexWord.{IndexWord}
 use Rattle.nio_history.specs.declared.found.Mark.{Mark as KeyMark}
 use Rattle.nio_history.specs.declared.found.Stage.{Stage}
-use Rattle.nio_history.specs.declared.act.Act.TheVariants.{Reopen}
+use Rattle.nio_history.specs.declared.act.Act.TheVariants.{Reopen, Touch, LookTouched, TakeTouched, LookIndex, TakeList}
 
 -- a kind of step with its parameters
 pub data Question : Type 0 where
@@ -77,6 +78,11 @@ pub data Question : Type 0 where
   put_free : SelNo → ℕ → Question
   take_free : SelNo → ℕ → Question
   reopen : ChanNo → Chan → Question
+  touch : SelNo → ℕ → Question
+  look_touched : SelNo → ℕ → Question
+  take_touched : SelNo → ℕ → Question
+  look_index : SelNo → ℕ → Question
+  take_list : SelNo → Question
 
 -- what a step finds: one constructor for each type of answer
 pub data Answer : Type 0 where
@@ -91,6 +97,7 @@ pub data Answer : Type 0 where
   holder : Option CallerNo → Answer
   key_mark : KeyMark → Answer
   exchange : Result (Unit {0}) KeyMark → Answer
+  index_word : IndexWord → Answer
   nothing : Answer
 
 -- the kind of a step and its parameters
@@ -143,6 +150,11 @@ question_of (LookFree s j found) = look_free s j
 question_of (PutFree s i) = put_free s i
 question_of (TakeFree s i found) = take_free s i
 question_of (Reopen c from found) = reopen c from
+question_of (Touch s i found) = touch s i
+question_of (LookTouched s j found) = look_touched s j
+question_of (TakeTouched s j found) = take_touched s j
+question_of (LookIndex s i found) = look_index s i
+question_of (TakeList s found) = take_list s
 
 -- what a step found
 abbrev pub answer_of : Act → Answer
@@ -194,3 +206,8 @@ answer_of (LookFree s j found) = word found
 answer_of (PutFree s i) = nothing
 answer_of (TakeFree s i found) = flag found
 answer_of (Reopen c from found) = flag found
+answer_of (Touch s i found) = flag found
+answer_of (LookTouched s j found) = word found
+answer_of (TakeTouched s j found) = word found
+answer_of (LookIndex s i found) = index_word found
+answer_of (TakeList s found) = holder found

@@ -36,6 +36,8 @@ pub record IsSound (st : State) : Type 0 where
   pub taken_not_due : (s i : ℕ) → IsTrue (is_some (st.taker s i)) → IsFalse (st.put_due s i)
   -- an index is still to be put while the selection that removed its key is in progress
   pub due_begun : (s i : ℕ) → IsTrue (st.put_due s i) → IsTrue (st.begun s)
+  -- a caller that is amid a change of an index has a pin on it
+  pub amid_pinned : (s i n : ℕ) → IsTrue (st.amid s i n) → IsTrue (st.pinned s i n)
 
 -- every number that the state speaks of is within the limits
 pub record IsWithin (l : Limits) (st : State) : Type 0 where
@@ -58,3 +60,6 @@ pub record IsWithin (l : Limits) (st : State) : Type 0 where
   -- who has a pin, or has taken an index
   pub pins : (s i n : ℕ) → IsTrue (st.pinned s i n) → n < l.callers
   pub takers : (s i : ℕ) → ForSome (st.taker s i) (IsCaller l)
+  -- an index that is touched, and who has a list
+  pub touched : (s i : ℕ) → IsTrue (st.touched s i) → (s < l.selectors) × (i < l.keys)
+  pub listers : (s : ℕ) → ForSome (st.lister s) (IsCaller l)

@@ -3,7 +3,7 @@
 -- Each part is a function of the numbers that name it, so that there are no lengths to speak of: what
 -- nothing was done to holds the opening value. A part has one setter, below, which changes it at one
 -- number and nowhere else. `docs/READING.md` says how to read the definitions of this folder, and in which order.
-use Rattle.std.specs.Prelude.{ℕ, ◌==◌, Bool, false, ◌&&◌, if◌then◌else◌, Option, None}
+use Rattle.std.specs.Prelude.{ℕ, ◌/◌, ◌==◌, Bool, false, ◌&&◌, if◌then◌else◌, Option, None}
 use Rattle.nio_base.specs.declared.kind.Kind.TheVariants.{Stream}
 use Rattle.nio_base.specs.declared.numbers.CallerNo.{CallerNo}
 use Rattle.nio_base.specs.declared.numbers.KeyId.{KeyId}
@@ -41,6 +41,11 @@ pub record State : Type 0 where
   pub pinned : ℕ → ℕ → ℕ → Bool
   -- whether an index is free: it can be given to a new key
   pub free : ℕ → ℕ → Bool
+  -- whether an index is touched: since the bit was last taken somebody was about to change what a selection looks at
+  pub touched : ℕ → ℕ → Bool
+  -- the caller that has a selector's list, for good: it takes the bits of touched indexes, and knows of the others what
+  -- it found when it looked at them last
+  pub lister : ℕ → Option CallerNo
   -- What stands in no word of a table. Of a selector: whether the selecting caller found the gate not
   -- shut after it took its turn, the caller whose step shut the selector, and whether that caller
   -- found the turn free after that.
@@ -52,6 +57,9 @@ pub record State : Type 0 where
   -- hasn't put the index yet.
   pub taker : ℕ → ℕ → Option CallerNo
   pub put_due : ℕ → ℕ → Bool
+  -- Of an index and a caller: whether the caller is amid a change there. It has a pin on the index, and touched it
+  -- since it pinned it.
+  pub amid : ℕ → ℕ → ℕ → Bool
 
 -- what isn't there yet
 
@@ -96,11 +104,14 @@ opening = record {
   note = λ _ _. 0;
   pinned = λ _ _ _. false;
   free = λ _ _. false;
+  touched = λ _ _. false;
+  lister = λ _. None;
   begun = λ _. false;
   closer = λ _. None;
   entered = λ _. false;
   taker = λ _ _. None;
   put_due = λ _ _. false;
+  amid = λ _ _ _. false;
 }
 
 -- a function that is changed at one number, or at one pair of numbers
@@ -161,6 +172,16 @@ with_pin st s i n x = record st { pinned = put_at st.pinned s i (put (st.pinned 
 abbrev pub with_free : State → ℕ → ℕ → Bool → State
 with_free st s i x = record st { free = put_at st.free s i x }
 
+abbrev pub with_touched : State → ℕ → ℕ → Bool → State
+with_touched st s i x = record st { touched = put_at st.touched s i x }
+
+-- none of the 64 indexes from 64 times j on is touched
+abbrev pub with_none_touched : State → ℕ → ℕ → State
+with_none_touched st s j = record st { touched = λ t i. if (t == s) && (i / 64 == j) then false else st.touched t i }
+
+abbrev pub with_lister : State → ℕ → Option CallerNo → State
+with_lister st s x = record st { lister = put st.lister s x }
+
 abbrev pub with_begun : State → ℕ → Bool → State
 with_begun st s x = record st { begun = put st.begun s x }
 
@@ -179,3 +200,6 @@ with_put_due st s i x = record st { put_due = put_at st.put_due s i x }
 -- the selection on the selector is over: no index is to be put by it any more
 abbrev pub with_no_put_due : State → ℕ → State
 with_no_put_due st s = record st { put_due = λ t i. if t == s then false else st.put_due t i }
+
+abbrev pub with_amid : State → ℕ → ℕ → ℕ → Bool → State
+with_amid st s i n x = record st { amid = put_at st.amid s i (put (st.amid s i) n x) }

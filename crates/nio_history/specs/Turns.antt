@@ -8,79 +8,28 @@ use Rattle.nio_history.specs.Conditions.{holds, has_begun, has_entered}
 use Rattle.nio_history.specs.Histories.{state_after, event_of, mine, IsLegal}
 use Rattle.nio_history.specs.OwnEvents.{has, under, finds_unblocked, sets_mode, gives_turn, releases}
 use Rattle.nio_history.specs.declared.act.Act.{Act}
-use Rattle.nio_history.specs.declared.act.Act.TheVariants.{DrawBit, MakeSelector, LookSelectors, Wake, LookGate}
-use Rattle.nio_history.specs.declared.act.Act.TheVariants.{SetInterrupt, TakeInterrupt, LookInterrupt, LookKey}
-use Rattle.nio_history.specs.declared.act.Act.TheVariants.{CancelKey}
-use Rattle.nio_history.specs.declared.act.Act.TheVariants.{LookInterest, SwapInterest, OrInterest, AndInterest}
-use Rattle.nio_history.specs.declared.act.Act.TheVariants.{SwapNote}
-use Rattle.nio_history.specs.declared.act.Act.TheVariants.{LookNote, MakeChannel, LookChannel, Claim, RaiseKeys}
-use Rattle.nio_history.specs.declared.act.Act.TheVariants.{LookKeys}
-use Rattle.nio_history.specs.declared.act.Act.TheVariants.{Publish, LookReg, Enrol, TakeTurn, BeginLook, GiveTurn}
-use Rattle.nio_history.specs.declared.act.Act.TheVariants.{Remove}
-use Rattle.nio_history.specs.declared.act.Act.TheVariants.{LookMark, Mark, UnselectBit, EndWake, LookChannels}
-use Rattle.nio_history.specs.declared.act.Act.TheVariants.{RaiseChannels, TryHoldBit, Release, SetMode, CloseBit}
-use Rattle.nio_history.specs.declared.act.Act.TheVariants.{ShutBit}
-use Rattle.nio_history.specs.declared.act.Act.TheVariants.{Enter, Pin, Unpin, ClearMark, ClaimAgain, LookFree, PutFree}
-use Rattle.nio_history.specs.declared.act.Act.TheVariants.{TakeFree}
+use Rattle.nio_history.specs.declared.act.Act.TheVariants.{TakeTurn, BeginLook, Remove, Mark, EndWake, TryHoldBit}
 use Rattle.nio_history.specs.declared.event.Event.{Event}
 use Rattle.nio_history.specs.declared.found.GateWord.{GateWord}
-use Rattle.nio_history.specs.declared.act.Act.TheVariants.{Reopen}
-
--- what only the selecting caller does to selector s: it marks and removes keys and ends the wakeup
-abbrev pub selects_on : ℕ → Act → Bool
-selects_on s (DrawBit n found) = false
-selects_on s (MakeSelector s' found) = false
-selects_on s (LookSelectors found) = false
-selects_on s (Wake s' found) = false
-selects_on s (LookGate s' found) = false
-selects_on s (SetInterrupt n found) = false
-selects_on s (TakeInterrupt found) = false
-selects_on s (LookInterrupt found) = false
-selects_on s (LookKey s' i found) = false
-selects_on s (CancelKey s' i found) = false
-selects_on s (LookInterest s' i found) = false
-selects_on s (SwapInterest s' i ops found) = false
-selects_on s (OrInterest s' i ops found) = false
-selects_on s (AndInterest s' i ops found) = false
-selects_on s (SwapNote s' i att found) = false
-selects_on s (LookNote s' i found) = false
-selects_on s (MakeChannel c kind found) = false
-selects_on s (LookChannel c found) = false
-selects_on s (Claim s' i c found) = false
-selects_on s (RaiseKeys s' n found) = false
-selects_on s (LookKeys s' found) = false
-selects_on s (Publish s' i found) = false
-selects_on s (LookReg c s' found) = false
-selects_on s (Enrol c s' i serial found) = false
-selects_on s (TakeTurn s' found) = false
-selects_on s (BeginLook s' found) = false
-selects_on s (GiveTurn s') = false
-selects_on s (Remove s' i found) = s'.0 == s
-selects_on s (LookMark s' i found) = false
-selects_on s (Mark s' i from told found) = s'.0 == s
-selects_on s (UnselectBit s' i found) = false
-selects_on s (EndWake s' found) = s'.0 == s
-selects_on s (LookChannels found) = false
-selects_on s (RaiseChannels n found) = false
-selects_on s (TryHoldBit c found) = false
-selects_on s (Release c) = false
-selects_on s (SetMode c blocking found) = false
-selects_on s (CloseBit c from found) = false
-selects_on s (ShutBit s' found) = false
-selects_on s (Enter s' found) = false
-selects_on s (Pin s' i found) = false
-selects_on s (Unpin s' i) = false
-selects_on s (ClearMark s' i found) = false
-selects_on s (ClaimAgain s' i c from found) = false
-selects_on s (LookFree s' j found) = false
-selects_on s (PutFree s' i) = false
-selects_on s (TakeFree s' i found) = false
-selects_on s (Reopen c from found) = false
 
 -- it removes a key of selector s
 abbrev pub removes_on : ℕ → Act → Bool
 removes_on s (Remove s' i found) = s'.0 == s
 removes_on s _ = false
+
+-- it makes a `mark` of a key of selector s, which succeeds or not
+abbrev pub marks_at : ℕ → Act → Bool
+marks_at s (Mark s' i from told found) = s'.0 == s
+marks_at s _ = false
+
+-- it ends the wakeup of selector s
+abbrev pub ends_wakeup : ℕ → Act → Bool
+ends_wakeup s (EndWake s' found) = s'.0 == s
+ends_wakeup s _ = false
+
+-- what only the selecting caller does to selector s: it marks and removes keys and ends the wakeup
+abbrev pub selects_on : ℕ → Act → Bool
+selects_on s act = removes_on s act || marks_at s act || ends_wakeup s act
 
 -- whoever took the turn of a selector gives it back before anybody takes it again
 abbrev pub TurnHasOneHolder : Type 0

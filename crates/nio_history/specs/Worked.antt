@@ -1,6 +1,6 @@
--- A worked history, in which each kind of step stands: two callers register a channel, select, cancel its
--- key in the middle of the selection, claim its index again, close the channel and the selector, and give the
--- channel's number to a new one.
+-- A worked history, in which each kind of step stands: two callers register a channel, select, by the selector's
+-- list too, cancel the channel's key in the middle of the selection, claim its index again, close the channel and the
+-- selector, and give the channel's number to a new one.
 use Rattle.std.specs.Prelude.{ℕ, Bool, true, false, Some, None, Ok, Err, List, [], ◌∷◌, take, ⊤}
 use Rattle.nio_base.specs.declared.kind.Kind.TheVariants.{Stream, Source}
 use Rattle.nio_base.specs.declared.limits.Limits.{Limits}
@@ -28,7 +28,8 @@ use Rattle.nio_history.specs.declared.found.Chan.{Chan}
 use Rattle.nio_history.specs.declared.found.GateWord.{GateWord}
 use Rattle.nio_history.specs.declared.found.Mark.{Mark as KeyMark}
 use Rattle.nio_history.specs.declared.found.Stage.{Stage}
-use Rattle.nio_history.specs.declared.act.Act.TheVariants.{Reopen}
+use Rattle.nio_history.specs.declared.act.Act.TheVariants.{Reopen, Touch, LookTouched, TakeTouched, LookIndex, TakeList}
+use Rattle.nio_history.specs.declared.found.IndexWord.{IndexWord}
 
 -- two callers, one selector with one key, one channel
 abbrev pub small_limits : Limits
@@ -69,6 +70,9 @@ stage serial published cancelled removed = record {
 abbrev pub enrolled : ℕ → ℕ → KeyId
 enrolled index serial = record { index = index; serial = serial }
 
+abbrev pub index : Stage → Bool → IndexWord
+index found pinned = record { stage = found; pinned = pinned }
+
 abbrev pub mark : Bool → ℕ → KeyMark
 mark selected ready = record { selected = selected; ready = ready }
 
@@ -100,6 +104,7 @@ worked_history =
     event_of u (Claim s 0 c false) ∷
     event_of u (RaiseKeys s 1 0) ∷
     event_of u (LookGate s (gate false false)) ∷
+    event_of u (Touch s 0 false) ∷
     event_of u (SwapInterest s 0 1 0) ∷
     event_of u (SwapNote s 0 7 0) ∷
     event_of u (Enrol c s 0 0 None) ∷
@@ -109,6 +114,7 @@ worked_history =
     event_of u (Release c) ∷
     -- under a pin it changes the interest set to and fro
     event_of u (Pin s 0 (stage 0 true false false)) ∷
+    event_of u (Touch s 0 true) ∷
     event_of u (OrInterest s 0 4 1) ∷
     event_of u (AndInterest s 0 1 5) ∷
     event_of u (LookNote s 0 7) ∷
@@ -119,11 +125,18 @@ worked_history =
     event_of u (BeginLook s (gate false false)) ∷
     event_of u (LookKeys s 1) ∷
     event_of u (LookFree s 0 0) ∷
+    -- it takes the selector's list, which caller 1 finds taken, and the bit of index 0, and looks there
+    event_of u (TakeList s None) ∷
+    event_of v (TakeList s (Some u)) ∷
+    event_of u (LookTouched s 0 1) ∷
+    event_of u (TakeTouched s 0 1) ∷
+    event_of u (LookIndex s 0 (index (stage 0 true false false) false)) ∷
     event_of u (LookKey s 0 (stage 0 true false false)) ∷
     event_of u (LookInterest s 0 1) ∷
     -- caller 1 wakes it, and cancels the key under a pin, which it keeps
     event_of v (Wake s false) ∷
     event_of v (Pin s 0 (stage 0 true false false)) ∷
+    event_of v (Touch s 0 false) ∷
     event_of v (CancelKey s 0 (stage 0 true false false)) ∷
     -- it is told of the key twice, and ends the selection: the key is removed, and its index becomes free
     event_of u (LookMark s 0 (mark false 0)) ∷
@@ -133,6 +146,7 @@ worked_history =
     event_of u (LookMark s 0 (mark true 5)) ∷
     event_of u (LookGate s (gate true false)) ∷
     event_of u (LookInterrupt false) ∷
+    event_of u (LookTouched s 0 1) ∷
     event_of u (LookKey s 0 (stage 0 true true false)) ∷
     event_of u (Remove s 0 (stage 0 true true false)) ∷
     event_of u (PutFree s 0) ∷
@@ -162,6 +176,7 @@ worked_history =
     event_of u (ClaimAgain s 0 c (stage 0 true true true) false) ∷
     event_of u (ClearMark s 0 (mark false 5)) ∷
     event_of u (LookGate s (gate false false)) ∷
+    event_of u (Touch s 0 true) ∷
     event_of u (SwapInterest s 0 1 1) ∷
     event_of u (SwapNote s 0 0 7) ∷
     event_of u (Enrol c s 0 1 (Some (enrolled 0 0))) ∷
@@ -172,17 +187,24 @@ worked_history =
     -- it cancels this key too, and a selection removes it
     event_of u (Pin s 0 (stage 1 true false false)) ∷
     event_of u (LookMark s 0 (mark false 0)) ∷
+    event_of u (Touch s 0 true) ∷
     event_of u (CancelKey s 0 (stage 1 true false false)) ∷
     event_of u (Unpin s 0) ∷
+    event_of v (Pin s 0 (stage 1 true true false)) ∷
     event_of u (TakeTurn s None) ∷
     event_of u (BeginLook s (gate false false)) ∷
     event_of u (LookKeys s 1) ∷
     event_of u (LookFree s 0 0) ∷
+    -- it finds the index pinned by caller 1, so it touches it again
+    event_of u (TakeTouched s 0 1) ∷
+    event_of u (LookIndex s 0 (index (stage 1 true true false) true)) ∷
+    event_of u (Touch s 0 false) ∷
     event_of u (LookKey s 0 (stage 1 true true false)) ∷
     event_of u (Remove s 0 (stage 1 true true false)) ∷
     event_of u (PutFree s 0) ∷
     event_of u (EndWake s (gate false false)) ∷
     event_of u (GiveTurn s) ∷
+    event_of v (Unpin s 0) ∷
     -- caller 1 sets blocking mode again: the enrolled key is removed
     event_of v (TryHoldBit c None) ∷
     event_of v (LookReg c s (Some (enrolled 0 1))) ∷
@@ -229,59 +251,71 @@ refused_events =
     -- what a step finds is what stands there
     (19, event_of u (Claim s 0 c true)) ∷
     -- only who claimed an index publishes its key, and only with the pin of that claim
-    (25, event_of v (Publish s 0 (stage 0 false false false))) ∷
-    (28, event_of u (Publish s 0 (stage 0 true false false))) ∷
+    (26, event_of v (Publish s 0 (stage 0 false false false))) ∷
+    (29, event_of u (Publish s 0 (stage 0 true false false))) ∷
     -- a caller has one pin on an index at most, and takes off only its own
-    (30, event_of u (Pin s 0 (stage 0 true false false))) ∷
-    (30, event_of v (Unpin s 0)) ∷
+    (31, event_of u (Pin s 0 (stage 0 true false false))) ∷
+    (31, event_of v (Unpin s 0)) ∷
     -- a step on a key is made under a pin
-    (34, event_of u (OrInterest s 0 4 1)) ∷
-    (34, event_of u (CancelKey s 0 (stage 0 true false false))) ∷
+    (36, event_of u (OrInterest s 0 4 1)) ∷
+    (36, event_of u (CancelKey s 0 (stage 0 true false false))) ∷
     -- only the holder of the turn begins a selection
-    (36, event_of v (BeginLook s (gate false false))) ∷
+    (38, event_of v (BeginLook s (gate false false))) ∷
     -- a selection removes no key that is not cancelled, and none twice
-    (41, event_of u (Remove s 0 (stage 0 true false false))) ∷
-    (53, event_of u (Remove s 0 (stage 0 true true true))) ∷
+    (48, event_of u (Remove s 0 (stage 0 true false false))) ∷
+    (62, event_of u (Remove s 0 (stage 0 true true true))) ∷
     -- only the selecting caller marks, and only what it is told of and finds
-    (45, event_of v (Mark s 0 (mark false 0) 1 (Ok tt))) ∷
-    (45, event_of u (Mark s 0 (mark false 0) 0 (Ok tt))) ∷
-    (45, event_of u (Mark s 0 (mark true 1) 4 (Ok tt))) ∷
+    (53, event_of v (Mark s 0 (mark false 0) 1 (Ok tt))) ∷
+    (53, event_of u (Mark s 0 (mark false 0) 0 (Ok tt))) ∷
+    (53, event_of u (Mark s 0 (mark true 1) 4 (Ok tt))) ∷
     -- an index is put by the caller whose selection removed its key, or that has taken it, and once
-    (53, event_of v (PutFree s 0)) ∷
-    (54, event_of u (PutFree s 0)) ∷
-    (66, event_of v (PutFree s 0)) ∷
-    (76, event_of u (PutFree s 0)) ∷
+    (62, event_of v (PutFree s 0)) ∷
+    (63, event_of u (PutFree s 0)) ∷
+    (75, event_of v (PutFree s 0)) ∷
+    (85, event_of u (PutFree s 0)) ∷
     -- an index is claimed again from what the caller found since it took it, and not while it is pinned
-    (66, event_of u (ClaimAgain s 0 c (stage 0 true true true) true)) ∷
-    (68, event_of u (ClaimAgain s 0 c (stage 0 true true true) false)) ∷
-    (75, event_of v (ClaimAgain s 0 c (stage 0 true true true) false)) ∷
+    (75, event_of u (ClaimAgain s 0 c (stage 0 true true true) true)) ∷
+    (77, event_of u (ClaimAgain s 0 c (stage 0 true true true) false)) ∷
+    (84, event_of v (ClaimAgain s 0 c (stage 0 true true true) false)) ∷
     -- a mark is cleared by who claimed the index, before the key is published
-    (76, event_of v (ClearMark s 0 (mark false 5))) ∷
-    (82, event_of u (ClearMark s 0 (mark false 0))) ∷
+    (85, event_of v (ClearMark s 0 (mark false 5))) ∷
+    (92, event_of u (ClearMark s 0 (mark false 0))) ∷
     -- a key is enrolled with the serial of the claim
-    (80, event_of u (Enrol c s 0 0 (Some (enrolled 0 0)))) ∷
+    (90, event_of u (Enrol c s 0 0 (Some (enrolled 0 0)))) ∷
     -- a channel goes back to blocking mode only after a look at its enrolled keys, since it enrolled one itself
-    (99, event_of v (SetMode c true (chan false false))) ∷
-    (100, event_of v (SetMode c true (chan false false))) ∷
-    (82, event_of u (SetMode c true (chan false false))) ∷
+    (115, event_of v (SetMode c true (chan false false))) ∷
+    (116, event_of v (SetMode c true (chan false false))) ∷
+    (92, event_of u (SetMode c true (chan false false))) ∷
     -- a closer removes after it has entered, and what it has found below the high-water mark since
-    (108, event_of v (Remove s 0 (stage 1 true true true))) ∷
-    (109, event_of v (Remove s 0 (stage 1 true true true))) ∷
+    (124, event_of v (Remove s 0 (stage 1 true true true))) ∷
+    (125, event_of v (Remove s 0 (stage 1 true true true))) ∷
     -- only the closer enters
-    (108, event_of u (Enter s None)) ∷
+    (124, event_of u (Enter s None)) ∷
     -- a channel is closed from one that was found open, of the kind and of a serial that its number has or had
-    (114, event_of u (CloseBit c (chan true true) (chan true true))) ∷
-    (114, event_of u (CloseBit c (record (chan false true) { kind = Stream }) (chan true true))) ∷
-    (114, event_of u (CloseBit c next_chan (chan true true))) ∷
+    (130, event_of u (CloseBit c (chan true true) (chan true true))) ∷
+    (130, event_of u (CloseBit c (record (chan false true) { kind = Stream }) (chan true true))) ∷
+    (130, event_of u (CloseBit c next_chan (chan true true))) ∷
     -- a number is given to a new channel by its holder, after a look at its enrolled keys under this hold
-    (114, event_of v (Reopen c (chan true true) false)) ∷
-    (115, event_of v (Reopen c (chan true true) false)) ∷
-    (116, event_of v (Reopen c (chan true true) false)) ∷
-    (117, event_of u (Reopen c (chan true true) false)) ∷
+    (130, event_of v (Reopen c (chan true true) false)) ∷
+    (131, event_of v (Reopen c (chan true true) false)) ∷
+    (132, event_of v (Reopen c (chan true true) false)) ∷
+    (133, event_of u (Reopen c (chan true true) false)) ∷
     -- the channel that stands there gives it, where it is closed, and no other one
-    (117, event_of v (Reopen c (chan true true) true)) ∷
-    (118, event_of v (Reopen c (chan true true) false)) ∷
-    (118, event_of v (Reopen c next_chan false)) ∷ []
+    (133, event_of v (Reopen c (chan true true) true)) ∷
+    (134, event_of v (Reopen c (chan true true) false)) ∷
+    (134, event_of v (Reopen c next_chan false)) ∷
+    -- an index is touched by who has a pin on it, or has begun
+    (31, event_of v (Touch s 0 true)) ∷
+    -- a change is made by who touched the index since it pinned it
+    (31, event_of u (OrInterest s 0 4 1)) ∷
+    (50, event_of v (CancelKey s 0 (stage 0 true false false))) ∷
+    -- a list is taken once, and only who has it takes the bits, while it selects
+    (41, event_of u (TakeTouched s 0 1)) ∷
+    (42, event_of v (TakeList s None)) ∷
+    (43, event_of v (TakeTouched s 0 1)) ∷
+    (37, event_of u (TakeTouched s 0 1)) ∷
+    -- what is touched is what stands there
+    (44, event_of u (TakeTouched s 0 0)) ∷ []
 
 abbrev pub AreNoSteps : List (ℕ × Event) → Type 0
 AreNoSteps [] = ⊤

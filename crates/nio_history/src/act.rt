@@ -1,5 +1,5 @@
 //! The kinds of atomic step. Each step reads or changes one word of the shared table, at one moment.
-use crate::found::{Chan, GateWord, Mark, Stage};
+use crate::found::{Chan, GateWord, IndexWord, Mark, Stage};
 use nio_base::{CallerNo, ChanNo, KeyId, Kind, Ops, SelNo};
 
 /// A step: its kind, its parameters in their order, and last what it found, which is its answer.
@@ -108,4 +108,15 @@ pub enum Act {
     /// Gives the number of a closed channel, from the channel that was found, to a new channel of its kind with the
     /// next serial, open and in blocking mode, where that channel stands there: whether another one does.
     Reopen(ChanNo, Chan, bool),
+    /// Touches an index: tells the caller that has the selector's list to look there. Whether it was touched.
+    Touch(SelNo, u32, bool),
+    /// Looks at which of 64 indexes of a selector are touched, the first of which is 64 times the number:
+    /// bit b of the answer is set where index 64 times the number plus b is touched.
+    LookTouched(SelNo, u32, u64),
+    /// Takes the bits of 64 indexes, so that none of them is touched any more: which of them were.
+    TakeTouched(SelNo, u32, u64),
+    /// Looks at how far a key's index has come, and at whether it is pinned.
+    LookIndex(SelNo, u32, IndexWord),
+    /// Takes a selector's list, where nobody has it: who had it.
+    TakeList(SelNo, Option<CallerNo>),
 }

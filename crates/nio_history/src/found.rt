@@ -64,6 +64,15 @@ impl Stage {
     }
 }
 
+/// How far the key of an index has come, and whether the index is pinned.
+#[derive(Clone, Copy, Debug, PartialEq, Eq)]
+pub struct IndexWord {
+    /// How far the key has come.
+    pub stage: Stage,
+    /// Somebody has a pin on the index.
+    pub pinned: bool,
+}
+
 /// The channel that a number has: whether it is made, its kind, whether it is closed, whether it is in blocking
 /// mode, and its serial. The number of a closed channel can be given to a new channel of the same kind, with the
 /// next serial.

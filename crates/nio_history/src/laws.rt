@@ -6,9 +6,13 @@ ghost use Rattle.nio_history.specs.Holders.{ChannelStays, ModeStays, EnrolledSta
 ghost use Rattle.nio_history.specs.Holders.{OutsideStays};
 ghost use Rattle.nio_history.specs.Holders.{FoundClearStays};
 ghost use Rattle.nio_history.specs.Holders.{ClearIsTrue, SelectsAlone, KeySetStays, MarksStay, WakeupStays};
+ghost use Rattle.nio_history.specs.WhatIsFound.{FindsWhatAnswers};
+ghost use Rattle.nio_history.specs.Lists.{ListsAreRight};
 ghost use Rattle.nio_history.specs.Pins.{PinsAreOwn, TakenIsOwn, PinnedKeysStay, ClaimsAgainWhereUnpinned};
+ghost use Rattle.nio_history.specs.Pins.{ChangesAreOwn, ListsAreOwn};
 ghost use Rattle.nio_history.specs.Pins.{ClaimsAgainTheRemoved, OwnClaimsStand, UnpublishedKeysStay};
 ghost use Rattle.nio_history.specs.Pins.{EnrolledKeysAreClaimed, SelectionsKeepKeys};
+ghost use Rattle.nio_history.specs.Spans.{HasIsSaid, LastIsSaid, SpanIsSaid, ClearIsSaid};
 ghost use Rattle.nio_history.specs.Turns.{TurnHasOneHolder, HoldHasOneHolder, HolderKnowsMode, OneSelectionAtATime};
 ghost use Rattle.nio_history.specs.Turns.{OnlyWhoMaySelects};
 ghost use Rattle.nio_history.specs.Worked.{WorkedHistoryIsLegal, RefusedEventsAreNoSteps};
@@ -61,12 +65,15 @@ pub fn one_selection_law()
     ensures allowed { OnlyWhoMaySelects }
 {}
 
-/// A caller has a pin on an index where it pinned or claimed it and didn't take the pin off since, and has
-/// taken an index where it took it when it was free and neither put it back nor claimed it since. So the state
-/// says of both what the caller's own acts say.
+/// A caller has a pin on an index where it pinned or claimed it and didn't take the pin off since, is amid a change
+/// there where it touched the index since, and has taken an index where it took it when it was free and neither put
+/// it back nor claimed it since; it has a list where it took it. So the state says of them what the caller's own
+/// acts say.
 pub fn own_pins_law()
     ensures pins { PinsAreOwn }
     ensures taken { TakenIsOwn }
+    ensures changes { ChangesAreOwn }
+    ensures lists { ListsAreOwn }
 {}
 
 /// A `claim_again` succeeds exactly where nobody has a pin on the index, and only from a key that was removed.
@@ -122,6 +129,31 @@ pub fn selection_law()
     ensures key_set { KeySetStays }
     ensures marks { MarksStay }
     ensures wakeup { WakeupStays }
+{}
+
+/// Till a closer has entered, an index that isn't touched is as the caller that has the selector's list found it when it
+/// looked there last, and nobody is amid a change of it; but where that caller took the index's bit, and hasn't looked
+/// there since.
+pub fn list_law()
+    ensures { ListsAreRight }
+{}
+
+/// What each kind of step finds, said in one line a kind, is what the state answers to its question.
+pub fn answers_law()
+    ensures { FindsWhatAnswers }
+{}
+
+/// What the words over a caller's own acts say, said with the acts before and after: that it did such an act, what it
+/// did since an act, and that no key of the key set is enrolled for a channel.
+pub fn words_law()
+    ensures has { HasIsSaid }
+    ensures span { SpanIsSaid }
+    ensures clear { ClearIsSaid }
+{}
+
+/// The same of the answer of the latest act that has one.
+pub fn last_law<A>()
+    ensures { LastIsSaid A }
 {}
 
 /// There are legal histories in which every kind of step stands, and events that can't follow.

@@ -4,7 +4,7 @@
 
 pub use act::Act;
 pub use event::Event;
-pub use found::{Chan, GateWord, Mark, Mode, Stage};
+pub use found::{Chan, GateWord, IndexWord, Mark, Mode, Stage};
 pub use timeout::{Milliseconds, NegativeTimeout};
 pub use why::Why;
 

@@ -113,6 +113,7 @@ fn set_interest_present(
     ensures pinned { IsPinned w.now p.new me key.sel key.index }
 {
     check_operations(w, p, me, key, ops, stage)?;
+    w.touch(p, me, key.sel, key.index);
     w.swap_interest(p, me, key.sel, key.index, ops);
     Ok(())
 }
@@ -154,6 +155,7 @@ fn interest_or_present(
     ensures pinned { IsPinned w.now p.new me key.sel key.index }
 {
     check_operations(w, p, me, key, ops, stage)?;
+    w.touch(p, me, key.sel, key.index);
     Ok(w.or_interest(p, me, key.sel, key.index, ops))
 }
 
@@ -196,5 +198,6 @@ fn interest_and_present(
     if !stage.is_valid_key(key.serial) {
         return Err(KeyError::CancelledKey);
     }
+    w.touch(p, me, key.sel, key.index);
     Ok(w.and_interest(p, me, key.sel, key.index, ops))
 }

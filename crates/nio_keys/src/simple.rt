@@ -45,6 +45,7 @@ fn cancel_present(w: &Words, p: &mut Pass, me: CallerNo, key: KeyNo, stage: Stag
     ensures pinned { IsPinned w.now p.new me key.sel key.index }
 {
     if stage.fits(key.serial) && !stage.removed {
+        w.touch(p, me, key.sel, key.index);
         w.cancel_key(p, me, key.sel, key.index);
     }
 }

@@ -37,7 +37,7 @@ use Rattle.nio_history.specs.Sets.{fits, in_key_set, is_in_key_set, was_claimed,
 use Rattle.nio_history.specs.State.{State}
 use Rattle.nio_history.specs.declared.act.Act.{Act}
 use Rattle.nio_history.specs.declared.act.Act.TheVariants.{CancelKey, LookChannel, Claim, ClaimAgain, Publish, LookReg}
-use Rattle.nio_history.specs.declared.act.Act.TheVariants.{CloseBit, Pin, Reopen}
+use Rattle.nio_history.specs.declared.act.Act.TheVariants.{CloseBit, Pin, Reopen, Touch}
 use Rattle.nio_history.specs.declared.event.Event.{Event}
 use Rattle.nio_history.specs.declared.found.Chan.{Chan}
 use Rattle.nio_history.specs.declared.found.Stage.{Stage}
@@ -57,22 +57,24 @@ use Rattle.nio_steps.proofs.OwnActs.{Cut, cut_at}
 use Rattle.nio_steps.proofs.SelectionLaws.{none_of-append}
 use Rattle.nio_steps.proofs.Walks.{Always, always_weaker, always_bind, always_if, always_sweep, always_run}
 use Rattle.nio_steps.specs.ChannelCalls.{cancel_at, cancel_enrolled, cancel_keys, close_channel_plan}
-use Rattle.nio_steps.specs.KeyCalls.{cancel_plan}
+use Rattle.nio_steps.specs.KeyCalls.{cancel_pinned, cancel_plan}
 use Rattle.nio_steps.specs.Names.{selector, channel_of, key}
-use Rattle.nio_steps.specs.Plan.{Plan, reply, ask, ◌>>=◌, ◌>>◌}
+use Rattle.nio_steps.specs.Plan.{Plan, reply, ◌>>=◌, ◌>>◌}
 use Rattle.nio_steps.specs.Runs.{Completes}
-use Rattle.nio_steps.specs.Steps.{stage_in, channel_in, enrolled_in, unpin}
+use Rattle.nio_steps.specs.Steps.{flag_in, stage_in, channel_in, enrolled_in, unpin}
 use Rattle.nio_steps.specs.Sweeps.{sweep_to}
 
 -- ---- what a closing did before it cancels a key
 
--- It found the key enrolled, then the channel, and then the key as it put its pin on the index.
+-- It found the key enrolled, then the channel, and then the key as it put its pin on the index, which it touched then.
 record Seen (c : ChanId) (s : SelNo) (i : ℕ) (before : List Act) : Type 0 where
   first : List Act
   k : KeyId
   looked : Chan
   pinned : Stage
-  parts : before ≡ first ++ LookReg c.number s (Some k) ∷ LookChannel c.number looked ∷ Pin s k.index pinned ∷ []
+  touched : Bool
+  parts : before ≡ first ++ LookReg c.number s (Some k) ∷ LookChannel c.number looked ∷ Pin s k.index pinned
+      ∷ Touch s k.index touched ∷ []
   index : k.index ≡ i
   present : fits_channel looked c.serial ≡ true
   its_key : fits pinned k.serial ≡ true
@@ -105,10 +107,11 @@ seen-append c xs ys first second = λ before s i found later parts.
           k = seen.k;
           looked = seen.looked;
           pinned = seen.pinned;
+          touched = seen.touched;
           parts = there.before_is ∙ (ap (λ zs. xs ++ zs) seen.parts
               ∙ sym (append_assoc xs seen.first
               (LookReg c.number s (Some seen.k) ∷ LookChannel c.number seen.looked
-              ∷ Pin s seen.k.index seen.pinned ∷ [])));
+              ∷ Pin s seen.k.index seen.pinned ∷ Touch s seen.k.index seen.touched ∷ [])));
           index = seen.index;
           present = seen.present;
           its_key = seen.its_key;
@@ -150,6 +153,14 @@ is_pin s i (Pin s' i' found) asks =
     let second : i' ≡ i = cc asks in
     ap (λ (x : SelNo). Pin x i' found) first ∙ ap (λ (x : ℕ). Pin s x found) second
 is_pin s i _ asks = absurd (cc asks)
+
+is_touch : (s : SelNo) (i : ℕ) (act : Act) → question_of act ≡ Question.touch s i
+    → act ≡ Touch s i (flag_in (answer_of act))
+is_touch s i (Touch s' i' found) asks =
+    let first : s' ≡ s = cc asks in
+    let second : i' ≡ i = cc asks in
+    ap (λ (x : SelNo). Touch x i' found) first ∙ ap (λ (x : ℕ). Touch s x found) second
+is_touch s i _ asks = absurd (cc asks)
 
 record IsCancel (s : SelNo) (i : ℕ) (act : Act) : Type 0 where
   found : Stage
@@ -196,22 +207,37 @@ seen-enrolled c s = λ look asks. by_enrolled look asks (enrolled_in (answer_of 
             none_of-append cancels_any (look ∷ again ∷ []) (pinned ∷ []) (two again asks')
             (none-one pinned (ap cancels_none asks''))
 
+        four : (again : Act) → question_of again ≡ Question.look_channel c.number
+            → (pinned : Act) → question_of pinned ≡ Question.pin (selector s) k.index
+            → (touching : Act) → question_of touching ≡ Question.touch (selector s) k.index
+            → has cancels_any (look ∷ again ∷ pinned ∷ touching ∷ []) ≡ false
+        four again asks' pinned asks'' touching its =
+            none_of-append cancels_any (look ∷ again ∷ pinned ∷ []) (touching ∷ []) (three again asks' pinned asks'')
+            (none-one touching (ap cancels_none its))
+
         seen : (again : Act) → question_of again ≡ Question.look_channel c.number
             → fits_channel (channel_in (answer_of again)) c.serial ≡ true
             → (pinned : Act) → question_of pinned ≡ Question.pin (selector s) k.index
             → fits (stage_in (answer_of pinned)) k.serial ≡ true
-            → Seen c (selector s) k.index (look ∷ again ∷ pinned ∷ [])
-        seen again asks' present pinned asks'' its_key = record {
+            → (touching : Act) → question_of touching ≡ Question.touch (selector s) k.index
+            → Seen c (selector s) k.index (look ∷ again ∷ pinned ∷ touching ∷ [])
+        seen again asks' present pinned asks'' its_key touching its = record {
           first = [];
           k = k;
           looked = channel_in (answer_of again);
           pinned = stage_in (answer_of pinned);
-          parts = ap (λ (x : Act). x ∷ again ∷ pinned ∷ []) (is_look_reg c.number (selector s) k look asks told)
-              ∙ (ap (λ (x : Act). LookReg c.number (selector s) (Some k) ∷ x ∷ pinned ∷ [])
+          touched = flag_in (answer_of touching);
+          parts = ap (λ (x : Act). x ∷ again ∷ pinned ∷ touching ∷ [])
+              (is_look_reg c.number (selector s) k look asks told)
+              ∙ (ap (λ (x : Act). LookReg c.number (selector s) (Some k) ∷ x ∷ pinned ∷ touching ∷ [])
               (is_look_channel c.number again asks')
+              ∙ (ap (λ (x : Act). LookReg c.number (selector s) (Some k)
+              ∷ LookChannel c.number (channel_in (answer_of again)) ∷ x ∷ touching ∷ [])
+              (is_pin (selector s) k.index pinned asks'')
               ∙ ap (λ (x : Act). LookReg c.number (selector s) (Some k)
-              ∷ LookChannel c.number (channel_in (answer_of again)) ∷ x ∷ [])
-              (is_pin (selector s) k.index pinned asks''));
+              ∷ LookChannel c.number (channel_in (answer_of again))
+              ∷ Pin (selector s) k.index (stage_in (answer_of pinned)) ∷ x ∷ [])
+              (is_touch (selector s) k.index touching its)));
           index = refl;
           present = present;
           its_key = its_key;
@@ -223,23 +249,24 @@ seen-enrolled c s = λ look asks. by_enrolled look asks (enrolled_in (answer_of 
             → (b : Bool)
             → (fits (stage_in (answer_of pinned)) k.serial && not (stage_in (answer_of pinned)).removed) ≡ b
             → Always (λ acts _. CancelsSeen c (look ∷ again ∷ pinned ∷ acts))
-            (((if b then (ask (Question.cancel_key (selector s) k.index) (λ answer. reply (stage_in answer))
-            >> nothing_more) else nothing_more) >>= λ answer. (unpin (selector s) k.index >> reply answer))
+            (((if b then (cancel_pinned (selector s) k.index >> nothing_more) else nothing_more)
+            >>= λ answer. (unpin (selector s) k.index >> reply answer))
             >>= λ _. nothing_more)
-        by_pinned again asks' present pinned asks'' true is = λ cancel its unpinned its' before t i found later parts.
+        by_pinned again asks' present pinned asks'' true is =
+            λ touching touches cancel its unpinned its' before t i found later parts.
             let cancelling = is_cancel (selector s) k.index cancel its in
-            let same = one_such cancels_any (look ∷ again ∷ pinned ∷ []) (unpinned ∷ []) before later cancel
-            (CancelKey t i found) (three again asks' pinned asks'') (none-one unpinned (ap cancels_none its')) refl
-            parts in
+            let same = one_such cancels_any (look ∷ again ∷ pinned ∷ touching ∷ []) (unpinned ∷ []) before later cancel
+            (CancelKey t i found) (four again asks' pinned asks'' touching touches)
+            (none-one unpinned (ap cancels_none its')) refl parts in
             let both : CancelKey (selector s) k.index cancelling.found ≡ CancelKey t i found = sym cancelling.is
             ∙ same.1 in
             let first : selector s ≡ t = cc both in
             let second : k.index ≡ i = cc both in
             subst (λ xs. Seen c t i xs) same.0
-            (subst (λ (x : SelNo). Seen c x i (look ∷ again ∷ pinned ∷ [])) first
-            (subst (λ (x : ℕ). Seen c (selector s) x (look ∷ again ∷ pinned ∷ [])) second
+            (subst (λ (x : SelNo). Seen c x i (look ∷ again ∷ pinned ∷ touching ∷ [])) first
+            (subst (λ (x : ℕ). Seen c (selector s) x (look ∷ again ∷ pinned ∷ touching ∷ [])) second
             (seen again asks' present pinned asks'' (and_parts (fits (stage_in (answer_of pinned)) k.serial)
-            (not (stage_in (answer_of pinned)).removed) is).0)))
+            (not (stage_in (answer_of pinned)).removed) is).0 touching touches)))
         by_pinned again asks' present pinned asks'' false is = λ unpinned its.
             seen-none c (look ∷ again ∷ pinned ∷ unpinned ∷ [])
             (none_of-append cancels_any (look ∷ again ∷ pinned ∷ []) (unpinned ∷ [])
@@ -582,19 +609,22 @@ closers_cancel_their_own l n c s i found past fit legal orderly amid valid =
         pin : Act
         pin = Pin s k.index seen.pinned
 
+        touching : Act
+        touching = Touch s k.index seen.touched
+
         legal_past : IsLegal l past
         legal_past = legal_beginning l past (event_of n (CancelKey s i found) ∷ []) legal
 
-        cut1 : Cut n past (amid.before ++ seen.first) reg (look ∷ pin ∷ [])
-        cut1 = cut_at n past (amid.before ++ seen.first) reg (look ∷ pin ∷ [])
+        cut1 : Cut n past (amid.before ++ seen.first) reg (look ∷ pin ∷ touching ∷ [])
+        cut1 = cut_at n past (amid.before ++ seen.first) reg (look ∷ pin ∷ touching ∷ [])
             (amid.parts ∙ (ap (λ acts. amid.before ++ acts) seen.parts
-            ∙ sym (append_assoc amid.before seen.first (reg ∷ look ∷ pin ∷ []))))
+            ∙ sym (append_assoc amid.before seen.first (reg ∷ look ∷ pin ∷ touching ∷ []))))
 
-        cut2 : Cut n cut1.later [] look (pin ∷ [])
-        cut2 = cut_at n cut1.later [] look (pin ∷ []) cut1.mine_later
+        cut2 : Cut n cut1.later [] look (pin ∷ touching ∷ [])
+        cut2 = cut_at n cut1.later [] look (pin ∷ touching ∷ []) cut1.mine_later
 
-        cut3 : Cut n cut2.later [] pin []
-        cut3 = cut_at n cut2.later [] pin [] cut2.mine_later
+        cut3 : Cut n cut2.later [] pin (touching ∷ [])
+        cut3 = cut_at n cut2.later [] pin (touching ∷ []) cut2.mine_later
 
         -- the history before it found the key enrolled, before it found the channel, and before its pin
         first : List Event

@@ -31,9 +31,9 @@ use Rattle.nio_steps.proofs.SelectionLaws.{none_of-append}
 use Rattle.nio_steps.proofs.Walks.{Always, always_weaker, always_bind, always_if, always_sweep}
 use Rattle.nio_steps.specs.ChannelCalls.{cancel_at, cancel_enrolled, cancel_keys, close_once_more, close_found}
 use Rattle.nio_steps.specs.ChannelCalls.{close_channel_plan}
-use Rattle.nio_steps.specs.KeyCalls.{cancel_plan}
+use Rattle.nio_steps.specs.KeyCalls.{cancel_pinned, cancel_plan}
 use Rattle.nio_steps.specs.Names.{selector, channel_of, key}
-use Rattle.nio_steps.specs.Plan.{Plan, reply, ask, ◌>>=◌, ◌>>◌}
+use Rattle.nio_steps.specs.Plan.{Plan, reply, ◌>>=◌, ◌>>◌}
 use Rattle.nio_steps.specs.SelectCalls.{closed, busy, remove_key, remove_keys, try_finish_plan}
 use Rattle.nio_steps.specs.Steps.{stage_in, channel_in, number_in, enrolled_in, holder_in, close_bit}
 use Rattle.nio_steps.specs.Steps.{unpin}
@@ -115,16 +115,18 @@ cancels_key l s k =
     by_test : (pinned : Act) → question_of pinned ≡ Question.pin s k.index → (b : Bool)
         → (fits (stage_in (answer_of pinned)) k.serial && not (stage_in (answer_of pinned)).removed) ≡ b
         → Always (λ acts _. CancelsKey l s k (pinned ∷ acts))
-        ((if b then (ask (Question.cancel_key s k.index) (λ answer. reply (stage_in answer)) >> nothing_more)
-        else nothing_more) >>= λ answer. (unpin s k.index >> reply answer))
-    by_test pinned asks true is = λ cancelled asks' unpinned asks''. record {
-      kept = kept-append l (pinned ∷ []) (cancelled ∷ unpinned ∷ []) (kept-one l pinned (ap calm asks))
+        ((if b then (cancel_pinned s k.index >> nothing_more) else nothing_more)
+        >>= λ answer. (unpin s k.index >> reply answer))
+    by_test pinned asks true is = λ touched touches cancelled asks' unpinned asks''. record {
+      kept = kept-append l (pinned ∷ touched ∷ []) (cancelled ∷ unpinned ∷ [])
+          (kept_two l pinned touched (ap calm asks) (ap calm touches))
           (kept_two l cancelled unpinned (ap calm asks') (ap calm asks''));
-      settles = has-second (settles_key s.0 k) (pinned ∷ []) (cancelled ∷ unpinned ∷ [])
+      settles = has-second (settles_key s.0 k) (pinned ∷ touched ∷ []) (cancelled ∷ unpinned ∷ [])
           (has-first (settles_key s.0 k) (cancelled ∷ []) (unpinned ∷ [])
           (ap (λ b. b || false) (cancel-settles s k cancelled asks')));
-      looks = λ c t. none_of-append (looks_for_key c t) (pinned ∷ []) (cancelled ∷ unpinned ∷ [])
-          (elsewhere-one c t pinned (ap looks_elsewhere asks))
+      looks = λ c t. none_of-append (looks_for_key c t) (pinned ∷ touched ∷ []) (cancelled ∷ unpinned ∷ [])
+          (none_of-append (looks_for_key c t) (pinned ∷ []) (touched ∷ [])
+          (elsewhere-one c t pinned (ap looks_elsewhere asks)) (elsewhere-one c t touched (ap looks_elsewhere touches)))
           (none_of-append (looks_for_key c t) (cancelled ∷ []) (unpinned ∷ [])
           (elsewhere-one c t cancelled (ap looks_elsewhere asks'))
           (elsewhere-one c t unpinned (ap looks_elsewhere asks'')));

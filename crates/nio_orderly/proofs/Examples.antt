@@ -96,17 +96,17 @@ legal_take k whole =
 
 meanwhile_legal : IsLegal small_limits closed_meanwhile
 meanwhile_legal =
-    legal_more small_limits (take 26 worked_history)
-    (event_of v (CloseBit c (chan false false) (chan false false))) (legal_take 26 refl)
+    legal_more small_limits (take 27 worked_history)
+    (event_of v (CloseBit c (chan false false) (chan false false))) (legal_take 27 refl)
     (record { by_caller = lit< tt; condition = (lit< tt, was_open); answers = refl })
   where
-    was_open : WasOpen (state_after (take 26 worked_history)) c (chan false false)
+    was_open : WasOpen (state_after (take 27 worked_history)) c (chan false false)
     was_open = record { made = refl; open_then = refl; kind = refl; was = refl }
 
-publishes_carefully : (claim : OwnClaim) → own_claim 0 0 (take 23 (mine u closed_meanwhile)) ≡ Some claim
-    → MayPublish 0 0 claim (take 23 (mine u closed_meanwhile))
+publishes_carefully : (claim : OwnClaim) → own_claim 0 0 (take 24 (mine u closed_meanwhile)) ≡ Some claim
+    → MayPublish 0 0 claim (take 24 (mine u closed_meanwhile))
 publishes_carefully claim its =
-    subst (λ cl. MayPublish 0 0 cl (take 23 (mine u closed_meanwhile)))
+    subst (λ cl. MayPublish 0 0 cl (take 24 (mine u closed_meanwhile)))
     (claim_is (record { channel = c; serial = 0 }) claim its)
     (record { enrolled = refl; enrolled_alone = refl; mode = refl; prepared = refl })
   where
@@ -120,7 +120,7 @@ meanwhile_of_u =
     -- it sets non-blocking mode
     tt ▸ tt ▸ tt ▸ refl ▸ tt ▸
     -- it registers the channel, till the key is published
-    tt ▸ tt ▸ tt ▸ tt ▸ tt ▸ tt ▸ tt ▸ tt ▸ tt ▸ tt ▸ refl ▸ publishes_carefully ▸ tt
+    tt ▸ tt ▸ tt ▸ tt ▸ tt ▸ tt ▸ tt ▸ tt ▸ tt ▸ tt ▸ tt ▸ refl ▸ publishes_carefully ▸ tt
 
 meanwhile_of_v : EachCareful [] (mine v closed_meanwhile)
 meanwhile_of_v = tt ▸ tt ▸ tt ▸ tt
@@ -140,7 +140,7 @@ debt_stands = record {
   closed = refl;
   owing = record {
     caller = u;
-    before = take 23 (mine u closed_meanwhile);
+    before = take 24 (mine u closed_meanwhile);
     act = Publish s 0 (stage 0 false false false);
     since = [];
     did = refl;
@@ -180,38 +180,38 @@ unenrolled_legal : IsLegal small_limits unenrolled_key
 unenrolled_legal = looked_for
   where
     published : IsLegal small_limits
-        (take 24 worked_history ++ event_of u (Publish s 0 (stage 0 false false false)) ∷ [])
+        (take 25 worked_history ++ event_of u (Publish s 0 (stage 0 false false false)) ∷ [])
     published =
-        legal_more small_limits (take 24 worked_history) (event_of u (Publish s 0 (stage 0 false false false)))
-        (legal_take 24 refl)
-        (record { by_caller = lit< tt; condition = ((lit< tt, lit< tt), refl); answers = refl })
+        legal_more small_limits (take 25 worked_history) (event_of u (Publish s 0 (stage 0 false false false)))
+        (legal_take 25 refl)
+        (record { by_caller = lit< tt; condition = ((lit< tt, lit< tt), refl, refl); answers = refl })
 
     looked : IsLegal small_limits
-        (take 24 worked_history ++ event_of u (Publish s 0 (stage 0 false false false))
+        (take 25 worked_history ++ event_of u (Publish s 0 (stage 0 false false false))
         ∷ event_of u (LookChannel c (chan false false)) ∷ [])
     looked = legal_more small_limits
-        (take 24 worked_history ++ event_of u (Publish s 0 (stage 0 false false false)) ∷ [])
+        (take 25 worked_history ++ event_of u (Publish s 0 (stage 0 false false false)) ∷ [])
         (event_of u (LookChannel c (chan false false))) published
         (record { by_caller = lit< tt; condition = lit< tt; answers = refl })
 
     was_open : WasOpen
-        (state_after (take 24 worked_history ++ event_of u (Publish s 0 (stage 0 false false false))
+        (state_after (take 25 worked_history ++ event_of u (Publish s 0 (stage 0 false false false))
         ∷ event_of u (LookChannel c (chan false false)) ∷ [])) c (chan false false)
     was_open = record { made = refl; open_then = refl; kind = refl; was = refl }
 
     closed : IsLegal small_limits
-        (take 24 worked_history ++ event_of u (Publish s 0 (stage 0 false false false))
+        (take 25 worked_history ++ event_of u (Publish s 0 (stage 0 false false false))
         ∷ event_of u (LookChannel c (chan false false))
         ∷ event_of v (CloseBit c (chan false false) (chan false false)) ∷ [])
     closed = legal_more small_limits
-        (take 24 worked_history ++ event_of u (Publish s 0 (stage 0 false false false))
+        (take 25 worked_history ++ event_of u (Publish s 0 (stage 0 false false false))
         ∷ event_of u (LookChannel c (chan false false)) ∷ [])
         (event_of v (CloseBit c (chan false false) (chan false false))) looked
         (record { by_caller = lit< tt; condition = (lit< tt, was_open); answers = refl })
 
     looked_for : IsLegal small_limits unenrolled_key
     looked_for = legal_more small_limits
-        (take 24 worked_history ++ event_of u (Publish s 0 (stage 0 false false false))
+        (take 25 worked_history ++ event_of u (Publish s 0 (stage 0 false false false))
         ∷ event_of u (LookChannel c (chan false false))
         ∷ event_of v (CloseBit c (chan false false) (chan false false)) ∷ [])
         (event_of v (LookReg c s None)) closed

@@ -25,3 +25,4 @@ pub mod Removals
 pub mod ToldRemovals
 pub mod WaitedCalls
 pub mod OrderlyExamples
+pub mod Prepared

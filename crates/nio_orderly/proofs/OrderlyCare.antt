@@ -46,7 +46,8 @@ table_call_is_kept l call answer acts run =
       closes = close_channel-keeps l;
       finishes = λ s _. try_finish-keeps s;
     })
-    (λ s _. record { gives = refl; marks = λ i from bits. refl; removes = λ i. refl })) run
+    (λ s _. record { gives = refl; marks = λ i from bits. refl; removes = λ i. refl })
+    (λ s mode known _. record { takes = λ j. refl; looks = λ i. refl })) run
 
 unwaiting_is_kept : (l : Limits) (call : Made) (acts : List Act) → waits call ≡ false → IsRun l call acts → Kept l acts
 unwaiting_is_kept l (draw n) acts is run = subst (Kept l) (sym run) (kept-one l (DrawBit n false) refl)

@@ -72,9 +72,10 @@ its_steps =
     } ▸
     record { by_caller = lit< tt; condition = lit< tt; answers = refl } ▸
     record { by_caller = lit< tt; condition = ((lit< tt, lit< tt), refl); answers = refl } ▸
+    record { by_caller = lit< tt; condition = ((lit< tt, lit< tt), refl, refl); answers = refl } ▸
     record { by_caller = lit< tt; condition = ((lit< tt, lit< tt), refl); answers = refl } ▸
     record { by_caller = lit< tt; condition = (lit< tt, (lit< tt, lit< tt), refl, refl, refl); answers = refl } ▸
-    record { by_caller = lit< tt; condition = ((lit< tt, lit< tt), refl); answers = refl } ▸
+    record { by_caller = lit< tt; condition = ((lit< tt, lit< tt), refl, refl); answers = refl } ▸
     -- v closes the channel, and cancels its key
     record { by_caller = lit< tt; condition = lit< tt; answers = refl } ▸
     record {
@@ -85,11 +86,12 @@ its_steps =
     record { by_caller = lit< tt; condition = (lit< tt, lit< tt); answers = refl } ▸
     record { by_caller = lit< tt; condition = lit< tt; answers = refl } ▸
     record { by_caller = lit< tt; condition = ((lit< tt, lit< tt), refl, refl); answers = refl } ▸
-    record { by_caller = lit< tt; condition = ((lit< tt, lit< tt), refl, refl); answers = refl } ▸
+    record { by_caller = lit< tt; condition = ((lit< tt, lit< tt), refl); answers = refl } ▸
+    record { by_caller = lit< tt; condition = ((lit< tt, lit< tt), refl, refl, refl); answers = refl } ▸
     record { by_caller = lit< tt; condition = ((lit< tt, lit< tt), refl); answers = refl } ▸
     -- u goes on with its registration
     record { by_caller = lit< tt; condition = lit< tt; answers = refl } ▸
-    record { by_caller = lit< tt; condition = ((lit< tt, lit< tt), refl, refl); answers = refl } ▸
+    record { by_caller = lit< tt; condition = ((lit< tt, lit< tt), refl, refl, refl); answers = refl } ▸
     record { by_caller = lit< tt; condition = ((lit< tt, lit< tt), refl); answers = refl } ▸
     record { by_caller = lit< tt; condition = (lit< tt, refl); answers = refl } ▸
     tt
@@ -124,11 +126,11 @@ registers : IsRun small_limits (table_call (try_register s (first_channel c) 1 7
 unfolding try_register_plan seek
 registers =
     refl ▸ refl ▸ refl ▸ refl ▸ refl ▸ refl ▸ refl ▸ refl ▸ refl ▸ refl ▸ refl ▸ refl ▸ refl ▸ refl ▸ refl ▸ refl ▸ refl
-    ▸ refl
+    ▸ refl ▸ refl
 
 closes_channel : IsRun small_limits (table_call (close_channel (first_channel c)) true) (drop 1 own_v)
 unfolding close_channel_plan cancel_plan sweep
-closes_channel = refl ▸ refl ▸ refl ▸ refl ▸ refl ▸ refl ▸ refl ▸ refl
+closes_channel = refl ▸ refl ▸ refl ▸ refl ▸ refl ▸ refl ▸ refl ▸ refl ▸ refl
 
 runs_u : AreRuns small_limits calls_of_u own_u
 runs_u =
@@ -227,9 +229,10 @@ reopening_steps =
     } ▸
     record { by_caller = lit< tt; condition = lit< tt; answers = refl } ▸
     record { by_caller = lit< tt; condition = ((lit< tt, lit< tt), refl); answers = refl } ▸
+    record { by_caller = lit< tt; condition = ((lit< tt, lit< tt), refl, refl); answers = refl } ▸
     record { by_caller = lit< tt; condition = ((lit< tt, lit< tt), refl); answers = refl } ▸
     record { by_caller = lit< tt; condition = (lit< tt, (lit< tt, lit< tt), refl, refl, refl); answers = refl } ▸
-    record { by_caller = lit< tt; condition = ((lit< tt, lit< tt), refl); answers = refl } ▸
+    record { by_caller = lit< tt; condition = ((lit< tt, lit< tt), refl, refl); answers = refl } ▸
     record { by_caller = lit< tt; condition = lit< tt; answers = refl } ▸
     record { by_caller = lit< tt; condition = ((lit< tt, lit< tt), refl); answers = refl } ▸
     record { by_caller = lit< tt; condition = (lit< tt, refl); answers = refl } ▸
@@ -269,6 +272,7 @@ registers_next : IsRun small_limits (table_call (try_register s next_channel 1 7
 unfolding try_register_plan seek
 registers_next =
     refl ▸ refl ▸ refl ▸ refl ▸ refl ▸ refl ▸ refl ▸ refl ▸ refl ▸ refl ▸ refl ▸ refl ▸ refl ▸ refl ▸ refl ▸ refl ▸ refl
+    ▸ refl
 
 closes_first : IsRun small_limits (table_call (close_channel (first_channel c)) true) (drop 1 again_v)
 unfolding close_channel_plan cancel_plan sweep

@@ -190,7 +190,7 @@ over-stays : {c : ChanNo} (s : SelNo) (ops att : ℕ) (enrolled : Option KeyId)
 over-stays s ops att None = search staying depth 12
 over-stays s ops att (Some k) =
     stays_ask _ _ refl
-    (λ answer. stays_bind (register_enrolled s ops att k (stage_in answer)) _ (search staying depth 16)
+    (λ answer. stays_bind (register_enrolled s ops att k (stage_in answer)) _ (search staying depth 18)
     (λ over. stays_ask _ _ refl (λ _. stays_reply over)))
 
 -- ---- an index for the key
@@ -640,13 +640,16 @@ published-leads s c k own _ asks enrolled = absurd (cc asks)
 
 publish-leads : (s : SelNo) (c : ChanId) (ops att : ℕ) (k : KeyId) (own : List Act) → Prepared s c.number k own
     → Leads (λ own' _. Registers s c.number own') own (publish_key s c ops att k)
-publish-leads s c ops att k own prepared = λ swapped its_ops attached its_note enrolling its_key published asks.
-    let own1 = own ++ swapped ∷ [] in
-    let own2 = own1 ++ attached ∷ [] in
-    published-leads s c k (own2 ++ enrolling ∷ []) published asks
-    (enrolled-now s c.number k own2 enrolling its_key
-    (prepared-still s c.number k own1 attached (ap still its_note) (ap leaves_claims its_note)
-    (prepared-still s c.number k own swapped (ap still its_ops) (ap leaves_claims its_ops) prepared)))
+publish-leads s c ops att k own prepared =
+    λ touched its_touch swapped its_ops attached its_note enrolling its_key published asks.
+    let own1 = own ++ touched ∷ [] in
+    let own2 = own1 ++ swapped ∷ [] in
+    let own3 = own2 ++ attached ∷ [] in
+    published-leads s c k (own3 ++ enrolling ∷ []) published asks
+    (enrolled-now s c.number k own3 enrolling its_key
+    (prepared-still s c.number k own2 attached (ap still its_note) (ap leaves_claims its_note)
+    (prepared-still s c.number k own1 swapped (ap still its_ops) (ap leaves_claims its_ops)
+    (prepared-still s c.number k own touched (ap still its_touch) (ap leaves_claims its_touch) prepared))))
 
 make-leads : (s : SelNo) (c : ChanId) (ops att : ℕ) (k : KeyId) (own : List Act) → Below s c.number k own
     → Leads (λ own' _. Registers s c.number own') own (make_key s c ops att k)

@@ -1,5 +1,5 @@
 -- What is removed in legal and orderly histories, by selections that have begun and by closings that are over.
-use Rattle.std.proofs.Common.{◌≡◌, ℕ, ◌==◌, ◌<◌, nat_lt, Bool, true, false, not, ◌&&◌, ◌||◌, ◌⊎◌, inl, inr, Result}
+use Rattle.std.proofs.Common.{◌≡◌, ℕ, ◌==◌, ◌<◌, nat_lt, Bool, true, false, not, ◌&&◌, ◌||◌, ◌⊎◌, inl, inr, None, Result}
 use Rattle.std.proofs.Common.{Ok, Err, List, [], ◌∷◌, ◌++◌, refl, ap, sym, ◌∙◌, subst, append_assoc, eqb-true, eq-eqb}
 use Rattle.std.proofs.Common.{arith}
 use Rattle.std.specs.List.{All, Contains}
@@ -178,7 +178,7 @@ high_look s _ asks = absurd (cc asks)
 
 -- the bound of a selection is above what was below the high-water mark before
 bound_above : (l : Limits) (n : CallerNo) (before later : List Event) (s : SelNo) (mode : Mode) (selection : Selection)
-    (i : ℕ) → IsLegal l (before ++ later) → Begins s mode (mine n later) (Ok selection)
+    (i : ℕ) → IsLegal l (before ++ later) → Begins s mode None (mine n later) (Ok selection)
     → nat_lt i ((state_after before).keys_high s.0) ≡ true → i < selection.bound
 bound_above l n before later s mode selection i legal run below =
     subst (λ (m : ℕ). i < m) (sym begun.bound)
@@ -186,8 +186,8 @@ bound_above l n before later s mode selection i legal run below =
     (subst (IsLegal l) (ap (λ events. before ++ events) at.parts
     ∙ sym (append_assoc before at.past (event_of n (LookKeys s mark) ∷ at.later))) legal) below)
   where
-    begun : Begun s mode (mine n later) selection
-    begun = begin-parts s mode (mine n later) selection run
+    begun : Begun s mode None (mine n later) selection
+    begun = begin-parts s mode None (mine n later) selection run
 
     mark : ℕ
     mark = number_in (answer_of begun.keys)
@@ -205,7 +205,7 @@ begin_removes_cancelled l n before later s mode selection i serial made publishe
 )
   where
     call : Made
-    call = table_call (try_begin s mode) (Ok selection)
+    call = table_call (try_begin s mode None) (Ok selection)
 
     go : i < selection.bound → (was_removed ((state_after (before ++ later)).key s.0 i) serial ≡ true)
         × All (λ entry. ¬ ((entry.index ≡ i) × (entry.serial ≡ serial))) selection.looked
@@ -257,10 +257,10 @@ select_removes_cancelled l n before later s mode polls answer i serial made begu
             ∙ (ap (λ xs. xs ++ made.runs.second) made.runs.runs_first.parts
             ∙ append_assoc tries acts made.runs.second)
 
-        its : Amid l n before later (table_call (try_begin s mode) (Ok selection))
+        its : Amid l n before later (table_call (try_begin s mode None) (Ok selection))
         its = amid l n before later (waiting_call (select s mode polls) answer)
-            (table_call (try_begin s mode) (Ok selection)) tries acts made.runs.second made own
-            (subst (Begins s mode acts) answers made.runs.runs_first.made)
+            (table_call (try_begin s mode None) (Ok selection)) tries acts made.runs.second made own
+            (subst (Begins s mode None acts) answers made.runs.runs_first.made)
 
         legal_past : IsLegal l (before ++ its.past)
         legal_past = legal_beginning l (before ++ its.past) its.during its.made.legal

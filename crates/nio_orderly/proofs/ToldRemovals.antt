@@ -1,7 +1,8 @@
 -- The keys that were cancelled before the end of a selection are removed when it ends.
-use Rattle.std.proofs.Common.{◌≡◌, ℕ, ◌==◌, ◌<◌, nat_lt, true, not, ◌&&◌, ◌⊎◌, inl, inr, List, [], ◌∷◌, ◌++◌, refl, ap}
+use Rattle.std.proofs.Common.{◌≡◌, ℕ, ◌==◌, ◌<◌, nat_lt, true, false, not, ◌&&◌, ◌⊎◌, inl, inr, Option, Some, None, Ok, List, [], ◌∷◌, ◌++◌, refl, ap}
 use Rattle.std.proofs.Common.{sym, ◌∙◌, subst, append_assoc, eq-eqb}
 use Rattle.std.specs.List.{Contains}
+use Rattle.std.specs.Prelude.{is_some}
 use Rattle.std.proofs.lemmas.Bool.{and_parts, and_from, or_right, lt-ltb}
 use Rattle.std.proofs.lemmas.List.Elements.{All-contains, Contains-append_left, Contains-append_right}
 use Rattle.nio_base.specs.declared.limits.Limits.{Limits}
@@ -31,23 +32,24 @@ use Rattle.nio_steps.proofs.OrderLaws.{looks_in_order}
 use Rattle.nio_steps.proofs.OwnActs.{At, at_own, Cut, cut_at}
 use Rattle.nio_steps.proofs.ToldParts.{Ended, ended-parts}
 use Rattle.nio_steps.specs.Laws.{IsLookedAt}
-use Rattle.nio_steps.specs.SelectCalls.{Selection, Poll, Tells, done}
+use Rattle.nio_steps.specs.SelectCalls.{Selection, Begins, Poll, Tells, done}
+use Rattle.nio_steps.specs.Selections.{IsBegun}
 use Rattle.nio_steps.specs.Steps.{stage_in, number_in}
 use Rattle.nio_steps.specs.TableCalls.{told}
 use Rattle.nio_steps.specs.declared.looked.LookedKey.{LookedKey}
 use Rattle.nio_steps.specs.declared.selected.Selected.{Selected}
 
--- a cancelled key at an index below the high-water mark is removed at the end of a selection
+-- a cancelled key at an index below the high-water mark is removed at the end of a selection without the list
 removed_at_end : (l : Limits) (n : CallerNo) (before later : List Event) (selection : Selection) (poll : Poll)
     (answer : Selected) (i serial : ℕ)
-    → IsLegal l (before ++ later) → Tells selection poll (mine n later) (done answer)
+    → IsLegal l (before ++ later) → selection.listed ≡ false → Tells selection poll (mine n later) (done answer)
     → was_published ((state_after before).key selection.selector.0 i) serial ≡ true
     → was_cancelled ((state_after before).key selection.selector.0 i) serial ≡ true
     → nat_lt i ((state_after before).keys_high selection.selector.0) ≡ true
     → was_removed ((state_after (before ++ later)).key selection.selector.0 i) serial ≡ true
-removed_at_end l n before later selection poll answer i serial legal run published cancelled below =
+removed_at_end l n before later selection poll answer i serial legal unlisted run published cancelled below =
     subst (λ evs. was_removed ((state_after (before ++ evs)).key s.0 i) serial ≡ true) (sym cut.parts)
-    (cancelled_keys_go_at_end l n before cut.past cut.later selection poll answer mark i serial legal_cut
+    (cancelled_keys_go_at_end l n before cut.past cut.later selection poll answer mark i serial legal_cut unlisted
     (subst (λ evs. Tells selection poll (mine n evs) (done answer)) cut.parts run)
     (stays (key_published s.0 i serial) published) (stays (key_cancelled s.0 i serial) cancelled)
     (found_above l n before cut.past cut.later s mark i legal_joined below))
@@ -84,7 +86,7 @@ removed_at_end l n before later selection poll answer i serial legal run publish
     stays f = facts_are_permanent l before (before ++ cut.past) (cut.past, refl) legal_past f
 
 pub told_removes_cancelled : ToldRemovesCancelled
-told_removes_cancelled l n before later selection poll answer i serial made published cancelled =
+told_removes_cancelled l n before later selection poll answer i serial made unlisted published cancelled =
     by_stage (removed_or_there ((state_after before).key s.0 i) serial published)
   where
     s : SelNo
@@ -99,14 +101,28 @@ told_removes_cancelled l n before later selection poll answer i serial made publ
     by_stage (inl removed) =
         facts_are_permanent l before (before ++ later) (later, refl) made.legal (key_removed s.0 i serial) removed
     by_stage (inr there) =
-        removed_at_end l n before later selection poll answer i serial made.legal made.runs published cancelled
+        removed_at_end l n before later selection poll answer i serial made.legal unlisted made.runs published cancelled
         (there_below l n before later call made s.0 i serial there)
 
 -- ---- the looked keys
 
+-- a selection that doesn't go by the list began without it
+begins_unlisted : (own : List Act) (selection : Selection) (begun : IsBegun own selection) → selection.listed ≡ false
+    → Begins selection.selector selection.mode None begun.beginning (Ok selection)
+begins_unlisted own selection begun unlisted =
+    by_known begun.known begun.begins
+    (begin-parts selection.selector selection.mode begun.known begun.beginning selection begun.begins).listed
+  where
+    by_known : (known : Option (List LookedKey))
+        → Begins selection.selector selection.mode known begun.beginning (Ok selection)
+        → selection.listed ≡ is_some known
+        → Begins selection.selector selection.mode None begun.beginning (Ok selection)
+    by_known None begins listed = begins
+    by_known (Some known) begins listed = let clash : true ≡ false = sym listed ∙ unlisted in absurd (cc clash)
+
 pub told_removes_looked : ToldRemovesLooked
-told_removes_looked l n before later selection poll answer entry legal begun run looked cancelled =
-    removed_at_end l n before later selection poll answer i serial legal run published cancelled below
+told_removes_looked l n before later selection poll answer entry legal begun unlisted run looked cancelled =
+    removed_at_end l n before later selection poll answer i serial legal unlisted run published cancelled below
   where
     sel : SelNo
     sel = selection.selector
@@ -117,9 +133,12 @@ told_removes_looked l n before later selection poll answer entry legal begun run
     serial : ℕ
     serial = entry.serial
 
+    began : Begins sel selection.mode None begun.beginning (Ok selection)
+    began = begins_unlisted (mine n before) selection begun unlisted
+
     its : IsLookedAt sel begun.beginning entry
     its = All-contains (IsLookedAt sel begun.beginning) selection.looked entry
-        (looks_at_valid_keys sel selection.mode begun.beginning selection begun.begins) looked
+        (looks_at_valid_keys sel selection.mode begun.beginning selection began) looked
 
     look : Act
     look = LookKey sel i its.stage
@@ -158,8 +177,8 @@ told_removes_looked l n before later selection poll answer entry legal begun run
         (and_parts k.published (not k.removed) in_set).0))
 
     -- its index is below the high-water mark that the selection found when it began
-    begins : Begun sel selection.mode begun.beginning selection
-    begins = begin-parts sel selection.mode begun.beginning selection begun.begins
+    begins : Begun sel selection.mode None begun.beginning selection
+    begins = begin-parts sel selection.mode None begun.beginning selection began
 
     mark : ℕ
     mark = number_in (answer_of begins.keys)
@@ -183,7 +202,7 @@ told_removes_looked l n before later selection poll answer entry legal begun run
         ap (nat_lt i) (sym (begins.bound ∙ is))
         ∙ lt-ltb i selection.bound
         (All-contains (λ (x : LookedKey). x.index < selection.bound) selection.looked entry
-        (looks_in_order sel selection.mode begun.beginning selection begun.begins).below looked)
+        (looks_in_order sel selection.mode begun.beginning selection began).below looked)
 
     below : nat_lt i ((state_after before).keys_high sel.0) ≡ true
     below = facts_are_permanent l marked.past before (event_of n (LookKeys sel mark) ∷ marked.later, sym marked.parts)

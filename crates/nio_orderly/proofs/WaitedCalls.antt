@@ -220,9 +220,10 @@ GoesOn selection (again next) = next ≡ selection
 ends-over : (selection : Selection) (answer : Selected)
     → Always (λ _ r. GoesOn selection r) (end_selection selection answer)
 ends-over selection answer =
-    always_bind (λ _ _. Unit {0}) (λ _ r. GoesOn selection r) (remove_all_cancelled selection.selector)
+    always_bind (λ _ _. Unit {0}) (λ _ r. GoesOn selection r)
+    (remove_all_cancelled selection.selector selection.listed)
     (λ _. (end_wake selection.selector >> give_turn selection.selector >> reply (done answer)))
-    (always_any (remove_all_cancelled selection.selector))
+    (always_any (remove_all_cancelled selection.selector selection.listed))
     (λ _ _ _ woken asks given asks'. tt)
 
 pub told-goes_on : (selection : Selection) (pairs : List (ℕ × ℕ)) (elapsed : Bool)
@@ -290,42 +291,46 @@ selection-calls l now polls selection acts left rest now' here =
     (table_call (leave selection) tt) refl rest.left (may_tell now selection now'' here')
     (then_selecting now selection now'' None here')))
 
--- what is in progress after a beginning
+-- what is in progress after a beginning without the list
 abbrev AfterBegin : Ongoing → SelNo → Result Selection BeginError → Ongoing → Type 0
 AfterBegin now s (Ok selection) now' = (selection.selector ≡ s) × Selecting now selection now'
 AfterBegin now s (Err refusal) now' = now' ≡ now
 
 begins-calls : (l : Limits) (s : SelNo) (mode : Mode) (now : Ongoing) (answer : Result Selection BeginError)
-    (acts : List Act) → Begins s mode acts answer → (now' : Ongoing) → now' ≡ now
+    (acts : List Act) → Begins s mode None acts answer → (now' : Ongoing) → now' ≡ now
     → CallsTo l now' acts (AfterBegin now s answer)
 begins-calls l s mode now (Ok selection) acts begins now' here =
-    let same : selection.selector ≡ s = (begin-parts s mode acts selection begins).selector in
-    one_call l now' acts (AfterBegin now s (Ok selection)) (table_call (try_begin s mode) (Ok selection)) refl
+    let parts = begin-parts s mode None acts selection begins in
+    one_call l now' acts (AfterBegin now s (Ok selection)) (table_call (try_begin s mode None) (Ok selection)) refl
     begins tt (
-      same,
-      ap (λ n. selecting n s (Some selection)) here
-          ∙ ap (λ (t : SelNo). selecting now t (Some selection)) (sym same),
+      parts.selector,
+      ap (λ (b : Bool). record now' {
+        selection = put now'.selection s.0 (Some selection);
+        list = if b then put now'.list s.0 (Some selection.looked) else now'.list;
+      }) parts.listed
+          ∙ (ap (λ n. selecting n s (Some selection)) here
+          ∙ ap (λ (t : SelNo). selecting now t (Some selection)) (sym parts.selector)),
     )
 begins-calls l s mode now (Err refusal) acts begins now' here =
-    one_call l now' acts (AfterBegin now s (Err refusal)) (table_call (try_begin s mode) (Err refusal)) refl
+    one_call l now' acts (AfterBegin now s (Err refusal)) (table_call (try_begin s mode None) (Err refusal)) refl
     begins tt here
 
 begins-repeat : (l : Limits) (s : SelNo) (mode : Mode) (now : Ongoing)
-    → MayRepeat l (λ (_ : Unit {0}). Begins s mode) (λ _. begin_finds_busy) (Now now)
-    (λ _ r. table_call (try_begin s mode) r)
+    → MayRepeat l (λ (_ : Unit {0}). Begins s mode None) (λ _. begin_finds_busy) (Now now)
+    (λ _ r. table_call (try_begin s mode None) r)
 begins-repeat l s mode now now' _ acts (Ok selection) here run goes = absurd (cc goes)
 begins-repeat l s mode now now' _ acts (Err refusal) here run goes = (refl, run, tt, here)
 
 select-calls : (l : Limits) (s : SelNo) (mode : Mode) (polls : List Poll)
-    → IsMadeOfCalls l (Then (Retries (Begins s mode) begin_finds_busy) (SelectsRest polls))
+    → IsMadeOfCalls l (Then (Retries (Begins s mode None) begin_finds_busy) (SelectsRest polls))
     (λ now answer. changed now (select_change s answer))
 select-calls l s mode polls now acts answer both =
     subst (λ xs. AreCallsFrom l now xs (changed now (select_change s answer))) (sym both.parts)
     (calls_from l now (both.first ++ both.second) (changed now (select_change s answer))
     (then_calls l now both.first both.second (AfterBegin now s both.middle)
     (Now (changed now (select_change s answer)))
-    (repeats_calls l (λ (_ : Unit {0}). Begins s mode) (λ _. begin_finds_busy) (Now now) (AfterBegin now s both.middle)
-    (λ _ r. table_call (try_begin s mode) r) (begins-repeat l s mode now) both.first both.middle both.runs_first
+    (repeats_calls l (λ (_ : Unit {0}). Begins s mode None) (λ _. begin_finds_busy) (Now now) (AfterBegin now s both.middle)
+    (λ _ r. table_call (try_begin s mode None) r) (begins-repeat l s mode now) both.first both.middle both.runs_first
     (λ now' _ xs here begins. begins-calls l s mode now both.middle xs begins now' here) now refl)
     (by_beginning both.middle both.runs_second)))
   where

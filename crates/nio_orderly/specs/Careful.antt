@@ -4,7 +4,7 @@
 -- for the channel. Under this hold it doesn't set the channel's mode, nor give its number to a new channel. And after
 -- its claim of the index it looks at the gate, and finds it not shut, once it has found the keys' high-water mark
 -- above the index or raised it above.
-use Rattle.std.specs.Prelude.{◌≡◌, ℕ, ◌==◌, nat_lt, Bool, false, not, ◌&&◌, if◌then◌else◌, Some, IsTrue, IsFalse, List}
+use Rattle.std.specs.Prelude.{◌≡◌, ◌↔◌, ℕ, ◌==◌, nat_lt, Bool, false, not, ◌&&◌, if◌then◌else◌, Some, IsTrue, IsFalse, List}
 use Rattle.std.specs.Prelude.{[], ◌∷◌, ◌++◌}
 use mathlib.Core.List.{IsPrefix}
 use Rattle.nio_base.specs.declared.numbers.CallerNo.{CallerNo}
@@ -63,6 +63,20 @@ its_hold c before later = under c before ++ until_released c later
 -- mark above i or raised it above i
 abbrev pub is_prepared : ℕ → ℕ → List Act → Bool
 is_prepared s i own = has (finds_open s) (since_from (claims s i) (since_first (leaves_below s i) own))
+
+-- The same with the acts before and after: it found the gate of selector s not shut, before that it had found the keys'
+-- high-water mark above i or raised it above i, and since then it didn't claim the index.
+pub record IsPrepared (s i : ℕ) (own : List Act) : Type 0 where
+  pub before : List Act
+  pub act : Act
+  pub after : List Act
+  pub parts : own ≡ before ++ act ∷ after
+  pub open_gate : IsTrue (finds_open s act)
+  pub below : IsTrue (has (leaves_below s i) before)
+  pub unclaimed : IsFalse (has (claims s i) after)
+
+abbrev pub PreparedIsSaid : Type 0
+PreparedIsSaid = (s i : ℕ) (own : List Act) → IsTrue (is_prepared s i own) ↔ IsPrepared s i own
 
 -- the rules of a publish of index i of selector s, by what its caller did before and later; the key is that of the
 -- caller's claim of the index

@@ -11,7 +11,7 @@ use Rattle.nio_orderly.specs.Owed.{publishes_key, publisher_duty, OwesSince, Owe
 
 -- v closes the channel just after u published the key, before u looked at the channel again
 abbrev pub closed_meanwhile : List Event
-closed_meanwhile = take 26 worked_history ++ event_of v (CloseBit c (chan false false) (chan false false)) ∷ []
+closed_meanwhile = take 27 worked_history ++ event_of v (CloseBit c (chan false false) (chan false false)) ∷ []
 
 -- the key is valid though its channel is closed, and u owes its cancelling
 pub record DebtStands : Type 0 where
@@ -25,7 +25,7 @@ pub record DebtStands : Type 0 where
 -- and finds no key enrolled for it
 abbrev pub unenrolled_key : List Event
 unenrolled_key =
-    take 24 worked_history
+    take 25 worked_history
     ++ event_of u (Publish s 0 (stage 0 false false false))
     ∷ event_of u (LookChannel c (chan false false))
     ∷ event_of v (CloseBit c (chan false false) (chan false false))

@@ -14,7 +14,7 @@ use Rattle.nio_history.specs.declared.act.Act.TheVariants.{SwapNote, MakeChannel
 use Rattle.nio_history.specs.declared.act.Act.TheVariants.{LookKeys}
 use Rattle.nio_history.specs.declared.act.Act.TheVariants.{Publish, LookReg, Enrol, LookChannels, RaiseChannels}
 use Rattle.nio_history.specs.declared.act.Act.TheVariants.{TryHoldBit, Release, SetMode, CloseBit, Pin, Unpin}
-use Rattle.nio_history.specs.declared.act.Act.TheVariants.{Reopen}
+use Rattle.nio_history.specs.declared.act.Act.TheVariants.{Reopen, Touch}
 use Rattle.nio_history.specs.declared.event.Event.{Event}
 use Rattle.nio_history.specs.declared.found.Chan.{Chan}
 use Rattle.nio_orderly.specs.Examples.{unenrolled_key}
@@ -51,6 +51,7 @@ closed_in_registration =
     event_of u (Claim s 0 c false) ∷
     event_of u (RaiseKeys s 1 0) ∷
     event_of u (LookGate s (gate false false)) ∷
+    event_of u (Touch s 0 false) ∷
     event_of u (SwapInterest s 0 1 0) ∷
     event_of u (SwapNote s 0 7 0) ∷
     event_of u (Enrol c s 0 0 None) ∷
@@ -61,6 +62,7 @@ closed_in_registration =
     event_of v (LookReg c s (Some (enrolled 0 0))) ∷
     event_of v (LookChannel c (chan true false)) ∷
     event_of v (Pin s 0 (stage 0 true false false)) ∷
+    event_of v (Touch s 0 true) ∷
     event_of v (CancelKey s 0 (stage 0 true false false)) ∷
     event_of v (Unpin s 0) ∷
     -- u goes on with its registration
@@ -134,6 +136,7 @@ reopened_meanwhile =
     event_of u (Claim s 0 c false) ∷
     event_of u (RaiseKeys s 1 0) ∷
     event_of u (LookGate s (gate false false)) ∷
+    event_of u (Touch s 0 false) ∷
     event_of u (SwapInterest s 0 1 0) ∷
     event_of u (SwapNote s 0 7 0) ∷
     event_of u (Enrol c s 0 0 None) ∷

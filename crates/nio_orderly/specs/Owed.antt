@@ -10,14 +10,13 @@ use Rattle.nio_base.specs.declared.limits.Limits.{Limits}
 use Rattle.nio_base.specs.declared.numbers.CallerNo.{CallerNo}
 use Rattle.nio_base.specs.declared.numbers.ChanId.{ChanId}
 use Rattle.nio_base.specs.declared.numbers.KeyId.{KeyId}
-use Rattle.nio_history.specs.Acts.{takes_close}
 use Rattle.nio_history.specs.Histories.{state_after, mine, IsLegal}
 use Rattle.nio_history.specs.OwnEvents.{closes, has, since_entered, finds_outside, finds_below}
 use Rattle.nio_history.specs.Pins.{removes}
 use Rattle.nio_history.specs.Sets.{is_valid, fits_channel, IsRegistered}
 use Rattle.nio_history.specs.State.{State}
 use Rattle.nio_history.specs.declared.act.Act.{Act}
-use Rattle.nio_history.specs.declared.act.Act.TheVariants.{CancelKey, LookChannel, LookKeys, Publish, LookReg, CloseBit}
+use Rattle.nio_history.specs.declared.act.Act.TheVariants.{CancelKey, LookChannel, LookKeys, Publish, LookReg}
 use Rattle.nio_history.specs.declared.event.Event.{Event}
 use Rattle.nio_orderly.specs.Careful.{IsCareful}
 

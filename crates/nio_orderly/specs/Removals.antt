@@ -1,9 +1,9 @@
--- What is removed in a legal and orderly history: a selection that has begun has removed the keys that were published
--- and cancelled before the call, and so has the end of a selection; and a closing that is over has removed those that
--- were published before it.
+-- What is removed in a legal and orderly history: a selection without the list that has begun has removed the keys that
+-- were published and cancelled before the call, and so has the end of such a selection; and a closing that is over has
+-- removed those that were published before it.
 --
 -- `before` is the history before a call; what the caller did after it is this call.
-use Rattle.std.specs.Prelude.{◌≡◌, ℕ, ◌<◌, Bool, true, false, Ok, IsTrue, List, ◌∷◌, ◌++◌}
+use Rattle.std.specs.Prelude.{◌≡◌, ℕ, ◌<◌, Bool, true, false, None, Ok, IsTrue, IsFalse, List, ◌∷◌, ◌++◌}
 use Rattle.std.specs.List.{All, Contains}
 use Rattle.nio_base.specs.Limits.{IsFit}
 use Rattle.nio_base.specs.declared.limits.Limits.{Limits}
@@ -32,13 +32,13 @@ pub record MadeLast (l : Limits) (n : CallerNo) (before later : List Event) (cal
 -- ---- selections
 
 -- `Selector.select`: "Each key in the cancelled-key set is removed from each key set of which it is a member". A key
--- that was published and cancelled before a `try_begin` that answers Ok is removed when the call returns, and isn't
--- among the keys that the selection looked at.
+-- that was published and cancelled before a `try_begin` without the list that answers Ok is removed when the call
+-- returns, and isn't among the keys that the selection looked at.
 abbrev pub BeginRemovesCancelled : Type 0
 BeginRemovesCancelled =
     (l : Limits) (n : CallerNo) (before later : List Event) (s : SelNo) (mode : Mode) (selection : Selection)
     (i serial : ℕ)
-    → MadeLast l n before later (table_call (try_begin s mode) (Ok selection))
+    → MadeLast l n before later (table_call (try_begin s mode None) (Ok selection))
     → IsTrue (was_published ((state_after before).key s.0 i) serial)
     → IsTrue (was_cancelled ((state_after before).key s.0 i) serial)
     → IsTrue (was_removed ((state_after (before ++ later)).key s.0 i) serial)
@@ -50,7 +50,8 @@ did_begin (selected answer) = true
 did_begin (not_begun refusal) = false
 did_begin left = true
 
--- A key that was published and cancelled before a `select` that begins is removed when the call returns.
+-- A key that was published and cancelled before a `select` that begins is removed when the call returns: a `select` is
+-- without the list.
 abbrev pub SelectRemovesCancelled : Type 0
 SelectRemovesCancelled =
     (l : Limits) (n : CallerNo) (before later : List Event) (s : SelNo) (mode : Mode) (polls : List Poll)
@@ -61,24 +62,24 @@ SelectRemovesCancelled =
     → IsTrue (was_removed ((state_after (before ++ later)).key s.0 i) serial)
 
 -- "If any keys were added to the cancelled-key set while step (2) was in progress then they are processed as in step
--- (1)". A key that was published and cancelled before a `told` that ends its selection is removed when the call
--- returns, also one that was registered since the selection began.
+-- (1)". A key that was published and cancelled before a `told` that ends a selection without the list is removed when
+-- the call returns, also one that was registered since the selection began.
 abbrev pub ToldRemovesCancelled : Type 0
 ToldRemovesCancelled =
     (l : Limits) (n : CallerNo) (before later : List Event) (selection : Selection) (poll : Poll) (answer : Selected)
     (i serial : ℕ)
-    → MadeLast l n before later (table_call (told selection poll) (done answer))
+    → MadeLast l n before later (table_call (told selection poll) (done answer)) → IsFalse selection.listed
     → IsTrue (was_published ((state_after before).key selection.selector.0 i) serial)
     → IsTrue (was_cancelled ((state_after before).key selection.selector.0 i) serial)
     → IsTrue (was_removed ((state_after (before ++ later)).key selection.selector.0 i) serial)
 
--- A looked key that was cancelled before such a `told` is removed when the call returns, whether the history is orderly
--- or not.
+-- A looked key that was cancelled before such a `told`, of a selection without the list, is removed when the call
+-- returns, whether the history is orderly or not.
 abbrev pub ToldRemovesLooked : Type 0
 ToldRemovesLooked =
     (l : Limits) (n : CallerNo) (before later : List Event) (selection : Selection) (poll : Poll) (answer : Selected)
     (entry : LookedKey)
-    → IsLegal l (before ++ later) → IsBegun (mine n before) selection
+    → IsLegal l (before ++ later) → IsBegun (mine n before) selection → IsFalse selection.listed
     → IsRun l (table_call (told selection poll) (done answer)) (mine n later)
     → Contains selection.looked entry
     → IsTrue (was_cancelled ((state_after before).key selection.selector.0 entry.index) entry.serial)

@@ -1,6 +1,6 @@
 //! Laws of orderly and of careful histories. Each is the contract of a function that does nothing.
 ghost use Rattle.nio_orderly.specs.AfterClosing.{OnlyPublishersOwe, ClosedSelectorsHaveNoKey};
-ghost use Rattle.nio_orderly.specs.Careful.{BeginningsAreCareful};
+ghost use Rattle.nio_orderly.specs.Careful.{BeginningsAreCareful, PreparedIsSaid};
 ghost use Rattle.nio_orderly.specs.OrderlyLaws.{BeginningsAreOrderly, WholeIsOrderly, OneCallMore, OrderlyEndsInCall};
 ghost use Rattle.nio_orderly.specs.OrderlyLaws.{SerialIsWhole, SerialCallMore};
 ghost use Rattle.nio_orderly.specs.Examples.{DebtStands, CancellationIsLost};
@@ -53,11 +53,12 @@ pub fn closing_calls_law()
     ensures no_key_after_close { NoKeyAfterClose }
 {}
 
-/// What is removed in a legal and orderly history. A selection that has begun has removed each key that was published
-/// and cancelled before the call, and so has the `told` that ends a selection. A `try_finish` that answers Closed, or a
-/// `close` that answers true, has removed each key that was published before the call. In any legal history the `told`
-/// that ends a selection has removed each key that the selection looked at and that was cancelled before that call; and
-/// such a `close` each key that was claimed before it looked at the keys' high-water mark, at an index below it.
+/// What is removed in a legal and orderly history. A selection without the list that has begun has removed each key that
+/// was published and cancelled before the call, and so has the `told` that ends such a selection. A `try_finish` that
+/// answers Closed, or a `close` that answers true, has removed each key that was published before the call. In any legal
+/// history the `told` that ends a selection without the list has removed each key that the selection looked at and that
+/// was cancelled before that call; and such a `close` each key that was claimed before it looked at the keys' high-water
+/// mark, at an index below it.
 pub fn removals_law()
     ensures begin { BeginRemovesCancelled }
     ensures select { SelectRemovesCancelled }
@@ -90,10 +91,12 @@ pub fn orderly_examples_law()
 /// No cancellation is lost. In a legal and careful history, where a key is valid though its channel is closed or
 /// its selector is shut, a caller has still to cancel or remove it. So where no caller owes that, no closed
 /// channel and no selector that its closer has entered has a valid key. A beginning of a careful history is careful.
+/// That a caller is prepared to publish is said with the acts before and after, too.
 pub fn owed_law()
     ensures owed { NothingIsLost }
     ensures settled { SettledLosesNoKey }
     ensures beginnings { BeginningsAreCareful }
+    ensures prepared { PreparedIsSaid }
 {}
 
 /// Once a caller has closed a channel and cancelled its keys, only who publishes a key of the channel has still

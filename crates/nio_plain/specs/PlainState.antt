@@ -283,11 +283,14 @@ state_from group pipes interrupted channels_high chan selector = record {
     note = λ s i. ((selector s).keys i).note;
     pinned = λ _ _ _. false;
     free = λ s i. ((selector s).keys i).free;
+    touched = λ _ _. false;
+    lister = λ _. None;
     begun = λ s. is_some (selector s).turn;
     closer = λ s. (selector s).closer;
     entered = λ s. (selector s).entered;
     taker = λ _ _. None;
     put_due = λ _ _. false;
+    amid = λ _ _ _. false;
   };
   selection = λ s. (selector s).selection;
   group = group;

@@ -1,8 +1,9 @@
 -- What a script's system holds: the shared state of selectors, keys and channels, the selections in progress,
 -- a group of asynchronous channels, and pipes.
 --
--- A state of a script counts no caller as drawn, and counts a removed key as neither cancelled nor
--- selected: no call of a script tells these apart. Between its calls nobody has a pin or uses an index.
+-- A state of a script counts no caller as drawn and no index as touched, gives nobody a selector's list, and counts a
+-- removed key as neither cancelled nor selected: no call of a script tells these apart. Between its calls nobody has a
+-- pin, is amid a change of an index or uses one.
 use Rattle.std.specs.Prelude.{ℕ, ◌^◌, Bool, List, [], Option, None}
 use Rattle.nio_base.specs.declared.numbers.CallerNo.{CallerNo}
 use Rattle.nio_base.specs.declared.numbers.ChanId.{ChanId}

@@ -1,5 +1,6 @@
 -- Calls that are made again while another caller is in the way.
 use Rattle.std.proofs.Common.{◌≡◌, true, false, Result, List, [], refl, sym, subst}
+use Rattle.std.specs.Prelude.{None}
 use Rattle.std.proofs.lemmas.List.{append-nil}
 use Rattle.nio_base.specs.declared.numbers.CallerNo.{CallerNo}
 use Rattle.nio_base.specs.declared.numbers.SelNo.{SelNo}
@@ -20,17 +21,17 @@ use Rattle.nio_steps.specs.declared.refusal.BeginError.{BeginError}
 
 -- ---- beginning a selection
 
-pub begin_gives : (s : SelNo) (mode : Mode) → GivesPinsBack (Begins s mode)
-begin_gives s mode = λ acts answer shape. pins_are_given_back.try_begin s mode _ acts answer shape
+pub begin_gives : (s : SelNo) (mode : Mode) → GivesPinsBack (Begins s mode None)
+begin_gives s mode = λ acts answer shape. pins_are_given_back.try_begin s mode None _ acts answer shape
 
 pub begin_last : {me : CallerNo} {v0 v1 v2 : PassView} (s : SelNo) (mode : Mode)
     (found answer : Result Selection BeginError) → found ≡ answer → begin_finds_busy answer ≡ false
-    → TryingClause me (λ (_ : Unit {0}). Begins s mode) (λ _. begin_finds_busy) v0 v1
-    → CallClause me (Begins s mode) v1 v2 found
-    → CallClause me (Retries (Begins s mode) begin_finds_busy) v0 v2 answer
+    → TryingClause me (λ (_ : Unit {0}). Begins s mode None) (λ _. begin_finds_busy) v0 v1
+    → CallClause me (Begins s mode None) v1 v2 found
+    → CallClause me (Retries (Begins s mode None) begin_finds_busy) v0 v2 answer
 begin_last {me = me} {v1 = v1} {v2 = v2} s mode found answer is over trying run =
     try_last tt answer trying
-    (subst (λ (r : Result Selection BeginError). CallClause me (Begins s mode) v1 v2 r) is run) over
+    (subst (λ (r : Result Selection BeginError). CallClause me (Begins s mode None) v1 v2 r) is run) over
 
 -- ---- finishing a closing
 

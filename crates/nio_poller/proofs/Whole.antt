@@ -1,5 +1,6 @@
 -- Whole selections, from their beginning on.
 use Rattle.std.proofs.Common.{◌≡◌, ℕ, Option, Result, Ok, Err, List, [], ◌++◌, inl, inr, ◌⊎◌, refl, sym}
+use Rattle.std.specs.Prelude.{None}
 use Rattle.std.proofs.Common.{subst}
 use Rattle.std.specs.List.{Contains}
 use Rattle.std.proofs.lemmas.List.{append-nil}
@@ -28,16 +29,16 @@ use Rattle.nio_poller.specs.declared.selecting.SelectError.{SelectError}
 
 -- the selection that was begun has this mode
 begun-mode : (s : SelNo) (mode : Mode) (acts : List Act) (selection : Selection)
-    → Retries (Begins s mode) begin_finds_busy acts (Ok selection) → selection.mode ≡ mode
+    → Retries (Begins s mode None) begin_finds_busy acts (Ok selection) → selection.mode ≡ mode
 begun-mode s mode acts selection repeats =
-    (begin-parts s mode repeats.last.acts selection
-    (subst (Begins s mode repeats.last.acts) repeats.answers repeats.made)).mode_is
+    (begin-parts s mode None repeats.last.acts selection
+    (subst (Begins s mode None repeats.last.acts) repeats.answers repeats.made)).mode_is
 
 module _ {me : CallerNo} {v0 v1 : PassView} (s : SelNo) (mode : Mode) where
   -- a selection that doesn't begin
   pub select_refused : {p : Option (List Polled)} {ready : ChanNo → ℕ} {result : Result Selected SelectError}
       (refusal found : BeginError) → found ≡ refusal
-      → CallClause me (Retries (Begins s mode) begin_finds_busy) v0 v1 (Err found) → Answers (not_begun refusal) result
+      → CallClause me (Retries (Begins s mode None) begin_finds_busy) v0 v1 (Err found) → Answers (not_begun refusal) result
       → SelectClause me s mode v0 v1 p p ready result
   select_refused {p = p} {result = result} refusal found is begins answers =
       let acts = done_between me v0 v1 in
@@ -64,7 +65,7 @@ module _ {me : CallerNo} {v0 v1 : PassView} (s : SelNo) (mode : Mode) where
   -- a selection that begins, and then polls and is told
   pub select_begun : {v2 : PassView} {p0 p1 : Option (List Polled)} {ready : ChanNo → ℕ}
       {result : Result Selected SelectError} (selection : Selection)
-      → CallClause me (Retries (Begins s mode) begin_finds_busy) v0 v1 (Ok selection)
+      → CallClause me (Retries (Begins s mode None) begin_finds_busy) v0 v1 (Ok selection)
       → PollsClause me selection v1 v2 p0 p1 ready result → SelectClause me s mode v0 v2 p0 p1 ready result
   select_begun {v2 = v2} {p0 = p0} {p1 = p1} {ready = ready} selection begins rest =
       record {

@@ -78,7 +78,7 @@ pub record SelectClause (me : CallerNo) (s : SelNo) (mode : Mode) (old new : Pas
   pub polls : List Poll
   -- what the steps reply
   pub reply : SelectReply
-  pub call : CallClause me (MakesSelection s mode (told_from polls)) old new reply
+  pub call : CallClause me (MakesSelection s mode None (told_from polls)) old new reply
   pub answers : Answers reply result
   pub adds : AddsPolls polls_old polls_new (polls_of (looked_by call.shape.middle) mode polls)
   pub marks : MarksAllReady ready (looked_by call.shape.middle) (done_between me old new)

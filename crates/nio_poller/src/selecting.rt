@@ -1,5 +1,5 @@
 //! Whole selections.
-ghost use Rattle.std.specs.Prelude.{◌≡◌, ◌≢◌, Err, Ok, IfOk, OnErr};
+ghost use Rattle.std.specs.Prelude.{◌≡◌, ◌≢◌, None, Err, Ok, IfOk, OnErr};
 ghost use Rattle.nio_base.specs.declared.numbers.ChanNo.{ChanNo};
 ghost use Rattle.nio_history.specs.PassViews.{HasSelector};
 ghost use Rattle.nio_history.specs.declared.found.Mode.TheVariants as mode;
@@ -168,7 +168,7 @@ fn begin<R: Wait>(
 ) -> Result<Selecting, BeginError>
     requires ready { IsReady w.now p.old me }
     requires selector { HasSelector (view w.now p.old) sel }
-    ensures call { CallClause me (Retries (Begins sel mode) begin_finds_busy)
+    ensures call { CallClause me (Retries (Begins sel mode None) begin_finds_busy)
         (view w.now p.old) (view w.now p.new) result }
     ensures ready { IsReady w.now p.new me }
     ensures begun { IfOk result (Selects (view w.now p.new) me) }

@@ -124,13 +124,13 @@ module _ (w : Words) (d d' : Desk) (me : CallerNo) (s : SelNo) {before after : L
         says = ap (λ (p : Progress). record { reply = reply.Selected x.count x.why; left = p }) leaves;
       }) its
     where
-      its : CallClause me (λ xs (r : SelectReply). MakesSelection s Wait (told_from clause.polls) xs r
+      its : CallClause me (λ xs (r : SelectReply). MakesSelection s Wait None (told_from clause.polls) xs r
           × ((y : SelNo) (i told : ℕ) (from : KeyMark) → Contains xs (Mark y i from told (Ok tt)) → ⊥)) (view w d.pass)
           (view w d'.pass) (selected x)
       its = record {
         acts = clause.call.acts;
         shape = (
-          subst (λ (r : SelectReply). MakesSelection s Wait (told_from clause.polls)
+          subst (λ (r : SelectReply). MakesSelection s Wait None (told_from clause.polls)
               (done_between me (view w d.pass) (view w d'.pass)) r) (said_selected clause.reply x clause.answers)
               clause.call.shape,
           unmarked clause,
@@ -152,13 +152,13 @@ module _ (w : Words) (d d' : Desk) (me : CallerNo) (s : SelNo) {before after : L
         says = ap (λ (p : Progress). record { reply = reply.ClosedSelector; left = p }) leaves;
       }) its
     where
-      its : CallClause me (λ xs (r : SelectReply). MakesSelection s Wait (told_from clause.polls) xs r
+      its : CallClause me (λ xs (r : SelectReply). MakesSelection s Wait None (told_from clause.polls) xs r
           × ((y : SelNo) (i told : ℕ) (from : KeyMark) → Contains xs (Mark y i from told (Ok tt)) → ⊥)) (view w d.pass)
           (view w d'.pass) (not_begun begin_error.ClosedSelector)
       its = record {
         acts = clause.call.acts;
         shape = (
-          subst (λ (r : SelectReply). MakesSelection s Wait (told_from clause.polls)
+          subst (λ (r : SelectReply). MakesSelection s Wait None (told_from clause.polls)
               (done_between me (view w d.pass) (view w d'.pass)) r) (said_closed clause.reply clause.answers)
               clause.call.shape,
           unmarked clause,
@@ -244,7 +244,7 @@ module _ (w : Words) (d d' : Desk) (me : CallerNo) (stands : StandsFor w d me) w
       (progress_of d) (with_selection (progress_of d) s None) (waiting_call (select s Wait (told_from clause.polls))
       (selected x))
       m
-      (subst (λ (r : SelectReply). MakesSelection s Wait (told_from clause.polls)
+      (subst (λ (r : SelectReply). MakesSelection s Wait None (told_from clause.polls)
       (done_between me (view w d.pass) (view w d'.pass)) r) (said_selected clause.reply x clause.answers)
       clause.call.shape) tt (put_own s s m)))))
 
@@ -263,6 +263,6 @@ module _ (w : Words) (d d' : Desk) (me : CallerNo) (stands : StandsFor w d me) w
       (made_more (limits_of w) (acts_seen d.pass me) (done_between me (view w d.pass) (view w d'.pass)) me
       (progress_of d) (progress_of d)
       (waiting_call (select s Wait (told_from clause.polls)) (not_begun begin_error.ClosedSelector)) m
-      (subst (λ (r : SelectReply). MakesSelection s Wait (told_from clause.polls)
+      (subst (λ (r : SelectReply). MakesSelection s Wait None (told_from clause.polls)
       (done_between me (view w d.pass) (view w d'.pass)) r) (said_closed clause.reply clause.answers)
       clause.call.shape) tt m.ongoing))))

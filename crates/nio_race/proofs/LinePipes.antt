@@ -37,7 +37,7 @@ module _ (l : Limits) (now : Progress) (none : now.pipes ≡ []) where
   begin-pipeless : (me : CallerNo) (s : SelNo) (mode : Option Mode) → Leaves Pipeless (begin_line now me s mode)
   begin-pipeless me s None = none
   begin-pipeless me s (Some mode) =
-      makes-leaves Pipeless (try_begin_plan s mode false) begin_reply (after_begin now me s) by_answer
+      makes-leaves Pipeless (try_begin_plan s mode None false) begin_reply (after_begin now me s) by_answer
     where
       by_answer : (answer : Result Selection BeginError) → (after_begin now me s answer).pipes ≡ []
       by_answer (Ok x) = none

@@ -43,7 +43,7 @@ are_on w d places s x is = by_place (slot d.selections.items s) refl is
         → x.selection.selector.0 ≡ s
     by_place None at is' = absurd cc
     by_place (Some y) at is' = let same : selecting_of y ≡ x =
-        cc is' in ap (λ (z : Selecting). z.selection.selector.0) (sym same) ∙ places.selects s y at
+        cc is' in ap (λ (z : Selecting). z.selection.selector.0) (sym same) ∙ (places.selects s y at).0
 
 -- a caller that made whole calls stands so
 pub stands_made : (w : Words) (d : Desk) (me : CallerNo) → IsCaller (limits_of w) me → IsReady w d.pass me

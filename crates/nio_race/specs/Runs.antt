@@ -102,7 +102,7 @@ TellsNothing poll = poll.pairs ≡ []
 pub record Blocks (now : Progress) (s : SelNo) (acts : List Act) (said : Said) : Type 0 where
   pub polls : List Poll
   pub answer : SelectReply
-  pub selects : MakesSelection s Wait polls acts answer
+  pub selects : MakesSelection s Wait None polls acts answer
   pub untold : All TellsNothing polls
   pub unmarked : (x : SelNo) (i told : ℕ) (from : KeyMark) → Contains acts (Mark x i from told (Ok tt)) → ⊥
   pub says : BlockSays now s answer said

@@ -103,5 +103,10 @@ pub(crate) fn make_step(w: &Words, p: &mut Pass, me: CallerNo, act: Act) -> Opti
         }
         Act::TakeFree(s, i, _) => Some(Act::TakeFree(s, i, w.take_free(p, me, s, i))),
         Act::Reopen(c, from, _) => Some(Act::Reopen(c, from, w.reopen(p, me, c, from))),
+        Act::Touch(s, i, _) => Some(Act::Touch(s, i, w.touch(p, me, s, i))),
+        Act::LookTouched(s, j, _) => Some(Act::LookTouched(s, j, w.look_touched(p, me, s, j))),
+        Act::TakeTouched(s, j, _) => Some(Act::TakeTouched(s, j, w.take_touched(p, me, s, j))),
+        Act::LookIndex(s, i, _) => Some(Act::LookIndex(s, i, w.look_index(p, me, s, i))),
+        Act::TakeList(s, _) => Some(Act::TakeList(s, w.take_list(p, me, s))),
     }
 }

@@ -1,5 +1,6 @@
 -- What puts the calls of a selection together.
 use Rattle.std.proofs.Common.{◌≡◌, ℕ, Bool, true, false, [], ◌∷◌, ap, sym, ◌∙◌, subst}
+use Rattle.std.proofs.Common.{Bool}
 use Rattle.std.proofs.lemmas.Bool.{and_parts}
 use Rattle.nio_base.specs.declared.numbers.CallerNo.{CallerNo}
 use Rattle.nio_base.specs.declared.numbers.SelNo.{SelNo}
@@ -44,18 +45,20 @@ begun_turn {p = p} {me = me} {s = s} here =
 
 -- ---- the end of a selection
 
-pub ended : {me : CallerNo} {s : SelNo} {found : GateWord} {v0 v1 v2 v3 : PassView} (selection : Selection)
-    (answer : Selected) → s ≡ selection.selector → CallClause me (Completes (remove_all_cancelled s)) v0 v1 tt
+pub ended : {me : CallerNo} {s : SelNo} {found : GateWord} {listed : Bool} {v0 v1 v2 v3 : PassView}
+    (selection : Selection) (answer : Selected) → s ≡ selection.selector → listed ≡ selection.listed
+    → CallClause me (Completes (remove_all_cancelled s listed)) v0 v1 tt
     → ActsClause me (EndWake s found ∷ []) v1 v2 → ActsClause me (GiveTurn s ∷ []) v2 v3
     → CallClause me (Completes (end_selection selection answer)) v0 v3 (done answer)
-ended {me = me} {s = s} {v0 = v0} {v3 = v3} selection answer on removed ends gives =
-    subst (λ (s' : SelNo). CallClause me (Completes (ending s')) v0 v3 (done answer)) on
+ended {me = me} {s = s} {listed = listed} {v0 = v0} {v3 = v3} selection answer on same removed ends gives =
+    subst (λ (s' : SelNo). CallClause me (Completes (ending s' selection.listed)) v0 v3 (done answer)) on
+    (subst (λ b. CallClause me (Completes (ending s b)) v0 v3 (done answer)) same
     (returned
     (ran_then (λ _. end_wake s >> (give_turn s >> reply (done answer))) removed
-    (left_ask _ ends (left_ask _ gives (left_after gives)))))
+    (left_ask _ ends (left_ask _ gives (left_after gives))))))
   where
-    ending : SelNo → Plan ToldReply
-    ending s' = remove_all_cancelled s' >>= λ _. end_wake s' >> (give_turn s' >> reply (done answer))
+    ending : SelNo → Bool → Plan ToldReply
+    ending s' b = remove_all_cancelled s' b >>= λ _. end_wake s' >> (give_turn s' >> reply (done answer))
 
 -- after the marks the selection is over
 pub over : {me : CallerNo} {s : SelNo} {gate : GateWord} {interrupted : Bool} {answer : ToldReply}

@@ -1,5 +1,8 @@
 -- After a poll that failed, and after want of memory, the turn is free, and a pending wakeup stays.
 use Rattle.std.proofs.Common.{◌≡◌, ◌==◌, ◌&&◌, true, false, Some, None, Result, Ok, Err, List, [], ◌∷◌, ◌++◌, refl, ap}
+use Rattle.nio_history.specs.Turns.{ends_wakeup}
+use Rattle.nio_steps.specs.declared.looked.LookedKey.{LookedKey}
+use Rattle.std.specs.Prelude.{Option, List}
 use Rattle.std.proofs.Common.{sym, ◌∙◌, subst, append_assoc, eq-eqb}
 use Rattle.std.specs.Prelude.{⊤, is_some}
 use Rattle.std.proofs.lemmas.Bool.{and_parts, and_from}
@@ -16,7 +19,7 @@ use Rattle.nio_history.proofs.Put.{put_keeps, put-same}
 use Rattle.nio_history.specs.Acts.{effect}
 use Rattle.nio_history.specs.Conditions.{Condition, is_held_by, has_turn}
 use Rattle.nio_history.specs.Histories.{state_after, mine, event_of, last_of, EndsWith, IsLegal}
-use Rattle.nio_history.specs.Holders.{Keeps, ends_wakeup}
+use Rattle.nio_history.specs.Holders.{Keeps}
 use Rattle.nio_history.specs.OwnEvents.{has, gives_turn}
 use Rattle.nio_history.specs.PassViews.{PassView, Holds, known, done_between, ActsClause}
 use Rattle.nio_history.specs.Permanent.{the_turn}
@@ -141,13 +144,14 @@ give-act : (s : SelNo) (act : Act) → question_of act ≡ Question.give_turn s 
 give-act s (GiveTurn s') asks = cc asks
 give-act s _ asks = absurd (cc asks)
 
-begin-lacks : (s : SelNo) (mode : Mode) → Always (Lacks s) (try_begin_plan s mode true)
+begin-lacks : (s : SelNo) (mode : Mode) (known : Option (List LookedKey))
+    → Always (Lacks s) (try_begin_plan s mode known true)
 unfolding try_begin_plan
-begin-lacks s mode =
+begin-lacks s mode known =
     λ gate asks. always_if (λ xs r. Lacks s (gate ∷ xs) r) (gate_in (answer_of gate)).shut
-    (reply (Err BeginError.ClosedSelector)) (begin_open s mode true) (λ _. tt)
+    (reply (Err BeginError.ClosedSelector)) (begin_open s mode known true) (λ _. tt)
     (λ _ take asks_take. always_if (λ xs r. Lacks s (gate ∷ take ∷ xs) r) (is_some (holder_in (answer_of take)))
-    (reply (Err BeginError.Busy)) (begin_with_turn s mode true) (λ _. tt)
+    (reply (Err BeginError.Busy)) (begin_with_turn s mode known true) (λ _. tt)
     (λ free look asks_look. always_if (λ xs r. Lacks s (gate ∷ take ∷ look ∷ xs) r) (gate_in (answer_of look)).shut
     (given_back s (Err BeginError.ClosedSelector)) _ (λ _ give asks_give. tt)
     (λ _ keys asks_keys give asks_give. record {
@@ -172,7 +176,7 @@ nothing_after n past act (x ∷ xs) none is =
     (sym none ∙ (ap (mine n) last.1 ∙ mine-around n last.0 act [])))
 
 pub no_memory_gives_back : NoMemoryGivesBack
-no_memory_gives_back old new me s mode call = (
+no_memory_gives_back old new me s mode known call = (
   past,
   record {
     later = take.later;
@@ -183,8 +187,8 @@ no_memory_gives_back old new me s mode call = (
 )
   where
     lacks : LacksMemory s (done_between me old new)
-    lacks = always_run (Lacks s) (try_begin_plan s mode true) (done_between me old new) (Err BeginError.Memory)
-        (begin-lacks s mode) call.shape
+    lacks = always_run (Lacks s) (try_begin_plan s mode known true) (done_between me old new) (Err BeginError.Memory)
+        (begin-lacks s mode known) call.shape
 
     more : List Event
     more = call.acts.history.goes_on.0

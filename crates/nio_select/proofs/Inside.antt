@@ -1,5 +1,7 @@
 -- What a selection in progress knows of its looked list: it rises, and its indexes are within the limits.
 use Rattle.std.proofs.Common.{◌≡◌, ℕ, suc, ◌-◌, ◌<◌, ◌≤◌, List, [], ◌∷◌, ◌++◌, length, map, ap, sym, ◌∙◌, subst, arith}
+use Rattle.std.proofs.Common.{false}
+use Rattle.nio_steps.proofs.BeginLaws.{unlisted-begins}
 use Rattle.std.proofs.Common.{append_assoc}
 use Rattle.std.specs.List.{All}
 use Rattle.std.proofs.lemmas.List.Elements.{All-nil, All-cons, All-head, All-tail, All-weaker}
@@ -45,7 +47,7 @@ bound_inside : (l : Limits) (n : CallerNo) (events : List Event) (selection : Se
     → IsBegun (mine n events) selection → selection.bound ≤ l.keys
 bound_inside l n events selection legal begun =
     let s = selection.selector in
-    let first = begin-parts s selection.mode begun.beginning selection begun.begins in
+    let first = begin-parts s selection.mode begun.known begun.beginning selection begun.begins in
     let before = begun.earlier ++ (first.gate ∷ first.take ∷ first.look ∷ []) in
     let later = first.over ++ begun.since in
     let act : first.keys ≡ LookKeys s selection.bound = keys-act s first.keys first.asks_keys
@@ -81,18 +83,20 @@ few (slot ∷ slots) low high rise above below =
     (All-tail (λ x. x.key.index < high) slot slots below) in
     omega arith
 
-in_order : (pass : PassView) (me : CallerNo) (selection : Selection) → Selects pass me selection → IsInOrder selection
-in_order pass me selection selects =
-    looks_in_order selection.selector selection.mode selects.begun.beginning selection selects.begun.begins
+in_order : (pass : PassView) (me : CallerNo) (selection : Selection) → Selects pass me selection
+    → selection.listed ≡ false → IsInOrder selection
+in_order pass me selection selects unlisted =
+    looks_in_order selection.selector selection.mode selects.begun.beginning selection
+    (unlisted-begins (mine me pass.seen) selection selects.begun unlisted)
 
 -- the indexes of the looked list are within the limits
 pub looked_inside : {w : Words} {p : Pass} {me : CallerNo} {selection : Selection} → IsReady w p me
-    → Selects (view w p) me selection
+    → Selects (view w p) me selection → selection.listed ≡ false
     → All (λ entry. entry.index < (limits_of w).keys) selection.looked
-looked_inside {w = w} {p = p} {me = me} {selection = selection} ready selects =
+looked_inside {w = w} {p = p} {me = me} {selection = selection} ready selects unlisted =
     let bound = bound_inside (limits_of w) me (seen p) selection ready.pass.legal selects.begun in
     All-weaker (λ entry. entry.index < selection.bound) (λ entry. entry.index < (limits_of w).keys)
-    (λ entry below. omega arith) selection.looked (in_order (view w p) me selection selects).below
+    (λ entry below. omega arith) selection.looked (in_order (view w p) me selection selects unlisted).below
 
 -- what holds of each key holds of each slot
 all_back : (P : LookedKey → Type 0) (slots : List Slot) → All P (map (λ (slot : Slot). slot.key) slots)

@@ -16,7 +16,8 @@ use Rattle.nio_steps.proofs.RunLaws.{follows_bind}
 use Rattle.nio_steps.specs.Calls.{CallClause}
 use Rattle.nio_steps.specs.Plan.{reply}
 use Rattle.nio_steps.specs.Runs.{Completes}
-use Rattle.nio_steps.specs.SelectCalls.{Selection, Begins, over_listed, look_over, try_begin_plan}
+use Rattle.nio_steps.specs.SelectCalls.{Selection, Begins, try_begin_plan}
+use Rattle.nio_steps.specs.Looking.{over_listed, look_over}
 use Rattle.nio_steps.specs.declared.looked.LookedKey.{LookedKey}
 
 -- the same steps after a beginning up to them
@@ -26,11 +27,11 @@ begun_with s bound over =
     LookGate s unshut ∷ TakeTurn s None ∷ BeginLook s unshut ∷ LookKeys s bound ∷ over
 
 abbrev selection_of : SelNo → ℕ → List LookedKey → Selection
-selection_of s bound looked = record { selector = s; mode = Mode.Wait; bound = bound; looked = looked }
+selection_of s bound looked = record { selector = s; mode = Mode.Wait; bound = bound; looked = looked; listed = false }
 
 begun : (s : SelNo) (bound : ℕ) (over : List Act) (looked : List LookedKey)
     → Completes (over_listed s bound (look_over s) []) over looked
-    → Begins s Mode.Wait (begun_with s bound over) (Ok (selection_of s bound looked))
+    → Begins s Mode.Wait None (begun_with s bound over) (Ok (selection_of s bound looked))
 unfolding try_begin_plan
 begun s bound over looked run =
     let rest = follows_bind (over_listed s bound (look_over s) []) (λ found. reply (Ok (selection_of s bound found))) over

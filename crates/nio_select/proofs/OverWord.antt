@@ -9,7 +9,7 @@ use Rattle.nio_steps.proofs.SweepLaws.{over_turn, over_done}
 use Rattle.nio_steps.specs.Calls.{CallClause, PartClause}
 use Rattle.nio_steps.specs.Plan.{Plan, reply, ◌>>=◌}
 use Rattle.nio_steps.specs.Runs.{Completes}
-use Rattle.nio_steps.specs.SelectCalls.{over_word}
+use Rattle.nio_steps.specs.Looking.{over_word}
 use Rattle.nio_steps.specs.Sweeps.{sweep_over}
 use Rattle.nio_select.proofs.FreeBits.{AreLeft, IsNext, left_from, left_first, left_below, left_above, left_none}
 

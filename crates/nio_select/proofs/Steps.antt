@@ -1,5 +1,6 @@
 -- The laws of plans about selections, over the calls on a pass.
 use Rattle.std.proofs.Common.{◌≡◌, ℕ, zero, suc, ◌+◌, ◌*◌, ◌≤◌, Bool, true, false, if◌then◌else◌, Ok, List, [], ◌∷◌}
+use Rattle.std.proofs.Common.{None}
 use Rattle.std.proofs.Common.{◌++◌, IsTrue, map, length, refl, ap, sym, ◌∙◌, subst, arith, append_assoc}
 use Rattle.std.specs.List.{All}
 use Rattle.std.proofs.lemmas.Bool.{or_right}
@@ -33,7 +34,7 @@ keys_are_gone law old new me s mode selection i serial call published cancelled 
     let clause = call.acts.history in
     let later : List Event = clause.goes_on.0 in
     let parts : old.seen ++ later ≡ new.seen = clause.goes_on.1 in
-    let begins : Begins s mode (mine me later) (Ok selection) = subst (λ acts. Begins s mode acts (Ok selection))
+    let begins : Begins s mode None (mine me later) (Ok selection) = subst (λ acts. Begins s mode None acts (Ok selection))
     (done_in me old new later parts) call.shape in
     subst (λ events. IsTrue (was_removed ((state_after events).key s.0 i) serial)
     × All (λ entry. ¬ ((entry.index ≡ i) × (entry.serial ≡ serial))) selection.looked) parts
@@ -41,7 +42,8 @@ keys_are_gone law old new me s mode selection i serial call published cancelled 
     begins published cancelled below)
 
 pub keys_are_gone_at_end : CancelledKeysGoAtEnd → CancelledKeysAreGoneAtEnd
-keys_are_gone_at_end law old new me selection poll answer mark i serial past call finds published cancelled below =
+keys_are_gone_at_end law old new me selection poll answer mark i serial past unlisted call finds published cancelled
+    below =
     let s = selection.selector in
     let looked = finds.after.0 in
     let e = event_of me (LookKeys s mark) in
@@ -53,7 +55,7 @@ keys_are_gone_at_end law old new me selection poll answer mark i serial past cal
     (sym whole) call.acts.history.legal in
     let run = subst (λ acts. Tells selection poll acts (done answer)) (done_in me old new in_call whole) call.shape in
     subst (λ events. IsTrue (was_removed ((state_after events).key s.0 i) serial)) whole
-    (law old.limits me old.seen looked finds.later selection poll answer mark i serial legal run
+    (law old.limits me old.seen looked finds.later selection poll answer mark i serial legal unlisted run
     (subst (λ events. IsTrue (was_published ((state_after events).key s.0 i) serial)) (sym finds.after.1) published)
     (subst (λ events. IsTrue (was_cancelled ((state_after events).key s.0 i) serial)) (sym finds.after.1) cancelled)
     below)
@@ -191,7 +193,7 @@ calls_are_bounded law me before_begin after_begin before_told after_told selecti
 
     whole : IsWholeSelection selection poll answer its.found mark first second between third fourth
     whole = record {
-      begins = subst (λ acts. Begins s selection.mode acts (Ok selection)) begin_is is.begins.shape;
+      begins = subst (λ acts. Begins s selection.mode None acts (Ok selection)) begin_is is.begins.shape;
       tells = subst (λ acts. Tells selection poll acts (done answer)) told_is is.tells.shape;
       kept = sym (ap (has (gives_turn s.0)) between_is) ∙ is.keeps_turn;
       unremoved = sym (ap (has (removes_on s.0)) between_is) ∙ is.keeps_keys;

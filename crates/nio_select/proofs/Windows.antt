@@ -1,5 +1,6 @@
 -- The look with which a selection begins and the look at the high-water mark at its end, and what happens in between.
 use Rattle.std.proofs.Common.{◌≡◌, ℕ, Ok, List, [], ◌∷◌, ◌++◌, refl, ap, sym, ◌∙◌, append_assoc}
+use Rattle.std.proofs.Common.{None}
 use Rattle.nio_base.specs.declared.numbers.SelNo.{SelNo}
 use Rattle.nio_history.specs.Histories.{event_of}
 use Rattle.nio_history.specs.PassViews.{done_between}
@@ -27,11 +28,11 @@ record HasLook (s : SelNo) (acts : List Act) : Type 0 where
   later : List Act
   parts : acts ≡ before ++ BeginLook s found ∷ later
 
-begin-look : (selection : Selection) (acts : List Act) → Begins selection.selector selection.mode acts (Ok selection)
+begin-look : (selection : Selection) (acts : List Act) → Begins selection.selector selection.mode None acts (Ok selection)
     → HasLook selection.selector acts
 begin-look selection acts run =
     let s = selection.selector in
-    let first = begin-parts s selection.mode acts selection run in
+    let first = begin-parts s selection.mode None acts selection run in
     record {
       before = first.gate ∷ first.take ∷ [];
       found = gate_in (answer_of first.look);

@@ -1,5 +1,7 @@
 -- Laws of the calls of a selection, as passes see them.
 use Rattle.std.specs.Prelude.{◌≡◌, ℕ, ◌+◌, ◌*◌, ◌<◌, ◌≤◌, Ok, Err, None, IsTrue, IsFalse, List, [], ◌∷◌}
+use Rattle.nio_steps.specs.declared.looked.LookedKey.{LookedKey}
+use Rattle.std.specs.Prelude.{Option}
 use Rattle.std.specs.Prelude.{◌++◌, length, map}
 use Rattle.std.specs.List.{All}
 use mathlib.Core.List.{IsPrefix}
@@ -26,12 +28,12 @@ use Rattle.nio_select.specs.InProgress.{Selects}
 
 -- ---- cancelled keys
 
--- A key that was published and cancelled before a `try_begin` that answers Ok with a bound above its index is removed
--- after it, and isn't in the looked list.
+-- A key that was published and cancelled before a `try_begin` without the list that answers Ok with a bound above its
+-- index is removed after it, and isn't in the looked list.
 abbrev pub CancelledKeysAreGone : Type 0
 CancelledKeysAreGone =
     (old new : PassView) (me : CallerNo) (s : SelNo) (mode : Mode) (selection : Selection) (i serial : ℕ)
-    → CallClause me (Begins s mode) old new (Ok selection)
+    → CallClause me (Begins s mode None) old new (Ok selection)
     → IsTrue (was_published ((known old).key s.0 i) serial) → IsTrue (was_cancelled ((known old).key s.0 i) serial)
     → i < selection.bound
     → IsTrue (was_removed ((known new).key s.0 i) serial)
@@ -43,14 +45,15 @@ pub record FindsHigh (me : CallerNo) (old new : PassView) (s : SelNo) (mark : �
   pub parts : new.seen ≡ past ++ event_of me (LookKeys s mark) ∷ later
   pub after : IsPrefix old.seen past
 
--- After a `told` that ends its selection each key is removed whose index is below the high-water mark that it found, and
+-- After a `told` that ends a selection without the list each key is removed whose index is below the high-water mark that it found, and
 -- that was published and cancelled before that look: also one that was registered since the selection began.
 abbrev pub CancelledKeysAreGoneAtEnd : Type 0
 CancelledKeysAreGoneAtEnd =
     (old new : PassView) (me : CallerNo) (selection : Selection) (poll : Poll) (answer : Selected)
     (mark i serial : ℕ) (past : List Event)
     → let s = selection.selector in
-    CallClause me (Tells selection poll) old new (done answer) → FindsHigh me old new s mark past
+    IsFalse selection.listed → CallClause me (Tells selection poll) old new (done answer)
+    → FindsHigh me old new s mark past
     → IsTrue (was_published ((state_after past).key s.0 i) serial)
     → IsTrue (was_cancelled ((state_after past).key s.0 i) serial) → i < mark
     → IsTrue (was_removed ((known new).key s.0 i) serial)
@@ -64,11 +67,11 @@ EndsFindHigh =
 
 -- ---- how many steps a selection makes
 
--- A whole selection by two calls on a pass: the `try_begin` answered Ok, and the `told` ended the selection. Between
+-- A whole selection without the list by two calls on a pass: the `try_begin` answered Ok, and the `told` ended the selection. Between
 -- the two the caller doesn't give the turn back and removes no key there.
 pub record IsSelection (me : CallerNo) (before_begin after_begin before_told after_told : PassView)
     (selection : Selection) (poll : Poll) (answer : Selected) : Type 0 where
-  pub begins : CallClause me (Begins selection.selector selection.mode) before_begin after_begin (Ok selection)
+  pub begins : CallClause me (Begins selection.selector selection.mode None) before_begin after_begin (Ok selection)
   pub goes_on : IsPrefix after_begin.seen before_told.seen
   pub keeps_turn : IsFalse (has (gives_turn selection.selector.0) (done_between me after_begin before_told))
   pub keeps_keys : IsFalse (has (removes_on selection.selector.0) (done_between me after_begin before_told))
@@ -165,6 +168,6 @@ pub record TakesTurn (me : CallerNo) (old new : PassView) (s : SelNo) (past : Li
 -- pending when it took the turn is pending still.
 abbrev pub NoMemoryGivesBack : Type 0
 NoMemoryGivesBack =
-    (old new : PassView) (me : CallerNo) (s : SelNo) (mode : Mode)
-    → CallClause me (Begins s mode) old new (Err BeginError.Memory)
+    (old new : PassView) (me : CallerNo) (s : SelNo) (mode : Mode) (known : Option (List LookedKey))
+    → CallClause me (Begins s mode known) old new (Err BeginError.Memory)
     → (past : List Event) × TakesTurn me old new s past × IsGivenBack past new s

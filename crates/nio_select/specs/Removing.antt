@@ -2,7 +2,7 @@
 use Rattle.std.specs.Prelude.{ℕ}
 use Rattle.nio_base.specs.declared.numbers.SelNo.{SelNo}
 use Rattle.nio_steps.specs.Plan.{Plan}
-use Rattle.nio_steps.specs.SelectCalls.{remove_if_cancelled}
+use Rattle.nio_steps.specs.Looking.{remove_if_cancelled}
 
 -- what is done at an index that isn't free
 abbrev pub removes_at : SelNo → ℕ → Unit {0} → Plan (Unit {0})

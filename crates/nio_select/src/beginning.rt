@@ -1,13 +1,14 @@
 //! Beginning a selection.
-ghost use Rattle.std.specs.Prelude.{◌≡◌, ◌+◌, ◌*◌, ◌<◌, ◌≤◌, ◌++◌, [], ◌∷◌, IfOk, IsTrue};
+ghost use Rattle.std.specs.Prelude.{◌≡◌, ◌+◌, ◌*◌, ◌<◌, ◌≤◌, ◌++◌, None, [], ◌∷◌, IfOk, IsTrue};
 ghost use Rattle.std.specs.Vec.{vec_len, vec_capacity};
 ghost use Rattle.nio_history.specs.Conditions.{IsKey, IsSelector, has_turn};
 ghost use Rattle.nio_history.specs.PassViews.{HasSelector};
 ghost use Rattle.nio_steps.specs.Calls.{CallClause};
 ghost use Rattle.nio_steps.specs.ChannelCalls.{words_below as count_words_below};
 ghost use Rattle.nio_steps.specs.Runs.{Completes};
-ghost use Rattle.nio_steps.specs.SelectCalls.{Begins, look_over as looks_over, look_valid as looks_valid};
-ghost use Rattle.nio_steps.specs.SelectCalls.{looked_key, over_listed, over_word};
+ghost use Rattle.nio_steps.specs.SelectCalls.{Begins};
+ghost use Rattle.nio_steps.specs.Looking.{look_over as looks_over, look_valid as looks_valid};
+ghost use Rattle.nio_steps.specs.Looking.{looked_key, over_listed, over_word};
 ghost use Rattle.nio_words.specs.Passes.{IsReady, limits_of, state_seen};
 ghost use Rattle.nio_words.specs.Views.{view};
 ghost use Rattle.nio_select.specs.Beginning.{BeginsOpen, BeginsWithTurn, BeginsBelow};
@@ -38,7 +39,7 @@ pub fn try_begin(
 ) -> Result<Selecting, BeginError>
     requires ready { IsReady w.now p.old me }
     requires selector { HasSelector (view w.now p.old) sel }
-    ensures call { CallClause me (Begins sel mode) (view w.now p.old) (view w.now p.new) result }
+    ensures call { CallClause me (Begins sel mode None) (view w.now p.old) (view w.now p.new) result }
     ensures ready { IsReady w.now p.new me }
     ensures begun { IfOk result (Selects (view w.now p.new) me) }
 {
@@ -59,7 +60,7 @@ fn begin_open(
 ) -> Result<Selecting, BeginError>
     requires ready { IsReady w.now p.old me }
     requires selector { IsSelector (limits_of w.now) sel }
-    ensures call { CallClause me (BeginsOpen sel mode) (view w.now p.old) (view w.now p.new) result }
+    ensures call { CallClause me (BeginsOpen sel mode None) (view w.now p.old) (view w.now p.new) result }
     ensures ready { IsReady w.now p.new me }
 {
     if w.take_turn(p, me, sel).is_some() {
@@ -79,7 +80,7 @@ fn begin_with_turn(
     requires ready { IsReady w.now p.old me }
     requires selector { IsSelector (limits_of w.now) sel }
     requires turn { IsTrue (has_turn (state_seen p.old) me sel) }
-    ensures call { CallClause me (BeginsWithTurn sel mode) (view w.now p.old) (view w.now p.new) result }
+    ensures call { CallClause me (BeginsWithTurn sel mode None) (view w.now p.old) (view w.now p.new) result }
     ensures ready { IsReady w.now p.new me }
 {
     if w.begin_look(p, me, sel).shut {
@@ -102,7 +103,7 @@ fn begin_below(
 ) -> Result<Selecting, BeginError>
     requires begun { HasBegun w.now p.old me sel }
     requires bound { bound ≤ (limits_of w.now).keys }
-    ensures call { CallClause me (BeginsBelow sel mode bound) (view w.now p.old) (view w.now p.new) result }
+    ensures call { CallClause me (BeginsBelow sel mode None bound) (view w.now p.old) (view w.now p.new) result }
     ensures ready { IsReady w.now p.new me }
 {
     let Ok(mut slots) = Vec::with_capacity(alloc, 64 * words_below(w, bound) as usize) else {

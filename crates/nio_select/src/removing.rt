@@ -1,13 +1,13 @@
 //! Removing cancelled keys within a selection.
-ghost use Rattle.std.specs.Prelude.{◌≡◌, ◌*◌, ◌<◌, ◌≤◌, IsTrue};
+ghost use Rattle.std.specs.Prelude.{◌≡◌, ◌*◌, ◌<◌, ◌≤◌, false, IsTrue};
 ghost use Rattle.nio_history.specs.Conditions.{IsKey, has_begun, may_remove_cancelled};
 ghost use Rattle.nio_steps.specs.Calls.{CallClause};
 ghost use Rattle.nio_steps.specs.ChannelCalls.{words_below as count_words_below};
 ghost use Rattle.nio_steps.specs.Runs.{Completes};
-ghost use Rattle.nio_steps.specs.SelectCalls.{over_listed, over_word};
+ghost use Rattle.nio_steps.specs.Looking.{over_listed, over_word};
 ghost use Rattle.nio_steps.specs.SelectCalls.{remove_all_cancelled as removes_all_cancelled};
-ghost use Rattle.nio_steps.specs.SelectCalls.{remove_cancelled as removes_cancelled};
-ghost use Rattle.nio_steps.specs.SelectCalls.{remove_if_cancelled as removes_if_cancelled};
+ghost use Rattle.nio_steps.specs.Looking.{remove_cancelled as removes_cancelled};
+ghost use Rattle.nio_steps.specs.Looking.{remove_if_cancelled as removes_if_cancelled};
 ghost use Rattle.nio_words.specs.Passes.{IsReady, limits_of, state_seen};
 ghost use Rattle.nio_words.specs.Views.{view};
 ghost use Rattle.nio_select.specs.Begun.{HasBegun};
@@ -29,7 +29,7 @@ pub(crate) fn words_below(w: &Words, mark: u32) -> u32
 // Removes all keys of the selector's cancelled set, below the high-water mark that it finds.
 pub(crate) fn remove_all_cancelled(w: &Words, p: &mut Pass, me: CallerNo, sel: SelNo)
     requires begun { HasBegun w.now p.old me sel }
-    ensures call { CallClause me (Completes (removes_all_cancelled sel)) (view w.now p.old) (view w.now p.new) result }
+    ensures call { CallClause me (Completes (removes_all_cancelled sel false)) (view w.now p.old) (view w.now p.new) result }
     ensures begun { HasBegun w.now p.new me sel }
 {
     let mark = w.look_keys(p, me, sel);

@@ -29,6 +29,7 @@ pub struct Selecting {
 }
 
 impl Model for Selecting {
+    ghost use Rattle.std.specs.Prelude.{false};
     ghost use Rattle.nio_steps.specs.SelectCalls.{Selection};
 
     ghost Value = { Selection };
@@ -38,6 +39,7 @@ impl Model for Selecting {
       mode = s.mode;
       bound = s.bound;
       looked = s.asked;
+      listed = false;
     } };
 }
 

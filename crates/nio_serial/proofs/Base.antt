@@ -8,7 +8,7 @@ use Rattle.nio_base.specs.declared.numbers.SelNo.{SelNo}
 use Rattle.nio_history.proofs.Put.{put_at_keeps, put_both, put_at_both, put_at-same}
 use Rattle.nio_history.specs.Acts.{taken_by}
 use Rattle.nio_history.specs.Sets.{fits, in_key_set, is_in_key_set, in_cancelled_set, is_valid, is_valid_key}
-use Rattle.nio_history.specs.State.{State, put, put_at, with_hold, with_pin, with_key, with_mark}
+use Rattle.nio_history.specs.State.{State, put, put_at, with_hold, with_pin, with_key, with_mark, with_amid}
 use Rattle.nio_history.specs.declared.found.Mark.{Mark}
 use Rattle.nio_history.specs.declared.found.Stage.{Stage}
 use Rattle.nio_plain.proofs.Places.{put_same, put_at_same, put-twice, put_at-twice}
@@ -45,16 +45,31 @@ put_at-under {A = A} {B = B} g f i k x = λ j m n. at m n j
     at m n = put_at_both (λ m' n' a b. g m' n' a ≡ b) f (λ m' n'. g m' n' (f m' n')) i k x (g i k x)
         (λ _. refl) m n refl
 
+-- what is put for a caller at an index and then taken back
+pub caller-back : (p : ℕ → ℕ → ℕ → Bool) (s i n : ℕ) (x : Bool) → p s i n ≡ false
+    → let taken = put_at p s i (put (p s i) n x) in
+    put_at taken s i (put (taken s i) n false) ≡ p
+caller-back p s i n x free =
+    let with_one = put (p s i) n x in
+    let taken = put_at p s i with_one in
+    ap (λ (q : ℕ → Bool). put_at taken s i (put q n false)) (put_at-same p s i with_one)
+    ∙ (ap (λ (q : ℕ → Bool). put_at taken s i q) (put-back (p s i) n x false free)
+    ∙ put_at-back p s i with_one (p s i) refl)
+
 -- a pin that is taken and given back
 pub pin-back : (p : ℕ → ℕ → ℕ → Bool) (s i n : ℕ) → p s i n ≡ false
     → let taken = put_at p s i (put (p s i) n true) in
     put_at taken s i (put (taken s i) n false) ≡ p
-pin-back p s i n free =
-    let with_one = put (p s i) n true in
-    let taken = put_at p s i with_one in
-    ap (λ (q : ℕ → Bool). put_at taken s i (put q n false)) (put_at-same p s i with_one)
-    ∙ (ap (λ (q : ℕ → Bool). put_at taken s i q) (put-back (p s i) n true false free)
-    ∙ put_at-back p s i with_one (p s i) refl)
+pin-back p s i n free = caller-back p s i n true free
+
+-- what wasn't put is taken back
+pub caller-off : (p : ℕ → ℕ → ℕ → Bool) (s i n : ℕ) → p s i n ≡ false → put_at p s i (put (p s i) n false) ≡ p
+caller-off p s i n free = put_at_same p s i (put (p s i) n false) (sym (put_same (p s i) n false free))
+
+-- the caller has no pin on the index, and is amid no change there
+pub record IsOff (pinned amid : ℕ → ℕ → ℕ → Bool) (s i n : ℕ) : Type 0 where
+  pub unpinned : pinned s i n ≡ false
+  pub unchanging : amid s i n ≡ false
 
 -- ---- settled keys
 
@@ -118,7 +133,8 @@ module _ {R S : Type 0} (F : Performed R → S) (me : CallerNo) (P Q : Plan R) (
 
 -- the pin is given back
 abbrev pub unpinned : {R : Type 0} → CallerNo → SelNo → ℕ → Performed R → Performed R
-unpinned me s i done = record { answer = done.answer; state = with_pin done.state s.0 i me.0 false }
+unpinned me s i done =
+    record { answer = done.answer; state = with_amid (with_pin done.state s.0 i me.0 false) s.0 i me.0 false }
 
 pub perform_pinned : {A : Type 0} (me : CallerNo) (s : SelNo) (i : ℕ) (steps : Stage → Plan A) (st : State)
     → perform me (under_pin s i steps) st

@@ -27,15 +27,16 @@ use Rattle.nio_steps.proofs.Lists.{pairs-none, pairs-head, pairs-tail, pairs-pus
 use Rattle.nio_steps.proofs.PerformLaws.{perform_then_on}
 use Rattle.nio_steps.specs.Perform.{Performed, perform}
 use Rattle.nio_steps.specs.Plan.{Plan, ◌>>=◌}
-use Rattle.nio_steps.specs.SelectCalls.{Selection, given_back, over_listed, look_over, looked_key}
+use Rattle.nio_steps.specs.SelectCalls.{Selection, given_back}
+use Rattle.nio_steps.specs.Looking.{over_listed, look_over, looked_key}
 use Rattle.nio_steps.specs.SelectCalls.{begin_below, begin_with_turn, begin_open, try_begin_plan}
 use Rattle.nio_steps.specs.Steps.{look_keys}
 use Rattle.nio_steps.specs.declared.looked.LookedKey.{LookedKey}
 use Rattle.nio_steps.specs.declared.refusal.BeginError.{BeginError}
 use Rattle.nio_serial.proofs.Base.{put-back, put-under, settled-cancelled, branch}
 use Rattle.nio_serial.proofs.FreeWords.{listed, filter-same}
-use Rattle.nio_serial.proofs.Sweeping.{swept, looked_over, look-performed, swept-is}
-use Rattle.nio_serial.specs.Between.{IsOn}
+use Rattle.nio_serial.proofs.Sweeping.{swept, looked_over, look-performed, swept-is, swept-touched}
+use Rattle.nio_serial.specs.Between.{AreTouched, IsOn}
 use Rattle.nio_serial.specs.Documented.{Progress, settled, settled_state, looked_pair, shown, documented, amounts}
 use Rattle.nio_serial.specs.Lines.{after_begin}
 use Rattle.nio_serial.specs.Replies.{begin_reply}
@@ -63,7 +64,102 @@ pairs-map f R (x ∷ xs) pairs =
     AllPairs-cons R (f x) (map f xs) (All-map (R (f x)) f xs (pairs-head (λ a b. R (f a) (f b)) x xs pairs))
     (pairs-map f R xs (pairs-tail (λ a b. R (f a) (f b)) x xs pairs))
 
--- ---- the call
+-- ---- with the list, or without it
+
+-- `x` is the selection that begins where nobody selects, and `left` the state that it leaves
+module _ (st : State) (me : CallerNo) (s : SelNo) (mode : Mode) (known : Option (List LookedKey)) (x : Selection)
+    (left : State)
+    (below : perform me (begin_below s mode known (st.keys_high s.0) false)
+    (with_begun (with_turn st s.0 (Some me)) s.0 true) ≡ record { answer = Ok x; state = left }) where
+  open-performed : st.turn s.0 ≡ None → (st.gate s.0).shut ≡ false
+      → perform me (begin_open s mode known false) st ≡ record { answer = Ok x; state = left }
+  open-performed no_turn not_shut =
+      ap (λ (o : Option CallerNo). perform me (if is_some o then Plan.reply (Err BeginError.Busy)
+      else begin_with_turn s mode known false) (with_begun (with_turn st s.0 (taken_by me o)) s.0
+      (is_some o && st.begun s.0))) no_turn
+      ∙ (ap (λ (b : Bool). perform me (if b then given_back s (Err BeginError.ClosedSelector) else
+      (look_keys s >>= (λ bound. begin_below s mode known bound false)))
+      (with_begun taken s.0 (taken.begun s.0 || not b))) not_shut
+      ∙ (ap (λ (f : ℕ → Bool). perform me (begin_below s mode known (st.keys_high s.0) false)
+      (record taken { begun = f }))
+      (ap (λ (b : Bool). put taken.begun s.0 b) (or-true (taken.begun s.0)) ∙ put-twice st.begun s.0 false true)
+      ∙ below))
+    where
+      taken : State
+      taken = with_begun (with_turn st s.0 (Some me)) s.0 false
+
+  pub begin-performed : st.turn s.0 ≡ None → (st.gate s.0).shut ≡ false
+      → perform me (try_begin_plan s mode known false) st ≡ record { answer = Ok x; state = left }
+  unfolding try_begin_plan
+  begin-performed no_turn not_shut =
+      ap (λ (b : Bool). perform me (if b then Plan.reply (Err BeginError.ClosedSelector)
+      else begin_open s mode known false) st) not_shut
+      ∙ open-performed no_turn not_shut
+
+  pub begin-amounts-by : (now : Progress)
+      → (st.turn s.0 ≡ None → (st.gate s.0).shut ≡ false → selection_begun Now (documented st now) me s.0 mode
+      ≡ amounts begin_reply (after_begin now me s) (record { answer = Ok x; state = left }))
+      → begun_with Now (documented st now) me s.0 (Some mode)
+      ≡ amounts begin_reply (after_begin now me s) (perform me (try_begin_plan s mode known false) st)
+  unfolding try_begin_plan
+  begin-amounts-by now begun-is =
+      branch (amounts begin_reply (after_begin now me s)) me (Plan.reply (Err BeginError.ClosedSelector))
+      (begin_open s mode known false) st _ _ (st.gate s.0).shut (st.gate s.0).shut refl
+      (λ _. refl)
+      (λ not_shut. by_turn (st.turn s.0) refl not_shut)
+    where
+      by_turn : (o : Option CallerNo) → st.turn s.0 ≡ o → (st.gate s.0).shut ≡ false
+          → cond (is_some o) (unchanged (documented st now) reply.Busy)
+          (selection_begun Now (documented st now) me s.0 mode)
+          ≡ amounts begin_reply (after_begin now me s) (perform me (begin_open s mode known false) st)
+      by_turn (Some n) is not_shut =
+          sym (ap (λ (o : Option CallerNo). amounts begin_reply (after_begin now me s)
+          (perform me (if is_some o then Plan.reply (Err BeginError.Busy) else begin_with_turn s mode known false)
+          (with_begun (with_turn st s.0 (taken_by me o)) s.0 (is_some o && st.begun s.0)))) is
+          ∙ (λ j. record {
+            reply = reply.Busy;
+            left =
+                documented (record st {
+                  turn = put_same st.turn s.0 (Some n) is j;
+                  begun = put_same st.begun s.0
+                      (st.begun s.0) refl j;
+                }) now;
+          }))
+      by_turn None is not_shut =
+          begun-is is not_shut ∙ sym (ap (amounts begin_reply (after_begin now me s)) (open-performed is not_shut))
+
+  -- what the call answers, and the state that it leaves: it is refused, or the selection has begun
+  pub begin-cases-by : (P : Performed (Result Selection BeginError) → Type 0)
+      → P (record { answer = Err BeginError.ClosedSelector; state = st })
+      → P (record { answer = Err BeginError.Busy; state = st })
+      → (st.turn s.0 ≡ None → (st.gate s.0).shut ≡ false → P (record { answer = Ok x; state = left }))
+      → P (perform me (try_begin_plan s mode known false) st)
+  unfolding try_begin_plan
+  begin-cases-by P closed busy begins = by_shut (st.gate s.0).shut refl
+    where
+      by_turn : (o : Option CallerNo) → st.turn s.0 ≡ o → (st.gate s.0).shut ≡ false
+          → P (perform me (begin_open s mode known false) st)
+      by_turn (Some n) is not_shut =
+          subst P (sym (ap (λ (o : Option CallerNo). perform me
+          (if is_some o then Plan.reply (Err BeginError.Busy) else begin_with_turn s mode known false)
+          (with_begun (with_turn st s.0 (taken_by me o)) s.0 (is_some o && st.begun s.0))) is
+          ∙ (λ j. record {
+            answer = Err BeginError.Busy;
+            state =
+                record st {
+                  turn = put_same st.turn s.0 (Some n) is j;
+                  begun = put_same st.begun s.0
+                      (st.begun s.0) refl j;
+                };
+          }))) busy
+      by_turn None is not_shut = subst P (sym (open-performed is not_shut)) (begins is not_shut)
+
+      by_shut : (b : Bool) → (st.gate s.0).shut ≡ b
+          → P (perform me (if b then Plan.reply (Err BeginError.ClosedSelector) else begin_open s mode known false) st)
+      by_shut true e = closed
+      by_shut false e = by_turn (st.turn s.0) refl e
+
+-- ---- the call without the list
 
 module _ (st : State) (now : Progress) (me : CallerNo) (s : SelNo)
     (none_due : (i : ℕ) → st.put_due s.0 i ≡ false) (untaken : (i : ℕ) → st.taker s.0 i ≡ None)
@@ -90,31 +186,15 @@ module _ (st : State) (now : Progress) (me : CallerNo) (s : SelNo)
   left = swept turned me s none_due untaken over
 
   abbrev begun : Mode → Selection
-  begun mode = record { selector = s; mode = mode; bound = mark; looked = looked }
+  begun mode = record { selector = s; mode = mode; bound = mark; looked = looked; listed = false }
 
   -- ---- what the plan does
 
-  below-performed : (mode : Mode) → perform me (begin_below s mode mark false) turned
+  below-performed : (mode : Mode) → perform me (begin_below s mode None mark false) turned
       ≡ record { answer = Ok (begun mode); state = left }
   below-performed mode =
       perform_then_on me (over_listed s mark (look_over s) []) _ turned looked left
       (look-performed turned me s none_due untaken mark)
-
-  open-performed : (mode : Mode) → st.turn s.0 ≡ None → (st.gate s.0).shut ≡ false
-      → perform me (begin_open s mode false) st ≡ record { answer = Ok (begun mode); state = left }
-  open-performed mode no_turn not_shut =
-      ap (λ (o : Option CallerNo). perform me (if is_some o then Plan.reply (Err BeginError.Busy)
-      else begin_with_turn s mode false) (with_begun (with_turn st s.0 (taken_by me o)) s.0
-      (is_some o && st.begun s.0))) no_turn
-      ∙ (ap (λ (b : Bool). perform me (if b then given_back s (Err BeginError.ClosedSelector) else
-      (look_keys s >>= (λ bound. begin_below s mode bound false)))
-      (with_begun taken s.0 (taken.begun s.0 || not b))) not_shut
-      ∙ (ap (λ (f : ℕ → Bool). perform me (begin_below s mode mark false) (record turned { begun = f }))
-      (ap (λ (b : Bool). put taken.begun s.0 b) (or-true (taken.begun s.0)) ∙ put-twice st.begun s.0 false true)
-      ∙ below-performed mode))
-    where
-      taken : State
-      taken = with_begun (with_turn st s.0 (Some me)) s.0 false
 
   -- ---- what it comes to
 
@@ -210,63 +290,19 @@ module _ (st : State) (now : Progress) (me : CallerNo) (s : SelNo)
   }
 
   pub begin-amounts : (mode : Mode) → begun_with Now ds me s.0 (Some mode)
-      ≡ amounts begin_reply (after_begin now me s) (perform me (try_begin_plan s mode false) st)
-  unfolding try_begin_plan
-  begin-amounts mode =
-      branch (amounts begin_reply (after_begin now me s)) me (Plan.reply (Err BeginError.ClosedSelector))
-      (begin_open s mode false) st _ _ (st.gate s.0).shut (st.gate s.0).shut refl
-      (λ _. refl)
-      (λ not_shut. by_turn (st.turn s.0) refl not_shut)
-    where
-      by_turn : (o : Option CallerNo) → st.turn s.0 ≡ o → (st.gate s.0).shut ≡ false
-          → cond (is_some o) (unchanged ds reply.Busy) (selection_begun Now ds me s.0 mode)
-          ≡ amounts begin_reply (after_begin now me s) (perform me (begin_open s mode false) st)
-      by_turn (Some n) is not_shut =
-          sym (ap (λ (o : Option CallerNo). amounts begin_reply (after_begin now me s)
-          (perform me (if is_some o then Plan.reply (Err BeginError.Busy) else begin_with_turn s mode false)
-          (with_begun (with_turn st s.0 (taken_by me o)) s.0 (is_some o && st.begun s.0)))) is
-          ∙ (λ j. record {
-            reply = reply.Busy;
-            left =
-                documented (record st {
-                  turn = put_same st.turn s.0 (Some n) is j;
-                  begun = put_same st.begun s.0
-                      (st.begun s.0) refl j;
-                }) now;
-          }))
-      by_turn None is not_shut =
-          begun-is mode ∙ sym (ap (amounts begin_reply (after_begin now me s)) (open-performed mode is not_shut))
+      ≡ amounts begin_reply (after_begin now me s) (perform me (try_begin_plan s mode None false) st)
+  begin-amounts mode = begin-amounts-by st me s mode None (begun mode) left (below-performed mode) now (λ _ _. begun-is mode)
 
-  -- what the call answers, and the state that it leaves: it is refused, or the selection has begun
+  -- what the call answers, and the state that it leaves
   pub begin-cases : (mode : Mode) (P : Performed (Result Selection BeginError) → Type 0)
       → P (record { answer = Err BeginError.ClosedSelector; state = st })
       → P (record { answer = Err BeginError.Busy; state = st })
-      → (st.turn s.0 ≡ None → P (record { answer = Ok (begun mode); state = left }))
-      → P (perform me (try_begin_plan s mode false) st)
-  unfolding try_begin_plan
-  begin-cases mode P closed busy begins = by_shut (st.gate s.0).shut refl
-    where
-      by_turn : (o : Option CallerNo) → st.turn s.0 ≡ o → (st.gate s.0).shut ≡ false
-          → P (perform me (begin_open s mode false) st)
-      by_turn (Some n) is not_shut =
-          subst P (sym (ap (λ (o : Option CallerNo). perform me
-          (if is_some o then Plan.reply (Err BeginError.Busy) else begin_with_turn s mode false)
-          (with_begun (with_turn st s.0 (taken_by me o)) s.0 (is_some o && st.begun s.0))) is
-          ∙ (λ j. record {
-            answer = Err BeginError.Busy;
-            state =
-                record st {
-                  turn = put_same st.turn s.0 (Some n) is j;
-                  begun = put_same st.begun s.0
-                      (st.begun s.0) refl j;
-                };
-          }))) busy
-      by_turn None is not_shut = subst P (sym (open-performed mode is not_shut)) (begins is)
+      → (st.turn s.0 ≡ None → (st.gate s.0).shut ≡ false → P (record { answer = Ok (begun mode); state = left }))
+      → P (perform me (try_begin_plan s mode None false) st)
+  begin-cases mode = begin-cases-by st me s mode None (begun mode) left (below-performed mode)
 
-      by_shut : (b : Bool) → (st.gate s.0).shut ≡ b
-          → P (perform me (if b then Plan.reply (Err BeginError.ClosedSelector) else begin_open s mode false) st)
-      by_shut true e = closed
-      by_shut false e = by_turn (st.turn s.0) refl e
+  pub begun-touched : (t : ℕ) → AreTouched st t → AreTouched left t
+  begun-touched = swept-touched turned me s none_due untaken over
 
   -- the selection that has begun looks at each index once, in rising order
   pub begun-on : (mode : Mode) → IsOn s.0 (begun mode)
@@ -280,11 +316,11 @@ module _ (st : State) (now : Progress) (me : CallerNo) (s : SelNo)
 
 -- ---- a beginning for which there is no memory
 
-pub begin-lacking : (st : State) (me : CallerNo) (s : SelNo) (mode : Mode) → ((t i : ℕ) → st.put_due t i ≡ false)
+pub begin-lacking : (st : State) (me : CallerNo) (s : SelNo) (mode : Mode) (known : Option (List LookedKey)) → ((t i : ℕ) → st.put_due t i ≡ false)
     → st.begun s.0 ≡ is_some (st.turn s.0)
-    → (perform me (try_begin_plan s mode true) st).state ≡ st
+    → (perform me (try_begin_plan s mode known true) st).state ≡ st
 unfolding try_begin_plan
-begin-lacking st me s mode none_due begun = by_shut (st.gate s.0).shut refl
+begin-lacking st me s mode known none_due begun = by_shut (st.gate s.0).shut refl
   where
     taken : State
     taken = with_begun (with_turn st s.0 (Some me)) s.0 false
@@ -311,13 +347,13 @@ begin-lacking st me s mode none_due begun = by_shut (st.gate s.0).shut refl
 
     by_look : (b : Bool) → st.turn s.0 ≡ None
         → (perform me (if b then given_back s (Err BeginError.ClosedSelector) else
-        (look_keys s >>= (λ bound. begin_below s mode bound true)))
+        (look_keys s >>= (λ bound. begin_below s mode known bound true)))
         (with_begun taken s.0 (taken.begun s.0 || not b))).state ≡ st
     by_look true is = given (taken.begun s.0 || false) is
     by_look false is = given (taken.begun s.0 || true) is
 
     by_turn : (o : Option CallerNo) → st.turn s.0 ≡ o
-        → (perform me (if is_some o then Plan.reply (Err BeginError.Busy) else begin_with_turn s mode true)
+        → (perform me (if is_some o then Plan.reply (Err BeginError.Busy) else begin_with_turn s mode known true)
         (with_begun (with_turn st s.0 (taken_by me o)) s.0 (is_some o && st.begun s.0))).state ≡ st
     by_turn (Some n) is =
         λ j. record st {
@@ -328,6 +364,6 @@ begin-lacking st me s mode none_due begun = by_shut (st.gate s.0).shut refl
     by_turn None is = by_look (st.gate s.0).shut is
 
     by_shut : (b : Bool) → (st.gate s.0).shut ≡ b
-        → (perform me (if b then Plan.reply (Err BeginError.ClosedSelector) else begin_open s mode true) st).state ≡ st
+        → (perform me (if b then Plan.reply (Err BeginError.ClosedSelector) else begin_open s mode known true) st).state ≡ st
     by_shut true e = refl
     by_shut false e = by_turn (st.turn s.0) refl

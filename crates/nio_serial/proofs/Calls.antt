@@ -9,7 +9,7 @@ use Rattle.nio_base.specs.declared.numbers.ChanId.{ChanId}
 use Rattle.nio_base.specs.declared.numbers.KeyId.{KeyId}
 use Rattle.nio_base.specs.declared.numbers.SelNo.{SelNo}
 use Rattle.nio_history.specs.State.{State}
-use Rattle.nio_history.specs.Sets.{is_in_key_set, was_opened}
+use Rattle.nio_history.specs.Sets.{is_in_key_set, in_cancelled_set, was_opened}
 use Rattle.nio_history.specs.declared.found.Mode.{Mode}
 use Rattle.nio_language.specs.declared.call.Call.{Call}
 use Rattle.nio_language.specs.declared.call.Call.TheVariants as call
@@ -40,12 +40,13 @@ use Rattle.nio_steps.specs.Plan.{Plan}
 use Rattle.nio_steps.specs.SelectCalls.{Selection, open_selector_plan, try_begin_plan, told_plan, leave_plan, shut_plan}
 use Rattle.nio_steps.specs.SelectCalls.{try_finish_plan, keys_plan, selected_keys_plan, wakeup_plan, interrupt_plan}
 use Rattle.nio_steps.specs.SelectCalls.{interrupted_plan}
+use Rattle.nio_serial.proofs.Base.{IsOff}
 use Rattle.nio_serial.proofs.Beginning.{begin-amounts}
 use Rattle.nio_serial.proofs.Blocking.{blocking-amounts}
 use Rattle.nio_serial.proofs.ClosingChannels.{closec-amounts}
 use Rattle.nio_serial.proofs.ClosingSelectors.{close_end-amounts}
-use Rattle.nio_serial.proofs.Facts.{unpinned, untaken, unheld, none_due, channels, claimed, published, whole, free}
-use Rattle.nio_serial.proofs.Facts.{fresh_mark, fresh_free, within, begun, looked_in_set, own-is}
+use Rattle.nio_serial.proofs.Facts.{unpinned, unchanging, off, untaken, unheld, none_due, channels, claimed, published, whole, free}
+use Rattle.nio_serial.proofs.Facts.{fresh_mark, fresh_free, within, begun, looked_in_set, finds_cancelled, own-is}
 use Rattle.nio_serial.proofs.KeyCalls.{valid-amounts, interest-amounts, ready-amounts, iset-amounts, ior-amounts}
 use Rattle.nio_serial.proofs.KeyCalls.{iand-amounts, cancel-amounts, unselect-amounts, attach-amounts}
 use Rattle.nio_serial.proofs.KeyCalls.{attachment-amounts}
@@ -86,8 +87,8 @@ module _ (l : Limits) (st : State) (now : Progress) (me : CallerNo) (between : I
       → amounts said (λ _. now) (perform me plan st) ≡ comes_to (perform me (asks now plan said) st)
   asked-is plan said = made-is me plan said (λ _. now) st
 
-  abbrev pin_free : (s : SelNo) (i : ℕ) → st.pinned s.0 i me.0 ≡ false
-  pin_free s i = unpinned l st now between s.0 i me.0
+  abbrev pin_free : (s : SelNo) (i : ℕ) → IsOff st.pinned st.amid s.0 i me.0
+  pin_free s i = off l st now between s.0 i me.0
 
   -- ---- selections
 
@@ -97,7 +98,7 @@ module _ (l : Limits) (st : State) (now : Progress) (me : CallerNo) (between : I
   begin-is s (Some mode) =
       begin-amounts st now me s (none_due l st now between s.0) (untaken l st now between s.0)
       (published l st now between s.0) (free l st now between s.0) mode
-      ∙ made-is me (try_begin_plan s mode false) begin_reply (after_begin now me s) st
+      ∙ made-is me (try_begin_plan s mode None false) begin_reply (after_begin now me s) st
 
   module _ (s : SelNo) (y : Selecting) (is : now.selection s.0 ≡ Some y) where
     abbrev x : Selection
@@ -115,6 +116,12 @@ module _ (l : Limits) (st : State) (now : Progress) (me : CallerNo) (between : I
         subst (λ (n : ℕ). (k : KeyId) → is_looked (map looked_pair x.looked) k ≡ true
         → is_in_key_set (st.key n k.index) k.serial ≡ true) (sym on.selector) (looked_in_set l st now between s.0 y is)
 
+    finds : x.listed ≡ true → (i : ℕ) → in_cancelled_set (st.key x.selector.0 i) ≡ true
+        → st.touched x.selector.0 i ≡ true
+    finds =
+        subst (λ (n : ℕ). x.listed ≡ true → (i : ℕ) → in_cancelled_set (st.key n i) ≡ true → st.touched n i ≡ true)
+        (sym on.selector) (finds_cancelled l st now between s.0 y is)
+
     -- by what the poller told by index
     told-index : (elapsed : Bool) (told : List (ℕ × ℕ))
         → told_selection Now ds me s.0 (by_key x told) elapsed (Some (shown x))
@@ -124,7 +131,7 @@ module _ (l : Limits) (st : State) (now : Progress) (me : CallerNo) (between : I
         ≡ amounts told_reply (after_told now n) (perform me (told_plan x told elapsed) st)) selector-is
         (told-amounts st now me x (by_key x told) told on.rises in_set (by_key-tells x told)
         (none_due l st now between) (untaken l st now between x.selector.0) (published l st now between x.selector.0)
-        (free l st now between x.selector.0) elapsed)
+        (free l st now between x.selector.0) finds elapsed)
 
     told-one : (elapsed : Bool) (pairs : List (KeyId × ℕ))
         → told_selection Now ds me s.0 pairs elapsed (Some (shown x))
@@ -135,7 +142,7 @@ module _ (l : Limits) (st : State) (now : Progress) (me : CallerNo) (between : I
         (told_plan x (by_index x pairs) elapsed) st)) selector-is
         (told-amounts st now me x pairs (by_index x pairs) on.rises in_set (by_index-tells st x pairs in_set)
         (none_due l st now between) (untaken l st now between x.selector.0) (published l st now between x.selector.0)
-        (free l st now between x.selector.0) elapsed)
+        (free l st now between x.selector.0) finds elapsed)
         ∙ made-is me (told_plan x (by_index x pairs) elapsed) told_reply (after_told now s) st
 
     failed-one : left_selection ds s.0 (Some (shown x)) ≡ comes_to (perform me (failed_line now s (Some x)) st)
@@ -237,7 +244,7 @@ module _ (l : Limits) (st : State) (now : Progress) (me : CallerNo) (between : I
       → read_from ds me c n place ≡ comes_to (perform me (read_line l now c n place) st)
   read-line c n None = refl
   read-line c n (Some i) =
-      read-amounts l st now me c (λ s k. unpinned l st now between s k me.0) (whole l st now between)
+      read-amounts l st now me c (λ s k. off l st now between s k me.0) (whole l st now between)
       (within l st now between) i n
       ∙ made-is me (try_read_plan l c) _ _ st
 
@@ -245,7 +252,7 @@ module _ (l : Limits) (st : State) (now : Progress) (me : CallerNo) (between : I
       → write_to ds me c bytes place ≡ comes_to (perform me (write_line l now c bytes place) st)
   write-line c bytes None = refl
   write-line c bytes (Some i) =
-      write-amounts l st now me c (λ s k. unpinned l st now between s k me.0) (whole l st now between)
+      write-amounts l st now me c (λ s k. off l st now between s k me.0) (whole l st now between)
       (within l st now between) i bytes
       ∙ made-is me (try_write_plan l (pipe_at now.pipes i).source c) _ _ st
 
@@ -267,7 +274,7 @@ module _ (l : Limits) (st : State) (now : Progress) (me : CallerNo) (between : I
       cond-true (nat_lt target.0 l.callers) _ _ (lt-ltb target.0 l.callers below)
       ∙ (ends-amount l st now me target
       (record { within = between.at_rest.high.channels_within; made = channels l st now between })
-      (unheld l st now between) (λ s k. unpinned l st now between s k me.0) (whole l st now between)
+      (unheld l st now between) (λ s k. off l st now between s k me.0) (whole l st now between)
       (within l st now between)
       ∙ made-is me (pipe_plan l false) ends_reply (after_pipe now me target) st)
 
@@ -290,12 +297,13 @@ module _ (l : Limits) (st : State) (now : Progress) (me : CallerNo) (between : I
       key_for-amounts st now me c named.0 s named.1 ∙ asked-is (key_for_plan c s) find_reply
   call-amounts (call.Register s c ops att) named =
       register-amounts l st now me s c ops att (unheld l st now between c.number.0) (unpinned l st now between s.0)
+      (λ i. unchanging l st now between s.0 i me.0)
       (untaken l st now between s.0) (claimed l st now between s.0)
       (fresh_mark l st now between s.0 (st.keys_high s.0) (above s))
       (fresh_free l st now between s.0 (st.keys_high s.0) (above s)) named.0 named.1
       ∙ asked-is (try_register_plan l s c ops (given_or_none att)) register_reply
   call-amounts (call.Closec c) named =
-      closec-amounts l st now me c (λ s i. unpinned l st now between s i me.0) (whole l st now between)
+      closec-amounts l st now me c (λ s i. off l st now between s i me.0) (whole l st now between)
       (within l st now between) named
       ∙ made-is me (close_channel_plan l c) closed_reply (λ _. with_seal now (own_sink now.pipes me c)) st
   call-amounts (call.Valid s k) named =
@@ -333,7 +341,7 @@ module _ (l : Limits) (st : State) (now : Progress) (me : CallerNo) (between : I
   call-amounts (call.CloseEnd s) named = close_end-is s named
   call-amounts (call.Keys s) named = keys-amounts st now me s named ∙ asked-is (keys_plan s false) list_reply
   call-amounts (call.Selected s) named =
-      selected-amounts st now me s named (λ i. unpinned l st now between s.0 i me.0)
+      selected-amounts st now me s named (λ i. off l st now between s.0 i me.0)
       ∙ asked-is (selected_keys_plan s false) list_reply
   call-amounts (call.Interrupt target) named =
       interrupt-amounts st now me l target named ∙ asked-is (interrupt_plan target) (λ _. reply.«Ok»)

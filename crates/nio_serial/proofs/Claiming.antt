@@ -90,7 +90,7 @@ indexes-append i n (suc m) =
 
 -- ---- an index that is claimed again
 
-unpinned-none : (n : ℕ) (p : ℕ → Bool) → ((k : ℕ) → p k ≡ false) → count_below n p ≡ 0
+pub unpinned-none : (n : ℕ) (p : ℕ → Bool) → ((k : ℕ) → p k ≡ false) → count_below n p ≡ 0
 unfolding count_below
 unpinned-none zero p none = refl
 unpinned-none (suc n) p none =

@@ -1,12 +1,12 @@
 -- What holds between two calls, in the forms in which the equations take it.
 use Rattle.std.proofs.Common.{◌≡◌, ℕ, ◌<◌, ◌==◌, nat_lt, Bool, true, false, cond, not, ◌&&◌, Option, Some, None}
 use Rattle.std.proofs.Common.{option_map, is_some, map, refl, ap, sym, ◌∙◌}
-use Rattle.std.proofs.lemmas.Bool.{and_parts}
+use Rattle.std.proofs.lemmas.Bool.{and_parts, not-true}
 use Rattle.nio_base.specs.declared.limits.Limits.{Limits}
 use Rattle.nio_base.specs.declared.numbers.CallerNo.{CallerNo}
 use Rattle.nio_base.specs.declared.numbers.KeyId.{KeyId}
 use Rattle.nio_base.specs.declared.numbers.SelNo.{SelNo}
-use Rattle.nio_history.specs.Sets.{in_key_set, is_in_key_set}
+use Rattle.nio_history.specs.Sets.{in_key_set, is_in_key_set, in_cancelled_set}
 use Rattle.nio_history.specs.State.{State, unmarked, unclaimed}
 use Rattle.nio_history.specs.declared.found.Mark.{Mark}
 use Rattle.nio_history.specs.declared.found.Stage.{Stage}
@@ -16,6 +16,7 @@ use Rattle.nio_plain.specs.ScriptState.{ScriptState, script_opening}
 use Rattle.nio_plain.specs.Seq.{seq}
 use Rattle.nio_plain.specs.Seq.Selections.{is_looked, is_caller, own_selection}
 use Rattle.nio_plain.specs.declared.rules.Rules.TheVariants.{Now}
+use Rattle.nio_serial.proofs.Base.{IsOff}
 use Rattle.nio_serial.proofs.ReopeningKept.{later-reopened}
 use Rattle.nio_serial.specs.Between.{IsLeft, LeadsTo, no_call, line, reopening, IsBetween}
 use Rattle.nio_serial.specs.Documented.{Progress, Selecting, settled, settled_mark, looked_pair, shown, documented}
@@ -52,6 +53,12 @@ module _ (l : Limits) (st : State) (now : Progress) (between : IsBetween l st no
 
   pub unpinned : (s i n : ℕ) → st.pinned s i n ≡ false
   unpinned = between.at_rest.unused.unpinned
+
+  pub unchanging : (s i n : ℕ) → st.amid s i n ≡ false
+  unchanging = between.at_rest.unused.unchanging
+
+  pub off : (s i n : ℕ) → IsOff st.pinned st.amid s i n
+  off s i n = record { unpinned = unpinned s i n; unchanging = unchanging s i n }
 
   pub untaken : (s i : ℕ) → st.taker s i ≡ None
   untaken = between.at_rest.unused.untaken
@@ -102,6 +109,15 @@ module _ (l : Limits) (st : State) (now : Progress) (between : IsBetween l st no
       → is_looked (map looked_pair y.selection.looked) k ≡ true → is_in_key_set (st.key s k.index) k.serial ≡ true
   looked_in_set s y is k there =
       (sound.looks s).in_set (shown y.selection) (ap (option_map (λ x. shown x.selection)) is) k there
+
+  -- a selection that goes by the list finds the cancelled set touched
+  pub finds_cancelled : (s : ℕ) (y : Selecting) → now.selection s ≡ Some y → y.selection.listed ≡ true → (i : ℕ)
+      → in_cancelled_set (st.key s i) ≡ true → st.touched s i ≡ true
+  finds_cancelled s y is listed i there =
+      let k = st.key s i in
+      let both = and_parts (in_key_set k) k.cancelled there in
+      (between.shown s).finds y is listed i both.1
+      (not-true k.removed (and_parts k.published (not k.removed) both.0).1)
 
   -- the caller's own selection
   pub own-is : (me : CallerNo) (s : SelNo) → own_selection ds me s.0 ≡ option_map shown (own_now now me s)

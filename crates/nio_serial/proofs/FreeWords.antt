@@ -19,16 +19,19 @@ use Rattle.nio_steps.specs.ChannelCalls.{words_below}
 use Rattle.nio_steps.specs.KeyCalls.{has_bit}
 use Rattle.nio_steps.specs.Perform.{perform}
 use Rattle.nio_steps.specs.Plan.{Plan}
-use Rattle.nio_steps.specs.SelectCalls.{not_free, over_listed}
+use Rattle.nio_steps.specs.Looking.{not_free, over_listed}
 
--- a bit of the look is set where that index is free
-pub bit-free : (st : State) (s j b : ℕ) → b < 64 → has_bit (free_word st s j) b ≡ st.free s (64 * j + b)
-bit-free st s j b low =
-    ap (λ n. n == 1) (bits_below-at 64 (λ k. st.free s (64 * j + k)) b low) ∙ by_test (st.free s (64 * j + b))
+-- a bit of a look is set where the index passes the test
+pub bit-shown : (p : ℕ → Bool) (b : ℕ) → b < 64 → has_bit (bits_below 64 p) b ≡ p b
+bit-shown p b low = ap (λ n. n == 1) (bits_below-at 64 p b low) ∙ by_test (p b)
   where
     by_test : (x : Bool) → ((if x then 1 else 0) == 1) ≡ x
     by_test true = refl
     by_test false = refl
+
+-- where it is free
+pub bit-free : (st : State) (s j b : ℕ) → b < 64 → has_bit (free_word st s j) b ≡ st.free s (64 * j + b)
+bit-free st s j b low = bit-shown (λ k. st.free s (64 * j + k)) b low
 
 pub below-indexes : (n m : ℕ) → below (n + m) ≡ below n ++ indexes n m
 unfolding indexes
@@ -57,7 +60,7 @@ not_free-is word j bound q (suc n) same =
     by_test xs true = refl
     by_test xs false = sym (append-nil xs)
 
-filter-none : (q : ℕ → Bool) (i n : ℕ) → ((k : ℕ) → i ≤ k → q k ≡ false) → filter q (indexes i n) ≡ []
+pub filter-none : (q : ℕ → Bool) (i n : ℕ) → ((k : ℕ) → i ≤ k → q k ≡ false) → filter q (indexes i n) ≡ []
 unfolding indexes
 filter-none q i zero none = refl
 filter-none q i (suc n) none =
@@ -92,7 +95,7 @@ abbrev pub listed : State → ℕ → ℕ → List ℕ
 listed st s bound = filter (λ i. not (st.free s i)) (below bound)
 
 -- looks at the same bits find the same
-bits_below-same : (n : ℕ) (p q : ℕ → Bool) → ((i : ℕ) → i < n → p i ≡ q i) → bits_below n p ≡ bits_below n q
+pub bits_below-same : (n : ℕ) (p q : ℕ → Bool) → ((i : ℕ) → i < n → p i ≡ q i) → bits_below n p ≡ bits_below n q
 unfolding bits_below
 bits_below-same zero p q same = refl
 bits_below-same (suc n) p q same =

@@ -5,7 +5,7 @@ use Rattle.nio_serial.proofs.Showing.{told-index-shows}
 use Rattle.nio_serial.proofs.RestingCalls.{rests-seq}
 use Rattle.nio_serial.proofs.Resting.{rests-from, rests-is}
 use Rattle.nio_serial.specs.Replies.{told_reply}
-use Rattle.std.proofs.Common.{List, sym, ◌≡◌, Option, refl, ap, ◌∙◌, subst, nat_lt}
+use Rattle.std.proofs.Common.{ℕ, List, sym, ◌≡◌, Option, refl, ap, ◌∙◌, subst, nat_lt}
 use Rattle.std.proofs.lemmas.Bool.{lt-ltb, cond-true}
 use Rattle.nio_base.specs.Limits.{IsFit}
 use Rattle.nio_base.specs.declared.limits.Limits.{Limits}
@@ -14,7 +14,7 @@ use Rattle.nio_history.specs.Conditions.{IsCaller}
 use Rattle.nio_history.specs.Histories.{state_after}
 use Rattle.nio_history.specs.Histories.{IsLegal}
 use Rattle.nio_history.specs.PassViews.{known, done_between}
-use Rattle.nio_history.specs.State.{State}
+use Rattle.nio_history.specs.State.{State, with_lister}
 use Rattle.nio_history.specs.declared.event.Event.{Event}
 use Rattle.nio_language.specs.WordRows.{EachName, by_names, word_row}
 use Rattle.nio_language.specs.declared.call.Call.{Call}
@@ -122,7 +122,17 @@ draws-stay l st now n between = record {
   left = between.left;
   at_rest = between.at_rest;
   shown = λ s. let was = between.shown s in
-      record { turn = was.turn; begun = was.begun; on = was.on; closing = was.closing };
+      record { turn = was.turn; begun = was.begun; on = was.on; finds = was.finds; closing = was.closing };
+}
+
+-- nor who has a selector's list
+pub lists-stay : (l : Limits) (st : State) (now : Progress) (s : ℕ) (x : Option CallerNo) → IsBetween l st now
+    → IsBetween l (with_lister st s x) now
+lists-stay l st now s x between = record {
+  left = between.left;
+  at_rest = between.at_rest;
+  shown = λ t. let was = between.shown t in
+      record { turn = was.turn; begun = was.begun; on = was.on; finds = was.finds; closing = was.closing };
 }
 
 -- ---- a `told` by index
@@ -135,8 +145,8 @@ told-amounts-by-index l st now me s x told elapsed between made own =
 
 pub lacking-leaves : LackingLeaves
 unfolding keys_plan selected_keys_plan
-lacking-leaves l st now me s mode between = record {
-  begins = begin-lacking st me s mode (none_due l st now between) (begun l st now between s.0);
+lacking-leaves l st now me s mode known between = record {
+  begins = begin-lacking st me s mode known (none_due l st now between) (begun l st now between s.0);
   keys = list-lacking st me s list_key;
   selected = list-lacking st me s list_selected;
 }

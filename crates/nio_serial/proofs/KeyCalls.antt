@@ -7,7 +7,7 @@ use Rattle.nio_base.specs.declared.numbers.CallerNo.{CallerNo}
 use Rattle.nio_base.specs.declared.numbers.KeyId.{KeyId}
 use Rattle.nio_base.specs.declared.numbers.SelNo.{SelNo}
 use Rattle.nio_history.specs.Sets.{fits, in_key_set, was_published, is_in_key_set, is_valid_key}
-use Rattle.nio_history.specs.State.{State, with_pin, with_key, with_mark, with_interest, with_note}
+use Rattle.nio_history.specs.State.{State, with_pin, with_amid, with_key, with_mark, with_interest, with_note}
 use Rattle.nio_history.specs.declared.found.Mark.{Mark}
 use Rattle.nio_history.specs.declared.found.Stage.{Stage}
 use Rattle.nio_language.specs.declared.reply.Reply.{Reply}
@@ -24,14 +24,14 @@ use Rattle.nio_steps.specs.KeyCalls.{under_pin, is_valid_plan, interest_plan, re
 use Rattle.nio_steps.specs.KeyCalls.{interest_or_plan, interest_and_plan, cancel_plan, unselect_plan, attach_plan}
 use Rattle.nio_base.specs.Ops.{is_within}
 use Rattle.nio_steps.specs.KeyCalls.{attachment_plan, on_valid, if_valid, look_set, look_ready, put_set}
-use Rattle.nio_steps.specs.KeyCalls.{add_set, keep_set, on_supported, cancel_present, unselect_present, attach_present}
+use Rattle.nio_steps.specs.KeyCalls.{add_set, keep_set, on_supported, cancel_present, cancel_pinned, unselect_present, attach_present}
 use Rattle.nio_steps.specs.KeyCalls.{attachment_present}
 use Rattle.nio_steps.specs.Names.{key}
 use Rattle.nio_steps.specs.Perform.{Performed, perform}
 use Rattle.nio_steps.specs.Plan.{Plan, when}
-use Rattle.nio_steps.specs.Steps.{cancel_key, unselect_bit, swap_note, look_note}
+use Rattle.nio_steps.specs.Steps.{unselect_bit, swap_note, look_note}
 use Rattle.nio_steps.specs.declared.refusal.KeyError.{KeyError}
-use Rattle.nio_serial.proofs.Base.{pin-back, settled-valid_key, settled-key, settled-marked, in_set-is}
+use Rattle.nio_serial.proofs.Base.{IsOff, pin-back, caller-back, caller-off, settled-valid_key, settled-key, settled-marked, in_set-is}
 use Rattle.nio_serial.proofs.Base.{branch, branch_not, unpinned, perform_pinned}
 use Rattle.nio_serial.specs.Documented.{Progress, settled, settled_mark, documented, amounts}
 use Rattle.nio_serial.specs.Replies.{set_reply, put_reply}
@@ -42,7 +42,7 @@ neither true false x e = refl
 neither false i x e = refl
 
 module _ (st : State) (now : Progress) (me : CallerNo) (s : SelNo) (k : KeyId)
-    (free : st.pinned s.0 k.index me.0 ≡ false)
+    (off : IsOff st.pinned st.amid s.0 k.index me.0)
     (made : st.selector s.0 ≡ true) (published : was_published (st.key s.0 k.index) k.serial ≡ true) where
   abbrev ds : ScriptState
   ds = documented st now
@@ -57,9 +57,24 @@ module _ (st : State) (now : Progress) (me : CallerNo) (s : SelNo) (k : KeyId)
   abbrev after : {R : Type 0} → (R → Reply) → Performed R → Replied
   after said done = amounts said (λ _. now) (unpinned me s k.index done)
 
-  -- the pins are as before
-  back : (F : (ℕ → ℕ → ℕ → Bool) → Replied) → F st.pinned ≡ F (with_pin held s.0 k.index me.0 false).pinned
-  back F = sym (ap F (pin-back st.pinned s.0 k.index me.0 free))
+  abbrev Callers : Type 0
+  Callers = ℕ → ℕ → ℕ → Bool
+
+  -- the pins, and who is amid a change, are as before
+  back : (F : Callers → Callers → Replied)
+      → F st.pinned st.amid ≡ F (with_pin held s.0 k.index me.0 false).pinned (with_amid st s.0 k.index me.0 false).amid
+  back F = sym (λ j. F (pin-back st.pinned s.0 k.index me.0 off.unpinned j)
+      (caller-off st.amid s.0 k.index me.0 off.unchanging j))
+
+  -- the same after a touch
+  abbrev touched : State
+  touched = with_amid st s.0 k.index me.0 (held.pinned s.0 k.index me.0)
+
+  back_touched : (F : Callers → Callers → Replied)
+      → F st.pinned st.amid
+      ≡ F (with_pin held s.0 k.index me.0 false).pinned (with_amid touched s.0 k.index me.0 false).amid
+  back_touched F = sym (λ j. F (pin-back st.pinned s.0 k.index me.0 off.unpinned j)
+      (caller-back st.amid s.0 k.index me.0 (held.pinned s.0 k.index me.0) off.unchanging j))
 
   -- what is done with a named key, and with a valid one
   on_named : {A : Type 0} (said : A → Reply) (steps : Stage → Plan A) (done : Replied)
@@ -79,8 +94,8 @@ module _ (st : State) (now : Progress) (me : CallerNo) (s : SelNo) (k : KeyId)
       (unchanged ds reply.CancelledKey)
       (is_valid_key (settled stage) k.serial) (is_valid_key stage k.serial) (settled-valid_key stage k.serial)
       (λ _. is)
-      (λ _. back (λ p. record { reply = reply.CancelledKey; left = documented (record st { pinned = p }) now })
-      ∙ ap (λ r. record { reply = r; left = documented (with_pin held s.0 k.index me.0 false) now }) (sym refuses)))
+      (λ _. back (λ p a. record { reply = reply.CancelledKey; left = documented (record st { pinned = p; amid = a }) now })
+      ∙ ap (λ r. record { reply = r; left = documented (with_amid (with_pin held s.0 k.index me.0 false) s.0 k.index me.0 false) now }) (sym refuses)))
 
   pub valid-amounts : valid_call ds s k ≡ amounts yes_or_no (λ _. now) (perform me (is_valid_plan (key s k)) st)
   unfolding valid_call is_valid_plan
@@ -91,18 +106,18 @@ module _ (st : State) (now : Progress) (me : CallerNo) (s : SelNo) (k : KeyId)
   unfolding interest_call interest_plan
   interest-amounts =
       on_valid_key set_reply refl (λ _. look_set (key s k)) _
-      (back (λ p. record {
+      (back (λ p a. record {
         reply = reply.Number (st.interest s.0 k.index);
-        left = documented (record st { pinned = p }) now;
+        left = documented (record st { pinned = p; amid = a }) now;
       }))
 
   pub ready-amounts : ready_call ds s k ≡ amounts set_reply (λ _. now) (perform me (ready_plan (key s k)) st)
   unfolding ready_call ready_plan
   ready-amounts =
       on_valid_key set_reply refl (λ _. look_ready (key s k)) _
-      (back (λ p. record {
+      (back (λ p a. record {
         reply = reply.Number (st.mark s.0 k.index).ready;
-        left = documented (record st { pinned = p }) now;
+        left = documented (record st { pinned = p; amid = a }) now;
       }))
 
   -- operations that the key's channel has, or not
@@ -116,8 +131,8 @@ module _ (st : State) (now : Progress) (me : CallerNo) (s : SelNo) (k : KeyId)
       branch_not (after said) me steps (Plan.reply (Err KeyError.IllegalOps)) held done
       (unchanged ds reply.IllegalOps) test test refl
       (λ _. is)
-      (λ _. back (λ p. record { reply = reply.IllegalOps; left = documented (record st { pinned = p }) now })
-      ∙ ap (λ r. record { reply = r; left = documented (with_pin held s.0 k.index me.0 false) now }) (sym refuses))
+      (λ _. back (λ p a. record { reply = reply.IllegalOps; left = documented (record st { pinned = p; amid = a }) now })
+      ∙ ap (λ r. record { reply = r; left = documented (with_amid (with_pin held s.0 k.index me.0 false) s.0 k.index me.0 false) now }) (sym refuses))
 
   pub iset-amounts : (ops : ℕ)
       → iset_call ds s k ops ≡ amounts put_reply (λ _. now) (perform me (set_interest_plan (key s k) ops) st)
@@ -125,9 +140,9 @@ module _ (st : State) (now : Progress) (me : CallerNo) (s : SelNo) (k : KeyId)
   iset-amounts ops =
       on_valid_key put_reply refl (on_supported ops (put_set (key s k) ops)) _
       (on_supported_ops put_reply refl ops (put_set (key s k) ops) _
-      (back (λ p. record {
+      (back_touched (λ p a. record {
         reply = reply.«Ok»;
-        left = documented (record (with_interest st s.0 k.index ops) { pinned = p }) now;
+        left = documented (record (with_interest st s.0 k.index ops) { pinned = p; amid = a }) now;
       })))
 
   pub ior-amounts : (ops : ℕ)
@@ -137,10 +152,10 @@ module _ (st : State) (now : Progress) (me : CallerNo) (s : SelNo) (k : KeyId)
       let was = st.interest s.0 k.index in
       on_valid_key set_reply refl (on_supported ops (add_set (key s k) ops)) _
       (on_supported_ops set_reply refl ops (add_set (key s k) ops) _
-      (back (λ p. record {
+      (back_touched (λ p a. record {
         reply = reply.Number was;
         left =
-            documented (record (with_interest st s.0 k.index (bit_or was ops)) { pinned = p }) now;
+            documented (record (with_interest st s.0 k.index (bit_or was ops)) { pinned = p; amid = a }) now;
       })))
 
   pub iand-amounts : (ops : ℕ)
@@ -149,10 +164,10 @@ module _ (st : State) (now : Progress) (me : CallerNo) (s : SelNo) (k : KeyId)
   iand-amounts ops =
       let was = st.interest s.0 k.index in
       on_valid_key set_reply refl (λ _. keep_set (key s k) ops) _
-      (back (λ p. record {
+      (back_touched (λ p a. record {
         reply = reply.Number was;
         left =
-            documented (record (with_interest st s.0 k.index (bit_and was ops)) { pinned = p }) now;
+            documented (record (with_interest st s.0 k.index (bit_and was ops)) { pinned = p; amid = a }) now;
       }))
 
   pub attach-amounts : (att : ℕ)
@@ -165,12 +180,12 @@ module _ (st : State) (now : Progress) (me : CallerNo) (s : SelNo) (k : KeyId)
       on_named said (attach_present (key s k) att) _
       (branch (after said) me (swap_note s k.index att) (Plan.reply 0) held _ _ test test refl
       (λ _. back
-      (λ p. record {
+      (λ p a. record {
         reply = reply.Number (st.note s.0 k.index);
         left =
-            documented (record (with_note st s.0 k.index att) { pinned = p }) now;
+            documented (record (with_note st s.0 k.index att) { pinned = p; amid = a }) now;
       }))
-      (λ _. back (λ p. record { reply = reply.Number 0; left = documented (record st { pinned = p }) now })))
+      (λ _. back (λ p a. record { reply = reply.Number 0; left = documented (record st { pinned = p; amid = a }) now })))
 
   pub attachment-amounts : attachment_call ds s k ≡ amounts (λ att. reply.Number att) (λ _. now)
       (perform me (attachment_plan (key s k)) st)
@@ -183,11 +198,11 @@ module _ (st : State) (now : Progress) (me : CallerNo) (s : SelNo) (k : KeyId)
           → unchanged ds (reply.Number (cond b (st.note s.0 k.index) 0)) ≡ after (λ att. reply.Number att)
           (perform me (cond b (look_note s k.index) (Plan.reply 0)) held)
       by_fit true =
-          back (λ p. record {
+          back (λ p a. record {
             reply = reply.Number (st.note s.0 k.index);
-            left = documented (record st { pinned = p }) now;
+            left = documented (record st { pinned = p; amid = a }) now;
           })
-      by_fit false = back (λ p. record { reply = reply.Number 0; left = documented (record st { pinned = p }) now })
+      by_fit false = back (λ p a. record { reply = reply.Number 0; left = documented (record st { pinned = p; amid = a }) now })
 
   -- a key that the index has, and that isn't removed, is in the key set: each claimed index has a published key
   module _ (whole : stage.claimed ≡ stage.published) where
@@ -202,7 +217,7 @@ module _ (st : State) (now : Progress) (me : CallerNo) (s : SelNo) (k : KeyId)
             → replied ds reply.«Ok»
             (with_key ds.shared s.0 k.index
             (cond (is_in_key_set stage k.serial) (cancelled_key (settled stage)) (settled stage)))
-            ≡ after (λ _. reply.«Ok») (perform me (when b (cancel_key s k.index)) held)
+            ≡ after (λ _. reply.«Ok») (perform me (when b (cancel_pinned s k.index)) held)
         by_set true e same =
             let present : stage.removed ≡ false = not-true stage.removed
             (and_parts (fits stage k.serial) (not stage.removed) e).1 in
@@ -211,17 +226,17 @@ module _ (st : State) (now : Progress) (me : CallerNo) (s : SelNo) (k : KeyId)
             ∙ (ap (λ r. replied ds reply.«Ok» (with_key ds.shared s.0 k.index (record stage { cancelled = r })))
             (λ j. not (sym present j) && true)
             ∙ (ap (λ x. replied ds reply.«Ok» x) (sym (settled-key st s.0 k.index (cancelled_key stage) refl))
-            ∙ back (λ p. record {
+            ∙ back_touched (λ p a. record {
               reply = reply.«Ok»;
               left =
-                  documented (record (with_key st s.0 k.index (cancelled_key stage)) { pinned = p }) now;
+                  documented (record (with_key st s.0 k.index (cancelled_key stage)) { pinned = p; amid = a }) now;
             })))
         by_set false e same =
             ap (λ b. replied ds reply.«Ok»
             (with_key ds.shared s.0 k.index (cond b (cancelled_key (settled stage)) (settled stage)))) (sym same)
             ∙ (ap (λ f. replied ds reply.«Ok» (record ds.shared { key = f }))
             (put_at_same ds.shared.key s.0 k.index (settled stage) refl)
-            ∙ back (λ p. record { reply = reply.«Ok»; left = documented (record st { pinned = p }) now }))
+            ∙ back (λ p a. record { reply = reply.«Ok»; left = documented (record st { pinned = p; amid = a }) now }))
 
   pub unselect-amounts : unselect_call ds s k ≡ amounts yes_or_no (λ _. now) (perform me (unselect_plan (key s k)) st)
   unfolding unselect_call unselect_plan
@@ -247,10 +262,10 @@ module _ (st : State) (now : Progress) (me : CallerNo) (s : SelNo) (k : KeyId)
           (with_mark ds.shared s.0 k.index (record (settled_mark stage m) { selected = false })))
           (unchanged ds reply.No)) test
           ∙ (by_mark m.selected refl present
-          ∙ back (λ p. record {
+          ∙ back (λ p a. record {
             reply = yes_or_no m.selected;
             left =
-                documented (record (with_mark st s.0 k.index (record m { selected = false })) { pinned = p }) now;
+                documented (record (with_mark st s.0 k.index (record m { selected = false })) { pinned = p; amid = a }) now;
           }))
         where
           by_mark : (b : Bool) → m.selected ≡ b → stage.removed ≡ false
@@ -276,4 +291,4 @@ module _ (st : State) (now : Progress) (me : CallerNo) (s : SelNo) (k : KeyId)
           (with_mark ds.shared s.0 k.index (record (settled_mark stage m) { selected = false })))
           (unchanged ds reply.No))
           (neither (fits stage k.serial) (in_key_set stage) (settled_mark stage m).selected e)
-          ∙ back (λ p. record { reply = reply.No; left = documented (record st { pinned = p }) now })
+          ∙ back (λ p a. record { reply = reply.No; left = documented (record st { pinned = p; amid = a }) now })

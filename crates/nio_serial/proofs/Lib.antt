@@ -6,12 +6,17 @@ pub mod NextChannel
 pub mod Opening
 pub mod Blocking
 pub mod ClosingChannels
+pub mod RisingLists
 pub mod Removing
 pub mod ClosingSelectors
 pub mod Listing
 pub mod FreeWords
+pub mod TouchedWords
+pub mod TakenWords
 pub mod Sweeping
+pub mod Touching
 pub mod Beginning
+pub mod ListedBeginning
 pub mod Marks
 pub mod Marking
 pub mod Telling
@@ -30,6 +35,7 @@ pub mod Showing
 pub mod Steady
 pub mod Leaving
 pub mod Staying
+pub mod ListedCalls
 pub mod WholePipes
 pub mod LeftLaws
 pub mod Histories
@@ -39,4 +45,5 @@ pub mod SequencePipes
 pub mod SequenceCalls
 pub mod SequenceReopening
 pub mod SequenceWaiting
+pub mod KnownLists
 pub mod Sequences

@@ -7,7 +7,7 @@ use Rattle.nio_base.specs.declared.numbers.CallerNo.{CallerNo}
 use Rattle.nio_base.specs.declared.numbers.KeyNo.{KeyNo}
 use Rattle.nio_base.specs.declared.numbers.SelNo.{SelNo}
 use Rattle.nio_history.specs.Sets.{in_key_set, in_selected_set}
-use Rattle.nio_history.specs.State.{State, with_pin}
+use Rattle.nio_history.specs.State.{State, with_pin, with_amid}
 use Rattle.nio_plain.proofs.Naming.{selector-through}
 use Rattle.nio_plain.specs.ScriptState.{ScriptState}
 use Rattle.nio_plain.specs.Seq.Replies.{Replied, unchanged}
@@ -21,7 +21,7 @@ use Rattle.nio_steps.specs.SelectCalls.{list_plan, keys_plan, selected_keys_plan
 use Rattle.nio_steps.specs.Steps.{look_mark}
 use Rattle.nio_steps.specs.Sweeps.{sweep_to}
 use Rattle.nio_steps.specs.declared.refusal.ListError.{ListError}
-use Rattle.nio_serial.proofs.Base.{pin-back, cancelled_parts, branch, unpinned, perform_pinned}
+use Rattle.nio_serial.proofs.Base.{IsOff, pin-back, caller-off, cancelled_parts, branch, unpinned, perform_pinned}
 use Rattle.nio_serial.specs.Documented.{Progress, documented, amounts}
 use Rattle.nio_serial.specs.Replies.{key_id, list_reply}
 
@@ -92,7 +92,7 @@ module _ (st : State) (now : Progress) (me : CallerNo) (s : SelNo) (made : st.se
   unfolding keys_call keys_plan
   keys-amounts = listed-amounts list_key (λ i. in_key_set (st.key s.0 i)) (λ n before. refl)
 
-  module _ (free : (i : ℕ) → st.pinned s.0 i me.0 ≡ false) where
+  module _ (off : (i : ℕ) → IsOff st.pinned st.amid s.0 i me.0) where
     one-performed : (n : ℕ) (before : List KeyNo)
         → perform me (list_selected s n before) st ≡ record {
           answer = cond (in_selected_set st s.0 n) (before ++ present_key s n (st.key s.0 n) ∷ []) before;
@@ -109,11 +109,16 @@ module _ (st : State) (now : Progress) (me : CallerNo) (s : SelNo) (made : st.se
         held = with_pin st s.0 n me.0 true
 
         back : (keys : List KeyNo)
-            → ◌≡◌ {A = Performed (List KeyNo)} (record { answer = keys; state = with_pin held s.0 n me.0 false })
+            → ◌≡◌ {A = Performed (List KeyNo)}
+            (record { answer = keys; state = with_amid (with_pin held s.0 n me.0 false) s.0 n me.0 false })
             (record { answer = keys; state = st })
-        back keys =
-            ap (λ p. record { answer = keys; state = record st { pinned = p } })
-            (pin-back st.pinned s.0 n me.0 (free n))
+        back keys = λ j. record {
+          answer = keys;
+          state = record st {
+            pinned = pin-back st.pinned s.0 n me.0 (off n).unpinned j;
+            amid = caller-off st.amid s.0 n me.0 (off n).unchanging j;
+          };
+        }
 
         by_set : (b : Bool)
             → unpinned me s n

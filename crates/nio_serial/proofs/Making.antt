@@ -12,7 +12,7 @@ use Rattle.nio_history.proofs.Put.{put_at-same}
 use Rattle.nio_history.specs.Acts.{new_key}
 use Rattle.nio_history.specs.Sets.{is_open_channel}
 use Rattle.nio_history.specs.State.{State, unmarked, put, put_at, with_enrolled, with_keys_high, with_interest}
-use Rattle.nio_history.specs.State.{with_mark, with_note}
+use Rattle.nio_history.specs.State.{with_mark, with_note, with_touched, with_amid}
 use Rattle.nio_history.specs.declared.found.Stage.{Stage}
 use Rattle.nio_plain.proofs.Found.{found_below}
 use Rattle.nio_plain.proofs.Places.{put_same, put_at_same, put_at-twice}
@@ -26,11 +26,12 @@ use Rattle.nio_steps.specs.Plan.{Plan, when, ◌>>=◌, ◌>>◌}
 use Rattle.nio_steps.specs.Steps.{cancel_key, unpin}
 use Rattle.nio_steps.specs.Sweeps.{seek_to}
 use Rattle.nio_steps.specs.declared.refusal.ChannelError.{ChannelError}
-use Rattle.nio_serial.proofs.Base.{pin-back}
+use Rattle.nio_serial.proofs.Base.{pin-back, caller-back}
 use Rattle.nio_serial.proofs.Claiming.{claimed_again, next_at, found, search-performed, claimed_first, first-performed}
 use Rattle.nio_serial.proofs.Claiming.{full-performed}
 
--- a claimed index gets its parts, its key is enrolled and published, and the pin of the claim is given back
+-- a claimed index is touched and gets its parts, its key is enrolled and published, and the pin of the claim is given
+-- back
 pub made-performed : (st : State) (me : CallerNo) (s : SelNo) (c : ChanId) (ops att : ℕ) (k : KeyId)
     → st.key s.0 k.index ≡ new_key c.number k.serial → (st.gate s.0).shut ≡ false
     → is_open_channel (st.chan c.number.0) c.serial ≡ true
@@ -41,6 +42,8 @@ pub made-performed : (st : State) (me : CallerNo) (s : SelNo) (c : ChanId) (ops 
           (Some k)) {
             key = put_at st.key s.0 k.index (new_stage c.number.0 k.serial);
             pinned = put_at st.pinned s.0 k.index (put (st.pinned s.0 k.index) me.0 false);
+            touched = put_at st.touched s.0 k.index true;
+            amid = (with_amid (with_amid st s.0 k.index me.0 (st.pinned s.0 k.index me.0)) s.0 k.index me.0 false).amid;
           };
     }
 made-performed st me s c ops att k claimed not_shut is_open =
@@ -54,14 +57,19 @@ made-performed st me s c ops att k claimed not_shut is_open =
     ∙ ap (λ (b : Bool). perform me (when (not b) (cancel_key s k.index) >> Plan.reply (Ok (key s k))) published)
     is_open))
   where
+    touching : State
+    touching = with_amid (with_touched st s.0 k.index true) s.0 k.index me.0 (st.pinned s.0 k.index me.0)
+
     enrolled : State
-    enrolled = with_enrolled (with_note (with_interest st s.0 k.index ops) s.0 k.index att) c.number.0 s.0 (Some k)
+    enrolled =
+        with_enrolled (with_note (with_interest touching s.0 k.index ops) s.0 k.index att) c.number.0 s.0 (Some k)
 
     published : State
     published = record enrolled { key = put_at st.key s.0 k.index (new_stage c.number.0 k.serial) }
 
 module _ (l : Limits) (st : State) (me : CallerNo) (s : SelNo) (c : ChanId) (ops att : ℕ)
-    (unpinned : (i n : ℕ) → st.pinned s.0 i n ≡ false) (untaken : (i : ℕ) → st.taker s.0 i ≡ None)
+    (unpinned : (i n : ℕ) → st.pinned s.0 i n ≡ false) (still : (i : ℕ) → st.amid s.0 i me.0 ≡ false)
+    (untaken : (i : ℕ) → st.taker s.0 i ≡ None)
     (exact : (i : ℕ) → (st.key s.0 i).claimed ≡ nat_lt i (st.keys_high s.0))
     (fresh_mark : st.mark s.0 (st.keys_high s.0) ≡ unmarked) (fresh_free : st.free s.0 (st.keys_high s.0) ≡ false)
     (not_shut : (st.gate s.0).shut ≡ false) (is_open : is_open_channel (st.chan c.number.0) c.serial ≡ true) where
@@ -71,12 +79,15 @@ module _ (l : Limits) (st : State) (me : CallerNo) (s : SelNo) (c : ChanId) (ops
   -- the new key, or none where every index is claimed and none is free
   abbrev pub made : Option KeyId → Performed (Result KeyNo ChannelError)
   made None = record { answer = Err ChannelError.Full; state = st }
-  made (Some k) = record { answer = Ok (key s k); state = with_new_key st s.0 c.number.0 k ops att }
+  made (Some k) = record {
+    answer = Ok (key s k);
+    state = record (with_new_key st s.0 c.number.0 k ops att) { touched = put_at st.touched s.0 k.index true };
+  }
 
   -- a claimed index is made the key, whatever key stood there before
   module _ (k : KeyId) (claimed : State) (is : claimed.key ≡ put_at st.key s.0 k.index (new_key c.number k.serial))
       (pinned_is : claimed.pinned ≡ put_at st.pinned s.0 k.index (put (st.pinned s.0 k.index) me.0 true))
-      (gate_is : claimed.gate ≡ st.gate) (chan_is : claimed.chan ≡ st.chan) where
+      (amid_is : claimed.amid ≡ st.amid) (gate_is : claimed.gate ≡ st.gate) (chan_is : claimed.chan ≡ st.chan) where
     there : claimed.key s.0 k.index ≡ new_key c.number k.serial
     there = ap (λ f. f s.0 k.index) is ∙ put_at-same st.key s.0 k.index (new_key c.number k.serial)
 
@@ -91,6 +102,13 @@ module _ (l : Limits) (st : State) (me : CallerNo) (s : SelNo) (c : ChanId) (ops
         ap (λ f. put_at f s.0 k.index (put (f s.0 k.index) me.0 false)) pinned_is
         ∙ pin-back st.pinned s.0 k.index me.0 (unpinned k.index me.0)
 
+    changes-made : (with_amid (with_amid claimed s.0 k.index me.0 (claimed.pinned s.0 k.index me.0)) s.0 k.index me.0
+        false).amid ≡ st.amid
+    changes-made =
+        ap (λ f. (with_amid (with_amid (record claimed { amid = f }) s.0 k.index me.0
+        (claimed.pinned s.0 k.index me.0)) s.0 k.index me.0 false).amid) amid_is
+        ∙ caller-back st.amid s.0 k.index me.0 (claimed.pinned s.0 k.index me.0) (still k.index)
+
     claimed-made : perform me (make_claimed s c ops att k) claimed
         ≡ record {
           answer = Ok (key s k);
@@ -98,6 +116,8 @@ module _ (l : Limits) (st : State) (me : CallerNo) (s : SelNo) (c : ChanId) (ops
               s.0 (Some k)) {
                 key = put_at st.key s.0 k.index (new_stage c.number.0 k.serial);
                 pinned = st.pinned;
+                touched = put_at claimed.touched s.0 k.index true;
+                amid = st.amid;
               };
         }
     claimed-made =
@@ -107,7 +127,12 @@ module _ (l : Limits) (st : State) (me : CallerNo) (s : SelNo) (c : ChanId) (ops
           answer = Ok (key s k);
           state =
               record (with_enrolled (with_note (with_interest claimed s.0 k.index ops) s.0 k.index att) c.number.0 s.0
-              (Some k)) { key = key-made j; pinned = pins-made j };
+              (Some k)) {
+                key = key-made j;
+                pinned = pins-made j;
+                touched = put_at claimed.touched s.0 k.index true;
+                amid = changes-made j;
+              };
         })
 
   again-made : (i : ℕ) → i < mark
@@ -115,12 +140,13 @@ module _ (l : Limits) (st : State) (me : CallerNo) (s : SelNo) (c : ChanId) (ops
       (claimed_again st me s c.number unpinned untaken i)
       ≡ made (Some (next_at st me s c.number unpinned untaken i))
   again-made i low =
-      claimed-made k (with_mark (claimed_again st me s c.number unpinned untaken i) s.0 i unmarked) refl refl refl refl
+      claimed-made k (with_mark (claimed_again st me s c.number unpinned untaken i) s.0 i unmarked) refl refl refl refl refl
       ∙ (λ j. record {
         answer = Ok (key s k);
-        state =
-            record (with_new_key st s.0 c.number.0 k ops
-            att) { keys_high = sym (put_same st.keys_high s.0 (max mark (suc i)) (omega arith)) j };
+        state = record (with_new_key st s.0 c.number.0 k ops att) {
+          keys_high = sym (put_same st.keys_high s.0 (max mark (suc i)) (omega arith)) j;
+          touched = put_at st.touched s.0 k.index true;
+        };
       })
     where
       k : KeyId
@@ -132,13 +158,14 @@ module _ (l : Limits) (st : State) (me : CallerNo) (s : SelNo) (c : ChanId) (ops
   first-made room =
       perform_then_on me (seek_to l.keys mark (claim_new s c.number)) (register_first s c ops att) st (Some k) claimed
       (first-performed st me s c.number exact (λ i. unpinned i me.0) l room)
-      ∙ (claimed-made k (with_keys_high claimed s.0 (max mark (mark + 1))) refl refl refl refl
+      ∙ (claimed-made k (with_keys_high claimed s.0 (max mark (mark + 1))) refl refl refl refl refl
       ∙ (λ j. record {
         answer = Ok (key s k);
         state = record (with_new_key st s.0 c.number.0 k ops att) {
           keys_high = put st.keys_high s.0 (max mark (add-one mark j));
           mark = sym (put_at_same st.mark s.0 mark unmarked fresh_mark) j;
           free = sym (put_at_same st.free s.0 mark false fresh_free) j;
+          touched = put_at st.touched s.0 k.index true;
         };
       }))
     where

@@ -22,12 +22,13 @@ use Rattle.nio_steps.specs.PipeCalls.{if_interrupted, if_open, try_read_plan, if
 use Rattle.nio_steps.specs.Plan.{Plan, ◌>>=◌}
 use Rattle.nio_steps.specs.Steps.{look_interrupt}
 use Rattle.nio_steps.specs.declared.refusal.PipeError.{PipeError}
+use Rattle.nio_serial.proofs.Base.{IsOff}
 use Rattle.nio_serial.proofs.ClosingChannels.{closed_left, closed-documented, close-open}
 use Rattle.nio_serial.specs.Documented.{Progress, documented, amounts}
 use Rattle.nio_serial.specs.PipeLines.{with_pipe, Piped, only_says, takes, read_gives, puts, write_gives}
 
 module _ (l : Limits) (st : State) (now : Progress) (me : CallerNo) (c : ChanId)
-    (free : (s i : ℕ) → st.pinned s i me.0 ≡ false) (whole : (s i : ℕ) → (st.key s i).claimed ≡ (st.key s i).published)
+    (off : (s i : ℕ) → IsOff st.pinned st.amid s i me.0) (whole : (s i : ℕ) → (st.key s i).claimed ≡ (st.key s i).published)
     (within : (s i : ℕ) → in_key_set (st.key s i) ≡ true → s < l.selectors) where
   abbrev ds : ScriptState
   ds = documented st now
@@ -56,7 +57,7 @@ module _ (l : Limits) (st : State) (now : Progress) (me : CallerNo) (c : ChanId)
           ≡ (if b then ends (Err PipeError.ClosedByInterrupt) (closed_left l st c.number) else ends (Ok true) st)
       by_status true opened =
           perform_then_on me (close_channel_plan l c) (λ _. Plan.reply (Err PipeError.ClosedByInterrupt)) st
-          true (closed_left l st c.number) (close-open l st now me c free whole within opened)
+          true (closed_left l st c.number) (close-open l st now me c off whole within opened)
       by_status false opened = refl
 
       by_mode : (b : Bool) → is_open ≡ true
@@ -93,7 +94,7 @@ module _ (l : Limits) (st : State) (now : Progress) (me : CallerNo) (c : ChanId)
 
     interrupts : replied ds reply.ClosedByInterrupt (channel_closed ds.shared c.number.0)
         ≡ record { reply = reply.ClosedByInterrupt; left = documented (closed_left l st c.number) now }
-    interrupts = closed-documented l st now me c free whole within reply.ClosedByInterrupt
+    interrupts = closed-documented l st now me c off whole within reply.ClosedByInterrupt
 
     module _ (n : ℕ) where
       taken : (mode : Bool) (waiting : List ℕ) (sealed : Bool)

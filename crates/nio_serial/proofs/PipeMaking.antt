@@ -24,6 +24,7 @@ use Rattle.nio_steps.specs.PipeCalls.{PipeEnds, with_sink as sink_for, with_sour
 use Rattle.nio_steps.specs.Plan.{Plan, ◌>>=◌}
 use Rattle.nio_steps.specs.declared.refusal.ChannelError.{ChannelError}
 use Rattle.nio_steps.specs.declared.refusal.PipeMakeError.{PipeMakeError}
+use Rattle.nio_serial.proofs.Base.{IsOff}
 use Rattle.nio_serial.proofs.ClosingChannels.{closed_left, closed-documented, close-open}
 use Rattle.nio_serial.proofs.NextChannel.{channels-next}
 use Rattle.nio_serial.proofs.Opening.{opened, open-performed}
@@ -42,7 +43,7 @@ open_now st source =
 
 module _ (l : Limits) (st : State) (now : Progress) (me target : CallerNo)
     (rest : ChannelsRest l st.channels_high st.chan) (unheld : (c : ℕ) → st.hold c ≡ None)
-    (free : (s i : ℕ) → st.pinned s i me.0 ≡ false) (whole : (s i : ℕ) → (st.key s i).claimed ≡ (st.key s i).published)
+    (off : (s i : ℕ) → IsOff st.pinned st.amid s i me.0) (whole : (s i : ℕ) → (st.key s i).claimed ≡ (st.key s i).published)
     (within : (s i : ℕ) → in_key_set (st.key s i) ≡ true → s < l.selectors) where
   abbrev ds : ScriptState
   ds = documented st now
@@ -68,10 +69,10 @@ module _ (l : Limits) (st : State) (now : Progress) (me target : CallerNo)
     -- it is closed where there is no number for a sink
     by_sink : (o : Option ChanId) → with_sink ds1 me target source o ≡ gave (sink_after source (opened st1 Sink o))
     by_sink None =
-        closed-documented l st1 now me source free whole within reply.ChannelsSpent
+        closed-documented l st1 now me source off whole within reply.ChannelsSpent
         ∙ sym (ap gave (perform_then_on me (close_channel_plan l source)
         (λ _. Plan.reply (Err PipeMakeError.ChannelsSpent)) st1 true (closed_left l st1 source.number)
-        (close-open l st1 now me source free whole within (open_now st source))))
+        (close-open l st1 now me source off whole within (open_now st source))))
     by_sink (Some sink) = refl
 
     sink-opened : with_sink ds1 me target source (next_channel Now l ds1.shared Sink)

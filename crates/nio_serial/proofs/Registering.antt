@@ -10,7 +10,7 @@ use Rattle.nio_base.specs.declared.numbers.KeyId.{KeyId}
 use Rattle.nio_base.specs.declared.numbers.KeyNo.{KeyNo}
 use Rattle.nio_base.specs.declared.numbers.SelNo.{SelNo}
 use Rattle.nio_history.specs.Sets.{fits, in_key_set, is_in_key_set, is_valid_key, was_opened, is_open_channel}
-use Rattle.nio_history.specs.State.{State, unmarked, with_hold, with_pin, with_interest, with_note}
+use Rattle.nio_history.specs.State.{State, unmarked, put_at, with_hold, with_pin, with_interest, with_note, with_touched, with_amid}
 use Rattle.nio_history.specs.declared.found.Mark.{Mark}
 use Rattle.nio_history.specs.declared.found.Stage.{Stage}
 use Rattle.nio_language.specs.declared.reply.Reply.{Reply}
@@ -32,7 +32,7 @@ use Rattle.nio_steps.specs.Perform.{Performed, perform}
 use Rattle.nio_steps.specs.Plan.{Plan, when, ◌>>=◌, ◌>>◌}
 use Rattle.nio_steps.specs.Steps.{look_gate, swap_note}
 use Rattle.nio_steps.specs.declared.refusal.ChannelError.{ChannelError}
-use Rattle.nio_serial.proofs.Base.{put-back, put_at-under, pin-back, branch, unpinned, perform_pinned}
+use Rattle.nio_serial.proofs.Base.{put-back, put_at-under, pin-back, caller-back, caller-off, branch, unpinned, perform_pinned}
 use Rattle.nio_serial.proofs.Base.{released, perform_held}
 use Rattle.nio_serial.proofs.Making.{made, new-performed}
 use Rattle.nio_serial.specs.Documented.{Progress, settled, settled_mark, settled_state, documented, amounts}
@@ -55,7 +55,8 @@ settled-new st s c k ops att = λ j. record (with_new_key (settled_state st) s c
 -- ---- what the plan does with the channel's key, on a state with the hold
 
 module _ (l : Limits) (st : State) (me : CallerNo) (s : SelNo) (c : ChanId) (ops att : ℕ)
-    (free : (i n : ℕ) → st.pinned s.0 i n ≡ false) (untaken : (i : ℕ) → st.taker s.0 i ≡ None)
+    (free : (i n : ℕ) → st.pinned s.0 i n ≡ false) (still : (i : ℕ) → st.amid s.0 i me.0 ≡ false)
+    (untaken : (i : ℕ) → st.taker s.0 i ≡ None)
     (exact : (i : ℕ) → (st.key s.0 i).claimed ≡ nat_lt i (st.keys_high s.0))
     (fresh_mark : st.mark s.0 (st.keys_high s.0) ≡ unmarked) (fresh_free : st.free s.0 (st.keys_high s.0) ≡ false)
     (is_open : is_open_channel (st.chan c.number.0) c.serial ≡ true) where
@@ -70,8 +71,8 @@ module _ (l : Limits) (st : State) (me : CallerNo) (s : SelNo) (c : ChanId) (ops
   updated k =
       record {
         answer = Ok (key s k);
-        state = with_note (with_interest st s.0 k.index ops) s.0 k.index
-            (if att == 0 then st.note s.0 k.index else att);
+        state = record (with_note (with_interest st s.0 k.index ops) s.0 k.index
+            (if att == 0 then st.note s.0 k.index else att)) { touched = put_at st.touched s.0 k.index true };
       }
 
   module _ (k : KeyId) where
@@ -80,6 +81,10 @@ module _ (l : Limits) (st : State) (me : CallerNo) (s : SelNo) (c : ChanId) (ops
 
     abbrev held : State
     held = with_pin st s.0 k.index me.0 true
+
+    -- and after the touch
+    abbrev touching : State
+    touching = with_amid (with_touched held s.0 k.index true) s.0 k.index me.0 (held.pinned s.0 k.index me.0)
 
     -- how the plan goes on after its look at the gate
     abbrev opened : Bool → Bool → Plan (Option (Result KeyNo ChannelError))
@@ -95,11 +100,34 @@ module _ (l : Limits) (st : State) (me : CallerNo) (s : SelNo) (c : ChanId) (ops
     abbrev setting : Bool → Plan (Result KeyNo ChannelError)
     setting none = when (not none) (swap_note s k.index att) >> Plan.reply (Ok (key s k))
 
-    -- the pins are as before
-    back : (a : Option (Result KeyNo ChannelError)) (F : (ℕ → ℕ → ℕ → Bool) → State)
-        → ◌≡◌ {A = Over} (record { answer = a; state = F (with_pin held s.0 k.index me.0 false).pinned })
-        (record { answer = a; state = F st.pinned })
-    back a F = ap (λ p. record { answer = a; state = F p }) (pin-back st.pinned s.0 k.index me.0 (free k.index me.0))
+    abbrev Callers : Type 0
+    Callers = ℕ → ℕ → ℕ → Bool
+
+    -- the pins, and who is amid a change, are as before
+    back : (a : Option (Result KeyNo ChannelError)) (F : Callers → Callers → State)
+        → ◌≡◌ {A = Over} (record {
+          answer = a;
+          state = F (with_pin held s.0 k.index me.0 false).pinned (with_amid st s.0 k.index me.0 false).amid;
+        })
+        (record { answer = a; state = F st.pinned st.amid })
+    back a F = λ j. record {
+      answer = a;
+      state = F (pin-back st.pinned s.0 k.index me.0 (free k.index me.0) j)
+          (caller-off st.amid s.0 k.index me.0 (still k.index) j);
+    }
+
+    -- the same after the touch
+    back_touched : (a : Option (Result KeyNo ChannelError)) (F : Callers → Callers → State)
+        → ◌≡◌ {A = Over} (record {
+          answer = a;
+          state = F (with_pin held s.0 k.index me.0 false).pinned (with_amid touching s.0 k.index me.0 false).amid;
+        })
+        (record { answer = a; state = F st.pinned st.amid })
+    back_touched a F = λ j. record {
+      answer = a;
+      state = F (pin-back st.pinned s.0 k.index me.0 (free k.index me.0) j)
+          (caller-back st.amid s.0 k.index me.0 (held.pinned s.0 k.index me.0) (still k.index) j);
+    }
 
     abbrev pub over_of : (cancelled shut valid : Bool) → Over
     over_of true shut valid = record { answer = Some (Err ChannelError.CancelledKey); state = st }
@@ -107,17 +135,17 @@ module _ (l : Limits) (st : State) (me : CallerNo) (s : SelNo) (c : ChanId) (ops
     over_of false false true = record { answer = Some (updated k).answer; state = (updated k).state }
     over_of false false false = record { answer = None; state = st }
 
-    enrolled_att : (b : Bool) → ◌≡◌ {A = Done} (perform me (setting b) (with_interest held s.0 k.index ops))
+    enrolled_att : (b : Bool) → ◌≡◌ {A = Done} (perform me (setting b) (with_interest touching s.0 k.index ops))
         (record {
           answer = Ok (key s k);
           state =
-              with_note (with_interest held s.0 k.index ops) s.0 k.index (if b then st.note s.0 k.index else att);
+              with_note (with_interest touching s.0 k.index ops) s.0 k.index (if b then st.note s.0 k.index else att);
         })
     enrolled_att true =
         λ j. record {
           answer = Ok (key s k);
           state = record
-              (with_interest held s.0 k.index ops) {
+              (with_interest touching s.0 k.index ops) {
                 note = sym
                     (put_at_same st.note s.0 k.index (st.note s.0 k.index) refl) j;
               };
@@ -126,19 +154,19 @@ module _ (l : Limits) (st : State) (me : CallerNo) (s : SelNo) (c : ChanId) (ops
 
     after_gate : (shut valid : Bool) → unpinned me s k.index (perform me (opened shut valid) held)
         ≡ over_of false shut valid
-    after_gate true valid = back (Some (Err ChannelError.ClosedSelector)) (λ p. record st { pinned = p })
+    after_gate true valid = back (Some (Err ChannelError.ClosedSelector)) (λ p a. record st { pinned = p; amid = a })
     after_gate false true =
         let done =
-        with_note (with_interest held s.0 k.index ops) s.0 k.index
+        with_note (with_interest touching s.0 k.index ops) s.0 k.index
         (if att == 0 then st.note s.0 k.index else att) in
         ap (unpinned me s k.index) (perform_then_on me (update_key s k ops att)
         (λ answer. Plan.reply (Some answer)) held (Ok (key s k)) done (enrolled_att (att == 0)))
-        ∙ back (Some (Ok (key s k))) (λ p. record done { pinned = p })
-    after_gate false false = back None (λ p. record st { pinned = p })
+        ∙ back_touched (Some (Ok (key s k))) (λ p a. record done { pinned = p; amid = a })
+    after_gate false false = back None (λ p a. record st { pinned = p; amid = a })
 
     at_first : (b : Bool) → unpinned me s k.index (perform me (steps b) held)
         ≡ over_of b (st.gate s.0).shut (is_valid_key stage k.serial)
-    at_first true = back (Some (Err ChannelError.CancelledKey)) (λ p. record st { pinned = p })
+    at_first true = back (Some (Err ChannelError.CancelledKey)) (λ p a. record st { pinned = p; amid = a })
     at_first false = after_gate (st.gate s.0).shut (is_valid_key stage k.serial)
 
     over-performed : perform me (under_pin s k.index (register_enrolled s ops att k)) st
@@ -169,7 +197,8 @@ kept-is (Some a) n = refl
 module _ (l : Limits) (st : State) (now : Progress) (me : CallerNo) (s : SelNo) (c : ChanId) (ops : ℕ)
     (given : Option ℕ)
     (unheld : st.hold c.number.0 ≡ None)
-    (free : (i n : ℕ) → st.pinned s.0 i n ≡ false) (untaken : (i : ℕ) → st.taker s.0 i ≡ None)
+    (free : (i n : ℕ) → st.pinned s.0 i n ≡ false) (still : (i : ℕ) → st.amid s.0 i me.0 ≡ false)
+    (untaken : (i : ℕ) → st.taker s.0 i ≡ None)
     (exact : (i : ℕ) → (st.key s.0 i).claimed ≡ nat_lt i (st.keys_high s.0))
     (fresh_mark : st.mark s.0 (st.keys_high s.0) ≡ unmarked) (fresh_free : st.free s.0 (st.keys_high s.0) ≡ false) where
   abbrev ds : ScriptState
@@ -202,10 +231,10 @@ module _ (l : Limits) (st : State) (now : Progress) (me : CallerNo) (s : SelNo) 
         ≡ F (perform me (register_new l s c ops att) holding)
     newly not_shut =
         by_next (next_key l st s.0) ∙ sym
-        (ap F (new-performed l holding me s c ops att free untaken exact fresh_mark fresh_free not_shut is_open))
+        (ap F (new-performed l holding me s c ops att free still untaken exact fresh_mark fresh_free not_shut is_open))
       where
         by_next : (o : Option KeyId) → registered_new ds s.0 c.number.0 ops att o
-            ≡ F (made l holding me s c ops att free untaken exact fresh_mark fresh_free not_shut is_open o)
+            ≡ F (made l holding me s c ops att free still untaken exact fresh_mark fresh_free not_shut is_open o)
         by_next None = refused ChannelError.Full reply.Full refl
         by_next (Some k) =
             (λ j. record {
@@ -231,7 +260,7 @@ module _ (l : Limits) (st : State) (now : Progress) (me : CallerNo) (s : SelNo) 
       enrolled_stage = st.key s.0 k.index
 
       abbrev over : Bool → Bool → Bool → Performed (Option (Result KeyNo ChannelError))
-      over = over_of l holding me s c ops att free untaken exact fresh_mark fresh_free is_open k
+      over = over_of l holding me s c ops att free still untaken exact fresh_mark fresh_free is_open k
 
       abbrev finish : Performed (Option (Result KeyNo ChannelError)) → Replied
       finish done = F (perform me (register_rest l s c ops att done.answer) done.state)
@@ -289,7 +318,7 @@ module _ (l : Limits) (st : State) (now : Progress) (me : CallerNo) (s : SelNo) 
         by_key k (is_in_key_set stage k.serial) refl stage.cancelled refl (st.gate s.0).shut refl
         ∙ sym (ap F (perform_then_on me (under_pin s k.index (register_enrolled s ops att k))
         (register_rest l s c ops att) holding _ _
-        (over-performed l holding me s c ops att free untaken exact fresh_mark fresh_free is_open k)))
+        (over-performed l holding me s c ops att free still untaken exact fresh_mark fresh_free is_open k)))
 
   pub register-amounts : st.selector s.0 ≡ true → was_opened (st.chan c.number.0) c.serial ≡ true
       → register_call l ds s c ops given ≡ amounts register_reply (λ _. now)

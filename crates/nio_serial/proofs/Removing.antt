@@ -12,9 +12,10 @@ use Rattle.nio_plain.proofs.Places.{put_at_same}
 use Rattle.nio_plain.specs.Seq.Removing.{removed_key, unselected, without_keys_where}
 use Rattle.nio_steps.specs.Perform.{perform}
 use Rattle.nio_steps.specs.Plan.{when}
-use Rattle.nio_steps.specs.SelectCalls.{remove_cancelled}
+use Rattle.nio_steps.specs.Looking.{remove_cancelled}
 use Rattle.nio_steps.specs.Steps.{put_free}
 use Rattle.nio_serial.proofs.Base.{put_at-back}
+use Rattle.nio_serial.specs.Between.{AreTouched}
 use Rattle.nio_serial.specs.Documented.{settled, settled_mark, settled_state}
 
 -- what is put at a pair of numbers, where both the new value and the others are those of a function
@@ -41,6 +42,16 @@ removed_where st goes frees = record st {
   key = λ t i. cond (goes t i) (gone (st.key t i)) (st.key t i);
   free = λ t i. (goes t i && frees (st.key t i)) || st.free t i;
 }
+
+-- then each cancelled key that isn't removed is at a touched index, as before
+pub removed-touched : (st : State) (goes : ℕ → ℕ → Bool) (frees : Stage → Bool) (t : ℕ) → AreTouched st t
+    → AreTouched (removed_where st goes frees) t
+removed-touched st goes frees t was = λ i. by_goes i (goes t i)
+  where
+    by_goes : (i : ℕ) (b : Bool) → (cond b (gone (st.key t i)) (st.key t i)).cancelled ≡ true
+        → (cond b (gone (st.key t i)) (st.key t i)).removed ≡ false → st.touched t i ≡ true
+    by_goes i true cancelled there = absurd (cc there)
+    by_goes i false cancelled there = was i cancelled there
 
 module _ (st : State) (frees : Stage → Bool) where
   pub removed_none : (goes : ℕ → ℕ → Bool) → ((t i : ℕ) → goes t i ≡ false) → st ≡ removed_where st goes frees

@@ -22,9 +22,10 @@ use Rattle.nio_serial.specs.Between.{IsAtRest}
 -- ---- the parts
 
 pub record Unused (hold : ℕ → Option CallerNo) (pinned : ℕ → ℕ → ℕ → Bool) (taker : ℕ → ℕ → Option CallerNo)
-    (put_due : ℕ → ℕ → Bool) : Type 0 where
+    (put_due : ℕ → ℕ → Bool) (amid : ℕ → ℕ → ℕ → Bool) : Type 0 where
   pub unheld : (c : ℕ) → hold c ≡ None
   pub unpinned : (s i n : ℕ) → pinned s i n ≡ false
+  pub unchanging : (s i n : ℕ) → amid s i n ≡ false
   pub untaken : (s i : ℕ) → taker s i ≡ None
   pub none_due : (s i : ℕ) → put_due s i ≡ false
 
@@ -49,7 +50,7 @@ pub record FreesRest (entered : ℕ → Bool) (key : ℕ → ℕ → Stage) (fre
   pub exactly : (s i : ℕ) → entered s ≡ false → free s i ≡ ((key s i).removed && nat_lt (key s i).serial last_serial)
 
 pub record Rests (l : Limits) (st : State) : Type 0 where
-  pub unused : Unused st.hold st.pinned st.taker st.put_due
+  pub unused : Unused st.hold st.pinned st.taker st.put_due st.amid
   pub channels : ChannelsRest l st.channels_high st.chan
   pub keys : KeysRest l st.keys_high st.key st.mark st.free
   pub frees : FreesRest st.entered st.key st.free
@@ -59,6 +60,7 @@ rests-from l st rest = record {
   unused = record {
     unheld = rest.unused.unheld;
     unpinned = rest.unused.unpinned;
+    unchanging = rest.unused.unchanging;
     untaken = rest.unused.untaken;
     none_due = rest.unused.none_due;
   };
@@ -78,6 +80,7 @@ rests-is l st rest = record {
   unused = record {
     unheld = rest.unused.unheld;
     unpinned = rest.unused.unpinned;
+    unchanging = rest.unused.unchanging;
     untaken = rest.unused.untaken;
     none_due = rest.unused.none_due;
   };

@@ -14,10 +14,11 @@ use Rattle.nio_base.specs.declared.numbers.KeyNo.{KeyNo}
 use Rattle.nio_base.specs.declared.numbers.SelNo.{SelNo}
 use Rattle.nio_history.proofs.Legal.{legal_next}
 use Rattle.nio_history.proofs.OneMore.{state_after-more}
+use Rattle.nio_history.specs.Acts.{taken_by}
 use Rattle.nio_history.specs.Conditions.{IsCaller, Condition}
 use Rattle.nio_history.specs.Histories.{state_after, event_of, mine, IsLegal}
 use Rattle.nio_history.specs.Questions.{Question, question_of}
-use Rattle.nio_history.specs.State.{State, with_drawn}
+use Rattle.nio_history.specs.State.{State, with_drawn, with_lister}
 use Rattle.nio_history.specs.declared.act.Act.{Act}
 use Rattle.nio_history.specs.declared.act.Act.TheVariants.{DrawBit, SetInterrupt}
 use Rattle.nio_history.specs.declared.event.Event.{Event}
@@ -33,7 +34,7 @@ use Rattle.nio_plain.specs.ScriptState.{ScriptState}
 use Rattle.nio_plain.specs.Seq.{call_of, seq}
 use Rattle.nio_plain.specs.Seq.Closing.{close_call}
 use Rattle.nio_plain.specs.Seq.Replies.{Replied, unchanged, yes_or_no}
-use Rattle.nio_plain.specs.Seq.Selections.{mode_of, begun_with, begin_call, is_caller}
+use Rattle.nio_plain.specs.Seq.Selections.{begun_with, begin_call, is_caller}
 use Rattle.nio_plain.specs.declared.rules.Rules.TheVariants.{Now}
 use Rattle.nio_serial.proofs.SequencePipes.{unsealed}
 use Rattle.nio_serial.proofs.Progress.{put_selection, put_closing, put_same, own_of_caller, closing_of_caller}
@@ -43,7 +44,9 @@ use Rattle.nio_serial.specs.Called.{HasNames}
 use Rattle.nio_serial.specs.SequenceLaws.{is_of_script}
 use Rattle.nio_serial.specs.Left.{after_made, IsOngoing}
 use Rattle.nio_serial.proofs.Facts.{sound}
-use Rattle.nio_serial.proofs.Histories.{call-runs-amount, told-runs-amount, lacking-leaves, draws-stay, seq-through}
+use Rattle.nio_serial.proofs.Histories.{call-runs-amount, told-runs-amount, lacking-leaves, draws-stay, lists-stay}
+use Rattle.nio_serial.proofs.Histories.{seq-through}
+use Rattle.nio_serial.proofs.ListedCalls.{mode_through, listed-runs-amount}
 use Rattle.nio_serial.proofs.Lines.{selector-found, channel-found, key-found}
 use Rattle.nio_serial.proofs.Showing.{own-is}
 use Rattle.nio_serial.specs.Between.{IsBetween}
@@ -64,21 +67,23 @@ use Rattle.nio_steps.specs.ChannelCalls.{key_for_plan, try_set_blocking_plan, tr
 use Rattle.nio_steps.specs.KeyCalls.{find_selector_plan, find_channel_plan, find_plan, is_valid_plan, interest_plan}
 use Rattle.nio_steps.specs.KeyCalls.{set_interest_plan, interest_or_plan, interest_and_plan, ready_plan, cancel_plan}
 use Rattle.nio_steps.specs.KeyCalls.{unselect_plan, attach_plan, attachment_plan}
-use Rattle.nio_steps.specs.Ongoing.{Ongoing}
+use Rattle.nio_steps.specs.Ongoing.{Ongoing, selecting, begun_by}
+use Rattle.nio_steps.specs.Lists.{KnowsList}
 use Rattle.nio_steps.specs.Perform.{perform}
 use Rattle.nio_steps.specs.Plan.{Plan}
 use Rattle.nio_steps.specs.Runs.{Completes}
 use Rattle.nio_steps.specs.SelectCalls.{Selection, open_selector_plan, wakeup_plan, interrupt_plan, interrupted_plan}
-use Rattle.nio_steps.specs.SelectCalls.{try_begin_plan, told_plan, mark_entry, after_marks, Poll, ToldReply, done}
+use Rattle.nio_steps.specs.SelectCalls.{take_list_plan, try_begin_plan, told_plan, mark_entry, after_marks, Poll, ToldReply, done}
 use Rattle.nio_steps.specs.SelectCalls.{again, leave_plan, shut_plan, ShutReply, closing, already_closed}
 use Rattle.nio_steps.specs.SelectCalls.{try_finish_plan, FinishReply, closed, busy, keys_plan, selected_keys_plan}
 use Rattle.nio_steps.specs.Sweeps.{sweep_over}
 use Rattle.nio_steps.specs.TableCalls.{find_selector, find_channel, find, is_valid, interest, set_interest, interest_or}
 use Rattle.nio_steps.specs.TableCalls.{interest_and, ready, cancel, unselect, attach, attachment, open_channel}
 use Rattle.nio_steps.specs.TableCalls.{reopen_channel, is_open, is_blocking, is_registered, key_for, try_set_blocking}
-use Rattle.nio_steps.specs.TableCalls.{try_register, close_channel, open_selector, try_begin, told, leave, shut}
+use Rattle.nio_steps.specs.TableCalls.{try_register, close_channel, open_selector, take_list, try_begin, told, leave, shut}
 use Rattle.nio_steps.specs.TableCalls.{try_finish, keys, selected_keys, wakeup, interrupt, interrupted, pipe, try_read}
 use Rattle.nio_steps.specs.TableCalls.{try_write, set_blocking, register, select, close, read, write}
+use Rattle.nio_steps.specs.declared.looked.LookedKey.{LookedKey}
 use Rattle.nio_steps.specs.declared.refusal.BeginError.{BeginError}
 use Rattle.nio_steps.specs.declared.refusal.ListError.{ListError}
 
@@ -109,9 +114,19 @@ abbrev pub Ends : Limits → List Event → Progress → CallerNo → Ongoing �
 Ends l past now me ongoing acts call =
     EndsAs l past now me acts (after_made now me call) (after_call ongoing call) (lacks_memory call) (script_call call)
 
--- the call doesn't wait, is no reopening, and isn't on a pipe
+-- it begins a selection with the list
+abbrev pub is_listed : Made → Bool
+is_listed (table_call (try_begin s mode (Some known)) answer) = true
+is_listed _ = false
+
+-- the call doesn't wait, is no reopening, isn't on a pipe, and is without the list
 abbrev pub IsPlain : Made → Type 0
-IsPlain made = IsTrue (is_of_script (script_call made) && not (waits made))
+IsPlain made = IsTrue (is_of_script (script_call made) && not (waits made) && not (is_listed made))
+
+-- the list that the call is given is the one that the caller knows
+abbrev pub KnowsFor : Limits → List Event → CallerNo → Made → Type 0
+KnowsFor l past me (table_call (try_begin s mode (Some known)) answer) = KnowsList l me past s known
+KnowsFor l past me _ = Unit {0}
 
 -- ---- plans
 
@@ -120,11 +135,6 @@ pub made-run : {R : Type 0} (plan : Plan R) (said : R → Reply) (left : R → P
 made-run plan said left acts a run =
     follows_bind plan (λ answer. Plan.reply (record { reply = said answer; left = left answer })) acts
     (Plan.reply a) run
-
-mode_through : (mode : Mode) → mode_of (waiting_of mode) ≡ Some mode
-mode_through Mode.Now = refl
-mode_through Mode.Wait = refl
-mode_through (Mode.For ms) = refl
 
 -- a `told` that answers Again goes on with the same selection
 pub again-same : (x next : Selection) (pairs : List (ℕ × ℕ)) (elapsed : Bool) (acts : List Act)
@@ -275,20 +285,26 @@ module _ (l : Limits) (past : List Event) (now : Progress) (me : CallerNo) (fit 
 
   -- ---- selections
 
+  -- a selection that goes by the list takes that on
+  begun-ongoing : (now' : Progress) (o : Ongoing) (s : SelNo) (x : Selection) → IsOngoing me now' (selecting o s (Some x))
+      → IsOngoing me now' (begun_by o s x)
+  begun-ongoing now' o s x at = record { selection = at.selection; closes = at.closes }
+
   begin-ends : (o : Ongoing) (s : SelNo) (mode : Mode) (answer : Result Selection BeginError) (acts : List Act)
-      → IsRun l (table_call (try_begin s mode) answer) acts → IsLegal l (after past me acts)
-      → IsMadeSelector st s → IsOngoing me now o → Here o acts (table_call (try_begin s mode) answer)
+      → IsRun l (table_call (try_begin s mode None) answer) acts → IsLegal l (after past me acts)
+      → IsMadeSelector st s → IsOngoing me now o → Here o acts (table_call (try_begin s mode None) answer)
   unfolding call_plan
   begin-ends o s mode (Ok x) acts run legal made at =
       let said : Said = record { reply = begin_reply (Ok x); left = after_begin now me s (Ok x) } in
       let word = call.Begin s (waiting_of mode) in
       let amounts = line-amounts word acts said made legal
       (subst (λ m. Completes (begin_line now me s m) acts said) (sym (mode_through mode))
-      (made-run (try_begin_plan s mode false) begin_reply (after_begin now me s) acts (Ok x) run)) in
+      (made-run (try_begin_plan s mode None false) begin_reply (after_begin now me s) acts (Ok x) run)) in
       record {
         between = amounts.between;
-        own = put_selection me now o s.0 (Some x) (Some (record { caller = me; selection = x }))
-            (own_of_caller me x) at;
+        own = begun-ongoing (after_begin now me s (Ok x)) o s x
+            (put_selection me now o s.0 (Some x) (Some (record { caller = me; selection = x }))
+            (own_of_caller me x) at);
         others =
             λ n o' other at'. others_begun me n other now o' s.0 x
             (begin-free s mode
@@ -299,17 +315,93 @@ module _ (l : Limits) (past : List Event) (now : Progress) (me : CallerNo) (fit 
       quiet-line o (call.Begin s (waiting_of mode)) reply.ClosedSelector acts made legal
       (subst (λ m. Completes (begin_line now me s m) acts (record { reply = reply.ClosedSelector; left = now }))
       (sym (mode_through mode))
-      (made-run (try_begin_plan s mode false) begin_reply (after_begin now me s) acts
+      (made-run (try_begin_plan s mode None false) begin_reply (after_begin now me s) acts
       (Err BeginError.ClosedSelector) run)) at
   begin-ends o s mode (Err BeginError.Busy) acts run legal made at =
       quiet-line o (call.Begin s (waiting_of mode)) reply.Busy acts made legal
       (subst (λ m. Completes (begin_line now me s m) acts (record { reply = reply.Busy; left = now }))
       (sym (mode_through mode))
-      (made-run (try_begin_plan s mode false) begin_reply (after_begin now me s) acts (Err BeginError.Busy) run)) at
+      (made-run (try_begin_plan s mode None false) begin_reply (after_begin now me s) acts (Err BeginError.Busy) run)) at
   begin-ends o s mode (Err BeginError.Memory) acts run legal made at =
-      lacking-ends o acts (script_call (table_call (try_begin s mode) (Err BeginError.Memory)))
-      (same-state (try_begin_plan s mode true) acts (Err BeginError.Memory)
-      (lacking-leaves l st now me s mode between).begins legal run) at
+      lacking-ends o acts (script_call (table_call (try_begin s mode None) (Err BeginError.Memory)))
+      (same-state (try_begin_plan s mode None true) acts (Err BeginError.Memory)
+      (lacking-leaves l st now me s mode None between).begins legal run) at
+
+  -- with the list, which the caller knows
+  pub listed-ends : (o : Ongoing) (s : SelNo) (mode : Mode) (known : List LookedKey) (answer : Result Selection BeginError)
+      (acts : List Act) → KnowsList l me past s known
+      → IsRun l (table_call (try_begin s mode (Some known)) answer) acts → IsLegal l (after past me acts)
+      → IsMadeSelector st s → IsOngoing me now o → Here o acts (table_call (try_begin s mode (Some known)) answer)
+  listed-ends o s mode known (Ok x) acts knows run legal made at =
+      let said : Said = record { reply = begin_reply (Ok x); left = after_begin now me s (Ok x) } in
+      let amounts =
+      listed-runs-amount l past now me fit between s mode known knows acts (Ok x) legal run by made in
+      record {
+        between = amounts.between;
+        own = begun-ongoing (after_begin now me s (Ok x)) o s x
+            (put_selection me now o s.0 (Some x) (Some (record { caller = me; selection = x }))
+            (own_of_caller me x) at);
+        others =
+            λ n o' other at'. others_begun me n other now o' s.0 x
+            (begin-free s mode
+            (documented (state_after (after past me acts)) said.left) x made amounts.replied) at';
+        is = seq-of (call.Begin s (waiting_of mode)) acts said amounts;
+      }
+  listed-ends o s mode known (Err BeginError.ClosedSelector) acts knows run legal made at =
+      let said : Said = record { reply = reply.ClosedSelector; left = now } in
+      let amounts = listed-runs-amount l past now me fit between s mode known knows acts
+      (Err BeginError.ClosedSelector) legal run by made in
+      record {
+        between = amounts.between;
+        own = at;
+        others = λ n o' other at'. at';
+        is = seq-of (call.Begin s (waiting_of mode)) acts said amounts;
+      }
+  listed-ends o s mode known (Err BeginError.Busy) acts knows run legal made at =
+      let said : Said = record { reply = reply.Busy; left = now } in
+      let amounts = listed-runs-amount l past now me fit between s mode known knows acts
+      (Err BeginError.Busy) legal run by made in
+      record {
+        between = amounts.between;
+        own = at;
+        others = λ n o' other at'. at';
+        is = seq-of (call.Begin s (waiting_of mode)) acts said amounts;
+      }
+  listed-ends o s mode known (Err BeginError.Memory) acts knows run legal made at =
+      lacking-ends o acts (script_call (table_call (try_begin s mode (Some known)) (Err BeginError.Memory)))
+      (same-state (try_begin_plan s mode (Some known) true) acts (Err BeginError.Memory)
+      (lacking-leaves l st now me s mode (Some known) between).begins legal run) at
+
+  -- taking the list
+  take_list-ends : (o : Ongoing) (s : SelNo) (answer : Bool) (acts : List Act)
+      → IsRun l (table_call (take_list s) answer) acts → IsLegal l (after past me acts) → IsOngoing me now o
+      → Here o acts (table_call (take_list s) answer)
+  unfolding take_list_plan
+  take_list-ends o s answer acts run legal at = by_answer answer
+    where
+      taken : State
+      taken = with_lister st s.0 (taken_by me (st.lister s.0))
+
+      is : taken ≡ state_after (after past me acts)
+      is = ap (λ p. p.state) (perform_ran l me (take_list_plan s) past acts answer legal run)
+
+      there : IsBetween l (state_after (after past me acts)) now
+      there = subst (λ x. IsBetween l x now) is
+          (lists-stay l st now s.0 (taken_by me (st.lister s.0)) between)
+
+      by_answer : (a : Bool) → Here o acts (table_call (take_list s) a)
+      by_answer true = record {
+        between = there;
+        own = record { selection = at.selection; closes = at.closes };
+        others = λ n o' other at'. at';
+        is = ap (λ x. documented x now) (sym is);
+      }
+      by_answer false = record {
+        between = there;
+        own = at;
+        others = λ n o' other at'. at';
+        is = ap (λ x. documented x now) (sym is);
+      }
 
   -- the caller's own selection, by what the caller has in progress
   own-selection : (o : Ongoing) (x : Selection) → IsOngoing me now o → o.selection x.selector.0 ≡ Some x
@@ -450,7 +542,7 @@ module _ (l : Limits) (past : List Event) (now : Progress) (me : CallerNo) (fit 
   keys-ends o s (Err ListError.Memory) acts run legal made at =
       lacking-ends o acts (script_call (table_call (keys s) (Err ListError.Memory)))
       (same-state (keys_plan s true) acts (Err ListError.Memory)
-      (lacking-leaves l st now me s Mode.Now between).keys legal run) at
+      (lacking-leaves l st now me s Mode.Now None between).keys legal run) at
 
   selected-ends : (o : Ongoing) (s : SelNo) (answer : Result (List KeyNo) ListError) (acts : List Act)
       → IsRun l (table_call (selected_keys s) answer) acts → IsLegal l (after past me acts) → IsMadeSelector st s
@@ -465,7 +557,7 @@ module _ (l : Limits) (past : List Event) (now : Progress) (me : CallerNo) (fit 
   selected-ends o s (Err ListError.Memory) acts run legal made at =
       lacking-ends o acts (script_call (table_call (selected_keys s) (Err ListError.Memory)))
       (same-state (selected_keys_plan s true) acts (Err ListError.Memory)
-      (lacking-leaves l st now me s Mode.Now between).selected legal run) at
+      (lacking-leaves l st now me s Mode.Now None between).selected legal run) at
 
   -- ---- look-ups
 
@@ -576,8 +668,11 @@ module _ (l : Limits) (past : List Event) (now : Progress) (me : CallerNo) (fit 
   ends o (table_call open_selector answer) acts plain run legal names at may =
       quiet-line o call.Selector (selector_reply answer) acts names legal
       (made-run (open_selector_plan l) selector_reply (λ _. now) acts answer run) at
-  ends o (table_call (try_begin s mode) answer) acts plain run legal names at may =
+  ends o (table_call (take_list s) answer) acts plain run legal names at may =
+      take_list-ends o s answer acts run legal at
+  ends o (table_call (try_begin s mode None) answer) acts plain run legal names at may =
       begin-ends o s mode answer acts run legal names at
+  ends o (table_call (try_begin s mode (Some known)) answer) acts plain run legal names at may = absurd (cc plain)
   ends o (table_call (told x poll) answer) acts plain run legal names at may =
       told-ends o x poll answer acts run legal names at may
   ends o (table_call (leave x) answer) acts plain run legal names at may = leave-ends o x acts run legal names at may

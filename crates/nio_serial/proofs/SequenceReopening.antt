@@ -22,6 +22,7 @@ use Rattle.nio_serial.proofs.ReopeningKept.{reopen-cases, rests-reopened}
 use Rattle.nio_serial.proofs.Resting.{rests-from, rests-is}
 use Rattle.nio_serial.proofs.SequenceCalls.{after, Ends}
 use Rattle.nio_serial.proofs.Showing.{shows-same}
+use Rattle.nio_serial.proofs.Touching.{reopen_channel-keeps}
 use Rattle.nio_serial.specs.Between.{IsAtRest, IsBetween, IsLeft, reopening}
 use Rattle.nio_serial.specs.Documented.{Progress, documented}
 use Rattle.nio_serial.specs.Left.{IsOngoing}
@@ -66,7 +67,8 @@ module _ (l : Limits) (past : List Event) (now : Progress) (me : CallerNo)
             (sym (ap (λ (x : Reopened). x.left.shared.turn) amounts) ∙ quiet.turn)
             (sym (ap (λ (x : Reopened). x.left.shared.begun) amounts) ∙ quiet.begun)
             (sym (ap (λ (x : Reopened). x.left.shared.closer) amounts) ∙ quiet.closer)
-            (sym (ap (λ (x : Reopened). x.left.shared.entered) amounts) ∙ quiet.entered);
+            (sym (ap (λ (x : Reopened). x.left.shared.entered) amounts) ∙ quiet.entered)
+            ((reopen_channel-keeps l c).keeps st);
       }
 
   module _ (acts : List Act) (answer : Result ChanId ReopenError) (legal : IsLegal l (after past me acts))

@@ -1,6 +1,6 @@
 -- Calls that wait, and calls on pipes, made between two calls: what they leave.
 use Rattle.std.proofs.Common.{◌≡◌, ℕ, Bool, true, false, Some, None, Result, Ok, Err, List, [], ◌∷◌, ◌++◌, map, refl}
-use Rattle.std.proofs.Common.{ap, sym, ◌∙◌, subst, append_assoc}
+use Rattle.std.proofs.Common.{if◌then◌else◌, ap, sym, ◌∙◌, subst, append_assoc}
 use Rattle.std.specs.List.{All}
 use Rattle.std.proofs.lemmas.List.{append-nil, map-append}
 use Rattle.std.proofs.lemmas.List.Elements.{All-head, All-tail}
@@ -33,7 +33,7 @@ use Rattle.nio_plain.specs.Seq.Replies.{Replied}
 use Rattle.nio_plain.specs.declared.rules.Rules.TheVariants.{Now}
 use Rattle.nio_serial.proofs.SequenceCalls.{after, IsScripted, EndsAs, Ends, ends}
 use Rattle.nio_serial.proofs.SequencePipes.{read-leaves, write-leaves, pipe-leaves}
-use Rattle.nio_serial.specs.Called.{as_call, Scripted, unscripted}
+use Rattle.nio_serial.specs.Called.{as_call, Scripted, unscripted, script_call}
 use Rattle.nio_serial.specs.Left.{IsOngoing}
 use Rattle.nio_serial.specs.Between.{IsBetween}
 use Rattle.nio_serial.specs.Documented.{Progress, documented}
@@ -42,6 +42,7 @@ use Rattle.nio_serial.specs.Lines.{with_selection, with_closing, after_begin, af
 use Rattle.nio_serial.specs.Replies.{mode_reply, register_reply}
 use Rattle.nio_steps.proofs.PerformLaws.{perform_ran}
 use Rattle.nio_steps.specs.ChannelCalls.{try_set_blocking_plan, try_register_plan, finds_held}
+use Rattle.nio_steps.proofs.BeginLaws.{begin-parts}
 use Rattle.nio_steps.specs.Ongoing.{Ongoing, selecting, closes_on}
 use Rattle.nio_steps.specs.Perform.{Performed, perform}
 use Rattle.nio_steps.specs.PipeCalls.{PipeEnds, pipe_plan, pipe_lacks_memory, try_read_plan, try_write_plan}
@@ -420,13 +421,13 @@ module _ (l : Limits) (me : CallerNo) (fit : IsFit l) (by : IsCaller l me) where
       (no_pipes : now.pipes ≡ []) (at : IsOngoing me now o) (s : SelNo) (made : IsMadeSelector (state_after past) s)
       (mode : Mode) where
     begin-again : (p : List Event) (xs : List Act) (r : Result Selection BeginError) → WithSelector now s p
-        → IsLegal l (after p me xs) → Begins s mode xs r → begin_finds_busy r ≡ true
+        → IsLegal l (after p me xs) → Begins s mode None xs r → begin_finds_busy r ≡ true
         → WithSelector now s (after p me xs)
     begin-again p xs (Ok x) here legal run goes = absurd (cc goes)
     begin-again p xs (Err BeginError.ClosedSelector) here legal run goes = absurd (cc goes)
     begin-again p xs (Err BeginError.Memory) here legal run goes = absurd (cc goes)
     begin-again p xs (Err BeginError.Busy) here legal run goes = (
-      (ends l p now me fit by here.0 no_pipes o (table_call (try_begin s mode) (Err BeginError.Busy)) xs refl run legal
+      (ends l p now me fit by here.0 no_pipes o (table_call (try_begin s mode None) (Err BeginError.Busy)) xs refl run legal
           here.1 at tt).between,
       selector-stays p xs s legal here.1,
     )
@@ -522,39 +523,51 @@ module _ (l : Limits) (me : CallerNo) (fit : IsFit l) (by : IsCaller l me) where
           ∙ (joined past me first second ∙ ap (λ xs. after past me xs) (sym parts)))) (over-now same)
           (over-ongoing same)
 
+    -- it began without the list
+    begun-plain : (x : Selection) (p : List Event) (xs : List Act) → Begins s mode None xs (Ok x)
+        → Ends l p now me o xs (table_call (try_begin s mode None) (Ok x))
+        → EndsAs l p now me xs (now_on x) (o_on x) false
+        (script_call (table_call (try_begin s mode None) (Ok x)))
+    begun-plain x p xs run ended =
+        subst (λ (b : Bool). EndsAs l p now me xs (now_on x) (record o {
+          selection = put o.selection s.0 (Some x);
+          list = if b then put o.list s.0 (Some x.looked) else o.list;
+        }) false (script_call (table_call (try_begin s mode None) (Ok x)))) (begin-parts s mode None xs x run).listed ended
+
     select-rest : (first second acts : List Act) (polls : List Poll) (middle : Result Selection BeginError)
         (answer : SelectReply) → acts ≡ first ++ second → IsLegal l (after past me acts)
-        → Retries (Begins s mode) begin_finds_busy first middle → SelectsRest polls middle second answer
+        → Retries (Begins s mode None) begin_finds_busy first middle → SelectsRest polls middle second answer
         → Ends l past now me o acts (waiting_call (select s mode polls) answer)
     select-rest first second acts polls middle answer parts legal runs rest = by_middle middle answer it one rest
       where
         first_legal : IsLegal l (after past me first)
         first_legal = begins-legal l me past first second (subst (λ xs. IsLegal l (after past me xs)) parts legal)
 
-        it : LastRun l me (λ (_ : Unit {0}). Begins s mode) (λ _. begin_finds_busy) (WithSelector now s)
+        it : LastRun l me (λ (_ : Unit {0}). Begins s mode None) (λ _. begin_finds_busy) (WithSelector now s)
             (λ p _ xs r here legal' run' goes. begin-again p xs r here legal' run' goes) past first middle
         it = last_run l me _ _ (WithSelector now s) (λ p _ xs r here legal' run' goes.
             begin-again p xs r here legal' run' goes) past first middle (between, made) first_legal runs
 
-        one : Ends l it.before now me o it.last (table_call (try_begin s mode) middle)
+        one : Ends l it.before now me o it.last (table_call (try_begin s mode None) middle)
         one = ends l it.before now me fit by it.here.0 no_pipes o
-            (table_call (try_begin s mode) middle) it.last refl it.made it.legal it.here.1 at tt
+            (table_call (try_begin s mode None) middle) it.last refl it.made it.legal it.here.1 at tt
 
         there : IsMadeSelector (state_after (after past me first)) s
         there = selector-stays past first s first_legal made
 
         by_middle : (m : Result Selection BeginError) (a : SelectReply)
-            → (run : LastRun l me (λ (_ : Unit {0}). Begins s mode) (λ _. begin_finds_busy) (WithSelector now s)
+            → (run : LastRun l me (λ (_ : Unit {0}). Begins s mode None) (λ _. begin_finds_busy) (WithSelector now s)
             (λ p _ xs r here legal' run' goes. begin-again p xs r here legal' run' goes) past first m)
-            → Ends l run.before now me o run.last (table_call (try_begin s mode) m) → SelectsRest polls m second a
+            → Ends l run.before now me o run.last (table_call (try_begin s mode None) m) → SelectsRest polls m second a
             → Ends l past now me o acts (waiting_call (select s mode polls) a)
         by_middle (Ok x) (selected a) run one' rest' =
             rest-selected x first second acts polls a parts legal
-            (moved run.before past now run.last first (now_on x) (o_on x) false false _ one' run.same) there rest'
+            (moved run.before past now run.last first (now_on x) (o_on x) false false _
+            (begun-plain x run.before run.last run.made one') run.same) there rest'
         by_middle (Ok x) (not_begun refusal) run one' rest' = absurd rest'
         by_middle (Ok x) left run one' rest' =
             rest-left x first second acts polls parts legal (moved run.before past now run.last first (now_on x)
-            (o_on x) false false _ one' run.same) there rest'
+            (o_on x) false false _ (begun-plain x run.before run.last run.made one') run.same) there rest'
         by_middle (Err refusal) a run one' rest' =
             subst (λ (b : SelectReply). Ends l past now me o acts (waiting_call (select s mode polls) b)) (sym rest'.2)
             (moved run.before past now run.last acts now o _ _ _ one'

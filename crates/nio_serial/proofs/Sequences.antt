@@ -1,5 +1,5 @@
 -- What serial histories leave: call by call, from the opening state on.
-use Rattle.std.proofs.Common.{◌≡◌, ℕ, ◌==◌, Bool, true, false, not, ◌&&◌, IsTrue, if◌then◌else◌, List, [], ◌∷◌, ◌++◌}
+use Rattle.std.proofs.Common.{◌≡◌, ℕ, ◌==◌, Bool, true, false, not, ◌&&◌, IsTrue, if◌then◌else◌, Some, List, [], ◌∷◌, ◌++◌}
 use Rattle.std.proofs.Common.{map, refl, ap, sym, ◌∙◌, subst, append_assoc, eqb-true, eq-eqb}
 use Rattle.std.proofs.lemmas.List.{append-nil}
 use Rattle.std.proofs.lemmas.List.Elements.{All-head, All-tail}
@@ -8,22 +8,25 @@ use Rattle.nio_base.specs.declared.limits.Limits.{Limits}
 use Rattle.nio_base.specs.declared.numbers.CallerNo.{CallerNo}
 use Rattle.nio_history.proofs.Legal.{legal_beginning, legal_empty}
 use Rattle.nio_history.specs.Conditions.{IsCaller}
-use Rattle.nio_history.specs.Histories.{state_after, event_of, IsLegal}
+use Rattle.nio_history.proofs.OneMore.{mine-append}
+use Rattle.nio_history.specs.Histories.{state_after, event_of, mine, IsLegal}
 use Rattle.nio_history.specs.State.{State}
 use Rattle.nio_history.specs.declared.act.Act.{Act}
 use Rattle.nio_history.specs.declared.event.Event.{Event}
 use Rattle.nio_language.specs.declared.call.ScriptCall.{ScriptCall}
 use Rattle.nio_language.specs.declared.reply.Reply.{Reply}
-use Rattle.nio_orderly.proofs.CallLists.{calls-by, calls-append, serial_call_more}
+use Rattle.nio_orderly.proofs.CallLists.{calls-by, calls-append, mine-by, one_call_more, serial_is_whole}
+use Rattle.nio_orderly.proofs.CallLists.{serial_call_more}
 use Rattle.nio_orderly.proofs.WaitedCalls.{after_calls-append}
 use Rattle.nio_orderly.specs.Made.{Made, IsRun, after_call, after_calls, MayCome, AreInOrder, draw, table_call}
 use Rattle.nio_orderly.specs.Made.{waiting_call}
-use Rattle.nio_orderly.specs.Orderly.{MadeBy, IsRunBy, AreRunsBy, calls_of}
+use Rattle.nio_orderly.specs.Orderly.{MadeBy, IsRunBy, AreCallsOf, AreRunsBy, calls_of}
 use Rattle.nio_plain.specs.Answer.{left_from}
 use Rattle.nio_plain.specs.ScriptState.{ScriptState}
 use Rattle.nio_plain.specs.Seq.Replies.{Replied}
 use Rattle.nio_plain.specs.declared.rules.Rules.TheVariants.{Now}
-use Rattle.nio_serial.proofs.SequenceCalls.{after, IsScripted, Ends, ends}
+use Rattle.nio_serial.proofs.KnownLists.{lists_are_known}
+use Rattle.nio_serial.proofs.SequenceCalls.{after, IsScripted, Ends, KnowsFor, ends, listed-ends}
 use Rattle.nio_serial.proofs.Progress.{pipes-after, pipes-in_progress}
 use Rattle.nio_serial.proofs.SequenceReopening.{reopened-is, reopen-ends}
 use Rattle.nio_serial.proofs.SequenceWaiting.{blocking-ends, register-ends, select-ends, close-ends, read-ends}
@@ -41,7 +44,7 @@ use Rattle.nio_serial.specs.Documented.{Progress, nothing_yet, documented}
 use Rattle.nio_serial.specs.Reopening.{Reopened}
 use Rattle.nio_serial.specs.Serial.{replies_from}
 use Rattle.nio_steps.specs.Ongoing.{Ongoing, nothing_ongoing}
-use Rattle.nio_steps.specs.TableCalls.{reopen_channel, pipe, try_read, try_write, set_blocking, register, select, close}
+use Rattle.nio_steps.specs.TableCalls.{try_begin, reopen_channel, pipe, try_read, try_write, set_blocking, register, select, close}
 use Rattle.nio_steps.specs.TableCalls.{read, write}
 
 -- ---- every call
@@ -49,30 +52,33 @@ use Rattle.nio_steps.specs.TableCalls.{read, write}
 module _ (l : Limits) (past : List Event) (now : Progress) (me : CallerNo) (fit : IsFit l) (by : IsCaller l me)
     (between : IsBetween l (state_after past) now) (no_pipes : now.pipes ≡ []) where
   pub each-ends : (o : Ongoing) (made : Made) (acts : List Act) → IsRun l made acts → IsLegal l (after past me acts)
-      → HasNames (state_after past) made → IsOngoing me now o → MayCome o made → Ends l past now me o acts made
-  each-ends o (draw n) acts run legal names at may =
+      → HasNames (state_after past) made → IsOngoing me now o → MayCome o made → KnowsFor l past me made
+      → Ends l past now me o acts made
+  each-ends o (draw n) acts run legal names at may knows =
       ends l past now me fit by between no_pipes o (draw n) acts refl run legal names at may
-  each-ends o (table_call pipe answer) acts run legal names at may =
+  each-ends o (table_call (try_begin s mode (Some known)) answer) acts run legal names at may knows =
+      listed-ends l past now me fit by between no_pipes o s mode known answer acts knows run legal names at
+  each-ends o (table_call pipe answer) acts run legal names at may knows =
       pipe-ends l me fit by past now o between no_pipes at answer acts run legal
-  each-ends o (table_call (try_read source) answer) acts run legal names at may =
+  each-ends o (table_call (try_read source) answer) acts run legal names at may knows =
       try_read-ends l me fit by past now o between no_pipes at source answer acts run legal names
-  each-ends o (table_call (try_write source sink) answer) acts run legal names at may =
+  each-ends o (table_call (try_write source sink) answer) acts run legal names at may knows =
       try_write-ends l me fit by past now o between no_pipes at source sink answer acts run legal names.1
-  each-ends o (table_call (reopen_channel c) answer) acts run legal names at may =
+  each-ends o (table_call (reopen_channel c) answer) acts run legal names at may knows =
       reopen-ends l past now me between c acts answer legal run o at
-  each-ends o (table_call call answer) acts run legal names at may =
+  each-ends o (table_call call answer) acts run legal names at may knows =
       ends l past now me fit by between no_pipes o (table_call call answer) acts refl run legal names at may
-  each-ends o (waiting_call (set_blocking c on) answer) acts run legal names at may =
+  each-ends o (waiting_call (set_blocking c on) answer) acts run legal names at may knows =
       blocking-ends l me fit by past now o between no_pipes at c on answer acts run legal names
-  each-ends o (waiting_call (register s c ops att) answer) acts run legal names at may =
+  each-ends o (waiting_call (register s c ops att) answer) acts run legal names at may knows =
       register-ends l me fit by past now o between no_pipes at s c ops att answer acts run legal names.0 names.1
-  each-ends o (waiting_call (select s mode polls) answer) acts run legal names at may =
+  each-ends o (waiting_call (select s mode polls) answer) acts run legal names at may knows =
       select-ends l me fit by past now o between no_pipes at s names mode polls answer acts run legal
-  each-ends o (waiting_call (close s) answer) acts run legal names at may =
+  each-ends o (waiting_call (close s) answer) acts run legal names at may knows =
       close-ends l me fit by past now o between no_pipes at s names answer acts run legal
-  each-ends o (waiting_call (read source none) answer) acts run legal names at may =
+  each-ends o (waiting_call (read source none) answer) acts run legal names at may knows =
       read-ends l me fit by past now o between no_pipes at source none answer acts run legal names
-  each-ends o (waiting_call (write source sink none) answer) acts run legal names at may =
+  each-ends o (waiting_call (write source sink none) answer) acts run legal names at may knows =
       write-ends l me fit by past now o between no_pipes at source sink none answer acts run legal names.1
 
 -- ---- what a script has of a call
@@ -157,6 +163,56 @@ after-one o one later n = by_caller (one.caller.0 == n.0) refl
     by_caller true is = sym (ap (after_calls (o n)) (calls-by n one later true is))
     by_caller false is = sym (ap (after_calls (o n)) (calls-by n one later false is))
 
+-- ---- what each caller did so far
+
+-- whole calls, which left so much in progress
+record CameTo (l : Limits) (own : List Act) (o : Ongoing) : Type 0 where
+  calls : List Made
+  are : AreCallsOf l own calls
+  leaves : after_calls nothing_ongoing calls ≡ o
+
+-- so a list that a call may be given is the one that its caller knows
+knows-for : (l : Limits) (past : List Event) (me : CallerNo) (o : Ongoing) (made : Made) → IsFit l → IsLegal l past
+    → CameTo l (mine me past) o → MayCome o made → KnowsFor l past me made
+knows-for l past me o (table_call (try_begin s mode (Some known)) answer) fit legal came may =
+    lists_are_known l me past came.calls fit legal came.are s known (ap (λ (x : Ongoing). x.list s.0) came.leaves ∙ may)
+knows-for l past me o _ fit legal came may = tt
+
+mine-after : (n : CallerNo) (past : List Event) (me : CallerNo) (acts : List Act) (b : Bool) → (me.0 == n.0) ≡ b
+    → mine n (after past me acts) ≡ mine n past ++ (if b then acts else [])
+mine-after n past me acts b is =
+    mine-append n past (map (event_of me) acts) ∙ ap (λ xs. mine n past ++ xs) (mine-by n me acts b is)
+
+next-history : (l : Limits) (past : List Event) (o : CallerNo → Ongoing) (one : MadeBy) (acts : List Act)
+    → IsRun l one.call acts → MayCome (o one.caller) one.call → ((n : CallerNo) → CameTo l (mine n past) (o n))
+    → (n : CallerNo) → CameTo l (mine n (after past one.caller acts)) (next_ongoing o one n)
+next-history l past o one acts run may history n = by_caller (one.caller.0 == n.0) refl
+  where
+    Came : Bool → Type 0
+    Came b = CameTo l (mine n (after past one.caller acts)) (if b then after_call (o n) one.call else o n)
+
+    by_caller : (b : Bool) → (one.caller.0 == n.0) ≡ b → Came b
+    by_caller true is =
+        let came = history n in
+        let may' = subst (λ m. MayCome (o m) one.call) (same-caller one.caller n is) may in
+        record {
+          calls = came.calls ++ one.call ∷ [];
+          are = subst (λ xs. AreCallsOf l xs (came.calls ++ one.call ∷ []))
+              (sym (mine-after n past one.caller acts true is))
+              (one_call_more l (mine n past) acts came.calls one.call came.are
+              (subst (λ x. MayCome x one.call) (sym came.leaves) may') run);
+          leaves = after_calls-append nothing_ongoing came.calls (one.call ∷ [])
+              ∙ ap (λ x. after_call x one.call) came.leaves;
+        }
+    by_caller false is =
+        let came = history n in
+        record {
+          calls = came.calls;
+          are = subst (λ xs. AreCallsOf l xs came.calls)
+              (sym (mine-after n past one.caller acts false is ∙ append-nil (mine n past))) came.are;
+          leaves = came.leaves;
+        }
+
 -- ---- a history
 
 record StandsFrom (l : Limits) (past : List Event) (now : Progress) (o : CallerNo → Ongoing) (made : List MadeBy)
@@ -172,8 +228,9 @@ module _ (l : Limits) (fit : IsFit l) where
   stand_from : (made : List MadeBy) (past : List Event) (now : Progress) (o : CallerNo → Ongoing) (events : List Event)
       (runs : AreRunsBy l made events) → IsLegal l (past ++ events) → AreNamed l past made events runs
       → IsBetween l (state_after past) now → now.pipes ≡ [] → ((n : CallerNo) → IsOngoing n now (o n))
-      → ((n : CallerNo) → AreInOrder (o n) (calls_of n made)) → StandsFrom l past now o made events
-  stand_from [] past now o events runs legal named between no_pipes at order =
+      → ((n : CallerNo) → AreInOrder (o n) (calls_of n made)) → ((n : CallerNo) → CameTo l (mine n past) (o n))
+      → StandsFrom l past now o made events
+  stand_from [] past now o events runs legal named between no_pipes at order history =
       let same : past ++ events ≡ past = ap (λ es. past ++ es) runs ∙ append-nil past in
       record {
         between = subst (λ es. IsBetween l (state_after es) now) (sym same) between;
@@ -181,7 +238,7 @@ module _ (l : Limits) (fit : IsFit l) where
         replies = λ _. refl;
         left = λ _. ap (λ es. documented (state_after es) now) same;
       }
-  stand_from (one ∷ later) past now o events runs legal named between no_pipes at order =
+  stand_from (one ∷ later) past now o events runs legal named between no_pipes at order history =
       let acts = runs.is_first.acts in
       let here : after past one.caller acts ≡ past ++ runs.first =
       ap (λ es. past ++ es) (sym runs.is_first.events_are) in
@@ -192,13 +249,18 @@ module _ (l : Limits) (fit : IsFit l) where
       let done =
       each-ends l past now one.caller fit named.0.by between no_pipes
       (o one.caller) one.call acts runs.is_first.runs legal_here named.0.names (at one.caller)
-      (may-come o one later order) in
+      (may-come o one later order)
+      (knows-for l past one.caller (o one.caller) one.call fit
+      (legal_beginning l past (map (event_of one.caller) acts) legal_here) (history one.caller)
+      (may-come o one later order)) in
       let now' = after_made now one.caller one.call in
       let rest =
       stand_from later (past ++ runs.first) now' (next_ongoing o one) runs.second runs.is_second whole named.1
       (subst (λ es. IsBetween l (state_after es) now') here done.between)
       (pipes-after now one.caller one.call ∙ no_pipes) (each-ongoing l past now o one acts done at)
-      (each-order o one later order) in
+      (each-order o one later order)
+      (subst (λ es. (n : CallerNo) → CameTo l (mine n es) (next_ongoing o one n)) here
+      (next-history l past o one acts runs.is_first.runs (may-come o one later order) history)) in
       let script =
       λ (of : AreOfScript (one ∷ later)). All-tail (λ (m : MadeBy). IsTrue
       (is_of_script (script_call m.call) && not (lacks_memory m.call))) one later of in
@@ -225,6 +287,7 @@ module _ (l : Limits) (fit : IsFit l) where
   stand events made sequence =
       stand_from made [] nothing_yet (λ _. nothing_ongoing) events sequence.serial.runs sequence.legal sequence.named
       (begins-between l) refl (λ n. record { selection = λ s. refl; closes = λ s. refl }) sequence.serial.in_order
+      (λ n. record { calls = []; are = record { runs = refl; in_order = tt }; leaves = refl })
 
 are-enrolled : (l : Limits) (st : State) (now : Progress) → IsBetween l st now → AreEnrolled st
 are-enrolled l st now between s i in_set = (sound l st now between).keys.enrolments.in_set s i in_set
@@ -286,7 +349,10 @@ next_call_is_documented l past made now me acts call word said fit next =
     let no_pipes : now.pipes ≡ [] = ap (λ (x : Progress). x.pipes) next.progress ∙ pipes-in_progress nothing_yet made in
     let done =
     each-ends l past now me fit next.by stands.between no_pipes (o me) call acts next.runs next.legal next.names
-    (stands.ongoing me) next.may_come in
+    (stands.ongoing me) next.may_come
+    (knows-for l past me (o me) call fit next.sequence.legal
+    (record { calls = calls_of me made; are = serial_is_whole l past made me next.sequence.serial; leaves = refl })
+    next.may_come) in
     let is =
     subst (IsScripted l past now me acts (after_made now me call) false) next.is_scripted
     (subst (λ b. IsScripted l past now me acts (after_made now me call) b

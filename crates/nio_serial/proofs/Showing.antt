@@ -4,15 +4,15 @@ use Rattle.nio_plain.proofs.ReachedSound.{some_same}
 use Rattle.nio_serial.specs.Laws.{by_key}
 use Rattle.std.proofs.Common.{◌≡◌, ℕ, ◌==◌, Bool, true, false, cond, ◌||◌, if◌then◌else◌, Option, Some, None}
 use Rattle.std.proofs.Common.{option_map, is_some, List, map, refl, ap, sym, ◌∙◌, subst}
-use Rattle.std.specs.Prelude.{⊤}
+use Rattle.std.specs.Prelude.{⊤, IsTrue}
 use Rattle.std.proofs.lemmas.Bool.{both_ways, false_from_ne_true}
 use Rattle.nio_base.specs.declared.limits.Limits.{Limits}
 use Rattle.nio_base.specs.declared.numbers.CallerNo.{CallerNo}
 use Rattle.nio_base.specs.declared.numbers.KeyId.{KeyId}
 use Rattle.nio_base.specs.declared.numbers.SelNo.{SelNo}
 use Rattle.nio_history.proofs.Put.{put_keeps, put_both}
-use Rattle.nio_history.specs.Sets.{is_in_key_set}
-use Rattle.nio_history.specs.State.{State, put, with_gate, with_closer}
+use Rattle.nio_history.specs.Sets.{is_in_key_set, in_cancelled_set}
+use Rattle.nio_history.specs.State.{State, put, with_gate, with_closer, with_entered}
 use Rattle.nio_history.specs.declared.found.Mode.{Mode}
 use Rattle.nio_language.specs.declared.reply.Reply.{Reply}
 use Rattle.nio_language.specs.declared.reply.Reply.TheVariants as reply
@@ -22,12 +22,13 @@ use Rattle.nio_steps.specs.Perform.{Performed, perform}
 use Rattle.nio_steps.specs.Plan.{Plan}
 use Rattle.nio_steps.specs.SelectCalls.{Selection, try_begin_plan, told_plan, leave_plan, shut_plan, closing}
 use Rattle.nio_steps.specs.SelectCalls.{already_closed, try_finish_plan}
-use Rattle.nio_serial.proofs.Beginning.{begin-cases, begun-on}
-use Rattle.nio_serial.proofs.ClosingSelectors.{finish-cases}
-use Rattle.nio_serial.proofs.Facts.{sound, untaken, none_due, published, free, begun, looked_in_set}
+use Rattle.nio_serial.proofs.Beginning.{begin-cases, begun-on, begun-touched}
+use Rattle.nio_serial.proofs.ClosingSelectors.{below_in, finish-cases}
+use Rattle.nio_serial.proofs.Facts.{sound, untaken, none_due, published, free, begun, looked_in_set, finds_cancelled}
 use Rattle.nio_serial.proofs.Marking.{by_key-tells}
-use Rattle.nio_serial.proofs.Telling.{told-cases}
-use Rattle.nio_serial.specs.Between.{IsOn, IsShownBy, IsBetween}
+use Rattle.nio_serial.proofs.Removing.{removed-touched}
+use Rattle.nio_serial.proofs.Telling.{told-cases, ended-touched}
+use Rattle.nio_serial.specs.Between.{AreTouched, IsOn, IsShownBy, IsBetween}
 use Rattle.nio_serial.specs.Documented.{Progress, Selecting, looked_pair}
 use Rattle.nio_serial.specs.Lines.{Said, makes, refused, with_selection, if_own, after_begin, after_told, after_shut}
 use Rattle.nio_serial.specs.Lines.{after_finish, begin_line, by_index, told_line, failed_line, close_end_line}
@@ -76,19 +77,22 @@ shows-on st before after t same was = record {
   begun = was.begun ∙ ap (λ f. is_some (f t)) (sym same.selection);
   on = subst (λ (f : ℕ → Option Selecting). (x : Selecting) → f t ≡ Some x → IsOn t x.selection)
       (sym same.selection) was.on;
+  finds = subst (λ (f : ℕ → Option Selecting). (x : Selecting) → f t ≡ Some x → IsTrue x.selection.listed
+      → AreTouched st t) (sym same.selection) was.finds;
   closing = ap (λ f. f t) same.closing ∙ was.closing;
 }
 
 module _ (l : Limits) (st : State) (now : Progress) (me : CallerNo) (between : IsBetween l st now) where
   -- a state with the same turns and closings
   pub shows-same : (st' : State) → st'.turn ≡ st.turn → st'.begun ≡ st.begun → st'.closer ≡ st.closer
-      → st'.entered ≡ st.entered → (t : ℕ) → IsShownBy st' now t
-  shows-same st' turns beguns closers entereds t =
+      → st'.entered ≡ st.entered → ((t : ℕ) → AreTouched st t → AreTouched st' t) → (t : ℕ) → IsShownBy st' now t
+  shows-same st' turns beguns closers entereds keeps t =
       let was = between.shown t in
       record {
         turn = ap (λ f. f t) turns ∙ was.turn;
         begun = ap (λ f. f t) beguns ∙ was.begun;
         on = was.on;
+        finds = λ x is listed. keeps t (was.finds x is listed);
         closing = was.closing ∙ (λ j. if sym entereds j t then None else sym closers j t);
       }
 
@@ -96,11 +100,14 @@ module _ (l : Limits) (st : State) (now : Progress) (me : CallerNo) (between : I
   refused-shows r t = between.shown t
 
   -- a selector on which this selection is in progress, or none
-  shows-selection : (st' : State) (s : SelNo) (x : Option Selecting)
+  pub shows-selection : (st' : State) (s : SelNo) (x : Option Selecting)
       → st'.turn ≡ put st.turn s.0 (option_map (λ y. y.caller) x) → st'.begun ≡ put st.begun s.0 (is_some x)
       → st'.closer ≡ st.closer → st'.entered ≡ st.entered
-      → ((y : Selecting) → x ≡ Some y → IsOn s.0 y.selection) → (t : ℕ) → IsShownBy st' (with_selection now s x) t
-  shows-selection st' s x turns beguns closers entereds on t =
+      → ((t : ℕ) → AreTouched st t → AreTouched st' t)
+      → ((y : Selecting) → x ≡ Some y → IsOn s.0 y.selection)
+      → ((y : Selecting) → x ≡ Some y → IsTrue y.selection.listed → AreTouched st' s.0)
+      → (t : ℕ) → IsShownBy st' (with_selection now s x) t
+  shows-selection st' s x turns beguns closers entereds keeps on finds t =
       let was = between.shown t in
       record {
         turn = ap (λ f. f t) turns ∙ put_both (λ _ a b. a ≡ option_map (λ y. y.caller) b) st.turn now.selection s.0
@@ -109,6 +116,8 @@ module _ (l : Limits) (st : State) (now : Progress) (me : CallerNo) (between : I
             (is_some x) x refl t was.begun;
         on = put_keeps (λ n o. (y : Selecting) → o ≡ Some y → IsOn n y.selection) now.selection s.0 x
             (λ _. on) t was.on;
+        finds = put_keeps (λ n o. (y : Selecting) → o ≡ Some y → IsTrue y.selection.listed → AreTouched st' n)
+            now.selection s.0 x (λ _. finds) t (λ y is listed. keeps t (was.finds y is listed));
         closing = was.closing ∙ (λ j. if sym entereds j t then None else sym closers j t);
       }
 
@@ -121,12 +130,19 @@ module _ (l : Limits) (st : State) (now : Progress) (me : CallerNo) (between : I
       let idle = untaken l st now between s.0 in
       let exact = published l st now between s.0 in
       let out = free l st now between s.0 in
-      made-shows me (try_begin_plan s mode false) begin_reply (after_begin now me s) st
+      made-shows me (try_begin_plan s mode None false) begin_reply (after_begin now me s) st
       (begin-cases st now me s due idle exact out mode (ShowsBy (after_begin now me s))
       (λ t. between.shown t) (λ t. between.shown t)
-      (λ _. shows-selection _ s (Some (record { caller = me; selection = _ })) refl refl refl refl
-      (λ y e. subst (λ (x : Option Selecting). OnOf s x) e (begun-on st now me s due idle exact out mode))))
+      (λ _ _. shows-selection _ s (Some (record { caller = me; selection = _ })) refl refl refl refl
+      (begun-touched st now me s due idle exact out)
+      (λ y e. subst (λ (x : Option Selecting). OnOf s x) e (begun-on st now me s due idle exact out mode))
+      (λ y e listed. absurd (cc (subst (λ (x : Option Selecting). Unlisted x) e refl ∙ listed)))))
     where
+      -- it begins without the list
+      Unlisted : Option Selecting → Type 0
+      Unlisted None = ⊤
+      Unlisted (Some y) = false ≡ y.selection.listed
+
       OnOf : SelNo → Option Selecting → Type 0
       OnOf s' None = ⊤
       OnOf s' (Some y) = IsOn s'.0 y.selection
@@ -147,16 +163,26 @@ module _ (l : Limits) (st : State) (now : Progress) (me : CallerNo) (between : I
         subst (λ (n : ℕ). (k : KeyId) → is_looked (map looked_pair x.looked) k ≡ true
         → is_in_key_set (st.key n k.index) k.serial ≡ true) (sym on.selector) (looked_in_set l st now between s.0 y is)
 
+    finds : x.listed ≡ true → (i : ℕ) → in_cancelled_set (st.key x.selector.0 i) ≡ true
+        → st.touched x.selector.0 i ≡ true
+    finds =
+        subst (λ (n : ℕ). x.listed ≡ true → (i : ℕ) → in_cancelled_set (st.key n i) ≡ true → st.touched n i ≡ true)
+        (sym on.selector) (finds_cancelled l st now between s.0 y is)
+
     told-index : (elapsed : Bool) (told : List (ℕ × ℕ))
         → ShowsBy (after_told now s) (perform me (told_plan x told elapsed) st)
     told-index elapsed told =
         subst (λ (n : SelNo). ShowsBy (after_told now n) (perform me (told_plan x told elapsed) st)) selector-is
         (told-cases st now me x (by_key x told) told on.rises in_set (by_key-tells x told)
         (none_due l st now between) (untaken l st now between x.selector.0) (published l st now between x.selector.0)
-        (free l st now between x.selector.0) elapsed
+        (free l st now between x.selector.0) finds elapsed
         (ShowsBy (after_told now x.selector))
-        (shows-same _ refl refl refl refl)
-        (λ answer. shows-selection _ x.selector None refl refl refl refl (λ z e. absurd cc)))
+        (shows-same _ refl refl refl refl (λ t was. was))
+        (λ answer. shows-selection _ x.selector None refl refl refl refl
+        (ended-touched st now me x (by_key x told) told on.rises in_set (by_key-tells x told)
+        (none_due l st now between) (untaken l st now between x.selector.0) (published l st now between x.selector.0)
+        (free l st now between x.selector.0) finds)
+        (λ z e. absurd cc) (λ z e. absurd cc)))
 
     told-one : (elapsed : Bool) (pairs : List (KeyId × ℕ))
         → Shows (perform me (told_line now s elapsed pairs (Some x)) st)
@@ -169,7 +195,7 @@ module _ (l : Limits) (st : State) (now : Progress) (me : CallerNo) (between : I
     failed-one =
         subst (λ (n : SelNo). Shows (perform me (makes (leave_plan x) (λ _. reply.Left)
         (λ _. with_selection now n None)) st)) selector-is
-        (shows-selection _ x.selector None refl refl refl refl (λ z e. absurd cc))
+        (shows-selection _ x.selector None refl refl refl refl (λ t was. was) (λ z e. absurd cc) (λ z e. absurd cc))
 
   pub told-shows : (s : SelNo) (elapsed : Bool) (pairs : List (KeyId × ℕ)) (o : Option Selecting)
       → now.selection s.0 ≡ o → Shows (perform me (told_line now s elapsed pairs (if_own me o)) st)
@@ -224,7 +250,7 @@ module _ (l : Limits) (st : State) (now : Progress) (me : CallerNo) (between : I
           (after_shut now me s (if b then already_closed else closing)) t
       by_shut true e t =
           shows-same (with_closer gate_after s.0 (st.closer s.0)) refl refl
-          (put_same st.closer s.0 (st.closer s.0) refl) refl t
+          (put_same st.closer s.0 (st.closer s.0) refl) refl (λ _ was. was) t
       by_shut false e t =
           let was = between.shown t in
           let not_entered : st.entered s.0 ≡ false =
@@ -234,6 +260,7 @@ module _ (l : Limits) (st : State) (now : Progress) (me : CallerNo) (between : I
             turn = was.turn;
             begun = was.begun;
             on = was.on;
+            finds = was.finds;
             closing =
                 put_both (λ n a b. a ≡ closing_by (st.entered n) b) now.closing st.closer s.0 (Some me) (Some me)
                 (λ j. closing_by (sym not_entered j) (Some me)) t was.closing;
@@ -260,6 +287,8 @@ module _ (l : Limits) (st : State) (now : Progress) (me : CallerNo) (between : I
             turn = was.turn;
             begun = was.begun;
             on = was.on;
+            finds = λ x is listed. removed-touched (with_entered st s.0 (st.entered s.0 || true))
+                (below_in s.0 (st.keys_high s.0)) (λ _. false) t (was.finds x is listed);
             closing =
                 put_both (λ n a b. a ≡ closing_by b (st.closer n)) now.closing st.entered s.0 None
                 (st.entered s.0 || true) (λ j. closing_by (sym (λ i. not_entered i || true) j)

@@ -1,7 +1,7 @@
 -- The sweeps of a selection over the indexes that aren't free: the cancelled keys among those that it went over are
 -- removed.
-use Rattle.std.proofs.Common.{◌≡◌, ℕ, ◌<◌, ◌==◌, nat_lt, Bool, true, false, cond, not, ◌&&◌, ◌||◌, if◌then◌else◌, None}
-use Rattle.std.proofs.Common.{List, [], ◌∷◌, ◌++◌, map, filter, refl, ap, sym, ◌∙◌, subst, eqb-true, eq-eqb}
+use Rattle.std.proofs.Common.{◌≡◌, ℕ, ◌+◌, ◌*◌, ◌/◌, ◌<◌, ◌≤◌, ◌==◌, nat_lt, Bool, true, false, cond, not, ◌&&◌, ◌||◌, if◌then◌else◌, None}
+use Rattle.std.proofs.Common.{List, [], ◌∷◌, ◌++◌, map, filter, refl, ap, sym, ◌∙◌, subst, eqb-true, eq-eqb, arith}
 use Rattle.std.proofs.Math.Bool.{or-false}
 use Rattle.std.proofs.lemmas.Bool.{and_parts, and_from, and_left, and_right, or_right, both_ways, ne_eqb, cond-true}
 use Rattle.std.proofs.lemmas.Bool.{cond-false, false_from_ne_true, not-true, ltb-true}
@@ -13,6 +13,7 @@ use Rattle.nio_base.specs.declared.numbers.CallerNo.{CallerNo}
 use Rattle.nio_base.specs.declared.numbers.SelNo.{SelNo}
 use Rattle.nio_history.specs.Sets.{in_key_set, in_cancelled_set, is_valid}
 use Rattle.nio_base.specs.Numbers.{last_serial}
+use Rattle.nio_history.specs.Answers.{is_pinned}
 use Rattle.nio_history.specs.State.{State, put_at}
 use Rattle.nio_history.specs.declared.found.Stage.{Stage}
 use Rattle.nio_plain.proofs.Registered.{any-some}
@@ -23,13 +24,19 @@ use Rattle.nio_plain.specs.declared.rules.Rules.TheVariants.{Now}
 use Rattle.nio_steps.proofs.PerformLaws.{perform_then, perform_else, perform_then_on}
 use Rattle.nio_steps.specs.Perform.{Performed, perform}
 use Rattle.nio_steps.specs.Plan.{Plan, when, ◌>>◌}
-use Rattle.nio_steps.specs.SelectCalls.{over_listed, looked_key, remove_cancelled, look_valid, look_on, look_over}
-use Rattle.nio_steps.specs.SelectCalls.{remove_if_cancelled}
+use Rattle.nio_steps.specs.Looking.{over_listed, looked_key, remove_cancelled, look_valid, look_on, look_over}
+use Rattle.nio_steps.specs.ChannelCalls.{words_below}
+use Rattle.nio_steps.specs.Looking.{remove_if_cancelled, over_touched, without_index, enlisted, list_valid, list_on}
+use Rattle.nio_steps.specs.Looking.{list_over}
+use Rattle.nio_steps.specs.Steps.{touch}
+use Rattle.nio_steps.specs.Sweeps.{sweep_to}
 use Rattle.nio_steps.specs.declared.looked.LookedKey.{LookedKey}
 use Rattle.nio_serial.proofs.Base.{settled-cancelled}
 use Rattle.nio_serial.proofs.FreeWords.{has_index, listed, over_listed-performed}
 use Rattle.nio_serial.proofs.Removing.{gone, removed_where, removed_none, removed_same, removed_more, removal-performed}
-use Rattle.nio_serial.proofs.Removing.{settled-removed}
+use Rattle.nio_serial.proofs.Removing.{settled-removed, removed-touched}
+use Rattle.nio_serial.proofs.TouchedWords.{touched_in, touched_in-is, over_touched-performed}
+use Rattle.nio_serial.specs.Between.{AreTouched}
 use Rattle.nio_serial.specs.Documented.{settled, settled_state}
 
 any-filter : (p q : ℕ → Bool) (xs : List ℕ) → list_any p (filter q xs) ≡ list_any (λ i. q i && p i) xs
@@ -53,6 +60,27 @@ index-push i past e = list_any-append (λ j. j == i) past (e ∷ []) ∙ ap (λ 
 abbrev pub has_next : Stage → Bool
 has_next k = nat_lt k.serial last_serial
 
+-- ---- the selector's list
+
+-- what the list has after an index is looked at, and after these are, by what stands there
+abbrev relisted_at : (ℕ → Stage) → (ℕ → ℕ) → ℕ → List LookedKey → List LookedKey
+relisted_at key interest e known =
+    cond (in_cancelled_set (key e)) (without_index e known)
+    (cond (is_valid (key e)) (enlisted (looked_key e (key e) (interest e)) (without_index e known))
+    (without_index e known))
+
+abbrev pub relisted : (ℕ → Stage) → (ℕ → ℕ) → List LookedKey → List ℕ → List LookedKey
+relisted key interest known [] = known
+relisted key interest known (e ∷ later) = relisted key interest (relisted_at key interest e known) later
+
+relisted-push : (key : ℕ → Stage) (interest : ℕ → ℕ) (known : List LookedKey) (past : List ℕ) (e : ℕ)
+    → relisted_at key interest e (relisted key interest known past) ≡ relisted key interest known (past ++ e ∷ [])
+relisted-push key interest known [] e = refl
+relisted-push key interest known (x ∷ past) e =
+    relisted-push key interest (relisted_at key interest x known) past e
+
+-- ---- a state in which a selection has begun
+
 module _ (st : State) (me : CallerNo) (s : SelNo) (none_due : (i : ℕ) → st.put_due s.0 i ≡ false)
     (untaken : (i : ℕ) → st.taker s.0 i ≡ None) where
   abbrev test : ℕ → Bool
@@ -67,6 +95,9 @@ module _ (st : State) (me : CallerNo) (s : SelNo) (none_due : (i : ℕ) → st.p
 
   pub swept_none : st ≡ swept []
   swept_none = removed_none st has_next (goes []) (λ t i. and_right (t == s.0) false refl)
+
+  pub swept-touched : (past : List ℕ) (t : ℕ) → AreTouched st t → AreTouched (swept past) t
+  swept-touched past = removed-touched st (goes past) has_next
 
   goes_here : (past : List ℕ) (e : ℕ) → test e ≡ true → goes (past ++ e ∷ []) s.0 e ≡ true
   goes_here past e cancelled =
@@ -331,32 +362,145 @@ module _ (st : State) (me : CallerNo) (s : SelNo) (none_due : (i : ℕ) → st.p
       ap (perform me (over_listed s bound (look_over s) [])) swept_none
       ∙ over_listed-performed st me s bound (look_over s) looked_over swept look_turn frees_others
 
-  -- ---- below the high-water mark, where what is published is below it and what is free is removed: the cancelled set
-  -- goes
+  -- ---- a sweep by the list, which takes on what it finds
+
+  pub list_turn : ((i : ℕ) → is_pinned st s.0 i ≡ false) → (known : List LookedKey) (past : List ℕ) (e : ℕ)
+      → perform me (list_over s e (relisted (st.key s.0) (st.interest s.0) known past)) (swept past) ≡ record {
+        answer = relisted (st.key s.0) (st.interest s.0) known (past ++ e ∷ []);
+        state = swept (past ++ e ∷ []);
+      }
+  list_turn unpinned known past e =
+      ap (λ (b : Bool). perform me (when b (touch s e) >> list_on s e found stage) (swept past)) (unpinned e)
+      ∙ (by_gone (goes past s.0 e) refl
+      ∙ ap (λ xs. record { answer = xs; state = swept (past ++ e ∷ []) }) (relisted-push (st.key s.0) (st.interest s.0) known past e))
+    where
+      stage : Stage
+      stage = (swept past).key s.0 e
+
+      found : List LookedKey
+      found = relisted (st.key s.0) (st.interest s.0) known past
+
+      without : List LookedKey
+      without = without_index e found
+
+      after : Performed (List LookedKey)
+      after = record { answer = relisted_at (st.key s.0) (st.interest s.0) e found; state = swept (past ++ e ∷ []) }
+
+      others : Plan (List LookedKey)
+      others = if is_valid stage then list_valid s e stage found else Plan.reply without
+
+      dropped : Plan (List LookedKey)
+      dropped = remove_cancelled s e stage >> Plan.reply without
+
+      gives : (xs : List LookedKey) → xs ≡ relisted_at (st.key s.0) (st.interest s.0) e found
+          → ◌≡◌ {A = Performed (List LookedKey)} (record { answer = xs; state = swept (past ++ e ∷ []) }) after
+      gives xs is = ap (λ ys. record { answer = ys; state = swept (past ++ e ∷ []) }) is
+
+      -- a key that is neither cancelled nor valid
+      passed : in_cancelled_set stage ≡ false → is_valid stage ≡ false
+          → ((t i : ℕ) → goes past t i ≡ goes (past ++ e ∷ []) t i) → without ≡ relisted_at (st.key s.0) (st.interest s.0) e found
+          → perform me (list_on s e found stage) (swept past) ≡ after
+      passed out invalid same is =
+          perform_else me (in_cancelled_set stage) dropped others (swept past) out
+          ∙ (perform_else me (is_valid stage) (list_valid s e stage found) (Plan.reply without) (swept past) invalid
+          ∙ (ap (λ x. record { answer = without; state = x })
+          (removed_same st has_next (goes past) (goes (past ++ e ∷ [])) same)
+          ∙ gives without is))
+
+      by_valid : goes past s.0 e ≡ false → test e ≡ false → (b : Bool) → valid e ≡ b
+          → perform me (list_on s e found stage) (swept past) ≡ after
+      by_valid stays out true v =
+          let same = here_stays past e stays in
+          perform_else me (in_cancelled_set stage) dropped others (swept past) (ap in_cancelled_set same ∙ out)
+          ∙ (perform_then me (is_valid stage) (list_valid s e stage found) (Plan.reply without) (swept past)
+          (ap is_valid same ∙ v)
+          ∙ (ap (λ k. record {
+            answer = enlisted (looked_key e k (st.interest s.0 e)) without;
+            state = swept past;
+          }) same
+          ∙ (ap (λ x. record { answer = enlisted (entry e) without; state = x })
+          (removed_same st has_next (goes past) (goes (past ++ e ∷ [])) (goes_same past e out))
+          ∙ gives (enlisted (entry e) without)
+          (λ j. cond (sym out j) without (cond (sym v j) (enlisted (entry e) without) without)))))
+      by_valid stays out false v =
+          let same = here_stays past e stays in
+          passed (ap in_cancelled_set same ∙ out) (ap is_valid same ∙ v) (goes_same past e out)
+          (λ j. cond (sym out j) without (cond (sym v j) (enlisted (entry e) without) without))
+
+      by_test : goes past s.0 e ≡ false → (b : Bool) → test e ≡ b
+          → perform me (list_on s e found stage) (swept past) ≡ after
+      by_test stays true cancelled =
+          perform_then me (in_cancelled_set stage) dropped others (swept past)
+          (ap in_cancelled_set (here_stays past e stays) ∙ cancelled)
+          ∙ (removal past e (Plan.reply without) stays cancelled
+          ∙ gives without
+          (λ j. cond (sym cancelled j) without (cond (valid e) (enlisted (entry e) without) without)))
+      by_test stays false out = by_valid stays out (valid e) refl
+
+      by_gone : (b : Bool) → goes past s.0 e ≡ b → perform me (list_on s e found stage) (swept past) ≡ after
+      by_gone true is =
+          let k = st.key s.0 e in
+          let same = here_gone past e is in
+          let cancelled = gone_cancelled past e is in
+          passed (ap in_cancelled_set same ∙ not_again k) (ap is_valid same ∙ not_valid_gone k)
+          (goes_again past e is)
+          (λ j. cond (sym cancelled j) without (cond (valid e) (enlisted (entry e) without) without))
+      by_gone false is = by_test is (test e) refl
+
+  -- a sweep over the indexes that are touched
+  pub touched-performed : (w : ℕ)
+      → perform me (sweep_to w 0 (over_touched s (λ i _. remove_if_cancelled s i)) tt) st
+      ≡ record { answer = tt; state = swept (touched_in st s w) }
+  touched-performed w =
+      ap (perform me (sweep_to w 0 (over_touched s (λ i _. remove_if_cancelled s i)) tt)) swept_none
+      ∙ over_touched-performed st me s (λ i _. remove_if_cancelled s i) swept swept_turn (λ _. refl) w
+
+  -- ---- where the sweep went over each key of the cancelled set, that goes
+
+  module _ (over : List ℕ) (all : (i : ℕ) → test i ≡ true → has_index i over ≡ true) where
+    cancelled-over : (i : ℕ) → (has_index i over && test i) ≡ in_cancelled_set (settled (st.key s.0 i))
+    cancelled-over i = by_cancelled (test i) refl ∙ sym (settled-cancelled (st.key s.0 i))
+      where
+        by_cancelled : (b : Bool) → test i ≡ b → (has_index i over && b) ≡ b
+        by_cancelled true is = ap (λ b. b && true) (all i is)
+        by_cancelled false is = and_right (has_index i over) false refl
+
+    pub swept-over-is : settled_state (swept over) ≡ without_cancelled Now (settled_state st) s.0
+    swept-over-is =
+        settled-removed st has_next s.0 (λ i. has_index i over && test i) (λ _. refl)
+        ∙ ap (λ (goes : ℕ → Bool). without_keys_where (settled_state st) s.0 goes has_next)
+        (λ j i. cancelled-over i j)
+
+  -- below the high-water mark, where what is published is below it and what is free is removed
 
   module _ (published : (i : ℕ) → (st.key s.0 i).published ≡ nat_lt i (st.keys_high s.0))
       (free : (i : ℕ) → st.free s.0 i ≡ true → (st.key s.0 i).removed ≡ true) where
     abbrev pub gone_over : List ℕ
     gone_over = listed st s.0 (st.keys_high s.0)
 
-    cancelled-listed : (i : ℕ) → (has_index i gone_over && test i) ≡ in_cancelled_set (settled (st.key s.0 i))
-    cancelled-listed i = by_cancelled (test i) refl ∙ sym (settled-cancelled (st.key s.0 i))
-      where
-        k : Stage
-        k = st.key s.0 i
+    low_of : (i : ℕ) → test i ≡ true → i < st.keys_high s.0
+    low_of i is =
+        let k = st.key s.0 i in
+        ltb-true i (st.keys_high s.0)
+        (sym (published i)
+        ∙ (and_parts k.published (not k.removed) (and_parts (in_key_set k) k.cancelled is).0).0)
 
-        by_cancelled : (b : Bool) → test i ≡ b → (has_index i gone_over && b) ≡ b
-        by_cancelled true is =
-            let in_set = (and_parts (in_key_set k) k.cancelled is).0 in
-            let parts = and_parts k.published (not k.removed) in_set in
-            let low : i < st.keys_high s.0 = ltb-true i (st.keys_high s.0) (sym (published i) ∙ parts.0) in
-            let not_free : st.free s.0 i ≡ false =
-            false_from_ne_true (st.free s.0 i) (λ h. both_ways k.removed (not-true k.removed parts.1) (free i h)) in
-            ap (λ b. b && true) (index-there (λ n. not (st.free s.0 n)) (st.keys_high s.0) i low (ap not not_free))
-        by_cancelled false is = and_right (has_index i gone_over) false refl
+    pub listed-there : (i : ℕ) → test i ≡ true → has_index i gone_over ≡ true
+    listed-there i is =
+        let k = st.key s.0 i in
+        let parts = and_parts k.published (not k.removed) (and_parts (in_key_set k) k.cancelled is).0 in
+        let not_free : st.free s.0 i ≡ false =
+        false_from_ne_true (st.free s.0 i) (λ h. both_ways k.removed (not-true k.removed parts.1) (free i h)) in
+        index-there (λ n. not (st.free s.0 n)) (st.keys_high s.0) i (low_of i is) (ap not not_free)
 
     pub swept-is : settled_state (swept gone_over) ≡ without_cancelled Now (settled_state st) s.0
-    swept-is =
-        settled-removed st has_next s.0 (λ i. has_index i gone_over && test i) (λ _. refl)
-        ∙ ap (λ (goes : ℕ → Bool). without_keys_where (settled_state st) s.0 goes has_next)
-        (λ j i. cancelled-listed i j)
+    swept-is = swept-over-is gone_over listed-there
+
+    -- where each key of the cancelled set is touched
+    pub touched-there : ((i : ℕ) → test i ≡ true → st.touched s.0 i ≡ true) → (i : ℕ) → test i ≡ true
+        → has_index i (touched_in st s (words_below (st.keys_high s.0))) ≡ true
+    touched-there touched i is =
+        let covers : st.keys_high s.0 ≤ 64 * ((st.keys_high s.0 + 63) / 64) = omega arith in
+        let low = low_of i is in
+        ap (has_index i) (touched_in-is st s (words_below (st.keys_high s.0)))
+        ∙ index-there (λ n. st.touched s.0 n) (64 * words_below (st.keys_high s.0)) i (omega arith) (touched i is)

@@ -8,7 +8,7 @@ use Rattle.std.specs.List.{AllPairs}
 use lib.Bits.{and_zero_r}
 use Rattle.nio_base.specs.declared.numbers.CallerNo.{CallerNo}
 use Rattle.nio_base.specs.declared.numbers.KeyId.{KeyId}
-use Rattle.nio_history.specs.Sets.{is_in_key_set}
+use Rattle.nio_history.specs.Sets.{is_in_key_set, in_cancelled_set}
 use Rattle.nio_history.specs.State.{State, with_turn, with_begun, with_gate}
 use Rattle.nio_history.specs.declared.found.GateWord.{GateWord}
 use Rattle.nio_history.specs.declared.found.Mark.{Mark}
@@ -25,6 +25,8 @@ use Rattle.nio_plain.specs.Seq.Selections.{without_cancelled, with_marks, goes_o
 use Rattle.nio_plain.specs.Seq.Selections.{told_selection, left_selection}
 use Rattle.nio_plain.specs.declared.rules.Rules.TheVariants.{Now}
 use Rattle.nio_steps.proofs.PerformLaws.{perform_then_on}
+use Rattle.nio_steps.specs.ChannelCalls.{words_below}
+use Rattle.nio_steps.specs.Looking.{remove_below}
 use Rattle.nio_steps.specs.Perform.{Performed, perform}
 use Rattle.nio_steps.specs.Plan.{Plan, ◌>>◌}
 use Rattle.nio_steps.specs.SelectCalls.{Selection, mark_entry, remove_all_cancelled, after_marks, end_selection}
@@ -35,10 +37,13 @@ use Rattle.nio_steps.specs.Sweeps.{sweep_over}
 use Rattle.nio_steps.specs.declared.looked.LookedKey.{LookedKey}
 use Rattle.nio_steps.specs.declared.selected.Selected.{Selected}
 use Rattle.nio_serial.proofs.Base.{put-under, branch}
-use Rattle.nio_serial.proofs.FreeWords.{listed}
+use Rattle.nio_serial.proofs.FreeWords.{has_index, listed}
 use Rattle.nio_serial.proofs.Marking.{updated, counts, not-removed, marks-performed}
 use Rattle.nio_serial.proofs.Marks.{marked-same}
-use Rattle.nio_serial.proofs.Sweeping.{swept, sweep-performed, swept-is}
+use Rattle.nio_serial.proofs.Sweeping.{swept, sweep-performed, touched-performed, swept-over-is, listed-there}
+use Rattle.nio_serial.proofs.Sweeping.{touched-there, swept-touched}
+use Rattle.nio_serial.proofs.TouchedWords.{touched_in}
+use Rattle.nio_serial.specs.Between.{AreTouched}
 use Rattle.nio_serial.specs.Documented.{Progress, settled_mark, settled_state, looked_pair, shown, documented}
 use Rattle.nio_serial.specs.Documented.{amounts}
 use Rattle.nio_serial.specs.Lines.{after_told, with_selection}
@@ -116,7 +121,9 @@ module _ (st : State) (now : Progress) (me : CallerNo) (x : Selection) (pairs : 
     (tells : (k : KeyId) → is_looked (map looked_pair x.looked) k ≡ true → told_at told k.index ≡ all_told pairs k)
     (none_due : (t i : ℕ) → st.put_due t i ≡ false) (untaken : (i : ℕ) → st.taker x.selector.0 i ≡ None)
     (published : (i : ℕ) → (st.key x.selector.0 i).published ≡ nat_lt i (st.keys_high x.selector.0))
-    (free : (i : ℕ) → st.free x.selector.0 i ≡ true → (st.key x.selector.0 i).removed ≡ true) where
+    (free : (i : ℕ) → st.free x.selector.0 i ≡ true → (st.key x.selector.0 i).removed ≡ true)
+    (finds : x.listed ≡ true → (i : ℕ) → in_cancelled_set (st.key x.selector.0 i) ≡ true
+    → st.touched x.selector.0 i ≡ true) where
   abbrev s : ℕ
   s = x.selector.0
 
@@ -244,8 +251,25 @@ module _ (st : State) (now : Progress) (me : CallerNo) (x : Selection) (pairs : 
           by_selector false other = refl
 
   -- what is left of the plan
+  -- the indexes that it goes over: those that aren't free, or by the list those that are touched
+  abbrev over : Bool → List ℕ
+  over false = listed marked_st s (st.keys_high s)
+  over true = touched_in marked_st x.selector (words_below (st.keys_high s))
+
   abbrev swept_st : State
-  swept_st = swept marked_st me x.selector (none_due s) untaken (listed marked_st s (st.keys_high s))
+  swept_st = swept marked_st me x.selector (none_due s) untaken (over x.listed)
+
+  remove-performed : (b : Bool) → perform me (remove_below x.selector (st.keys_high s) b) marked_st
+      ≡ record { answer = tt; state = swept marked_st me x.selector (none_due s) untaken (over b) }
+  remove-performed false = sweep-performed marked_st me x.selector (none_due s) untaken (st.keys_high s)
+  remove-performed true =
+      touched-performed marked_st me x.selector (none_due s) untaken (words_below (st.keys_high s))
+
+  over-all : (b : Bool) → x.listed ≡ b → (i : ℕ) → in_cancelled_set (st.key s i) ≡ true → has_index i (over b) ≡ true
+  over-all false is i cancelled =
+      listed-there marked_st me x.selector (none_due s) untaken published free i cancelled
+  over-all true is i cancelled =
+      touched-there marked_st me x.selector (none_due s) untaken published free (finds is) i cancelled
 
   abbrev ended : State
   ended = with_begun (with_turn (with_gate swept_st s (record (st.gate s) { woken = false })) s None) s false
@@ -253,9 +277,9 @@ module _ (st : State) (now : Progress) (me : CallerNo) (x : Selection) (pairs : 
   ending-performed : (answer : Selected) → perform me (end_selection x answer) marked_st
       ≡ record { answer = done answer; state = ended }
   ending-performed answer =
-      perform_then_on me (remove_all_cancelled x.selector)
+      perform_then_on me (remove_all_cancelled x.selector x.listed)
       (λ _. end_wake x.selector >> (give_turn x.selector >> Plan.reply (done answer))) marked_st tt swept_st
-      (sweep-performed marked_st me x.selector (none_due s) untaken (st.keys_high s))
+      (remove-performed x.listed)
       ∙ (λ j. record {
         answer = done answer;
         state =
@@ -265,8 +289,11 @@ module _ (st : State) (now : Progress) (me : CallerNo) (x : Selection) (pairs : 
   ended-is : settled_state ended ≡ selection_ended Now ds.shared s (shown x) pairs
   ended-is =
       ap (λ (y : State). with_begun (with_turn (with_gate y s (record (st.gate s) { woken = false })) s None) s false)
-      (swept-is marked_st me x.selector (none_due s) untaken published free
+      (swept-over-is marked_st me x.selector (none_due s) untaken (over x.listed) (over-all x.listed refl)
       ∙ ap (λ (y : State). without_cancelled Now y s) settled-marks)
+
+  pub ended-touched : (t : ℕ) → AreTouched st t → AreTouched ended t
+  ended-touched = swept-touched marked_st me x.selector (none_due s) untaken (over x.listed)
 
   -- ---- the call
 

@@ -19,10 +19,11 @@ use Rattle.nio_steps.specs.SelectCalls.{Selection}
 use Rattle.nio_serial.specs.Documented.{Progress, Selecting, documented}
 use Rattle.nio_serial.specs.Reopening.{reopen_call}
 
--- nobody holds a channel, has a pin on an index, has taken one, or has still to put one
+-- nobody holds a channel, has a pin on an index, is amid a change of one, has taken one, or has still to put one
 pub record IsUnused (st : State) : Type 0 where
   pub unheld : (c : ℕ) → st.hold c ≡ None
   pub unpinned : (s i n : ℕ) → IsFalse (st.pinned s i n)
+  pub unchanging : (s i n : ℕ) → IsFalse (st.amid s i n)
   pub untaken : (s i : ℕ) → st.taker s i ≡ None
   pub none_due : (s i : ℕ) → IsFalse (st.put_due s i)
 
@@ -59,11 +60,18 @@ pub record IsOn (s : ℕ) (x : Selection) : Type 0 where
   pub selector : x.selector.0 ≡ s
   pub rises : AllPairs (λ a b. a.index < b.index) x.looked
 
+-- each key of the selector that is cancelled and not removed is at an index that is touched
+abbrev pub AreTouched : State → ℕ → Type 0
+AreTouched st s =
+    (i : ℕ) → IsTrue (st.key s i).cancelled → IsFalse (st.key s i).removed → IsTrue (st.touched s i)
+
 -- the state has the same callers selecting and closing on the selector as the progress shows
 pub record IsShownBy (st : State) (now : Progress) (s : ℕ) : Type 0 where
   pub turn : st.turn s ≡ option_map (λ x. x.caller) (now.selection s)
   pub begun : st.begun s ≡ is_some (now.selection s)
   pub on : (x : Selecting) → now.selection s ≡ Some x → IsOn s x.selection
+  -- so a selection that goes by the list finds at its end each key that is cancelled
+  pub finds : (x : Selecting) → now.selection s ≡ Some x → IsTrue x.selection.listed → AreTouched st s
   pub closing : now.closing s ≡ (if st.entered s then None else st.closer s)
 
 -- Documented calls, none or more, lead from the first state to the second, by the rules of now, one after the other.

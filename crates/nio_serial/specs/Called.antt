@@ -22,7 +22,7 @@ use Rattle.nio_steps.specs.TableCalls.{find_channel, find, is_valid, interest, s
 use Rattle.nio_steps.specs.TableCalls.{ready, cancel, unselect, attach, attachment, open_channel, reopen_channel}
 use Rattle.nio_steps.specs.TableCalls.{is_open, is_blocking, is_registered, key_for, try_set_blocking, try_register}
 use Rattle.nio_steps.specs.TableCalls.{close_channel}
-use Rattle.nio_steps.specs.TableCalls.{open_selector, try_begin, told, leave, shut, try_finish, keys, selected_keys}
+use Rattle.nio_steps.specs.TableCalls.{open_selector, take_list, try_begin, told, leave, shut, try_finish, keys, selected_keys}
 use Rattle.nio_steps.specs.TableCalls.{wakeup, interrupt, interrupted, pipe, try_read, try_write, set_blocking}
 use Rattle.nio_steps.specs.TableCalls.{register, select, close, read, write}
 
@@ -32,7 +32,7 @@ use Rattle.nio_steps.specs.TableCalls.{register, select, close, read, write}
 pub data Scripted : Type 0 where
   -- this call, with this reply
   as_call : Call → Reply → Scripted
-  -- nothing: the call draws, or only looks a name up
+  -- nothing: the call draws, only looks a name up, or takes a selector's list
   unseen : Scripted
   -- no call: it opens a closed number again, it is on a pipe, or it is a whole selection or closing, which is several
   -- calls
@@ -70,7 +70,9 @@ script_call (table_call (try_register s c ops att) answer) =
     as_call (call.Register s c ops (Some att)) (register_reply answer)
 script_call (table_call (close_channel c) answer) = as_call (call.Closec c) (closed_reply answer)
 script_call (table_call open_selector answer) = as_call call.Selector (selector_reply answer)
-script_call (table_call (try_begin s mode) answer) = as_call (call.Begin s (waiting_of mode)) (begin_reply answer)
+script_call (table_call (take_list s) answer) = unseen
+-- with the selector's list or without it
+script_call (table_call (try_begin s mode known) answer) = as_call (call.Begin s (waiting_of mode)) (begin_reply answer)
 script_call (table_call (told selection poll) answer) =
     as_call (call.Told selection.selector poll.elapsed (by_key selection poll.pairs)) (told_reply answer)
 script_call (table_call (leave selection) answer) = as_call (call.Failed selection.selector) reply.Left

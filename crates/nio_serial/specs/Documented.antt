@@ -48,11 +48,13 @@ settled k = record k { cancelled = not k.removed && k.cancelled }
 abbrev pub settled_mark : Stage → Mark → Mark
 settled_mark k m = record m { selected = not k.removed && m.selected }
 
--- Scripts don't tell apart who is drawn, nor whether a removed key was cancelled or selected. Everything else is as it
--- stands in the table.
+-- Scripts don't tell apart who is drawn, which indexes are touched, who has a list, nor whether a removed key was
+-- cancelled or selected. Everything else is as it stands in the table.
 abbrev pub settled_state : State → State
 settled_state st = record st {
   drawn = λ _. false;
+  touched = λ _ _. false;
+  lister = λ _. None;
   key = λ s i. settled (st.key s i);
   mark = λ s i. settled_mark (st.key s i) (st.mark s i);
 }
@@ -61,7 +63,7 @@ settled_state st = record st {
 abbrev pub looked_pair : LookedKey → KeyId × ℕ
 looked_pair entry = (record { index = entry.index; serial = entry.serial }, entry.interest)
 
--- a selection as a script sees it
+-- a selection as a script sees it, with the selector's list or without it
 abbrev pub shown : Selection → ScriptSelection
 shown x = record { mode = x.mode; bound = x.bound; looked = map looked_pair x.looked }
 

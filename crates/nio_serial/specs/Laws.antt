@@ -1,5 +1,5 @@
 -- The laws of calls that don't overlap.
-use Rattle.std.specs.Prelude.{◌≡◌, ℕ, Bool, true, Some, List, ◌++◌, map, IsTrue}
+use Rattle.std.specs.Prelude.{◌≡◌, ℕ, Bool, true, Option, Some, List, ◌++◌, map, IsTrue}
 use Rattle.std.specs.List.{All}
 use Rattle.nio_base.specs.Limits.{IsFit}
 use Rattle.nio_base.specs.declared.limits.Limits.{Limits}
@@ -28,6 +28,7 @@ use Rattle.nio_steps.specs.Perform.{perform}
 use Rattle.nio_steps.specs.Runs.{Completes}
 use Rattle.nio_steps.specs.SelectCalls.{Selection, told_at, told_plan, try_begin_plan, keys_plan, selected_keys_plan}
 use Rattle.nio_steps.specs.SelectCalls.{ToldReply}
+use Rattle.nio_steps.specs.declared.looked.LookedKey.{LookedKey}
 use Rattle.nio_serial.specs.Between.{IsBetween, IsWholePipe}
 use Rattle.nio_serial.specs.Documented.{Progress, nothing_yet, looked_pair, documented, amounts}
 use Rattle.nio_serial.specs.Lines.{Said, comes_to, own_selection, after_told, call_plan, line_plan}
@@ -115,16 +116,19 @@ abbrev pub PipesAreWhole : Type 0
 PipesAreWhole =
     (l : Limits) (st : State) (now : Progress) → IsBetween l st now → All (IsWholePipe st.chan) now.pipes
 
--- A call for which there is no memory leaves the state as it was: it has no reply, and nothing is in progress by it.
-pub record LacksOnlyMemory (me : CallerNo) (s : SelNo) (mode : Mode) (st : State) : Type 0 where
-  pub begins : (perform me (try_begin_plan s mode true) st).state ≡ st
+-- A call for which there is no memory leaves the state as it was: it has no reply, and nothing is in progress by it. So
+-- does a beginning, with the list or without it.
+pub record LacksOnlyMemory (me : CallerNo) (s : SelNo) (mode : Mode) (known : Option (List LookedKey)) (st : State)
+    : Type 0 where
+  pub begins : (perform me (try_begin_plan s mode known true) st).state ≡ st
   pub keys : (perform me (keys_plan s true) st).state ≡ st
   pub selected : (perform me (selected_keys_plan s true) st).state ≡ st
 
 abbrev pub LackingLeaves : Type 0
 LackingLeaves =
-    (l : Limits) (st : State) (now : Progress) (me : CallerNo) (s : SelNo) (mode : Mode) → IsBetween l st now
-    → LacksOnlyMemory me s mode st
+    (l : Limits) (st : State) (now : Progress) (me : CallerNo) (s : SelNo) (mode : Mode)
+    (known : Option (List LookedKey)) → IsBetween l st now
+    → LacksOnlyMemory me s mode known st
 
 -- ---- the same of histories
 

@@ -15,7 +15,7 @@ use Rattle.nio_serial.specs.Documented.{Progress}
 use Rattle.nio_serial.specs.Lines.{with_selection, with_closing, own_selection}
 use Rattle.nio_steps.specs.Names.{selector}
 use Rattle.nio_steps.specs.Ongoing.{Ongoing, nothing_ongoing, Change, no_change, selection_begins, selection_goes_on}
-use Rattle.nio_steps.specs.Ongoing.{selection_ends, closing_begins, closing_ends}
+use Rattle.nio_steps.specs.Ongoing.{selection_ends, closing_begins, closing_ends, list_taken}
 use Rattle.nio_steps.specs.TableCalls.{row_of, wait_row_of}
 
 -- ---- what is in progress
@@ -29,6 +29,8 @@ progress_changed now me (selection_goes_on s x) = now
 progress_changed now me (selection_ends s) = with_selection now s None
 progress_changed now me (closing_begins s) = with_closing now s (Some me)
 progress_changed now me (closing_ends s) = with_closing now s None
+-- the list of a selector is no part of it
+progress_changed now me (list_taken s) = now
 
 -- What is in progress after this call of the caller. The pipes and the group of a script are made and used by lines:
 -- no call of a history is on them.

@@ -97,9 +97,10 @@ after_finish now s busy = now
 
 -- ---- the calls
 
+-- a line begins a selection without the list
 abbrev pub begin_line : Progress → CallerNo → SelNo → Option Mode → Plan Said
 begin_line now me s None = refused now reply.NegativeTimeout
-begin_line now me s (Some mode) = makes (try_begin_plan s mode false) begin_reply (after_begin now me s)
+begin_line now me s (Some mode) = makes (try_begin_plan s mode None false) begin_reply (after_begin now me s)
 
 -- the told pairs of keys that the selection looks at, by their indexes. A key of another serial is none of them
 abbrev pub by_index : Selection → List (KeyId × ℕ) → List (ℕ × ℕ)

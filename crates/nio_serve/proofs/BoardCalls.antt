@@ -426,23 +426,23 @@ watch_isnt_taken deal s kind c ops failed =
 
 pub begins_selection : {answer : Result Selection BeginError} (w : Words) (p q : Pass) (at : Station)
     (selection : Selection) → answer ≡ Ok selection
-    → CallClause at.caller (Begins at.selector Wait) (view w p) (view w q) answer
+    → CallClause at.caller (Begins at.selector Wait None) (view w p) (view w q) answer
     → HasMade (board_of w p at) (board_of w q at) (BeginsSelection at.selector selection)
 begins_selection w p q at selection is clause = record {
-  calls = table_call (try_begin at.selector Wait) (Ok selection) ∷ [];
+  calls = table_call (try_begin at.selector Wait None) (Ok selection) ∷ [];
   holds = selection_begun;
-  made = made_call w p q at (table_call (try_begin at.selector Wait) (Ok selection)) (Ok selection) is (λ _ run. run)
+  made = made_call w p q at (table_call (try_begin at.selector Wait None) (Ok selection)) (Ok selection) is (λ _ run. run)
       clause;
 }
 
 pub begin_is_refused : {answer : Result Selection BeginError} (w : Words) (p q : Pass) (at : Station)
     (refusal : BeginError) → answer ≡ Err refusal
-    → CallClause at.caller (Begins at.selector Wait) (view w p) (view w q) answer
+    → CallClause at.caller (Begins at.selector Wait None) (view w p) (view w q) answer
     → HasMade (board_of w p at) (board_of w q at) (FailsToBegin at.selector)
 begin_is_refused w p q at refusal is clause = record {
-  calls = table_call (try_begin at.selector Wait) (Err refusal) ∷ [];
+  calls = table_call (try_begin at.selector Wait None) (Err refusal) ∷ [];
   holds = begin_refused refusal;
-  made = made_call w p q at (table_call (try_begin at.selector Wait) (Err refusal)) (Err refusal) is (λ _ run. run)
+  made = made_call w p q at (table_call (try_begin at.selector Wait None) (Err refusal)) (Err refusal) is (λ _ run. run)
       clause;
 }
 

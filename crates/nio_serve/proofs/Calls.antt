@@ -1,5 +1,6 @@
 -- What a call on the table adds to the calls that a board's caller has made.
 use Rattle.std.proofs.Common.{◌≡◌, ℕ, ◌+◌, false, Option, Some, Ok, List, [], ◌∷◌}
+use Rattle.std.specs.Prelude.{None}
 use Rattle.std.proofs.Common.{◌++◌, refl, ap, sym, ◌∙◌, subst, append_assoc, add-one}
 use Rattle.std.proofs.lemmas.List.{append-nil}
 use Rattle.nio_base.specs.declared.limits.Limits.{Limits}
@@ -153,13 +154,13 @@ ongoing-more : (calls : List Made) (call : Made) (s : ℕ)
 ongoing-more calls call s = ap (λ (o : Ongoing). o.selection s) (after_calls-append nothing_ongoing calls (call ∷ []))
 
 pub selecting_begun : {w : Words} {p q : Pass} {at : Station} (mode : Mode) (selection : Selection)
-    → DidCall w p q at.caller (table_call (try_begin at.selector mode) (Ok selection))
+    → DidCall w p q at.caller (table_call (try_begin at.selector mode None) (Ok selection))
     → Selects (view w q) at.caller selection
     → IsAtRest (board_of w p at) → IsSelecting (board_of w q at) selection
 unfolding quiet_after those_are has_after call_more
 selecting_begun {w} {p} {q} {at} mode selection did begun rest =
-    let call = table_call (try_begin at.selector mode) (Ok selection) in
-    let same : selection.selector ≡ at.selector = (begin-parts at.selector mode _ selection did.runs).selector in
+    let call = table_call (try_begin at.selector mode None) (Ok selection) in
+    let same : selection.selector ≡ at.selector = (begin-parts at.selector mode None _ selection did.runs).selector in
     record {
       begun = begun;
       watched = quiet_after call rest.watched refl did tt;

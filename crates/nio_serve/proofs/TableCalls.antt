@@ -1,5 +1,6 @@
 -- After each call that a board makes on its table the board is at rest.
 use Rattle.std.proofs.Common.{◌≡◌, ℕ, Bool, Option, Result, Ok, Err, refl, subst}
+use Rattle.std.specs.Prelude.{None}
 use Rattle.nio_base.specs.declared.kind.Kind.{Kind}
 use Rattle.nio_base.specs.Numbers.{first_channel}
 use Rattle.nio_base.specs.declared.numbers.ChanId.{ChanId}
@@ -117,24 +118,24 @@ module _ {w : Words} {p q : Pass} {at : Station} where
   -- ---- selections
 
   pub rest_begun : (mode : Mode) {answer : Result Selection BeginError}
-      → CallClause at.caller (Begins at.selector mode) (view w p) (view w q) answer
+      → CallClause at.caller (Begins at.selector mode None) (view w p) (view w q) answer
       → IsReady w q at.caller → IsAtRest (board_of w p at) → IsAtRest (board_of w q at)
   rest_begun mode {answer} clause ready rest =
-      rest_after (table_call (try_begin at.selector mode) answer) (record
+      rest_after (table_call (try_begin at.selector mode None) answer) (record
       { may_come = λ _. tt; registers_nothing = refl })
-      (did_unpinned (table_call (try_begin at.selector mode) answer) (λ _ run. run) (begin_gives at.selector mode)
+      (did_unpinned (table_call (try_begin at.selector mode None) answer) (λ _ run. run) (begin_gives at.selector mode)
       clause ready
       rest.idle.unpinned) rest
 
   pub selects_begun : (mode : Mode) {answer : Result Selection BeginError} (selection : Selection)
       → answer ≡ Ok selection
-      → CallClause at.caller (Begins at.selector mode) (view w p) (view w q) answer
+      → CallClause at.caller (Begins at.selector mode None) (view w p) (view w q) answer
       → IsReady w q at.caller → Selects (view w q) at.caller selection → IsAtRest (board_of w p at)
       → IsSelecting (board_of w q at) selection
   selects_begun mode selection is clause ready begun rest =
       selecting_begun mode selection
-      (did_unpinned (table_call (try_begin at.selector mode) (Ok selection))
-      (λ acts run. subst (Begins at.selector mode acts) is run) (begin_gives at.selector mode) clause ready
+      (did_unpinned (table_call (try_begin at.selector mode None) (Ok selection))
+      (λ acts run. subst (Begins at.selector mode None acts) is run) (begin_gives at.selector mode) clause ready
       rest.idle.unpinned) begun rest
 
   pub rest_leaves : {selection : Selection} {answer : Unit {0}}

@@ -76,11 +76,11 @@ Unwatches deal s k c = Parts (CancelsKey s k) (ClosesChannel (channel_in deal c)
 
 -- it begins a selection that waits
 pub data BeginsSelection (s : SelNo) (selection : Selection) : List Made → Type 0 where
-  selection_begun : BeginsSelection s selection (table_call (try_begin s Wait) (Ok selection) ∷ [])
+  selection_begun : BeginsSelection s selection (table_call (try_begin s Wait None) (Ok selection) ∷ [])
 
 -- it is refused that
 pub data FailsToBegin (s : SelNo) : List Made → Type 0 where
-  begin_refused : (refusal : BeginError) → FailsToBegin s (table_call (try_begin s Wait) (Err refusal) ∷ [])
+  begin_refused : (refusal : BeginError) → FailsToBegin s (table_call (try_begin s Wait None) (Err refusal) ∷ [])
 
 -- it tells the selection what the poll answered, and leaves it where it would go on
 pub data TellsPoll (selection : Selection) (poll : Poll) : List Made → Type 0 where

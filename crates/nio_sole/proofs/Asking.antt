@@ -1,5 +1,6 @@
 -- A call of a line that leaves what is in progress as it is.
 use Rattle.std.proofs.Common.{◌≡◌, ℕ, Bool, Option, List, Result, sym, subst}
+use Rattle.std.specs.Prelude.{None}
 use Rattle.nio_base.specs.declared.numbers.CallerNo.{CallerNo}
 use Rattle.nio_base.specs.declared.numbers.KeyId.{KeyId}
 use Rattle.nio_base.specs.declared.numbers.KeyNo.{KeyNo}
@@ -59,10 +60,10 @@ lists_selected_ran s {answer = answer} call =
 -- ---- beginnings
 
 pub begins_ran : {me : CallerNo} (s : SelNo) (mode : Mode) {answer : Result Selection BeginError} {v0 v1 : PassView}
-    → CallClause me (Begins s mode) v0 v1 answer
-    → CallClause me (Completes (try_begin_plan s mode (begin_lacks_memory answer))) v0 v1 answer
+    → CallClause me (Begins s mode None) v0 v1 answer
+    → CallClause me (Completes (try_begin_plan s mode None (begin_lacks_memory answer))) v0 v1 answer
 begins_ran s mode {answer = answer} call =
-    call_as (Completes (try_begin_plan s mode (begin_lacks_memory answer))) answer (λ acts run. run) call
+    call_as (Completes (try_begin_plan s mode None (begin_lacks_memory answer))) answer (λ acts run. run) call
 
 -- with another reply that is the same
 pub replied_as : {me : CallerNo} {plan : Plan Said} {r r' : Reply} {left : Progress} {v0 v1 : PassView}

@@ -66,7 +66,8 @@ use Rattle.nio_steps.specs.PipeCalls.{with_source, without_sink}
 use Rattle.nio_steps.specs.Plan.{Plan, ◌>>=◌}
 use Rattle.nio_steps.specs.Runs.{Follows, Completes}
 use Rattle.nio_steps.specs.SelectCalls.{Selection, open_selector_plan, try_begin_plan, begin_lacks_memory, begin_open}
-use Rattle.nio_steps.specs.SelectCalls.{begin_with_turn, given_back, over_listed, look_over, told_plan}
+use Rattle.nio_steps.specs.SelectCalls.{begin_with_turn, given_back, told_plan}
+use Rattle.nio_steps.specs.Looking.{over_listed, look_over}
 use Rattle.nio_steps.specs.SelectCalls.{Poll, ToldReply, done, again, leave_plan, shut_plan, ShutReply}
 use Rattle.nio_steps.specs.SelectCalls.{closing, already_closed, try_finish_plan, FinishReply, closed, busy, keys_plan}
 use Rattle.nio_steps.specs.SelectCalls.{selected_keys_plan, list_lacks_memory, list_plan, list_open, list_key}
@@ -350,13 +351,13 @@ anything acts r = Unit {0}
 
 -- a `try_begin` that has memory doesn't answer that it lacks it
 begin_has_memory : (s : SelNo) (mode : Mode)
-    → Always (λ _ r. begin_lacks_memory r ≡ false) (try_begin_plan s mode false)
+    → Always (λ _ r. begin_lacks_memory r ≡ false) (try_begin_plan s mode None false)
 unfolding try_begin_plan
 begin_has_memory s mode =
     λ gate asks. always_if (λ _ r. begin_lacks_memory r ≡ false) (gate_in (answer_of gate)).shut
     (Plan.reply (Err BeginError.ClosedSelector)) _ (λ _. refl)
     (λ _ take asks'. always_if (λ _ r. begin_lacks_memory r ≡ false) (is_some (holder_in (answer_of take)))
-    (Plan.reply (Err BeginError.Busy)) (begin_with_turn s mode false) (λ _. refl)
+    (Plan.reply (Err BeginError.Busy)) (begin_with_turn s mode None false) (λ _. refl)
     (λ _ look asks''. always_if (λ _ r. begin_lacks_memory r ≡ false) (gate_in (answer_of look)).shut
     (given_back s (Err BeginError.ClosedSelector)) _ (λ _ give _. refl)
     (λ _ looked asks'''. let bound = number_in (answer_of looked) in
@@ -365,7 +366,7 @@ begin_has_memory s mode =
 
 -- a `try_begin` that answers Ok found the turn free
 begin_takes : (s : SelNo) (mode : Mode) (lacks : Bool)
-    → Always (λ acts r. is_ok r ≡ true → has (takes_turn s.0) acts ≡ true) (try_begin_plan s mode lacks)
+    → Always (λ acts r. is_ok r ≡ true → has (takes_turn s.0) acts ≡ true) (try_begin_plan s mode None lacks)
 unfolding try_begin_plan
 begin_takes s mode lacks =
     λ gate asks. always_if (λ acts r. is_ok r ≡ true → has (takes_turn s.0) (gate ∷ acts) ≡ true)
@@ -375,15 +376,15 @@ begin_takes s mode lacks =
     by_take : (gate take : Act) → question_of take ≡ Question.take_turn s
         → Always (λ acts r. is_ok r ≡ true → has (takes_turn s.0) (gate ∷ take ∷ acts) ≡ true)
         (if is_some (holder_in (answer_of take)) then Plan.reply (Err BeginError.Busy)
-        else begin_with_turn s mode lacks)
+        else begin_with_turn s mode None lacks)
     by_take gate (TakeTurn s' (Some n)) asks = λ ok. absurd (cc ok)
     by_take gate (TakeTurn s' None) asks =
         let same : s'.0 ≡ s.0 = ap (λ (x : SelNo). x.0) (cc asks) in
         always_weaker anything (λ acts r. is_ok r ≡ true → has (takes_turn s.0) (gate ∷ TakeTurn s' None ∷ acts) ≡ true)
-        (begin_with_turn s mode lacks)
+        (begin_with_turn s mode None lacks)
         (λ acts r _ _. has-second (takes_turn s.0) (gate ∷ []) (TakeTurn s' None ∷ acts)
         (ap (λ b. b || has (takes_turn s.0) acts) (eq-eqb s'.0 s.0 same)))
-        (always_any (begin_with_turn s mode lacks))
+        (always_any (begin_with_turn s mode None lacks))
     by_take gate _ asks = absurd (cc asks)
 
 -- ---- shutting
@@ -468,17 +469,17 @@ else-follows b x y acts rest is here = subst (λ c. Follows (if c then x else y)
 
 -- a `try_begin` without memory is the call with its answer, and begins nothing
 begin_without_memory : (s : SelNo) (mode : Mode)
-    → Always (λ acts r. Completes (try_begin_plan s mode (begin_lacks_memory r)) acts r × (is_ok r ≡ false))
-    (try_begin_plan s mode true)
+    → Always (λ acts r. Completes (try_begin_plan s mode None (begin_lacks_memory r)) acts r × (is_ok r ≡ false))
+    (try_begin_plan s mode None true)
 unfolding try_begin_plan
 begin_without_memory s mode = λ gate asks_gate.
-    always_if (λ acts r. Completes (try_begin_plan s mode (begin_lacks_memory r)) (gate ∷ acts) r × (is_ok r ≡ false))
-    (gate_in (answer_of gate)).shut (Plan.reply (Err BeginError.ClosedSelector)) (begin_open s mode true)
+    always_if (λ acts r. Completes (try_begin_plan s mode None (begin_lacks_memory r)) (gate ∷ acts) r × (is_ok r ≡ false))
+    (gate_in (answer_of gate)).shut (Plan.reply (Err BeginError.ClosedSelector)) (begin_open s mode None true)
     (λ is. ((asks_gate, taken-follows (gate_in (answer_of gate)).shut _ _ [] _ is refl), refl))
     (λ opens take asks_take.
-    always_if (λ acts r. Completes (try_begin_plan s mode (begin_lacks_memory r)) (gate ∷ take ∷ acts) r
+    always_if (λ acts r. Completes (try_begin_plan s mode None (begin_lacks_memory r)) (gate ∷ take ∷ acts) r
     × (is_ok r ≡ false))
-    (is_some (holder_in (answer_of take))) (Plan.reply (Err BeginError.Busy)) (begin_with_turn s mode true)
+    (is_some (holder_in (answer_of take))) (Plan.reply (Err BeginError.Busy)) (begin_with_turn s mode None true)
     (λ is. (
       (
         asks_gate,
@@ -488,7 +489,7 @@ begin_without_memory s mode = λ gate asks_gate.
       refl,
     ))
     (λ takes look asks_look.
-    always_if (λ acts r. Completes (try_begin_plan s mode (begin_lacks_memory r)) (gate ∷ take ∷ look ∷ acts) r
+    always_if (λ acts r. Completes (try_begin_plan s mode None (begin_lacks_memory r)) (gate ∷ take ∷ look ∷ acts) r
     × (is_ok r ≡ false))
     (gate_in (answer_of look)).shut (given_back s (Err BeginError.ClosedSelector)) _
     (λ is give asks_give. (
@@ -544,26 +545,27 @@ module _ (l : Limits) (me : CallerNo) (now : Progress) where
   leads_begin : (s : SelNo) (mode : Option Mode) → Leads l me now (begin_line now me s mode)
   leads_begin s None = leads_refused l me now _
   leads_begin s (Some mode) =
-      leads_call l me now (try_begin_plan s mode false) (λ a. table_call (try_begin s mode) a) (after_begin now me s) _
+      leads_call l me now (try_begin_plan s mode None false) (λ a. table_call (try_begin s mode None) a) (after_begin now me s) _
       comes
       (λ a. leads_answer l me (after_begin now me s a) (begin_reply a))
     where
       comes : (ongoing : Ongoing) (acts : List Act) (a : Result Selection BeginError)
-          → Completes (try_begin_plan s mode false) acts a → IsOngoing me now ongoing
-          → Comes l me now ongoing (table_call (try_begin s mode) a) acts (after_begin now me s a)
+          → Completes (try_begin_plan s mode None false) acts a → IsOngoing me now ongoing
+          → Comes l me now ongoing (table_call (try_begin s mode None) a) acts (after_begin now me s a)
       comes ongoing acts (Ok x) run at = record {
         run = run;
         may = tt;
-        after = put_selection me now ongoing s.0 (Some x) (Some (record { caller = me; selection = x }))
-            (ap (λ b. if b then Some x else None) (sym (eq-eqb me.0 me.0 refl))) at;
+        after = let its = put_selection me now ongoing s.0 (Some x) (Some (record { caller = me; selection = x }))
+            (ap (λ b. if b then Some x else None) (sym (eq-eqb me.0 me.0 refl))) at in
+            record { selection = its.selection; closes = its.closes };
         others = λ n other. leaves_begun me n now s x acts other
             (always_run (λ acts' r. is_ok r ≡ true → has (takes_turn s.0) acts' ≡ true)
-            (try_begin_plan s mode false) acts (Ok x) (begin_takes s mode false) run refl);
+            (try_begin_plan s mode None false) acts (Ok x) (begin_takes s mode false) run refl);
       }
       comes ongoing acts (Err refusal) run at =
-          quiet l me now ongoing (table_call (try_begin s mode) (Err refusal)) acts
-          (subst (λ b. Completes (try_begin_plan s mode b) acts (Err refusal))
-          (sym (always_run (λ _ r. begin_lacks_memory r ≡ false) (try_begin_plan s mode false) acts (Err refusal)
+          quiet l me now ongoing (table_call (try_begin s mode None) (Err refusal)) acts
+          (subst (λ b. Completes (try_begin_plan s mode None b) acts (Err refusal))
+          (sym (always_run (λ _ r. begin_lacks_memory r ≡ false) (try_begin_plan s mode None false) acts (Err refusal)
           (begin_has_memory s mode) run)) run) tt at
 
   leads_told : (s : SelNo) (elapsed : Bool) (pairs : List (KeyId × ℕ)) (o : Option Selection) → AreOn now
@@ -672,24 +674,24 @@ module _ (l : Limits) (me : CallerNo) (now : Progress) where
   -- want of memory
 
   pub leads_begin_memory : (s : SelNo) (mode : Mode) (said : Result Selection BeginError → Reply)
-      → Leads l me now (asks now (try_begin_plan s mode true) said)
+      → Leads l me now (asks now (try_begin_plan s mode None true) said)
   leads_begin_memory s mode said =
-      leads_ask (try_begin_plan s mode true) (λ a. table_call (try_begin s mode) a) said comes
+      leads_ask (try_begin_plan s mode None true) (λ a. table_call (try_begin s mode None) a) said comes
     where
       comes : (ongoing : Ongoing) (acts : List Act) (a : Result Selection BeginError)
-          → Completes (try_begin_plan s mode true) acts a → IsOngoing me now ongoing
-          → Comes l me now ongoing (table_call (try_begin s mode) a) acts now
+          → Completes (try_begin_plan s mode None true) acts a → IsOngoing me now ongoing
+          → Comes l me now ongoing (table_call (try_begin s mode None) a) acts now
       comes ongoing acts a run at =
           by_answer a
-          (always_run (λ acts' r. Completes (try_begin_plan s mode (begin_lacks_memory r)) acts' r
-          × (is_ok r ≡ false)) (try_begin_plan s mode true) acts a (begin_without_memory s mode) run)
+          (always_run (λ acts' r. Completes (try_begin_plan s mode None (begin_lacks_memory r)) acts' r
+          × (is_ok r ≡ false)) (try_begin_plan s mode None true) acts a (begin_without_memory s mode) run)
         where
           by_answer : (r : Result Selection BeginError)
-              → Completes (try_begin_plan s mode (begin_lacks_memory r)) acts r × (is_ok r ≡ false)
-              → Comes l me now ongoing (table_call (try_begin s mode) r) acts now
+              → Completes (try_begin_plan s mode None (begin_lacks_memory r)) acts r × (is_ok r ≡ false)
+              → Comes l me now ongoing (table_call (try_begin s mode None) r) acts now
           by_answer (Ok x) without = absurd (cc without.1)
           by_answer (Err refusal) without =
-              quiet l me now ongoing (table_call (try_begin s mode) (Err refusal)) acts without.0 tt at
+              quiet l me now ongoing (table_call (try_begin s mode None) (Err refusal)) acts without.0 tt at
 
   pub leads_keys_memory : (s : SelNo) (said : Result (List KeyNo) ListError → Reply)
       → Leads l me now (asks now (keys_plan s true) said)

@@ -1,5 +1,6 @@
 -- What a desk has in progress, once something was put into a place of it.
 use Rattle.std.proofs.Common.{◌≡◌, ℕ, ◌<◌, [], Option, Some, None, List, length, set, refl}
+use Rattle.nio_sole.specs.Stands.{IsOn}
 use Rattle.std.proofs.Common.{sym, ap, ◌∙◌, subst, ⊎_elim, arith, vec_len, true, false, Bool, ◌==◌, if◌then◌else◌}
 use Rattle.std.proofs.Common.{eq-eqb, eqb-true}
 use Rattle.std.proofs.lemmas.Bool.{cases_eq}
@@ -43,13 +44,14 @@ part_put f xs s x below =
     put_is (λ n. f (slot (set xs s x) n)) (λ n. f (slot xs n)) s (f x) (ap f (get_or-set_same xs s x None below))
     (λ n other. ap f (get_or-set_other xs s n x None other))
 
--- what stands in each place has this number
-pub places_put : {A : Type 0} (at : A → ℕ) (xs : List (Option A)) (s : ℕ) (y : Option A) → s < length xs
-    → ((n : ℕ) (x : A) → slot xs n ≡ Some x → at x ≡ n) → ((x : A) → y ≡ Some x → at x ≡ s)
-    → (n : ℕ) (x : A) → slot (set xs s y) n ≡ Some x → at x ≡ n
-places_put at xs s y below others here n x is =
+-- what stands in each place stands there so
+pub places_put : {A : Type 0} (At : ℕ → A → Type 0) (xs : List (Option A)) (s : ℕ) (y : Option A) → s < length xs
+    → ((n : ℕ) (x : A) → slot xs n ≡ Some x → At n x) → ((x : A) → y ≡ Some x → At s x)
+    → (n : ℕ) (x : A) → slot (set xs s y) n ≡ Some x → At n x
+places_put At xs s y below others here n x is =
     ⊎_elim
-    (λ (same : n ≡ s). here x (sym (ap (slot (set xs s y)) same ∙ get_or-set_same xs s y None below) ∙ is) ∙ sym same)
+    (λ (same : n ≡ s). subst (λ k. At k x) (sym same)
+    (here x (sym (ap (slot (set xs s y)) same ∙ get_or-set_same xs s y None below) ∙ is)))
     (λ (other : n ≡ s → ⊥). others n x (sym (get_or-set_other xs s n y None other) ∙ is))
     (cases_eq n s)
 
@@ -130,7 +132,7 @@ places_closing w d p s closings place places inside items len on made = record {
   selections = places.selections;
   closings = len ∙ places.closings;
   selects = places.selects;
-  closes = λ n x is. places_put (λ (x : Shut). x.closing.0) d.closings.items s.0 place
+  closes = λ n x is. places_put (λ n (x : Shut). x.closing.0 ≡ n) d.closings.items s.0 place
       (omega (arith, places.closings)) places.closes on n x (sym (ap (λ xs. slot xs n) items) ∙ is);
   pipes = made;
 }
@@ -152,12 +154,12 @@ progress_selection w d p s selections place places inside items =
 pub places_selection : (w : Words) (d : Desk) (p : Pass) (s : SelNo) (selections : Vec (Option Begun) Global)
     (place : Option Begun) → HasPlaces w d → s.0 < (limits_of w).selectors
     → selections.items ≡ set d.selections.items s.0 place → vec_len selections ≡ vec_len d.selections
-    → ((x : Begun) → place ≡ Some x → x.selection.selector.0 ≡ s.0)
+    → ((x : Begun) → place ≡ Some x → IsOn s.0 x.selection)
     → AreMade (view w p) d.pipes.items → HasPlaces w (with_selections_in d p selections)
 places_selection w d p s selections place places inside items len on made = record {
   selections = len ∙ places.selections;
   closings = places.closings;
-  selects = λ n x is. places_put (λ (x : Begun). x.selection.selector.0) d.selections.items s.0 place
+  selects = λ n x is. places_put (λ n (x : Begun). IsOn n x.selection) d.selections.items s.0 place
       (omega (arith, places.selections)) places.selects on n x (sym (ap (λ xs. slot xs n) items) ∙ is);
   closes = places.closes;
   pipes = made;
@@ -261,24 +263,28 @@ progress_selection_back w d p me s taken after y places inside items len items' 
 pub places_selection_back : (w : Words) (d : Desk) (p : Pass) (s : SelNo) (taken after : Vec (Option Begun) Global)
     (y : Begun) → HasPlaces w d → s.0 < (limits_of w).selectors
     → taken.items ≡ set d.selections.items s.0 None → vec_len taken ≡ vec_len d.selections
-    → after.items ≡ set taken.items s.0 (Some y) → vec_len after ≡ vec_len taken → y.selection.selector.0 ≡ s.0
+    → after.items ≡ set taken.items s.0 (Some y) → vec_len after ≡ vec_len taken → IsOn s.0 y.selection
     → AreMade (view w p) d.pipes.items → HasPlaces w (with_selections_in d p after)
 places_selection_back w d p s taken after y places inside items len items' len' on made =
     let middle : HasPlaces w (with_selections_in d p taken) = places_selection w d p s taken None places inside items
     len (λ x is. nothing_there is) made in
     places_selection w (with_selections_in d p taken) p s after (Some y) middle inside items' len'
-    (λ x is. ap (λ (z : Begun). z.selection.selector.0) (some_is is) ∙ on) made
+    (λ x is. subst (λ (z : Begun). IsOn s.0 z.selection) (sym (some_is is)) on) made
 
 -- it is on the selector
-pub own_on : (w : Words) (d : Desk) (me : CallerNo) (s : SelNo) (x : Selection) → HasPlaces w d
-    → if_own me (selections_of d.selections.items s.0) ≡ Some x → x.selector ≡ s
-own_on w d me s x places own = ap (λ (n : ℕ). record { 0 = n }) (by_place (slot d.selections.items s.0) refl own)
+pub stands_on : (w : Words) (d : Desk) (me : CallerNo) (s : SelNo) (x : Selection) → HasPlaces w d
+    → if_own me (selections_of d.selections.items s.0) ≡ Some x → IsOn s.0 x
+stands_on w d me s x places own = by_place (slot d.selections.items s.0) refl own
   where
     by_place : (place : Option Begun) → slot d.selections.items s.0 ≡ place
-        → if_own me (option_map selecting_of place) ≡ Some x → x.selector.0 ≡ s.0
+        → if_own me (option_map selecting_of place) ≡ Some x → IsOn s.0 x
     by_place None at is = nothing_there is
     by_place (Some z) at is = by_test (z.caller.0 == me.0) is
       where
-        by_test : (b : Bool) → (if b then Some z.selection else None) ≡ Some x → x.selector.0 ≡ s.0
-        by_test true is' = ap (λ (y : Selection). y.selector.0) (some_is is') ∙ places.selects s.0 z at
+        by_test : (b : Bool) → (if b then Some z.selection else None) ≡ Some x → IsOn s.0 x
+        by_test true is' = subst (IsOn s.0) (sym (some_is is')) (places.selects s.0 z at)
         by_test false is' = nothing_there is'
+
+pub own_on : (w : Words) (d : Desk) (me : CallerNo) (s : SelNo) (x : Selection) → HasPlaces w d
+    → if_own me (selections_of d.selections.items s.0) ≡ Some x → x.selector ≡ s
+own_on w d me s x places own = ap (λ (n : ℕ). record { 0 = n }) (stands_on w d me s x places own).0

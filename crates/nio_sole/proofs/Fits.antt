@@ -1,5 +1,6 @@
 -- The looked list is no longer than the limit of indexes.
 use Rattle.std.proofs.Common.{◌≡◌, ℕ, suc, ◌+◌, ◌<◌, ◌≤◌, Ok, List, [], ◌∷◌, ◌++◌, length, ap, sym, ◌∙◌, subst}
+use Rattle.std.specs.Prelude.{None}
 use Rattle.std.proofs.Common.{append_assoc, arith}
 use Rattle.std.specs.List.{All, AllPairs}
 use Rattle.std.proofs.lemmas.List.Elements.{All-head, All-tail}
@@ -25,10 +26,10 @@ use Rattle.nio_steps.specs.declared.looked.LookedKey.{LookedKey}
 
 -- the bound is a keys' high-water mark that the caller found
 bound_fits : (l : Limits) (n : CallerNo) (events : List Event) (own acts : List Act) (s : SelNo) (mode : Mode)
-    (x : Selection) → IsLegal l events → mine n events ≡ own ++ acts → Begins s mode acts (Ok x)
+    (x : Selection) → IsLegal l events → mine n events ≡ own ++ acts → Begins s mode None acts (Ok x)
     → x.bound ≤ l.keys
 bound_fits l n events own acts s mode x legal did run =
-    let first = begin-parts s mode acts x run in
+    let first = begin-parts s mode None acts x run in
     let before = first.gate ∷ first.take ∷ first.look ∷ [] in
     let look : first.keys ≡ LookKeys s x.bound = keys-act s first.keys first.asks_keys
     ∙ ap (LookKeys s) (sym first.bound) in
@@ -58,7 +59,7 @@ few (entry ∷ entries) low high within rise above below =
     omega arith
 
 pub looked_fits : (me : CallerNo) (s : SelNo) (mode : Mode) (v0 v1 : PassView) (x : Selection)
-    → CallClause me (Begins s mode) v0 v1 (Ok x) → length x.looked ≤ v0.limits.keys
+    → CallClause me (Begins s mode None) v0 v1 (Ok x) → length x.looked ≤ v0.limits.keys
 looked_fits me s mode v0 v1 x call =
     let acts = done_between me v0 v1 in
     let bound = bound_fits v0.limits me v1.seen (mine me v0.seen) acts s mode x call.acts.history.legal

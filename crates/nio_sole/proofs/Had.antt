@@ -1,5 +1,6 @@
 -- What a caller has in progress, from the mere fact that it has it: in a legal history there is one such selection.
 use Rattle.std.proofs.Common.{◌≡◌, ℕ, Bool, true, false, ◌||◌, if◌then◌else◌, Some, None, is_some, Result, Ok, Err}
+use Rattle.nio_steps.proofs.BeginLaws.{unlisted-begins}
 use Rattle.std.proofs.Common.{List, [], ◌∷◌, ◌++◌, refl, ap, sym, ◌∙◌, subst, append_assoc, eqb-true, eq-eqb}
 use Rattle.std.specs.Prelude.{is_ok}
 use Rattle.std.proofs.Math.Bool.{Bool-set}
@@ -56,7 +57,7 @@ mode_set : IsSet Mode
 mode_set = hlevel (ℕ_set, ⊎_set)
 
 selection_set : IsSet Selection
-selection_set = hlevel (ℕ_set, mode_set, lists.is_set entry_set)
+selection_set = hlevel (ℕ_set, Bool-set, mode_set, lists.is_set entry_set)
 
 result_set : {A B : Type 0} → IsSet A → IsSet B → IsSet (Result A B)
 result_set a b = hlevel (a, b, ⊎_set)
@@ -154,27 +155,27 @@ record TakesFree (s : SelNo) (acts : List Act) : Type 0 where
   parts : acts ≡ gate ∷ TakeTurn s None ∷ rest
 
 begin-takes : (s : SelNo) (mode : Mode)
-    → Always (λ acts r. is_ok r ≡ true → TakesFree s acts) (try_begin_plan s mode false)
+    → Always (λ acts r. is_ok r ≡ true → TakesFree s acts) (try_begin_plan s mode None false)
 unfolding try_begin_plan
 begin-takes s mode = λ gate asks_gate.
     always_if (λ acts r. is_ok r ≡ true → TakesFree s (gate ∷ acts)) (gate_in (answer_of gate)).shut
-    (reply (Err BeginError.ClosedSelector)) (begin_open s mode false) (λ _ ok. absurd (cc ok))
+    (reply (Err BeginError.ClosedSelector)) (begin_open s mode None false) (λ _ ok. absurd (cc ok))
     (λ _ take asks_take. by_take gate take asks_take)
   where
     by_take : (gate take : Act) → question_of take ≡ Question.take_turn s
         → Always (λ acts r. is_ok r ≡ true → TakesFree s (gate ∷ take ∷ acts))
-        (if is_some (holder_in (answer_of take)) then reply (Err BeginError.Busy) else begin_with_turn s mode false)
+        (if is_some (holder_in (answer_of take)) then reply (Err BeginError.Busy) else begin_with_turn s mode None false)
     by_take gate (TakeTurn s' (Some n)) asks = λ ok. absurd (cc ok)
     by_take gate (TakeTurn s' None) asks =
         let same : s' ≡ s = cc asks in
         always_weaker (λ _ _. Unit {0}) (λ acts r. is_ok r ≡ true → TakesFree s (gate ∷ TakeTurn s' None ∷ acts))
-        (begin_with_turn s mode false)
+        (begin_with_turn s mode None false)
         (λ acts r _ _. record {
           gate = gate;
           rest = acts;
           parts = ap (λ (t : SelNo). gate ∷ TakeTurn t None ∷ acts) same;
         })
-        (always_any (begin_with_turn s mode false))
+        (always_any (begin_with_turn s mode None false))
     by_take gate _ asks = absurd (cc asks)
 
 -- what the caller did since it took the turn
@@ -186,19 +187,19 @@ record Taken (own : List Act) (x : Selection) (earlier beginning since : List Ac
   keeps : has (gives_turn x.selector.0) (rest ++ since) ≡ false
 
 taken_so : (own : List Act) (x : Selection) (earlier beginning since : List Act) → own ≡ earlier ++ (beginning ++ since)
-    → Completes (try_begin_plan x.selector x.mode false) beginning (Ok x)
+    → Completes (try_begin_plan x.selector x.mode None false) beginning (Ok x)
     → has (gives_turn x.selector.0) since ≡ false → Taken own x earlier beginning since
 taken_so own x earlier beginning since parts run goes_on =
     let s = x.selector in
-    let at = always_run (λ acts r. is_ok r ≡ true → TakesFree s acts) (try_begin_plan s x.mode false) beginning (Ok x)
+    let at = always_run (λ acts r. is_ok r ≡ true → TakesFree s acts) (try_begin_plan s x.mode None false) beginning (Ok x)
     (begin-takes s x.mode) run refl in
-    let first = begin-parts s x.mode beginning x run in
+    let first = begin-parts s x.mode None beginning x run in
     let both : at.gate ∷ TakeTurn s None ∷ at.rest ≡ first.gate ∷ first.take ∷ first.look ∷ first.keys ∷ first.over
     = sym at.parts ∙ first.parts in
     let rest_is : at.rest ≡ first.look ∷ first.keys ∷ first.over = cc both in
     let look_gives = not-gives s.0 first.look (ap (asks_give s.0) first.asks_look) in
     let keys_give = not-gives s.0 first.keys (ap (asks_give s.0) first.asks_keys) in
-    let over_gives = over-keeps s x.bound first.over x.looked first.runs_over in
+    let over_gives = over-keeps s x.bound None first.over x.looked first.runs_over in
     let rest_gives : has (gives_turn s.0) (first.look ∷ first.keys ∷ first.over) ≡ false
     = has-neither (gives_turn s.0) (first.look ∷ []) (first.keys ∷ first.over) (ap (λ b. b || false) look_gives)
     (has-neither (gives_turn s.0) (first.keys ∷ []) first.over (ap (λ b. b || false) keys_give) over_gives) in
@@ -261,7 +262,7 @@ module _ (l : Limits) (events : List Event) (n : CallerNo) (legal : IsLegal l ev
 
   abbrev IsCutSo : Selection → Cuts → Type 0
   IsCutSo x t =
-      (own ≡ t.0 ++ (t.1 ++ t.2)) × Ran (try_begin_plan x.selector x.mode false) t.1 (Ok x)
+      (own ≡ t.0 ++ (t.1 ++ t.2)) × Ran (try_begin_plan x.selector x.mode None false) t.1 (Ok x)
       × (has (gives_turn x.selector.0) t.2 ≡ false) × (has (marks_on x.selector.0) t.2 ≡ false)
       × (has (removes_on x.selector.0) t.2 ≡ false)
 
@@ -273,7 +274,7 @@ module _ (l : Limits) (events : List Event) (n : CallerNo) (legal : IsLegal l ev
   same_cut x t u f g = λ j. (earlier_is j, beginning_is j, since_is j)
     where
       plan : Plan (Result Selection BeginError)
-      plan = try_begin_plan x.selector x.mode false
+      plan = try_begin_plan x.selector x.mode None false
 
       a : Taken own x t.0 t.1 t.2
       a = taken_so own x t.0 t.1 t.2 f.0 (of_ran plan t.1 (Ok x) f.1) f.2
@@ -306,9 +307,9 @@ module _ (l : Limits) (events : List Event) (n : CallerNo) (legal : IsLegal l ev
       since_is : t.2 ≡ u.2
       since_is = append_cancel_left t.1 t.2 u.2 (whole ∙ ap (λ xs. xs ++ u.2) (sym beginning_is))
 
-  -- a selection that was merely begun was begun
-  pub begun_had : (x : Selection) → ∥ IsBegun own x ∥₁ → IsBegun own x
-  begun_had x mere = back (∥∥₁_elim mere only_one forth)
+  -- a selection without the list that was merely begun was begun
+  pub begun_had : (x : Selection) → x.listed ≡ false → ∥ IsBegun own x ∥₁ → IsBegun own x
+  begun_had x unlisted mere = back (∥∥₁_elim mere only_one forth)
     where
       Cut : Type 0
       Cut = (t : Cuts) × IsCutSo x t
@@ -321,7 +322,8 @@ module _ (l : Limits) (events : List Event) (n : CallerNo) (legal : IsLegal l ev
         (begun.earlier, begun.beginning, begun.since),
         (
           begun.parts,
-          ran_of (try_begin_plan x.selector x.mode false) begun.beginning (Ok x) begun.begins,
+          ran_of (try_begin_plan x.selector x.mode None false) begun.beginning (Ok x)
+              (unlisted-begins own x begun unlisted),
           begun.goes_on,
           begun.unmarked,
           begun.unremoved,
@@ -333,8 +335,9 @@ module _ (l : Limits) (events : List Event) (n : CallerNo) (legal : IsLegal l ev
         earlier = cut.0.0;
         beginning = cut.0.1;
         since = cut.0.2;
+        known = None;
         parts = cut.1.0;
-        begins = of_ran (try_begin_plan x.selector x.mode false) cut.0.1 (Ok x) cut.1.1;
+        begins = of_ran (try_begin_plan x.selector x.mode None false) cut.0.1 (Ok x) cut.1.1;
         goes_on = cut.1.2;
         unmarked = cut.1.3;
         unremoved = cut.1.4;

@@ -41,7 +41,7 @@ Rests me plan st = (perform me plan st).state ≡ st
 module _ (st : State) (me : CallerNo) (s : SelNo) where
   -- where the turn is free, no selection has begun, and none has an index to put
   pub begin-rests : (mode : Mode) → (st.turn s.0 ≡ None → st.begun s.0 ≡ false) → ((i : ℕ) → st.put_due s.0 i ≡ false)
-      → Rests me (try_begin_plan s mode true) st
+      → Rests me (try_begin_plan s mode None true) st
   unfolding try_begin_plan
   begin-rests mode not_begun none_due = by_gate (st.gate s.0).shut refl
     where
@@ -69,14 +69,14 @@ module _ (st : State) (me : CallerNo) (s : SelNo) where
           → ◌≡◌ {A = State}
           ((perform me
           (if b then given_back s (Err BeginError.ClosedSelector)
-          else (look_keys s >>= (λ bound. begin_below s mode bound true)))
+          else (look_keys s >>= (λ bound. begin_below s mode None bound true)))
           (with_begun taken s.0 (taken.begun s.0 || not b))).state) st
       by_look true free = given _ free
       by_look false free = given _ free
 
       by_turn : (o : Option CallerNo) → st.turn s.0 ≡ o
           → ◌≡◌ {A = State}
-          ((perform me (if is_some o then Plan.reply (Err BeginError.Busy) else begin_with_turn s mode true)
+          ((perform me (if is_some o then Plan.reply (Err BeginError.Busy) else begin_with_turn s mode None true)
           (with_begun (with_turn st s.0 (taken_by me o)) s.0 (is_some o && st.begun s.0))).state) st
       by_turn (Some n) is =
           λ j. record st {
@@ -86,7 +86,7 @@ module _ (st : State) (me : CallerNo) (s : SelNo) where
       by_turn None is = by_look (st.gate s.0).shut is
 
       by_gate : (b : Bool) → (st.gate s.0).shut ≡ b
-          → Rests me (if b then Plan.reply (Err BeginError.ClosedSelector) else begin_open s mode true) st
+          → Rests me (if b then Plan.reply (Err BeginError.ClosedSelector) else begin_open s mode None true) st
       by_gate true is = refl
       by_gate false is = by_turn (st.turn s.0) refl
 
@@ -158,12 +158,12 @@ module _ (me : CallerNo) (now : Progress) (s : SelNo) (old new : PassView) (only
   pub begin_memory_stays : (waiting : Waiting) (mode : Mode) (said : Result Selection BeginError → Reply)
       (answer : Said) → IsBetween old.limits (known old) now
       → CallClause me
-      (Completes (if_named old.limits now (call.Begin s waiting) (asks now (try_begin_plan s mode true) said))) old
+      (Completes (if_named old.limits now (call.Begin s waiting) (asks now (try_begin_plan s mode None true) said))) old
       new answer → known new ≡ known old
   unfolding if_named
   begin_memory_stays waiting mode said answer between call =
       stays_along me _ old new answer only
-      (selector-rests old.limits me now s _ (known old) (asks-rests me now (try_begin_plan s mode true) said (known old)
+      (selector-rests old.limits me now s _ (known old) (asks-rests me now (try_begin_plan s mode None true) said (known old)
       (begin-rests (known old) me s mode
       (λ free. (between.shown s.0).begun ∙ none_selects (now.selection s.0) (sym (between.shown s.0).turn ∙ free))
       (λ i. between.at_rest.unused.none_due s.0 i)))) call

@@ -1,5 +1,7 @@
 -- What a desk's selection lets its caller do.
 use Rattle.std.proofs.Common.{◌≡◌, ◌<◌, Some, List, sym, subst}
+use Rattle.nio_steps.proofs.BeginLaws.{unlisted-begins}
+use Rattle.nio_sole.proofs.Desks.{stands_on}
 use Rattle.std.specs.List.{AllPairs}
 use Rattle.std.proofs.Math.Logic.{∥∥₁_map}
 use Rattle.nio_base.specs.declared.numbers.CallerNo.{CallerNo}
@@ -28,6 +30,7 @@ pub its_selects : (w : Words) (d : Desk) (me : CallerNo) (s : SelNo) (x : Select
 its_selects w d me s x ready has places made own = record {
   inside = subst (λ (y : SelNo). IsSelector (limits_of w) y) (sym (own_on w d me s x places own)) has.inside;
   begun = begun_had (limits_of w) (seen d.pass) me ready.pass.legal x
+      (stands_on w d me s x places own).1
       (∥∥₁_map made (λ m. (made_begun (limits_of w) (seen d.pass) me (progress_of d) s x ready.pass.legal m own).0));
 }
 
@@ -40,4 +43,5 @@ pub looked_rise : (w : Words) (d : Desk) (me : CallerNo) (s : SelNo) (x : Select
 looked_rise w d me s x ready has places made own looked is =
     let begun = (its_selects w d me s x ready has places made own).begun in
     subst (λ (entries : List LookedKey). AllPairs (λ a b. a.index < b.index) entries) (sym is)
-    (looks_in_order x.selector x.mode begun.beginning x begun.begins).rise
+    (looks_in_order x.selector x.mode begun.beginning x
+    (unlisted-begins (acts_seen d.pass me) x begun (stands_on w d me s x places own).1)).rise

@@ -1,5 +1,8 @@
 -- What a caller that made whole calls has in progress it has begun, and hasn't ended.
 use Rattle.std.proofs.Common.{◌≡◌, ℕ, ◌==◌, Bool, true, false, if◌then◌else◌, IsFalse, All, Some, None, is_some, Ok}
+use Rattle.nio_steps.specs.TableCalls.{take_list}
+use Rattle.nio_steps.specs.declared.looked.LookedKey.{LookedKey}
+use Rattle.std.specs.Prelude.{Option, List}
 use Rattle.std.proofs.Common.{Err, List, [], ◌∷◌, ◌++◌, refl, ap, sym, ◌∙◌, subst, append_assoc, eqb-true, eq-eqb, ◌⊎◌}
 use Rattle.std.proofs.Common.{inl, inr}
 use Rattle.std.specs.List.{Contains}
@@ -101,6 +104,7 @@ longer own x acts begun leaves = record {
   parts = ap (λ xs. xs ++ acts) begun.parts
       ∙ (append_assoc begun.earlier (begun.beginning ++ begun.since) acts
       ∙ ap (λ xs. begun.earlier ++ xs) (append_assoc begun.beginning begun.since acts));
+  known = begun.known;
   begins = begun.begins;
   goes_on = has-neither (gives_turn x.selector.0) begun.since acts begun.goes_on leaves.gives;
   unmarked = has-neither (marks_on x.selector.0) begun.since acts begun.unmarked leaves.marks;
@@ -129,12 +133,12 @@ two-leaves : (t : ℕ) (first second : Act) → Spared t (question_of first) →
 two-leaves t first second spared spared' =
     leaves-append t (first ∷ []) (second ∷ []) (one-leaves t first spared) (one-leaves t second spared')
 
-begin-finds : (s : SelNo) (mode : Mode) (lacks : Bool)
-    → Always (λ acts _. LeavesSelector s.0 acts ⊎ FindsFree s (TakeTurn s None) acts) (try_begin_plan s mode lacks)
+begin-finds : (s : SelNo) (mode : Mode) (known : Option (List LookedKey)) (lacks : Bool)
+    → Always (λ acts _. LeavesSelector s.0 acts ⊎ FindsFree s (TakeTurn s None) acts) (try_begin_plan s mode known lacks)
 unfolding try_begin_plan
-begin-finds s mode lacks = λ gate asks_gate.
+begin-finds s mode known lacks = λ gate asks_gate.
     always_if (λ acts _. LeavesSelector s.0 (gate ∷ acts) ⊎ FindsFree s (TakeTurn s None) (gate ∷ acts))
-    (gate_in (answer_of gate)).shut (reply (Err BeginError.ClosedSelector)) (begin_open s mode lacks)
+    (gate_in (answer_of gate)).shut (reply (Err BeginError.ClosedSelector)) (begin_open s mode known lacks)
     (λ _. inl (one-leaves s.0 gate (ap (touches s.0) asks_gate)))
     (λ _ take asks_take. by_take gate (ap (touches s.0) asks_gate) take asks_take)
   where
@@ -142,13 +146,13 @@ begin-finds s mode lacks = λ gate asks_gate.
         → Always (λ acts _. LeavesSelector s.0 (gate ∷ take ∷ acts)
         ⊎ FindsFree s (TakeTurn s None) (gate ∷ take ∷ acts))
         (if is_some (holder_in (answer_of take)) then reply (Err BeginError.Busy)
-        else begin_with_turn s mode lacks)
+        else begin_with_turn s mode known lacks)
     by_take gate spared (TakeTurn s' (Some n)) asks = inl (two-leaves s.0 gate (TakeTurn s' (Some n)) spared refl)
     by_take gate spared (TakeTurn s' None) asks =
         let same : s' ≡ s = cc asks in
         always_weaker (λ _ _. Unit {0})
         (λ acts _. LeavesSelector s.0 (gate ∷ TakeTurn s' None ∷ acts)
-        ⊎ FindsFree s (TakeTurn s None) (gate ∷ TakeTurn s' None ∷ acts)) (begin_with_turn s mode lacks)
+        ⊎ FindsFree s (TakeTurn s None) (gate ∷ TakeTurn s' None ∷ acts)) (begin_with_turn s mode known lacks)
         (λ acts _ _. inr
         (record {
           before = gate ∷ [];
@@ -157,7 +161,7 @@ begin-finds s mode lacks = λ gate asks_gate.
               ap (λ (t : SelNo). gate ∷ TakeTurn t None ∷ acts) same;
           leaves = one-leaves s.0 gate spared;
         }))
-        (always_any (begin_with_turn s mode lacks))
+        (always_any (begin_with_turn s mode known lacks))
     by_take gate spared _ asks = absurd (cc asks)
 
 finish-finds : (s : SelNo)
@@ -239,14 +243,16 @@ module _ (l : Limits) (events : List Event) (n : CallerNo) (legal : IsLegal l ev
 
   selection-kept : (now : Ongoing) (call : Made) (t : ℕ) → is_on t call ≡ false → waits call ≡ false
       → (after_call now call).selection t ≡ now.selection t
-  selection-kept now (table_call (try_begin s mode) (Ok x)) t off at_once =
+  selection-kept now (table_call (try_begin s mode known) (Ok x)) t off at_once =
       put-elsewhere now.selection s.0 (Some x) t off
-  selection-kept now (table_call (try_begin s mode) (Err refusal)) t off at_once = refl
+  selection-kept now (table_call (try_begin s mode known) (Err refusal)) t off at_once = refl
   selection-kept now (table_call (told x poll) (done answer)) t off at_once =
       put-elsewhere now.selection x.selector.0 None t off
   selection-kept now (table_call (told x poll) (again next)) t off at_once =
       put-elsewhere now.selection x.selector.0 (Some next) t off
   selection-kept now (table_call (leave x) tt) t off at_once = put-elsewhere now.selection x.selector.0 None t off
+  selection-kept now (table_call (take_list s) true) t off at_once = refl
+  selection-kept now (table_call (take_list s) false) t off at_once = refl
   selection-kept now (table_call (shut s) closing) t off at_once = refl
   selection-kept now (table_call (shut s) already_closed) t off at_once = refl
   selection-kept now (table_call (try_finish s) closed) t off at_once = refl
@@ -269,18 +275,18 @@ module _ (l : Limits) (events : List Event) (n : CallerNo) (legal : IsLegal l ev
 
     on-it : (call : Made) → MayCome now call → IsRun l call acts → (t : ℕ) (y : Selection) → is_on t call ≡ true
         → (after_call now call).selection t ≡ Some y → IsBegunOn t (own ++ acts) y
-    on-it (table_call (try_begin s mode) (Ok x)) may run t y on is =
+    on-it (table_call (try_begin s mode known) (Ok x)) may run t y on is =
         let same : x ≡ y = cc (sym (put-there now.selection s.0 (Some x) t on) ∙ is) in
         record {
-          begun = subst (IsBegun (own ++ acts)) same (begins_selection s mode own acts x run);
+          begun = subst (IsBegun (own ++ acts)) same (begins_selection s mode known own acts x run);
           on = ap (λ (z : Selection). z.selector.0) (sym same)
-              ∙ (ap (λ (z : SelNo). z.0) (begin-parts s mode acts x run).selector ∙ eqb-true s.0 t on);
+              ∙ (ap (λ (z : SelNo). z.0) (begin-parts s mode known acts x run).selector ∙ eqb-true s.0 t on);
         }
-    on-it (table_call (try_begin s mode) (Err refusal)) may run t y on is =
+    on-it (table_call (try_begin s mode known) (Err refusal)) may run t y on is =
         goes_on s t y (TakeTurn s None) on is (no_free_turn s)
         (always_run (λ xs _. LeavesSelector s.0 xs ⊎ FindsFree s (TakeTurn s None) xs)
-        (try_begin_plan s mode (begin_lacks_memory {A = Selection} (Err refusal))) acts (Err refusal)
-        (begin-finds s mode (begin_lacks_memory {A = Selection} (Err refusal))) run)
+        (try_begin_plan s mode known (begin_lacks_memory {A = Selection} (Err refusal))) acts (Err refusal)
+        (begin-finds s mode known (begin_lacks_memory {A = Selection} (Err refusal))) run)
     on-it (table_call (told x poll) (done answer)) may run t y on is =
         absurd (cc (sym (put-there now.selection x.selector.0 None t on) ∙ is))
     on-it (table_call (told x poll) (again next)) may run t y on is =
@@ -379,13 +385,17 @@ module _ (l : Limits) where
       by_test : (b : Bool) → (if b then false else now.closes t.0) ≡ true → now.closes t.0 ≡ true
       by_test true none = absurd (cc none)
       by_test false is' = is'
-  call-closing own acts now (table_call (try_begin s mode) (Ok x)) run at_once before t is =
+  call-closing own acts now (table_call (try_begin s mode known) (Ok x)) run at_once before t is =
       closing-longer own acts now before t is
-  call-closing own acts now (table_call (try_begin s mode) (Err refusal)) run at_once before t is =
+  call-closing own acts now (table_call (try_begin s mode known) (Err refusal)) run at_once before t is =
       closing-longer own acts now before t is
   call-closing own acts now (table_call (told x poll) (done answer)) run at_once before t is =
       closing-longer own acts now before t is
   call-closing own acts now (table_call (told x poll) (again next)) run at_once before t is =
+      closing-longer own acts now before t is
+  call-closing own acts now (table_call (take_list s) true) run at_once before t is =
+      closing-longer own acts now before t is
+  call-closing own acts now (table_call (take_list s) false) run at_once before t is =
       closing-longer own acts now before t is
   call-closing own acts now (table_call (shut s) already_closed) run at_once before t is =
       closing-longer own acts now before t is

@@ -1,5 +1,5 @@
 -- The calls of lines on a desk.
-use Rattle.std.specs.Prelude.{◌≡◌, ℕ, Bool, true, false, List, Result, Ok, Err}
+use Rattle.std.specs.Prelude.{◌≡◌, ℕ, Bool, true, false, None, List, Result, Ok, Err}
 use Rattle.std.specs.declared.alloc.AllocError.{AllocError}
 use Rattle.nio_base.specs.declared.numbers.CallerNo.{CallerNo}
 use Rattle.nio_base.specs.declared.numbers.ChanId.{ChanId}
@@ -70,7 +70,7 @@ word_of (group_unmade g) = call.Group g
 
 abbrev pub want_plan : Progress → Want → Plan Said
 want_plan now (begin_unmade s waiting) = refused now reply.Busy
-want_plan now (begin_refused s waiting mode) = asks now (try_begin_plan s mode true) begin_reply
+want_plan now (begin_refused s waiting mode) = asks now (try_begin_plan s mode None true) begin_reply
 want_plan now (told_unmade s elapsed pairs) = refused now reply.Busy
 want_plan now (keys_refused s) = asks now (keys_plan s true) list_reply
 want_plan now (keys_unsaid s) = asks now (keys_plan s false) list_reply

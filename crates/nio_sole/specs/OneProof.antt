@@ -1,5 +1,6 @@
 -- What stands between two lines is a fact: there is at most one proof of it.
 use Rattle.std.proofs.Common.{List}
+use Rattle.nio_history.specs.declared.act.Act.TheVariants.{Touch, LookTouched, TakeTouched, LookIndex, TakeList}
 use Rattle.std.proofs.Math.Bool.{Bool-set}
 use Rattle.std.proofs.Math.Nat.{ℕ_set}
 use Rattle.std.proofs.Props.{props}
@@ -147,6 +148,16 @@ condition_prop l own st me (PutFree s i) = hlevel (props, ℕ_set, Bool-set, cal
 condition_prop l own st me (TakeFree s i found) =
     hlevel (props, ℕ_set, Bool-set, caller_set, stage_set, claim_set)
 condition_prop l own st me (Reopen c from failed) =
+    hlevel (props, ℕ_set, Bool-set, caller_set, stage_set, claim_set)
+condition_prop l own st me (Touch s i found) =
+    hlevel (props, ℕ_set, Bool-set, caller_set, stage_set, claim_set)
+condition_prop l own st me (LookTouched s j found) =
+    hlevel (props, ℕ_set, Bool-set, caller_set, stage_set, claim_set)
+condition_prop l own st me (TakeTouched s j found) =
+    hlevel (props, ℕ_set, Bool-set, caller_set, stage_set, claim_set)
+condition_prop l own st me (LookIndex s i found) =
+    hlevel (props, ℕ_set, Bool-set, caller_set, stage_set, claim_set)
+condition_prop l own st me (TakeList s found) =
     hlevel (props, ℕ_set, Bool-set, caller_set, stage_set, claim_set)
 
 answers_prop : (st : State) (me : CallerNo) (act : Act) → IsProp (Answers st me act)

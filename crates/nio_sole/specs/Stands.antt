@@ -1,5 +1,6 @@
 -- What a desk has in progress, and what holds of a desk between two lines.
-use Rattle.std.specs.Prelude.{◌≡◌, ℕ, ◌<◌, Option, Some, None, option_map, All, List, map, vec_len}
+use Rattle.std.specs.Prelude.{◌≡◌, ℕ, ◌<◌, IsFalse, Option, Some, None, option_map, All, List, map, vec_len}
+use Rattle.nio_steps.specs.SelectCalls.{Selection}
 use Rattle.std.specs.List.{slice_index_or}
 use Rattle.nio_base.specs.Limits.{IsFit}
 use Rattle.nio_base.specs.declared.numbers.CallerNo.{CallerNo}
@@ -64,12 +65,16 @@ progress_of d = record {
 abbrev pub AreMade : PassView → List OwnedPipe → Type 0
 AreMade pass pipes = All (λ x. HasEnds pass x.pipe.source x.pipe.sink) pipes
 
+-- the selection is on selector s, and without the list
+abbrev pub IsOn : ℕ → Selection → Type 0
+IsOn s x = (x.selector.0 ≡ s) × IsFalse x.listed
+
 -- There is a place for each selector, and what stands there is in progress on that selector. The channels of the pipes
 -- are made.
 pub record HasPlaces (w : Words) (d : Desk) : Type 0 where
   pub selections : vec_len d.selections ≡ (limits_of w).selectors
   pub closings : vec_len d.closings ≡ (limits_of w).selectors
-  pub selects : (s : ℕ) (x : Begun) → slot d.selections.items s ≡ Some x → x.selection.selector.0 ≡ s
+  pub selects : (s : ℕ) (x : Begun) → slot d.selections.items s ≡ Some x → IsOn s x.selection
   pub closes : (s : ℕ) (x : Shut) → slot d.closings.items s ≡ Some x → x.closing.0 ≡ s
   pub pipes : AreMade (view w d.pass) d.pipes.items
 

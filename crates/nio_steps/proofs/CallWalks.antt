@@ -1,5 +1,7 @@
 -- The walk over the plan of each call on the table.
 use Rattle.std.proofs.Common.{◌≡◌, ℕ, Bool, false, not, Option, Some, None, Result, Ok, Err, List, [], refl}
+use Rattle.nio_steps.specs.SelectCalls.{take_list_plan}
+use Rattle.std.proofs.Common.{true, false}
 use Rattle.nio_base.specs.Kind.{valid_operations}
 use Rattle.nio_base.specs.declared.kind.Kind.{Kind}
 use Rattle.nio_base.specs.declared.kind.Kind.TheVariants.{Source, Sink}
@@ -16,14 +18,18 @@ use Rattle.nio_history.specs.declared.found.Mark.{Mark as KeyMark}
 use Rattle.nio_history.specs.declared.found.Mode.{Mode}
 use Rattle.nio_history.specs.declared.found.Stage.{Stage}
 use Rattle.nio_steps.proofs.PlanWalks.{Walk, Walks, walks_reply, walks_calm, walks_ask, walks_bind, walks_if}
-use Rattle.nio_steps.proofs.PlanWalks.{walks_sweep, walks_seek, walks_under_pin, walking, IsCalmOn}
+use Rattle.nio_steps.proofs.PlanWalks.{walks_sweep, walks_seek, walks_under_pin, walking, IsCalmOn, IsCalmListing}
+use Rattle.nio_steps.proofs.PlanWalks.{MayList}
 use Rattle.nio_steps.specs.ChannelCalls.{open_channel_plan, opened_channel, reopen_channel_plan, reopens_number}
 use Rattle.nio_steps.specs.ChannelCalls.{reopened, reopen_found, reopen_clear, is_open_plan, is_blocking_plan}
 use Rattle.nio_steps.specs.ChannelCalls.{is_registered_plan, enrolled_in_set, enrolled_key, first_key, key_of_channel}
 use Rattle.nio_steps.specs.ChannelCalls.{key_for_plan, under_hold, set_mode_held}
 use Rattle.nio_steps.specs.ChannelCalls.{try_set_blocking_plan, register_enrolled, register_over, make_key}
 use Rattle.nio_steps.specs.ChannelCalls.{register_new, register_rest, register_held, try_register_plan, cancel_at}
-use Rattle.nio_steps.specs.ChannelCalls.{cancel_keys, close_once_more, close_found, close_channel_plan}
+use Rattle.nio_steps.specs.ChannelCalls.{cancel_keys, close_once_more, close_found, close_channel_plan, claim_taken}
+use Rattle.nio_steps.specs.ChannelCalls.{claim_free, claim_in_word, search_free, claim_new, make_claimed}
+use Rattle.nio_steps.specs.ChannelCalls.{register_first, register_next}
+use Rattle.nio_steps.specs.Sweeps.{seek_to}
 use Rattle.nio_base.specs.Ops.{is_within}
 use Rattle.nio_steps.specs.KeyCalls.{find_selector_plan, find_channel_plan, find_plan, is_valid_plan}
 use Rattle.nio_steps.specs.KeyCalls.{on_valid, if_valid, on_supported, look_set, put_set, add_set, keep_set, look_ready}
@@ -35,12 +41,14 @@ use Rattle.nio_steps.specs.PipeCalls.{pipe_plan, without_sink, with_sink, with_s
 use Rattle.nio_steps.specs.PipeCalls.{if_unbroken, try_read_plan, try_write_plan}
 use Rattle.nio_steps.specs.Plan.{Plan, reply, ◌>>=◌, when}
 use Rattle.nio_steps.specs.SelectCalls.{Selection, open_selector_plan, try_begin_plan, begin_below}
-use Rattle.nio_steps.specs.SelectCalls.{look_over, told_plan, mark_entry, mark_again, remove_if_cancelled}
+use Rattle.nio_steps.specs.SelectCalls.{told_plan, mark_entry, mark_again}
+use Rattle.nio_steps.specs.Looking.{look_over, list_on, list_over, list_taken, list_word, look_at_keys, remove_if_cancelled}
+use Rattle.nio_steps.specs.Looking.{remove_below}
 use Rattle.nio_steps.specs.SelectCalls.{remove_all_cancelled, after_marks, leave_plan}
 use Rattle.nio_steps.specs.SelectCalls.{shut_plan, try_finish_plan, keys_plan, list_selected, list_present}
 use Rattle.nio_steps.specs.SelectCalls.{selected_keys_plan, wakeup_plan, interrupt_plan, interrupted_plan}
 use Rattle.nio_steps.specs.Steps.{cancel_key, flag_in, channel_in, number_in, enrolled_in}
-use Rattle.nio_steps.specs.TableCalls.{TableCall, find_selector, find_channel, find, is_valid, interest, set_interest}
+use Rattle.nio_steps.specs.TableCalls.{TableCall, take_list, find_selector, find_channel, find, is_valid, interest, set_interest}
 use Rattle.nio_steps.specs.TableCalls.{interest_or, interest_and, ready, cancel, unselect, attach, attachment}
 use Rattle.nio_steps.specs.TableCalls.{open_channel, reopen_channel, is_open, is_blocking, is_registered, key_for}
 use Rattle.nio_steps.specs.TableCalls.{try_set_blocking}
@@ -151,12 +159,34 @@ module _ {w : Walk} (s : SelNo) (calm : IsCalmOn w s) where
   look_over-walks : (i : ℕ) (looked : List LookedKey) → Walks w (look_over s i looked)
   look_over-walks i looked = search (walking, walks_calm, calm.removes) depth 16
 
-  below-walks : (mode : Mode) (bound : ℕ) (lacks : Bool) → Walks w (begin_below s mode bound lacks)
-  below-walks mode bound lacks = search (walking, walks_calm, calm.gives, look_over-walks) depth 12
+  list_on-walks : (i : ℕ) (known : List LookedKey) (stage : Stage) → Walks w (list_on s i known stage)
+  list_on-walks i known stage = search (walking, walks_calm, calm.removes) depth 16
 
-  begin-walks : (mode : Mode) (lacks : Bool) → Walks w (try_begin_plan s mode lacks)
+  module _ (lists : IsCalmListing w s) where
+    list_over-walks : (i : ℕ) (known : List LookedKey) → Walks w (list_over s i known)
+    list_over-walks i known = search (walking, walks_calm, lists.looks, list_on-walks) depth 12
+
+    list_taken-walks : (j : ℕ) (known : List LookedKey) → Walks w (list_taken s j known)
+    list_taken-walks j known = search (walking, walks_calm, lists.takes, list_over-walks) depth 12
+
+    list_word-walks : (j : ℕ) (known : List LookedKey) → Walks w (list_word s j known)
+    list_word-walks j known = search (walking, list_taken-walks) depth 12
+
+  keys-walks : (known : Option (List LookedKey)) → MayList w s known → (bound : ℕ)
+      → Walks w (look_at_keys s bound known)
+  keys-walks None may bound = search (walking, look_over-walks) depth 12
+  keys-walks (Some known) may bound = search (walking, list_word-walks may) depth 12
+
+  below-walks : (mode : Mode) (known : Option (List LookedKey)) → MayList w s known → (bound : ℕ) (lacks : Bool)
+      → Walks w (begin_below s mode known bound lacks)
+  below-walks mode known may bound lacks =
+      search (walking, walks_calm, calm.gives, keys-walks known may) depth 12
+
+  begin-walks : (mode : Mode) (known : Option (List LookedKey)) → MayList w s known → (lacks : Bool)
+      → Walks w (try_begin_plan s mode known lacks)
   unfolding try_begin_plan
-  begin-walks mode lacks = search (walking, walks_calm, calm.gives, below-walks) depth 16
+  begin-walks mode known may lacks =
+      search (walking, walks_calm, calm.gives, below-walks mode known may) depth 16
 
   again-walks : (i bits : ℕ) (found : Result (Unit {0}) KeyMark) → Walks w (mark_again s i bits found)
   again-walks i bits (Ok u) = search walking
@@ -169,8 +199,12 @@ module _ {w : Walk} (selection : Selection) (calm : IsCalmOn w selection.selecto
   removed-walks : (i : ℕ) → Walks w (remove_if_cancelled selection.selector i)
   removed-walks i = search (walking, walks_calm, calm.removes) depth 12
 
-  all_removed-walks : Walks w (remove_all_cancelled selection.selector)
-  all_removed-walks = search (walking, removed-walks) depth 12
+  below_removed-walks : (mark : ℕ) (listed : Bool) → Walks w (remove_below selection.selector mark listed)
+  below_removed-walks mark false = search (walking, removed-walks) depth 12
+  below_removed-walks mark true = search (walking, removed-walks) depth 12
+
+  all_removed-walks : Walks w (remove_all_cancelled selection.selector selection.listed)
+  all_removed-walks = search (walking, below_removed-walks) depth 12
 
   marked-walks : (elapsed : Bool) (count : ℕ) → Walks w (after_marks selection elapsed count)
   marked-walks elapsed count = search (walking, walks_calm, calm.gives, all_removed-walks) depth 20
@@ -264,58 +298,63 @@ pub record Blocks (w : Walk) (l : Limits) : Type 0 where
   pub finishes : (s : SelNo) → IsCalmOn w s → Walks w (try_finish_plan s)
 
 pub each_call : {w : Walk} (l : Limits) (lacks : Bool) (call : TableCall) → Blocks w l
-    → ((s : SelNo) → (row_of call).works_on ≡ Some s → IsCalmOn w s) → Walks w ((row_of call).plan l lacks)
+    → ((s : SelNo) → (row_of call).works_on ≡ Some s → IsCalmOn w s)
+    → ((s : SelNo) (mode : Mode) (known : List LookedKey) → call ≡ try_begin s mode (Some known) → IsCalmListing w s)
+    → Walks w ((row_of call).plan l lacks)
 unfolding find_selector_plan find_channel_plan find_plan is_valid_plan interest_plan set_interest_plan
     interest_or_plan interest_and_plan ready_plan unselect_plan attach_plan attachment_plan is_open_plan
     is_blocking_plan is_registered_plan try_set_blocking_plan open_selector_plan shut_plan keys_plan wakeup_plan
-    interrupt_plan interrupted_plan
-each_call l lacks (find_selector n) blocks calm = search walking depth 12
-each_call l lacks (find_channel n serial) blocks calm = search walking depth 12
-each_call l lacks (find s i serial) blocks calm = search walking depth 12
-each_call l lacks (is_valid k) blocks calm = search walking depth 12
-each_call l lacks (interest k) blocks calm = on_valid-walks k (λ _. look_set k) (λ stage. search walking depth 12)
-each_call l lacks (set_interest k ops) blocks calm =
+    interrupt_plan interrupted_plan take_list_plan
+each_call l lacks (find_selector n) blocks calm lists = search walking depth 12
+each_call l lacks (find_channel n serial) blocks calm lists = search walking depth 12
+each_call l lacks (find s i serial) blocks calm lists = search walking depth 12
+each_call l lacks (is_valid k) blocks calm lists = search walking depth 12
+each_call l lacks (interest k) blocks calm lists = on_valid-walks k (λ _. look_set k) (λ stage. search walking depth 12)
+each_call l lacks (set_interest k ops) blocks calm lists =
     on_valid-walks k (on_supported ops (put_set k ops)) (λ stage. search walking depth 12)
-each_call l lacks (interest_or k ops) blocks calm =
+each_call l lacks (interest_or k ops) blocks calm lists =
     on_valid-walks k (on_supported ops (add_set k ops)) (λ stage. search walking depth 12)
-each_call l lacks (interest_and k ops) blocks calm =
+each_call l lacks (interest_and k ops) blocks calm lists =
     on_valid-walks k (λ _. keep_set k ops) (λ stage. search walking depth 12)
-each_call l lacks (ready k) blocks calm = on_valid-walks k (λ _. look_ready k) (λ stage. search walking depth 12)
-each_call l lacks (cancel k) blocks calm = cancel-walks k
-each_call l lacks (unselect k) blocks calm =
+each_call l lacks (ready k) blocks calm lists = on_valid-walks k (λ _. look_ready k) (λ stage. search walking depth 12)
+each_call l lacks (cancel k) blocks calm lists = cancel-walks k
+each_call l lacks (unselect k) blocks calm lists =
     walks_under_pin k.sel k.index (unselect_present k) (λ stage. search walking depth 12)
-each_call l lacks (attach k att) blocks calm =
+each_call l lacks (attach k att) blocks calm lists =
     walks_under_pin k.sel k.index (attach_present k att) (λ stage. search walking depth 12)
-each_call l lacks (attachment k) blocks calm =
+each_call l lacks (attachment k) blocks calm lists =
     walks_under_pin k.sel k.index (attachment_present k) (λ stage. search walking depth 12)
-each_call l lacks (open_channel kind) blocks calm = open_channel-walks l kind
-each_call l lacks (reopen_channel c) blocks calm = reopen_channel-walks l c
-each_call l lacks (is_open c) blocks calm = search walking depth 12
-each_call l lacks (is_blocking c) blocks calm = search walking depth 12
-each_call l lacks (is_registered c) blocks calm = is_registered-walks l c
-each_call l lacks (key_for c s) blocks calm = key_for-walks c s
-each_call l lacks (try_set_blocking c on) blocks calm =
+each_call l lacks (open_channel kind) blocks calm lists = open_channel-walks l kind
+each_call l lacks (reopen_channel c) blocks calm lists = reopen_channel-walks l c
+each_call l lacks (is_open c) blocks calm lists = search walking depth 12
+each_call l lacks (is_blocking c) blocks calm lists = search walking depth 12
+each_call l lacks (is_registered c) blocks calm lists = is_registered-walks l c
+each_call l lacks (key_for c s) blocks calm lists = key_for-walks c s
+each_call l lacks (try_set_blocking c on) blocks calm lists =
     walks_ask _ _ refl
     (λ answer. walks_if _ _ _
     (under_hold-walks ChannelError.Busy c.number (set_mode_held l c on) (mode_held-walks l c on))
     (walks_reply _))
-each_call l lacks (try_register s c ops att) blocks calm = blocks.registers s c ops att
-each_call l lacks (close_channel c) blocks calm = blocks.closes c
-each_call l lacks open_selector blocks calm = search walking depth 12
-each_call l lacks (try_begin s mode) blocks calm = begin-walks s (calm s refl) mode lacks
-each_call l lacks (told selection poll) blocks calm =
+each_call l lacks (try_register s c ops att) blocks calm lists = blocks.registers s c ops att
+each_call l lacks (close_channel c) blocks calm lists = blocks.closes c
+each_call l lacks open_selector blocks calm lists = search walking depth 12
+each_call l lacks (take_list s) blocks calm lists = walks_ask _ _ refl (λ answer. walks_reply _)
+each_call l lacks (try_begin s mode None) blocks calm lists = begin-walks s (calm s refl) mode None tt lacks
+each_call l lacks (try_begin s mode (Some known)) blocks calm lists =
+    begin-walks s (calm s refl) mode (Some known) (lists s mode known refl) lacks
+each_call l lacks (told selection poll) blocks calm lists =
     told-walks selection (calm selection.selector refl) poll.pairs poll.elapsed
-each_call l lacks (leave selection) blocks calm = leave-walks selection (calm selection.selector refl)
-each_call l lacks (shut s) blocks calm = search walking
-each_call l lacks (try_finish s) blocks calm = blocks.finishes s (calm s refl)
-each_call l lacks (keys s) blocks calm = search walking depth 12
-each_call l lacks (selected_keys s) blocks calm = selected_keys-walks s lacks
-each_call l lacks (wakeup s) blocks calm = search walking
-each_call l lacks (interrupt target) blocks calm = search walking
-each_call l lacks interrupted blocks calm = search walking
-each_call l lacks pipe blocks calm = pipe-walks l blocks.closes lacks
-each_call l lacks (try_read source) blocks calm = try_read-walks l blocks.closes source
-each_call l lacks (try_write source sink) blocks calm = try_write-walks l blocks.closes source sink
+each_call l lacks (leave selection) blocks calm lists = leave-walks selection (calm selection.selector refl)
+each_call l lacks (shut s) blocks calm lists = search walking
+each_call l lacks (try_finish s) blocks calm lists = blocks.finishes s (calm s refl)
+each_call l lacks (keys s) blocks calm lists = search walking depth 12
+each_call l lacks (selected_keys s) blocks calm lists = selected_keys-walks s lacks
+each_call l lacks (wakeup s) blocks calm lists = search walking
+each_call l lacks (interrupt target) blocks calm lists = search walking
+each_call l lacks interrupted blocks calm lists = search walking
+each_call l lacks pipe blocks calm lists = pipe-walks l blocks.closes lacks
+each_call l lacks (try_read source) blocks calm lists = try_read-walks l blocks.closes source
+each_call l lacks (try_write source sink) blocks calm lists = try_write-walks l blocks.closes source sink
 
 -- ---- where the calls that a law may mind are calm, or partly so
 
@@ -347,11 +386,12 @@ make_key-walks s c ops att k calm =
     walks_ask _ _ refl (λ gate. walks_if _ _ _ (walks_reply _)
     (walks_ask _ _ refl
     (λ _. walks_ask _ _ refl
+    (λ _. walks_ask _ _ refl
     (λ _. walks_ask _ _ refl (λ _. walks_calm _ _ calm (λ before. walks_if _ _ _ (walks_reply _)
     (walks_ask _ _ refl
     (λ found. walks_bind (when (not (is_open_channel (channel_in found) c.serial)) (cancel_key s k.index)) _
     (search walking)
-    (λ _. walks_reply _)))))))))
+    (λ _. walks_reply _))))))))))
 
 rest-walks : {w : Walk} (l : Limits) (s : SelNo) (c : ChanId) (ops att : ℕ)
     → Walks w (register_new l s c ops att)
@@ -375,3 +415,45 @@ register-walks {w = w} l s c ops att makes =
   where
     held : Walks w (register_held l s c ops att)
     held = search (walking, over-walks, rest-walks l s c ops att makes) depth 12
+
+-- ---- where claims and publishing are calm
+
+-- an index may be claimed and its key published at any time, and the pin of a claim taken off
+pub record IsCalmClaiming (w : Walk) : Type 0 where
+  pub claims : (s : SelNo) (i : ℕ) (c : ChanNo) → w.Calm (Question.claim s i c)
+  pub claims_again : (s : SelNo) (i : ℕ) (c : ChanNo) (from : Stage) → w.Calm (Question.claim_again s i c from)
+  pub unpins : (s : SelNo) (i : ℕ) → w.Calm (Question.unpin s i)
+  pub publishes : (s : SelNo) (i : ℕ) → w.Calm (Question.publish s i)
+
+module _ {w : Walk} (calm : IsCalmClaiming w) where
+  taken-walks : (s : SelNo) (c : ChanNo) (i : ℕ) → Walks w (claim_taken s c i)
+  taken-walks s c i = search (walking, walks_calm, calm.claims_again) depth 12
+
+  free-walks : (s : SelNo) (c : ChanNo) (i : ℕ) → Walks w (claim_free s c i)
+  free-walks s c i = search (walking, taken-walks) depth 12
+
+  word-walks : (s : SelNo) (c : ChanNo) (mark j : ℕ) → Walks w (claim_in_word s c mark j)
+  word-walks s c mark j = search (walking, free-walks) depth 12
+
+  claimed-walks : (s : SelNo) (c : ChanId) (ops att : ℕ) (k : KeyId) → Walks w (make_claimed s c ops att k)
+  claimed-walks s c ops att k =
+      walks_bind (make_key s c ops att k) _ (make_key-walks s c ops att k (calm.publishes s k.index))
+      (λ answer. walks_calm _ _ (calm.unpins s k.index) (λ _. walks_reply answer))
+
+  first-walks : (s : SelNo) (c : ChanId) (ops att : ℕ) (found : Option KeyId)
+      → Walks w (register_first s c ops att found)
+  first-walks s c ops att None = walks_reply _
+  first-walks s c ops att (Some k) = walks_ask _ _ refl (λ _. claimed-walks s c ops att k)
+
+  next-walks : (l : Limits) (s : SelNo) (c : ChanId) (ops att mark : ℕ) (found : Option KeyId)
+      → Walks w (register_next l s c ops att mark found)
+  next-walks l s c ops att mark None =
+      walks_bind (seek_to l.keys mark (claim_new s c.number)) (register_first s c ops att)
+      (search (walking, walks_calm, calm.claims) depth 12) (first-walks s c ops att)
+  next-walks l s c ops att mark (Some k) = walks_ask _ _ refl (λ _. claimed-walks s c ops att k)
+
+  pub new-walks : (l : Limits) (s : SelNo) (c : ChanId) (ops att : ℕ) → Walks w (register_new l s c ops att)
+  new-walks l s c ops att =
+      walks_ask _ _ refl (λ look. let mark = number_in look in
+      walks_bind (search_free s c.number mark) (register_next l s c ops att mark)
+      (search (walking, word-walks) depth 12) (next-walks l s c ops att mark))

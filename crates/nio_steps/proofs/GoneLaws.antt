@@ -1,6 +1,8 @@
 -- A key that was cancelled before a selection begins is gone when it has begun, and one that was cancelled before its
 -- end looks for such keys is gone when it is over.
 use Rattle.std.proofs.Common.{◌≡◌, ℕ, ◌+◌, ◌*◌, ◌<◌, ◌==◌, nat_lt, Bool, true, false, not, ◌&&◌, ◌||◌, if◌then◌else◌}
+use Rattle.nio_steps.specs.Looking.{remove_below}
+use Rattle.nio_steps.specs.Runs.{Completes}
 use Rattle.std.proofs.Common.{List, [], ◌∷◌, ◌++◌, refl, ap, sym, ◌∙◌, subst, append_assoc, eqb-true, eq-eqb, arith}
 use Rattle.std.specs.List.{Contains}
 use Rattle.std.proofs.lemmas.Bool.{and_parts, and_from, le-ltb, ltb-false}
@@ -180,18 +182,35 @@ module _ (l : Limits) (n : CallerNo) (before later : List Event) (s : SelNo) (i 
       by_bit true is one = refl
       by_bit {w = w} false is one = absurd (omega (arith, is, eqb-true w 1 one))
 
+  -- where the key isn't in the cancelled set at a time since, it is removed
+  pub outside_since : (past rest : List Event) → before ++ later ≡ past ++ rest → IsPrefix before past
+      → IsLegal l past
+      → in_cancelled_set ((state_after past).key s.0 i) ≡ false
+      → was_removed ((state_after (before ++ later)).key s.0 i) serial ≡ true
+  outside_since past rest parts begins legal' outside =
+      let k : Stage = (state_after past).key s.0 i in
+      facts_are_permanent l past (before ++ later) (rest, sym parts) legal (key_removed s.0 i serial)
+      (outside_removed (nat_lt serial k.serial) (fits k serial) k.published k.cancelled k.removed
+      (still_published past begins legal') (still_cancelled past begins legal') outside)
+
+  -- a key that is valid then is another one
+  pub other_since : (past : List Event) → IsPrefix before past → IsLegal l past
+      → is_valid ((state_after past).key s.0 i) ≡ true → ((state_after past).key s.0 i).serial ≡ serial → ⊥
+  other_since past begins legal' valid same =
+      let k : Stage = (state_after past).key s.0 i in
+      valid_uncancelled (nat_lt serial k.serial) (fits k serial) k.published k.cancelled k.removed
+      (le-ltb serial k.serial (omega (arith, same))) (still_cancelled past begins legal') valid
+
   outside_gone : (stage : Stage) → Contains (mine n later) (LookKey s i stage) → in_cancelled_set stage ≡ false
       → was_removed ((state_after (before ++ later)).key s.0 i) serial ≡ true
   outside_gone stage look outside =
       let act = LookKey s i stage in
       let there = step_in l n before later act legal look in
-      let k : Stage = (state_after there.past).key s.0 i in
-      let is : stage ≡ k = ap stage_in there.step.answers in
-      at_end act there (outside_removed (nat_lt serial k.serial) (fits k serial) k.published k.cancelled k.removed
-      (still_published there.past there.begins there.legal_past)
-      (still_cancelled there.past there.begins there.legal_past) (ap in_cancelled_set (sym is) ∙ outside))
+      let is : stage ≡ (state_after there.past).key s.0 i = ap stage_in there.step.answers in
+      outside_since there.past (event_of n act ∷ there.rest) there.parts there.begins there.legal_past
+      (ap in_cancelled_set (sym is) ∙ outside)
 
-  settled-gone : Settled s i (mine n later) → was_removed ((state_after (before ++ later)).key s.0 i) serial ≡ true
+  pub settled-gone : Settled s i (mine n later) → was_removed ((state_after (before ++ later)).key s.0 i) serial ≡ true
   settled-gone (is_free j b word at low look bit) = free_gone j b word at low look bit
   settled-gone (stands_outside stage look outside) = outside_gone stage look outside
   settled-gone (is_gone found there) =
@@ -204,12 +223,9 @@ module _ (l : Limits) (n : CallerNo) (before later : List Event) (s : SelNo) (i 
       → stage.serial ≡ serial → ⊥
   not-looked stage look valid same =
       let there = step_in l n before later (LookKey s i stage) legal look in
-      let k : Stage = (state_after there.past).key s.0 i in
-      let is : stage ≡ k = ap stage_in there.step.answers in
-      let serial_is : k.serial ≡ serial = ap (λ (x : Stage). x.serial) (sym is) ∙ same in
-      valid_uncancelled (nat_lt serial k.serial) (fits k serial) k.published k.cancelled k.removed
-      (le-ltb serial k.serial (omega (arith, serial_is))) (still_cancelled there.past there.begins there.legal_past)
-      (ap is_valid (sym is) ∙ valid)
+      let is : stage ≡ (state_after there.past).key s.0 i = ap stage_in there.step.answers in
+      other_since there.past there.begins there.legal_past (ap is_valid (sym is) ∙ valid)
+      (ap (λ (x : Stage). x.serial) (sym is) ∙ same)
 
 pub cancelled_keys_go : CancelledKeysGo
 cancelled_keys_go l n before later s mode selection i serial legal run published cancelled below = (
@@ -222,15 +238,16 @@ cancelled_keys_go l n before later s mode selection i serial legal run published
 )
 
 pub cancelled_keys_go_at_end : CancelledKeysGoAtEnd
-cancelled_keys_go_at_end l n before looked later selection poll answer mark i serial legal run published cancelled
-    below =
+cancelled_keys_go_at_end l n before looked later selection poll answer mark i serial legal unlisted run published
+    cancelled below =
     let s = selection.selector in
     let e = event_of n (LookKeys s mark) in
     let own : mine n (looked ++ e ∷ later) ≡ mine n looked ++ LookKeys s mark ∷ mine n later = mine-append n looked
     (e ∷ later) ∙ ap (λ xs. mine n looked ++ xs) (mine-own_first n e later (eq-eqb n.0 n.0 refl)) in
     let cut = cut_at_keys selection poll (mine n looked) mark (mine n later) answer
     (subst (λ xs. Tells selection poll xs (done answer)) own run) in
-    let swept = end-settles s mark cut.ended.sweeps cut.runs_sweeps i below in
+    let swept = end-settles s mark cut.ended.sweeps
+    (subst (λ b. Completes (remove_below s mark b) cut.ended.sweeps tt) unlisted cut.runs_sweeps) i below in
     let settled : Settled s i (mine n (e ∷ later))
     = subst (Settled s i)
     (sym (mine-own_first n e later (eq-eqb n.0 n.0 refl) ∙ ap (λ xs. LookKeys s mark ∷ xs) cut.after))

@@ -13,6 +13,11 @@ pub mod Lists
 pub mod Listing
 mod Worked
 mod SelectionAsks
+pub mod KnownAt
+pub mod Relisted
+pub mod ListTurns
+pub mod Unlisted
+pub mod ListedBy
 pub mod ToldLaws
 pub mod ToldParts
 pub mod BeginLaws
@@ -28,6 +33,23 @@ pub mod PinBack
 mod WaitingPins
 pub mod PinLaws
 pub mod WorksLaws
+mod ValidKeys
 mod MarkedLaws
+mod WhereUntouched
+mod Shown
+mod EndListed
+mod OwnSteps
+mod ListAsks
+mod GoneListed
+mod Enlisted
+mod IndexOutcomes
+mod StoodMoments
+mod StoodLaws
+mod Touched
+mod CountsBelow
 mod BoundEvents
+mod BoundMarks
+mod BoundParts
 mod BoundLaws
+mod BoundLists
+mod MarkedListed

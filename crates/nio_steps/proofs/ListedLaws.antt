@@ -10,7 +10,7 @@ use Rattle.nio_steps.proofs.PerformLaws.{perform_sweep, perform_over}
 use Rattle.nio_steps.specs.ChannelCalls.{words_below}
 use Rattle.nio_steps.specs.Perform.{Performed, perform}
 use Rattle.nio_steps.specs.Plan.{Plan}
-use Rattle.nio_steps.specs.SelectCalls.{not_free, over_word, over_listed}
+use Rattle.nio_steps.specs.Looking.{not_free, over_word, over_listed}
 use Rattle.nio_steps.specs.Sweeps.{sweep_over}
 
 -- the indexes below the bound that aren't free in this state, by the first n words

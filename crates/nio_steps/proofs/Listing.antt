@@ -23,8 +23,8 @@ use Rattle.nio_steps.specs.Bound.{finds_listed}
 use Rattle.nio_steps.specs.ChannelCalls.{words_below}
 use Rattle.nio_steps.specs.KeyCalls.{has_bit}
 use Rattle.nio_steps.specs.Plan.{Plan, reply, ◌>>◌, when}
-use Rattle.nio_steps.specs.SelectCalls.{not_free, over_word, over_listed, look_over, look_valid, looked_key}
-use Rattle.nio_steps.specs.SelectCalls.{remove_cancelled, remove_if_cancelled}
+use Rattle.nio_steps.specs.Looking.{not_free, over_word, over_listed, look_over, look_valid, looked_key}
+use Rattle.nio_steps.specs.Looking.{remove_cancelled, remove_if_cancelled}
 use Rattle.nio_steps.specs.Steps.{put_free, word_in, stage_in, operations_in}
 use Rattle.nio_steps.specs.Sweeps.{sweep_over}
 use Rattle.nio_steps.specs.declared.looked.LookedKey.{LookedKey}
@@ -50,7 +50,7 @@ each_listed Asks Left s bound f x frees here each =
 
 -- ---- one element more
 
-always_push : {X A : Type 0} (First P : List Act → A → Type 0) (xs : List X) (e : X) (f : X → A → Plan A) (x : A)
+pub always_push : {X A : Type 0} (First P : List Act → A → Type 0) (xs : List X) (e : X) (f : X → A → Plan A) (x : A)
     → Always First (sweep_over xs f x)
     → ((ys : List Act) (y : A) → First ys y → Always (λ zs z. P (ys ++ zs) z) (f e y))
     → Always P (sweep_over (xs ++ e ∷ []) f x)
@@ -239,7 +239,7 @@ pub record Passes (s : SelNo) (i : ℕ) (acts : List Act) : Type 0 where
   pub outside : in_cancelled_set (stage_in (answer_of look)) ≡ false
 
 module _ (s : SelNo) (i : ℕ) where
-  always_puts : (stage : Stage)
+  pub always_puts : (stage : Stage)
       → Always (λ acts _. Puts s i acts) (when (nat_lt stage.serial last_serial) (put_free s i))
   always_puts stage =
       always_if (λ acts _. Puts s i acts) (nat_lt stage.serial last_serial) (put_free s i >> reply tt) (reply tt)

@@ -101,3 +101,9 @@ pairs-before R (x ∷ past) e later pairs =
     (All-contains (R x) (past ++ e ∷ later) e (pairs-head R x (past ++ e ∷ later) pairs)
     (contains-middle past e later))
     (pairs-before R past e later (pairs-tail R x (past ++ e ∷ later) pairs))
+
+-- and each element after it
+pub pairs-after : {X : Type 0} (R : X → X → Type 0) (past : List X) (e : X) (later : List X)
+    → AllPairs R (past ++ e ∷ later) → All (R e) later
+pairs-after R [] e later pairs = pairs-head R e later pairs
+pairs-after R (x ∷ past) e later pairs = pairs-after R past e later (pairs-tail R x (past ++ e ∷ later) pairs)

@@ -1,5 +1,6 @@
 -- What a beginning selection finds of the indexes below its bound, and what an ending one does.
 use Rattle.std.proofs.Common.{◌≡◌, ℕ, suc, ◌+◌, ◌*◌, ◌<◌, ◌==◌, nat_lt, Bool, true, false, ◌&&◌, Ok, List, []}
+use Rattle.std.proofs.Common.{None}
 use Rattle.std.proofs.Common.{◌∷◌, ◌++◌, refl, ap, sym, ◌∙◌, subst, append_assoc, eqb-true, arith}
 use Rattle.std.specs.List.{All, Contains}
 use Rattle.std.proofs.lemmas.Bool.{or_from, ltb-true, ltb-false}
@@ -26,7 +27,8 @@ use Rattle.nio_steps.specs.KeyCalls.{has_bit}
 use Rattle.nio_steps.specs.Laws.{IsLookedAt, LooksAtValidKeys}
 use Rattle.nio_steps.specs.Plan.{Plan}
 use Rattle.nio_steps.specs.Runs.{Completes}
-use Rattle.nio_steps.specs.SelectCalls.{Selection, Begins, over_listed, look_over, looked_key, remove_if_cancelled}
+use Rattle.nio_steps.specs.SelectCalls.{Selection, Begins}
+use Rattle.nio_steps.specs.Looking.{over_listed, look_over, looked_key, remove_if_cancelled}
 use Rattle.nio_steps.specs.Steps.{stage_in, operations_in}
 use Rattle.nio_steps.specs.declared.looked.LookedKey.{LookedKey}
 
@@ -38,11 +40,11 @@ interest-look s i (LookInterest s' i' found) asks = cc asks
 interest-look s i _ asks = absurd (cc asks)
 
 -- a question for a removal of the key of an index
-abbrev asks_removal : ℕ → ℕ → Question → Bool
+abbrev pub asks_removal : ℕ → ℕ → Question → Bool
 asks_removal s i (Question.remove s' i') = (s'.0 == s) && (i' == i)
 asks_removal s i _ = false
 
-not-removes_at : (s i : ℕ) (act : Act) → asks_removal s i (question_of act) ≡ false → removes s i act ≡ false
+pub not-removes_at : (s i : ℕ) (act : Act) → asks_removal s i (question_of act) ≡ false → removes s i act ≡ false
 not-removes_at s i (Remove s' i' found) e = e
 not-removes_at s i _ e = refl
 
@@ -184,7 +186,7 @@ module _ (s : SelNo) where
 
 pub looks_at_valid_keys : LooksAtValidKeys
 looks_at_valid_keys s mode acts selection run =
-    let begun = begin-parts s mode acts selection run in
+    let begun = begin-parts s mode None acts selection run in
     let first = begun.gate ∷ begun.take ∷ begun.look ∷ begun.keys ∷ [] in
     All-weaker (Contains selection.looked) (IsLookedAt s acts)
     (λ entry there.
@@ -231,7 +233,7 @@ settled-right s i earlier acts (is_gone found there) =
     is_gone found (Contains-append_right earlier acts (Remove s i found) there)
 
 -- what is done at the index settles it
-settles-removed : (s : SelNo) (i : ℕ) (acts : List Act) → Removes s i acts → Settled s i acts
+pub settles-removed : (s : SelNo) (i : ℕ) (acts : List Act) → Removes s i acts → Settled s i acts
 settles-removed s i acts turn =
     is_gone (stage_in (answer_of turn.remove))
     (subst (λ xs. Contains xs (Remove s i (stage_in (answer_of turn.remove)))) (sym turn.parts)
@@ -248,7 +250,7 @@ settles-found : (s : SelNo) (i : ℕ) (acts : List Act) → Finds s i acts → S
 settles-found s i acts turn =
     subst (Settled s i) (sym turn.parts) (settles-look s i turn.look (turn.interest ∷ []) turn.asks_look turn.outside)
 
-settles-passed : (s : SelNo) (i : ℕ) (acts : List Act) → Passes s i acts → Settled s i acts
+pub settles-passed : (s : SelNo) (i : ℕ) (acts : List Act) → Passes s i acts → Settled s i acts
 settles-passed s i acts turn =
     subst (Settled s i) (sym turn.parts) (settles-look s i turn.look [] turn.asks_look turn.outside)
 
@@ -289,9 +291,9 @@ module _ {A : Type 0} (s : SelNo) (f : ℕ → A → Plan A)
 
 -- in a `try_begin` that answers Ok each index below the bound is settled
 pub begin-settles : (s : SelNo) (mode : Mode) (acts : List Act) (selection : Selection)
-    → Begins s mode acts (Ok selection) → (i : ℕ) → i < selection.bound → Settled s i acts
+    → Begins s mode None acts (Ok selection) → (i : ℕ) → i < selection.bound → Settled s i acts
 begin-settles s mode acts selection run i below =
-    let begun = begin-parts s mode acts selection run in
+    let begun = begin-parts s mode None acts selection run in
     let settled = settled_below s (look_over s)
     (λ k looked. always_look s k (λ xs _. Settled s k xs) looked (settles-removed s k) (settles-found s k)
     (settles-passed s k)) selection.bound [] selection.looked begun.over begun.runs_over i below in

@@ -1,8 +1,10 @@
 -- A selection marks keys that it looked at and that are in the key set.
-use Rattle.std.proofs.Common.{◌≡◌, ℕ, ◌≤◌, ◌==◌, ◌||◌, not, Bool, true, false, List, [], ◌∷◌, ◌++◌, refl, ap}
-use Rattle.std.proofs.Common.{sym, ◌∙◌, subst, append_assoc, eq-eqb, eqb-true, arith}
+use Rattle.std.proofs.Common.{◌≡◌, ℕ, ◌≤◌, ◌||◌, Bool, true, false, Result, List, [], ◌∷◌, ◌++◌, refl, ap}
+use Rattle.std.proofs.Common.{None}
+use Rattle.nio_steps.proofs.BeginLaws.{unlisted-parts}
+use Rattle.std.proofs.Common.{sym, ◌∙◌, subst, append_assoc, eq-eqb, arith}
 use Rattle.std.specs.List.{All, Contains}
-use Rattle.std.proofs.lemmas.Bool.{and_parts, and_from, or_from}
+use Rattle.std.proofs.lemmas.Bool.{or_from}
 use Rattle.std.proofs.lemmas.List.{append-nil}
 use Rattle.std.proofs.lemmas.List.Elements.{All-contains}
 use Rattle.std.proofs.lemmas.List.Folds.{list_any-append}
@@ -13,21 +15,20 @@ use Rattle.nio_history.proofs.KeyChanges.{KeepsStages, stages_keep}
 use Rattle.nio_history.proofs.Legal.{legal_beginning, legal_next}
 use Rattle.nio_history.proofs.OneMore.{state_after-more, mine-append, has_none-append}
 use Rattle.nio_history.proofs.Selections.{key_set_stays}
-use Rattle.nio_history.proofs.Soundness.{legal-sound, beyond-claimed}
 use Rattle.nio_history.specs.Histories.{state_after, mine, event_of, IsLegal}
 use Rattle.nio_history.specs.Holders.{Keeps}
 use Rattle.nio_history.specs.Permanent.{a_selection}
 use Rattle.nio_history.specs.OwnEvents.{has, gives_turn}
 use Rattle.nio_history.specs.Pins.{removes}
 use Rattle.nio_history.specs.Questions.{question_of, answer_of}
-use Rattle.nio_history.specs.Sets.{fits, in_key_set, is_in_key_set}
+use Rattle.nio_history.specs.Sets.{is_in_key_set, is_valid}
 use Rattle.nio_history.specs.State.{State}
 use Rattle.nio_history.specs.Turns.{removes_on}
 use Rattle.nio_history.specs.declared.act.Act.{Act}
 use Rattle.nio_history.specs.declared.act.Act.TheVariants.{LookKey, BeginLook, Mark}
 use Rattle.nio_history.specs.declared.event.Event.{Event}
+use Rattle.nio_history.specs.declared.found.Mark.{Mark as KeyMark}
 use Rattle.nio_history.specs.declared.found.Stage.{Stage}
-use Rattle.nio_steps.proofs.BeginLaws.{begin-parts}
 use Rattle.nio_steps.proofs.EachLaws.{each_run, split}
 use Rattle.nio_steps.proofs.Lists.{contains-middle}
 use Rattle.nio_steps.proofs.LookedLaws.{found_valid}
@@ -36,8 +37,9 @@ use Rattle.nio_steps.proofs.SelectionLaws.{NoMark, Replies, after-replies, asks_
 use Rattle.nio_steps.proofs.SelectionLaws.{removes_none, not-gives, asks_give}
 use Rattle.nio_steps.proofs.StandLaws.{look-act, begun_since, over-keeps}
 use Rattle.nio_steps.proofs.ToldLaws.{marks_only_as_told}
-use Rattle.nio_steps.specs.Laws.{MarksLookedKeys}
-use Rattle.nio_steps.specs.SelectCalls.{Selection, mark_entry, after_marks, told_plan}
+use Rattle.nio_steps.proofs.ValidKeys.{valid_here, valid_in_set, in_set-fits}
+use Rattle.nio_steps.specs.Laws.{MarksLookedKey, MarksLookedKeys}
+use Rattle.nio_steps.specs.SelectCalls.{Selection, Poll, Tells, ToldReply, mark_entry, after_marks, told_plan}
 use Rattle.nio_steps.specs.Selections.{IsBegun}
 use Rattle.nio_steps.specs.Steps.{stage_in, gate_in}
 use Rattle.nio_steps.specs.Sweeps.{sweep_over}
@@ -106,10 +108,30 @@ none_before p q (a ∷ xs) x ys (u ∷ us) vs same it none_vs none_us =
     or_none true c none = absurd (cc none)
     or_none false c none = (refl, none)
 
+-- a key of the key set stays there, with its channel, while the caller selects and doesn't remove it
+pub key_stays : (l : Limits) (n : CallerNo) (s : SelNo) (entry : LookedKey) (past later : List Event)
+    → Keeps l n (a_selection s) past later → has (removes s.0 entry.index) (mine n later) ≡ false
+    → is_in_key_set ((state_after past).key s.0 entry.index) entry.serial ≡ true
+    → ((state_after past).key s.0 entry.index).chan ≡ entry.channel
+    → (is_in_key_set ((state_after (past ++ later)).key s.0 entry.index) entry.serial ≡ true)
+    × (((state_after (past ++ later)).key s.0 entry.index).chan ≡ entry.channel)
+key_stays l n s entry past later keeps spared here channel_is =
+    let i = entry.index in
+    let k : Stage = (state_after past).key s.0 i in
+    let now = (state_after (past ++ later)).key s.0 i in
+    let its = in_set-fits k entry.serial here in
+    let set = key_set_stays l n s past later keeps (record { index = i; serial = entry.serial }) spared here in
+    let same : now.serial ≡ k.serial = (in_set-fits now entry.serial set).1 ∙ sym its.1 in
+    let channel =
+    (keeps_channel l k s.0 i past later keeps.legal
+    (record { claimed = its.0; serial = omega arith; channel = λ _. refl })).channel same in
+    (set, channel ∙ channel_is)
+
 -- ---- the key stays till a mark
 
 module _ (l : Limits) (n : CallerNo) (before past : List Event) (selection : Selection) (entry : LookedKey)
     (legal : IsLegal l (before ++ past)) (begun : IsBegun (mine n before) selection)
+    (unlisted : selection.listed ≡ false)
     (there : Contains selection.looked entry) (no_give : has (gives_turn selection.selector.0) (mine n past) ≡ false)
     (no_remove : has (removes_on selection.selector.0) (mine n past) ≡ false) where
   stays : (is_in_key_set ((state_after (before ++ past)).key selection.selector.0 entry.index) entry.serial ≡ true)
@@ -117,7 +139,7 @@ module _ (l : Limits) (n : CallerNo) (before past : List Event) (selection : Sel
   stays =
       let s = selection.selector in
       let i = entry.index in
-      let first = begin-parts s selection.mode begun.beginning selection begun.begins in
+      let first = unlisted-parts (mine n before) selection begun unlisted in
       let looked = found_valid s selection.bound first.over selection.looked entry first.runs_over there in
       let stage = looked.stage in
       let found = gate_in (answer_of first.look) in
@@ -141,7 +163,7 @@ module _ (l : Limits) (n : CallerNo) (before past : List Event) (selection : Sel
       let legal' : IsLegal l (cut.past ++ later) = subst (IsLegal l) (sym joined) legal in
       let legal_past = legal_beginning l cut.past later legal' in
       -- the caller has begun there
-      let over_keeps = over-keeps s selection.bound first.over selection.looked first.runs_over in
+      let over_keeps = over-keeps s selection.bound None first.over selection.looked first.runs_over in
       let over_parts : has (gives_turn s.0) (looked.before ++ LookKey s i stage ∷ looked.later)
       ≡ false = ap (has (gives_turn s.0)) (sym looked.parts) ∙ over_keeps in
       let before_keeps : has (gives_turn s.0) looked.before ≡ false
@@ -173,36 +195,34 @@ module _ (l : Limits) (n : CallerNo) (before past : List Event) (selection : Sel
       let st = state_after cut.past in
       let k : Stage = st.key s.0 i in
       let is : stage ≡ k = ap stage_in (legal_next l cut.past e0 (cut.later ++ past) legal').answers in
-      let in_set : in_key_set k ≡ true = ap in_key_set (sym is)
-      ∙ (and_parts (in_key_set stage) (not stage.cancelled) looked.valid).0 in
-      let published : k.published ≡ true = (and_parts k.published (not k.removed) in_set).0 in
-      let claimed : k.claimed ≡ true = beyond-claimed st (legal-sound l cut.past legal_past) s.0 i
-      (ap (λ (b : Bool). b || k.cancelled || k.removed) published) in
-      let serial_is : k.serial ≡ entry.serial = ap (λ (x : Stage). x.serial) (sym is) ∙ looked.serial in
-      let here : is_in_key_set k entry.serial ≡ true = and_from (fits k entry.serial) (in_key_set k)
-      (and_from k.claimed (k.serial == entry.serial) claimed (eq-eqb k.serial entry.serial serial_is)) in_set in
+      let here = valid_in_set k entry.serial
+      (valid_here l cut.past s.0 i entry.serial legal_past (ap is_valid (sym is) ∙ looked.valid)
+      (ap (λ (x : Stage). x.serial) (sym is) ∙ looked.serial)) in
       let keeps : Keeps l n (a_selection s) cut.past later = record {
         legal = legal';
         has_it = has_begun_there;
         kept = kept;
       } in
-      let set = key_set_stays l n s cut.past later keeps (record { index = i; serial = entry.serial }) spared here in
-      let now = (state_after (cut.past ++ later)).key s.0 i in
-      let same : now.serial ≡ k.serial = eqb-true now.serial entry.serial
-      (and_parts now.claimed (now.serial == entry.serial)
-      (and_parts (fits now entry.serial) (in_key_set now) set).0).1 ∙ sym serial_is in
-      let channel =
-      (keeps_channel l k s.0 i cut.past later legal'
-      (record { claimed = claimed; serial = omega arith; channel = λ _. refl })).channel same in
       subst (λ events. (is_in_key_set ((state_after events).key s.0 i) entry.serial ≡ true)
       × (((state_after events).key s.0 i).chan ≡ entry.channel)) joined
-      (set, channel ∙ (ap (λ (x : Stage). x.chan) (sym is) ∙ looked.channel))
+      (key_stays l n s entry cut.past later keeps spared here
+      (ap (λ (x : Stage). x.chan) (sym is) ∙ looked.channel))
 
 -- ---- the law
 
-pub marks_looked_keys : MarksLookedKeys
+-- where each looked key stays in the key set till a mark
+pub marks_where_kept : (l : Limits) (n : CallerNo) (before past later : List Event) (selection : Selection) (poll : Poll)
+    (answer : ToldReply) (s : SelNo) (i told : ℕ) (from : KeyMark) (found : Result (Unit {0}) KeyMark)
+    → IsLegal l (before ++ (past ++ event_of n (Mark s i from told found) ∷ later))
+    → Tells selection poll (mine n (past ++ event_of n (Mark s i from told found) ∷ later)) answer
+    → ((entry : LookedKey) → Contains selection.looked entry → IsLegal l (before ++ past)
+    → has (gives_turn selection.selector.0) (mine n past) ≡ false
+    → has (removes_on selection.selector.0) (mine n past) ≡ false
+    → (is_in_key_set ((state_after (before ++ past)).key selection.selector.0 entry.index) entry.serial ≡ true)
+    × (((state_after (before ++ past)).key selection.selector.0 entry.index).chan ≡ entry.channel))
+    → MarksLookedKey (state_after (before ++ past)) selection poll.pairs s i told
 unfolding told_plan
-marks_looked_keys l n before past later selection poll answer s i told from found legal begun run =
+marks_where_kept l n before past later selection poll answer s i told from found legal run kept =
     let act = Mark s i from told found in
     let e = event_of n act in
     let acts : mine n (past ++ e ∷ later) ≡ mine n past ++ act ∷ mine n later = mine-append n past (e ∷ later)
@@ -227,10 +247,16 @@ marks_looked_keys l n before past later selection poll answer s i told from foun
     let legal' : IsLegal l (before ++ past) = legal_beginning l (before ++ past) (e ∷ later)
     (subst (IsLegal l) (sym (append_assoc before past (e ∷ later))) legal) in
     let entry = as_told.entry in
-    let here = stays l n before past selection entry legal' begun as_told.looked no_give no_remove in
+    let here = kept entry as_told.looked legal' no_give no_remove in
     let st = state_after (before ++ past) in
     let at = subst (λ (j : ℕ). (is_in_key_set (st.key t.0 j) entry.serial ≡ true)
     × ((st.key t.0 j).chan ≡ entry.channel)) as_told.at_index here in
     let at_s = subst (λ (x : SelNo). (is_in_key_set (st.key x.0 i) entry.serial ≡ true)
     × ((st.key x.0 i).chan ≡ entry.channel)) (sym as_told.on_selector) at in
     record { as_told = as_told; in_set = at_s.0; channel = at_s.1 }
+
+pub marks_looked_keys : MarksLookedKeys
+marks_looked_keys l n before past later selection poll answer s i told from found legal begun unlisted run =
+    marks_where_kept l n before past later selection poll answer s i told from found legal run
+    (λ entry looked legal' no_give no_remove. stays l n before past selection entry legal' begun unlisted looked no_give
+    no_remove)

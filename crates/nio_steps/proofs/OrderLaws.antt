@@ -1,5 +1,6 @@
 -- The looked list of a selection rises.
 use Rattle.std.proofs.Common.{◌≡◌, ℕ, ◌+◌, ◌<◌, List, [], ◌∷◌, ◌++◌, refl, arith}
+use Rattle.std.proofs.Common.{None}
 use Rattle.std.specs.List.{All, AllPairs}
 use Rattle.std.proofs.lemmas.List.Elements.{All-nil, All-push, All-weaker}
 use Rattle.nio_base.specs.declared.numbers.SelNo.{SelNo}
@@ -10,7 +11,7 @@ use Rattle.nio_steps.proofs.Lists.{pairs-none, pairs-push}
 use Rattle.nio_steps.proofs.Walks.{always_run}
 use Rattle.nio_steps.specs.ChannelCalls.{words_below}
 use Rattle.nio_steps.specs.Laws.{LooksInOrder}
-use Rattle.nio_steps.specs.SelectCalls.{over_listed, look_over}
+use Rattle.nio_steps.specs.Looking.{over_listed, look_over}
 use Rattle.nio_steps.specs.declared.looked.LookedKey.{LookedKey}
 
 -- what a selection looked at before index k
@@ -52,7 +53,7 @@ module _ (s : SelNo) (bound : ℕ) where
 
 pub looks_in_order : LooksInOrder
 looks_in_order s mode acts selection run =
-    let begun = begin-parts s mode acts selection run in
+    let begun = begin-parts s mode None acts selection run in
     let bound = selection.bound in
     let rises = always_run (Left s bound (words_below bound) bound) (over_listed s bound (look_over s) []) begun.over
     selection.looked

@@ -1,5 +1,7 @@
 -- Each call gives back the pins that it takes.
 use Rattle.std.proofs.Common.{◌≡◌, ℕ, suc, ◌+◌, ◌*◌, nat_lt, Bool, true, false, ◌&&◌, if◌then◌else◌, Option, Some}
+use Rattle.std.proofs.Common.{None}
+use Rattle.nio_steps.specs.TableCalls.{take_list}
 use Rattle.std.proofs.Common.{None, List, [], ◌∷◌, ◌++◌, refl, ap, sym, subst, append_assoc}
 use Rattle.std.proofs.lemmas.List.{append-nil}
 use Rattle.nio_base.specs.declared.limits.Limits.{Limits}
@@ -157,13 +159,14 @@ gives l lacks call acts answer run =
       closes = λ c. close_channel-walks l c (λ _. refl);
       finishes = λ s calm. finish-walks s refl calm;
     })
-    (λ s _. record { gives = refl; marks = λ i from bits. refl; removes = λ i. refl })) run
+    (λ s _. record { gives = refl; marks = λ i from bits. refl; removes = λ i. refl })
+    (λ s mode known _. record { takes = λ j. refl; looks = λ i. refl })) run
 
 pub waiting_gives : (l : Limits) (call : WaitCall) → GivesPinsBack ((wait_row_of call).Shape l)
 waiting_gives l (set_blocking c on) = retries-give (gives l false (try_set_blocking c on))
 waiting_gives l (register s c ops att) = retries-give (gives l false (try_register s c ops att))
 waiting_gives l (select s mode polls) = selects-give s mode polls
-    (λ acts answer. gives l _ (try_begin s mode) acts answer) (λ selection poll. gives l false (told selection poll))
+    (λ acts answer. gives l _ (try_begin s mode None) acts answer) (λ selection poll. gives l false (told selection poll))
     (λ selection. gives l false (leave selection))
 waiting_gives l (close s) = closes-give s (gives l false (shut s)) (gives l false (try_finish s))
 waiting_gives l (read source none) = waits-give none (gives l false (try_read source))
@@ -196,7 +199,8 @@ pins_are_given_back = record {
   try_register = λ l s c ops att. gives l false (try_register s c ops att);
   close_channel = λ l c. gives l false (close_channel c);
   open_selector = λ l. gives l false open_selector;
-  try_begin = λ s mode lacks. gives no_limits lacks (try_begin s mode);
+  take_list = λ s. gives no_limits false (take_list s);
+  try_begin = λ s mode known lacks. gives no_limits lacks (try_begin s mode known);
   told = λ selection pairs elapsed. gives no_limits false
       (told selection (record { pairs = pairs; elapsed = elapsed }));
   leave = λ selection. gives no_limits false (leave selection);

@@ -2,6 +2,7 @@
 -- other, holds of each run of a plan that asks calm questions alone.
 use Rattle.std.proofs.Common.{◌≡◌, ℕ, zero, suc, ◌+◌, ◌-◌, Bool, true, false, if◌then◌else◌, Option, Some, None, List}
 use Rattle.std.proofs.Common.{[], ◌∷◌, ◌++◌, sym, subst}
+use Rattle.std.specs.Prelude.{⊤}
 use Rattle.nio_base.specs.declared.numbers.SelNo.{SelNo}
 use Rattle.nio_history.specs.Questions.{Question, Answer, question_of, answer_of}
 use Rattle.nio_history.specs.declared.act.Act.{Act}
@@ -15,7 +16,8 @@ use Rattle.nio_steps.specs.Steps.{unpin, stage_in}
 use Rattle.nio_steps.specs.Sweeps.{sweep, sweep_to, found_or, seek, seek_to, sweep_over}
 
 -- no law minds the question: it neither pins nor claims an index, nor publishes, marks or removes a key, nor closes a
--- channel, enters a selector or gives a turn back
+-- channel, enters a selector or gives a turn back, nor takes bits of touched indexes or looks at one as a selection with
+-- the list does
 abbrev pub is_plain : Question → Bool
 is_plain (Question.claim s i c) = false
 is_plain (Question.publish s i) = false
@@ -27,6 +29,8 @@ is_plain (Question.enter s) = false
 is_plain (Question.pin s i) = false
 is_plain (Question.unpin s i) = false
 is_plain (Question.claim_again s i c from) = false
+is_plain (Question.take_touched s j) = false
+is_plain (Question.look_index s i) = false
 is_plain _ = true
 
 pub record Walk : Type 1 where
@@ -131,6 +135,16 @@ pub record IsCalmOn (w : Walk) (s : SelNo) : Type 0 where
   pub gives : w.Calm (Question.give_turn s)
   pub marks : (i : ℕ) (from : KeyMark) (told : ℕ) → w.Calm (Question.mark s i from told)
   pub removes : (i : ℕ) → w.Calm (Question.remove s i)
+
+-- bits of this selector may be taken at any time, and its indexes looked at as a selection with the list does
+pub record IsCalmListing (w : Walk) (s : SelNo) : Type 0 where
+  pub takes : (j : ℕ) → w.Calm (Question.take_touched s j)
+  pub looks : (i : ℕ) → w.Calm (Question.look_index s i)
+
+-- where there is a list
+abbrev pub MayList : {A : Type 0} → Walk → SelNo → Option A → Type 0
+MayList w s None = ⊤
+MayList w s (Some known) = IsCalmListing w s
 
 -- ---- where a pin is calm too
 

@@ -1,22 +1,26 @@
 -- What the calls of a selection ask, part by part.
-use Rattle.std.proofs.Common.{ℕ, ◌==◌, nat_lt, Result, Ok, Err, List, []}
+use Rattle.std.proofs.Common.{ℕ, ◌==◌, nat_lt, Bool, true, false, Option, Some, None, Result, Ok, Err, List, []}
 use Rattle.std.specs.Prelude.{⊤}
 use Rattle.std.specs.List.{All}
 use Rattle.nio_base.specs.declared.numbers.SelNo.{SelNo}
 use Rattle.nio_history.specs.Questions.{Question}
 use Rattle.nio_history.specs.Sets.{in_cancelled_set, is_valid}
 use Rattle.nio_base.specs.Numbers.{last_serial}
+use Rattle.nio_history.specs.declared.found.IndexWord.{IndexWord}
 use Rattle.nio_history.specs.declared.found.Mark.{Mark as KeyMark}
 use Rattle.nio_history.specs.declared.found.Stage.{Stage}
-use Rattle.nio_steps.proofs.EachLaws.{each_bind, each_if, each_when, each_over}
+use Rattle.nio_steps.proofs.EachLaws.{each_bind, each_if, each_when, each_sweep, each_over}
 use Rattle.nio_steps.proofs.Listing.{each_listed}
 use Rattle.nio_steps.proofs.Each.{Each}
-use Rattle.nio_steps.specs.Plan.{reply, ◌>>=◌, ◌>>◌}
-use Rattle.nio_steps.specs.SelectCalls.{Selection, ToldReply, done, told_bits, over_listed}
-use Rattle.nio_steps.specs.SelectCalls.{look_over, look_on, look_valid, remove_cancelled, mark_entry}
-use Rattle.nio_steps.specs.SelectCalls.{mark_told, mark_looked, mark_again, gains_nothing, remove_if_cancelled}
+use Rattle.nio_steps.specs.ChannelCalls.{words_below}
+use Rattle.nio_steps.specs.Plan.{Plan, reply, ◌>>=◌, ◌>>◌, when}
+use Rattle.nio_steps.specs.SelectCalls.{Selection, ToldReply, done, told_bits}
+use Rattle.nio_steps.specs.Looking.{look_over, look_on, look_valid, list_over, list_on, list_valid, list_word}
+use Rattle.nio_steps.specs.Looking.{list_taken, without_index, shown, over_touched, look_at_keys, remove_cancelled}
+use Rattle.nio_steps.specs.Looking.{remove_if_cancelled, remove_below}
+use Rattle.nio_steps.specs.SelectCalls.{mark_entry, mark_told, mark_looked, mark_again, gains_nothing}
 use Rattle.nio_steps.specs.SelectCalls.{remove_all_cancelled, end_selection}
-use Rattle.nio_steps.specs.Steps.{put_free, mark, mark_in, stage_in, number_in, exchange_in}
+use Rattle.nio_steps.specs.Steps.{put_free, mark, touch, mark_in, stage_in, number_in, exchange_in, word_in, index_in}
 use Rattle.nio_steps.specs.Sweeps.{sweep_over}
 use Rattle.nio_steps.specs.declared.looked.LookedKey.{LookedKey}
 use Rattle.nio_steps.specs.declared.selected.Selected.{Selected}
@@ -27,6 +31,8 @@ pub record AsksAt (Asks : Question → Type 0) (s : SelNo) (i : ℕ) : Type 0 wh
   pub looks_interest : Asks (Question.look_interest s i)
   pub removes : Asks (Question.remove s i)
   pub puts : Asks (Question.put_free s i)
+  pub looks_index : Asks (Question.look_index s i)
+  pub touches : Asks (Question.touch s i)
 
 module _ (Asks : Question → Type 0) (s : SelNo) (i : ℕ) (asks : AsksAt Asks s i) where
   pub each_remove : (stage : Stage) → Each Asks (λ _. ⊤) (remove_cancelled s i stage)
@@ -44,6 +50,23 @@ module _ (Asks : Question → Type 0) (s : SelNo) (i : ℕ) (asks : AsksAt Asks 
   pub each_look : (looked : List LookedKey) → Each Asks (λ _. ⊤) (look_over s i looked)
   each_look looked = (asks.looks, λ answer. each_on looked (stage_in answer))
 
+  each_listed_on : (known : List LookedKey) (stage : Stage) → Each Asks (λ _. ⊤) (list_on s i known stage)
+  each_listed_on known stage =
+      each_if Asks (λ _. ⊤) (in_cancelled_set stage) (remove_cancelled s i stage >> reply (without_index i known)) _
+      (λ _. each_bind Asks (λ _. ⊤) (λ _. ⊤) (remove_cancelled s i stage) (λ _. reply (without_index i known))
+      (each_remove stage) (λ _ _. tt))
+      (λ _. each_if Asks (λ _. ⊤) (is_valid stage) (list_valid s i stage known) (reply (without_index i known))
+      (λ _. (asks.looks_interest, λ _. tt)) (λ _. tt))
+
+  pub each_list : (known : List LookedKey) → Each Asks (λ _. ⊤) (list_over s i known)
+  each_list known = (
+    asks.looks_index,
+    λ answer. let found : IndexWord = index_in answer in
+        each_bind Asks (λ _. ⊤) (λ _. ⊤) (when found.pinned (touch s i)) _
+        (each_when Asks found.pinned (touch s i) (asks.touches, λ _. tt))
+        (λ _ _. each_listed_on known found.stage),
+  )
+
   pub each_remove_if_cancelled : Each Asks (λ _. ⊤) (remove_if_cancelled s i)
   each_remove_if_cancelled = (
     asks.looks,
@@ -54,21 +77,53 @@ module _ (Asks : Question → Type 0) (s : SelNo) (i : ℕ) (asks : AsksAt Asks 
 -- what a selection asks of a selector as it goes over its indexes
 pub record AsksOver (Asks : Question → Type 0) (s : SelNo) : Type 0 where
   pub frees : (j : ℕ) → Asks (Question.look_free s j)
+  pub touched : (j : ℕ) → Asks (Question.look_touched s j)
+  pub takes : (j : ℕ) → Asks (Question.take_touched s j)
   pub at : (i : ℕ) → AsksAt Asks s i
 
-pub each_over_looked : (Asks : Question → Type 0) (s : SelNo) (bound : ℕ) → AsksOver Asks s
-    → Each Asks (λ _. ⊤) (over_listed s bound (look_over s) [])
-each_over_looked Asks s bound asks =
+-- at each of these indexes
+each_at : {A : Type 0} (Asks : Question → Type 0) (f : ℕ → A → Plan A) (x : A) (indexes : List ℕ)
+    → ((i : ℕ) (y : A) → Each Asks (λ _. ⊤) (f i y)) → Each Asks (λ _. ⊤) (sweep_over indexes f x)
+each_at Asks f x indexes each =
+    each_over Asks (λ _. ⊤) (λ _. ⊤) indexes f x (λ _ _ _. tt) tt (λ i y _ _. each i y)
+
+each_word : (Asks : Question → Type 0) (s : SelNo) (j : ℕ) (known : List LookedKey) → AsksOver Asks s
+    → Each Asks (λ _. ⊤) (list_word s j known)
+each_word Asks s j known asks = (
+  asks.touched j,
+  λ answer. each_if Asks (λ _. ⊤) (word_in answer == 0) (reply known) (list_taken s j known) (λ _. tt)
+      (λ _. (
+        asks.takes j,
+        λ taken. each_at Asks (list_over s) known (shown (word_in taken) j 64)
+            (λ i known'. each_list Asks s i (asks.at i) known'),
+      )),
+)
+
+pub each_look_at_keys : (Asks : Question → Type 0) (s : SelNo) (bound : ℕ) (known : Option (List LookedKey))
+    → AsksOver Asks s → Each Asks (λ _. ⊤) (look_at_keys s bound known)
+each_look_at_keys Asks s bound None asks =
     each_listed Asks (λ _. ⊤) s bound (look_over s) [] asks.frees tt
     (λ i looked _. each_look Asks s i (asks.at i) looked)
+each_look_at_keys Asks s bound (Some known) asks =
+    each_sweep Asks (λ _. ⊤) (words_below bound) 0 (list_word s) known tt
+    (λ j known' _ _ _. each_word Asks s j known' asks)
 
-pub each_remove_all : (Asks : Question → Type 0) (s : SelNo) → Asks (Question.look_keys s) → AsksOver Asks s
-    → Each Asks (λ _. ⊤) (remove_all_cancelled s)
-each_remove_all Asks s keys asks = (
-  keys,
-  λ mark. each_listed Asks (λ _. ⊤) s (number_in mark) (λ i _. remove_if_cancelled s i) tt asks.frees tt
-      (λ i _ _. each_remove_if_cancelled Asks s i (asks.at i)),
-)
+pub each_remove_below : (Asks : Question → Type 0) (s : SelNo) (mark : ℕ) (listed : Bool) → AsksOver Asks s
+    → Each Asks (λ _. ⊤) (remove_below s mark listed)
+each_remove_below Asks s mark false asks =
+    each_listed Asks (λ _. ⊤) s mark (λ i _. remove_if_cancelled s i) tt asks.frees tt
+    (λ i _ _. each_remove_if_cancelled Asks s i (asks.at i))
+each_remove_below Asks s mark true asks =
+    each_sweep Asks (λ _. ⊤) (words_below mark) 0 (over_touched s (λ i _. remove_if_cancelled s i)) tt tt
+    (λ j u _ _ _. (
+      asks.touched j,
+      λ answer. each_at Asks (λ i _. remove_if_cancelled s i) u (shown (word_in answer) j 64)
+          (λ i _. each_remove_if_cancelled Asks s i (asks.at i)),
+    ))
+
+pub each_remove_all : (Asks : Question → Type 0) (s : SelNo) (listed : Bool) → Asks (Question.look_keys s)
+    → AsksOver Asks s → Each Asks (λ _. ⊤) (remove_all_cancelled s listed)
+each_remove_all Asks s listed keys asks = (keys, λ mark. each_remove_below Asks s (number_in mark) listed asks)
 
 -- ---- telling
 
@@ -110,5 +165,5 @@ pub each_end : (Asks : Question → Type 0) (Replies : ToldReply → Type 0) (se
     → Asks (Question.end_wake selection.selector) → Asks (Question.give_turn selection.selector) → Replies (done answer)
     → Each Asks Replies (end_selection selection answer)
 each_end Asks Replies selection answer keys asks ends gives fits =
-    each_bind Asks (λ _. ⊤) Replies (remove_all_cancelled selection.selector) _
-    (each_remove_all Asks selection.selector keys asks) (λ _ _. (ends, λ _. (gives, λ _. fits)))
+    each_bind Asks (λ _. ⊤) Replies (remove_all_cancelled selection.selector selection.listed) _
+    (each_remove_all Asks selection.selector selection.listed keys asks) (λ _ _. (ends, λ _. (gives, λ _. fits)))

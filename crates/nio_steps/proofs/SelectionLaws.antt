@@ -231,7 +231,16 @@ after-replies selection elapsed n = (
         (λ _. each_end (NoMark selection.selector.0) (Replies selection n) selection _ refl
         (record {
           frees = λ _. refl;
-          at = λ _. record { looks = refl; looks_interest = refl; removes = refl; puts = refl };
+          touched = λ _. refl;
+          takes = λ _. refl;
+          at = λ _. record {
+            looks = refl;
+            looks_interest = refl;
+            removes = refl;
+            puts = refl;
+            looks_index = refl;
+            touches = refl;
+          };
         }) refl refl refl),
   ),
 )
@@ -245,7 +254,8 @@ any-done : (s : ℕ) (xs : List Act) (selection : Selection) (answer : Selected)
     → Always (λ acts r. KeepsTurn s (xs ++ acts) r) (end_selection selection answer)
 any-done s xs selection answer =
     always_bind (λ _ _. ⊤) (λ acts r. KeepsTurn s (xs ++ acts) r)
-    (remove_all_cancelled selection.selector) _ (always_any (remove_all_cancelled selection.selector))
+    (remove_all_cancelled selection.selector selection.listed) _
+    (always_any (remove_all_cancelled selection.selector selection.listed))
     (λ _ _ _ _ _ _ _. tt)
 
 after-keeps : (selection : Selection) (elapsed : Bool) (n : ℕ)
@@ -281,6 +291,7 @@ longer own selection acts begun no_give no_mark no_remove = record {
   parts = ap (λ xs. xs ++ acts) begun.parts
       ∙ (append_assoc begun.earlier (begun.beginning ++ begun.since) acts
       ∙ ap (λ xs. begun.earlier ++ xs) (append_assoc begun.beginning begun.since acts));
+  known = begun.known;
   begins = begun.begins;
   goes_on = none_of-append (gives_turn selection.selector.0) begun.since acts begun.goes_on no_give;
   unmarked = none_of-append (marks_on selection.selector.0) begun.since acts begun.unmarked no_mark;
@@ -329,15 +340,16 @@ counts_selection own selection poll acts answer begun run =
     omega (arith, counted, none_before, none_after, here, all, is)
 
 pub begins_selection : BeginsSelection
-begins_selection s mode own acts selection run =
-    let begun = begin-parts s mode acts selection run in
+begins_selection s mode known own acts selection run =
+    let begun = begin-parts s mode known acts selection run in
     record {
       earlier = own;
       beginning = acts;
       since = [];
       parts = ap (λ xs. own ++ xs) (sym (append-nil acts));
-      begins = subst (λ (x : SelNo). Begins x selection.mode acts (Ok selection)) (sym begun.selector)
-          (subst (λ (m : Mode). Begins s m acts (Ok selection)) (sym begun.mode_is) run);
+      known = known;
+      begins = subst (λ (x : SelNo). Begins x selection.mode known acts (Ok selection)) (sym begun.selector)
+          (subst (λ (m : Mode). Begins s m known acts (Ok selection)) (sym begun.mode_is) run);
       goes_on = refl;
       unmarked = refl;
       unremoved = refl;

@@ -1,5 +1,6 @@
 -- What a caller began and hasn't ended stands in the state, whatever others did.
 use Rattle.std.proofs.Common.{◌≡◌, ℕ, List, true, false, not, ◌||◌, [], ◌∷◌, ◌++◌, Some, refl, ap, sym, ◌∙◌, subst}
+use Rattle.std.proofs.Common.{Option}
 use Rattle.std.proofs.Common.{append_assoc, eq-eqb}
 use Rattle.std.specs.Prelude.{⊤}
 use Rattle.std.proofs.lemmas.Bool.{and_from, or_from, or_right}
@@ -25,11 +26,11 @@ use Rattle.nio_history.specs.declared.found.GateWord.{GateWord}
 use Rattle.nio_steps.proofs.BeginLaws.{begin-parts}
 use Rattle.nio_steps.proofs.EachLaws.{each_run}
 use Rattle.nio_steps.proofs.OwnActs.{cut_at, at_own}
-use Rattle.nio_steps.proofs.SelectionAsks.{each_over_looked}
+use Rattle.nio_steps.proofs.SelectionAsks.{each_look_at_keys}
 use Rattle.nio_steps.proofs.SelectionLaws.{NoGive, asks_give, no_gives, not-gives}
 use Rattle.nio_steps.specs.Laws.{SelectionsStand, ClosingsStand}
 use Rattle.nio_steps.specs.Runs.{Completes}
-use Rattle.nio_steps.specs.SelectCalls.{over_listed, look_over}
+use Rattle.nio_steps.specs.Looking.{look_at_keys}
 use Rattle.nio_steps.specs.Steps.{gate_in}
 use Rattle.nio_steps.specs.declared.looked.LookedKey.{LookedKey}
 
@@ -64,25 +65,34 @@ begun_since l n events s before found later legal own opens keeps =
     (ap (has (gives_turn s.0)) cut.mine_later ∙ keeps) there)
 
 -- going over the indexes doesn't give the turn back
-pub over-keeps : (s : SelNo) (bound : ℕ) (over : List Act) (looked : List LookedKey)
-    → Completes (over_listed s bound (look_over s) []) over looked → has (gives_turn s.0) over ≡ false
-over-keeps s bound over looked run =
-    no_gives s.0 over (each_run (NoGive s.0) (λ _. ⊤) (over_listed s bound (look_over s) []) over looked
-    (each_over_looked (NoGive s.0) s bound
+pub over-keeps : (s : SelNo) (bound : ℕ) (known : Option (List LookedKey)) (over : List Act) (looked : List LookedKey)
+    → Completes (look_at_keys s bound known) over looked → has (gives_turn s.0) over ≡ false
+over-keeps s bound known over looked run =
+    no_gives s.0 over (each_run (NoGive s.0) (λ _. ⊤) (look_at_keys s bound known) over looked
+    (each_look_at_keys (NoGive s.0) s bound known
     (record {
       frees = λ _. refl;
-      at = λ _. record { looks = refl; looks_interest = refl; removes = refl; puts = refl };
+      touched = λ _. refl;
+      takes = λ _. refl;
+      at = λ _. record {
+        looks = refl;
+        looks_interest = refl;
+        removes = refl;
+        puts = refl;
+        looks_index = refl;
+        touches = refl;
+      };
     })) run).0
 
 -- who began a selection has begun on its selector, in every legal history
 pub selections_stand : SelectionsStand
 selections_stand l n events selection legal begun =
     let s = selection.selector in
-    let first = begin-parts s selection.mode begun.beginning selection begun.begins in
+    let first = begin-parts s selection.mode begun.known begun.beginning selection begun.begins in
     let found = gate_in (answer_of first.look) in
     let before = first.gate ∷ first.take ∷ [] in
     let rest = first.keys ∷ first.over in
-    let keeps_over = over-keeps s selection.bound first.over selection.looked first.runs_over in
+    let keeps_over = over-keeps s selection.bound begun.known first.over selection.looked first.runs_over in
     let keeps_rest : has (gives_turn s.0) rest ≡ false
     = or_from _ _ (not-gives s.0 first.keys (ap (asks_give s.0) first.asks_keys)) keeps_over in
     let acts : begun.beginning ≡ before ++ BeginLook s found ∷ rest

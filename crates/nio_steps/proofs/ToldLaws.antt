@@ -76,7 +76,16 @@ module _ (selection : Selection) (pairs : List (ℕ × ℕ)) where
               (λ _. each_end Asks (λ _. ⊤) selection _ tt
               (record {
                 frees = λ _. tt;
-                at = λ _. record { looks = tt; looks_interest = tt; removes = tt; puts = tt };
+                touched = λ _. tt;
+                takes = λ _. tt;
+                at = λ _. record {
+                  looks = tt;
+                  looks_interest = tt;
+                  removes = tt;
+                  puts = tt;
+                  looks_index = tt;
+                  touches = tt;
+                };
               }) tt tt tt),
         ),
       ))

@@ -3,19 +3,18 @@ use Rattle.std.proofs.Common.{◌≡◌, ℕ, Bool, true, false, List, [], ◌�
 use Rattle.std.specs.Prelude.{⊤}
 use Rattle.std.specs.List.{All}
 use Rattle.std.proofs.lemmas.List.Elements.{All-nil, All-cons, All-append}
-use Rattle.nio_base.specs.declared.numbers.SelNo.{SelNo}
 use Rattle.nio_history.specs.Questions.{Question, question_of, answer_of}
 use Rattle.nio_history.specs.declared.act.Act.{Act}
 use Rattle.nio_history.specs.declared.act.Act.TheVariants.{LookKeys}
 use Rattle.nio_steps.proofs.EachLaws.{each_run}
-use Rattle.nio_steps.proofs.Listing.{each_listed}
 use Rattle.nio_steps.proofs.Lists.{only_place}
-use Rattle.nio_steps.proofs.SelectionAsks.{each_marks, each_remove_if_cancelled}
+use Rattle.nio_steps.proofs.SelectionAsks.{each_marks, each_remove_below}
 use Rattle.nio_steps.proofs.Walks.{Always, always_if, always_bind, always_itself, always_run}
-use Rattle.nio_steps.specs.Plan.{Plan, reply}
+use Rattle.nio_steps.specs.Plan.{reply}
 use Rattle.nio_steps.specs.Runs.{Completes}
-use Rattle.nio_steps.specs.SelectCalls.{Selection, Poll, Tells, ToldReply, done, again, over_listed, mark_entry}
-use Rattle.nio_steps.specs.SelectCalls.{remove_if_cancelled, is_again, end_selection, after_marks, told_plan}
+use Rattle.nio_steps.specs.SelectCalls.{Selection, Poll, Tells, ToldReply, done, again, mark_entry}
+use Rattle.nio_steps.specs.Looking.{remove_below}
+use Rattle.nio_steps.specs.SelectCalls.{is_again, end_selection, after_marks, told_plan}
 use Rattle.nio_steps.specs.Steps.{flag_in, gate_in, number_in}
 use Rattle.nio_steps.specs.Sweeps.{sweep_over}
 use Rattle.nio_steps.specs.declared.selected.Selected.{Selected}
@@ -34,9 +33,7 @@ pub record Ended (selection : Selection) (poll : Poll) (acts : List Act) : Type 
   pub asks_gate : question_of gate ≡ Question.look_gate selection.selector
   pub asks_status : question_of status ≡ Question.look_interrupt
   pub asks_keys : question_of keys ≡ Question.look_keys selection.selector
-  pub runs_sweeps : Completes
-      (over_listed selection.selector (number_in (answer_of keys)) (λ i _. remove_if_cancelled selection.selector i) tt)
-      sweeps tt
+  pub runs_sweeps : Completes (remove_below selection.selector (number_in (answer_of keys)) selection.listed) sweeps tt
   pub asks_wake : question_of wake ≡ Question.end_wake selection.selector
   pub asks_gives : question_of gives ≡ Question.give_turn selection.selector
 
@@ -57,7 +54,7 @@ module _ (selection : Selection) (poll : Poll) where
       (reply (again selection)) (end_selection selection _)
       (λ _. tt)
       (λ _ keys asks_keys.
-      let sweep = over_listed s (number_in (answer_of keys)) (λ i _. remove_if_cancelled s i) tt in
+      let sweep = remove_below s (number_in (answer_of keys)) selection.listed in
       always_bind (Completes sweep) (λ xs r. IsEnded (marks ++ gate ∷ status ∷ keys ∷ xs) r) sweep _
       (always_itself sweep)
       (λ sweeps u runs' wake asks_wake gives asks_gives. record {
@@ -97,16 +94,12 @@ NoKeys q = asks_keys q ≡ false
 abbrev None : Act → Type 0
 None act = NoKeys (question_of act)
 
-abbrev sweep_below : SelNo → ℕ → Plan (Unit {0})
-sweep_below s mark = over_listed s mark (λ i _. remove_if_cancelled s i) tt
-
 pub record CutAtKeys (selection : Selection) (poll : Poll) (third : List Act) (mark : ℕ) (fourth : List Act)
     : Type 0 where
   pub ended : Ended selection poll (third ++ LookKeys selection.selector mark ∷ fourth)
   pub before : third ≡ ended.marks ++ ended.gate ∷ ended.status ∷ []
   pub after : fourth ≡ ended.sweeps ++ ended.wake ∷ ended.gives ∷ []
-  pub runs_sweeps : Completes
-      (over_listed selection.selector mark (λ i _. remove_if_cancelled selection.selector i) tt) ended.sweeps tt
+  pub runs_sweeps : Completes (remove_below selection.selector mark selection.listed) ended.sweeps tt
 
 pub cut_at_keys : (selection : Selection) (poll : Poll) (third : List Act) (mark : ℕ) (fourth : List Act)
     (answer : Selected)
@@ -116,7 +109,8 @@ cut_at_keys selection poll third mark fourth answer run = record {
   ended = ended;
   before = cut.0;
   after = cut.2;
-  runs_sweeps = subst (λ act. Completes (sweep_below selection.selector (number_in (answer_of act))) ended.sweeps tt)
+  runs_sweeps = subst
+      (λ act. Completes (remove_below selection.selector (number_in (answer_of act)) selection.listed) ended.sweeps tt)
       (sym cut.1) ended.runs_sweeps;
 }
   where
@@ -132,9 +126,20 @@ cut_at_keys selection poll third mark fourth answer run = record {
     sweeps_none : All None ended.sweeps
     sweeps_none =
         (each_run NoKeys (λ _. ⊤) _ ended.sweeps tt
-        (each_listed NoKeys (λ _. ⊤) selection.selector _ _ tt (λ _. refl) tt
-        (λ i _ _. each_remove_if_cancelled NoKeys selection.selector i
-        (record { looks = refl; looks_interest = refl; removes = refl; puts = refl }))) ended.runs_sweeps).0
+        (each_remove_below NoKeys selection.selector _ selection.listed
+        (record {
+          frees = λ _. refl;
+          touched = λ _. refl;
+          takes = λ _. refl;
+          at = λ _. record {
+            looks = refl;
+            looks_interest = refl;
+            removes = refl;
+            puts = refl;
+            looks_index = refl;
+            touches = refl;
+          };
+        })) ended.runs_sweeps).0
 
     cut : (third ≡ ended.marks ++ ended.gate ∷ ended.status ∷ []) × (LookKeys selection.selector mark ≡ ended.keys)
         × (fourth ≡ ended.sweeps ++ ended.wake ∷ ended.gives ∷ [])

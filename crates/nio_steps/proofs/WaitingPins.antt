@@ -1,5 +1,6 @@
 -- Calls that wait give back the pins that the runs in them take.
 use Rattle.std.proofs.Common.{Bool, Result, Ok, Err, List, [], ◌∷◌, sym, subst}
+use Rattle.std.proofs.Common.{None}
 use Rattle.std.specs.List.{All}
 use Rattle.std.proofs.lemmas.List.Elements.{All-head, All-tail}
 use Rattle.nio_base.specs.declared.numbers.SelNo.{SelNo}
@@ -66,10 +67,10 @@ module _ (tells : (selection : Selection) (poll : Poll) → GivesPinsBack (Tells
       (leaves selection rest.leaves tt rest.left))
   rest-gives polls (Err refusal) acts answer rest = subst NoPins (sym rest.0) no_pins
 
-pub selects-give : (s : SelNo) (mode : Mode) (polls : List Poll) → GivesPinsBack (Begins s mode)
+pub selects-give : (s : SelNo) (mode : Mode) (polls : List Poll) → GivesPinsBack (Begins s mode None)
     → ((selection : Selection) (poll : Poll) → GivesPinsBack (Tells selection poll))
     → ((selection : Selection) → GivesPinsBack (Completes (leave_plan selection)))
-    → GivesPinsBack (MakesSelection s mode polls)
+    → GivesPinsBack (MakesSelection s mode None polls)
 selects-give s mode polls begins tells leaves = then-give (retries-give begins) (rest-gives tells leaves polls)
 
 -- ---- closing a selector

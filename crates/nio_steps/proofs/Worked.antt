@@ -27,7 +27,7 @@ use Rattle.nio_steps.specs.Plan.{Plan}
 use Rattle.nio_steps.specs.SelectCalls.{open_selector_plan, try_begin_plan, told_plan, leave_plan, shut_plan}
 use Rattle.nio_steps.specs.SelectCalls.{try_finish_plan, keys_plan, selected_keys_plan, wakeup_plan, interrupt_plan}
 use Rattle.nio_steps.specs.SelectCalls.{interrupted_plan, done, again, closing, already_closed, closed, busy, Selection}
-use Rattle.nio_steps.specs.SelectCalls.{not_free}
+use Rattle.nio_steps.specs.Looking.{not_free}
 use Rattle.nio_steps.specs.Steps.{pin, unpin, try_hold_bit, release}
 use Rattle.nio_steps.specs.Sweeps.{sweep, seek, sweep_over}
 use Rattle.nio_steps.specs.declared.refusal.BeginError.{BeginError}
@@ -104,13 +104,14 @@ sel mode ops =
         channel = channel 0;
         interest = ops;
       } ∷ [];
+      listed = false;
     }
 
 abbrev no_key : Mode → Selection
-no_key mode = record { selector = s0; mode = mode; bound = 1; looked = [] }
+no_key mode = record { selector = s0; mode = mode; bound = 1; looked = []; listed = false }
 
 abbrev Begins : CallerNo → Mode → ℕ → (State → Type 0) → State → Type 0
-Begins me mode ops = Says me (try_begin_plan s0 mode false) (Ok (sel mode ops))
+Begins me mode ops = Says me (try_begin_plan s0 mode None false) (Ok (sel mode ops))
 
 -- ---- the cases
 
@@ -171,7 +172,7 @@ cancel_during_selection = (refl, (refl, (refl, (refl, (refl, (refl, (refl, (refl
 
 cancelled_key_until_selection : Setup Source 1 (Says t1 (cancel_plan k0) tt (Says t1 (key_for_plan c0 s0) (Some k0)
     (Says t1 (try_register_plan limits s0 c0 1 0) (Err ChannelError.CancelledKey)
-    (Says t1 (try_begin_plan s0 WithoutWaiting false) (Ok (no_key WithoutWaiting))
+    (Says t1 (try_begin_plan s0 WithoutWaiting None false) (Ok (no_key WithoutWaiting))
     (Says t1 (told_plan (no_key WithoutWaiting) [] false) (done (record { count = 0; why = Now }))
     (Says t1 (key_for_plan c0 s0) None
     (Says t1 (try_register_plan limits s0 c0 1 0) (Ok (k 0 1)) End))))))) opening
@@ -182,7 +183,7 @@ cancelled_key_until_selection =
 closing_in_two_parts : Setup Source 1 (Begins t1 Wait 1 (Says t2 (shut_plan s0) closing (Says t1 (is_valid_plan k0) true
     (Says t1 (told_plan (sel Wait 1) [] false) (done (record { count = 0; why = Closed }))
     (Says t2 (try_finish_plan s0) closed (Says t1 (is_valid_plan k0) false
-    (Says t1 (try_begin_plan s0 WithoutWaiting false) (Err BeginError.ClosedSelector)
+    (Says t1 (try_begin_plan s0 WithoutWaiting None false) (Err BeginError.ClosedSelector)
     (Says t2 (wakeup_plan s0) tt (Says t2 (shut_plan s0) already_closed
     (Says t1 (is_registered_plan limits c0) false End)))))))))) opening
 unfolding plans
@@ -191,8 +192,8 @@ closing_in_two_parts =
 
 busy_turn : Setup Source 1
     (Begins t1 Wait 1
-    (Says t2 (try_begin_plan s0 WithoutWaiting false) (Err BeginError.Busy) (Says t2 (shut_plan s0) closing
-    (Says t2 (try_finish_plan s0) busy (Says t2 (try_begin_plan s0 WithoutWaiting false) (Err BeginError.ClosedSelector)
+    (Says t2 (try_begin_plan s0 WithoutWaiting None false) (Err BeginError.Busy) (Says t2 (shut_plan s0) closing
+    (Says t2 (try_finish_plan s0) busy (Says t2 (try_begin_plan s0 WithoutWaiting None false) (Err BeginError.ClosedSelector)
     (Says t1 (keys_plan s0 false) (Err ListError.ClosedSelector) End)))))) opening
 unfolding plans
 busy_turn = (refl, (refl, (refl, (refl, (refl, (refl, (refl, (refl, (refl, (refl, tt))))))))))
@@ -271,7 +272,7 @@ small_limits =
 
 -- no memory for the looked list: the turn is free, and a wakeup stays
 no_memory : Setup Source 1
-    (Says t2 (wakeup_plan s0) tt (Says t1 (try_begin_plan s0 Wait true) (Err BeginError.Memory) (Begins t2 Wait 1
+    (Says t2 (wakeup_plan s0) tt (Says t1 (try_begin_plan s0 Wait None true) (Err BeginError.Memory) (Begins t2 Wait 1
     (Says t2 (told_plan (sel Wait 1) [] false) (done (record { count = 0; why = Woken })) End)))) opening
 unfolding plans
 no_memory = (refl, (refl, (refl, (refl, (refl, (refl, (refl, (refl, tt))))))))
@@ -313,7 +314,7 @@ Registers ch att = Says t1 (try_register_plan one_key s0 ch 1 att)
 
 index_given_again : Says t1 (open_selector_plan one_key) (Ok s0)
     (Opens 0 (Opens 1 (Unblocks 0 (Unblocks 1 (Registers c0 5 (Ok k0)
-    (Says t1 (cancel_plan k0) tt (Says t1 (try_begin_plan s0 WithoutWaiting false) (Ok (no_key WithoutWaiting))
+    (Says t1 (cancel_plan k0) tt (Says t1 (try_begin_plan s0 WithoutWaiting None false) (Ok (no_key WithoutWaiting))
     (Says t1 (told_plan (no_key WithoutWaiting) [] false) (done (record { count = 0; why = Now }))
     (Says t2 (pin s0 0) removed
     (Registers (c 1 0) 0 (Err ChannelError.Full) (Says t2 (unpin s0 0) tt (Registers (c 1 0) 0 (Ok (k 0 1))
@@ -400,7 +401,7 @@ reopened_once_clear : Says t1 (open_selector_plan one_channel) (Ok s0)
     (Says t1 (is_registered_plan one_channel c0) true
     (Reopens 0 (Err Registered)
     (Says t1 (open_channel_plan one_channel Source) (Err ChannelError.ChannelsSpent)
-    (Says t1 (try_begin_plan s0 WithoutWaiting false) (Ok (no_key WithoutWaiting))
+    (Says t1 (try_begin_plan s0 WithoutWaiting None false) (Ok (no_key WithoutWaiting))
     (Says t1 (told_plan (no_key WithoutWaiting) [] false) (done (record { count = 0; why = Now }))
     (Says t2 (try_hold_bit (channel 0)) None
     (Reopens 0 (Err ReopenError.Busy) (Says t2 (release (channel 0)) tt

@@ -1,26 +1,16 @@
 -- A call gives a turn back, marks keys and removes keys only on the selector that its row names.
-use Rattle.std.proofs.Common.{◌≡◌, ℕ, ◌==◌, Bool, true, false, ◌||◌, Option, Some, None, Ok, Err, List, [], ◌∷◌, ◌++◌}
+use Rattle.std.proofs.Common.{◌≡◌, ℕ, ◌==◌, Bool, true, false, ◌||◌, Ok, Err, List, [], ◌∷◌, ◌++◌}
 use Rattle.std.proofs.Common.{refl, ap, sym, ◌∙◌}
-use Rattle.nio_base.specs.declared.limits.Limits.{Limits}
-use Rattle.nio_base.specs.declared.numbers.ChanId.{ChanId}
-use Rattle.nio_base.specs.declared.numbers.ChanNo.{ChanNo}
-use Rattle.nio_base.specs.declared.numbers.KeyId.{KeyId}
-use Rattle.nio_base.specs.declared.numbers.SelNo.{SelNo}
 use Rattle.nio_history.specs.OwnEvents.{gives_turn}
 use Rattle.nio_history.specs.Questions.{Question, question_of}
 use Rattle.nio_history.specs.Turns.{removes_on}
 use Rattle.nio_history.specs.declared.act.Act.{Act}
 use Rattle.nio_history.specs.declared.act.Act.TheVariants.{GiveTurn, Remove, Mark}
-use Rattle.nio_steps.proofs.CallWalks.{each_call, close_channel-walks, finish-walks, make_key-walks, register-walks}
-use Rattle.nio_steps.proofs.PlanWalks.{Walk, Walks, is_plain, walks_run, walks_reply, walks_calm, walks_ask, walks_bind}
-use Rattle.nio_steps.proofs.PlanWalks.{walking, pinned_calm}
+use Rattle.nio_steps.proofs.CallWalks.{each_call, close_channel-walks, finish-walks, register-walks, new-walks}
+use Rattle.nio_steps.proofs.PlanWalks.{Walk, is_plain, walks_run, pinned_calm}
 use Rattle.nio_steps.proofs.SelectionLaws.{none_of-append}
-use Rattle.nio_steps.specs.ChannelCalls.{claim_taken, claim_free, claim_in_word, search_free, claim_new, make_key}
-use Rattle.nio_steps.specs.ChannelCalls.{make_claimed, register_first, register_next, register_new}
 use Rattle.nio_steps.specs.Laws.{LeavesSelector, is_selector, WorksOnlyThere}
 use Rattle.nio_steps.specs.Selections.{marks_on}
-use Rattle.nio_steps.specs.Steps.{number_in}
-use Rattle.nio_steps.specs.Sweeps.{seek_to}
 use Rattle.nio_steps.specs.TableCalls.{row_of}
 
 -- ---- questions and acts
@@ -86,41 +76,6 @@ sparing t = record {
       (λ act asks. one-leaves t act (ap (touches t) asks)) (λ act asks. one-leaves t act (ap (touches t) asks));
 }
 
--- ---- making a key
-
-module _ (t : ℕ) where
-  taken-spares : (s : SelNo) (c : ChanNo) (i : ℕ) → Walks (sparing t) (claim_taken s c i)
-  taken-spares s c i = search (walking, walks_calm) depth 12
-
-  free-spares : (s : SelNo) (c : ChanNo) (i : ℕ) → Walks (sparing t) (claim_free s c i)
-  free-spares s c i = search (walking, taken-spares) depth 12
-
-  word-spares : (s : SelNo) (c : ChanNo) (mark j : ℕ) → Walks (sparing t) (claim_in_word s c mark j)
-  word-spares s c mark j = search (walking, free-spares) depth 12
-
-  claimed-spares : (s : SelNo) (c : ChanId) (ops att : ℕ) (k : KeyId) → Walks (sparing t) (make_claimed s c ops att k)
-  claimed-spares s c ops att k =
-      walks_bind (make_key s c ops att k) _ (make_key-walks s c ops att k refl)
-      (λ answer. walks_calm _ _ refl (λ _. walks_reply answer))
-
-  first-spares : (s : SelNo) (c : ChanId) (ops att : ℕ) (found : Option KeyId)
-      → Walks (sparing t) (register_first s c ops att found)
-  first-spares s c ops att None = walks_reply _
-  first-spares s c ops att (Some k) = walks_ask _ _ refl (λ _. claimed-spares s c ops att k)
-
-  next-spares : (l : Limits) (s : SelNo) (c : ChanId) (ops att mark : ℕ) (found : Option KeyId)
-      → Walks (sparing t) (register_next l s c ops att mark found)
-  next-spares l s c ops att mark None =
-      walks_bind (seek_to l.keys mark (claim_new s c.number)) (register_first s c ops att)
-      (search (walking, walks_calm) depth 12) (first-spares s c ops att)
-  next-spares l s c ops att mark (Some k) = walks_ask _ _ refl (λ _. claimed-spares s c ops att k)
-
-  new-spares : (l : Limits) (s : SelNo) (c : ChanId) (ops att : ℕ) → Walks (sparing t) (register_new l s c ops att)
-  new-spares l s c ops att =
-      walks_ask _ _ refl (λ look. let mark = number_in look in
-      walks_bind (search_free s c.number mark) (register_next l s c ops att mark)
-      (search (walking, word-spares) depth 12) (next-spares l s c ops att mark))
-
 -- ---- each call
 
 pub works_only_there : WorksOnlyThere
@@ -128,9 +83,16 @@ works_only_there l lacks call acts answer t run off =
     walks_run {w = sparing t} ((row_of call).plan l lacks) acts answer
     (each_call l lacks call
     (record {
-      registers = λ s c ops att. register-walks l s c ops att (new-spares t l s c ops att);
+      registers = λ s c ops att. register-walks l s c ops att
+          (new-walks (record {
+            claims = λ _ _ _. refl;
+            claims_again = λ _ _ _ _. refl;
+            unpins = λ _ _. refl;
+            publishes = λ _ _. refl;
+          }) l s c ops att);
       closes = λ c. close_channel-walks l c (λ _. refl);
       finishes = λ s calm. finish-walks s refl calm;
     })
     (λ s on. let other : (s.0 == t) ≡ false = ap (is_selector t) (sym on) ∙ off in
-    record { gives = other; marks = λ i from bits. other; removes = λ i. other })) run
+    record { gives = other; marks = λ i from bits. other; removes = λ i. other })
+    (λ s mode known _. record { takes = λ j. refl; looks = λ i. refl })) run

@@ -1,5 +1,5 @@
 -- A bound on the steps of a selection, whatever other callers do meanwhile.
-use Rattle.std.specs.Prelude.{◌≡◌, ℕ, ◌+◌, ◌*◌, ◌/◌, ◌%◌, ◌≤◌, ◌==◌, nat_lt, Bool, false, not, ◌&&◌, Ok, List, ◌∷◌}
+use Rattle.std.specs.Prelude.{◌≡◌, ℕ, ◌+◌, ◌*◌, ◌/◌, ◌%◌, ◌≤◌, ◌==◌, nat_lt, Bool, false, not, ◌&&◌, None, Ok, List, ◌∷◌}
 use Rattle.std.specs.Prelude.{◌++◌, length, map}
 use Rattle.nio_base.specs.Limits.{IsFit}
 use Rattle.nio_base.specs.declared.limits.Limits.{Limits}
@@ -32,13 +32,13 @@ finds_listed s k _ = false
 abbrev pub count_listed : SelNo → ℕ → List Act → ℕ
 count_listed s mark acts = count_below mark (λ k. has (finds_listed s.0 k) acts)
 
--- The acts of a whole selection: a `try_begin` that answered Ok, and the `told` that ended it. They are given by the
+-- The acts of a whole selection without the list: a `try_begin` that answered Ok, and the `told` that ended it. They are given by the
 -- look with which the selection begins and by the look at the keys' high-water mark at its end, and by what stands
 -- before and after each of the two; between the two calls the caller may do what it likes, but give the turn back or
 -- remove a key.
 pub record IsWholeSelection (selection : Selection) (poll : Poll) (answer : Selected) (found : GateWord) (mark : ℕ)
     (first second between third fourth : List Act) : Type 0 where
-  pub begins : Begins selection.selector selection.mode (first ++ BeginLook selection.selector found ∷ second)
+  pub begins : Begins selection.selector selection.mode None (first ++ BeginLook selection.selector found ∷ second)
       (Ok selection)
   pub tells : Tells selection poll (third ++ LookKeys selection.selector mark ∷ fourth) (done answer)
   pub kept : has (gives_turn selection.selector.0) between ≡ false

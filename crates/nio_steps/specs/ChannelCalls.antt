@@ -22,7 +22,7 @@ use Rattle.nio_steps.specs.Runs.{Completes}
 use Rattle.nio_steps.specs.Steps.{look_key, cancel_key, swap_interest, swap_note, make_channel, look_channel, claim}
 use Rattle.nio_steps.specs.Steps.{raise_keys, look_keys, publish, look_reg, enrol, look_channels, raise_channels}
 use Rattle.nio_steps.specs.Steps.{look_gate, try_hold_bit, release, set_mode, close_bit, unpin, clear_mark, claim_again}
-use Rattle.nio_steps.specs.Steps.{look_free, put_free, take_free, reopen}
+use Rattle.nio_steps.specs.Steps.{look_free, put_free, take_free, reopen, touch}
 use Rattle.nio_steps.specs.Sweeps.{sweep_to, seek_to}
 use Rattle.nio_steps.specs.Waiting.{Retries}
 use Rattle.nio_steps.specs.declared.refusal.ChannelError.{ChannelError}
@@ -195,9 +195,10 @@ try_set_blocking_plan l c on = do
 
 -- ---- registering: a key that the channel has
 
--- the channel has a valid key: its interest set is set, and its attachment where one is given
+-- the channel has a valid key: its index is touched, its interest set is set, and its attachment where one is given
 abbrev pub update_key : SelNo → KeyId → ℕ → ℕ → Plan (Result KeyNo ChannelError)
 update_key s k ops att = do
+  touch s k.index
   swap_interest s k.index ops
   when (not (att == 0)) (swap_note s k.index att)
   reply (Ok (key s k))
@@ -274,9 +275,11 @@ settle_key s c k = do
   when (not (is_open_channel found c.serial)) (cancel_key s k.index)
   reply (Ok (key s k))
 
--- the key's parts are set before it is enrolled, and it is enrolled before it is published
+-- The index is touched before the key's parts are set, they are set before it is enrolled, and it is enrolled before it
+-- is published. The one touch serves all changes up to the last, since the pin of the claim stays.
 abbrev pub publish_key : SelNo → ChanId → ℕ → ℕ → KeyId → Plan (Result KeyNo ChannelError)
 publish_key s c ops att k = do
+  touch s k.index
   swap_interest s k.index ops
   swap_note s k.index att
   enrol c.number s k.index k.serial

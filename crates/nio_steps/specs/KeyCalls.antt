@@ -1,6 +1,6 @@
 -- The steps of the calls that find things by their numbers, and of the calls on keys.
 use Rattle.std.specs.Prelude.{ℕ, ◌==◌, nat_lt, Bool, false, not, ◌&&◌, if◌then◌else◌, Option, Some, None, Result, Ok}
-use Rattle.std.specs.Prelude.{Err, bit_and}
+use Rattle.std.specs.Prelude.{Err}
 use Rattle.std.specs.Int.{bit_at}
 use Rattle.nio_base.specs.Kind.{valid_operations}
 use Rattle.nio_base.specs.Ops.{is_within}
@@ -15,6 +15,7 @@ use Rattle.nio_steps.specs.Names.{selector, channel, channel_of}
 use Rattle.nio_steps.specs.Plan.{Plan, reply, ◌>>=◌, ◌>>◌, when}
 use Rattle.nio_steps.specs.Steps.{look_selectors, look_key, cancel_key, look_interest, swap_interest, or_interest}
 use Rattle.nio_steps.specs.Steps.{and_interest, swap_note, look_note, look_channel, look_mark, unselect_bit, pin, unpin}
+use Rattle.nio_steps.specs.Steps.{touch}
 use Rattle.nio_steps.specs.declared.refusal.KeyError.{KeyError}
 use Rattle.nio_steps.specs.declared.refusal.KeyError.TheVariants.{CancelledKey, IllegalOps}
 
@@ -87,6 +88,7 @@ on_supported ops steps stage = look_channel stage.chan >>= if_supported ops step
 
 abbrev pub put_set : KeyNo → ℕ → Plan (Result (Unit {0}) KeyError)
 put_set k ops = do
+  touch k.sel k.index
   swap_interest k.sel k.index ops
   reply (Ok tt)
 
@@ -96,6 +98,7 @@ set_interest_plan k ops = on_valid k (on_supported ops (put_set k ops))
 -- the set before
 abbrev pub add_set : KeyNo → ℕ → Plan (Result ℕ KeyError)
 add_set k ops = do
+  touch k.sel k.index
   before ← or_interest k.sel k.index ops
   reply (Ok before)
 
@@ -104,6 +107,7 @@ interest_or_plan k ops = on_valid k (on_supported ops (add_set k ops))
 
 abbrev pub keep_set : KeyNo → ℕ → Plan (Result ℕ KeyError)
 keep_set k ops = do
+  touch k.sel k.index
   before ← and_interest k.sel k.index ops
   reply (Ok before)
 
@@ -119,9 +123,15 @@ look_ready k = do
 unfoldable pub ready_plan : KeyNo → Plan (Result ℕ KeyError)
 ready_plan k = on_valid k (λ _. look_ready k)
 
+-- who cancels a key touches its index first, under its pin
+abbrev pub cancel_pinned : SelNo → ℕ → Plan Stage
+cancel_pinned s i = do
+  touch s i
+  cancel_key s i
+
 -- the key is cancelled where its index has it, and it isn't removed
 abbrev pub cancel_present : KeyNo → Stage → Plan (Unit {0})
-cancel_present k stage = when (fits stage k.serial && not stage.removed) (cancel_key k.sel k.index)
+cancel_present k stage = when (fits stage k.serial && not stage.removed) (cancel_pinned k.sel k.index)
 
 unfoldable pub cancel_plan : KeyNo → Plan (Unit {0})
 cancel_plan k = under_pin k.sel k.index (cancel_present k)

@@ -44,19 +44,19 @@ RunsArePerformed R =
 -- After a `try_begin` that answers Ok, the selection in its answer has begun.
 abbrev pub BeginsSelection : Type 0
 BeginsSelection =
-    (s : SelNo) (mode : Mode) (own acts : List Act) (selection : Selection)
-    → Begins s mode acts (Ok selection) → IsBegun (own ++ acts) selection
+    (s : SelNo) (mode : Mode) (known : Option (List LookedKey)) (own acts : List Act) (selection : Selection)
+    → Begins s mode known acts (Ok selection) → IsBegun (own ++ acts) selection
 
 -- The indexes of the looked keys rise, so none stands there twice, and each is below the bound.
 pub record IsInOrder (selection : Selection) : Type 0 where
   pub rise : AllPairs (λ x y. x.index < y.index) selection.looked
   pub below : All (λ entry. entry.index < selection.bound) selection.looked
 
--- The looked list of a selection that has begun is in this order.
+-- The looked list of a selection without the list is in this order when it has begun.
 abbrev pub LooksInOrder : Type 0
 LooksInOrder =
     (s : SelNo) (mode : Mode) (acts : List Act) (selection : Selection)
-    → Begins s mode acts (Ok selection) → IsInOrder selection
+    → Begins s mode None acts (Ok selection) → IsInOrder selection
 
 -- Among these acts are a look at the key's index that found the key valid, with the serial and the channel of the
 -- entry, and a look that found the entry's interest set.
@@ -68,20 +68,21 @@ pub record IsLookedAt (s : SelNo) (acts : List Act) (entry : LookedKey) : Type 0
   pub channel : stage.chan ≡ entry.channel
   pub interest : Contains acts (LookInterest s entry.index entry.interest)
 
--- The call that begins a selection looked so at each of its looked keys.
+-- The call that begins a selection without the list looked so at each of its looked keys.
 abbrev pub LooksAtValidKeys : Type 0
 LooksAtValidKeys =
     (s : SelNo) (mode : Mode) (acts : List Act) (selection : Selection)
-    → Begins s mode acts (Ok selection) → All (IsLookedAt s acts) selection.looked
+    → Begins s mode None acts (Ok selection) → All (IsLookedAt s acts) selection.looked
 
--- A key was published and cancelled before a `try_begin` that answers Ok, and its index is below the selection's bound.
+-- A key was published and cancelled before a `try_begin` without the list that answers Ok, and its index is below the
+-- selection's bound.
 -- Then the key is removed when the call returns, and it isn't among the looked keys. `before` is the history before the
 -- call; what the caller did after it is this call.
 abbrev pub CancelledKeysGo : Type 0
 CancelledKeysGo =
     (l : Limits) (n : CallerNo) (before later : List Event) (s : SelNo) (mode : Mode) (selection : Selection)
     (i serial : ℕ)
-    → IsLegal l (before ++ later) → Begins s mode (mine n later) (Ok selection)
+    → IsLegal l (before ++ later) → Begins s mode None (mine n later) (Ok selection)
     → IsTrue (was_published ((state_after before).key s.0 i) serial)
     → IsTrue (was_cancelled ((state_after before).key s.0 i) serial)
     → i < selection.bound
@@ -114,7 +115,8 @@ pub record MarksLookedKey (st : State) (selection : Selection) (pairs : List (�
   pub in_set : IsTrue (is_in_key_set (st.key s.0 i) as_told.entry.serial)
   pub channel : (st.key s.0 i).chan ≡ as_told.entry.channel
 
--- In a legal history, when a `told` marks an index, the index still has the key that the selection looked at. `before`
+-- In a legal history, when a `told` of a selection without the list marks an index, the index still has the key that the
+-- selection looked at. `before`
 -- is the history before the call; what the caller did after it is this `told`, and `past` is what stands before the
 -- mark.
 abbrev pub MarksLookedKeys : Type 0
@@ -123,7 +125,8 @@ MarksLookedKeys =
     (answer : ToldReply)
     (s : SelNo) (i told : ℕ) (from : KeyMark) (found : Result (Unit {0}) KeyMark)
     → let call = past ++ event_of n (Mark s i from told found) ∷ later in
-    IsLegal l (before ++ call) → IsBegun (mine n before) selection → Tells selection poll (mine n call) answer
+    IsLegal l (before ++ call) → IsBegun (mine n before) selection → IsFalse selection.listed
+    → Tells selection poll (mine n call) answer
     → MarksLookedKey (state_after (before ++ past)) selection poll.pairs s i told
 
 -- A `told` that answers Again has marked no key, and the selection in its answer is still in progress.
@@ -139,8 +142,8 @@ CountsSelection =
     → (begun : IsBegun own selection) → Tells selection poll acts (done answer)
     → answer.count ≡ count (marks_on selection.selector.0) (begun.since ++ acts)
 
--- A `told` that ends its selection looks at the selector's high-water mark. When it returns, each key that was
--- published and cancelled before that look, at an index below the high-water mark, is removed: also one that was
+-- A `told` that ends a selection without the list looks at the selector's high-water mark. When it returns, each key
+-- that was published and cancelled before that look, at an index below the high-water mark, is removed: also one that was
 -- registered since the selection began. `before` is the history before the call; what the caller did after it is this
 -- call, and `looked` is what stands before the look.
 abbrev pub CancelledKeysGoAtEnd : Type 0
@@ -149,7 +152,7 @@ CancelledKeysGoAtEnd =
     (answer : Selected) (mark i serial : ℕ)
     → let s = selection.selector in
     let call = looked ++ event_of n (LookKeys s mark) ∷ later in
-    IsLegal l (before ++ call) → Tells selection poll (mine n call) (done answer)
+    IsLegal l (before ++ call) → IsFalse selection.listed → Tells selection poll (mine n call) (done answer)
     → IsTrue (was_published ((state_after (before ++ looked)).key s.0 i) serial)
     → IsTrue (was_cancelled ((state_after (before ++ looked)).key s.0 i) serial)
     → i < mark

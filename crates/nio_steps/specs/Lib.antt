@@ -8,6 +8,7 @@ pub mod Perform
 pub mod Names
 pub mod KeyCalls
 pub mod ChannelCalls
+pub mod Looking
 pub mod SelectCalls
 pub mod PipeCalls
 pub mod Ongoing
@@ -16,3 +17,5 @@ pub mod Selections
 pub mod Laws
 pub mod PinLaws
 pub mod Bound
+pub mod Lists
+pub mod ListLaws

@@ -1,6 +1,6 @@
 -- Each call gives back the pins that it takes: a caller that has no pin when it calls has none when the call
 -- returns.
-use Rattle.std.specs.Prelude.{ℕ, Bool, IsFalse, List}
+use Rattle.std.specs.Prelude.{ℕ, Bool, IsFalse, Option, None, List}
 use Rattle.nio_base.specs.declared.kind.Kind.{Kind}
 use Rattle.nio_base.specs.declared.limits.Limits.{Limits}
 use Rattle.nio_base.specs.declared.numbers.CallerNo.{CallerNo}
@@ -19,10 +19,12 @@ use Rattle.nio_steps.specs.KeyCalls.{set_interest_plan, interest_or_plan, intere
 use Rattle.nio_steps.specs.KeyCalls.{unselect_plan, attach_plan, attachment_plan}
 use Rattle.nio_steps.specs.PipeCalls.{pipe_plan, try_read_plan, try_write_plan, Reads, Writes}
 use Rattle.nio_steps.specs.Runs.{Completes}
-use Rattle.nio_steps.specs.SelectCalls.{Selection, open_selector_plan, try_begin_plan, told_plan, leave_plan, shut_plan}
+use Rattle.nio_steps.specs.SelectCalls.{Selection, open_selector_plan, take_list_plan, try_begin_plan, told_plan}
+use Rattle.nio_steps.specs.SelectCalls.{leave_plan, shut_plan}
 use Rattle.nio_steps.specs.SelectCalls.{try_finish_plan, keys_plan, selected_keys_plan, wakeup_plan, interrupt_plan}
 use Rattle.nio_steps.specs.SelectCalls.{interrupted_plan, Poll, MakesSelection, ClosesSelector}
 use Rattle.nio_steps.specs.TableCalls.{TableCall, WaitCall, row_of, wait_row_of}
+use Rattle.nio_steps.specs.declared.looked.LookedKey.{LookedKey}
 
 -- after a call of this shape the caller keeps no pin that it took in the call
 abbrev pub GivesPinsBack : {R : Type 0} → (List Act → R → Type 0) → Type 0
@@ -58,7 +60,9 @@ pub record PinsAreGivenBack : Type 0 where
       → GivesPinsBack (Completes (try_register_plan l s c ops att))
   pub close_channel : (l : Limits) (c : ChanId) → GivesPinsBack (Completes (close_channel_plan l c))
   pub open_selector : (l : Limits) → GivesPinsBack (Completes (open_selector_plan l))
-  pub try_begin : (s : SelNo) (mode : Mode) (lacks : Bool) → GivesPinsBack (Completes (try_begin_plan s mode lacks))
+  pub take_list : (s : SelNo) → GivesPinsBack (Completes (take_list_plan s))
+  pub try_begin : (s : SelNo) (mode : Mode) (known : Option (List LookedKey)) (lacks : Bool)
+      → GivesPinsBack (Completes (try_begin_plan s mode known lacks))
   pub told : (selection : Selection) (pairs : List (ℕ × ℕ)) (elapsed : Bool)
       → GivesPinsBack (Completes (told_plan selection pairs elapsed))
   pub leave : (selection : Selection) → GivesPinsBack (Completes (leave_plan selection))
@@ -75,7 +79,7 @@ pub record PinsAreGivenBack : Type 0 where
   -- the calls that wait
   pub set_blocking : (l : Limits) (c : ChanId) (on : Bool) → GivesPinsBack (SetsBlocking l c on)
   pub register : (l : Limits) (s : SelNo) (c : ChanId) (ops att : ℕ) → GivesPinsBack (Registers l s c ops att)
-  pub select : (s : SelNo) (mode : Mode) (polls : List Poll) → GivesPinsBack (MakesSelection s mode polls)
+  pub select : (s : SelNo) (mode : Mode) (polls : List Poll) → GivesPinsBack (MakesSelection s mode None polls)
   pub close : (s : SelNo) → GivesPinsBack (ClosesSelector s)
   pub read : (l : Limits) (source : ChanId) (none : Bool) → GivesPinsBack (Reads l source none)
   pub write : (l : Limits) (source sink : ChanId) (none : Bool) → GivesPinsBack (Writes l source sink none)

@@ -1,13 +1,12 @@
 -- The steps of the calls of selections, of closing a selector, and of waking and interrupting.
-use Rattle.std.specs.Prelude.{◌≡◌, ℕ, zero, suc, ◌+◌, ◌*◌, ◌==◌, nat_lt, Bool, true, false, not, ◌&&◌, if◌then◌else◌}
-use Rattle.std.specs.Prelude.{Option, Some, None, is_some, Result, Ok, Err, is_ok, List, [], ◌∷◌, ◌++◌, map, fold}
+use Rattle.std.specs.Prelude.{◌≡◌, ℕ, ◌+◌, ◌==◌, Bool, true, false, not, ◌&&◌, if◌then◌else◌}
+use Rattle.std.specs.Prelude.{Option, Some, None, is_some, is_none, Result, Ok, Err, is_ok, List, [], ◌∷◌, ◌++◌, map, fold}
 use Rattle.std.specs.Prelude.{bit_and, bit_or}
 use Rattle.nio_base.specs.declared.limits.Limits.{Limits}
 use Rattle.nio_base.specs.declared.numbers.CallerNo.{CallerNo}
 use Rattle.nio_base.specs.declared.numbers.KeyNo.{KeyNo}
 use Rattle.nio_base.specs.declared.numbers.SelNo.{SelNo}
-use Rattle.nio_history.specs.Sets.{in_key_set, in_cancelled_set, is_valid}
-use Rattle.nio_base.specs.Numbers.{last_serial}
+use Rattle.nio_history.specs.Sets.{in_key_set}
 use Rattle.nio_history.specs.declared.act.Act.{Act}
 use Rattle.nio_history.specs.declared.found.GateWord.{GateWord}
 use Rattle.nio_history.specs.declared.found.Mark.{Mark as KeyMark}
@@ -16,15 +15,15 @@ use Rattle.nio_history.specs.declared.found.Mode.TheVariants.{Now as WithoutWait
 use Rattle.nio_history.specs.declared.found.Stage.{Stage}
 use Rattle.nio_history.specs.declared.why.Why.{Why}
 use Rattle.nio_history.specs.declared.why.Why.TheVariants.{Ready, Closed, Now, Woken, Interrupted, Elapsed}
-use Rattle.nio_steps.specs.ChannelCalls.{words_below}
 use Rattle.nio_base.specs.Ops.{is_within}
-use Rattle.nio_steps.specs.KeyCalls.{has_bit, under_pin}
+use Rattle.nio_steps.specs.KeyCalls.{under_pin}
+use Rattle.nio_steps.specs.Looking.{look_at_keys, remove_below}
 use Rattle.nio_steps.specs.Names.{selector}
-use Rattle.nio_steps.specs.Plan.{Plan, reply, ◌>>=◌, ◌>>◌, when}
+use Rattle.nio_steps.specs.Plan.{Plan, reply, ◌>>=◌, ◌>>◌}
 use Rattle.nio_steps.specs.Runs.{Completes}
 use Rattle.nio_steps.specs.Steps.{make_selector, wake, look_gate, set_interrupt, take_interrupt, look_interrupt}
-use Rattle.nio_steps.specs.Steps.{look_key, look_interest, look_keys, take_turn, begin_look, give_turn, remove}
-use Rattle.nio_steps.specs.Steps.{look_mark, mark, end_wake, shut_bit, enter, look_free, put_free}
+use Rattle.nio_steps.specs.Steps.{look_key, look_keys, take_turn, begin_look, give_turn, remove}
+use Rattle.nio_steps.specs.Steps.{look_mark, mark, end_wake, shut_bit, enter, take_list}
 use Rattle.nio_steps.specs.Sweeps.{sweep_to, seek_to, sweep_over}
 use Rattle.nio_steps.specs.Waiting.{Then, Tries, Repeats, Retries}
 use Rattle.nio_steps.specs.declared.looked.LookedKey.{LookedKey}
@@ -50,41 +49,25 @@ open_selector_plan l = do
   made ← seek_to l.selectors 0 (λ n. makes_selector (selector n))
   reply (opened_selector made)
 
--- ---- going over the indexes of a selector that aren't free
+-- ---- taking the list
 
--- those of the first n of the 64 indexes from 64 times j on that are below the bound and that the look shows
--- as not free
-unfoldable pub not_free : ℕ → ℕ → ℕ → ℕ → List ℕ
-not_free word j bound zero = []
-not_free word j bound (suc n) =
-    if nat_lt (64 * j + n) bound && not (has_bit word n) then not_free word j bound n ++ (64 * j + n) ∷ []
-    else not_free word j bound n
-
--- makes the steps `f` of each of these 64 indexes that is below the bound and that one look finds not free
-abbrev pub over_word : {A : Type 0} → SelNo → ℕ → (ℕ → A → Plan A) → ℕ → A → Plan A
-over_word s bound f j x = do
-  word ← look_free s j
-  sweep_over (not_free word j bound 64) f x
-
--- the same of all indexes below the bound, 64 after 64
-abbrev pub over_listed : {A : Type 0} → SelNo → ℕ → (ℕ → A → Plan A) → A → Plan A
-over_listed s bound f x = sweep_to (words_below bound) 0 (over_word s bound f) x
-
--- a key of the cancelled set is removed, and its index is free then, unless this was its last serial
-abbrev pub remove_cancelled : SelNo → ℕ → Stage → Plan (Unit {0})
-remove_cancelled s i stage = do
-  remove s i
-  when (nat_lt stage.serial last_serial) (put_free s i)
+-- Whether the caller took it: nobody had it. It is empty then, and the caller's for good.
+unfoldable pub take_list_plan : SelNo → Plan Bool
+take_list_plan s = do
+  holder ← take_list s
+  reply (is_none holder)
 
 -- ---- beginning a selection
 
 -- A selection in progress: its selector and mode, its bound, which is the keys' high-water mark that it found when it
--- began, and its looked list. That has each key below the bound that it found valid, and rises.
+-- began, its looked list, and whether it goes by the selector's list. The looked list rises; it has each key below the
+-- bound that the selection found valid, or, where it goes by the list, that the list has then.
 pub record Selection : Type 0 where
   pub selector : SelNo
   pub mode : Mode
   pub bound : ℕ
   pub looked : List LookedKey
+  pub listed : Bool
 
 -- a refusal after the turn was taken
 abbrev pub given_back : {A : Type 0} → SelNo → A → Plan A
@@ -92,49 +75,32 @@ given_back s answer = do
   give_turn s
   reply answer
 
-abbrev pub looked_key : ℕ → Stage → ℕ → LookedKey
-looked_key i stage ops = record { index = i; serial = stage.serial; channel = stage.chan; interest = ops }
-
--- a valid key is looked at
-abbrev pub look_valid : SelNo → ℕ → Stage → List LookedKey → Plan (List LookedKey)
-look_valid s i stage looked = do
-  ops ← look_interest s i
-  reply (looked ++ looked_key i stage ops ∷ [])
-
--- how a selection goes on after its look at an index that isn't free
-abbrev pub look_on : SelNo → ℕ → List LookedKey → Stage → Plan (List LookedKey)
-look_on s i looked stage =
-    if in_cancelled_set stage then (remove_cancelled s i stage >> reply looked) else
-    (if is_valid stage then look_valid s i stage looked else reply looked)
-
-abbrev pub look_over : SelNo → ℕ → List LookedKey → Plan (List LookedKey)
-look_over s i looked = look_key s i >>= look_on s i looked
-
 -- below the bound, unless there is no memory for the looked list
-abbrev pub begin_below : SelNo → Mode → ℕ → Bool → Plan (Result Selection BeginError)
-begin_below s mode bound lacks = if lacks then given_back s (Err BeginError.Memory) else do
-  looked ← over_listed s bound (look_over s) []
-  reply (Ok (record { selector = s; mode = mode; bound = bound; looked = looked }))
+abbrev pub begin_below : SelNo → Mode → Option (List LookedKey) → ℕ → Bool → Plan (Result Selection BeginError)
+begin_below s mode known bound lacks = if lacks then given_back s (Err BeginError.Memory) else do
+  looked ← look_at_keys s bound known
+  reply (Ok (record { selector = s; mode = mode; bound = bound; looked = looked; listed = is_some known }))
 
 -- with the turn
-abbrev pub begin_with_turn : SelNo → Mode → Bool → Plan (Result Selection BeginError)
-begin_with_turn s mode lacks = do
+abbrev pub begin_with_turn : SelNo → Mode → Option (List LookedKey) → Bool → Plan (Result Selection BeginError)
+begin_with_turn s mode known lacks = do
   begun ← begin_look s
   if begun.shut then given_back s (Err BeginError.ClosedSelector) else do
     bound ← look_keys s
-    begin_below s mode bound lacks
+    begin_below s mode known bound lacks
 
 -- the gate was found open
-abbrev pub begin_open : SelNo → Mode → Bool → Plan (Result Selection BeginError)
-begin_open s mode lacks = do
+abbrev pub begin_open : SelNo → Mode → Option (List LookedKey) → Bool → Plan (Result Selection BeginError)
+begin_open s mode known lacks = do
   holder ← take_turn s
-  if is_some holder then reply (Err BeginError.Busy) else begin_with_turn s mode lacks
+  if is_some holder then reply (Err BeginError.Busy) else begin_with_turn s mode known lacks
 
--- `lacks` says whether there is no memory for the looked list
-unfoldable pub try_begin_plan : SelNo → Mode → Bool → Plan (Result Selection BeginError)
-try_begin_plan s mode lacks = do
+-- `known` is the selector's list, where the caller has it; `lacks` says whether there is no memory for the looked list.
+-- A refusal leaves the list as it is.
+unfoldable pub try_begin_plan : SelNo → Mode → Option (List LookedKey) → Bool → Plan (Result Selection BeginError)
+try_begin_plan s mode known lacks = do
   gate ← look_gate s
-  if gate.shut then reply (Err BeginError.ClosedSelector) else begin_open s mode lacks
+  if gate.shut then reply (Err BeginError.ClosedSelector) else begin_open s mode known lacks
 
 -- the answer is that there was no memory
 abbrev pub begin_lacks_memory : {A : Type 0} → Result A BeginError → Bool
@@ -144,8 +110,8 @@ begin_lacks_memory (Err BeginError.Busy) = false
 begin_lacks_memory (Err BeginError.Memory) = true
 
 -- the call with this answer
-abbrev pub Begins : SelNo → Mode → List Act → Result Selection BeginError → Type 0
-Begins s mode acts answer = Completes (try_begin_plan s mode (begin_lacks_memory answer)) acts answer
+abbrev pub Begins : SelNo → Mode → Option (List LookedKey) → List Act → Result Selection BeginError → Type 0
+Begins s mode known acts answer = Completes (try_begin_plan s mode known (begin_lacks_memory answer)) acts answer
 
 -- ---- telling
 
@@ -213,17 +179,12 @@ why_ended mode count gate interrupted =
     (if gate.woken then Woken else
     (if interrupted then Interrupted else Elapsed))))
 
-abbrev pub remove_if_cancelled : SelNo → ℕ → Plan (Unit {0})
-remove_if_cancelled s i = do
-  stage ← look_key s i
-  when (in_cancelled_set stage) (remove_cancelled s i stage)
-
 -- Java's third step: the keys that were added to the cancelled set meanwhile are removed as in the first step. It goes
 -- over the indexes below the high-water mark that it finds now, so over those too that were claimed since.
-abbrev pub remove_all_cancelled : SelNo → Plan (Unit {0})
-remove_all_cancelled s = do
+abbrev pub remove_all_cancelled : SelNo → (listed : Bool) → Plan (Unit {0})
+remove_all_cancelled s listed = do
   mark ← look_keys s
-  over_listed s mark (λ i _. remove_if_cancelled s i) tt
+  remove_below s mark listed
 
 -- the selection is over, or goes on
 pub data ToldReply : Type 0 where
@@ -233,7 +194,7 @@ pub data ToldReply : Type 0 where
 -- the cancelled keys are removed, the wakeup is used up, and the turn is free
 abbrev pub end_selection : Selection → Selected → Plan ToldReply
 end_selection selection answer = do
-  remove_all_cancelled selection.selector
+  remove_all_cancelled selection.selector selection.listed
   end_wake selection.selector
   give_turn selection.selector
   reply (done answer)
@@ -422,8 +383,8 @@ SelectsRest polls (Err refusal) acts answer = (acts ≡ []) × (polls ≡ []) ×
 
 -- A whole selection, with these polls that the poller answered: it begins once nobody has the turn, and then
 -- polls and is told until it is over.
-abbrev pub MakesSelection : SelNo → Mode → List Poll → List Act → SelectReply → Type 0
-MakesSelection s mode polls = Then (Retries (Begins s mode) begin_finds_busy) (SelectsRest polls)
+abbrev pub MakesSelection : SelNo → Mode → Option (List LookedKey) → List Poll → List Act → SelectReply → Type 0
+MakesSelection s mode known polls = Then (Retries (Begins s mode known) begin_finds_busy) (SelectsRest polls)
 
 -- ---- calls that wait: closing
 

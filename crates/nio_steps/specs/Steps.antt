@@ -6,10 +6,11 @@ use Rattle.nio_base.specs.declared.numbers.ChanNo.{ChanNo}
 use Rattle.nio_base.specs.declared.numbers.KeyId.{KeyId}
 use Rattle.nio_base.specs.declared.numbers.SelNo.{SelNo}
 use Rattle.nio_history.specs.Questions.{Question, Answer, flag, word, gate_word, stage, operations, channel, number}
-use Rattle.nio_history.specs.Questions.{enrolled_key, holder, key_mark, exchange}
+use Rattle.nio_history.specs.Questions.{enrolled_key, holder, key_mark, exchange, index_word}
 use Rattle.nio_history.specs.State.{open_gate, unclaimed, unmade_channel, unmarked}
 use Rattle.nio_history.specs.declared.found.Chan.{Chan}
 use Rattle.nio_history.specs.declared.found.GateWord.{GateWord}
+use Rattle.nio_history.specs.declared.found.IndexWord.{IndexWord}
 use Rattle.nio_history.specs.declared.found.Mark.{Mark}
 use Rattle.nio_history.specs.declared.found.Stage.{Stage}
 use Rattle.nio_steps.specs.Plan.{Plan, reply, ask}
@@ -61,6 +62,10 @@ mark_in _ = unmarked
 abbrev pub exchange_in : Answer → Result (Unit {0}) Mark
 exchange_in (exchange found) = found
 exchange_in _ = Ok tt
+
+abbrev pub index_in : Answer → IndexWord
+index_in (index_word found) = found
+index_in _ = record { stage = unclaimed; pinned = false }
 
 -- ---- the kinds, in the order in which `Act` lists them
 
@@ -207,3 +212,18 @@ take_free s i = ask (Question.take_free s i) (λ answer. reply (flag_in answer))
 
 abbrev pub reopen : ChanNo → Chan → Plan Bool
 reopen c from = ask (Question.reopen c from) (λ answer. reply (flag_in answer))
+
+abbrev pub touch : SelNo → ℕ → Plan Bool
+touch s i = ask (Question.touch s i) (λ answer. reply (flag_in answer))
+
+abbrev pub look_touched : SelNo → ℕ → Plan ℕ
+look_touched s j = ask (Question.look_touched s j) (λ answer. reply (word_in answer))
+
+abbrev pub take_touched : SelNo → ℕ → Plan ℕ
+take_touched s j = ask (Question.take_touched s j) (λ answer. reply (word_in answer))
+
+abbrev pub look_index : SelNo → ℕ → Plan IndexWord
+look_index s i = ask (Question.look_index s i) (λ answer. reply (index_in answer))
+
+abbrev pub take_list : SelNo → Plan (Option CallerNo)
+take_list s = ask (Question.take_list s) (λ answer. reply (holder_in answer))

@@ -15,14 +15,15 @@ use Rattle.nio_steps.specs.ChannelCalls.{SetsBlocking, Registers}
 use Rattle.nio_steps.specs.KeyCalls.{find_selector_plan, find_channel_plan, find_plan, is_valid_plan, interest_plan}
 use Rattle.nio_steps.specs.KeyCalls.{set_interest_plan, interest_or_plan, interest_and_plan, ready_plan, cancel_plan}
 use Rattle.nio_steps.specs.KeyCalls.{unselect_plan, attach_plan, attachment_plan}
-use Rattle.nio_steps.specs.Ongoing.{Ongoing, Change, no_change, selection_ends, begin_change, told_change, shut_change}
+use Rattle.nio_steps.specs.Ongoing.{Ongoing, Change, no_change, selection_ends, begin_change, take_list_change, told_change, shut_change}
 use Rattle.nio_steps.specs.Ongoing.{finish_change, select_change, close_change}
 use Rattle.nio_steps.specs.PipeCalls.{pipe_plan, pipe_lacks_memory, try_read_plan, try_write_plan, Reads, Writes}
 use Rattle.nio_steps.specs.Plan.{Plan}
-use Rattle.nio_steps.specs.SelectCalls.{Selection, open_selector_plan, try_begin_plan, begin_lacks_memory, Poll}
+use Rattle.nio_steps.specs.SelectCalls.{Selection, open_selector_plan, take_list_plan, try_begin_plan, begin_lacks_memory, Poll}
 use Rattle.nio_steps.specs.SelectCalls.{told_plan, leave_plan, shut_plan, try_finish_plan, keys_plan}
 use Rattle.nio_steps.specs.SelectCalls.{selected_keys_plan, list_lacks_memory, wakeup_plan, interrupt_plan}
 use Rattle.nio_steps.specs.SelectCalls.{interrupted_plan, MakesSelection, select_lacks_memory, ClosesSelector}
+use Rattle.nio_steps.specs.declared.looked.LookedKey.{LookedKey}
 use Rattle.nio_steps.specs.declared.refusal.ChannelError.{ChannelError}
 
 -- ---- the calls that don't wait
@@ -52,7 +53,9 @@ pub data TableCall : Type 0 where
   try_register : SelNo → ChanId → ℕ → ℕ → TableCall
   close_channel : ChanId → TableCall
   open_selector : TableCall
-  try_begin : SelNo → Mode → TableCall
+  take_list : SelNo → TableCall
+  -- with the selector's list, or without it
+  try_begin : SelNo → Mode → Option (List LookedKey) → TableCall
   told : Selection → Poll → TableCall
   leave : Selection → TableCall
   shut : SelNo → TableCall
@@ -126,6 +129,11 @@ registered s c (Err refusal) = []
 abbrev pub HasSelection : Selection → Ongoing → Type 0
 HasSelection selection now = now.selection selection.selector.0 ≡ Some selection
 
+-- a list that the caller gives is the one that it has for the selector
+abbrev pub HasList : SelNo → Option (List LookedKey) → Ongoing → Type 0
+HasList s None now = ⊤
+HasList s (Some known) now = now.list s.0 ≡ Some known
+
 abbrev pub row_of : TableCall → Row
 row_of (find_selector n) =
     row [] (λ l _. find_selector_plan l n) never_lacks registers_nothing None at_any_time changes_nothing
@@ -180,9 +188,11 @@ row_of (close_channel c) =
     never_lacks registers_nothing None at_any_time changes_nothing
 row_of open_selector =
     row [] (λ l _. open_selector_plan l) never_lacks registers_nothing None at_any_time changes_nothing
-row_of (try_begin s mode) =
-    row (the_selector s ∷ []) (λ _ lacks. try_begin_plan s mode lacks)
-    begin_lacks_memory registers_nothing (Some s) at_any_time (begin_change s)
+row_of (take_list s) =
+    row (the_selector s ∷ []) (λ _ _. take_list_plan s) never_lacks registers_nothing None at_any_time (take_list_change s)
+row_of (try_begin s mode known) =
+    row (the_selector s ∷ []) (λ _ lacks. try_begin_plan s mode known lacks)
+    begin_lacks_memory registers_nothing (Some s) (HasList s known) (begin_change s)
 row_of (told selection poll) =
     row (the_selector selection.selector ∷ []) (λ _ _. told_plan selection poll.pairs poll.elapsed)
     never_lacks registers_nothing (Some selection.selector) (HasSelection selection) (told_change selection.selector)
@@ -257,7 +267,7 @@ wait_row_of (register s c ops att) =
     wait_row (the_selector s ∷ the_channel c ∷ []) (λ l. Registers l s c ops att)
     never_lacks (registered s c) changes_nothing
 wait_row_of (select s mode polls) =
-    wait_row (the_selector s ∷ []) (λ _. MakesSelection s mode polls)
+    wait_row (the_selector s ∷ []) (λ _. MakesSelection s mode None polls)
     select_lacks_memory registers_nothing (select_change s)
 wait_row_of (close s) =
     wait_row (the_selector s ∷ []) (λ _. ClosesSelector s) never_lacks registers_nothing (close_change s)

@@ -5,6 +5,9 @@ ghost use Rattle.nio_steps.specs.Laws.{CancelledKeysGoAtEnd, SelectionsStand, Cl
 ghost use Rattle.nio_steps.specs.Laws.{WorksOnlyThere};
 ghost use Rattle.nio_steps.specs.PinLaws.{PinsAreGivenBack};
 ghost use Rattle.nio_steps.specs.Bound.{SelectionIsBounded};
+ghost use Rattle.nio_steps.specs.ListLaws.{ListsAreEmptyAtFirst, ListsStay, BeginningsList, RefusalsLeaveList};
+ghost use Rattle.nio_steps.specs.ListLaws.{OtherCallsLeaveList, ListedKeysStood, MarksListedKeys, CancelledListedKeysGo};
+ghost use Rattle.nio_steps.specs.ListLaws.{CancelledListedKeysGoAtEnd, ListedSelectionIsBounded};
 
 /// A call between whose steps nobody comes answers, and leaves, what its plan says of the state
 /// before it.
@@ -63,4 +66,32 @@ pub fn works_law()
 /// anybody unselects a key.
 pub fn bound_law()
     ensures { SelectionIsBounded }
+{}
+
+/// The selector's list of the caller that has it is right: empty at first, taken on by each beginning of a selection
+/// with it, and left by refusals and by all other calls.
+pub fn list_law()
+    ensures empty { ListsAreEmptyAtFirst }
+    ensures stays { ListsStay }
+    ensures begins { BeginningsList }
+    ensures refused { RefusalsLeaveList }
+    ensures others { OtherCallsLeaveList }
+{}
+
+/// What a selection with the list looked at stood so after the selection had begun, and an index that it marks has that
+/// key. It removes each key that was cancelled before it began, and at its end each that was cancelled before its look
+/// at the high-water mark.
+pub fn listed_law()
+    ensures stood { ListedKeysStood }
+    ensures marked { MarksListedKeys }
+    ensures cancelled { CancelledListedKeysGo }
+    ensures at_end { CancelledListedKeysGoAtEnd }
+{}
+
+/// A selection by the caller that knows the selector's list makes a bounded number of steps, whatever other callers do
+/// meanwhile: at most 9, two for each 64 indexes below the high-water mark that it found when it began and one for each
+/// 64 below the one that it found at its end, 4 for each index whose bit it took, 3 for each that it found touched at its
+/// end, 2 for each looked key of which the poller told something, and one for each time that anybody unselects a key.
+pub fn listed_bound_law()
+    ensures { ListedSelectionIsBounded }
 {}

@@ -7,7 +7,7 @@ use crate::words::history::{
 };
 use nio_audit::{AuditError, audit};
 use nio_base::{CallerNo, Kind, Ops};
-use nio_history::{Act, Chan, Event, Mark};
+use nio_history::{Act, Chan, Event, IndexWord, Mark};
 use std::alloc::{AllocError, Global};
 use std::process::Abort;
 
@@ -24,6 +24,7 @@ fn worked(alloc: Global) -> Result<Vec<Event>, AllocError> {
     add(&mut events, &history::registering())?;
     add(&mut events, &history::changing_interest())?;
     add(&mut events, &history::beginning())?;
+    add(&mut events, &history::taking_the_list())?;
     add(&mut events, &history::waking_and_cancelling())?;
     add(&mut events, &history::marking_and_ending())?;
     add(&mut events, &history::finding_it_pinned())?;
@@ -64,22 +65,30 @@ fn are_refused<R: Abort>(rt: &R, alloc: Global, rows: &[Row]) -> Result<(), Allo
     Ok(())
 }
 
+const VALID_AND_PINNED: IndexWord = IndexWord {
+    stage: VALID,
+    pinned: true,
+};
+
 /// Events of the worked history with another answer, each with its place.
-const ALTERED: [Row; 14] = [
+const ALTERED: [Row; 17] = [
     (3, U, Act::LookSelectors(0)),
     (10, V, Act::TryHoldBit(C, None)),
     (16, U, Act::LookReg(C, S, Some(FIRST))),
-    (22, U, Act::SwapInterest(S, 0, Ops::READ, Ops::READ)),
-    (32, U, Act::LookNote(S, 0, 0)),
-    (35, V, Act::TakeTurn(S, None)),
-    (45, U, Act::Mark(S, 0, UNMARKED, Ops::READ, Err(UNMARKED))),
-    (64, U, Act::LookFree(S, 0, 0)),
-    (68, U, Act::ClaimAgain(S, 0, C, REMOVED, false)),
-    (80, U, Act::Enrol(C, S, 0, 1, Some(NEXT))),
-    (103, V, Act::CloseBit(C, BLOCKING, CLOSED)),
-    (106, V, Act::LookGate(S, QUIET)),
-    (113, U, Act::LookInterrupt(true)),
-    (120, U, Act::CloseBit(C, BLOCKING, CLOSED)),
+    (22, U, Act::Touch(S, 0, true)),
+    (23, U, Act::SwapInterest(S, 0, Ops::READ, Ops::READ)),
+    (34, U, Act::LookNote(S, 0, 0)),
+    (37, V, Act::TakeTurn(S, None)),
+    (43, U, Act::LookTouched(S, 0, 0)),
+    (45, U, Act::LookIndex(S, 0, VALID_AND_PINNED)),
+    (53, U, Act::Mark(S, 0, UNMARKED, Ops::READ, Err(UNMARKED))),
+    (73, U, Act::LookFree(S, 0, 0)),
+    (77, U, Act::ClaimAgain(S, 0, C, REMOVED, false)),
+    (90, U, Act::Enrol(C, S, 0, 1, Some(NEXT))),
+    (119, V, Act::CloseBit(C, BLOCKING, CLOSED)),
+    (122, V, Act::LookGate(S, QUIET)),
+    (129, U, Act::LookInterrupt(true)),
+    (136, U, Act::CloseBit(C, BLOCKING, CLOSED)),
 ];
 
 const REFUSED_AT_FIRST: [Row; 11] = [
@@ -95,51 +104,51 @@ const REFUSED_AT_FIRST: [Row; 11] = [
     // what a step finds is what stands there
     (19, U, Act::Claim(S, 0, C, true)),
     // only who claimed an index publishes its key, and only with the pin of that claim
-    (25, V, Act::Publish(S, 0, CLAIMED)),
-    (28, U, Act::Publish(S, 0, VALID)),
+    (26, V, Act::Publish(S, 0, CLAIMED)),
+    (29, U, Act::Publish(S, 0, VALID)),
     // a caller has one pin on an index at most, and takes off only its own
-    (30, U, Act::Pin(S, 0, VALID)),
-    (30, V, Act::Unpin(S, 0)),
+    (31, U, Act::Pin(S, 0, VALID)),
+    (31, V, Act::Unpin(S, 0)),
 ];
 
 const REFUSED_LATER: [Row; 12] = [
     // a step on a key is made under a pin
-    (34, U, Act::OrInterest(S, 0, Ops::WRITE, Ops::READ)),
-    (34, U, Act::CancelKey(S, 0, VALID)),
+    (36, U, Act::OrInterest(S, 0, Ops::WRITE, Ops::READ)),
+    (36, U, Act::CancelKey(S, 0, VALID)),
     // only the holder of the turn begins a selection
-    (36, V, Act::BeginLook(S, QUIET)),
+    (38, V, Act::BeginLook(S, QUIET)),
     // a selection removes no key that is not cancelled, and none twice
-    (41, U, Act::Remove(S, 0, VALID)),
-    (53, U, Act::Remove(S, 0, REMOVED)),
+    (48, U, Act::Remove(S, 0, VALID)),
+    (62, U, Act::Remove(S, 0, REMOVED)),
     // only the selecting caller marks, and only what it is told of and finds
-    (45, V, Act::Mark(S, 0, UNMARKED, Ops::READ, Ok(()))),
-    (45, U, Act::Mark(S, 0, UNMARKED, Ops::NONE, Ok(()))),
-    (45, U, Act::Mark(S, 0, READABLE, Ops::WRITE, Ok(()))),
+    (53, V, Act::Mark(S, 0, UNMARKED, Ops::READ, Ok(()))),
+    (53, U, Act::Mark(S, 0, UNMARKED, Ops::NONE, Ok(()))),
+    (53, U, Act::Mark(S, 0, READABLE, Ops::WRITE, Ok(()))),
     // an index is put by the caller whose selection removed its key, or that has taken it, and once
-    (53, V, Act::PutFree(S, 0)),
-    (54, U, Act::PutFree(S, 0)),
-    (66, V, Act::PutFree(S, 0)),
-    (76, U, Act::PutFree(S, 0)),
+    (62, V, Act::PutFree(S, 0)),
+    (63, U, Act::PutFree(S, 0)),
+    (75, V, Act::PutFree(S, 0)),
+    (85, U, Act::PutFree(S, 0)),
 ];
 
 const REFUSED_AT_LAST: [Row; 11] = [
     // an index is claimed again from what the caller found since it took it, and not while it is pinned
-    (66, U, Act::ClaimAgain(S, 0, C, REMOVED, true)),
-    (68, U, Act::ClaimAgain(S, 0, C, REMOVED, false)),
-    (75, V, Act::ClaimAgain(S, 0, C, REMOVED, false)),
+    (75, U, Act::ClaimAgain(S, 0, C, REMOVED, true)),
+    (77, U, Act::ClaimAgain(S, 0, C, REMOVED, false)),
+    (84, V, Act::ClaimAgain(S, 0, C, REMOVED, false)),
     // a mark is cleared before the key is published
-    (82, U, Act::ClearMark(S, 0, UNMARKED)),
+    (92, U, Act::ClearMark(S, 0, UNMARKED)),
     // a key is enrolled with the serial of the claim
-    (80, U, Act::Enrol(C, S, 0, 0, Some(FIRST))),
+    (90, U, Act::Enrol(C, S, 0, 0, Some(FIRST))),
     // a channel goes back to blocking mode only after a look at its enrolled keys, since it enrolled one itself
-    (99, V, Act::SetMode(C, true, UNBLOCKED)),
-    (100, V, Act::SetMode(C, true, UNBLOCKED)),
-    (82, U, Act::SetMode(C, true, UNBLOCKED)),
+    (115, V, Act::SetMode(C, true, UNBLOCKED)),
+    (116, V, Act::SetMode(C, true, UNBLOCKED)),
+    (92, U, Act::SetMode(C, true, UNBLOCKED)),
     // a closer removes after it has entered, and what it has found below the high-water mark since
-    (108, V, Act::Remove(S, 0, NEXT_REMOVED)),
-    (109, V, Act::Remove(S, 0, NEXT_REMOVED)),
+    (124, V, Act::Remove(S, 0, NEXT_REMOVED)),
+    (125, V, Act::Remove(S, 0, NEXT_REMOVED)),
     // only the closer enters
-    (108, U, Act::Enter(S, None)),
+    (124, U, Act::Enter(S, None)),
 ];
 
 const OF_ANOTHER_KIND: Chan = Chan {
@@ -152,18 +161,36 @@ const OF_ANOTHER_KIND: Chan = Chan {
 
 const REFUSED_OF_CHANNELS: [Row; 10] = [
     // a channel is closed from one that was found open, of the kind and of a serial that its number has or had
-    (114, U, Act::CloseBit(C, CLOSED, CLOSED)),
-    (114, U, Act::CloseBit(C, OF_ANOTHER_KIND, CLOSED)),
-    (114, U, Act::CloseBit(C, NEXT_CHANNEL, CLOSED)),
+    (130, U, Act::CloseBit(C, CLOSED, CLOSED)),
+    (130, U, Act::CloseBit(C, OF_ANOTHER_KIND, CLOSED)),
+    (130, U, Act::CloseBit(C, NEXT_CHANNEL, CLOSED)),
     // a number is given to a new channel by its holder, after a look at its enrolled keys under this hold
-    (114, V, Act::Reopen(C, CLOSED, false)),
-    (115, V, Act::Reopen(C, CLOSED, false)),
-    (116, V, Act::Reopen(C, CLOSED, false)),
-    (117, U, Act::Reopen(C, CLOSED, false)),
+    (130, V, Act::Reopen(C, CLOSED, false)),
+    (131, V, Act::Reopen(C, CLOSED, false)),
+    (132, V, Act::Reopen(C, CLOSED, false)),
+    (133, U, Act::Reopen(C, CLOSED, false)),
     // the channel that stands there gives it, where it is closed, and no other one
-    (117, V, Act::Reopen(C, CLOSED, true)),
-    (118, V, Act::Reopen(C, CLOSED, false)),
-    (118, V, Act::Reopen(C, NEXT_CHANNEL, false)),
+    (133, V, Act::Reopen(C, CLOSED, true)),
+    (134, V, Act::Reopen(C, CLOSED, false)),
+    (134, V, Act::Reopen(C, NEXT_CHANNEL, false)),
+];
+
+const REFUSED_OF_TOUCHES: [Row; 11] = [
+    // an index is touched by who has a pin on it, or has begun
+    (31, V, Act::Touch(S, 0, true)),
+    // a change is made by who touched the index since it pinned it
+    (22, U, Act::SwapInterest(S, 0, Ops::READ, Ops::NONE)),
+    (22, U, Act::Publish(S, 0, CLAIMED)),
+    (31, U, Act::OrInterest(S, 0, Ops::WRITE, Ops::READ)),
+    (31, U, Act::AndInterest(S, 0, Ops::READ, Ops::READ)),
+    (50, V, Act::CancelKey(S, 0, VALID)),
+    // a list is taken once, and only who has it takes the bits, while it selects
+    (41, U, Act::TakeTouched(S, 0, 1)),
+    (42, V, Act::TakeList(S, None)),
+    (43, V, Act::TakeTouched(S, 0, 1)),
+    (37, U, Act::TakeTouched(S, 0, 1)),
+    // what is touched is what stands there
+    (44, U, Act::TakeTouched(S, 0, 0)),
 ];
 
 #[test]
@@ -177,7 +204,7 @@ fn worked_history_is_legal(rt: HostRuntime) -> Result<(), AllocError> {
 #[test]
 fn refused_events_are_no_steps(rt: HostRuntime) -> Result<(), AllocError> {
     let (first, later, last) = (REFUSED_AT_FIRST, REFUSED_LATER, REFUSED_AT_LAST);
-    let of_channels = REFUSED_OF_CHANNELS;
+    let (of_channels, of_touches) = (REFUSED_OF_CHANNELS, REFUSED_OF_TOUCHES);
     are_refused(&rt, rt.alloc(), &first)?;
     are_refused(&rt, rt.alloc(), &later)?;
     // A mark is cleared by who claimed the index.
@@ -185,9 +212,10 @@ fn refused_events_are_no_steps(rt: HostRuntime) -> Result<(), AllocError> {
         selected: false,
         ready: Ops::READ.union(Ops::WRITE),
     };
-    are_refused(&rt, rt.alloc(), &[(76, V, Act::ClearMark(S, 0, mark))])?;
+    are_refused(&rt, rt.alloc(), &[(85, V, Act::ClearMark(S, 0, mark))])?;
     are_refused(&rt, rt.alloc(), &last)?;
-    are_refused(&rt, rt.alloc(), &of_channels)
+    are_refused(&rt, rt.alloc(), &of_channels)?;
+    are_refused(&rt, rt.alloc(), &of_touches)
 }
 
 #[test]

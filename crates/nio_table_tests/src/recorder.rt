@@ -15,6 +15,7 @@ use std::alloc::{AllocError, Global};
 use std::process::Abort;
 use std::test::Fail;
 
+mod changing;
 mod closing;
 
 // What stands in an act that asks for a step: the step puts what it finds in its place.
@@ -97,6 +98,7 @@ fn register(r: &mut Recorder, alloc: Global, number: u32, interest: u8) -> Resul
         Act::LookReg(chan, S, None),
         Act::Claim(S, number, chan, false),
         Act::RaiseKeys(S, number + 1, 0),
+        Act::Touch(S, number, false),
         Act::SwapInterest(S, number, Ops::of(interest), Ops::NONE),
         Act::Enrol(chan, S, number, 0, None),
         Act::Publish(S, number, STAGE),
@@ -128,6 +130,7 @@ fn disturb(r: &mut Recorder, alloc: Global, other: Other) -> Result<(), RecordEr
 {
     let cancels = [
         Act::Pin(S, 0, STAGE),
+        Act::Touch(S, 0, false),
         Act::CancelKey(S, 0, STAGE),
         Act::Unpin(S, 0),
     ];
@@ -465,8 +468,8 @@ enum Found {
     Turn(Option<CallerNo>),
     /// The keys' high-water mark.
     Bound(u32),
-    /// The free bits of 64 indexes.
-    Free(u64),
+    /// The bits of 64 indexes: of the free ones, or of those that are touched.
+    Bits(u64),
     Key(Stage),
     Interest(Ops),
     Mark(Mark),
@@ -488,11 +491,19 @@ fn found_by(act: Act) -> Found {
         Act::TakeTurn(_, holder) => Found::Turn(holder),
         Act::GiveTurn(_) => Found::Nothing,
         Act::LookKeys(_, bound) => Found::Bound(bound),
-        Act::LookFree(_, _, word) => Found::Free(word),
+        Act::LookFree(_, _, word) => Found::Bits(word),
         Act::PutFree(_, _) => Found::Nothing,
+        Act::Touch(_, _, was) => Found::Flag(was),
+        Act::TakeTouched(_, _, word) => Found::Bits(word),
         Act::LookKey(_, _, stage) => Found::Key(stage),
         Act::Remove(_, _, stage) => Found::Key(stage),
+        Act::Pin(_, _, stage) => Found::Key(stage),
+        Act::Publish(_, _, stage) => Found::Key(stage),
+        Act::CancelKey(_, _, stage) => Found::Key(stage),
         Act::LookInterest(_, _, ops) => Found::Interest(ops),
+        Act::SwapInterest(_, _, _, ops) => Found::Interest(ops),
+        Act::OrInterest(_, _, _, ops) => Found::Interest(ops),
+        Act::AndInterest(_, _, _, ops) => Found::Interest(ops),
         Act::LookMark(_, _, mark) => Found::Mark(mark),
         Act::LookChannel(_, chan) => Found::Channel(chan),
         Act::CloseBit(_, _, chan) => Found::Channel(chan),
@@ -639,6 +650,7 @@ fn register_three(r: &mut Recorder, alloc: Global) -> Result<(), RecordError>
     register(r, alloc, 2, 1)?;
     let cancels = [
         Act::Pin(S, 1, STAGE),
+        Act::Touch(S, 1, false),
         Act::CancelKey(S, 1, STAGE),
         Act::Unpin(S, 1),
     ];
@@ -655,7 +667,7 @@ fn first_selection(r: &mut Recorder, alloc: Global) -> Result<usize, RecordError
         (Act::TakeTurn(S, None), Found::Turn(None)),
         (Act::BeginLook(S, GATE), OPEN),
         (Act::LookKeys(S, 0), Found::Bound(3)),
-        (Act::LookFree(S, 0, 0), Found::Free(0)),
+        (Act::LookFree(S, 0, 0), Found::Bits(0)),
         (Act::LookKey(S, 0, STAGE), key_of(0, false)),
         (Act::LookInterest(S, 0, Ops::NONE), READS),
         (Act::LookKey(S, 1, STAGE), key_of(1, true)),
@@ -683,7 +695,7 @@ fn second_selection(r: &mut Recorder, alloc: Global) -> Result<usize, RecordErro
         (Act::TakeTurn(S, None), Found::Turn(None)),
         (Act::BeginLook(S, GATE), OPEN),
         (Act::LookKeys(S, 0), Found::Bound(3)),
-        (Act::LookFree(S, 0, 0), Found::Free(2)),
+        (Act::LookFree(S, 0, 0), Found::Bits(2)),
         (Act::LookKey(S, 0, STAGE), key_of(0, false)),
         (Act::LookInterest(S, 0, Ops::NONE), READS),
         (Act::LookKey(S, 2, STAGE), key_of(2, false)),

@@ -16,6 +16,7 @@ use Rattle.nio_history.specs.declared.act.Act.TheVariants.{GiveTurn, Remove, Mar
 use Rattle.nio_history.specs.declared.act.Act.TheVariants.{RaiseChannels, TryHoldBit, Release, SetMode, CloseBit}
 use Rattle.nio_history.specs.declared.act.Act.TheVariants.{ShutBit}
 use Rattle.nio_history.specs.declared.act.Act.TheVariants.{Pin, Unpin, ClearMark, ClaimAgain, PutFree, TakeFree}
+use Rattle.nio_history.specs.declared.act.Act.TheVariants.{Touch, TakeTouched, TakeList}
 use Rattle.nio_history.specs.declared.act.Act.TheVariants.{Reopen}
 use Rattle.nio_history.specs.declared.found.Stage.{Stage}
 use Rattle.nio_history.proofs.Put.{put-other}
@@ -26,7 +27,7 @@ use Rattle.nio_words.specs.Parts.{part_of}
 use Rattle.nio_words.specs.declared.part.Part.{Part}
 use Rattle.nio_words.specs.declared.part.Part.TheVariants.{Callers, Interrupts, Selectors, ChannelsHigh, Chan, Hold}
 use Rattle.nio_words.specs.declared.part.Part.TheVariants.{Enrolled, Gate, Turn, KeysHigh, Key, Interest, Mark, Note}
-use Rattle.nio_words.specs.declared.part.Part.TheVariants.{Free}
+use Rattle.nio_words.specs.declared.part.Part.TheVariants.{Free, Touched, Lister}
 
 -- at another pair of numbers a changed function is what it was
 put_at-other : {A : Type 0} (f : ℕ → ℕ → A) (i j : ℕ) (x : A) (m n : ℕ) → ((m ≡ i) → (n ≡ j) → ⊥)
@@ -48,6 +49,24 @@ free_word-other : (free : ℕ → ℕ → Bool) (s i : ℕ) (x : Bool) (t j : �
     → bits_below 64 (λ b. put_at free s i x t (64 * j + b)) ≡ bits_below 64 (λ b. free t (64 * j + b))
 free_word-other free s i x t j ne =
     bits_below-same 64 _ _ (λ b below. put_at-other free s i x t (64 * j + b) (λ e e'. ne e (omega arith)))
+
+-- another word than the one whose indexes aren't touched any more
+word-left : (touched : ℕ → ℕ → Bool) (s j' t j : ℕ) → ((t ≡ s) → (j ≡ j') → ⊥)
+    → bits_below 64 (λ b. cond ((t == s) && ((64 * j + b) / 64 == j')) false (touched t (64 * j + b)))
+    ≡ bits_below 64 (λ b. touched t (64 * j + b))
+word-left touched s j' t j ne = bits_below-same 64 _ _ each
+  where
+    each : (b : ℕ) → b < 64
+        → cond ((t == s) && ((64 * j + b) / 64 == j')) false (touched t (64 * j + b)) ≡ touched t (64 * j + b)
+    each b below = by_test ((t == s) && ((64 * j + b) / 64 == j')) refl
+      where
+        by_test : (x : Bool) → ((t == s) && ((64 * j + b) / 64 == j')) ≡ x
+            → cond x false (touched t (64 * j + b)) ≡ touched t (64 * j + b)
+        by_test true e =
+            let both = and_parts (t == s) ((64 * j + b) / 64 == j') e in
+            let word : (64 * j + b) / 64 ≡ j' = eqb-true ((64 * j + b) / 64) j' both.1 in
+            absurd (ne (eqb-true t s both.0) (omega arith))
+        by_test false e = refl
 
 pub apart : (st : State) (me : CallerNo) (act : Act) (q : Part) → q ≢ part_of act
     → encoding (effect st me act) q ≡ encoding st q
@@ -104,6 +123,11 @@ apart st me act (Note t j) ne = refl
 apart st me (PutFree s i) (Free t j) ne = free_word-other st.free s.0 i _ t j (λ e e'. ne cc)
 apart st me (TakeFree s i found) (Free t j) ne = free_word-other st.free s.0 i _ t j (λ e e'. ne cc)
 apart st me act (Free t j) ne = refl
+apart st me (Touch s i found) (Touched t j) ne = free_word-other st.touched s.0 i _ t j (λ e e'. ne cc)
+apart st me (TakeTouched s j' found) (Touched t j) ne = word-left st.touched s.0 j' t j (λ e e'. ne cc)
+apart st me act (Touched t j) ne = refl
+apart st me (TakeList s found) (Lister t) ne = ap holder_word (put-other st.lister s.0 _ t (λ e. ne (ap Lister e)))
+apart st me act (Lister t) ne = refl
 
 pub proper-apart : (st : State) (me : CallerNo) (act : Act) (q : Part) → q ≢ part_of act → IsProper st q
     → IsProper (effect st me act) q

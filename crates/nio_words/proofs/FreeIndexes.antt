@@ -26,7 +26,7 @@ pub word_within : (l : Limits) (i : ℕ) → i < l.keys → i / 64 < free_words 
 word_within l i below = omega arith
 
 -- the bits of the word of index i, where i becomes free or not
-one_changed : (free : ℕ → ℕ → Bool) (s i : ℕ) (x : Bool) (b : ℕ) → b < 64
+pub one_changed : (free : ℕ → ℕ → Bool) (s i : ℕ) (x : Bool) (b : ℕ) → b < 64
     → put (λ b'. free s (64 * (i / 64) + b')) (i % 64) x b ≡ put_at free s i x s (64 * (i / 64) + b)
 one_changed free s i x b below = by_test (b == i % 64) refl
   where
@@ -43,7 +43,7 @@ one_changed free s i x b below = by_test (b == i % 64) refl
         ap (λ t. cond t x (free s (64 * (i / 64) + b)))
         (sym (ap (λ t. t && (64 * (i / 64) + b == i)) (eq-eqb s s refl) ∙ ne_eqb (64 * (i / 64) + b) i other))
 
-word_changed : (free : ℕ → ℕ → Bool) (s i : ℕ) (x : Bool)
+pub word_changed : (free : ℕ → ℕ → Bool) (s i : ℕ) (x : Bool)
     → bits_below 64 (put (λ b. free s (64 * (i / 64) + b)) (i % 64) x)
     ≡ bits_below 64 (λ b. put_at free s i x s (64 * (i / 64) + b))
 word_changed free s i x = bits_below-same 64 _ _ (one_changed free s i x)

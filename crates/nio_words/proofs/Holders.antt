@@ -1,5 +1,5 @@
--- The kinds of step on a word that says who has something, a channel's hold or a selector's turn, do to it
--- what they do to the hold or to the turn.
+-- The kinds of step on a word that says who has something, a channel's hold, a selector's turn or its list, do to it
+-- what they do to the hold, to the turn or to the list.
 use Rattle.std.proofs.Common.{◌≡◌, ℕ, ◌+◌, ◌^◌, ◌<◌, Option, None, Some, refl, ap, sym, ◌∙◌, arith}
 use Rattle.nio_base.specs.declared.limits.Limits.{Limits}
 use Rattle.nio_base.specs.declared.numbers.CallerNo.{CallerNo}
@@ -11,13 +11,14 @@ use Rattle.nio_history.specs.Conditions.{IsChannel, IsSelector}
 use Rattle.nio_history.specs.Questions.{holder}
 use Rattle.nio_history.specs.State.{put}
 use Rattle.nio_history.specs.declared.act.Act.TheVariants.{TryHoldBit, Release, TakeTurn, GiveTurn, Enter}
+use Rattle.nio_history.specs.declared.act.Act.TheVariants.{TakeList}
 use Rattle.nio_words.proofs.Fields.{reads_holder, takes, exchange_small}
 use Rattle.nio_words.specs.Decodings.{holder_of}
 use Rattle.nio_words.specs.Encodings.{holder_word}
 use Rattle.nio_words.specs.Instructions.{applied}
 use Rattle.nio_words.specs.Moves.{Moves}
 use Rattle.nio_words.specs.declared.instruction.Instruction.TheVariants.{Load, Swap, Exchange}
-use Rattle.nio_words.specs.declared.part.Part.TheVariants.{Hold, Turn}
+use Rattle.nio_words.specs.declared.part.Part.TheVariants.{Hold, Turn, Lister}
 use Rattle.nio_words.proofs.Looks.{looks}
 
 -- ---- who has number `i` of what `has` says: the exchange takes it where nobody has it, the swap gives it back
@@ -94,3 +95,17 @@ pub enter_moves : (l : Limits) (me : CallerNo) (s : SelNo) → IsSelector l s
 enter_moves l me s below =
     looks below (λ n. refl) (λ st n. refl) (λ st n proper. proper)
     (λ st now. ap holder (reads_holder (st.turn s.0) now.small))
+
+-- ---- a selector's list
+
+pub take_list_moves : (l : Limits) (me : CallerNo) (s : SelNo) → IsSelector l s → me.0 < 2 ^ 32
+    → Moves l me (Lister s.0) (Exchange 0 (holder_word (Some me))) (λ n. TakeList s (holder_of n))
+take_list_moves l me s below few = record {
+  within = below;
+  bit = tt;
+  part = λ n. refl;
+  word = λ st now. taken me st.lister s.0 now.small;
+  small = taken_small me few;
+  proper = λ st now. tt;
+  answers = λ st now. ap holder (reads_holder (st.lister s.0) now.small);
+}

@@ -14,22 +14,23 @@ use Rattle.nio_history.proofs.Put.{put_at-same}
 use Rattle.nio_history.proofs.Soundness.{legal-sound}
 use Rattle.nio_history.proofs.Within.{legal-within}
 use Rattle.nio_history.specs.Acts.{new_key}
-use Rattle.nio_history.specs.Answers.{count_below, pins, is_pinned}
+use Rattle.nio_history.specs.Answers.{count_below, pins, is_pinned, index_at}
 use Rattle.nio_history.specs.Conditions.{Condition, IsCaller, IsKey}
 use Rattle.nio_history.specs.Histories.{state_after, mine, event_of, IsStep, IsLegal}
-use Rattle.nio_history.specs.Questions.{flag, stage}
+use Rattle.nio_history.specs.Questions.{flag, stage, index_word}
 use Rattle.nio_history.specs.Sound.{IsSound}
 use Rattle.nio_history.specs.State.{State, put, put_at, unclaimed}
 use Rattle.nio_history.specs.declared.act.Act.TheVariants.{LookKey, CancelKey, Claim, Publish, Remove, Pin, Unpin}
-use Rattle.nio_history.specs.declared.act.Act.TheVariants.{ClaimAgain}
+use Rattle.nio_history.specs.declared.act.Act.TheVariants.{ClaimAgain, LookIndex}
+use Rattle.nio_history.specs.declared.found.IndexWord.{IndexWord}
 use Rattle.nio_history.specs.declared.found.Stage.{Stage}
 use Rattle.nio_history.proofs.PinLaws.{claims_again_the_removed}
 use Rattle.nio_history.proofs.Counts.{count_none}
 use Rattle.nio_words.proofs.Counting.{count_below-le, count_below-put, claimed_pins, same_pins}
 use Rattle.nio_words.proofs.Fields.{exchanges, exchange_small}
-use Rattle.nio_words.proofs.Stages.{reads_claimed, reads_stage, publishes_stage, cancels_stage, removes_stage}
+use Rattle.nio_words.proofs.Stages.{reads_claimed, reads_stage, reads_pins, publishes_stage, cancels_stage, removes_stage}
 use Rattle.nio_words.proofs.Stages.{pins_stage, unpins_stage, claimed_some, stage_word-lt}
-use Rattle.nio_words.specs.Decodings.{is_set, stage_of, was_pinned}
+use Rattle.nio_words.specs.Decodings.{is_set, stage_of, pins_of, index_of, was_pinned}
 use Rattle.nio_words.specs.Encodings.{bit, stage_word}
 use Rattle.nio_words.specs.Instructions.{applied}
 use Rattle.nio_words.specs.Moves.{IsMoment, Moves}
@@ -64,11 +65,27 @@ reads : (st : State) (s i : ℕ) → (st.key s i).chan.0 < 2 ^ 20
     → stage_of (stage_word (st.key s i) (pins st s i)) ≡ st.key s i
 reads st s i fits = reads_stage (st.key s i) (pins st s i) (few_pins st s i) fits
 
+abbrev word_with : Stage → Bool → IndexWord
+word_with k pinned = record { stage = k; pinned = pinned }
+
+reads_index : (st : State) (s i : ℕ) → (st.key s i).chan.0 < 2 ^ 20
+    → index_of (stage_word (st.key s i) (pins st s i)) ≡ index_at st s i
+reads_index st s i fits =
+    ap (λ k. word_with k (not (pins_of (stage_word (st.key s i) (pins st s i)) == 0))) (reads st s i fits)
+    ∙ ap (λ (n : ℕ). word_with (st.key s i) (not (n == 0)))
+    (reads_pins (st.key s i) (pins st s i) (few_pins st s i) fits)
+
 pub look_key_moves : (l : Limits) (me : CallerNo) (s : SelNo) (i : ℕ) → IsKey l s i
     → Moves l me (Key s.0 i) Load (λ n. LookKey s i (stage_of n))
 look_key_moves l me s i is_key =
     looks is_key (λ n. refl) (λ st n. refl) (λ st n proper. proper)
     (λ st now. ap stage (reads st s.0 i now.proper))
+
+pub look_index_moves : (l : Limits) (me : CallerNo) (s : SelNo) (i : ℕ) → IsKey l s i
+    → Moves l me (Key s.0 i) Load (λ n. LookIndex s i (index_of n))
+look_index_moves l me s i is_key =
+    looks is_key (λ n. refl) (λ st n. refl) (λ st n proper. proper)
+    (λ st now. ap index_word (reads_index st s.0 i now.proper))
 
 pub cancel_key_moves : (l : Limits) (me : CallerNo) (s : SelNo) (i : ℕ) → IsKey l s i
     → Moves l me (Key s.0 i) (SetBit 2) (λ n. CancelKey s i (stage_of n))

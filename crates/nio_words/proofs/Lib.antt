@@ -24,6 +24,7 @@ pub mod Interrupts
 pub mod Stages
 pub mod Keys
 pub mod FreeIndexes
+pub mod TouchedIndexes
 pub mod Notes
 pub mod Selectors
 pub mod Whole

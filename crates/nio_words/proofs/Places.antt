@@ -6,7 +6,7 @@ use Rattle.nio_words.specs.Places.{free_words, rows, row, column, IsWithin, tota
 use Rattle.nio_words.specs.declared.part.Part.{Part}
 use Rattle.nio_words.specs.declared.part.Part.TheVariants.{Callers, Interrupts, Selectors, ChannelsHigh, Chan, Hold}
 use Rattle.nio_words.specs.declared.part.Part.TheVariants.{Enrolled, Gate, Turn, KeysHigh, Key, Interest, Mark, Note}
-use Rattle.nio_words.specs.declared.part.Part.TheVariants.{Free}
+use Rattle.nio_words.specs.declared.part.Part.TheVariants.{Free, Touched, Lister}
 
 -- a place behind some rows tells which rows, and where in the next one
 same_row : (xs : List ℕ) (i j a b : ℕ) → a < get_or xs i 0 → b < get_or xs j 0
@@ -40,6 +40,8 @@ column_below l (Interest s i) h = omega (arith, mul-add-lt s l.keys i l.selector
 column_below l (Mark s i) h = omega (arith, mul-add-lt s l.keys i l.selectors h.0 h.1)
 column_below l (Note s i) h = omega (arith, mul-add-lt s l.keys i l.selectors h.0 h.1)
 column_below l (Free s j) h = omega (arith, mul-add-lt s (free_words l) j l.selectors h.0 h.1)
+column_below l (Touched s j) h = omega (arith, mul-add-lt s (free_words l) j l.selectors h.0 h.1)
+column_below l (Lister s) h = h
 
 pub place_inside : (l : Limits) (p : Part) → IsWithin l p → place l p < word_count l
 place_inside l p h = inside_rows (rows l) (row p) (column l p) (column_below l p h)
@@ -62,6 +64,9 @@ same_numbers l (Interest a i) (Interest b j) hp hq r c = let both = same_from_pl
 same_numbers l (Mark a i) (Mark b j) hp hq r c = let both = same_from_place a i b j l.keys hp.1 hq.1 c in cc
 same_numbers l (Note a i) (Note b j) hp hq r c = let both = same_from_place a i b j l.keys hp.1 hq.1 c in cc
 same_numbers l (Free a i) (Free b j) hp hq r c = let both = same_from_place a i b j (free_words l) hp.1 hq.1 c in cc
+same_numbers l (Touched a i) (Touched b j) hp hq r c =
+    let both = same_from_place a i b j (free_words l) hp.1 hq.1 c in cc
+same_numbers l (Lister a) (Lister b) hp hq r c = ap Lister c
 same_numbers l p q hp hq r c = absurd (omega (arith, r))
 
 pub same_part : (l : Limits) (p q : Part) → IsWithin l p → IsWithin l q → place l p ≡ place l q → p ≡ q

@@ -3,7 +3,7 @@ use Rattle.std.proofs.Common.{◌≡◌, ◌≢◌, ℕ, ◌+◌, ◌-◌, ◌*�
 use Rattle.std.specs.Prelude.{bit_or}
 use Rattle.nio_history.specs.declared.found.Stage.{Stage}
 use Rattle.nio_words.proofs.Fields.{bit-lt, reads, sets}
-use Rattle.nio_words.specs.Decodings.{is_set, stage_of}
+use Rattle.nio_words.specs.Decodings.{is_set, stage_of, pins_of}
 use Rattle.nio_words.specs.Encodings.{bit, stage_word}
 
 module _ (k : Stage) (n : ℕ) (few : n < 2 ^ 8) (fits : k.chan.0 < 2 ^ 20) where
@@ -32,6 +32,9 @@ module _ (k : Stage) (n : ℕ) (few : n < 2 ^ 8) (fits : k.chan.0 < 2 ^ 20) wher
 
   reads_removed : is_set (stage_word k n) 3 ≡ k.removed
   reads_removed = reads (stage_word k n) 3 k.removed (omega (arith, claimed-lt, published-lt, cancelled-lt, removed-lt))
+
+  pub reads_pins : pins_of (stage_word k n) ≡ n
+  reads_pins = omega (arith, claimed-lt, published-lt, cancelled-lt, removed-lt)
 
   reads_channel : stage_word k n / 2 ^ 12 % 2 ^ 20 ≡ k.chan.0
   reads_channel = omega (arith, claimed-lt, published-lt, cancelled-lt, removed-lt)

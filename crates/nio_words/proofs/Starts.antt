@@ -17,7 +17,7 @@ use Rattle.nio_words.specs.Encodings.{encoding, bound, IsProper, limits_word, st
 use Rattle.nio_words.specs.Places.{IsWithin, place, word_count}
 use Rattle.nio_words.specs.Rule.{first_view, Knows, IsEncoded, IsKept}
 use Rattle.nio_words.specs.declared.part.Part.{Part}
-use Rattle.nio_words.specs.declared.part.Part.TheVariants.{Callers, Interrupts, Selectors, Enrolled, Key, Mark, Free}
+use Rattle.nio_words.specs.declared.part.Part.TheVariants.{Callers, Interrupts, Selectors, Enrolled, Key, Mark, Free, Touched}
 use Rattle.nio_words.specs.declared.view.View.{View}
 
 -- in the opening state every word is 0
@@ -27,6 +27,7 @@ encoding-opening Interrupts = bits_below-none 64
 encoding-opening Selectors = bits_below-none 64
 encoding-opening (Key s i) = ap (stage_word unclaimed) (count_none 64 (λ _. false) (λ _ _. refl))
 encoding-opening (Free s j) = bits_below-none 64
+encoding-opening (Touched s j) = bits_below-none 64
 encoding-opening p = refl
 
 bound-pos : (p : Part) → 0 < bound p

@@ -14,7 +14,7 @@ use Rattle.nio_history.proofs.Finds.{step_leaves, looks_tell, found_stands}
 use Rattle.nio_history.proofs.OneMore.{has-more}
 use Rattle.nio_history.proofs.Soundness.{legal-sound}
 use Rattle.nio_history.specs.Answers.{Answers}
-use Rattle.nio_history.specs.Conditions.{WasOpen, is_claimed, is_held_by, has_turn, has_begun}
+use Rattle.nio_history.specs.Conditions.{WasOpen, is_claimed, is_held_by, has_turn, has_begun, has_pin, is_amid}
 use Rattle.nio_history.specs.Found.{is_look, finds, channel_tells}
 use Rattle.nio_history.specs.Histories.{state_after, event_of, mine, HistoryClause, IsLegal}
 use Rattle.nio_history.specs.Permanent.{PermanentFact, stands, channel_of_kind, channel_opened}
@@ -24,11 +24,11 @@ use Rattle.nio_history.specs.PassViews.{PassView, Holds as HoldsNumber, known, A
 use Rattle.nio_history.specs.Sets.{was_opened, was_published}
 use Rattle.nio_history.specs.State.{State, put}
 use Rattle.nio_history.specs.declared.act.Act.{Act}
-use Rattle.nio_history.specs.declared.act.Act.TheVariants.{DrawBit, LookKey, LookChannel, TakeTurn, BeginLook}
+use Rattle.nio_history.specs.declared.act.Act.TheVariants.{DrawBit, LookKey, LookChannel, TakeTurn, BeginLook, Touch}
 use Rattle.nio_history.specs.declared.found.Chan.{Chan}
 use Rattle.nio_history.specs.declared.found.Stage.{Stage}
 use Rattle.nio_history.proofs.LastsOnceSound.{unclaimed_reached}
-use Rattle.nio_history.proofs.Put.{put-same}
+use Rattle.nio_history.proofs.Put.{put-same, put_at-same}
 use Rattle.nio_history.specs.Acts.{taken_by}
 use Rattle.nio_history.specs.declared.found.GateWord.{GateWord}
 use Rattle.nio_words.specs.Passes.{seen, state_seen, numbers_of, Holds, IsPassOf, limits_of}
@@ -153,6 +153,20 @@ selection_begun {me = me} {s = s} {found = found} {v0 = v0} {v1 = v1} clause uns
     ap (λ st. has_begun st me s) leaves.state
     ∙ and_from (has_turn before me s) (put before.begun s.0 here s.0) leaves.step.condition.1
     (put-same before.begun s.0 here ∙ or_right (before.begun s.0) (not found.shut) (ap not unshut))
+
+-- ---- changes
+
+-- who just touched an index on which it has a pin is amid a change of it
+pub touched_amid : {me : CallerNo} {s : SelNo} {i : ℕ} {found : Bool} {v0 v1 : PassView}
+    → ActsClause me (Touch s i found ∷ []) v0 v1 → has_pin (known v1) me s i ≡ true → is_amid (known v1) me s i ≡ true
+touched_amid {me = me} {s = s} {i = i} {found = found} {v0 = v0} {v1 = v1} clause pin =
+    let leaves = step_leaves v0.limits (HoldsNumber v0) me (Touch s i found) v0.seen v1.seen clause.history in
+    let before : State = state_after (v0.seen ++ leaves.between) in
+    let pinned : before.pinned s.0 i me.0 ≡ true = sym (ap (λ st. has_pin st me s i) leaves.state) ∙ pin in
+    ap (λ st. is_amid st me s i) leaves.state
+    ∙ (ap (λ g. g me.0)
+    (put_at-same before.amid s.0 i (put (before.amid s.0 i) me.0 (before.pinned s.0 i me.0)))
+    ∙ (put-same (before.amid s.0 i) me.0 (before.pinned s.0 i me.0) ∙ pinned))
 
 -- ---- keys
 

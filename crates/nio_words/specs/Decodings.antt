@@ -7,6 +7,7 @@ use Rattle.nio_base.specs.declared.numbers.CallerNo.{CallerNo}
 use Rattle.nio_base.specs.declared.numbers.KeyId.{KeyId}
 use Rattle.nio_history.specs.declared.found.Chan.{Chan as Channel}
 use Rattle.nio_history.specs.declared.found.GateWord.{GateWord}
+use Rattle.nio_history.specs.declared.found.IndexWord.{IndexWord}
 use Rattle.nio_history.specs.declared.found.Mark.{Mark as KeyMark}
 use Rattle.nio_history.specs.declared.found.Stage.{Stage}
 use Rattle.nio_words.specs.Encodings.{channel_word, stage_word, mark_word}
@@ -27,6 +28,13 @@ stage_of word = record {
   chan = record { 0 = word / 2 ^ 12 % 2 ^ 20 };
   serial = word / 2 ^ 32;
 }
+
+-- how many pins are on an index
+abbrev pub pins_of : ℕ → ℕ
+pins_of word = word / 2 ^ 4 % 2 ^ 8
+
+abbrev pub index_of : ℕ → IndexWord
+index_of word = record { stage = stage_of word; pinned = not (pins_of word == 0) }
 
 -- what an exchange from a stage without pins finds: whether its index was pinned, and so another word stood
 -- there

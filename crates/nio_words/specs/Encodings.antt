@@ -6,7 +6,7 @@ use Rattle.nio_base.specs.Kind.{kind_code}
 use Rattle.nio_base.specs.declared.limits.Limits.{Limits}
 use Rattle.nio_base.specs.declared.numbers.CallerNo.{CallerNo}
 use Rattle.nio_base.specs.declared.numbers.KeyId.{KeyId}
-use Rattle.nio_history.specs.Answers.{bits_below, selectors_word, pins, free_word}
+use Rattle.nio_history.specs.Answers.{bits_below, selectors_word, pins, free_word, touched_word}
 use Rattle.nio_history.specs.State.{State}
 use Rattle.nio_history.specs.declared.found.Chan.{Chan as Channel}
 use Rattle.nio_history.specs.declared.found.GateWord.{GateWord}
@@ -15,7 +15,7 @@ use Rattle.nio_history.specs.declared.found.Stage.{Stage}
 use Rattle.nio_words.specs.declared.part.Part.{Part}
 use Rattle.nio_words.specs.declared.part.Part.TheVariants.{Callers, Interrupts, Selectors, ChannelsHigh, Chan, Hold}
 use Rattle.nio_words.specs.declared.part.Part.TheVariants.{Enrolled, Gate, Turn, KeysHigh, Key, Interest, Mark, Note}
-use Rattle.nio_words.specs.declared.part.Part.TheVariants.{Free}
+use Rattle.nio_words.specs.declared.part.Part.TheVariants.{Free, Touched, Lister}
 
 abbrev pub bit : Bool → ℕ
 bit b = if b then 1 else 0
@@ -72,6 +72,9 @@ encoding st (Mark s i) = mark_word (st.mark s i)
 encoding st (Note s i) = st.note s i
 -- bit b: index 64 * j + b is free
 encoding st (Free s j) = free_word st s j
+-- bit b: index 64 * j + b is touched
+encoding st (Touched s j) = touched_word st s j
+encoding st (Lister s) = holder_word (st.lister s)
 
 -- the word stays below this number
 abbrev pub bound : Part → ℕ
@@ -90,6 +93,8 @@ bound (Interest s i) = 256
 bound (Mark s i) = 512
 bound (Note s i) = 2 ^ 64
 bound (Free s j) = 2 ^ 64
+bound (Touched s j) = 2 ^ 64
+bound (Lister s) = 2 ^ 32 + 1
 
 -- what the word alone doesn't tell: the fields of a word stay within their bits
 abbrev pub IsProper : State → Part → Type 0
@@ -111,6 +116,8 @@ IsProper st (Interest s i) = ⊤
 IsProper st (Mark s i) = (st.mark s i).ready < 256
 IsProper st (Note s i) = ⊤
 IsProper st (Free s j) = ⊤
+IsProper st (Touched s j) = ⊤
+IsProper st (Lister s) = ⊤
 
 -- the word that holds the limits: callers in bits 0 to 7, selectors in bits 8 to 15, channels in
 -- bits 16 to 39, keys in bits 40 to 63

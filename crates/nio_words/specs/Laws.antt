@@ -8,14 +8,14 @@ use Rattle.nio_base.specs.declared.numbers.ChanNo.{ChanNo}
 use Rattle.nio_base.specs.declared.numbers.KeyId.{KeyId}
 use Rattle.nio_base.specs.declared.numbers.SelNo.{SelNo}
 use Rattle.nio_history.specs.Histories.{mine, HistoryClause}
-use Rattle.nio_history.specs.Holders.{Keeps as KeepsHistory, KeepsMode, marks, ends_wakeup, IsAtMostUnselected}
+use Rattle.nio_history.specs.Holders.{Keeps as KeepsHistory, KeepsMode, marks, IsAtMostUnselected}
 use Rattle.nio_history.specs.Permanent.{PermanentFact, stands, OwnFact, a_selection, the_hold, a_pin, is_had_by}
 use Rattle.nio_history.specs.Permanent.{gives_back}
 use Rattle.nio_history.specs.OwnEvents.{has, last, reopens, sets_mode, enrols_key, publishes, enrolled_found}
 use Rattle.nio_history.specs.OwnEvents.{is_clear_by}
 use Rattle.nio_history.specs.Pins.{IsSameKey, IsKeptInSelection, removes}
 use Rattle.nio_history.specs.Sets.{was_published, is_valid_key, is_in_key_set}
-use Rattle.nio_history.specs.Turns.{selects_on}
+use Rattle.nio_history.specs.Turns.{ends_wakeup, selects_on}
 use Rattle.nio_history.specs.declared.act.Act.{Act}
 use Rattle.nio_history.specs.declared.event.Event.{Event}
 use Rattle.nio_words.specs.Drawing.{Draws}

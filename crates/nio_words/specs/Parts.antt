@@ -17,11 +17,12 @@ use Rattle.nio_history.specs.declared.act.Act.TheVariants.{LookChannels}
 use Rattle.nio_history.specs.declared.act.Act.TheVariants.{RaiseChannels, TryHoldBit, Release, SetMode, CloseBit}
 use Rattle.nio_history.specs.declared.act.Act.TheVariants.{ShutBit}
 use Rattle.nio_history.specs.declared.act.Act.TheVariants.{Enter, Pin, Unpin, ClearMark, ClaimAgain, LookFree, PutFree}
-use Rattle.nio_history.specs.declared.act.Act.TheVariants.{TakeFree, Reopen}
+use Rattle.nio_history.specs.declared.act.Act.TheVariants.{TakeFree, Reopen, Touch, LookTouched, TakeTouched}
+use Rattle.nio_history.specs.declared.act.Act.TheVariants.{LookIndex, TakeList}
 use Rattle.nio_words.specs.declared.part.Part.{Part}
 use Rattle.nio_words.specs.declared.part.Part.TheVariants.{Callers, Interrupts, Selectors, ChannelsHigh, Chan, Hold}
 use Rattle.nio_words.specs.declared.part.Part.TheVariants.{Enrolled, Gate, Turn, KeysHigh, Key, Interest, Mark, Note}
-use Rattle.nio_words.specs.declared.part.Part.TheVariants.{Free}
+use Rattle.nio_words.specs.declared.part.Part.TheVariants.{Free, Touched, Lister}
 
 abbrev pub part_of : Act → Part
 part_of (DrawBit n found) = Callers
@@ -72,9 +73,14 @@ part_of (LookFree s j found) = Free s.0 j
 part_of (PutFree s i) = Free s.0 (i / 64)
 part_of (TakeFree s i found) = Free s.0 (i / 64)
 part_of (Reopen c from found) = Chan c.0
+part_of (Touch s i found) = Touched s.0 (i / 64)
+part_of (LookTouched s j found) = Touched s.0 j
+part_of (TakeTouched s j found) = Touched s.0 j
+part_of (LookIndex s i found) = Key s.0 i
+part_of (TakeList s found) = Lister s.0
 
--- the numbers in a part: its selector, its channel, and the index of its key or the number of its word of free
--- indexes; 0 where it has none
+-- the numbers in a part: its selector, its channel, and the index of its key or the number of its word of free or
+-- touched indexes; 0 where it has none
 pub record PartNumbers : Type 0 where
   pub selector : ℕ
   pub channel : ℕ
@@ -96,6 +102,8 @@ numbers_in (Interest s i) = record { selector = s; channel = 0; index = i }
 numbers_in (Mark s i) = record { selector = s; channel = 0; index = i }
 numbers_in (Note s i) = record { selector = s; channel = 0; index = i }
 numbers_in (Free s j) = record { selector = s; channel = 0; index = j }
+numbers_in (Touched s j) = record { selector = s; channel = 0; index = j }
+numbers_in (Lister s) = record { selector = s; channel = 0; index = 0 }
 
 abbrev pub selector_in : Part → SelNo
 selector_in part = record { 0 = (numbers_in part).selector }

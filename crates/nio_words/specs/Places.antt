@@ -6,9 +6,9 @@ use Rattle.nio_base.specs.declared.limits.Limits.{Limits}
 use Rattle.nio_words.specs.declared.part.Part.{Part}
 use Rattle.nio_words.specs.declared.part.Part.TheVariants.{Callers, Interrupts, Selectors, ChannelsHigh, Chan, Hold}
 use Rattle.nio_words.specs.declared.part.Part.TheVariants.{Enrolled, Gate, Turn, KeysHigh, Key, Interest, Mark, Note}
-use Rattle.nio_words.specs.declared.part.Part.TheVariants.{Free}
+use Rattle.nio_words.specs.declared.part.Part.TheVariants.{Free, Touched, Lister}
 
--- how many words a selector's free indexes have, 64 indexes each
+-- how many words a selector's free indexes have, and how many its touched ones, 64 indexes each
 abbrev pub free_words : Limits → ℕ
 free_words l = (l.keys + 63) / 64
 
@@ -31,6 +31,8 @@ rows l =
     ∷ (l.selectors * l.keys)  -- their marks
     ∷ (l.selectors * l.keys)  -- their attachments
     ∷ (l.selectors * free_words l)  -- free indexes
+    ∷ (l.selectors * free_words l)  -- touched indexes
+    ∷ l.selectors  -- who has the lists
     ∷ []
 
 -- in which row a part's word stands
@@ -50,6 +52,8 @@ row (Interest s i) = 12
 row (Mark s i) = 13
 row (Note s i) = 14
 row (Free s j) = 15
+row (Touched s j) = 16
+row (Lister s) = 17
 
 -- and where in that row
 abbrev pub column : Limits → Part → ℕ
@@ -68,6 +72,8 @@ column l (Interest s i) = s * l.keys + i
 column l (Mark s i) = s * l.keys + i
 column l (Note s i) = s * l.keys + i
 column l (Free s j) = s * free_words l + j
+column l (Touched s j) = s * free_words l + j
+column l (Lister s) = s
 
 -- its numbers are below the limits
 abbrev pub IsWithin : Limits → Part → Type 0
@@ -86,6 +92,8 @@ IsWithin l (Interest s i) = (s < l.selectors) × (i < l.keys)
 IsWithin l (Mark s i) = (s < l.selectors) × (i < l.keys)
 IsWithin l (Note s i) = (s < l.selectors) × (i < l.keys)
 IsWithin l (Free s j) = (s < l.selectors) × (j < free_words l)
+IsWithin l (Touched s j) = (s < l.selectors) × (j < free_words l)
+IsWithin l (Lister s) = s < l.selectors
 
 -- how many words some rows have together
 abbrev pub total : List ℕ → ℕ

@@ -1,10 +1,10 @@
 //! Words as parts of the state: the other way round from `encode`.
 ghost use Rattle.std.specs.Prelude.{◌≡◌, ◌<◌};
 ghost use Rattle.nio_words.specs.Decodings.{is_set, gate_of, stage_of, operations_of, number_of, kind_of, chan_of};
-ghost use Rattle.nio_words.specs.Decodings.{mark_of, holder_of, enrolled_of};
+ghost use Rattle.nio_words.specs.Decodings.{mark_of, holder_of, enrolled_of, index_of};
 
 use nio_base::{CallerNo, ChanNo, KeyId, Kind, Ops};
-use nio_history::{Chan, GateWord, Mark, Stage};
+use nio_history::{Chan, GateWord, IndexWord, Mark, Stage};
 
 /// Whether bit `k` is set.
 #[inline(always)]
@@ -36,6 +36,16 @@ pub(crate) fn stage_of(word: u64) -> Stage
         removed: is_set(word, 3),
         chan: ChanNo(((word >> 12) % (1 << 20)) as u32),
         serial: (word >> 32) as u32,
+    }
+}
+
+#[inline(always)]
+pub(crate) fn index_of(word: u64) -> IndexWord
+    ensures { result ≡ index_of word }
+{
+    IndexWord {
+        stage: stage_of(word),
+        pinned: (word >> 4) % (1 << 8) != 0,
     }
 }
 

@@ -1,10 +1,10 @@
 //! The parts of the shared state, and where the word of each stands in the table.
 ghost use Rattle.std.specs.Prelude.{◌≡◌, ◌<◌};
 ghost use Rattle.nio_base.specs.Limits.{IsFit};
-ghost use Rattle.nio_words.specs.Places.{IsWithin, free_words as words_of_free, place, word_count};
+ghost use Rattle.nio_words.specs.Places.{IsWithin, place, word_count};
 ghost use Rattle.nio_words.specs.RowStarts.{AreRowStarts};
 
-use crate::row_starts::RowStarts;
+use crate::row_starts::{RowStarts, free_words};
 use nio_base::Limits;
 
 /// A part of the state that one word holds, with the numbers that it is of.
@@ -40,6 +40,10 @@ pub enum Part {
     Note(u32, u32),
     /// Which of 64 indexes of a selector are free.
     Free(u32, u32),
+    /// Which of 64 indexes of a selector are touched.
+    Touched(u32, u32),
+    /// Who has the list of a selector.
+    Lister(u32),
 }
 
 /// The place of the word of the drawn callers.
@@ -47,15 +51,6 @@ pub(crate) const CALLERS: usize = 0;
 
 /// The place of the word that holds the limits, which no step changes.
 pub(crate) const LIMITS: usize = 1;
-
-/// How many words the free indexes of a selector have.
-#[inline(always)]
-pub(crate) fn free_words(limits: &Limits) -> usize
-    requires { IsFit limits.now }
-    ensures { result ≡ words_of_free limits.now }
-{
-    (limits.keys as usize + 63) / 64
-}
 
 /// The place of a part's word.
 #[inline(always)]
@@ -85,5 +80,7 @@ pub(crate) fn place_of(limits: &Limits, starts: &RowStarts, part: Part) -> usize
         Part::Mark(s, i) => starts.marks + (s as usize * keys + i as usize),
         Part::Note(s, i) => starts.notes + (s as usize * keys + i as usize),
         Part::Free(s, j) => starts.frees + (s as usize * free_words(limits) + j as usize),
+        Part::Touched(s, j) => starts.touched + (s as usize * free_words(limits) + j as usize),
+        Part::Lister(s) => starts.listers + s as usize,
     }
 }

@@ -1,8 +1,19 @@
 //! Where the rows of words begin.
+ghost use Rattle.std.specs.Prelude.{◌≡◌};
 ghost use Rattle.nio_base.specs.Limits.{IsFit};
+ghost use Rattle.nio_words.specs.Places.{free_words as words_of_free};
 ghost use Rattle.nio_words.specs.RowStarts.{AreRowStarts};
 
 use nio_base::Limits;
+
+/// How many words the free indexes of a selector have, and how many its touched ones.
+#[inline(always)]
+pub(crate) fn free_words(limits: &Limits) -> usize
+    requires { IsFit limits.now }
+    ensures { result ≡ words_of_free limits.now }
+{
+    (limits.keys as usize + 63) / 64
+}
 
 /// The places of the first words of rows. They depend on the limits alone, so a table computes them once, and a step
 /// adds only its part's column.
@@ -14,6 +25,8 @@ pub struct RowStarts {
     pub(crate) marks: usize,
     pub(crate) notes: usize,
     pub(crate) frees: usize,
+    pub(crate) touched: usize,
+    pub(crate) listers: usize,
 }
 
 impl RowStarts {
@@ -29,13 +42,17 @@ impl RowStarts {
         let interests = stages + of_keys;
         let marks = interests + of_keys;
         let notes = marks + of_keys;
+        let frees = notes + of_keys;
+        let touched = frees + selectors * free_words(limits);
         RowStarts {
             gates,
             stages,
             interests,
             marks,
             notes,
-            frees: notes + of_keys,
+            frees,
+            touched,
+            listers: touched + selectors * free_words(limits),
         }
     }
 }

@@ -5,8 +5,8 @@ ghost use Rattle.nio_words.specs.Encodings.{limits_word as word_of_limits};
 ghost use Rattle.nio_words.specs.Passes.{IsFirstPass, limits_of};
 ghost use Rattle.nio_words.specs.Places.{word_count as count_of_words};
 
-use crate::part::{LIMITS, free_words};
-use crate::row_starts::RowStarts;
+use crate::part::LIMITS;
+use crate::row_starts::{RowStarts, free_words};
 use crate::words::{Pass, Words};
 use atomic_table::Table;
 use nio_base::Limits;
@@ -19,6 +19,7 @@ fn word_count(limits: &Limits) -> usize
     let selectors = limits.selectors as usize;
     let channels = limits.channels as usize;
     let of_keys = selectors * limits.keys as usize;
+    let of_words = selectors * free_words(limits);
     5 + channels
         + channels
         + channels * selectors
@@ -29,7 +30,9 @@ fn word_count(limits: &Limits) -> usize
         + of_keys
         + of_keys
         + of_keys
-        + selectors * free_words(limits)
+        + of_words
+        + of_words
+        + selectors
 }
 
 fn limits_word(limits: &Limits) -> u64

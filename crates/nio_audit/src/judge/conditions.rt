@@ -29,26 +29,32 @@ impl Judge {
             | Act::LookGate(sel, _)
             | Act::LookKeys(sel, _)
             | Act::TakeTurn(sel, _)
-            | Act::ShutBit(sel, _) => self.is_selector(sel),
+            | Act::ShutBit(sel, _)
+            | Act::TakeList(sel, _) => self.is_selector(sel),
             Act::LookSelectors(_)
             | Act::TakeInterrupt(_)
             | Act::LookInterrupt(_)
             | Act::LookChannels(_) => true,
             Act::Wake(sel, _) => self.is_selector(sel) && self.state.is_selector_made(sel),
             Act::SetInterrupt(number, _) => number.0 < self.limits.callers,
-            Act::LookKey(sel, index, _) | Act::TakeFree(sel, index, _) => self.is_key(sel, index),
+            Act::LookKey(sel, index, _)
+            | Act::TakeFree(sel, index, _)
+            | Act::LookIndex(sel, index, _) => self.is_key(sel, index),
             Act::CancelKey(sel, index, _) => {
                 self.is_key(sel, index)
                     && self.state.is_claimed(sel, index)
                     && self.state.has_pin(me, sel, index)
+                    && self.state.is_amid(me, sel, index)
             }
-            Act::LookInterest(sel, index, _) | Act::LookMark(sel, index, _) => {
-                self.may_look(me, sel, index)
-            }
+            Act::LookInterest(sel, index, _)
+            | Act::LookMark(sel, index, _)
+            | Act::Touch(sel, index, _) => { self.may_look(me, sel, index) }
             Act::SwapInterest(sel, index, _, _)
             | Act::OrInterest(sel, index, _, _)
-            | Act::AndInterest(sel, index, _, _)
-            | Act::SwapNote(sel, index, _, _)
+            | Act::AndInterest(sel, index, _, _) => {
+                self.may_use(me, sel, index) && self.state.is_amid(me, sel, index)
+            }
+            Act::SwapNote(sel, index, _, _)
             | Act::LookNote(sel, index, _)
             | Act::UnselectBit(sel, index, _)
             | Act::Unpin(sel, index) => self.may_use(me, sel, index),
@@ -61,7 +67,9 @@ impl Judge {
                 self.is_selector(sel) && n <= self.limits.keys && n <= self.counts.keys(sel)
             }
             Act::Publish(sel, index, _) => {
-                self.is_key(sel, index) && self.may_publish(me, sel, index)
+                self.is_key(sel, index)
+                    && self.may_publish(me, sel, index)
+                    && self.state.is_amid(me, sel, index)
             }
             Act::LookReg(chan, sel, _) => self.is_channel(chan) && self.is_selector(sel),
             Act::Enrol(chan, sel, index, serial, _) => {
@@ -93,7 +101,15 @@ impl Judge {
             Act::ClaimAgain(sel, index, chan, from, _) => {
                 self.may_claim_again(me, sel, index, chan, from)
             }
-            Act::LookFree(sel, part, _) => self.is_selector(sel) && self.is_part(part),
+            Act::LookFree(sel, part, _) | Act::LookTouched(sel, part, _) => {
+                self.is_selector(sel) && self.is_part(part)
+            }
+            Act::TakeTouched(sel, part, _) => {
+                self.is_selector(sel)
+                    && self.is_part(part)
+                    && self.state.has_begun(me, sel)
+                    && self.state.has_list(me, sel)
+            }
             Act::PutFree(sel, index) => self.is_key(sel, index) && self.may_put(me, sel, index),
             Act::Reopen(chan, from, _) => self.may_reopen(me, chan, from),
         }

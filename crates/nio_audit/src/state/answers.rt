@@ -3,10 +3,10 @@ ghost use Rattle.std.specs.Prelude.{◌≡◌, ◌<◌, ◌+◌, ◌*◌, ◌↔
 
 use crate::state::StateTables;
 use nio_base::{CallerNo, ChanNo, SelNo};
-use nio_history::{Act, Chan, Mark};
+use nio_history::{Act, Chan, IndexWord, Mark};
 
 impl StateTables {
-    ghost use Rattle.nio_history.specs.Answers.{Answers, bits_below, exchange_from, is_pinned, is_same_channel};
+    ghost use Rattle.nio_history.specs.Answers.{Answers, bits_below, exchange_from, index_at, is_pinned, is_same_channel};
     ghost use Rattle.nio_audit.specs.Bounds.{IsReadable};
     ghost use Rattle.nio_audit.specs.StateOf.{state_with};
     ghost use Rattle.nio_audit.specs.StepNumbers.{number_of};
@@ -66,6 +66,11 @@ impl StateTables {
             Act::PutFree(_, _) => true,
             Act::TakeFree(sel, index, found) => found == self.free.get(sel.0, index),
             Act::Reopen(chan, from, found) => found == self.has_another(chan, from),
+            Act::Touch(sel, index, found) => found == self.touched.get(sel.0, index),
+            Act::LookTouched(sel, part, found) => found == self.touched_word(sel, part),
+            Act::TakeTouched(sel, part, found) => found == self.touched_word(sel, part),
+            Act::LookIndex(sel, index, found) => found == self.index(sel, index),
+            Act::TakeList(sel, found) => found == self.lister.get(sel.0),
         }
     }
 
@@ -94,6 +99,30 @@ impl StateTables {
             }
         }
         word
+    }
+
+    /// Which of 64 indexes are touched, as one number.
+    fn touched_word(&self, sel: SelNo, part: u32) -> u64
+        requires { 64 * part < 262144 }
+        ensures { result ≡ bits_below 64 (λ b. grid self.now.touched sel.0 (64 * part + b)) }
+    {
+        let mut word = 0;
+        for bit in 0..64 {
+            if self.touched.get(sel.0, 64 * part + bit) {
+                word |= 1 << bit;
+            }
+        }
+        word
+    }
+
+    /// The stage of the index's key, and whether somebody has a pin on the index.
+    fn index(&self, sel: SelNo, index: u32) -> IndexWord
+        ensures { (due : ℕ → ℕ → Bool) → result ≡ index_at (state_with self.now due) sel.0 index }
+    {
+        IndexWord {
+            stage: self.key.get(sel.0, index),
+            pinned: self.is_pinned(sel, index),
+        }
     }
 
     /// Whether somebody has a pin on the index.

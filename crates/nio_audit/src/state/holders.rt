@@ -70,6 +70,18 @@ impl StateTables {
         self.pinned.get(sel.0, index, me.0)
     }
 
+    pub(crate) fn is_amid(&self, me: CallerNo, sel: SelNo, index: u32) -> bool
+        ensures { result ≡ cube self.now.amid sel.0 index me.0 }
+    {
+        self.amid.get(sel.0, index, me.0)
+    }
+
+    pub(crate) fn has_list(&self, me: CallerNo, sel: SelNo) -> bool
+        ensures { result ≡ is_held_by me (row self.now.lister sel.0) }
+    {
+        is_held_by(me, self.lister.get(sel.0))
+    }
+
     pub(crate) fn has_taken(&self, me: CallerNo, sel: SelNo, index: u32) -> bool
         ensures { result ≡ is_held_by me (grid self.now.taker sel.0 index) }
     {

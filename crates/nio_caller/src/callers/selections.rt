@@ -127,7 +127,7 @@ impl<'a> Caller<'a> {
         mode: Mode,
     ) -> Result<Selecting, BeginError>
         requires { HasSelector (sees self.old) sel }
-        ensures call { CallClause self.old.number (Begins sel mode) (sees self.old) (sees self.new) result }
+        ensures call { CallClause self.old.number (Begins sel mode None) (sees self.old) (sees self.new) result }
         ensures same { IsSameCaller self.old self.new }
         ensures still { StillHas (sees self.old) (sees self.new) }
         ensures begun { IfOk result (Selects (sees self.new) self.old.number) }

@@ -41,6 +41,7 @@ enum Next {
     LookForKey,
     Compare,
     Pin,
+    Touch,
     Cancel,
     Unpin,
 }
@@ -68,7 +69,7 @@ struct When {
 }
 
 /// How many steps a closing has at most.
-const MOST: u32 = 8;
+const MOST: u32 = 9;
 
 /// Makes this step of the closing.
 fn close_by(r: &mut Recorder, alloc: Global, next: Next) -> Result<Found, RecordError>
@@ -80,6 +81,7 @@ fn close_by(r: &mut Recorder, alloc: Global, next: Next) -> Result<Found, Record
         Next::Close(found) => find(r, alloc, ONE, Act::CloseBit(C, found, CHANNEL)),
         Next::LookForKey => find(r, alloc, ONE, Act::LookReg(C, S, None)),
         Next::Pin => find(r, alloc, ONE, Act::Pin(S, 0, STAGE)),
+        Next::Touch => find(r, alloc, ONE, Act::Touch(S, 0, false)),
         Next::Cancel => find(r, alloc, ONE, Act::CancelKey(S, 0, STAGE)),
         Next::Unpin => find(r, alloc, ONE, Act::Unpin(S, 0)),
     }
@@ -98,7 +100,8 @@ fn after(next: Next, serial: u32, found: Found) -> Option<Next> {
         }
         (Next::LookForKey, Found::Noted(Some(_))) => Some(Next::Compare),
         (Next::Compare, Found::Channel(chan)) if chan.fits(serial) => Some(Next::Pin),
-        (Next::Pin, _) => Some(Next::Cancel),
+        (Next::Pin, _) => Some(Next::Touch),
+        (Next::Touch, _) => Some(Next::Cancel),
         (Next::Cancel, _) => Some(Next::Unpin),
         _ => None,
     }
@@ -202,6 +205,7 @@ fn register(r: &mut Recorder, alloc: Global, closer: &mut Closer) -> Result<(), 
         Act::LookReg(C, S, None),
         Act::Claim(S, 0, C, false),
         Act::RaiseKeys(S, 1, 0),
+        Act::Touch(S, 0, false),
         Act::SwapInterest(S, 0, Ops::READ, Ops::NONE),
         Act::Enrol(C, S, 0, 0, None),
         Act::Publish(S, 0, STAGE),
@@ -294,8 +298,8 @@ fn are_closed_beside<R: Abort>(
     early: u32,
     first: u32,
 ) -> Result<(), Fail> {
-    for before in first..19 {
-        for later in [before + 3, 20] {
+    for before in first..20 {
+        for later in [before + 3, 21] {
             for many in 1..5 {
                 let when = When {
                     early,

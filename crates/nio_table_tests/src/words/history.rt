@@ -3,7 +3,7 @@ ghost use Rattle.nio_table_tests.specs.Following.{IsPart};
 
 use crate::tables::{ONE, S, ZERO};
 use nio_base::{CallerNo, ChanNo, KeyId, Kind, Ops};
-use nio_history::{Act, Chan, GateWord, Mark, Stage};
+use nio_history::{Act, Chan, GateWord, IndexWord, Mark, Stage};
 
 pub(crate) const C: ChanNo = ChanNo(0);
 
@@ -137,6 +137,18 @@ pub(crate) const READABLE: Mark = Mark {
     ready: Ops::READ,
 };
 
+/// The index while its first key is valid and nobody has a pin on it.
+pub(crate) const UNPINNED: IndexWord = IndexWord {
+    stage: VALID,
+    pinned: false,
+};
+
+/// The same once its next key is cancelled and somebody has a pin on it.
+pub(crate) const PINNED: IndexWord = IndexWord {
+    stage: NEXT_CANCELLED,
+    pinned: true,
+};
+
 pub(crate) const FIRST: KeyId = KeyId {
     index: 0,
     serial: 0,
@@ -176,7 +188,7 @@ pub(crate) fn set_non_blocking() -> [(CallerNo, Act); 6]
 }
 
 /// It registers the channel: no index was claimed yet, so it claims index 0, which pins it.
-pub(crate) fn registering() -> [(CallerNo, Act); 15]
+pub(crate) fn registering() -> [(CallerNo, Act); 16]
     ensures { IsPart 14 result }
 {
     [
@@ -188,6 +200,7 @@ pub(crate) fn registering() -> [(CallerNo, Act); 15]
         (ZERO, Act::Claim(S, 0, C, false)),
         (ZERO, Act::RaiseKeys(S, 1, 0)),
         (ZERO, Act::LookGate(S, QUIET)),
+        (ZERO, Act::Touch(S, 0, false)),
         (ZERO, Act::SwapInterest(S, 0, Ops::READ, Ops::NONE)),
         (ZERO, Act::SwapNote(S, 0, 7, 0)),
         (ZERO, Act::Enrol(C, S, 0, 0, None)),
@@ -199,12 +212,13 @@ pub(crate) fn registering() -> [(CallerNo, Act); 15]
 }
 
 /// Under a pin it changes the interest set to and fro.
-pub(crate) fn changing_interest() -> [(CallerNo, Act); 5]
-    ensures { IsPart 29 result }
+pub(crate) fn changing_interest() -> [(CallerNo, Act); 6]
+    ensures { IsPart 30 result }
 {
     let operations = Ops::READ.union(Ops::WRITE);
     [
         (ZERO, Act::Pin(S, 0, VALID)),
+        (ZERO, Act::Touch(S, 0, true)),
         (ZERO, Act::OrInterest(S, 0, Ops::WRITE, Ops::READ)),
         (ZERO, Act::AndInterest(S, 0, Ops::READ, operations)),
         (ZERO, Act::LookNote(S, 0, 7)),
@@ -213,8 +227,8 @@ pub(crate) fn changing_interest() -> [(CallerNo, Act); 5]
 }
 
 /// It begins a selection; caller 1 finds the turn taken.
-pub(crate) fn beginning() -> [(CallerNo, Act); 7]
-    ensures { IsPart 34 result }
+pub(crate) fn beginning() -> [(CallerNo, Act); 5]
+    ensures { IsPart 36 result }
 {
     [
         (ZERO, Act::TakeTurn(S, None)),
@@ -222,25 +236,39 @@ pub(crate) fn beginning() -> [(CallerNo, Act); 7]
         (ZERO, Act::BeginLook(S, QUIET)),
         (ZERO, Act::LookKeys(S, 1)),
         (ZERO, Act::LookFree(S, 0, 0)),
+    ]
+}
+
+/// It takes the selector's list, which caller 1 finds taken, and the bit of index 0, and looks there.
+pub(crate) fn taking_the_list() -> [(CallerNo, Act); 7]
+    ensures { IsPart 41 result }
+{
+    [
+        (ZERO, Act::TakeList(S, None)),
+        (ONE, Act::TakeList(S, Some(ZERO))),
+        (ZERO, Act::LookTouched(S, 0, 1)),
+        (ZERO, Act::TakeTouched(S, 0, 1)),
+        (ZERO, Act::LookIndex(S, 0, UNPINNED)),
         (ZERO, Act::LookKey(S, 0, VALID)),
         (ZERO, Act::LookInterest(S, 0, Ops::READ)),
     ]
 }
 
 /// Caller 1 wakes it, and cancels the key under a pin, which it keeps.
-pub(crate) fn waking_and_cancelling() -> [(CallerNo, Act); 3]
-    ensures { IsPart 41 result }
+pub(crate) fn waking_and_cancelling() -> [(CallerNo, Act); 4]
+    ensures { IsPart 48 result }
 {
     [
         (ONE, Act::Wake(S, false)),
         (ONE, Act::Pin(S, 0, VALID)),
+        (ONE, Act::Touch(S, 0, false)),
         (ONE, Act::CancelKey(S, 0, VALID)),
     ]
 }
 
 /// It is told of the key twice, and ends the selection: the key is removed, and its index becomes free.
-pub(crate) fn marking_and_ending() -> [(CallerNo, Act); 12]
-    ensures { IsPart 44 result }
+pub(crate) fn marking_and_ending() -> [(CallerNo, Act); 13]
+    ensures { IsPart 52 result }
 {
     let operations = Ops::READ.union(Ops::WRITE);
     [
@@ -261,6 +289,7 @@ pub(crate) fn marking_and_ending() -> [(CallerNo, Act); 12]
         ),
         (ZERO, Act::LookGate(S, WOKEN)),
         (ZERO, Act::LookInterrupt(false)),
+        (ZERO, Act::LookTouched(S, 0, 1)),
         (ZERO, Act::LookKey(S, 0, CANCELLED)),
         (ZERO, Act::Remove(S, 0, CANCELLED)),
         (ZERO, Act::PutFree(S, 0)),
@@ -271,7 +300,7 @@ pub(crate) fn marking_and_ending() -> [(CallerNo, Act); 12]
 
 /// It registers the channel again: index 0 is free, but caller 1 still has its pin on it.
 pub(crate) fn finding_it_pinned() -> [(CallerNo, Act); 14]
-    ensures { IsPart 56 result }
+    ensures { IsPart 65 result }
 {
     [
         (ZERO, Act::LookChannel(C, UNBLOCKED)),
@@ -292,8 +321,8 @@ pub(crate) fn finding_it_pinned() -> [(CallerNo, Act); 14]
 }
 
 /// Caller 1 takes its pin off: now the index is given again, to a key with serial 1.
-pub(crate) fn registering_again() -> [(CallerNo, Act); 15]
-    ensures { IsPart 70 result }
+pub(crate) fn registering_again() -> [(CallerNo, Act); 16]
+    ensures { IsPart 79 result }
 {
     let operations = Ops::READ.union(Ops::WRITE);
     [
@@ -315,6 +344,7 @@ pub(crate) fn registering_again() -> [(CallerNo, Act); 15]
             ),
         ),
         (ZERO, Act::LookGate(S, QUIET)),
+        (ZERO, Act::Touch(S, 0, true)),
         (ZERO, Act::SwapInterest(S, 0, Ops::READ, Ops::READ)),
         (ZERO, Act::SwapNote(S, 0, 0, 7)),
         (ZERO, Act::Enrol(C, S, 0, 1, Some(FIRST))),
@@ -325,30 +355,37 @@ pub(crate) fn registering_again() -> [(CallerNo, Act); 15]
     ]
 }
 
-/// It cancels this key too, and a selection removes it.
-pub(crate) fn removing_again() -> [(CallerNo, Act); 13]
-    ensures { IsPart 85 result }
+/// It cancels this key too, and a selection removes it. That finds the index pinned by caller 1, so it touches it
+/// again.
+pub(crate) fn removing_again() -> [(CallerNo, Act); 19]
+    ensures { IsPart 95 result }
 {
     [
         (ZERO, Act::Pin(S, 0, NEXT_VALID)),
         (ZERO, Act::LookMark(S, 0, UNMARKED)),
+        (ZERO, Act::Touch(S, 0, true)),
         (ZERO, Act::CancelKey(S, 0, NEXT_VALID)),
         (ZERO, Act::Unpin(S, 0)),
+        (ONE, Act::Pin(S, 0, NEXT_CANCELLED)),
         (ZERO, Act::TakeTurn(S, None)),
         (ZERO, Act::BeginLook(S, QUIET)),
         (ZERO, Act::LookKeys(S, 1)),
         (ZERO, Act::LookFree(S, 0, 0)),
+        (ZERO, Act::TakeTouched(S, 0, 1)),
+        (ZERO, Act::LookIndex(S, 0, PINNED)),
+        (ZERO, Act::Touch(S, 0, false)),
         (ZERO, Act::LookKey(S, 0, NEXT_CANCELLED)),
         (ZERO, Act::Remove(S, 0, NEXT_CANCELLED)),
         (ZERO, Act::PutFree(S, 0)),
         (ZERO, Act::EndWake(S, QUIET)),
         (ZERO, Act::GiveTurn(S)),
+        (ONE, Act::Unpin(S, 0)),
     ]
 }
 
 /// Caller 1 sets blocking mode again: the enrolled key is removed.
 pub(crate) fn blocking_again() -> [(CallerNo, Act); 5]
-    ensures { IsPart 98 result }
+    ensures { IsPart 114 result }
 {
     [
         (ONE, Act::TryHoldBit(C, None)),
@@ -361,7 +398,7 @@ pub(crate) fn blocking_again() -> [(CallerNo, Act); 5]
 
 /// It closes the channel and the selector, and interrupts caller 0.
 pub(crate) fn closing() -> [(CallerNo, Act); 11]
-    ensures { IsPart 103 result }
+    ensures { IsPart 119 result }
 {
     [
         (ONE, Act::CloseBit(C, BLOCKING, BLOCKING)),
@@ -380,7 +417,7 @@ pub(crate) fn closing() -> [(CallerNo, Act); 11]
 
 /// Caller 1 gives the channel's number to a new channel, once; a closing of the old one that comes late leaves it.
 pub(crate) fn reopening() -> [(CallerNo, Act); 8]
-    ensures { IsPart 114 result }
+    ensures { IsPart 130 result }
 {
     [
         (ONE, Act::TryHoldBit(C, None)),

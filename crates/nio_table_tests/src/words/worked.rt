@@ -10,7 +10,7 @@ ghost use Rattle.nio_table_tests.specs.Following.{Follows, IsPart};
 use super::{SMALL, history};
 use crate::tables::drawn_table;
 use nio_base::CallerNo;
-use nio_history::{Act, Chan, Stage};
+use nio_history::{Act, Chan, IndexWord, Stage};
 use nio_words::{Pass, Words};
 use std::process::Abort;
 use std::test::Fail;
@@ -23,6 +23,12 @@ fn same_channel(first: Chan, second: Chan) -> bool
 }
 
 fn same_stage(first: Stage, second: Stage) -> bool
+    ensures { IsTrue result → first ≡ second }
+{
+    first == second
+}
+
+fn same_index(first: IndexWord, second: IndexWord) -> bool
     ensures { IsTrue result → first ≡ second }
 {
     first == second
@@ -95,6 +101,11 @@ fn repeats(w: &Words, p: &mut Pass, me: CallerNo, act: Act) -> bool
         }
         Act::TakeFree(s, i, found) => w.take_free(p, me, s, i) == found,
         Act::Reopen(c, from, found) => w.reopen(p, me, c, from) == found,
+        Act::Touch(s, i, found) => w.touch(p, me, s, i) == found,
+        Act::LookTouched(s, j, found) => w.look_touched(p, me, s, j) == found,
+        Act::TakeTouched(s, j, found) => w.take_touched(p, me, s, j) == found,
+        Act::LookIndex(s, i, found) => same_index(w.look_index(p, me, s, i), found),
+        Act::TakeList(s, found) => w.take_list(p, me, s) == found,
     }
 }
 
@@ -113,26 +124,27 @@ fn follow(rt: &impl Abort, w: &Words, p: &mut Pass, _from: usize, steps: &[(Call
 /// Until caller 0 has removed the first key and made its index free.
 pub(super) fn remove_first_key(rt: &impl Abort, w: &Words, p: &mut Pass)
     requires { Follows w.now 2 p.old }
-    ensures { Follows w.now 56 p.new }
+    ensures { Follows w.now 65 p.new }
 {
     follow(rt, w, p, 2, &history::opening());
     follow(rt, w, p, 8, &history::set_non_blocking());
     follow(rt, w, p, 14, &history::registering());
-    follow(rt, w, p, 29, &history::changing_interest());
-    follow(rt, w, p, 34, &history::beginning());
-    follow(rt, w, p, 41, &history::waking_and_cancelling());
-    follow(rt, w, p, 44, &history::marking_and_ending());
+    follow(rt, w, p, 30, &history::changing_interest());
+    follow(rt, w, p, 36, &history::beginning());
+    follow(rt, w, p, 41, &history::taking_the_list());
+    follow(rt, w, p, 48, &history::waking_and_cancelling());
+    follow(rt, w, p, 52, &history::marking_and_ending());
 }
 
 #[test]
 fn table_follows_the_worked_history(rt: HostRuntime) -> Result<(), Fail> {
     let (words, mut p) = drawn_table(rt.alloc(), SMALL)?;
     remove_first_key(&rt, &words, &mut p);
-    follow(&rt, &words, &mut p, 56, &history::finding_it_pinned());
-    follow(&rt, &words, &mut p, 70, &history::registering_again());
-    follow(&rt, &words, &mut p, 85, &history::removing_again());
-    follow(&rt, &words, &mut p, 98, &history::blocking_again());
-    follow(&rt, &words, &mut p, 103, &history::closing());
-    follow(&rt, &words, &mut p, 114, &history::reopening());
+    follow(&rt, &words, &mut p, 65, &history::finding_it_pinned());
+    follow(&rt, &words, &mut p, 79, &history::registering_again());
+    follow(&rt, &words, &mut p, 95, &history::removing_again());
+    follow(&rt, &words, &mut p, 114, &history::blocking_again());
+    follow(&rt, &words, &mut p, 119, &history::closing());
+    follow(&rt, &words, &mut p, 130, &history::reopening());
     Ok(())
 }

@@ -1,6 +1,6 @@
 //! Steps on a key's interest set.
 ghost use Rattle.std.specs.Prelude.{◌||◌, IsTrue};
-ghost use Rattle.nio_history.specs.Conditions.{IsKey, has_pin, has_begun};
+ghost use Rattle.nio_history.specs.Conditions.{IsKey, has_pin, has_begun, is_amid};
 ghost use Rattle.nio_history.specs.declared.act.Act.TheVariants.{LookInterest, SwapInterest, OrInterest, AndInterest};
 ghost use Rattle.nio_words.specs.Passes.{IsReady, limits_of, state_seen};
 ghost use Rattle.nio_words.specs.Steps.{Steps};
@@ -28,6 +28,7 @@ impl Words {
         requires ready { IsReady self.now p.old me }
         requires key { IsKey (limits_of self.now) s i }
         requires pinned { IsTrue (has_pin (state_seen p.old) me s i) }
+        requires touched { IsTrue (is_amid (state_seen p.old) me s i) }
         ensures { Steps self.now p.old p.new me (SwapInterest s i ops result) }
     {
         let bits = u64::from(ops.bits());
@@ -40,6 +41,7 @@ impl Words {
         requires ready { IsReady self.now p.old me }
         requires key { IsKey (limits_of self.now) s i }
         requires pinned { IsTrue (has_pin (state_seen p.old) me s i) }
+        requires touched { IsTrue (is_amid (state_seen p.old) me s i) }
         ensures { Steps self.now p.old p.new me (OrInterest s i ops result) }
     {
         let bits = u64::from(ops.bits());
@@ -52,6 +54,7 @@ impl Words {
         requires ready { IsReady self.now p.old me }
         requires key { IsKey (limits_of self.now) s i }
         requires pinned { IsTrue (has_pin (state_seen p.old) me s i) }
+        requires touched { IsTrue (is_amid (state_seen p.old) me s i) }
         ensures { Steps self.now p.old p.new me (AndInterest s i ops result) }
     {
         let bits = u64::from(ops.bits());

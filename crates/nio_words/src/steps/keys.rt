@@ -1,23 +1,23 @@
 //! Steps on the word of an index: the stage of its key, and the pins on it.
 ghost use Rattle.std.specs.Prelude.{◌≡◌, ◌<◌, ◌||◌, not, IsTrue, Some};
 ghost use Rattle.nio_history.specs.Conditions.{IsChannel, IsKey, AllClaimed, is_claimed, holds, has_pin, has_taken};
-ghost use Rattle.nio_history.specs.Conditions.{may_publish, may_remove_cancelled, may_clear_out};
+ghost use Rattle.nio_history.specs.Conditions.{may_publish, may_remove_cancelled, may_clear_out, is_amid};
 ghost use Rattle.nio_history.specs.OwnEvents.{last, own_claim, since_taken, stage_found};
 ghost use Rattle.nio_base.specs.Numbers.{last_serial};
 ghost use Rattle.nio_history.specs.declared.act.Act.TheVariants.{LookKey, CancelKey, Claim, Publish, Remove, Pin};
 ghost use Rattle.nio_history.specs.declared.act.Act.TheVariants.{Unpin};
-ghost use Rattle.nio_history.specs.declared.act.Act.TheVariants.{ClaimAgain};
+ghost use Rattle.nio_history.specs.declared.act.Act.TheVariants.{ClaimAgain, LookIndex};
 ghost use Rattle.nio_words.specs.Passes.{IsReady, acts_seen, limits_of, state_seen};
 ghost use Rattle.nio_words.specs.Steps.{Steps};
 
-use crate::decode::{is_set, stage_of};
+use crate::decode::{index_of, is_set, stage_of};
 use crate::encode::{self, PIN};
 use crate::instruction::Instruction;
 use crate::part::Part;
 use crate::step::Details;
 use crate::words::{Pass, Words};
 use nio_base::{CallerNo, ChanNo, SelNo};
-use nio_history::Stage;
+use nio_history::{IndexWord, Stage};
 
 // The bits of a key that is published, cancelled or removed.
 const PUBLISHED: u32 = 1;
@@ -37,12 +37,23 @@ impl Words {
         stage_of(found)
     }
 
+    /// Looks at how far the key of the index has come, and at whether the index is pinned.
+    pub fn look_index(&self, p: &mut Pass, me: CallerNo, s: SelNo, i: u32) -> IndexWord
+        requires ready { IsReady self.now p.old me }
+        requires key { IsKey (limits_of self.now) s i }
+        ensures { Steps self.now p.old p.new me (LookIndex s i result) }
+    {
+        let found = self.step(p, me, Part::Key(s.0, i), Instruction::Load);
+        index_of(found)
+    }
+
     /// Cancels the key. Answers how far it had come.
     pub fn cancel_key(&self, p: &mut Pass, me: CallerNo, s: SelNo, i: u32) -> Stage
         requires ready { IsReady self.now p.old me }
         requires key { IsKey (limits_of self.now) s i }
         requires claimed { IsTrue (is_claimed (state_seen p.old) s i) }
         requires pinned { IsTrue (has_pin (state_seen p.old) me s i) }
+        requires touched { IsTrue (is_amid (state_seen p.old) me s i) }
         ensures { Steps self.now p.old p.new me (CancelKey s i result) }
     {
         let found = self.step(p, me, Part::Key(s.0, i), Instruction::SetBit(CANCELLED));
@@ -75,6 +86,7 @@ impl Words {
         requires key { IsKey (limits_of self.now) s i }
         requires may { IsTrue (may_publish (state_seen p.old) (acts_seen p.old me) me
             (own_claim s.0 i (acts_seen p.old me))) }
+        requires touched { IsTrue (is_amid (state_seen p.old) me s i) }
         ensures { Steps self.now p.old p.new me (Publish s i result) }
     {
         let found = self.step(p, me, Part::Key(s.0, i), Instruction::SetBit(PUBLISHED));

@@ -1,4 +1,5 @@
 use Rattle.std.proofs.Common.{◌≡◌, true, not, Ok, refl, rules}
+use Rattle.nio_history.specs.Permanent.{a_change}
 use Rattle.nio_history.specs.Sets.{is_open_channel}
 use Rattle.nio_steps.proofs.CallLaws.{returned, left_ask, left_after}
 use Rattle.nio_steps.specs.Names.{key}
@@ -7,7 +8,7 @@ use Rattle.nio_steps.specs.Steps.{cancel_key}
 use Rattle.nio_words.proofs.Pins.{stays_pinned, pinned_claimed}
 use Rattle.nio_words.proofs.Views.{step_acts}
 use Rattle.nio_channel.proofs.Chains.{left_choice}
-use Rattle.nio_channel.proofs.Held.{hold_stays}
+use Rattle.nio_channel.proofs.Held.{had_stays, hold_stays}
 use Rattle.nio_channel.proofs.Registered.{settled_open, settled_cancelled}
 use Rattle.nio_channel.proofs.registering.settle_key.Goals as goal
 
@@ -29,6 +30,11 @@ cancel_key-requires-clause-claimed c =
 pub cancel_key-requires-clause-pinned : goal.cancel_key-requires-clause-pinned
 cancel_key-requires-clause-pinned c =
     (stays_pinned c.look_channel-found.ensures refl refl c.requires.known.pinned).only.here
+
+pub cancel_key-requires-clause-touched : goal.cancel_key-requires-clause-touched
+cancel_key-requires-clause-touched c =
+    had_stays (a_change c.args.wanted.now.sel c.args.k.index) c.look_channel-found.ensures refl refl
+    c.requires.known.pinned.ready.pass c.requires.amid
 
 pub returns-clause-call : goal.returns-clause-call
 returns-clause-call c =

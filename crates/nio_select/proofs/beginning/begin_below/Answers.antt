@@ -1,4 +1,6 @@
 use Rattle.std.proofs.Common.{◌<◌, Ok, false}
+use Rattle.std.proofs.Common.{false}
+use Rattle.std.specs.Prelude.{None}
 use Rattle.nio_steps.proofs.CallLaws.{returned, ran_then, left_after, call_as}
 use Rattle.nio_steps.specs.Calls.{CallClause}
 use Rattle.nio_steps.specs.Runs.{Completes}
@@ -22,8 +24,9 @@ returns-clause-call c =
       mode = c.args.mode;
       bound = c.args.bound;
       looked = keys_of c.look_over_all.new.slots.items;
+      listed = false;
     } in
-    let call : CallClause c.args.me (Completes (begin_below c.args.sel c.args.mode c.args.bound false))
+    let call : CallClause c.args.me (Completes (begin_below c.args.sel c.args.mode None c.args.bound false))
     (view c.args.w.now c.args.p.now) (view c.args.w.now c.look_over_all.new.p) (Ok selection) =
     returned (ran_then _ over (left_after over.acts)) in
-    call_as (BeginsBelow c.args.sel c.args.mode c.args.bound) (Ok selection) (λ acts run. run) call
+    call_as (BeginsBelow c.args.sel c.args.mode None c.args.bound) (Ok selection) (λ acts run. run) call

@@ -1,4 +1,5 @@
 use Rattle.std.proofs.Common.{Err, false, refl}
+use Rattle.std.specs.Prelude.{None}
 use Rattle.nio_channel.proofs.Held.{had_stays}
 use Rattle.nio_channel.proofs.Claimed.{mark_inside}
 use Rattle.nio_history.specs.Permanent.{the_turn}
@@ -19,12 +20,12 @@ give_turn-requires-clause-turn c =
 
 pub returns-then-begin_look-clause-call : goal.returns-then-begin_look-clause-call
 returns-then-begin_look-clause-call c =
-    let call : CallClause c.args.me (Completes (begin_with_turn c.args.sel c.args.mode false))
+    let call : CallClause c.args.me (Completes (begin_with_turn c.args.sel c.args.mode None false))
     (view c.args.w.now c.args.p.now) (view c.args.w.now c.give_turn.new.p) (Err BeginError.ClosedSelector) =
     returned (left_ask _ (step_acts c.begin_look.ensures refl)
     (left_then _ _ _ c.if-begin_look.true
     (left_ask _ (step_acts c.give_turn.ensures refl) (left_after (step_acts c.give_turn.ensures refl))))) in
-    call_as (BeginsWithTurn c.args.sel c.args.mode) (Err BeginError.ClosedSelector) (λ acts run. run) call
+    call_as (BeginsWithTurn c.args.sel c.args.mode None) (Err BeginError.ClosedSelector) (λ acts run. run) call
 
 pub begin_below-requires-clause-begun : goal.begin_below-requires-clause-begun
 begin_below-requires-clause-begun c =
@@ -37,12 +38,12 @@ begin_below-requires-clause-bound c = mark_inside (step_acts c.look_keys-bound.e
 pub returns-clause-call : goal.returns-clause-call
 returns-clause-call c =
     let lacks = begin_lacks_memory c.begin_below.result in
-    let below : CallClause c.args.me (Completes (begin_below c.args.sel c.args.mode c.look_keys-bound.result lacks))
+    let below : CallClause c.args.me (Completes (begin_below c.args.sel c.args.mode None c.look_keys-bound.result lacks))
     (view c.args.w.now c.look_keys-bound.new.p) (view c.args.w.now c.begin_below.new.p) c.begin_below.result =
     call_as _ _ (λ acts run. run) c.begin_below.ensures.call in
-    let call : CallClause c.args.me (Completes (begin_with_turn c.args.sel c.args.mode lacks))
+    let call : CallClause c.args.me (Completes (begin_with_turn c.args.sel c.args.mode None lacks))
     (view c.args.w.now c.args.p.now) (view c.args.w.now c.begin_below.new.p) c.begin_below.result =
     returned (left_ask _ (step_acts c.begin_look.ensures refl)
     (left_else _ _ _ c.if-begin_look.false
     (left_ask _ (step_acts c.look_keys-bound.ensures refl) (left_of_call below)))) in
-    call_as (BeginsWithTurn c.args.sel c.args.mode) c.begin_below.result (λ acts run. run) call
+    call_as (BeginsWithTurn c.args.sel c.args.mode None) c.begin_below.result (λ acts run. run) call

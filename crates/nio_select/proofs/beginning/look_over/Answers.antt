@@ -1,4 +1,5 @@
 use Rattle.std.proofs.Common.{refl, sym}
+use Rattle.std.specs.Prelude.{None}
 use Rattle.nio_steps.proofs.CallLaws.{returned, left_ask, left_then, left_else, left_after, left_of_call, ran_then}
 use Rattle.nio_steps.specs.Plan.{reply}
 use Rattle.nio_words.proofs.Views.{step_acts}

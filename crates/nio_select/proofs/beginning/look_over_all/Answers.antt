@@ -1,10 +1,11 @@
 use Rattle.std.proofs.Common.{List, [], length, sym, ap, subst, arith}
+use Rattle.std.specs.Prelude.{None}
 use Rattle.nio_steps.proofs.CallLaws.{returned, left_reply, left_start}
 use Rattle.nio_steps.proofs.SweepLaws.{sweep_turn, sweep_done}
 use Rattle.nio_steps.specs.Calls.{PartClause}
 use Rattle.nio_steps.specs.ChannelCalls.{words_below}
 use Rattle.nio_steps.specs.Plan.{reply, ◌>>=◌}
-use Rattle.nio_steps.specs.SelectCalls.{over_listed, over_word, look_over}
+use Rattle.nio_steps.specs.Looking.{over_listed, over_word, look_over}
 use Rattle.nio_steps.specs.Sweeps.{sweep_to}
 use Rattle.nio_words.specs.Views.{view}
 use Rattle.nio_select.specs.Lists.{keys_of}

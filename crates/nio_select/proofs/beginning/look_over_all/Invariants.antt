@@ -3,7 +3,7 @@ use Rattle.std.specs.Vec.{vec_len, vec_capacity}
 use Rattle.nio_steps.specs.Calls.{PartClause}
 use Rattle.nio_steps.specs.ChannelCalls.{words_below}
 use Rattle.nio_steps.specs.Plan.{reply, ◌>>=◌}
-use Rattle.nio_steps.specs.SelectCalls.{over_listed, over_word, look_over}
+use Rattle.nio_steps.specs.Looking.{over_listed, over_word, look_over}
 use Rattle.nio_steps.specs.Sweeps.{sweep_to}
 use Rattle.nio_words.specs.Views.{view}
 use Rattle.nio_select.specs.Begun.{HasBegun}

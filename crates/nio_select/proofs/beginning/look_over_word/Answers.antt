@@ -1,9 +1,10 @@
 use Rattle.std.proofs.Common.{◌+◌, List, refl, ap, sym, subst, arith}
+use Rattle.std.specs.Prelude.{None}
 use Rattle.std.specs.Int.{trailing_zeros, w64}
 use Rattle.std.specs.Vec.{vec_len, vec_capacity}
 use Rattle.nio_steps.specs.Calls.{PartClause}
 use Rattle.nio_steps.specs.Plan.{reply, ◌>>=◌}
-use Rattle.nio_steps.specs.SelectCalls.{over_word, look_over}
+use Rattle.nio_steps.specs.Looking.{over_word, look_over}
 use Rattle.nio_steps.specs.Sweeps.{sweep_over}
 use Rattle.nio_words.proofs.Views.{step_acts}
 use Rattle.nio_words.specs.Views.{view}

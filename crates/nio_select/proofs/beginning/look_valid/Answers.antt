@@ -1,4 +1,5 @@
 use Rattle.std.proofs.Common.{refl}
+use Rattle.std.specs.Prelude.{None}
 use Rattle.nio_select.proofs.Begun.{begun_stays}
 use Rattle.nio_select.proofs.beginning.look_valid.Goals as goal
 

@@ -2,7 +2,7 @@ use Rattle.std.proofs.Common.{◌+◌, refl, sym, subst, arith}
 use Rattle.std.specs.Int.{trailing_zeros, w64}
 use Rattle.nio_steps.specs.Calls.{PartClause}
 use Rattle.nio_steps.specs.Plan.{reply, ◌>>=◌}
-use Rattle.nio_steps.specs.SelectCalls.{over_word}
+use Rattle.nio_steps.specs.Looking.{over_word}
 use Rattle.nio_steps.specs.Sweeps.{sweep_over}
 use Rattle.nio_words.proofs.Views.{step_acts}
 use Rattle.nio_words.specs.Views.{view}

@@ -1,7 +1,7 @@
 use Rattle.std.proofs.Common.{ℕ}
 use Rattle.nio_steps.specs.Calls.{PartClause}
 use Rattle.nio_steps.specs.Plan.{reply, ◌>>=◌}
-use Rattle.nio_steps.specs.SelectCalls.{over_word}
+use Rattle.nio_steps.specs.Looking.{over_word}
 use Rattle.nio_steps.specs.Sweeps.{sweep_over}
 use Rattle.nio_words.specs.Views.{view}
 use Rattle.nio_select.specs.Begun.{HasBegun}

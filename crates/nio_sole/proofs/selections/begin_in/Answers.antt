@@ -1,4 +1,6 @@
 use Rattle.std.proofs.Common.{Err, Some, length, map, refl, sym, ap, ◌∙◌, subst, arith}
+use Rattle.std.specs.Prelude.{None}
+use Rattle.nio_sole.specs.Stands.{IsOn}
 use Rattle.nio_base.specs.declared.numbers.SelNo.{SelNo}
 use Rattle.nio_language.specs.declared.reply.Reply.TheVariants as reply
 use Rattle.nio_serial.specs.Documented.{looked_pair}
@@ -43,8 +45,9 @@ returns-in-Ok c =
       places = places_selection w d c.try_begin.new.p s c.put_selection.new.selections
           (Some _) c.requires.may.places c.requires.may.ask.named.inside c.put_selection.ensures.items
           c.put_selection.ensures.len
-          (λ x is. ap (λ (y : Begun). y.selection.selector.0) (some_is is)
-          ∙ ap (λ (x : SelNo). x.0) (begin-parts s c.args.mode _ c.in-Ok.selection begins.shape).selector)
+          (λ x is. let parts = begin-parts s c.args.mode None _ c.in-Ok.selection begins.shape in
+          subst (λ (y : Begun). IsOn s.0 y.selection) (sym (some_is is))
+          (ap (λ (x : SelNo). x.0) parts.selector, parts.listed))
           (still_made c.try_begin.new.p c.requires.may.places begins);
     }
 
@@ -55,7 +58,7 @@ returns-in-Err-ClosedSelector c =
     let now = progress_of c.args.d.now in
     let s = c.args.sel in
     let call = subst
-    (λ (e : BeginError). CallClause c.args.me (Begins s c.args.mode) (view w c.args.d.now.pass)
+    (λ (e : BeginError). CallClause c.args.me (Begins s c.args.mode None) (view w c.args.d.now.pass)
     (view w c.try_begin.new.p) (Err e)) c.in-Err-ClosedSelector.field-0-is
     c.in-Err-ClosedSelector.ensures.call in
     record {
@@ -72,7 +75,7 @@ returns-in-Err-Busy c =
     let now = progress_of c.args.d.now in
     let s = c.args.sel in
     let call = subst
-    (λ (e : BeginError). CallClause c.args.me (Begins s c.args.mode) (view w c.args.d.now.pass)
+    (λ (e : BeginError). CallClause c.args.me (Begins s c.args.mode None) (view w c.args.d.now.pass)
     (view w c.try_begin.new.p) (Err e)) c.in-Err-Busy.field-0-is c.in-Err-Busy.ensures.call in
     record {
       call = begin_by now s c.requires.mode
@@ -86,7 +89,7 @@ returns c =
     let w = c.args.w.now in
     let s = c.args.sel in
     let call = subst
-    (λ (e : BeginError). CallClause c.args.me (Begins s c.args.mode) (view w c.args.d.now.pass)
+    (λ (e : BeginError). CallClause c.args.me (Begins s c.args.mode None) (view w c.args.d.now.pass)
     (view w c.try_begin.new.p) (Err e)) c.in-Err-Memory.field-0-is c.in-Err-Memory.ensures.call in
     record {
       want = begin_refused s c.args.waiting c.args.mode;

@@ -1,4 +1,7 @@
 use Rattle.std.proofs.Common.{◌≡◌, None, Some, refl, sym, ap, ◌∙◌}
+use Rattle.std.proofs.Common.{subst}
+use Rattle.nio_sole.proofs.Desks.{stands_on}
+use Rattle.nio_sole.specs.Stands.{IsOn}
 use Rattle.nio_base.specs.declared.numbers.SelNo.{SelNo}
 use Rattle.nio_language.specs.declared.reply.Reply.TheVariants as reply
 use Rattle.nio_serial.proofs.SequenceCalls.{again-same}
@@ -59,7 +62,7 @@ returns-in-Err c =
         places = places_selection_back w d d.pass s c.take_selection.new.selections c.put_selection.new.selections _
             c.requires.places c.requires.ask.named.inside c.in-Some.ensures.taken.0 c.in-Some.ensures.len
             c.put_selection.ensures.items c.put_selection.ensures.len
-            (ap (λ (y : SelNo). y.0) (own_on w d c.args.me s x c.requires.places c.in-Some.ensures.taken.1))
+            (stands_on w d c.args.me s x c.requires.places c.in-Some.ensures.taken.1)
             c.requires.places.pipes;
       };
       same = back;
@@ -116,7 +119,6 @@ returns c =
           c.put_selection-in-Again.new.selections _ c.requires.places c.requires.ask.named.inside
           c.in-Some.ensures.taken.0 c.in-Some.ensures.len c.put_selection-in-Again.ensures.items
           c.put_selection-in-Again.ensures.len
-          (ap (λ (y : Selection). y.selector.0) same
-          ∙ ap (λ (y : SelNo). y.0) (own_on w d c.args.me s x c.requires.places c.in-Some.ensures.taken.1))
+          (subst (IsOn s.0) (sym same) (stands_on w d c.args.me s x c.requires.places c.in-Some.ensures.taken.1))
           (still_made c.told.new.p c.requires.places c.in-Again.ensures.call);
     }

@@ -10,7 +10,7 @@ returns-then-not-is_step-clause-step c = (
 
 pub record-requires-clause-serial : goal.record-requires-clause-serial
 record-requires-clause-serial c =
-    step-bounded c.args.event.now c.requires.follows c.requires.legal (c.is_step.ensures.0 c.if-not-is_step.false)
+    step-bounded c.args.event.now c.requires.fit c.requires.follows c.requires.legal (c.is_step.ensures.0 c.if-not-is_step.false)
 
 pub returns-clause-step : goal.returns-clause-step
 returns-clause-step c =

@@ -44,3 +44,17 @@ returns-in-TakeFree c = rw c.in-TakeFree.is c.take_free.ensures
 
 pub returns-in-Reopen : goal.returns-in-Reopen
 returns-in-Reopen c = rw c.in-Reopen.is (c.reopen.ensures c.args.me)
+
+pub take_touched-requires : goal.take_touched-requires
+take_touched-requires c =
+    subst (λ (a : Act). IsBounded (state_with c.args.self.now (λ _ _. false)) (number_of a)) c.in-TakeTouched.is
+    (c.requires (λ _ _. false))
+
+pub returns-in-Unpin : goal.returns-in-Unpin
+returns-in-Unpin c = rw c.in-Unpin.is c.unpin.ensures
+
+pub returns-in-Touch : goal.returns-in-Touch
+returns-in-Touch c = rw c.in-Touch.is (c.touch.ensures c.in-Touch.field-2)
+
+pub returns-in-TakeTouched : goal.returns-in-TakeTouched
+returns-in-TakeTouched c = rw c.in-TakeTouched.is (c.take_touched.ensures c.args.me c.in-TakeTouched.field-2)

@@ -6,5 +6,5 @@ pub returns : goal.returns
 returns c =
     same_state _ c.new.ensures c.new-2.ensures c.new-3.ensures c.new-4.ensures c.new-5.ensures c.new-6.ensures
     c.new-7.ensures c.new-8.ensures c.new-9.ensures c.new-10.ensures c.new-11.ensures c.new-12.ensures
-    c.new-13.ensures c.new-14.ensures c.new-15.ensures c.new-16.ensures c.new-17.ensures c.new-18.ensures
-    c.new-19.ensures refl
+    c.new-13.ensures c.new-14.ensures c.new-15.ensures c.new-18.ensures c.new-19.ensures c.new-20.ensures
+    c.new-21.ensures c.new-16.ensures c.new-17.ensures c.new-22.ensures refl

@@ -10,5 +10,6 @@ give_turn-requires-clause-turn c =
 
 pub returns-clause-call : goal.returns-clause-call
 returns-clause-call c =
-    ended c.args.self c.args.answer (ap (λ x. x.selector) c.self.view_is) c.remove_all_cancelled.ensures.call
+    ended c.args.self c.args.answer (ap (λ x. x.selector) c.self.view_is) (ap (λ x. x.listed) c.self.view_is)
+    c.remove_all_cancelled.ensures.call
     (step_acts c.end_wake.ensures refl) (step_acts c.give_turn.ensures refl)

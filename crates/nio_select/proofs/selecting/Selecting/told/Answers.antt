@@ -18,7 +18,7 @@ mark_asked-count-requires-clause-begun c =
 pub mark_asked-count-requires-clause-keys : goal.mark_asked-count-requires-clause-keys
 mark_asked-count-requires-clause-keys c =
     subst (λ (xs : List LookedKey). All (λ entry. entry.index < (limits_of c.args.w.now).keys) xs)
-    (ap (λ x. x.looked) (sym c.selection.view_is)) (looked_inside c.requires.ready c.requires.begun)
+    (ap (λ x. x.looked) (sym c.selection.view_is)) (looked_inside c.requires.ready c.requires.begun (sym (ap (λ x. x.listed) c.selection.view_is)))
 
 pub returns-clause-call : goal.returns-clause-call
 returns-clause-call c =

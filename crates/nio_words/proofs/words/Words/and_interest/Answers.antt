@@ -4,5 +4,5 @@ use Rattle.nio_words.proofs.words.Words.and_interest.Goals as goal
 pub step-found-requires : goal.step-found-requires
 step-found-requires c = (
   c.requires.ready,
-  (and_interest_moves _ c.args.me c.args.s c.args.i _ c.requires.key, λ _. (c.requires.key, c.requires.pinned)),
+  (and_interest_moves _ c.args.me c.args.s c.args.i _ c.requires.key, λ _. (c.requires.key, c.requires.pinned, c.requires.touched)),
 )

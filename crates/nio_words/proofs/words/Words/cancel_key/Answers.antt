@@ -6,6 +6,6 @@ step-found-requires c = (
   c.requires.ready,
   (
     cancel_key_moves _ c.args.me c.args.s c.args.i c.requires.key,
-    λ _. (c.requires.key, c.requires.claimed, c.requires.pinned),
+    λ _. (c.requires.key, c.requires.claimed, c.requires.pinned, c.requires.touched),
   ),
 )

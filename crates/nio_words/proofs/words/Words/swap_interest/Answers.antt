@@ -7,6 +7,6 @@ step-found-requires c = (
   c.requires.ready,
   (
     swap_interest_moves _ c.args.me c.args.s c.args.i _ c.requires.key (omega arith),
-    λ _. (c.requires.key, c.requires.pinned),
+    λ _. (c.requires.key, c.requires.pinned, c.requires.touched),
   ),
 )
