@@ -16,7 +16,7 @@ enum { SOURCE = 2 * 2 };
 static _Atomic word *words;
 
 /* Where the words of each other row begin. */
-static word hold, enrolled, gate, turn, keys_high, key, interest, mark, note, free_indexes;
+static word hold, enrolled, gate, turn, keys_high, key, interest, mark, note, free_indexes, touched;
 
 /* A table of so many channels, and as many keys. */
 static void make(word n) {
@@ -30,7 +30,8 @@ static void make(word n) {
   mark = interest + n;
   note = mark + n;
   free_indexes = note + n;
-  words = calloc(free_indexes + (n + 63) / 64, sizeof *words);
+  touched = free_indexes + (n + 63) / 64;
+  words = calloc(touched + (n + 63) / 64, sizeof *words);
   if (!words) stop("no memory");
 }
 
@@ -54,6 +55,8 @@ static void take_hold(word c) {
 
 static void release(word c) { atomic_exchange(&words[hold + c], 0); }
 
+static void touch(word i) { atomic_fetch_or(&words[touched + i / 64], 1ULL << i % 64); }
+
 static void claim_again(word c, word i, word *serial) {
   word old = atomic_load(&words[key + i]) & ~0xff0ULL;
   *serial = (old >> 32) + 1;
@@ -70,6 +73,7 @@ static word make_key(word c, word channel_serial) {
   claim_again(c, i, &serial);
   atomic_exchange(&words[mark + i], 0);
   if (atomic_load(&words[gate]) & SHUT) stop("the selector is shut");
+  touch(i);
   atomic_exchange(&words[interest + i], READ);
   atomic_exchange(&words[note + i], 0);
   atomic_exchange(&words[enrolled + c], i + 1 + (serial << 32));
@@ -90,7 +94,10 @@ static word register_channel(word c, word serial) {
   word stage = atomic_fetch_add(&words[key + i], PIN);
   if (atomic_load(&words[gate]) & SHUT) stop("the selector is shut");
   int has_key = in_key_set(stage, its);
-  if (has_key) atomic_exchange(&words[interest + i], READ);
+  if (has_key) {
+    touch(i);
+    atomic_exchange(&words[interest + i], READ);
+  }
   atomic_fetch_sub(&words[key + i], PIN);
   if (!has_key) i = make_key(c, serial);
   release(c);
@@ -105,7 +112,10 @@ static word key_for(word c, word serial) {
 }
 
 static void cancel_key(word i) {
-  if (!(atomic_fetch_add(&words[key + i], PIN) & REMOVED)) atomic_fetch_or(&words[key + i], CANCELLED);
+  if (!(atomic_fetch_add(&words[key + i], PIN) & REMOVED)) {
+    touch(i);
+    atomic_fetch_or(&words[key + i], CANCELLED);
+  }
   atomic_fetch_sub(&words[key + i], PIN);
 }
 
