@@ -132,8 +132,8 @@ pub fn selection_law()
 {}
 
 /// Till a closer has entered, an index that isn't touched is as the caller that has the selector's list found it when it
-/// looked there last, and nobody is amid a change of it; but where that caller took the index's bit, and hasn't looked
-/// there since.
+/// looked there last, and nobody is amid a change of it; but where that caller took the index's bit and hasn't looked
+/// there since, or is in the middle of that look.
 pub fn list_law()
     ensures { ListsAreRight }
 {}

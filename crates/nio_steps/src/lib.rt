@@ -11,7 +11,8 @@
 
 pub use found::{has_bit, supports};
 pub use laws::{
-    begin_law, bound_law, close_law, given_back_law, progress_law, run_law, told_law, works_law,
+    begin_law, bound_law, close_law, given_back_law, list_law, listed_bound_law, listed_law,
+    progress_law, run_law, told_law, works_law,
 };
 pub use looked::LookedKey;
 pub use refusal::{
