@@ -1,8 +1,8 @@
 #!/usr/bin/env bash
 # Round trips of one byte over 1 and over 64 connections of `nio proxy`, beside none, 1,000 and 9,000 that are idle, by
 # one selector (`--way select`) and by an accepting and four working ones (`--way many`). Prints the round trips a second
-# and the processor time of one; beside 9,000 by several selectors there are to be at least 3 times as many. The ways
-# run in turn, three times, and the best of each counts. `bench/idle.sh COMMAND..` measures another relay beside them:
+# and the processor time of one; over one connection by one selector there are to be at least 0.9 of those beside none
+# where 1,000 are idle, and 0.8 where 9,000 are. The ways run in turn, three times, and the best of each counts. `bench/idle.sh COMMAND..` measures another relay beside them:
 # in its words {listen} and {target} stand for addresses, {lport} and {tport} for ports, {conns} for the number of
 # connections.
 . "$(dirname "$0")/timing.sh"

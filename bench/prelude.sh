@@ -54,3 +54,11 @@ compare() {
             }
         }'
 }
+
+# alone OURS OTHER: of such lines, writes our number of nanoseconds for each name that the other hasn't
+alone() {
+    awk -F'|' -v ours="$1" -v other="$2" '
+        $1 == ours { order[++count] = $2; number[$2] = $3 }
+        $1 == other { compared[$2] = 1 }
+        END { for (k = 1; k <= count; k++) if (!(order[k] in compared)) printf "%s: %.1f ns\n", order[k], number[order[k]] }'
+}

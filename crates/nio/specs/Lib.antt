@@ -5,6 +5,9 @@ pub use Rattle.nio_history.specs.Conditions
 pub use Rattle.nio_history.specs.PassViews
 pub use Rattle.nio_pool.specs.Batches
 pub use Rattle.nio_pool.specs.Queues
+pub use Rattle.nio_select.specs.Asked
+pub use Rattle.nio_select.specs.InHand
+pub use Rattle.nio_select.specs.InProgress
 pub use Rattle.nio_steps.specs.Calls
 pub use Rattle.nio_steps.specs.ChannelCalls
 pub use Rattle.nio_steps.specs.KeyCalls

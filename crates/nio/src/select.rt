@@ -4,6 +4,7 @@ pub use nio_poller::{
     interrupted, select, select_for, select_now, wakeup,
 };
 pub use nio_select::{
-    After, Asked, BeginError, Closing, Finish, ListError, LookedKey, Mode, Selected, Selecting,
-    SelectorsSpent, Shutting, Told, keys, open_selector, selected_keys, shut, try_begin,
+    After, Asked, BeginError, Closing, Finish, KeyList, ListError, LookedKey, Mode, Selected,
+    Selecting, Selector, SelectorsSpent, Shutting, Stamp, Told, keys, open_selector, selected_keys,
+    shut, try_begin,
 };

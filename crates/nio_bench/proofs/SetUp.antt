@@ -1,5 +1,6 @@
 -- What stands between the calls that are timed stays.
-use Rattle.std.proofs.Common.{◌≡◌, true, false, Bool, List, [], ◌∷◌, ◌++◌, refl, ap, sym, subst, ◌∙◌}
+use Rattle.std.proofs.Common.{◌≡◌, true, false, Bool, Option, Some, None, List, [], ◌∷◌, ◌++◌, refl, ap, sym, subst, ◌∙◌}
+use Rattle.std.specs.Prelude.{IfSome}
 use Rattle.std.proofs.lemmas.List.Elements.{All-weaker, All-append}
 use Rattle.nio_base.specs.declared.numbers.CallerNo.{CallerNo}
 use Rattle.nio_base.specs.declared.numbers.ChanId.{ChanId}
@@ -9,10 +10,13 @@ use Rattle.nio_history.proofs.PassViews.{selector_after, channel_after}
 use Rattle.nio_history.proofs.Put.{put-same}
 use Rattle.nio_history.specs.Conditions.{IsSelector, has_pin}
 use Rattle.nio_history.specs.Histories.{state_after}
-use Rattle.nio_history.specs.PassViews.{Holds as HoldsNumber, known, ActsClause, HasChannel, HasNoPin}
+use Rattle.nio_history.specs.PassViews.{Holds as HoldsNumber, PassView, known, ActsClause, HasChannel, HasNoPin, HasSelector}
 use Rattle.nio_history.specs.State.{State}
 use Rattle.nio_history.specs.declared.act.Act.{Act}
 use Rattle.nio_history.specs.declared.act.Act.TheVariants.{MakeSelector}
+use Rattle.nio_select.specs.InHand.{HeldList, HeldSelector}
+use Rattle.nio_select.specs.InProgress.{HasList, MaySelect}
+use Rattle.nio_select.proofs.Progress.{list_after}
 use Rattle.nio_steps.proofs.Lists.{all-one}
 use Rattle.nio_steps.proofs.PinBack.{no_pin_after}
 use Rattle.nio_steps.specs.Calls.{CallClause}
@@ -27,6 +31,16 @@ use Rattle.nio_words.specs.declared.words.Pass.{Pass}
 use Rattle.nio_words.specs.declared.words.Words.{Words}
 use Rattle.nio_bench.specs.SetUp.{caller, selector, drawn, IsIdle, IsSetUp, StaysIdle}
 
+-- who may select may do so after a call
+may_still : {v0 v1 : PassView} {me : CallerNo} {acts : List Act} → ActsClause me acts v0 v1 → (selector : HeldSelector)
+    → MaySelect v0 me selector → MaySelect v1 me selector
+may_still {v0 = v0} {v1 = v1} {me = me} clause selector may =
+    record { made = selector_after clause may.made; had = by_list selector.list may.had }
+  where
+    by_list : (o : Option HeldList) → IfSome o (HasList v0 me) → IfSome o (HasList v1 me)
+    by_list None had = tt
+    by_list (Some list) had = list_after list clause had
+
 -- after a call
 pub stays_after : {w : Words} {p q : Pass} {me : CallerNo} {s : SelNo} {acts : List Act}
     → ActsClause me acts (view w p) (view w q) → IsReady w q me → HasNoPin (view w q) me → IsIdle w p me s
@@ -34,6 +48,7 @@ pub stays_after : {w : Words} {p q : Pass} {me : CallerNo} {s : SelNo} {acts : L
 stays_after clause ready none idle = record {
   idle = record { ready = ready; unpinned = none; selector = selector_after clause idle.selector };
   channels = λ c has. channel_after clause has;
+  selects = may_still clause;
 }
 
 -- after a call that gives its pins back
@@ -57,7 +72,16 @@ stays_step {w = w} {p = p} {q = q} {me = me} {act = act} steps new keeps idle =
 
 pub stays_then : {w : Words} {p q r : Pass} {me : CallerNo} {s : SelNo} → StaysIdle w p q me s → StaysIdle w q r me s
     → StaysIdle w p r me s
-stays_then first second = record { idle = second.idle; channels = λ c has. second.channels c (first.channels c has) }
+stays_then first second = record {
+  idle = second.idle;
+  channels = λ c has. second.channels c (first.channels c has);
+  selects = λ s may. second.selects s (first.selects s may);
+}
+
+-- who may pass a selector to a call may select there without its list
+pub may_without : {v : PassView} {me : CallerNo} {s : SelNo} {selector : HeldSelector}
+    → selector ≡ record { number = s; list = None } → HasSelector v s → MaySelect v me selector
+may_without {v = v} {me = me} is has = subst (MaySelect v me) (sym is) (record { made = has; had = tt })
 
 -- with the channels that were opened
 pub set_up_after : {w : Words} {p q : Pass} {me : CallerNo} {s : SelNo} (opened : List ChanId) → StaysIdle w p q me s

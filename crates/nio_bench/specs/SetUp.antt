@@ -8,6 +8,8 @@ use Rattle.nio_history.specs.Histories.{event_of}
 use Rattle.nio_history.specs.PassViews.{HasChannel, HasNoPin, HasSelector}
 use Rattle.nio_history.specs.declared.act.Act.TheVariants.{DrawBit}
 use Rattle.nio_history.specs.declared.event.Event.{Event}
+use Rattle.nio_select.specs.InHand.{HeldSelector}
+use Rattle.nio_select.specs.InProgress.{MaySelect}
 use Rattle.nio_words.specs.Passes.{IsReady}
 use Rattle.nio_words.specs.Views.{view}
 use Rattle.nio_words.specs.declared.words.Pass.{Pass}
@@ -38,3 +40,4 @@ pub record IsSetUp (w : Words) (p : Pass) (me : CallerNo) (s : SelNo) (opened : 
 pub record StaysIdle (w : Words) (p q : Pass) (me : CallerNo) (s : SelNo) : Type 0 where
   pub idle : IsIdle w q me s
   pub channels : (c : ChanId) → HasChannel (view w p) c → HasChannel (view w q) c
+  pub selects : (selector : HeldSelector) → MaySelect (view w p) me selector → MaySelect (view w q) me selector

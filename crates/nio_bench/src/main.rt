@@ -24,6 +24,13 @@ const SMALL: Load = Load {
     every: 30,
 };
 
+/// A small load in which each index has a key.
+const EACH: Load = Load {
+    indexes: 70,
+    live: 70,
+    every: 1,
+};
+
 fn main(rt: HostRuntime) -> anyhow::Result<()> {
     let word = env::args(&rt)?.nth(1);
     match word.as_deref() {
@@ -32,6 +39,8 @@ fn main(rt: HostRuntime) -> anyhow::Result<()> {
             reopening::run(&rt, 4)?;
             relay::run(&rt, 4)?;
             select::run(&rt, SMALL, 2)?;
+            select::run_by_list(&rt, SMALL, 2)?;
+            select::touch_all(&rt, EACH)?;
             waiting::run(&rt)?;
             pipe::run(&rt)?;
             checked::run(&rt, Slow::Reader)?;

@@ -1,14 +1,16 @@
 //! Selections that don't wait, by one caller in one thread, where some of the indexes that were ever claimed have a
-//! key.
+//! key: without the selector's list, and by it; and the calls that touch an index.
 ghost use Rattle.std.specs.Prelude.{IfOk};
+ghost use Rattle.nio_select.specs.InProgress.{MaySelect};
+ghost use Rattle.nio_words.specs.Views.{view};
 ghost use Rattle.nio_bench.specs.SetUp.{IsIdle, StaysIdle};
 
 use crate::channels::{ME, S, set_up};
 use anyhow::{bail, ensure};
 use nio_base::{Kind, Limits, Ops};
 use nio_channel::{open_channel, try_register, try_set_blocking};
-use nio_keys::{cancel, find, unselect};
-use nio_select::{After, Mode, Told, try_begin};
+use nio_keys::{cancel, find, set_interest, unselect};
+use nio_select::{After, Mode, Selector, Told, try_begin};
 use nio_words::{Pass, Words};
 use std::alloc::Global;
 use std::rt::Runtime;
@@ -41,6 +43,13 @@ const SPARSE: Load = Load {
     every: 262,
 };
 
+/// As many keys as a server with so many connections has.
+const MOST: Load = Load {
+    indexes: 18_000,
+    live: 18_000,
+    every: 1,
+};
+
 /// How long a selection takes at least.
 #[derive(Clone, Copy)]
 pub struct Least {
@@ -50,11 +59,32 @@ pub struct Least {
     ready: Duration,
 }
 
-/// Prints the nanoseconds that a selection takes at least, for each load.
+/// How long the calls on all keys take that touch their indexes.
+#[derive(Clone, Copy)]
+pub struct Touching {
+    /// Finding a key and setting its interest.
+    set_interest: Duration,
+    /// Finding a key and cancelling it.
+    cancel: Duration,
+}
+
+/// Prints the nanoseconds that a selection takes at least, for each load, without the list and by it; and those of the
+/// calls that touch an index.
 pub fn measure<R: Runtime<A = Global>>(rt: &R) -> anyhow::Result<()> {
     measure_load(rt, "few", FEW, 20_000)?;
     measure_load(rt, "many", MANY, 2_000)?;
-    measure_load(rt, "sparse", SPARSE, 500)
+    measure_load(rt, "sparse", SPARSE, 500)?;
+    measure_by_list(rt, "few_by_list", FEW, 20_000)?;
+    measure_by_list(rt, "many_by_list", MANY, 2_000)?;
+    measure_by_list(rt, "most_by_list", MOST, 500)?;
+    let touching = touch_all(rt, MOST)?;
+    println!(rt;
+        "calls {} set_interest {} cancel {}",
+        MOST.live,
+        touching.set_interest.as_nanos(),
+        touching.cancel.as_nanos()
+    )?;
+    Ok(())
 }
 
 fn measure_load<R: Runtime<A = Global>>(
@@ -64,6 +94,22 @@ fn measure_load<R: Runtime<A = Global>>(
     rounds: u32,
 ) -> anyhow::Result<()> {
     let least = run(rt, load, rounds)?;
+    println!(rt;
+        "{} idle {} ready {}",
+        name,
+        least.idle.as_nanos(),
+        least.ready.as_nanos()
+    )?;
+    Ok(())
+}
+
+fn measure_by_list<R: Runtime<A = Global>>(
+    rt: &R,
+    name: &str,
+    load: Load,
+    rounds: u32,
+) -> anyhow::Result<()> {
+    let least = run_by_list(rt, load, rounds)?;
     println!(rt;
         "{} idle {} ready {}",
         name,
@@ -84,6 +130,43 @@ pub fn run<R: Runtime<A = Global>>(rt: &R, load: Load, rounds: u32) -> anyhow::R
     let idle = selections(rt, &words, &mut p, &none_ready, rounds)?;
     let ready = selections(rt, &words, &mut p, &all_ready, rounds)?;
     Ok(Least { idle, ready })
+}
+
+/// The same by the list. The first selection, which isn't timed, looks at all keys.
+pub fn run_by_list<R: Runtime<A = Global>>(
+    rt: &R,
+    load: Load,
+    rounds: u32,
+) -> anyhow::Result<Least> {
+    let (words, mut p, all_ready) = claimed(rt, load)?;
+    let mut selector = Selector::take(rt.alloc(), &words, &mut p, ME, S);
+    let none_ready = Told {
+        pairs: Vec::new(rt.alloc()),
+        elapsed: false,
+    };
+    select_by_list(rt, &words, &mut p, &mut selector, &none_ready)?;
+    let idle = selections_by_list(rt, &words, &mut p, &mut selector, &none_ready, rounds)?;
+    let ready = selections_by_list(rt, &words, &mut p, &mut selector, &all_ready, rounds)?;
+    ensure!(selector.has_list(), "the list is lost");
+    Ok(Least { idle, ready })
+}
+
+/// Sets the interest of each key of this load, and cancels it.
+pub fn touch_all<R: Runtime<A = Global>>(rt: &R, load: Load) -> anyhow::Result<Touching> {
+    let (words, mut p, _) = claimed(rt, load)?;
+    let start = Instant::now(rt)?;
+    for index in 0..load.indexes {
+        set_key(&words, &mut p, index)?;
+    }
+    let set_interest = start.elapsed(rt)?;
+    for index in 0..load.indexes {
+        cancel_key(&words, &mut p, index)?;
+    }
+    let both = start.elapsed(rt)?;
+    Ok(Touching {
+        set_interest,
+        cancel: both.saturating_sub(set_interest),
+    })
 }
 
 /// A new table with this load, and what a poller tells there where each key that is kept is ready.
@@ -159,9 +242,19 @@ fn cancel_key(words: &Words, p: &mut Pass, index: u32) -> anyhow::Result<()>
     }
 }
 
-fn unselect_key(words: &Words, p: &mut Pass, index: u32) -> anyhow::Result<()>
+fn set_key(words: &Words, p: &mut Pass, index: u32) -> anyhow::Result<()>
     requires { IsIdle words.now p.old ME S }
     ensures { IfOk result (λ _. IsIdle words.now p.new ME S) }
+{
+    match find(words, p, ME, S, index, 0) {
+        Some(key) => Ok(set_interest(words, p, ME, key, Ops::NONE)?),
+        None => bail!("an index has no key"),
+    }
+}
+
+fn unselect_key(words: &Words, p: &mut Pass, index: u32) -> anyhow::Result<()>
+    requires { IsIdle words.now p.old ME S }
+    ensures { IfOk result (λ _. StaysIdle words.now p.old p.new ME S) }
 {
     match find(words, p, ME, S, index, 0) {
         Some(key) => {
@@ -209,7 +302,61 @@ pub fn select(
 {
     let selection = try_begin(rt.alloc(), words, p, ME, S, Mode::Now)?;
     match selection.told(words, p, ME, told) {
-        After::Done(answer) => Ok(answer.count),
+        After::Done(answer, _list) => Ok(answer.count),
+        After::Again(selection) => {
+            selection.leave(words, p, ME);
+            bail!("the selection waits")
+        }
+    }
+}
+
+/// How long a selection by the list takes at least that is told this, of so many. After each the keys are taken out of
+/// the selected set.
+fn selections_by_list<R: Runtime<A = Global>>(
+    rt: &R,
+    words: &Words,
+    p: &mut Pass,
+    selector: &mut Selector,
+    told: &Told,
+    rounds: u32,
+) -> anyhow::Result<Duration>
+    requires idle { IsIdle words.now p.old ME S }
+    requires may { MaySelect (view words.now p.old) ME selector.old }
+    ensures idle { IfOk result (λ _. IsIdle words.now p.new ME S) }
+    ensures may { IfOk result (λ _. MaySelect (view words.now p.new) ME selector.new) }
+{
+    let mut least = Duration::MAX;
+    for _ in 0..rounds {
+        let start = Instant::now(rt)?;
+        let count = select_by_list(rt, words, p, selector, told)?;
+        least = least.min(start.elapsed(rt)?);
+        ensure!(count as usize == told.pairs.len(), "a key isn't marked");
+        for (index, _) in &told.pairs {
+            unselect_key(words, p, *index)?;
+        }
+    }
+    Ok(least)
+}
+
+/// A selection by the list that doesn't wait and is told this. Answers how many keys were marked.
+fn select_by_list(
+    rt: &impl Alloc<A = Global>,
+    words: &Words,
+    p: &mut Pass,
+    selector: &mut Selector,
+    told: &Told,
+) -> anyhow::Result<u32>
+    requires idle { IsIdle words.now p.old ME S }
+    requires may { MaySelect (view words.now p.old) ME selector.old }
+    ensures idle { IfOk result (λ _. IsIdle words.now p.new ME S) }
+    ensures may { IfOk result (λ _. MaySelect (view words.now p.new) ME selector.new) }
+{
+    let selection = selector.begin(rt.alloc(), words, p, ME, Mode::Now)?;
+    match selection.told(words, p, ME, told) {
+        After::Done(answer, list) => {
+            selector.give_back(list);
+            Ok(answer.count)
+        }
         After::Again(selection) => {
             selection.leave(words, p, ME);
             bail!("the selection waits")

@@ -9,6 +9,7 @@ use crate::pair::{ONE, ZERO, two_callers};
 use crate::select::{Load, MANY, claimed};
 use anyhow::{bail, ensure};
 use nio_poller::{Sleeper, SleeperBell, select, select_now, wakeup};
+use nio_select::Selector;
 use nio_words::{Pass, Words};
 use std::alloc::Global;
 use std::rt::Runtime;
@@ -92,7 +93,8 @@ fn pairs<R: Wait>(
     let mut all = true;
     for _ in 0..count {
         wakeup(words, p, ME, S, bell);
-        all &= select_now(rt, alloc, words, p, ME, S, sleeper).is_ok();
+        let mut on = Selector::without_list(S);
+        all &= select_now(rt, alloc, words, p, ME, &mut on, sleeper).is_ok();
     }
     all
 }
@@ -122,7 +124,8 @@ fn selections<R: Wait>(
 {
     let mut all = true;
     for _ in 0..count {
-        all &= select_now(rt, alloc, words, p, ME, S, sleeper).is_ok();
+        let mut on = Selector::without_list(S);
+        all &= select_now(rt, alloc, words, p, ME, &mut on, sleeper).is_ok();
     }
     all
 }
@@ -205,7 +208,8 @@ fn selects<R: Wait + Clock>(
 {
     for time in &mut slept {
         meeting.announce_nap();
-        let woken = select(rt, alloc, words, &mut p, ZERO, S, &mut sleeper).is_ok();
+        let mut on = Selector::without_list(S);
+        let woken = select(rt, alloc, words, &mut p, ZERO, &mut on, &mut sleeper).is_ok();
         let now = meeting.now(rt);
         *time = if woken { now } else { None };
     }

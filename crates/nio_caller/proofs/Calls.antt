@@ -1,7 +1,8 @@
 -- A caller may make calls after a call, as before it.
-use Rattle.std.proofs.Common.{◌≡◌, ◌≢◌, ℕ, ◌==◌, Bool, true, false, Option, Result, Ok, Err, IsTrue, List}
+use Rattle.std.proofs.Common.{◌≡◌, ◌≢◌, ℕ, ◌==◌, Bool, true, false, Option, Some, None, Result, Ok, Err, IsTrue, List}
 use Rattle.std.proofs.Common.{ap, sym, ◌∙◌, refl, subst, eqb-true, eq-eqb}
 use Rattle.std.specs.Int.{bit_at}
+use Rattle.std.specs.Prelude.{IfSome}
 use Rattle.nio_base.specs.declared.limits.Limits.{Limits}
 use Rattle.nio_base.specs.declared.numbers.CallerNo.{CallerNo}
 use Rattle.nio_base.specs.declared.numbers.ChanNo.{ChanNo}
@@ -11,13 +12,16 @@ use Rattle.nio_history.proofs.PassViews.{selector_after, channel_after, key_afte
 use Rattle.nio_history.proofs.Stays.{beginnings_are_legal}
 use Rattle.nio_history.specs.Histories.{mine, IsLegal}
 use Rattle.nio_history.specs.OwnEvents.{keeps_pin}
-use Rattle.nio_history.specs.PassViews.{PassView, Holds, HasNoPin, ActsClause}
+use Rattle.nio_history.specs.PassViews.{PassView, Holds, HasNoPin, HasSelector, ActsClause}
 use Rattle.nio_history.specs.declared.act.Act.{Act}
 use Rattle.nio_history.specs.declared.found.Mode.{Mode}
 use Rattle.nio_history.specs.declared.timeout.NegativeTimeout.{NegativeTimeout}
 use Rattle.nio_poller.specs.Polled.{Polled}
 use Rattle.nio_poller.specs.Selecting.{SelectClause, TimedBy, told_from}
 use Rattle.nio_poller.specs.declared.selecting.SelectError.{SelectError}
+use Rattle.nio_select.proofs.ListedSteps.{lists_are_kept}
+use Rattle.nio_select.specs.InHand.{HeldList, HeldSelector, known_by}
+use Rattle.nio_select.specs.InProgress.{HasList, MaySelect}
 use Rattle.nio_steps.proofs.PinBack.{no_pin_after}
 use Rattle.nio_steps.proofs.PinLaws.{pins_are_given_back}
 use Rattle.nio_steps.specs.Calls.{CallClause}
@@ -29,6 +33,7 @@ use Rattle.nio_words.specs.Views.{view}
 use Rattle.nio_words.specs.declared.words.Pass.{Pass}
 use Rattle.nio_words.specs.declared.words.Words.{Words}
 use Rattle.nio_caller.specs.Callers.{HasNoPins, MayCall, StillHas}
+use Rattle.nio_caller.proofs.Selections.{selection_gives}
 
 abbrev numbered : ℕ → CallerNo
 numbered k = record { 0 = k }
@@ -83,15 +88,35 @@ may_call_after {answer = answer} {w = w} {p = p} {me = me} gives call ready may 
 
 -- ---- what was made stays made
 
+-- who may select may do so where the selector and its list are had still
+pub may_select : (old new : PassView) (n : CallerNo) (s : HeldSelector)
+    → (HasSelector old s.number → HasSelector new s.number)
+    → ((list : HeldList) → HasList old n list → HasList new n list) → MaySelect old n s → MaySelect new n s
+may_select old new n s makes gives may =
+    record { made = makes may.made; had = by_list s.list may.had }
+  where
+    by_list : (o : Option HeldList) → IfSome o (HasList old n) → IfSome o (HasList new n)
+    by_list None had = tt
+    by_list (Some list) had = gives list had
+
+-- a caller has a list for good
+lists_stay : {me : CallerNo} {acts : List Act} {old new : PassView} → ActsClause me acts old new → (n : CallerNo)
+    (list : HeldList) → HasList old n list → HasList new n list
+lists_stay {old = old} {new = new} clause n list has =
+    lists_are_kept old new n list has clause.limits clause.history.goes_on
+    (subst (λ (l : Limits). IsLegal l new.seen) (sym clause.limits) clause.history.legal)
+
 pub still_has : {me : CallerNo} {acts : List Act} {old new : PassView} → ActsClause me acts old new → StillHas old new
-still_has clause = record {
+still_has {old = old} {new = new} clause = record {
   selectors = λ s has. selector_after clause has;
   channels = λ c has. channel_after clause has;
   keys = λ k has. key_after clause has;
+  selects = λ n s may. may_select old new n s (λ has. selector_after clause has) (lists_stay clause n) may;
 }
 
 pub same_has : {v : PassView} → StillHas v v
-same_has = record { selectors = λ s has. has; channels = λ c has. has; keys = λ k has. has }
+same_has =
+    record { selectors = λ s has. has; channels = λ c has. has; keys = λ k has. has; selects = λ n s may. may }
 
 -- ---- calls whose plan depends on their answer
 
@@ -103,20 +128,20 @@ selected_keys_give s = λ acts answer shape. pins_are_given_back.selected_keys s
 
 -- ---- whole selections
 
-module _ (w : Words) (p q : Pass) (me : CallerNo) (s : SelNo) (p0 p1 : Option (List Polled)) (are_ready : ChanNo → ℕ)
-    (result : Result Selected SelectError) where
-  pub may_call_selected : (mode : Mode) → SelectClause me s mode (view w p) (view w q) p0 p1 are_ready result
+module _ (w : Words) (p q : Pass) (me : CallerNo) (s s' : HeldSelector) (p0 p1 : Option (List Polled))
+    (are_ready : ChanNo → ℕ) (result : Result Selected SelectError) where
+  pub may_call_selected : (mode : Mode) → SelectClause me mode s s' (view w p) (view w q) p0 p1 are_ready result
       → IsReady w q me → MayCall w p me → MayCall w q me
   may_call_selected mode clause ready may =
-      may_call_after (pins_are_given_back.select s mode (told_from clause.polls)) clause.call ready may
+      may_call_after (selection_gives s.number mode (known_by s) (told_from clause.polls)) clause.call ready may
 
   pub may_call_timed : (r : Result Mode NegativeTimeout)
-      → TimedBy r me s (view w p) (view w q) p0 p1 are_ready result → IsReady w q me → MayCall w p me → MayCall w q me
+      → TimedBy r me s s' (view w p) (view w q) p0 p1 are_ready result → IsReady w q me → MayCall w p me → MayCall w q me
   may_call_timed (Ok mode) clause ready may = may_call_selected mode clause ready may
   may_call_timed (Err too_low) clause ready may =
       record { ready = ready; unpinned = subst HasNoPins (sym clause.same) may.unpinned }
 
   pub timed_has : (r : Result Mode NegativeTimeout)
-      → TimedBy r me s (view w p) (view w q) p0 p1 are_ready result → StillHas (view w p) (view w q)
+      → TimedBy r me s s' (view w p) (view w q) p0 p1 are_ready result → StillHas (view w p) (view w q)
   timed_has (Ok mode) clause = still_has clause.call.acts
   timed_has (Err too_low) clause = subst (λ (v : PassView). StillHas (view w p) v) (sym clause.same) same_has

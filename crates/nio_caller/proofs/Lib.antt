@@ -1,4 +1,5 @@
 pub mod Calls
 pub mod Drawing
 pub mod Parting
+pub mod Selections
 pub mod Several

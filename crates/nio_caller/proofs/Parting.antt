@@ -1,17 +1,19 @@
 -- Two callers that become one.
-use Rattle.std.proofs.Common.{◌⊎◌, eqb-true, eq-eqb, inl, inr}
+use Rattle.std.proofs.Common.{◌⊎◌, eqb-true, eq-eqb, inl, inr, refl}
 use Rattle.std.specs.Int.{bit_at}
 use mathlib.Core.List.{IsPrefix}
 use Rattle.nio_base.specs.declared.numbers.CallerNo.{CallerNo}
+use Rattle.nio_base.specs.declared.numbers.SelNo.{SelNo}
 use Rattle.nio_history.proofs.Stays.{facts_are_permanent}
 use Rattle.nio_history.specs.Permanent.{selector_made, channel_opened, key_published}
-use Rattle.nio_history.specs.PassViews.{Holds, HasNoPin}
+use Rattle.nio_history.specs.PassViews.{Holds, HasNoPin, HasSelector}
+use Rattle.nio_select.proofs.ListedSteps.{lists_are_kept}
 use Rattle.nio_words.specs.Passes.{Holds as HoldsNumber, IsPassOf, limits_of, numbers_of, seen}
 use Rattle.nio_words.specs.Sharing.{Joins as JoinsPasses, StandsAfter}
 use Rattle.nio_words.specs.Views.{view}
 use Rattle.nio_words.specs.declared.words.Pass.{Pass}
 use Rattle.nio_words.specs.declared.words.Words.{Words}
-use Rattle.nio_caller.proofs.Calls.{same_pins}
+use Rattle.nio_caller.proofs.Calls.{may_select, same_pins}
 use Rattle.nio_caller.specs.Callers.{HasNoPins, Joins, MayCall, StandsIn, StillHas}
 
 -- the numbers that a pass holds, as contracts of callers see them
@@ -24,10 +26,7 @@ shown w p n held = eqb-true (bit_at (numbers_of p) n.0) 1 held
 -- a later pass has what an earlier one has
 pub later_has : (w : Words) (p q : Pass) → IsPassOf w q → IsPrefix (seen p) (seen q) → StillHas (view w p) (view w q)
 later_has w p q pass begins = record {
-  selectors = λ s has. record {
-    inside = has.inside;
-    made = facts_are_permanent (limits_of w) (seen p) (seen q) begins pass.legal (selector_made s.0) has.made;
-  };
+  selectors = selector_has;
   channels = λ c has. record {
     inside = has.inside;
     opened = facts_are_permanent (limits_of w) (seen p) (seen q) begins pass.legal (channel_opened c.number.0 c.serial)
@@ -38,7 +37,15 @@ later_has w p q pass begins = record {
     published = facts_are_permanent (limits_of w) (seen p) (seen q) begins pass.legal
         (key_published k.sel.0 k.index k.serial) has.published;
   };
+  selects = λ n s may. may_select (view w p) (view w q) n s (selector_has s.number)
+      (λ list has. lists_are_kept (view w p) (view w q) n list has refl begins pass.legal) may;
 }
+  where
+    selector_has : (s : SelNo) → HasSelector (view w p) s → HasSelector (view w q) s
+    selector_has s has = record {
+      inside = has.inside;
+      made = facts_are_permanent (limits_of w) (seen p) (seen q) begins pass.legal (selector_made s.0) has.made;
+    }
 
 -- ---- joining
 

@@ -31,6 +31,7 @@ still_then first second = record {
   selectors = λ s has. second.selectors s (first.selectors s has);
   channels = λ c has. second.channels c (first.channels c has);
   keys = λ k has. second.keys k (first.keys k has);
+  selects = λ n s may. second.selects n s (first.selects n s may);
 }
 
 pub same_then : {c0 c1 c2 : Acting} → IsSameCaller c0 c1 → IsSameCaller c1 c2 → IsSameCaller c0 c2

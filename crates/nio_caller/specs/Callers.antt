@@ -9,6 +9,8 @@ use Rattle.nio_history.specs.Histories.{event_of, mine}
 use Rattle.nio_history.specs.PassViews.{PassView, Holds, HasNoPin, HasSelector, HasChannel, HasKey}
 use Rattle.nio_history.specs.declared.act.Act.TheVariants.{DrawBit}
 use Rattle.nio_history.specs.declared.event.Event.{Event}
+use Rattle.nio_select.specs.InHand.{HeldSelector}
+use Rattle.nio_select.specs.InProgress.{MaySelect}
 use Rattle.nio_words.specs.Passes.{IsOnly, IsPassOf, IsReady, Holds as HoldsNumber, seen}
 use Rattle.nio_words.specs.Rule.{longer}
 use Rattle.nio_words.specs.Views.{view}
@@ -42,11 +44,13 @@ pub record IsSameCaller (old new : Acting) : Type 0 where
   pub table : new.table ≡ old.table
   pub number : new.number ≡ old.number
 
--- each selector, channel and key that may be passed to a call may be passed to a later one
+-- Each selector, channel and key that may be passed to a call may be passed to a later one. Who may select on a selector,
+-- with its list or without, may do so still.
 pub record StillHas (old new : PassView) : Type 0 where
   pub selectors : (s : SelNo) → HasSelector old s → HasSelector new s
   pub channels : (c : ChanId) → HasChannel old c → HasChannel new c
   pub keys : (k : KeyNo) → HasKey old k → HasKey new k
+  pub selects : (n : CallerNo) (s : HeldSelector) → MaySelect old n s → MaySelect new n s
 
 -- ---- the first caller
 

@@ -279,13 +279,13 @@ impl<N: Net + Drop> Poller for CheckedNet<N> {
         // As every poller.
         ensures cause { CountsFaults failure.Fault (N.poll_faults self.old.net) (N.poll_faults self.new.net) result }
         ensures ready { IfOk result (λ answer. (c : ChanNo) → ready_of (N.ready self.new.net) self.new.failed c
-            ≡ told_of_channel asked.now answer.pairs.items c) }
+            ≡ told_of_channel asked.now.keys answer.pairs.items c) }
         ensures unready { OnErr result ((c : ChanNo) → ready_of (N.ready self.new.net) self.new.failed c ≡ 0) }
-        ensures polls { AddsPoll (N.polls self.old.net) (N.polls self.new.net) asked.now mode result }
+        ensures polls { AddsPoll (N.polls self.old.net) (N.polls self.new.net) asked.now.keys mode result }
         ensures kept { N.kept self.old.net self.new.net }
 
         // What it told is listed by channels.
-        ensures told { IfOk result (λ answer. self.new.told ≡ listed answer.pairs.items asked.now) }
+        ensures told { IfOk result (λ answer. self.new.told ≡ listed answer.pairs.items asked.now.keys) }
         ensures untold { OnErr result (self.new.told ≡ []) }
         ensures given { self.new.given ≡ 0 }
         ensures channels { self.new.channels ≡ self.old.channels }

@@ -8,14 +8,16 @@ use nio_base::{ChanNo, Ops};
 use nio_select::Asked;
 
 /// Lists, for each key that was asked for, its channel with what was told of it and asked for.
+#[tactic(auto, using(nio_link::proofs::KeysTo::none_below))]
 pub(crate) fn list(asked: &Asked, pairs: &[(u32, Ops)], told: &mut Vec<(ChanNo, Ops)>)
     requires empty { told.old.items ≡ [] }
-    requires room { length asked.now ≤ vec_capacity told.old }
-    ensures { told.new.items ≡ listed pairs.now asked.now }
+    requires room { length asked.now.keys ≤ vec_capacity told.old }
+    ensures { told.new.items ≡ listed pairs.now asked.now.keys }
 {
-    for at in 0..asked.len() {
-        let (index, chan, interest) = asked.entry(at);
-        told.push_reserved((chan, told_of(pairs, index).meet(interest)));
+    for index in 0..asked.bound() {
+        if let Some(key) = asked.key(index) {
+            told.push_reserved((key.channel, told_of(pairs, key.index).meet(key.interest)));
+        }
     }
 }
 

@@ -73,14 +73,19 @@ struct Server<'a> {
 impl<'a> Server<'a> {
     // The first caller of a new table opens a board and both channels there. The limits have room for all of it.
     #[tactic(auto, using(nio_serve::proofs::Idle::drawn_unpinned, nio_serve::proofs::Calls::drawn_is_unregistered))]
-    fn open<R: Wait>(rt: &R, words: &'a Words, pass: Pass) -> Result<Server<'a>, Refused>
+    fn open<R: Wait>(
+        rt: &R,
+        alloc: Global,
+        words: &'a Words,
+        pass: Pass,
+    ) -> Result<Server<'a>, Refused>
         requires { IsFirstPass words.now pass }
     {
         let mut pass = pass;
         if words.draw(&mut pass, ME).is_err() {
             return Err(Refused);
         }
-        let mut board = Board::open(words, pass, ME)?;
+        let mut board = Board::open(alloc, words, pass, ME)?;
         let client = watch(&mut board, rt, CLIENT)?;
         let target = watch(&mut board, rt, TARGET)?;
         Ok(Server {
@@ -276,8 +281,8 @@ fn round<R: Wait, N: PacketNet>(
 
 // What a poll told of both channels, which may be more than they are watched for.
 fn ready_of(asked: &Asked, told: &Told) -> BothOps
-    ensures client { result.client ≡ told_of_channel asked.now told.now.pairs.items client_chan }
-    ensures target { result.target ≡ told_of_channel asked.now told.now.pairs.items target_chan }
+    ensures client { result.client ≡ told_of_channel asked.now.keys told.now.pairs.items client_chan }
+    ensures target { result.target ≡ told_of_channel asked.now.keys told.now.pairs.items target_chan }
 {
     BothOps {
         client: told_of(asked, told, CLIENT),
@@ -340,7 +345,7 @@ pub fn serve_packets<R: Wait, N: PacketNet>(
     let Ok((words, pass)) = Words::make(alloc, LIMITS) else {
         return Err(PacketServeError::Memory);
     };
-    let Ok(mut server) = Server::open(rt, &words, pass) else {
+    let Ok(mut server) = Server::open(rt, alloc, &words, pass) else {
         return Err(PacketServeError::Memory);
     };
     let Ok(mut relay) = Relay::make(alloc, CLIENT, TARGET) else {

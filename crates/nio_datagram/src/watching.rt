@@ -42,15 +42,16 @@ pub(crate) fn set(
 }
 
 /// What was told of a channel: of the keys that were asked for, what was told of those of this channel.
-#[tactic(auto, using(crate::proofs::Told::key_more))]
+#[tactic(auto, using(nio_link::proofs::KeysTo::none_below, crate::proofs::Told::key_more))]
 pub(crate) fn told_of(asked: &Asked, told: &Told, chan: ChanNo) -> Ops
-    ensures { result ≡ told_of_channel asked.now told.now.pairs.items chan }
+    ensures { result ≡ told_of_channel asked.now.keys told.now.pairs.items chan }
 {
     let mut ops = Ops::NONE;
-    for at in 0..asked.len() {
-        let (index, its, _interest) = asked.entry(at);
-        if its == chan {
-            ops = ops.union(told_of_key(&told.pairs, index));
+    for index in 0..asked.bound() {
+        if let Some(key) = asked.key(index) {
+            if key.channel == chan {
+                ops = ops.union(told_of_key(&told.pairs, key.index));
+            }
         }
     }
     ops

@@ -1,1 +1,4 @@
-mod Found
+mod Asked
+pub mod Continues
+mod Looks
+mod Told

@@ -1,3 +1,4 @@
 pub mod News
+pub mod Looks
 pub mod Counts
 pub mod Readiness

@@ -1,16 +1,18 @@
 //! What the system told of each channel, and which keys of a list are ready by it.
 //!
-//! What a key is interested in can change between two polls. So a poll walks the list once, and looks at what is kept
-//! only for keys that can be ready. For each event it then searches the list for the channel's key.
-ghost use Rattle.std.specs.Prelude.{◌≡◌, ℕ, ◌<◌, ◌≤◌, ◌-◌, ◌==◌, ◌++◌, [], ◌∷◌, not, All, IsTrue, IfOk, IfSome, OnOk};
-ghost use Rattle.std.specs.Prelude.{if◌then◌else◌, bit_and, bit_or, length, slice_index, slice_set};
-ghost use Rattle.std.specs.List.Sorted.{IsNonDecreasing, IsPermutation};
-ghost use Rattle.nio_select.specs.Asked.{key_at};
-ghost use Rattle.nio_kept.specs.News.{is_incoming as has_incoming};
-ghost use Rattle.nio_kept.specs.News.{AreApart, AreFound, ready_for, ready_keys, ready_places};
+//! Where a selection goes by its selector's list, a poll looks only at the keys that changed since the list that was seen
+//! last, and at those that may be ready. Else it looks at all keys.
+ghost use Rattle.std.specs.Prelude.{◌≡◌, ℕ, ◌+◌, ◌-◌, ◌≤◌, ◌==◌, ◌||◌, ◌++◌, not, All, None, IsTrue, IsFalse, IsSome, IfNone, IfOk, OnOk};
+ghost use Rattle.std.specs.Prelude.{if◌then◌else◌, bit_and, bit_or, length, option_to_list, slice_get, slice_index, slice_set};
+ghost use Rattle.std.specs.List.{filter};
+ghost use Rattle.std.specs.List.Sorted.{IsStrictlyIncreasing};
+ghost use Rattle.nio_select.specs.Asked.{Looked, has_changed, key_at, keys_to};
+ghost use Rattle.nio_kept.specs.Looks.{AreListed, KnowsAt, looked_at};
+ghost use Rattle.nio_kept.specs.News.{is_ready as is_ready_by, is_same as are_same, is_next as are_next};
+ghost use Rattle.nio_kept.specs.News.{AreApart, AreFound, AreNoted, Continues, Follows, Knows, Remembers, StillKnows, ready_keys};
 
 use nio_base::{ChanNo, Ops};
-use nio_select::Asked;
+use nio_select::{Asked, LookedKey, Stamp};
 use std::alloc::{AllocError, Global};
 use std::marker::Model;
 
@@ -19,83 +21,97 @@ use std::marker::Model;
 #[derive(Drop)]
 pub struct News {
     kept: Vec<Ops>,
-    // Of how many channels something is kept beside writing and connecting.
-    incoming: usize,
-    // For each channel, the index of its key in the list where it was found last.
+    // For each channel, the index of its key in the list where it was seen last.
     keys: Vec<u32>,
+    // The indexes of the keys that may be ready.
+    candidates: Vec<u32>,
+    // The stamp of the list that was seen last, where nothing of it was lost.
+    seen: Option<Stamp>,
 }
 
 impl Model for News {
-    ghost use Rattle.std.specs.Prelude.{◌≡◌, ℕ, List, count_by};
-    ghost use Rattle.nio_kept.specs.News.{is_incoming as has_incoming};
+    ghost use Rattle.std.specs.Prelude.{◌≤◌, length};
+    ghost use Rattle.nio_kept.specs.News.{Heard};
 
-    ghost Value = { List ℕ };
+    ghost Value = { Heard };
 
-    ghost view = { λ n. n.kept.items };
+    ghost view = { λ n. record {
+      kept = n.kept.items;
+      keys = n.keys.items;
+      candidates = n.candidates.items;
+      seen = n.seen;
+    } };
 
-    ghost invariant = { λ n. n.incoming ≡ count_by has_incoming n.kept.items };
-}
-
-// Writing and connecting. Of an idle link they stay kept, while its key is interested in neither.
-fn outgoing() -> Ops
-    ensures { result ≡ 12 }
-{
-    Ops::WRITE.union(Ops::CONNECT)
-}
-
-fn is_incoming(bits: Ops) -> bool
-    ensures { result ≡ has_incoming bits }
-{
-    !bits.within(outgoing())
+    ghost invariant = { λ n. length n.kept.items ≤ length n.keys.items };
 }
 
 impl News {
     /// Nothing is kept.
     pub fn make(alloc: Global, places: usize) -> Result<News, AllocError>
-        ensures places { IfOk result (λ news. length news ≡ places) }
-        ensures nothing { IfOk result (λ news. All (λ bits. bits ≡ 0) news) }
+        ensures places { IfOk result (λ news. length news.kept ≡ places) }
+        ensures nothing { IfOk result (λ news. All (λ bits. bits ≡ 0) news.kept) }
+        ensures unseen { IfOk result (λ news. news.seen ≡ None) }
     {
         Ok(News {
             kept: vec![in alloc; Ops::NONE; places]?,
-            incoming: 0,
             keys: vec![in alloc; 0_u32; places]?,
+            candidates: Vec::new(alloc),
+            seen: None,
         })
     }
 
     /// Makes places for the channels below this number. There are never fewer than before.
     pub fn grow(&mut self, places: usize) -> Result<(), AllocError>
-        ensures same { (c : ℕ) → slice_index self.new c ≡ slice_index self.old c }
-        ensures room { OnOk result (places ≤ length self.new) }
-        ensures never_fewer { length self.old ≤ length self.new }
+        ensures same { (c : ℕ) → slice_index self.new.kept c ≡ slice_index self.old.kept c }
+        ensures room { OnOk result (places ≤ length self.new.kept) }
+        ensures never_fewer { length self.old.kept ≤ length self.new.kept }
+        ensures known { StillKnows self.old self.new }
     {
         if places <= self.kept.len() {
             return Ok(());
         }
+        // Of the new channels no index is noted.
+        self.seen = None;
         self.keys.resize(places, 0)?;
         self.kept.resize(places, Ops::NONE)
     }
 
     /// What is kept of the channel.
     pub fn of(&self, chan: ChanNo) -> Ops
-        ensures { result ≡ slice_index self.now chan.0 }
+        ensures { result ≡ slice_index self.now.kept chan.0 }
     {
-        match self.kept.get(chan.0 as usize) {
-            Some(bits) => *bits,
-            None => Ops::NONE,
-        }
+        bits_of(self.kept.as_slice(), chan)
     }
 
-    /// Keeps these operations too.
-    pub fn add(&mut self, chan: ChanNo, ops: Ops)
-        ensures { self.new ≡ slice_set self.old chan.0 (bit_or (slice_index self.old chan.0) ops) }
+    /// Whether a key may be ready. After a look at the list and what was heard since, one is.
+    pub fn has_candidates(&self) -> bool
+        ensures { result ≡ not (length self.now.candidates == 0) }
     {
-        let bits = self.of(chan).union(ops);
-        self.put(chan, bits);
+        !self.candidates.is_empty()
+    }
+
+    /// Keeps these operations too, and takes the channel's key for one that may be ready.
+    pub fn add(&mut self, chan: ChanNo, ops: Ops)
+        ensures kept { self.new.kept
+            ≡ slice_set self.old.kept chan.0 (bit_or (slice_index self.old.kept chan.0) ops) }
+        ensures known { StillKnows self.old self.new }
+    {
+        self.keep(chan, ops);
+        let Some(index) = self.noted_of(chan) else {
+            return;
+        };
+        match self.candidates.push(index) {
+            Ok(()) => {}
+            Err(_full) => self.seen = None,
+        }
     }
 
     /// Keeps none but these operations.
     pub fn keep_only(&mut self, chan: ChanNo, ops: Ops)
-        ensures { self.new ≡ slice_set self.old chan.0 (bit_and (slice_index self.old chan.0) ops) }
+        ensures kept { self.new ≡ record self.old {
+          kept = slice_set self.old.kept chan.0 (bit_and (slice_index self.old.kept chan.0) ops);
+        } }
+        ensures known { StillKnows self.old self.new }
     {
         let bits = self.of(chan).meet(ops);
         self.put(chan, bits);
@@ -103,199 +119,217 @@ impl News {
 
     /// Keeps the operation no longer.
     pub fn clear(&mut self, chan: ChanNo, op: Ops)
-        ensures { self.new ≡ slice_set self.old chan.0 (bit_and (slice_index self.old chan.0) (255 - op)) }
+        ensures kept { self.new ≡ record self.old {
+          kept = slice_set self.old.kept chan.0 (bit_and (slice_index self.old.kept chan.0) (255 - op));
+        } }
+        ensures known { StillKnows self.old self.new }
     {
         self.keep_only(chan, Ops::of(!op.bits()));
     }
 
+    fn keep(&mut self, chan: ChanNo, ops: Ops)
+        ensures { self.new ≡ record self.old {
+          kept = slice_set self.old.kept chan.0 (bit_or (slice_index self.old.kept chan.0) ops);
+        } }
+    {
+        let bits = self.of(chan).union(ops);
+        self.put(chan, bits);
+    }
+
     fn put(&mut self, chan: ChanNo, bits: Ops)
-        ensures { self.new ≡ slice_set self.old chan.0 bits }
+        ensures { self.new ≡ record self.old { kept = slice_set self.old.kept chan.0 bits } }
     {
-        let place = chan.0 as usize;
-        if place < self.kept.len() {
-            let was = self.kept[place];
-            self.kept[place] = bits;
-            self.incoming += usize::from(is_incoming(bits));
-            self.incoming -= usize::from(is_incoming(was));
+        if let Some(place) = self.kept.get_mut(chan.0 as usize) {
+            *place = bits;
         }
     }
 
-    /// Lists the places in the list that is asked for of the keys that are ready for something, in rising order.
-    pub fn walk(&mut self, asked: &Asked, found: &mut Vec<usize>) -> Result<(), AllocError>
-        ensures same { self.new ≡ self.old }
-        ensures places { OnOk result (found.new.items ≡ ready_places self.new asked.now) }
-        ensures found { OnOk result (AreFound self.new asked.now found.new.items) }
+    // The index that is noted for the channel; None where it has no place.
+    fn noted_of(&self, chan: ChanNo) -> Option<u32>
+        ensures noted { result ≡ slice_get self.now.keys chan.0 }
+        ensures unplaced { IfNone result (length self.now.kept ≤ chan.0) }
     {
-        found.clear();
-        if self.incoming == 0 {
-            self.walk_outgoing(asked, found)
-        } else {
-            self.walk_all(asked, found)
-        }
+        self.keys.get(chan.0 as usize).copied()
     }
 
-    fn walk_all(&mut self, asked: &Asked, found: &mut Vec<usize>) -> Result<(), AllocError>
-        requires empty { found.old.items ≡ [] }
-        ensures same { self.new ≡ self.old }
-        ensures places { OnOk result (found.new.items ≡ ready_places self.new asked.now) }
-        ensures found { OnOk result (AreFound self.new asked.now found.new.items) }
+    /// Begins a poll: looks at the keys that may be ready, and at those that changed since the list that was seen last,
+    /// or at all, where this list doesn't follow on that one. The candidates are then keys that are ready.
+    pub fn look(&mut self, asked: &Asked) -> Result<(), AllocError>
+        ensures kept { self.new.kept ≡ self.old.kept }
+        ensures ready { OnOk result (All (λ i. IsTrue (is_ready_by self.new.kept (key_at i asked.now.keys)))
+            self.new.candidates) }
+        ensures knows { OnOk result (Continues self.old asked.now → Knows self.new asked.now.keys) }
+        ensures seen { OnOk result (self.new.seen ≡ asked.now.stamp) }
+        ensures remembers { Continues self.old asked.now → Remembers self.new asked.now }
     {
-        for at in 0..asked.len() {
-            self.find_at(asked, at, found)?;
-        }
+        let seen = self.seen;
+        self.seen = None;
+        self.look_after(asked, seen)?;
+        self.seen = asked.stamp();
         Ok(())
     }
 
-    // Where nothing is kept beside writing and connecting: only keys that are interested in those can be ready.
-    fn walk_outgoing(&mut self, asked: &Asked, found: &mut Vec<usize>) -> Result<(), AllocError>
-        requires outgoing { All (λ bits. bit_and bits 12 ≡ bits) self.old }
-        requires empty { found.old.items ≡ [] }
-        ensures same { self.new ≡ self.old }
-        ensures places { OnOk result (found.new.items ≡ ready_places self.new asked.now) }
-        ensures found { OnOk result (AreFound self.new asked.now found.new.items) }
+    // The same, where this is the stamp of the list that was seen last.
+    fn look_after(&mut self, asked: &Asked, seen: Option<Stamp>) -> Result<(), AllocError>
+        ensures kept { self.new.kept ≡ self.old.kept }
+        ensures seen { self.new.seen ≡ self.old.seen }
+        ensures ready { OnOk result (All (λ i. IsTrue (is_ready_by self.new.kept (key_at i asked.now.keys)))
+            self.new.candidates) }
+        ensures knows { OnOk result ((before : Looked) → Follows before asked.now
+            → (IsTrue (are_same seen asked.now.stamp || are_next seen asked.now.stamp)
+            → IsSome seen → (seen ≡ before.stamp) × Knows self.old before.keys)
+            → AreApart asked.now.keys → Knows self.new asked.now.keys) }
     {
-        for at in 0..asked.len() {
-            self.find_outgoing_at(asked, at, found)?;
-        }
-        Ok(())
-    }
-
-    #[tactic(auto, using(crate::proofs::Found::quiet_key))]
-    fn find_outgoing_at(
-        &mut self,
-        asked: &Asked,
-        at: usize,
-        found: &mut Vec<usize>,
-    ) -> Result<(), AllocError>
-        requires outgoing { All (λ bits. bit_and bits 12 ≡ bits) self.old }
-        requires within { at < length asked.now }
-        ensures same { self.new ≡ self.old }
-        ensures found { OnOk result (found.new.items ≡ (if ready_for self.old (key_at asked.now at) == 0
-            then found.old.items else found.old.items ++ at ∷ [])) }
-    {
-        let (_index, _chan, interest) = asked.entry(at);
-        if interest.meet(outgoing()) == Ops::NONE {
+        if is_same(seen, asked.stamp()) {
+            self.leave_ready(asked);
             return Ok(());
         }
-        self.find_at(asked, at, found)
+        if is_next(seen, asked.stamp()) {
+            self.leave_ready(asked);
+            return self.look_at_changed(asked);
+        }
+        self.look_over_all(asked)
     }
 
-    // Lists the place where the key there is ready for something.
-    fn find_at(
-        &mut self,
-        asked: &Asked,
-        at: usize,
-        found: &mut Vec<usize>,
-    ) -> Result<(), AllocError>
-        requires within { at < length asked.now }
-        ensures same { self.new ≡ self.old }
-        ensures found { OnOk result (found.new.items ≡ (if ready_for self.old (key_at asked.now at) == 0
-            then found.old.items else found.old.items ++ at ∷ [])) }
+    // Of the candidates only those stay that are ready.
+    fn leave_ready(&mut self, asked: &Asked)
+        ensures { self.new ≡ record self.old {
+          candidates = filter (λ i. is_ready_by self.old.kept (key_at i asked.now.keys)) self.old.candidates;
+        } }
     {
-        let (index, chan, interest) = asked.entry(at);
-        if self.of(chan).meet(interest) == Ops::NONE {
-            return Ok(());
+        let kept = self.kept.as_slice();
+        self.candidates
+            .retain(|index| has_ready(kept, asked, *index));
+    }
+
+    fn look_at_changed(&mut self, asked: &Asked) -> Result<(), AllocError>
+        requires { All (λ i. IsTrue (is_ready_by self.old.kept (key_at i asked.now.keys))) self.old.candidates }
+        ensures kept { self.new.kept ≡ self.old.kept }
+        ensures seen { self.new.seen ≡ self.old.seen }
+        ensures ready { OnOk result (All (λ i. IsTrue (is_ready_by self.new.kept (key_at i asked.now.keys)))
+            self.new.candidates) }
+        ensures knows { OnOk result (AreApart asked.now.keys
+            → KnowsAt (λ i. IsFalse (has_changed asked.now.changed i)) self.old asked.now.keys
+            → Knows self.new asked.now.keys) }
+    {
+        for &index in asked.changed() {
+            self.look_at(asked, index)?;
         }
-        if let Some(key) = self.keys.get_mut(chan.0 as usize) {
-            *key = index;
-        }
-        found.push(at)?;
         Ok(())
     }
 
-    /// Keeps what the system tells of a channel, and lists the place of its key where that is ready for something then.
-    /// False where it doesn't know the place, or has no memory to list it.
-    pub fn hear(&mut self, asked: &Asked, chan: ChanNo, ops: Ops, found: &mut Vec<usize>) -> bool
-        ensures kept { self.new ≡ slice_set self.old chan.0 (bit_or (slice_index self.old chan.0) ops) }
-        ensures found { IsTrue result → AreApart asked.now → AreFound self.old asked.now found.old.items
-            → AreFound self.new asked.now found.new.items }
+    fn look_over_all(&mut self, asked: &Asked) -> Result<(), AllocError>
+        ensures kept { self.new.kept ≡ self.old.kept }
+        ensures seen { self.new.seen ≡ self.old.seen }
+        ensures ready { OnOk result (All (λ i. IsTrue (is_ready_by self.new.kept (key_at i asked.now.keys)))
+            self.new.candidates) }
+        ensures knows { OnOk result (AreApart asked.now.keys → Knows self.new asked.now.keys) }
     {
-        self.add(chan, ops);
-        match self.place_of(asked, chan) {
-            Some(at) => self.list_place(asked, at, found),
-            None => false,
+        self.candidates.clear();
+        for index in 0..asked.bound() {
+            self.look_at(asked, index)?;
+        }
+        Ok(())
+    }
+
+    // Notes the index of the key there, and takes it for a candidate where it is ready.
+    fn look_at(&mut self, asked: &Asked, index: u32) -> Result<(), AllocError>
+        ensures kept { self.new.kept ≡ self.old.kept }
+        ensures seen { self.new.seen ≡ self.old.seen }
+        ensures looked { OnOk result (self.new ≡ looked_at self.old index (key_at index asked.now.keys)) }
+        ensures alone { keys_to (index + 1) asked.now.keys
+            ≡ keys_to index asked.now.keys ++ option_to_list (key_at index asked.now.keys) }
+    {
+        let Some(key) = asked.key(index) else {
+            return Ok(());
+        };
+        self.note(key.channel, index);
+        if is_ready(self.kept.as_slice(), &key) {
+            self.candidates.push(index)?;
+        }
+        Ok(())
+    }
+
+    fn note(&mut self, chan: ChanNo, index: u32)
+        ensures { self.new ≡ record self.old { keys = slice_set self.old.keys chan.0 index } }
+    {
+        if let Some(noted) = self.keys.get_mut(chan.0 as usize) {
+            *noted = index;
         }
     }
 
-    // Lists the place where the key there is ready for something. Says whether there was memory for it.
-    fn list_place(&self, asked: &Asked, at: usize, found: &mut Vec<usize>) -> bool
-        requires within { at < length asked.now }
-        ensures found { found.new.items ≡ (if ready_for self.now (key_at asked.now at) == 0
-            then found.old.items else if result then found.old.items ++ at ∷ [] else found.old.items) }
+    /// In a poll, keeps what the system tells of a channel too, and takes its key for a candidate where that is ready
+    /// then. False where there was no memory for it.
+    pub fn hear(&mut self, asked: &Asked, chan: ChanNo, ops: Ops) -> bool
+        ensures kept { self.new.kept
+            ≡ slice_set self.old.kept chan.0 (bit_or (slice_index self.old.kept chan.0) ops) }
+        ensures knows { IsTrue result → Knows self.old asked.now.keys → Knows self.new asked.now.keys }
+        ensures remembers { Remembers self.old asked.now → Remembers self.new asked.now }
     {
-        let (_index, chan, interest) = asked.entry(at);
-        if self.of(chan).meet(interest) == Ops::NONE {
+        self.keep(chan, ops);
+        let is_heard = self.list(asked, chan);
+        if !is_heard {
+            self.seen = None;
+        }
+        is_heard
+    }
+
+    // Takes the key of the channel for a candidate, where it is ready. Says whether there was memory for it.
+    fn list(&mut self, asked: &Asked, chan: ChanNo) -> bool
+        ensures same { self.new ≡ record self.old { candidates = self.new.candidates } }
+        ensures listed { IsTrue result → AreNoted self.old asked.now.keys
+            → AreListed self.old.kept asked.now.keys chan.0 self.old.candidates self.new.candidates }
+    {
+        let Some(index) = self.noted_of(chan) else {
             return true;
+        };
+        if has_ready(self.kept.as_slice(), asked, index) {
+            self.candidates.push(index).is_ok()
+        } else {
+            true
         }
-        found.push(at).is_ok()
     }
 
-    // Where the key of the channel stands in the list, if it has the index that it had where it was found last.
-    fn place_of(&self, asked: &Asked, chan: ChanNo) -> Option<usize>
-        ensures within { IfSome result (λ at. at < length asked.now) }
-        ensures its { IfSome result (λ at. (key_at asked.now at).channel ≡ chan) }
+    /// The keys that are ready, in the order of the list, each with what for.
+    pub fn tell(&mut self, alloc: Global, asked: &Asked) -> Result<Vec<(u32, Ops)>, AllocError>
+        ensures told { IfOk result (λ pairs. AreFound self.old.kept asked.now.keys self.old.candidates
+            → pairs.items ≡ ready_keys self.old.kept asked.now.keys) }
+        ensures same { self.new ≡ record self.old { candidates = self.new.candidates } }
+        ensures known { StillKnows self.old self.new }
     {
-        let index = *self.keys.get(chan.0 as usize)?;
-        let at = place_of_index(asked, index)?;
-        let (_index, found, _interest) = asked.entry(at);
-        if found == chan { Some(at) } else { None }
+        self.candidates.sort_unstable();
+        self.candidates.dedup();
+        self.tell_candidates(alloc, asked)
     }
 
-    /// What is kept of the channels of the keys at these places, as far as the keys are interested in it, in the order
-    /// of the list. Sorts the places.
-    pub fn tell(
-        &self,
-        alloc: Global,
-        asked: &Asked,
-        found: &mut Vec<usize>,
-    ) -> Result<Vec<(u32, Ops)>, AllocError>
-        ensures told { IfOk result (λ pairs. AreFound self.now asked.now found.old.items
-            → pairs.items ≡ ready_keys self.now asked.now) }
-        ensures sorted { IsNonDecreasing found.new.items }
-        ensures places { IsPermutation found.old.items found.new.items }
+    fn tell_candidates(&self, alloc: Global, asked: &Asked) -> Result<Vec<(u32, Ops)>, AllocError>
+        requires { IsStrictlyIncreasing self.now.candidates }
+        ensures { IfOk result (λ pairs. AreFound self.now.kept asked.now.keys self.now.candidates
+            → pairs.items ≡ ready_keys self.now.kept asked.now.keys) }
     {
-        found.sort_unstable();
-        self.tell_sorted(alloc, asked, found.as_slice())
-    }
-
-    fn tell_sorted(
-        &self,
-        alloc: Global,
-        asked: &Asked,
-        found: &[usize],
-    ) -> Result<Vec<(u32, Ops)>, AllocError>
-        requires { IsNonDecreasing found.now }
-        ensures { IfOk result (λ pairs. AreFound self.now asked.now found.now
-            → pairs.items ≡ ready_keys self.now asked.now) }
-    {
-        let mut pairs = Vec::with_capacity(alloc, found.len())?;
-        let mut next = 0;
-        for &at in found {
-            if at < next {
-                continue;
-            }
-            if at >= asked.len() {
-                continue;
-            }
-            self.tell_at(asked, at, &mut pairs)?;
-            next = at + 1;
+        let mut pairs = Vec::with_capacity(alloc, self.candidates.len())?;
+        for &index in &self.candidates {
+            self.tell_at(asked, index, &mut pairs)?;
         }
         Ok(pairs)
     }
 
-    // What is kept of the channel of the key at this place, as far as the key is interested in it.
+    // What is kept of the channel of the key with this index, as far as the key is interested in it.
     fn tell_at(
         &self,
         asked: &Asked,
-        at: usize,
+        index: u32,
         pairs: &mut Vec<(u32, Ops)>,
     ) -> Result<(), AllocError>
-        requires within { at < length asked.now }
-        ensures { OnOk result (pairs.new.items ≡ pairs.old.items
-            ++ ready_keys self.now (key_at asked.now at ∷ [])) }
+        ensures told { OnOk result (pairs.new.items ≡ pairs.old.items
+            ++ ready_keys self.now.kept (option_to_list (key_at index asked.now.keys))) }
+        ensures alone { keys_to (index + 1) asked.now.keys
+            ≡ keys_to index asked.now.keys ++ option_to_list (key_at index asked.now.keys) }
     {
-        let (index, chan, interest) = asked.entry(at);
-        let bits = self.of(chan).meet(interest);
+        let Some(key) = asked.key(index) else {
+            return Ok(());
+        };
+        let bits = self.of(key.channel).meet(key.interest);
         if bits != Ops::NONE {
             pairs.push((index, bits))?;
         }
@@ -303,23 +337,53 @@ impl News {
     }
 }
 
-// Where the key with this index stands in the list, which rises.
-fn place_of_index(asked: &Asked, index: u32) -> Option<usize>
-    ensures { IfSome result (λ at. at < length asked.now) }
+// What is kept of the channel.
+fn bits_of(kept: &[Ops], chan: ChanNo) -> Ops
+    ensures { result ≡ slice_index kept.now chan.0 }
 {
-    let mut low = 0;
-    let mut high = asked.len();
-    while low < high {
-        let middle = low + (high - low) / 2;
-        let (found, _chan, _interest) = asked.entry(middle);
-        if found == index {
-            return Some(middle);
-        }
-        if found < index {
-            low = middle + 1;
-        } else {
-            high = middle;
-        }
+    match kept.get(chan.0 as usize) {
+        Some(bits) => *bits,
+        None => Ops::NONE,
     }
-    None
+}
+
+// Whether the key is ready for something.
+fn is_ready(kept: &[Ops], key: &LookedKey) -> bool
+    ensures { result ≡ is_ready_by kept.now (Some key.now) }
+{
+    bits_of(kept, key.channel).meet(key.interest) != Ops::NONE
+}
+
+// Whether there is a key with this index, and it is ready for something.
+fn has_ready(kept: &[Ops], asked: &Asked, index: u32) -> bool
+    ensures is { result ≡ is_ready_by kept.now (key_at index asked.now.keys) }
+    ensures alone { keys_to (index + 1) asked.now.keys
+        ≡ keys_to index asked.now.keys ++ option_to_list (key_at index asked.now.keys) }
+{
+    match asked.key(index) {
+        Some(key) => is_ready(kept, &key),
+        None => false,
+    }
+}
+
+// Whether one beginning made both lists.
+fn is_same(before: Option<Stamp>, now: Option<Stamp>) -> bool
+    ensures { result ≡ are_same before now }
+{
+    match (before, now) {
+        (Some(before), Some(now)) => before == now,
+        (Some(_) | None, Some(_) | None) => false,
+    }
+}
+
+// Whether the selector's next beginning made the second list.
+fn is_next(before: Option<Stamp>, now: Option<Stamp>) -> bool
+    ensures { result ≡ are_next before now }
+{
+    match (before, now) {
+        (Some(before), Some(now)) => {
+            before.selector == now.selector && before.number.wrapping_add(1) == now.number
+        }
+        (Some(_) | None, Some(_) | None) => false,
+    }
 }

@@ -39,8 +39,8 @@ impl Readiness {
     /// A poll answered.
     pub fn answered(&mut self, asked: &Asked, mode: Mode, told: &Told)
         ensures polls { polls_of self.new
-            ≡ polls_of self.old ++ record { asked = asked.now; mode = mode; answer = poll_of told.now } ∷ [] }
-        ensures ready { (c : Channel) → ready_of self.new c ≡ told_of_channel asked.now told.now.pairs.items c }
+            ≡ polls_of self.old ++ record { asked = asked.now.keys; mode = mode; answer = poll_of told.now } ∷ [] }
+        ensures ready { (c : Channel) → ready_of self.new c ≡ told_of_channel asked.now.keys told.now.pairs.items c }
     {
         ToldPoll::add_to(&mut self.polls, asked, mode, told);
         self.last = Trace::new();

@@ -1,6 +1,6 @@
 //! The sockets by the numbers of their channels, and what the system told of each.
-ghost use Rattle.std.specs.Prelude.{◌≡◌, ◌≤◌, IsTrue, IfOk, OnOk, length};
-ghost use Rattle.nio_kept.specs.News.{AreApart, AreFound, ready_keys};
+ghost use Rattle.std.specs.Prelude.{◌≡◌, ◌≤◌, None, IsTrue, IfOk, OnOk, length};
+ghost use Rattle.nio_kept.specs.News.{AreApart, Continues, Knows, Remembers, ready_keys};
 ghost use Rattle.nio_link.specs.Links.{IsGot, IsPut};
 
 use crate::bell::MioBell;
@@ -34,9 +34,6 @@ const BELL: Token = Token(usize::MAX);
 /// How many events one poll takes from the system.
 const EVENTS: usize = 1_024;
 
-// The search for one key costs about as much as a walk over this many.
-const WALKED: usize = 16;
-
 /// The sockets. A bit is kept for an operation of a channel from an event until a call finds it not ready, or a read
 /// has taken all that had come.
 #[derive(Drop)]
@@ -45,8 +42,6 @@ pub(crate) struct Sockets {
     events: Events,
     sockets: Vec<Option<Socket>>,
     news: News,
-    // In a poll, the places of the keys that are ready.
-    found: Vec<usize>,
     // Of which sockets the system has told an end or an error.
     ended: Vec<bool>,
     // How many links stand.
@@ -62,7 +57,7 @@ impl Sockets {
     /// poll object.
     pub(crate) fn make<R: Net>(rt: &R, alloc: Global) -> Result<(Sockets, MioBell), AllocError>
         ensures sockets { IfOk result (λ made. length made.0.sockets.items ≡ PLACES) }
-        ensures news { IfOk result (λ made. length made.0.news ≡ PLACES) }
+        ensures news { IfOk result (λ made. length made.0.news.kept ≡ PLACES) }
         ensures ended { IfOk result (λ made. length made.0.ended.items ≡ PLACES) }
     {
         let mut sockets = Vec::new(alloc);
@@ -77,7 +72,6 @@ impl Sockets {
             events,
             sockets,
             news,
-            found: Vec::new(alloc),
             ended,
             links: 0,
             waiting,
@@ -87,8 +81,10 @@ impl Sockets {
     }
 
     /// Waits as long as `mode` says, but not where a bit that is asked for is kept. Tells which keys of the list are
-    /// ready by what is kept then, with what for. No list of a selection should have a channel twice; no clause says
-    /// that none has, and of such a list nothing is promised.
+    /// ready by what is kept then, with what for. Where the list follows on the one that was seen last, only the keys that
+    /// changed and those that may be ready are looked at. No list of a selection should have a channel twice, and each
+    /// should follow on the one before as its stamp says, if it has one; no clause says so, and of another list nothing
+    /// is promised.
     pub(crate) fn poll<R: Wait, C: Clock>(
         &mut self,
         rt: &R,
@@ -97,11 +93,27 @@ impl Sockets {
         asked: &Asked,
         mode: Mode,
     ) -> Result<Told, PollError>
-        ensures { IfOk result (λ told. AreApart asked.now → told.pairs.items ≡ ready_keys self.new.news asked.now) }
+        ensures told { IfOk result (λ told. Continues self.old.news asked.now
+            → told.pairs.items ≡ ready_keys self.new.news.kept asked.now.keys) }
+        ensures unlisted { IfOk result (λ told. asked.now.stamp ≡ None → AreApart asked.now.keys
+            → told.pairs.items ≡ ready_keys self.new.news.kept asked.now.keys) }
+        ensures remembers { Continues self.old.news asked.now → Remembers self.new.news asked.now }
     {
+        self.look(asked)?;
         let elapsed = self.wait(rt, clock, asked, mode)?;
-        match self.news.tell(alloc, asked, &mut self.found) {
+        match self.news.tell(alloc, asked) {
             Ok(pairs) => Ok(Told { pairs, elapsed }),
+            Err(AllocError) => Err(PollError::Memory),
+        }
+    }
+
+    // Looks at the keys of the list that changed and at those that may be ready.
+    fn look(&mut self, asked: &Asked) -> Result<(), PollError>
+        ensures knows { OnOk result (Continues self.old.news asked.now → Knows self.new.news asked.now.keys) }
+        ensures remembers { Continues self.old.news asked.now → Remembers self.new.news asked.now }
+    {
+        match self.news.look(asked) {
+            Ok(()) => Ok(()),
             Err(AllocError) => Err(PollError::Memory),
         }
     }
@@ -114,18 +126,16 @@ impl Sockets {
         asked: &Asked,
         mode: Mode,
     ) -> Result<bool, PollError>
-        ensures { OnOk result (AreApart asked.now → AreFound self.new.news asked.now self.new.found.items) }
+        ensures knows { OnOk result (Knows self.old.news asked.now.keys → Knows self.new.news asked.now.keys) }
+        ensures remembers { Remembers self.old.news asked.now → Remembers self.new.news asked.now }
     {
-        self.walk(asked)?;
         match mode {
             Mode::Now => {
-                self.poll_for(Some(Duration::ZERO))?;
-                self.hear(asked)?;
+                self.poll_once(Some(Duration::ZERO), asked)?;
                 Ok(true)
             }
-            Mode::For(_) | Mode::Wait if !self.found.is_empty() => {
-                self.poll_for(Some(Duration::ZERO))?;
-                self.hear(asked)?;
+            Mode::For(_) | Mode::Wait if self.news.has_candidates() => {
+                self.poll_once(Some(Duration::ZERO), asked)?;
                 Ok(false)
             }
             Mode::For(ms) => self.wait_at_most(rt, clock, asked, Duration::from_millis(ms.get())),
@@ -139,12 +149,11 @@ impl Sockets {
     // Waits until a bit that is asked for is kept, or the bell rings. What comes for other channels is kept meanwhile,
     // and a signal ends no wait.
     fn wait_for<R: Wait>(&mut self, rt: &R, asked: &Asked) -> Result<(), PollError>
-        requires { AreApart asked.now → AreFound self.old.news asked.now self.old.found.items }
-        ensures { OnOk result (AreApart asked.now → AreFound self.new.news asked.now self.new.found.items) }
+        ensures knows { OnOk result (Knows self.old.news asked.now.keys → Knows self.new.news asked.now.keys) }
+        ensures remembers { Remembers self.old.news asked.now → Remembers self.new.news asked.now }
     {
         for _ in rt.forever() {
-            self.poll_for(None)?;
-            self.hear(asked)?;
+            self.poll_once(None, asked)?;
             if self.is_told() {
                 return Ok(());
             }
@@ -160,14 +169,13 @@ impl Sockets {
         asked: &Asked,
         time: Duration,
     ) -> Result<bool, PollError>
-        requires { AreApart asked.now → AreFound self.old.news asked.now self.old.found.items }
-        ensures { OnOk result (AreApart asked.now → AreFound self.new.news asked.now self.new.found.items) }
+        ensures knows { OnOk result (Knows self.old.news asked.now.keys → Knows self.new.news asked.now.keys) }
+        ensures remembers { Remembers self.old.news asked.now → Remembers self.new.news asked.now }
     {
         let begun = now(clock)?;
         for _ in rt.forever() {
             let left = time.saturating_sub(now(clock)?.duration_since(begun));
-            self.poll_for(Some(left))?;
-            self.hear(asked)?;
+            self.poll_once(Some(left), asked)?;
             if self.is_told() {
                 return Ok(false);
             }
@@ -180,13 +188,25 @@ impl Sockets {
 
     // Whether the last poll ends a wait.
     fn is_told(&self) -> bool {
-        has_rung(&self.events) || !self.found.is_empty()
+        has_rung(&self.events) || self.news.has_candidates()
+    }
+
+    // One poll of the system, whose events are kept. The keys of their channels are looked at.
+    fn poll_once(&mut self, timeout: Option<Duration>, asked: &Asked) -> Result<(), PollError>
+        ensures knows { OnOk result (Knows self.old.news asked.now.keys → Knows self.new.news asked.now.keys) }
+        ensures remembers { Remembers self.old.news asked.now → Remembers self.new.news asked.now }
+    {
+        self.poll_for(timeout)?;
+        if hear_all(&mut self.news, &self.events, asked) {
+            Ok(())
+        } else {
+            Err(PollError::Memory)
+        }
     }
 
     // One poll of the system.
     fn poll_for(&mut self, timeout: Option<Duration>) -> Result<(), PollError>
-        ensures news { self.new.news ≡ self.old.news }
-        ensures found { self.new.found ≡ self.old.found }
+        ensures { self.new.news ≡ self.old.news }
     {
         let Some(poll) = &mut self.poll else {
             return Err(PollError::Fault);
@@ -197,33 +217,6 @@ impl Sockets {
                 Ok(())
             }
             Err(_error) => Err(PollError::Fault),
-        }
-    }
-
-    // Keeps the events of the last poll, and finds the keys that are ready by them: by a search for each, or by a walk
-    // where many came or one isn't found.
-    fn hear(&mut self, asked: &Asked) -> Result<(), PollError>
-        requires { AreApart asked.now → AreFound self.old.news asked.now self.old.found.items }
-        ensures { OnOk result (AreApart asked.now → AreFound self.new.news asked.now self.new.found.items) }
-    {
-        if self.events.iter().count() > asked.len() / WALKED {
-            keep_all(&mut self.news, &self.events);
-            return self.walk(asked);
-        }
-        if hear_all(&mut self.news, &self.events, asked, &mut self.found) {
-            Ok(())
-        } else {
-            self.walk(asked)
-        }
-    }
-
-    // Finds the keys that are ready by what is kept.
-    fn walk(&mut self, asked: &Asked) -> Result<(), PollError>
-        ensures { OnOk result (AreFound self.new.news asked.now self.new.found.items) }
-    {
-        match self.news.walk(asked, &mut self.found) {
-            Ok(()) => Ok(()),
-            Err(AllocError) => Err(PollError::Memory),
         }
     }
 
@@ -448,7 +441,7 @@ impl Sockets {
     /// Makes places for the channels below this number.
     pub(crate) fn grow(&mut self, places: usize) -> Result<(), AllocError>
         ensures sockets { OnOk result (places ≤ length self.new.sockets.items) }
-        ensures news { OnOk result (places ≤ length self.new.news) }
+        ensures news { OnOk result (places ≤ length self.new.news.kept) }
         ensures ended { OnOk result (places ≤ length self.new.ended.items) }
     {
         let places = places.max(self.sockets.len());
@@ -509,27 +502,18 @@ fn has_rung(events: &Events) -> bool {
     events.iter().any(|event| event.token() == BELL)
 }
 
-// Keeps what the events tell, and adds the keys that are ready by it to those that were found. Says whether the place
-// of each was known.
-fn hear_all(news: &mut News, events: &Events, asked: &Asked, found: &mut Vec<usize>) -> bool
-    ensures { IsTrue result → AreApart asked.now → AreFound news.old asked.now found.old.items
-        → AreFound news.new asked.now found.new.items }
+// Keeps what the events tell, and looks at the keys of their channels. Says whether there was memory for it.
+fn hear_all(news: &mut News, events: &Events, asked: &Asked) -> bool
+    ensures knows { IsTrue result → Knows news.old asked.now.keys → Knows news.new asked.now.keys }
+    ensures remembers { Remembers news.old asked.now → Remembers news.new asked.now }
 {
-    let mut are_known = true;
+    let mut are_heard = true;
     for event in events {
         if let Some(chan) = channel_of(event) {
-            are_known &= news.hear(asked, chan, told_by(event), found);
+            are_heard &= news.hear(asked, chan, told_by(event));
         }
     }
-    are_known
-}
-
-fn keep_all(news: &mut News, events: &Events) {
-    for event in events {
-        if let Some(chan) = channel_of(event) {
-            news.add(chan, told_by(event));
-        }
-    }
+    are_heard
 }
 
 // The channel of which an event tells; None for the bell's.

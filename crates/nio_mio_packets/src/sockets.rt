@@ -142,11 +142,12 @@ impl Sockets {
         elapsed: bool,
     ) -> Result<Told, AllocError> {
         let mut pairs = Vec::with_capacity(alloc, asked.len())?;
-        for at in 0..asked.len() {
-            let (index, chan, _interest) = asked.entry(at);
-            let bits = kept_of(&self.kept, chan);
-            if bits != Ops::NONE {
-                pairs.push((index, bits))?;
+        for index in 0..asked.bound() {
+            if let Some(key) = asked.key(index) {
+                let bits = kept_of(&self.kept, key.channel);
+                if bits != Ops::NONE {
+                    pairs.push((index, bits))?;
+                }
             }
         }
         Ok(Told { pairs, elapsed })
@@ -343,10 +344,11 @@ fn now<C: Clock>(clock: &C) -> Result<Instant, Failed> {
 
 // Whether a channel is ready for something that is asked of it.
 fn is_any_ready(kept: &[Ops], asked: &Asked) -> bool {
-    for at in 0..asked.len() {
-        let (_index, chan, interest) = asked.entry(at);
-        if kept_of(kept, chan).meet(interest) != Ops::NONE {
-            return true;
+    for index in 0..asked.bound() {
+        if let Some(key) = asked.key(index) {
+            if kept_of(kept, key.channel).meet(key.interest) != Ops::NONE {
+                return true;
+            }
         }
     }
     false

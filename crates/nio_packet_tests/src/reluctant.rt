@@ -56,9 +56,9 @@ impl Poller for Reluctant {
     ) -> Result<Told, PollError>
         ensures cause { CountsFaults Fault 0 0 result }
         ensures ready { IfOk result (λ told. (c : Channel)
-            → ready_of self.new.readiness c ≡ told_of_channel asked.now told.pairs.items c) }
+            → ready_of self.new.readiness c ≡ told_of_channel asked.now.keys told.pairs.items c) }
         ensures unready { OnErr result ((c : Channel) → ready_of self.new.readiness c ≡ 0) }
-        ensures polls { AddsPoll None None asked.now mode result }
+        ensures polls { AddsPoll None None asked.now.keys mode result }
         ensures kept { KeepsPackets self.old.net self.new.net }
     {
         match self.net.poll(rt, alloc, asked, mode) {

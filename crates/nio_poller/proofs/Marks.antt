@@ -1,6 +1,6 @@
 -- What is marked is what a poll told of the key's channel.
 use Rattle.std.proofs.Common.{◌≡◌, ℕ, ◌==◌, Bool, true, false, if◌then◌else◌, ◌⊎◌, inl, inr, Result, Ok, List, []}
-use Rattle.std.specs.Prelude.{None}
+use Rattle.std.specs.Prelude.{Option}
 use Rattle.std.proofs.Common.{◌∷◌, ◌++◌, fold, bit_and, bit_or, refl, ap, sym, ◌∙◌, subst, arith, eq-eqb, eqb-true}
 use Rattle.std.proofs.Common.{IsTrue}
 use Rattle.std.specs.List.{All, Contains}
@@ -164,26 +164,27 @@ again-unmarked selection next poll acts run s i told from there =
     (subst (λ (x : SelNo). has (marks_on x.0) acts ≡ false) (sym on)
     (again_unmarked selection next poll acts run).1) there
 
-begin-unmarked : (s : SelNo) (mode : Mode) (acts : List Act) (answer : Result Selection BeginError)
-    → Begins s mode None acts answer → Unmarked acts
-begin-unmarked s mode acts answer run on i told from there =
-    unmarked_on acts on i told from (begin_unmarked on.0 s mode None acts answer run) there
+begin-unmarked : (s : SelNo) (mode : Mode) (known : Option (List LookedKey)) (acts : List Act)
+    (answer : Result Selection BeginError) → Begins s mode known acts answer → Unmarked acts
+begin-unmarked s mode known acts answer run on i told from there =
+    unmarked_on acts on i told from (begin_unmarked on.0 s mode known acts answer run) there
 
 -- beginning again and again marks no key
-pub begins-unmarked : (s : SelNo) (mode : Mode) (acts : List Act) (answer : Result Selection BeginError)
-    → Retries (Begins s mode None) begin_finds_busy acts answer → Unmarked acts
-begins-unmarked s mode acts answer repeats =
+pub begins-unmarked : (s : SelNo) (mode : Mode) (known : Option (List LookedKey)) (acts : List Act)
+    (answer : Result Selection BeginError)
+    → Retries (Begins s mode known) begin_finds_busy acts answer → Unmarked acts
+begins-unmarked s mode known acts answer repeats =
     subst Unmarked (sym repeats.parts)
     (unmarked_append repeats.before repeats.last.acts
     (subst Unmarked (sym repeats.tries.parts) (each repeats.tries.runs repeats.tries.made))
-    (begin-unmarked s mode repeats.last.acts repeats.last.answer repeats.made))
+    (begin-unmarked s mode known repeats.last.acts repeats.last.answer repeats.made))
   where
     Made : Run (Unit {0}) (Result Selection BeginError) → Type 0
-    Made run = Begins s mode None run.acts run.answer
+    Made run = Begins s mode known run.acts run.answer
 
     each : (runs : List (Run (Unit {0}) (Result Selection BeginError))) → All Made runs → Unmarked (acts_of runs)
     each [] made = unmarked_none
     each (run ∷ later) made =
         unmarked_append run.acts (acts_of later)
-        (begin-unmarked s mode run.acts run.answer (All-head Made run later made))
+        (begin-unmarked s mode known run.acts run.answer (All-head Made run later made))
         (each later (All-tail Made run later made))

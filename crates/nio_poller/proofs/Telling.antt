@@ -15,6 +15,7 @@ use Rattle.nio_history.specs.declared.act.Act.TheVariants.{Mark}
 use Rattle.nio_history.specs.declared.found.Mark.{Mark as KeyMark}
 use Rattle.nio_history.specs.declared.found.Mode.{Mode}
 use Rattle.nio_history.specs.declared.found.Mode.TheVariants.{Now as WithoutWaiting}
+use Rattle.nio_select.specs.InHand.{InHand, HeldList, selection_of}
 use Rattle.nio_select.specs.InProgress.{IfAgain, poll_of}
 use Rattle.nio_select.specs.declared.selecting.After.{After}
 use Rattle.nio_select.specs.declared.selecting.After.TheVariants as after
@@ -22,7 +23,6 @@ use Rattle.nio_select.specs.declared.told.Told.{Told}
 use Rattle.nio_steps.proofs.CallLaws.{call_of_acts, calls_then}
 use Rattle.nio_steps.proofs.EachLaws.{each_run}
 use Rattle.nio_steps.proofs.SelectionLaws.{NoMark, no_marks}
-use Rattle.nio_steps.proofs.UnmarkedLaws.{again_unmarked}
 use Rattle.nio_steps.proofs.WaitingLaws.{tries_none, tries_more, repeats_last}
 use Rattle.nio_steps.specs.Calls.{CallClause}
 use Rattle.nio_steps.specs.Runs.{Completes}
@@ -35,7 +35,9 @@ use Rattle.nio_poller.specs.Polled.{Polled}
 use Rattle.nio_poller.specs.Polls.{AddsPoll, told_of_channel}
 use Rattle.nio_poller.proofs.Marks.{Unmarked, unmarked_none, unmarked_append, unmarked_on, again-unmarked, marks_ready}
 use Rattle.nio_poller.specs.Selecting.{AddsPolls, MarksReady, MarksAllReady, polls_of, told_from}
-use Rattle.nio_poller.specs.Telling.{TellsOne, LeavesIt, PollsClause, poll_mode, told_poll}
+use Rattle.nio_poller.specs.Telling.{TellsOne, LeavesIt, PollsClause, failed_with, poll_mode, told_poll}
+use Rattle.nio_poller.specs.declared.poller.PollError.{PollError}
+use Rattle.nio_poller.specs.declared.poller.PollError.TheVariants as poll_error
 use Rattle.nio_poller.specs.declared.selecting.SelectError.{SelectError}
 use Rattle.nio_poller.specs.declared.selecting.SelectError.TheVariants.{PollFault, Memory}
 
@@ -176,30 +178,29 @@ module _ {me : CallerNo} {selection : Selection} {is_first : Bool} {v0 v1 v2 : P
       → TellsOne me selection (is_first_after so_far.polls) v1 v2 p1 p2 ready a
   next_one a one = subst (λ (first : Bool). TellsOne me selection first v1 v2 p1 p2 ready a) so_far.first_is one
 
-  pub goes_on : (next : Selection) → TellsOne me selection is_first v1 v2 p1 p2 ready (after.Again next)
-      → (next ≡ selection) × SoFar me selection false v0 v2 p0 p2
+  pub goes_on : (next : InHand) → TellsOne me selection is_first v1 v2 p1 p2 ready (after.Again next)
+      → SoFar me selection false v0 v2 p0 p2
   goes_on next found =
-      let one = next_one (after.Again next) found in (
-        (again_unmarked selection next (told_poll (is_first_after so_far.polls) one.poll) _ one.call.shape).0,
-        record {
-          polls = so_far.polls ++ one.poll ∷ [];
-          first_is = first_once so_far.polls one.poll;
-          call = calls_then
-              (λ acts (_ : Unit {0}). TellsSoFar selection (told_from (so_far.polls ++ one.poll ∷ [])) acts) tt
-              (λ xs ys here run.
-              subst (λ (polls : List Poll). TellsSoFar selection polls (xs ++ ys))
-              (told_from-more so_far.polls one.poll)
-              (tells_more selection (told_from so_far.polls) (told_poll (is_first_after so_far.polls) one.poll) next xs
-              ys here run))
-              so_far.call one.call;
-          adds = adds_next p0 p1 p2 selection.looked selection.mode so_far.polls one.poll so_far.adds one.adds;
-        },
-      )
+      let one = next_one (after.Again next) found in
+      record {
+        polls = so_far.polls ++ one.poll ∷ [];
+        first_is = first_once so_far.polls one.poll;
+        call = calls_then
+            (λ acts (_ : Unit {0}). TellsSoFar selection (told_from (so_far.polls ++ one.poll ∷ [])) acts) tt
+            (λ xs ys here run.
+            subst (λ (polls : List Poll). TellsSoFar selection polls (xs ++ ys))
+            (told_from-more so_far.polls one.poll)
+            (tells_more selection (told_from so_far.polls) (told_poll (is_first_after so_far.polls) one.poll)
+            (selection_of next) xs ys here run))
+            so_far.call one.call;
+        adds = adds_next p0 p1 p2 selection.looked selection.mode so_far.polls one.poll so_far.adds one.adds;
+      }
 
-  pub is_over : (answer : Selected) → TellsOne me selection is_first v1 v2 p1 p2 ready (after.Done answer)
+  pub is_over : (answer : Selected) (list : Option HeldList)
+      → TellsOne me selection is_first v1 v2 p1 p2 ready (after.Done answer list)
       → PollsClause me selection v0 v2 p0 p2 ready (Ok answer)
-  is_over answer found =
-      let one = next_one (after.Done answer) found in
+  is_over answer list found =
+      let one = next_one (after.Done answer list) found in
       let told = told_poll (is_first_after so_far.polls) one.poll in
       let polls = so_far.polls ++ one.poll ∷ [] in
       let both : CallClause me (λ acts (r : SelectReply).
@@ -268,5 +269,14 @@ pub leaves_as : {me : CallerNo} {v1 v2 : PassView} {p1 p2 : Option (List Polled)
 leaves_as {me = me} {v1 = v1} {v2 = v2} {p1 = p1} {p2 = p2} selection now same leaves =
     subst (λ (x : Selection). LeavesIt me x v1 v2 p1 p2) same leaves
 
-pub if_again : (P : Selection → Type 0) (a : After) (next : Selection) → a ≡ after.Again next → IfAgain a P → P next
+pub if_again : (P : InHand → Type 0) (a : After) (next : InHand) → a ≡ after.Again next → IfAgain a P → P next
 if_again P a next is here = subst (λ (x : After). IfAgain x P) is here
+
+abbrev failed : SelectError → Result Selected SelectError
+failed found = Err found
+
+-- a poll that has no answer failed, or had no memory
+pub why_left : (error : PollError) (found : SelectError) → found ≡ failed_with error
+    → (failed found ≡ Err PollFault) ⊎ (failed found ≡ Err Memory)
+why_left poll_error.Fault found is = inl (ap Err is)
+why_left poll_error.Memory found is = inr (ap Err is)

@@ -1,12 +1,13 @@
 -- Calls that are made again while another caller is in the way.
 use Rattle.std.proofs.Common.{◌≡◌, true, false, Result, List, [], refl, sym, subst}
-use Rattle.std.specs.Prelude.{None}
+use Rattle.std.specs.Prelude.{Option}
 use Rattle.std.proofs.lemmas.List.{append-nil}
 use Rattle.nio_base.specs.declared.numbers.CallerNo.{CallerNo}
 use Rattle.nio_base.specs.declared.numbers.SelNo.{SelNo}
 use Rattle.nio_history.specs.PassViews.{PassView}
 use Rattle.nio_history.specs.declared.act.Act.{Act}
 use Rattle.nio_history.specs.declared.found.Mode.{Mode}
+use Rattle.nio_select.specs.InHand.{HeldSelector, known_by}
 use Rattle.nio_steps.proofs.CallLaws.{call_as}
 use Rattle.nio_steps.proofs.PinLaws.{pins_are_given_back}
 use Rattle.nio_steps.proofs.WaitingLaws.{TryingClause, try_more, try_last, then_call}
@@ -17,21 +18,30 @@ use Rattle.nio_steps.specs.SelectCalls.{Selection, Begins, begin_finds_busy, Fin
 use Rattle.nio_steps.specs.SelectCalls.{already_closed, shut_plan, try_finish_plan, finish_finds_busy, ClosesSelector}
 use Rattle.nio_steps.specs.SelectCalls.{ClosesRest}
 use Rattle.nio_steps.specs.Waiting.{Retries, Then}
+use Rattle.nio_steps.specs.declared.looked.LookedKey.{LookedKey}
 use Rattle.nio_steps.specs.declared.refusal.BeginError.{BeginError}
 
 -- ---- beginning a selection
 
-pub begin_gives : (s : SelNo) (mode : Mode) → GivesPinsBack (Begins s mode None)
-begin_gives s mode = λ acts answer shape. pins_are_given_back.try_begin s mode None _ acts answer shape
+pub begin_gives : (s : SelNo) (mode : Mode) (known : Option (List LookedKey)) → GivesPinsBack (Begins s mode known)
+begin_gives s mode known = λ acts answer shape. pins_are_given_back.try_begin s mode known _ acts answer shape
 
 pub begin_last : {me : CallerNo} {v0 v1 v2 : PassView} (s : SelNo) (mode : Mode)
-    (found answer : Result Selection BeginError) → found ≡ answer → begin_finds_busy answer ≡ false
-    → TryingClause me (λ (_ : Unit {0}). Begins s mode None) (λ _. begin_finds_busy) v0 v1
-    → CallClause me (Begins s mode None) v1 v2 found
-    → CallClause me (Retries (Begins s mode None) begin_finds_busy) v0 v2 answer
-begin_last {me = me} {v1 = v1} {v2 = v2} s mode found answer is over trying run =
+    (known : Option (List LookedKey)) (found answer : Result Selection BeginError) → found ≡ answer → begin_finds_busy answer ≡ false
+    → TryingClause me (λ (_ : Unit {0}). Begins s mode known) (λ _. begin_finds_busy) v0 v1
+    → CallClause me (Begins s mode known) v1 v2 found
+    → CallClause me (Retries (Begins s mode known) begin_finds_busy) v0 v2 answer
+begin_last {me = me} {v1 = v1} {v2 = v2} s mode known found answer is over trying run =
     try_last tt answer trying
-    (subst (λ (r : Result Selection BeginError). CallClause me (Begins s mode None) v1 v2 r) is run) over
+    (subst (λ (r : Result Selection BeginError). CallClause me (Begins s mode known) v1 v2 r) is run) over
+
+-- a beginning on a selector that is the same
+pub begins_on : {me : CallerNo} {v0 v1 : PassView} (selector found : HeldSelector) (mode : Mode)
+    (answer : Result Selection BeginError) → found ≡ selector
+    → CallClause me (Begins found.number mode (known_by found)) v0 v1 answer
+    → CallClause me (Begins selector.number mode (known_by selector)) v0 v1 answer
+begins_on {me = me} {v0 = v0} {v1 = v1} selector found mode answer same =
+    subst (λ (s : HeldSelector). CallClause me (Begins s.number mode (known_by s)) v0 v1 answer) same
 
 -- ---- finishing a closing
 

@@ -14,6 +14,7 @@ use Rattle.nio_history.specs.declared.found.Mode.{Mode}
 use Rattle.nio_history.specs.declared.found.Mode.TheVariants.{Now as WithoutWaiting}
 use Rattle.nio_history.specs.declared.timeout.NegativeTimeout.{NegativeTimeout as TooLow}
 use Rattle.nio_steps.specs.Calls.{CallClause}
+use Rattle.nio_select.specs.InHand.{HeldSelector, known_by, list_after}
 use Rattle.nio_base.specs.Ops.{is_within}
 use Rattle.nio_steps.specs.SelectCalls.{Selection, Poll, MakesSelection, SelectReply, selected, not_begun, left}
 use Rattle.nio_steps.specs.declared.looked.LookedKey.{LookedKey}
@@ -33,7 +34,7 @@ Answers (not_begun begin_error.Busy) result = ⊥
 Answers (not_begun begin_error.Memory) result = result ≡ Err Memory
 Answers left result = (result ≡ Err PollFault) ⊎ (result ≡ Err Memory)
 
--- the keys that a selection looked at, and none where it didn't begin
+-- the keys that a selection asks for, and none where it didn't begin
 abbrev pub looked_by : Result Selection BeginError → List LookedKey
 looked_by (Ok selection) = selection.looked
 looked_by (Err refusal) = []
@@ -43,7 +44,7 @@ abbrev pub AddsPolls : Option (List Polled) → Option (List Polled) → List Po
 AddsPolls None now polls = now ≡ None
 AddsPolls (Some before) now polls = now ≡ Some (before ++ polls)
 
--- The polls of a selection, by their answers. Each is asked for the keys that the selection looked at. The first
+-- The polls of a selection, by their answers. Each is asked for the keys of the selection. The first
 -- doesn't wait, so that the selection looks at the table before it waits; each further one may wait as the mode says.
 abbrev pub polls_of : List LookedKey → Mode → List Poll → List Polled
 polls_of looked mode [] = []
@@ -69,35 +70,39 @@ abbrev pub MarksAllReady : (ChanNo → ℕ) → List LookedKey → List Act → 
 MarksAllReady ready looked acts = (s : SelNo) (i told : ℕ) (from : KeyMark)
     → Contains acts (MarkKey s i from told (Ok tt)) → MarksReady ready looked i told
 
--- A whole selection of a caller on a pass, before and after, with a poller that shows these polls before and after,
+-- A whole selection of a caller on a pass, before and after, on this selector, with a poller that shows these polls before and after,
 -- and after it that the channels are ready so.
-pub record SelectClause (me : CallerNo) (s : SelNo) (mode : Mode) (old new : PassView)
+pub record SelectClause (me : CallerNo) (mode : Mode) (selector_old selector_new : HeldSelector) (old new : PassView)
     (polls_old polls_new : Option (List Polled)) (ready : ChanNo → ℕ)
     (result : Result Selected SelectError) : Type 0 where
   -- the answers of its polls
   pub polls : List Poll
   -- what the steps reply
   pub reply : SelectReply
-  pub call : CallClause me (MakesSelection s mode None (told_from polls)) old new reply
+  pub call : CallClause me (MakesSelection selector_old.number mode (known_by selector_old) (told_from polls)) old new reply
   pub answers : Answers reply result
   pub adds : AddsPolls polls_old polls_new (polls_of (looked_by call.shape.middle) mode polls)
   pub marks : MarksAllReady ready (looked_by call.shape.middle) (done_between me old new)
+  -- the selector's list, where the caller has it, is what the beginning made of it
+  pub list : selector_new ≡ record selector_old { list = list_after selector_old.list call.shape.middle }
 
 -- nothing was done, and no poll was asked
-pub record IsRefused (old new : PassView) (polls_old polls_new : Option (List Polled))
-    (result : Result Selected SelectError) : Type 0 where
+pub record IsRefused (selector_old selector_new : HeldSelector) (old new : PassView)
+    (polls_old polls_new : Option (List Polled)) (result : Result Selected SelectError) : Type 0 where
   pub same : new ≡ old
+  pub same_list : selector_new ≡ selector_old
   pub unasked : polls_new ≡ polls_old
   pub answer : result ≡ Err NegativeTimeout
 
 -- with this mode, or refused
-abbrev pub TimedBy : Result Mode TooLow → CallerNo → SelNo → PassView → PassView → Option (List Polled)
-    → Option (List Polled) → (ChanNo → ℕ) → Result Selected SelectError → Type 0
-TimedBy (Ok mode) me s old new polls_old polls_new ready result =
-    SelectClause me s mode old new polls_old polls_new ready result
-TimedBy (Err too_low) me s old new polls_old polls_new ready result = IsRefused old new polls_old polls_new result
+abbrev pub TimedBy : Result Mode TooLow → CallerNo → HeldSelector → HeldSelector → PassView → PassView
+    → Option (List Polled) → Option (List Polled) → (ChanNo → ℕ) → Result Selected SelectError → Type 0
+TimedBy (Ok mode) me selector_old selector_new old new polls_old polls_new ready result =
+    SelectClause me mode selector_old selector_new old new polls_old polls_new ready result
+TimedBy (Err too_low) me selector_old selector_new old new polls_old polls_new ready result =
+    IsRefused selector_old selector_new old new polls_old polls_new result
 
 -- a whole selection for so many milliseconds
-abbrev pub TimedClause : CallerNo → SelNo → ℤ → PassView → PassView → Option (List Polled) → Option (List Polled)
-    → (ChanNo → ℕ) → Result Selected SelectError → Type 0
-TimedClause me s ms = TimedBy (mode_for ms) me s
+abbrev pub TimedClause : CallerNo → ℤ → HeldSelector → HeldSelector → PassView → PassView → Option (List Polled)
+    → Option (List Polled) → (ChanNo → ℕ) → Result Selected SelectError → Type 0
+TimedClause me ms = TimedBy (mode_for ms) me

@@ -15,6 +15,10 @@ use Rattle.nio_poller.specs.Polled.{Polled}
 use Rattle.nio_poller.specs.Polls.{told_of_channel}
 use Rattle.nio_poller.specs.Selecting.{Answers, AddsPolls, MarksAllReady, polls_of, told_from}
 use Rattle.nio_poller.specs.declared.poller.PollError.{PollError}
+use Rattle.nio_poller.specs.declared.poller.PollError.TheVariants as poll_error
+use Rattle.nio_poller.specs.declared.poller.PollError.TheVariants.{Fault}
+use Rattle.nio_poller.specs.declared.selecting.Left.{Left}
+use Rattle.nio_poller.specs.declared.selecting.SelectError.TheVariants.{PollFault, Memory}
 use Rattle.nio_poller.specs.declared.selecting.SelectError.{SelectError}
 
 -- how long a poll may wait
@@ -42,11 +46,21 @@ pub record LeavesIt (me : CallerNo) (selection : Selection) (old new : PassView)
   pub adds : AddsPolls polls_old polls_new []
 
 abbrev pub PollsOnce : CallerNo → Selection → (is_first : Bool) → PassView → PassView → Option (List Polled)
-    → Option (List Polled) → (ChanNo → ℕ) → Result After PollError → Type 0
+    → Option (List Polled) → (ChanNo → ℕ) → Result After Left → Type 0
 PollsOnce me selection is_first old new polls_old polls_new ready (Ok after) =
     TellsOne me selection is_first old new polls_old polls_new ready after
-PollsOnce me selection is_first old new polls_old polls_new ready (Err error) =
+PollsOnce me selection is_first old new polls_old polls_new ready (Err it) =
     LeavesIt me selection old new polls_old polls_new
+
+-- why the poll has no answer
+abbrev pub error_in : Result After Left → Result After PollError
+error_in (Ok after) = Ok after
+error_in (Err it) = Err it.error
+
+-- why the selection has no answer, where a poll has none
+abbrev pub failed_with : PollError → SelectError
+failed_with Fault = PollFault
+failed_with poll_error.Memory = Memory
 
 -- the selection was told of these answers of its polls, and is over or was left
 pub record PollsClause (me : CallerNo) (selection : Selection) (old new : PassView)

@@ -49,9 +49,9 @@ pub trait Poller {
     ) -> Result<Told, PollError>
         ensures cause { CountsFaults Fault (poll_faults self.old) (poll_faults self.new) result }
         ensures ready { IfOk result (λ told. (c : ChanNo) → ready self.new c
-            ≡ told_of_channel asked.now told.pairs.items c) }
+            ≡ told_of_channel asked.now.keys told.pairs.items c) }
         ensures unready { OnErr result ((c : ChanNo) → ready self.new c ≡ 0) }
-        ensures polls { AddsPoll (polls self.old) (polls self.new) asked.now mode result }
+        ensures polls { AddsPoll (polls self.old) (polls self.new) asked.now.keys mode result }
         ensures kept { kept self.old self.new };
 
     ghost kept_same: { (x : Self) → kept x x };

@@ -102,14 +102,14 @@ impl Poller for Scripted {
         // As every poller.
         ensures cause { CountsFaults Fault self.old.calls.faults self.new.calls.faults result }
         ensures ready { IfOk result (λ told. (c : ChanNo) → told_last self.new c
-            ≡ told_of_channel asked.now told.pairs.items c) }
+            ≡ told_of_channel asked.now.keys told.pairs.items c) }
         ensures unready { OnErr result ((c : ChanNo) → told_last self.new c ≡ 0) }
-        ensures polls { AddsPoll (Some self.old.polls) (Some self.new.polls) asked.now mode result }
+        ensures polls { AddsPoll (Some self.old.polls) (Some self.new.polls) asked.now.keys mode result }
 
         // By its answers and the failures that it was made with.
         ensures fails { IsErr result ↔ FailsNext self.old.calls }
         ensures answer { IfOk result (λ told. poll_of told ≡ next_answer self.old.answers) }
-        ensures ok { IfOk result (λ _. self.new ≡ after_poll self.old asked.now mode) }
+        ensures ok { IfOk result (λ _. self.new ≡ after_poll self.old asked.now.keys mode) }
         ensures err { OnErr result (self.new
             ≡ record self.old { calls = after_failure self.old.calls; failed = true }) }
     {

@@ -1,9 +1,10 @@
 //! Whole selections.
-ghost use Rattle.std.specs.Prelude.{◌≡◌, ◌≢◌, None, Err, Ok, IfOk, OnErr};
+ghost use Rattle.std.specs.Prelude.{◌≡◌, ◌≢◌, None, Err, Ok, IfOk, IfErr, IfSome, OnErr};
 ghost use Rattle.nio_base.specs.declared.numbers.ChanNo.{ChanNo};
-ghost use Rattle.nio_history.specs.PassViews.{HasSelector};
 ghost use Rattle.nio_history.specs.declared.found.Mode.TheVariants as mode;
-ghost use Rattle.nio_select.specs.InProgress.{Selects, IfAgain};
+ghost use Rattle.nio_select.specs.InHand.{known_by, list_of, selection_of, TakesOnList};
+ghost use Rattle.nio_select.specs.InProgress.{GivesBack, HasList, IfAgain, IfDone, MaySelect, Selects};
+ghost use Rattle.nio_select.specs.Listed.{ok_seen};
 ghost use Rattle.nio_steps.specs.Calls.{CallClause};
 ghost use Rattle.nio_steps.specs.SelectCalls.{Begins, begin_finds_busy};
 ghost use Rattle.nio_steps.specs.Waiting.{Retries};
@@ -12,14 +13,14 @@ ghost use Rattle.nio_words.specs.Passes.{IsReady};
 ghost use Rattle.nio_words.specs.Views.{view};
 ghost use Rattle.nio_poller.specs.Polls.{CountsFaults};
 ghost use Rattle.nio_poller.specs.Selecting.{SelectClause, TimedClause};
-ghost use Rattle.nio_poller.specs.Telling.{PollsOnce, PollsClause};
+ghost use Rattle.nio_poller.specs.Telling.{PollsOnce, PollsClause, error_in, failed_with};
 ghost use Rattle.nio_poller.specs.declared.poller.PollError.TheVariants.{Fault};
 ghost use Rattle.nio_poller.specs.declared.selecting.SelectError.TheVariants as select_error;
 
 use crate::poller::{PollError, Poller};
-use nio_base::{CallerNo, SelNo};
+use nio_base::CallerNo;
 use nio_history::{Mode, NegativeTimeout};
-use nio_select::{After, Selecting, Told, try_begin};
+use nio_select::{After, KeyList, Selecting, Selector, Told};
 use nio_steps::{BeginError, Selected};
 use nio_words::{Pass, Words};
 use std::alloc::Global;
@@ -56,20 +57,21 @@ pub fn select<R: Wait, P: Poller>(
     w: &Words,
     p: &mut Pass,
     me: CallerNo,
-    sel: SelNo,
+    selector: &mut Selector,
     poller: &mut P,
 ) -> Result<Selected, SelectError>
     requires ready { IsReady w.now p.old me }
-    requires selector { HasSelector (view w.now p.old) sel }
-    ensures call { SelectClause me sel mode.Wait
+    requires may { MaySelect (view w.now p.old) me selector.old }
+    ensures call { SelectClause me mode.Wait selector.old selector.new
         (view w.now p.old) (view w.now p.new) (P.polls poller.old) (P.polls poller.new) (P.ready poller.new) result }
     ensures cause { CountsFaults select_error.PollFault (P.poll_faults poller.old) (P.poll_faults poller.new) result }
     ensures unready { result ≡ Err select_error.PollFault → (c : ChanNo) → P.ready poller.new c ≡ 0 }
     ensures kept { P.kept poller.old poller.new }
     ensures unasked { result ≡ Err select_error.ClosedSelector → poller.new ≡ poller.old }
     ensures ready { IsReady w.now p.new me }
+    ensures may { MaySelect (view w.now p.new) me selector.new }
 {
-    select_in(rt, alloc, w, p, me, sel, poller, Mode::Wait)
+    select_in(rt, alloc, w, p, me, selector, poller, Mode::Wait)
 }
 
 /// Selects without waiting: Java's `selectNow`. While a selection is in progress there it waits for that one first, as
@@ -80,20 +82,21 @@ pub fn select_now<R: Wait, P: Poller>(
     w: &Words,
     p: &mut Pass,
     me: CallerNo,
-    sel: SelNo,
+    selector: &mut Selector,
     poller: &mut P,
 ) -> Result<Selected, SelectError>
     requires ready { IsReady w.now p.old me }
-    requires selector { HasSelector (view w.now p.old) sel }
-    ensures call { SelectClause me sel mode.Now
+    requires may { MaySelect (view w.now p.old) me selector.old }
+    ensures call { SelectClause me mode.Now selector.old selector.new
         (view w.now p.old) (view w.now p.new) (P.polls poller.old) (P.polls poller.new) (P.ready poller.new) result }
     ensures cause { CountsFaults select_error.PollFault (P.poll_faults poller.old) (P.poll_faults poller.new) result }
     ensures unready { result ≡ Err select_error.PollFault → (c : ChanNo) → P.ready poller.new c ≡ 0 }
     ensures kept { P.kept poller.old poller.new }
     ensures unasked { result ≡ Err select_error.ClosedSelector → poller.new ≡ poller.old }
     ensures ready { IsReady w.now p.new me }
+    ensures may { MaySelect (view w.now p.new) me selector.new }
 {
-    select_in(rt, alloc, w, p, me, sel, poller, Mode::Now)
+    select_in(rt, alloc, w, p, me, selector, poller, Mode::Now)
 }
 
 /// The same as `select`, for at most `ms` milliseconds; 0 waits without limit: Java's `select(long)`. Each poll of the
@@ -106,13 +109,13 @@ pub fn select_for<R: Wait, P: Poller>(
     w: &Words,
     p: &mut Pass,
     me: CallerNo,
-    sel: SelNo,
+    selector: &mut Selector,
     poller: &mut P,
     ms: i64,
 ) -> Result<Selected, SelectError>
     requires ready { IsReady w.now p.old me }
-    requires selector { HasSelector (view w.now p.old) sel }
-    ensures call { TimedClause me sel ms
+    requires may { MaySelect (view w.now p.old) me selector.old }
+    ensures call { TimedClause me ms selector.old selector.new
         (view w.now p.old) (view w.now p.new) (P.polls poller.old) (P.polls poller.new) (P.ready poller.new) result }
     ensures cause { CountsFaults select_error.PollFault (P.poll_faults poller.old) (P.poll_faults poller.new) result }
     ensures unready { result ≡ Err select_error.PollFault → (c : ChanNo) → P.ready poller.new c ≡ 0 }
@@ -120,9 +123,10 @@ pub fn select_for<R: Wait, P: Poller>(
     ensures unasked { result ≡ Err select_error.ClosedSelector → poller.new ≡ poller.old }
     ensures refused { result ≡ Err select_error.NegativeTimeout → poller.new ≡ poller.old }
     ensures ready { IsReady w.now p.new me }
+    ensures may { MaySelect (view w.now p.new) me selector.new }
 {
     match Mode::waiting(ms) {
-        Ok(mode) => select_in(rt, alloc, w, p, me, sel, poller, mode),
+        Ok(mode) => select_in(rt, alloc, w, p, me, selector, poller, mode),
         Err(NegativeTimeout) => Err(SelectError::NegativeTimeout),
     }
 }
@@ -133,13 +137,13 @@ fn select_in<R: Wait, P: Poller>(
     w: &Words,
     p: &mut Pass,
     me: CallerNo,
-    sel: SelNo,
+    selector: &mut Selector,
     poller: &mut P,
     mode: Mode,
 ) -> Result<Selected, SelectError>
     requires ready { IsReady w.now p.old me }
-    requires selector { HasSelector (view w.now p.old) sel }
-    ensures call { SelectClause me sel mode
+    requires may { MaySelect (view w.now p.old) me selector.old }
+    ensures call { SelectClause me mode selector.old selector.new
         (view w.now p.old) (view w.now p.new) (P.polls poller.old) (P.polls poller.new) (P.ready poller.new) result }
     ensures cause { CountsFaults select_error.PollFault (P.poll_faults poller.old) (P.poll_faults poller.new) result }
     ensures unready { result ≡ Err select_error.PollFault → (c : ChanNo) → P.ready poller.new c ≡ 0 }
@@ -147,9 +151,14 @@ fn select_in<R: Wait, P: Poller>(
     ensures unasked { result ≡ Err select_error.ClosedSelector → poller.new ≡ poller.old }
     ensures not_refused { result ≢ Err select_error.NegativeTimeout }
     ensures ready { IsReady w.now p.new me }
+    ensures may { MaySelect (view w.now p.new) me selector.new }
 {
-    match begin(rt, alloc, w, p, me, sel, mode) {
-        Ok(selection) => poll_until_over(rt, alloc, w, p, me, selection, poller),
+    match begin(rt, alloc, w, p, me, selector, mode) {
+        Ok(selection) => {
+            let (ended, list) = poll_until_over(rt, alloc, w, p, me, selection, poller);
+            selector.give_back(list);
+            ended
+        }
         Err(BeginError::ClosedSelector) => Err(SelectError::ClosedSelector),
         Err(BeginError::Memory) => Err(SelectError::Memory),
         Err(BeginError::Busy) => unreachable!(),
@@ -163,19 +172,23 @@ fn begin<R: Wait>(
     w: &Words,
     p: &mut Pass,
     me: CallerNo,
-    sel: SelNo,
+    selector: &mut Selector,
     mode: Mode,
 ) -> Result<Selecting, BeginError>
     requires ready { IsReady w.now p.old me }
-    requires selector { HasSelector (view w.now p.old) sel }
-    ensures call { CallClause me (Retries (Begins sel mode None) begin_finds_busy)
-        (view w.now p.old) (view w.now p.new) result }
+    requires may { MaySelect (view w.now p.old) me selector.old }
+    ensures call { CallClause me (Retries (Begins selector.old.number mode (known_by selector.old)) begin_finds_busy)
+        (view w.now p.old) (view w.now p.new) (ok_seen selection_of result) }
     ensures ready { IsReady w.now p.new me }
-    ensures begun { IfOk result (Selects (view w.now p.new) me) }
+    ensures begun { IfOk result (λ s. Selects (view w.now p.new) me (selection_of s)) }
+    ensures lent { IfOk result (λ s. (selector.new ≡ record selector.old { list = None })
+        × TakesOnList selector.old s) }
+    ensures refused { IfErr result (λ _. (selector.new ≡ selector.old)
+        × MaySelect (view w.now p.new) me selector.new) }
     ensures waits { result ≢ Err Busy }
 {
     for _ in rt.forever() {
-        match try_begin(alloc, w, p, me, sel, mode) {
+        match selector.begin(alloc, w, p, me, mode) {
             Ok(selection) => return Ok(selection),
             Err(BeginError::Busy) => thread::yield_now(),
             Err(BeginError::ClosedSelector) => return Err(BeginError::ClosedSelector),
@@ -187,7 +200,7 @@ fn begin<R: Wait>(
 
 // Polls, and tells the selection what the poller answered, until it is over. The first poll doesn't wait: a wakeup or
 // an interrupt may be pending whose ring ended an earlier poll, and the selection finds it before a poll waits. Where a
-// poll has no answer the selection is left.
+// poll has no answer the selection is left. The selector's list comes back, where the selection went by it.
 fn poll_until_over<R: Wait, P: Poller>(
     rt: &R,
     alloc: Global,
@@ -196,17 +209,19 @@ fn poll_until_over<R: Wait, P: Poller>(
     me: CallerNo,
     selection: Selecting,
     poller: &mut P,
-) -> Result<Selected, SelectError>
+) -> (Result<Selected, SelectError>, Option<KeyList>)
     requires ready { IsReady w.now p.old me }
-    requires begun { Selects (view w.now p.old) me selection }
-    ensures call { PollsClause me selection
-        (view w.now p.old) (view w.now p.new) (P.polls poller.old) (P.polls poller.new) (P.ready poller.new) result }
-    ensures cause { CountsFaults select_error.PollFault (P.poll_faults poller.old) (P.poll_faults poller.new) result }
-    ensures unready { result ≡ Err select_error.PollFault → (c : ChanNo) → P.ready poller.new c ≡ 0 }
+    requires begun { Selects (view w.now p.old) me (selection_of selection) }
+    ensures call { PollsClause me (selection_of selection)
+        (view w.now p.old) (view w.now p.new) (P.polls poller.old) (P.polls poller.new) (P.ready poller.new) result.0 }
+    ensures cause { CountsFaults select_error.PollFault (P.poll_faults poller.old) (P.poll_faults poller.new) result.0 }
+    ensures unready { result.0 ≡ Err select_error.PollFault → (c : ChanNo) → P.ready poller.new c ≡ 0 }
     ensures kept { P.kept poller.old poller.new }
-    ensures not_closed { result ≢ Err select_error.ClosedSelector }
-    ensures not_refused { result ≢ Err select_error.NegativeTimeout }
+    ensures not_closed { result.0 ≢ Err select_error.ClosedSelector }
+    ensures not_refused { result.0 ≢ Err select_error.NegativeTimeout }
     ensures ready { IsReady w.now p.new me }
+    ensures list { result.1 ≡ list_of selection }
+    ensures had { IfSome result.1 (HasList (view w.now p.new) me) }
 {
     let mut selection = selection;
     let mut is_first = true;
@@ -216,12 +231,28 @@ fn poll_until_over<R: Wait, P: Poller>(
                 selection = next;
                 is_first = false;
             }
-            Ok(After::Done(answer)) => return Ok(answer),
-            Err(PollError::Fault) => return Err(SelectError::PollFault),
-            Err(PollError::Memory) => return Err(SelectError::Memory),
+            Ok(After::Done(answer, list)) => return (Ok(answer), list),
+            Err(Left { error, list }) => return (Err(error_of(error)), list),
         }
     }
     unreachable!()
+}
+
+// Why the selection has no answer, where a poll has none.
+fn error_of(error: PollError) -> SelectError
+    ensures { result ≡ failed_with error }
+{
+    match error {
+        PollError::Fault => SelectError::PollFault,
+        PollError::Memory => SelectError::Memory,
+    }
+}
+
+/// A poll had no answer, and its selection was left.
+#[derive(Drop)]
+struct Left {
+    error: PollError,
+    list: Option<KeyList>,
 }
 
 fn poll_once<R: Wait, P: Poller>(
@@ -233,16 +264,19 @@ fn poll_once<R: Wait, P: Poller>(
     selection: Selecting,
     poller: &mut P,
     is_first: bool,
-) -> Result<After, PollError>
+) -> Result<After, Left>
     requires ready { IsReady w.now p.old me }
-    requires begun { Selects (view w.now p.old) me selection }
-    ensures call { PollsOnce me selection is_first
+    requires begun { Selects (view w.now p.old) me (selection_of selection) }
+    ensures call { PollsOnce me (selection_of selection) is_first
         (view w.now p.old) (view w.now p.new) (P.polls poller.old) (P.polls poller.new) (P.ready poller.new) result }
-    ensures cause { CountsFaults Fault (P.poll_faults poller.old) (P.poll_faults poller.new) result }
+    ensures cause { CountsFaults Fault (P.poll_faults poller.old) (P.poll_faults poller.new) (error_in result) }
     ensures unready { OnErr result ((c : ChanNo) → P.ready poller.new c ≡ 0) }
     ensures kept { P.kept poller.old poller.new }
     ensures ready { IsReady w.now p.new me }
-    ensures goes_on { IfOk result (λ after. IfAgain after (Selects (view w.now p.new) me)) }
+    ensures goes_on { IfOk result (λ after. IfAgain after (λ s. (s ≡ selection)
+        × Selects (view w.now p.new) me (selection_of s))) }
+    ensures done { IfOk result (λ after. IfDone after (GivesBack (view w.now p.new) me selection)) }
+    ensures left { IfErr result (λ left. GivesBack (view w.now p.new) me selection left.list) }
 {
     let mode = if is_first {
         Mode::Now
@@ -257,9 +291,9 @@ fn poll_once<R: Wait, P: Poller>(
             };
             Ok(selection.told(w, p, me, &told))
         }
-        Err(error) => {
-            selection.leave(w, p, me);
-            Err(error)
-        }
+        Err(error) => Err(Left {
+            error,
+            list: selection.leave(w, p, me),
+        }),
     }
 }

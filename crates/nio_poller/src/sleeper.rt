@@ -57,7 +57,7 @@ impl Poller for Sleeper {
     ) -> Result<Told, PollError>
         // As every poller.
         ensures cause { CountsFaults Fault 0 0 result }
-        ensures ready { IfOk result (λ told. (c : ChanNo) → 0 ≡ told_of_channel asked.now told.pairs.items c) }
+        ensures ready { IfOk result (λ told. (c : ChanNo) → 0 ≡ told_of_channel asked.now.keys told.pairs.items c) }
 
         // It always answers: nothing, and that the time is over where it may not wait without limit.
         ensures answers { IsOk result }

@@ -19,7 +19,7 @@ impl Model for ToldPoll {
 
     ghost Value = { Polled };
 
-    ghost view = { λ t. record { asked = t.asked; mode = t.mode; answer = poll_of t.told } };
+    ghost view = { λ t. record { asked = t.asked.keys; mode = t.mode; answer = poll_of t.told } };
 }
 
 impl ToldPoll {
@@ -29,7 +29,7 @@ impl ToldPoll {
     /// Adds a poll that answered to the list.
     pub fn add_to(polls: &mut Trace<ToldPoll>, asked: &Asked, mode: Mode, told: &Told)
         ensures { polls.new
-            ≡ polls.old ++ record { asked = asked.now; mode = mode; answer = poll_of told.now } ∷ [] }
+            ≡ polls.old ++ record { asked = asked.now.keys; mode = mode; answer = poll_of told.now } ∷ [] }
     {
         polls.extend_from::<Answer, OnePoll>(&Answer { asked, mode, told });
     }
@@ -50,7 +50,7 @@ impl<'a> Reading<Answer<'a>, ToldPoll> for OnePoll {
     ghost use Rattle.nio_select.specs.InProgress.{poll_of};
 
     ghost items = { λ answer. record {
-      asked = answer.asked.now;
+      asked = answer.asked.now.keys;
       mode = answer.mode;
       answer = poll_of answer.told.now;
     } ∷ [] };

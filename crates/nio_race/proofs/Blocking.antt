@@ -28,6 +28,7 @@ use Rattle.nio_race.proofs.Standing.{stands_made}
 use Rattle.nio_race.specs.Quiet.{AreStillUntold, AreUntold}
 use Rattle.nio_race.specs.Racers.{BlocksOn, LooksAndBlocksOn, StandsFor}
 use Rattle.nio_race.specs.Runs.{Blocks, LooksAndBlocks, TellsNothing}
+use Rattle.nio_select.specs.InHand.{HeldSelector}
 use Rattle.nio_serial.specs.Documented.{Progress}
 use Rattle.nio_serial.specs.Left.{IsOngoing}
 use Rattle.nio_serial.specs.Lines.{if_own, with_selection}
@@ -50,14 +51,30 @@ use Rattle.nio_words.specs.Passes.{IsReady, acts_seen, limits_of}
 use Rattle.nio_words.specs.Views.{view}
 use Rattle.nio_words.specs.declared.words.Words.{Words}
 
+-- ---- a selection without the selector's list
+
+abbrev pub without_list : SelNo → HeldSelector
+without_list s = record { number = s; list = None }
+
+pub without_its_list : {me : CallerNo} {s : SelNo} {old new : HeldSelector} {v0 v1 : PassView}
+    {before after : Option (List Polled)} {result result' : Result Selected SelectError}
+    → old ≡ without_list s → result ≡ result'
+    → SelectClause me Wait old new v0 v1 before after (λ _. 0) result
+    → SelectClause me Wait (without_list s) new v0 v1 before after (λ _. 0) result'
+without_its_list {me} {s} {old} {new} {v0} {v1} {before} {after} {result} {result'} is same clause =
+    subst
+    (λ (selector : HeldSelector). SelectClause me Wait selector new v0 v1 before after (λ _. 0) result') is
+    (subst (λ (r : Result Selected SelectError). SelectClause me Wait old new v0 v1 before after (λ _. 0) r) same
+    clause)
+
 -- ---- a poller that tells nothing
 
 and_none : (n : ℕ) → bit_and n 0 ≡ 0
 and_none n = same_from_bits (bit_and n 0) 0 (λ i. simp (bit_at_and) (omega arith))
 
 -- where no channel is ready no mark succeeds
-unmarked : {before after : List Polled} {me : CallerNo} {s : SelNo} {v0 v1 : PassView}
-    {result : Result Selected SelectError} → SelectClause me s Wait v0 v1 (Some before) (Some after) (λ _. 0) result
+unmarked : {before after : List Polled} {me : CallerNo} {s : SelNo} {selector : HeldSelector} {v0 v1 : PassView}
+    {result : Result Selected SelectError} → SelectClause me Wait (without_list s) selector v0 v1 (Some before) (Some after) (λ _. 0) result
     → (x : SelNo) (i told : ℕ) (from : KeyMark) → Contains (done_between me v0 v1) (Mark x i from told (Ok tt)) → ⊥
 unmarked clause x i told from there =
     let ready = clause.marks x i told from there in
@@ -80,9 +97,9 @@ untold_from looked (first ∷ later) each =
     (all_of_map P (polled looked) later (All-tail P at_once (map (polled looked) later) each))
 
 -- the same of a poller that told nothing before the selection
-untold : {before after : List Polled} {me : CallerNo} {s : SelNo} {v0 v1 : PassView}
+untold : {before after : List Polled} {me : CallerNo} {s : SelNo} {selector : HeldSelector} {v0 v1 : PassView}
     {result : Result Selected SelectError}
-    (clause : SelectClause me s Wait v0 v1 (Some before) (Some after) (λ _. 0) result)
+    (clause : SelectClause me Wait (without_list s) selector v0 v1 (Some before) (Some after) (λ _. 0) result)
     → before ≡ [] → AreStillUntold before after → All TellsNothing (told_from clause.polls)
 untold {before} {after} clause none still =
     let polls = polls_of (looked_by clause.call.shape.middle) Wait clause.polls in
@@ -109,8 +126,8 @@ said_closed left is = ⊎_elim (λ fault. absurd (cc fault)) (λ memory. absurd 
 module _ (w : Words) (d d' : Desk) (me : CallerNo) (s : SelNo) {before after : List Polled} (none : before ≡ [])
     (still : AreStillUntold before after) where
   -- the selection answered
-  pub blocks_selected : (x : Selected)
-      → SelectClause me s Wait (view w d.pass) (view w d'.pass) (Some before) (Some after) (λ _. 0) (Ok x)
+  pub blocks_selected : {selector : HeldSelector} (x : Selected)
+      → SelectClause me Wait (without_list s) selector (view w d.pass) (view w d'.pass) (Some before) (Some after) (λ _. 0) (Ok x)
       → progress_of d' ≡ with_selection (progress_of d) s None
       → BlocksOn w d d' me s (reply.Selected x.count x.why)
   blocks_selected x clause leaves =
@@ -138,7 +155,7 @@ module _ (w : Words) (d d' : Desk) (me : CallerNo) (s : SelNo) {before after : L
       }
 
   -- the selector is closed
-  pub blocks_closed : SelectClause me s Wait (view w d.pass) (view w d'.pass) (Some before) (Some after) (λ _. 0)
+  pub blocks_closed : {selector : HeldSelector} → SelectClause me Wait (without_list s) selector (view w d.pass) (view w d'.pass) (Some before) (Some after) (λ _. 0)
       (Err select_error.ClosedSelector) → progress_of d' ≡ progress_of d
       → BlocksOn w d d' me s reply.ClosedSelector
   blocks_closed clause leaves =
@@ -229,9 +246,9 @@ module _ (w : Words) (d d' : Desk) (me : CallerNo) (stands : StandsFor w d me) w
       by_place k false = m.ongoing.selection k
 
   -- after a selection that answered
-  pub stands_selected : {before after : List Polled} (s : SelNo) (x : Selected) → IsReady w d'.pass me → HasPlaces w d'
+  pub stands_selected : {before after : List Polled} {selector : HeldSelector} (s : SelNo) (x : Selected) → IsReady w d'.pass me → HasPlaces w d'
       → progress_of d' ≡ with_selection (progress_of d) s None
-      → SelectClause me s Wait (view w d.pass) (view w d'.pass) (Some before) (Some after) (λ _. 0) (Ok x)
+      → SelectClause me Wait (without_list s) selector (view w d.pass) (view w d'.pass) (Some before) (Some after) (λ _. 0) (Ok x)
       → StandsFor w d' me
   stands_selected s x ready places leaves clause =
       stands_made w d' me stands.caller ready places
@@ -249,9 +266,9 @@ module _ (w : Words) (d d' : Desk) (me : CallerNo) (stands : StandsFor w d me) w
       clause.call.shape) tt (put_own s s m)))))
 
   -- after one that found the selector closed
-  pub stands_closed : {before after : List Polled} (s : SelNo) → IsReady w d'.pass me → HasPlaces w d'
+  pub stands_closed : {before after : List Polled} {selector : HeldSelector} (s : SelNo) → IsReady w d'.pass me → HasPlaces w d'
       → progress_of d' ≡ progress_of d
-      → SelectClause me s Wait (view w d.pass) (view w d'.pass) (Some before) (Some after) (λ _. 0)
+      → SelectClause me Wait (without_list s) selector (view w d.pass) (view w d'.pass) (Some before) (Some after) (λ _. 0)
       (Err select_error.ClosedSelector) → StandsFor w d' me
   stands_closed s ready places same clause =
       stands_made w d' me stands.caller ready places

@@ -11,6 +11,7 @@ use nio_base::{CallerNo, SelNo};
 use nio_keys::find_selector;
 use nio_language::Reply;
 use nio_poller::{SelectError, Sleeper, select};
+use nio_select::Selector;
 use nio_sole::{Desk, drop_selection};
 use nio_words::Words;
 use std::alloc::{AllocError, Global};
@@ -38,7 +39,7 @@ pub(crate) fn block_line<R: Wait>(
     }
 }
 
-// Selects, once the selector was found.
+// Selects without the selector's list, once the selector was found.
 fn block_on<R: Wait>(
     rt: &R,
     alloc: Global,
@@ -55,8 +56,9 @@ fn block_on<R: Wait>(
     ensures pass { IsPassOf w.now d.new.pass }
     ensures later { IsPrefix (seen d.old.pass) (seen d.new.pass) }
 {
+    let mut selector = Selector::without_list(sel);
     let mut poller = Quiet::over(sleeper);
-    match select(rt, alloc, w, &mut d.pass, me, sel, &mut poller) {
+    match select(rt, alloc, w, &mut d.pass, me, &mut selector, &mut poller) {
         Ok(selected) => {
             drop_selection(&mut d.selections, sel);
             Ok(Reply::Selected(selected.count, selected.why))

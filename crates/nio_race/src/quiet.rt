@@ -53,9 +53,9 @@ impl<'a> Poller for Quiet<'a> {
         mode: Mode,
     ) -> Result<Told, PollError>
         ensures cause { CountsFaults Fault 0 0 result }
-        ensures ready { IfOk result (λ told. (c : ChanNo) → 0 ≡ told_of_channel asked.now told.pairs.items c) }
+        ensures ready { IfOk result (λ told. (c : ChanNo) → 0 ≡ told_of_channel asked.now.keys told.pairs.items c) }
         ensures unready { OnErr result ((_ : ChanNo) → ◌≡◌ {A = ℕ} 0 0) }
-        ensures polls { AddsPoll (Some self.old.polls) (Some self.new.polls) asked.now mode result }
+        ensures polls { AddsPoll (Some self.old.polls) (Some self.new.polls) asked.now.keys mode result }
         ensures kept { AreStillUntold self.old.polls self.new.polls }
     {
         let told = self.sleeper.poll(rt, alloc, asked, mode)?;

@@ -223,21 +223,16 @@ seated_idle w p q given n s is hands made =
       selector = selector_same w p given s hands.sees.given_sight made;
     }
 
-pub seat_is : (w : Words) (number : ℕ) (deal : Deal) (given : Pass) (s : SelNo) (board : BoardView)
-    (acts : List Act) → board ≡ record {
-      words = w;
-      pass = given;
-      caller = caller number;
-      selector = s;
-      deal = Some deal;
-      registered = 0;
-    } → Completes (find_selector_plan (limits_of w) number) acts (Some s) → IsSeat w number deal 0 board
-seat_is w number deal given s board acts is run = record {
-  words = ap (λ (b : BoardView). b.words) is;
-  caller_is = ap (λ (b : BoardView). b.caller) is;
-  selector_is = ap (λ (b : BoardView). b.selector) is ∙ selector_found (limits_of w) number acts s run;
-  deal_is = ap (λ (b : BoardView). b.deal) is;
-  registered_is = ap (λ (b : BoardView). b.registered) is;
+pub seat_is : (w : Words) (number : ℕ) (deal : Deal) (s : SelNo) (board : BoardView) (acts : List Act)
+    → board.words ≡ w → board.caller ≡ caller number → board.selector ≡ s → board.deal ≡ Some deal
+    → board.registered ≡ 0 → Completes (find_selector_plan (limits_of w) number) acts (Some s)
+    → IsSeat w number deal 0 board
+seat_is w number deal s board acts words_are caller_is selector_is deal_is none run = record {
+  words = words_are;
+  caller_is = caller_is;
+  selector_is = selector_is ∙ selector_found (limits_of w) number acts s run;
+  deal_is = deal_is;
+  registered_is = none;
 }
 
 -- ---- a seat is left

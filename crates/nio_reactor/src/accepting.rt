@@ -282,7 +282,7 @@ fn accept_seated<R: Wait, N: Passable, B: Bell>(
     ensures leaves { LeavesAcceptor (meanings N.link N.place N.faults N.poll_faults) plan net.old net.new }
     ensures seat { LeavesSeat words.now 0 acceptor_deal 1 pass.new result }
 {
-    let Some(board) = take_seat(words, pass, ACCEPTOR, acceptor_share()) else {
+    let Some(board) = take_seat(alloc, words, pass, ACCEPTOR, acceptor_share()) else {
         return Err(ManyError::Memory);
     };
     let mut board = board;

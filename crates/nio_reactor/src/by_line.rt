@@ -34,6 +34,8 @@ pub(crate) struct ByLine<'a, H, G> {
     worker: u32,
     /// How long a poll waits, while further links may come.
     wait: Mode,
+    /// The index of the listener's key, once a poll was asked for it.
+    listener: Option<u32>,
 }
 
 impl<'a, H, G> ByLine<'a, H, G> {
@@ -45,6 +47,20 @@ impl<'a, H, G> ByLine<'a, H, G> {
             gate,
             worker,
             wait,
+            listener: None,
+        }
+    }
+
+    // The index of the listener's key, where it is watched. The key keeps its index.
+    fn listener_key(&mut self, asked: &Asked) -> Option<u32> {
+        if self.listener.is_none() {
+            self.listener = first_key(asked);
+        }
+        let key = asked.key(self.listener?)?;
+        if key.channel.0 == 0 {
+            Some(key.index)
+        } else {
+            None
         }
     }
 }
@@ -53,16 +69,17 @@ impl<'a, H, G> ByLine<'a, H, G> {
 struct Keys;
 
 impl<'a> Reading<&'a Asked, LookedKey> for Keys {
-    ghost items = { λ asked. asked.now };
+    ghost items = { λ asked. asked.now.keys };
 }
 
-// The index of the listener's key, where it is watched: it was registered first, so it is the first of the list.
-fn listener_key(asked: &Asked) -> Option<u32> {
-    if asked.len() == 0 {
-        return None;
+// The least index of a key. The listener was registered first, so it is that of its key, as long as that is watched.
+fn first_key(asked: &Asked) -> Option<u32> {
+    for index in 0..asked.bound() {
+        if asked.key(index).is_some() {
+            return Some(index);
+        }
     }
-    let (index, chan, _ops) = asked.entry(0);
-    if chan.0 == 0 { Some(index) } else { None }
+    None
 }
 
 // The next message of a line: waits for it, or takes one that has come.
@@ -154,7 +171,7 @@ impl<'a, H: Wait, N: Passable, G: Gate> Way<Lane<N>> for ByLine<'a, H, G> {
         if lane.is_stuck || lane.is_early {
             return Err(PollError::Memory);
         }
-        let Some(index) = listener_key(asked) else {
+        let Some(index) = self.listener_key(asked) else {
             lane.told_line = None;
             return lane.net.poll(rt, alloc, asked, mode);
         };

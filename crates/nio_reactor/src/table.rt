@@ -166,6 +166,7 @@ pub(crate) fn set_up(
 /// A board for the caller of this number, with the selector of this number. The pass hands the number over; where the
 /// table has no such selector it keeps it.
 pub(crate) fn take_seat<'a>(
+    alloc: Global,
     words: &'a Words,
     pass: &mut Pass,
     number: u32,
@@ -181,7 +182,7 @@ pub(crate) fn take_seat<'a>(
     let Ok(given) = words.hand_over(pass, me) else {
         unreachable!();
     };
-    Some(Board::over(words, given, me, selector, Some(deal)))
+    Some(Board::over(alloc, words, given, me, selector, Some(deal)))
 }
 
 /// Joins the board's pass to this one.

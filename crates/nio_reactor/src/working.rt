@@ -66,7 +66,7 @@ fn work_share<R: Wait, H: Wait, N: Passable, G: Gate>(
         });
     }
     let Worker { lane, pass } = worker;
-    let Some(board) = take_seat(words, pass, deal.worker + 1, deal) else {
+    let Some(board) = take_seat(lane.alloc, words, pass, deal.worker + 1, deal) else {
         return Err(ServeError::Memory);
     };
     let (outcome, board) = serve_on(rt, lane.alloc, way, lane, board, plan);

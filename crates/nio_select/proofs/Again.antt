@@ -1,21 +1,24 @@
 -- A selection that is told, and goes on.
-use Rattle.std.proofs.Common.{◌≡◌, ℕ, List, ap, sym, subst}
+use Rattle.std.proofs.Common.{◌≡◌, ℕ, Option, List, ap, sym, ◌∙◌, subst}
 use Rattle.nio_base.specs.declared.numbers.CallerNo.{CallerNo}
 use Rattle.nio_base.specs.declared.numbers.SelNo.{SelNo}
 use Rattle.nio_history.specs.Conditions.{IsSelector}
-use Rattle.nio_history.specs.PassViews.{PassView, done_between}
+use Rattle.nio_history.specs.PassViews.{PassView, ActsClause, done_between}
 use Rattle.nio_history.specs.Histories.{mine}
 use Rattle.nio_history.specs.declared.act.Act.{Act}
 use Rattle.nio_steps.proofs.CallLaws.{call_as, returned, ran_then, left_of_call}
-use Rattle.nio_steps.proofs.EachLaws.{each_run, split}
-use Rattle.nio_steps.proofs.SelectionLaws.{NoMark, Replies, after-replies, again_goes_on}
+use Rattle.nio_steps.proofs.SelectionLaws.{again_goes_on}
 use Rattle.nio_steps.specs.Calls.{CallClause}
 use Rattle.nio_steps.specs.Runs.{Completes}
-use Rattle.nio_steps.specs.SelectCalls.{Selection, Poll, Tells, ToldReply, again, mark_entry, after_marks, told_plan}
+use Rattle.nio_steps.specs.SelectCalls.{Selection, Poll, Tells, ToldReply, mark_entry, after_marks, told_plan}
 use Rattle.nio_steps.specs.Selections.{IsBegun}
 use Rattle.nio_steps.specs.Sweeps.{sweep_over}
 use Rattle.nio_steps.specs.declared.looked.LookedKey.{LookedKey}
-use Rattle.nio_select.specs.InProgress.{Selects, told_reply, IfAgain}
+use Rattle.std.specs.Prelude.{IsTrue, IfSome, is_some}
+use Rattle.nio_select.proofs.Progress.{below_after, lister_after, list_back}
+use Rattle.nio_select.specs.Asked.{AreBelow}
+use Rattle.nio_select.specs.InHand.{InHand, HeldList, list_of, selection_of}
+use Rattle.nio_select.specs.InProgress.{Selects, GivesBack, IsLister, HasList, told_reply, IfAgain, IfDone}
 use Rattle.nio_select.specs.declared.selecting.After.{After}
 use Rattle.nio_select.specs.declared.selecting.After.TheVariants as after
 
@@ -48,27 +51,38 @@ tells {me = me} {s = s} {asked = asked} {pairs = pairs} {count = count} {answer 
     after' = subst (λ (x : Selection). CallClause me (Completes (after_marks x poll.elapsed count)) v1 v2 answer) same
         after
 
--- it is the same selection that goes on
-again_same : (selection next : Selection) (poll : Poll) (acts : List Act) → Tells selection poll acts (again next)
-    → next ≡ selection
-unfolding told_plan
-again_same selection next poll acts run =
-    let parts = split (sweep_over selection.looked (mark_entry selection.selector poll.pairs) 0)
-    (after_marks selection poll.elapsed) acts (again next) run in
-    (each_run (NoMark selection.selector.0) (Replies selection parts.middle)
-    (after_marks selection poll.elapsed parts.middle) parts.second (again next)
-    (after-replies selection poll.elapsed parts.middle) parts.runs_second).1.0
+pub goes_on : {me : CallerNo} {v0 v1 : PassView} (selecting : InHand) (poll : Poll) (result : After)
+    → Selects v0 me (selection_of selecting) → IfAgain result (λ s. s ≡ selecting)
+    → CallClause me (Tells (selection_of selecting) poll) v0 v1 (told_reply result)
+    → IfAgain result (λ s. (s ≡ selecting) × Selects v1 me (selection_of s))
+goes_on selecting poll (after.Done answer list) selects same call = tt
+goes_on {me = me} {v0 = v0} {v1 = v1} selecting poll (after.Again next) selects same call = (
+  same,
+  record {
+    inside = subst (λ l. IsSelector l next.selector) (sym call.acts.limits)
+        (subst (λ (s : SelNo). IsSelector v0.limits s) (ap (λ x. x.selector) (sym same)) selects.inside);
+    begun = subst (λ own. IsBegun own (selection_of next)) (sym call.acts.history.own)
+        (again_goes_on (mine me v0.seen) (selection_of selecting) (selection_of next) poll (done_between me v0 v1)
+        selects.begun call.shape);
+    below = below_after next.asked.keys call.acts
+        (subst (λ (s : InHand). AreBelow v0.limits.keys s.asked.keys) (sym same) selects.below);
+    lister = λ listed. lister_after call.acts
+        (subst (λ (s : InHand). IsTrue (is_some s.asked.stamp) → IsLister v0 me s.selector) (sym same) selects.lister listed);
+  },
+)
 
-pub goes_on : {me : CallerNo} {v0 v1 : PassView} (selection : Selection) (poll : Poll) (result : After)
-    → Selects v0 me selection
-    → CallClause me (Tells selection poll) v0 v1 (told_reply result) → IfAgain result (Selects v1 me)
-goes_on selection poll (after.Done answer) selects call = tt
-goes_on {me = me} {v0 = v0} {v1 = v1} selection poll (after.Again next) selects call = record {
-  inside = subst (λ l. IsSelector l next.selector) (sym call.acts.limits)
-      (subst (λ (s : SelNo). IsSelector v0.limits s) (ap (λ x. x.selector) (sym same)) selects.inside);
-  begun = subst (λ own. IsBegun own next) (sym call.acts.history.own)
-      (again_goes_on (mine me v0.seen) selection next poll (done_between me v0 v1) selects.begun call.shape);
-}
-  where
-    same : next ≡ selection
-    same = again_same selection next poll (done_between me v0 v1) call.shape
+pub again_as : (result : After) (s next : InHand) → next ≡ s → IfAgain result (λ x. x ≡ next) → IfAgain result (λ x. x ≡ s)
+again_as (after.Done answer list) s next same is = tt
+again_as (after.Again x) s next same is = is ∙ same
+
+-- the list that comes back is that of the selection
+pub list_given : {me : CallerNo} {acts : List Act} {v0 v1 : PassView} (s next : InHand) (result : After) → next ≡ s
+    → Selects v0 me (selection_of s) → ActsClause me acts v0 v1 → IfDone result (λ list. list ≡ list_of next)
+    → IfDone result (GivesBack v1 me s)
+list_given {me = me} {v1 = v1} s next (after.Done answer list) same selects clause is =
+    let its : list ≡ list_of s = is ∙ ap list_of same in
+    record {
+      back = its;
+      had = subst (λ (o : Option HeldList). IfSome o (HasList v1 me)) (sym its) (list_back s clause selects);
+    }
+list_given s next (after.Again x) same selects clause is = tt

@@ -59,11 +59,11 @@ may_remove_now {p = p} {me = me} {s = s} i here is cancelled =
     (ap in_cancelled_set is ∙ cancelled)
 
 -- the index of a cancelled key that the caller just removed is still to be put, where there is a next serial
-pub due_now : {me : CallerNo} {s : SelNo} {i : ℕ} {stage found : Stage} {v0 v1 : PassView}
+pub due_now : {me : CallerNo} {s : SelNo} {i : ℕ} {found : Stage} {v0 v1 : PassView} (stage : Stage)
     → ActsClause me (Remove s i found ∷ []) v0 v1 → may_remove_cancelled (known v0) me s i ≡ true
-    → (known v0).key s.0 i ≡ stage → nat_lt stage.serial last_serial ≡ true
+    → ((known v0).key s.0 i).serial ≡ stage.serial → nat_lt stage.serial last_serial ≡ true
     → has_begun (known v1) me s ≡ true → may_put_due (known v1) me s i ≡ true
-due_now {me = me} {s = s} {i = i} {stage = stage} {found = found} {v0 = v0} {v1 = v1} clause may is below begun =
+due_now {me = me} {s = s} {i = i} {found = found} {v0 = v0} {v1 = v1} stage clause may is below begun =
     let leaves = step_leaves v0.limits (Holds v0) me (Remove s i found) v0.seen v1.seen clause.history in
     let before : State = state_after (v0.seen ++ leaves.between) in
     let e = event_of me (Remove s i found) in
@@ -84,7 +84,7 @@ due_now {me = me} {s = s} {i = i} {stage = stage} {found = found} {v0 = v0} {v1 
     and_from (not found.removed) (nat_lt found.serial last_serial)
     (ap (λ (k : Stage). not k.removed) told ∙ ap not kept.removed)
     (ap (λ (k : Stage). nat_lt k.serial last_serial) told
-    ∙ (ap (λ (n : ℕ). nat_lt n last_serial) (kept.serial ∙ ap (λ (k : Stage). k.serial) is) ∙ below)) in
+    ∙ (ap (λ (n : ℕ). nat_lt n last_serial) (kept.serial ∙ is) ∙ below)) in
     let due : (known v1).put_due s.0 i ≡ true =
     ap (λ st. st.put_due s.0 i) leaves.state
     ∙ (put_at-same before.put_due s.0 i (before.put_due s.0 i || (before.begun s.0 && frees_index found))

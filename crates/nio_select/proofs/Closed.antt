@@ -17,7 +17,7 @@ use Rattle.nio_steps.specs.SelectCalls.{FinishReply, closed, busy, remove_key, t
 use Rattle.nio_steps.specs.Steps.{holder_in, number_in}
 use Rattle.nio_steps.specs.Sweeps.{sweep_to}
 use Rattle.nio_select.proofs.GoneOn.{done_in}
-use Rattle.nio_select.proofs.Inside.{keys-act}
+use Rattle.nio_steps.proofs.ListedBy.{keys-look}
 use Rattle.nio_select.specs.Laws.{ClosingsRemoveKeys, ClosingsFindHigh}
 
 pub closings_remove_keys : ClosedRemovesKeys → ClosingsRemoveKeys
@@ -61,7 +61,7 @@ finish-looks s =
       mark = number_in (answer_of look);
       rest = xs ++ [];
       parts =
-          ap (λ act. enters ∷ act ∷ (xs ++ [])) (keys-act s look asks');
+          ap (λ act. enters ∷ act ∷ (xs ++ [])) (keys-look s look asks');
     }))
 
 pub closings_find_high : ClosingsFindHigh

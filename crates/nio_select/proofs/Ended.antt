@@ -10,12 +10,12 @@ use Rattle.nio_history.specs.declared.act.Act.TheVariants.{LookGate, LookInterru
 use Rattle.nio_history.specs.declared.found.GateWord.{GateWord}
 use Rattle.nio_history.specs.declared.found.Mode.{Mode}
 use Rattle.nio_history.specs.declared.why.Why.{Why}
-use Rattle.nio_steps.proofs.CallLaws.{returned, left_ask, left_else, left_after, left_of_call, ran_then}
+use Rattle.nio_steps.proofs.CallLaws.{returned, left_ask, left_then, left_else, left_after, left_of_call, ran_then}
 use Rattle.nio_steps.proofs.StandLaws.{selections_stand}
 use Rattle.nio_steps.specs.Calls.{CallClause}
 use Rattle.nio_steps.specs.Plan.{Plan, reply, ◌>>=◌, ◌>>◌}
 use Rattle.nio_steps.specs.Runs.{Completes}
-use Rattle.nio_steps.specs.SelectCalls.{Selection, ToldReply, done, is_again, why_ended, end_selection, after_marks}
+use Rattle.nio_steps.specs.SelectCalls.{Selection, ToldReply, done, again, is_again, why_ended, end_selection, after_marks}
 use Rattle.nio_steps.specs.SelectCalls.{remove_all_cancelled}
 use Rattle.nio_steps.specs.Steps.{end_wake, give_turn}
 use Rattle.nio_steps.specs.declared.selected.Selected.{Selected}
@@ -80,3 +80,15 @@ over {me = me} {gate = gate} {interrupted = interrupted} {answer = answer} {v0 =
     (left_ask _ asks
     (left_else _ _ _ (ap (λ (m : Mode). is_again m count gate interrupted elapsed) (sym same) ∙ goes)
     (left_of_call ends'))))
+
+-- after the marks it goes on
+pub goes_again : {me : CallerNo} {s : SelNo} {gate : GateWord} {interrupted : Bool} {v0 v1 v2 : PassView}
+    (selection : Selection) (elapsed : Bool) (count : ℕ) (mode : Mode) → s ≡ selection.selector → mode ≡ selection.mode
+    → ActsClause me (LookGate s gate ∷ []) v0 v1 → ActsClause me (LookInterrupt interrupted ∷ []) v1 v2
+    → is_again mode count gate interrupted elapsed ≡ true
+    → CallClause me (Completes (after_marks selection elapsed count)) v0 v2 (again selection)
+goes_again {me = me} {gate = gate} {interrupted = interrupted} {v0 = v0} {v1 = v1} selection elapsed count mode on same
+    looks asks goes =
+    returned (left_ask _ (subst (λ (s' : SelNo). ActsClause me (LookGate s' gate ∷ []) v0 v1) on looks)
+    (left_ask _ asks
+    (left_then _ _ _ (ap (λ (m : Mode). is_again m count gate interrupted elapsed) (sym same) ∙ goes) (left_after asks))))

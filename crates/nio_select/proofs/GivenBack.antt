@@ -39,7 +39,7 @@ use Rattle.nio_steps.specs.SelectCalls.{Selection, given_back, begin_with_turn, 
 use Rattle.nio_steps.specs.Steps.{gate_in, holder_in, number_in}
 use Rattle.nio_steps.specs.declared.refusal.BeginError.{BeginError}
 use Rattle.nio_select.proofs.GoneOn.{done_in, mine-around}
-use Rattle.nio_select.proofs.Inside.{keys-act}
+use Rattle.nio_steps.proofs.ListedBy.{keys-look}
 use Rattle.nio_select.specs.Laws.{IsGivenBack, LeavingGivesBack, NoMemoryGivesBack}
 
 -- ---- who has the turn keeps a pending wakeup
@@ -245,7 +245,7 @@ no_memory_gives_back old new me s mode known call = (
     looks : lacks.look ∷ lacks.keys ∷ []
         ≡ BeginLook s (gate_in (answer_of lacks.look)) ∷ LookKeys s (number_in (answer_of lacks.keys)) ∷ []
     looks = ap (λ act. act ∷ lacks.keys ∷ []) (look-act s lacks.look lacks.asks_look)
-        ∙ ap (λ act. BeginLook s (gate_in (answer_of lacks.look)) ∷ act ∷ []) (keys-act s lacks.keys lacks.asks_keys)
+        ∙ ap (λ act. BeginLook s (gate_in (answer_of lacks.look)) ∷ act ∷ []) (keys-look s lacks.keys lacks.asks_keys)
 
     kept : IsGivenBack (past ++ e ∷ []) new s
     kept = given_back_last old.limits me s (past ++ e ∷ []) give.past new whole

@@ -81,7 +81,7 @@ ends_find_high old new me selection poll answer call =
 -- ---- a bound on the steps
 
 -- fewer numbers pass a test that another test allows
-count_below-le : (n : ℕ) (p q : ℕ → Bool) → ((k : ℕ) → p k ≡ true → q k ≡ true) → count_below n p ≤ count_below n q
+pub count_below-le : (n : ℕ) (p q : ℕ → Bool) → ((k : ℕ) → p k ≡ true → q k ≡ true) → count_below n p ≤ count_below n q
 unfolding count_below
 count_below-le zero p q allows = omega arith
 count_below-le (suc n) p q allows = by_test (p n) refl (count_below-le n p q allows)

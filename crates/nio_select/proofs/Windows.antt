@@ -1,6 +1,6 @@
 -- The look with which a selection begins and the look at the high-water mark at its end, and what happens in between.
 use Rattle.std.proofs.Common.{◌≡◌, ℕ, Ok, List, [], ◌∷◌, ◌++◌, refl, ap, sym, ◌∙◌, append_assoc}
-use Rattle.std.proofs.Common.{None}
+use Rattle.std.proofs.Common.{Option}
 use Rattle.nio_base.specs.declared.numbers.SelNo.{SelNo}
 use Rattle.nio_history.specs.Histories.{event_of}
 use Rattle.nio_history.specs.PassViews.{done_between}
@@ -15,9 +15,10 @@ use Rattle.nio_steps.proofs.StandLaws.{look-act}
 use Rattle.nio_steps.proofs.ToldParts.{ended-parts}
 use Rattle.nio_steps.specs.SelectCalls.{Selection, Begins, Poll, Tells, done}
 use Rattle.nio_steps.specs.Steps.{gate_in, number_in}
+use Rattle.nio_steps.specs.declared.looked.LookedKey.{LookedKey}
 use Rattle.nio_steps.specs.declared.selected.Selected.{Selected}
 use Rattle.nio_select.proofs.GoneOn.{done_in}
-use Rattle.nio_select.proofs.Inside.{keys-act}
+use Rattle.nio_steps.proofs.ListedBy.{keys-look}
 use Rattle.nio_select.specs.Laws.{SelectionsHaveWindows, IsWindow}
 
 -- ---- the two looks in the acts of the two calls
@@ -28,11 +29,11 @@ record HasLook (s : SelNo) (acts : List Act) : Type 0 where
   later : List Act
   parts : acts ≡ before ++ BeginLook s found ∷ later
 
-begin-look : (selection : Selection) (acts : List Act) → Begins selection.selector selection.mode None acts (Ok selection)
-    → HasLook selection.selector acts
-begin-look selection acts run =
+begin-look : (selection : Selection) (known : Option (List LookedKey)) (acts : List Act)
+    → Begins selection.selector selection.mode known acts (Ok selection) → HasLook selection.selector acts
+begin-look selection known acts run =
     let s = selection.selector in
-    let first = begin-parts s selection.mode None acts selection run in
+    let first = begin-parts s selection.mode known acts selection run in
     record {
       before = first.gate ∷ first.take ∷ [];
       found = gate_in (answer_of first.look);
@@ -60,20 +61,20 @@ told-mark selection poll acts answer run =
       before = before;
       mark = number_in (answer_of ended.keys);
       later = later;
-      parts = ended.parts ∙ ap (λ act. before ++ act ∷ later) (keys-act s ended.keys ended.asks_keys);
+      parts = ended.parts ∙ ap (λ act. before ++ act ∷ later) (keys-look s ended.keys ended.asks_keys);
     }
 
 -- ---- the window
 
 pub selections_have_windows : SelectionsHaveWindows
-selections_have_windows me before_begin after_begin before_told after_told selection poll answer is =
+selections_have_windows me before_begin after_begin before_told after_told selection poll answer known is =
     (ends.mark, window, it)
   where
     s : SelNo
     s = selection.selector
 
     look : HasLook s (done_between me before_begin after_begin)
-    look = begin-look selection (done_between me before_begin after_begin) is.begins.shape
+    look = begin-look selection known (done_between me before_begin after_begin) is.begins.shape
 
     ends : HasMark s (done_between me before_told after_told)
     ends = told-mark selection poll (done_between me before_told after_told) answer is.tells.shape

@@ -1,5 +1,5 @@
 -- Laws of the calls of a selection, as passes see them.
-use Rattle.std.specs.Prelude.{◌≡◌, ℕ, ◌+◌, ◌*◌, ◌<◌, ◌≤◌, Ok, Err, None, IsTrue, IsFalse, List, [], ◌∷◌}
+use Rattle.std.specs.Prelude.{◌≡◌, ℕ, ◌+◌, ◌*◌, ◌<◌, ◌≤◌, Ok, Err, Some, None, IsTrue, IsFalse, List, [], ◌∷◌}
 use Rattle.nio_steps.specs.declared.looked.LookedKey.{LookedKey}
 use Rattle.std.specs.Prelude.{Option}
 use Rattle.std.specs.Prelude.{◌++◌, length, map}
@@ -24,7 +24,10 @@ use Rattle.nio_steps.specs.Runs.{Completes}
 use Rattle.nio_steps.specs.SelectCalls.{Selection, Begins, Poll, Tells, done, leave_plan, closed, try_finish_plan}
 use Rattle.nio_steps.specs.declared.refusal.BeginError.{BeginError}
 use Rattle.nio_steps.specs.declared.selected.Selected.{Selected}
-use Rattle.nio_select.specs.InProgress.{Selects}
+use Rattle.nio_steps.specs.ListLaws.{count_taken, count_touched, count_told}
+use Rattle.nio_steps.specs.Lists.{KnowsList}
+use Rattle.nio_select.specs.InHand.{HeldList}
+use Rattle.nio_select.specs.InProgress.{HasList, Selects}
 
 -- ---- cancelled keys
 
@@ -65,13 +68,44 @@ EndsFindHigh =
     → CallClause me (Tells selection poll) old new (done answer)
     → (mark : ℕ) × (past : List Event) × FindsHigh me old new selection.selector mark past
 
+-- The same of a `KeyList::begin` by the caller that knows the selector's list.
+abbrev pub CancelledListedKeysAreGone : Type 0
+CancelledListedKeysAreGone =
+    (old new : PassView) (me : CallerNo) (s : SelNo) (mode : Mode) (list : List LookedKey) (selection : Selection)
+    (i serial : ℕ)
+    → KnowsList old.limits me old.seen s list → CallClause me (Begins s mode (Some list)) old new (Ok selection)
+    → IsTrue (was_published ((known old).key s.0 i) serial) → IsTrue (was_cancelled ((known old).key s.0 i) serial)
+    → i < selection.bound
+    → IsTrue (was_removed ((known new).key s.0 i) serial)
+    × All (λ entry. ¬ ((entry.index ≡ i) × (entry.serial ≡ serial))) selection.looked
+
+-- And of the `told` that ends such a selection, at whose start the caller knows its looked list as the selector's list.
+abbrev pub CancelledListedKeysAreGoneAtEnd : Type 0
+CancelledListedKeysAreGoneAtEnd =
+    (old new : PassView) (me : CallerNo) (selection : Selection) (poll : Poll) (answer : Selected)
+    (mark i serial : ℕ) (past : List Event)
+    → let s = selection.selector in
+    IsTrue selection.listed → Selects old me selection → KnowsList old.limits me old.seen s selection.looked
+    → CallClause me (Tells selection poll) old new (done answer) → FindsHigh me old new s mark past
+    → IsTrue (was_published ((state_after past).key s.0 i) serial)
+    → IsTrue (was_cancelled ((state_after past).key s.0 i) serial) → i < mark
+    → IsTrue (was_removed ((known new).key s.0 i) serial)
+
+-- ---- who has a list
+
+-- A caller has a list for good: whatever is done with the pass later.
+abbrev pub ListsAreKept : Type 0
+ListsAreKept =
+    (old new : PassView) (me : CallerNo) (list : HeldList) → HasList old me list → new.limits ≡ old.limits
+    → IsPrefix old.seen new.seen → IsLegal new.limits new.seen → HasList new me list
+
 -- ---- how many steps a selection makes
 
--- A whole selection without the list by two calls on a pass: the `try_begin` answered Ok, and the `told` ended the selection. Between
--- the two the caller doesn't give the turn back and removes no key there.
+-- A whole selection by two calls on a pass, with the selector's list `known`, or without it: the beginning answered Ok, and
+-- the `told` ended the selection. Between the two the caller doesn't give the turn back and removes no key there.
 pub record IsSelection (me : CallerNo) (before_begin after_begin before_told after_told : PassView)
-    (selection : Selection) (poll : Poll) (answer : Selected) : Type 0 where
-  pub begins : CallClause me (Begins selection.selector selection.mode None) before_begin after_begin (Ok selection)
+    (known : Option (List LookedKey)) (selection : Selection) (poll : Poll) (answer : Selected) : Type 0 where
+  pub begins : CallClause me (Begins selection.selector selection.mode known) before_begin after_begin (Ok selection)
   pub goes_on : IsPrefix after_begin.seen before_told.seen
   pub keeps_turn : IsFalse (has (gives_turn selection.selector.0) (done_between me after_begin before_told))
   pub keeps_keys : IsFalse (has (removes_on selection.selector.0) (done_between me after_begin before_told))
@@ -97,7 +131,7 @@ abbrev pub CallsAreBounded : Type 0
 CallsAreBounded =
     (me : CallerNo) (before_begin after_begin before_told after_told : PassView) (selection : Selection) (poll : Poll)
     (answer : Selected) (mark : ℕ) (window : List Event)
-    → IsFit after_told.limits → IsSelection me before_begin after_begin before_told after_told selection poll answer
+    → IsFit after_told.limits → IsSelection me before_begin after_begin before_told after_told None selection poll answer
     → IsWindow me before_begin after_begin before_told after_told selection.selector mark window
     → let s = selection.selector in
     let bound = selection.bound in
@@ -107,12 +141,31 @@ CallsAreBounded =
     ≤ 9 + words_below bound + words_below mark + 4 * count_listed s bound in_begin + 3 * count_listed s mark in_told
     + count (unselects s.0 bound) (map (λ e. e.act) window)
 
+-- Those of a selection that goes by the selector's list are at most 9, two for each 64 indexes below the bound and one for each 64 below the mark, 4 for each index
+-- whose bit the beginning took, 3 for each that the `told` found touched, 2 for each looked key of which the poller told
+-- something, and one for each time that anybody took a key out of the selected set in the window.
+abbrev pub ListedCallsAreBounded : Type 0
+ListedCallsAreBounded =
+    (me : CallerNo) (before_begin after_begin before_told after_told : PassView) (list : List LookedKey)
+    (selection : Selection) (poll : Poll) (answer : Selected) (mark : ℕ) (window : List Event)
+    → KnowsList after_told.limits me before_begin.seen selection.selector list
+    → IsSelection me before_begin after_begin before_told after_told (Some list) selection poll answer
+    → IsWindow me before_begin after_begin before_told after_told selection.selector mark window
+    → let s = selection.selector in
+    let words = words_below selection.bound in
+    let words_at_end = words_below mark in
+    let in_begin = done_between me before_begin after_begin in
+    let in_told = done_between me before_told after_told in
+    length in_begin + length in_told
+    ≤ 9 + 2 * words + words_at_end + 4 * count_taken s words in_begin + 3 * count_touched s words_at_end in_told
+    + 2 * count_told selection poll + count (unselects s.0 after_told.limits.keys) (map (λ e. e.act) window)
+
 -- Each whole selection has such a window.
 abbrev pub SelectionsHaveWindows : Type 0
 SelectionsHaveWindows =
     (me : CallerNo) (before_begin after_begin before_told after_told : PassView) (selection : Selection) (poll : Poll)
-    (answer : Selected)
-    → IsSelection me before_begin after_begin before_told after_told selection poll answer
+    (answer : Selected) (known : Option (List LookedKey))
+    → IsSelection me before_begin after_begin before_told after_told known selection poll answer
     → (mark : ℕ) × (window : List Event)
     × IsWindow me before_begin after_begin before_told after_told selection.selector mark window
 

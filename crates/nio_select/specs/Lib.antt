@@ -1,10 +1,13 @@
+pub mod KeyKept
 pub mod Asked
+pub mod Kept
+pub mod InHand
 pub mod InProgress
 pub mod Listed
 pub mod Begun
-pub mod Lists
 pub mod Entered
 pub mod Beginning
 pub mod ToldSlots
 pub mod Laws
 pub mod Removing
+pub mod Touched

@@ -1,38 +1,67 @@
--- What was told of the keys that a selection looked at, put beside each of them, and the marking of them by it.
-use Rattle.std.specs.Prelude.{ℕ, ◌+◌, ◌==◌, ◌<◌, ◌^◌, List, length, map, bit_and, bit_or, if◌then◌else◌}
-use Rattle.std.specs.List.{All, AllPairs}
-use Rattle.nio_base.specs.declared.limits.Limits.{Limits}
+-- What was told of the indexes of a selector, and the marking of keys by it.
+use Rattle.std.specs.Prelude.{◌≡◌, ℕ, ◌+◌, ◌/◌, ◌%◌, ◌<◌, ◌≤◌, Bool, Option, Some, None, IsTrue, IsFalse, List}
+use Rattle.std.specs.Prelude.{get_or, length, bit_and, bit_or}
 use Rattle.nio_base.specs.declared.numbers.SelNo.{SelNo}
-use Rattle.nio_history.specs.Conditions.{IsKey}
+use Rattle.nio_steps.specs.KeyCalls.{has_bit}
 use Rattle.nio_steps.specs.Plan.{Plan, reply, ◌>>=◌}
 use Rattle.nio_steps.specs.SelectCalls.{mark_told, told_at}
-use Rattle.nio_select.specs.declared.asked.Slot.{Slot}
+use Rattle.nio_select.specs.declared.noted.Noted.{Noted}
+use Rattle.nio_select.specs.declared.slot.Slot.{Slot}
 
--- the keys in rising order of their indexes
-abbrev pub Rise : List Slot → Type 0
-Rise slots = AllPairs (λ x y. x.key.index < y.key.index) slots
+-- ---- what was told
 
--- the key with this beside it as what was told of it
-abbrev pub with_told : Slot → ℕ → Slot
-with_told slot told = record slot { told = told }
+abbrev pub told_of : Noted → ℕ → ℕ
+told_of noted i = get_or noted.told.items i 0
 
--- beside each key stands what these pairs tell of it
-abbrev pub told_slots : List (ℕ × ℕ) → List Slot → List Slot
-told_slots pairs slots = map (λ (slot : Slot). with_told slot (told_at pairs slot.key.index)) slots
+-- whether anything was told of the index
+abbrev pub is_noted : Noted → ℕ → Bool
+is_noted noted i = has_bit (get_or noted.words.items (i / 64) 0) (i % 64)
 
--- of one pair more
-abbrev pub told_once_more : ℕ × ℕ → List Slot → List Slot
-told_once_more pair slots =
-    map (λ (slot : Slot). with_told slot (if pair.0 == slot.key.index then bit_or slot.told pair.1 else slot.told))
-    slots
+-- there is room for as much
+pub record IsAsLong (old new : Noted) : Type 0 where
+  pub told : length new.told.items ≡ length old.told.items
+  pub words : length new.words.items ≡ length old.words.items
 
--- marks the key with what was told of it and it is interested in
-abbrev pub mark_slot : SelNo → Slot → ℕ → Plan ℕ
-mark_slot s slot count = do
-  marked ← mark_told s slot.key.index (bit_and slot.told slot.key.interest)
+-- this was told of index i too
+pub record IsPutTo (i ops : ℕ) (old new : Noted) : Type 0 where
+  pub room : IsAsLong old new
+  pub here : told_of new i ≡ bit_or (told_of old i) ops
+  pub others : (k : ℕ) → (k ≡ i → ⊥) → told_of new k ≡ told_of old k
+  pub noted : IsTrue (is_noted new i)
+  pub notes : (k : ℕ) → IsTrue (is_noted old k) → IsTrue (is_noted new k)
+
+-- nothing is told of index i any more
+pub record IsTakenFrom (i : ℕ) (old new : Noted) : Type 0 where
+  pub room : IsAsLong old new
+  pub none : told_of new i ≡ 0
+  pub others : (k : ℕ) → (k ≡ i → ⊥) → told_of new k ≡ told_of old k
+  pub words : new.words.items ≡ old.words.items
+
+-- each index of which anything was told is noted
+abbrev pub IsNoted : Noted → Type 0
+IsNoted noted = (i : ℕ) → IsFalse (is_noted noted i) → told_of noted i ≡ 0
+
+-- What these pairs tell of the indexes below the bound was told, and of no other index.
+-- Each of which anything was told is noted.
+pub record IsTold (pairs : List (ℕ × ℕ)) (bound : ℕ) (now : Noted) : Type 0 where
+  pub below : (i : ℕ) → i < bound → told_of now i ≡ told_at pairs i
+  pub above : (i : ℕ) → bound ≤ i → told_of now i ≡ 0
+  pub noted : IsNoted now
+
+-- nothing was told
+pub record IsUntold (noted : Noted) : Type 0 where
+  pub told : (i : ℕ) → told_of noted i ≡ 0
+  pub words : (j : ℕ) → get_or noted.words.items j 0 ≡ 0
+
+-- ---- marking
+
+-- what of these operations the key is interested in
+abbrev pub wanted : Option Slot → ℕ → ℕ
+wanted None told = 0
+wanted (Some slot) told = bit_and told slot.interest
+
+-- marks the key of index i with what was told of it
+abbrev pub mark_at : SelNo → List (Option Slot) → Noted → ℕ → ℕ → Plan ℕ
+mark_at s slots noted i count = do
+  marked ← mark_told s i (wanted (get_or slots i None) (told_of noted i))
   reply (count + marked)
-
--- so many keys, with indexes within the limits, that they can be counted
-pub record AreCountable (l : Limits) (s : SelNo) (slots : List Slot) : Type 0 where
-  pub keys : All (λ slot. IsKey l s slot.key.index) slots
-  pub count : length slots < 2 ^ 32

@@ -1,11 +1,12 @@
 //! What follows from the contracts of the calls of a selection, and from the laws of their plans. The functions do
 //! nothing: their contracts are laws.
 ghost use Rattle.nio_select.specs.Laws.{CancelledKeysAreGone, CancelledKeysAreGoneAtEnd, EndsFindHigh};
-ghost use Rattle.nio_select.specs.Laws.{SelectionsHaveWindows, CallsAreBounded};
+ghost use Rattle.nio_select.specs.Laws.{CancelledListedKeysAreGone, CancelledListedKeysAreGoneAtEnd, ListsAreKept};
+ghost use Rattle.nio_select.specs.Laws.{SelectionsHaveWindows, CallsAreBounded, ListedCallsAreBounded};
 ghost use Rattle.nio_select.specs.Laws.{SelectionsAreAlone, LeavingGivesBack, NoMemoryGivesBack};
 ghost use Rattle.nio_select.specs.Laws.{ClosingsRemoveKeys, ClosingsFindHigh};
 
-use nio_steps::{begin_law, bound_law, close_law, told_law};
+use nio_steps::{begin_law, bound_law, close_law, listed_bound_law, listed_law, told_law};
 
 /// A key that was cancelled before a selection began is removed once it has begun, and isn't one that it looked at. The
 /// end of a selection finds a keys' high-water mark, and has removed each key with an index below it that was cancelled
@@ -19,6 +20,19 @@ pub fn gone_law()
     told_law()
 }
 
+/// The same of selections that go by the selector's list.
+pub fn listed_gone_law()
+    ensures begun { CancelledListedKeysAreGone }
+    ensures ended { CancelledListedKeysAreGoneAtEnd }
+{
+    listed_law()
+}
+
+/// The caller that has a selector's list has it for good.
+pub fn kept_list_law()
+    ensures { ListsAreKept }
+{}
+
 /// The steps of a selection are bounded by what it finds when it begins and at its end, and by what other callers
 /// unselect meanwhile.
 pub fn steps_law()
@@ -26,6 +40,13 @@ pub fn steps_law()
     ensures bounded { CallsAreBounded }
 {
     bound_law()
+}
+
+/// So are those of a selection that goes by the selector's list, by what it finds touched and what it is told.
+pub fn listed_steps_law()
+    ensures { ListedCallsAreBounded }
+{
+    listed_bound_law()
 }
 
 /// While a caller selects nobody else marks or removes a key of the selector, or ends its wakeup.

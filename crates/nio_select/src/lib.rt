@@ -14,23 +14,35 @@
 pub use asked::{Asked, Renumber};
 pub use beginning::try_begin;
 pub use closing::{Closing, Finish, Shutting, shut};
-pub use laws::{alone_law, closed_law, gone_law, steps_law, turn_law};
+pub use laws::{
+    alone_law, closed_law, gone_law, kept_list_law, listed_gone_law, listed_steps_law, steps_law,
+    turn_law,
+};
+pub use list::{KeyList, Refused, take_list};
 pub use listing::{keys, selected_keys};
 pub use nio_history::Mode;
 pub use nio_steps::{BeginError, ListError, LookedKey, Selected, SelectorsSpent};
 pub use opening::open_selector;
 pub use selecting::{After, Selecting};
+pub use selector::Selector;
+pub use stamp::Stamp;
 pub use told::Told;
 
 mod asked;
 mod beginning;
 mod closing;
 mod laws;
+mod list;
 mod listing;
 mod lists;
+mod noted;
 mod opening;
 mod removing;
 mod selecting;
+mod selector;
+mod slot;
 mod stages;
+mod stamp;
 mod telling;
 mod told;
+mod touched;

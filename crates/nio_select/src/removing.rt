@@ -1,10 +1,11 @@
 //! Removing cancelled keys within a selection.
-ghost use Rattle.std.specs.Prelude.{◌≡◌, ◌*◌, ◌<◌, ◌≤◌, false, IsTrue};
+ghost use Rattle.std.specs.Prelude.{◌≡◌, ◌*◌, ◌<◌, ◌≤◌, IsTrue};
 ghost use Rattle.nio_history.specs.Conditions.{IsKey, has_begun, may_remove_cancelled};
 ghost use Rattle.nio_steps.specs.Calls.{CallClause};
 ghost use Rattle.nio_steps.specs.ChannelCalls.{words_below as count_words_below};
 ghost use Rattle.nio_steps.specs.Runs.{Completes};
-ghost use Rattle.nio_steps.specs.Looking.{over_listed, over_word};
+ghost use Rattle.nio_steps.specs.Looking.{over_listed, over_touched, over_word, remove_below as removes_below};
+ghost use Rattle.nio_steps.specs.Sweeps.{sweep_to};
 ghost use Rattle.nio_steps.specs.SelectCalls.{remove_all_cancelled as removes_all_cancelled};
 ghost use Rattle.nio_steps.specs.Looking.{remove_cancelled as removes_cancelled};
 ghost use Rattle.nio_steps.specs.Looking.{remove_if_cancelled as removes_if_cancelled};
@@ -27,17 +28,61 @@ pub(crate) fn words_below(w: &Words, mark: u32) -> u32
 }
 
 // Removes all keys of the selector's cancelled set, below the high-water mark that it finds.
-pub(crate) fn remove_all_cancelled(w: &Words, p: &mut Pass, me: CallerNo, sel: SelNo)
+pub(crate) fn remove_all_cancelled(w: &Words, p: &mut Pass, me: CallerNo, sel: SelNo, listed: bool)
     requires begun { HasBegun w.now p.old me sel }
-    ensures call { CallClause me (Completes (removes_all_cancelled sel false)) (view w.now p.old) (view w.now p.new) result }
+    ensures call { CallClause me (Completes (removes_all_cancelled sel listed)) (view w.now p.old) (view w.now p.new) result }
     ensures begun { HasBegun w.now p.new me sel }
 {
     let mark = w.look_keys(p, me, sel);
-    remove_below(w, p, me, sel, mark);
+    remove_below(w, p, me, sel, mark, listed);
 }
 
-// The same below this mark.
-fn remove_below(w: &Words, p: &mut Pass, me: CallerNo, sel: SelNo, mark: u32)
+// The same below this mark: it looks at the indexes that are touched, where the selection goes by the selector's list,
+// and else at those that aren't free.
+fn remove_below(w: &Words, p: &mut Pass, me: CallerNo, sel: SelNo, mark: u32, listed: bool)
+    requires begun { HasBegun w.now p.old me sel }
+    requires mark { mark ≤ (limits_of w.now).keys }
+    ensures call { CallClause me (Completes (removes_below sel mark listed)) (view w.now p.old) (view w.now p.new) result }
+    ensures begun { HasBegun w.now p.new me sel }
+{
+    if listed {
+        remove_touched(w, p, me, sel, mark);
+    } else {
+        remove_not_free(w, p, me, sel, mark);
+    }
+}
+
+// The same of the indexes that are touched. Their bits stay.
+fn remove_touched(w: &Words, p: &mut Pass, me: CallerNo, sel: SelNo, mark: u32)
+    requires begun { HasBegun w.now p.old me sel }
+    requires mark { mark ≤ (limits_of w.now).keys }
+    ensures call { CallClause me (Completes (sweep_to (count_words_below mark) 0 (over_touched sel (removes_at sel)) tt))
+        (view w.now p.old) (view w.now p.new) result }
+    ensures begun { HasBegun w.now p.new me sel }
+{
+    for j in 0..words_below(w, mark) {
+        remove_shown(w, p, me, sel, j);
+    }
+}
+
+// The same of the 64 indexes from `64 * j` on.
+fn remove_shown(w: &Words, p: &mut Pass, me: CallerNo, sel: SelNo, j: u32)
+    requires begun { HasBegun w.now p.old me sel }
+    requires indexes { 64 * j < (limits_of w.now).keys }
+    ensures call { CallClause me (Completes (over_touched sel (removes_at sel) j tt))
+        (view w.now p.old) (view w.now p.new) result }
+    ensures begun { HasBegun w.now p.new me sel }
+{
+    let word = w.look_touched(p, me, sel, j);
+    let mut rest = word;
+    while rest != 0 {
+        remove_if_cancelled(w, p, me, sel, 64 * j + rest.trailing_zeros());
+        rest &= rest - 1;
+    }
+}
+
+// The same of the indexes that aren't free.
+fn remove_not_free(w: &Words, p: &mut Pass, me: CallerNo, sel: SelNo, mark: u32)
     requires begun { HasBegun w.now p.old me sel }
     requires mark { mark ≤ (limits_of w.now).keys }
     ensures call { CallClause me (Completes (over_listed sel mark (removes_at sel) tt))
@@ -95,7 +140,7 @@ pub(crate) fn remove_cancelled(
     requires begun { HasBegun w.now p.old me sel }
     requires key { IsKey (limits_of w.now) sel i }
     requires may { IsTrue (may_remove_cancelled (state_seen p.old) me sel i) }
-    requires stage { (state_seen p.old).key sel.0 i ≡ stage }
+    requires serial { ((state_seen p.old).key sel.0 i).serial ≡ stage.serial }
     ensures call { CallClause me (Completes (removes_cancelled sel i stage))
         (view w.now p.old) (view w.now p.new) result }
     ensures begun { HasBegun w.now p.new me sel }

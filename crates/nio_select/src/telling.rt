@@ -1,24 +1,28 @@
 //! The steps of a selection that is told what its poller answered.
-ghost use Rattle.std.specs.Prelude.{◌≡◌, ◌≢◌, ◌<◌, ◌≤◌, ◌==◌, not, [], All, IsTrue, MatchOption, length};
-ghost use Rattle.std.specs.List.{HoldsAt};
+ghost use Rattle.std.specs.Prelude.{◌≡◌, ◌*◌, ◌≤◌, ◌==◌, ◌^◌, not, IsTrue, length};
 ghost use Rattle.nio_history.specs.Conditions.{IsKey};
 ghost use Rattle.nio_steps.specs.Calls.{CallClause};
 ghost use Rattle.nio_steps.specs.Runs.{Completes};
 ghost use Rattle.nio_steps.specs.SelectCalls.{is_again as goes_on, why_ended as why, mark_entry as marks_entry};
 ghost use Rattle.nio_steps.specs.SelectCalls.{mark_told as marks_told, mark_looked as marks_looked};
 ghost use Rattle.nio_steps.specs.SelectCalls.{mark_again as marks_again, gains_nothing as nothing_gained};
-ghost use Rattle.nio_steps.specs.Sweeps.{sweep_over};
+ghost use Rattle.nio_steps.specs.Sweeps.{sweep_over, sweep_to};
 ghost use Rattle.nio_words.specs.Passes.{IsReady, limits_of};
 ghost use Rattle.nio_words.specs.Views.{view};
+ghost use Rattle.nio_select.specs.Asked.{AreBelow};
+ghost use Rattle.nio_select.specs.KeyKept.{keys_from};
 ghost use Rattle.nio_select.specs.Begun.{HasBegun};
-ghost use Rattle.nio_select.specs.ToldSlots.{Rise, AreCountable, told_slots, told_once_more, mark_slot as marks_slot};
+ghost use Rattle.nio_select.specs.ToldSlots.{IsAsLong, IsNoted, IsTold, IsUntold, mark_at as marks_at};
 
-use crate::asked::{Asked, Slot};
+use crate::asked::Asked;
+use crate::noted::Noted;
+use crate::slot::{Slot, slot_at, wanted};
 use nio_base::{CallerNo, Ops, SelNo};
 use nio_history::{GateWord, Mark, Mode, Why};
 use nio_words::{Pass, Words};
 
-// Marks the keys of which something was told that they are interested in. Answers how many marks succeeded.
+// Marks the keys of which something was told that they are interested in, in rising order. Answers how many marks
+// succeeded.
 pub(crate) fn mark_asked(
     w: &Words,
     p: &mut Pass,
@@ -28,87 +32,69 @@ pub(crate) fn mark_asked(
     pairs: &[(u32, Ops)],
 ) -> u32
     requires begun { HasBegun w.now p.old me sel }
-    requires keys { All (λ entry. entry.index < (limits_of w.now).keys) asked.old }
-    ensures call { CallClause me (Completes (sweep_over asked.old (marks_entry sel pairs.now) 0))
+    requires keys { AreBelow (limits_of w.now).keys asked.old.keys }
+    ensures call { CallClause me (Completes (sweep_over asked.old.keys (marks_entry sel pairs.now) 0))
         (view w.now p.old) (view w.now p.new) result }
     ensures begun { HasBegun w.now p.new me sel }
     ensures same { asked.new ≡ asked.old }
 {
-    if pairs.is_empty() {
-        return 0;
-    }
-    put_told(&mut asked.slots, pairs);
-    mark_all(w, p, me, sel, asked.slots.as_slice())
+    put_told(&mut asked.noted, asked.slots.len(), pairs);
+    mark_noted(w, p, me, sel, asked.slots.as_slice(), &mut asked.noted)
 }
 
-// Puts beside each key what was told of it.
-fn put_told(slots: &mut Vec<Slot>, pairs: &[(u32, Ops)])
-    requires rise { Rise slots.old.items }
-    ensures { slots.new.items ≡ told_slots pairs.now slots.old.items }
+// Notes what the pairs tell of the indexes below the bound.
+fn put_told(noted: &mut Noted, bound: usize, pairs: &[(u32, Ops)])
+    requires untold { IsUntold noted.old }
+    requires told_room { bound ≤ length noted.old.told.items }
+    requires words_room { bound ≤ 64 * length noted.old.words.items }
+    ensures told { IsTold pairs.now bound noted.new }
+    ensures room { IsAsLong noted.old noted.new }
 {
-    clear_told(slots);
-    let mut next = 0;
     for (index, ops) in pairs {
-        next = put_pair(slots, *index, *ops, next);
-    }
-}
-
-fn clear_told(slots: &mut Vec<Slot>)
-    ensures { slots.new.items ≡ told_slots [] slots.old.items }
-{
-    for at in 0..slots.len() {
-        slots[at].told = Ops::NONE;
-    }
-}
-
-// Adds what one pair tells. It looks at `next` first: pollers mostly tell of keys in rising order. Answers where
-// the next pair may stand.
-fn put_pair(slots: &mut Vec<Slot>, index: u32, ops: Ops, next: usize) -> usize
-    requires rise { Rise slots.old.items }
-    ensures { slots.new.items ≡ told_once_more (index, ops) slots.old.items }
-{
-    match find(slots.as_slice(), index, next) {
-        Some(at) => {
-            slots[at].told = slots[at].told.union(ops);
-            at + 1
+        let i = *index as usize;
+        if i < bound {
+            noted.put(i, *ops);
         }
-        None => next,
     }
 }
 
-// Where the key with this index stands.
-fn find(slots: &[Slot], index: u32, next: usize) -> Option<usize>
-    requires rise { Rise slots.now }
-    ensures { MatchOption result (All (λ slot. slot.key.index ≢ index) slots.now)
-        (λ at. (at < length slots.now) × HoldsAt (λ slot. slot.key.index ≡ index) slots.now at) }
-{
-    if next < slots.len() && slots[next].key.index == index {
-        return Some(next);
-    }
-    slots
-        .binary_search_by_key(&index, |slot| slot.key.index)
-        .ok()
-}
-
-// Marks the keys with what was told of them. Answers how many marks succeeded.
-fn mark_all(w: &Words, p: &mut Pass, me: CallerNo, sel: SelNo, slots: &[Slot]) -> u32
+// Marks the keys of the indexes that are noted, and clears the notes. Answers how many marks succeeded.
+fn mark_noted(
+    w: &Words,
+    p: &mut Pass,
+    me: CallerNo,
+    sel: SelNo,
+    slots: &[Option<Slot>],
+    noted: &mut Noted,
+) -> u32
     requires begun { HasBegun w.now p.old me sel }
-    requires countable { AreCountable (limits_of w.now) sel slots.now }
-    ensures call { CallClause me (Completes (sweep_over slots.now (marks_slot sel) 0))
+    requires keys { AreBelow (limits_of w.now).keys (keys_from 0 slots.now) }
+    requires noted { IsNoted noted.old }
+    requires few { length noted.old.words.items ≤ 2 ^ 25 }
+    ensures call { CallClause me
+        (Completes (sweep_to (64 * length noted.old.words.items) 0 (marks_at sel slots.now noted.old) 0))
         (view w.now p.old) (view w.now p.new) result }
     ensures begun { HasBegun w.now p.new me sel }
+    ensures cleared { IsUntold noted.new }
+    ensures room { IsAsLong noted.old noted.new }
 {
     let mut count = 0;
-    for slot in slots {
-        let told = slot.told.meet(slot.key.interest);
-        count += mark_told(w, p, me, sel, slot.key.index, told);
+    for j in 0..noted.words.len() {
+        let mut rest = noted.words[j];
+        while rest != 0 {
+            let i = 64 * j + rest.trailing_zeros() as usize;
+            let told = wanted(slot_at(slots, i), noted.take(i));
+            count += mark_told(w, p, me, sel, i as u32, told);
+            rest &= rest - 1;
+        }
+        noted.words[j] = 0;
     }
     count
 }
 
 fn mark_told(w: &Words, p: &mut Pass, me: CallerNo, sel: SelNo, i: u32, told: Ops) -> u32
     requires begun { HasBegun w.now p.old me sel }
-    requires key { IsKey (limits_of w.now) sel i }
+    requires key { IsTrue (not (told == 0)) → IsKey (limits_of w.now) sel i }
     ensures call { CallClause me (Completes (marks_told sel i told)) (view w.now p.old) (view w.now p.new) result }
     ensures begun { HasBegun w.now p.new me sel }
     ensures most { result ≤ 1 }

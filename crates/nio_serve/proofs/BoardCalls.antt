@@ -1,5 +1,6 @@
 -- Which calls were made, from the clauses of the calls on the table.
-use Rattle.std.proofs.Common.{◌≡◌, ◌≢◌, ℕ, Bool, true, false, Option, Some, None, Result, Ok, Err, OnOk, OnErr, is_err}
+use Rattle.std.proofs.Common.{◌≡◌, ◌≢◌, ℕ, Bool, true, false, Option, Some, None, Result, Ok, Err, OnOk, OnErr}
+use Rattle.std.proofs.Common.{is_err}
 use Rattle.std.proofs.Common.{List, [], ◌∷◌, ◌++◌}
 use Rattle.std.proofs.Common.{◌==◌, ◌&&◌, refl, ap, sym, ◌∙◌, subst, append_assoc, eq-eqb}
 use Rattle.std.proofs.lemmas.Bool.{false≢true}
@@ -16,15 +17,22 @@ use Rattle.nio_history.specs.declared.found.Mode.TheVariants.{Wait}
 use Rattle.nio_orderly.proofs.CallLists.{run_one, runs_append}
 use Rattle.nio_orderly.specs.Made.{Made, IsRun, table_call, waiting_call}
 use Rattle.nio_orderly.specs.Orderly.{AreRuns, Parts}
+use Rattle.nio_select.specs.InHand.{HeldSelector, known_by}
+use Rattle.nio_serve.proofs.Calls.{with_selector}
 use Rattle.nio_serve.specs.Board.{BoardView, board_of}
-use Rattle.nio_serve.specs.BoardCalls.{AreMade, HasMade, finds, finds_channel, takes, registers, SetsInterest, interest_set, FailsToSet, set_not_found}
+use Rattle.nio_serve.specs.BoardCalls.{AreMade, HasMade, finds, finds_channel, takes, registers, SetsInterest}
+use Rattle.nio_serve.specs.BoardCalls.{interest_set, FailsToSet, set_not_found}
 use Rattle.nio_serve.specs.BoardCalls.{set_refused, CancelsKey, key_not_found, key_cancelled, ClosesChannel}
 use Rattle.nio_serve.specs.BoardCalls.{channel_not_found, channel_closed, TellsPoll, selection_over, selection_again}
-use Rattle.nio_serve.specs.BoardCalls.{LeavesSelection, selection_left, BeginsSelection, selection_begun, FailsToBegin}
-use Rattle.nio_serve.specs.BoardCalls.{begin_refused, FailsToOpen, open_refused, opened_other, FailsToFind, found_none}
-use Rattle.nio_serve.specs.BoardCalls.{found_other, FailsToRegister, register_refused, WatchesChannel, channel_watched}
+use Rattle.nio_serve.specs.BoardCalls.{LeavesSelection, selection_left, BeginsSelection, selection_begun}
+use Rattle.nio_serve.specs.BoardCalls.{FailsToBegin}
+use Rattle.nio_serve.specs.BoardCalls.{begin_refused, FailsToOpen, open_refused, opened_other, FailsToFind}
+use Rattle.nio_serve.specs.BoardCalls.{found_none}
+use Rattle.nio_serve.specs.BoardCalls.{found_other, FailsToRegister, register_refused, WatchesChannel}
+use Rattle.nio_serve.specs.BoardCalls.{channel_watched}
 use Rattle.nio_serve.specs.BoardCalls.{FailsToWatch, watch_not_taken, watch_still_blocking, watch_not_registered}
-use Rattle.nio_serve.specs.BoardCalls.{FailsToTake, take_unopened, take_unfound, SelectsOnce, FailsToSelect, not_begun}
+use Rattle.nio_serve.specs.BoardCalls.{FailsToTake, take_unopened, take_unfound, SelectsOnce, FailsToSelect}
+use Rattle.nio_serve.specs.BoardCalls.{not_begun}
 use Rattle.nio_serve.specs.BoardCalls.{begun_and_left}
 use Rattle.nio_serve.specs.declared.board.Station.{Station}
 use Rattle.nio_serve.specs.declared.deal.Deal.{Deal}
@@ -88,7 +96,8 @@ made_both First Second words first second = record {
 }
 
 -- the same calls, of which something else holds too
-pub made_as : {a b : BoardView} (First Second : List Made → Type 0) → ((calls : List Made) → First calls → Second calls)
+pub made_as : {a b : BoardView} (First Second : List Made → Type 0)
+    → ((calls : List Made) → First calls → Second calls)
     → HasMade a b First → HasMade a b Second
 made_as First Second weaker made =
     record { calls = made.calls; holds = weaker made.calls made.holds; made = made.made }
@@ -102,13 +111,14 @@ made_nothing a Holds holds = record { calls = []; holds = holds; made = none_mad
 
 -- ---- keys
 
-made_find : {answer : Option KeyNo} (w : Words) (p q : Pass) (at : Station) (k : KeyNo) (found : Option KeyNo)
-    → answer ≡ found
-    → CallClause at.caller (Completes (find_plan (limits_of w) at.selector k.index k.serial)) (view w p) (view w q)
-    answer
-    → AreMade (board_of w p at) (board_of w q at) (finds at.selector k found ∷ [])
-made_find w p q at k found is clause =
-    made_call w p q at (finds at.selector k found) found is (λ _ run. run) clause
+made_find : {answer : Option KeyNo} (w : Words) (p q : Pass) (at : Station) (s : SelNo) (k : KeyNo)
+    (found : Option KeyNo) → s ≡ at.selector.number → answer ≡ found
+    → CallClause at.caller (Completes (find_plan (limits_of w) s k.index k.serial)) (view w p) (view w q) answer
+    → AreMade (board_of w p at) (board_of w q at) (finds at.selector.number k found ∷ [])
+made_find w p q at s k found its is clause =
+    made_call w p q at (finds at.selector.number k found) found is
+    (λ acts run. subst (λ (x : SelNo). Completes (find_plan (limits_of w) x k.index k.serial) acts found) its run)
+    clause
 
 made_set : {answer : Result (Unit {0}) KeyError} (w : Words) (p q : Pass) (at : Station) (k : KeyNo) (ops : ℕ)
     (reply : Result (Unit {0}) KeyError) → answer ≡ reply
@@ -118,64 +128,63 @@ made_set w p q at k ops reply is clause =
     made_call w p q at (table_call (set_interest k ops) reply) reply is (λ _ run. run) clause
 
 pub sets_interest : {found : Option KeyNo} {answer : Result (Unit {0}) KeyError} (w : Words) (p q r : Pass)
-    (at : Station) (k : KeyNo) (ops : ℕ) (key : KeyNo) → found ≡ Some key → answer ≡ Ok tt
-    → CallClause at.caller (Completes (find_plan (limits_of w) at.selector k.index k.serial)) (view w p) (view w q)
-    found
+    (at : Station) (s : SelNo) (k : KeyNo) (ops : ℕ) (key : KeyNo) → s ≡ at.selector.number → found ≡ Some key
+    → answer ≡ Ok tt
+    → CallClause at.caller (Completes (find_plan (limits_of w) s k.index k.serial)) (view w p) (view w q) found
     → CallClause at.caller (Completes (set_interest_plan key ops)) (view w q) (view w r) answer
-    → HasMade (board_of w p at) (board_of w r at) (SetsInterest at.selector k ops)
-sets_interest w p q r at k ops key is_found is_set found set = record {
-  calls = finds at.selector k (Some key) ∷ table_call (set_interest key ops) (Ok tt) ∷ [];
+    → HasMade (board_of w p at) (board_of w r at) (SetsInterest at.selector.number k ops)
+sets_interest w p q r at s k ops key its is_found is_set found set = record {
+  calls = finds at.selector.number k (Some key) ∷ table_call (set_interest key ops) (Ok tt) ∷ [];
   holds = interest_set key;
-  made = made_then (finds at.selector k (Some key) ∷ []) (table_call (set_interest key ops) (Ok tt) ∷ []) refl
-      (made_find w p q at k (Some key) is_found found) (made_set w q r at key ops (Ok tt) is_set set);
+  made = made_then (finds at.selector.number k (Some key) ∷ []) (table_call (set_interest key ops) (Ok tt) ∷ []) refl
+      (made_find w p q at s k (Some key) its is_found found) (made_set w q r at key ops (Ok tt) is_set set);
 }
 
 pub set_is_refused : {found : Option KeyNo} {answer : Result (Unit {0}) KeyError} (w : Words) (p q r : Pass)
-    (at : Station) (k : KeyNo) (ops : ℕ) (key : KeyNo) (refusal : KeyError) → found ≡ Some key → answer ≡ Err refusal
-    → CallClause at.caller (Completes (find_plan (limits_of w) at.selector k.index k.serial)) (view w p) (view w q)
-    found
+    (at : Station) (s : SelNo) (k : KeyNo) (ops : ℕ) (key : KeyNo) (refusal : KeyError) → s ≡ at.selector.number
+    → found ≡ Some key → answer ≡ Err refusal
+    → CallClause at.caller (Completes (find_plan (limits_of w) s k.index k.serial)) (view w p) (view w q) found
     → CallClause at.caller (Completes (set_interest_plan key ops)) (view w q) (view w r) answer
-    → HasMade (board_of w p at) (board_of w r at) (FailsToSet at.selector k ops)
-set_is_refused w p q r at k ops key refusal is_found is_set found set = record {
-  calls = finds at.selector k (Some key) ∷ table_call (set_interest key ops) (Err refusal) ∷ [];
+    → HasMade (board_of w p at) (board_of w r at) (FailsToSet at.selector.number k ops)
+set_is_refused w p q r at s k ops key refusal its is_found is_set found set = record {
+  calls = finds at.selector.number k (Some key) ∷ table_call (set_interest key ops) (Err refusal) ∷ [];
   holds = set_refused key refusal;
-  made = made_then (finds at.selector k (Some key) ∷ []) (table_call (set_interest key ops) (Err refusal) ∷ []) refl
-      (made_find w p q at k (Some key) is_found found) (made_set w q r at key ops (Err refusal) is_set set);
+  made = made_then (finds at.selector.number k (Some key) ∷ [])
+      (table_call (set_interest key ops) (Err refusal) ∷ []) refl
+      (made_find w p q at s k (Some key) its is_found found) (made_set w q r at key ops (Err refusal) is_set set);
 }
 
-pub set_finds_none : {found : Option KeyNo} (w : Words) (p q : Pass) (at : Station) (k : KeyNo) (ops : ℕ)
-    → found ≡ None
-    → CallClause at.caller (Completes (find_plan (limits_of w) at.selector k.index k.serial)) (view w p) (view w q)
-    found
-    → HasMade (board_of w p at) (board_of w q at) (FailsToSet at.selector k ops)
-set_finds_none w p q at k ops is found = record {
-  calls = finds at.selector k None ∷ [];
+pub set_finds_none : {found : Option KeyNo} (w : Words) (p q : Pass) (at : Station) (s : SelNo) (k : KeyNo) (ops : ℕ)
+    → s ≡ at.selector.number → found ≡ None
+    → CallClause at.caller (Completes (find_plan (limits_of w) s k.index k.serial)) (view w p) (view w q) found
+    → HasMade (board_of w p at) (board_of w q at) (FailsToSet at.selector.number k ops)
+set_finds_none w p q at s k ops its is found = record {
+  calls = finds at.selector.number k None ∷ [];
   holds = set_not_found;
-  made = made_find w p q at k None is found;
+  made = made_find w p q at s k None its is found;
 }
 
-pub cancels_key : {found : Option KeyNo} {answer : Unit {0}} (w : Words) (p q r : Pass) (at : Station) (k key : KeyNo)
-    → found ≡ Some key
-    → CallClause at.caller (Completes (find_plan (limits_of w) at.selector k.index k.serial)) (view w p) (view w q)
-    found
+pub cancels_key : {found : Option KeyNo} {answer : Unit {0}} (w : Words) (p q r : Pass) (at : Station) (s : SelNo)
+    (k key : KeyNo) → s ≡ at.selector.number → found ≡ Some key
+    → CallClause at.caller (Completes (find_plan (limits_of w) s k.index k.serial)) (view w p) (view w q) found
     → CallClause at.caller (Completes (cancel_plan key)) (view w q) (view w r) answer
-    → HasMade (board_of w p at) (board_of w r at) (CancelsKey at.selector k)
-cancels_key w p q r at k key is found cancelled = record {
-  calls = finds at.selector k (Some key) ∷ table_call (cancel key) tt ∷ [];
+    → HasMade (board_of w p at) (board_of w r at) (CancelsKey at.selector.number k)
+cancels_key w p q r at s k key its is found cancelled = record {
+  calls = finds at.selector.number k (Some key) ∷ table_call (cancel key) tt ∷ [];
   holds = key_cancelled key;
-  made = made_then (finds at.selector k (Some key) ∷ []) (table_call (cancel key) tt ∷ []) refl
-      (made_find w p q at k (Some key) is found)
+  made = made_then (finds at.selector.number k (Some key) ∷ []) (table_call (cancel key) tt ∷ []) refl
+      (made_find w p q at s k (Some key) its is found)
       (made_call w q r at (table_call (cancel key) tt) tt refl (λ _ run. run) cancelled);
 }
 
-pub cancel_finds_none : {found : Option KeyNo} (w : Words) (p q : Pass) (at : Station) (k : KeyNo) → found ≡ None
-    → CallClause at.caller (Completes (find_plan (limits_of w) at.selector k.index k.serial)) (view w p) (view w q)
-    found
-    → HasMade (board_of w p at) (board_of w q at) (CancelsKey at.selector k)
-cancel_finds_none w p q at k is found = record {
-  calls = finds at.selector k None ∷ [];
+pub cancel_finds_none : {found : Option KeyNo} (w : Words) (p q : Pass) (at : Station) (s : SelNo) (k : KeyNo)
+    → s ≡ at.selector.number → found ≡ None
+    → CallClause at.caller (Completes (find_plan (limits_of w) s k.index k.serial)) (view w p) (view w q) found
+    → HasMade (board_of w p at) (board_of w q at) (CancelsKey at.selector.number k)
+cancel_finds_none w p q at s k its is found = record {
+  calls = finds at.selector.number k None ∷ [];
   holds = key_not_found;
-  made = made_find w p q at k None is found;
+  made = made_find w p q at s k None its is found;
 }
 
 -- ---- channels
@@ -290,7 +299,8 @@ take_isnt_opened a b (Err error) deal kind next c none same failed =
     (made_as (FailsToOpen kind c) (FailsToTake kind c None) (λ _ opens. take_unopened opens)
     (subst (λ x. HasMade a b (FailsToOpen kind x)) same failed))
 
-pub take_isnt_found : {A E : Type 0} (a b : BoardView) (r : Result A E) (deal : Option Deal) (some : Deal) (kind : Kind)
+pub take_isnt_found : {A E : Type 0} (a b : BoardView) (r : Result A E) (deal : Option Deal) (some : Deal)
+    (kind : Kind)
     (next c : ChanNo) → deal ≡ Some some → next ≡ c → OnErr r (HasMade a b (FailsToFind next))
     → OnErr r (HasMade a b (FailsToTake kind c deal))
 take_isnt_found a b (Ok value) deal some kind next c is same failed = tt
@@ -307,7 +317,8 @@ refusal_of (Err error) failed = (error, refl)
 -- channels whose numbers or serials differ are other ones
 pub is_other : (c d : ChanId) → ((c.number.0 == d.number.0) && (c.serial == d.serial)) ≡ false → c ≢ d
 is_other c d test same =
-    let number : (c.number.0 == d.number.0) ≡ true = eq-eqb c.number.0 d.number.0 (ap (λ (x : ChanId). x.number.0) same)
+    let number : (c.number.0 == d.number.0) ≡ true = eq-eqb c.number.0 d.number.0
+    (ap (λ (x : ChanId). x.number.0) same)
     in
     let serial : (c.serial == d.serial) ≡ true = eq-eqb c.serial d.serial (ap (λ (x : ChanId). x.serial) same) in
     absurd (false≢true (sym test ∙ (ap (λ (b : Bool). b && (c.serial == d.serial)) number ∙ serial)))
@@ -327,31 +338,33 @@ made_unblocked : {answer : Result (Unit {0}) ChannelError} (w : Words) (p q : Pa
 made_unblocked w p q at c reply is clause =
     made_call w p q at (waiting_call (set_blocking c false) reply) reply is (λ _ run. run) clause
 
-pub made_registration : {answer : Result KeyNo ChannelError} (w : Words) (p q : Pass) (at : Station) (c : ChanId)
-    (ops : ℕ) (reply : Result KeyNo ChannelError) → answer ≡ reply
-    → CallClause at.caller (Registers (limits_of w) at.selector c ops 0) (view w p) (view w q) answer
-    → AreMade (board_of w p at) (board_of w q at) (waiting_call (register at.selector c ops 0) reply ∷ [])
-made_registration w p q at c ops reply is clause =
-    made_call w p q at (waiting_call (register at.selector c ops 0) reply) reply is (λ _ run. run) clause
+pub made_registration : {answer : Result KeyNo ChannelError} (w : Words) (p q : Pass) (at : Station) (s : SelNo)
+    (c : ChanId) (ops : ℕ) (reply : Result KeyNo ChannelError) → s ≡ at.selector.number → answer ≡ reply
+    → CallClause at.caller (Registers (limits_of w) s c ops 0) (view w p) (view w q) answer
+    → AreMade (board_of w p at) (board_of w q at) (waiting_call (register at.selector.number c ops 0) reply ∷ [])
+made_registration w p q at s c ops reply its is clause =
+    made_call w p q at (waiting_call (register at.selector.number c ops 0) reply) reply is
+    (λ acts run. subst (λ (x : SelNo). Registers (limits_of w) x c ops 0 acts reply) its run) clause
 
 -- a call on a channel that is the first one of a number
 pub made_as_first : {a b : BoardView} (call : ChanId → Made) (c : ChanId) (next : ChanNo) → c ≡ first_channel next
     → AreMade a b (call c ∷ []) → AreMade a b (call (first_channel next) ∷ [])
 made_as_first {a} {b} call c next same made = subst (λ (x : ChanId). AreMade a b (call x ∷ [])) same made
 
-pub fails_to_register : {answer : Result KeyNo ChannelError} (w : Words) (p q r : Pass) (at : Station) (c : ChanId)
-    (next : ChanNo) (ops : ℕ) (refusal : ChannelError) (first : Bool) → c ≡ first_channel next → answer ≡ Err refusal
-    → CallClause at.caller (Registers (limits_of w) at.selector c ops 0) (view w p) (view w q) answer
+pub fails_to_register : {answer : Result KeyNo ChannelError} (w : Words) (p q r : Pass) (at : Station) (s : SelNo)
+    (c : ChanId) (next : ChanNo) (ops : ℕ) (refusal : ChannelError) (first : Bool) → s ≡ at.selector.number
+    → c ≡ first_channel next → answer ≡ Err refusal
+    → CallClause at.caller (Registers (limits_of w) s c ops 0) (view w p) (view w q) answer
     → CallClause at.caller (Completes (close_channel_plan (limits_of w) c)) (view w q) (view w r) first
-    → HasMade (board_of w p at) (board_of w r at) (FailsToRegister at.selector next ops)
-fails_to_register w p q r at c next ops refusal first same is registered closed = record {
-  calls = waiting_call (register at.selector (first_channel next) ops 0) (Err refusal)
+    → HasMade (board_of w p at) (board_of w r at) (FailsToRegister at.selector.number next ops)
+fails_to_register w p q r at s c next ops refusal first its same is registered closed = record {
+  calls = waiting_call (register at.selector.number (first_channel next) ops 0) (Err refusal)
       ∷ table_call (close_channel (first_channel next)) first ∷ [];
   holds = register_refused refusal first;
-  made = made_then (waiting_call (register at.selector (first_channel next) ops 0) (Err refusal) ∷ [])
+  made = made_then (waiting_call (register at.selector.number (first_channel next) ops 0) (Err refusal) ∷ [])
       (table_call (close_channel (first_channel next)) first ∷ []) refl
-      (made_as_first (λ x. waiting_call (register at.selector x ops 0) (Err refusal)) c next same
-      (made_registration w p q at c ops (Err refusal) is registered))
+      (made_as_first (λ x. waiting_call (register at.selector.number x ops 0) (Err refusal)) c next same
+      (made_registration w p q at s c ops (Err refusal) its is registered))
       (made_as_first (λ x. table_call (close_channel x) first) c next same (made_close w q r at c first closed));
 }
 
@@ -359,18 +372,19 @@ pub watches_channel : {answer : Result (Unit {0}) ChannelError} (w : Words) (p q
     (kind : Kind) (c : ChanId) (next : ChanNo) (ops : ℕ) (k : KeyNo) → c ≡ first_channel next → answer ≡ Ok tt
     → AreMade (board_of w p at) (board_of w q at) (takes at.deal kind next ∷ [])
     → CallClause at.caller (SetsBlocking (limits_of w) c false) (view w q) (view w r) answer
-    → AreMade (board_of w r at) (board_of w t at) (registers at.selector next ops k ∷ [])
-    → HasMade (board_of w p at) (board_of w t at) (WatchesChannel at.deal at.selector kind next ops k)
+    → AreMade (board_of w r at) (board_of w t at) (registers at.selector.number next ops k ∷ [])
+    → HasMade (board_of w p at) (board_of w t at) (WatchesChannel at.deal at.selector.number kind next ops k)
 watches_channel w p q r t at kind c next ops k same is taken unblocked registered = record {
   calls = takes at.deal kind next
       ∷ waiting_call (set_blocking (first_channel next) false) (Ok tt)
-      ∷ registers at.selector next ops k ∷ [];
+      ∷ registers at.selector.number next ops k ∷ [];
   holds = channel_watched;
   made = made_then (takes at.deal kind next ∷ [])
-      (waiting_call (set_blocking (first_channel next) false) (Ok tt) ∷ registers at.selector next ops k ∷ []) refl
+      (waiting_call (set_blocking (first_channel next) false) (Ok tt)
+      ∷ registers at.selector.number next ops k ∷ []) refl
       taken
       (made_then (waiting_call (set_blocking (first_channel next) false) (Ok tt) ∷ [])
-      (registers at.selector next ops k ∷ []) refl
+      (registers at.selector.number next ops k ∷ []) refl
       (made_as_first (λ x. waiting_call (set_blocking x false) (Ok tt)) c next same
       (made_unblocked w q r at c (Ok tt) is unblocked)) registered);
 }
@@ -381,7 +395,7 @@ pub watch_stays_blocking : {answer : Result (Unit {0}) ChannelError} (w : Words)
     → AreMade (board_of w p at) (board_of w q at) (takes at.deal kind next ∷ [])
     → CallClause at.caller (SetsBlocking (limits_of w) c false) (view w q) (view w r) answer
     → CallClause at.caller (Completes (close_channel_plan (limits_of w) c)) (view w r) (view w t) first
-    → HasMade (board_of w p at) (board_of w t at) (FailsToWatch at.deal at.selector kind next ops)
+    → HasMade (board_of w p at) (board_of w t at) (FailsToWatch at.deal at.selector.number kind next ops)
 watch_stays_blocking {answer} w p q r t at kind c next ops first same failed taken unblocked closed =
     let refused = refusal_of answer failed in
     record {
@@ -403,8 +417,8 @@ pub watch_isnt_registered : {answer : Result (Unit {0}) ChannelError} (w : Words
     (kind : Kind) (c : ChanId) (next : ChanNo) (ops : ℕ) → c ≡ first_channel next → answer ≡ Ok tt
     → AreMade (board_of w p at) (board_of w q at) (takes at.deal kind next ∷ [])
     → CallClause at.caller (SetsBlocking (limits_of w) c false) (view w q) (view w r) answer
-    → HasMade (board_of w r at) (board_of w t at) (FailsToRegister at.selector next ops)
-    → HasMade (board_of w p at) (board_of w t at) (FailsToWatch at.deal at.selector kind next ops)
+    → HasMade (board_of w r at) (board_of w t at) (FailsToRegister at.selector.number next ops)
+    → HasMade (board_of w p at) (board_of w t at) (FailsToWatch at.deal at.selector.number kind next ops)
 watch_isnt_registered w p q r t at kind c next ops same is taken unblocked failed = record {
   calls = takes at.deal kind next
       ∷ waiting_call (set_blocking (first_channel next) false) (Ok tt)
@@ -424,27 +438,38 @@ watch_isnt_taken deal s kind c ops failed =
 
 -- ---- selections
 
-pub begins_selection : {answer : Result Selection BeginError} (w : Words) (p q : Pass) (at : Station)
-    (selection : Selection) → answer ≡ Ok selection
-    → CallClause at.caller (Begins at.selector Wait None) (view w p) (view w q) answer
-    → HasMade (board_of w p at) (board_of w q at) (BeginsSelection at.selector selection)
-begins_selection w p q at selection is clause = record {
-  calls = table_call (try_begin at.selector Wait None) (Ok selection) ∷ [];
-  holds = selection_begun;
-  made = made_call w p q at (table_call (try_begin at.selector Wait None) (Ok selection)) (Ok selection) is (λ _ run. run)
-      clause;
+-- the station may have its selector in another state then
+made_with : {a : BoardView} {Holds : List Made → Type 0} {w : Words} {q : Pass} {at : Station} (now : HeldSelector)
+    → HasMade a (board_of w q at) Holds → HasMade a (board_of w q (with_selector at now)) Holds
+made_with now made = record {
+  calls = made.calls;
+  holds = made.holds;
+  made = record { acts = made.made.acts; own = made.made.own; runs = made.made.runs };
 }
 
+pub begins_selection : {answer : Result Selection BeginError} (w : Words) (p q : Pass) (at : Station)
+    (now : HeldSelector) (selection : Selection) → answer ≡ Ok selection
+    → CallClause at.caller (Begins at.selector.number Wait (known_by at.selector)) (view w p) (view w q) answer
+    → HasMade (board_of w p at) (board_of w q (with_selector at now)) (BeginsSelection at.selector selection)
+begins_selection w p q at now selection is clause =
+    let call = table_call (try_begin at.selector.number Wait (known_by at.selector)) (Ok selection) in
+    made_with now (record {
+      calls = call ∷ [];
+      holds = selection_begun;
+      made = made_call w p q at call (Ok selection) is (λ _ run. run) clause;
+    })
+
 pub begin_is_refused : {answer : Result Selection BeginError} (w : Words) (p q : Pass) (at : Station)
-    (refusal : BeginError) → answer ≡ Err refusal
-    → CallClause at.caller (Begins at.selector Wait None) (view w p) (view w q) answer
-    → HasMade (board_of w p at) (board_of w q at) (FailsToBegin at.selector)
-begin_is_refused w p q at refusal is clause = record {
-  calls = table_call (try_begin at.selector Wait None) (Err refusal) ∷ [];
-  holds = begin_refused refusal;
-  made = made_call w p q at (table_call (try_begin at.selector Wait None) (Err refusal)) (Err refusal) is (λ _ run. run)
-      clause;
-}
+    (now : HeldSelector) (refusal : BeginError) → answer ≡ Err refusal
+    → CallClause at.caller (Begins at.selector.number Wait (known_by at.selector)) (view w p) (view w q) answer
+    → HasMade (board_of w p at) (board_of w q (with_selector at now)) (FailsToBegin at.selector)
+begin_is_refused w p q at now refusal is clause =
+    let call = table_call (try_begin at.selector.number Wait (known_by at.selector)) (Err refusal) in
+    made_with now (record {
+      calls = call ∷ [];
+      holds = begin_refused refusal;
+      made = made_call w p q at call (Err refusal) is (λ _ run. run) clause;
+    })
 
 made_leave : {answer : Unit {0}} (w : Words) (p q : Pass) (at : Station) (selection : Selection)
     → CallClause at.caller (Completes (leave_plan selection)) (view w p) (view w q) answer
@@ -452,14 +477,14 @@ made_leave : {answer : Unit {0}} (w : Words) (p q : Pass) (at : Station) (select
 made_leave w p q at selection clause =
     made_call w p q at (table_call (leave selection) tt) tt refl (λ _ run. run) clause
 
-pub leaves_selection : {answer : Unit {0}} (w : Words) (p q : Pass) (at : Station) (selection : Selection)
-    → CallClause at.caller (Completes (leave_plan selection)) (view w p) (view w q) answer
-    → HasMade (board_of w p at) (board_of w q at) (LeavesSelection selection)
-leaves_selection w p q at selection clause = record {
+pub leaves_selection : {answer : Unit {0}} (w : Words) (p q : Pass) (at : Station) (now : HeldSelector)
+    (selection : Selection) → CallClause at.caller (Completes (leave_plan selection)) (view w p) (view w q) answer
+    → HasMade (board_of w p at) (board_of w q (with_selector at now)) (LeavesSelection selection)
+leaves_selection w p q at now selection clause = made_with now (record {
   calls = table_call (leave selection) tt ∷ [];
   holds = selection_left;
   made = made_leave w p q at selection clause;
-}
+})
 
 made_told : {answer : ToldReply} (w : Words) (p q : Pass) (at : Station) (selection : Selection) (poll : Poll)
     (reply : ToldReply) → answer ≡ reply
@@ -468,29 +493,32 @@ made_told : {answer : ToldReply} (w : Words) (p q : Pass) (at : Station) (select
 made_told w p q at selection poll reply is clause =
     made_call w p q at (table_call (told selection poll) reply) reply is (λ _ run. run) clause
 
-pub tells_and_ends : {answer : ToldReply} (w : Words) (p q : Pass) (at : Station) (selection : Selection) (poll : Poll)
-    (selected : Selected) → answer ≡ done selected
+pub tells_and_ends : {answer : ToldReply} (w : Words) (p q : Pass) (at : Station) (now : HeldSelector)
+    (selection : Selection) (poll : Poll) (selected : Selected) → answer ≡ done selected
     → CallClause at.caller (Tells selection poll) (view w p) (view w q) answer
-    → HasMade (board_of w p at) (board_of w q at) (TellsPoll selection poll)
-tells_and_ends w p q at selection poll selected is clause = record {
+    → HasMade (board_of w p at) (board_of w q (with_selector at now)) (TellsPoll selection poll)
+tells_and_ends w p q at now selection poll selected is clause = made_with now (record {
   calls = table_call (told selection poll) (done selected) ∷ [];
   holds = selection_over selected;
   made = made_told w p q at selection poll (done selected) is clause;
-}
+})
 
-pub tells_and_leaves : {answer : ToldReply} {left : Unit {0}} (w : Words) (p q r : Pass) (at : Station)
+pub tells_and_leaves : {answer : ToldReply} {c : BoardView} (w : Words) (p q : Pass) (at : Station)
     (selection : Selection) (poll : Poll) (next : Selection) → answer ≡ again next
     → CallClause at.caller (Tells selection poll) (view w p) (view w q) answer
-    → CallClause at.caller (Completes (leave_plan next)) (view w q) (view w r) left
-    → HasMade (board_of w p at) (board_of w r at) (TellsPoll selection poll)
-tells_and_leaves w p q r at selection poll next is clause left = record {
-  calls = table_call (told selection poll) (again next) ∷ table_call (leave next) tt ∷ [];
-  holds = selection_again next;
-  made = made_then (table_call (told selection poll) (again next) ∷ []) (table_call (leave next) tt ∷ []) refl
-      (made_told w p q at selection poll (again next) is clause) (made_leave w q r at next left);
+    → HasMade (board_of w q at) c (LeavesSelection next) → HasMade (board_of w p at) c (TellsPoll selection poll)
+tells_and_leaves w p q at selection poll next is clause left = record {
+  calls = table_call (told selection poll) (again next) ∷ left.calls;
+  holds = then_left next left.calls left.holds;
+  made = made_then (table_call (told selection poll) (again next) ∷ []) left.calls refl
+      (made_told w p q at selection poll (again next) is clause) left.made;
 }
+  where
+    then_left : (x : Selection) (calls : List Made) → LeavesSelection x calls
+        → TellsPoll selection poll (table_call (told selection poll) (again x) ∷ calls)
+    then_left x calls selection_left = selection_again x
 
-pub selects_once : {a b c : BoardView} (s : SelNo) (selection : Selection) (poll : Poll) → b.words ≡ a.words
+pub selects_once : {a b c : BoardView} (s : HeldSelector) (selection : Selection) (poll : Poll) → b.words ≡ a.words
     → HasMade a b (BeginsSelection s selection) → HasMade b c (TellsPoll selection poll)
     → HasMade a c (SelectsOnce s)
 selects_once s selection poll words begun tells =
@@ -498,7 +526,7 @@ selects_once s selection poll words begun tells =
     (λ _ those. record { selection = selection; poll = poll; those = those })
     (made_both (BeginsSelection s selection) (TellsPoll selection poll) words begun tells)
 
-pub selection_fails : {a b c : BoardView} (s : SelNo) (selection : Selection) → b.words ≡ a.words
+pub selection_fails : {a b c : BoardView} (s : HeldSelector) (selection : Selection) → b.words ≡ a.words
     → HasMade a b (BeginsSelection s selection) → HasMade b c (LeavesSelection selection)
     → HasMade a c (FailsToSelect s)
 selection_fails s selection words begun left =
@@ -506,5 +534,6 @@ selection_fails s selection words begun left =
     (λ _ those. begun_and_left selection those)
     (made_both (BeginsSelection s selection) (LeavesSelection selection) words begun left)
 
-pub selection_isnt_begun : {a b : BoardView} (s : SelNo) → HasMade a b (FailsToBegin s) → HasMade a b (FailsToSelect s)
+pub selection_isnt_begun : {a b : BoardView} (s : HeldSelector) → HasMade a b (FailsToBegin s)
+    → HasMade a b (FailsToSelect s)
 selection_isnt_begun s failed = made_as (FailsToBegin s) (FailsToSelect s) (λ _ begins. not_begun begins) failed

@@ -1,36 +1,82 @@
 -- What a poll told of a key, its channel is ready for.
-use Rattle.std.proofs.Common.{◌≡◌, ℕ, IsTrue, List, [], ◌∷◌, ◌++◌, bit_and, sym, subst, eq-eqb}
+use Rattle.std.proofs.Common.{◌≡◌, ℕ, ◌==◌, Bool, true, false, if◌then◌else◌, IsTrue, inl, inr, Option, Some, List}
+use Rattle.std.proofs.Common.{[], ◌∷◌}
+use Rattle.std.proofs.Common.{◌++◌, bit_and, refl, ap, sym, ◌∙◌, subst, eq-eqb, eqb-true}
+use Rattle.std.proofs.Common.{◌⊎◌, None, fold, arith}
+use Rattle.std.specs.Prelude.{option_map}
 use Rattle.std.specs.List.{All, Contains}
-use Rattle.std.proofs.lemmas.List.Elements.{All-append}
+use Rattle.std.proofs.lemmas.List.Elements.{All-append, Contains-append_right, Contains-get_or}
 use Rattle.nio_base.specs.declared.numbers.ChanNo.{ChanNo}
+use Rattle.nio_history.specs.Lists.{ListEntry}
 use Rattle.nio_poller.proofs.Marks.{IsPart, part_met, part_then, told_in_channel, told_in_pairs}
 use Rattle.nio_steps.proofs.Lists.{all-one}
 use Rattle.nio_base.specs.Ops.{is_within}
 use Rattle.nio_steps.specs.SelectCalls.{told_at}
 use Rattle.nio_steps.specs.declared.looked.LookedKey.{LookedKey}
 use Rattle.nio_poller.specs.Polls.{told_of_channel}
-use Rattle.nio_serve.specs.Board.{AreReady, IsAskedFor}
+use Rattle.nio_select.specs.Asked.{key_at, key_with}
+use Rattle.nio_serve.specs.Board.{AreReady}
+
+-- the key stands in the list, under this index
+abbrev Stands : ℕ → List LookedKey → LookedKey → Type 0
+Stands i keys key = Contains keys key × (key.index ≡ i)
+
+-- the key that is found where the list is gone over, with what was found before
+found_from : (i : ℕ) (keys : List LookedKey) (before : Option ListEntry) (key : LookedKey)
+    → option_map (key_with i) (fold (λ found e. if e.index == i then Some (record {
+      serial = e.serial;
+      channel = e.channel;
+      interest = e.interest;
+    }) else found) before keys) ≡ Some key → Stands i keys key ⊎ (option_map (key_with i) before ≡ Some key)
+found_from i [] before key is = inr is
+found_from i (e ∷ keys) before key is = elim (found_from i keys _ key is) [
+  | inl later ↦ inl (Contains-append_right (e ∷ []) keys key later.0, later.1)
+  | inr here ↦ by_test (e.index == i) refl here
+]
+  where
+    by_test : (b : Bool) → (e.index == i) ≡ b
+        → option_map (key_with i) (if b then Some (record {
+          serial = e.serial;
+          channel = e.channel;
+          interest = e.interest;
+        }) else before) ≡ Some key
+        → Stands i (e ∷ keys) key ⊎ (option_map (key_with i) before ≡ Some key)
+    by_test true same found =
+        let is_it : record e { index = i } ≡ key = cc found in
+        let this : e ≡ key = ap (λ k. record e { index = k }) (eqb-true e.index i same) ∙ is_it in
+        inl (
+          subst (Contains (e ∷ keys)) this (Contains-get_or (e ∷ keys) 0 e (omega arith)),
+          sym (ap (λ (x : LookedKey). x.index) is_it),
+        )
+    by_test false other found = inr found
+
+-- the key with this index that the list has stands in it
+found_key : (i : ℕ) (keys : List LookedKey) (key : LookedKey) → key_at i keys ≡ Some key → Stands i keys key
+found_key i keys key is = elim (found_from i keys None key is) [
+  | inl stands ↦ stands
+  | inr none ↦ absurd (cc none)
+]
 
 -- bits that were told of a key and that it is interested in
-told_one : (asked : List LookedKey) (pairs : List (ℕ × ℕ)) (i bits : ℕ) (found : ChanNo × ℕ) → Contains pairs (i, bits)
-    → IsAskedFor asked i found
-    → IsPart (bit_and bits found.1) (told_of_channel asked pairs found.0)
-told_one asked pairs i bits found there is =
-    let of_key : IsPart bits (told_at pairs is.entry.index) = subst (λ n. IsPart bits (told_at pairs n))
-    (sym is.at_index) (told_in_pairs pairs i bits there) in
-    let of_entry : IsPart bits (told_of_channel asked pairs is.entry.channel) =
-    part_then bits (told_at pairs is.entry.index) (told_of_channel asked pairs is.entry.channel) of_key
-    (told_in_channel asked pairs is.entry is.is_looked) in
-    part_met bits found.1 (told_of_channel asked pairs found.0)
-    (subst (λ (c : ChanNo). IsPart bits (told_of_channel asked pairs c)) is.channel of_entry)
+told_one : (asked : List LookedKey) (pairs : List (ℕ × ℕ)) (i bits : ℕ) (key : LookedKey) → Contains pairs (i, bits)
+    → key_at i asked ≡ Some key → IsPart (bit_and bits key.interest) (told_of_channel asked pairs key.channel)
+told_one asked pairs i bits key there is =
+    let found = found_key i asked key is in
+    let of_key : IsPart bits (told_at pairs key.index) = subst (λ n. IsPart bits (told_at pairs n)) (sym found.1)
+    (told_in_pairs pairs i bits there) in
+    part_met bits key.interest (told_of_channel asked pairs key.channel)
+    (part_then bits (told_at pairs key.index) (told_of_channel asked pairs key.channel) of_key
+    (told_in_channel asked pairs key found.0))
 
-pub one_more : (asked : List LookedKey) (pairs : List (ℕ × ℕ)) (i bits : ℕ) (found : ChanNo × ℕ)
-    (told more : List (ChanNo × ℕ)) → more ≡ told ++ (found.0, bit_and bits found.1) ∷ [] → Contains pairs (i, bits)
-    → IsAskedFor asked i found → AreReady (told_of_channel asked pairs) told
+pub one_more : (asked : List LookedKey) (pairs : List (ℕ × ℕ)) (i bits : ℕ) (key : LookedKey)
+    (told more : List (ChanNo × ℕ)) → more ≡ told ++ (key.channel, bit_and bits key.interest) ∷ []
+    → Contains pairs (i, bits) → key_at i asked ≡ Some key → AreReady (told_of_channel asked pairs) told
     → AreReady (told_of_channel asked pairs) more
-one_more asked pairs i bits found told more is there asks before =
+one_more asked pairs i bits key told more is there asks before =
     let P : ChanNo × ℕ → Type 0 = λ x. IsTrue (is_within x.1 (told_of_channel asked pairs x.0)) in
-    let part = told_one asked pairs i bits found there asks in
-    subst (All P) (sym is) (All-append P told ((found.0, bit_and bits found.1) ∷ []) before
-    (all-one P (found.0, bit_and bits found.1)
-    (eq-eqb (bit_and (bit_and bits found.1) (told_of_channel asked pairs found.0)) (bit_and bits found.1) part)))
+    let part = told_one asked pairs i bits key there asks in
+    subst (All P) (sym is) (All-append P told ((key.channel, bit_and bits key.interest) ∷ []) before
+    (all-one P (key.channel, bit_and bits key.interest)
+    (eq-eqb (bit_and (bit_and bits key.interest) (told_of_channel asked pairs key.channel))
+    (bit_and bits key.interest)
+    part)))

@@ -1,20 +1,20 @@
 -- What a board holds between two calls, and what a selection lists.
-use Rattle.std.specs.Prelude.{◌≡◌, ℕ, ◌+◌, IsTrue, Option, Some, List}
-use Rattle.std.specs.List.{All, Contains}
+use Rattle.std.specs.Prelude.{◌≡◌, ℕ, ◌+◌, IfSome, IsTrue, Option, None, Some, List}
+use Rattle.std.specs.List.{All}
 use Rattle.std.specs.List.Sorted.{IsNonDecreasingBy}
 use Rattle.nio_base.specs.declared.numbers.CallerNo.{CallerNo}
 use Rattle.nio_base.specs.declared.numbers.ChanNo.{ChanNo}
 use Rattle.nio_base.specs.declared.numbers.SelNo.{SelNo}
 use Rattle.nio_history.specs.PassViews.{HasNoPin, HasSelector}
-use Rattle.nio_orderly.specs.Made.{after_calls}
-use Rattle.nio_select.specs.InProgress.{Selects}
+use Rattle.nio_orderly.specs.Made.{Made, after_calls}
+use Rattle.nio_select.specs.InHand.{HeldList, HeldSelector}
+use Rattle.nio_select.specs.InProgress.{HasList, Selects}
 use Rattle.nio_serve.specs.Called.{HasCalled, channel_in}
 use Rattle.nio_serve.specs.declared.board.Station.{Station}
 use Rattle.nio_serve.specs.declared.deal.Deal.{Deal}
 use Rattle.nio_base.specs.Ops.{is_within}
 use Rattle.nio_steps.specs.Ongoing.{nothing_ongoing}
 use Rattle.nio_steps.specs.SelectCalls.{Selection}
-use Rattle.nio_steps.specs.declared.looked.LookedKey.{LookedKey}
 use Rattle.nio_words.specs.Passes.{IsReady, acts_seen, limits_of}
 use Rattle.nio_words.specs.Views.{view}
 use Rattle.nio_words.specs.declared.words.Pass.{Pass}
@@ -27,6 +27,8 @@ pub record BoardView : Type 0 where
   pub pass : Pass
   pub caller : CallerNo
   pub selector : SelNo
+  -- the selector's list, where the board has it, and no selection does
+  pub list : Option HeldList
   pub deal : Option Deal
   pub registered : ℕ
 
@@ -35,10 +37,15 @@ board_of w p station = record {
   words = w;
   pass = p;
   caller = station.caller;
-  selector = station.selector;
+  selector = station.selector.number;
+  list = station.selector.list;
   deal = station.deal;
   registered = station.registered;
 }
+
+-- the board's selector, with its list where the board has that
+abbrev pub selector_of : BoardView → HeldSelector
+selector_of board = record { number = board.selector; list = board.list }
 
 -- the table's channel that is registered next
 abbrev pub next_channel : Station → ChanNo
@@ -59,18 +66,31 @@ abbrev pub HasWatched : BoardView → Type 0
 HasWatched board =
     HasCalled (limits_of board.words) (acts_seen board.pass board.caller) board.deal board.selector board.registered
 
+-- The caller has this list of the board's selector, and it is the one that its calls left.
+pub record HoldsList (board : BoardView) (calls : List Made) (list : HeldList) : Type 0 where
+  pub its : list.selector ≡ board.selector
+  pub had : HasList (view board.words board.pass) board.caller list
+  pub left : (after_calls nothing_ongoing calls).list board.selector.0 ≡ Some list.keys
+
 -- what stands between two calls
 pub record IsAtRest (board : BoardView) : Type 0 where
   pub idle : IsIdle board.words board.pass board.caller board.selector
   pub watched : HasWatched board
+  pub list : IfSome board.list (HoldsList board watched.calls)
 
--- the caller began this selection, and it is the one that it has in progress on the selection's selector
+-- The caller began this selection on the board's selector, and it is the one that it has in progress there. The
+-- selector's list is lent to it: where it goes by that, its looked keys are the list that the calls left.
 pub record IsSelecting (board : BoardView) (selection : Selection) : Type 0 where
   pub begun : Selects (view board.words board.pass) board.caller selection
+  pub on : selection.selector ≡ board.selector
+  pub lent : board.list ≡ None
   pub watched : HasWatched board
   pub ongoing : (after_calls nothing_ongoing watched.calls).selection selection.selector.0 ≡ Some selection
+  pub left : IsTrue selection.listed
+      → (after_calls nothing_ongoing watched.calls).list selection.selector.0 ≡ Some selection.looked
 
--- the same table, caller, selector and deal: only the pass may have seen more, and more channels may be registered
+-- the same table, caller, selector and deal: only the pass may have seen more, the selector's list may have become
+-- another one, and more channels may be registered
 pub record IsSameSeat (before now : BoardView) : Type 0 where
   pub words : now.words ≡ before.words
   pub caller : now.caller ≡ before.caller
@@ -89,11 +109,3 @@ AreReady ready told = All (λ x. IsTrue (is_within x.1 (ready x.0))) told
 -- the numbers of the listed channels don't fall; a channel can stand there twice
 abbrev pub AreOrdered : List (ChanNo × ℕ) → Type 0
 AreOrdered told = IsNonDecreasingBy (λ x. x.0.0) told
-
--- a key with this index was looked at, and has this channel and this interest set
-pub record IsAskedFor (asked : List LookedKey) (index : ℕ) (found : ChanNo × ℕ) : Type 0 where
-  pub entry : LookedKey
-  pub is_looked : Contains asked entry
-  pub at_index : entry.index ≡ index
-  pub channel : entry.channel ≡ found.0
-  pub interest : entry.interest ≡ found.1

@@ -1,5 +1,6 @@
 -- Which calls a board's caller makes on the table in a call of the board, each with its reply.
-use Rattle.std.specs.Prelude.{◌≡◌, ◌≢◌, ◌⊎◌, ℕ, ◌-◌, ◌^◌, ◌<◌, ◌≤◌, Bool, false, Option, Some, None, Ok, Err, List, [], ◌∷◌, ◌++◌}
+use Rattle.std.specs.Prelude.{◌≡◌, ◌≢◌, ◌⊎◌, ℕ, ◌-◌, ◌^◌, ◌<◌, ◌≤◌, Bool, false, Option, Some, None, Ok, Err, List}
+use Rattle.std.specs.Prelude.{[], ◌∷◌, ◌++◌}
 use Rattle.nio_base.specs.declared.kind.Kind.{Kind}
 use Rattle.nio_base.specs.declared.numbers.ChanNo.{ChanNo}
 use Rattle.nio_base.specs.declared.numbers.KeyNo.{KeyNo}
@@ -8,11 +9,13 @@ use Rattle.nio_history.specs.declared.act.Act.{Act}
 use Rattle.nio_history.specs.declared.found.Mode.TheVariants.{Wait}
 use Rattle.nio_orderly.specs.Made.{Made, table_call, waiting_call}
 use Rattle.nio_orderly.specs.Orderly.{AreRuns, Parts}
+use Rattle.nio_select.specs.InHand.{HeldSelector, known_by}
 use Rattle.nio_serve.specs.Board.{BoardView}
 use Rattle.nio_serve.specs.Called.{channel_in}
 use Rattle.nio_serve.specs.declared.deal.Deal.{Deal}
 use Rattle.nio_steps.specs.SelectCalls.{Selection, Poll, done, again}
-use Rattle.nio_steps.specs.TableCalls.{find, find_channel, set_interest, cancel, open_channel, close_channel, try_begin}
+use Rattle.nio_steps.specs.TableCalls.{find, find_channel, set_interest, cancel, open_channel, close_channel}
+use Rattle.nio_steps.specs.TableCalls.{try_begin}
 use Rattle.nio_steps.specs.TableCalls.{told, leave, set_blocking, register}
 use Rattle.nio_steps.specs.declared.refusal.BeginError.{BeginError}
 use Rattle.nio_steps.specs.declared.refusal.ChannelError.{ChannelError}
@@ -74,13 +77,15 @@ Unwatches deal s k c = Parts (CancelsKey s k) (ClosesChannel (channel_in deal c)
 
 -- ---- selections
 
--- it begins a selection that waits
-pub data BeginsSelection (s : SelNo) (selection : Selection) : List Made → Type 0 where
-  selection_begun : BeginsSelection s selection (table_call (try_begin s Wait None) (Ok selection) ∷ [])
+-- it begins a selection that waits, by the selector's list where it has that
+pub data BeginsSelection (s : HeldSelector) (selection : Selection) : List Made → Type 0 where
+  selection_begun : BeginsSelection s selection (table_call (try_begin s.number Wait (known_by s)) (Ok selection) ∷
+      [])
 
 -- it is refused that
-pub data FailsToBegin (s : SelNo) : List Made → Type 0 where
-  begin_refused : (refusal : BeginError) → FailsToBegin s (table_call (try_begin s Wait None) (Err refusal) ∷ [])
+pub data FailsToBegin (s : HeldSelector) : List Made → Type 0 where
+  begin_refused : (refusal : BeginError)
+      → FailsToBegin s (table_call (try_begin s.number Wait (known_by s)) (Err refusal) ∷ [])
 
 -- it tells the selection what the poll answered, and leaves it where it would go on
 pub data TellsPoll (selection : Selection) (poll : Poll) : List Made → Type 0 where
@@ -94,13 +99,13 @@ pub data LeavesSelection (selection : Selection) : List Made → Type 0 where
   selection_left : LeavesSelection selection (table_call (leave selection) tt ∷ [])
 
 -- it begins a selection, and tells it what a poll answered
-pub record SelectsOnce (s : SelNo) (calls : List Made) : Type 0 where
+pub record SelectsOnce (s : HeldSelector) (calls : List Made) : Type 0 where
   pub selection : Selection
   pub poll : Poll
   pub those : Parts (BeginsSelection s selection) (TellsPoll selection poll) calls
 
 -- it is refused to begin one, or leaves the one that it began
-pub data FailsToSelect (s : SelNo) : List Made → Type 0 where
+pub data FailsToSelect (s : HeldSelector) : List Made → Type 0 where
   not_begun : {calls : List Made} → FailsToBegin s calls → FailsToSelect s calls
   begun_and_left : {calls : List Made} (selection : Selection)
       → Parts (BeginsSelection s selection) (LeavesSelection selection) calls → FailsToSelect s calls

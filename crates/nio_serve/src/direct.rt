@@ -63,9 +63,9 @@ impl<N: Net> Way<N> for Direct {
     ) -> Result<Told, PollError>
         ensures cause { CountsFaults Fault (N.poll_faults net.old) (N.poll_faults net.new) result }
         ensures ready { IfOk result (λ told. (c : ChanNo) → N.ready net.new c
-            ≡ told_of_channel asked.now told.pairs.items c) }
+            ≡ told_of_channel asked.now.keys told.pairs.items c) }
         ensures unready { OnErr result ((c : ChanNo) → N.ready net.new c ≡ 0) }
-        ensures polls { AddsPoll (N.polls net.old) (N.polls net.new) asked.now mode result }
+        ensures polls { AddsPoll (N.polls net.old) (N.polls net.new) asked.now.keys mode result }
         ensures kept { N.kept net.old net.new }
     {
         net.poll(rt, alloc, asked, mode)

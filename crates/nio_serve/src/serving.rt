@@ -42,13 +42,13 @@ const LIMITS: Limits = Limits {
 const ME: CallerNo = CallerNo(0);
 
 // The board of the first caller of a new table. Nothing refuses it, since the limits have a caller and a selector.
-fn open_board<'a>(words: &'a Words, pass: Pass) -> Result<Board<'a>, Refused>
+fn open_board<'a>(alloc: Global, words: &'a Words, pass: Pass) -> Result<Board<'a>, Refused>
     requires { IsFirstPass words.now pass }
     ensures { IfOk result (λ board. board.registered ≡ 0) }
 {
     let mut pass = pass;
     match words.draw(&mut pass, ME) {
-        Ok(()) => Board::open(words, pass, ME),
+        Ok(()) => Board::open(alloc, words, pass, ME),
         Err(_error) => Err(Refused),
     }
 }
@@ -77,7 +77,7 @@ pub fn serve<R: Wait, N, W: Way<N>>(
     let Ok((words, pass)) = Words::make(alloc, LIMITS) else {
         return Err(ServeError::Memory);
     };
-    let Ok(board) = open_board(&words, pass) else {
+    let Ok(board) = open_board(alloc, &words, pass) else {
         return Err(ServeError::Memory);
     };
     let (served, _board) = serve_on(rt, alloc, way, net, board, plan);

@@ -72,7 +72,7 @@ pub trait Way<N> {
     ) -> Result<Told, PollError>
         ensures cause { CountsFaults Fault (poll_faults net.old) (poll_faults net.new) result }
         ensures ready { IfOk result (λ told. (c : ChanNo) → ready net.new c
-            ≡ told_of_channel asked.now told.pairs.items c) }
+            ≡ told_of_channel asked.now.keys told.pairs.items c) }
         ensures kept { kept net.old net.new };
 
     /// Makes a listener under this channel.

@@ -1,8 +1,8 @@
 -- What a desk has in progress, once something was put into a place of it.
 use Rattle.std.proofs.Common.{◌≡◌, ℕ, ◌<◌, [], Option, Some, None, List, length, set, refl}
 use Rattle.nio_sole.specs.Stands.{IsOn}
-use Rattle.std.proofs.Common.{sym, ap, ◌∙◌, subst, ⊎_elim, arith, vec_len, true, false, Bool, ◌==◌, if◌then◌else◌}
-use Rattle.std.proofs.Common.{eq-eqb, eqb-true}
+use Rattle.std.proofs.Common.{sym, ap, ◌∙◌, subst, ⊎_elim, arith, vec_len, true, Bool, if◌then◌else◌}
+use Rattle.std.proofs.Common.{eq-eqb}
 use Rattle.std.proofs.lemmas.Bool.{cases_eq}
 use Rattle.std.proofs.lemmas.List.{get_or-set_same, get_or-set_other, length-set}
 use Rattle.std.proofs.lemmas.List.Elements.{All-nil, All-weaker}
@@ -19,6 +19,7 @@ use Rattle.nio_language.specs.declared.reply.Reply.{Reply}
 use Rattle.nio_pipe.specs.Calls.{HasEnds}
 use Rattle.nio_plain.proofs.Places.{put_is}
 use Rattle.nio_plain.specs.Seq.Selections.{is_caller}
+use Rattle.nio_select.specs.InHand.{InHand, selection_of}
 use Rattle.nio_serial.proofs.Base.{put-back}
 use Rattle.nio_serial.specs.Documented.{Progress, Selecting}
 use Rattle.nio_serial.specs.Lines.{Said, if_own, with_closing, with_selection}
@@ -30,7 +31,6 @@ use Rattle.nio_sole.specs.declared.desk.Shut.{Shut}
 use Rattle.nio_steps.specs.Calls.{CallClause}
 use Rattle.nio_steps.specs.Plan.{Plan}
 use Rattle.nio_steps.specs.Runs.{Completes}
-use Rattle.nio_steps.specs.SelectCalls.{Selection}
 use Rattle.nio_words.specs.Passes.{limits_of, seen}
 use Rattle.nio_words.specs.Views.{view}
 use Rattle.nio_words.specs.declared.words.Pass.{Pass}
@@ -154,12 +154,12 @@ progress_selection w d p s selections place places inside items =
 pub places_selection : (w : Words) (d : Desk) (p : Pass) (s : SelNo) (selections : Vec (Option Begun) Global)
     (place : Option Begun) → HasPlaces w d → s.0 < (limits_of w).selectors
     → selections.items ≡ set d.selections.items s.0 place → vec_len selections ≡ vec_len d.selections
-    → ((x : Begun) → place ≡ Some x → IsOn s.0 x.selection)
+    → ((x : Begun) → place ≡ Some x → IsOn s.0 (selection_of x.selection))
     → AreMade (view w p) d.pipes.items → HasPlaces w (with_selections_in d p selections)
 places_selection w d p s selections place places inside items len on made = record {
   selections = len ∙ places.selections;
   closings = places.closings;
-  selects = λ n x is. places_put (λ n (x : Begun). IsOn n x.selection) d.selections.items s.0 place
+  selects = λ n x is. places_put (λ n (x : Begun). IsOn n (selection_of x.selection)) d.selections.items s.0 place
       (omega (arith, places.selections)) places.selects on n x (sym (ap (λ xs. slot xs n) items) ∙ is);
   closes = places.closes;
   pipes = made;
@@ -229,14 +229,13 @@ places_selection_taken places items len = record {
   pipes = places.pipes;
 }
 
--- the caller's own selection that was taken out is put back
-pub progress_selection_back : (w : Words) (d : Desk) (p : Pass) (me : CallerNo) (s : SelNo)
+-- what was taken out is put back
+pub progress_selection_back : (w : Words) (d : Desk) (p : Pass) (s : SelNo)
     (taken after : Vec (Option Begun) Global) (y : Begun) → HasPlaces w d → s.0 < (limits_of w).selectors
     → taken.items ≡ set d.selections.items s.0 None → vec_len taken ≡ vec_len d.selections
-    → after.items ≡ set taken.items s.0 (Some y)
-    → y.caller ≡ me → if_own me (selections_of d.selections.items s.0) ≡ Some y.selection
+    → after.items ≡ set taken.items s.0 (Some y) → slot d.selections.items s.0 ≡ Some y
     → progress_of (with_selections_in d p after) ≡ progress_of d
-progress_selection_back w d p me s taken after y places inside items len items' by own =
+progress_selection_back w d p s taken after y places inside items len items' was =
     let none : Option Begun = None in
     with_selections (progress_of d)
     (ap selections_of (items' ∙ ap (λ xs. set xs s.0 (Some y)) items)
@@ -245,46 +244,24 @@ progress_selection_back w d p me s taken after y places inside items len items' 
     ∙ (ap (λ (f : ℕ → Option Selecting). put f s.0 (Some (selecting_of y)))
     (part_put (option_map selecting_of) d.selections.items s.0 None (omega (arith, places.selections)))
     ∙ put-back (selections_of d.selections.items) s.0 None (Some (selecting_of y))
-    (own_is (selections_of d.selections.items s.0) own))))
-  where
-    own_is : (o : Option Selecting) → if_own me o ≡ Some y.selection → o ≡ Some (selecting_of y)
-    own_is None is = nothing_there is
-    own_is (Some z) is = by_test (z.caller.0 == me.0) refl is
-      where
-        by_test : (b : Bool) → (z.caller.0 == me.0) ≡ b → (if b then Some z.selection else None) ≡ Some y.selection
-            → Some z ≡ Some (selecting_of y)
-        by_test true same is' =
-            let caller : z.caller ≡ y.caller = ap {B = CallerNo} (λ (n : ℕ). record { 0 = n })
-            (eqb-true z.caller.0 me.0 same) ∙ sym by in
-            let selection : z.selection ≡ y.selection = sym (some_is is') in
-            λ i. Some (record { caller = caller i; selection = selection i })
-        by_test false same is' = nothing_there is'
+    (ap (option_map selecting_of) was))))
 
 pub places_selection_back : (w : Words) (d : Desk) (p : Pass) (s : SelNo) (taken after : Vec (Option Begun) Global)
     (y : Begun) → HasPlaces w d → s.0 < (limits_of w).selectors
     → taken.items ≡ set d.selections.items s.0 None → vec_len taken ≡ vec_len d.selections
-    → after.items ≡ set taken.items s.0 (Some y) → vec_len after ≡ vec_len taken → IsOn s.0 y.selection
+    → after.items ≡ set taken.items s.0 (Some y) → vec_len after ≡ vec_len taken
+    → IsOn s.0 (selection_of y.selection)
     → AreMade (view w p) d.pipes.items → HasPlaces w (with_selections_in d p after)
 places_selection_back w d p s taken after y places inside items len items' len' on made =
     let middle : HasPlaces w (with_selections_in d p taken) = places_selection w d p s taken None places inside items
     len (λ x is. nothing_there is) made in
     places_selection w (with_selections_in d p taken) p s after (Some y) middle inside items' len'
-    (λ x is. subst (λ (z : Begun). IsOn s.0 z.selection) (sym (some_is is)) on) made
+    (λ x is. subst (λ (z : Begun). IsOn s.0 (selection_of z.selection)) (sym (some_is is)) on) made
 
--- it is on the selector
-pub stands_on : (w : Words) (d : Desk) (me : CallerNo) (s : SelNo) (x : Selection) → HasPlaces w d
-    → if_own me (selections_of d.selections.items s.0) ≡ Some x → IsOn s.0 x
-stands_on w d me s x places own = by_place (slot d.selections.items s.0) refl own
-  where
-    by_place : (place : Option Begun) → slot d.selections.items s.0 ≡ place
-        → if_own me (option_map selecting_of place) ≡ Some x → IsOn s.0 x
-    by_place None at is = nothing_there is
-    by_place (Some z) at is = by_test (z.caller.0 == me.0) is
-      where
-        by_test : (b : Bool) → (if b then Some z.selection else None) ≡ Some x → IsOn s.0 x
-        by_test true is' = subst (IsOn s.0) (sym (some_is is')) (places.selects s.0 z at)
-        by_test false is' = nothing_there is'
-
-pub own_on : (w : Words) (d : Desk) (me : CallerNo) (s : SelNo) (x : Selection) → HasPlaces w d
-    → if_own me (selections_of d.selections.items s.0) ≡ Some x → x.selector ≡ s
-own_on w d me s x places own = ap (λ (n : ℕ). record { 0 = n }) (stands_on w d me s x places own).0
+-- the caller's own selection
+pub own_selection_of : (me : CallerNo) (place : Option Begun) {x : InHand}
+    → place ≡ Some (record { caller = me; selection = x })
+    → if_own me (option_map selecting_of place) ≡ Some (selection_of x)
+own_selection_of me place {x = x} is =
+    ap (λ y. if_own me (option_map selecting_of y)) is
+    ∙ ap (λ (b : Bool). if b then Some (selection_of x) else None) (eq-eqb me.0 me.0 refl)

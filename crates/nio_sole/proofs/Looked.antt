@@ -1,74 +1,60 @@
--- Keys that stand in a looked list, whose indexes rise.
-use Rattle.std.proofs.Common.{◌≡◌, ℕ, zero, suc, ◌<◌, ◌≤◌, ◌==◌, Bool, false, ◌&&◌, ◌||◌, All, List, [], ◌∷◌}
-use Rattle.std.proofs.Common.{drop, length, map, take, refl, ap, ◌∙◌, arith}
-use Rattle.std.proofs.Math.Bool.{or-false}
+-- The keys of a looked list, by their indexes.
+use Rattle.std.proofs.Common.{◌≡◌, ℕ, ◌+◌, ◌<◌, ◌==◌, Bool, true, false, ◌&&◌, ◌||◌, if◌then◌else◌, Option, Some, None}
+use Rattle.std.proofs.Common.{All, List, [], ◌∷◌, ◌++◌, length, map, refl, ap, sym, ◌∙◌, arith, eqb-true}
+use Rattle.std.specs.Prelude.{nat_lt, option_map, option_to_list}
 use Rattle.std.specs.List.{AllPairs}
-use Rattle.std.proofs.lemmas.Bool.{ne_eqb}
-use Rattle.std.proofs.lemmas.List.Elements.{All-nil, All-cons, All-head, All-tail, All-weaker}
+use Rattle.std.proofs.Math.Bool.{or-false}
+use Rattle.std.proofs.lemmas.Bool.{ne_eqb, le-ltb}
+use Rattle.std.proofs.lemmas.List.{length_push, map-append}
+use Rattle.std.proofs.lemmas.List.Elements.{All-head, All-tail, All-weaker}
+use Rattle.std.proofs.lemmas.List.Sums.{count_by-le-length, length-filter}
 use Rattle.nio_base.specs.declared.numbers.KeyId.{KeyId}
+use Rattle.nio_history.specs.Lists.{ListEntry}
 use Rattle.nio_plain.specs.Seq.Names.{is_same_key}
 use Rattle.nio_plain.specs.Seq.Selections.{is_looked}
-use Rattle.nio_select.specs.Asked.{key_at}
+use Rattle.nio_select.specs.Asked.{key_at, key_with, keys_to}
 use Rattle.nio_serial.specs.Documented.{looked_pair}
 use Rattle.nio_steps.proofs.Lists.{pairs-head, pairs-tail}
+use Rattle.nio_steps.proofs.Relisted.{listed_from, none_listed}
 use Rattle.nio_steps.specs.declared.looked.LookedKey.{LookedKey}
 
 abbrev Rise : List LookedKey → Type 0
 Rise looked = AllPairs (λ x y. x.index < y.index) looked
 
-abbrev AreBelow : ℕ → List LookedKey → Type 0
-AreBelow index looked = All (λ x. x.index < index) looked
+-- ---- the keys with smaller indexes
 
-abbrev AreFrom : ℕ → List LookedKey → Type 0
-AreFrom index looked = All (λ x. index ≤ x.index) looked
+pub none_first : (looked : List LookedKey) → keys_to 0 looked ≡ []
+none_first [] = refl
+none_first (x ∷ looked) =
+    ap (λ (b : Bool). if b then x ∷ keys_to 0 looked else keys_to 0 looked) (le-ltb x.index 0 (omega arith))
+    ∙ none_first looked
 
--- the later keys have greater indexes
-later : (x : LookedKey) (looked : List LookedKey) → Rise (x ∷ looked) → All (λ y. x.index < y.index) looked
-later x looked rise = pairs-head (λ a b. a.index < b.index) x looked rise
+-- where there is one key more with a smaller index, there are fewer than all before
+pub fewer_first : (n : ℕ) (looked : List LookedKey) (key : LookedKey)
+    → keys_to (n + 1) looked ≡ keys_to n looked ++ key ∷ [] → length (keys_to n looked) < length looked
+fewer_first n looked key more =
+    let counted = length-filter (λ (e : LookedKey). nat_lt e.index (n + 1)) looked in
+    let few = count_by-le-length (λ (e : LookedKey). nat_lt e.index (n + 1)) looked in
+    let longer = ap length more ∙ length_push (keys_to n looked) key in
+    omega (arith, counted, few, longer)
 
-rest : (x : LookedKey) (looked : List LookedKey) → Rise (x ∷ looked) → Rise looked
-rest x looked rise = pairs-tail (λ a b. a.index < b.index) x looked rise
+-- what is listed of the keys up to the next index
+pub next_pairs : (n : ℕ) (looked : List LookedKey) (o : Option LookedKey)
+    → keys_to (n + 1) looked ≡ keys_to n looked ++ option_to_list o
+    → map looked_pair (keys_to (n + 1) looked) ≡ map looked_pair (keys_to n looked) ++ map looked_pair (option_to_list o)
+next_pairs n looked o more = ap (map looked_pair) more ∙ map-append looked_pair (keys_to n looked) (option_to_list o)
 
-first_below : (x : LookedKey) (looked : List LookedKey) (at : ℕ) → All (λ y. x.index < y.index) looked
-    → at < length looked → x.index < (key_at looked at).index
-first_below x [] at greater within = absurd (omega arith)
-first_below x (y ∷ looked) zero greater within = All-head (λ z. x.index < z.index) y looked greater
-first_below x (y ∷ looked) (suc at) greater within =
-    first_below x looked at (All-tail (λ z. x.index < z.index) y looked greater) (omega arith)
+-- ---- a key by its index and serial
 
--- A key with a smaller index: so are all before it, and itself.
-pub below_to : (looked : List LookedKey) (at index : ℕ) → Rise looked → at < length looked
-    → (key_at looked at).index < index → AreBelow index (take (suc at) looked)
-below_to [] at index rise within small = absurd (omega arith)
-below_to (x ∷ looked) zero index rise within small =
-    All-cons (λ y. y.index < index) x [] small (All-nil (λ y. y.index < index))
-below_to (x ∷ looked) (suc at) index rise within small =
-    let first = first_below x looked at (later x looked rise) (omega arith) in
-    All-cons (λ y. y.index < index) x (take (suc at) looked) (omega (arith, first, small))
-    (below_to looked at index (rest x looked rise) (omega arith) small)
-
--- A key with an index that isn't smaller: so are all behind it.
-pub from_on : (looked : List LookedKey) (at index : ℕ) → Rise looked → at < length looked
-    → index ≤ (key_at looked at).index → AreFrom index (drop at looked)
-from_on [] at index rise within great = absurd (omega arith)
-from_on (x ∷ looked) zero index rise within great =
-    All-cons (λ y. index ≤ y.index) x looked great
-    (All-weaker (λ y. x.index < y.index) (λ y. index ≤ y.index) (λ y greater. omega (arith, greater, great)) looked
-    (later x looked rise))
-from_on (x ∷ looked) (suc at) index rise within great = from_on looked at index (rest x looked rise) (omega arith) great
+-- the key has this serial
+abbrev pub has_serial : ℕ → Option LookedKey → Bool
+has_serial serial None = false
+has_serial serial (Some key) = key.serial == serial
 
 other_index : (x : LookedKey) (k : KeyId) → (x.index ≡ k.index → ⊥) → is_same_key (looked_pair x).0 k ≡ false
 other_index x k other = ap (λ (b : Bool). b && (x.serial == k.serial)) (ne_eqb x.index k.index other)
 
 -- none of these is the key
-pub none_below : (looked : List LookedKey) (k : KeyId) → AreBelow k.index looked
-    → is_looked (map looked_pair looked) k ≡ false
-none_below [] k below = refl
-none_below (x ∷ looked) k below =
-    let small = All-head (λ y. y.index < k.index) x looked below in
-    ap (λ (b : Bool). b || is_looked (map looked_pair looked) k) (other_index x k (λ same. omega (arith, small, same)))
-    ∙ none_below looked k (All-tail (λ y. y.index < k.index) x looked below)
-
 none_above : (looked : List LookedKey) (k : KeyId) → All (λ x. k.index < x.index) looked
     → is_looked (map looked_pair looked) k ≡ false
 none_above [] k above = refl
@@ -77,20 +63,35 @@ none_above (x ∷ looked) k above =
     ap (λ (b : Bool). b || is_looked (map looked_pair looked) k) (other_index x k (λ same. omega (arith, great, same)))
     ∙ none_above looked k (All-tail (λ y. k.index < y.index) x looked above)
 
--- Where those before have smaller indexes and the others don't, only the key that stands there can be the key.
-pub looked_there : (looked : List LookedKey) (at : ℕ) (k : KeyId) → Rise looked → at < length looked
-    → AreBelow k.index (take at looked) → AreFrom k.index (drop at looked)
-    → is_looked (map looked_pair looked) k ≡ ((key_at looked at).index == k.index)
-    && ((key_at looked at).serial == k.serial)
-looked_there [] at k rise within before behind = absurd (omega arith)
-looked_there (x ∷ looked) zero k rise within before behind =
-    let great = All-head (λ y. k.index ≤ y.index) x looked behind in
-    let none = none_above looked k
-    (All-weaker (λ y. x.index < y.index) (λ y. k.index < y.index) (λ y greater. omega (arith, greater, great))
-    looked (later x looked rise)) in
-    ap (λ (b : Bool). is_same_key (looked_pair x).0 k || b) none ∙ or-false (is_same_key (looked_pair x).0 k)
-looked_there (x ∷ looked) (suc at) k rise within before behind =
-    let small = All-head (λ y. y.index < k.index) x (take at looked) before in
-    ap (λ (b : Bool). b || is_looked (map looked_pair looked) k) (other_index x k (λ same. omega (arith, small, same)))
-    ∙ looked_there looked at k (rest x looked rise) (omega arith)
-    (All-tail (λ y. y.index < k.index) x (take at looked) before) behind
+-- Where the indexes rise, a key is looked at if the key of its index has its serial.
+pub looked_by_index : (looked : List LookedKey) (k : KeyId) → Rise looked
+    → is_looked (map looked_pair looked) k ≡ has_serial k.serial (key_at k.index looked)
+looked_by_index [] k rise = refl
+looked_by_index (x ∷ looked) k rise =
+    by_test (x.index == k.index) refl
+    (looked_by_index looked k (pairs-tail (λ a b. a.index < b.index) x looked rise))
+  where
+    entry : ListEntry
+    entry = record { serial = x.serial; channel = x.channel; interest = x.interest }
+
+    with_entry : Option ListEntry → Bool
+    with_entry found = has_serial k.serial (option_map (key_with k.index) (listed_from k.index found looked))
+
+    by_test : (b : Bool) → (x.index == k.index) ≡ b
+        → is_looked (map looked_pair looked) k ≡ has_serial k.serial (key_at k.index looked)
+        → is_looked (map looked_pair (x ∷ looked)) k ≡ with_entry (if (x.index == k.index) then Some entry else None)
+    by_test true is later =
+        let same : x.index ≡ k.index = eqb-true x.index k.index is in
+        let above : All (λ y. k.index < y.index) looked = All-weaker (λ y. x.index < y.index) (λ y. k.index < y.index)
+        (λ y greater. omega (arith, same, greater)) looked (pairs-head (λ a b. a.index < b.index) x looked rise) in
+        let not_there = none_listed k.index (Some entry) looked
+        (All-weaker (λ y. k.index < y.index) (λ y. (y.index == k.index) ≡ false)
+        (λ y greater. ne_eqb y.index k.index (λ at. omega (arith, at, greater))) looked above) in
+        ap (λ (b : Bool). (b && (x.serial == k.serial)) || is_looked (map looked_pair looked) k) is
+        ∙ (ap (λ (b : Bool). (x.serial == k.serial) || b) (none_above looked k above)
+        ∙ (or-false (x.serial == k.serial)
+        ∙ sym (ap (λ (b : Bool). with_entry (if b then Some entry else None)) is
+        ∙ ap (λ o. has_serial k.serial (option_map (key_with k.index) o)) not_there)))
+    by_test false is later =
+        ap (λ (b : Bool). (b && (x.serial == k.serial)) || is_looked (map looked_pair looked) k) is
+        ∙ (later ∙ sym (ap (λ (b : Bool). with_entry (if b then Some entry else None)) is))

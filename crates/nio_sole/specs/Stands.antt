@@ -9,6 +9,7 @@ use Rattle.nio_history.specs.PassViews.{PassView}
 use Rattle.nio_pipe.specs.Calls.{HasEnds}
 use Rattle.nio_pipe.specs.Pipe.{waiting}
 use Rattle.nio_plain.specs.ScriptState.{Pipe, group_limits}
+use Rattle.nio_select.specs.InHand.{selection_of}
 use Rattle.nio_serial.specs.Between.{IsBetween}
 use Rattle.nio_serial.specs.Documented.{Progress, Selecting}
 use Rattle.nio_sole.specs.Made.{HasMade}
@@ -25,7 +26,7 @@ abbrev pub slot : {A : Type 0} → List (Option A) → ℕ → Option A
 slot xs n = slice_index_or xs n None
 
 abbrev pub selecting_of : Begun → Selecting
-selecting_of x = record { caller = x.caller; selection = x.selection }
+selecting_of x = record { caller = x.caller; selection = selection_of x.selection }
 
 abbrev pub selections_of : List (Option Begun) → ℕ → Option Selecting
 selections_of selections s = option_map selecting_of (slot selections s)
@@ -74,7 +75,7 @@ IsOn s x = (x.selector.0 ≡ s) × IsFalse x.listed
 pub record HasPlaces (w : Words) (d : Desk) : Type 0 where
   pub selections : vec_len d.selections ≡ (limits_of w).selectors
   pub closings : vec_len d.closings ≡ (limits_of w).selectors
-  pub selects : (s : ℕ) (x : Begun) → slot d.selections.items s ≡ Some x → IsOn s x.selection
+  pub selects : (s : ℕ) (x : Begun) → slot d.selections.items s ≡ Some x → IsOn s (selection_of x.selection)
   pub closes : (s : ℕ) (x : Shut) → slot d.closings.items s ≡ Some x → x.closing.0 ≡ s
   pub pipes : AreMade (view w d.pass) d.pipes.items
 

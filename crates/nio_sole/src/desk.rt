@@ -11,7 +11,7 @@ use nio_pipe::HeldPipe;
 use nio_select::{Closing, Selecting};
 use nio_words::Pass;
 
-/// A selection in progress, and its caller.
+/// A selection in progress, and its caller. It goes without the selector's list.
 pub struct Begun {
     /// Who began it.
     pub caller: CallerNo,

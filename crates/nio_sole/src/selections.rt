@@ -122,7 +122,7 @@ pub(crate) fn told(
                     elapsed,
                 };
                 match selection.told(w, &mut d.pass, me, &told) {
-                    After::Done(answer) => Ok(Reply::Selected(answer.count, answer.why)),
+                    After::Done(answer, _list) => Ok(Reply::Selected(answer.count, answer.why)),
                     After::Again(selection) => {
                         put_selection(
                             &mut d.selections,
@@ -148,7 +148,7 @@ pub(crate) fn failed(w: &Words, d: &mut Desk, me: CallerNo, sel: SelNo) -> Resul
     match take_selection(&mut d.selections, me, sel) {
         None => Ok(Reply::NotSelecting),
         Some(selection) => {
-            selection.leave(w, &mut d.pass, me);
+            let _list = selection.leave(w, &mut d.pass, me);
             Ok(Reply::Left)
         }
     }

@@ -7,9 +7,12 @@ use Rattle.nio_base.specs.declared.limits.Limits.{Limits}
 use Rattle.nio_base.specs.declared.numbers.SelNo.{SelNo}
 use Rattle.nio_channel.proofs.Idle.{idle_after, idle_after_other, zero_other}
 use Rattle.nio_channel.specs.Idle.{AreIdle, zero, one}
+use Rattle.nio_history.proofs.PassViews.{lasts_over, selector_after}
 use Rattle.nio_history.specs.Conditions.{IsSelector}
 use Rattle.nio_history.specs.PassViews.{PassView, Holds as HoldsNumber, ActsClause}
 use Rattle.nio_history.specs.declared.act.Act.{Act}
+use Rattle.nio_history.specs.Permanent.{list_had_by}
+use Rattle.nio_select.proofs.Progress.{below_after}
 use Rattle.nio_select.specs.InProgress.{Selects, HasShut}
 use Rattle.nio_steps.proofs.PinBack.{no_pin_after}
 use Rattle.nio_steps.specs.Calls.{CallClause}
@@ -49,6 +52,11 @@ pub selects_beside : {acts : List Act} {v0 v1 : PassView} {selection : Selection
 selects_beside {selection = selection} clause held has = record {
   inside = subst (λ (l : Limits). IsSelector l selection.selector) (sym clause.limits) has.inside;
   begun = subst (λ own. IsBegun own selection) (sym (clause.history.others zero held zero_other)) has.begun;
+  below = below_after selection.looked clause has.below;
+  lister = λ listed. record {
+    selector = selector_after clause (has.lister listed).selector;
+    had = lasts_over (list_had_by selection.selector zero) clause (has.lister listed).had;
+  };
 }
 
 pub closes_beside : {acts : List Act} {v0 v1 : PassView} {s : SelNo} → ActsClause zero acts v0 v1 → HoldsNumber v0 one

@@ -4,6 +4,7 @@ ghost use Rattle.nio_base.specs.Limits.{IsFit};
 ghost use Rattle.nio_base.specs.declared.numbers.SelNo.{SelNo as Selector};
 ghost use Rattle.nio_channel.specs.Idle.{AreIdle, zero, one};
 ghost use Rattle.nio_history.specs.PassViews.{HasChannel, HasKey};
+ghost use Rattle.nio_select.specs.InHand.{selection_of};
 ghost use Rattle.nio_select.specs.InProgress.{Selects, HasShut};
 ghost use Rattle.nio_words.specs.Views.{view};
 
@@ -274,15 +275,13 @@ pub(crate) fn listed(list: Result<Vec<KeyNo>, ListError>) -> Reply {
 
 /// How many keys a selection asks, and the last of them.
 pub(crate) fn asked(asked: &Asked) -> Reply {
-    let count = asked.len();
-    if count == 0 {
-        return Reply::Asked(0, None);
+    let mut last = None;
+    for index in 0..asked.bound() {
+        if let Some(key) = asked.key(index) {
+            last = Some((index, key.channel, key.interest.bits(), key.serial));
+        }
     }
-    let (index, chan, ops) = asked.entry(count - 1);
-    Reply::Asked(
-        count,
-        Some((index, chan, ops.bits(), asked.serial(count - 1))),
-    )
+    Reply::Asked(asked.len(), last)
 }
 
 fn begins(alloc: Global, w: &Words, p: &mut Pass) -> Reply
@@ -315,12 +314,12 @@ fn selects(alloc: Global, w: &Words, p: &mut Pass, mode: Mode, pairs: Pairs, ela
 /// Tells the selection this. Where it would go on, it is left.
 pub(crate) fn is_told(w: &Words, p: &mut Pass, selection: Selecting, told: &Told) -> Reply
     requires idle { AreIdle w.now p.old }
-    requires begun { Selects (view w.now p.old) zero selection }
+    requires begun { Selects (view w.now p.old) zero (selection_of selection) }
     ensures idle { AreIdle w.now p.new }
     ensures closing { (s : Selector) → HasShut (view w.now p.old) one s → HasShut (view w.now p.new) one s }
 {
     match selection.told(w, p, ZERO, told) {
-        After::Done(answer) => Reply::Done(answer.count, answer.why),
+        After::Done(answer, _list) => Reply::Done(answer.count, answer.why),
         After::Again(selection) => {
             selection.leave(w, p, ZERO);
             Reply::Again

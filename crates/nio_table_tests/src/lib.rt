@@ -13,6 +13,8 @@ mod channel;
 #[cfg(test)]
 mod keys;
 #[cfg(test)]
+mod listed;
+#[cfg(test)]
 mod pipe;
 #[cfg(test)]
 mod poller;

@@ -16,7 +16,7 @@ use nio_poller::{
     Bell, PollError, Poller, Scripted, SelectError, Sleeper, SleeperBell, close, interrupt,
     interrupted, select, select_for, select_now, wakeup,
 };
-use nio_select::{Asked, Selected, Told};
+use nio_select::{Asked, Selected, Selector, Told};
 use nio_words::{Pass, Words};
 use std::alloc::{AllocError, Global};
 use std::sync::Wait;
@@ -69,8 +69,8 @@ impl Poller for LastWait {
         mode: Mode,
     ) -> Result<Told, PollError>
         ensures cause { CountsFaults Fault 0 0 result }
-        ensures ready { IfOk result (λ told. (c : ChanNo) → 0 ≡ told_of_channel asked.now told.pairs.items c) }
-        ensures polls { AddsPoll None None asked.now mode result }
+        ensures ready { IfOk result (λ told. (c : ChanNo) → 0 ≡ told_of_channel asked.now.keys told.pairs.items c) }
+        ensures polls { AddsPoll None None asked.now.keys mode result }
     {
         self.last = Some(mode);
         Ok(Told {
@@ -117,11 +117,14 @@ fn answer<R: Wait, P: Poller>(
     ensures ready { IsReady w.now p.new ZERO }
     ensures selector { HasSelector (view w.now p.new) S }
 {
+    let mut on = Selector::without_list(S);
     match call {
-        OnSelector::Select => Reply::Selected(select(rt, alloc, w, p, ZERO, S, poller)),
-        OnSelector::SelectNow => Reply::Selected(select_now(rt, alloc, w, p, ZERO, S, poller)),
+        OnSelector::Select => Reply::Selected(select(rt, alloc, w, p, ZERO, &mut on, poller)),
+        OnSelector::SelectNow => {
+            Reply::Selected(select_now(rt, alloc, w, p, ZERO, &mut on, poller))
+        }
         OnSelector::SelectFor(ms) => {
-            Reply::Selected(select_for(rt, alloc, w, p, ZERO, S, poller, ms))
+            Reply::Selected(select_for(rt, alloc, w, p, ZERO, &mut on, poller, ms))
         }
         OnSelector::Wakeup => {
             wakeup(w, p, ZERO, S, bell);
@@ -248,7 +251,8 @@ fn waits<R: Wait>(
 ) -> Result<Selected, SelectError>
     requires { MayCall w.now p ZERO }
 {
-    select(rt, alloc, w, &mut p, ZERO, S, &mut sleeper)
+    let mut on = Selector::without_list(S);
+    select(rt, alloc, w, &mut p, ZERO, &mut on, &mut sleeper)
 }
 
 fn ends<R: Wait>(rt: &R, w: &Words, mut p: Pass, bell: &SleeperBell, how: Ending) -> Pass

@@ -5,6 +5,7 @@ ghost use Rattle.std.specs.Prelude.{IfSome};
 ghost use Rattle.nio_channel.specs.Idle.{AreIdle, zero, one};
 ghost use Rattle.nio_history.specs.Conditions.{IsKey};
 ghost use Rattle.nio_history.specs.PassViews.{HasChannel, HasSelector};
+ghost use Rattle.nio_select.specs.InHand.{selection_of};
 ghost use Rattle.nio_select.specs.InProgress.{Selects, HasShut};
 ghost use Rattle.nio_steps.specs.SelectCalls.{Selection};
 ghost use Rattle.nio_words.specs.Passes.{IsReady, limits_of};
@@ -257,7 +258,7 @@ fn is_told_beside(
     told: &Told,
 ) -> (Reply, bool, Reply, bool)
     requires idle { AreIdle w.now p.old }
-    requires begun { Selects (view w.now p.old) zero selection }
+    requires begun { Selects (view w.now p.old) zero (selection_of selection) }
     ensures { AreIdle w.now p.new }
 {
     let busy = begins_beside(alloc, w, p);
@@ -441,7 +442,7 @@ fn selects_twice(alloc: Global, w: &Words, p: &mut Pass, first: &Told, second: &
         return false;
     };
     match selection.told(w, p, ZERO, first) {
-        After::Done(_answer) => true,
+        After::Done(_answer, _list) => true,
         After::Again(selection) => ends(w, p, selection, second),
     }
 }
@@ -450,12 +451,12 @@ fn selects_twice(alloc: Global, w: &Words, p: &mut Pass, first: &Told, second: &
 fn ends(w: &Words, p: &mut Pass, selection: Selecting, told: &Told) -> bool
     requires ready { IsReady w.now p.old ZERO }
     requires selector { HasSelector (view w.now p.old) S }
-    requires begun { Selects (view w.now p.old) zero selection }
+    requires begun { Selects (view w.now p.old) zero (selection_of selection) }
     ensures ready { IsReady w.now p.new ZERO }
     ensures selector { HasSelector (view w.now p.new) S }
 {
     match selection.told(w, p, ZERO, told) {
-        After::Done(_answer) => true,
+        After::Done(_answer, _list) => true,
         After::Again(selection) => {
             selection.leave(w, p, ZERO);
             false

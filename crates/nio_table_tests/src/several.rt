@@ -142,7 +142,7 @@ pub(crate) fn selects(alloc: Global, caller: &mut Caller<'_>, sel: SelNo, mode: 
         Err(error) => return Reply::NotBegun(error),
     };
     match caller.told(selection, &told) {
-        After::Done(answer) => Reply::Done(answer.count, answer.why),
+        After::Done(answer, _list) => Reply::Done(answer.count, answer.why),
         After::Again(selection) => {
             caller.leave(selection);
             Reply::Again

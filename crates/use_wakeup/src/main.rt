@@ -3,9 +3,10 @@
 #![tactic(auto)]
 
 ghost use Rattle.nio.specs.Callers.{sees};
+ghost use Rattle.nio.specs.InProgress.{MaySelect};
 ghost use Rattle.nio.specs.PassViews.{HasSelector};
 
-use nio::select::{Scripted, SelectError, Selected, Sleeper, SleeperBell, Told};
+use nio::select::{Scripted, SelectError, Selected, Selector, Sleeper, SleeperBell, Told};
 use nio::{Caller, CallerNo, Kind, Ops, SelNo, USUAL_LIMITS, Words};
 use std::alloc::Global;
 use std::sync::Wait;
@@ -26,7 +27,8 @@ fn main(rt: HostRuntime) -> anyhow::Result<()> {
         elapsed: false,
     };
     let mut script = Scripted::make(vec![in rt.alloc(); told]?, Vec::new(rt.alloc()));
-    let selected = first.select(&rt, rt.alloc(), sel, &mut script)?;
+    let mut selector = first.take_list(rt.alloc(), sel);
+    let selected = first.select(&rt, rt.alloc(), &mut selector, &mut script)?;
     println!(rt; "selected: {} ({:?})", selected.count, selected.why)?;
 
     // The second caller is for another thread. The first sleeps in its selection until it is woken.
@@ -35,8 +37,8 @@ fn main(rt: HostRuntime) -> anyhow::Result<()> {
     let (answer, ()) = join(
         &rt,
         || -> Result<Selected, SelectError>
-            requires { HasSelector (sees first) sel }
-        { sleeps(&rt, rt.alloc(), first, sel, sleeper) },
+            requires { MaySelect (sees first) first.number selector }
+        { sleeps(&rt, rt.alloc(), first, selector, sleeper) },
         ||
             requires { HasSelector (sees second) sel }
         { wakes(second, sel, &bell) },
@@ -50,14 +52,15 @@ fn sleeps<R: Wait>(
     rt: &R,
     alloc: Global,
     caller: Caller<'_>,
-    sel: SelNo,
+    selector: Selector,
     sleeper: Sleeper,
 ) -> Result<Selected, SelectError>
-    requires { HasSelector (sees caller) sel }
+    requires { MaySelect (sees caller) caller.number selector }
 {
     let mut caller = caller;
+    let mut selector = selector;
     let mut sleeper = sleeper;
-    caller.select(rt, alloc, sel, &mut sleeper)
+    caller.select(rt, alloc, &mut selector, &mut sleeper)
 }
 
 fn wakes(caller: Caller<'_>, sel: SelNo, bell: &SleeperBell)

@@ -187,14 +187,16 @@ fn tell_one(pairs: &mut Vec<(u32, Ops)>, index: u32, ops: Ops) -> Result<(), All
 }
 
 // What a poll tells of these keys.
+#[tactic(auto, using(nio_link::proofs::KeysTo::none_below))]
 fn tell(alloc: Global, sides: &[Side], asked: &Asked) -> Result<Vec<(u32, Ops)>, AllocError>
-    ensures { IfOk result (λ pairs. pairs.items ≡ told_pairs sides.now asked.now) }
+    ensures { IfOk result (λ pairs. pairs.items ≡ told_pairs sides.now asked.now.keys) }
 {
     let mut pairs = Vec::new(alloc);
-    for at in 0..asked.len() {
-        let (index, chan, interest) = asked.entry(at);
-        let ops = ready_of(sides, chan).meet(interest);
-        tell_one(&mut pairs, index, ops)?;
+    for index in 0..asked.bound() {
+        if let Some(key) = asked.key(index) {
+            let ops = ready_of(sides, key.channel).meet(key.interest);
+            tell_one(&mut pairs, key.index, ops)?;
+        }
     }
     Ok(pairs)
 }
@@ -341,17 +343,17 @@ impl Poller for MemoryPackets {
         // As every poller.
         ensures cause { CountsFaults Fault 0 0 result }
         ensures ready { IfOk result (λ told. (c : ChanNo)
-            → ready_told self.new.findings c ≡ told_of_channel asked.now told.pairs.items c) }
+            → ready_told self.new.findings c ≡ told_of_channel asked.now.keys told.pairs.items c) }
         ensures unready { OnErr result ((c : ChanNo) → ready_told self.new.findings c ≡ 0) }
         ensures polls { AddsPoll (Some (polls_told self.old.findings)) (Some (polls_told self.new.findings))
-            asked.now mode result }
+            asked.now.keys mode result }
         ensures kept { KeepsPackets self.old self.new }
 
         // By its packets.
         ensures never { result ≢ Err Fault }
-        ensures answer { IfOk result (λ told. poll_of told ≡ answer_of (told_pairs self.old.sides asked.now)) }
+        ensures answer { IfOk result (λ told. poll_of told ≡ answer_of (told_pairs self.old.sides asked.now.keys)) }
         ensures ok { IfOk result (λ told. self.new
-            ≡ after_poll self.old (record { asked = asked.now; mode = mode; answer = poll_of told })) }
+            ≡ after_poll self.old (record { asked = asked.now.keys; mode = mode; answer = poll_of told })) }
         ensures lost { OnErr result (self.new ≡ after_lost_poll self.old) }
     {
         let Ok(pairs) = tell(alloc, &self.sides, asked) else {
@@ -395,7 +397,7 @@ impl<'a> Reading<PollAnswer<'a>, Finding> for OnePoll {
     ghost use Rattle.nio_datagram.specs.declared.memory.finding.Finding.TheVariants.{Told as WasTold};
 
     ghost items = { λ answer. WasTold (record {
-      asked = answer.asked.now;
+      asked = answer.asked.now.keys;
       mode = answer.mode;
       answer = poll_of answer.told.now;
     }) ∷ [] };

@@ -126,19 +126,21 @@ fn tell_one(pairs: &mut Vec<(u32, Ops)>, index: u32, ops: Ops) -> Result<(), All
 }
 
 // What a poll tells of these keys.
+#[tactic(auto, using(crate::proofs::KeysTo::none_below))]
 fn tell(
     alloc: Global,
     slots: &[Slot],
     waiting: bool,
     asked: &Asked,
 ) -> Result<Vec<(u32, Ops)>, AllocError>
-    ensures { IfOk result (λ pairs. pairs.items ≡ told_pairs slots.now waiting asked.now) }
+    ensures { IfOk result (λ pairs. pairs.items ≡ told_pairs slots.now waiting asked.now.keys) }
 {
     let mut pairs = Vec::new(alloc);
-    for at in 0..asked.len() {
-        let (index, chan, interest) = asked.entry(at);
-        let ops = ready_of(slots, chan, waiting).meet(interest);
-        tell_one(&mut pairs, index, ops)?;
+    for index in 0..asked.bound() {
+        if let Some(key) = asked.key(index) {
+            let ops = ready_of(slots, key.channel, waiting).meet(key.interest);
+            tell_one(&mut pairs, key.index, ops)?;
+        }
     }
     Ok(pairs)
 }
@@ -388,18 +390,18 @@ impl Poller for MemoryNet {
         // As every poller.
         ensures cause { CountsFaults Fault self.old.polls.faults self.new.polls.faults result }
         ensures ready { IfOk result (λ told. (c : ChanNo)
-            → ready_told self.new.findings c ≡ told_of_channel asked.now told.pairs.items c) }
+            → ready_told self.new.findings c ≡ told_of_channel asked.now.keys told.pairs.items c) }
         ensures unready { OnErr result ((c : ChanNo) → ready_told self.new.findings c ≡ 0) }
         ensures polls { AddsPoll (Some (polls_told self.old.findings)) (Some (polls_told self.new.findings))
-            asked.now mode result }
+            asked.now.keys mode result }
         ensures kept { KeepsLinks self.old self.new }
 
         // By its plan.
         ensures fails { (result ≡ Err Fault) ↔ FailsNext self.old.polls }
         ensures answer { IfOk result (λ told. poll_of told
-            ≡ answer_of (told_pairs self.old.slots (is_waiting self.old.clients) asked.now)) }
+            ≡ answer_of (told_pairs self.old.slots (is_waiting self.old.clients) asked.now.keys)) }
         ensures ok { IfOk result (λ told. self.new
-            ≡ after_poll self.old (record { asked = asked.now; mode = mode; answer = poll_of told })) }
+            ≡ after_poll self.old (record { asked = asked.now.keys; mode = mode; answer = poll_of told })) }
         ensures lost { result ≡ Err Memory → self.new ≡ after_lost_poll self.old }
         ensures failed { result ≡ Err Fault → self.new ≡ after_failed_poll self.old }
     {
@@ -449,7 +451,7 @@ impl<'a> Reading<PollAnswer<'a>, Finding> for OnePoll {
     ghost use Rattle.nio_link.specs.declared.memory.finding.Finding.TheVariants.{Told as WasTold};
 
     ghost items = { λ answer. WasTold (record {
-      asked = answer.asked.now;
+      asked = answer.asked.now.keys;
       mode = answer.mode;
       answer = poll_of answer.told.now;
     }) ∷ [] };

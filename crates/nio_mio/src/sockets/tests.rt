@@ -94,7 +94,11 @@ fn free_address(rt: &HostRuntime) -> Result<Addr, Fail> {
 /// One poll of the system, whose events are kept.
 fn poll(sockets: &mut Sockets, time: Duration) -> Result<(), Fail> {
     sockets.poll_for(Some(time))?;
-    keep_all(&mut sockets.news, &sockets.events);
+    for event in &sockets.events {
+        if let Some(chan) = channel_of(event) {
+            sockets.news.add(chan, told_by(event));
+        }
+    }
     Ok(())
 }
 

@@ -1,9 +1,10 @@
 //! One selection, whose poll's answer is told by channels.
-ghost use Rattle.std.specs.Prelude.{◌≡◌, IfOk, IfSome, OnErr, OnOk, bit_and};
+ghost use Rattle.std.specs.Prelude.{◌≡◌, IfOk, OnErr, OnOk, bit_and};
 ghost use Rattle.nio_poller.specs.Polls.{CountsFaults, told_of_channel};
 ghost use Rattle.nio_poller.specs.declared.poller.PollError.TheVariants.{Fault};
+ghost use Rattle.nio_select.specs.InHand.{list_of, selection_of, TakesOnList};
 ghost use Rattle.nio_select.specs.InProgress.{poll_of};
-ghost use Rattle.nio_serve.specs.Board.{AreOrdered, AreReady, IsAskedFor, IsAtRest, IsSelecting, board_of};
+ghost use Rattle.nio_serve.specs.Board.{AreOrdered, AreReady, IsAtRest, IsSameBoard, IsSelecting, board_of};
 ghost use Rattle.nio_serve.specs.BoardCalls.{BeginsSelection, FailsToBegin, HasMade, LeavesSelection, TellsPoll};
 
 use super::Station;
@@ -12,60 +13,70 @@ use crate::way::Way;
 use nio_base::{ChanNo, Ops};
 use nio_history::Mode;
 use nio_poller::PollError;
-use nio_select::{After, Asked, Selecting, Told, try_begin};
+use nio_select::{After, Asked, Selecting, Told};
+use nio_steps::LookedKey;
 use nio_words::{Pass, Words};
 use std::alloc::{AllocError, Global};
 use std::sync::Wait;
 
-// Begins a selection that waits. A caller that has its selector alone never finds it closed or busy; this is answered
-// as want of memory.
+// Begins a selection that waits, and lends it the selector's list. A caller that has its selector alone never finds it
+// closed or busy; this is answered as want of memory.
 pub(super) fn begin(
     alloc: Global,
     w: &Words,
     p: &mut Pass,
-    at: Station,
+    at: &mut Station,
 ) -> Result<Selecting, AllocError>
-    requires { IsAtRest (board_of w.now p.old at) }
-    ensures rest { IsAtRest (board_of w.now p.new at) }
-    ensures begun { IfOk result (IsSelecting (board_of w.now p.new at)) }
-    ensures made { IfOk result (λ selection. HasMade (board_of w.now p.old at) (board_of w.now p.new at)
-        (BeginsSelection at.selector selection)) }
-    ensures refused { OnErr result (HasMade (board_of w.now p.old at) (board_of w.now p.new at)
-        (FailsToBegin at.selector)) }
+    requires { IsAtRest (board_of w.now p.old at.old) }
+    ensures rest { IsAtRest (board_of w.now p.new at.new) }
+    ensures same { IsSameBoard (board_of w.now p.old at.old) (board_of w.now p.new at.new) }
+    ensures begun { IfOk result (λ s. IsSelecting (board_of w.now p.new at.new) (selection_of s)) }
+    ensures taken_on { IfOk result (TakesOnList at.old.selector) }
+    ensures kept { OnErr result (at.new.selector ≡ at.old.selector) }
+    ensures made { IfOk result (λ s. HasMade (board_of w.now p.old at.old) (board_of w.now p.new at.new)
+        (BeginsSelection at.old.selector (selection_of s))) }
+    ensures refused { OnErr result (HasMade (board_of w.now p.old at.old) (board_of w.now p.new at.new)
+        (FailsToBegin at.old.selector)) }
 {
-    match try_begin(alloc, w, p, at.caller, at.selector, Mode::Wait) {
+    match at.selector.begin(alloc, w, p, at.caller, Mode::Wait) {
         Ok(selection) => Ok(selection),
         Err(_refusal) => Err(AllocError),
     }
 }
 
 // Leaves a selection for which no poll has answered.
-pub(super) fn leave(w: &Words, p: &mut Pass, at: Station, selection: Selecting)
-    requires rest { IsAtRest (board_of w.now p.old at) }
-    requires begun { IsSelecting (board_of w.now p.old at) selection }
-    ensures rest { IsAtRest (board_of w.now p.new at) }
-    ensures made { HasMade (board_of w.now p.old at) (board_of w.now p.new at) (LeavesSelection selection) }
+pub(super) fn leave(w: &Words, p: &mut Pass, at: &mut Station, selection: Selecting)
+    requires rest { IsAtRest (board_of w.now p.old at.old) }
+    requires begun { IsSelecting (board_of w.now p.old at.old) (selection_of selection) }
+    ensures rest { IsAtRest (board_of w.now p.new at.new) }
+    ensures same { IsSameBoard (board_of w.now p.old at.old) (board_of w.now p.new at.new) }
+    ensures back { at.new.selector.list ≡ list_of selection }
+    ensures made { HasMade (board_of w.now p.old at.old) (board_of w.now p.new at.new)
+        (LeavesSelection (selection_of selection)) }
 {
-    selection.leave(w, p, at.caller);
+    let list = selection.leave(w, p, at.caller);
+    at.selector.give_back(list);
 }
 
 // Ends a selection with what a poller answered for it, and lists what was told.
 pub(super) fn end(
     w: &Words,
     p: &mut Pass,
-    at: Station,
+    at: &mut Station,
     selection: Selecting,
     answer: &Told,
     told: &mut Vec<(ChanNo, Ops)>,
 ) -> Result<(), AllocError>
-    requires rest { IsAtRest (board_of w.now p.old at) }
-    requires begun { IsSelecting (board_of w.now p.old at) selection }
-    ensures rest { IsAtRest (board_of w.now p.new at) }
-    ensures made { OnOk result (HasMade (board_of w.now p.old at) (board_of w.now p.new at)
-        (TellsPoll selection (poll_of answer.now))) }
-    ensures left { OnErr result (HasMade (board_of w.now p.old at) (board_of w.now p.new at)
-        (LeavesSelection selection)) }
-    ensures ready { IfOk result (λ _. AreReady (told_of_channel selection.looked answer.now.pairs.items)
+    requires rest { IsAtRest (board_of w.now p.old at.old) }
+    requires begun { IsSelecting (board_of w.now p.old at.old) (selection_of selection) }
+    ensures rest { IsAtRest (board_of w.now p.new at.new) }
+    ensures same { IsSameBoard (board_of w.now p.old at.old) (board_of w.now p.new at.new) }
+    ensures back { at.new.selector.list ≡ list_of selection }
+    ensures made { OnOk result (HasMade (board_of w.now p.old at.old) (board_of w.now p.new at.new)
+        (TellsPoll (selection_of selection) (poll_of answer.now))) }
+    ensures left { OnErr result (HasMade (board_of w.now p.old at.old) (board_of w.now p.new at.new)
+        (LeavesSelection (selection_of selection))) }
+    ensures ready { IfOk result (λ _. AreReady (told_of_channel selection.asked.keys answer.now.pairs.items)
         told.new.items) }
     ensures ordered { IfOk result (λ _. AreOrdered told.new.items) }
 {
@@ -82,16 +93,18 @@ pub(super) fn end(
 }
 
 // Tells the selection what the poller answered, and leaves it where it would go on.
-pub(super) fn tell(w: &Words, p: &mut Pass, at: Station, selection: Selecting, answer: &Told)
-    requires rest { IsAtRest (board_of w.now p.old at) }
-    requires begun { IsSelecting (board_of w.now p.old at) selection }
-    ensures rest { IsAtRest (board_of w.now p.new at) }
-    ensures made { HasMade (board_of w.now p.old at) (board_of w.now p.new at)
-        (TellsPoll selection (poll_of answer.now)) }
+pub(super) fn tell(w: &Words, p: &mut Pass, at: &mut Station, selection: Selecting, answer: &Told)
+    requires rest { IsAtRest (board_of w.now p.old at.old) }
+    requires begun { IsSelecting (board_of w.now p.old at.old) (selection_of selection) }
+    ensures rest { IsAtRest (board_of w.now p.new at.new) }
+    ensures same { IsSameBoard (board_of w.now p.old at.old) (board_of w.now p.new at.new) }
+    ensures back { at.new.selector.list ≡ list_of selection }
+    ensures made { HasMade (board_of w.now p.old at.old) (board_of w.now p.new at.new)
+        (TellsPoll (selection_of selection) (poll_of answer.now)) }
 {
     match selection.told(w, p, at.caller, answer) {
-        After::Done(_selected) => {}
-        After::Again(next) => next.leave(w, p, at.caller),
+        After::Done(_selected, list) => at.selector.give_back(list),
+        After::Again(next) => leave(w, p, at, next),
     }
 }
 
@@ -152,7 +165,7 @@ fn resolve(
     pairs: &[(u32, Ops)],
     told: &mut Vec<(ChanNo, Ops)>,
 ) -> Result<(), AllocError>
-    ensures ready { IfOk result (λ _. AreReady (told_of_channel asked.now pairs.now) told.new.items) }
+    ensures ready { IfOk result (λ _. AreReady (told_of_channel asked.now.keys pairs.now) told.new.items) }
     ensures ordered { IfOk result (λ _. AreOrdered told.new.items) }
 {
     list(asked, pairs, told)?;
@@ -166,42 +179,20 @@ fn list(
     pairs: &[(u32, Ops)],
     told: &mut Vec<(ChanNo, Ops)>,
 ) -> Result<(), AllocError>
-    ensures { IfOk result (λ _. AreReady (told_of_channel asked.now pairs.now) told.new.items) }
+    ensures { IfOk result (λ _. AreReady (told_of_channel asked.now.keys pairs.now) told.new.items) }
 {
     told.clear();
     for &(index, bits) in pairs {
-        if let Some(found) = find(asked, index) {
-            told.push(met(bits, found))?;
+        if let Some(key) = asked.key(index) {
+            told.push(met(bits, key))?;
         }
     }
     Ok(())
 }
 
-// The channel, with what was told of it and its key is interested in.
-fn met(bits: Ops, found: (ChanNo, Ops)) -> (ChanNo, Ops)
-    ensures { result ≡ (found.0, bit_and bits found.1) }
+// The channel of the key, with what was told of it and it is interested in.
+fn met(bits: Ops, key: LookedKey) -> (ChanNo, Ops)
+    ensures { result ≡ (key.channel, bit_and bits key.interest) }
 {
-    let (chan, interest) = found;
-    (chan, bits.meet(interest))
-}
-
-// The channel and the interest set of the key with this index, where the selection looked at it. The list rises.
-fn find(asked: &Asked, index: u32) -> Option<(ChanNo, Ops)>
-    ensures { IfSome result (IsAskedFor asked.now index) }
-{
-    let mut low = 0;
-    let mut high = asked.len();
-    while low < high {
-        let middle = low + (high - low) / 2;
-        let (found, chan, interest) = asked.entry(middle);
-        if found == index {
-            return Some((chan, interest));
-        }
-        if found < index {
-            low = middle + 1;
-        } else {
-            high = middle;
-        }
-    }
-    None
+    (key.channel, bits.meet(key.interest))
 }

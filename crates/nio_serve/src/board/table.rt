@@ -35,17 +35,17 @@ pub(super) fn watch_next<R: Wait>(
     rt: &R,
     w: &Words,
     p: &mut Pass,
-    at: Station,
+    at: &Station,
     kind: Kind,
     ops: Ops,
 ) -> Result<KeyNo, Refused>
-    requires { IsAtRest (board_of w.now p.old at) }
-    ensures watched { OnOk result (IsAtRest (board_of w.now p.new (one_more at))) }
-    ensures refused { OnErr result (IsAtRest (board_of w.now p.new at)) }
-    ensures made { IfOk result (λ key. HasMade (board_of w.now p.old at) (board_of w.now p.new at)
-        (WatchesChannel at.deal at.selector kind (next_channel at) ops key)) }
-    ensures failed { OnErr result (HasMade (board_of w.now p.old at) (board_of w.now p.new at)
-        (FailsToWatch at.deal at.selector kind (next_channel at) ops)) }
+    requires { IsAtRest (board_of w.now p.old at.now) }
+    ensures watched { OnOk result (IsAtRest (board_of w.now p.new (one_more at.now))) }
+    ensures refused { OnErr result (IsAtRest (board_of w.now p.new at.now)) }
+    ensures made { IfOk result (λ key. HasMade (board_of w.now p.old at.now) (board_of w.now p.new at.now)
+        (WatchesChannel at.now.deal at.now.selector.number kind (next_channel at.now) ops key)) }
+    ensures failed { OnErr result (HasMade (board_of w.now p.old at.now) (board_of w.now p.new at.now)
+        (FailsToWatch at.now.deal at.now.selector.number kind (next_channel at.now) ops)) }
 {
     let chan = take_next(w, p, at, kind)?;
     if set_blocking(rt, w, p, at.caller, chan, false).is_err() {
@@ -56,15 +56,15 @@ pub(super) fn watch_next<R: Wait>(
 }
 
 // The table's channel that is the next one of the board, the first of its number: it opens it, where it has no deal.
-fn take_next(w: &Words, p: &mut Pass, at: Station, kind: Kind) -> Result<ChanId, Refused>
-    requires { IsAtRest (board_of w.now p.old at) }
-    ensures rest { IsAtRest (board_of w.now p.new at) }
-    ensures next { IfOk result (λ c. c ≡ first_channel (next_channel at)) }
+fn take_next(w: &Words, p: &mut Pass, at: &Station, kind: Kind) -> Result<ChanId, Refused>
+    requires { IsAtRest (board_of w.now p.old at.now) }
+    ensures rest { IsAtRest (board_of w.now p.new at.now) }
+    ensures next { IfOk result (λ c. c ≡ first_channel (next_channel at.now)) }
     ensures made { IfOk result (HasChannel (view w.now p.new)) }
-    ensures taken { OnOk result (AreMade (board_of w.now p.old at) (board_of w.now p.new at)
-        (takes at.deal kind (next_channel at) ∷ [])) }
-    ensures failed { OnErr result (HasMade (board_of w.now p.old at) (board_of w.now p.new at)
-        (FailsToTake kind (next_channel at) at.deal)) }
+    ensures taken { OnOk result (AreMade (board_of w.now p.old at.now) (board_of w.now p.new at.now)
+        (takes at.now.deal kind (next_channel at.now) ∷ [])) }
+    ensures failed { OnErr result (HasMade (board_of w.now p.old at.now) (board_of w.now p.new at.now)
+        (FailsToTake kind (next_channel at.now) at.now.deal)) }
 {
     let Some(next) = at.table_channel(ChanNo(at.registered)) else {
         return Err(Refused);
@@ -79,17 +79,17 @@ fn take_next(w: &Words, p: &mut Pass, at: Station, kind: Kind) -> Result<ChanId,
 fn open_next(
     w: &Words,
     p: &mut Pass,
-    at: Station,
+    at: &Station,
     chan: ChanNo,
     kind: Kind,
 ) -> Result<ChanId, Refused>
-    requires { IsAtRest (board_of w.now p.old at) }
-    ensures rest { IsAtRest (board_of w.now p.new at) }
+    requires { IsAtRest (board_of w.now p.old at.now) }
+    ensures rest { IsAtRest (board_of w.now p.new at.now) }
     ensures its { IfOk result (λ c. c ≡ first_channel chan) }
     ensures made { IfOk result (HasChannel (view w.now p.new)) }
-    ensures taken { OnOk result (AreMade (board_of w.now p.old at) (board_of w.now p.new at)
+    ensures taken { OnOk result (AreMade (board_of w.now p.old at.now) (board_of w.now p.new at.now)
         (takes None kind chan ∷ [])) }
-    ensures failed { OnErr result (HasMade (board_of w.now p.old at) (board_of w.now p.new at)
+    ensures failed { OnErr result (HasMade (board_of w.now p.old at.now) (board_of w.now p.new at.now)
         (FailsToOpen kind chan)) }
 {
     match open_channel(w, p, at.caller, kind) {
@@ -103,14 +103,14 @@ fn open_next(
 }
 
 // Finds a channel that was opened.
-fn find_made(w: &Words, p: &mut Pass, at: Station, chan: ChanNo) -> Result<ChanId, Refused>
-    requires { IsAtRest (board_of w.now p.old at) }
-    ensures rest { IsAtRest (board_of w.now p.new at) }
+fn find_made(w: &Words, p: &mut Pass, at: &Station, chan: ChanNo) -> Result<ChanId, Refused>
+    requires { IsAtRest (board_of w.now p.old at.now) }
+    ensures rest { IsAtRest (board_of w.now p.new at.now) }
     ensures its { IfOk result (λ c. c ≡ first_channel chan) }
     ensures made { IfOk result (HasChannel (view w.now p.new)) }
-    ensures taken { OnOk result (AreMade (board_of w.now p.old at) (board_of w.now p.new at)
+    ensures taken { OnOk result (AreMade (board_of w.now p.old at.now) (board_of w.now p.new at.now)
         (finds_channel chan (Some (first_channel chan)) ∷ [])) }
-    ensures failed { OnErr result (HasMade (board_of w.now p.old at) (board_of w.now p.new at)
+    ensures failed { OnErr result (HasMade (board_of w.now p.old at.now) (board_of w.now p.new at.now)
         (FailsToFind chan)) }
 {
     let Some(made) = find_channel(w, p, at.caller, chan.0, 0) else {
@@ -128,21 +128,21 @@ fn register_made<R: Wait>(
     rt: &R,
     w: &Words,
     p: &mut Pass,
-    at: Station,
+    at: &Station,
     chan: ChanId,
     ops: Ops,
 ) -> Result<KeyNo, Refused>
-    requires rest { IsAtRest (board_of w.now p.old at) }
-    requires next { chan ≡ first_channel (next_channel at) }
+    requires rest { IsAtRest (board_of w.now p.old at.now) }
+    requires next { chan ≡ first_channel (next_channel at.now) }
     requires channel { HasChannel (view w.now p.old) chan }
-    ensures watched { OnOk result (IsAtRest (board_of w.now p.new (one_more at))) }
-    ensures refused { OnErr result (IsAtRest (board_of w.now p.new at)) }
-    ensures made { IfOk result (λ key. AreMade (board_of w.now p.old at) (board_of w.now p.new at)
-        (registers at.selector (next_channel at) ops key ∷ [])) }
-    ensures failed { OnErr result (HasMade (board_of w.now p.old at) (board_of w.now p.new at)
-        (FailsToRegister at.selector (next_channel at) ops)) }
+    ensures watched { OnOk result (IsAtRest (board_of w.now p.new (one_more at.now))) }
+    ensures refused { OnErr result (IsAtRest (board_of w.now p.new at.now)) }
+    ensures made { IfOk result (λ key. AreMade (board_of w.now p.old at.now) (board_of w.now p.new at.now)
+        (registers at.now.selector.number (next_channel at.now) ops key ∷ [])) }
+    ensures failed { OnErr result (HasMade (board_of w.now p.old at.now) (board_of w.now p.new at.now)
+        (FailsToRegister at.now.selector.number (next_channel at.now) ops)) }
 {
-    match register(rt, w, p, at.caller, at.selector, chan, ops, 0) {
+    match register(rt, w, p, at.caller, at.selector.number(), chan, ops, 0) {
         Ok(key) => Ok(key),
         Err(_refusal) => {
             close_channel(w, p, at.caller, chan);
@@ -155,18 +155,18 @@ fn register_made<R: Wait>(
 pub(super) fn set_interest_of(
     w: &Words,
     p: &mut Pass,
-    at: Station,
+    at: &Station,
     key: KeyNo,
     ops: Ops,
 ) -> Result<(), Refused>
-    requires { IsAtRest (board_of w.now p.old at) }
-    ensures rest { IsAtRest (board_of w.now p.new at) }
-    ensures made { OnOk result (HasMade (board_of w.now p.old at) (board_of w.now p.new at)
-        (SetsInterest at.selector key ops)) }
-    ensures refused { OnErr result (HasMade (board_of w.now p.old at) (board_of w.now p.new at)
-        (FailsToSet at.selector key ops)) }
+    requires { IsAtRest (board_of w.now p.old at.now) }
+    ensures rest { IsAtRest (board_of w.now p.new at.now) }
+    ensures made { OnOk result (HasMade (board_of w.now p.old at.now) (board_of w.now p.new at.now)
+        (SetsInterest at.now.selector.number key ops)) }
+    ensures refused { OnErr result (HasMade (board_of w.now p.old at.now) (board_of w.now p.new at.now)
+        (FailsToSet at.now.selector.number key ops)) }
 {
-    let Some(key) = find(w, p, at.caller, at.selector, key.index, key.serial) else {
+    let Some(key) = find(w, p, at.caller, at.selector.number(), key.index, key.serial) else {
         return Err(Refused);
     };
     match set_interest(w, p, at.caller, key, ops) {
@@ -176,11 +176,11 @@ pub(super) fn set_interest_of(
 }
 
 // Cancels the port's key, and closes its channel, as far as the table has them.
-pub(super) fn unwatch_port(w: &Words, p: &mut Pass, at: Station, port: Port)
-    requires { IsAtRest (board_of w.now p.old at) }
-    ensures rest { IsAtRest (board_of w.now p.new at) }
-    ensures made { HasMade (board_of w.now p.old at) (board_of w.now p.new at)
-        (Unwatches at.deal at.selector port.key port.chan) }
+pub(super) fn unwatch_port(w: &Words, p: &mut Pass, at: &Station, port: Port)
+    requires { IsAtRest (board_of w.now p.old at.now) }
+    ensures rest { IsAtRest (board_of w.now p.new at.now) }
+    ensures made { HasMade (board_of w.now p.old at.now) (board_of w.now p.new at.now)
+        (Unwatches at.now.deal at.now.selector.number port.key port.chan) }
 {
     cancel_key(w, p, at, port.key);
     if let Some(chan) = at.table_channel(port.chan) {
@@ -188,21 +188,21 @@ pub(super) fn unwatch_port(w: &Words, p: &mut Pass, at: Station, port: Port)
     }
 }
 
-fn cancel_key(w: &Words, p: &mut Pass, at: Station, key: KeyNo)
-    requires { IsAtRest (board_of w.now p.old at) }
-    ensures rest { IsAtRest (board_of w.now p.new at) }
-    ensures made { HasMade (board_of w.now p.old at) (board_of w.now p.new at)
-        (CancelsKey at.selector key) }
+fn cancel_key(w: &Words, p: &mut Pass, at: &Station, key: KeyNo)
+    requires { IsAtRest (board_of w.now p.old at.now) }
+    ensures rest { IsAtRest (board_of w.now p.new at.now) }
+    ensures made { HasMade (board_of w.now p.old at.now) (board_of w.now p.new at.now)
+        (CancelsKey at.now.selector.number key) }
 {
-    if let Some(key) = find(w, p, at.caller, at.selector, key.index, key.serial) {
+    if let Some(key) = find(w, p, at.caller, at.selector.number(), key.index, key.serial) {
         cancel(w, p, at.caller, key);
     }
 }
 
-fn close_made(w: &Words, p: &mut Pass, at: Station, chan: ChanNo)
-    requires { IsAtRest (board_of w.now p.old at) }
-    ensures rest { IsAtRest (board_of w.now p.new at) }
-    ensures made { HasMade (board_of w.now p.old at) (board_of w.now p.new at)
+fn close_made(w: &Words, p: &mut Pass, at: &Station, chan: ChanNo)
+    requires { IsAtRest (board_of w.now p.old at.now) }
+    ensures rest { IsAtRest (board_of w.now p.new at.now) }
+    ensures made { HasMade (board_of w.now p.old at.now) (board_of w.now p.new at.now)
         (ClosesChannel chan) }
 {
     if let Some(made) = find_channel(w, p, at.caller, chan.0, 0) {

@@ -1,5 +1,9 @@
 use Rattle.nio_history.proofs.PassViews.{selector_after}
+use Rattle.nio_bench.proofs.SetUp.{may_without}
 use Rattle.nio_bench.proofs.waiting.selections.Goals as goal
 
 pub loop-preserved : goal.loop-preserved
 loop-preserved g c = (c.select_now.ensures.ready, selector_after c.select_now.ensures.call.call.acts c.loop.invariant.1)
+
+pub select_now-requires-clause-may : goal.select_now-requires-clause-may
+select_now-requires-clause-may g c = may_without c.without_list-on.ensures c.loop.invariant.1

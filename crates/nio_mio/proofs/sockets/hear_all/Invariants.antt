@@ -1,8 +1,9 @@
 use Rattle.std.proofs.Common.{IsTrue}
-use Rattle.nio_kept.specs.News.{AreApart, AreFound}
+use Rattle.nio_kept.specs.News.{Knows, Remembers}
 use Rattle.nio_mio.proofs.sockets.hear_all.Given as goal
 
 abbrev pub invariant-loop-event : goal.invariant-loop-event
-invariant-loop-event l =
-    IsTrue l.are_known → AreApart l.asked → AreFound l.fn.news l.asked l.fn.found.items
-    → AreFound l.news l.asked l.found.items
+invariant-loop-event l = record {
+  knows : IsTrue l.are_heard → Knows l.fn.news l.asked.keys → Knows l.news l.asked.keys;
+  remembers : Remembers l.fn.news l.asked → Remembers l.news l.asked;
+}

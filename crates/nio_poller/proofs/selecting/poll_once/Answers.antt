@@ -1,4 +1,6 @@
 use Rattle.std.proofs.Common.{◌≡◌, Bool, not, ◌&&◌, List, ap, sym, ◌∙◌, subst}
+use Rattle.nio_select.specs.Asked.{Looked}
+use Rattle.nio_select.specs.InHand.{selection_of}
 use Rattle.nio_select.specs.InProgress.{poll_of, told_reply}
 use Rattle.nio_steps.specs.Calls.{CallClause}
 use Rattle.nio_steps.specs.SelectCalls.{Tells}
@@ -14,6 +16,7 @@ use Rattle.nio_poller.proofs.selecting.poll_once.Goals.{then-not-is_first, else-
 pub returns-after-not-is_first-clause-call : goal.returns-after-not-is_first-clause-call
 returns-after-not-is_first-clause-call g c =
     let selection = c.args.selection in
+    let asked : c.asked.result.now.keys ≡ selection.asked.keys = ap (λ (a : Looked). a.keys) c.asked.ensures in
     let told = c.in-Ok.told in
     let waits : c.if-is_first.mode ≡ poll_mode c.args.is_first selection.mode =
     elim c.if-is_first.branch [
@@ -34,11 +37,11 @@ returns-after-not-is_first-clause-call g c =
       poll = poll_of told;
       call = subst
           (λ (elapsed : Bool).
-          CallClause c.args.me (Tells selection (record { pairs = told.pairs.items; elapsed = elapsed }))
+          CallClause c.args.me (Tells (selection_of selection) (record { pairs = told.pairs.items; elapsed = elapsed }))
           (view c.args.w.now c.args.p.now) (view c.args.w.now c.told.new.p) (told_reply c.told.result))
           elapsed c.told.ensures.call;
-      adds = adds_one _ _ _ _ _ _ told c.asked.ensures waits c.in-Ok.ensures.polls;
+      adds = adds_one _ _ _ _ _ _ told asked waits c.in-Ok.ensures.polls;
       ready_is = λ channel.
           c.in-Ok.ensures.ready channel
-          ∙ ap (λ (asked : List LookedKey). told_of_channel asked told.pairs.items channel) c.asked.ensures;
+          ∙ ap (λ (keys : List LookedKey). told_of_channel keys told.pairs.items channel) asked;
     }

@@ -1,19 +1,23 @@
-use Rattle.std.proofs.Common.{None, Some, Err, refl, subst}
-use Rattle.nio_history.specs.declared.found.Mode.TheVariants.{Wait}
-use Rattle.nio_poller.specs.Selecting.{SelectClause}
-use Rattle.nio_poller.specs.declared.selecting.SelectError.{SelectError}
+use Rattle.std.proofs.Common.{None, Err, refl, sym, ap, subst}
+use Rattle.nio_select.specs.InProgress.{MaySelect}
 use Rattle.nio_sole.proofs.Desks.{still_made, places_same, places_selection, progress_selection}
 use Rattle.nio_sole.specs.declared.desk.Desk.{Desk}
 use Rattle.nio_words.specs.Views.{view}
 use Rattle.nio_race.proofs.Blocking.{blocks_closed, blocks_selected, stands_closed, stands_selected}
+use Rattle.nio_race.proofs.Blocking.{without_its_list}
 use Rattle.nio_race.proofs.block.block_on.Goals as goal
+
+pub select-requires-clause-may : goal.select-requires-clause-may
+select-requires-clause-may g c =
+    subst (MaySelect (view c.args.w.now c.args.d.now.pass) c.args.me) (sym c.without_list-selector.ensures)
+    (record { made = c.requires.selector; had = tt })
 
 pub returns-in-Ok-clause-line : goal.returns-in-Ok-clause-line
 returns-in-Ok-clause-line g c =
     let d = c.args.d.now in
     let d' : Desk = record d { pass = c.select.new.p; selections = c.drop_selection.new.selections } in
     blocks_selected c.args.w.now d d' c.args.me c.args.sel c.over-poller.ensures c.in-Ok.ensures.kept c.in-Ok.selected
-    c.in-Ok.ensures.call
+    (without_its_list c.without_list-selector.ensures refl c.in-Ok.ensures.call)
     (progress_selection c.args.w.now d c.select.new.p c.args.sel c.drop_selection.new.selections None
     c.requires.stands.places c.requires.selector.inside c.drop_selection.ensures.items)
 
@@ -28,16 +32,15 @@ returns-in-Ok-clause-stands g c =
     (still_made c.select.new.p c.requires.stands.places c.in-Ok.ensures.call.call))
     (progress_selection c.args.w.now d c.select.new.p c.args.sel c.drop_selection.new.selections None
     c.requires.stands.places c.requires.selector.inside c.drop_selection.ensures.items)
-    c.in-Ok.ensures.call
+    (without_its_list c.without_list-selector.ensures refl c.in-Ok.ensures.call)
 
 pub returns-in-Err-ClosedSelector-clause-line : goal.returns-in-Err-ClosedSelector-clause-line
 returns-in-Err-ClosedSelector-clause-line g c =
     let d = c.args.d.now in
     let d' : Desk = record d { pass = c.select.new.p } in
     blocks_closed c.args.w.now d d' c.args.me c.args.sel c.over-poller.ensures c.in-Err-ClosedSelector.ensures.kept
-    (subst (λ (e : SelectError). SelectClause c.args.me c.args.sel Wait (view c.args.w.now d.pass)
-    (view c.args.w.now d'.pass) (Some c.over-poller.result.polls) (Some c.select.new.poller.polls) (λ _. 0) (Err e))
-    c.in-Err-ClosedSelector.field-0-is c.in-Err-ClosedSelector.ensures.call)
+    (without_its_list c.without_list-selector.ensures (ap Err c.in-Err-ClosedSelector.field-0-is)
+    c.in-Err-ClosedSelector.ensures.call)
     refl
 
 pub returns-in-Err-ClosedSelector-clause-stands : goal.returns-in-Err-ClosedSelector-clause-stands
@@ -46,6 +49,5 @@ returns-in-Err-ClosedSelector-clause-stands g c =
     let d' : Desk = record d { pass = c.select.new.p } in
     stands_closed c.args.w.now d d' c.args.me c.requires.stands c.args.sel c.in-Err-ClosedSelector.ensures.ready
     (places_same c.select.new.p c.in-Err-ClosedSelector.ensures.call.call c.requires.stands.places) refl
-    (subst (λ (e : SelectError). SelectClause c.args.me c.args.sel Wait (view c.args.w.now d.pass)
-    (view c.args.w.now d'.pass) (Some c.over-poller.result.polls) (Some c.select.new.poller.polls) (λ _. 0) (Err e))
-    c.in-Err-ClosedSelector.field-0-is c.in-Err-ClosedSelector.ensures.call)
+    (without_its_list c.without_list-selector.ensures (ap Err c.in-Err-ClosedSelector.field-0-is)
+    c.in-Err-ClosedSelector.ensures.call)

@@ -19,5 +19,6 @@ over-requires-clause-called c =
 
 pub returns-clause-seat : goal.returns-clause-seat
 returns-clause-seat c =
-    seat_is c.args.words.now c.args.number c.args.deal c.in-Ok.given c.in_ok-selector.selector c.over.result _
-    c.over.ensures c.in_ok-selector.ensures.call.shape
+    seat_is c.args.words.now c.args.number c.args.deal c.in_ok-selector.selector c.over.result _ c.over.ensures.words
+    c.over.ensures.caller c.over.ensures.selector c.over.ensures.deal c.over.ensures.registered
+    c.in_ok-selector.ensures.call.shape

@@ -1,20 +1,18 @@
-use Rattle.std.proofs.Common.{arith}
-use Rattle.nio_steps.proofs.CallLaws.{returned, left_reply, left_start}
-use Rattle.nio_steps.proofs.SweepLaws.{sweep_turn, sweep_done}
-use Rattle.nio_steps.specs.Plan.{reply}
+use Rattle.std.proofs.Common.{Bool, sym, subst}
+use Rattle.nio_steps.specs.Calls.{CallClause}
+use Rattle.nio_steps.specs.Looking.{remove_below}
+use Rattle.nio_steps.specs.Runs.{Completes}
+use Rattle.nio_words.specs.Views.{view}
 use Rattle.nio_select.proofs.removing.remove_below.Goals as goal
 
-pub loop-j-init : goal.loop-j-init
-loop-j-init c = (c.requires.begun, left_reply (left_start _ _ _ c.requires.begun.ready.pass.legal))
+pub returns-then-listed-clause-call : goal.returns-then-listed-clause-call
+returns-then-listed-clause-call c =
+    subst (λ (b : Bool). CallClause c.args.me (Completes (remove_below c.args.sel c.args.mark b))
+    (view c.args.w.now c.args.p.now) (view c.args.w.now c.remove_touched.new.p) tt) (sym c.if-listed.true)
+    c.remove_touched.ensures.call
 
-pub loop-j-preserved : goal.loop-j-preserved
-loop-j-preserved c = (
-  c.remove_in_word.ensures.begun,
-  sweep_turn _ _ _ _ _ reply (omega (arith, c.loop-j-test.true, c.words_below-j-end.ensures)) c.loop-j.invariant.1
-      c.remove_in_word.ensures.call,
-)
-
-pub returns-clause-call : goal.returns-clause-call
-returns-clause-call c =
-    returned (sweep_done _ _ _ _ reply (omega (arith, c.loop-j-test.false, c.words_below-j-end.ensures))
-    c.loop-j.invariant.1)
+pub returns-else-listed-clause-call : goal.returns-else-listed-clause-call
+returns-else-listed-clause-call c =
+    subst (λ (b : Bool). CallClause c.args.me (Completes (remove_below c.args.sel c.args.mark b))
+    (view c.args.w.now c.args.p.now) (view c.args.w.now c.remove_not_free.new.p) tt) (sym c.if-listed.false)
+    c.remove_not_free.ensures.call

@@ -20,7 +20,7 @@ put_free-requires-clause-may c =
     let below : nat_lt c.args.stage.serial last_serial ≡ true = search rules in
     or_right (has_taken (state_seen c.remove.new.p) c.args.me c.args.sel c.args.i)
     (may_put_due (state_seen c.remove.new.p) c.args.me c.args.sel c.args.i)
-    (due_now (step_acts c.remove.ensures refl) c.requires.may c.requires.stage below
+    (due_now c.args.stage (step_acts c.remove.ensures refl) c.requires.may c.requires.serial below
     (begun_stays c.remove.ensures refl refl c.requires.begun).begun)
 
 pub returns-then-stage-lt4294967295-clause-call : goal.returns-then-stage-lt4294967295-clause-call

@@ -1,4 +1,5 @@
-use Rattle.std.proofs.Common.{refl, sym}
+use Rattle.std.proofs.Common.{refl, ap, sym}
+use Rattle.nio_history.specs.declared.found.Stage.{Stage}
 use Rattle.nio_steps.proofs.CallLaws.{returned, left_ask, left_then, left_after, ran_then}
 use Rattle.nio_steps.specs.Plan.{reply}
 use Rattle.nio_words.proofs.Views.{step_acts}
@@ -13,8 +14,9 @@ remove_cancelled-requires-clause-may c =
     may_remove_now c.args.i (begun_stays c.look_key-stage.ensures refl refl c.requires.begun)
     (stage_now (step_acts c.look_key-stage.ensures refl)) (sym c.if-is_in_cancelled_set.ensures)
 
-pub remove_cancelled-requires-clause-stage : goal.remove_cancelled-requires-clause-stage
-remove_cancelled-requires-clause-stage c = stage_now (step_acts c.look_key-stage.ensures refl)
+pub remove_cancelled-requires-clause-serial : goal.remove_cancelled-requires-clause-serial
+remove_cancelled-requires-clause-serial c =
+    ap (λ (k : Stage). k.serial) (stage_now (step_acts c.look_key-stage.ensures refl))
 
 pub returns-then-is_in_cancelled_set-clause-call : goal.returns-then-is_in_cancelled_set-clause-call
 returns-then-is_in_cancelled_set-clause-call c =

@@ -1,5 +1,5 @@
-use Rattle.std.proofs.Common.{◌+◌, refl, sym, subst, arith}
-use Rattle.std.specs.Int.{trailing_zeros, w64}
+use Rattle.std.proofs.Common.{◌+◌, ◌*◌, refl, sym, subst, arith}
+use Rattle.std.specs.Int.{trailing_zeros, bit_not, w64}
 use Rattle.nio_steps.specs.Calls.{PartClause}
 use Rattle.nio_steps.specs.Plan.{reply, ◌>>=◌}
 use Rattle.nio_steps.specs.Looking.{over_word}
@@ -10,8 +10,8 @@ use Rattle.nio_words.specs.declared.words.Pass.{Pass}
 use Rattle.nio_select.specs.Begun.{HasBegun}
 use Rattle.nio_select.specs.Removing.{removes_at}
 use Rattle.nio_select.proofs.Begun.{begun_stays}
-use Rattle.nio_select.proofs.FreeBits.{NextFound, left_from, all_left, found_next}
-use Rattle.nio_select.proofs.OverWord.{word_found, word_turn, word_past, word_done}
+use Rattle.nio_select.proofs.OverWord.{if_below, free_found, below_called, word_turn, word_past, word_done}
+use Rattle.nio_select.proofs.SetBits.{NextFound, left_from, all_left, found_next}
 use Rattle.nio_select.proofs.removing.remove_in_word.Goals as goal
 use Rattle.nio_select.proofs.removing.remove_in_word.Goals.{then-i-mark, else-i-mark}
 
@@ -19,9 +19,10 @@ pub loop-rest-init : goal.loop-rest-init
 loop-rest-init c =
     record {
       passed = 0;
-      left = all_left c.look_free-word.result c.look_free-word.type_inv;
+      left = all_left (bit_not w64 c.look_free-word.result);
       begun = begun_stays c.look_free-word.ensures refl refl c.requires.begun;
-      steps = word_found c.args.j c.args.mark (removes_at c.args.sel) tt (step_acts c.look_free-word.ensures refl);
+      steps = free_found c.args.j c.args.mark (removes_at c.args.sel) tt c.look_free-word.type_inv
+          (step_acts c.look_free-word.ensures refl);
     }
 
 pub remove_if_cancelled-requires-clause-key : goal.remove_if_cancelled-requires-clause-key
@@ -30,13 +31,13 @@ remove_if_cancelled-requires-clause-key c =
 
 pub loop-rest-smaller : goal.loop-rest-smaller
 loop-rest-smaller c =
-    (found_next c.look_free-word.result c.loop-rest.invariant.passed c.loop-rest.rest c.loop-rest.auto.rest-fits.fits
-    c.loop-rest-test.true c.loop-rest.invariant.left).fewer
+    (found_next (bit_not w64 c.look_free-word.result) c.loop-rest.invariant.passed c.loop-rest.rest
+    c.loop-rest.auto.rest-fits.fits c.loop-rest-test.true c.loop-rest.invariant.left).fewer
 
 pub loop-rest-preserved : goal.loop-rest-preserved
 loop-rest-preserved c =
     let so_far = c.loop-rest.invariant in
-    let word = c.look_free-word.result in
+    let word = bit_not w64 c.look_free-word.result in
     let t = trailing_zeros w64 c.loop-rest.rest in
     let at = removes_at c.args.sel in
     let found : NextFound word so_far.passed c.loop-rest.rest = found_next word so_far.passed c.loop-rest.rest
@@ -51,10 +52,11 @@ loop-rest-preserved c =
             steps = subst
                 (λ (p : Pass). PartClause c.args.me (over_word c.args.sel c.args.mark at c.args.j tt)
                 (view c.args.w.now c.args.p.now) (view c.args.w.now p)
-                (sweep_over (left_from word c.args.j c.args.mark (t + 1)) at tt >>= reply))
+                (sweep_over (left_from word c.args.j (t + 1)) (if_below c.args.mark at) tt >>= reply))
                 (sym w.p-is)
-                (word_turn word c.args.j c.args.mark so_far.passed t at tt tt reply found.next w.if-i-mark.true
-                so_far.steps w.remove_if_cancelled.ensures.call);
+                (word_turn word c.args.j (if_below c.args.mark at) tt reply so_far.passed t tt found.next so_far.steps
+                (below_called c.args.mark (64 * c.args.j + t) at tt tt w.if-i-mark.true
+                w.remove_if_cancelled.ensures.call));
           }
       | else-i-mark w ↦
           record {
@@ -64,7 +66,7 @@ loop-rest-preserved c =
             steps = subst
                 (λ (p : Pass). PartClause c.args.me (over_word c.args.sel c.args.mark at c.args.j tt)
                 (view c.args.w.now c.args.p.now) (view c.args.w.now p)
-                (sweep_over (left_from word c.args.j c.args.mark (t + 1)) at tt >>= reply))
+                (sweep_over (left_from word c.args.j (t + 1)) (if_below c.args.mark at) tt >>= reply))
                 (sym w.p-is)
                 (word_past word c.args.j c.args.mark so_far.passed t at tt reply found.next w.if-i-mark.false
                 so_far.steps);
@@ -74,5 +76,5 @@ loop-rest-preserved c =
 pub returns-clause-call : goal.returns-clause-call
 returns-clause-call c =
     let so_far = c.loop-rest.invariant in
-    word_done c.look_free-word.result c.args.j c.args.mark so_far.passed c.loop-rest.rest (removes_at c.args.sel) tt
-    so_far.left c.loop-rest-test.false so_far.steps
+    word_done (bit_not w64 c.look_free-word.result) c.args.j so_far.passed c.loop-rest.rest
+    (if_below c.args.mark (removes_at c.args.sel)) tt so_far.left c.loop-rest-test.false so_far.steps

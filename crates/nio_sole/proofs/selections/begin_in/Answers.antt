@@ -3,6 +3,7 @@ use Rattle.std.specs.Prelude.{None}
 use Rattle.nio_sole.specs.Stands.{IsOn}
 use Rattle.nio_base.specs.declared.numbers.SelNo.{SelNo}
 use Rattle.nio_language.specs.declared.reply.Reply.TheVariants as reply
+use Rattle.nio_select.specs.InHand.{selection_of}
 use Rattle.nio_serial.specs.Documented.{looked_pair}
 use Rattle.nio_serial.specs.Lines.{call_plan, after_begin}
 use Rattle.nio_serial.specs.Replies.{begin_reply}
@@ -21,9 +22,10 @@ use Rattle.nio_words.specs.Views.{view}
 
 pub list_pairs-requires-clause-room : goal.list_pairs-requires-clause-room
 list_pairs-requires-clause-room c =
-    let looked = ap length c.asked.ensures in
+    let looked = ap (λ asked. length asked.keys) c.asked.ensures in
     let fits = looked_fits c.args.me c.args.sel c.args.mode (view c.args.w.now c.args.d.now.pass)
-    (view c.args.w.now c.try_begin.new.p) c.in-Ok.selection c.in-Ok.ensures.call in
+    (view c.args.w.now c.try_begin.new.p) (selection_of c.in-Ok.selection) c.in-Ok.ensures.call
+    c.in-Ok.ensures.begun in
     omega (arith, looked, fits, c.requires.room)
 
 pub returns-in-Ok : goal.returns-in-Ok
@@ -40,13 +42,13 @@ returns-in-Ok c =
           (makes_ran begin_reply (after_begin now c.args.me s) (begins_ran s c.args.mode begins)))
           (sym (progress_selection w d c.try_begin.new.p s c.put_selection.new.selections
           (Some _) c.requires.may.places c.requires.may.ask.named.inside c.put_selection.ensures.items)))
-          (ap reply.Looked (c.from_vec.ensures ∙ (c.list_pairs.ensures ∙ ap (map looked_pair) c.asked.ensures)));
+          (ap reply.Looked (c.from_vec.ensures ∙ (c.list_pairs.ensures ∙ ap (λ asked. map looked_pair asked.keys) c.asked.ensures)));
       ready = c.in-Ok.ensures.ready;
       places = places_selection w d c.try_begin.new.p s c.put_selection.new.selections
           (Some _) c.requires.may.places c.requires.may.ask.named.inside c.put_selection.ensures.items
           c.put_selection.ensures.len
-          (λ x is. let parts = begin-parts s c.args.mode None _ c.in-Ok.selection begins.shape in
-          subst (λ (y : Begun). IsOn s.0 y.selection) (sym (some_is is))
+          (λ x is. let parts = begin-parts s c.args.mode None _ (selection_of c.in-Ok.selection) begins.shape in
+          subst (λ (y : Begun). IsOn s.0 (selection_of y.selection)) (sym (some_is is))
           (ap (λ (x : SelNo). x.0) parts.selector, parts.listed))
           (still_made c.try_begin.new.p c.requires.may.places begins);
     }

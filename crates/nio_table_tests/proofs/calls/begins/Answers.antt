@@ -6,7 +6,7 @@ use Rattle.nio_table_tests.proofs.calls.begins.Goals as goal
 pub returns-in-Ok : goal.returns-in-Ok
 returns-in-Ok c =
     idle_call (pins_are_given_back.leave _) c.leave.ensures.call c.leave.ensures.ready
-    (idle_call (begin_gives _ _) c.try_begin.ensures.call c.try_begin.ensures.ready c.requires)
+    (idle_call (begin_gives _ _ _) c.try_begin.ensures.call c.try_begin.ensures.ready c.requires)
 
 pub returns-in-Err : goal.returns-in-Err
-returns-in-Err c = idle_call (begin_gives _ _) c.try_begin.ensures.call c.try_begin.ensures.ready c.requires
+returns-in-Err c = idle_call (begin_gives _ _ _) c.try_begin.ensures.call c.try_begin.ensures.ready c.requires

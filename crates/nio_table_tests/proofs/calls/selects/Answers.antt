@@ -4,7 +4,7 @@ use Rattle.nio_table_tests.proofs.calls.selects.Goals as goal
 
 pub is_told-requires-clause-idle : goal.is_told-requires-clause-idle
 is_told-requires-clause-idle c =
-    idle_call (begin_gives _ _) c.try_begin.ensures.call c.try_begin.ensures.ready c.requires
+    idle_call (begin_gives _ _ _) c.try_begin.ensures.call c.try_begin.ensures.ready c.requires
 
 pub returns : goal.returns
-returns c = idle_call (begin_gives _ _) c.try_begin.ensures.call c.try_begin.ensures.ready c.requires
+returns c = idle_call (begin_gives _ _ _) c.try_begin.ensures.call c.try_begin.ensures.ready c.requires

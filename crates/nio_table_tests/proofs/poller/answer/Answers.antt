@@ -14,9 +14,9 @@ pub returns-in-SelectFor-clause-selector : goal.returns-in-SelectFor-clause-sele
 returns-in-SelectFor-clause-selector g c =
     let w = c.args.w.now in
     let poller = c.select_for.new.poller in
-    selector_timed zero first_selector (view w c.args.p.now) (view w c.select_for.new.p)
-    (g.P.Poller.polls c.args.poller.now) (g.P.Poller.polls poller) (g.P.Poller.ready poller)
-    c.select_for.result first_selector _ c.select_for.ensures.call c.requires.selector
+    selector_timed zero c.without_list-on.result c.select_for.new.selector (view w c.args.p.now)
+    (view w c.select_for.new.p) (g.P.Poller.polls c.args.poller.now) (g.P.Poller.polls poller)
+    (g.P.Poller.ready poller) c.select_for.result first_selector _ c.select_for.ensures.call c.requires.selector
 
 pub returns-in-Wakeup-clause-selector : goal.returns-in-Wakeup-clause-selector
 returns-in-Wakeup-clause-selector g c = selector_after c.wakeup.ensures.call.acts c.requires.selector
@@ -27,5 +27,5 @@ returns-in-Interrupt-clause-selector g c = selector_after c.interrupt.ensures.ca
 pub returns-in-Interrupted-clause-selector : goal.returns-in-Interrupted-clause-selector
 returns-in-Interrupted-clause-selector g c = selector_after c.interrupted.ensures.call.acts c.requires.selector
 
-pub returns-in-Close-clause-selector : goal.returns-in-Close-clause-selector
-returns-in-Close-clause-selector g c = selector_after c.close.ensures.call.acts c.requires.selector
+pub returns-clause-selector : goal.returns-clause-selector
+returns-clause-selector g c = selector_after c.close.ensures.call.acts c.requires.selector

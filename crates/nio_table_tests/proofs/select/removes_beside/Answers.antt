@@ -5,10 +5,10 @@ use Rattle.nio_table_tests.proofs.select.removes_beside.Goals as goal
 
 pub cancels_beside-registered-requires-clause-idle : goal.cancels_beside-registered-requires-clause-idle
 cancels_beside-registered-requires-clause-idle c =
-    idle_call (begin_gives _ _) c.try_begin.ensures.call c.try_begin.ensures.ready c.requires.idle
+    idle_call (begin_gives _ _ _) c.try_begin.ensures.call c.try_begin.ensures.ready c.requires.idle
 
 pub cancels_beside-registered-requires-clause-channel : goal.cancels_beside-registered-requires-clause-channel
 cancels_beside-registered-requires-clause-channel c = channel_after c.try_begin.ensures.call.acts c.requires.channel
 
 pub returns : goal.returns
-returns c = idle_call (begin_gives _ _) c.try_begin.ensures.call c.try_begin.ensures.ready c.requires.idle
+returns c = idle_call (begin_gives _ _ _) c.try_begin.ensures.call c.try_begin.ensures.ready c.requires.idle

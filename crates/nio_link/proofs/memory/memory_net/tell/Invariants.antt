@@ -1,6 +1,7 @@
-use Rattle.std.proofs.Common.{◌≡◌, take}
+use Rattle.std.proofs.Common.{◌≡◌}
 use Rattle.nio_link.specs.MemoryNet.{told_pairs}
+use Rattle.nio_select.specs.Asked.{keys_to}
 use Rattle.nio_link.proofs.memory.memory_net.tell.Given as goal
 
-abbrev pub invariant-loop-at : goal.invariant-loop-at
-invariant-loop-at l = l.pairs.items ≡ told_pairs l.slots l.waiting (take l.at l.asked)
+abbrev pub invariant-loop-index : goal.invariant-loop-index
+invariant-loop-index l = l.pairs.items ≡ told_pairs l.slots l.waiting (keys_to l.index l.asked.keys)

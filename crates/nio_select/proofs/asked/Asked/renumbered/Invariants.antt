@@ -1,7 +1,7 @@
-use Rattle.std.proofs.Common.{take}
-use Rattle.nio_select.proofs.Renumbered.{Renumbers}
+use Rattle.std.proofs.Common.{◌≡◌, map, take}
+use Rattle.nio_select.specs.Kept.{renumbered_slot}
 use Rattle.nio_select.proofs.asked.Asked.renumbered.Given as goal
 
 abbrev pub invariant-loop-slot : goal.invariant-loop-slot
 invariant-loop-slot g l =
-    Renumbers (g.B.Renumber.renumbered l.by) (take l.slot-index l.slot-items) l.slots.items
+    l.slots.items ≡ map (renumbered_slot (g.B.Renumber.renumbered l.by)) (take l.slot-index l.slot-items)

@@ -1,5 +1,6 @@
 use Rattle.std.proofs.Common.{refl, ap}
 use Rattle.nio_words.proofs.Views.{step_acts}
+use Rattle.nio_select.specs.InHand.{selection_of}
 use Rattle.nio_select.proofs.Begun.{begun_stays}
 use Rattle.nio_select.proofs.Ended.{begun_turn, ended}
 use Rattle.nio_select.proofs.selecting.Selecting.end.Goals as goal
@@ -10,6 +11,6 @@ give_turn-requires-clause-turn c =
 
 pub returns-clause-call : goal.returns-clause-call
 returns-clause-call c =
-    ended c.args.self c.args.answer (ap (λ x. x.selector) c.self.view_is) (ap (λ x. x.listed) c.self.view_is)
+    ended (selection_of c.args.self) c.args.answer (ap (λ x. x.selector) c.self.view_is) c.is_listed.ensures
     c.remove_all_cancelled.ensures.call
     (step_acts c.end_wake.ensures refl) (step_acts c.give_turn.ensures refl)

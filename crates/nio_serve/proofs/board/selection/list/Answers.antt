@@ -7,16 +7,17 @@ use Rattle.nio_serve.proofs.board.selection.list.Goals.{in-Some+in_ok-push, in_d
 
 pub loop-index-preserved : goal.loop-index-preserved
 loop-index-preserved c =
-    elim c.match-find.branch [
+    elim c.match-key.branch [
       | in-Some+in_ok-push w ↦
           let pair = c.loop-index-item.result in
           let there : Contains c.args.pairs.now pair = subst (Contains c.args.pairs.now) (sym c.loop-index-item.is)
           (Contains-get_or c.args.pairs.now c.loop-index.index-index pair c.loop-index-test.true) in
-          let items : c.match-find.told.items ≡ c.loop-index.told.items
-          ++ (w.in-Some.found.0, bit_and pair.1 w.in-Some.found.1) ∷ [] =
+          let key = w.in-Some.key in
+          let items : c.match-key.told.items ≡ c.loop-index.told.items
+          ++ (key.channel, bit_and pair.1 key.interest) ∷ [] =
           ap (λ told. told.items) w.told-is
           ∙ (w.in_ok-push.ensures.items ∙ ap (λ one. c.loop-index.told.items ++ one ∷ []) w.met.ensures) in
-          one_more c.args.asked.now c.args.pairs.now pair.0 pair.1 w.in-Some.found c.loop-index.told.items
-          c.match-find.told.items items there w.in-Some.ensures c.loop-index.invariant
+          one_more c.args.asked.now.keys c.args.pairs.now pair.0 pair.1 key c.loop-index.told.items
+          c.match-key.told.items items there (sym c.key.ensures.is ∙ w.in-Some.is) c.loop-index.invariant
       | in_default w ↦ rw w.told-is c.loop-index.invariant
     ]

@@ -17,9 +17,10 @@ returns-in_default-clause-rest c =
 
 pub returns-in-Some-clause-made : goal.returns-in-Some-clause-made
 returns-in-Some-clause-made c =
-    closes_channel _ _ c.find_channel.new.p _ c.args.at c.args.chan c.in-Some.made c.close_channel.result c.in-Some.is
+    closes_channel _ _ c.find_channel.new.p _ c.args.at.now c.args.chan c.in-Some.made c.close_channel.result
+    c.in-Some.is
     c.find_channel.ensures.call c.close_channel.ensures.call
 
 pub returns-in_default-clause-made : goal.returns-in_default-clause-made
 returns-in_default-clause-made c =
-    close_finds_none _ _ _ c.args.at c.args.chan c.in_default.is c.find_channel.ensures.call
+    close_finds_none _ _ _ c.args.at.now c.args.chan c.in_default.is c.find_channel.ensures.call

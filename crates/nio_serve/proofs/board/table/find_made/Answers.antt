@@ -11,7 +11,7 @@ returns-in_default-clause-rest c =
 
 pub returns-in_default-clause-failed : goal.returns-in_default-clause-failed
 returns-in_default-clause-failed c =
-    fails_to_find _ _ _ c.args.at c.args.chan c.in_default.is c.find_channel.ensures.call
+    fails_to_find _ _ _ c.args.at.now c.args.chan c.in_default.is c.find_channel.ensures.call
 
 pub returns-then-eq-clause-rest : goal.returns-then-eq-clause-rest
 returns-then-eq-clause-rest c =
@@ -20,7 +20,7 @@ returns-then-eq-clause-rest c =
 pub returns-then-eq-clause-taken : goal.returns-then-eq-clause-taken
 returns-then-eq-clause-taken c =
     let same : c.in-Some.made ≡ first_channel c.args.chan = search rules in
-    made_find_channel _ _ _ c.args.at c.args.chan (Some (first_channel c.args.chan)) (c.in-Some.is ∙ ap Some same)
+    made_find_channel _ _ _ c.args.at.now c.args.chan (Some (first_channel c.args.chan)) (c.in-Some.is ∙ ap Some same)
     c.find_channel.ensures.call
 
 pub returns-else-eq-clause-rest : goal.returns-else-eq-clause-rest
@@ -30,5 +30,5 @@ returns-else-eq-clause-rest c =
 pub returns-else-eq-clause-failed : goal.returns-else-eq-clause-failed
 returns-else-eq-clause-failed c =
     let other = is_other c.in-Some.made c.first.result (sym c.eq.ensures ∙ c.if-eq.false) in
-    finds_other _ _ _ c.args.at c.args.chan c.in-Some.made c.in-Some.is
+    finds_other _ _ _ c.args.at.now c.args.chan c.in-Some.made c.in-Some.is
     (subst (λ (x : ChanId). c.in-Some.made ≢ x) c.first.ensures other) c.find_channel.ensures.call

@@ -22,17 +22,18 @@ returns-in-Err-clause-rest c = rest_opened _ c.open_channel.ensures.call c.open_
 
 pub returns-in-Err-clause-failed : goal.returns-in-Err-clause-failed
 returns-in-Err-clause-failed c =
-    fails_to_open _ _ _ c.args.at c.args.kind c.args.chan c.in-Err._refusal c.in-Err.is c.open_channel.ensures.call
+    fails_to_open _ _ _ c.args.at.now c.args.kind c.args.chan c.in-Err._refusal c.in-Err.is
+    c.open_channel.ensures.call
 
 pub returns-in-Ok-clause-taken : goal.returns-in-Ok-clause-taken
 returns-in-Ok-clause-taken c =
     let same : c.in-Ok.made ≡ first_channel c.args.chan = search rules in
-    made_open _ _ _ c.args.at c.args.kind (Ok (first_channel c.args.chan)) (c.in-Ok.is ∙ ap Ok same)
+    made_open _ _ _ c.args.at.now c.args.kind (Ok (first_channel c.args.chan)) (c.in-Ok.is ∙ ap Ok same)
     c.open_channel.ensures.call
 
 pub returns-in-Ok-2-clause-failed : goal.returns-in-Ok-2-clause-failed
 returns-in-Ok-2-clause-failed c =
     let other = is_other c.in-Ok.made c.first.result (sym c.eq.ensures ∙ c.if-eq.false) in
-    opens_other _ _ c.open_channel.new.p _ c.args.at c.args.kind c.args.chan c.in-Ok.made c.close_channel.result
+    opens_other _ _ c.open_channel.new.p _ c.args.at.now c.args.kind c.args.chan c.in-Ok.made c.close_channel.result
     c.in-Ok.is (subst (λ (x : ChanId). c.in-Ok.made ≢ x) c.first.ensures other) c.open_channel.ensures.call
     c.close_channel.ensures.call

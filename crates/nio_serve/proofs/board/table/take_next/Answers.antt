@@ -5,25 +5,29 @@ use Rattle.nio_serve.specs.BoardCalls.{FailsToTake, take_no_number}
 
 pub returns-in_default-clause-failed : goal.returns-in_default-clause-failed
 returns-in_default-clause-failed c =
-    made_nothing (board_of c.args.w.now c.args.p.now c.args.at)
-    (FailsToTake c.args.kind (next_channel c.args.at) c.args.at.deal) (take_no_number c.in_default.ensures)
+    made_nothing (board_of c.args.w.now c.args.p.now c.args.at.now)
+    (FailsToTake c.args.kind (next_channel c.args.at.now) c.args.at.now.deal) (take_no_number c.in_default.ensures)
 
 pub returns-in-None-clause-taken : goal.returns-in-None-clause-taken
 returns-in-None-clause-taken c =
-    takes_opened _ _ c.open_next.result c.args.at.deal c.args.kind c.in-Some.next (next_channel c.args.at) c.in-None.is
+    takes_opened _ _ c.open_next.result c.args.at.now.deal c.args.kind c.in-Some.next (next_channel c.args.at.now)
+    c.in-None.is
     c.in-Some.ensures c.open_next.ensures.taken
 
 pub returns-in-None-clause-failed : goal.returns-in-None-clause-failed
 returns-in-None-clause-failed c =
-    take_isnt_opened _ _ c.open_next.result c.args.at.deal c.args.kind c.in-Some.next (next_channel c.args.at) c.in-None.is
+    take_isnt_opened _ _ c.open_next.result c.args.at.now.deal c.args.kind c.in-Some.next
+    (next_channel c.args.at.now) c.in-None.is
     c.in-Some.ensures c.open_next.ensures.failed
 
 pub returns-in-Some-deal-clause-taken : goal.returns-in-Some-deal-clause-taken
 returns-in-Some-deal-clause-taken c =
-    takes_found _ _ c.find_made.result c.args.at.deal _ c.args.kind c.in-Some.next (next_channel c.args.at) c.in-Some-deal.is
+    takes_found _ _ c.find_made.result c.args.at.now.deal _ c.args.kind c.in-Some.next (next_channel c.args.at.now)
+    c.in-Some-deal.is
     c.in-Some.ensures c.find_made.ensures.taken
 
 pub returns-in-Some-deal-clause-failed : goal.returns-in-Some-deal-clause-failed
 returns-in-Some-deal-clause-failed c =
-    take_isnt_found _ _ c.find_made.result c.args.at.deal _ c.args.kind c.in-Some.next (next_channel c.args.at)
+    take_isnt_found _ _ c.find_made.result c.args.at.now.deal _ c.args.kind c.in-Some.next
+    (next_channel c.args.at.now)
     c.in-Some-deal.is c.in-Some.ensures c.find_made.ensures.failed

@@ -8,14 +8,14 @@ use Rattle.nio_serve.specs.Called.{channel_in}
 
 pub returns-in-Some-clause-made : goal.returns-in-Some-clause-made
 returns-in-Some-clause-made c =
-    made_both (CancelsKey c.args.at.selector c.args.port.key)
-    (ClosesChannel (channel_in c.args.at.deal c.args.port.chan)) refl c.cancel_key.ensures.made
-    (subst (λ (x : ChanNo). HasMade (board_of c.args.w.now c.cancel_key.new.p c.args.at)
-    (board_of c.args.w.now c.close_made.new.p c.args.at) (ClosesChannel x)) c.in-Some.ensures
+    made_both (CancelsKey c.args.at.now.selector.number c.args.port.key)
+    (ClosesChannel (channel_in c.args.at.now.deal c.args.port.chan)) refl c.cancel_key.ensures.made
+    (subst (λ (x : ChanNo). HasMade (board_of c.args.w.now c.cancel_key.new.p c.args.at.now)
+    (board_of c.args.w.now c.close_made.new.p c.args.at.now) (ClosesChannel x)) c.in-Some.ensures
     c.close_made.ensures.made)
 
 pub returns-in_default-clause-made : goal.returns-in_default-clause-made
 returns-in_default-clause-made c =
-    let none = ClosesChannel (channel_in c.args.at.deal c.args.port.chan) in
-    made_both (CancelsKey c.args.at.selector c.args.port.key) none refl c.cancel_key.ensures.made
-    (made_nothing (board_of c.args.w.now c.cancel_key.new.p c.args.at) none (no_number c.in_default.ensures))
+    let none = ClosesChannel (channel_in c.args.at.now.deal c.args.port.chan) in
+    made_both (CancelsKey c.args.at.now.selector.number c.args.port.key) none refl c.cancel_key.ensures.made
+    (made_nothing (board_of c.args.w.now c.cancel_key.new.p c.args.at.now) none (no_number c.in_default.ensures))

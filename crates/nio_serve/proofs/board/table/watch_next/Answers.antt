@@ -13,7 +13,8 @@ close_channel-requires-clause-channel g c = channel_after c.set_blocking.ensures
 
 pub close_channel-requires-clause-unpinned : goal.close_channel-requires-clause-unpinned
 close_channel-requires-clause-unpinned g c =
-    (rest_unblocked _ _ c.set_blocking.ensures.call c.set_blocking.ensures.ready c.take_next.ensures.rest).idle.unpinned
+    (rest_unblocked _ _ c.set_blocking.ensures.call c.set_blocking.ensures.ready
+    c.take_next.ensures.rest).idle.unpinned
 
 pub returns-then-is_err-clause-refused : goal.returns-then-is_err-clause-refused
 returns-then-is_err-clause-refused g c =
@@ -30,13 +31,14 @@ register_made-requires-clause-channel g c = channel_after c.set_blocking.ensures
 pub returns-in_err-chan-clause-failed : goal.returns-in_err-chan-clause-failed
 returns-in_err-chan-clause-failed g c =
     on_err_any c.from_residual.result
-    (watch_isnt_taken c.args.at.deal c.args.at.selector c.args.kind (next_channel c.args.at) c.args.ops
+    (watch_isnt_taken c.args.at.now.deal c.args.at.now.selector.number c.args.kind (next_channel c.args.at.now)
+    c.args.ops
     c.in_err-chan.ensures.failed)
 
 pub returns-then-is_err-clause-failed : goal.returns-then-is_err-clause-failed
 returns-then-is_err-clause-failed g c =
-    watch_stays_blocking _ _ c.take_next.new.p c.set_blocking.new.p _ c.args.at c.args.kind c.in_ok-chan.chan
-    (next_channel c.args.at) c.args.ops c.close_channel.result c.in_ok-chan.ensures.next
+    watch_stays_blocking _ _ c.take_next.new.p c.set_blocking.new.p _ c.args.at.now c.args.kind c.in_ok-chan.chan
+    (next_channel c.args.at.now) c.args.ops c.close_channel.result c.in_ok-chan.ensures.next
     (sym c.is_err.ensures.value ∙ c.if-is_err.true) c.in_ok-chan.ensures.taken c.set_blocking.ensures.call
     c.close_channel.ensures.call
 
@@ -44,15 +46,16 @@ pub returns-clause-made : goal.returns-clause-made
 returns-clause-made g c =
     let unblocked = done_of c.set_blocking.result (sym c.is_err.ensures.value ∙ c.if-is_err.false) in
     IfOk-weaker c.register_made.result
-    (λ key. AreMade (board_of c.args.w.now c.set_blocking.new.p c.args.at)
-    (board_of c.args.w.now c.register_made.new.p c.args.at)
-    (registers c.args.at.selector (next_channel c.args.at) c.args.ops key ∷ []))
-    (λ key. HasMade (board_of c.args.w.now c.args.p.now c.args.at)
-    (board_of c.args.w.now c.register_made.new.p c.args.at)
-    (WatchesChannel c.args.at.deal c.args.at.selector c.args.kind (next_channel c.args.at) c.args.ops key))
+    (λ key. AreMade (board_of c.args.w.now c.set_blocking.new.p c.args.at.now)
+    (board_of c.args.w.now c.register_made.new.p c.args.at.now)
+    (registers c.args.at.now.selector.number (next_channel c.args.at.now) c.args.ops key ∷ []))
+    (λ key. HasMade (board_of c.args.w.now c.args.p.now c.args.at.now)
+    (board_of c.args.w.now c.register_made.new.p c.args.at.now)
+    (WatchesChannel c.args.at.now.deal c.args.at.now.selector.number c.args.kind (next_channel c.args.at.now)
+    c.args.ops key))
     (λ key registered.
-    watches_channel _ _ c.take_next.new.p c.set_blocking.new.p _ c.args.at c.args.kind c.in_ok-chan.chan
-    (next_channel c.args.at) c.args.ops key c.in_ok-chan.ensures.next unblocked c.in_ok-chan.ensures.taken
+    watches_channel _ _ c.take_next.new.p c.set_blocking.new.p _ c.args.at.now c.args.kind c.in_ok-chan.chan
+    (next_channel c.args.at.now) c.args.ops key c.in_ok-chan.ensures.next unblocked c.in_ok-chan.ensures.taken
     c.set_blocking.ensures.call registered) c.register_made.ensures.made
 
 pub returns-clause-failed : goal.returns-clause-failed
@@ -60,6 +63,6 @@ returns-clause-failed g c =
     let unblocked = done_of c.set_blocking.result (sym c.is_err.ensures.value ∙ c.if-is_err.false) in
     on_err_weaker c.register_made.result
     (λ failed.
-    watch_isnt_registered _ _ c.take_next.new.p c.set_blocking.new.p _ c.args.at c.args.kind c.in_ok-chan.chan
-    (next_channel c.args.at) c.args.ops c.in_ok-chan.ensures.next unblocked c.in_ok-chan.ensures.taken
+    watch_isnt_registered _ _ c.take_next.new.p c.set_blocking.new.p _ c.args.at.now c.args.kind c.in_ok-chan.chan
+    (next_channel c.args.at.now) c.args.ops c.in_ok-chan.ensures.next unblocked c.in_ok-chan.ensures.taken
     c.set_blocking.ensures.call failed) c.register_made.ensures.failed

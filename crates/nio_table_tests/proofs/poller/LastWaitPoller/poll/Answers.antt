@@ -2,4 +2,4 @@ use Rattle.nio_poller.proofs.Quiet.{quiet}
 use Rattle.nio_table_tests.proofs.poller.LastWaitPoller.poll.Goals as goal
 
 pub returns-clause-ready : goal.returns-clause-ready
-returns-clause-ready g c = λ channel. quiet c.args.asked.now c.new.result.items channel c.new.ensures.items
+returns-clause-ready g c = λ channel. quiet c.args.asked.now.keys c.new.result.items channel c.new.ensures.items
