@@ -10,7 +10,7 @@ use Rattle.nio_plain.specs.ScriptState.{ScriptState}
 use Rattle.nio_plain.specs.Seq.{seq}
 use Rattle.nio_plain.specs.declared.rules.Rules.{Rules}
 use Rattle.nio_plain.specs.declared.system.System as system
-use Rattle.nio_script.specs.Run.{left_by_call}
+use Rattle.nio_script.specs.Run.{MakesAll, left_by_call}
 use Rattle.nio_load.specs.Summary.{count_of, counts_from}
 use Rattle.nio_load.specs.Tally.{with_count}
 use Rattle.nio_load.specs.declared.summary.Tally.{Tally}
@@ -22,6 +22,7 @@ pub record IsTallying {Y : Type 0} (y : system.Ghosts Y) (run run' : Y) (tally :
       ≡ length (counts_from (y.rules run) (y.limits run) (y.state run) calls)
   pub updates : tally.updates + sum (counts_from (y.rules run) (y.limits run) (y.state run') rest)
       ≡ sum (counts_from (y.rules run) (y.limits run) (y.state run) calls)
+  pub makes : MakesAll y run run' (take index calls)
   pub left : y.state run' ≡ left_from (y.rules run) (y.limits run) (y.state run) (take index calls)
   pub few_selections : tally.selections ≤ index
   pub few_updates : tally.updates ≤ index * 2 ^ 32

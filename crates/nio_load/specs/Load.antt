@@ -6,17 +6,18 @@ use Rattle.nio_language.specs.declared.call.ScriptCall.{ScriptCall}
 use Rattle.nio_plain.specs.Answer.{left_by_script}
 use Rattle.nio_plain.specs.declared.system.System as system
 use Rattle.nio_script.specs.Output.{IsWritten, WritesPrefix}
-use Rattle.nio_script.specs.Run.{MakesPrefix}
+use Rattle.nio_script.specs.Run.{MakesAll, StopsWithin}
 use Rattle.nio_script.specs.declared.status.Status.{Status}
 use Rattle.nio_script.specs.declared.status.Status.TheVariants.{Done, Usage, BadScript, ReadFault, WriteFault, Memory}
 use Rattle.nio_script.specs.declared.status.Status.TheVariants.{NetFault, Illegal, TooLong}
 use Rattle.nio_load.specs.Generator.{generated}
 use Rattle.nio_load.specs.Summary.{summary_of}
 
--- These are the calls of the generated script of so many rounds, and the system is left as they leave it.
+-- These are the calls of the generated script of so many rounds; they were made, and the system is left as they leave it.
 pub record IsLoaded {Y : Type 0} (y : system.Ghosts Y) (run run' : Y) (rounds : ℕ)
     (calls : List ScriptCall) : Type 0 where
   pub script : IsScript (generated rounds) calls
+  pub makes : MakesAll y run run' calls
   pub left : y.state run' ≡ left_by_script (y.rules run) (y.limits run) calls
 
 -- The generated script was run, and its summary was written and flushed; no write failed.
@@ -34,12 +35,12 @@ pub record IsHalfSummed {K Y : Type 0} (k : sink.Ghosts K) (y : system.Ghosts Y)
   pub loaded : IsLoaded y run run' rounds calls
   pub written : WritesPrefix k output output' (summary_of (y.rules run) (y.limits run) calls)
 
--- Nothing was written, and the system is left as some calls of the generated script leave it, from the first one on.
+-- Nothing was written, and so many calls of the generated script were made.
 pub record IsUnsummed {K Y : Type 0} (y : system.Ghosts Y) (output output' : K) (run run' : Y) (rounds : ℕ)
     : Type 0 where
   pub calls : List ScriptCall
   pub script : IsScript (generated rounds) calls
-  pub left : MakesPrefix y run run' calls
+  pub made : StopsWithin y run run' calls
   pub unwritten : output' ≡ output
 
 -- how a load may end

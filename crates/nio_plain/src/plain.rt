@@ -107,7 +107,7 @@ impl System for Plain {
     ghost use Rattle.std.proofs.Common.{◌∙◌};
     ghost use Rattle.nio_plain.specs.Plain.{Kept};
     ghost use Rattle.nio_plain.specs.PlainState.{limits_of, rules_of, state_of};
-    ghost use Rattle.std.specs.Prelude.{refl};
+    ghost use Rattle.std.specs.Prelude.{refl, ⊤};
 
     ghost limits = { limits_of };
 
@@ -116,6 +116,8 @@ impl System for Plain {
     ghost state = { state_of };
 
     ghost kept = { Kept };
+
+    ghost does = { λ _ _ _ _. ⊤ };
 
     fn call(&mut self, alloc: Global, caller: CallerNo, call: &Call) -> Result<Reply, AllocError> {
         if caller.0 >= self.limits.callers {

@@ -7,7 +7,11 @@ use std::alloc::{AllocError, Global};
 
 /// A system of selectors, keys and channels, a group and pipes, which replies as the documented one.
 pub trait System {
+    ghost use Rattle.std.specs.Prelude.{Result};
+    ghost use Rattle.std.specs.declared.alloc.AllocError.{AllocError};
     ghost use Rattle.nio_base.specs.declared.limits.Limits.{Limits};
+    ghost use Rattle.nio_language.specs.declared.call.ScriptCall.{ScriptCall};
+    ghost use Rattle.nio_language.specs.declared.reply.Reply.{Reply};
     ghost use Rattle.nio_plain.specs.declared.rules.Rules.{Rules};
     ghost use Rattle.nio_plain.specs.ScriptState.{ScriptState};
     ghost use Rattle.nio_plain.specs.Seq.{seq};
@@ -24,6 +28,9 @@ pub trait System {
     // What every call keeps: a relation between the system before some calls and after them.
     ghost kept: { Self → Self → Type 0 };
 
+    // What a call did that had this result, from the system before it to the one after.
+    ghost does: { Self → Self → ScriptCall → Result Reply AllocError → Type 0 };
+
     /// Makes one call. Want of memory leaves all as it was.
     fn call(&mut self, alloc: Global, caller: CallerNo, call: &Call) -> Result<Reply, AllocError>
         ensures reply { IfOk result (λ reply. reply ≡ (seq (rules self.old) (limits self.old) (state self.old) caller
@@ -31,7 +38,8 @@ pub trait System {
         ensures left { IfOk result (λ _. state self.new ≡ (seq (rules self.old) (limits self.old) (state self.old)
             caller call.now).left) }
         ensures memory { OnErr result (state self.new ≡ state self.old) }
-        ensures kept { kept self.old self.new };
+        ensures kept { kept self.old self.new }
+        ensures does { does self.old self.new (record { caller = caller; call = call.now }) result };
 
     ghost kept_same: { (y : Self) → kept y y };
 

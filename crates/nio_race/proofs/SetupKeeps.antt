@@ -6,7 +6,6 @@ use Rattle.std.proofs.lemmas.List.Elements.{All-from_get_or}
 use Rattle.std.specs.List.{AllPairs}
 use Rattle.nio_base.specs.declared.limits.Limits.{Limits}
 use Rattle.nio_base.specs.declared.numbers.ChanId.{ChanId}
-use Rattle.nio_history.specs.Histories.{IsLegal}
 use Rattle.nio_language.specs.declared.call.ScriptCall.{ScriptCall}
 use Rattle.nio_language.specs.declared.reply.Reply.{Reply}
 use Rattle.nio_plain.proofs.ReachedSound.{sound-opening}
@@ -15,12 +14,11 @@ use Rattle.nio_plain.specs.ScriptState.{Pipe, ScriptState, script_opening}
 use Rattle.nio_plain.specs.Seq.{seq}
 use Rattle.nio_plain.specs.Seq.Pipes.{no_pipe, pipe_at}
 use Rattle.nio_plain.specs.declared.rules.Rules.TheVariants.{Now}
-use Rattle.nio_serial.proofs.Serial.{serial-lines-amount}
-use Rattle.nio_serial.specs.Documented.{Progress}
 use Rattle.nio_serial.specs.Serial.{replies_from}
+use Rattle.nio_sole.proofs.ScriptLines.{script_left}
 use Rattle.nio_sole.specs.Stands.{progress_of}
 use Rattle.nio_sole.specs.declared.desk.Desk.{Desk}
-use Rattle.nio_words.specs.Passes.{limits_of}
+use Rattle.nio_words.specs.Passes.{limits_of, seen}
 use Rattle.nio_words.specs.declared.words.Words.{Words}
 use Rattle.nio_race.proofs.SetupCalls.{goes-seq}
 use Rattle.nio_race.proofs.SetupKept.{AreKept}
@@ -82,14 +80,8 @@ keeps-setup l setup =
 pub setup-kept : (w : Words) (d : Desk) (setup : List ScriptCall) → HasSetUp w d setup
     → KeepsSetup (limits_of w) setup (progress_of d).pipes
 setup-kept w d setup has =
-    let l = limits_of w in
-    let is = has.set_up in
     let stands = has.stands in
     let some = stands.ready (record { 0 = 0 }) (omega (arith, stands.fit.some_callers)) in
-    let legal = subst (IsLegal l) is.history_is some.pass.legal in
-    let amounts = serial-lines-amount l is.entries stands.fit legal is.lines in
-    subst (KeepsSetup l setup)
-    (sym (ap (λ (now : Progress). now.pipes) is.leaves
-    ∙ (ap (λ (st : ScriptState). st.pipes) amounts.left
-    ∙ ap (λ (calls : List ScriptCall). (left_by_script Now l calls).pipes) is.script)))
-    (keeps-setup l setup)
+    let left = script_left (limits_of w) setup (seen d.pass) (progress_of d) stands.fit some.pass.legal has.set_up in
+    subst (KeepsSetup (limits_of w) setup) (sym (ap (λ (st : ScriptState). st.pipes) left))
+    (keeps-setup (limits_of w) setup)

@@ -1,10 +1,10 @@
 -- A race: a setup of lines one after the other, and then callers that run beside each other.
-use Rattle.std.specs.Prelude.{◌≡◌, ℕ, zero, suc, ◌+◌, ◌<◌, ◌≤◌, ◌==◌, ◌++◌, IsTrue, if◌then◌else◌, Option, Some, None}
+use Rattle.std.specs.Prelude.{◌≡◌, ℕ, zero, suc, ◌+◌, ◌<◌, ◌≤◌, ◌==◌, ◌++◌, if◌then◌else◌, Option, Some, None}
 use Rattle.std.specs.Prelude.{List, [], ◌∷◌, map, filter, zip, All}
 use mathlib.Core.List.{IsPrefix}
 use Rattle.nio_base.specs.declared.limits.Limits.{Limits}
 use Rattle.nio_base.specs.declared.numbers.CallerNo.{CallerNo}
-use Rattle.nio_history.specs.Histories.{IsLegal, mine, state_after}
+use Rattle.nio_history.specs.Histories.{IsLegal, mine}
 use Rattle.nio_history.specs.declared.act.Act.{Act}
 use Rattle.nio_history.specs.declared.event.Event.{Event}
 use Rattle.nio_language.specs.declared.call.ScriptCall.{ScriptCall}
@@ -20,23 +20,11 @@ use Rattle.nio_race_text.specs.declared.call.RaceCall.{RaceCall}
 use Rattle.nio_race_text.specs.declared.call.RaceLine.{RaceLine}
 use Rattle.nio_race_text.specs.RaceOutput.{race_line_text}
 use Rattle.nio_serial.specs.Documented.{Progress, Selecting, nothing_yet}
-use Rattle.nio_serial.specs.Serial.{Entry, AreLines, history_of, left_in_progress, script_of}
+use Rattle.nio_sole.specs.ScriptLines.{AreScriptLines}
 use Rattle.nio_race.specs.PipeBytes.{KeepsBytes, setup_lines}
 use Rattle.nio_race.specs.PipeFinds.{FindsAll}
 use Rattle.nio_race.specs.Piping.{own_ends}
 use Rattle.nio_race.specs.Runs.{AreRaceLines}
-
--- ---- the setup
-
--- The history is draws and the setup's lines, each over before the next begins, and leaves this in progress. Every
--- number is drawn.
-pub record IsSetUp (l : Limits) (setup : List ScriptCall) (history : List Event) (now : Progress) : Type 0 where
-  pub entries : List Entry
-  pub lines : AreLines l nothing_yet entries
-  pub script : script_of entries ≡ setup
-  pub history_is : history ≡ history_of entries
-  pub leaves : now ≡ left_in_progress nothing_yet entries
-  pub drawn : (n : CallerNo) → n.0 < l.callers → IsTrue ((state_after history).drawn n.0)
 
 -- ---- the callers after `go`
 
@@ -89,7 +77,7 @@ pub record IsRace (l : Limits) (setup : List ScriptCall) (race : List RaceLine) 
   -- the setup comes first, and `go` stands after it
   pub go : List Event
   pub now : Progress
-  pub set_up : IsSetUp l setup go now
+  pub set_up : AreScriptLines l setup go now
   pub begins : IsPrefix go history
   -- each caller's lines
   pub run : (n : CallerNo) → n.0 < l.callers → HasRun l n go now (calls_by n race) history (replies n)

@@ -6,18 +6,18 @@ use Rattle.nio_language.specs.declared.call.ScriptCall.{ScriptCall}
 use Rattle.nio_language.specs.declared.reply.Reply.{Reply}
 use Rattle.nio_plain.specs.ScriptState.{Pipe}
 use Rattle.nio_sole.specs.Said.{SaysLine}
+use Rattle.nio_sole.specs.ScriptLines.{AreScriptLines}
 use Rattle.nio_sole.specs.Stands.{Stands, progress_of}
 use Rattle.nio_sole.specs.declared.desk.Desk.{Desk}
 use Rattle.nio_words.specs.Passes.{limits_of, seen}
 use Rattle.nio_words.specs.declared.words.Words.{Words}
 use Rattle.nio_race.specs.Ends.{ArePipes}
 use Rattle.nio_race.specs.PipeBytes.{TellsEnd, all_read, all_written, leave_seal, setup_lines}
-use Rattle.nio_race.specs.Race.{IsSetUp}
 
 -- What the desk's pass has seen is the setup, and the desk has in progress what that leaves.
 pub record HasSetUp (w : Words) (d : Desk) (setup : List ScriptCall) : Type 0 where
   pub stands : Stands w d
-  pub set_up : IsSetUp (limits_of w) setup (seen d.pass) (progress_of d)
+  pub set_up : AreScriptLines (limits_of w) setup (seen d.pass) (progress_of d)
 
 -- At `go` the pipe has what the setup's lines of its owners say: what they wrote and didn't read waits in it, and it
 -- is sealed where one of them left the seal. Where a read told the end, the pipe is sealed and nothing waits.

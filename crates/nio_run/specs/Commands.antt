@@ -1,12 +1,11 @@
 -- What the program does for each command.
-use Rattle.std.specs.Prelude.{◌≡◌, ◌⊎◌, ℕ, ◌<◌, ◌≤◌, IsTrue, List, length, IfSome}
+use Rattle.std.specs.Prelude.{◌≡◌, ◌⊎◌, ℕ, ◌<◌, ◌≤◌, IsTrue, List, [], ◌∷◌, ◌++◌, length, IfSome}
 use mathlib.Core.List.{IsPrefix}
 use Rattle.nio_base.specs.declared.limits.Limits.{Limits}
 use Rattle.nio_base.specs.declared.numbers.CallerNo.{CallerNo}
 use Rattle.nio_bytes.specs.Cause.{Rose}
 use Rattle.nio_bytes.specs.declared.source.Source as source
 use Rattle.nio_bytes.specs.declared.sink.Sink as sink
-use Rattle.nio_history.specs.State.{State}
 use Rattle.nio_history.specs.declared.event.Event.{Event}
 use Rattle.nio_language.specs.Script.{IsScript, IsFirstBad}
 use Rattle.nio_language.specs.declared.call.ScriptCall.{ScriptCall}
@@ -14,7 +13,7 @@ use Rattle.nio_language.specs.declared.reply.Reply.{Reply}
 use Rattle.nio_orderly.specs.Orderly.{IsWhole}
 use Rattle.nio_orderly.specs.Owed.{Owed}
 use Rattle.nio_plain.specs.Answer.{answer_to, left_by_script}
-use Rattle.nio_plain.specs.ScriptState.{ScriptState, script_opening}
+use Rattle.nio_plain.specs.ScriptState.{ScriptState}
 use Rattle.nio_plain.specs.declared.rules.Rules.{Rules}
 use Rattle.nio_plain.specs.declared.rules.Rules.TheVariants.{Now}
 use Rattle.nio_script.specs.Check.{HasLegalHistory, IsLegalHistory, IsFirstIllegal, IsVerdict, IsFoundLegal}
@@ -27,8 +26,8 @@ use Rattle.nio_script.specs.declared.status.Status.{Status}
 use Rattle.nio_script.specs.declared.status.Status.TheVariants.{Done, BadScript, ReadFault, WriteFault, Memory, Illegal}
 use Rattle.nio_script.specs.declared.status.Status.TheVariants.{TooLong}
 use Rattle.nio_serial.specs.Documented.{Progress, documented}
-use Rattle.nio_serial.specs.Serial.{history_of}
-use Rattle.nio_sole.specs.Drawn.{draws}
+use Rattle.nio_sole.specs.Said.{LacksLine}
+use Rattle.nio_sole.specs.ScriptLines.{AreScriptLines}
 use Rattle.nio_words.specs.Passes.{IsPassOf, IsReady, limits_of, state_seen, seen}
 use Rattle.nio_words.specs.declared.words.Pass.{Pass}
 use Rattle.nio_words.specs.declared.words.Words.{Words}
@@ -43,63 +42,73 @@ pub record WritesLegal {K : Type 0} (k : sink.Ghosts K) (output output' : K) (ru
 
 -- ---- a script on the table
 
--- The state of scripts is this one, with something in progress or nothing.
-pub record LeavesState (st : State) (left : ScriptState) : Type 0 where
-  pub now : Progress
-  pub is : documented st now ≡ left
-
--- What a script leaves of the table. What the pass has seen leaves this state of scripts. Every number is drawn, and
--- the pass holds each. Each caller made whole calls. At each moment what is owed is owed by a caller that has still to
--- do it: no cancellation is lost.
-pub record Leaves (w : Words) (pass : Pass) (left : ScriptState) : Type 0 where
-  pub state : LeavesState (state_seen pass) left
+-- What a script leaves of the table, with this in progress. What the pass has seen leaves this state of scripts. Every
+-- number is drawn, and the pass holds each. Each caller made whole calls. At each moment what is owed is owed by a
+-- caller that has still to do it: no cancellation is lost.
+pub record Leaves (w : Words) (pass : Pass) (now : Progress) (left : ScriptState) : Type 0 where
+  pub state : documented (state_seen pass) now ≡ left
   pub drawn : (n : CallerNo) → n.0 < (limits_of w).callers → IsTrue ((state_seen pass).drawn n.0)
   pub holds : (n : CallerNo) → n.0 < (limits_of w).callers → IsReady w pass n
   pub whole : ∥ IsWhole (limits_of w) (seen pass) ∥₁
   pub owed : (before : List Event) → IsPrefix before (seen pass) → ∥ Owed before ∥₁
 
--- Some of these calls were made, from the first one on, and the table is left as they leave it.
-pub record LeavesPrefix (w : Words) (pass : Pass) (calls : List ScriptCall) : Type 0 where
+-- Every number was drawn, these calls were made, and nothing else was done: that is all that the pass has seen. The
+-- table is left as they leave it.
+pub record MakesAllOn (w : Words) (pass : Pass) (calls : List ScriptCall) : Type 0 where
+  pub now : Progress
+  pub lines : AreScriptLines (limits_of w) calls (seen pass) now
+  pub left : Leaves w pass now (left_by_script Now (limits_of w) calls)
+
+-- The same of some of these calls, from the first one on.
+pub record MakesPrefixOn (w : Words) (pass : Pass) (calls : List ScriptCall) : Type 0 where
   pub made : List ScriptCall
   pub begins : IsPrefix made calls
-  pub left : Leaves w pass (left_by_script Now (limits_of w) made)
+  pub makes : MakesAllOn w pass made
 
--- Every number was drawn, and nothing else was done.
-abbrev pub DrewAlone : Words → Pass → Type 0
-DrewAlone w pass = seen pass ≡ history_of (draws (limits_of w).callers)
+-- Every number was drawn, and some of these calls were made, from the first one on; then the next one lacked memory, and
+-- nothing else was done. The table is left as the calls before that one leave it.
+pub record LacksNextOn (w : Words) (pass : Pass) (calls : List ScriptCall) : Type 0 where
+  pub made : List ScriptCall
+  pub next : ScriptCall
+  pub begins : IsPrefix (made ++ next ∷ []) calls
+  pub before : List Event
+  pub now : Progress
+  pub lines : AreScriptLines (limits_of w) made before now
+  pub lacks : LacksLine (limits_of w) now next before (seen pass)
+  pub left : Leaves w pass now (left_by_script Now (limits_of w) made)
 
--- The text is a script, its answer was written and flushed, no write failed, and the table is left as the script
--- leaves it.
+-- Some of these calls were made, from the first one on; the next one may have lacked memory. Nothing else was done.
+abbrev pub StopsWithinOn : Words → Pass → List ScriptCall → Type 0
+StopsWithinOn w pass calls = MakesPrefixOn w pass calls ⊎ LacksNextOn w pass calls
+
+-- The text is a script, its calls were made, and nothing else; its answer was written and flushed, and no write failed.
 pub record IsAnsweredOn {K : Type 0} (k : sink.Ghosts K) (w : Words) (output output' : K) (pass : Pass)
     (text : List ℕ) : Type 0 where
   pub calls : List ScriptCall
   pub script : IsScript text calls
   pub written : IsWritten k output output' (answer_to Now (limits_of w) calls)
   pub still : k.faults output' ≡ k.faults output
-  pub left : Leaves w pass (left_by_script Now (limits_of w) calls)
+  pub makes : MakesAllOn w pass calls
 
--- The text is a script, some of its answer was written, from its front, and the table is left as some of its calls
--- leave it, from the first one on.
-pub record IsCutShortOn {K : Type 0} (k : sink.Ghosts K) (w : Words) (output output' : K) (pass : Pass)
-    (text : List ℕ) : Type 0 where
+-- The text is a script, some of its answer was written, from its front, and so many of its calls were made.
+pub record IsCutShortOn {K : Type 0} (k : sink.Ghosts K) (w : Words) (output output' : K)
+    (Made : List ScriptCall → Type 0) (text : List ℕ) : Type 0 where
   pub calls : List ScriptCall
   pub script : IsScript text calls
   pub written : WritesPrefix k output output' (answer_to Now (limits_of w) calls)
-  pub left : LeavesPrefix w pass calls
+  pub made : Made calls
 
 -- The line is the text's first that isn't in the grammar, which was said, and no call was made.
 pub record IsRefusedOn {K : Type 0} (k : sink.Ghosts K) (w : Words) (output output' : K) (pass : Pass) (line : ℕ)
     (text : List ℕ) : Type 0 where
   pub first : IsFirstBad text line
   pub said : WritesOrFails k output output' (bad_line line)
-  pub uncalled : Leaves w pass script_opening
-  pub drew : DrewAlone w pass
+  pub uncalled : MakesAllOn w pass []
 
 -- Nothing was written, and no call was made.
 pub record IsUntouchedOn {K : Type 0} (w : Words) (output output' : K) (pass : Pass) : Type 0 where
   pub unwritten : output' ≡ output
-  pub uncalled : Leaves w pass script_opening
-  pub drew : DrewAlone w pass
+  pub uncalled : MakesAllOn w pass []
 
 -- Nothing was written, and no number was drawn.
 pub record IsUndrawn {K : Type 0} (output output' : K) (pass pass' : Pass) : Type 0 where
@@ -113,9 +122,10 @@ pub record DoesScript {S K : Type 0} (s : source.Ghosts S) (k : sink.Ghosts K) (
   pub done : status ≡ Done → ReadsText s input input' (IsAnsweredOn k w output output' pass')
   pub bad_script : (line : ℕ) → status ≡ BadScript line
       → ReadsText s input input' (IsRefusedOn k w output output' pass' line)
-  pub write_fault : status ≡ WriteFault → ReadsText s input input' (IsCutShortOn k w output output' pass')
+  pub write_fault : status ≡ WriteFault
+      → ReadsText s input input' (IsCutShortOn k w output output' (MakesPrefixOn w pass'))
   pub memory : status ≡ Memory → IsUndrawn output output' pass pass' ⊎ (IsUntouchedOn w output output' pass'
-      ⊎ ReadsText s input input' (IsCutShortOn k w output output' pass'))
+      ⊎ ReadsText s input input' (IsCutShortOn k w output output' (StopsWithinOn w pass')))
   pub unread : (status ≡ ReadFault) ⊎ (status ≡ TooLong) → IsUntouchedOn w output output' pass'
   pub ends : EndsScript status
   -- whatever the status, the pass is still one of the table

@@ -7,7 +7,6 @@ use Rattle.nio_language.specs.declared.call.ScriptCall.{ScriptCall}
 use Rattle.nio_load.specs.Generator.{generated}
 use Rattle.nio_load.specs.Load.{EndsLoad}
 use Rattle.nio_load.specs.Summary.{summary_of}
-use Rattle.nio_plain.specs.Answer.{left_by_script}
 use Rattle.nio_plain.specs.declared.rules.Rules.TheVariants.{Now}
 use Rattle.nio_script.specs.Output.{IsWritten, WritesPrefix}
 use Rattle.nio_script.specs.declared.status.Status.{Status}
@@ -15,12 +14,12 @@ use Rattle.nio_script.specs.declared.status.Status.TheVariants.{Done, WriteFault
 use Rattle.nio_words.specs.Passes.{IsPassOf, limits_of}
 use Rattle.nio_words.specs.declared.words.Pass.{Pass}
 use Rattle.nio_words.specs.declared.words.Words.{Words}
-use Rattle.nio_run.specs.Commands.{IsUndrawn, Leaves, LeavesPrefix}
+use Rattle.nio_run.specs.Commands.{IsUndrawn, MakesAllOn, StopsWithinOn}
 
--- These are the calls of the generated script of so many rounds, and the table is left as they leave it.
+-- These are the calls of the generated script of so many rounds; they were made, and nothing else.
 pub record IsLoadedOn (w : Words) (pass : Pass) (rounds : ℕ) (calls : List ScriptCall) : Type 0 where
   pub script : IsScript (generated rounds) calls
-  pub left : Leaves w pass (left_by_script Now (limits_of w) calls)
+  pub makes : MakesAllOn w pass calls
 
 -- The generated script was run, and its summary was written and flushed; no write failed.
 pub record IsSummedOn {K : Type 0} (k : sink.Ghosts K) (w : Words) (rounds : ℕ) (output output' : K)
@@ -37,11 +36,11 @@ pub record IsHalfSummedOn {K : Type 0} (k : sink.Ghosts K) (w : Words) (rounds :
   pub loaded : IsLoadedOn w pass rounds calls
   pub written : WritesPrefix k output output' (summary_of Now (limits_of w) calls)
 
--- Nothing was written, and the table is left as some calls of the generated script leave it, from the first one on.
+-- Nothing was written, and so many calls of the generated script were made, and nothing else.
 pub record IsUnsummedOn {K : Type 0} (w : Words) (rounds : ℕ) (output output' : K) (pass : Pass) : Type 0 where
   pub calls : List ScriptCall
   pub script : IsScript (generated rounds) calls
-  pub left : LeavesPrefix w pass calls
+  pub made : StopsWithinOn w pass calls
   pub unwritten : output' ≡ output
 
 -- What `load` does for so many rounds where it ends with this status.

@@ -1,39 +1,81 @@
--- What some calls of a script leave.
-use Rattle.std.proofs.Common.{◌≡◌, List, [], ◌++◌, refl, sym, ap, ◌∙◌, append_assoc}
+-- What some calls of a script did, and what they leave.
+use Rattle.std.proofs.Common.{◌≡◌, ⊎_elim, inl, inr, List, [], ◌∷◌, ◌++◌, Ok, Err, refl, sym, ap, ◌∙◌, subst}
+use Rattle.std.proofs.Common.{append_assoc}
 use Rattle.std.proofs.lemmas.List.{append-nil}
+use Rattle.std.specs.declared.alloc.AllocError.{AllocError}
+use mathlib.Core.List.{IsPrefix}
 use Rattle.nio_base.specs.declared.limits.Limits.{Limits}
 use Rattle.nio_language.specs.declared.call.ScriptCall.{ScriptCall}
+use Rattle.nio_language.specs.declared.reply.Reply.{Reply}
 use Rattle.nio_plain.proofs.CallLawsWakeups.{left_from-append}
 use Rattle.nio_plain.specs.Answer.{left_from}
 use Rattle.nio_plain.specs.ScriptState.{ScriptState}
 use Rattle.nio_plain.specs.declared.rules.Rules.{Rules}
 use Rattle.nio_plain.specs.declared.system.System as system
-use Rattle.nio_script.specs.Run.{MakesPrefix}
+use Rattle.nio_script.specs.Run.{LacksNext, MakesAll, MakesPrefix, StopsWithin}
+
+-- some calls, from the first one on, are so also behind others
+begins_behind : (made some more rest calls : List ScriptCall) → made ++ (more ++ rest) ≡ calls → IsPrefix some more
+    → IsPrefix (made ++ some) calls
+begins_behind made some more rest calls parts begins = (
+  begins.0 ++ rest,
+  append_assoc made some (begins.0 ++ rest)
+      ∙ ap (λ xs. made ++ xs) (sym (append_assoc some begins.0 rest) ∙ ap (λ xs. xs ++ rest) begins.1)
+      ∙ parts,
+)
+
+-- calls and then more
+pub makes_both : {Y : Type 0} (y : system.Ghosts Y) (run mid run' : Y) (made more : List ScriptCall)
+    → MakesAll y run mid made → MakesAll y mid run' more → MakesAll y run run' (made ++ more)
+makes_both y run mid run' [] more is later = subst (λ x. MakesAll y x run' more) is later
+makes_both y run mid run' (c ∷ made) more all later =
+    (all.0, all.1, all.2, makes_both y all.0 mid run' made more all.3 later)
 
 module _ {Y : Type 0} (y : system.Ghosts Y) (run : Y) where
   -- the state that these calls leave
   abbrev pub left_from_run : List ScriptCall → ScriptState
   left_from_run made = left_from (y.rules run) (y.limits run) (y.state run) made
 
+  -- one call was made
+  pub makes_one : (run' : Y) (c : ScriptCall) (r : Reply) → y.does run run' c (Ok r) → MakesAll y run run' (c ∷ [])
+  makes_one run' c r did = (run', r, did, refl)
+
   -- no call was made
-  pub makes_none : (run' : Y) (calls : List ScriptCall) → y.state run' ≡ y.state run → MakesPrefix y run run' calls
-  makes_none run' calls same = record {
+  pub makes_none : (calls : List ScriptCall) → MakesPrefix y run run calls
+  makes_none calls = record {
     made = [];
     begins = (calls, refl);
+    makes = refl;
+    left = refl;
+  }
+
+  -- the first call lacked memory
+  pub lacks_first : (run' : Y) (c : ScriptCall) (e : AllocError) → y.does run run' c (Err e)
+      → y.state run' ≡ y.state run → LacksNext y run run' (c ∷ [])
+  lacks_first run' c e did same = record {
+    made = [];
+    next = c;
+    begins = ([], refl);
+    before = run;
+    makes = refl;
+    error = e;
+    lacks = did;
     left = same;
   }
 
   -- every call was made
-  pub makes_all : (run' : Y) (calls : List ScriptCall) → y.state run' ≡ left_from_run calls
-      → MakesPrefix y run run' calls
-  makes_all run' calls left = record {
+  pub makes_all : (run' : Y) (calls : List ScriptCall) → MakesAll y run run' calls
+      → y.state run' ≡ left_from_run calls → MakesPrefix y run run' calls
+  makes_all run' calls makes left = record {
     made = calls;
     begins = ([], append-nil calls);
+    makes = makes;
     left = left;
   }
 
   -- some calls were made, by the same rules and limits
-  module _ (mid : Y) (made : List ScriptCall) (left : y.state mid ≡ left_from_run made)
+  module _ (mid : Y) (made : List ScriptCall) (makes : MakesAll y run mid made)
+      (left : y.state mid ≡ left_from_run made)
       (same_rules : y.rules mid ≡ y.rules run) (same_limits : y.limits mid ≡ y.limits run) where
     -- and then more
     pub left_after : (more : List ScriptCall)
@@ -49,12 +91,24 @@ module _ {Y : Type 0} (y : system.Ghosts Y) (run : Y) where
         → MakesPrefix y mid run' more → MakesPrefix y run run' calls
     makes_after run' more rest calls parts some = record {
       made = made ++ some.made;
-      begins = (
-        some.begins.0 ++ rest,
-        append_assoc made some.made (some.begins.0 ++ rest)
-            ∙ ap (λ xs. made ++ xs)
-            (sym (append_assoc some.made some.begins.0 rest) ∙ ap (λ xs. xs ++ rest) some.begins.1)
-            ∙ parts,
-      );
+      begins = begins_behind made some.made more rest calls parts some.begins;
+      makes = makes_both y run mid run' made some.made makes some.makes;
       left = some.left ∙ left_after some.made;
     }
+
+    -- or perhaps one that lacked memory
+    pub stops_after : (run' : Y) (more rest calls : List ScriptCall) → made ++ (more ++ rest) ≡ calls
+        → StopsWithin y mid run' more → StopsWithin y run run' calls
+    stops_after run' more rest calls parts some =
+        ⊎_elim (λ (p : MakesPrefix y mid run' more). inl (makes_after run' more rest calls parts p))
+        (λ (lacks : LacksNext y mid run' more). inr (record {
+          made = made ++ lacks.made;
+          next = lacks.next;
+          begins = subst (λ xs. IsPrefix xs calls) (sym (append_assoc made lacks.made (lacks.next ∷ [])))
+              (begins_behind made (lacks.made ++ lacks.next ∷ []) more rest calls parts lacks.begins);
+          before = lacks.before;
+          makes = makes_both y run mid lacks.before made lacks.made makes lacks.makes;
+          error = lacks.error;
+          lacks = lacks.lacks;
+          left = lacks.left ∙ left_after lacks.made;
+        })) some

@@ -8,8 +8,8 @@ use Rattle.nio_plain.specs.ScriptState.{ScriptState}
 use Rattle.nio_plain.specs.declared.rules.Rules.{Rules}
 use Rattle.nio_plain.specs.declared.system.System as system
 use Rattle.nio_script.specs.Output.{Writes, WritesPrefix, Gathers}
-use Rattle.nio_script.specs.Run.{MakesPrefix, line_for, left_by_call}
-use Rattle.nio_script.proofs.Made.{left_after, makes_after}
+use Rattle.nio_script.specs.Run.{MakesAll, MakesPrefix, StopsWithin, line_for, left_by_call}
+use Rattle.nio_script.proofs.Made.{left_after, makes_after, makes_both, stops_after}
 use Rattle.nio_script.proofs.Writing.{writes_both, writes_prefix_after}
 
 -- Some calls were made, and the rest of them are left. What was written, what is kept back and the
@@ -22,6 +22,7 @@ pub record IsRunning {K Y : Type 0} (k : sink.Ghosts K) (y : system.Ghosts Y) (o
       ≡ answer_from (y.rules run) (y.limits run) (y.state run) 1 calls
   pub made : List ScriptCall
   pub parts : made ++ rest ≡ calls
+  pub makes : MakesAll y run run' made
   pub left : y.state run' ≡ left_from (y.rules run) (y.limits run) (y.state run) made
   pub still : k.faults output' ≡ k.faults output
   pub kept_on : y.kept run run'
@@ -60,18 +61,24 @@ module _ {K Y : Type 0} (k : sink.Ghosts K) (y : system.Ghosts Y) (output mid no
       subst (WritesPrefix k output now) answer_on
       (writes_prefix_after k output mid now running.bytes (kept ++ next_line) _ running.written some)
 
-  -- and leaves the system as it was, or as the call leaves it
-  pub stops_amid : (after : Y) → MakesPrefix y before after (call ∷ []) → MakesPrefix y run after calls
+  -- the next call was made, or it wasn't
+  pub cut_amid : (after : Y) → MakesPrefix y before after (call ∷ []) → MakesPrefix y run after calls
+  cut_amid after some =
+      makes_after y run before running.made running.makes running.left running.rules running.limits after (call ∷ [])
+      rest calls running.parts some
+
+  -- or it lacked memory
+  pub stops_amid : (after : Y) → StopsWithin y before after (call ∷ []) → StopsWithin y run after calls
   stops_amid after some =
-      makes_after y run before running.made running.left running.rules running.limits after (call ∷ []) rest calls
-      running.parts some
+      stops_after y run before running.made running.makes running.left running.rules running.limits after (call ∷ [])
+      rest calls running.parts some
 
   -- the next call is answered
   pub goes_on : (after : Y) (kept' : List ℕ) → Gathers k mid now kept kept' next_line → y.state after ≡ next_state
-      → k.faults now ≡ k.faults mid
+      → MakesAll y before after (call ∷ []) → k.faults now ≡ k.faults mid
       → y.kept run after → y.rules after ≡ y.rules before → y.limits after ≡ y.limits before
       → IsRunning k y output now run after kept' (number + 1) rest calls
-  goes_on after kept' gathers left still kept_on rules limits = record {
+  goes_on after kept' gathers left makes still kept_on rules limits = record {
     bytes = running.bytes ++ gathers.bytes;
     written = writes_both k output mid now running.bytes gathers.bytes running.written gathers.written;
     answer =
@@ -84,7 +91,9 @@ module _ {K Y : Type 0} (k : sink.Ghosts K) (y : system.Ghosts Y) (output mid no
         ∙ answer_on;
     made = running.made ++ call ∷ [];
     parts = append_assoc running.made (call ∷ []) rest ∙ running.parts;
-    left = left ∙ left_after y run before running.made running.left running.rules running.limits (call ∷ []);
+    makes = makes_both y run before after running.made (call ∷ []) running.makes makes;
+    left = left
+        ∙ left_after y run before running.made running.makes running.left running.rules running.limits (call ∷ []);
     still = still ∙ running.still;
     kept_on = kept_on;
     rules = rules ∙ running.rules;

@@ -1,6 +1,7 @@
 -- What running a script does to its sink and its system.
-use Rattle.std.specs.Prelude.{◌≡◌, ℕ, ◌++◌, List, [], ◌∷◌, codes}
+use Rattle.std.specs.Prelude.{◌≡◌, ◌⊎◌, ℕ, ◌++◌, List, [], ◌∷◌, Ok, Err, codes}
 use Rattle.std.specs.Fmt.{decimal}
+use Rattle.std.specs.declared.alloc.AllocError.{AllocError}
 use mathlib.Core.List.{IsPrefix}
 use Rattle.nio_base.specs.declared.limits.Limits.{Limits}
 use Rattle.nio_bytes.specs.declared.source.Source as source
@@ -8,6 +9,7 @@ use Rattle.nio_bytes.specs.declared.sink.Sink as sink
 use Rattle.nio_language.specs.Replies.{history_line}
 use Rattle.nio_language.specs.Script.{IsScript, IsFirstBad}
 use Rattle.nio_language.specs.declared.call.ScriptCall.{ScriptCall}
+use Rattle.nio_language.specs.declared.reply.Reply.{Reply}
 use Rattle.nio_plain.specs.Answer.{answer_to, left_by_script, left_from}
 use Rattle.nio_plain.specs.ScriptState.{ScriptState}
 use Rattle.nio_plain.specs.Seq.{seq}
@@ -27,34 +29,56 @@ line_for rules l st number c = history_line number c.caller c.call (seq rules l 
 abbrev pub left_by_call : Rules → Limits → ScriptState → ScriptCall → ScriptState
 left_by_call rules l st c = (seq rules l st c.caller c.call).left
 
--- Some of these calls were made, from the first one on, and the system is left as they leave it.
+-- These calls were made in turn, and nothing else; each had a reply.
+abbrev pub MakesAll : {Y : Type 0} → system.Ghosts Y → Y → Y → List ScriptCall → Type 0
+MakesAll y run run' [] = run' ≡ run
+MakesAll y run run' (c ∷ later) = (mid : _) × (r : Reply) × y.does run mid c (Ok r) × MakesAll y mid run' later
+
+-- Some of these calls were made, from the first one on, and nothing else. The system is left as they leave it.
 pub record MakesPrefix {Y : Type 0} (y : system.Ghosts Y) (run run' : Y) (calls : List ScriptCall) : Type 0 where
   pub made : List ScriptCall
   pub begins : IsPrefix made calls
+  pub makes : MakesAll y run run' made
   pub left : y.state run' ≡ left_from (y.rules run) (y.limits run) (y.state run) made
+
+-- Some of these calls were made, from the first one on; then the next one lacked memory, and nothing else was done. The
+-- system is left as the calls before that one leave it.
+pub record LacksNext {Y : Type 0} (y : system.Ghosts Y) (run run' : Y) (calls : List ScriptCall) : Type 0 where
+  pub made : List ScriptCall
+  pub next : ScriptCall
+  pub begins : IsPrefix (made ++ next ∷ []) calls
+  pub before : Y
+  pub makes : MakesAll y run before made
+  pub error : AllocError
+  pub lacks : y.does before run' next (Err error)
+  pub left : y.state run' ≡ left_from (y.rules run) (y.limits run) (y.state run) made
+
+-- Some of these calls were made, from the first one on; the next one may have lacked memory. Nothing else was done.
+abbrev pub StopsWithin : {Y : Type 0} → system.Ghosts Y → Y → Y → List ScriptCall → Type 0
+StopsWithin y run run' calls = MakesPrefix y run run' calls ⊎ LacksNext y run run' calls
 
 -- The input was read whole, and its text is so.
 abbrev pub ReadsText : {S : Type 0} → source.Ghosts S → S → S → (List ℕ → Type 0) → Type 0
 ReadsText s input input' IsSo = (text : List ℕ) × IsReadWhole s input input' text × IsSo text
 
--- The text is a script, its answer was written and flushed, no write failed, and the system is left
--- as the script leaves it.
+-- The text is a script, its calls were made, its answer was written and flushed, no write failed, and the system is
+-- left as the script leaves it.
 pub record IsAnswered {K Y : Type 0} (k : sink.Ghosts K) (y : system.Ghosts Y)
     (output output' : K) (run run' : Y) (text : List ℕ) : Type 0 where
   pub calls : List ScriptCall
   pub script : IsScript text calls
   pub written : IsWritten k output output' (answer_to (y.rules run) (y.limits run) calls)
   pub still : k.faults output' ≡ k.faults output
+  pub makes : MakesAll y run run' calls
   pub left : y.state run' ≡ left_by_script (y.rules run) (y.limits run) calls
 
--- The text is a script, some of its answer was written, from its front, and the system is left as some of its calls
--- leave it, from the first one on.
+-- The text is a script, some of its answer was written, from its front, and so many of its calls were made.
 pub record IsCutShort {K Y : Type 0} (k : sink.Ghosts K) (y : system.Ghosts Y)
-    (output output' : K) (run run' : Y) (text : List ℕ) : Type 0 where
+    (output output' : K) (run : Y) (Made : List ScriptCall → Type 0) (text : List ℕ) : Type 0 where
   pub calls : List ScriptCall
   pub script : IsScript text calls
   pub written : WritesPrefix k output output' (answer_to (y.rules run) (y.limits run) calls)
-  pub left : MakesPrefix y run run' calls
+  pub made : Made calls
 
 -- what is said of a line that isn't in the grammar
 abbrev pub bad_line : ℕ → List ℕ

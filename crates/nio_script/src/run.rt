@@ -9,7 +9,7 @@ ghost use Rattle.nio_plain.specs.ScriptState.{script_opening};
 ghost use Rattle.nio_script.specs.Input.{CausesFault, StopsPastLongest};
 ghost use Rattle.nio_script.specs.Output.{WritesPrefix, IsWritten, WritesOrFails, Gathers};
 ghost use Rattle.nio_script.specs.Run.{line_for, left_by_call, bad_line, ReadsText, IsAnswered, IsCutShort, IsRefused};
-ghost use Rattle.nio_script.specs.Run.{IsUntouched, MakesPrefix, EndsText, EndsScript};
+ghost use Rattle.nio_script.specs.Run.{IsUntouched, MakesAll, MakesPrefix, StopsWithin, EndsText, EndsScript};
 
 use crate::input::{LONGEST_INPUT, read_input};
 use crate::output::{offer, put_line, write_out};
@@ -35,7 +35,10 @@ fn answer_call<K: Sink, Y: System>(
         ≡ left_by_call (Y.rules system.old) (Y.limits system.old) (Y.state system.old) line.now) }
     ensures err { OnErr result (WritesPrefix K.Sink output.old output.new (kept.old.items
         ++ line_for (Y.rules system.old) (Y.limits system.old) (Y.state system.old) number line.now)) }
-    ensures err_left { OnErr result (MakesPrefix Y.System system.old system.new (line.now ∷ [])) }
+    ensures makes { OnOk result (MakesAll Y.System system.old system.new (line.now ∷ [])) }
+    ensures stops { OnErr result (StopsWithin Y.System system.old system.new (line.now ∷ [])) }
+    ensures write_fault { IsErrOf result Status.WriteFault →
+        MakesPrefix Y.System system.old system.new (line.now ∷ []) }
     ensures kept { Y.kept system.old system.new }
     ensures cause { CausesFault (K.faults output.old) (K.faults output.new)
         (IsErrOf result Status.WriteFault) }
@@ -60,7 +63,10 @@ fn run_calls<K: Sink, Y: System>(
         ≡ left_from (Y.rules system.old) (Y.limits system.old) (Y.state system.old) calls.now) }
     ensures err { OnErr result (WritesPrefix K.Sink output.old output.new
         (answer_from (Y.rules system.old) (Y.limits system.old) (Y.state system.old) 1 calls.now)) }
-    ensures err_left { OnErr result (MakesPrefix Y.System system.old system.new calls.now) }
+    ensures makes { OnOk result (MakesAll Y.System system.old system.new calls.now) }
+    ensures stops { OnErr result (StopsWithin Y.System system.old system.new calls.now) }
+    ensures write_fault { IsErrOf result Status.WriteFault →
+        MakesPrefix Y.System system.old system.new calls.now }
     ensures kept { Y.kept system.old system.new }
     ensures cause { CausesFault (K.faults output.old) (K.faults output.new)
         (IsErrOf result Status.WriteFault) }
@@ -104,11 +110,13 @@ fn run_text<K: Sink, Y: System>(
     ensures bad_script { (line : ℕ) → result ≡ Status.BadScript line →
         IsRefused K.Sink output.old output.new system.old system.new line text.now }
     ensures write_fault { result ≡ Status.WriteFault →
-        IsCutShort K.Sink Y.System output.old output.new system.old system.new text.now }
+        IsCutShort K.Sink Y.System output.old output.new system.old
+        (MakesPrefix Y.System system.old system.new) text.now }
     ensures rose { result ≡ Status.WriteFault → Rose (K.faults output.old) (K.faults output.new) }
     ensures memory { result ≡ Status.Memory →
         IsUntouched output.old output.new system.old system.new
-        ⊎ IsCutShort K.Sink Y.System output.old output.new system.old system.new text.now }
+        ⊎ IsCutShort K.Sink Y.System output.old output.new system.old
+        (StopsWithin Y.System system.old system.new) text.now }
     ensures of_script { (calls : List ScriptCall) → IsScript text.now calls →
         (result ≡ Status.Done) ⊎ (result ≡ Status.WriteFault) ⊎ (result ≡ Status.Memory) }
     ensures of_bad { (line : ℕ) → IsFirstBad text.now line →
@@ -144,11 +152,11 @@ pub fn run_script<S: Source, K: Sink, Y: System>(
         ReadsText S.Source input.old input.new
         (IsRefused K.Sink output.old output.new system.old system.new line) }
     ensures write_fault { result ≡ Status.WriteFault → ReadsText S.Source input.old input.new
-        (IsCutShort K.Sink Y.System output.old output.new system.old system.new) }
+        (IsCutShort K.Sink Y.System output.old output.new system.old (MakesPrefix Y.System system.old system.new)) }
     ensures memory { result ≡ Status.Memory →
         IsUntouched output.old output.new system.old system.new
         ⊎ ReadsText S.Source input.old input.new
-        (IsCutShort K.Sink Y.System output.old output.new system.old system.new) }
+        (IsCutShort K.Sink Y.System output.old output.new system.old (StopsWithin Y.System system.old system.new)) }
     ensures unread { (result ≡ Status.ReadFault) ⊎ (result ≡ Status.TooLong) →
         IsUntouched output.old output.new system.old system.new }
     ensures ends { EndsScript result }

@@ -83,6 +83,8 @@ no_caller w d me word stands past =
         grew = sym (append-nil (seen d.pass));
         run = line-past (limits_of w) (progress_of d) me word past;
       };
+      lacks = tt;
+      still = tt;
     }
 
 -- ---- after a line
@@ -123,6 +125,8 @@ line_said w d d' me word r stands drawn made =
         grew = (run.acts.only refl).1;
         run = run.shape;
       };
+      lacks = tt;
+      still = tt;
     }
 
 -- ---- want of memory
@@ -199,10 +203,10 @@ lacks_said : (w : Words) (d d' : Desk) (me : CallerNo) (word : Call) (e : AllocE
 lacks_said w d d' me word e stands drawn lacks =
     let now = progress_of d in
     let said : Said = record { reply = lacks.r; left = progress_of d' } in
+    let run = alone w d.pass d'.pass me stands.ready lacks.makes.call in
     let call = subst
     (λ (x : Call). CallClause me (Completes (if_named (limits_of w) now x (want_plan now lacks.want)))
-    (sole_view w d.pass) (sole_view w d'.pass) said) lacks.is
-    (alone w d.pass d'.pass me stands.ready lacks.makes.call) in
+    (sole_view w d.pass) (sole_view w d'.pass) said) lacks.is run in
     let after = ∥∥₁_map (are_between w d stands)
     (λ before. wanted me now (sole_view w d.pass) (sole_view w d'.pass) stands.fit drawn refl before said lacks.same
     lacks.want call) in
@@ -215,6 +219,15 @@ lacks_said w d d' me word e stands drawn lacks =
       memory = ap (documented (state_seen d'.pass)) lacks.same ∙ ∥∥₁_elim after (script_set _ _) (λ x. x.1);
       later = lacks.makes.call.acts.history.goes_on;
       made = tt;
+      lacks = record {
+        want = lacks.want;
+        is = lacks.is;
+        acts = done_between me (sole_view w d.pass) (sole_view w d'.pass);
+        grew = (run.acts.only refl).1;
+        said = said;
+        run = run.shape;
+      };
+      still = lacks.same;
     }
 
 pub says_line : (w : Words) (d d' : Desk) (me : CallerNo) (word : Call) (result : Result Reply AllocError) → Stands w d

@@ -67,7 +67,7 @@ use Rattle.nio_steps.specs.Plan.{Plan, ◌>>=◌}
 use Rattle.nio_steps.specs.Runs.{Follows, Completes}
 use Rattle.nio_steps.specs.SelectCalls.{Selection, open_selector_plan, try_begin_plan, begin_lacks_memory, begin_open}
 use Rattle.nio_steps.specs.SelectCalls.{begin_with_turn, given_back, told_plan}
-use Rattle.nio_steps.specs.Looking.{over_listed, look_over}
+use Rattle.nio_steps.specs.Looking.{over_not_free, look_over}
 use Rattle.nio_steps.specs.SelectCalls.{Poll, ToldReply, done, again, leave_plan, shut_plan, ShutReply}
 use Rattle.nio_steps.specs.SelectCalls.{closing, already_closed, try_finish_plan, FinishReply, closed, busy, keys_plan}
 use Rattle.nio_steps.specs.SelectCalls.{selected_keys_plan, list_lacks_memory, list_plan, list_open, list_key}
@@ -361,8 +361,8 @@ begin_has_memory s mode =
     (λ _ look asks''. always_if (λ _ r. begin_lacks_memory r ≡ false) (gate_in (answer_of look)).shut
     (given_back s (Err BeginError.ClosedSelector)) _ (λ _ give _. refl)
     (λ _ looked asks'''. let bound = number_in (answer_of looked) in
-    always_bind anything (λ _ r. begin_lacks_memory r ≡ false) (over_listed s bound (look_over s) []) _
-    (always_any (over_listed s bound (look_over s) [])) (λ _ _ _. refl))))
+    always_bind anything (λ _ r. begin_lacks_memory r ≡ false) (over_not_free s bound (look_over s) []) _
+    (always_any (over_not_free s bound (look_over s) [])) (λ _ _ _. refl))))
 
 -- a `try_begin` that answers Ok found the turn free
 begin_takes : (s : SelNo) (mode : Mode) (lacks : Bool)

@@ -11,3 +11,4 @@ pub mod Told
 pub mod Said
 pub mod Sole
 pub mod Drawn
+pub mod ScriptLines

@@ -2,16 +2,20 @@
 use Rattle.std.specs.Prelude.{◌≡◌, Result, IfOk, OnErr, List, ◌++◌, map}
 use Rattle.std.specs.declared.alloc.AllocError.{AllocError}
 use mathlib.Core.List.{IsPrefix}
+use Rattle.nio_base.specs.declared.limits.Limits.{Limits}
 use Rattle.nio_base.specs.declared.numbers.CallerNo.{CallerNo}
 use Rattle.nio_history.specs.Histories.{event_of}
 use Rattle.nio_history.specs.declared.act.Act.{Act}
+use Rattle.nio_history.specs.declared.event.Event.{Event}
 use Rattle.nio_language.specs.declared.call.Call.{Call}
+use Rattle.nio_language.specs.declared.call.ScriptCall.{ScriptCall}
 use Rattle.nio_language.specs.declared.reply.Reply.{Reply}
 use Rattle.nio_plain.specs.ScriptState.{ScriptState}
 use Rattle.nio_plain.specs.Seq.{seq}
 use Rattle.nio_plain.specs.declared.rules.Rules.TheVariants.{Now}
-use Rattle.nio_serial.specs.Documented.{documented}
-use Rattle.nio_serial.specs.Lines.{line_plan}
+use Rattle.nio_serial.specs.Documented.{Progress, documented}
+use Rattle.nio_serial.specs.Lines.{Said, if_named, line_plan}
+use Rattle.nio_sole.specs.Makes.{Want, want_plan, word_of}
 use Rattle.nio_sole.specs.Stands.{progress_of, Stands}
 use Rattle.nio_sole.specs.declared.desk.Desk.{Desk}
 use Rattle.nio_steps.specs.Runs.{Completes}
@@ -29,6 +33,15 @@ pub record MadeLine (w : Words) (old new : Desk) (me : CallerNo) (word : Call) (
   pub run : Completes (line_plan (limits_of w) (progress_of old) me word) acts
       (record { reply = r; left = progress_of new })
 
+-- The line lacked memory, with this in progress: the history grew by its look-ups, and by what was made of its call.
+pub record LacksLine (l : Limits) (now : Progress) (c : ScriptCall) (old new : List Event) : Type 0 where
+  pub want : Want
+  pub is : c.call ≡ word_of want
+  pub acts : List Act
+  pub grew : new ≡ old ++ map (event_of c.caller) acts
+  pub said : Said
+  pub run : Completes (if_named l now c.call (want_plan now want)) acts said
+
 -- the line's reply and state are those of the documented system; one that lacks memory leaves the state
 pub record SaysLine (w : Words) (old new : Desk) (me : CallerNo) (word : Call)
     (result : Result Reply AllocError) : Type 0 where
@@ -38,3 +51,6 @@ pub record SaysLine (w : Words) (old new : Desk) (me : CallerNo) (word : Call)
   pub memory : OnErr result (state_at new ≡ state_at old)
   pub later : IsPrefix (seen old.pass) (seen new.pass)
   pub made : IfOk result (MadeLine w old new me word)
+  pub lacks : OnErr result (LacksLine (limits_of w) (progress_of old) (record { caller = me; call = word })
+      (seen old.pass) (seen new.pass))
+  pub still : OnErr result (progress_of new ≡ progress_of old)

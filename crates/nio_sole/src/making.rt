@@ -2,10 +2,9 @@
 ghost use Rattle.std.specs.Prelude.{◌≡◌, ◌+◌, ◌<◌, ◌≤◌, ◌++◌, [], ◌∷◌, None, IfOk, OnErr, vec_len};
 ghost use Rattle.std.specs.Vec.{vec_capacity};
 ghost use Rattle.nio_plain.specs.ScriptState.{script_opening};
-ghost use Rattle.nio_serial.specs.Documented.{nothing_yet};
-ghost use Rattle.nio_serial.specs.Serial.{history_of};
-ghost use Rattle.nio_sole.specs.Drawn.{AreAllDrawn, AreEmpty, HasDrawn, draws};
+ghost use Rattle.nio_sole.specs.Drawn.{AreAllDrawn, AreEmpty, HasDrawn};
 ghost use Rattle.nio_sole.specs.Said.{state_at};
+ghost use Rattle.nio_sole.specs.ScriptLines.{AreScriptLines};
 ghost use Rattle.nio_sole.specs.Stands.{Stands, progress_of};
 ghost use Rattle.nio_words.specs.Passes.{IsFirstPass, IsPassOf, limits_of, seen, state_seen};
 
@@ -25,8 +24,7 @@ pub fn open_desk(alloc: Global, w: &Words, p: &mut Pass) -> Result<Desk, AllocEr
     ensures drawn { IfOk result (λ d. AreAllDrawn (limits_of w.now) (state_seen d.pass)) }
     ensures pass { IsPassOf w.now p.new }
     ensures sight { IfOk result (λ d. seen p.new ≡ seen d.pass) }
-    ensures draws { IfOk result (λ d. seen d.pass ≡ history_of (draws (limits_of w.now).callers)) }
-    ensures idle { IfOk result (λ d. progress_of d ≡ nothing_yet) }
+    ensures none { IfOk result (λ d. AreScriptLines (limits_of w.now) [] (seen d.pass) (progress_of d)) }
     ensures memory { OnErr result (p.new ≡ p.old) }
 {
     let (selections, closings) = no_progress(alloc, w.limits().selectors)?;
@@ -65,8 +63,7 @@ fn open_with(
     ensures drawn { IfOk result (λ d. AreAllDrawn (limits_of w.now) (state_seen d.pass)) }
     ensures pass { IsPassOf w.now p.new }
     ensures sight { IfOk result (λ d. seen p.new ≡ seen d.pass) }
-    ensures draws { IfOk result (λ d. seen d.pass ≡ history_of (draws (limits_of w.now).callers)) }
-    ensures idle { IfOk result (λ d. progress_of d ≡ nothing_yet) }
+    ensures none { IfOk result (λ d. AreScriptLines (limits_of w.now) [] (seen d.pass) (progress_of d)) }
     ensures memory { OnErr result (p.new ≡ p.old) }
 {
     draw_all(w, p);

@@ -19,16 +19,15 @@ pub struct Sole<'a> {
 }
 
 impl<'a> Sole<'a> {
-    ghost use Rattle.std.specs.Prelude.{◌≡◌, ◌<◌, IfOk, OnErr};
+    ghost use Rattle.std.specs.Prelude.{◌≡◌, ◌<◌, [], IfOk, OnErr};
     ghost use Rattle.nio_base.specs.declared.numbers.CallerNo.{CallerNo};
     ghost use Rattle.nio_history.specs.PassViews.{HasNoPin};
     ghost use Rattle.nio_orderly.specs.Orderly.{IsWhole};
     ghost use Rattle.nio_plain.specs.ScriptState.{script_opening};
-    ghost use Rattle.nio_serial.specs.Serial.{history_of};
     ghost use Rattle.nio_words.specs.Passes.{IsFirstPass, IsPassOf, IsReady, seen, state_seen};
     ghost use Rattle.nio_words.specs.Views.{view};
-    ghost use Rattle.nio_sole.specs.Drawn.{AreAllDrawn, draws};
-    ghost use Rattle.nio_sole.specs.Sole.{limits_of, pass_of, state_of, words_of};
+    ghost use Rattle.nio_sole.specs.Drawn.{AreAllDrawn};
+    ghost use Rattle.nio_sole.specs.Sole.{HasMadeLines, limits_of, pass_of, state_of, words_of};
 
     /// Draws every number with the pass, and hands all of them over to a pass of its own. The pass that is left acts
     /// for nobody. Want of memory leaves the pass as it was.
@@ -37,7 +36,7 @@ impl<'a> Sole<'a> {
         ensures table { IfOk result (λ sole. words_of sole ≡ words.entry.now) }
         ensures opening { IfOk result (λ sole. state_of sole ≡ script_opening) }
         ensures drawn { IfOk result (λ sole. AreAllDrawn (limits_of sole) (state_seen (pass_of sole))) }
-        ensures draws { IfOk result (λ sole. seen (pass_of sole) ≡ history_of (draws (limits_of sole).callers)) }
+        ensures none { IfOk result (λ sole. HasMadeLines sole []) }
         ensures pass { IsPassOf words.entry.now pass.new }
         ensures sight { IfOk result (λ sole. seen pass.new ≡ seen (pass_of sole)) }
         ensures memory { OnErr result (pass.new ≡ pass.old) }
@@ -68,7 +67,7 @@ impl<'a> System for Sole<'a> {
     ghost use Rattle.nio_history.proofs.Clauses.{prefix_trans};
     ghost use Rattle.nio_words.proofs.Beginnings.{prefix_self};
     ghost use Rattle.nio_words.specs.Passes as passes;
-    ghost use Rattle.nio_sole.specs.Sole.{Kept, limits_of, rules_of, state_of};
+    ghost use Rattle.nio_sole.specs.Sole.{Does, Kept, limits_of, rules_of, state_of};
 
     ghost limits = { limits_of };
 
@@ -77,6 +76,8 @@ impl<'a> System for Sole<'a> {
     ghost state = { state_of };
 
     ghost kept = { Kept };
+
+    ghost does = { Does };
 
     fn call(&mut self, alloc: Global, caller: CallerNo, call: &Call) -> Result<Reply, AllocError> {
         say_line(alloc, self.words, &mut self.desk, caller, call)

@@ -149,6 +149,8 @@ impl System for Deaf {
 
     ghost kept = { λ _ _. ⊤ };
 
+    ghost does = { λ _ _ _ _. ⊤ };
+
     ghost kept_same = { λ _. tt };
 
     ghost kept_on = { λ _ _ _ _ _. tt };

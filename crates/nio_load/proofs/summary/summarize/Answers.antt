@@ -1,4 +1,4 @@
-use Rattle.std.proofs.Common.{◌∙◌, ap, length, sym}
+use Rattle.std.proofs.Common.{◌∙◌, ap, inl, length, sym}
 use Rattle.std.specs.Fmt.{decimal}
 use Rattle.nio_plain.proofs.Replying.{on_err}
 use Rattle.nio_plain.specs.Answer.{left_from}
@@ -23,6 +23,6 @@ returns-clause-memory g c =
     let y = g.Y.System in
     let before = c.args.system.now in
     let calls = c.args.calls.now in
-    on_err c.format.result (makes_all y before c.tally_calls.new.system calls
+    on_err c.format.result (inl (makes_all y before c.tally_calls.new.system calls c.in_ok-tally.ensures.makes
     (c.in_ok-tally.ensures.left ∙ ap (λ st. left_from (y.rules before) (y.limits before) st calls)
-    (sym c.requires.opening)))
+    (sym c.requires.opening))))

@@ -1,14 +1,12 @@
 use Rattle.std.proofs.Common.{sym, subst, arith}
 use Rattle.nio_words.specs.Passes.{IsPassOf}
 use Rattle.nio_words.specs.declared.words.Pass.{Pass}
-use Rattle.nio_race.proofs.SettingUp.{begins_set_up}
 use Rattle.nio_race.proofs.SetupKeeps.{setup-kept}
 use Rattle.nio_race.proofs.setup.set_up.Goals as goal
 
 pub make_lines-requires-clause-set_up : goal.make_lines-requires-clause-set_up
 make_lines-requires-clause-set_up c =
-    let opened = c.in_ok-desk.ensures in
-    begins_set_up c.args.w.now c.in_ok-desk.desk opened.stands opened.draws opened.idle opened.drawn
+    record { stands = c.in_ok-desk.ensures.stands; set_up = c.in_ok-desk.ensures.none }
 
 pub join-requires-clause-other : goal.join-requires-clause-other
 join-requires-clause-other c =

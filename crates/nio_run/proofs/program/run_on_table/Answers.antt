@@ -1,19 +1,15 @@
-use Rattle.std.proofs.Common.{◌≡◌, ℕ, List, ap, ◌∙◌, subst, inr}
-use mathlib.Core.List.{IsPrefix}
+use Rattle.std.proofs.Common.{◌≡◌, ℕ, List, [], ap, sym, ◌∙◌, subst, inr}
 use Rattle.nio_base.specs.declared.limits.Limits.{Limits}
-use Rattle.nio_language.specs.Script.{IsScript}
 use Rattle.nio_language.specs.declared.call.ScriptCall.{ScriptCall}
-use Rattle.nio_plain.specs.Answer.{answer_to, left_by_script, left_from}
-use Rattle.nio_plain.specs.ScriptState.{ScriptState, script_opening}
+use Rattle.nio_plain.specs.Answer.{answer_to, left_from}
+use Rattle.nio_plain.specs.ScriptState.{ScriptState}
 use Rattle.nio_plain.specs.declared.rules.Rules.TheVariants.{Now}
 use Rattle.nio_script.specs.Output.{IsWritten, WritesPrefix}
-use Rattle.nio_serial.specs.Serial.{history_of}
-use Rattle.nio_sole.specs.Drawn.{draws}
-use Rattle.nio_sole.specs.Sole.{pass_of, state_of, words_of}
-use Rattle.nio_sole.specs.declared.sole.Sole.{Sole}
-use Rattle.nio_words.specs.Passes.{limits_of, seen}
-use Rattle.nio_run.specs.Commands.{DrewAlone, IsCutShortOn, IsUntouchedOn, Leaves}
-use Rattle.nio_run.proofs.Leaving.{either_way, joined_table, leaves, leaves_prefix, sees_last}
+use Rattle.nio_script.specs.Run.{IsCutShort, MakesPrefix, StopsWithin}
+use Rattle.nio_sole.specs.Sole.{state_of, words_of}
+use Rattle.nio_words.specs.Passes.{limits_of}
+use Rattle.nio_run.specs.Commands.{IsCutShortOn, MakesAllOn, MakesPrefixOn, StopsWithinOn}
+use Rattle.nio_run.proofs.Leaving.{either_way, joined_table, on_table, sole_system}
 use Rattle.nio_run.proofs.program.run_on_table.Goals as goal
 
 pub join-requires-clause-other : goal.join-requires-clause-other
@@ -25,37 +21,25 @@ pub returns-in-Ok-clause-script : goal.returns-in-Ok-clause-script
 returns-in-Ok-clause-script g c =
     let w = c.args.table.now in
     let first = c.in-Ok.sole in
+    let last = c.run_script-status.new.system in
     let its = c.run_script-status.ensures in
-    let same : limits_of (words_of first) ≡ limits_of w = ap limits_of c.in-Ok.ensures.table in
-    let left : (st : ScriptState) → state_of c.run_script-status.new.system ≡ st → Leaves w c.join.new.p st = λ st is.
-    leaves w first c.run_script-status.new.system its.kept c.in-Ok.ensures.table st c.make.new.pass c.into_pass.result
-    c.join.new.p c.in-Ok.ensures.sight c.in-Ok.ensures.drawn is c.into_pass.ensures.pass
-    c.into_pass.ensures.ready c.into_pass.ensures.whole c.join.ensures in
-    let drew : c.run_script-status.new.system ≡ first → DrewAlone w c.join.new.p = λ uncalled.
-    sees_last w first c.run_script-status.new.system its.kept c.in-Ok.ensures.table c.make.new.pass c.into_pass.result
-    c.join.new.p c.in-Ok.ensures.sight c.into_pass.ensures.pass c.join.ensures
-    ∙ (ap (λ (s : Sole). seen (pass_of s)) uncalled
-    ∙ (c.in-Ok.ensures.draws ∙ ap (λ (l : Limits). history_of (draws l.callers)) same)) in
-    let untouched : c.run_script-status.new.output ≡ c.args.output.now → c.run_script-status.new.system ≡ first
-    → IsUntouchedOn w c.args.output.now c.run_script-status.new.output c.join.new.p = λ unwritten uncalled. record {
-      unwritten = unwritten;
-      uncalled = left script_opening (ap state_of uncalled ∙ c.in-Ok.ensures.opening);
-      drew = drew uncalled;
-    } in
-    let cut : (text : List ℕ) (calls made : List ScriptCall) → IsScript text calls
-    → WritesPrefix g.K.Sink c.args.output.now c.run_script-status.new.output
-    (answer_to Now (limits_of (words_of first)) calls)
-    → IsPrefix made calls
-    → state_of c.run_script-status.new.system ≡ left_from Now (limits_of (words_of first)) (state_of first) made
-    → IsCutShortOn g.K.Sink w c.args.output.now c.run_script-status.new.output c.join.new.p text
-    = λ text calls made script written begins is. record {
-      calls = calls;
-      script = script;
+    let opened = c.in-Ok.ensures in
+    let same : limits_of (words_of first) ≡ limits_of w = ap limits_of opened.table in
+    let on = on_table w first last its.kept opened.table c.make.new.pass c.into_pass.result c.join.new.p opened.sight
+    c.into_pass.ensures.pass c.join.ensures opened.drawn c.into_pass.ensures.ready c.into_pass.ensures.whole
+    opened.opening opened.none in
+    let uncalled : last ≡ first → MakesAllOn w c.join.new.p [] = λ same. on.all [] same (ap state_of same) in
+    let cut : (Made MadeOn : List ScriptCall → Type 0) → ((calls : List ScriptCall) → Made calls → MadeOn calls)
+    → (text : List ℕ)
+    → IsCutShort g.K.Sink sole_system c.args.output.now c.run_script-status.new.output first Made text
+    → IsCutShortOn g.K.Sink w c.args.output.now c.run_script-status.new.output MadeOn text = λ Made MadeOn also text x.
+    record {
+      calls = x.calls;
+      script = x.script;
       written = subst
           (λ (l : Limits). WritesPrefix g.K.Sink c.args.output.now c.run_script-status.new.output
-          (answer_to Now l calls)) same written;
-      left = leaves_prefix w first c.run_script-status.new.system its.kept c.in-Ok.ensures.table c.join.new.p left
-          c.in-Ok.ensures.opening made calls begins is;
+          (answer_to Now l x.calls)) same x.written;
+      made = also x.calls x.made;
     } in
     record {
       done = λ is. let read = its.done is in (
@@ -68,8 +52,10 @@ returns-in-Ok-clause-script g c =
               (λ (l : Limits). IsWritten g.K.Sink c.args.output.now c.run_script-status.new.output
               (answer_to Now l read.2.calls)) same read.2.written;
           still = read.2.still;
-          left = left (left_by_script Now (limits_of w) read.2.calls)
-              (read.2.left ∙ ap (λ (l : Limits). left_by_script Now l read.2.calls) same);
+          makes = on.all read.2.calls read.2.makes
+              (read.2.left
+              ∙ ap (λ (st : ScriptState). left_from Now (limits_of (words_of first)) st read.2.calls)
+              (sym opened.opening));
         },
       );
       bad_script = λ line is. let read = its.bad_script line is in (
@@ -78,21 +64,26 @@ returns-in-Ok-clause-script g c =
         record {
           first = read.2.first;
           said = read.2.said;
-          uncalled = left script_opening (ap state_of read.2.uncalled ∙ c.in-Ok.ensures.opening);
-          drew = drew read.2.uncalled;
+          uncalled = uncalled read.2.uncalled;
         },
       );
       write_fault = λ is. let read = its.write_fault is in (
         read.0,
         read.1,
-        cut read.0 read.2.calls read.2.left.made read.2.script read.2.written read.2.left.begins read.2.left.left,
+        cut (MakesPrefix sole_system first last) (MakesPrefixOn w c.join.new.p) on.some read.0 read.2,
       );
-      memory = λ is. inr (either_way (λ none. untouched none.unwritten none.uncalled) (λ read. (
+      memory = λ is. inr (either_way (λ none. record {
+        unwritten = none.unwritten;
+        uncalled = uncalled none.uncalled;
+      }) (λ read. (
         read.0,
         read.1,
-        cut read.0 read.2.calls read.2.left.made read.2.script read.2.written read.2.left.begins read.2.left.left,
+        cut (StopsWithin sole_system first last) (StopsWithinOn w c.join.new.p) on.stops read.0 read.2,
       )) (its.memory is));
-      unread = λ is. untouched (its.unread is).unwritten (its.unread is).uncalled;
+      unread = λ is. record {
+        unwritten = (its.unread is).unwritten;
+        uncalled = uncalled (its.unread is).uncalled;
+      };
       ends = its.ends;
       kept = c.join.ensures.pass;
       of_script = its.of_script;
