@@ -1,5 +1,5 @@
 -- What contracts see of the ends of a line.
-use Rattle.std.specs.Prelude.{◌≡◌, ◌≢◌, ℕ, List, [], ◌∷◌, ◌++◌, All}
+use Rattle.std.specs.Prelude.{◌≡◌, ◌≢◌, ℕ, Option, List, [], ◌∷◌, ◌++◌, All}
 use mathlib.Core.List.{IsPrefix}
 use Rattle.atomic_table.specs.Seated.{TableId}
 use Rattle.atomic_table.specs.declared.badge.Badge.{Badge}
@@ -10,12 +10,20 @@ pub record LineId (T : Type 0) : Type 0 where
   pub table : TableId
   pub key : Badge (Key T)
 
--- Which line it is an end of, how many messages the line has room for, and what was sent or received by this end, the
+-- The end that sends: which line it is an end of, how many messages the line has room for, and what was sent, the
 -- oldest first.
 pub record End (T : Type 0) : Type 0 where
   pub line : LineId T
   pub room : ℕ
   pub carried : List T
+
+-- The end that receives: the same with what was received, and, once it has taken in the other end, what was sent in
+-- all.
+pub record Exit (T : Type 0) : Type 0 where
+  pub line : LineId T
+  pub room : ℕ
+  pub carried : List T
+  pub all : Option (List T)
 
 -- Where the last message was received too, and was sent once, all was received.
 abbrev pub LastIsAll : Type 0 → Type 0

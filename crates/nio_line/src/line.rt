@@ -1,12 +1,13 @@
 //! The two ends of a line.
-ghost use Rattle.std.specs.Prelude.{◌≡◌, ◌<◌, [], ◌∷◌, ◌++◌, true, IfOk, IfErr, OnOk, OnErr, MatchOption};
+ghost use Rattle.std.specs.Prelude.{◌≡◌, ◌<◌, ◌≤◌, ◌+◌, ◌↔◌, [], ◌∷◌, ◌++◌, length, Some, None};
+ghost use Rattle.std.specs.Prelude.{IfOk, IfErr, IfSome, IsNone, OnOk, OnErr, MatchOption};
 ghost use mathlib.Core.List.{IsPrefix};
 ghost use Rattle.nio_line.specs.Lines.{End};
 
-use crate::hand::{Ends, Hand, Order, Receiving, Sending, Settle};
+use crate::hand::{Ends, Hand, Order, Receiving, Sending};
 use crossbeam_channel::{Pass, RuledReceiver, RuledSender, bounded_with};
 use std::alloc::{AllocError, Global};
-use std::marker::Model;
+use std::marker::{Brand, Model};
 use std::sync::Wait;
 
 /// The end of a line that sends. Messages that no one has received are let go with the last of the two ends.
@@ -34,26 +35,28 @@ impl<T: Drop> Model for LineIn<T> {
 
     ghost view = { λ l. record {
       line = record { table = l.pass.table_id; key = l.pass.me.0.of };
-      room = ruled_capacity (sends_on l.sender);
+      room = (view_of l.pass).room;
       carried = (view_of l.pass).sent;
     } };
 
-    ghost invariant = { λ l. IsSeatAt (sends_on l.sender) l.pass × (sends (view_of l.pass).part ≡ true) };
+    ghost invariant = { λ l. IsSeatAt (sends_on l.sender) l.pass × (sends (view_of l.pass).part ≡ true)
+        × ((view_of l.pass).room ≡ ruled_capacity (sends_on l.sender)) };
 }
 
 impl<T: Drop> Model for LineOut<T> {
     ghost use Rattle.std.specs.Prelude.{◌≡◌, true};
     ghost use Rattle.crossbeam_channel.specs.Claims.{view as view_of, IsSeatAt};
-    ghost use Rattle.crossbeam_channel.specs.Ends.{receives_on, ruled_capacity};
-    ghost use Rattle.nio_line.specs.Hands.{receives};
-    ghost use Rattle.nio_line.specs.Lines.{End};
+    ghost use Rattle.crossbeam_channel.specs.Ends.{receives_on};
+    ghost use Rattle.nio_line.specs.Hands.{receives, all_known};
+    ghost use Rattle.nio_line.specs.Lines.{Exit};
 
-    ghost Value = { End T };
+    ghost Value = { Exit T };
 
     ghost view = { λ l. record {
       line = record { table = l.pass.table_id; key = l.pass.me.0.of };
-      room = ruled_capacity (receives_on l.receiver);
+      room = (view_of l.pass).room;
       carried = (view_of l.pass).received;
+      all = all_known (view_of l.pass).part (view_of l.pass).sent;
     } };
 
     ghost invariant = { λ l. IsSeatAt (receives_on l.receiver) l.pass × (receives (view_of l.pass).part ≡ true) };
@@ -67,9 +70,10 @@ pub fn open<T: Drop>(alloc: Global, room: usize) -> Result<(LineIn<T>, LineOut<T
     ensures room_out { IfOk result (λ ends. ends.1.room ≡ room) }
     ensures sent { IfOk result (λ ends. ends.0.carried ≡ []) }
     ensures received { IfOk result (λ ends. ends.1.carried ≡ []) }
+    ensures untold { IfOk result (λ ends. ends.1.all ≡ None) }
 {
     let (sender, receiver, mut first) = bounded_with::<T, Hand<T>, Order, Global>(alloc, room)?;
-    let second = sender.another::<Ends>(&mut first);
+    let second = sender.another::<Brand>(&mut first);
     let line_in = LineIn {
         sender,
         pass: first,
@@ -110,22 +114,13 @@ impl<T: Drop> LineIn<T> {
             Err(error) => Err(error.into_inner()),
         }
     }
-
-    /// Joins the other end of the same line, once that has received for the last time.
-    pub fn settle(&mut self, other: LineOut<T>)
-        requires { other.line ≡ self.old.line }
-        ensures same { self.new ≡ self.old }
-        ensures prefix { IsPrefix other.carried self.old.carried }
-    {
-        self.sender.absorb::<Ends>(&mut self.pass, other.pass);
-        self.sender.learn_as::<Settle>(&mut self.pass);
-    }
 }
 
 impl<T: Drop> LineOut<T> {
     /// Receives the next message. Waits while there is none, and for ever where the other end is gone.
     pub fn receive<R: Wait>(&mut self, rt: &R) -> T
-        ensures { self.new ≡ record self.old { carried = self.old.carried ++ result ∷ [] } }
+        ensures received { self.new ≡ record self.old { carried = self.old.carried ++ result ∷ [] } }
+        ensures next { IfSome self.old.all (λ all. IsPrefix (self.old.carried ++ result ∷ []) all) }
     {
         for _ in rt.forever() {
             if let Some(message) = self.await_one(rt) {
@@ -137,8 +132,10 @@ impl<T: Drop> LineOut<T> {
 
     // Receives the next message, unless it is told before that none will come.
     fn await_one<R: Wait>(&mut self, rt: &R) -> Option<T>
-        ensures { MatchOption result (self.new ≡ self.old)
+        ensures received { MatchOption result (self.new ≡ self.old)
             (λ message. self.new ≡ record self.old { carried = self.old.carried ++ message ∷ [] }) }
+        ensures next { IfSome result (λ message.
+            IfSome self.old.all (λ all. IsPrefix (self.old.carried ++ message ∷ []) all)) }
     {
         match self.receiver.recv_as::<Receiving, R>(rt, &mut self.pass) {
             Ok(message) => Some(message),
@@ -146,18 +143,30 @@ impl<T: Drop> LineOut<T> {
         }
     }
 
-    /// Receives the next message, where there is one. None only where the line was empty at a moment of this call; no
-    /// clause says so, since the other thread may have filled it since.
+    /// Receives the next message, where there is one. None only where the line was empty at a moment of this call. Of
+    /// an end that has taken in the other one contracts say exactly when that is. Before, no clause refuses None, since
+    /// the other thread may have filled the line since.
     pub fn try_receive<R: Wait>(&mut self, rt: &R) -> Option<T>
-        ensures { MatchOption result (self.new ≡ self.old)
+        ensures received { MatchOption result (self.new ≡ self.old)
             (λ message. self.new ≡ record self.old { carried = self.old.carried ++ message ∷ [] }) }
+        ensures next { IfSome result (λ message.
+            IfSome self.old.all (λ all. IsPrefix (self.old.carried ++ message ∷ []) all)) }
+        ensures exact { IfSome self.old.all (λ all. IsNone result ↔ self.old.carried ≡ all) }
     {
-        match self
-            .receiver
-            .try_recv_as::<Receiving, R>(rt, &mut self.pass)
-        {
-            Ok(message) => Some(message),
-            Err(_empty) => None,
-        }
+        let pass = &mut self.pass;
+        self.receiver.try_recv_as::<Receiving, R>(rt, pass).ok()
+    }
+
+    /// Takes in the other end of the same line, with which nothing can be sent then. What was sent and not received
+    /// yet can still be received.
+    pub fn settle(&mut self, entry: LineIn<T>)
+        requires { entry.line ≡ self.old.line }
+        ensures all { self.new ≡ record self.old { all = Some entry.carried } }
+        ensures prefix { IsPrefix self.old.carried entry.carried }
+        ensures room { length entry.carried ≤ length self.old.carried + self.old.room }
+    {
+        let LineIn { sender, pass } = entry;
+        sender.absorb::<Ends>(&mut self.pass, pass);
+        sender.learn_as::<Receiving>(&mut self.pass);
     }
 }

@@ -40,11 +40,14 @@ fn messages_come_in_order(rt: HostRuntime) -> Result<(), Fail> {
 }
 
 #[test]
-fn an_end_joins_the_other(rt: HostRuntime) -> Result<(), Fail> {
-    let (mut entry, mut exit) = open::<u32>(rt.alloc(), 1)?;
+fn an_end_takes_in_the_other(rt: HostRuntime) -> Result<(), Fail> {
+    let (mut entry, mut exit) = open::<u32>(rt.alloc(), 2)?;
     entry.send(&rt, 7);
-    let received = exit.try_receive(&rt);
-    entry.settle(exit);
-    assert_eq!(rt; received, Some(7));
+    entry.send(&rt, 8);
+    let first = exit.try_receive(&rt);
+    exit.settle(entry);
+    let second = exit.try_receive(&rt);
+    let third = exit.try_receive(&rt);
+    assert_eq!(rt; (first, second, third), (Some(7), Some(8), None));
     Ok(())
 }

@@ -1,5 +1,5 @@
 -- What a recorder has written down.
-use Rattle.std.specs.Prelude.{◌≡◌, Bool, false, List, [], ◌∷◌}
+use Rattle.std.specs.Prelude.{◌≡◌, ℕ, zero, suc, ◌<◌, Bool, false, List, [], ◌∷◌, ◌++◌}
 use Rattle.nio_audit.specs.Audit.{MayStep}
 use Rattle.nio_base.specs.declared.limits.Limits.{Limits}
 use Rattle.nio_base.specs.declared.numbers.CallerNo.{CallerNo}
@@ -8,6 +8,8 @@ use Rattle.nio_history.specs.declared.act.Act.TheVariants.{DrawBit}
 use Rattle.nio_history.specs.Histories.{event_of}
 use Rattle.nio_history.specs.declared.event.Event.{Event}
 use Rattle.nio_words.specs.Passes.{Holds, IsOnly, IsPassOf, limits_of, seen}
+use Rattle.nio_words.specs.declared.words.Pass.{Pass}
+use Rattle.nio_words.specs.declared.words.Words.{Words}
 use Rattle.nio_record.specs.declared.recorder.Recorder.{Recorder}
 
 -- the limits of its table
@@ -18,15 +20,17 @@ table_limits r = limits_of r.words
 abbrev pub written : Recorder → List Event
 written r = r.events.items
 
-abbrev pub zero : CallerNo
-zero = record { 0 = 0 }
+-- the draws of so many callers' numbers, from 0 up
+abbrev pub draws : ℕ → List Event
+draws zero = []
+draws (suc k) = draws k ++ event_of (record { 0 = k }) (DrawBit (record { 0 = k }) false) ∷ []
 
-abbrev pub one : CallerNo
-one = record { 0 = 1 }
-
--- callers 0 and 1 drew their numbers, and nothing else was done
-abbrev pub both_drawn : List Event
-both_drawn = event_of zero (DrawBit zero false) ∷ event_of one (DrawBit one false) ∷ []
+-- the table's only pass has drawn each number below k, and nothing else was done
+pub record HasDrawn (w : Words) (p : Pass) (k : ℕ) : Type 0 where
+  pub pass : IsPassOf w p
+  pub only : IsOnly p
+  pub holds : (n : CallerNo) → n.0 < k → Holds p n
+  pub sight : seen p ≡ draws k
 
 -- its pass acts for the caller
 abbrev pub acts_for : Recorder → CallerNo → Type 0

@@ -1,12 +1,12 @@
-//! A table of two callers, and what they did on it.
+//! A table, and what its callers did on it.
 ghost use Rattle.std.specs.Prelude.{◌≡◌, ◌≢◌, ◌+◌, ◌<◌, ◌≤◌, ◌↔◌, [], ◌∷◌, ◌++◌, IfOk, OnErr, Err, ◌⊎◌};
 ghost use Rattle.nio_record.specs.declared.recorder.RecordError.TheVariants.{NoStep};
 ghost use Rattle.std.specs.Vec.{vec_len, vec_capacity};
 ghost use Rattle.nio_history.specs.Histories.{event_of};
 ghost use Rattle.nio_history.specs.Questions.{question_of};
-ghost use Rattle.nio_words.specs.Passes.{Holds, IsFirstPass, IsOnly, IsPassOf, limits_of, seen};
-ghost use Rattle.nio_record.specs.Recorded.{IsDraw, IsRecorded, MayMake, acts_for, both_drawn, one, table_limits};
-ghost use Rattle.nio_record.specs.Recorded.{written, zero};
+ghost use Rattle.nio_words.specs.Passes.{IsFirstPass, limits_of};
+ghost use Rattle.nio_record.specs.Recorded.{HasDrawn, IsDraw, IsRecorded, MayMake, acts_for, draws, table_limits};
+ghost use Rattle.nio_record.specs.Recorded.{written};
 
 use crate::making::make_step;
 use nio_audit::{AuditError, may_step};
@@ -37,19 +37,34 @@ impl From<AllocError> for RecordError {
     }
 }
 
-// Draws the numbers of callers 0 and 1 with the first pass of a table.
-fn draw_both(w: &Words, p: &mut Pass)
-    requires first { IsFirstPass w.now p.old }
-    requires two { 2 ≤ (limits_of w.now).callers }
-    ensures pass { IsPassOf w.now p.new }
-    ensures only { IsOnly p.new }
-    ensures seen { seen p.new ≡ both_drawn }
-    ensures zero { Holds p.new zero }
-    ensures one { Holds p.new one }
+// Draws the number of each caller with the first pass of a table.
+fn draw_all(w: &Words, p: &mut Pass)
+    requires { IsFirstPass w.now p.old }
+    ensures { HasDrawn w.now p.new (limits_of w.now).callers }
 {
-    let (first, second) = (CallerNo(0), CallerNo(1));
-    let _first_was = w.draw_bit(p, first, first);
-    let _second_was = w.draw_bit(p, second, second);
+    for number in 0..w.limits().callers {
+        draw_next(w, p, CallerNo(number));
+    }
+}
+
+fn draw_next(w: &Words, p: &mut Pass, number: CallerNo)
+    requires drawn { HasDrawn w.now p.old number.0 }
+    requires below { number.0 < (limits_of w.now).callers }
+    ensures { HasDrawn w.now p.new (number.0 + 1) }
+{
+    let _found = w.draw_bit(p, number, number);
+}
+
+// What is written down of the draws of so many callers.
+fn drawn(alloc: Global, callers: u32) -> Result<Vec<Event>, AllocError>
+    ensures { IfOk result (λ events. events.items ≡ draws callers) }
+{
+    let mut events = Vec::with_capacity(alloc, callers as usize)?;
+    for number in 0..callers {
+        let caller = CallerNo(number);
+        add(&mut events, caller, &Act::DrawBit(caller, false));
+    }
+    Ok(events)
 }
 
 /// Writes down what the caller did, where there is room for it.
@@ -64,7 +79,7 @@ fn add(events: &mut Vec<Event>, caller: CallerNo, act: &Act)
     }
 }
 
-/// A table, its only pass, which acts for callers 0 and 1, and all that they did.
+/// A table, its only pass, which acts for every caller, and all that they did.
 #[derive(Drop)]
 pub struct Recorder {
     words: Words,
@@ -75,23 +90,18 @@ pub struct Recorder {
 impl Recorder {
     ghost use Rattle.nio_base.specs.Limits.{IsFit};
 
-    /// A new table, after both callers drew their numbers. It fails for want of memory alone.
+    /// A new table, after all callers drew their numbers. It fails for want of memory alone.
     pub fn make(alloc: Global, limits: Limits) -> Result<Recorder, RecordError>
-        requires fit { IsFit limits }
-        requires two { 2 ≤ limits.callers }
+        requires { IsFit limits }
         ensures recorded { IfOk result IsRecorded }
         ensures limits { IfOk result (λ made. table_limits made ≡ limits) }
-        ensures written { IfOk result (λ made. written made ≡ both_drawn) }
-        ensures zero { IfOk result (λ made. acts_for made zero) }
-        ensures one { IfOk result (λ made. acts_for made one) }
+        ensures written { IfOk result (λ made. written made ≡ draws limits.callers) }
+        ensures callers { IfOk result (λ made. (n : CallerNo) → n.0 < limits.callers → acts_for made n) }
         ensures only_memory { result ≢ Err NoStep }
     {
         let (words, mut pass) = Words::make(alloc, limits)?;
-        draw_both(&words, &mut pass);
-        let (first, second) = (CallerNo(0), CallerNo(1));
-        let mut events = Vec::with_capacity(alloc, 2)?;
-        add(&mut events, first, &Act::DrawBit(first, false));
-        add(&mut events, second, &Act::DrawBit(second, false));
+        draw_all(&words, &mut pass);
+        let events = drawn(alloc, limits.callers)?;
         Ok(Recorder {
             words,
             pass,
@@ -100,7 +110,7 @@ impl Recorder {
     }
 
     /// Makes the step, whatever `act` says of what it finds, and writes it down. Answers the act with what it found.
-    /// A draw answers `NoStep`, since both callers are drawn.
+    /// A draw answers `NoStep`, since all callers are drawn.
     pub fn step(&mut self, alloc: Global, caller: CallerNo, act: Act) -> Result<Act, RecordError>
         requires { IsRecorded self.old }
         ensures recorded { IsRecorded self.new }

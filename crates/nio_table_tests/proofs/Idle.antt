@@ -1,6 +1,7 @@
 -- For the tests: what two callers have between their calls stays, and so does what one has in progress beside calls of
 -- the other.
-use Rattle.std.proofs.Common.{sym, subst, eq-eqb, List, Option, Some, None}
+use Rattle.std.proofs.Common.{◌≡◌, sym, ap, ◌∙◌, subst, eq-eqb, Bool, List, ◌++◌, Option, Some, None}
+use Rattle.std.proofs.lemmas.List.{append_assoc}
 use Rattle.std.specs.Prelude.{IfSome}
 use Rattle.std.specs.Int.{bit_at}
 use Rattle.nio_base.specs.declared.limits.Limits.{Limits}
@@ -9,16 +10,24 @@ use Rattle.nio_channel.proofs.Idle.{idle_after, idle_after_other, zero_other}
 use Rattle.nio_channel.specs.Idle.{AreIdle, zero, one}
 use Rattle.nio_history.proofs.PassViews.{lasts_over, selector_after}
 use Rattle.nio_history.specs.Conditions.{IsSelector}
-use Rattle.nio_history.specs.PassViews.{PassView, Holds as HoldsNumber, ActsClause}
+use Rattle.nio_history.specs.Histories.{mine}
+use Rattle.nio_history.specs.OwnEvents.{gives_turn}
+use Rattle.nio_history.specs.PassViews.{PassView, Holds as HoldsNumber, ActsClause, done_between}
+use Rattle.nio_history.specs.Turns.{removes_on}
 use Rattle.nio_history.specs.declared.act.Act.{Act}
 use Rattle.nio_history.specs.Permanent.{list_had_by}
-use Rattle.nio_select.proofs.Progress.{below_after}
+use Rattle.nio_select.proofs.Progress.{below_after, lister_after}
 use Rattle.nio_select.specs.InProgress.{Selects, HasShut}
 use Rattle.nio_steps.proofs.PinBack.{no_pin_after}
+use Rattle.nio_steps.proofs.SelectionLaws.{none_of-append}
+use Rattle.nio_steps.proofs.WorksLaws.{works_only_there}
 use Rattle.nio_steps.specs.Calls.{CallClause}
 use Rattle.nio_steps.specs.PinLaws.{GivesPinsBack}
 use Rattle.nio_steps.specs.SelectCalls.{Selection}
-use Rattle.nio_steps.specs.Selections.{IsBegun, IsClosing}
+use Rattle.nio_steps.specs.Laws.{LeavesSelector, is_selector}
+use Rattle.nio_steps.specs.Runs.{Completes}
+use Rattle.nio_steps.specs.Selections.{marks_on, IsBegun, IsClosing}
+use Rattle.nio_steps.specs.TableCalls.{TableCall, row_of}
 use Rattle.nio_words.specs.Passes.{IsReady, numbers_of}
 use Rattle.nio_words.specs.Views.{view}
 use Rattle.nio_words.specs.declared.words.Pass.{Pass}
@@ -71,3 +80,35 @@ closes_beside {s = s} clause held has = record {
 pub some_still : {A : Type 0} {P Q : A → Type 0} (o : Option A) → IfSome o P → ((x : A) → P x → Q x) → IfSome o Q
 some_still (Some x) here still = still x here
 some_still None here still = here
+
+-- ---- a selection in progress after another call of the same caller
+
+-- the selection goes on over acts that neither give the turn back nor mark or remove a key there
+longer : (own : List Act) (x : Selection) (acts : List Act) → IsBegun own x → LeavesSelector x.selector.0 acts
+    → IsBegun (own ++ acts) x
+longer own x acts begun leaves = record {
+  earlier = begun.earlier;
+  beginning = begun.beginning;
+  since = begun.since ++ acts;
+  parts = ap (λ xs. xs ++ acts) begun.parts
+      ∙ (append_assoc begun.earlier (begun.beginning ++ begun.since) acts
+      ∙ ap (λ xs. begun.earlier ++ xs) (append_assoc begun.beginning begun.since acts));
+  known = begun.known;
+  begins = begun.begins;
+  goes_on = none_of-append (gives_turn x.selector.0) begun.since acts begun.goes_on leaves.gives;
+  unmarked = none_of-append (marks_on x.selector.0) begun.since acts begun.unmarked leaves.marks;
+  unremoved = none_of-append (removes_on x.selector.0) begun.since acts begun.unremoved leaves.removes;
+}
+
+pub selects_after : (call : TableCall) (l : Limits) (lacks : Bool) {answer : (row_of call).Reply} {v0 v1 : PassView}
+    → (row_of call).works_on ≡ None → CallClause zero (Completes ((row_of call).plan l lacks)) v0 v1 answer
+    → (selection : Selection) → Selects v0 zero selection → Selects v1 zero selection
+selects_after call l lacks {answer = answer} {v0 = v0} {v1 = v1} nowhere clause selection has = record {
+  inside = subst (λ (k : Limits). IsSelector k selection.selector) (sym clause.acts.limits) has.inside;
+  begun = subst (λ own. IsBegun own selection) (sym clause.acts.history.own)
+      (longer (mine zero v0.seen) selection (done_between zero v0 v1) has.begun
+      (works_only_there l lacks call (done_between zero v0 v1) answer selection.selector.0 clause.shape
+      (ap (is_selector selection.selector.0) nowhere)));
+  below = below_after selection.looked clause.acts has.below;
+  lister = λ listed. lister_after clause.acts (has.lister listed);
+}

@@ -6,6 +6,7 @@ ghost use Rattle.nio_channel.specs.Idle.{AreIdle, zero, one};
 ghost use Rattle.nio_history.specs.PassViews.{HasChannel, HasKey};
 ghost use Rattle.nio_select.specs.InHand.{selection_of};
 ghost use Rattle.nio_select.specs.InProgress.{Selects, HasShut};
+ghost use Rattle.nio_steps.specs.SelectCalls.{Selection};
 ghost use Rattle.nio_words.specs.Views.{view};
 
 use crate::tables::{ONE, S, ZERO, table};
@@ -147,10 +148,12 @@ pub(crate) fn opened(w: &Words, p: &mut Pass, kind: Kind) -> Result<ChanId, Chan
     open_channel(w, p, ZERO, kind)
 }
 
-fn channel_with(w: &Words, p: &mut Pass, chan: ChanId) -> Option<ChanId>
+pub(crate) fn channel_with(w: &Words, p: &mut Pass, chan: ChanId) -> Option<ChanId>
     requires { AreIdle w.now p.old }
     ensures idle { AreIdle w.now p.new }
     ensures found { IfSome result (HasChannel (view w.now p.new)) }
+    ensures selecting { (selection : Selection) → Selects (view w.now p.old) zero selection
+        → Selects (view w.now p.new) zero selection }
 {
     find_channel(w, p, ZERO, chan.number.0, chan.serial)
 }
@@ -188,10 +191,12 @@ fn on_channel(w: &Words, p: &mut Pass, chan: ChanId, call: OnChannel) -> Reply
     }
 }
 
-fn key_with(w: &Words, p: &mut Pass, index: u32, serial: u32) -> Option<KeyNo>
+pub(crate) fn key_with(w: &Words, p: &mut Pass, index: u32, serial: u32) -> Option<KeyNo>
     requires { AreIdle w.now p.old }
     ensures idle { AreIdle w.now p.new }
     ensures found { IfSome result (HasKey (view w.now p.new)) }
+    ensures selecting { (selection : Selection) → Selects (view w.now p.old) zero selection
+        → Selects (view w.now p.new) zero selection }
 {
     find(w, p, ZERO, S, index, serial)
 }

@@ -3,6 +3,8 @@
 #![tactic(auto)]
 
 #[cfg(test)]
+mod amid;
+#[cfg(test)]
 mod audit;
 #[cfg(test)]
 mod caller;

@@ -260,7 +260,7 @@ fn selects(alloc: Global, caller: &mut Caller<'_>, sel: SelNo) -> bool
 }
 
 /// Whether this has changed, and the selection looks at these keys.
-fn agrees(asked: &Asked, changed: &[u32], keys: &[(u32, u32, u8)]) -> bool {
+pub(crate) fn agrees(asked: &Asked, changed: &[u32], keys: &[(u32, u32, u8)]) -> bool {
     let mut same = asked.changed() == changed && asked.len() == keys.len();
     for (index, serial, ops) in keys {
         same &= match asked.key(*index) {

@@ -2,6 +2,7 @@
 //! legal, and with another answer it isn't. Selections whose steps are made one by one, with what each of them finds,
 //! in the order in which the calls of selections make them.
 ghost use Rattle.std.specs.Prelude.{◌<◌};
+ghost use Rattle.nio_base.specs.Limits.{IsFit};
 ghost use Rattle.nio_record.specs.Recorded.{IsRecorded};
 
 use crate::tables::{ONE, S, ZERO};
@@ -9,7 +10,7 @@ use crate::words::SMALL as TABLE;
 use crate::words::history::C;
 use nio_audit::{AuditError, audit};
 use nio_base::{CallerNo, ChanNo, KeyId, Kind, Limits, Ops};
-use nio_history::{Act, Chan, Event, GateWord, Mark, Stage};
+use nio_history::{Act, Chan, Event, GateWord, IndexWord, Mark, Stage};
 use nio_record::{RecordError, Recorder};
 use std::alloc::{AllocError, Global};
 use std::process::Abort;
@@ -17,6 +18,7 @@ use std::test::Fail;
 
 mod changing;
 mod closing;
+mod four;
 
 // What stands in an act that asks for a step: the step puts what it finds in its place.
 
@@ -378,7 +380,9 @@ fn with_another_answer(act: &Act) -> Option<Act> {
 }
 
 /// Whether the events are no longer legal, from that event on, with another answer in the last that has one.
-fn is_another_refused(alloc: Global, events: &[Event]) -> Result<bool, AllocError> {
+fn is_another_refused(alloc: Global, limits: Limits, events: &[Event]) -> Result<bool, AllocError>
+    requires { IsFit limits }
+{
     let mut altered = events.to_vec(alloc)?;
     for (place, event) in events.iter().enumerate().rev() {
         if let Some(act) = with_another_answer(&event.act) {
@@ -387,7 +391,7 @@ fn is_another_refused(alloc: Global, events: &[Event]) -> Result<bool, AllocErro
                 *stands = Event { caller, act };
             }
             let refused = AuditError::NotAStep { at: place as u64 };
-            return Ok(audit(alloc, TABLE, &altered) == Err(refused));
+            return Ok(audit(alloc, limits, &altered) == Err(refused));
         }
     }
     Ok(false)
@@ -435,7 +439,7 @@ fn is_disturbed<R: Abort>(rt: &R, alloc: Global, plot: Plot) -> Result<(), Fail>
     let count = select(&mut r, alloc, plot)?;
     assert!(rt; count == expected(plot).0, "{plot:?}");
     assert!(rt; audit(alloc, TABLE, r.events()) == Ok(()), "{plot:?}");
-    assert!(rt; is_another_refused(alloc, r.events())?, "{plot:?}");
+    assert!(rt; is_another_refused(alloc, TABLE, r.events())?, "{plot:?}");
     let Some((stage, mark)) = look(&mut r, alloc)? else {
         panic!(rt; "there is no key")
     };
@@ -470,6 +474,7 @@ enum Found {
     Bound(u32),
     /// The bits of 64 indexes: of the free ones, or of those that are touched.
     Bits(u64),
+    Index(IndexWord),
     Key(Stage),
     Interest(Ops),
     Mark(Mark),
@@ -494,7 +499,9 @@ fn found_by(act: Act) -> Found {
         Act::LookFree(_, _, word) => Found::Bits(word),
         Act::PutFree(_, _) => Found::Nothing,
         Act::Touch(_, _, was) => Found::Flag(was),
+        Act::LookTouched(_, _, word) => Found::Bits(word),
         Act::TakeTouched(_, _, word) => Found::Bits(word),
+        Act::LookIndex(_, _, word) => Found::Index(word),
         Act::LookKey(_, _, stage) => Found::Key(stage),
         Act::Remove(_, _, stage) => Found::Key(stage),
         Act::Pin(_, _, stage) => Found::Key(stage),

@@ -1,0 +1,5 @@
+use Rattle.nio_record.specs.Recorded.{IsRecorded}
+use Rattle.nio_table_tests.proofs.recorder.four.finish.Given as goal
+
+abbrev pub invariant-loop : goal.invariant-loop
+invariant-loop l = IsRecorded l.r
