@@ -1,5 +1,9 @@
 pub use Rattle.nio_base.specs.Limits
 pub use Rattle.nio_caller.specs.Callers
+pub use Rattle.nio_caller.specs.Laws
+pub use Rattle.nio_caller.specs.NamedCalls
+pub use Rattle.nio_caller.specs.Piping
+pub use Rattle.nio_caller.specs.Selections
 pub use Rattle.nio_caller.specs.Several
 pub use Rattle.nio_history.specs.Conditions
 pub use Rattle.nio_history.specs.PassViews

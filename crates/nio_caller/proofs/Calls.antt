@@ -1,11 +1,10 @@
 -- A caller may make calls after a call, as before it.
-use Rattle.std.proofs.Common.{◌≡◌, ◌≢◌, ℕ, ◌==◌, Bool, true, false, Option, Some, None, Result, Ok, Err, IsTrue, List}
+use Rattle.std.proofs.Common.{◌≡◌, ◌≢◌, ℕ, ◌==◌, Bool, true, false, Option, Some, None, IsTrue, List}
 use Rattle.std.proofs.Common.{ap, sym, ◌∙◌, refl, subst, eqb-true, eq-eqb}
 use Rattle.std.specs.Int.{bit_at}
 use Rattle.std.specs.Prelude.{IfSome}
 use Rattle.nio_base.specs.declared.limits.Limits.{Limits}
 use Rattle.nio_base.specs.declared.numbers.CallerNo.{CallerNo}
-use Rattle.nio_base.specs.declared.numbers.ChanNo.{ChanNo}
 use Rattle.nio_base.specs.declared.numbers.SelNo.{SelNo}
 use Rattle.nio_history.proofs.OwnPins.{pins_are_own}
 use Rattle.nio_history.proofs.PassViews.{selector_after, channel_after, key_after}
@@ -14,26 +13,19 @@ use Rattle.nio_history.specs.Histories.{mine, IsLegal}
 use Rattle.nio_history.specs.OwnEvents.{keeps_pin}
 use Rattle.nio_history.specs.PassViews.{PassView, Holds, HasNoPin, HasSelector, ActsClause}
 use Rattle.nio_history.specs.declared.act.Act.{Act}
-use Rattle.nio_history.specs.declared.found.Mode.{Mode}
-use Rattle.nio_history.specs.declared.timeout.NegativeTimeout.{NegativeTimeout}
-use Rattle.nio_poller.specs.Polled.{Polled}
-use Rattle.nio_poller.specs.Selecting.{SelectClause, TimedBy, told_from}
-use Rattle.nio_poller.specs.declared.selecting.SelectError.{SelectError}
 use Rattle.nio_select.proofs.ListedSteps.{lists_are_kept}
-use Rattle.nio_select.specs.InHand.{HeldList, HeldSelector, known_by}
+use Rattle.nio_select.specs.InHand.{HeldList, HeldSelector}
 use Rattle.nio_select.specs.InProgress.{HasList, MaySelect}
 use Rattle.nio_steps.proofs.PinBack.{no_pin_after}
 use Rattle.nio_steps.proofs.PinLaws.{pins_are_given_back}
 use Rattle.nio_steps.specs.Calls.{CallClause}
 use Rattle.nio_steps.specs.PinLaws.{GivesPinsBack}
 use Rattle.nio_steps.specs.SelectCalls.{ListsKeys, ListsSelected}
-use Rattle.nio_steps.specs.declared.selected.Selected.{Selected}
 use Rattle.nio_words.specs.Passes.{IsReady, numbers_of}
 use Rattle.nio_words.specs.Views.{view}
 use Rattle.nio_words.specs.declared.words.Pass.{Pass}
 use Rattle.nio_words.specs.declared.words.Words.{Words}
-use Rattle.nio_caller.specs.Callers.{HasNoPins, MayCall, StillHas}
-use Rattle.nio_caller.proofs.Selections.{selection_gives}
+use Rattle.nio_caller.specs.Callers.{HasNoPins, IsActing, KeepsLists, MayCall, StillHas, held_in}
 
 abbrev numbered : ℕ → CallerNo
 numbered k = record { 0 = k }
@@ -126,22 +118,41 @@ keys_give s = λ acts answer shape. pins_are_given_back.keys s _ acts answer sha
 pub selected_keys_give : (s : SelNo) → GivesPinsBack (ListsSelected s)
 selected_keys_give s = λ acts answer shape. pins_are_given_back.selected_keys s _ acts answer shape
 
--- ---- whole selections
+-- ---- a caller that has lists goes on
 
-module _ (w : Words) (p q : Pass) (me : CallerNo) (s s' : HeldSelector) (p0 p1 : Option (List Polled))
-    (are_ready : ChanNo → ℕ) (result : Result Selected SelectError) where
-  pub may_call_selected : (mode : Mode) → SelectClause me mode s s' (view w p) (view w q) p0 p1 are_ready result
-      → IsReady w q me → MayCall w p me → MayCall w q me
-  may_call_selected mode clause ready may =
-      may_call_after (selection_gives s.number mode (known_by s) (told_from clause.polls)) clause.call ready may
+pub still_had : {A : Type 0} {P Q : A → Type 0} (o : Option A) → ((x : A) → P x → Q x) → IfSome o P → IfSome o Q
+still_had None gives had = tt
+still_had (Some x) gives had = gives x had
 
-  pub may_call_timed : (r : Result Mode NegativeTimeout)
-      → TimedBy r me s s' (view w p) (view w q) p0 p1 are_ready result → IsReady w q me → MayCall w p me → MayCall w q me
-  may_call_timed (Ok mode) clause ready may = may_call_selected mode clause ready may
-  may_call_timed (Err too_low) clause ready may =
-      record { ready = ready; unpinned = subst HasNoPins (sym clause.same) may.unpinned }
+pub keeps_lists : {n : CallerNo} {acts : List Act} {old new : PassView} → ActsClause n acts old new → (me : CallerNo)
+    (selectors : List (Option HeldSelector)) → KeepsLists old me selectors → KeepsLists new me selectors
+keeps_lists clause me selectors keeps = record {
+  numbers = keeps.numbers;
+  had = λ s. still_had (held_in selectors s).list (lists_stay clause me) (keeps.had s);
+}
 
-  pub timed_has : (r : Result Mode NegativeTimeout)
-      → TimedBy r me s s' (view w p) (view w q) p0 p1 are_ready result → StillHas (view w p) (view w q)
-  timed_has (Ok mode) clause = still_has clause.call.acts
-  timed_has (Err too_low) clause = subst (λ (v : PassView). StillHas (view w p) v) (sym clause.same) same_has
+module _ {w : Words} {p q : Pass} {me : CallerNo} {selectors : List (Option HeldSelector)} where
+  -- after a call that leaves the caller no pin
+  pub acting_unpinned : {acts : List Act} → ActsClause me acts (view w p) (view w q) → HasNoPin (view w q) me
+      → IsReady w q me → IsActing w p me selectors → IsActing w q me selectors
+  acting_unpinned clause none ready acting = record {
+    may = may_call_unpinned clause none ready acting.may;
+    lists = keeps_lists clause me selectors acting.lists;
+  }
+
+  -- after a call that gives its pins back
+  pub acting_after : {R : Type 0} {Shape : List Act → R → Type 0} {answer : R} → GivesPinsBack Shape
+      → CallClause me Shape (view w p) (view w q) answer → IsReady w q me → IsActing w p me selectors
+      → IsActing w q me selectors
+  acting_after gives call ready acting = record {
+    may = may_call_after gives call ready acting.may;
+    lists = keeps_lists call.acts me selectors acting.lists;
+  }
+
+-- a caller that has no list keeps none
+pub keeps_none : (pass : PassView) (me : CallerNo) (selectors : List (Option HeldSelector))
+    → ((s : SelNo) → held_in selectors s ≡ record { number = s; list = None }) → KeepsLists pass me selectors
+keeps_none pass me selectors none = record {
+  numbers = λ s. ap (λ (x : HeldSelector). x.number) (none s);
+  had = λ s. subst (λ (x : HeldSelector). IfSome x.list (HasList pass me)) (sym (none s)) tt;
+}

@@ -1,5 +1,9 @@
 pub mod Calls
 pub mod Drawing
+pub mod Finding
+pub mod Found
+pub mod NamedCalls
 pub mod Parting
 pub mod Selections
 pub mod Several
+pub mod Took

@@ -1,5 +1,5 @@
 -- Two callers that become one.
-use Rattle.std.proofs.Common.{◌⊎◌, eqb-true, eq-eqb, inl, inr, refl}
+use Rattle.std.proofs.Common.{◌⊎◌, Option, List, eqb-true, eq-eqb, inl, inr, refl}
 use Rattle.std.specs.Int.{bit_at}
 use mathlib.Core.List.{IsPrefix}
 use Rattle.nio_base.specs.declared.numbers.CallerNo.{CallerNo}
@@ -8,13 +8,14 @@ use Rattle.nio_history.proofs.Stays.{facts_are_permanent}
 use Rattle.nio_history.specs.Permanent.{selector_made, channel_opened, key_published}
 use Rattle.nio_history.specs.PassViews.{Holds, HasNoPin, HasSelector}
 use Rattle.nio_select.proofs.ListedSteps.{lists_are_kept}
+use Rattle.nio_select.specs.InHand.{HeldSelector}
 use Rattle.nio_words.specs.Passes.{Holds as HoldsNumber, IsPassOf, limits_of, numbers_of, seen}
 use Rattle.nio_words.specs.Sharing.{Joins as JoinsPasses, StandsAfter}
 use Rattle.nio_words.specs.Views.{view}
 use Rattle.nio_words.specs.declared.words.Pass.{Pass}
 use Rattle.nio_words.specs.declared.words.Words.{Words}
-use Rattle.nio_caller.proofs.Calls.{may_select, same_pins}
-use Rattle.nio_caller.specs.Callers.{HasNoPins, Joins, MayCall, StandsIn, StillHas}
+use Rattle.nio_caller.proofs.Calls.{may_select, same_pins, still_had}
+use Rattle.nio_caller.specs.Callers.{HasNoPins, IsActing, Joins, KeepsLists, MayCall, StandsIn, StillHas, held_in}
 
 -- the numbers that a pass holds, as contracts of callers see them
 pub shows : (w : Words) (p : Pass) (n : CallerNo) → HoldsNumber p n → Holds (view w p) n
@@ -94,3 +95,16 @@ module _ (w : Words) (p other q : Pass) (me n : CallerNo) (may : MayCall w p me)
 
   pub other_has : StillHas (view w other) (view w q)
   other_has = later_has w other q joins.pass joins.other_stands.begins
+
+  -- the caller has its own lists still
+  pub joined_acting : (selectors : List (Option HeldSelector)) → KeepsLists (view w p) me selectors
+      → IsActing w q me selectors
+  joined_acting selectors keeps = record {
+    may = joined_may_call;
+    lists = record {
+      numbers = keeps.numbers;
+      had = λ s. still_had (held_in selectors s).list
+          (λ list has. lists_are_kept (view w p) (view w q) me list has refl joins.stands.begins joins.pass.legal)
+          (keeps.had s);
+    };
+  }

@@ -1,58 +1,259 @@
--- A whole selection gives its pins back, with the selector's list or without.
-use Rattle.std.proofs.Common.{Bool, Option, Result, Ok, Err, List, [], ◌∷◌, sym, subst}
-use Rattle.std.specs.List.{All}
-use Rattle.std.proofs.lemmas.List.Elements.{All-head, All-tail}
+-- Selections of a caller: they give their pins back, and leave it its lists.
+use Rattle.std.proofs.Common.{◌≡◌, ◌≢◌, ℕ, ◌<◌, ◌≤◌, ◌==◌, Bool, true, false, Option, Some, None, Result, Ok, Err, List}
+use Rattle.std.proofs.Common.{refl, ap, sym, ◌∙◌, subst, eqb-true, eq-eqb, arith}
+use Rattle.std.specs.Prelude.{IfErr, IfOk, IfSome, option_map}
+use Rattle.nio_base.specs.declared.numbers.CallerNo.{CallerNo}
+use Rattle.nio_base.specs.declared.numbers.ChanNo.{ChanNo}
 use Rattle.nio_base.specs.declared.numbers.SelNo.{SelNo}
-use Rattle.nio_history.specs.declared.act.Act.{Act}
+use Rattle.nio_history.specs.Conditions.{IsSelector}
+use Rattle.nio_history.specs.PassViews.{PassView, HasSelector}
 use Rattle.nio_history.specs.declared.found.Mode.{Mode}
-use Rattle.nio_poller.proofs.Trying.{begin_gives}
-use Rattle.nio_steps.proofs.PinBack.{NoPins, no_pins, no_pins-append}
+use Rattle.nio_history.specs.declared.timeout.NegativeTimeout.{NegativeTimeout}
+use Rattle.nio_poller.specs.Polled.{Polled}
+use Rattle.nio_poller.specs.Selecting.{TimedBy, told_from}
+use Rattle.nio_poller.specs.declared.selecting.SelectError.{SelectError}
+use Rattle.nio_select.specs.InHand.{HeldList, HeldSelector, InHand, TakesOnList, known_by, list_of}
+use Rattle.nio_select.specs.declared.stamp.Stamp.{Stamp}
+use Rattle.nio_select.specs.InProgress.{HasList, MaySelect}
 use Rattle.nio_steps.proofs.PinLaws.{pins_are_given_back}
-use Rattle.nio_steps.specs.PinLaws.{GivesPinsBack}
-use Rattle.nio_steps.specs.SelectCalls.{Selection, Poll, Tells, SelectsRest, MakesSelection, selected}
-use Rattle.nio_steps.specs.SelectCalls.{not_begun, left}
-use Rattle.nio_steps.specs.Waiting.{Run, acts_of, Tries, Repeats}
-use Rattle.nio_steps.specs.declared.looked.LookedKey.{LookedKey}
+use Rattle.nio_steps.specs.Calls.{CallClause}
+use Rattle.nio_steps.specs.SelectCalls.{Begins, Selection}
 use Rattle.nio_steps.specs.declared.refusal.BeginError.{BeginError}
+use Rattle.nio_steps.specs.declared.selected.Selected.{Selected}
+use Rattle.nio_words.specs.Passes.{IsReady}
+use Rattle.nio_words.specs.Views.{view}
+use Rattle.nio_words.specs.declared.words.Pass.{Pass}
+use Rattle.nio_words.specs.declared.words.Words.{Words}
+use Rattle.nio_caller.specs.Callers.{Acting, HasNoPins, IsActing, KeepsLists, MayCall, held, held_in, sees}
+use Rattle.nio_caller.specs.NamedCalls.{Calls, FindsSelector, IsCalled, as_called}
+use Rattle.nio_caller.specs.Selections.{HasBack, SelectsOn}
+use Rattle.nio_caller.specs.declared.refusal.CallError.TheVariants.{NoSuchSelector}
+use Rattle.nio_caller.proofs.Calls.{keeps_lists, may_call_after}
+use Rattle.nio_caller.proofs.NamedCalls.{acting}
 
--- calls that are made again and again give their pins back, where each does
-runs_give : {X R : Type 0} (Shape : X → List Act → R → Type 0) → ((x : X) → GivesPinsBack (Shape x))
-    → (runs : List (Run X R)) → All (λ run. Shape run.given run.acts run.answer) runs → NoPins (acts_of runs)
-runs_give Shape gives [] made = no_pins
-runs_give Shape gives (run ∷ later) made =
-    let Made = λ (r : Run _ _). Shape r.given r.acts r.answer in
-    no_pins-append run.acts (acts_of later) (gives run.given run.acts run.answer (All-head Made run later made))
-    (runs_give Shape gives later (All-tail Made run later made))
+-- ---- the caller's lists
 
-tries_give : {X R : Type 0} {Shape : X → List Act → R → Type 0} {goes_on : X → R → Bool} (acts : List Act)
-    → ((x : X) → GivesPinsBack (Shape x)) → Tries Shape goes_on acts → NoPins acts
-tries_give {Shape = Shape} acts gives tries =
-    subst NoPins (sym tries.parts) (runs_give Shape gives tries.runs tries.made)
+fit_place : (w : Words) (p : Pass) (s : SelNo) → HasSelector (view w p) s → s.0 < 16
+fit_place w p s has =
+    let inside : s.0 < w.limits.selectors = has.inside in
+    let few : w.limits.selectors ≤ 16 = w.fit.few_selectors in
+    omega (arith, inside, few)
 
-repeats_give : {X R : Type 0} {Shape : X → List Act → R → Type 0} {goes_on : X → R → Bool}
-    → ((x : X) → GivesPinsBack (Shape x)) → GivesPinsBack (Repeats Shape goes_on)
-repeats_give gives acts answer repeats =
-    let last = repeats.last in
-    subst NoPins (sym repeats.parts)
-    (no_pins-append repeats.before last.acts (tries_give repeats.before gives repeats.tries)
-    (gives last.given last.acts last.answer repeats.made))
+-- the place of a selector that was made
+pub has_place : (c : Acting) (s : SelNo) → HasSelector (sees c) s → s.0 < 16
+has_place c s has = fit_place c.table c.pass s has
 
-tells_give : (selection : Selection) (poll : Poll) → GivesPinsBack (Tells selection poll)
-tells_give selection poll = pins_are_given_back.told selection poll.pairs poll.elapsed
+-- who has these lists may select by them
+pub may_select_held : {pass : PassView} {me : CallerNo} {selectors : List (Option HeldSelector)} (s : SelNo)
+    → HasSelector pass s → KeepsLists pass me selectors → MaySelect pass me (held_in selectors s)
+may_select_held {pass = pass} s has keeps = record {
+  made = subst (λ (n : SelNo). HasSelector pass n) (sym (keeps.numbers s)) has;
+  had = keeps.had s;
+}
 
-rest_gives : (polls : List Poll) (begun : Result Selection BeginError) → GivesPinsBack (SelectsRest polls begun)
-rest_gives polls (Ok selection) acts (selected answer) rest = repeats_give (tells_give selection) acts _ rest.tells
-rest_gives polls (Ok selection) acts (not_begun refusal) rest = absurd rest
-rest_gives polls (Ok selection) acts left rest =
-    subst NoPins (sym rest.parts)
-    (no_pins-append rest.told rest.leaves (tries_give rest.told (tells_give selection) rest.tells)
-    (pins_are_given_back.leave selection rest.leaves tt rest.left))
-rest_gives polls (Err refusal) acts answer rest = subst NoPins (sym rest.0) no_pins
+module _ (before taken after : List (Option HeldSelector)) (s : SelNo) (selector : HeldSelector)
+    (number : selector.number ≡ s)
+    (takes : (t : SelNo) → t ≢ s → held_in taken t ≡ held_in before t)
+    (put : held_in after selector.number ≡ selector)
+    (puts : (t : SelNo) → t ≢ selector.number → held_in after t ≡ held_in taken t) where
+  pub here : held_in after s ≡ selector
+  here = ap (held_in after) (sym number) ∙ put
 
-pub selection_gives : (s : SelNo) (mode : Mode) (known : Option (List LookedKey)) (polls : List Poll)
-    → GivesPinsBack (MakesSelection s mode known polls)
-selection_gives s mode known polls acts answer both =
-    subst NoPins (sym both.parts)
-    (no_pins-append both.first both.second
-    (repeats_give (λ _. begin_gives s mode known) both.first both.middle both.runs_first)
-    (rest_gives polls both.middle both.second answer both.runs_second))
+  pub elsewhere : (t : SelNo) → t ≢ s → held_in after t ≡ held_in before t
+  elsewhere t other = puts t (λ same. other (same ∙ number)) ∙ takes t other
+
+  -- a selector that was taken out for a call is put back
+  pub put_back : (new : PassView) (me : CallerNo) → KeepsLists new me before → MaySelect new me selector → KeepsLists new me after
+  put_back new me its may = record {
+    numbers = λ t. number_of t (t.0 == s.0) refl;
+    had = λ t. list_of_place t (t.0 == s.0) refl;
+  }
+    where
+      is_here : (t : SelNo) → (t.0 == s.0) ≡ true → t ≡ s
+      is_here t is = ap (λ (k : ℕ). record { 0 = k }) (eqb-true t.0 s.0 is)
+
+      is_other : (t : SelNo) → (t.0 == s.0) ≡ false → t ≢ s
+      is_other t is = λ same. let clash : false ≡ true = sym is ∙ eq-eqb t.0 s.0 (ap (λ (x : SelNo). x.0) same) in
+          absurd cc
+
+      number_of : (t : SelNo) (b : Bool) → (t.0 == s.0) ≡ b → (held_in after t).number ≡ t
+      number_of t true is =
+          let same = is_here t is in
+          ap (λ (x : SelNo). (held_in after x).number) same
+          ∙ (ap (λ (x : HeldSelector). x.number) here ∙ (number ∙ sym same))
+      number_of t false is =
+          ap (λ (x : HeldSelector). x.number) (elsewhere t (is_other t is)) ∙ its.numbers t
+
+      list_of_place : (t : SelNo) (b : Bool) → (t.0 == s.0) ≡ b → IfSome (held_in after t).list (HasList new me)
+      list_of_place t true is =
+          subst (λ (x : HeldSelector). IfSome x.list (HasList new me))
+          (sym (ap (held_in after) (is_here t is) ∙ here)) may.had
+      list_of_place t false is =
+          subst (λ (x : HeldSelector). IfSome x.list (HasList new me)) (sym (elsewhere t (is_other t is))) (its.had t)
+
+-- a list that comes back is had
+pub keeps_back : (before after : List (Option HeldSelector)) (pass : PassView) (me : CallerNo) (list : Option HeldList)
+    → HasBack list before after → IfSome list (HasList pass me) → KeepsLists pass me before → KeepsLists pass me after
+keeps_back before after pass me None back had keeps =
+    subst (λ (xs : List (Option HeldSelector)). KeepsLists pass me xs) (sym back) keeps
+keeps_back before after pass me (Some list) back had keeps =
+    put_back before before after list.selector (record { number = list.selector; list = Some list }) refl
+    (λ t other. refl) back.0 back.1 pass me keeps (record { made = had.lister.selector; had = had })
+
+-- the place of the selector of a selection in progress
+pub back_place : (w : Words) (p : Pass) (t s : SelNo) → t ≡ s → IsSelector (view w p).limits t → s.0 < 16
+back_place w p t s same inside =
+    let below : t.0 < w.limits.selectors = inside in
+    let few : w.limits.selectors ≤ 16 = w.fit.few_selectors in
+    let at : s.0 ≡ t.0 = ap (λ (x : SelNo). x.0) (sym same) in
+    omega (arith, below, few, at)
+
+-- the list that a selection on this selector gives back is the selector's
+pub back_its : (x : InHand) (list : Option HeldList) (sel : SelNo) → list ≡ list_of x → x.selector ≡ sel
+    → IfSome list (λ (back : HeldList). back.selector ≡ sel)
+back_its x list sel back on = subst (λ (o : Option HeldList). IfSome o (λ (b : HeldList). b.selector ≡ sel)) (sym back)
+    (by_stamp x.asked.stamp)
+  where
+    by_stamp : (o : Option Stamp)
+        → IfSome (option_map (λ (stamp : Stamp). record { selector = x.selector; number = stamp.number; keys = x.asked.keys }) o)
+        (λ (b : HeldList). b.selector ≡ sel)
+    by_stamp None = tt
+    by_stamp (Some stamp) = on
+
+-- ---- beginning
+
+-- a selection that begins is on the selector
+pub begun_on : (old new : HeldSelector) (sel : SelNo) → old.number ≡ sel → (r : Result InHand BeginError)
+    → IfOk r (λ s. (new ≡ record old { list = None }) × TakesOnList old s) → IfOk r (λ (s : InHand). s.selector ≡ sel)
+begun_on old new sel same (Ok begun) lent = lent.1.on ∙ same
+begun_on old new sel same (Err error) lent = tt
+
+module _ (pass : PassView) (me : CallerNo) (old new : HeldSelector) where
+  pub begun_may : (r : Result InHand BeginError)
+      → IfOk r (λ s. (new ≡ record old { list = None }) × TakesOnList old s)
+      → IfErr r (λ _. (new ≡ old) × MaySelect pass me new) → HasSelector pass old.number → MaySelect pass me new
+  begun_may (Ok begun) lent refused has =
+      subst (λ (x : HeldSelector). MaySelect pass me x) (sym lent.0) (record { made = has; had = tt })
+  begun_may (Err error) lent refused has = refused.1
+
+  pub begun_number : (r : Result InHand BeginError)
+      → IfOk r (λ s. (new ≡ record old { list = None }) × TakesOnList old s)
+      → IfErr r (λ _. (new ≡ old) × MaySelect pass me new) → new.number ≡ old.number
+  begun_number (Ok begun) lent refused = ap (λ (x : HeldSelector). x.number) lent.0
+  begun_number (Err error) lent refused = ap (λ (x : HeldSelector). x.number) refused.0
+
+pub lent_so : (old new : HeldSelector) (r : Result InHand BeginError) (now before : HeldSelector) (s : SelNo)
+    → IfOk r (λ x. (new ≡ record old { list = None }) × TakesOnList old x) → now ≡ new → old ≡ before → old.number ≡ s
+    → IfOk r (λ x. (now ≡ record { number = s; list = None }) × TakesOnList before x)
+lent_so old new (Ok begun) now before s lent is same number = (
+  is ∙ (lent.0 ∙ ap (λ (n : SelNo). record { number = n; list = None }) number),
+  subst (λ (x : HeldSelector). TakesOnList x begun) same lent.1,
+)
+lent_so old new (Err error) now before s lent is same number = tt
+
+-- what the caller had of the selector before it looked
+pub had_before : {w : Words} {p : Pass} {me : CallerNo} {before : List (Option HeldSelector)} {c0 c1 : Acting} (s : SelNo)
+    → Calls (λ l. FindsSelector l s) c0 c1 (Some s) → acting w p me before ≡ c1
+    → held_in before s ≡ held c0 s
+had_before {w = w} {p = p} {me = me} {before = before} s look is =
+    ap (λ (x : Acting). held x s) is ∙ ap (λ (xs : List (Option HeldSelector)). held_in xs s) look.lists
+
+pub begins_so : {me : CallerNo} {v0 v1 : PassView} (mode : Mode) (answer : Result Selection BeginError)
+    (selector before : HeldSelector) (s : SelNo) → selector ≡ before → before.number ≡ s
+    → CallClause me (Begins selector.number mode (known_by selector)) v0 v1 answer
+    → CallClause me (Begins s mode (known_by before)) v0 v1 answer
+begins_so {me = me} {v0 = v0} {v1 = v1} mode answer selector before s same number call =
+    subst (λ (n : SelNo). CallClause me (Begins n mode (known_by before)) v0 v1 answer) number
+    (subst (λ (x : HeldSelector). CallClause me (Begins x.number mode (known_by x)) v0 v1 answer) same call)
+
+-- ---- whole selections
+
+module _ (w : Words) (p q : Pass) (me : CallerNo) (s s' : HeldSelector) (p0 p1 : Option (List Polled))
+    (are_ready : ChanNo → ℕ) (result : Result Selected SelectError) where
+  pub may_call_timed : (r : Result Mode NegativeTimeout)
+      → TimedBy r me s s' (view w p) (view w q) p0 p1 are_ready result → IsReady w q me → MayCall w p me → MayCall w q me
+  may_call_timed (Ok mode) clause ready may =
+      may_call_after (pins_are_given_back.select s.number mode (known_by s) (told_from clause.polls)) clause.call ready may
+  may_call_timed (Err too_low) clause ready may =
+      record { ready = ready; unpinned = subst HasNoPins (sym clause.same) may.unpinned }
+
+  -- it selects on the same selector
+  pub same_number : (r : Result Mode NegativeTimeout)
+      → TimedBy r me s s' (view w p) (view w q) p0 p1 are_ready result → s'.number ≡ s.number
+  same_number (Ok mode) clause = ap (λ (x : HeldSelector). x.number) clause.list
+  same_number (Err too_low) clause = ap (λ (x : HeldSelector). x.number) clause.same_list
+
+called_so : (P : Result Selected SelectError → Type 0) (x : Result Selected SelectError) → P x → IsCalled (as_called x) P
+called_so P (Ok value) holds = holds
+called_so P (Err error) holds = holds
+
+-- the caller that selected goes on, once what it had of the selector is put back
+module _ (w : Words) (p q : Pass) (me : CallerNo) (before taken after : List (Option HeldSelector))
+    (r : Result Mode NegativeTimeout) (s : SelNo) (selector selector' : HeldSelector) (p0 p1 : Option (List Polled))
+    (are_ready : ChanNo → ℕ) (answer : Result Selected SelectError)
+    (clause : TimedBy r me selector selector' (view w p) (view w q) p0 p1 are_ready answer)
+    (is_taken : selector ≡ held_in before s)
+    (takes : (t : SelNo) → t ≢ s → held_in taken t ≡ held_in before t)
+    (put : held_in after selector'.number ≡ selector')
+    (puts : (t : SelNo) → t ≢ selector'.number → held_in after t ≡ held_in taken t) where
+  its_number : (keeps : KeepsLists (view w p) me before) → selector'.number ≡ s
+  its_number keeps =
+      same_number w p q me selector selector' p0 p1 are_ready answer r clause
+      ∙ (ap (λ (x : HeldSelector). x.number) is_taken ∙ keeps.numbers s)
+
+  kept_before : (x : Result Mode NegativeTimeout)
+      → TimedBy x me selector selector' (view w p) (view w q) p0 p1 are_ready answer
+      → KeepsLists (view w p) me before → KeepsLists (view w q) me before
+  kept_before (Ok mode) selects keeps = keeps_lists selects.call.acts me before keeps
+  kept_before (Err too_low) refused keeps = subst (λ (v : PassView). KeepsLists v me before) (sym refused.same) keeps
+
+  pub acting_selected : IsReady w q me → MaySelect (view w q) me selector' → IsActing w p me before
+      → IsActing w q me after
+  acting_selected ready may acting = record {
+    may = may_call_timed w p q me selector selector' p0 p1 are_ready answer r clause ready acting.may;
+    lists = put_back before taken after s selector' (its_number acting.lists) takes put puts (view w q) me
+        (kept_before r clause acting.lists) may;
+  }
+
+  pub selects_on : {c0 c1 : Acting} → Calls (λ l. FindsSelector l s) c0 c1 (Some s) → acting w p me before ≡ c1
+      → KeepsLists (view w p) me before
+      → SelectsOn s (λ old new seen. TimedBy r c0.number old new seen (view w q) p0 p1 are_ready) c0
+      (acting w q me after) (as_called answer)
+  selects_on {c0 = c0} look is keeps = by_look (subst (λ (x : Acting). Calls (λ l. FindsSelector l s) c0 x (Some s)) (sym is) look)
+    where
+      Its : CallerNo → HeldSelector → HeldSelector → Type 0
+      Its n old new = TimedBy r n old new (view w p) (view w q) p0 p1 are_ready answer
+
+      by_look : Calls (λ l. FindsSelector l s) c0 (acting w p me before) (Some s)
+          → SelectsOn s (λ old new seen. TimedBy r c0.number old new seen (view w q) p0 p1 are_ready) c0
+          (acting w q me after) (as_called answer)
+      by_look looked = record {
+        same = record { table = looked.same.table; number = looked.same.number };
+        others = λ t other. elsewhere before taken after s selector' (its_number keeps) takes put puts t other
+            ∙ ap (λ (xs : List (Option HeldSelector)). held_in xs t) looked.lists;
+        found = Some s;
+        seen = view w p;
+        looks = looked.call;
+        selects = called_so
+            (λ x. TimedBy r c0.number (held_in c0.selectors s) (held_in after s) (view w p) (view w q) p0 p1 are_ready x)
+            answer
+            (subst (λ (n : CallerNo). Its n (held_in c0.selectors s) (held_in after s)) looked.same.number
+            (subst (λ (x : HeldSelector). Its me x (held_in after s))
+            (is_taken ∙ ap (λ (xs : List (Option HeldSelector)). held_in xs s) looked.lists)
+            (subst (λ (x : HeldSelector). Its me selector x) (sym (here before taken after s selector' (its_number keeps) takes put puts))
+            clause)));
+      }
+
+pub selects_nowhere : {c0 c1 : Acting} (s : SelNo)
+    (Selects : HeldSelector → HeldSelector → PassView → Result Selected SelectError → Type 0)
+    → Calls (λ l. FindsSelector l s) c0 c1 None → SelectsOn s Selects c0 c1 (Err NoSuchSelector)
+selects_nowhere {c1 = c1} s Selects look =
+    let same_lists = ap (λ (xs : List (Option HeldSelector)). held_in xs s) look.lists in
+    record {
+      same = look.same;
+      others = λ t other. ap (λ (xs : List (Option HeldSelector)). held_in xs t) look.lists;
+      found = None;
+      seen = sees c1;
+      looks = look.call;
+      selects = record { nothing = refl; list = same_lists; answer = refl };
+    }

@@ -1,5 +1,5 @@
 -- What contracts see of a caller; how a caller is parted in two, and how two become one.
-use Rattle.std.specs.Prelude.{◌≡◌, ◌≢◌, ◌↔◌, ◌⊎◌, ℕ, zero, suc, ◌<◌, ◌++◌, false, List, [], ◌∷◌}
+use Rattle.std.specs.Prelude.{◌≡◌, ◌≢◌, ◌↔◌, ◌⊎◌, ℕ, zero, suc, ◌<◌, ◌++◌, false, Option, None, IfSome, List, [], ◌∷◌, get_or, unwrap_or}
 use mathlib.Core.List.{IsPrefix}
 use Rattle.nio_base.specs.declared.numbers.CallerNo.{CallerNo}
 use Rattle.nio_base.specs.declared.numbers.ChanId.{ChanId}
@@ -10,12 +10,16 @@ use Rattle.nio_history.specs.PassViews.{PassView, Holds, HasNoPin, HasSelector, 
 use Rattle.nio_history.specs.declared.act.Act.TheVariants.{DrawBit}
 use Rattle.nio_history.specs.declared.event.Event.{Event}
 use Rattle.nio_select.specs.InHand.{HeldSelector}
-use Rattle.nio_select.specs.InProgress.{MaySelect}
+use Rattle.nio_select.specs.InProgress.{HasList, MaySelect}
 use Rattle.nio_words.specs.Passes.{IsOnly, IsPassOf, IsReady, Holds as HoldsNumber, seen}
 use Rattle.nio_words.specs.Rule.{longer}
 use Rattle.nio_words.specs.Views.{view}
 use Rattle.nio_words.specs.declared.words.Pass.{Pass}
 use Rattle.nio_words.specs.declared.words.Words.{Words}
+
+-- the selector as these have it, at the place of its number: with its list where that was taken
+abbrev pub held_in : List (Option HeldSelector) → SelNo → HeldSelector
+held_in selectors s = unwrap_or (get_or selectors s.0 None) (record { number = s; list = None })
 
 pub record Acting : Type 0 where
   -- the table at which it makes its calls
@@ -24,10 +28,20 @@ pub record Acting : Type 0 where
   pub pass : Pass
   -- its number
   pub number : CallerNo
+  -- the selectors whose lists it took, each at the place of its number
+  pub selectors : List (Option HeldSelector)
 
 -- what it has seen of the table's history, and the numbers that it holds: its own, and those that it can give away
 abbrev pub sees : Acting → PassView
 sees caller = view caller.table caller.pass
+
+-- a selector, with its list where the caller has that
+abbrev pub held : Acting → SelNo → HeldSelector
+held caller s = held_in caller.selectors s
+
+-- it has the list of no selector
+abbrev pub HasNoList : Acting → Type 0
+HasNoList caller = (s : SelNo) → held caller s ≡ record { number = s; list = None }
 
 -- none of the numbers that the pass holds has a pin
 abbrev pub HasNoPins : PassView → Type 0
@@ -38,6 +52,16 @@ HasNoPins pass = (n : CallerNo) → Holds pass n → HasNoPin pass n
 pub record MayCall (w : Words) (p : Pass) (me : CallerNo) : Type 0 where
   pub ready : IsReady w p me
   pub unpinned : HasNoPins (view w p)
+
+-- the caller has these lists, each at the place of its selector's number
+pub record KeepsLists (pass : PassView) (me : CallerNo) (selectors : List (Option HeldSelector)) : Type 0 where
+  pub numbers : (s : SelNo) → (held_in selectors s).number ≡ s
+  pub had : (s : SelNo) → IfSome (held_in selectors s).list (HasList pass me)
+
+-- A caller may make calls, and has its lists.
+pub record IsActing (w : Words) (p : Pass) (me : CallerNo) (selectors : List (Option HeldSelector)) : Type 0 where
+  pub may : MayCall w p me
+  pub lists : KeepsLists (view w p) me selectors
 
 -- it makes its calls at the same table, with the same number
 pub record IsSameCaller (old new : Acting) : Type 0 where

@@ -1,19 +1,16 @@
 -- Calls that are several calls, one after the other.
-use Rattle.std.specs.Prelude.{◌≡◌, ℕ, false, Option, Some, None, Result, Ok, Err, List, []}
+use Rattle.std.specs.Prelude.{ℕ, false, Option, Some, None, Result, Ok, Err, List}
 use Rattle.nio_base.specs.declared.limits.Limits.{Limits}
 use Rattle.nio_base.specs.declared.numbers.ChanId.{ChanId}
 use Rattle.nio_base.specs.declared.numbers.KeyNo.{KeyNo}
 use Rattle.nio_base.specs.declared.numbers.SelNo.{SelNo}
 use Rattle.nio_history.specs.declared.act.Act.{Act}
 use Rattle.nio_steps.specs.ChannelCalls.{SetsBlocking, Registers, key_for_plan}
-use Rattle.nio_steps.specs.KeyCalls.{find_channel_plan, unselect_plan}
+use Rattle.nio_steps.specs.KeyCalls.{unselect_plan}
 use Rattle.nio_steps.specs.Runs.{Completes}
 use Rattle.nio_steps.specs.Waiting.{Then}
 use Rattle.nio_steps.specs.declared.refusal.ChannelError.{ChannelError}
-
--- nothing more is done, and this is the answer
-abbrev pub Answers : {R : Type 0} → R → List Act → R → Type 0
-Answers given acts answer = (acts ≡ []) × (answer ≡ given)
+use Rattle.nio_caller.specs.NamedCalls.{Answers, OnChannel, OnSelector}
 
 -- ---- registering
 
@@ -32,10 +29,8 @@ abbrev pub UnselectsFound : Option KeyNo → List Act → Option KeyNo → Type 
 UnselectsFound (Some key) = Then (Completes (unselect_plan key)) (λ out. Answers (Some key))
 UnselectsFound None = Answers None
 
-abbrev pub LooksForKey : SelNo → Option ChanId → List Act → Option KeyNo → Type 0
-LooksForKey s (Some c) = Then (Completes (key_for_plan c s)) UnselectsFound
-LooksForKey s None = Answers None
-
--- the channel is looked for, and then its key in the selector; where there is one, it is taken out of the selected set
+-- The selector and the channel are looked up, and then the channel's key there; where there is one, it is taken out of the
+-- selected set.
 abbrev pub TakesSelected : Limits → ChanId → SelNo → List Act → Option KeyNo → Type 0
-TakesSelected l c s = Then (Completes (find_channel_plan l c.number.0 c.serial)) (LooksForKey s)
+TakesSelected l c s =
+    OnSelector l s None (OnChannel l c None (Then (Completes (key_for_plan c s)) UnselectsFound))

@@ -1,11 +1,17 @@
 //! Callers: each is a number and a pass that acts for it, at a table that it borrows. The calls on selectors, channels,
 //! keys and pipes are its methods.
 //!
-//! Each method ensures the same of what the caller has seen as the call of the crates below does: `CallClause` of its
-//! plan. It leaves the caller at its table, with its number. That a caller may make calls, and has no pin, holds of
-//! every value, so no method asks for it.
+//! A method takes any selector, channel or key. It looks up what is named, as a line of a script does, and refuses where
+//! that was never made (`CallError`, or false, None or 0); else it makes the call of the crates below. `Calls` says of
+//! each what it does: the looks, and then the call's plan, at the caller's table, with its number. That a caller may make
+//! calls, has no pin, and has its lists holds of every value, so no method asks for it.
 #![tactic(auto)]
 
 pub use callers::{Caller, NotHeld};
+pub use laws::{found_law, names_law};
+pub use refusal::CallError;
 
 mod callers;
+mod laws;
+mod lists;
+mod refusal;

@@ -20,6 +20,7 @@ use Rattle.nio_history.specs.Sets.{is_in_key_set}
 use Rattle.nio_history.specs.declared.act.Act.{Act}
 use Rattle.nio_history.specs.declared.act.Act.TheVariants.{LookChannel, Claim, Publish, LookReg, Enrol, TryHoldBit}
 use Rattle.nio_history.specs.declared.act.Act.TheVariants.{Release, SetMode, CloseBit, Pin, Unpin, ClaimAgain, LookKey}
+use Rattle.nio_history.specs.declared.act.Act.TheVariants.{TakeList}
 use Rattle.nio_history.specs.declared.found.Stage.{Stage}
 use Rattle.nio_history.proofs.Unpublished.{is_unpublished-more}
 
@@ -48,6 +49,8 @@ pub quiet_unclosed : (c n : ℕ) (act : Act) → is_quiet act ≡ true → finds
 quiet_unclosed c n (LookChannel c' found) quiet = absurd cc
 quiet_unclosed c n (SetMode c' blocking found) quiet = absurd cc
 quiet_unclosed c n (CloseBit c' from found) quiet = absurd cc
+quiet_unclosed c n (TakeList s None) quiet = refl
+quiet_unclosed c n (TakeList s (Some holder)) quiet = refl
 quiet_unclosed c n act quiet = refl
 
 quiet_tells : (c s : ℕ) (act : Act) → is_quiet act ≡ true → enrolled_found c s act ≡ None

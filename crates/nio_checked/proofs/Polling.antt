@@ -3,7 +3,7 @@ use Rattle.std.proofs.Common.{◌≡◌, ℕ, suc, ◌+◌, ◌<◌, ◌≤◌, 
 use Rattle.std.proofs.Common.{refl, ap, sym, subst, append_assoc, arith}
 use Rattle.std.proofs.lemmas.List.Elements.{All-cons, All-nil}
 use Rattle.nio_base.specs.declared.numbers.ChanNo.{ChanNo}
-use Rattle.nio_link.proofs.KeysTo.{fewer_below}
+use Rattle.nio_select.proofs.KeysTo.{fewer_below}
 use Rattle.nio_poller.proofs.Marks.{bits_in_channel}
 use Rattle.nio_poller.specs.Polls.{told_of_channel}
 use Rattle.nio_select.specs.Asked.{keys_to}

@@ -8,7 +8,7 @@ use nio_base::{ChanNo, Ops};
 use nio_select::Asked;
 
 /// Lists, for each key that was asked for, its channel with what was told of it and asked for.
-#[tactic(auto, using(nio_link::proofs::KeysTo::none_below))]
+#[tactic(auto, using(nio_select::proofs::KeysTo::none_below))]
 pub(crate) fn list(asked: &Asked, pairs: &[(u32, Ops)], told: &mut Vec<(ChanNo, Ops)>)
     requires empty { told.old.items ≡ [] }
     requires room { length asked.now.keys ≤ vec_capacity told.old }

@@ -42,7 +42,7 @@ pub(crate) fn set(
 }
 
 /// What was told of a channel: of the keys that were asked for, what was told of those of this channel.
-#[tactic(auto, using(nio_link::proofs::KeysTo::none_below, crate::proofs::Told::key_more))]
+#[tactic(auto, using(nio_select::proofs::KeysTo::none_below, crate::proofs::Told::key_more))]
 pub(crate) fn told_of(asked: &Asked, told: &Told, chan: ChanNo) -> Ops
     ensures { result ≡ told_of_channel asked.now.keys told.now.pairs.items chan }
 {

@@ -1,5 +1,5 @@
 -- What a step leaves, and what it finds.
-use Rattle.std.proofs.Common.{◌≡◌, ℕ, ◌==◌, Bool, true, false, ◌&&◌, if◌then◌else◌, Some, List, [], ◌∷◌, ◌++◌}
+use Rattle.std.proofs.Common.{◌≡◌, ℕ, ◌==◌, Bool, true, false, ◌&&◌, if◌then◌else◌, Option, Some, None, List, [], ◌∷◌, ◌++◌}
 use Rattle.std.proofs.Common.{append_assoc, refl, ap, sym, ◌∙◌, subst, eqb-true, eq-eqb, arith}
 use Rattle.std.specs.Prelude.{nat_lt, fold, IsTrue}
 use Rattle.std.specs.Int.{bit_at}
@@ -8,6 +8,8 @@ use Rattle.std.proofs.lemmas.List.{append-nil, append_cancel_left}
 use Rattle.nio_base.specs.Kind.{is_same_kind}
 use Rattle.nio_base.specs.declared.limits.Limits.{Limits}
 use Rattle.nio_base.specs.declared.numbers.CallerNo.{CallerNo}
+use Rattle.nio_base.specs.declared.numbers.SelNo.{SelNo}
+use Rattle.nio_history.specs.Conditions.{is_held_by}
 use Rattle.nio_history.proofs.Bits.{bits_below-at, bits_below-above}
 use Rattle.nio_history.proofs.Clauses.{last_of-later}
 use Rattle.nio_history.proofs.LastsAlone.{none_further}
@@ -19,12 +21,12 @@ use Rattle.nio_history.proofs.Told.{has_told}
 use Rattle.nio_history.specs.Acts.{effect}
 use Rattle.nio_history.specs.Answers.{Answers, bits_below, index_at}
 use Rattle.nio_history.specs.Found.{Leaves, StepsLeave, is_look, LooksTell, gate_tells, channel_tells, stage_tells}
-use Rattle.nio_history.specs.Found.{selectors_tell, keys_high_tells, channels_high_tells, finds, FoundStands}
+use Rattle.nio_history.specs.Found.{selectors_tell, keys_high_tells, channels_high_tells, lister_tells, finds, FoundStands}
 use Rattle.nio_history.specs.Histories.{state_after, event_of, last_of, is_by, mine, HistoryClause}
 use Rattle.nio_history.specs.Permanent.{PermanentFact, selector_made, selector_shut, channel_made, channel_of_kind}
 use Rattle.nio_history.specs.Permanent.{channel_opened, channel_closed}
 use Rattle.nio_history.specs.Permanent.{index_claimed, key_claimed, key_published, key_cancelled, key_removed}
-use Rattle.nio_history.specs.Permanent.{below_keys_high, below_channels_high, stands}
+use Rattle.nio_history.specs.Permanent.{below_keys_high, below_channels_high, list_had_by, stands}
 use Rattle.nio_history.specs.Sets.{was_claimed, was_published, was_cancelled, was_removed, was_opened, was_closed}
 use Rattle.nio_history.specs.State.{State}
 use Rattle.nio_history.specs.declared.act.Act.{Act}
@@ -32,7 +34,7 @@ use Rattle.nio_history.specs.declared.act.Act.TheVariants.{LookSelectors, LookGa
 use Rattle.nio_history.specs.declared.act.Act.TheVariants.{LookInterest, LookNote, LookChannel, RaiseKeys, LookKeys}
 use Rattle.nio_history.specs.declared.act.Act.TheVariants.{Publish, LookReg, BeginLook, Remove, LookMark, EndWake}
 use Rattle.nio_history.specs.declared.act.Act.TheVariants.{LookChannels, RaiseChannels, SetMode, CloseBit, Enter, Pin}
-use Rattle.nio_history.specs.declared.act.Act.TheVariants.{LookFree, LookTouched, LookIndex}
+use Rattle.nio_history.specs.declared.act.Act.TheVariants.{LookFree, LookTouched, LookIndex, TakeList}
 use Rattle.nio_history.specs.declared.event.Event.{Event}
 use Rattle.nio_history.specs.declared.found.Chan.{Chan}
 use Rattle.nio_history.specs.declared.found.GateWord.{GateWord}
@@ -202,6 +204,14 @@ channels_high_stands : (st : State) (found : ℕ) (f : PermanentFact) → found 
 channels_high_stands st found (below_channels_high c) is told = subst (λ (n : ℕ). nat_lt c n ≡ true) is told
 channels_high_stands st found f is told = absurd (cc told)
 
+lister_stands : (st : State) (s : SelNo) (found : Option CallerNo) (f : PermanentFact) → found ≡ st.lister s.0
+    → lister_tells s found f ≡ true → stands f st ≡ true
+lister_stands st s (Some n) (list_had_by s' n') is told =
+    let same = and_parts (s.0 == s'.0) (n.0 == n'.0) told in
+    sym (ap (is_held_by n') (is ∙ ap st.lister (eqb-true s.0 s'.0 same.0))) ∙ same.1
+lister_stands st s (Some n) f is told = absurd (cc told)
+lister_stands st s None f is told = absurd (cc told)
+
 step_finds : (st : State) (me : CallerNo) (act : Act) (f : PermanentFact) → Answers st me act → finds act f ≡ true
     → stands f st ≡ true
 step_finds st me (LookSelectors found) f answers told = selectors_stand st found f (cc) told
@@ -223,6 +233,7 @@ step_finds st me (RaiseChannels n found) f answers told = channels_high_stands s
 step_finds st me (LookIndex s i found) f answers told =
     let stands_there : found ≡ index_at st s.0 i = cc in
     stage_stands st s.0 i found.stage f (ap (λ x. x.stage) stands_there) told
+step_finds st me (TakeList s found) f answers told = lister_stands st s found f (cc) told
 step_finds st me act f answers told = absurd (cc told)
 
 pub found_stands : FoundStands

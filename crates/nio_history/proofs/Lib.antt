@@ -31,4 +31,5 @@ pub mod OwnTaken
 pub mod OwnChanges
 pub mod WhatIsFound
 pub mod RightLists
+pub mod TouchedSince
 pub mod Spans

@@ -59,6 +59,18 @@ pub since_from-more : (opens : Act → Bool) (own : List Act) (act : Act)
 since_from-more opens own act =
     fold-append (λ since act'. if opens act' then [] else since ++ act' ∷ []) [] own (act ∷ [])
 
+-- whether a span has such an act, with one act more
+pub has_since-more : (opens p : Act → Bool) (own : List Act) (act : Act)
+    → has p (since_from opens (own ++ act ∷ []))
+    ≡ (if opens act then false else has p (since_from opens own) || p act)
+has_since-more opens p own act = ap (has p) (since_from-more opens own act) ∙ by_test (opens act)
+  where
+    by_test : (b : Bool)
+        → has p (if b then [] else since_from opens own ++ act ∷ [])
+        ≡ (if b then false else has p (since_from opens own) || p act)
+    by_test true = refl
+    by_test false = has-more p (since_from opens own) act
+
 -- nothing is in a span that wasn't opened
 pub since_first-none : (opens : Act → Bool) (own : List Act) → has opens own ≡ false → since_first opens own ≡ []
 since_first-none opens [] none = refl

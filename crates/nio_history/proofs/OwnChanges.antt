@@ -7,7 +7,7 @@ use Rattle.nio_base.specs.declared.limits.Limits.{Limits}
 use Rattle.nio_base.specs.declared.numbers.CallerNo.{CallerNo}
 use Rattle.nio_history.proofs.Counts.{pinned_by}
 use Rattle.nio_history.proofs.Legal.{legal_induction, legal_more}
-use Rattle.nio_history.proofs.OneMore.{state_after-more, mine-own, mine-other, has-more, since_from-more}
+use Rattle.nio_history.proofs.OneMore.{state_after-more, mine-own, mine-other, has-more, has_since-more}
 use Rattle.nio_history.proofs.OwnPins.{swapped, same_at, other_step, pins_are_own}
 use Rattle.nio_history.proofs.Put.{same_pair, put-same, put-other, put_keeps, put_at-there}
 use Rattle.nio_history.proofs.Soundness.{legal-sound, both_ways}
@@ -30,7 +30,7 @@ caller k = record { 0 = k }
 -- ---- amid a change
 
 -- what stands at another pair of numbers is left
-elsewhere : {A : Type 0} (f : ℕ → ℕ → A) (i j : ℕ) (x : A) (m n : ℕ) → ((i == m) && (j == n)) ≡ false
+pub elsewhere : {A : Type 0} (f : ℕ → ℕ → A) (i j : ℕ) (x : A) (m n : ℕ) → ((i == m) && (j == n)) ≡ false
     → put_at f i j x m n ≡ f m n
 elsewhere f i j x m n not_here =
     ap (λ b. cond b x (f m n))
@@ -154,17 +154,7 @@ other_change st me act n s i other = refl
 touched_more : (s i : ℕ) (own : List Act) (act : Act)
     → has (touches s i) (since_pinned s i (own ++ act ∷ []))
     ≡ touched_then (has (touches s i) (since_pinned s i own)) s i act
-touched_more s i own act =
-    ap (has (touches s i)) (since_from-more (pins_index s i) own act) ∙ by_test (pins_index s i act)
-  where
-    since : List Act
-    since = since_pinned s i own
-
-    by_test : (b : Bool)
-        → has (touches s i) (if b then [] else since ++ act ∷ [])
-        ≡ (if b then false else has (touches s i) since || touches s i act)
-    by_test true = refl
-    by_test false = has-more (touches s i) since act
+touched_more s i own act = has_since-more (pins_index s i) (touches s i) own act
 
 pub changes_are_own : ChangesAreOwn
 unfolding caller

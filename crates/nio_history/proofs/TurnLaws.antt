@@ -12,7 +12,7 @@ use Rattle.nio_history.proofs.OneMore.{state_after-more}
 use Rattle.nio_history.proofs.Put.{put-same}
 use Rattle.nio_history.proofs.Soundness.{legal-sound}
 use Rattle.nio_history.specs.Acts.{effect}
-use Rattle.nio_history.specs.Conditions.{Condition, is_held_by, has_turn, has_begun, is_closer, has_entered}
+use Rattle.nio_history.specs.Conditions.{Condition, is_held_by, has_turn, has_begun, has_list, is_closer, has_entered}
 use Rattle.nio_history.specs.Conditions.{may_remove_cancelled, may_clear_out}
 use Rattle.nio_history.specs.Histories.{state_after, event_of, mine, IsStep, IsLegal}
 use Rattle.nio_history.specs.Permanent.{OwnFact, the_turn, a_selection, the_hold, is_had_by, gives_back}
@@ -21,9 +21,10 @@ use Rattle.nio_history.specs.Sets.{in_cancelled_set}
 use Rattle.nio_history.specs.Sound.{IsSound}
 use Rattle.nio_history.specs.State.{State}
 use Rattle.nio_history.specs.Turns.{selects_on, removes_on, TurnHasOneHolder, HoldHasOneHolder, OneSelectionAtATime}
-use Rattle.nio_history.specs.Turns.{OnlyWhoMaySelects}
+use Rattle.nio_history.specs.Turns.{takes_touched_on, OnlyWhoMaySelects, TakersHaveList}
 use Rattle.nio_history.specs.declared.act.Act.{Act}
 use Rattle.nio_history.specs.declared.act.Act.TheVariants.{TakeTurn, BeginLook, Remove, Mark, EndWake, TryHoldBit}
+use Rattle.nio_history.specs.declared.act.Act.TheVariants.{TakeTouched}
 use Rattle.nio_history.specs.declared.event.Event.{Event}
 
 -- what a caller has after an event it still has at a later step, where it didn't give it back in between
@@ -86,12 +87,15 @@ begun_is st me n s s' has_it same begun =
     let its : is_held_by n (st.turn s.0) ≡ true = (and_parts (has_turn st n s) (st.begun s.0) has_it).0 in
     one_holder me n (st.turn s.0) (subst (λ (k : ℕ). is_held_by me (st.turn k) ≡ true) same mine') its
 
--- what is one or two other things or not is it where it is neither of those
+-- what is one, two or three other things or not is it where it is neither of those
 pub of_one : (b : Bool) → (b || false) ≡ true → b ≡ true
 of_one b e = sym (or-false b) ∙ e
 
 pub of_two : (b : Bool) → (b || false || false) ≡ true → b ≡ true
 of_two b e = of_one b (of_one (b || false) e)
+
+of_three : (b : Bool) → (b || false || false || false) ≡ true → b ≡ true
+of_three b e = of_two b (of_one (b || false || false) e)
 
 -- while caller n selects, whoever does what only the selecting caller does is n
 pub selecting_is : (l : Limits) (own : List Act) (st : State) (me n : CallerNo) (s : SelNo) (act : Act) → IsSound st
@@ -115,6 +119,8 @@ selecting_is l own st me n s (Mark s' i from told found) sound has_it may on =
     begun_is st me n s s' has_it (eqb-true s'.0 s.0 (of_one (s'.0 == s.0) on)) may.1
 selecting_is l own st me n s (EndWake s' found) sound has_it may on =
     begun_is st me n s s' has_it (eqb-true s'.0 s.0 on) may.1
+selecting_is l own st me n s (TakeTouched s' j found) sound has_it may on =
+    begun_is st me n s s' has_it (eqb-true s'.0 s.0 (of_three (s'.0 == s.0) on)) may.2
 selecting_is l own st me n s act sound has_it may on = absurd (cc on)
 
 pub one_selection_at_a_time : OneSelectionAtATime
@@ -169,9 +175,23 @@ may_select_by l own st me s (Mark s' i from told found) may on =
     ap (λ b. b || false) (moved (has_begun st me) s' s (eqb-true s'.0 s.0 (of_one (s'.0 == s.0) on)) may.1)
 may_select_by l own st me s (EndWake s' found) may on =
     ap (λ b. b || false) (moved (has_begun st me) s' s (eqb-true s'.0 s.0 on) may.1)
+may_select_by l own st me s (TakeTouched s' j found) may on =
+    ap (λ b. b || false)
+    (moved (has_begun st me) s' s (eqb-true s'.0 s.0 (of_three (s'.0 == s.0) on)) may.2)
 may_select_by l own st me s act may on = absurd (cc on)
 
 pub only_who_may_selects : OnlyWhoMaySelects
 only_who_may_selects l s past e later legal on =
     may_select_by l (mine e.caller past) (state_after past) e.caller s e.act (legal_next l past e later legal).condition
     on
+
+takes_with_list : (l : Limits) (own : List Act) (st : State) (me : CallerNo) (s : SelNo) (act : Act)
+    → Condition l own st me act → takes_touched_on s.0 act ≡ true → has_list st me s ≡ true
+takes_with_list l own st me s (TakeTouched s' j found) may on =
+    moved (has_list st me) s' s (eqb-true s'.0 s.0 on) may.3
+takes_with_list l own st me s act may on = absurd (cc on)
+
+pub takers_have_list : TakersHaveList
+takers_have_list l s past e later legal on =
+    takes_with_list l (mine e.caller past) (state_after past) e.caller s e.act
+    (legal_next l past e later legal).condition on

@@ -1,8 +1,9 @@
 -- Laws of what a step leaves and of what it finds.
-use Rattle.std.specs.Prelude.{◌≡◌, ◌≢◌, ℕ, ◌==◌, nat_lt, Bool, true, false, ◌&&◌, IsTrue, List, [], ◌∷◌, ◌++◌}
+use Rattle.std.specs.Prelude.{◌≡◌, ◌≢◌, ℕ, ◌==◌, nat_lt, Bool, true, false, ◌&&◌, Option, Some, None, IsTrue, List, [], ◌∷◌, ◌++◌}
 use Rattle.std.specs.Int.{bit_at}
 use Rattle.nio_base.specs.declared.limits.Limits.{Limits}
 use Rattle.nio_base.specs.declared.numbers.CallerNo.{CallerNo}
+use Rattle.nio_base.specs.declared.numbers.SelNo.{SelNo}
 use Rattle.nio_history.specs.Acts.{effect}
 use Rattle.nio_history.specs.Answers.{Answers}
 use Rattle.nio_history.specs.Histories.{state_after, event_of, mine, IsStep, IsLegal, HistoryClause}
@@ -33,7 +34,7 @@ use Rattle.nio_history.specs.declared.found.Stage.{Stage}
 use Rattle.nio_history.specs.declared.act.Act.TheVariants.{Reopen, Touch, LookTouched, TakeTouched, LookIndex, TakeList}
 use Rattle.nio_history.specs.Sets.{was_opened, was_closed}
 use Rattle.nio_base.specs.Kind.{is_same_kind}
-use Rattle.nio_history.specs.Permanent.{channel_of_kind, channel_opened}
+use Rattle.nio_history.specs.Permanent.{channel_of_kind, channel_opened, list_had_by}
 
 -- ---- what a step leaves
 
@@ -93,7 +94,13 @@ abbrev pub channels_high_tells : ℕ → PermanentFact → Bool
 channels_high_tells found (below_channels_high c) = nat_lt c found
 channels_high_tells found _ = false
 
--- a flag, a holder, a set of operations, a mark and an attachment tell of none here
+-- the caller that has a selector's list, which it has for good
+abbrev pub lister_tells : SelNo → Option CallerNo → PermanentFact → Bool
+lister_tells s (Some n) (list_had_by s' n') = (s.0 == s'.0) && (n.0 == n'.0)
+lister_tells s (Some n) _ = false
+lister_tells s None _ = false
+
+-- a flag, another holder, a set of operations, a mark and an attachment tell of none here
 abbrev pub nothing : PermanentFact → Bool
 nothing f = false
 
@@ -102,8 +109,8 @@ nothing f = false
 pub record FoundRow : Type 0 where
   -- whether what the step finds stands there after it too
   pub stands_after : Bool
-  -- which permanent facts follow from what it finds: of a gate, a channel, a stage, the word of the selectors or a
-  -- high-water mark
+  -- which permanent facts follow from what it finds: of a gate, a channel, a stage, the word of the selectors, a
+  -- high-water mark or the caller that has a list
   pub tells : PermanentFact → Bool
 
 abbrev pub found_row : Act → FoundRow
@@ -159,7 +166,7 @@ found_row (Touch s i found) = record { stands_after = false; tells = nothing }
 found_row (LookTouched s j found) = record { stands_after = true; tells = nothing }
 found_row (TakeTouched s j found) = record { stands_after = false; tells = nothing }
 found_row (LookIndex s i found) = record { stands_after = true; tells = stage_tells s.0 i found.stage }
-found_row (TakeList s found) = record { stands_after = false; tells = nothing }
+found_row (TakeList s found) = record { stands_after = false; tells = lister_tells s found }
 
 -- what the step finds stands there after it too
 abbrev pub is_look : Act → Bool

@@ -101,7 +101,8 @@ abbrev pub marks : ℕ → ℕ → Act → Bool
 marks s i (Mark s' i' from told found) = (s'.0 == s) && (i' == i)
 marks s i _ = false
 
--- all marks and removals of keys of the selector, and all ends of its wakeup, are the caller's own
+-- all marks and removals of keys of the selector, all takings of its touched bits and all ends of its wakeup are the
+-- caller's own
 abbrev pub SelectsAlone : Type 0
 SelectsAlone = (l : Limits) (n : CallerNo) (s : SelNo) (before between : List Event) (e : Event)
     → Keeps l n (a_selection s) before (between ++ e ∷ [])

@@ -1,9 +1,9 @@
 -- A selector's list: what the caller that has it knows of each index from its own acts, and the law that this is right.
 --
--- Who changes what a selection looks at touches the index first. The caller that has the list takes the bits of touched
+-- Whoever sets an interest set, publishes or cancels a key touches the index first. The caller that has the list takes the bits of touched
 -- indexes, and looks at those alone; of all others it knows what it found when it looked there last.
 use Rattle.std.specs.Prelude.{◌≡◌, ℕ, ◌/◌, ◌%◌, ◌==◌, Bool, false, not, ◌&&◌, ◌||◌, if◌then◌else◌, Option, Some, None}
-use Rattle.std.specs.Prelude.{option_map, is_some, IsTrue, IsFalse, List}
+use Rattle.std.specs.Prelude.{option_map, is_some, IsTrue, IsFalse, List, map}
 use Rattle.std.specs.Int.{bit_at}
 use Rattle.nio_base.specs.Limits.{IsFit}
 use Rattle.nio_base.specs.declared.limits.Limits.{Limits}
@@ -98,3 +98,17 @@ ListsAreRight = (l : Limits) (n : CallerNo) (s : SelNo) (i : ℕ) (events : List
     → IsFalse ((state_after events).touched s.0 i)
     → IsFalse (owes_look s.0 i (mine n events))
     → IsRight (state_after events) s i (entry s.0 i (mine n events))
+
+-- ---- which indexes are touched
+
+-- it takes the bits of the 64 indexes among which index i is
+abbrev pub takes_word_of : ℕ → ℕ → Act → Bool
+takes_word_of s i (TakeTouched s' j found) = (s'.0 == s) && (i / 64 == j)
+takes_word_of s i _ = false
+
+-- An index is touched exactly where somebody touched it since the bits of its word were taken last, or at any time where
+-- they never were.
+abbrev pub TouchedSince : Type 0
+TouchedSince = (l : Limits) (s : SelNo) (i : ℕ) (events : List Event) → IsLegal l events
+    → (state_after events).touched s.0 i
+    ≡ has (touches s.0 i) (since_from (takes_word_of s.0 i) (map (λ e. e.act) events))

@@ -41,7 +41,9 @@ pub record State : Type 0 where
   pub pinned : ℕ → ℕ → ℕ → Bool
   -- whether an index is free: it can be given to a new key
   pub free : ℕ → ℕ → Bool
-  -- whether an index is touched: since the bit was last taken somebody was about to change what a selection looks at
+  -- whether an index is touched: the next selection by the selector's list whose bound reaches it looks there. Whoever
+  -- sets an interest set, publishes or cancels a key touches the index first, and a selection that finds the index pinned
+  -- touches it again.
   pub touched : ℕ → ℕ → Bool
   -- the caller that has a selector's list, for good: it takes the bits of touched indexes, and knows of the others what
   -- it found when it looked at them last

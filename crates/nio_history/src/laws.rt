@@ -7,14 +7,14 @@ ghost use Rattle.nio_history.specs.Holders.{OutsideStays};
 ghost use Rattle.nio_history.specs.Holders.{FoundClearStays};
 ghost use Rattle.nio_history.specs.Holders.{ClearIsTrue, SelectsAlone, KeySetStays, MarksStay, WakeupStays};
 ghost use Rattle.nio_history.specs.WhatIsFound.{FindsWhatAnswers};
-ghost use Rattle.nio_history.specs.Lists.{ListsAreRight};
+ghost use Rattle.nio_history.specs.Lists.{ListsAreRight, TouchedSince};
 ghost use Rattle.nio_history.specs.Pins.{PinsAreOwn, TakenIsOwn, PinnedKeysStay, ClaimsAgainWhereUnpinned};
 ghost use Rattle.nio_history.specs.Pins.{ChangesAreOwn, ListsAreOwn};
 ghost use Rattle.nio_history.specs.Pins.{ClaimsAgainTheRemoved, OwnClaimsStand, UnpublishedKeysStay};
 ghost use Rattle.nio_history.specs.Pins.{EnrolledKeysAreClaimed, SelectionsKeepKeys};
 ghost use Rattle.nio_history.specs.Spans.{HasIsSaid, LastIsSaid, SpanIsSaid, ClearIsSaid};
 ghost use Rattle.nio_history.specs.Turns.{TurnHasOneHolder, HoldHasOneHolder, HolderKnowsMode, OneSelectionAtATime};
-ghost use Rattle.nio_history.specs.Turns.{OnlyWhoMaySelects};
+ghost use Rattle.nio_history.specs.Turns.{OnlyWhoMaySelects, TakersHaveList};
 ghost use Rattle.nio_history.specs.Worked.{WorkedHistoryIsLegal, RefusedEventsAreNoSteps};
 
 /// Each beginning of a legal history is legal.
@@ -57,12 +57,13 @@ pub fn one_holder_law()
     ensures mode { HolderKnowsMode }
 {}
 
-/// One selection at a time: while a caller selects, nobody else marks or removes a key of the
-/// selector or ends its wakeup. Only a caller that has begun does so; the selector's closer, once it has
-/// entered, removes keys too.
+/// One selection at a time: while a caller selects, nobody else takes bits of touched indexes of the selector, marks or
+/// removes a key of it or ends its wakeup. Only a caller that has begun does so; the selector's closer, once it has
+/// entered, removes keys too. Only the caller that has the selector's list takes such bits.
 pub fn one_selection_law()
     ensures at_a_time { OneSelectionAtATime }
     ensures allowed { OnlyWhoMaySelects }
+    ensures takers { TakersHaveList }
 {}
 
 /// A caller has a pin on an index where it pinned or claimed it and didn't take the pin off since, is amid a change
@@ -101,8 +102,8 @@ pub fn step_law()
     ensures { StepsLeave }
 {}
 
-/// What a look found is what the state gives just after it. And what is permanent and was found stands ever
-/// after.
+/// What a look found is what the state gives just after it. And what is permanent and was found stands ever after: that
+/// a caller has a selector's list is found by another that asks for it.
 pub fn found_law()
     ensures looks { LooksTell }
     ensures stands { FoundStands }
@@ -122,7 +123,8 @@ pub fn hold_law()
     ensures clear { ClearIsTrue }
 {}
 
-/// While a caller selects, nobody else marks or removes a key of the selector or ends its wakeup; all that
+/// While a caller selects, nobody else takes bits of touched indexes of the selector, marks or removes a key of it or
+/// ends its wakeup; all that
 /// can happen to the mark of a key is that the key is taken out of the selected set.
 pub fn selection_law()
     ensures alone { SelectsAlone }
@@ -133,9 +135,11 @@ pub fn selection_law()
 
 /// Till a closer has entered, an index that isn't touched is as the caller that has the selector's list found it when it
 /// looked there last, and nobody is amid a change of it; but where that caller took the index's bit and hasn't looked
-/// there since, or is in the middle of that look.
+/// there since, or is in the middle of that look. An index is touched exactly where somebody touched it since the bits of
+/// its word were taken last: so the bits that a selection by the list takes are of indexes that somebody touched.
 pub fn list_law()
-    ensures { ListsAreRight }
+    ensures right { ListsAreRight }
+    ensures touched { TouchedSince }
 {}
 
 /// What each kind of step finds, said in one line a kind, is what the state answers to its question.

@@ -12,8 +12,8 @@ use Rattle.nio_steps.proofs.Lists.{contains-none, parted, pairs-after}
 use Rattle.nio_steps.proofs.Relisted.{as_listed, listed_from, next, none_listed, Rise}
 use Rattle.nio_steps.specs.Lists.{listed_at}
 use Rattle.nio_steps.specs.declared.looked.LookedKey.{LookedKey}
-use Rattle.nio_select.specs.Asked.{Changes, has_changed, key_at, key_with, keys_to}
-use Rattle.nio_kept.specs.News.{AreApart, IsRising}
+use Rattle.nio_select.specs.Asked.{Changes, has_changed, key_at, key_with, keys_to, IsRising}
+use Rattle.nio_kept.specs.News.{AreApart}
 
 -- ---- elements
 

@@ -13,11 +13,11 @@ use Rattle.std.proofs.lemmas.Option.{get_or_from_slice_get, slice_get_within}
 use Rattle.std.proofs.lemmas.Nat.{and_assoc, and_comm}
 use Rattle.std.proofs.lemmas.List.Elements.{All-weaker, All-contains, All-contains_itself, All-push, filter_passes, Contains-push, Contains-append_left}
 use Rattle.nio_steps.specs.declared.looked.LookedKey.{LookedKey}
-use Rattle.nio_select.specs.Asked.{AreBelow, Looked, has_changed, key_at, keys_to}
+use Rattle.nio_select.specs.Asked.{AreBelow, Looked, has_changed, key_at, keys_to, IsRising}
 use Rattle.nio_select.specs.declared.stamp.Stamp.{Stamp}
 use Rattle.nio_kept.proofs.Asked.{contains_filter, only_one, key_there, key_in, unchanged, one_channel}
 use Rattle.nio_kept.specs.Looks.{AreListed, KnowsAt}
-use Rattle.nio_kept.specs.News.{Heard, AreApart, AreFound, AreNoted, Continues, Follows, IsRising, Knows, is_ready, is_next, is_same}
+use Rattle.nio_kept.specs.News.{Heard, AreApart, AreFound, AreNoted, Continues, Follows, Knows, is_ready, is_next, is_same}
 use Rattle.nio_kept.specs.Looks.{looked_at, noted}
 use Rattle.nio_kept.specs.News.{StillKnows, ready_for}
 

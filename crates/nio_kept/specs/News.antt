@@ -3,7 +3,7 @@ use Rattle.std.specs.Prelude.{◌≡◌, ◌≢◌, ℕ, ◌<◌, ◌==◌, ◌&
 use Rattle.std.specs.Prelude.{IsSome, List, length, map, bit_and, slice_index}
 use Rattle.std.specs.List.{All, AllPairs, Contains, filter}
 use Rattle.nio_steps.specs.declared.looked.LookedKey.{LookedKey}
-use Rattle.nio_select.specs.Asked.{Changes, Looked}
+use Rattle.nio_select.specs.Asked.{Changes, IsRising, Looked}
 use Rattle.nio_select.specs.InHand.{next_number}
 use Rattle.nio_select.specs.declared.stamp.Stamp.{Stamp}
 
@@ -72,9 +72,6 @@ is_next None now = false
 is_next (Some before) None = false
 is_next (Some before) (Some now) =
     (before.selector.0 == now.selector.0) && (next_number before.number == now.number)
-
-abbrev pub IsRising : List LookedKey → Type 0
-IsRising keys = AllPairs (λ x y. x.index < y.index) keys
 
 -- A list that the same beginning made has the same keys. One that the next beginning made has, outside the indexes that
 -- changed, the keys of the one before. The keys of both rise. Of any other list nothing is asked.

@@ -24,5 +24,6 @@ pub mod ClosersKeys
 pub mod Removals
 pub mod ToldRemovals
 pub mod WaitedCalls
+pub mod KnownLists
 pub mod OrderlyExamples
 pub mod Prepared

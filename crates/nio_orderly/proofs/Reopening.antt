@@ -9,6 +9,8 @@ use Rattle.nio_base.specs.Limits.{IsFit}
 use Rattle.nio_base.specs.declared.limits.Limits.{Limits}
 use Rattle.nio_base.specs.declared.numbers.CallerNo.{CallerNo}
 use Rattle.nio_base.specs.declared.numbers.ChanId.{ChanId}
+use Rattle.nio_base.specs.declared.numbers.ChanNo.{ChanNo}
+use Rattle.nio_history.proofs.PinLaws.{enrolled_keys_are_claimed}
 use Rattle.nio_history.proofs.LastsOnceSound.{permanent_stands}
 use Rattle.nio_history.proofs.Legal.{legal_beginning, legal_next, legal_from}
 use Rattle.nio_history.proofs.OneMore.{state_after-more}
@@ -32,6 +34,7 @@ use Rattle.nio_orderly.proofs.Published.{is_publish}
 use Rattle.nio_orderly.specs.Careful.{IsCareful}
 use Rattle.nio_orderly.specs.Owed.{key_of, channel_of_key}
 use Rattle.nio_orderly.specs.Reopening.{is_reopened, KeysKeepTheirChannel, SelectionsKeepChannels}
+use Rattle.nio_orderly.specs.Reopening.{PublishedFor, EnrolledKeysAreOfTheChannel}
 
 -- ---- of a key that is in the key set at last
 
@@ -275,3 +278,65 @@ selections_keep_channels l n s i before later fit keeps careful spared in_set =
     (legal-sound l before (legal_beginning l before later keeps.legal)) s.0 i in_set in
     (keeps_channel l before later s.0 i ((state_after before).key s.0 i).serial fit keeps.legal careful there
     (key_set_stays l n s before later keeps (key_of (state_after before) s.0 i) spared there)).channel
+
+-- ---- enrolled keys
+
+-- the key of the index was published for the channel of its number, by what was done
+abbrev IsPublishedFor : (s i serial : ℕ) → List Event → State → Type 0
+IsPublishedFor s i serial did st = PublishedFor (st.key s i).chan (record { 0 = s }) i serial did
+
+published_for : (l : Limits) (s i serial : ℕ) (events : List Event) → IsFit l → IsLegal l events → IsCareful events
+    → is_in_key_set ((state_after events).key s i) serial ≡ true
+    → IsPublishedFor s i serial events (state_after events)
+published_for l s i serial events fit legal careful in_set =
+    keeps_since l IsCareful [] events s i serial (IsPublishedFor s i serial) fit
+    (record {
+      careful = λ _ good. good;
+      beginning = λ past e good. beginnings_are_careful past (past ++ e ∷ []) (e ∷ [], refl) good;
+      start = λ none. absurd (cc none);
+      published = λ past e did whole legal' step good found is same unpublished.
+          let answers : Answers (state_after past) e.caller (Publish (record { 0 = s }) i found)
+          = subst (Answers (state_after past) e.caller) is step.answers in
+          let found_is : found ≡ (state_after past).key s i = cc answers in
+          record {
+            by = e.caller;
+            found = found;
+            past = did;
+            later = [];
+            parts = ap (λ act. did ++ event_of e.caller act ∷ []) is;
+            of_serial = same;
+            of_channel = ap (λ (k : Stage). k.chan) found_is
+                ∙ sym (ap (λ act. ((effect (state_after past) e.caller act).key s i).chan) is
+                ∙ ap (λ (k : Stage). k.chan) (put_at-same (state_after past).key s i
+                (record ((state_after past).key s i) { published = true })));
+            kept = refl;
+          };
+      stays = λ past e did legal' step stand was earlier.
+          let st = state_after past in
+          record {
+            by = earlier.by;
+            found = earlier.found;
+            past = earlier.past;
+            later = earlier.later ++ e ∷ [];
+            parts = ap (λ events'. events' ++ e ∷ []) earlier.parts
+                ∙ append_assoc earlier.past (event_of earlier.by (Publish (record { 0 = s }) i earlier.found) ∷ earlier.later)
+                (e ∷ []);
+            of_serial = earlier.of_serial;
+            of_channel = earlier.of_channel ∙ sym was.channel;
+            kept = subst (λ (c : ChanNo). is_reopened c.0 (earlier.later ++ e ∷ []) ≡ false) (sym was.channel)
+                (list_any-append (λ x. reopens (st.key s i).chan.0 x.act) earlier.later (e ∷ [])
+                ∙ or_from (is_reopened (st.key s i).chan.0 earlier.later)
+                (reopens (st.key s i).chan.0 e.act || false) earlier.kept
+                (ap (λ b. b || false) (not_reopened l past e fit legal' step stand s i was.in_set)));
+          };
+    }) legal careful in_set
+
+pub enrolled_keys_are_of_the_channel : EnrolledKeysAreOfTheChannel
+enrolled_keys_are_of_the_channel l c s k events fit legal careful enrolled in_set =
+    let at = (state_after events).key s.0 k.index in
+    let its = enrolled_keys_are_claimed l c s k events fit legal enrolled in
+    let same : at.serial ≡ k.serial
+    = eqb-true at.serial k.serial
+    (and_parts at.claimed (at.serial == k.serial) (and_parts (fits at k.serial) (in_key_set at) in_set).0).1 in
+    subst (λ (d : ChanNo). PublishedFor d s k.index k.serial events) (its.1 same)
+    (published_for l s.0 k.index k.serial events fit legal careful in_set)

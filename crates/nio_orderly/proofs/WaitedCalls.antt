@@ -19,7 +19,7 @@ use Rattle.nio_steps.proofs.BeginLaws.{begin-parts}
 use Rattle.nio_steps.proofs.Lists.{all-one}
 use Rattle.nio_steps.proofs.Walks.{Always, always_bind, always_if, always_any, always_run}
 use Rattle.nio_steps.specs.ChannelCalls.{finds_held}
-use Rattle.nio_steps.specs.Ongoing.{Ongoing, nothing_ongoing, selecting, closes_on, changed, close_change}
+use Rattle.nio_steps.specs.Ongoing.{Ongoing, nothing_ongoing, selecting, begun_by, closes_on, changed, close_change}
 use Rattle.nio_steps.specs.Ongoing.{select_change}
 use Rattle.nio_steps.specs.PipeCalls.{waits_for_bytes}
 use Rattle.nio_steps.specs.Plan.{reply, ◌>>◌}
@@ -27,14 +27,15 @@ use Rattle.nio_steps.specs.Runs.{Completes}
 use Rattle.nio_steps.specs.SelectCalls.{Selection, Begins, begin_finds_busy, Poll, Tells, goes_on_after, ToldReply}
 use Rattle.nio_steps.specs.SelectCalls.{done, again, told_plan, mark_entry, after_marks, is_again, why_ended}
 use Rattle.nio_steps.specs.SelectCalls.{remove_all_cancelled, end_selection, SelectReply, selected, not_begun, left}
-use Rattle.nio_steps.specs.SelectCalls.{SelectsRest, ShutReply, closing, already_closed, FinishReply, closed, busy}
+use Rattle.nio_steps.specs.SelectCalls.{SelectsRest, MakesSelection, ShutReply, closing, already_closed, FinishReply, closed, busy}
 use Rattle.nio_steps.specs.SelectCalls.{finish_finds_busy, ClosesRest, shut_plan, try_finish_plan}
 use Rattle.nio_steps.specs.Steps.{flag_in, gate_in, end_wake, give_turn}
 use Rattle.nio_steps.specs.Sweeps.{sweep_over}
 use Rattle.nio_steps.specs.TableCalls.{TableCall, row_of, try_set_blocking, try_register, try_begin, told, leave, shut}
 use Rattle.nio_steps.specs.TableCalls.{try_finish, try_read, try_write, set_blocking, register, select, close, read}
-use Rattle.nio_steps.specs.TableCalls.{write}
-use Rattle.nio_steps.specs.Waiting.{Then, Run, acts_of, Tries, Repeats, Retries}
+use Rattle.nio_steps.specs.TableCalls.{write, IsItsList}
+use Rattle.nio_steps.specs.Waiting.{Then, Run, acts_of, Tries, Repeats}
+use Rattle.nio_steps.specs.declared.looked.LookedKey.{LookedKey}
 use Rattle.nio_steps.specs.declared.refusal.BeginError.{BeginError}
 use Rattle.nio_steps.specs.declared.selected.Selected.{Selected}
 
@@ -273,7 +274,7 @@ told-repeats l now selection now' poll acts (again next) here run goes =
 selection-calls : (l : Limits) (now : Ongoing) (polls : List Poll) (selection : Selection) (acts : List Act)
     (answer : SelectReply) → SelectsRest polls (Ok selection) acts answer
     → (now' : Ongoing) → Selecting now selection now'
-    → CallsTo l now' acts (Now (changed now (select_change selection.selector answer)))
+    → CallsTo l now' acts (Now (selecting now selection.selector None))
 selection-calls l now polls selection acts (selected answer) rest now' here =
     repeats_calls l (Tells selection) goes_on_after (Selecting now selection)
     (Now (selecting now selection.selector None)) (λ poll r. table_call (told selection poll) r)
@@ -291,73 +292,80 @@ selection-calls l now polls selection acts left rest now' here =
     (table_call (leave selection) tt) refl rest.left (may_tell now selection now'' here')
     (then_selecting now selection now'' None here')))
 
--- what is in progress after a beginning without the list
+-- what else is in progress after a beginning: a selection by the list took that on
+abbrev taken_on : Ongoing → SelNo → Selection → Ongoing
+taken_on now s selection =
+    record now { list = if selection.listed then put now.list s.0 (Some selection.looked) else now.list }
+
+-- what is in progress after a beginning
 abbrev AfterBegin : Ongoing → SelNo → Result Selection BeginError → Ongoing → Type 0
-AfterBegin now s (Ok selection) now' = (selection.selector ≡ s) × Selecting now selection now'
+AfterBegin now s (Ok selection) now' =
+    (selection.selector ≡ s) × Selecting (taken_on now s selection) selection now'
 AfterBegin now s (Err refusal) now' = now' ≡ now
 
-begins-calls : (l : Limits) (s : SelNo) (mode : Mode) (now : Ongoing) (answer : Result Selection BeginError)
-    (acts : List Act) → Begins s mode None acts answer → (now' : Ongoing) → now' ≡ now
-    → CallsTo l now' acts (AfterBegin now s answer)
-begins-calls l s mode now (Ok selection) acts begins now' here =
-    let parts = begin-parts s mode None acts selection begins in
-    one_call l now' acts (AfterBegin now s (Ok selection)) (table_call (try_begin s mode None) (Ok selection)) refl
-    begins tt (
-      parts.selector,
-      ap (λ (b : Bool). record now' {
-        selection = put now'.selection s.0 (Some selection);
-        list = if b then put now'.list s.0 (Some selection.looked) else now'.list;
-      }) parts.listed
-          ∙ (ap (λ n. selecting n s (Some selection)) here
-          ∙ ap (λ (t : SelNo). selecting now t (Some selection)) (sym parts.selector)),
-    )
-begins-calls l s mode now (Err refusal) acts begins now' here =
-    one_call l now' acts (AfterBegin now s (Err refusal)) (table_call (try_begin s mode None) (Err refusal)) refl
-    begins tt here
+module _ (l : Limits) (s : SelNo) (mode : Mode) (known : Option (List LookedKey)) (now : Ongoing)
+    (may : IsItsList s known now) where
+  may_begin : (now' : Ongoing) → now' ≡ now → IsItsList s known now'
+  may_begin now' here = subst (IsItsList s known) (sym here) may
 
-begins-repeat : (l : Limits) (s : SelNo) (mode : Mode) (now : Ongoing)
-    → MayRepeat l (λ (_ : Unit {0}). Begins s mode None) (λ _. begin_finds_busy) (Now now)
-    (λ _ r. table_call (try_begin s mode None) r)
-begins-repeat l s mode now now' _ acts (Ok selection) here run goes = absurd (cc goes)
-begins-repeat l s mode now now' _ acts (Err refusal) here run goes = (refl, run, tt, here)
+  begins-calls : (answer : Result Selection BeginError) (acts : List Act) → Begins s mode known acts answer
+      → (now' : Ongoing) → now' ≡ now → CallsTo l now' acts (AfterBegin now s answer)
+  begins-calls (Ok selection) acts begins now' here =
+      let its = (begin-parts s mode known acts selection begins).selector in
+      one_call l now' acts (AfterBegin now s (Ok selection)) (table_call (try_begin s mode known) (Ok selection)) refl
+      begins (may_begin now' here) (
+        its,
+        ap (λ n. begun_by n s selection) here
+            ∙ ap (λ (t : SelNo). selecting (taken_on now s selection) t (Some selection)) (sym its),
+      )
+  begins-calls (Err refusal) acts begins now' here =
+      one_call l now' acts (AfterBegin now s (Err refusal)) (table_call (try_begin s mode known) (Err refusal)) refl
+      begins (may_begin now' here) here
 
-select-calls : (l : Limits) (s : SelNo) (mode : Mode) (polls : List Poll)
-    → IsMadeOfCalls l (Then (Retries (Begins s mode None) begin_finds_busy) (SelectsRest polls))
-    (λ now answer. changed now (select_change s answer))
-select-calls l s mode polls now acts answer both =
-    subst (λ xs. AreCallsFrom l now xs (changed now (select_change s answer))) (sym both.parts)
-    (calls_from l now (both.first ++ both.second) (changed now (select_change s answer))
-    (then_calls l now both.first both.second (AfterBegin now s both.middle)
-    (Now (changed now (select_change s answer)))
-    (repeats_calls l (λ (_ : Unit {0}). Begins s mode None) (λ _. begin_finds_busy) (Now now) (AfterBegin now s both.middle)
-    (λ _ r. table_call (try_begin s mode None) r) (begins-repeat l s mode now) both.first both.middle both.runs_first
-    (λ now' _ xs here begins. begins-calls l s mode now both.middle xs begins now' here) now refl)
-    (by_beginning both.middle both.runs_second)))
-  where
-    by_beginning : (middle : Result Selection BeginError) → SelectsRest polls middle both.second answer
-        → (now' : Ongoing) → AfterBegin now s middle now'
-        → CallsTo l now' both.second (Now (changed now (select_change s answer)))
-    by_beginning (Ok selection) rest now' here =
-        subst (λ (t : SelNo). CallsTo l now' both.second (Now (changed now (select_change t answer)))) here.0
-        (selection-calls l now polls selection both.second answer rest now' here.1)
-    by_beginning (Err refusal) rest now' here =
-        subst (λ (r : SelectReply). CallsTo l now' both.second (Now (changed now (select_change s r))))
-        (sym rest.2)
-        (subst (λ xs. CallsTo l now' xs (Now now)) (sym rest.0) (no_calls l now' (Now now) here))
+  begins-repeat : MayRepeat l (λ (_ : Unit {0}). Begins s mode known) (λ _. begin_finds_busy) (Now now)
+      (λ _ r. table_call (try_begin s mode known) r)
+  begins-repeat now' _ acts (Ok selection) here run goes = absurd (cc goes)
+  begins-repeat now' _ acts (Err refusal) here run goes = (refl, run, may_begin now' here, here)
+
+  select-calls : (polls : List Poll) (acts : List Act) (answer : SelectReply)
+      (both : MakesSelection s mode known polls acts answer)
+      → AreCallsFrom l now acts (changed now (select_change s both.middle))
+  select-calls polls acts answer both =
+      subst (λ xs. AreCallsFrom l now xs (changed now (select_change s both.middle))) (sym both.parts)
+      (calls_from l now (both.first ++ both.second) (changed now (select_change s both.middle))
+      (then_calls l now both.first both.second (AfterBegin now s both.middle)
+      (Now (changed now (select_change s both.middle)))
+      (repeats_calls l (λ (_ : Unit {0}). Begins s mode known) (λ _. begin_finds_busy) (Now now)
+      (AfterBegin now s both.middle) (λ _ r. table_call (try_begin s mode known) r) begins-repeat both.first both.middle
+      both.runs_first (λ now' _ xs here begins. begins-calls both.middle xs begins now' here) now refl)
+      (by_beginning both.middle both.runs_second)))
+    where
+      by_beginning : (middle : Result Selection BeginError) → SelectsRest polls middle both.second answer
+          → (now' : Ongoing) → AfterBegin now s middle now'
+          → CallsTo l now' both.second (Now (changed now (select_change s middle)))
+      by_beginning (Ok selection) rest now' here =
+          subst (λ (after : Ongoing). CallsTo l now' both.second (Now after))
+          (ap (λ (t : SelNo). selecting (taken_on now s selection) t None) here.0
+          ∙ ap (λ f. record (taken_on now s selection) { selection = f })
+          (sym (put-twice now.selection s.0 (Some selection) None)))
+          (selection-calls l (taken_on now s selection) polls selection both.second answer rest now' here.1)
+      by_beginning (Err refusal) rest now' here =
+          subst (λ xs. CallsTo l now' xs (Now now)) (sym rest.0) (no_calls l now' (Now now) here)
 
 pub waiting_calls_are_calls : WaitingCallsAreCalls
-waiting_calls_are_calls l (draw n) acts now is run = absurd (cc is)
-waiting_calls_are_calls l (table_call call answer) acts now is run = absurd (cc is)
-waiting_calls_are_calls l (waiting_call (set_blocking c on) answer) acts now is run =
+waiting_calls_are_calls l (draw n) acts now is run may = absurd (cc is)
+waiting_calls_are_calls l (table_call call answer) acts now is run may = absurd (cc is)
+waiting_calls_are_calls l (waiting_call (set_blocking c on) answer) acts now is run may =
     same-calls l (try_set_blocking c on) (λ (_ : Unit {0}). finds_held) (λ _ _. (tt, refl)) now acts answer run
-waiting_calls_are_calls l (waiting_call (register s c ops att) answer) acts now is run =
+waiting_calls_are_calls l (waiting_call (register s c ops att) answer) acts now is run may =
     same-calls l (try_register s c ops att) (λ (_ : Unit {0}). finds_held) (λ _ _. (tt, refl)) now acts answer run
-waiting_calls_are_calls l (waiting_call (select s mode polls) answer) acts now is run =
-    select-calls l s mode polls now acts answer run
-waiting_calls_are_calls l (waiting_call (close s) answer) acts now is run = close-calls l s now acts answer run
-waiting_calls_are_calls l (waiting_call (read source none) answer) acts now is run =
+waiting_calls_are_calls l (waiting_call (select s mode known polls) outcome) acts now is run may =
+    subst (λ begun. AreCallsFrom l now acts (changed now (select_change s begun))) run.begun
+    (select-calls l s mode known now may polls acts outcome.answer run.makes)
+waiting_calls_are_calls l (waiting_call (close s) answer) acts now is run may = close-calls l s now acts answer run
+waiting_calls_are_calls l (waiting_call (read source none) answer) acts now is run may =
     same-calls l (try_read source) waits_for_bytes (λ _ _. (tt, refl)) now acts run.found run.runs
-waiting_calls_are_calls l (waiting_call (write source sink none) answer) acts now is run =
+waiting_calls_are_calls l (waiting_call (write source sink none) answer) acts now is run may =
     same-calls l (try_write source sink) waits_for_bytes (λ _ _. (tt, refl)) now acts run.found run.runs
 
 -- ---- lists of calls
@@ -368,7 +376,7 @@ call_unwaiting l (draw n) acts now run may = one_call l now acts (Now now) (draw
 call_unwaiting l (table_call call answer) acts now run may =
     one_call l now acts (Now (after_call now (table_call call answer))) (table_call call answer) refl run may refl
 call_unwaiting l (waiting_call call answer) acts now run may =
-    let its = waiting_calls_are_calls l (waiting_call call answer) acts now refl run in
+    let its = waiting_calls_are_calls l (waiting_call call answer) acts now refl run may in
     record {
       calls = its.calls;
       unwaiting = its.unwaiting;

@@ -6,7 +6,9 @@ pub mod Owed
 pub mod Settled
 pub mod AfterClosing
 pub mod OrderlyCare
+pub mod Lists
 pub mod Removals
+pub mod Looked
 pub mod Examples
 pub mod Waited
 pub mod OrderlyExamples

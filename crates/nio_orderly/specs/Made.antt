@@ -31,12 +31,12 @@ after_call now (table_call call answer) = changed now ((row_of call).change answ
 after_call now (waiting_call call answer) = changed now ((wait_row_of call).change answer)
 
 -- The call may come next: `told` and `leave` belong to the caller's selection in progress on that selector, and
--- `try_finish` to its closing in progress; a `try_begin` with a list is given the list that the caller has for the
--- selector.
+-- `try_finish` to its closing in progress; a `try_begin` and a whole selection with a list are given the list that the
+-- caller has for the selector.
 abbrev pub MayCome : Ongoing → Made → Type 0
 MayCome now (draw n) = ⊤
 MayCome now (table_call call answer) = (row_of call).may_come now
-MayCome now (waiting_call call answer) = ⊤
+MayCome now (waiting_call call answer) = (wait_row_of call).may_come now
 
 -- each call of the list may come after those before it
 abbrev pub AreInOrder : Ongoing → List Made → Type 0

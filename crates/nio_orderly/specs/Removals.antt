@@ -1,9 +1,10 @@
--- What is removed in a legal and orderly history: a selection without the list that has begun has removed the keys that
--- were published and cancelled before the call, and so has the end of such a selection; and a closing that is over has
--- removed those that were published before it.
+-- What is removed in a legal and orderly history: a selection that has begun has removed the keys that were published
+-- and cancelled before the call, and so has the end of a selection; and a closing that is over has removed those that
+-- were published before it. Where a selection goes by a list, these laws ask that it is the selector's
+-- and that its caller has it.
 --
 -- `before` is the history before a call; what the caller did after it is this call.
-use Rattle.std.specs.Prelude.{◌≡◌, ℕ, ◌<◌, Bool, true, false, None, Ok, IsTrue, IsFalse, List, ◌∷◌, ◌++◌}
+use Rattle.std.specs.Prelude.{◌≡◌, ℕ, ◌<◌, true, Option, Ok, IsTrue, IsOk, IfOk, List, ◌∷◌, ◌++◌}
 use Rattle.std.specs.List.{All, Contains}
 use Rattle.nio_base.specs.Limits.{IsFit}
 use Rattle.nio_base.specs.declared.limits.Limits.{Limits}
@@ -14,9 +15,11 @@ use Rattle.nio_history.specs.Sets.{was_claimed, was_published, was_cancelled, wa
 use Rattle.nio_history.specs.declared.act.Act.TheVariants.{LookKeys}
 use Rattle.nio_history.specs.declared.event.Event.{Event}
 use Rattle.nio_history.specs.declared.found.Mode.{Mode}
+use Rattle.nio_orderly.specs.Lists.{KnowsGiven}
 use Rattle.nio_orderly.specs.Made.{Made, IsRun, table_call, waiting_call}
 use Rattle.nio_orderly.specs.Orderly.{IsOrderly}
-use Rattle.nio_steps.specs.SelectCalls.{Selection, Poll, done, SelectReply, selected, not_begun, left, closed}
+use Rattle.nio_steps.specs.Lists.{KnowsList}
+use Rattle.nio_steps.specs.SelectCalls.{Selection, Poll, done, SelectOutcome, closed}
 use Rattle.nio_steps.specs.Selections.{IsBegun}
 use Rattle.nio_steps.specs.TableCalls.{try_begin, told, try_finish, select, close}
 use Rattle.nio_steps.specs.declared.looked.LookedKey.{LookedKey}
@@ -32,54 +35,58 @@ pub record MadeLast (l : Limits) (n : CallerNo) (before later : List Event) (cal
 -- ---- selections
 
 -- `Selector.select`: "Each key in the cancelled-key set is removed from each key set of which it is a member". A key
--- that was published and cancelled before a `try_begin` without the list that answers Ok is removed when the call
--- returns, and isn't among the keys that the selection looked at.
+-- that was published and cancelled before a `try_begin` that answers Ok is removed when the call returns, and isn't
+-- among the keys that the selection looked at.
 abbrev pub BeginRemovesCancelled : Type 0
 BeginRemovesCancelled =
-    (l : Limits) (n : CallerNo) (before later : List Event) (s : SelNo) (mode : Mode) (selection : Selection)
-    (i serial : ℕ)
-    → MadeLast l n before later (table_call (try_begin s mode None) (Ok selection))
+    (l : Limits) (n : CallerNo) (before later : List Event) (s : SelNo) (mode : Mode) (known : Option (List LookedKey))
+    (selection : Selection) (i serial : ℕ)
+    → MadeLast l n before later (table_call (try_begin s mode known) (Ok selection)) → KnowsGiven l n before s known
     → IsTrue (was_published ((state_after before).key s.0 i) serial)
     → IsTrue (was_cancelled ((state_after before).key s.0 i) serial)
     → IsTrue (was_removed ((state_after (before ++ later)).key s.0 i) serial)
     × All (λ entry. ¬ ((entry.index ≡ i) × (entry.serial ≡ serial))) selection.looked
 
--- the selection began: it ended, or was left since a poll failed
-abbrev pub did_begin : SelectReply → Bool
-did_begin (selected answer) = true
-did_begin (not_begun refusal) = false
-did_begin left = true
-
--- A key that was published and cancelled before a `select` that begins is removed when the call returns: a `select` is
--- without the list.
+-- A key that was published and cancelled before a `select` that begins is removed when the call returns, and isn't on
+-- its looked list.
 abbrev pub SelectRemovesCancelled : Type 0
 SelectRemovesCancelled =
-    (l : Limits) (n : CallerNo) (before later : List Event) (s : SelNo) (mode : Mode) (polls : List Poll)
-    (answer : SelectReply) (i serial : ℕ)
-    → MadeLast l n before later (waiting_call (select s mode polls) answer) → IsTrue (did_begin answer)
+    (l : Limits) (n : CallerNo) (before later : List Event) (s : SelNo) (mode : Mode) (known : Option (List LookedKey))
+    (polls : List Poll) (outcome : SelectOutcome) (i serial : ℕ)
+    → MadeLast l n before later (waiting_call (select s mode known polls) outcome) → KnowsGiven l n before s known
+    → IsOk outcome.begun
     → IsTrue (was_published ((state_after before).key s.0 i) serial)
     → IsTrue (was_cancelled ((state_after before).key s.0 i) serial)
     → IsTrue (was_removed ((state_after (before ++ later)).key s.0 i) serial)
+    × IfOk outcome.begun (λ selection. All (λ entry. ¬ ((entry.index ≡ i) × (entry.serial ≡ serial))) selection.looked)
+
+-- The selection is its caller's latest one on its selector, and what it looked at is the selector's list, which the
+-- caller has.
+pub record GoesByList (l : Limits) (n : CallerNo) (before : List Event) (selection : Selection) : Type 0 where
+  pub begun : IsBegun (mine n before) selection
+  pub knows : KnowsList l n before selection.selector selection.looked
 
 -- "If any keys were added to the cancelled-key set while step (2) was in progress then they are processed as in step
--- (1)". A key that was published and cancelled before a `told` that ends a selection without the list is removed when
--- the call returns, also one that was registered since the selection began.
+-- (1)". A key that was published and cancelled before a `told` that ends a selection is removed when the call returns,
+-- also one that was registered since the selection began.
 abbrev pub ToldRemovesCancelled : Type 0
 ToldRemovesCancelled =
     (l : Limits) (n : CallerNo) (before later : List Event) (selection : Selection) (poll : Poll) (answer : Selected)
     (i serial : ℕ)
-    → MadeLast l n before later (table_call (told selection poll) (done answer)) → IsFalse selection.listed
+    → MadeLast l n before later (table_call (told selection poll) (done answer))
+    → (IsTrue selection.listed → GoesByList l n before selection)
     → IsTrue (was_published ((state_after before).key selection.selector.0 i) serial)
     → IsTrue (was_cancelled ((state_after before).key selection.selector.0 i) serial)
     → IsTrue (was_removed ((state_after (before ++ later)).key selection.selector.0 i) serial)
 
--- A looked key that was cancelled before such a `told`, of a selection without the list, is removed when the call
--- returns, whether the history is orderly or not.
+-- A looked key that was cancelled before such a `told` is removed when the call returns, whether the history is orderly
+-- or not. Of a selection by the list its caller has to know the list.
 abbrev pub ToldRemovesLooked : Type 0
 ToldRemovesLooked =
     (l : Limits) (n : CallerNo) (before later : List Event) (selection : Selection) (poll : Poll) (answer : Selected)
     (entry : LookedKey)
-    → IsLegal l (before ++ later) → IsBegun (mine n before) selection → IsFalse selection.listed
+    → IsLegal l (before ++ later) → IsBegun (mine n before) selection
+    → (IsTrue selection.listed → KnowsList l n before selection.selector selection.looked)
     → IsRun l (table_call (told selection poll) (done answer)) (mine n later)
     → Contains selection.looked entry
     → IsTrue (was_cancelled ((state_after before).key selection.selector.0 entry.index) entry.serial)

@@ -1,11 +1,13 @@
 -- Numbers of channels that come back. A number is given to a new channel only where no key of it is in a key set: so a
 -- key is a key of one channel as long as it is in the key set.
-use Rattle.std.specs.Prelude.{◌≡◌, ℕ, true, Bool, IsTrue, IsFalse, List, [], ◌∷◌, ◌++◌}
+use Rattle.std.specs.Prelude.{◌≡◌, ℕ, true, Bool, Some, IsTrue, IsFalse, List, [], ◌∷◌, ◌++◌}
 use Rattle.std.specs.List.{list_any}
 use Rattle.nio_base.specs.Limits.{IsFit}
 use Rattle.nio_base.specs.declared.limits.Limits.{Limits}
 use Rattle.nio_base.specs.declared.numbers.CallerNo.{CallerNo}
 use Rattle.nio_base.specs.declared.numbers.ChanId.{ChanId}
+use Rattle.nio_base.specs.declared.numbers.ChanNo.{ChanNo}
+use Rattle.nio_base.specs.declared.numbers.KeyId.{KeyId}
 use Rattle.nio_base.specs.declared.numbers.SelNo.{SelNo}
 use Rattle.nio_history.specs.Histories.{state_after, mine, event_of, IsLegal}
 use Rattle.nio_history.specs.Holders.{Keeps}
@@ -36,6 +38,27 @@ KeysKeepTheirChannel =
     → IsCareful (past ++ event_of n (Publish s i found) ∷ later)
     → IsTrue (is_in_key_set ((state_after (past ++ event_of n (Publish s i found) ∷ later)).key s.0 i) found.serial)
     → IsFalse (is_reopened found.chan.0 later)
+
+-- A key was published for the channel of number c: the number had that channel then, and nobody gave it to a new one
+-- since.
+pub record PublishedFor (c : ChanNo) (s : SelNo) (i serial : ℕ) (events : List Event) : Type 0 where
+  pub by : CallerNo
+  pub found : Stage
+  pub past : List Event
+  pub later : List Event
+  pub parts : events ≡ past ++ event_of by (Publish s i found) ∷ later
+  pub of_serial : found.serial ≡ serial
+  pub of_channel : found.chan ≡ c
+  pub kept : IsFalse (is_reopened c.0 later)
+
+-- So the key that is enrolled for a number, where it is in the key set, is a key of the channel that the number has, and
+-- of none that the number had before.
+abbrev pub EnrolledKeysAreOfTheChannel : Type 0
+EnrolledKeysAreOfTheChannel =
+    (l : Limits) (c : ChanNo) (s : SelNo) (k : KeyId) (events : List Event) → IsFit l → IsLegal l events
+    → IsCareful events → (state_after events).enrolled c.0 s.0 ≡ Some k
+    → IsTrue (is_in_key_set ((state_after events).key s.0 k.index) k.serial)
+    → PublishedFor c s k.index k.serial events
 
 -- So the number of a key that a selection finds in the key set has one channel for that whole selection, unless the
 -- selection removes the key.

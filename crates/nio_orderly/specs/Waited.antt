@@ -3,7 +3,8 @@ use Rattle.std.specs.Prelude.{◌≡◌, Bool, true, false, IsTrue, IsFalse, Lis
 use Rattle.std.specs.List.{All}
 use Rattle.nio_base.specs.declared.limits.Limits.{Limits}
 use Rattle.nio_history.specs.declared.act.Act.{Act}
-use Rattle.nio_orderly.specs.Made.{Made, draw, table_call, waiting_call, IsRun, after_call, after_calls, AreInOrder}
+use Rattle.nio_orderly.specs.Made.{Made, draw, table_call, waiting_call, IsRun, MayCome, after_call, after_calls}
+use Rattle.nio_orderly.specs.Made.{AreInOrder}
 use Rattle.nio_orderly.specs.Orderly.{AreRuns, AreCallsOf}
 use Rattle.nio_steps.specs.Ongoing.{Ongoing, nothing_ongoing}
 
@@ -22,11 +23,12 @@ pub record AreCallsFrom (l : Limits) (now : Ongoing) (acts : List Act) (after : 
   pub in_order : AreInOrder now calls
   pub leaves : after_calls now calls ≡ after
 
--- What a caller does in a call that waits is what it does in such calls, whatever it has in progress before.
+-- What a caller does in a call that waits and that may come is what it does in such calls, whatever it has in progress
+-- before.
 abbrev pub WaitingCallsAreCalls : Type 0
 WaitingCallsAreCalls =
     (l : Limits) (call : Made) (acts : List Act) (now : Ongoing) → IsTrue (waits call) → IsRun l call acts
-    → AreCallsFrom l now acts (after_call now call)
+    → MayCome now call → AreCallsFrom l now acts (after_call now call)
 
 -- So whoever makes whole calls makes whole calls that don't wait.
 abbrev pub CallsWithoutWaiting : Type 0

@@ -8,17 +8,22 @@ ghost use Rattle.nio_orderly.specs.OrderlyCare.{OrderlyIsCareful, WholeIsSettled
 ghost use Rattle.nio_orderly.specs.OrderlyCare.{CloseChannelCloses, FinishCloses, AfterCloseChannel};
 ghost use Rattle.nio_orderly.specs.OrderlyCare.{NoKeyAfterCloseChannel, NoKeyAfterFinish, NoKeyAfterClose};
 ghost use Rattle.nio_orderly.specs.OrderlyExamples.{ClosedInRegistration, ReopenedMeanwhile, StepsOfNoCalls};
+ghost use Rattle.nio_orderly.specs.Lists.{ListsAreKnown};
+ghost use Rattle.nio_orderly.specs.Looked.{BeginLooksAtValid, SelectLooksAtValid};
 ghost use Rattle.nio_orderly.specs.Owed.{NothingIsLost};
 ghost use Rattle.nio_orderly.specs.Removals.{BeginRemovesCancelled, SelectRemovesCancelled, ToldRemovesCancelled};
 ghost use Rattle.nio_orderly.specs.Removals.{ToldRemovesLooked};
 ghost use Rattle.nio_orderly.specs.Removals.{CloseRemovesBelow, FinishRemovesPublished, CloseRemovesPublished};
-ghost use Rattle.nio_orderly.specs.Reopening.{KeysKeepTheirChannel, SelectionsKeepChannels, ClosersCancelTheirOwn};
+ghost use Rattle.nio_orderly.specs.Reopening.{KeysKeepTheirChannel, SelectionsKeepChannels, EnrolledKeysAreOfTheChannel};
+ghost use Rattle.nio_orderly.specs.Reopening.{ClosersCancelTheirOwn};
 ghost use Rattle.nio_orderly.specs.Settled.{SettledLosesNoKey};
 ghost use Rattle.nio_orderly.specs.Waited.{WaitingCallsAreCalls, CallsWithoutWaiting};
 
+use nio_steps::{begin_law, listed_law};
+
 /// A beginning of an orderly history is orderly: each caller made whole calls, and a beginning of one more. In a
-/// serial history each caller makes whole calls, and so it does after one call more. A call that waits is a
-/// list of whole calls that don't.
+/// serial history each caller makes whole calls, and so it does after one call more. A call that waits, where it may
+/// come, is a list of whole calls that don't and may come.
 pub fn orderly_law()
     ensures beginnings { BeginningsAreOrderly }
     ensures whole { WholeIsOrderly }
@@ -53,12 +58,29 @@ pub fn closing_calls_law()
     ensures no_key_after_close { NoKeyAfterClose }
 {}
 
-/// What is removed in a legal and orderly history. A selection without the list that has begun has removed each key that
-/// was published and cancelled before the call, and so has the `told` that ends such a selection. A `try_finish` that
-/// answers Closed, or a `close` that answers true, has removed each key that was published before the call. In any legal
-/// history the `told` that ends a selection without the list has removed each key that the selection looked at and that
-/// was cancelled before that call; and such a `close` each key that was claimed before it looked at the keys' high-water
-/// mark, at an index below it.
+/// The list that a caller has for a selector between its whole calls is that selector's list, in a legal history: it is
+/// right by what the caller did.
+pub fn lists_law()
+    ensures { ListsAreKnown }
+{}
+
+/// A key that was published before a `try_begin` that answers Ok, or a `select` that begins, and is valid when that
+/// returns, is on its looked list: in a legal and orderly history, where a list that the call is given is the selector's,
+/// which its caller has.
+pub fn looked_law()
+    ensures begin { BeginLooksAtValid }
+    ensures select { SelectLooksAtValid }
+{
+    begin_law();
+    listed_law()
+}
+
+/// What is removed in a legal and orderly history. A selection that has begun has removed each key that was published
+/// and cancelled before the call, and so has the `told` that ends a selection: where they go by a list, one that is the
+/// selector's, which its caller has. A `try_finish` that answers Closed, or a
+/// `close` that answers true, has removed each key that was published before the call. In any legal history the `told`
+/// that ends a selection has removed each key that the selection looked at and that was cancelled before that call; and
+/// such a `close` each key that was claimed before it looked at the keys' high-water mark, at an index below it.
 pub fn removals_law()
     ensures begin { BeginRemovesCancelled }
     ensures select { SelectRemovesCancelled }
@@ -67,15 +89,19 @@ pub fn removals_law()
     ensures below { CloseRemovesBelow }
     ensures finish { FinishRemovesPublished }
     ensures close { CloseRemovesPublished }
-{}
+{
+    listed_law()
+}
 
 /// A channel's number is given to a new channel only where no key of it is in a key set. So in a legal and careful
 /// history a key of the key set is a key of one channel, and the number of a key that a selection doesn't remove names
-/// one channel for the whole selection; and in a legal and orderly one who closes a channel cancels no valid key of
-/// another.
+/// one channel for the whole selection. The key that is enrolled for a number, where it is in the key set, is a key of
+/// the channel that the number has, and of none before. In a legal and orderly history who closes a channel cancels no
+/// valid key of another.
 pub fn reopening_law()
     ensures keys { KeysKeepTheirChannel }
     ensures selections { SelectionsKeepChannels }
+    ensures enrolled { EnrolledKeysAreOfTheChannel }
     ensures closers { ClosersCancelTheirOwn }
 {}
 

@@ -89,6 +89,13 @@ impl PipeSink {
         self.chan
     }
 
+    /// The channel of the other end, the pipe's source.
+    pub fn other_chan(&self) -> ChanId
+        ensures { result ≡ other_chan self.now }
+    {
+        self.source
+    }
+
     /// Writes as many bytes of the slice as are found to have room. Where it finds the sink's channel
     /// closed, or closes it, it leaves the seal.
     pub fn try_write(

@@ -40,11 +40,13 @@ use Rattle.nio_steps.proofs.CallLaws.{call_as}
 use Rattle.nio_steps.proofs.WaitingLaws.{then_call}
 use Rattle.nio_steps.specs.Calls.{CallClause}
 use Rattle.nio_steps.specs.KeyCalls.{find_selector_plan}
-use Rattle.nio_steps.specs.Ongoing.{nothing_ongoing, selecting}
+use Rattle.nio_steps.specs.Ongoing.{nothing_ongoing, changed, select_change}
 use Rattle.nio_steps.specs.Runs.{Completes}
-use Rattle.nio_steps.specs.SelectCalls.{Poll, SelectReply, selected, not_begun, left, MakesSelection}
+use Rattle.nio_steps.specs.SelectCalls.{Selection, Poll, SelectReply, selected, not_begun, left, SelectsRest}
+use Rattle.nio_steps.specs.SelectCalls.{MakesSelection}
 use Rattle.nio_steps.specs.TableCalls.{find_selector, select}
 use Rattle.nio_steps.specs.declared.looked.LookedKey.{LookedKey}
+use Rattle.nio_steps.specs.declared.refusal.BeginError.{BeginError}
 use Rattle.nio_steps.specs.declared.refusal.BeginError.TheVariants as begin_error
 use Rattle.nio_steps.specs.declared.selected.Selected.{Selected}
 use Rattle.nio_words.specs.Passes.{IsReady, acts_seen, limits_of}
@@ -232,18 +234,30 @@ module _ (w : Words) (d d' : Desk) (me : CallerNo) (stands : StandsFor w d me) w
       (made_more (limits_of w) (acts_seen d.pass me) (done_between me (view w d.pass) (view w d'.pass)) me
       (progress_of d) (progress_of d) (table_call (find_selector n) found) m looks.shape tt m.ongoing))))
 
-  put_own : (s s' : SelNo) (m : HasMade (limits_of w) (acts_seen d.pass me) me (progress_of d))
-      → IsOngoing me (with_selection (progress_of d) s None) (selecting (after_calls nothing_ongoing m.calls) s None)
-  put_own s s' m = record {
+  -- what is in progress after a selection that answered so
+  ongoing_selected : (s : SelNo) (polls : List Poll) (x : Selected) (m : HasMade (limits_of w) (acts_seen d.pass me) me
+      (progress_of d)) (begun : Result Selection BeginError) (acts : List Act) → SelectsRest polls begun acts (selected x)
+      → IsOngoing me (with_selection (progress_of d) s None)
+      (changed (after_calls nothing_ongoing m.calls) (select_change s begun))
+  ongoing_selected s polls x m (Err refusal) acts rest = absurd (cc rest.2)
+  ongoing_selected s polls x m (Ok selection) acts rest = record {
     selection = λ k. by_place k (k == s.0);
     closes = m.ongoing.closes;
   }
     where
       by_place : (k : ℕ) (b : Bool)
-          → (if b then None else (after_calls nothing_ongoing m.calls).selection k)
+          → (if b then None else (if b then Some selection else (after_calls nothing_ongoing m.calls).selection k))
           ≡ if_own me (if b then None else (progress_of d).selection k)
       by_place k true = refl
       by_place k false = m.ongoing.selection k
+
+  -- and after one that didn't begin
+  ongoing_refused : (s : SelNo) (polls : List Poll) (refusal : BeginError) (m : HasMade (limits_of w)
+      (acts_seen d.pass me) me (progress_of d)) (begun : Result Selection BeginError) (acts : List Act)
+      → SelectsRest polls begun acts (not_begun refusal)
+      → IsOngoing me (progress_of d) (changed (after_calls nothing_ongoing m.calls) (select_change s begun))
+  ongoing_refused s polls refusal m (Err _) acts rest = m.ongoing
+  ongoing_refused s polls refusal m (Ok selection) acts rest = absurd rest
 
   -- after a selection that answered
   pub stands_selected : {before after : List Polled} {selector : HeldSelector} (s : SelNo) (x : Selected) → IsReady w d'.pass me → HasPlaces w d'
@@ -258,12 +272,17 @@ module _ (w : Words) (d d' : Desk) (me : CallerNo) (stands : StandsFor w d me) w
       (subst (λ (p : Progress). HasMade (limits_of w)
       (acts_seen d.pass me ++ done_between me (view w d.pass) (view w d'.pass)) me p) (sym leaves)
       (made_more (limits_of w) (acts_seen d.pass me) (done_between me (view w d.pass) (view w d'.pass)) me
-      (progress_of d) (with_selection (progress_of d) s None) (waiting_call (select s Wait (told_from clause.polls))
-      (selected x))
-      m
-      (subst (λ (r : SelectReply). MakesSelection s Wait None (told_from clause.polls)
-      (done_between me (view w d.pass) (view w d'.pass)) r) (said_selected clause.reply x clause.answers)
-      clause.call.shape) tt (put_own s s m)))))
+      (progress_of d) (with_selection (progress_of d) s None)
+      (waiting_call (select s Wait None (told_from clause.polls))
+      (record { begun = made.middle; answer = selected x }))
+      m (record { makes = made; begun = refl }) tt
+      (ongoing_selected s (told_from clause.polls) x m made.middle made.second made.runs_second)))))
+    where
+      made : MakesSelection s Wait None (told_from clause.polls) (done_between me (view w d.pass) (view w d'.pass))
+          (selected x)
+      made = subst (λ (r : SelectReply). MakesSelection s Wait None (told_from clause.polls)
+          (done_between me (view w d.pass) (view w d'.pass)) r) (said_selected clause.reply x clause.answers)
+          clause.call.shape
 
   -- after one that found the selector closed
   pub stands_closed : {before after : List Polled} {selector : HeldSelector} (s : SelNo) → IsReady w d'.pass me → HasPlaces w d'
@@ -279,7 +298,14 @@ module _ (w : Words) (d d' : Desk) (me : CallerNo) (stands : StandsFor w d me) w
       (acts_seen d.pass me ++ done_between me (view w d.pass) (view w d'.pass)) me p) (sym same)
       (made_more (limits_of w) (acts_seen d.pass me) (done_between me (view w d.pass) (view w d'.pass)) me
       (progress_of d) (progress_of d)
-      (waiting_call (select s Wait (told_from clause.polls)) (not_begun begin_error.ClosedSelector)) m
-      (subst (λ (r : SelectReply). MakesSelection s Wait None (told_from clause.polls)
-      (done_between me (view w d.pass) (view w d'.pass)) r) (said_closed clause.reply clause.answers)
-      clause.call.shape) tt m.ongoing))))
+      (waiting_call (select s Wait None (told_from clause.polls))
+      (record { begun = made.middle; answer = not_begun begin_error.ClosedSelector }))
+      m (record { makes = made; begun = refl }) tt
+      (ongoing_refused s (told_from clause.polls) begin_error.ClosedSelector m made.middle made.second
+      made.runs_second)))))
+    where
+      made : MakesSelection s Wait None (told_from clause.polls) (done_between me (view w d.pass) (view w d'.pass))
+          (not_begun begin_error.ClosedSelector)
+      made = subst (λ (r : SelectReply). MakesSelection s Wait None (told_from clause.polls)
+          (done_between me (view w d.pass) (view w d'.pass)) r) (said_closed clause.reply clause.answers)
+          clause.call.shape

@@ -8,11 +8,12 @@ use Rattle.std.proofs.lemmas.List.{length-map}
 use Rattle.std.proofs.lemmas.List.Elements.{All-nil, All-cons, All-head, All-tail, All-weaker}
 use Rattle.nio_base.specs.declared.numbers.ChanNo.{ChanNo}
 use Rattle.nio_history.specs.Lists.{ListEntry}
+use Rattle.nio_steps.proofs.Lists.{pairs-none, pairs-one, pairs-append}
 use Rattle.nio_steps.proofs.Relisted.{relisted, none_listed, listed_from}
 use Rattle.nio_steps.specs.Lists.{listed_at}
 use Rattle.nio_steps.specs.Looking.{enlisted, without_index}
 use Rattle.nio_steps.specs.declared.looked.LookedKey.{LookedKey}
-use Rattle.nio_select.specs.Asked.{key_with, keys_to, renumbered_key}
+use Rattle.nio_select.specs.Asked.{IsRising, key_with, keys_to, renumbered_key}
 use Rattle.nio_select.specs.KeyKept.{keys_from, key_kept}
 use Rattle.nio_select.specs.Kept.{entry_kept, kept, keys_with, one_if_some, renumbered_slot}
 use Rattle.nio_select.specs.declared.slot.Slot.{Slot}
@@ -29,6 +30,18 @@ keys_above base (Some slot ∷ slots) =
     All-cons (λ e. base ≤ e.index) (key_kept base slot) (keys_from (base + 1) slots) (omega arith)
     (All-weaker (λ e. base + 1 ≤ e.index) (λ e. base ≤ e.index) (λ e above. omega arith) (keys_from (base + 1) slots)
     (keys_above (base + 1) slots))
+
+pub keys_rise : (base : ℕ) (slots : List (Option Slot)) → IsRising (keys_from base slots)
+unfolding keys_from
+keys_rise base [] = pairs-none (λ x y. x.index < y.index)
+keys_rise base (None ∷ slots) = keys_rise (base + 1) slots
+keys_rise base (Some slot ∷ slots) =
+    pairs-append (λ x y. x.index < y.index) (key_kept base slot ∷ []) (keys_from (base + 1) slots)
+    (pairs-one (λ x y. x.index < y.index) (key_kept base slot)) (keys_rise (base + 1) slots)
+    (All-cons (λ e. All (λ y. e.index < y.index) (keys_from (base + 1) slots)) (key_kept base slot) []
+    (All-weaker (λ e. base + 1 ≤ e.index) (λ e. base < e.index) (λ e above. omega arith) (keys_from (base + 1) slots)
+    (keys_above (base + 1) slots))
+    (All-nil (λ e. All (λ y. e.index < y.index) (keys_from (base + 1) slots))))
 
 pub keys_below : (base : ℕ) (slots : List (Option Slot))
     → All (λ e. e.index < base + length slots) (keys_from base slots)

@@ -2,10 +2,12 @@ pub mod Made
 pub mod Entered
 pub mod Listings
 pub mod KeptKeys
+pub mod KeysTo
 pub mod AskedKeys
 pub mod LastKeys
 pub mod BegunListed
 pub mod TakenOn
+pub mod TakenBits
 pub mod Beginnings
 pub mod ToldMarks
 pub mod NotedWords

@@ -5,15 +5,16 @@ use Rattle.nio_base.specs.declared.limits.Limits.{Limits}
 use Rattle.nio_history.proofs.Stays.{facts_are_permanent}
 use Rattle.nio_history.specs.Histories.{state_after, mine, event_of, IsLegal}
 use Rattle.nio_history.specs.Permanent.{list_had_by, selector_made}
-use Rattle.nio_history.specs.Sets.{was_published, was_cancelled, was_removed}
+use Rattle.nio_history.specs.Sets.{was_published, was_cancelled, was_removed, is_valid_key}
 use Rattle.nio_history.specs.declared.act.Act.TheVariants.{LookKeys}
 use Rattle.nio_history.specs.declared.event.Event.{Event}
-use Rattle.nio_steps.specs.ListLaws.{CancelledListedKeysGo, CancelledListedKeysGoAtEnd}
+use Rattle.nio_steps.specs.ListLaws.{CancelledListedKeysGo, CancelledListedKeysGoAtEnd, ValidKeysAreListed}
 use Rattle.nio_steps.specs.SelectCalls.{Begins, Tells, done}
 use Rattle.nio_history.specs.Conditions.{IsSelector}
 use Rattle.nio_select.proofs.GoneOn.{done_in}
 use Rattle.nio_select.specs.Asked.{AreBelow}
 use Rattle.nio_select.specs.Laws.{CancelledListedKeysAreGone, CancelledListedKeysAreGoneAtEnd, ListsAreKept}
+use Rattle.nio_select.specs.Laws.{ValidListedKeysAreAsked}
 
 pub listed_keys_are_gone : CancelledListedKeysGo → CancelledListedKeysAreGone
 listed_keys_are_gone law old new me s mode list selection i serial knows call published cancelled below =
@@ -26,6 +27,16 @@ listed_keys_are_gone law old new me s mode list selection i serial knows call pu
     × All (λ entry. ¬ ((entry.index ≡ i) × (entry.serial ≡ serial))) selection.looked) parts
     (law old.limits me old.seen later s mode list selection i serial
     (subst (IsLegal old.limits) (sym parts) clause.legal) knows begins published cancelled below)
+
+pub listed_keys_are_asked : ValidKeysAreListed → ValidListedKeysAreAsked
+listed_keys_are_asked law old new me s mode list selection i serial knows call published valid below =
+    let clause = call.acts.history in
+    let later : List Event = clause.goes_on.0 in
+    let parts : old.seen ++ later ≡ new.seen = clause.goes_on.1 in
+    law old.limits me old.seen later s mode list selection i serial
+    (subst (IsLegal old.limits) (sym parts) clause.legal) knows
+    (subst (λ acts. Begins s mode (Some list) acts (Ok selection)) (done_in me old new later parts) call.shape) published
+    (subst (λ events. IsTrue (is_valid_key ((state_after events).key s.0 i) serial)) (sym parts) valid) below
 
 pub listed_keys_are_gone_at_end : CancelledListedKeysGoAtEnd → CancelledListedKeysAreGoneAtEnd
 listed_keys_are_gone_at_end law old new me selection poll answer mark i serial past listed selects knows call finds

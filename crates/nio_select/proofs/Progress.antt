@@ -77,7 +77,11 @@ pub taken_list : (pass : PassView) (me : CallerNo) (is : HeldList → Type 0) (o
 taken_list pass me is None given = tt
 taken_list pass me is (Some list) given = given.1
 
--- what holds however a call ended
+-- what holds however a call ended, and whatever is given
 pub if_err : {A E : Type 0} (P : Type 0) (result : Result A E) → P → IfErr result (λ _. P)
 if_err P (Ok value) here = tt
 if_err P (Err error) here = here
+
+pub if_some : {A : Type 0} (P : Type 0) (o : Option A) → P → IfSome o (λ _. P)
+if_some P None here = tt
+if_some P (Some value) here = here

@@ -19,13 +19,16 @@ use Rattle.nio_history.specs.declared.act.Act.TheVariants.{BeginLook, LookKeys}
 use Rattle.nio_history.specs.declared.event.Event.{Event}
 use Rattle.nio_history.proofs.OneMore.{mine-append}
 use Rattle.nio_steps.proofs.OwnActs.{cut_at}
-use Rattle.nio_steps.specs.Bound.{unselects, finds_listed, count_listed, IsWholeSelection, SelectionIsBounded}
+use Rattle.nio_steps.specs.Bound.{unselects, finds_not_free, count_not_free, IsWholeSelection, SelectionIsBounded}
 use Rattle.nio_steps.specs.ChannelCalls.{words_below}
 use Rattle.nio_steps.specs.Laws.{CancelledKeysGo, CancelledKeysGoAtEnd}
 use Rattle.nio_steps.specs.SelectCalls.{Begins, Tells, done}
 use Rattle.nio_select.proofs.GoneOn.{done_in, mine-around}
 use Rattle.nio_select.proofs.Windows.{told-mark}
 use Rattle.nio_select.specs.Laws.{CancelledKeysAreGone, CancelledKeysAreGoneAtEnd, EndsFindHigh, CallsAreBounded}
+use Rattle.nio_select.specs.Laws.{ValidKeysAreAsked}
+use Rattle.nio_steps.specs.Laws.{ValidKeysAreLookedAt}
+use Rattle.nio_history.specs.Sets.{is_valid_key}
 
 -- ---- cancelled keys
 
@@ -40,6 +43,16 @@ keys_are_gone law old new me s mode selection i serial call published cancelled 
     × All (λ entry. ¬ ((entry.index ≡ i) × (entry.serial ≡ serial))) selection.looked) parts
     (law old.limits me old.seen later s mode selection i serial (subst (IsLegal old.limits) (sym parts) clause.legal)
     begins published cancelled below)
+
+pub keys_are_asked : ValidKeysAreLookedAt → ValidKeysAreAsked
+keys_are_asked law old new me s mode selection i serial call published valid below =
+    let clause = call.acts.history in
+    let later : List Event = clause.goes_on.0 in
+    let parts : old.seen ++ later ≡ new.seen = clause.goes_on.1 in
+    law old.limits me old.seen later s mode selection i serial
+    (subst (IsLegal old.limits) (sym parts) clause.legal)
+    (subst (λ acts. Begins s mode None acts (Ok selection)) (done_in me old new later parts) call.shape) published
+    (subst (λ events. IsTrue (is_valid_key ((state_after events).key s.0 i) serial)) (sym parts) valid) below
 
 pub keys_are_gone_at_end : CancelledKeysGoAtEnd → CancelledKeysAreGoneAtEnd
 keys_are_gone_at_end law old new me selection poll answer mark i serial past unlisted call finds published cancelled
@@ -101,13 +114,13 @@ count_below-le (suc n) p q allows = by_test (p n) refl (count_below-le n p q all
 
 -- some of these acts found no more indexes not free than all of them
 fewer_listed : (s : SelNo) (mark : ℕ) (before : List Act) (act : Act) (later all : List Act)
-    → all ≡ before ++ act ∷ later → count_listed s mark later ≤ count_listed s mark all
+    → all ≡ before ++ act ∷ later → count_not_free s mark later ≤ count_not_free s mark all
 fewer_listed s mark before act later all parts =
-    count_below-le mark (λ k. has (finds_listed s.0 k) later) (λ k. has (finds_listed s.0 k) all)
-    (λ k there. ap (has (finds_listed s.0 k)) parts
-    ∙ (list_any-append (finds_listed s.0 k) before (act ∷ later)
-    ∙ or_right (has (finds_listed s.0 k) before) (has (finds_listed s.0 k) (act ∷ later))
-    (or_right (finds_listed s.0 k act) (has (finds_listed s.0 k) later) there)))
+    count_below-le mark (λ k. has (finds_not_free s.0 k) later) (λ k. has (finds_not_free s.0 k) all)
+    (λ k there. ap (has (finds_not_free s.0 k)) parts
+    ∙ (list_any-append (finds_not_free s.0 k) before (act ∷ later)
+    ∙ or_right (has (finds_not_free s.0 k) before) (has (finds_not_free s.0 k) (act ∷ later))
+    (or_right (finds_not_free s.0 k act) (has (finds_not_free s.0 k) later) there)))
 
 pub calls_are_bounded : SelectionIsBounded → CallsAreBounded
 calls_are_bounded law me before_begin after_begin before_told after_told selection poll answer mark window fit is its =
@@ -200,24 +213,24 @@ calls_are_bounded law me before_begin after_begin before_told after_told selecti
     }
 
     at_most : length (first ++ look ∷ second) + length (third ++ ends ∷ fourth)
-        ≤ 9 + words_below selection.bound + words_below mark + 4 * count_listed s selection.bound second
-        + 3 * count_listed s mark fourth + count (unselects s.0 selection.bound) (map (λ x. x.act) window)
+        ≤ 9 + words_below selection.bound + words_below mark + 4 * count_not_free s selection.bound second
+        + 3 * count_not_free s mark fourth + count (unselects s.0 selection.bound) (map (λ x. x.act) window)
     at_most =
         law before_told.limits me its.past window its.rest selection poll answer its.found mark first second between
         third fourth
         (subst IsFit is.tells.acts.limits fit)
         (subst (IsLegal before_told.limits) its.parts is.tells.acts.history.legal) window_acts whole
 
-    found_fewer : count_listed s selection.bound second
-        ≤ count_listed s selection.bound (done_between me before_begin after_begin)
+    found_fewer : count_not_free s selection.bound second
+        ≤ count_not_free s selection.bound (done_between me before_begin after_begin)
     found_fewer = fewer_listed s selection.bound first look second (done_between me before_begin after_begin) begin_is
 
-    found_fewer_at_end : count_listed s mark fourth ≤ count_listed s mark (done_between me before_told after_told)
+    found_fewer_at_end : count_not_free s mark fourth ≤ count_not_free s mark (done_between me before_told after_told)
     found_fewer_at_end = fewer_listed s mark third ends fourth (done_between me before_told after_told) told_is
 
     bounded : length (done_between me before_begin after_begin) + length (done_between me before_told after_told)
         ≤ 9 + words_below selection.bound + words_below mark
-        + 4 * count_listed s selection.bound (done_between me before_begin after_begin)
-        + 3 * count_listed s mark (done_between me before_told after_told)
+        + 4 * count_not_free s selection.bound (done_between me before_begin after_begin)
+        + 3 * count_not_free s mark (done_between me before_told after_told)
         + count (unselects s.0 selection.bound) (map (λ x. x.act) window)
     bounded = omega (arith, ap length begin_is, ap length told_is, at_most, found_fewer, found_fewer_at_end)

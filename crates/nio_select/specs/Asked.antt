@@ -3,7 +3,10 @@ use Rattle.std.specs.Prelude.{◌≡◌, ℕ, ◌*◌, ◌<◌, ◌≤◌, ◌^�
 use Rattle.std.specs.Prelude.{get_or, length, is_some, if◌then◌else◌, IsFalse, nat_lt, filter, option_map}
 use Rattle.std.specs.List.{All, AllPairs, list_any}
 use Rattle.nio_base.specs.declared.numbers.ChanNo.{ChanNo}
-use Rattle.nio_history.specs.Lists.{ListEntry}
+use Rattle.nio_base.specs.declared.numbers.SelNo.{SelNo}
+use Rattle.nio_history.specs.Lists.{ListEntry, takes_bit}
+use Rattle.nio_history.specs.OwnEvents.{has}
+use Rattle.nio_history.specs.declared.act.Act.{Act}
 use Rattle.nio_steps.specs.Lists.{listed_at}
 use Rattle.nio_steps.specs.declared.looked.LookedKey.{LookedKey}
 use Rattle.nio_select.specs.KeyKept.{keys_from}
@@ -11,8 +14,9 @@ use Rattle.nio_select.specs.declared.noted.Noted.{Noted}
 use Rattle.nio_select.specs.declared.slot.Slot.{Slot}
 use Rattle.nio_select.specs.declared.stamp.Stamp.{Stamp}
 
--- The keys that a selection asks for, and what changed in them. Each index of a key is below `bound`. A beginning with
--- the selector's list has a stamp, and notes the indexes whose bits it took: there is room for so many.
+-- The keys that a selection asks for. The index of each is below `bound`. Where the selection goes by the selector's
+-- list, `stamp` says which beginning made these keys, and `changed` has the indexes whose bits that beginning took.
+-- `room` is the number of indexes for which `changed` has memory.
 pub record Looked : Type 0 where
   pub keys : List LookedKey
   pub bound : ℕ
@@ -54,6 +58,10 @@ pub record IsKept (slots : List (Option Slot)) (noted : Noted) (count : ℕ) : T
 abbrev pub has_changed : List ℕ → ℕ → Bool
 has_changed changed i = list_any (λ k. k == i) changed
 
+-- they are the indexes whose bits these acts took
+abbrev pub AreTaken : SelNo → List Act → List ℕ → Type 0
+AreTaken s acts changed = (i : ℕ) → has_changed changed i ≡ has (takes_bit s.0 i) acts
+
 -- the indexes rise, and each index that isn't among them has what it had before
 pub record Changes (before now : List LookedKey) (changed : List ℕ) : Type 0 where
   pub rise : AllPairs (λ x y. x < y) changed
@@ -70,6 +78,10 @@ pub record IsBeside (old new : Looked) : Type 0 where
   pub bound : new.bound ≡ old.bound
   pub room : new.room ≡ old.room
   pub stamp : new.stamp ≡ old.stamp
+
+-- their indexes rise
+abbrev pub IsRising : List LookedKey → Type 0
+IsRising keys = AllPairs (λ x y. x.index < y.index) keys
 
 -- the indexes of these keys are below the limit
 abbrev pub AreBelow : ℕ → List LookedKey → Type 0

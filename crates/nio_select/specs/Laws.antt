@@ -11,13 +11,13 @@ use Rattle.nio_base.specs.declared.numbers.SelNo.{SelNo}
 use Rattle.nio_history.specs.Histories.{state_after, event_of, IsLegal}
 use Rattle.nio_history.specs.OwnEvents.{has, count, gives_turn}
 use Rattle.nio_history.specs.PassViews.{PassView, known, done_between}
-use Rattle.nio_history.specs.Sets.{was_claimed, was_published, was_cancelled, was_removed}
+use Rattle.nio_history.specs.Sets.{was_claimed, was_published, was_cancelled, was_removed, is_valid_key}
 use Rattle.nio_history.specs.Turns.{removes_on, selects_on}
 use Rattle.nio_history.specs.declared.act.Act.TheVariants.{TakeTurn, BeginLook, LookKeys}
 use Rattle.nio_history.specs.declared.event.Event.{Event}
 use Rattle.nio_history.specs.declared.found.GateWord.{GateWord}
 use Rattle.nio_history.specs.declared.found.Mode.{Mode}
-use Rattle.nio_steps.specs.Bound.{unselects, count_listed}
+use Rattle.nio_steps.specs.Bound.{unselects, count_not_free}
 use Rattle.nio_steps.specs.Calls.{CallClause}
 use Rattle.nio_steps.specs.ChannelCalls.{words_below}
 use Rattle.nio_steps.specs.Runs.{Completes}
@@ -25,6 +25,7 @@ use Rattle.nio_steps.specs.SelectCalls.{Selection, Begins, Poll, Tells, done, le
 use Rattle.nio_steps.specs.declared.refusal.BeginError.{BeginError}
 use Rattle.nio_steps.specs.declared.selected.Selected.{Selected}
 use Rattle.nio_steps.specs.ListLaws.{count_taken, count_touched, count_told}
+use Rattle.nio_steps.specs.Laws.{HasEntry}
 use Rattle.nio_steps.specs.Lists.{KnowsList}
 use Rattle.nio_select.specs.InHand.{HeldList}
 use Rattle.nio_select.specs.InProgress.{HasList, Selects}
@@ -41,6 +42,16 @@ CancelledKeysAreGone =
     → i < selection.bound
     → IsTrue (was_removed ((known new).key s.0 i) serial)
     × All (λ entry. ¬ ((entry.index ≡ i) × (entry.serial ≡ serial))) selection.looked
+
+-- A key that was published before a `try_begin` without the list that answers Ok with a bound above its index, and is
+-- valid when that returns, is on the looked list.
+abbrev pub ValidKeysAreAsked : Type 0
+ValidKeysAreAsked =
+    (old new : PassView) (me : CallerNo) (s : SelNo) (mode : Mode) (selection : Selection) (i serial : ℕ)
+    → CallClause me (Begins s mode None) old new (Ok selection)
+    → IsTrue (was_published ((known old).key s.0 i) serial) → IsTrue (is_valid_key ((known new).key s.0 i) serial)
+    → i < selection.bound
+    → HasEntry selection.looked i serial
 
 -- between two moments of a pass the caller found `mark` as the keys' high-water mark, when `past` had happened
 pub record FindsHigh (me : CallerNo) (old new : PassView) (s : SelNo) (mark : ℕ) (past : List Event) : Type 0 where
@@ -78,6 +89,16 @@ CancelledListedKeysAreGone =
     → i < selection.bound
     → IsTrue (was_removed ((known new).key s.0 i) serial)
     × All (λ entry. ¬ ((entry.index ≡ i) × (entry.serial ≡ serial))) selection.looked
+
+-- The same of the valid keys.
+abbrev pub ValidListedKeysAreAsked : Type 0
+ValidListedKeysAreAsked =
+    (old new : PassView) (me : CallerNo) (s : SelNo) (mode : Mode) (list : List LookedKey) (selection : Selection)
+    (i serial : ℕ)
+    → KnowsList old.limits me old.seen s list → CallClause me (Begins s mode (Some list)) old new (Ok selection)
+    → IsTrue (was_published ((known old).key s.0 i) serial) → IsTrue (is_valid_key ((known new).key s.0 i) serial)
+    → i < selection.bound
+    → HasEntry selection.looked i serial
 
 -- And of the `told` that ends such a selection, at whose start the caller knows its looked list as the selector's list.
 abbrev pub CancelledListedKeysAreGoneAtEnd : Type 0
@@ -138,7 +159,7 @@ CallsAreBounded =
     let in_begin = done_between me before_begin after_begin in
     let in_told = done_between me before_told after_told in
     length in_begin + length in_told
-    ≤ 9 + words_below bound + words_below mark + 4 * count_listed s bound in_begin + 3 * count_listed s mark in_told
+    ≤ 9 + words_below bound + words_below mark + 4 * count_not_free s bound in_begin + 3 * count_not_free s mark in_told
     + count (unselects s.0 bound) (map (λ e. e.act) window)
 
 -- Those of a selection that goes by the selector's list are at most 9, two for each 64 indexes below the bound and one for each 64 below the mark, 4 for each index
@@ -171,8 +192,8 @@ SelectionsHaveWindows =
 
 -- ---- one selection at a time
 
--- Of what is seen while a caller selects, until it gives the turn back, all marks and removals of keys of that selector
--- and all ends of its wakeup are the caller's own.
+-- Of what is seen while a caller selects, until it gives the turn back, all takings of the selector's touched bits, all
+-- marks and removals of its keys and all ends of its wakeup are the caller's own.
 abbrev pub SelectionsAreAlone : Type 0
 SelectionsAreAlone =
     (old new : PassView) (me : CallerNo) (selection : Selection) (between : List Event) (e : Event) (later : List Event)

@@ -1,8 +1,9 @@
 //! The keys that a selection asks its poller for.
-ghost use Rattle.std.specs.Prelude.{◌≡◌, ◌+◌, ◌*◌, ◌<◌, ◌≤◌, ◌==◌, ◌^◌, ◌++◌, [], ◌∷◌, None, Some, IfOk, OnOk, length, map, option_map, option_to_list};
+ghost use Rattle.std.specs.Prelude.{◌≡◌, ◌+◌, ◌*◌, ◌<◌, ◌≤◌, ◌==◌, ◌^◌, ◌++◌, [], ◌∷◌, None, Some, IfOk, OnOk, IsTrue, is_some, length, map, option_map, option_to_list};
+ghost use Rattle.std.specs.Vec.{vec_capacity};
 ghost use Rattle.nio_steps.specs.Lists.{listed_at};
 ghost use Rattle.nio_steps.specs.Looking.{enlisted, looked_key, without_index};
-ghost use Rattle.nio_select.specs.Asked.{AreBelow, key_at, keys_to, renumbered_key};
+ghost use Rattle.nio_select.specs.Asked.{AreBelow, IsRising, key_at, keys_to, renumbered_key};
 ghost use Rattle.nio_select.specs.Kept.{entry_kept, kept, renumbered_slot};
 
 use crate::noted::{Noted, lengthen};
@@ -91,6 +92,7 @@ impl Asked {
         ensures is { result ≡ self.now.bound }
         ensures below { AreBelow result self.now.keys }
         ensures all { keys_to result self.now.keys ≡ self.now.keys }
+        ensures rise { IsRising self.now.keys }
     {
         self.slots.len() as u32
     }
@@ -149,18 +151,18 @@ impl Asked {
         })
     }
 
-    // Makes room for the keys of so many words of 64 indexes, and for as many changes, of which there is none yet. The
-    // keys stay.
+    // Makes room for the keys of so many words of 64 indexes, and for as many changes where the list has a stamp. There
+    // is no change yet, and the keys stay.
     pub(crate) fn make_room(&mut self, words: u32) -> Result<(), AllocError>
         requires { words ≤ 2 ^ 25 }
         ensures keys { self.new.keys ≡ self.old.keys }
         ensures stamp { self.new.stamp ≡ self.old.stamp }
         ensures changed { self.new.changed ≡ [] }
         ensures bound { OnOk result (64 * words ≤ self.new.bound) }
-        ensures room { OnOk result (64 * words ≤ self.new.room) }
+        ensures room { OnOk result (IsTrue (is_some self.old.stamp) → 64 * words ≤ self.new.room) }
     {
         self.changed.clear();
-        self.changed.reserve(64 * words as usize)?;
+        reserve_changes(&mut self.changed, self.stamp, 64 * words as usize)?;
         self.noted.make_room(words as usize)?;
         lengthen(&mut self.slots, 64 * words as usize, None)
     }
@@ -204,6 +206,17 @@ impl Asked {
     {
         self.changed.push_reserved(i);
     }
+}
+
+// Makes room for so many changes, where the list has a stamp.
+fn reserve_changes(changed: &mut Vec<u32>, stamp: Option<Stamp>, n: usize) -> Result<(), AllocError>
+    ensures items { changed.new.items ≡ changed.old.items }
+    ensures room { OnOk result (IsTrue (is_some stamp) → n ≤ vec_capacity changed.new) }
+{
+    if stamp.is_none() {
+        return Ok(());
+    }
+    changed.reserve(n)
 }
 
 // The key of this index that is kept so.

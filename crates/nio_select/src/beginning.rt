@@ -1,17 +1,17 @@
 //! Beginning a selection.
 ghost use Rattle.std.specs.Prelude.{◌≡◌, ◌+◌, ◌*◌, ◌<◌, ◌≤◌, None, [], IfOk, IfErr, IsTrue, IsFalse, is_some};
 ghost use Rattle.nio_history.specs.Conditions.{IsKey, IsSelector, has_list, has_turn};
-ghost use Rattle.nio_history.specs.PassViews.{HasSelector};
+ghost use Rattle.nio_history.specs.PassViews.{HasSelector, done_between};
 ghost use Rattle.nio_history.specs.declared.found.Mode.{Mode as SelectMode};
 ghost use Rattle.nio_steps.specs.Calls.{CallClause};
 ghost use Rattle.nio_steps.specs.ChannelCalls.{words_below as count_words_below};
 ghost use Rattle.nio_steps.specs.Runs.{Completes};
 ghost use Rattle.nio_steps.specs.SelectCalls.{Begins};
 ghost use Rattle.nio_steps.specs.Looking.{look_over as looks_over, look_valid as looks_valid};
-ghost use Rattle.nio_steps.specs.Looking.{look_at_keys as looks_at_keys, over_listed, over_word};
+ghost use Rattle.nio_steps.specs.Looking.{look_at_keys as looks_at_keys, over_not_free, over_word};
 ghost use Rattle.nio_words.specs.Passes.{IsReady, limits_of, state_seen};
 ghost use Rattle.nio_words.specs.Views.{view};
-ghost use Rattle.nio_select.specs.Asked.{AreBelow, Changes, IsBeside, known_of};
+ghost use Rattle.nio_select.specs.Asked.{AreBelow, AreTaken, Changes, IsBeside, known_of};
 ghost use Rattle.nio_select.specs.Beginning.{BeginsOpen, BeginsWithTurn, BeginsBelow, begun_with, MayFill};
 ghost use Rattle.nio_select.specs.Begun.{HasBegun};
 ghost use Rattle.nio_select.specs.InHand.{selection_of};
@@ -77,6 +77,8 @@ pub(crate) fn begin(
     ensures refused { IfErr result (λ _. asked.new.keys ≡ asked.old.keys) }
     ensures changed { IfOk result (λ _. IsTrue (is_some asked.old.stamp)
         → Changes asked.old.keys asked.new.keys asked.new.changed) }
+    ensures taken { IfOk result (λ _. IsTrue (is_some asked.old.stamp)
+        → AreTaken sel (done_between me (view w.now p.old) (view w.now p.new)) asked.new.changed) }
 {
     if w.look_gate(p, me, sel).shut {
         return Err(BeginError::ClosedSelector);
@@ -101,6 +103,8 @@ fn begin_open(
     ensures refused { IfErr result (λ _. asked.new.keys ≡ asked.old.keys) }
     ensures changed { IfOk result (λ _. IsTrue (is_some asked.old.stamp)
         → Changes asked.old.keys asked.new.keys asked.new.changed) }
+    ensures taken { IfOk result (λ _. IsTrue (is_some asked.old.stamp)
+        → AreTaken sel (done_between me (view w.now p.old) (view w.now p.new)) asked.new.changed) }
 {
     if w.take_turn(p, me, sel).is_some() {
         return Err(BeginError::Busy);
@@ -125,6 +129,8 @@ fn begin_with_turn(
     ensures refused { IfErr result (λ _. asked.new.keys ≡ asked.old.keys) }
     ensures changed { IfOk result (λ _. IsTrue (is_some asked.old.stamp)
         → Changes asked.old.keys asked.new.keys asked.new.changed) }
+    ensures taken { IfOk result (λ _. IsTrue (is_some asked.old.stamp)
+        → AreTaken sel (done_between me (view w.now p.old) (view w.now p.new)) asked.new.changed) }
 {
     if w.begin_look(p, me, sel).shut {
         w.give_turn(p, me, sel);
@@ -154,6 +160,8 @@ fn begin_below(
     ensures refused { IfErr result (λ _. asked.new.keys ≡ asked.old.keys) }
     ensures changed { IfOk result (λ _. IsTrue (is_some asked.old.stamp)
         → Changes asked.old.keys asked.new.keys asked.new.changed) }
+    ensures taken { IfOk result (λ _. IsTrue (is_some asked.old.stamp)
+        → AreTaken sel (done_between me (view w.now p.old) (view w.now p.new)) asked.new.changed) }
 {
     if asked.make_room(words_below(w, bound)).is_err() {
         w.give_turn(p, me, sel);
@@ -169,7 +177,7 @@ fn look_at_keys(w: &Words, p: &mut Pass, me: CallerNo, sel: SelNo, bound: u32, a
     requires begun { HasBegun w.now p.old me sel }
     requires bound { bound ≤ (limits_of w.now).keys }
     requires places { 64 * count_words_below bound ≤ asked.old.bound }
-    requires room { 64 * count_words_below bound ≤ asked.old.room }
+    requires room { IsTrue (is_some asked.old.stamp) → 64 * count_words_below bound ≤ asked.old.room }
     requires unchanged { asked.old.changed ≡ [] }
     ensures call { CallClause me (Completes (looks_at_keys sel bound (known_of asked.old)))
         (view w.now p.old) (view w.now p.new) asked.new.keys }
@@ -177,6 +185,8 @@ fn look_at_keys(w: &Words, p: &mut Pass, me: CallerNo, sel: SelNo, bound: u32, a
     ensures beside { IsBeside asked.old asked.new }
     ensures below { AreBelow (limits_of w.now).keys asked.new.keys }
     ensures changed { IsTrue (is_some asked.old.stamp) → Changes asked.old.keys asked.new.keys asked.new.changed }
+    ensures taken { IsTrue (is_some asked.old.stamp)
+        → AreTaken sel (done_between me (view w.now p.old) (view w.now p.new)) asked.new.changed }
 {
     if asked.stamp().is_some() {
         list_words(w, p, me, sel, bound, asked);
@@ -191,7 +201,7 @@ fn look_over_all(w: &Words, p: &mut Pass, me: CallerNo, sel: SelNo, bound: u32, 
     requires bound { bound ≤ (limits_of w.now).keys }
     requires empty { asked.old.keys ≡ [] }
     requires places { 64 * count_words_below bound ≤ asked.old.bound }
-    ensures call { CallClause me (Completes (over_listed sel bound (looks_over sel) []))
+    ensures call { CallClause me (Completes (over_not_free sel bound (looks_over sel) []))
         (view w.now p.old) (view w.now p.new) asked.new.keys }
     ensures begun { HasBegun w.now p.new me sel }
     ensures beside { IsBeside asked.old asked.new }

@@ -2,17 +2,20 @@
 //! nothing: their contracts are laws.
 ghost use Rattle.nio_select.specs.Laws.{CancelledKeysAreGone, CancelledKeysAreGoneAtEnd, EndsFindHigh};
 ghost use Rattle.nio_select.specs.Laws.{CancelledListedKeysAreGone, CancelledListedKeysAreGoneAtEnd, ListsAreKept};
+ghost use Rattle.nio_select.specs.Laws.{ValidKeysAreAsked, ValidListedKeysAreAsked};
 ghost use Rattle.nio_select.specs.Laws.{SelectionsHaveWindows, CallsAreBounded, ListedCallsAreBounded};
 ghost use Rattle.nio_select.specs.Laws.{SelectionsAreAlone, LeavingGivesBack, NoMemoryGivesBack};
 ghost use Rattle.nio_select.specs.Laws.{ClosingsRemoveKeys, ClosingsFindHigh};
 
 use nio_steps::{begin_law, bound_law, close_law, listed_bound_law, listed_law, told_law};
 
-/// A key that was cancelled before a selection began is removed once it has begun, and isn't one that it looked at. The
-/// end of a selection finds a keys' high-water mark, and has removed each key with an index below it that was cancelled
-/// before that look.
+/// A key with an index below the bound that was published and cancelled before a selection began is removed once it has
+/// begun, and isn't on its looked list; one that was published before and is valid then is on it. The end of a selection
+/// finds a keys' high-water mark, and has removed each key with an index below it that was published and cancelled before
+/// that look.
 pub fn gone_law()
     ensures begun { CancelledKeysAreGone }
+    ensures looked { ValidKeysAreAsked }
     ensures ended { CancelledKeysAreGoneAtEnd }
     ensures finds { EndsFindHigh }
 {
@@ -23,6 +26,7 @@ pub fn gone_law()
 /// The same of selections that go by the selector's list.
 pub fn listed_gone_law()
     ensures begun { CancelledListedKeysAreGone }
+    ensures looked { ValidListedKeysAreAsked }
     ensures ended { CancelledListedKeysAreGoneAtEnd }
 {
     listed_law()
@@ -49,7 +53,8 @@ pub fn listed_steps_law()
     listed_bound_law()
 }
 
-/// While a caller selects nobody else marks or removes a key of the selector, or ends its wakeup.
+/// While a caller selects nobody else takes bits of touched indexes of the selector, marks or removes a key of it, or ends
+/// its wakeup.
 pub fn alone_law()
     ensures { SelectionsAreAlone }
 {}

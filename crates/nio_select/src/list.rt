@@ -1,12 +1,12 @@
 //! A selector's list: what the caller that has it knows of the selector's valid keys.
 ghost use Rattle.std.specs.Prelude.{◌≡◌, [], Some, IfOk, IfErr, IfSome, is_some};
-ghost use Rattle.nio_history.specs.PassViews.{HasSelector};
+ghost use Rattle.nio_history.specs.PassViews.{HasSelector, done_between};
 ghost use Rattle.nio_steps.specs.Calls.{CallClause};
 ghost use Rattle.nio_steps.specs.Runs.{Completes};
 ghost use Rattle.nio_steps.specs.SelectCalls.{Begins, take_list_plan};
 ghost use Rattle.nio_words.specs.Passes.{IsReady};
 ghost use Rattle.nio_words.specs.Views.{view};
-ghost use Rattle.nio_select.specs.Asked.{Changes};
+ghost use Rattle.nio_select.specs.Asked.{AreTaken, Changes};
 ghost use Rattle.nio_select.specs.InHand.{next_number, selection_of};
 ghost use Rattle.nio_select.specs.InProgress.{begun_or_refused, HasList, Selects};
 
@@ -76,13 +76,6 @@ pub fn take_list(
 }
 
 impl KeyList {
-    /// The selector whose list it is.
-    pub fn selector(&self) -> SelNo
-        ensures { result ≡ self.now.selector }
-    {
-        self.selector
-    }
-
     /// Begins a selection that goes by the list: takes the selector's turn, takes the bits of the indexes that were
     /// touched, removes their keys that were cancelled, and looks at the interest of those that are valid. `Busy` where a
     /// selection is in progress there. A refusal gives the list back.
@@ -103,6 +96,8 @@ impl KeyList {
         ensures stamp { IfOk result (λ s. s.asked.stamp
             ≡ Some (record { selector = self.selector; number = next_number self.number })) }
         ensures changed { IfOk result (λ s. Changes self.keys s.asked.keys s.asked.changed) }
+        ensures taken { IfOk result (λ s. AreTaken self.selector
+            (done_between me (view w.now p.old) (view w.now p.new)) s.asked.changed) }
         ensures refused { IfErr result (λ refused. (refused.list ≡ self) × HasList (view w.now p.new) me self) }
     {
         let KeyList {

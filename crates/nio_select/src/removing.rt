@@ -4,7 +4,7 @@ ghost use Rattle.nio_history.specs.Conditions.{IsKey, has_begun, may_remove_canc
 ghost use Rattle.nio_steps.specs.Calls.{CallClause};
 ghost use Rattle.nio_steps.specs.ChannelCalls.{words_below as count_words_below};
 ghost use Rattle.nio_steps.specs.Runs.{Completes};
-ghost use Rattle.nio_steps.specs.Looking.{over_listed, over_touched, over_word, remove_below as removes_below};
+ghost use Rattle.nio_steps.specs.Looking.{over_not_free, over_touched, over_word, remove_below as removes_below};
 ghost use Rattle.nio_steps.specs.Sweeps.{sweep_to};
 ghost use Rattle.nio_steps.specs.SelectCalls.{remove_all_cancelled as removes_all_cancelled};
 ghost use Rattle.nio_steps.specs.Looking.{remove_cancelled as removes_cancelled};
@@ -85,7 +85,7 @@ fn remove_shown(w: &Words, p: &mut Pass, me: CallerNo, sel: SelNo, j: u32)
 fn remove_not_free(w: &Words, p: &mut Pass, me: CallerNo, sel: SelNo, mark: u32)
     requires begun { HasBegun w.now p.old me sel }
     requires mark { mark ≤ (limits_of w.now).keys }
-    ensures call { CallClause me (Completes (over_listed sel mark (removes_at sel) tt))
+    ensures call { CallClause me (Completes (over_not_free sel mark (removes_at sel) tt))
         (view w.now p.old) (view w.now p.new) result }
     ensures begun { HasBegun w.now p.new me sel }
 {

@@ -1,11 +1,12 @@
 //! A selector, as one caller selects on it.
 ghost use Rattle.std.specs.Prelude.{◌≡◌, None, IfOk, IfErr, IfSome, is_some};
-ghost use Rattle.nio_history.specs.PassViews.{HasSelector};
+ghost use Rattle.nio_history.specs.PassViews.{HasSelector, done_between};
 ghost use Rattle.nio_steps.specs.Calls.{CallClause};
 ghost use Rattle.nio_steps.specs.Runs.{Completes};
 ghost use Rattle.nio_steps.specs.SelectCalls.{Begins, take_list_plan};
 ghost use Rattle.nio_words.specs.Passes.{IsReady};
 ghost use Rattle.nio_words.specs.Views.{view};
+ghost use Rattle.nio_select.specs.Asked.{AreTaken};
 ghost use Rattle.nio_select.specs.InHand.{empty_list, known_by, selection_of, TakesOnList};
 ghost use Rattle.nio_select.specs.InProgress.{MaySelect, Selects};
 ghost use Rattle.nio_select.specs.Listed.{ok_seen};
@@ -97,6 +98,8 @@ impl Selector {
         ensures ready { IsReady w.now p.new me }
         ensures begun { IfOk result (λ s. Selects (view w.now p.new) me (selection_of s)) }
         ensures lent { IfOk result (λ s. (self.new ≡ record self.old { list = None }) × TakesOnList self.old s) }
+        ensures taken { IfSome self.old.list (λ _. IfOk result (λ s. AreTaken self.old.number
+            (done_between me (view w.now p.old) (view w.now p.new)) s.asked.changed)) }
         ensures refused { IfErr result (λ _. (self.new ≡ self.old) × MaySelect (view w.now p.new) me self.new) }
     {
         match mem::replace(&mut self.list, None) {
@@ -111,9 +114,10 @@ impl Selector {
         }
     }
 
-    /// Takes back what a selection on this selector gave back at its end. Without a list the selector has none from then
-    /// on.
+    /// Takes back what a selection on this selector gave back at its end: the selector, whose list was lent, has this list
+    /// then, or none.
     pub fn give_back(&mut self, list: Option<KeyList>)
+        requires lent { self.old.list ≡ None }
         requires its { IfSome list (λ list. list.selector ≡ self.old.number) }
         ensures { self.new ≡ record self.old { list = list } }
     {

@@ -1,6 +1,7 @@
 //! Looking at the keys of a selector by its list: at the indexes that were touched since.
 ghost use Rattle.std.specs.Prelude.{◌≡◌, ◌+◌, ◌*◌, ◌<◌, ◌≤◌, ◌++◌, [], ◌∷◌, IsTrue, length};
 ghost use Rattle.nio_history.specs.Conditions.{IsKey, has_list};
+ghost use Rattle.nio_history.specs.PassViews.{done_between};
 ghost use Rattle.nio_steps.specs.Calls.{CallClause};
 ghost use Rattle.nio_steps.specs.ChannelCalls.{words_below as count_words_below};
 ghost use Rattle.nio_steps.specs.Looking.{list_over as lists_over, list_taken as lists_taken, list_word as lists_word};
@@ -10,9 +11,9 @@ ghost use Rattle.nio_steps.specs.Steps.{touch as touches};
 ghost use Rattle.nio_steps.specs.Sweeps.{sweep_to};
 ghost use Rattle.nio_words.specs.Passes.{limits_of, state_seen};
 ghost use Rattle.nio_words.specs.Views.{view};
-ghost use Rattle.nio_select.specs.Asked.{AreBelow, Changes, IsBeside};
+ghost use Rattle.nio_select.specs.Asked.{AreBelow, AreTaken, Changes, IsBeside};
 ghost use Rattle.nio_select.specs.Begun.{HasBegunListed, IsFoundCancelled};
-ghost use Rattle.nio_select.specs.Touched.{IsTakenOn, TakesOn};
+ghost use Rattle.nio_select.specs.Touched.{AddsTaken, IsTakenOn, TakesOn};
 
 use crate::asked::Asked;
 use crate::removing::{remove_cancelled, words_below};
@@ -42,6 +43,7 @@ pub(crate) fn list_words(
     ensures beside { IsBeside asked.old asked.new }
     ensures below { AreBelow (limits_of w.now).keys asked.new.keys }
     ensures changed { Changes asked.old.keys asked.new.keys asked.new.changed }
+    ensures taken { AreTaken sel (done_between me (view w.now p.old) (view w.now p.new)) asked.new.changed }
 {
     for j in 0..words_below(w, bound) {
         list_word(w, p, me, sel, j, asked);
@@ -60,6 +62,8 @@ fn list_word(w: &Words, p: &mut Pass, me: CallerNo, sel: SelNo, j: u32, asked: &
     ensures begun { HasBegunListed w.now p.new me sel }
     ensures beside { IsBeside asked.old asked.new }
     ensures on { TakesOn (64 * j + 64) (limits_of w.now).keys asked.old asked.new }
+    ensures taken { AddsTaken sel (done_between me (view w.now p.old) (view w.now p.new))
+        asked.old.changed asked.new.changed }
 {
     if w.look_touched(p, me, sel, j) != 0 {
         list_taken(w, p, me, sel, j, asked);
@@ -78,6 +82,8 @@ fn list_taken(w: &Words, p: &mut Pass, me: CallerNo, sel: SelNo, j: u32, asked: 
     ensures begun { HasBegunListed w.now p.new me sel }
     ensures beside { IsBeside asked.old asked.new }
     ensures on { TakesOn (64 * j + 64) (limits_of w.now).keys asked.old asked.new }
+    ensures taken { AddsTaken sel (done_between me (view w.now p.old) (view w.now p.new))
+        asked.old.changed asked.new.changed }
 {
     let word = w.take_touched(p, me, sel, j);
     let mut rest = word;
@@ -99,6 +105,7 @@ fn list_over(w: &Words, p: &mut Pass, me: CallerNo, sel: SelNo, i: u32, asked: &
     ensures begun { HasBegunListed w.now p.new me sel }
     ensures beside { IsBeside asked.old asked.new }
     ensures on { TakesOn (i + 1) (limits_of w.now).keys asked.old asked.new }
+    ensures noted { asked.new.changed ≡ asked.old.changed ++ i ∷ [] }
 {
     asked.note_changed(i);
     let found = w.look_index(p, me, sel, i);

@@ -28,7 +28,7 @@ use Rattle.nio_steps.proofs.PerformLaws.{perform_then_on}
 use Rattle.nio_steps.specs.Perform.{Performed, perform}
 use Rattle.nio_steps.specs.Plan.{Plan, ◌>>=◌}
 use Rattle.nio_steps.specs.SelectCalls.{Selection, given_back}
-use Rattle.nio_steps.specs.Looking.{over_listed, look_over, looked_key}
+use Rattle.nio_steps.specs.Looking.{over_not_free, look_over, looked_key}
 use Rattle.nio_steps.specs.SelectCalls.{begin_below, begin_with_turn, begin_open, try_begin_plan}
 use Rattle.nio_steps.specs.Steps.{look_keys}
 use Rattle.nio_steps.specs.declared.looked.LookedKey.{LookedKey}
@@ -193,7 +193,7 @@ module _ (st : State) (now : Progress) (me : CallerNo) (s : SelNo)
   below-performed : (mode : Mode) → perform me (begin_below s mode None mark false) turned
       ≡ record { answer = Ok (begun mode); state = left }
   below-performed mode =
-      perform_then_on me (over_listed s mark (look_over s) []) _ turned looked left
+      perform_then_on me (over_not_free s mark (look_over s) []) _ turned looked left
       (look-performed turned me s none_due untaken mark)
 
   -- ---- what it comes to

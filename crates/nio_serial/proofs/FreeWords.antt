@@ -19,7 +19,7 @@ use Rattle.nio_steps.specs.ChannelCalls.{words_below}
 use Rattle.nio_steps.specs.KeyCalls.{has_bit}
 use Rattle.nio_steps.specs.Perform.{perform}
 use Rattle.nio_steps.specs.Plan.{Plan}
-use Rattle.nio_steps.specs.Looking.{not_free, over_listed}
+use Rattle.nio_steps.specs.Looking.{not_free, over_not_free}
 
 -- a bit of a look is set where the index passes the test
 pub bit-shown : (p : ℕ → Bool) (b : ℕ) → b < 64 → has_bit (bits_below 64 p) b ≡ p b
@@ -129,11 +129,11 @@ module _ {A : Type 0} (st : State) (me : CallerNo) (s : SelNo) (bound : ℕ) (f 
       bits_below-same 64 _ _ (λ b _. frees (listed_in st s bound j) (64 * j + b)
       (ap (has_index (64 * j + b)) (listed_in-is j) ∙ absent q (64 * j) (64 * j + b) (omega arith)))
 
-  pub over_listed-performed : perform me (over_listed s bound f (left [])) (stands []) ≡ record {
+  pub over_not_free-performed : perform me (over_not_free s bound f (left [])) (stands []) ≡ record {
     answer = left (listed st s.0 bound);
     state = stands (listed st s.0 bound);
   }
-  over_listed-performed =
+  over_not_free-performed =
       perform_listed me s bound f st left stands (λ j _. looks j) (λ past e later _. turn past e)
       ∙ ap (λ (done : List ℕ). record { answer = left done; state = stands done })
       (listed_in-is w

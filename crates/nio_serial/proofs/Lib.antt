@@ -45,5 +45,4 @@ pub mod SequencePipes
 pub mod SequenceCalls
 pub mod SequenceReopening
 pub mod SequenceWaiting
-pub mod KnownLists
 pub mod Sequences

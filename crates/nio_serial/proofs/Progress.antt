@@ -13,7 +13,7 @@ use Rattle.nio_serial.specs.Documented.{Progress, Selecting}
 use Rattle.nio_serial.specs.Lines.{if_own, own_selection}
 use Rattle.nio_steps.specs.Names.{selector}
 use Rattle.nio_steps.specs.Ongoing.{Ongoing, Change, no_change, selection_begins, selection_goes_on, selection_ends}
-use Rattle.nio_steps.specs.Ongoing.{closing_begins, closing_ends, list_taken}
+use Rattle.nio_steps.specs.Ongoing.{selection_made, closing_begins, closing_ends, list_taken}
 use Rattle.nio_steps.specs.SelectCalls.{Selection}
 use Rattle.nio_steps.specs.TableCalls.{row_of, wait_row_of}
 
@@ -25,6 +25,7 @@ pipes-changed now me no_change = refl
 pipes-changed now me (selection_begins s x) = refl
 pipes-changed now me (selection_goes_on s x) = refl
 pipes-changed now me (selection_ends s) = refl
+pipes-changed now me (selection_made s x) = refl
 pipes-changed now me (closing_begins s) = refl
 pipes-changed now me (closing_ends s) = refl
 pipes-changed now me (list_taken s) = refl

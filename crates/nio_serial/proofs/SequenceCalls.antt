@@ -27,6 +27,7 @@ use Rattle.nio_language.specs.declared.call.Call.{Call}
 use Rattle.nio_language.specs.declared.call.Call.TheVariants as call
 use Rattle.nio_language.specs.declared.reply.Reply.{Reply}
 use Rattle.nio_language.specs.declared.reply.Reply.TheVariants as reply
+use Rattle.nio_orderly.specs.Lists.{KnowsGiven}
 use Rattle.nio_orderly.specs.Made.{Made, IsRun, after_call, MayCome, draw, table_call, waiting_call}
 use Rattle.nio_orderly.specs.Waited.{waits}
 use Rattle.nio_plain.proofs.Naming.{selector-through}
@@ -123,9 +124,10 @@ is_listed _ = false
 abbrev pub IsPlain : Made → Type 0
 IsPlain made = IsTrue (is_of_script (script_call made) && not (waits made) && not (is_listed made))
 
--- the list that the call is given is the one that the caller knows
+-- the list that the call is given, if it is given one, is the one that the caller knows
 abbrev pub KnowsFor : Limits → List Event → CallerNo → Made → Type 0
-KnowsFor l past me (table_call (try_begin s mode (Some known)) answer) = KnowsList l me past s known
+KnowsFor l past me (table_call (try_begin s mode known) answer) = KnowsGiven l me past s known
+KnowsFor l past me (waiting_call (select s mode known polls) outcome) = KnowsGiven l me past s known
 KnowsFor l past me _ = Unit {0}
 
 -- ---- plans
@@ -696,7 +698,7 @@ module _ (l : Limits) (past : List Event) (now : Progress) (me : CallerNo) (fit 
   ends o (table_call (try_write source sink) answer) acts plain run legal names at may = absurd (cc plain)
   ends o (waiting_call (set_blocking c on) answer) acts plain run legal names at may = absurd (cc plain)
   ends o (waiting_call (register s c ops att) answer) acts plain run legal names at may = absurd (cc plain)
-  ends o (waiting_call (select s mode polls) answer) acts plain run legal names at may = absurd (cc plain)
+  ends o (waiting_call (select s mode known polls) outcome) acts plain run legal names at may = absurd (cc plain)
   ends o (waiting_call (close s) answer) acts plain run legal names at may = absurd (cc plain)
   ends o (waiting_call (read source none) answer) acts plain run legal names at may = absurd (cc plain)
   ends o (waiting_call (write source sink none) answer) acts plain run legal names at may = absurd (cc plain)

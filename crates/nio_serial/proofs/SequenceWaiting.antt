@@ -1,6 +1,6 @@
 -- Calls that wait, and calls on pipes, made between two calls: what they leave.
 use Rattle.std.proofs.Common.{◌≡◌, ℕ, Bool, true, false, Some, None, Result, Ok, Err, List, [], ◌∷◌, ◌++◌, map, refl}
-use Rattle.std.proofs.Common.{if◌then◌else◌, ap, sym, ◌∙◌, subst, append_assoc}
+use Rattle.std.proofs.Common.{ap, sym, ◌∙◌, subst, append_assoc, Option, eq-eqb}
 use Rattle.std.specs.List.{All}
 use Rattle.std.proofs.lemmas.List.{append-nil, map-append}
 use Rattle.std.proofs.lemmas.List.Elements.{All-head, All-tail}
@@ -15,6 +15,7 @@ use Rattle.nio_history.proofs.Put.{put-same}
 use Rattle.nio_history.proofs.Stays.{facts_are_permanent}
 use Rattle.nio_history.specs.Conditions.{IsCaller}
 use Rattle.nio_history.specs.Histories.{state_after, event_of, IsLegal}
+use Rattle.nio_history.specs.OwnEvents.{has}
 use Rattle.nio_history.specs.Permanent.{PermanentFact}
 use Rattle.nio_history.specs.State.{put}
 use Rattle.nio_history.specs.declared.act.Act.{Act}
@@ -24,6 +25,9 @@ use Rattle.nio_language.specs.declared.call.Call.{Call}
 use Rattle.nio_language.specs.declared.call.Call.TheVariants as call
 use Rattle.nio_language.specs.declared.reply.Reply.{Reply}
 use Rattle.nio_language.specs.declared.reply.Reply.TheVariants as reply
+use Rattle.nio_orderly.proofs.CallLists.{mine-by}
+use Rattle.nio_orderly.proofs.KnownLists.{given_on}
+use Rattle.nio_orderly.specs.Lists.{KnowsGiven}
 use Rattle.nio_orderly.specs.Made.{IsRun, table_call, waiting_call}
 use Rattle.nio_plain.proofs.CallLawsRefusals.{refusals_change_nothing}
 use Rattle.nio_plain.proofs.Places.{put-twice}
@@ -31,10 +35,10 @@ use Rattle.nio_plain.specs.CallLaws.{changes_pipe, is_without_effect}
 use Rattle.nio_plain.specs.Seq.{seq}
 use Rattle.nio_plain.specs.Seq.Replies.{Replied}
 use Rattle.nio_plain.specs.declared.rules.Rules.TheVariants.{Now}
-use Rattle.nio_serial.proofs.SequenceCalls.{after, IsScripted, EndsAs, Ends, ends}
+use Rattle.nio_serial.proofs.SequenceCalls.{after, IsScripted, EndsAs, Ends, ends, listed-ends}
 use Rattle.nio_serial.proofs.SequencePipes.{read-leaves, write-leaves, pipe-leaves}
-use Rattle.nio_serial.specs.Called.{as_call, Scripted, unscripted, script_call}
-use Rattle.nio_serial.specs.Left.{IsOngoing}
+use Rattle.nio_serial.specs.Called.{as_call, Scripted, unscripted}
+use Rattle.nio_serial.specs.Left.{IsOngoing, progress_changed}
 use Rattle.nio_serial.specs.Between.{IsBetween}
 use Rattle.nio_serial.specs.Documented.{Progress, documented}
 use Rattle.nio_serial.specs.Laws.{IsMadeSelector, IsMadeChannel}
@@ -42,8 +46,9 @@ use Rattle.nio_serial.specs.Lines.{with_selection, with_closing, after_begin, af
 use Rattle.nio_serial.specs.Replies.{mode_reply, register_reply}
 use Rattle.nio_steps.proofs.PerformLaws.{perform_ran}
 use Rattle.nio_steps.specs.ChannelCalls.{try_set_blocking_plan, try_register_plan, finds_held}
-use Rattle.nio_steps.proofs.BeginLaws.{begin-parts}
-use Rattle.nio_steps.specs.Ongoing.{Ongoing, selecting, closes_on}
+use Rattle.nio_steps.proofs.Unlisted.{refusals_leave_list}
+use Rattle.nio_steps.specs.ListLaws.{lists_index}
+use Rattle.nio_steps.specs.Ongoing.{Ongoing, selecting, closes_on, begun_by, changed, select_change}
 use Rattle.nio_steps.specs.Perform.{Performed, perform}
 use Rattle.nio_steps.specs.PipeCalls.{PipeEnds, pipe_plan, pipe_lacks_memory, try_read_plan, try_write_plan}
 use Rattle.nio_steps.specs.Plan.{Plan}
@@ -51,15 +56,17 @@ use Rattle.nio_steps.specs.Runs.{Completes}
 use Rattle.nio_steps.specs.SelectCalls.{Selection, Begins, begin_finds_busy, Poll, Tells, goes_on_after, ToldReply}
 use Rattle.nio_steps.specs.SelectCalls.{done, again, SelectReply, selected, not_begun, left, SelectsRest, TellsAll}
 use Rattle.nio_steps.specs.SelectCalls.{TellsAndLeaves, ShutReply, closing, already_closed, FinishReply, closed, busy}
-use Rattle.nio_steps.specs.SelectCalls.{finish_finds_busy, ClosesRest, shut_plan, try_finish_plan}
+use Rattle.nio_steps.specs.SelectCalls.{finish_finds_busy, ClosesRest, shut_plan, try_finish_plan, SelectOutcome, select_lacks_memory}
 use Rattle.nio_steps.specs.TableCalls.{try_set_blocking, try_register, try_begin, told, leave, shut, try_finish, pipe}
 use Rattle.nio_steps.specs.TableCalls.{try_read, try_write, set_blocking, register, select, close, read, write}
 use Rattle.nio_steps.specs.Waiting.{Run, acts_of, Tries, Repeats, Retries}
+use Rattle.nio_steps.specs.declared.looked.LookedKey.{LookedKey}
 use Rattle.nio_steps.specs.declared.refusal.BeginError.{BeginError}
 use Rattle.nio_steps.specs.declared.refusal.ChannelError.{ChannelError}
 use Rattle.nio_steps.specs.declared.refusal.ChannelError.TheVariants.{Busy}
 use Rattle.nio_steps.specs.declared.refusal.PipeError.{PipeError}
 use Rattle.nio_steps.specs.declared.refusal.PipeMakeError.{PipeMakeError}
+use Rattle.nio_steps.specs.declared.selected.Selected.{Selected}
 
 unscripted-is : (l : Limits) (past : List Event) (now : Progress) (me : CallerNo) (acts : List Act) (x : Progress)
     (b : Bool) → IsScripted l past now me acts x b unscripted
@@ -419,18 +426,47 @@ module _ (l : Limits) (me : CallerNo) (fit : IsFit l) (by : IsCaller l me) where
   -- a selection in progress of this caller, and what is over or left then
   module _ (past : List Event) (now : Progress) (o : Ongoing) (between : IsBetween l (state_after past) now)
       (no_pipes : now.pipes ≡ []) (at : IsOngoing me now o) (s : SelNo) (made : IsMadeSelector (state_after past) s)
-      (mode : Mode) where
-    begin-again : (p : List Event) (xs : List Act) (r : Result Selection BeginError) → WithSelector now s p
-        → IsLegal l (after p me xs) → Begins s mode None xs r → begin_finds_busy r ≡ true
-        → WithSelector now s (after p me xs)
+      (mode : Mode) (known : Option (List LookedKey)) (knows : KnowsGiven l me past s known) where
+    -- where the selection may begin: the caller knows the list that it is given
+    abbrev MayBegin : List Event → Type 0
+    MayBegin p = WithSelector now s p × KnowsGiven l me p s known
+
+    begin-ends : (p : List Event) (xs : List Act) (r : Result Selection BeginError) → MayBegin p
+        → IsLegal l (after p me xs) → Begins s mode known xs r
+        → Ends l p now me o xs (table_call (try_begin s mode known) r)
+    begin-ends p xs r here legal run = by_list known here.1 run
+      where
+        by_list : (k : Option (List LookedKey)) → KnowsGiven l me p s k → Begins s mode k xs r
+            → Ends l p now me o xs (table_call (try_begin s mode k) r)
+        by_list None knows' run' =
+            ends l p now me fit by here.0.0 no_pipes o (table_call (try_begin s mode None) r) xs refl run' legal here.0.1
+            at tt
+        by_list (Some list) knows' run' =
+            listed-ends l p now me fit by here.0.0 no_pipes o s mode list r xs knows' run' legal here.0.1 at
+
+    -- a try that finds the turn taken leaves what its caller knows
+    knows-still : (p : List Event) (xs : List Act) (refusal : BeginError) → IsLegal l (after p me xs)
+        → Begins s mode known xs (Err refusal) → KnowsGiven l me p s known → KnowsGiven l me (after p me xs) s known
+    knows-still p xs refusal legal run knows' =
+        given_on l me p (map (event_of me) xs) s known legal
+        (λ i. ap (has (lists_index s.0 i)) (mine-by me me xs true (eq-eqb me.0 me.0 refl))
+        ∙ refusals_leave_list s mode known xs refusal run i) knows'
+
+    begin-again : (p : List Event) (xs : List Act) (r : Result Selection BeginError) → MayBegin p
+        → IsLegal l (after p me xs) → Begins s mode known xs r → begin_finds_busy r ≡ true → MayBegin (after p me xs)
     begin-again p xs (Ok x) here legal run goes = absurd (cc goes)
     begin-again p xs (Err BeginError.ClosedSelector) here legal run goes = absurd (cc goes)
     begin-again p xs (Err BeginError.Memory) here legal run goes = absurd (cc goes)
     begin-again p xs (Err BeginError.Busy) here legal run goes = (
-      (ends l p now me fit by here.0 no_pipes o (table_call (try_begin s mode None) (Err BeginError.Busy)) xs refl run legal
-          here.1 at tt).between,
-      selector-stays p xs s legal here.1,
+      ((begin-ends p xs (Err BeginError.Busy) here legal run).between, selector-stays p xs s legal here.0.1),
+      knows-still p xs BeginError.Busy legal run here.1,
     )
+
+    -- what a whole selection leaves that began so
+    abbrev IsOver : List Act → Result Selection BeginError → Bool → Type 0
+    IsOver acts begun lacks =
+        EndsAs l past now me acts (progress_changed now me (select_change s begun)) (changed o (select_change s begun))
+        lacks unscripted
 
     module _ (x : Selection) where
       -- with the selection in progress
@@ -438,7 +474,7 @@ module _ (l : Limits) (me : CallerNo) (fit : IsFit l) (by : IsCaller l me) where
       now_on = after_begin now me s (Ok x)
 
       abbrev o_on : Ongoing
-      o_on = selecting o s (Some x)
+      o_on = begun_by o s x
 
       on-selector : (p : List Event) → IsBetween l (state_after p) now_on → x.selector.0 ≡ s.0
       on-selector p there =
@@ -458,10 +494,8 @@ module _ (l : Limits) (me : CallerNo) (fit : IsFit l) (by : IsCaller l me) where
           ∙ ap (λ f. record now { selection = f }) (put-twice now.selection s.0
           (Some (record { caller = me; selection = x })) None)
 
-      over-ongoing : x.selector.0 ≡ s.0 → selecting o_on x.selector None ≡ selecting o s None
-      over-ongoing same =
-          ap (λ (k : ℕ). record o { selection = put o_on.selection k None }) same
-          ∙ ap (λ f. record o { selection = f }) (put-twice o.selection s.0 (Some x) None)
+      over-ongoing : x.selector.0 ≡ s.0 → selecting o_on x.selector None ≡ selecting o_on s None
+      over-ongoing same = ap (λ (k : ℕ). record o_on { selection = put o_on.selection k None }) same
 
       tell-again : x.selector.0 ≡ s.0 → IsOngoing me now_on o_on
           → (p : List Event) (poll : Poll) (xs : List Act) (r : ToldReply) → WithSelector now_on s p
@@ -477,11 +511,10 @@ module _ (l : Limits) (me : CallerNo) (fit : IsFit l) (by : IsCaller l me) where
       abbrev Begun : List Event → List Act → Type 0
       Begun p xs = EndsAs l p now me xs now_on o_on false unscripted
 
-      rest-selected : (first second acts : List Act) (polls : List Poll) (answer : _) → acts ≡ first ++ second
+      rest-selected : (first second acts : List Act) (polls : List Poll) (answer : Selected) → acts ≡ first ++ second
           → IsLegal l (after past me acts) → Begun past first → IsMadeSelector (state_after (after past me first)) s
-          → TellsAll x polls second answer
-          → Ends l past now me o acts (waiting_call (select s mode polls) (selected answer))
-      rest-selected first second acts polls answer parts legal one there rest =
+          → TellsAll x polls second answer → (lacks : Bool) → IsOver acts (Ok x) lacks
+      rest-selected first second acts polls answer parts legal one there rest lacks =
           let whole = subst (λ xs. IsLegal l (after past me xs)) parts legal in
           let same = on-selector (after past me first) one.between in
           let it =
@@ -493,15 +526,14 @@ module _ (l : Limits) (me : CallerNo) (fit : IsFit l) (by : IsCaller l me) where
           (its-selector same it.before it.here.1) one.own (may-tell same) in
           two-end past now now_on (with_selection now_on x.selector None) o_on
           (selecting o_on x.selector None) first it.last acts false false _ _ it.before (with_selection now s None)
-          (selecting o s None) false one two
+          (selecting o_on s None) lacks one two
           (it.same ∙ (joined past me first second ∙ ap (λ xs. after past me xs) (sym parts))) (over-now same)
           (over-ongoing same)
 
       rest-left : (first second acts : List Act) (polls : List Poll) → acts ≡ first ++ second
           → IsLegal l (after past me acts) → Begun past first → IsMadeSelector (state_after (after past me first)) s
-          → TellsAndLeaves x polls second
-          → Ends l past now me o acts (waiting_call (select s mode polls) left)
-      rest-left first second acts polls parts legal one there rest =
+          → TellsAndLeaves x polls second → (lacks : Bool) → IsOver acts (Ok x) lacks
+      rest-left first second acts polls parts legal one there rest lacks =
           let whole = subst (λ xs. IsLegal l (after past me xs)) parts legal in
           let same = on-selector (after past me first) one.between in
           let p = after past me first in
@@ -517,66 +549,55 @@ module _ (l : Limits) (me : CallerNo) (fit : IsFit l) (by : IsCaller l me) where
           (may-tell same) in
           two-end past now now_on (with_selection now_on x.selector None) o_on
           (selecting o_on x.selector None) first rest.leaves acts false false _ _ before (with_selection now s None)
-          (selecting o s None) false one two
+          (selecting o_on s None) lacks one two
           (joined p me rest.told rest.leaves
           ∙ (ap (λ xs. after p me xs) (sym rest.parts)
           ∙ (joined past me first second ∙ ap (λ xs. after past me xs) (sym parts)))) (over-now same)
           (over-ongoing same)
 
-    -- it began without the list
-    begun-plain : (x : Selection) (p : List Event) (xs : List Act) → Begins s mode None xs (Ok x)
-        → Ends l p now me o xs (table_call (try_begin s mode None) (Ok x))
-        → EndsAs l p now me xs (now_on x) (o_on x) false
-        (script_call (table_call (try_begin s mode None) (Ok x)))
-    begun-plain x p xs run ended =
-        subst (λ (b : Bool). EndsAs l p now me xs (now_on x) (record o {
-          selection = put o.selection s.0 (Some x);
-          list = if b then put o.list s.0 (Some x.looked) else o.list;
-        }) false (script_call (table_call (try_begin s mode None) (Ok x)))) (begin-parts s mode None xs x run).listed ended
-
     select-rest : (first second acts : List Act) (polls : List Poll) (middle : Result Selection BeginError)
         (answer : SelectReply) → acts ≡ first ++ second → IsLegal l (after past me acts)
-        → Retries (Begins s mode None) begin_finds_busy first middle → SelectsRest polls middle second answer
-        → Ends l past now me o acts (waiting_call (select s mode polls) answer)
-    select-rest first second acts polls middle answer parts legal runs rest = by_middle middle answer it one rest
+        → Retries (Begins s mode known) begin_finds_busy first middle → SelectsRest polls middle second answer
+        → (lacks : Bool) → IsOver acts middle lacks
+    select-rest first second acts polls middle answer parts legal runs rest lacks = by_middle middle answer it one rest
       where
         first_legal : IsLegal l (after past me first)
         first_legal = begins-legal l me past first second (subst (λ xs. IsLegal l (after past me xs)) parts legal)
 
-        it : LastRun l me (λ (_ : Unit {0}). Begins s mode None) (λ _. begin_finds_busy) (WithSelector now s)
+        it : LastRun l me (λ (_ : Unit {0}). Begins s mode known) (λ _. begin_finds_busy) MayBegin
             (λ p _ xs r here legal' run' goes. begin-again p xs r here legal' run' goes) past first middle
-        it = last_run l me _ _ (WithSelector now s) (λ p _ xs r here legal' run' goes.
-            begin-again p xs r here legal' run' goes) past first middle (between, made) first_legal runs
+        it = last_run l me _ _ MayBegin (λ p _ xs r here legal' run' goes.
+            begin-again p xs r here legal' run' goes) past first middle ((between, made), knows) first_legal runs
 
-        one : Ends l it.before now me o it.last (table_call (try_begin s mode None) middle)
-        one = ends l it.before now me fit by it.here.0 no_pipes o
-            (table_call (try_begin s mode None) middle) it.last refl it.made it.legal it.here.1 at tt
+        one : Ends l it.before now me o it.last (table_call (try_begin s mode known) middle)
+        one = begin-ends it.before it.last middle it.here it.legal it.made
 
         there : IsMadeSelector (state_after (after past me first)) s
         there = selector-stays past first s first_legal made
 
         by_middle : (m : Result Selection BeginError) (a : SelectReply)
-            → (run : LastRun l me (λ (_ : Unit {0}). Begins s mode None) (λ _. begin_finds_busy) (WithSelector now s)
+            → (run : LastRun l me (λ (_ : Unit {0}). Begins s mode known) (λ _. begin_finds_busy) MayBegin
             (λ p _ xs r here legal' run' goes. begin-again p xs r here legal' run' goes) past first m)
-            → Ends l run.before now me o run.last (table_call (try_begin s mode None) m) → SelectsRest polls m second a
-            → Ends l past now me o acts (waiting_call (select s mode polls) a)
+            → Ends l run.before now me o run.last (table_call (try_begin s mode known) m) → SelectsRest polls m second a
+            → IsOver acts m lacks
         by_middle (Ok x) (selected a) run one' rest' =
             rest-selected x first second acts polls a parts legal
-            (moved run.before past now run.last first (now_on x) (o_on x) false false _
-            (begun-plain x run.before run.last run.made one') run.same) there rest'
+            (moved run.before past now run.last first (now_on x) (o_on x) false false _ one' run.same) there rest' lacks
         by_middle (Ok x) (not_begun refusal) run one' rest' = absurd rest'
         by_middle (Ok x) left run one' rest' =
-            rest-left x first second acts polls parts legal (moved run.before past now run.last first (now_on x)
-            (o_on x) false false _ (begun-plain x run.before run.last run.made one') run.same) there rest'
+            rest-left x first second acts polls parts legal
+            (moved run.before past now run.last first (now_on x) (o_on x) false false _ one' run.same) there rest' lacks
         by_middle (Err refusal) a run one' rest' =
-            subst (λ (b : SelectReply). Ends l past now me o acts (waiting_call (select s mode polls) b)) (sym rest'.2)
-            (moved run.before past now run.last acts now o _ _ _ one'
+            moved run.before past now run.last acts now o _ lacks _ one'
             (run.same
             ∙ ap (λ xs. after past me xs) (sym (append-nil first)
-            ∙ (ap (λ xs. first ++ xs) (sym rest'.0) ∙ sym parts))))
+            ∙ (ap (λ xs. first ++ xs) (sym rest'.0) ∙ sym parts)))
 
-    pub select-ends : (polls : List Poll) (answer : SelectReply) (acts : List Act)
-        → IsRun l (waiting_call (select s mode polls) answer) acts → IsLegal l (after past me acts)
-        → Ends l past now me o acts (waiting_call (select s mode polls) answer)
-    select-ends polls answer acts run legal =
-        select-rest run.first run.second acts polls run.middle answer run.parts legal run.runs_first run.runs_second
+    pub select-ends : (polls : List Poll) (outcome : SelectOutcome) (acts : List Act)
+        → IsRun l (waiting_call (select s mode known polls) outcome) acts → IsLegal l (after past me acts)
+        → Ends l past now me o acts (waiting_call (select s mode known polls) outcome)
+    select-ends polls outcome acts run legal =
+        let makes = run.makes in
+        subst (λ begun. IsOver acts begun (select_lacks_memory outcome.answer)) run.begun
+        (select-rest makes.first makes.second acts polls makes.middle outcome.answer makes.parts legal makes.runs_first
+        makes.runs_second (select_lacks_memory outcome.answer))

@@ -1,11 +1,12 @@
 -- What serial histories leave: call by call, from the opening state on.
 use Rattle.std.proofs.Common.{◌≡◌, ℕ, ◌==◌, Bool, true, false, not, ◌&&◌, IsTrue, if◌then◌else◌, Some, List, [], ◌∷◌, ◌++◌}
-use Rattle.std.proofs.Common.{map, refl, ap, sym, ◌∙◌, subst, append_assoc, eqb-true, eq-eqb}
+use Rattle.std.proofs.Common.{map, refl, ap, sym, ◌∙◌, subst, append_assoc, eqb-true, eq-eqb, Option, None}
 use Rattle.std.proofs.lemmas.List.{append-nil}
 use Rattle.std.proofs.lemmas.List.Elements.{All-head, All-tail}
 use Rattle.nio_base.specs.Limits.{IsFit}
 use Rattle.nio_base.specs.declared.limits.Limits.{Limits}
 use Rattle.nio_base.specs.declared.numbers.CallerNo.{CallerNo}
+use Rattle.nio_base.specs.declared.numbers.SelNo.{SelNo}
 use Rattle.nio_history.proofs.Legal.{legal_beginning, legal_empty}
 use Rattle.nio_history.specs.Conditions.{IsCaller}
 use Rattle.nio_history.proofs.OneMore.{mine-append}
@@ -25,7 +26,8 @@ use Rattle.nio_plain.specs.Answer.{left_from}
 use Rattle.nio_plain.specs.ScriptState.{ScriptState}
 use Rattle.nio_plain.specs.Seq.Replies.{Replied}
 use Rattle.nio_plain.specs.declared.rules.Rules.TheVariants.{Now}
-use Rattle.nio_serial.proofs.KnownLists.{lists_are_known}
+use Rattle.nio_orderly.proofs.KnownLists.{lists_are_known}
+use Rattle.nio_orderly.specs.Lists.{KnowsGiven}
 use Rattle.nio_serial.proofs.SequenceCalls.{after, IsScripted, Ends, KnowsFor, ends, listed-ends}
 use Rattle.nio_serial.proofs.Progress.{pipes-after, pipes-in_progress}
 use Rattle.nio_serial.proofs.SequenceReopening.{reopened-is, reopen-ends}
@@ -45,7 +47,8 @@ use Rattle.nio_serial.specs.Reopening.{Reopened}
 use Rattle.nio_serial.specs.Serial.{replies_from}
 use Rattle.nio_steps.specs.Ongoing.{Ongoing, nothing_ongoing}
 use Rattle.nio_steps.specs.TableCalls.{try_begin, reopen_channel, pipe, try_read, try_write, set_blocking, register, select, close}
-use Rattle.nio_steps.specs.TableCalls.{read, write}
+use Rattle.nio_steps.specs.TableCalls.{read, write, IsItsList}
+use Rattle.nio_steps.specs.declared.looked.LookedKey.{LookedKey}
 
 -- ---- every call
 
@@ -72,8 +75,8 @@ module _ (l : Limits) (past : List Event) (now : Progress) (me : CallerNo) (fit 
       blocking-ends l me fit by past now o between no_pipes at c on answer acts run legal names
   each-ends o (waiting_call (register s c ops att) answer) acts run legal names at may knows =
       register-ends l me fit by past now o between no_pipes at s c ops att answer acts run legal names.0 names.1
-  each-ends o (waiting_call (select s mode polls) answer) acts run legal names at may knows =
-      select-ends l me fit by past now o between no_pipes at s names mode polls answer acts run legal
+  each-ends o (waiting_call (select s mode known polls) outcome) acts run legal names at may knows =
+      select-ends l me fit by past now o between no_pipes at s names mode known knows polls outcome acts run legal
   each-ends o (waiting_call (close s) answer) acts run legal names at may knows =
       close-ends l me fit by past now o between no_pipes at s names answer acts run legal
   each-ends o (waiting_call (read source none) answer) acts run legal names at may knows =
@@ -172,10 +175,19 @@ record CameTo (l : Limits) (own : List Act) (o : Ongoing) : Type 0 where
   leaves : after_calls nothing_ongoing calls ≡ o
 
 -- so a list that a call may be given is the one that its caller knows
+knows-given : (l : Limits) (past : List Event) (me : CallerNo) (o : Ongoing) (s : SelNo)
+    (known : Option (List LookedKey)) → IsFit l → IsLegal l past → CameTo l (mine me past) o → IsItsList s known o
+    → KnowsGiven l me past s known
+knows-given l past me o s None fit legal came may = tt
+knows-given l past me o s (Some known) fit legal came may =
+    lists_are_known l me past came.calls s known fit legal came.are (ap (λ (x : Ongoing). x.list s.0) came.leaves ∙ may)
+
 knows-for : (l : Limits) (past : List Event) (me : CallerNo) (o : Ongoing) (made : Made) → IsFit l → IsLegal l past
     → CameTo l (mine me past) o → MayCome o made → KnowsFor l past me made
-knows-for l past me o (table_call (try_begin s mode (Some known)) answer) fit legal came may =
-    lists_are_known l me past came.calls fit legal came.are s known (ap (λ (x : Ongoing). x.list s.0) came.leaves ∙ may)
+knows-for l past me o (table_call (try_begin s mode known) answer) fit legal came may =
+    knows-given l past me o s known fit legal came may
+knows-for l past me o (waiting_call (select s mode known polls) outcome) fit legal came may =
+    knows-given l past me o s known fit legal came may
 knows-for l past me o _ fit legal came may = tt
 
 mine-after : (n : CallerNo) (past : List Event) (me : CallerNo) (acts : List Act) (b : Bool) → (me.0 == n.0) ≡ b

@@ -24,7 +24,7 @@ use Rattle.nio_plain.specs.declared.rules.Rules.TheVariants.{Now}
 use Rattle.nio_steps.proofs.PerformLaws.{perform_then, perform_else, perform_then_on}
 use Rattle.nio_steps.specs.Perform.{Performed, perform}
 use Rattle.nio_steps.specs.Plan.{Plan, when, ◌>>◌}
-use Rattle.nio_steps.specs.Looking.{over_listed, looked_key, remove_cancelled, look_valid, look_on, look_over}
+use Rattle.nio_steps.specs.Looking.{over_not_free, looked_key, remove_cancelled, look_valid, look_on, look_over}
 use Rattle.nio_steps.specs.ChannelCalls.{words_below}
 use Rattle.nio_steps.specs.Looking.{remove_if_cancelled, over_touched, without_index, enlisted, list_valid, list_on}
 use Rattle.nio_steps.specs.Looking.{list_over}
@@ -32,7 +32,7 @@ use Rattle.nio_steps.specs.Steps.{touch}
 use Rattle.nio_steps.specs.Sweeps.{sweep_to}
 use Rattle.nio_steps.specs.declared.looked.LookedKey.{LookedKey}
 use Rattle.nio_serial.proofs.Base.{settled-cancelled}
-use Rattle.nio_serial.proofs.FreeWords.{has_index, listed, over_listed-performed}
+use Rattle.nio_serial.proofs.FreeWords.{has_index, listed, over_not_free-performed}
 use Rattle.nio_serial.proofs.Removing.{gone, removed_where, removed_none, removed_same, removed_more, removal-performed}
 use Rattle.nio_serial.proofs.Removing.{settled-removed, removed-touched}
 use Rattle.nio_serial.proofs.TouchedWords.{touched_in, touched_in-is, over_touched-performed}
@@ -242,11 +242,11 @@ module _ (st : State) (me : CallerNo) (s : SelNo) (none_due : (i : ℕ) → st.p
       none_goes true y z = refl
       none_goes false y z = refl
 
-  pub sweep-performed : (bound : ℕ) → perform me (over_listed s bound (λ i _. remove_if_cancelled s i) tt) st
+  pub sweep-performed : (bound : ℕ) → perform me (over_not_free s bound (λ i _. remove_if_cancelled s i) tt) st
       ≡ record { answer = tt; state = swept (listed st s.0 bound) }
   sweep-performed bound =
-      ap (perform me (over_listed s bound (λ i _. remove_if_cancelled s i) tt)) swept_none
-      ∙ over_listed-performed st me s bound (λ i _. remove_if_cancelled s i) (λ _. tt) swept swept_turn frees_others
+      ap (perform me (over_not_free s bound (λ i _. remove_if_cancelled s i) tt)) swept_none
+      ∙ over_not_free-performed st me s bound (λ i _. remove_if_cancelled s i) (λ _. tt) swept swept_turn frees_others
 
   -- ---- a sweep that looks at the valid keys
 
@@ -354,13 +354,13 @@ module _ (st : State) (me : CallerNo) (s : SelNo) (none_due : (i : ℕ) → st.p
           (not_both k.published (not k.removed) k.cancelled (gone_cancelled past e is))
       by_gone false is = by_test is (test e) refl
 
-  pub look-performed : (bound : ℕ) → perform me (over_listed s bound (look_over s) []) st ≡ record {
+  pub look-performed : (bound : ℕ) → perform me (over_not_free s bound (look_over s) []) st ≡ record {
     answer = looked_over (listed st s.0 bound);
     state = swept (listed st s.0 bound);
   }
   look-performed bound =
-      ap (perform me (over_listed s bound (look_over s) [])) swept_none
-      ∙ over_listed-performed st me s bound (look_over s) looked_over swept look_turn frees_others
+      ap (perform me (over_not_free s bound (look_over s) [])) swept_none
+      ∙ over_not_free-performed st me s bound (look_over s) looked_over swept look_turn frees_others
 
   -- ---- a sweep by the list, which takes on what it finds
 

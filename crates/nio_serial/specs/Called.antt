@@ -89,7 +89,7 @@ script_call (table_call (try_write source sink) answer) = unscripted
 script_call (waiting_call (set_blocking c on) answer) = as_call (call.Blocking c on) (mode_reply answer)
 script_call (waiting_call (register s c ops att) answer) =
     as_call (call.Register s c ops (Some att)) (register_reply answer)
-script_call (waiting_call (select s mode polls) answer) = unscripted
+script_call (waiting_call (select s mode known polls) outcome) = unscripted
 script_call (waiting_call (close s) answer) = unscripted
 script_call (waiting_call (read source none) answer) = unscripted
 script_call (waiting_call (write source sink none) answer) = unscripted

@@ -15,7 +15,7 @@ use Rattle.nio_serial.specs.Documented.{Progress}
 use Rattle.nio_serial.specs.Lines.{with_selection, with_closing, own_selection}
 use Rattle.nio_steps.specs.Names.{selector}
 use Rattle.nio_steps.specs.Ongoing.{Ongoing, nothing_ongoing, Change, no_change, selection_begins, selection_goes_on}
-use Rattle.nio_steps.specs.Ongoing.{selection_ends, closing_begins, closing_ends, list_taken}
+use Rattle.nio_steps.specs.Ongoing.{selection_ends, selection_made, closing_begins, closing_ends, list_taken}
 use Rattle.nio_steps.specs.TableCalls.{row_of, wait_row_of}
 
 -- ---- what is in progress
@@ -27,6 +27,7 @@ progress_changed now me (selection_begins s x) = with_selection now s (Some (rec
 -- a told that goes on answers the selection that it was given, so nothing changes
 progress_changed now me (selection_goes_on s x) = now
 progress_changed now me (selection_ends s) = with_selection now s None
+progress_changed now me (selection_made s x) = with_selection now s None
 progress_changed now me (closing_begins s) = with_closing now s (Some me)
 progress_changed now me (closing_ends s) = with_closing now s None
 -- the list of a selector is no part of it

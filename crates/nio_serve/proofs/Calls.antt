@@ -44,7 +44,7 @@ use Rattle.nio_steps.specs.PinLaws.{GivesPinsBack}
 use Rattle.nio_steps.specs.Runs.{Completes}
 use Rattle.nio_steps.specs.SelectCalls.{Selection, Poll, again, done, take_list_plan, told_plan}
 use Rattle.nio_steps.specs.TableCalls.{register, take_list, try_begin, told, leave}
-use Rattle.nio_steps.specs.TableCalls.{HasList as GoesBy}
+use Rattle.nio_steps.specs.TableCalls.{IsItsList as GoesBy}
 use Rattle.nio_steps.specs.declared.looked.LookedKey.{LookedKey}
 use Rattle.nio_steps.specs.declared.refusal.BeginError.{BeginError}
 use Rattle.nio_steps.specs.declared.selected.Selected.{Selected}

@@ -23,21 +23,6 @@ Rise looked = AllPairs (λ x y. x.index < y.index) looked
 
 -- ---- the keys with smaller indexes
 
-pub none_first : (looked : List LookedKey) → keys_to 0 looked ≡ []
-none_first [] = refl
-none_first (x ∷ looked) =
-    ap (λ (b : Bool). if b then x ∷ keys_to 0 looked else keys_to 0 looked) (le-ltb x.index 0 (omega arith))
-    ∙ none_first looked
-
--- where there is one key more with a smaller index, there are fewer than all before
-pub fewer_first : (n : ℕ) (looked : List LookedKey) (key : LookedKey)
-    → keys_to (n + 1) looked ≡ keys_to n looked ++ key ∷ [] → length (keys_to n looked) < length looked
-fewer_first n looked key more =
-    let counted = length-filter (λ (e : LookedKey). nat_lt e.index (n + 1)) looked in
-    let few = count_by-le-length (λ (e : LookedKey). nat_lt e.index (n + 1)) looked in
-    let longer = ap length more ∙ length_push (keys_to n looked) key in
-    omega (arith, counted, few, longer)
-
 -- what is listed of the keys up to the next index
 pub next_pairs : (n : ℕ) (looked : List LookedKey) (o : Option LookedKey)
     → keys_to (n + 1) looked ≡ keys_to n looked ++ option_to_list o

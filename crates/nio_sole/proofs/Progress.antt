@@ -257,7 +257,7 @@ module _ (l : Limits) (events : List Event) (n : CallerNo) (legal : IsLegal l ev
   selection-kept now (table_call (shut s) already_closed) t off at_once = refl
   selection-kept now (table_call (try_finish s) closed) t off at_once = refl
   selection-kept now (table_call (try_finish s) busy) t off at_once = refl
-  selection-kept now (waiting_call (select s mode polls) answer) t off at_once = absurd (cc at_once)
+  selection-kept now (waiting_call (select s mode known polls) answer) t off at_once = absurd (cc at_once)
   selection-kept now (waiting_call (close s) answer) t off at_once = absurd (cc at_once)
   selection-kept now _ t off at_once = refl
 
@@ -401,7 +401,7 @@ module _ (l : Limits) where
       closing-longer own acts now before t is
   call-closing own acts now (table_call (try_finish s) busy) run at_once before t is =
       closing-longer own acts now before t is
-  call-closing own acts now (waiting_call (select s mode polls) answer) run at_once before t is = absurd (cc at_once)
+  call-closing own acts now (waiting_call (select s mode known polls) answer) run at_once before t is = absurd (cc at_once)
   call-closing own acts now (waiting_call (close s) answer) run at_once before t is = absurd (cc at_once)
   call-closing own acts now _ run at_once before t is = closing-longer own acts now before t is
 

@@ -27,9 +27,9 @@ use Rattle.nio_steps.proofs.OrderLaws.{looks_in_order}
 use Rattle.nio_steps.proofs.SelectionLaws.{removes_none}
 use Rattle.nio_steps.proofs.ToldParts.{CutAtKeys}
 use Rattle.nio_steps.proofs.Walks.{always_run}
-use Rattle.nio_steps.specs.Bound.{finds_listed, unselects, count_listed, SelectionIsBounded}
+use Rattle.nio_steps.specs.Bound.{finds_not_free, unselects, count_not_free, SelectionIsBounded}
 use Rattle.nio_steps.specs.ChannelCalls.{words_below}
-use Rattle.nio_steps.specs.Looking.{over_listed, look_over, looked_key, remove_if_cancelled, remove_below}
+use Rattle.nio_steps.specs.Looking.{over_not_free, look_over, looked_key, remove_if_cancelled, remove_below}
 use Rattle.nio_steps.specs.Runs.{Completes}
 use Rattle.nio_steps.specs.SelectCalls.{Selection, Poll}
 use Rattle.nio_steps.specs.Steps.{stage_in, operations_in}
@@ -39,13 +39,13 @@ use Rattle.nio_steps.specs.declared.looked.LookedKey.{LookedKey}
 
 module _ (s : SelNo) where
   abbrev listed : List Act → ℕ → Bool
-  listed acts k = has (finds_listed s.0 k) acts
+  listed acts k = has (finds_not_free s.0 k) acts
 
   listed-one : (i : ℕ) (acts more : List Act) → listed acts i ≡ true
       → count_below i (listed acts) + 1 ≤ count_below (i + 1) (listed (acts ++ more))
   listed-one i acts more found =
       let one = below-one (listed acts) i found in
-      let all = counts-more (finds_listed s.0) (i + 1) acts more in
+      let all = counts-more (finds_not_free s.0) (i + 1) acts more in
       omega (arith, one, all)
 
   removes-length : (i : ℕ) (acts : List Act) → Removes s i acts → length acts ≤ 3
@@ -61,7 +61,7 @@ module _ (s : SelNo) where
   looks-turns : (bound : ℕ) → Turns s bound (look_over s) Looks
   looks-turns bound = record {
     looks = λ j acts looked act asks here.
-        let more = counts-more (finds_listed s.0) (64 * j) acts (act ∷ []) in
+        let more = counts-more (finds_not_free s.0) (64 * j) acts (act ∷ []) in
         let all = length-append acts (act ∷ []) in
         omega (arith, here, more, all);
     at = λ w i acts looked within found here. always_look s i (λ xs y. Looks w (i + 1) (acts ++ xs) y) looked
@@ -76,7 +76,7 @@ module _ (s : SelNo) where
         let entry = looked_key i (stage_in (answer_of turn.look)) (operations_in (answer_of turn.interest)) in
         let more = length-append looked (entry ∷ []) in
         omega (arith, here, one, all, few, more))
-        (λ xs turn.
+        (λ xs turn _.
         let one = listed-one i acts xs found in
         let all = length-append acts xs in
         omega (arith, here, one, all, passes-length i xs turn));
@@ -86,9 +86,9 @@ module _ (s : SelNo) where
   }
 
   looks_bounded : (bound : ℕ) (over : List Act) (looked : List LookedKey)
-      → Completes (over_listed s bound (look_over s) []) over looked → Looks (words_below bound) bound over looked
+      → Completes (over_not_free s bound (look_over s) []) over looked → Looks (words_below bound) bound over looked
   looks_bounded bound over looked run =
-      always_run (Looks (words_below bound) bound) (over_listed s bound (look_over s) []) over looked
+      always_run (Looks (words_below bound) bound) (over_not_free s bound (look_over s) []) over looked
       (always_listed s bound (look_over s) Looks (looks-turns bound) [] (omega arith)) run
 
   -- and at the end at most three
@@ -98,7 +98,7 @@ module _ (s : SelNo) where
   sweeps-turns : (mark : ℕ) → Turns s mark (λ i _. remove_if_cancelled s i) Sweeps
   sweeps-turns mark = record {
     looks = λ j acts u act asks here.
-        let more = counts-more (finds_listed s.0) (64 * j) acts (act ∷ []) in
+        let more = counts-more (finds_not_free s.0) (64 * j) acts (act ∷ []) in
         let all = length-append acts (act ∷ []) in
         omega (arith, here, more, all);
     at = λ w i acts u within found here. always_remove s i (λ xs. Sweeps w (i + 1) (acts ++ xs) tt)
@@ -116,10 +116,10 @@ module _ (s : SelNo) where
   }
 
   sweeps_bounded : (mark : ℕ) (sweeps : List Act)
-      → Completes (over_listed s mark (λ i _. remove_if_cancelled s i) tt) sweeps tt
+      → Completes (over_not_free s mark (λ i _. remove_if_cancelled s i) tt) sweeps tt
       → Sweeps (words_below mark) mark sweeps tt
   sweeps_bounded mark sweeps run =
-      always_run (Sweeps (words_below mark) mark) (over_listed s mark (λ i _. remove_if_cancelled s i) tt) sweeps tt
+      always_run (Sweeps (words_below mark) mark) (over_not_free s mark (λ i _. remove_if_cancelled s i) tt) sweeps tt
       (always_listed s mark (λ i _. remove_if_cancelled s i) Sweeps (sweeps-turns mark) tt (omega arith)) run
 
 -- ---- a whole selection
@@ -163,8 +163,8 @@ module _ (l : Limits) (n : CallerNo) (past window : List Event) (selection : Sel
 
   bounded : length (whole.first ++ BeginLook s whole.found ∷ whole.second)
       + length (whole.third ++ LookKeys s whole.mark ∷ whole.fourth)
-      ≤ 9 + words_below selection.bound + words_below whole.mark + 4 * count_listed s selection.bound whole.second
-      + 3 * count_listed s whole.mark whole.fourth + count (unselects s.0 selection.bound) (map (λ e. e.act) window)
+      ≤ 9 + words_below selection.bound + words_below whole.mark + 4 * count_not_free s selection.bound whole.second
+      + 3 * count_not_free s whole.mark whole.fourth + count (unselects s.0 selection.bound) (map (λ e. e.act) window)
   unfolding acts_in
   bounded =
       let bound = selection.bound in
@@ -175,13 +175,13 @@ module _ (l : Limits) (n : CallerNo) (past window : List Event) (selection : Sel
       let looks = looks_bounded s bound first_part.over selection.looked first_part.runs_over in
       let swept = sweeps_bounded s whole.mark sweeps
       (subst (λ b. Completes (remove_below s whole.mark b) sweeps tt) first_part.listed end_part.runs_sweeps) in
-      let found_first : count_below bound (listed s first_part.over) ≤ count_listed s bound whole.second
+      let found_first : count_below bound (listed s first_part.over) ≤ count_not_free s bound whole.second
       = subst (λ xs. count_below bound (listed s first_part.over) ≤ count_below bound (listed s xs))
-      (sym (begin_cut None selection poll whole).2) (counts-later (finds_listed s.0) bound (first_part.keys ∷ []) first_part.over) in
-      let found_last : count_below whole.mark (listed s sweeps) ≤ count_listed s whole.mark whole.fourth
+      (sym (begin_cut None selection poll whole).2) (counts-later (finds_not_free s.0) bound (first_part.keys ∷ []) first_part.over) in
+      let found_last : count_below whole.mark (listed s sweeps) ≤ count_not_free s whole.mark whole.fourth
       = subst (λ xs. count_below whole.mark (listed s sweeps) ≤ count_below whole.mark (listed s xs))
       (sym end_part.after)
-      (counts-more (finds_listed s.0) whole.mark sweeps (end_part.ended.wake ∷ end_part.ended.gives ∷ [])) in
+      (counts-more (finds_not_free s.0) whole.mark sweeps (end_part.ended.wake ∷ end_part.ended.gives ∷ [])) in
       omega (arith, all, marks, few, looks, swept, found_first, found_last)
 
 pub selection_is_bounded : SelectionIsBounded

@@ -10,7 +10,7 @@ use Rattle.nio_history.specs.declared.act.Act.{Act}
 use Rattle.nio_history.specs.declared.act.Act.TheVariants.{LookTouched}
 use Rattle.nio_steps.proofs.Listing.{always_remove}
 use Rattle.nio_steps.proofs.Lists.{contains-middle}
-use Rattle.nio_steps.proofs.LookedLaws.{Settled, settled-left, settled-right, settles-removed, settles-passed}
+use Rattle.nio_steps.proofs.LookedLaws.{Settled, met-left, met-right, met-removed, settles-passed}
 use Rattle.nio_steps.proofs.Shown.{over_one, shown-all}
 use Rattle.nio_steps.proofs.Walks.{Always, always_any, always_run, always_sweep, always_weaker}
 use Rattle.nio_steps.specs.ChannelCalls.{words_below}
@@ -30,13 +30,13 @@ pub data SettledEnd (s : SelNo) (i : ℕ) (acts : List Act) : Type 0 where
 settled_end-left : (s : SelNo) (i : ℕ) (acts later : List Act) → SettledEnd s i acts → SettledEnd s i (acts ++ later)
 settled_end-left s i acts later (is_untouched word look clear) =
     is_untouched word (Contains-append_left acts later (LookTouched s (i / 64) word) look) clear
-settled_end-left s i acts later (is_settled settled) = is_settled (settled-left s i acts later settled)
+settled_end-left s i acts later (is_settled settled) = is_settled (met-left s i acts later settled)
 
 settled_end-right : (s : SelNo) (i : ℕ) (earlier acts : List Act) → SettledEnd s i acts
     → SettledEnd s i (earlier ++ acts)
 settled_end-right s i earlier acts (is_untouched word look clear) =
     is_untouched word (Contains-append_right earlier acts (LookTouched s (i / 64) word) look) clear
-settled_end-right s i earlier acts (is_settled settled) = is_settled (settled-right s i earlier acts settled)
+settled_end-right s i earlier acts (is_settled settled) = is_settled (met-right s i earlier acts settled)
 
 pub touched-look : (s : SelNo) (j : ℕ) (act : Act) → question_of act ≡ Question.look_touched s j
     → act ≡ LookTouched s j (word_in (answer_of act))
@@ -53,10 +53,10 @@ module _ (s : SelNo) (i : ℕ) where
   shown-settles word bit u =
       over_one (λ acts _. Settled s i acts) i remove_at (shown word (i / 64) 64) u
       (λ acts v. always_weaker (λ zs _. Settled s i zs) (λ zs _. Settled s i (acts ++ zs)) (remove_if_cancelled s i)
-      (λ zs _ here. settled-right s i acts zs here)
-      (always_remove s i (Settled s i) (settles-removed s i) (settles-passed s i)))
+      (λ zs _ here. met-right s i acts zs here)
+      (always_remove s i (Settled s i) (met-removed s i) (settles-passed s i)))
       (λ k acts v _ here. always_weaker (λ _ _. Unit {0}) (λ zs _. Settled s i (acts ++ zs)) (remove_if_cancelled s k)
-      (λ zs _ _. settled-left s i acts zs here) (always_any (remove_if_cancelled s k)))
+      (λ zs _ _. met-left s i acts zs here) (always_any (remove_if_cancelled s k)))
       (shown-all word i bit)
 
   -- the turn of its word
@@ -70,7 +70,7 @@ module _ (s : SelNo) (i : ℕ) where
       by_bit act asks true bit =
           always_weaker (λ zs _. Settled s i zs) (λ zs _. SettledEnd s i (act ∷ zs))
           (sweep_over (shown (word_in (answer_of act)) (i / 64) 64) remove_at u)
-          (λ zs _ here. is_settled (settled-right s i (act ∷ []) zs here))
+          (λ zs _ here. is_settled (met-right s i (act ∷ []) zs here))
           (shown-settles (word_in (answer_of act)) bit u)
       by_bit act asks false clear =
           always_weaker (λ _ _. Unit {0}) (λ zs _. SettledEnd s i (act ∷ zs))
@@ -103,10 +103,10 @@ module _ (s : SelNo) (i : ℕ) where
           (λ zs _ _ low. absurd (omega (arith, low, ltb-false (i / 64) j earlier, eqb-false (i / 64) j at)))
           (always_any (over_touched s remove_at j u))
 
-  pub listed_end-settles : (mark : ℕ) (sweeps : List Act) → Completes (remove_below s mark true) sweeps tt → i < mark
-      → SettledEnd s i sweeps
+  pub listed_end-settles : (mark : ℕ) (sweeps : List Act) → Completes (remove_below s mark true) sweeps tt
+      → i / 64 < words_below mark → SettledEnd s i sweeps
   listed_end-settles mark sweeps run below =
       always_run (Left (words_below mark)) (remove_below s mark true) sweeps tt
       (always_sweep Left (words_below mark) 0 (over_touched s remove_at) tt (omega arith)
       (λ none. absurd (omega (arith, none))) (λ j acts u _ _ before. one-word j acts u before)) run
-      (omega (arith, below))
+      below

@@ -28,8 +28,8 @@ use Rattle.nio_history.specs.declared.act.Act.{Act}
 use Rattle.nio_history.specs.declared.act.Act.TheVariants.{LookKey, LookKeys, LookFree, Remove}
 use Rattle.nio_history.specs.declared.event.Event.{Event}
 use Rattle.nio_history.specs.declared.found.Stage.{Stage}
-use Rattle.nio_steps.proofs.LookedLaws.{Settled, is_free, stands_outside, is_gone, settled-left, settled-right}
-use Rattle.nio_steps.proofs.LookedLaws.{begin-settles, end-settles, looks_at_valid_keys}
+use Rattle.nio_steps.proofs.LookedLaws.{Settled, is_free, is_found, is_gone, met-left, met-right, met-weaker}
+use Rattle.nio_steps.proofs.LookedLaws.{begin-meets, end-settles, looks_at_valid_keys}
 use Rattle.nio_steps.proofs.OwnActs.{at_own, mine-own_first}
 use Rattle.nio_steps.proofs.ToldParts.{cut_at_keys}
 use Rattle.nio_steps.specs.KeyCalls.{has_bit}
@@ -136,22 +136,27 @@ removal_stands l n before later s i serial found legal there removes =
     ∙ sym at.parts in
     facts_are_permanent l (at.past ++ e ∷ []) (before ++ later) (at.rest, joined) legal (key_removed s.0 i serial) here
 
+-- also where the key was published before
+pub removal_gone : (l : Limits) (n : CallerNo) (before later : List Event) (s : SelNo) (i serial : ℕ) (found : Stage)
+    → IsLegal l (before ++ later) → was_published ((state_after before).key s.0 i) serial ≡ true
+    → Contains (mine n later) (Remove s i found)
+    → was_removed ((state_after (before ++ later)).key s.0 i) serial ≡ true
+removal_gone l n before later s i serial found legal published there =
+    removal_stands l n before later s i serial found legal there
+    (λ past begins legal' k is. also_removed (nat_lt serial k.serial) (fits k serial) k.published true
+    (subst (λ (x : Stage). was_published x serial ≡ true) (sym is)
+    (facts_are_permanent l before past begins legal' (key_published s.0 i serial) published)) refl)
+
 -- ---- the law
 
 module _ (l : Limits) (n : CallerNo) (before later : List Event) (s : SelNo) (i serial : ℕ)
     (legal : IsLegal l (before ++ later))
-    (published : was_published ((state_after before).key s.0 i) serial ≡ true)
-    (cancelled : was_cancelled ((state_after before).key s.0 i) serial ≡ true) where
+    (published : was_published ((state_after before).key s.0 i) serial ≡ true) where
   -- what was so before is so at each step of this caller since
-  still_published : (past : List Event) → IsPrefix before past → IsLegal l past
+  pub still_published : (past : List Event) → IsPrefix before past → IsLegal l past
       → was_published ((state_after past).key s.0 i) serial ≡ true
   still_published past begins legal' =
       facts_are_permanent l before past begins legal' (key_published s.0 i serial) published
-
-  still_cancelled : (past : List Event) → IsPrefix before past → IsLegal l past
-      → was_cancelled ((state_after past).key s.0 i) serial ≡ true
-  still_cancelled past begins legal' =
-      facts_are_permanent l before past begins legal' (key_cancelled s.0 i serial) cancelled
 
   -- what is so at such a step is so at the end
   at_end : (act : Act) (at : StepIn l n before later act) → was_removed ((state_after at.past).key s.0 i) serial ≡ true
@@ -160,7 +165,8 @@ module _ (l : Limits) (n : CallerNo) (before later : List Event) (s : SelNo) (i 
       facts_are_permanent l at.past (before ++ later) (event_of n act ∷ at.rest, sym at.parts) legal
       (key_removed s.0 i serial) here
 
-  free_gone : (j b word : ℕ) → i ≡ 64 * j + b → b < 64 → Contains (mine n later) (LookFree s j word)
+  -- a look shows the index free
+  pub free_gone : (j b word : ℕ) → i ≡ 64 * j + b → b < 64 → Contains (mine n later) (LookFree s j word)
       → has_bit word b ≡ true → was_removed ((state_after (before ++ later)).key s.0 i) serial ≡ true
   free_gone j b word at low look bit =
       let act = LookFree s j word in
@@ -182,55 +188,59 @@ module _ (l : Limits) (n : CallerNo) (before later : List Event) (s : SelNo) (i 
       by_bit true is one = refl
       by_bit {w = w} false is one = absurd (omega (arith, is, eqb-true w 1 one))
 
-  -- where the key isn't in the cancelled set at a time since, it is removed
-  pub outside_since : (past rest : List Event) → before ++ later ≡ past ++ rest → IsPrefix before past
-      → IsLegal l past
-      → in_cancelled_set ((state_after past).key s.0 i) ≡ false
-      → was_removed ((state_after (before ++ later)).key s.0 i) serial ≡ true
-  outside_since past rest parts begins legal' outside =
-      let k : Stage = (state_after past).key s.0 i in
-      facts_are_permanent l past (before ++ later) (rest, sym parts) legal (key_removed s.0 i serial)
-      (outside_removed (nat_lt serial k.serial) (fits k serial) k.published k.cancelled k.removed
-      (still_published past begins legal') (still_cancelled past begins legal') outside)
+  module _ (cancelled : was_cancelled ((state_after before).key s.0 i) serial ≡ true) where
+    still_cancelled : (past : List Event) → IsPrefix before past → IsLegal l past
+        → was_cancelled ((state_after past).key s.0 i) serial ≡ true
+    still_cancelled past begins legal' =
+        facts_are_permanent l before past begins legal' (key_cancelled s.0 i serial) cancelled
 
-  -- a key that is valid then is another one
-  pub other_since : (past : List Event) → IsPrefix before past → IsLegal l past
-      → is_valid ((state_after past).key s.0 i) ≡ true → ((state_after past).key s.0 i).serial ≡ serial → ⊥
-  other_since past begins legal' valid same =
-      let k : Stage = (state_after past).key s.0 i in
-      valid_uncancelled (nat_lt serial k.serial) (fits k serial) k.published k.cancelled k.removed
-      (le-ltb serial k.serial (omega (arith, same))) (still_cancelled past begins legal') valid
+    -- where the key isn't in the cancelled set at a time since, it is removed
+    pub outside_since : (past rest : List Event) → before ++ later ≡ past ++ rest → IsPrefix before past
+        → IsLegal l past
+        → in_cancelled_set ((state_after past).key s.0 i) ≡ false
+        → was_removed ((state_after (before ++ later)).key s.0 i) serial ≡ true
+    outside_since past rest parts begins legal' outside =
+        let k : Stage = (state_after past).key s.0 i in
+        facts_are_permanent l past (before ++ later) (rest, sym parts) legal (key_removed s.0 i serial)
+        (outside_removed (nat_lt serial k.serial) (fits k serial) k.published k.cancelled k.removed
+        (still_published past begins legal') (still_cancelled past begins legal') outside)
 
-  outside_gone : (stage : Stage) → Contains (mine n later) (LookKey s i stage) → in_cancelled_set stage ≡ false
-      → was_removed ((state_after (before ++ later)).key s.0 i) serial ≡ true
-  outside_gone stage look outside =
-      let act = LookKey s i stage in
-      let there = step_in l n before later act legal look in
-      let is : stage ≡ (state_after there.past).key s.0 i = ap stage_in there.step.answers in
-      outside_since there.past (event_of n act ∷ there.rest) there.parts there.begins there.legal_past
-      (ap in_cancelled_set (sym is) ∙ outside)
+    -- a key that is valid then is another one
+    pub other_since : (past : List Event) → IsPrefix before past → IsLegal l past
+        → is_valid ((state_after past).key s.0 i) ≡ true → ((state_after past).key s.0 i).serial ≡ serial → ⊥
+    other_since past begins legal' valid same =
+        let k : Stage = (state_after past).key s.0 i in
+        valid_uncancelled (nat_lt serial k.serial) (fits k serial) k.published k.cancelled k.removed
+        (le-ltb serial k.serial (omega (arith, same))) (still_cancelled past begins legal') valid
 
-  pub settled-gone : Settled s i (mine n later) → was_removed ((state_after (before ++ later)).key s.0 i) serial ≡ true
-  settled-gone (is_free j b word at low look bit) = free_gone j b word at low look bit
-  settled-gone (stands_outside stage look outside) = outside_gone stage look outside
-  settled-gone (is_gone found there) =
-      removal_stands l n before later s i serial found legal there
-      (λ past begins legal' k is. also_removed (nat_lt serial k.serial) (fits k serial) k.published true
-      (subst (λ (x : Stage). was_published x serial ≡ true) (sym is) (still_published past begins legal')) refl)
+    outside_gone : (stage : Stage) → Contains (mine n later) (LookKey s i stage) → in_cancelled_set stage ≡ false
+        → was_removed ((state_after (before ++ later)).key s.0 i) serial ≡ true
+    outside_gone stage look outside =
+        let act = LookKey s i stage in
+        let there = step_in l n before later act legal look in
+        let is : stage ≡ (state_after there.past).key s.0 i = ap stage_in there.step.answers in
+        outside_since there.past (event_of n act ∷ there.rest) there.parts there.begins there.legal_past
+        (ap in_cancelled_set (sym is) ∙ outside)
 
-  -- a looked key is another one
-  not-looked : (stage : Stage) → Contains (mine n later) (LookKey s i stage) → is_valid stage ≡ true
-      → stage.serial ≡ serial → ⊥
-  not-looked stage look valid same =
-      let there = step_in l n before later (LookKey s i stage) legal look in
-      let is : stage ≡ (state_after there.past).key s.0 i = ap stage_in there.step.answers in
-      other_since there.past there.begins there.legal_past (ap is_valid (sym is) ∙ valid)
-      (ap (λ (x : Stage). x.serial) (sym is) ∙ same)
+    pub settled-gone : Settled s i (mine n later) → was_removed ((state_after (before ++ later)).key s.0 i) serial ≡ true
+    settled-gone (is_free j b word at low look bit) = free_gone j b word at low look bit
+    settled-gone (is_found stage look outside) = outside_gone stage look outside
+    settled-gone (is_gone found there) = removal_gone l n before later s i serial found legal published there
+
+    -- a looked key is another one
+    not-looked : (stage : Stage) → Contains (mine n later) (LookKey s i stage) → is_valid stage ≡ true
+        → stage.serial ≡ serial → ⊥
+    not-looked stage look valid same =
+        let there = step_in l n before later (LookKey s i stage) legal look in
+        let is : stage ≡ (state_after there.past).key s.0 i = ap stage_in there.step.answers in
+        other_since there.past there.begins there.legal_past (ap is_valid (sym is) ∙ valid)
+        (ap (λ (x : Stage). x.serial) (sym is) ∙ same)
 
 pub cancelled_keys_go : CancelledKeysGo
 cancelled_keys_go l n before later s mode selection i serial legal run published cancelled below = (
   settled-gone l n before later s i serial legal published cancelled
-      (begin-settles s mode (mine n later) selection run i below),
+      (met-weaker s i (mine n later) (λ stage listed. listed.outside)
+      (begin-meets s mode (mine n later) selection run i below)),
   All-weaker (IsLookedAt s (mine n later)) (λ entry. (entry.index ≡ i) × (entry.serial ≡ serial) → ⊥)
       (λ entry is same. not-looked l n before later s i serial legal published cancelled is.stage
       (subst (λ (k : ℕ). Contains (mine n later) (LookKey s k is.stage)) same.0 is.look) is.valid (is.serial ∙ same.1))
@@ -251,8 +261,8 @@ cancelled_keys_go_at_end l n before looked later selection poll answer mark i se
     let settled : Settled s i (mine n (e ∷ later))
     = subst (Settled s i)
     (sym (mine-own_first n e later (eq-eqb n.0 n.0 refl) ∙ ap (λ xs. LookKeys s mark ∷ xs) cut.after))
-    (settled-right s i (LookKeys s mark ∷ []) (cut.ended.sweeps ++ cut.ended.wake ∷ cut.ended.gives ∷ [])
-    (settled-left s i cut.ended.sweeps (cut.ended.wake ∷ cut.ended.gives ∷ []) swept)) in
+    (met-right s i (LookKeys s mark ∷ []) (cut.ended.sweeps ++ cut.ended.wake ∷ cut.ended.gives ∷ [])
+    (met-left s i cut.ended.sweeps (cut.ended.wake ∷ cut.ended.gives ∷ []) swept)) in
     let joined : (before ++ looked) ++ e ∷ later ≡ before ++ (looked ++ e ∷ later) = append_assoc before looked
     (e ∷ later) in
     subst (λ events. was_removed ((state_after events).key s.0 i) serial ≡ true) joined

@@ -1,13 +1,12 @@
 -- A key that was cancelled before a selection with the list begins is gone when it has begun, and one that was cancelled
 -- before its end looks for such keys is gone when it is over.
-use Rattle.std.proofs.Common.{◌≡◌, ℕ, ◌/◌, ◌%◌, Bool, true, false, not, ◌&&◌, Some, List, [], ◌∷◌, ◌++◌, refl}
-use Rattle.std.proofs.Common.{ap, sym, ◌∙◌, subst, append_assoc, eq-eqb, arith}
+use Rattle.std.proofs.Common.{◌≡◌, ℕ, ◌/◌, ◌%◌, Bool, true, false, not, ◌&&◌, List, [], ◌∷◌, ◌++◌, refl}
+use Rattle.std.proofs.Common.{ap, sym, ◌∙◌, subst, append_assoc, eq-eqb, arith, ◌<◌}
 use Rattle.std.specs.Prelude.{⊤}
 use Rattle.std.specs.List.{All, Contains}
 use mathlib.Core.List.{IsPrefix}
 use Rattle.std.proofs.lemmas.Bool.{or_from}
-use Rattle.std.proofs.lemmas.List.{append-nil}
-use Rattle.std.proofs.lemmas.List.Elements.{All-weaker, Contains-append_right}
+use Rattle.std.proofs.lemmas.List.Elements.{All-weaker}
 use Rattle.nio_base.specs.declared.limits.Limits.{Limits}
 use Rattle.nio_base.specs.declared.numbers.CallerNo.{CallerNo}
 use Rattle.nio_base.specs.declared.numbers.SelNo.{SelNo}
@@ -25,7 +24,6 @@ use Rattle.nio_history.specs.declared.act.Act.TheVariants.{LookKeys, LookTouched
 use Rattle.nio_history.specs.declared.event.Event.{Event}
 use Rattle.nio_history.specs.declared.found.IndexWord.{IndexWord}
 use Rattle.nio_history.specs.declared.found.Stage.{Stage}
-use Rattle.nio_steps.proofs.BeginLaws.{begin-parts}
 use Rattle.nio_steps.proofs.EachLaws.{each_run}
 use Rattle.nio_steps.proofs.EndListed.{SettledEnd, is_untouched, is_settled, listed_end-settles}
 use Rattle.nio_steps.proofs.Enlisted.{entry_stands, listed_there}
@@ -33,17 +31,19 @@ use Rattle.nio_steps.proofs.GoneLaws.{outside_since, other_since, settled-gone, 
 use Rattle.nio_steps.proofs.IndexOutcomes.{IsClear, IsLeft, Outcome, is_clear, is_removed, is_found, is_outside}
 use Rattle.nio_steps.proofs.IndexOutcomes.{FoundListed, begin-outcome}
 use Rattle.nio_steps.proofs.Lists.{contains-middle, parted}
-use Rattle.nio_steps.proofs.LookedLaws.{Settled, is_gone, settled-left, settled-right}
-use Rattle.nio_steps.proofs.OwnActs.{mine-own_first, part_at}
+use Rattle.nio_steps.proofs.LookedLaws.{Settled, is_gone, met-left, met-right}
+use Rattle.nio_steps.proofs.OwnActs.{mine-own_first}
 use Rattle.nio_steps.proofs.OwnSteps.{step_at}
 use Rattle.nio_steps.proofs.Relisted.{as_listed}
 use Rattle.nio_steps.proofs.SelectionAsks.{each_remove_below}
 use Rattle.nio_steps.proofs.SelectionLaws.{NoGive, asks_give, no_gives, not-gives, none_of-append, marks-no_give}
 use Rattle.nio_steps.proofs.StandLaws.{selections_stand}
-use Rattle.nio_steps.proofs.StoodMoments.{IsOpened, clear-right, opened-at}
+use Rattle.nio_steps.proofs.StoodMoments.{IsOpened, clear-right, contained, legal_whole, moment_parts, moment_begins}
+use Rattle.nio_steps.proofs.StoodMoments.{cut_call}
 use Rattle.nio_steps.proofs.ToldParts.{CutAtKeys, cut_at_keys}
 use Rattle.nio_steps.proofs.Unlisted.{other_calls_leave_list}
 use Rattle.nio_steps.proofs.WhereUntouched.{clear_untouched, untouched_stands}
+use Rattle.nio_steps.specs.ChannelCalls.{words_below}
 use Rattle.nio_steps.specs.KeyCalls.{has_bit}
 use Rattle.nio_steps.specs.ListLaws.{lists_index, CancelledListedKeysGo, CancelledListedKeysGoAtEnd}
 use Rattle.nio_steps.specs.Lists.{KnowsList, listed_at}
@@ -54,6 +54,7 @@ use Rattle.nio_steps.specs.Selections.{IsBegun}
 use Rattle.nio_steps.specs.Steps.{index_in, word_in}
 use Rattle.nio_steps.specs.TableCalls.{told}
 use Rattle.nio_steps.specs.declared.looked.LookedKey.{LookedKey}
+use Rattle.nio_steps.specs.declared.selected.Selected.{Selected}
 
 -- ---- what a `told` does till its end
 
@@ -61,7 +62,7 @@ use Rattle.nio_steps.specs.declared.looked.LookedKey.{LookedKey}
 told-unlisted : (l : Limits) (selection : Selection) (poll : Poll) (acts : List Act) (answer : ToldReply) (s : SelNo)
     (i : ℕ) → Tells selection poll acts answer → has (lists_index s.0 i) acts ≡ false
 told-unlisted l selection poll acts answer s i run =
-    other_calls_leave_list l false (told selection poll) acts answer s i (λ t mode known same. absurd (cc same)) run
+    other_calls_leave_list l false (told selection poll) acts answer s i (λ mode known same. absurd (cc same)) run
 
 module _ (selection : Selection) (poll : Poll) (third fourth : List Act) (mark : ℕ)
     (cut : CutAtKeys selection poll third mark fourth) where
@@ -137,8 +138,18 @@ module _ (l : Limits) (n : CallerNo) (before looked later : List Event) (selecti
       (event_of n act ∷ at.rest) at.whole (at.past, refl) at.legal_past
       (ap (λ events. in_cancelled_set ((state_after events).key s.0 i)) (sym joined) ∙ right.not_cancelled)
 
-pub cancelled_listed_keys_go_at_end : CancelledListedKeysGoAtEnd
-cancelled_listed_keys_go_at_end l n before looked later selection poll answer mark i serial legal begun listed knows run
+-- also where the index isn't below the mark, but in a word that has an index below it
+pub cancelled_keys_go_by_words : (l : Limits) (n : CallerNo) (before looked later : List Event) (selection : Selection)
+    (poll : Poll) (answer : Selected) (mark i serial : ℕ)
+    → let s = selection.selector in
+    let call = looked ++ event_of n (LookKeys s mark) ∷ later in
+    IsLegal l (before ++ call) → IsBegun (mine n before) selection → selection.listed ≡ true
+    → KnowsList l n before s selection.looked → Tells selection poll (mine n call) (done answer)
+    → was_published ((state_after (before ++ looked)).key s.0 i) serial ≡ true
+    → was_cancelled ((state_after (before ++ looked)).key s.0 i) serial ≡ true
+    → i / 64 < words_below mark
+    → was_removed ((state_after (before ++ call)).key s.0 i) serial ≡ true
+cancelled_keys_go_by_words l n before looked later selection poll answer mark i serial legal begun listed knows run
     published cancelled below =
     let s = selection.selector in
     let e = event_of n (LookKeys s mark) in
@@ -172,8 +183,8 @@ cancelled_listed_keys_go_at_end l n before looked later selection poll answer ma
         let s = selection.selector in
         settled-gone l n (before ++ looked) (event_of n (LookKeys s mark) ∷ later) s i serial legal' published cancelled
         (subst (Settled s i) (sym own)
-        (settled-right s i (LookKeys s mark ∷ []) (cut.ended.sweeps ++ cut.ended.wake ∷ cut.ended.gives ∷ [])
-        (settled-left s i cut.ended.sweeps (cut.ended.wake ∷ cut.ended.gives ∷ []) settled)))
+        (met-right s i (LookKeys s mark ∷ []) (cut.ended.sweeps ++ cut.ended.wake ∷ cut.ended.gives ∷ [])
+        (met-left s i cut.ended.sweeps (cut.ended.wake ∷ cut.ended.gives ∷ []) settled)))
     by_settled cut legal' own lists_looked lists_later (is_untouched word look clear) =
         let s = selection.selector in
         let act = LookTouched s (i / 64) word in
@@ -190,6 +201,12 @@ cancelled_listed_keys_go_at_end l n before looked later selection poll answer ma
         (at.later ++ ends) (own ∙ ap (λ xs. LookKeys s mark ∷ xs) swept) clear lists_looked lists.0
         (third-gives_none selection poll (mine n looked) (mine n later) mark cut) gives.0 published cancelled
 
+pub cancelled_listed_keys_go_at_end : CancelledListedKeysGoAtEnd
+cancelled_listed_keys_go_at_end l n before looked later selection poll answer mark i serial legal begun listed knows run
+    published cancelled below =
+    cancelled_keys_go_by_words l n before looked later selection poll answer mark i serial legal begun listed knows run
+    published cancelled (omega (arith, below))
+
 -- ---- the beginning
 
 -- what the caller found of the index as the selection began
@@ -200,22 +217,8 @@ module _ (l : Limits) (n : CallerNo) (before opened later : List Event) (s : Sel
   abbrev whole : List Event
   whole = before ++ (opened ++ later)
 
-  joined : (before ++ opened) ++ later ≡ whole
-  joined = append_assoc before opened later
-
-  legal_whole : IsLegal l whole
-  legal_whole = subst (IsLegal l) joined o.legal
-
-  own_whole : mine n (opened ++ later) ≡ (mine n opened ++ o.keys ∷ []) ++ o.over
-  own_whole =
-      mine-append n opened later
-      ∙ (ap (λ xs. mine n opened ++ xs) (o.own ∙ ap (λ xs. o.keys ∷ xs) (append-nil o.over))
-      ∙ sym (append_assoc (mine n opened) (o.keys ∷ []) o.over))
-
-  contained : (act : Act) → Contains o.over act → Contains (mine n (opened ++ later)) act
-  contained act there =
-      subst (λ xs. Contains xs act) (sym own_whole)
-      (Contains-append_right (mine n opened ++ o.keys ∷ []) o.over act there)
+  legal_call : IsLegal l whole
+  legal_call = legal_whole l n before opened later s known bound looked [] o
 
   abbrev IsGone : Type 0
   IsGone = was_removed ((state_after whole).key s.0 i) serial ≡ true
@@ -238,7 +241,8 @@ module _ (l : Limits) (n : CallerNo) (before opened later : List Event) (s : Sel
   looked-at : (word : IndexWord) → Contains o.over (LookIndex s i word) → LookedAt word
   looked-at word there =
       let act = LookIndex s i word in
-      let at = step_in l n before (opened ++ later) act legal_whole (contained act there) in
+      let at = step_in l n before (opened ++ later) act legal_call
+      (contained l n before opened later s known bound looked [] o act there) in
       record {
         past = at.past;
         rest = event_of n act ∷ at.rest;
@@ -252,17 +256,16 @@ module _ (l : Limits) (n : CallerNo) (before opened later : List Event) (s : Sel
       → IsGone
   outside-gone word there outside =
       let at = looked-at word there in
-      outside_since l n before (opened ++ later) s i serial legal_whole published cancelled at.past at.rest at.parts
+      outside_since l n before (opened ++ later) s i serial legal_call published cancelled at.past at.rest at.parts
       at.begins at.legal_past (ap in_cancelled_set (sym at.stage_is) ∙ outside)
 
   clear-gone : IsClear s i o.over → IsLeft s i known o.over looked → IsGone × All IsOther looked
   clear-gone clear left =
       let then = clear-right l n before opened later s known bound looked [] o i clear left.lists left.spares in
       let past = (before ++ opened) ++ then.past in
-      let begins : IsPrefix before past = (opened ++ then.past, sym (append_assoc before opened then.past)) in
-      let parts : whole ≡ past ++ then.rest = sym joined ∙ (ap (λ events. (before ++ opened) ++ events) then.parts
-      ∙ sym (append_assoc (before ++ opened) then.past then.rest)) in (
-        outside_since l n before (opened ++ later) s i serial legal_whole published cancelled past then.rest parts
+      let begins = moment_begins l n before opened later s known bound looked [] o then in
+      let parts = moment_parts l n before opened later s known bound looked [] o then in (
+        outside_since l n before (opened ++ later) s i serial legal_call published cancelled past then.rest parts
             begins then.legal_past then.fact.not_cancelled,
         All-weaker (λ e. e.index ≡ i → Contains known e) IsOther
             (λ e there same.
@@ -270,7 +273,7 @@ module _ (l : Limits) (n : CallerNo) (before opened later : List Event) (s : Sel
             let is = entry_stands st s.0 i (as_listed e)
             (sym (listed_there known e o.knows.right.rise (there same.0))
             ∙ (ap (λ (k : ℕ). listed_at known k) same.0 ∙ then.fact.stands)) in
-            other_since l n before (opened ++ later) s i serial legal_whole published cancelled past begins
+            other_since l n before (opened ++ later) s i serial legal_call published cancelled past begins
             then.legal_past is.valid (is.serial ∙ same.1)) looked left.kept,
       )
 
@@ -292,7 +295,7 @@ module _ (l : Limits) (n : CallerNo) (before opened later : List Event) (s : Sel
       let look = looked-at found.word there in (
         outside-gone found.word there (valid-outside found.word.stage found.valid),
         All-weaker (λ e. e.index ≡ i → e ≡ key) IsOther
-            (λ e is same. other_since l n before (opened ++ later) s i serial legal_whole published cancelled look.past
+            (λ e is same. other_since l n before (opened ++ later) s i serial legal_call published cancelled look.past
             look.begins look.legal_past (ap is_valid (sym look.stage_is) ∙ found.valid)
             (ap (λ (x : Stage). x.serial) (sym look.stage_is)
             ∙ (found.serial ∙ (ap (λ x. x.serial) (sym (is same.0)) ∙ same.1)))) looked only,
@@ -301,8 +304,8 @@ module _ (l : Limits) (n : CallerNo) (before opened later : List Event) (s : Sel
   outcome-gone : Outcome s i known o.over looked → IsGone × All IsOther looked
   outcome-gone (is_clear clear left) = clear-gone clear left
   outcome-gone (is_removed found there none) = (
-    settled-gone l n before (opened ++ later) s i serial legal_whole published cancelled
-        (is_gone found (contained (Remove s i found) there)),
+    settled-gone l n before (opened ++ later) s i serial legal_call published cancelled
+        (is_gone found (contained l n before opened later s known bound looked [] o (Remove s i found) there)),
     none-other none,
   )
   outcome-gone (is_found key at found only) = found-gone key at found only
@@ -310,16 +313,11 @@ module _ (l : Limits) (n : CallerNo) (before opened later : List Event) (s : Sel
 
 pub cancelled_listed_keys_go : CancelledListedKeysGo
 cancelled_listed_keys_go l n before later s mode known selection i serial legal knows run published cancelled below =
-    let begun = begin-parts s mode (Some known) (mine n later) selection run in
-    let cut = part_at n later (begun.gate ∷ begun.take ∷ begun.look ∷ []) (begun.keys ∷ begun.over) begun.parts in
-    let joined : (before ++ cut.past) ++ cut.later ≡ before ++ later = append_assoc before cut.past cut.later
-    ∙ ap (λ events. before ++ events) (sym cut.parts) in
-    let o = opened-at l n before cut.past cut.later s mode known (mine n later) selection [] begun
-    (subst (IsLegal l) (sym joined) legal) knows cut.mine_past
-    (cut.mine_later ∙ ap (λ xs. begun.keys ∷ xs) (sym (append-nil begun.over))) in
+    let cut = cut_call l n before later s mode known selection legal knows run in
+    let o = cut.is in
     let outcome = (begin-outcome s i known selection.bound o.over selection.looked o.runs_over).passed
     (omega (arith, below)) in
-    let both = outcome-gone l n before cut.past cut.later s known selection.bound selection.looked o i serial published
+    let both = outcome-gone l n before cut.opened cut.later s known selection.bound selection.looked o i serial published
     cancelled outcome in (
       subst (λ events. was_removed ((state_after (before ++ events)).key s.0 i) serial ≡ true) (sym cut.parts) both.0,
       both.1,

@@ -30,7 +30,7 @@ pub mod LookedLaws
 pub mod GoneLaws
 pub mod ClosedLaws
 pub mod PinBack
-mod WaitingPins
+pub mod WaitingWalks
 pub mod PinLaws
 pub mod WorksLaws
 mod ValidKeys
@@ -40,8 +40,8 @@ mod Shown
 mod EndListed
 mod OwnSteps
 mod ListAsks
-mod GoneListed
-mod Enlisted
+pub mod GoneListed
+pub mod Enlisted
 mod IndexOutcomes
 mod StoodMoments
 mod StoodLaws
@@ -53,3 +53,5 @@ mod BoundParts
 mod BoundLaws
 mod BoundLists
 mod MarkedListed
+mod ValidListed
+mod ValidLooked

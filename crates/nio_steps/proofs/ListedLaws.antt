@@ -10,7 +10,7 @@ use Rattle.nio_steps.proofs.PerformLaws.{perform_sweep, perform_over}
 use Rattle.nio_steps.specs.ChannelCalls.{words_below}
 use Rattle.nio_steps.specs.Perform.{Performed, perform}
 use Rattle.nio_steps.specs.Plan.{Plan}
-use Rattle.nio_steps.specs.Looking.{not_free, over_word, over_listed}
+use Rattle.nio_steps.specs.Looking.{not_free, over_word, over_not_free}
 use Rattle.nio_steps.specs.Sweeps.{sweep_over}
 
 -- the indexes below the bound that aren't free in this state, by the first n words
@@ -78,7 +78,7 @@ module _ {A : Type 0} (me : CallerNo) (s : SelNo) (bound : ℕ) (f : ℕ → A �
             each (listed j ++ past) e (later ++ rest.later) all
             ∙ ap after (append_assoc (listed j) past (e ∷ []))
 
-    pub perform_listed : perform me (over_listed s bound f (left [])) (stands [])
+    pub perform_listed : perform me (over_not_free s bound f (left [])) (stands [])
         ≡ record { answer = left (listed (words_below bound)); state = stands (listed (words_below bound)) }
     perform_listed =
         perform_sweep me (words_below bound) 0 (over_word s bound f) (λ j. left (listed j)) (λ j. stands (listed j))

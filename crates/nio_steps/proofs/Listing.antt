@@ -19,11 +19,11 @@ use Rattle.nio_steps.proofs.Each.{Each}
 use Rattle.nio_steps.proofs.EachLaws.{each_sweep, each_over}
 use Rattle.nio_steps.proofs.Lists.{contains-middle, any-of_one}
 use Rattle.nio_steps.proofs.Walks.{Always, always_if, always_bind, always_weaker, always_sweep, always_unbind}
-use Rattle.nio_steps.specs.Bound.{finds_listed}
+use Rattle.nio_steps.specs.Bound.{finds_not_free}
 use Rattle.nio_steps.specs.ChannelCalls.{words_below}
 use Rattle.nio_steps.specs.KeyCalls.{has_bit}
 use Rattle.nio_steps.specs.Plan.{Plan, reply, ◌>>◌, when}
-use Rattle.nio_steps.specs.Looking.{not_free, over_word, over_listed, look_over, look_valid, looked_key}
+use Rattle.nio_steps.specs.Looking.{not_free, over_word, over_not_free, look_over, look_valid, looked_key}
 use Rattle.nio_steps.specs.Looking.{remove_cancelled, remove_if_cancelled}
 use Rattle.nio_steps.specs.Steps.{put_free, word_in, stage_in, operations_in}
 use Rattle.nio_steps.specs.Sweeps.{sweep_over}
@@ -39,7 +39,7 @@ free-look s j _ asks = absurd (cc asks)
 pub each_listed : {A : Type 0} (Asks : Question → Type 0) (Left : A → Type 0) (s : SelNo) (bound : ℕ)
     (f : ℕ → A → Plan A) (x : A)
     → ((j : ℕ) → Asks (Question.look_free s j)) → Left x → ((i : ℕ) (y : A) → Left y → Each Asks Left (f i y))
-    → Each Asks Left (over_listed s bound f x)
+    → Each Asks Left (over_not_free s bound f x)
 each_listed Asks Left s bound f x frees here each =
     each_sweep Asks Left (words_below bound) 0 (over_word s bound f) x here
     (λ j y _ _ left. (
@@ -74,7 +74,7 @@ module _ {A : Type 0} (s : SelNo) (bound : ℕ) (f : ℕ → A → Plan A) (Left
   pub record Turns : Type 0 where
     pub looks : (j : ℕ) (acts : List Act) (x : A) (act : Act) → question_of act ≡ Question.look_free s j
         → Left j (64 * j) acts x → Left (j + 1) (64 * j) (acts ++ act ∷ []) x
-    pub at : (w i : ℕ) (acts : List Act) (x : A) → i < bound → has (finds_listed s.0 i) acts ≡ true → Left w i acts x
+    pub at : (w i : ℕ) (acts : List Act) (x : A) → i < bound → has (finds_not_free s.0 i) acts ≡ true → Left w i acts x
         → Always (λ ys y. Left w (i + 1) (acts ++ ys) y) (f i x)
     pub passes : (w j b word : ℕ) (acts : List Act) (x : A) → b < 64 → Contains acts (LookFree s j word)
         → has_bit word b ≡ true → Left w (64 * j + b) acts x → Left w (64 * j + b + 1) acts x
@@ -101,11 +101,11 @@ module _ {A : Type 0} (s : SelNo) (bound : ℕ) (f : ℕ → A → Plan A) (Left
           let same : bound ≡ k = omega (arith, high, within) in capped-beyond k high ∙ same
 
   found_listed : (j b word : ℕ) (acts : List Act) → b < 64 → Contains acts (LookFree s j word)
-      → not (has_bit word b) ≡ true → has (finds_listed s.0 (64 * j + b)) acts ≡ true
+      → not (has_bit word b) ≡ true → has (finds_not_free s.0 (64 * j + b)) acts ≡ true
   found_listed j b word acts low there clear =
       let word_is : j ≡ (64 * j + b) / 64 = omega arith in
       let bit_is : b ≡ (64 * j + b) % 64 = omega arith in
-      any-of_one (finds_listed s.0 (64 * j + b)) acts (LookFree s j word) there
+      any-of_one (finds_not_free s.0 (64 * j + b)) acts (LookFree s j word) there
       (and_from ((s.0 == s.0) && (j == (64 * j + b) / 64)) (not (has_bit word ((64 * j + b) % 64)))
       (and_from (s.0 == s.0) (j == (64 * j + b) / 64) (eq-eqb s.0 s.0 refl) (eq-eqb j ((64 * j + b) / 64) word_is))
       (ap (λ (c : ℕ). not (has_bit word c)) (sym bit_is) ∙ clear))
@@ -166,10 +166,10 @@ module _ {A : Type 0} (s : SelNo) (bound : ℕ) (f : ℕ → A → Plan A) (Left
             (ap not bit))
             (subst (λ (k : ℕ). Left w k (ys ++ zs) z) here_at left)))
 
-    pub always_listed : (x : A) → Left 0 0 [] x → Always (Left (words_below bound) bound) (over_listed s bound f x)
+    pub always_listed : (x : A) → Left 0 0 [] x → Always (Left (words_below bound) bound) (over_not_free s bound f x)
     always_listed x here =
         always_weaker (λ acts y. Left (words_below bound) (capped (64 * words_below bound)) acts y)
-        (Left (words_below bound) bound) (over_listed s bound f x)
+        (Left (words_below bound) bound) (over_not_free s bound f x)
         (λ acts y left. subst (λ (k : ℕ). Left (words_below bound) k acts y)
         (capped-beyond (64 * words_below bound) (omega arith)) left)
         (always_sweep (λ j acts y. Left j (capped (64 * j)) acts y) (words_below bound) 0 (over_word s bound f) x
@@ -274,7 +274,8 @@ module _ (s : SelNo) (i : ℕ) where
       → ((acts : List Act) (finds : Finds s i acts)
       → P acts
       (looked ++ looked_key i (stage_in (answer_of finds.look)) (operations_in (answer_of finds.interest)) ∷ []))
-      → ((acts : List Act) → Passes s i acts → P acts looked) → Always P (look_over s i looked)
+      → ((acts : List Act) (passes : Passes s i acts) → is_valid (stage_in (answer_of passes.look)) ≡ false
+      → P acts looked) → Always P (look_over s i looked)
   always_look P looked removes finds passes = λ look asks.
       let stage = stage_in (answer_of look) in
       always_if (λ acts y. P (look ∷ acts) y) (in_cancelled_set stage) (remove_cancelled s i stage >> reply looked) _
@@ -290,8 +291,8 @@ module _ (s : SelNo) (i : ℕ) where
         valid = valid;
         outside = outside;
       }))
-      (λ _. passes (look ∷ [])
-      (record { look = look; parts = refl; asks_look = asks; outside = outside })))
+      (λ invalid. passes (look ∷ [])
+      (record { look = look; parts = refl; asks_look = asks; outside = outside }) invalid))
 
   -- and as it ends
   pub always_remove : (P : List Act → Type 0) → ((acts : List Act) → Removes s i acts → P acts)

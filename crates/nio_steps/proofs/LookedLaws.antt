@@ -24,11 +24,11 @@ use Rattle.nio_steps.proofs.Lists.{contains-middle}
 use Rattle.nio_steps.proofs.Walks.{Always, always_weaker, always_run}
 use Rattle.nio_steps.specs.ChannelCalls.{words_below}
 use Rattle.nio_steps.specs.KeyCalls.{has_bit}
-use Rattle.nio_steps.specs.Laws.{IsLookedAt, LooksAtValidKeys}
+use Rattle.nio_steps.specs.Laws.{IsLookedAt, LooksAtValidKeys, HasEntry}
 use Rattle.nio_steps.specs.Plan.{Plan}
 use Rattle.nio_steps.specs.Runs.{Completes}
 use Rattle.nio_steps.specs.SelectCalls.{Selection, Begins}
-use Rattle.nio_steps.specs.Looking.{over_listed, look_over, looked_key, remove_if_cancelled}
+use Rattle.nio_steps.specs.Looking.{over_not_free, look_over, looked_key, remove_if_cancelled}
 use Rattle.nio_steps.specs.Steps.{stage_in, operations_in}
 use Rattle.nio_steps.specs.declared.looked.LookedKey.{LookedKey}
 
@@ -169,7 +169,7 @@ module _ (s : SelNo) where
             spared = or_from _ _ (spares-one i _ turn.interest turn.asks_interest refl) refl;
           },
         ))
-        (λ xs turn. found-later i (i + 1) acts xs looked (omega arith) (λ k _. passes-spares i xs turn k) each);
+        (λ xs turn _. found-later i (i + 1) acts xs looked (omega arith) (λ k _. passes-spares i xs turn k) each);
     passes = λ w j b word acts looked low there bit each.
         All-weaker (λ entry. (entry.index < 64 * j + b) × FoundValid s acts entry)
         (λ entry. (entry.index < 64 * j + b + 1) × FoundValid s acts entry)
@@ -177,10 +177,10 @@ module _ (s : SelNo) where
   }
 
   pub found_valid : (bound : ℕ) (over : List Act) (looked : List LookedKey) (entry : LookedKey)
-      → Completes (over_listed s bound (look_over s) []) over looked → Contains looked entry → FoundValid s over entry
+      → Completes (over_not_free s bound (look_over s) []) over looked → Contains looked entry → FoundValid s over entry
   found_valid bound over looked entry run there =
       (All-contains (λ x. (x.index < bound) × FoundValid s over x) looked entry
-      (always_run (AreFound (words_below bound) bound) (over_listed s bound (look_over s) []) over looked
+      (always_run (AreFound (words_below bound) bound) (over_not_free s bound (look_over s) []) over looked
       (always_listed s bound (look_over s) AreFound (found-turns bound) []
       (All-nil (λ entry. (entry.index < 0) × FoundValid s [] entry))) run) there).1
 
@@ -207,103 +207,168 @@ looks_at_valid_keys s mode acts selection run =
           (LookInterest s entry.index entry.interest) found.interest));
     }) selection.looked (All-contains_itself selection.looked)
 
--- ---- each index below the bound is found free, or its key not in the cancelled set, or is removed
+-- ---- what is found at each index below the bound
 
-pub data Settled (s : SelNo) (i : ℕ) (acts : List Act) : Type 0 where
+-- an index is found free, or its key is found so, or is removed
+pub data Met (s : SelNo) (i : ℕ) (Found : Stage → Type 0) (acts : List Act) : Type 0 where
   is_free : (j b word : ℕ) → i ≡ 64 * j + b → b < 64 → Contains acts (LookFree s j word) → has_bit word b ≡ true
-      → Settled s i acts
-  stands_outside : (stage : Stage) → Contains acts (LookKey s i stage) → in_cancelled_set stage ≡ false
-      → Settled s i acts
-  is_gone : (found : Stage) → Contains acts (Remove s i found) → Settled s i acts
+      → Met s i Found acts
+  is_found : (stage : Stage) → Contains acts (LookKey s i stage) → Found stage → Met s i Found acts
+  is_gone : (found : Stage) → Contains acts (Remove s i found) → Met s i Found acts
 
-pub settled-left : (s : SelNo) (i : ℕ) (acts later : List Act) → Settled s i acts → Settled s i (acts ++ later)
-settled-left s i acts later (is_free j b word at low look bit) =
+pub met-left : {Found : Stage → Type 0} (s : SelNo) (i : ℕ) (acts later : List Act) → Met s i Found acts
+    → Met s i Found (acts ++ later)
+met-left s i acts later (is_free j b word at low look bit) =
     is_free j b word at low (Contains-append_left acts later (LookFree s j word) look) bit
-settled-left s i acts later (stands_outside stage look outside) =
-    stands_outside stage (Contains-append_left acts later (LookKey s i stage) look) outside
-settled-left s i acts later (is_gone found there) =
+met-left s i acts later (is_found stage look here) =
+    is_found stage (Contains-append_left acts later (LookKey s i stage) look) here
+met-left s i acts later (is_gone found there) =
     is_gone found (Contains-append_left acts later (Remove s i found) there)
 
-pub settled-right : (s : SelNo) (i : ℕ) (earlier acts : List Act) → Settled s i acts → Settled s i (earlier ++ acts)
-settled-right s i earlier acts (is_free j b word at low look bit) =
+pub met-right : {Found : Stage → Type 0} (s : SelNo) (i : ℕ) (earlier acts : List Act) → Met s i Found acts
+    → Met s i Found (earlier ++ acts)
+met-right s i earlier acts (is_free j b word at low look bit) =
     is_free j b word at low (Contains-append_right earlier acts (LookFree s j word) look) bit
-settled-right s i earlier acts (stands_outside stage look outside) =
-    stands_outside stage (Contains-append_right earlier acts (LookKey s i stage) look) outside
-settled-right s i earlier acts (is_gone found there) =
+met-right s i earlier acts (is_found stage look here) =
+    is_found stage (Contains-append_right earlier acts (LookKey s i stage) look) here
+met-right s i earlier acts (is_gone found there) =
     is_gone found (Contains-append_right earlier acts (Remove s i found) there)
 
--- what is done at the index settles it
-pub settles-removed : (s : SelNo) (i : ℕ) (acts : List Act) → Removes s i acts → Settled s i acts
-settles-removed s i acts turn =
+pub met-weaker : {Found Weaker : Stage → Type 0} (s : SelNo) (i : ℕ) (acts : List Act)
+    → ((stage : Stage) → Found stage → Weaker stage) → Met s i Found acts → Met s i Weaker acts
+met-weaker s i acts weaker (is_free j b word at low look bit) = is_free j b word at low look bit
+met-weaker s i acts weaker (is_found stage look here) = is_found stage look (weaker stage here)
+met-weaker s i acts weaker (is_gone found there) = is_gone found there
+
+-- a key that is found here is not in the cancelled set
+abbrev pub Settled : SelNo → ℕ → List Act → Type 0
+Settled s i acts = Met s i (λ stage. in_cancelled_set stage ≡ false) acts
+
+-- a turn at the index that removes its key, and one that only looks there
+pub met-removed : {Found : Stage → Type 0} (s : SelNo) (i : ℕ) (acts : List Act) → Removes s i acts
+    → Met s i Found acts
+met-removed s i acts turn =
     is_gone (stage_in (answer_of turn.remove))
     (subst (λ xs. Contains xs (Remove s i (stage_in (answer_of turn.remove)))) (sym turn.parts)
     (subst (Contains (turn.look ∷ turn.remove ∷ turn.puts)) (removal s i turn.remove turn.asks_remove)
     (contains-middle (turn.look ∷ []) turn.remove turn.puts)))
 
-settles-look : (s : SelNo) (i : ℕ) (look : Act) (later : List Act) → question_of look ≡ Question.look_key s i
-    → in_cancelled_set (stage_in (answer_of look)) ≡ false → Settled s i (look ∷ later)
-settles-look s i look later asks outside =
-    stands_outside (stage_in (answer_of look))
-    (subst (Contains (look ∷ later)) (key-look s i look asks) (contains-middle [] look later)) outside
-
-settles-found : (s : SelNo) (i : ℕ) (acts : List Act) → Finds s i acts → Settled s i acts
-settles-found s i acts turn =
-    subst (Settled s i) (sym turn.parts) (settles-look s i turn.look (turn.interest ∷ []) turn.asks_look turn.outside)
+met-look : {Found : Stage → Type 0} (s : SelNo) (i : ℕ) (acts : List Act) (look : Act) (later : List Act)
+    → acts ≡ look ∷ later → question_of look ≡ Question.look_key s i → Found (stage_in (answer_of look))
+    → Met s i Found acts
+met-look s i acts look later parts asks here =
+    is_found (stage_in (answer_of look))
+    (subst (λ xs. Contains xs (LookKey s i (stage_in (answer_of look)))) (sym parts)
+    (subst (Contains (look ∷ later)) (key-look s i look asks) (contains-middle [] look later))) here
 
 pub settles-passed : (s : SelNo) (i : ℕ) (acts : List Act) → Passes s i acts → Settled s i acts
-settles-passed s i acts turn =
-    subst (Settled s i) (sym turn.parts) (settles-look s i turn.look [] turn.asks_look turn.outside)
+settles-passed s i acts turn = met-look s i acts turn.look [] turn.parts turn.asks_look turn.outside
 
-module _ {A : Type 0} (s : SelNo) (f : ℕ → A → Plan A)
-    (settles : (i : ℕ) (x : A) → Always (λ acts _. Settled s i acts) (f i x)) where
-  -- each index below k is settled
-  abbrev AreSettled : ℕ → ℕ → List Act → A → Type 0
-  AreSettled w k acts x = (i : ℕ) → i < k → Settled s i acts
+-- `Found i x` is what holds of a stage that is found at index i, where x is left; it holds of what is left later
+module _ {A : Type 0} (s : SelNo) (f : ℕ → A → Plan A) (Found : ℕ → A → Stage → Type 0) where
+  record Meets (i : ℕ) (x : A) (acts : List Act) (y : A) : Type 0 where
+    met : Met s i (Found i y) acts
+    keeps : (k : ℕ) (stage : Stage) → Found k x stage → Found k y stage
 
-  by_place : (k : ℕ) (acts more : List Act) → ((i : ℕ) → i < k → Settled s i acts) → Settled s k (acts ++ more)
-      → (i : ℕ) → i < k + 1 → Settled s i (acts ++ more)
-  by_place k acts more before here i low = by_test (nat_lt i k) refl
+  -- each index below k is met
+  abbrev AreMet : ℕ → ℕ → List Act → A → Type 0
+  AreMet w k acts x = (i : ℕ) → i < k → Met s i (Found i x) acts
+
+  by_place : (k : ℕ) (acts more : List Act) (x y : A) → ((i : ℕ) (stage : Stage) → Found i x stage → Found i y stage)
+      → ((i : ℕ) → i < k → Met s i (Found i x) acts) → Met s k (Found k y) (acts ++ more)
+      → (i : ℕ) → i < k + 1 → Met s i (Found i y) (acts ++ more)
+  by_place k acts more x y keeps before here i low = by_test (nat_lt i k) refl
     where
-      by_test : (b : Bool) → nat_lt i k ≡ b → Settled s i (acts ++ more)
-      by_test true is = settled-left s i acts more (before i (ltb-true i k is))
+      by_test : (b : Bool) → nat_lt i k ≡ b → Met s i (Found i y) (acts ++ more)
+      by_test true is =
+          met-weaker s i (acts ++ more) (keeps i) (met-left s i acts more (before i (ltb-true i k is)))
       by_test false is =
           let same : k ≡ i = omega (arith, ltb-false i k is, low) in
-          subst (λ (j : ℕ). Settled s j (acts ++ more)) same here
+          subst (λ (j : ℕ). Met s j (Found j y) (acts ++ more)) same here
 
-  settled-turns : (bound : ℕ) → Turns s bound f AreSettled
-  settled-turns bound = record {
-    looks = λ j acts x act asks before i low. settled-left s i acts (act ∷ []) (before i low);
-    at = λ w i acts x within found before. always_weaker (λ xs _. Settled s i xs)
-        (λ xs y. AreSettled w (i + 1) (acts ++ xs) y) (f i x)
-        (λ xs y here. by_place i acts xs before (settled-right s i acts xs here)) (settles i x);
-    passes = λ w j b word acts x low there bit before.
-        let k = 64 * j + b in
-        subst (λ ys. (i : ℕ) → i < k + 1 → Settled s i ys) (append-nil acts)
-        (by_place k acts [] before
-        (settled-left s k acts [] (is_free j b word refl low there bit)));
-  }
+  module _ (meets : (i : ℕ) (x : A) → Always (Meets i x) (f i x)) where
+    met-turns : (bound : ℕ) → Turns s bound f AreMet
+    met-turns bound = record {
+      looks = λ j acts x act asks before i low. met-left s i acts (act ∷ []) (before i low);
+      at = λ w i acts x within found before. always_weaker (Meets i x) (λ xs y. AreMet w (i + 1) (acts ++ xs) y) (f i x)
+          (λ xs y here. by_place i acts xs x y here.keeps before (met-right s i acts xs here.met)) (meets i x);
+      passes = λ w j b word acts x low there bit before.
+          let k = 64 * j + b in
+          subst (λ ys. (i : ℕ) → i < k + 1 → Met s i (Found i x) ys) (append-nil acts)
+          (by_place k acts [] x x (λ i stage here. here) before
+          (met-left s k acts [] (is_free j b word refl low there bit)));
+    }
 
-  settled_below : (bound : ℕ) (x y : A) (acts : List Act) → Completes (over_listed s bound f x) acts y
-      → (i : ℕ) → i < bound → Settled s i acts
-  settled_below bound x y acts run =
-      always_run (AreSettled (words_below bound) bound) (over_listed s bound f x) acts y
-      (always_listed s bound f AreSettled (settled-turns bound) x (λ i none. absurd (omega (arith, none)))) run
+    met_below : (bound : ℕ) (x y : A) (acts : List Act) → Completes (over_not_free s bound f x) acts y
+        → (i : ℕ) → i < bound → Met s i (Found i y) acts
+    met_below bound x y acts run =
+        always_run (AreMet (words_below bound) bound) (over_not_free s bound f x) acts y
+        (always_listed s bound f AreMet (met-turns bound) x (λ i none. absurd (omega (arith, none)))) run
 
--- in a `try_begin` that answers Ok each index below the bound is settled
-pub begin-settles : (s : SelNo) (mode : Mode) (acts : List Act) (selection : Selection)
-    → Begins s mode None acts (Ok selection) → (i : ℕ) → i < selection.bound → Settled s i acts
-begin-settles s mode acts selection run i below =
+-- A key that is found is not in the cancelled set, and where it is valid the list has it.
+pub record IsListed (i : ℕ) (looked : List LookedKey) (stage : Stage) : Type 0 where
+  pub outside : in_cancelled_set stage ≡ false
+  pub has_valid : is_valid stage ≡ true → HasEntry looked i stage.serial
+
+listed-more : (i : ℕ) (looked more : List LookedKey) (stage : Stage) → IsListed i looked stage
+    → IsListed i (looked ++ more) stage
+listed-more i looked more stage listed = record {
+  outside = listed.outside;
+  has_valid = λ valid.
+      let has = listed.has_valid valid in
+      record {
+        entry = has.entry;
+        there = Contains-append_left looked more has.entry has.there;
+        index_is = has.index_is;
+        serial_is = has.serial_is;
+      };
+}
+
+look-meets : (s : SelNo) (i : ℕ) (looked : List LookedKey)
+    → Always (Meets s (look_over s) IsListed i looked) (look_over s i looked)
+look-meets s i looked =
+    always_look s i (Meets s (look_over s) IsListed i looked) looked
+    (λ xs turn. record { met = met-removed s i xs turn; keeps = λ k stage here. here })
+    (λ xs turn.
+    let stage = stage_in (answer_of turn.look) in
+    let entry : LookedKey = looked_key i stage (operations_in (answer_of turn.interest)) in
+    record {
+      met = met-look s i xs turn.look (turn.interest ∷ []) turn.parts turn.asks_look
+          (record {
+            outside = turn.outside;
+            has_valid = λ valid. record {
+              entry = entry;
+              there = contains-middle looked entry [];
+              index_is = refl;
+              serial_is = refl;
+            };
+          });
+      keeps = λ k. listed-more k looked (entry ∷ []);
+    })
+    (λ xs turn invalid. record {
+      met = met-look s i xs turn.look [] turn.parts turn.asks_look
+          (record { outside = turn.outside; has_valid = λ valid. absurd (cc (sym valid ∙ invalid)) });
+      keeps = λ k stage here. here;
+    })
+
+-- so it is of each index below the bound in a `try_begin` that answers Ok
+pub begin-meets : (s : SelNo) (mode : Mode) (acts : List Act) (selection : Selection)
+    → Begins s mode None acts (Ok selection)
+    → (i : ℕ) → i < selection.bound → Met s i (IsListed i selection.looked) acts
+begin-meets s mode acts selection run i below =
     let begun = begin-parts s mode None acts selection run in
-    let settled = settled_below s (look_over s)
-    (λ k looked. always_look s k (λ xs _. Settled s k xs) looked (settles-removed s k) (settles-found s k)
-    (settles-passed s k)) selection.bound [] selection.looked begun.over begun.runs_over i below in
-    subst (Settled s i) (sym begun.parts)
-    (settled-right s i (begun.gate ∷ begun.take ∷ begun.look ∷ begun.keys ∷ []) begun.over settled)
+    let met = met_below s (look_over s) IsListed (look-meets s) selection.bound [] selection.looked begun.over
+    begun.runs_over i below in
+    subst (Met s i (IsListed i selection.looked)) (sym begun.parts)
+    (met-right s i (begun.gate ∷ begun.take ∷ begun.look ∷ begun.keys ∷ []) begun.over met)
 
 -- where a `told` ends its selection each index below the high-water mark that it finds is settled since it found that
 pub end-settles : (s : SelNo) (mark : ℕ) (sweeps : List Act)
-    → Completes (over_listed s mark (λ i _. remove_if_cancelled s i) tt) sweeps tt
+    → Completes (over_not_free s mark (λ i _. remove_if_cancelled s i) tt) sweeps tt
     → (i : ℕ) → i < mark → Settled s i sweeps
 end-settles s mark sweeps run i below =
-    settled_below s (λ k _. remove_if_cancelled s k)
-    (λ k _. always_remove s k (Settled s k) (settles-removed s k) (settles-passed s k)) mark tt tt sweeps run i below
+    met_below s (λ k _. remove_if_cancelled s k) (λ _ _ stage. in_cancelled_set stage ≡ false)
+    (λ k x. always_remove s k
+    (λ xs. Meets s (λ k' _. remove_if_cancelled s k') (λ _ _ stage. in_cancelled_set stage ≡ false) k x xs tt)
+    (λ xs turn. record { met = met-removed s k xs turn; keeps = λ k' stage here. here })
+    (λ xs turn. record { met = settles-passed s k xs turn; keeps = λ k' stage here. here })) mark tt tt sweeps run i below

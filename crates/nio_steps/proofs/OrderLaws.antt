@@ -11,7 +11,7 @@ use Rattle.nio_steps.proofs.Lists.{pairs-none, pairs-push}
 use Rattle.nio_steps.proofs.Walks.{always_run}
 use Rattle.nio_steps.specs.ChannelCalls.{words_below}
 use Rattle.nio_steps.specs.Laws.{LooksInOrder}
-use Rattle.nio_steps.specs.Looking.{over_listed, look_over}
+use Rattle.nio_steps.specs.Looking.{over_not_free, look_over}
 use Rattle.nio_steps.specs.declared.looked.LookedKey.{LookedKey}
 
 -- what a selection looked at before index k
@@ -47,7 +47,7 @@ module _ (s : SelNo) (bound : ℕ) where
     at = λ w i acts looked within found rises. always_look s i (λ _ y. Rises bound (i + 1) y) looked
         (λ xs removes. further i looked rises)
         (λ xs finds. one_more i looked _ refl within rises)
-        (λ xs passes. further i looked rises);
+        (λ xs passes _. further i looked rises);
     passes = λ w j b word acts looked low there bit rises. further _ looked rises;
   }
 
@@ -55,7 +55,7 @@ pub looks_in_order : LooksInOrder
 looks_in_order s mode acts selection run =
     let begun = begin-parts s mode None acts selection run in
     let bound = selection.bound in
-    let rises = always_run (Left s bound (words_below bound) bound) (over_listed s bound (look_over s) []) begun.over
+    let rises = always_run (Left s bound (words_below bound) bound) (over_not_free s bound (look_over s) []) begun.over
     selection.looked
     (always_listed s bound (look_over s) (Left s bound) (turns s bound) []
     (record {

@@ -1,6 +1,8 @@
 -- Each call gives back the pins that it takes.
 use Rattle.std.proofs.Common.{◌≡◌, ℕ, suc, ◌+◌, ◌*◌, nat_lt, Bool, true, false, ◌&&◌, if◌then◌else◌, Option, Some}
 use Rattle.std.proofs.Common.{None}
+use Rattle.nio_steps.specs.SelectCalls.{Begins, begin_lacks_memory}
+use Rattle.nio_steps.specs.declared.looked.LookedKey.{LookedKey}
 use Rattle.nio_steps.specs.TableCalls.{take_list}
 use Rattle.std.proofs.Common.{None, List, [], ◌∷◌, ◌++◌, refl, ap, sym, subst, append_assoc}
 use Rattle.std.proofs.lemmas.List.{append-nil}
@@ -11,12 +13,13 @@ use Rattle.nio_base.specs.declared.numbers.KeyId.{KeyId}
 use Rattle.nio_base.specs.declared.numbers.SelNo.{SelNo}
 use Rattle.nio_history.specs.Questions.{Question, question_of, answer_of}
 use Rattle.nio_history.specs.declared.act.Act.{Act}
+use Rattle.nio_history.specs.declared.found.Mode.{Mode}
 use Rattle.nio_steps.proofs.CallWalks.{each_call, close_channel-walks, finish-walks, make_key-walks, register-walks}
 use Rattle.nio_steps.proofs.PinBack.{NoPins, no_pins, again, OnlyPin, PinsFound, leaves_pinned, found_leaves}
 use Rattle.nio_steps.proofs.PinBack.{leaves_pins, found_seek, claim-none, claim-only, claim_again-none}
 use Rattle.nio_steps.proofs.PinBack.{claim_again-only, leaves-none, no_pins-append, only_pin-append, pin-only}
 use Rattle.nio_steps.proofs.PlanWalks.{Walk, Walks, is_plain, walks_run}
-use Rattle.nio_steps.proofs.WaitingPins.{retries-give, selects-give, closes-give, waits-give}
+use Rattle.nio_steps.proofs.WaitingWalks.{waiting-holds, selection-holds}
 use Rattle.nio_steps.proofs.Walks.{Always, always_weaker, always_bind, always_if}
 use Rattle.nio_steps.specs.ChannelCalls.{claim_taken, claim_free, claim_in_word, search_free, words_below, claim_new}
 use Rattle.nio_steps.specs.ChannelCalls.{make_key, make_claimed, register_first, register_next, register_new}
@@ -32,7 +35,7 @@ use Rattle.nio_steps.specs.TableCalls.{attachment, open_channel, reopen_channel,
 use Rattle.nio_steps.specs.TableCalls.{key_for}
 use Rattle.nio_steps.specs.TableCalls.{try_set_blocking, try_register, close_channel, open_selector, try_begin, told}
 use Rattle.nio_steps.specs.TableCalls.{leave, shut, try_finish, keys, selected_keys, wakeup, interrupt, interrupted}
-use Rattle.nio_steps.specs.TableCalls.{pipe, try_read, try_write, WaitCall, wait_row_of, set_blocking, register, select}
+use Rattle.nio_steps.specs.TableCalls.{pipe, try_read, try_write, WaitCall, wait_row_of, set_blocking, register}
 use Rattle.nio_steps.specs.TableCalls.{close, read, write}
 
 -- ---- the walk
@@ -162,15 +165,12 @@ gives l lacks call acts answer run =
     (λ s _. record { gives = refl; marks = λ i from bits. refl; removes = λ i. refl })
     (λ s mode known _. record { takes = λ j. refl; looks = λ i. refl })) run
 
+begins_give : (s : SelNo) (mode : Mode) (known : Option (List LookedKey)) → GivesPinsBack (Begins s mode known)
+begins_give s mode known acts answer = gives no_limits (begin_lacks_memory answer) (try_begin s mode known) acts answer
+
 pub waiting_gives : (l : Limits) (call : WaitCall) → GivesPinsBack ((wait_row_of call).Shape l)
-waiting_gives l (set_blocking c on) = retries-give (gives l false (try_set_blocking c on))
-waiting_gives l (register s c ops att) = retries-give (gives l false (try_register s c ops att))
-waiting_gives l (select s mode polls) = selects-give s mode polls
-    (λ acts answer. gives l _ (try_begin s mode None) acts answer) (λ selection poll. gives l false (told selection poll))
-    (λ selection. gives l false (leave selection))
-waiting_gives l (close s) = closes-give s (gives l false (shut s)) (gives l false (try_finish s))
-waiting_gives l (read source none) = waits-give none (gives l false (try_read source))
-waiting_gives l (write source sink none) = waits-give none (gives l false (try_write source sink))
+waiting_gives l call =
+    waiting-holds pins l (λ call' _. gives l false call') call (λ s mode known polls _. begins_give s mode known)
 
 pub pins_are_given_back : PinsAreGivenBack
 pins_are_given_back = record {
@@ -216,7 +216,9 @@ pins_are_given_back = record {
   try_write = λ l source sink. gives l false (try_write source sink);
   set_blocking = λ l c on. waiting_gives l (set_blocking c on);
   register = λ l s c ops att. waiting_gives l (register s c ops att);
-  select = λ s mode polls. waiting_gives no_limits (select s mode polls);
+  select = λ s mode known polls.
+      selection-holds pins no_limits (λ call _. gives no_limits false call) s mode known polls
+      (begins_give s mode known);
   close = λ s. waiting_gives no_limits (close s);
   read = λ l source none. waiting_gives l (read source none);
   write = λ l source sink none. waiting_gives l (write source sink none);

@@ -1,9 +1,11 @@
 -- When what a beginning selection with the selector's list has on it stood.
 use Rattle.std.proofs.Common.{◌≡◌, ℕ, zero, suc, ◌/◌, ◌<◌, nat_lt, Bool, true, false}
-use Rattle.std.proofs.Common.{Some, List, [], ◌∷◌, ◌++◌, refl, ap, sym, ◌∙◌, subst, append_assoc, eq-eqb, arith}
+use Rattle.std.proofs.Common.{Ok, Some, List, [], ◌∷◌, ◌++◌, refl, ap, sym, ◌∙◌, subst, append_assoc, eq-eqb, arith}
 use Rattle.std.specs.List.{Contains}
+use mathlib.Core.List.{IsPrefix}
 use Rattle.std.proofs.lemmas.Bool.{or_from, lt-ltb, ltb-true, ltb-false}
-use Rattle.std.proofs.lemmas.List.Elements.{All-contains, Contains-append_right}
+use Rattle.std.proofs.lemmas.List.{append-nil}
+use Rattle.std.proofs.lemmas.List.Elements.{All-contains, Contains-append_left, Contains-append_right}
 use Rattle.nio_base.specs.declared.limits.Limits.{Limits}
 use Rattle.nio_base.specs.declared.numbers.CallerNo.{CallerNo}
 use Rattle.nio_base.specs.declared.numbers.SelNo.{SelNo}
@@ -29,13 +31,13 @@ use Rattle.nio_history.specs.declared.event.Event.{Event}
 use Rattle.nio_history.specs.declared.found.IndexWord.{IndexWord}
 use Rattle.nio_history.specs.declared.found.Mode.{Mode}
 use Rattle.nio_history.specs.declared.found.Stage.{Stage}
-use Rattle.nio_steps.proofs.BeginLaws.{Begun}
+use Rattle.nio_steps.proofs.BeginLaws.{Begun, begin-parts}
 use Rattle.nio_steps.proofs.Enlisted.{entry_stands, listed_there}
 use Rattle.nio_steps.proofs.ListedBy.{keys-look}
 use Rattle.nio_steps.proofs.IndexOutcomes.{IsClear, by_look, by_taking, Outcome, is_clear, is_removed, is_found}
 use Rattle.nio_steps.proofs.IndexOutcomes.{is_outside, FoundListed, begin-outcome}
 use Rattle.nio_steps.proofs.Lists.{parted}
-use Rattle.nio_steps.proofs.OwnActs.{at_own, mine-own_first}
+use Rattle.nio_steps.proofs.OwnActs.{at_own, mine-own_first, part_at}
 use Rattle.nio_steps.proofs.OwnSteps.{step_at}
 use Rattle.nio_steps.proofs.Relisted.{as_listed}
 use Rattle.nio_steps.proofs.SelectionLaws.{asks_give, not-gives, none_of-append}
@@ -48,7 +50,7 @@ use Rattle.nio_steps.specs.ListLaws.{lists_index, StoodThen, WasValid, HadIntere
 use Rattle.nio_steps.specs.Lists.{KnowsList, IsFoundBelow, listed_at}
 use Rattle.nio_steps.specs.Looking.{look_at_keys}
 use Rattle.nio_steps.specs.Runs.{Completes}
-use Rattle.nio_steps.specs.SelectCalls.{Selection}
+use Rattle.nio_steps.specs.SelectCalls.{Selection, Begins}
 use Rattle.nio_steps.specs.Steps.{gate_in, index_in, number_in, operations_in, word_in}
 use Rattle.nio_steps.specs.declared.looked.LookedKey.{LookedKey}
 
@@ -119,6 +121,30 @@ module _ (l : Limits) (n : CallerNo) (start opened later : List Event) (s : SelN
     pub gives : has (gives_turn s.0) acts ≡ false
     pub spares : has (removes s.0 i) acts ≡ false
     pub fact : Fact (state_after ((start ++ opened) ++ past))
+
+  -- what the caller did in the whole call
+  pub own_whole : mine n (opened ++ later) ≡ mine n opened ++ o.keys ∷ (o.over ++ since)
+  own_whole = mine-append n opened later ∙ ap (λ xs. mine n opened ++ xs) o.own
+
+  pub contained : (act : Act) → Contains o.over act → Contains (mine n (opened ++ later)) act
+  contained act there =
+      subst (λ xs. Contains xs act) (sym own_whole)
+      (Contains-append_right (mine n opened) (o.keys ∷ (o.over ++ since)) act
+      (Contains-append_right (o.keys ∷ []) (o.over ++ since) act (Contains-append_left o.over since act there)))
+
+  pub legal_whole : IsLegal l (start ++ (opened ++ later))
+  legal_whole = subst (IsLegal l) (append_assoc start opened later) o.legal
+
+  -- a moment in the whole history
+  pub moment_parts : {i : ℕ} {Fact : State → Type 0} (then : Moment i Fact)
+      → start ++ (opened ++ later) ≡ ((start ++ opened) ++ then.past) ++ then.rest
+  moment_parts then =
+      sym (append_assoc start opened later) ∙ (ap (λ events. (start ++ opened) ++ events) then.parts
+      ∙ sym (append_assoc (start ++ opened) then.past then.rest))
+
+  pub moment_begins : {i : ℕ} {Fact : State → Type 0} (then : Moment i Fact)
+      → IsPrefix start ((start ++ opened) ++ then.past)
+  moment_begins then = (opened ++ then.past, sym (append_assoc start opened then.past))
 
   -- just before a step among those that go over the keys
   record Among (act : Act) (ys : List Act) : Type 0 where
@@ -384,4 +410,29 @@ opened-at l n start opened later s mode known acts selection since begun legal k
       asks_keys = begun.asks_keys;
       bound_is = begun.bound;
       runs_over = begun.runs_over;
+    }
+
+-- a beginning in a history, cut after the look by which it began
+pub record CutCall (l : Limits) (n : CallerNo) (start call : List Event) (s : SelNo) (known : List LookedKey)
+    (selection : Selection) : Type 0 where
+  pub opened : List Event
+  pub later : List Event
+  pub parts : call ≡ opened ++ later
+  pub is : IsOpened l n start opened later s known selection.bound selection.looked []
+
+pub cut_call : (l : Limits) (n : CallerNo) (start call : List Event) (s : SelNo) (mode : Mode) (known : List LookedKey)
+    (selection : Selection) → IsLegal l (start ++ call) → KnowsList l n start s known
+    → Begins s mode (Some known) (mine n call) (Ok selection) → CutCall l n start call s known selection
+cut_call l n start call s mode known selection legal knows run =
+    let begun = begin-parts s mode (Some known) (mine n call) selection run in
+    let cut = part_at n call (begun.gate ∷ begun.take ∷ begun.look ∷ []) (begun.keys ∷ begun.over) begun.parts in
+    let joined : (start ++ cut.past) ++ cut.later ≡ start ++ call = append_assoc start cut.past cut.later
+    ∙ ap (λ events. start ++ events) (sym cut.parts) in
+    record {
+      opened = cut.past;
+      later = cut.later;
+      parts = cut.parts;
+      is = opened-at l n start cut.past cut.later s mode known (mine n call) selection [] begun
+          (subst (IsLegal l) (sym joined) legal) knows cut.mine_past
+          (cut.mine_later ∙ ap (λ xs. begun.keys ∷ xs) (sym (append-nil begun.over)));
     }

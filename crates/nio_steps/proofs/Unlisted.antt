@@ -1,7 +1,9 @@
 -- Calls that leave a selector's list: they take no bit, and look at no index as a selection with the list does.
-use Rattle.std.proofs.Common.{◌≡◌, ℕ, Bool, true, false, Option, Result, Ok, Err, List, [], ◌∷◌, ◌++◌, refl, ap, ◌∙◌}
+use Rattle.std.proofs.Common.{◌≡◌, ℕ, ◌/◌, ◌%◌, ◌==◌, Bool, true, false, ◌&&◌, ◌||◌, if◌then◌else◌, Option, Some, None}
+use Rattle.std.proofs.Common.{Result, Ok, Err, List, [], ◌∷◌, ◌++◌, refl, ap, sym, ◌∙◌, eqb-true}
 use Rattle.std.specs.Prelude.{⊤, is_some}
-use Rattle.std.proofs.lemmas.Bool.{or_from}
+use Rattle.std.specs.Int.{bit_at}
+use Rattle.std.proofs.lemmas.Bool.{or_from, false_from_ne_true}
 use Rattle.nio_base.specs.declared.numbers.SelNo.{SelNo}
 use Rattle.nio_history.specs.OwnEvents.{has}
 use Rattle.nio_history.specs.Questions.{Question, question_of, answer_of}
@@ -12,13 +14,14 @@ use Rattle.nio_steps.proofs.CallWalks.{each_call, close_channel-walks, finish-wa
 use Rattle.nio_steps.proofs.PlanWalks.{Walk, is_plain, walks_run, pinned_calm}
 use Rattle.nio_steps.proofs.SelectionLaws.{none_of-append}
 use Rattle.nio_steps.proofs.Walks.{Always, always_if, always_bind, always_any, always_run}
-use Rattle.nio_steps.specs.ListLaws.{lists_index, RefusalsLeaveList, OtherCallsLeaveList}
+use Rattle.nio_steps.specs.ListLaws.{lists_index, RefusalsLeaveList, OtherCallsLeaveList, WaitingCallsLeaveList}
 use Rattle.nio_steps.specs.Looking.{look_at_keys}
 use Rattle.nio_steps.specs.Plan.{reply}
 use Rattle.nio_steps.specs.SelectCalls.{Selection, try_begin_plan, begin_open, begin_with_turn, given_back}
-use Rattle.nio_steps.specs.SelectCalls.{begin_lacks_memory}
+use Rattle.nio_steps.specs.SelectCalls.{begin_lacks_memory, Poll}
+use Rattle.nio_steps.proofs.WaitingWalks.{begins_selection, waiting-holds}
 use Rattle.nio_steps.specs.Steps.{gate_in, number_in, holder_in}
-use Rattle.nio_steps.specs.TableCalls.{row_of}
+use Rattle.nio_steps.specs.TableCalls.{TableCall, WaitCall, row_of, try_begin, select}
 use Rattle.nio_steps.specs.declared.looked.LookedKey.{LookedKey}
 use Rattle.nio_steps.specs.declared.refusal.BeginError.{BeginError}
 
@@ -88,30 +91,51 @@ refusals_leave_list s mode known acts refusal run i =
 
 -- ---- the other calls
 
--- these acts are no listing of the index
+-- the step would take bits of the selector, or look at an index there as a selection with the list does
+abbrev lists_at : ℕ → Question → Bool
+lists_at s (Question.take_touched t j) = t.0 == s
+lists_at s (Question.look_index t i) = t.0 == s
+lists_at s _ = false
+
+lists_at-not : (s i : ℕ) (act : Act) → lists_at s (question_of act) ≡ false → lists_index s i act ≡ false
+lists_at-not s i (TakeTouched t j found) off =
+    ap (λ b. (b && (i / 64 == j) && (bit_at found (i % 64) == 1)) || false) off
+lists_at-not s i (LookIndex t k found) off =
+    ap (λ b. is_some (if b && (k == i) then Some found else None)) off
+lists_at-not s i _ off = refl
+
+plain_off : (s : ℕ) (question : Question) → is_plain question ≡ true → lists_at s question ≡ false
+plain_off s (Question.take_touched t j) is = absurd (cc is)
+plain_off s (Question.look_index t i) is = absurd (cc is)
+plain_off s _ is = refl
+
 abbrev IsUnlisted : ℕ → ℕ → List Act → Type 0
-IsUnlisted t i acts = has (lists_index t i) acts ≡ false
+IsUnlisted s i acts = has (lists_index s i) acts ≡ false
 
-plain_unlisted : (question : Question) → is_plain question ≡ true → lists question ≡ false
-plain_unlisted (Question.take_touched s j) is = absurd (cc is)
-plain_unlisted (Question.look_index s i) is = absurd (cc is)
-plain_unlisted _ is = refl
+one_off : (s i : ℕ) (act : Act) → lists_at s (question_of act) ≡ false → IsUnlisted s i (act ∷ [])
+one_off s i act off = or_from (lists_index s i act) false (lists_at-not s i act off) refl
 
-abbrev unlisting : ℕ → ℕ → Walk
-unlisting t i = record {
-  Holds = IsUnlisted t i;
-  Calm = λ question. lists question ≡ false;
+abbrev listing_off : ℕ → ℕ → Walk
+listing_off s i = record {
+  Holds = IsUnlisted s i;
+  Calm = λ question. lists_at s question ≡ false;
   none = refl;
-  append = none_of-append (lists_index t i);
-  one = λ act calm. unlisted-cons t i act [] (question_of act) refl calm refl;
-  plain = plain_unlisted;
-  pinned = λ s k. pinned_calm (IsUnlisted t i) (none_of-append (lists_index t i)) s k
-      (λ act asks. unlisted-cons t i act [] _ asks refl refl) (λ act asks. unlisted-cons t i act [] _ asks refl refl);
+  append = none_of-append (lists_index s i);
+  one = one_off s i;
+  plain = plain_off s;
+  pinned = λ t k. pinned_calm (IsUnlisted s i) (none_of-append (lists_index s i)) t k
+      (λ act asks. one_off s i act (ap (lists_at s) asks)) (λ act asks. one_off s i act (ap (lists_at s) asks));
 }
+
+pub same_selector : (t s : SelNo) → (t.0 == s.0) ≡ true → t ≡ s
+same_selector t s same = ap selector (eqb-true t.0 s.0 same)
+  where
+    selector : ℕ → SelNo
+    selector k = record { 0 = k }
 
 pub other_calls_leave_list : OtherCallsLeaveList
 other_calls_leave_list l lacks call acts answer s i other run =
-    walks_run {w = unlisting s.0 i} ((row_of call).plan l lacks) acts answer
+    walks_run {w = listing_off s.0 i} ((row_of call).plan l lacks) acts answer
     (each_call l lacks call
     (record {
       registers = λ t c ops att. register-walks l t c ops att
@@ -125,4 +149,24 @@ other_calls_leave_list l lacks call acts answer s i other run =
       finishes = λ t calm. finish-walks t refl calm;
     })
     (λ t _. record { gives = refl; marks = λ _ _ _. refl; removes = λ _. refl })
-    (λ t mode known is. absurd (other t mode known is))) run
+    (λ t mode known is. let off : (t.0 == s.0) ≡ false
+    = false_from_ne_true (t.0 == s.0)
+    (λ same. other mode known (is ∙ ap (λ k. try_begin k mode (Some known)) (same_selector t s same))) in
+    record { takes = λ j. off; looks = λ k. off })) run
+
+-- ---- the calls that wait
+
+-- the whole selection that begins so
+abbrev selection_by : WaitCall → List Poll → TableCall → WaitCall
+selection_by other polls (try_begin s mode known) = select s mode known polls
+selection_by other polls _ = other
+
+pub waiting_calls_leave_list : WaitingCallsLeaveList
+waiting_calls_leave_list l call acts answer s i other run =
+    waiting-holds (listing_off s.0 i) l
+    (λ call' unbegun acts' answer'. other_calls_leave_list l false call' acts' answer' s i
+    (λ mode known is. absurd (cc (sym unbegun ∙ ap begins_selection is))))
+    call
+    (λ t mode known polls is acts' answer'. other_calls_leave_list l (begin_lacks_memory answer') (try_begin t mode known)
+    acts' answer' s i (λ mode' known' same. other mode' known' polls (is ∙ ap (selection_by call polls) same)))
+    acts answer run

@@ -24,13 +24,13 @@ unselects s bound (UnselectBit s' i found) = (s'.0 == s) && nat_lt i bound
 unselects s bound _ = false
 
 -- it found that index k of selector s isn't free
-abbrev pub finds_listed : ℕ → ℕ → Act → Bool
-finds_listed s k (LookFree s' j found) = (s'.0 == s) && (j == k / 64) && not (has_bit found (k % 64))
-finds_listed s k _ = false
+abbrev pub finds_not_free : ℕ → ℕ → Act → Bool
+finds_not_free s k (LookFree s' j found) = (s'.0 == s) && (j == k / 64) && not (has_bit found (k % 64))
+finds_not_free s k _ = false
 
 -- how many indexes of selector s below the mark these acts found not free
-abbrev pub count_listed : SelNo → ℕ → List Act → ℕ
-count_listed s mark acts = count_below mark (λ k. has (finds_listed s.0 k) acts)
+abbrev pub count_not_free : SelNo → ℕ → List Act → ℕ
+count_not_free s mark acts = count_below mark (λ k. has (finds_not_free s.0 k) acts)
 
 -- The acts of a whole selection without the list: a `try_begin` that answered Ok, and the `told` that ended it. They are given by the
 -- look with which the selection begins and by the look at the keys' high-water mark at its end, and by what stands
@@ -60,5 +60,5 @@ SelectionIsBounded =
     → let s = selection.selector in
     let bound = selection.bound in
     length (first ++ BeginLook s found ∷ second) + length (third ++ LookKeys s mark ∷ fourth)
-    ≤ 9 + words_below bound + words_below mark + 4 * count_listed s bound second + 3 * count_listed s mark fourth
+    ≤ 9 + words_below bound + words_below mark + 4 * count_not_free s bound second + 3 * count_not_free s mark fourth
     + count (unselects s.0 bound) (map (λ e. e.act) window)

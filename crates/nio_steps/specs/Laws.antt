@@ -8,7 +8,8 @@ use Rattle.nio_base.specs.declared.numbers.SelNo.{SelNo}
 use Rattle.nio_history.specs.Conditions.{has_begun, is_closer}
 use Rattle.nio_history.specs.Histories.{state_after, mine, event_of, IsLegal}
 use Rattle.nio_history.specs.OwnEvents.{has, count, gives_turn}
-use Rattle.nio_history.specs.Sets.{is_in_key_set, is_valid, was_claimed, was_published, was_cancelled, was_removed}
+use Rattle.nio_history.specs.Sets.{is_in_key_set, is_valid, is_valid_key, was_claimed, was_published, was_cancelled}
+use Rattle.nio_history.specs.Sets.{was_removed}
 use Rattle.nio_history.specs.State.{State}
 use Rattle.nio_history.specs.Turns.{removes_on}
 use Rattle.nio_history.specs.declared.act.Act.{Act}
@@ -88,6 +89,26 @@ CancelledKeysGo =
     → i < selection.bound
     → IsTrue (was_removed ((state_after (before ++ later)).key s.0 i) serial)
     × All (λ entry. ¬ ((entry.index ≡ i) × (entry.serial ≡ serial))) selection.looked
+
+-- the list has an entry of the key
+pub record HasEntry (list : List LookedKey) (i serial : ℕ) : Type 0 where
+  pub entry : LookedKey
+  pub there : Contains list entry
+  pub index_is : entry.index ≡ i
+  pub serial_is : entry.serial ≡ serial
+
+-- A key was published before a `try_begin` without the list that answers Ok, its index is below the selection's bound,
+-- and it is valid when the call returns, so it was valid all the while. Then it is among the looked keys. `before` is the
+-- history before the call; what the caller did after it is this call.
+abbrev pub ValidKeysAreLookedAt : Type 0
+ValidKeysAreLookedAt =
+    (l : Limits) (n : CallerNo) (before later : List Event) (s : SelNo) (mode : Mode) (selection : Selection)
+    (i serial : ℕ)
+    → IsLegal l (before ++ later) → Begins s mode None (mine n later) (Ok selection)
+    → IsTrue (was_published ((state_after before).key s.0 i) serial)
+    → IsTrue (is_valid_key ((state_after (before ++ later)).key s.0 i) serial)
+    → i < selection.bound
+    → HasEntry selection.looked i serial
 
 -- The bits that index i of selector s is marked with are the told bits of a looked key at that index: those that the
 -- poller told of the index and that are in the interest set which the selection found. There is at least one.

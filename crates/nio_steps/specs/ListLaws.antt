@@ -22,12 +22,12 @@ use Rattle.nio_history.specs.declared.found.Mode.{Mode}
 use Rattle.nio_steps.specs.Bound.{unselects}
 use Rattle.nio_steps.specs.ChannelCalls.{words_below}
 use Rattle.nio_steps.specs.KeyCalls.{has_bit}
-use Rattle.nio_steps.specs.Laws.{MarksLookedKey}
+use Rattle.nio_steps.specs.Laws.{HasEntry, MarksLookedKey}
 use Rattle.nio_steps.specs.Lists.{IsListOf, KnowsList}
 use Rattle.nio_steps.specs.Runs.{Completes}
 use Rattle.nio_steps.specs.SelectCalls.{Selection, Begins, Poll, Tells, ToldReply, done, told_bits}
 use Rattle.nio_steps.specs.Selections.{IsBegun}
-use Rattle.nio_steps.specs.TableCalls.{TableCall, row_of, try_begin}
+use Rattle.nio_steps.specs.TableCalls.{TableCall, WaitCall, row_of, wait_row_of, try_begin, select}
 use Rattle.nio_steps.specs.declared.looked.LookedKey.{LookedKey}
 use Rattle.nio_steps.specs.declared.refusal.BeginError.{BeginError}
 use Rattle.nio_steps.specs.declared.selected.Selected.{Selected}
@@ -56,17 +56,25 @@ BeginningsList =
     → IsListOf own s known → Begins s mode (Some known) acts (Ok selection)
     → IsListOf (own ++ acts) s selection.looked
 
--- A refusal leaves it, and so does each call that doesn't begin a selection with the list.
+-- A refusal leaves it.
 abbrev pub RefusalsLeaveList : Type 0
 RefusalsLeaveList =
     (s : SelNo) (mode : Mode) (known : Option (List LookedKey)) (acts : List Act) (refusal : BeginError)
     → Begins s mode known acts (Err refusal) → (i : ℕ) → IsFalse (has (lists_index s.0 i) acts)
 
+-- So does each call but the beginning of a selection of that selector with the list.
 abbrev pub OtherCallsLeaveList : Type 0
 OtherCallsLeaveList =
     (l : Limits) (lacks : Bool) (call : TableCall) (acts : List Act) (answer : (row_of call).Reply) (s : SelNo) (i : ℕ)
-    → ((t : SelNo) (mode : Mode) (known : List LookedKey) → call ≢ try_begin t mode (Some known))
+    → ((mode : Mode) (known : List LookedKey) → call ≢ try_begin s mode (Some known))
     → Completes ((row_of call).plan l lacks) acts answer → IsFalse (has (lists_index s.0 i) acts)
+
+-- So does each call that waits but a whole selection of that selector with the list.
+abbrev pub WaitingCallsLeaveList : Type 0
+WaitingCallsLeaveList =
+    (l : Limits) (call : WaitCall) (acts : List Act) (answer : (wait_row_of call).Reply) (s : SelNo) (i : ℕ)
+    → ((mode : Mode) (known : List LookedKey) (polls : List Poll) → call ≢ select s mode (Some known) polls)
+    → (wait_row_of call).Shape l acts answer → IsFalse (has (lists_index s.0 i) acts)
 
 -- ---- what is on the list
 
@@ -134,6 +142,20 @@ CancelledListedKeysGo =
     → IsTrue (was_removed ((state_after (before ++ later)).key s.0 i) serial)
     × All (λ entry. ¬ ((entry.index ≡ i) × (entry.serial ≡ serial))) selection.looked
 
+-- A key was published before a beginning with the list that answers Ok, its index is below the selection's bound, and it
+-- is valid when the call returns, so it was valid all the while. Then it is among the looked keys. `before` is the
+-- history before the call; what the caller did after it is this call.
+abbrev pub ValidKeysAreListed : Type 0
+ValidKeysAreListed =
+    (l : Limits) (n : CallerNo) (before later : List Event) (s : SelNo) (mode : Mode) (known : List LookedKey)
+    (selection : Selection) (i serial : ℕ)
+    → IsLegal l (before ++ later) → KnowsList l n before s known
+    → Begins s mode (Some known) (mine n later) (Ok selection)
+    → IsTrue (was_published ((state_after before).key s.0 i) serial)
+    → IsTrue (is_valid_key ((state_after (before ++ later)).key s.0 i) serial)
+    → i < selection.bound
+    → HasEntry selection.looked i serial
+
 -- A `told` that ends a selection with the list looks at the selector's high-water mark. When it returns, each key that
 -- was published and cancelled before that look, at an index below the high-water mark, is removed: also one that was
 -- registered since the selection began. `before` is the history before the call; what the caller did after it is this
@@ -169,7 +191,8 @@ count_touched s words acts = count_below (64 * words) (λ k. has (finds_touched 
 abbrev pub count_told : Selection → Poll → ℕ
 count_told selection poll = count_by (λ entry. not (told_bits poll.pairs entry == 0)) selection.looked
 
--- The acts of a whole selection by a caller that has the list, as `IsWholeSelection` for one that hasn't.
+-- The acts of a whole selection by the selector's list: `first` to `second` are its beginning, and `third` to `fourth`
+-- the `told` that ends it. Between the two the caller doesn't give the turn back and removes no key.
 pub record IsWholeListed (known : List LookedKey) (selection : Selection) (poll : Poll) (answer : Selected)
     (found : GateWord) (mark : ℕ) (first second between third fourth : List Act) : Type 0 where
   pub begins : Begins selection.selector selection.mode (Some known) (first ++ BeginLook selection.selector found ∷ second)

@@ -22,8 +22,8 @@ listed_at known i = fold (λ found e. if e.index == i then Some (record {
   interest = e.interest;
 }) else found) None known
 
--- the caller found a high-water mark of the selector's keys, and the index is below it, or within the last 64 indexes
--- that have one below it
+-- the caller found a high-water mark of the selector's keys, and the index is in one of the words of 64 indexes that
+-- have an index below the mark
 pub record IsFoundBelow (own : List Act) (s : SelNo) (i : ℕ) : Type 0 where
   pub mark : ℕ
   pub found : Contains own (LookKeys s mark)

@@ -1,8 +1,9 @@
 -- How a selection goes over the keys of a selector.
 --
 -- A caller that hasn't the selector's list looks at each index that isn't free. A caller that has the list goes from
--- selection to selection with what it knows of the selector's valid keys, and looks only at the indexes that were
--- touched since: whoever changes what a selection looks at touches the index first, under a pin.
+-- selection to selection with what it knows of the selector's valid keys, and looks only at the indexes that are
+-- touched. Whoever changes what a selection looks at touches the index first, under a pin. A selection that finds an
+-- index pinned touches it again, so that the next one looks there too.
 use Rattle.std.specs.Prelude.{ℕ, zero, suc, ◌+◌, ◌*◌, ◌==◌, nat_lt, Bool, true, false, not, ◌&&◌, if◌then◌else◌}
 use Rattle.std.specs.Prelude.{Option, Some, None, List, [], ◌∷◌, ◌++◌, filter}
 use Rattle.nio_base.specs.Numbers.{last_serial}
@@ -35,8 +36,8 @@ over_word s bound f j x = do
   sweep_over (not_free word j bound 64) f x
 
 -- the same of all indexes below the bound, 64 after 64
-abbrev pub over_listed : {A : Type 0} → SelNo → ℕ → (ℕ → A → Plan A) → A → Plan A
-over_listed s bound f x = sweep_to (words_below bound) 0 (over_word s bound f) x
+abbrev pub over_not_free : {A : Type 0} → SelNo → ℕ → (ℕ → A → Plan A) → A → Plan A
+over_not_free s bound f x = sweep_to (words_below bound) 0 (over_word s bound f) x
 
 -- ---- going over the indexes that were touched
 
@@ -128,14 +129,16 @@ list_word s j known = do
 
 -- ---- both ways
 
--- The keys that a selection with this bound looks at. `known` is the selector's list, where the caller has it: the last
--- 64 indexes at which it then looks may be above the bound.
+-- The keys that a selection with this bound looks at: without the list the valid keys below the bound, and with the
+-- list, `known`, the keys that it has after this. With the list it goes over whole words of 64 indexes, so of the last
+-- word some may be at or above the bound.
 abbrev pub look_at_keys : SelNo → ℕ → Option (List LookedKey) → Plan (List LookedKey)
-look_at_keys s bound None = over_listed s bound (look_over s) []
+look_at_keys s bound None = over_not_free s bound (look_over s) []
 look_at_keys s bound (Some known) = sweep_to (words_below bound) 0 (list_word s) known
 
 -- Removes each key below the mark that it finds in the cancelled set: it looks at each index that isn't free, or, where
--- the selection goes by the list, at each that is touched. A key was touched before it was cancelled.
+-- the selection goes by the list, at each that is touched. A key was touched before it was cancelled. With the list it
+-- goes over whole words of 64 indexes, so it may remove keys of the last word at or above the mark.
 abbrev pub remove_below : SelNo → ℕ → (listed : Bool) → Plan (Unit {0})
-remove_below s mark false = over_listed s mark (λ i _. remove_if_cancelled s i) tt
+remove_below s mark false = over_not_free s mark (λ i _. remove_if_cancelled s i) tt
 remove_below s mark true = sweep_to (words_below mark) 0 (over_touched s (λ i _. remove_if_cancelled s i)) tt

@@ -3,7 +3,7 @@ use Rattle.std.specs.Prelude.{ℕ, Bool, true, false, if◌then◌else◌, Optio
 use Rattle.nio_base.specs.declared.numbers.SelNo.{SelNo}
 use Rattle.nio_history.specs.State.{put}
 use Rattle.nio_steps.specs.SelectCalls.{Selection, ToldReply, done, again, ShutReply, closing, already_closed}
-use Rattle.nio_steps.specs.SelectCalls.{FinishReply, closed, busy, SelectReply, selected, not_begun, left}
+use Rattle.nio_steps.specs.SelectCalls.{FinishReply, closed, busy}
 use Rattle.nio_steps.specs.declared.looked.LookedKey.{LookedKey}
 use Rattle.nio_steps.specs.declared.refusal.BeginError.{BeginError}
 
@@ -43,6 +43,8 @@ pub data Change : Type 0 where
   -- with the selection that a `told` answered
   selection_goes_on : SelNo → Selection → Change
   selection_ends : SelNo → Change
+  -- a whole selection, whose beginning answered this, is over
+  selection_made : SelNo → Selection → Change
   closing_begins : SelNo → Change
   closing_ends : SelNo → Change
   list_taken : SelNo → Change
@@ -52,6 +54,7 @@ changed now no_change = now
 changed now (selection_begins s x) = begun_by now s x
 changed now (selection_goes_on s x) = selecting now s (Some x)
 changed now (selection_ends s) = selecting now s None
+changed now (selection_made s x) = selecting (begun_by now s x) s None
 changed now (closing_begins s) = closes_on now s true
 changed now (closing_ends s) = closes_on now s false
 changed now (list_taken s) = listing now s []
@@ -78,10 +81,9 @@ abbrev pub finish_change : SelNo → FinishReply → Change
 finish_change s closed = closing_ends s
 finish_change s busy = no_change
 
-abbrev pub select_change : SelNo → SelectReply → Change
-select_change s (selected answer) = selection_ends s
-select_change s (not_begun refusal) = no_change
-select_change s left = selection_ends s
+abbrev pub select_change : SelNo → Result Selection BeginError → Change
+select_change s (Ok selection) = selection_made s selection
+select_change s (Err refusal) = no_change
 
 abbrev pub close_change : SelNo → Bool → Change
 close_change s true = closing_ends s

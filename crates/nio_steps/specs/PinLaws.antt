@@ -1,6 +1,6 @@
 -- Each call gives back the pins that it takes: a caller that has no pin when it calls has none when the call
 -- returns.
-use Rattle.std.specs.Prelude.{ℕ, Bool, IsFalse, Option, None, List}
+use Rattle.std.specs.Prelude.{ℕ, Bool, IsFalse, Option, List}
 use Rattle.nio_base.specs.declared.kind.Kind.{Kind}
 use Rattle.nio_base.specs.declared.limits.Limits.{Limits}
 use Rattle.nio_base.specs.declared.numbers.CallerNo.{CallerNo}
@@ -79,7 +79,8 @@ pub record PinsAreGivenBack : Type 0 where
   -- the calls that wait
   pub set_blocking : (l : Limits) (c : ChanId) (on : Bool) → GivesPinsBack (SetsBlocking l c on)
   pub register : (l : Limits) (s : SelNo) (c : ChanId) (ops att : ℕ) → GivesPinsBack (Registers l s c ops att)
-  pub select : (s : SelNo) (mode : Mode) (polls : List Poll) → GivesPinsBack (MakesSelection s mode None polls)
+  pub select : (s : SelNo) (mode : Mode) (known : Option (List LookedKey)) (polls : List Poll)
+      → GivesPinsBack (MakesSelection s mode known polls)
   pub close : (s : SelNo) → GivesPinsBack (ClosesSelector s)
   pub read : (l : Limits) (source : ChanId) (none : Bool) → GivesPinsBack (Reads l source none)
   pub write : (l : Limits) (source sink : ChanId) (none : Bool) → GivesPinsBack (Writes l source sink none)

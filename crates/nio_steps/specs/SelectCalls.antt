@@ -386,6 +386,17 @@ SelectsRest polls (Err refusal) acts answer = (acts ≡ []) × (polls ≡ []) ×
 abbrev pub MakesSelection : SelNo → Mode → Option (List LookedKey) → List Poll → List Act → SelectReply → Type 0
 MakesSelection s mode known polls = Then (Retries (Begins s mode known) begin_finds_busy) (SelectsRest polls)
 
+-- what came of a whole selection: what its beginning answered at last, and what the call answers
+pub record SelectOutcome : Type 0 where
+  pub begun : Result Selection BeginError
+  pub answer : SelectReply
+
+-- a whole selection with this outcome
+pub record HasSelectOutcome (s : SelNo) (mode : Mode) (known : Option (List LookedKey)) (polls : List Poll)
+    (acts : List Act) (outcome : SelectOutcome) : Type 0 where
+  pub makes : MakesSelection s mode known polls acts outcome.answer
+  pub begun : makes.middle ≡ outcome.begun
+
 -- ---- calls that wait: closing
 
 -- somebody has the turn of the selector: another caller, or the caller itself

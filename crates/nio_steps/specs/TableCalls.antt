@@ -22,7 +22,7 @@ use Rattle.nio_steps.specs.Plan.{Plan}
 use Rattle.nio_steps.specs.SelectCalls.{Selection, open_selector_plan, take_list_plan, try_begin_plan, begin_lacks_memory, Poll}
 use Rattle.nio_steps.specs.SelectCalls.{told_plan, leave_plan, shut_plan, try_finish_plan, keys_plan}
 use Rattle.nio_steps.specs.SelectCalls.{selected_keys_plan, list_lacks_memory, wakeup_plan, interrupt_plan}
-use Rattle.nio_steps.specs.SelectCalls.{interrupted_plan, MakesSelection, select_lacks_memory, ClosesSelector}
+use Rattle.nio_steps.specs.SelectCalls.{interrupted_plan, HasSelectOutcome, select_lacks_memory, ClosesSelector}
 use Rattle.nio_steps.specs.declared.looked.LookedKey.{LookedKey}
 use Rattle.nio_steps.specs.declared.refusal.ChannelError.{ChannelError}
 
@@ -130,9 +130,9 @@ abbrev pub HasSelection : Selection → Ongoing → Type 0
 HasSelection selection now = now.selection selection.selector.0 ≡ Some selection
 
 -- a list that the caller gives is the one that it has for the selector
-abbrev pub HasList : SelNo → Option (List LookedKey) → Ongoing → Type 0
-HasList s None now = ⊤
-HasList s (Some known) now = now.list s.0 ≡ Some known
+abbrev pub IsItsList : SelNo → Option (List LookedKey) → Ongoing → Type 0
+IsItsList s None now = ⊤
+IsItsList s (Some known) now = now.list s.0 ≡ Some known
 
 abbrev pub row_of : TableCall → Row
 row_of (find_selector n) =
@@ -192,7 +192,7 @@ row_of (take_list s) =
     row (the_selector s ∷ []) (λ _ _. take_list_plan s) never_lacks registers_nothing None at_any_time (take_list_change s)
 row_of (try_begin s mode known) =
     row (the_selector s ∷ []) (λ _ lacks. try_begin_plan s mode known lacks)
-    begin_lacks_memory registers_nothing (Some s) (HasList s known) (begin_change s)
+    begin_lacks_memory registers_nothing (Some s) (IsItsList s known) (begin_change s)
 row_of (told selection poll) =
     row (the_selector selection.selector ∷ []) (λ _ _. told_plan selection poll.pairs poll.elapsed)
     never_lacks registers_nothing (Some selection.selector) (HasSelection selection) (told_change selection.selector)
@@ -232,7 +232,8 @@ row_of (try_write source sink) =
 pub data WaitCall : Type 0 where
   set_blocking : ChanId → Bool → WaitCall
   register : SelNo → ChanId → ℕ → ℕ → WaitCall
-  select : SelNo → Mode → List Poll → WaitCall
+  -- with the selector's list, or without it
+  select : SelNo → Mode → Option (List LookedKey) → List Poll → WaitCall
   close : SelNo → WaitCall
   read : ChanId → Bool → WaitCall
   write : ChanId → ChanId → Bool → WaitCall
@@ -246,33 +247,40 @@ pub record WaitRow : Type 1 where
   pub lacks_memory : Reply → Bool
   -- the selector and the channel, where the call registered a channel
   pub registers : Reply → List (SelNo × ChanId)
+  -- the call may come next, by what its caller has in progress
+  pub may_come : Ongoing → Type 0
   -- what it changes of what its caller has in progress
   pub change : Reply → Change
 
 abbrev pub wait_row : {R : Type 0} → List Name → (Limits → List Act → R → Type 0) → (R → Bool)
-    → (R → List (SelNo × ChanId)) → (R → Change) → WaitRow
-wait_row {R} names Shape lacks_memory registers change = record {
+    → (R → List (SelNo × ChanId)) → (Ongoing → Type 0) → (R → Change) → WaitRow
+wait_row {R} names Shape lacks_memory registers may_come change = record {
   names = names;
   Reply = R;
   Shape = Shape;
   lacks_memory = lacks_memory;
   registers = registers;
+  may_come = may_come;
   change = change;
 }
 
 abbrev pub wait_row_of : WaitCall → WaitRow
 wait_row_of (set_blocking c on) =
-    wait_row (the_channel c ∷ []) (λ l. SetsBlocking l c on) never_lacks registers_nothing changes_nothing
+    wait_row (the_channel c ∷ []) (λ l. SetsBlocking l c on)
+    never_lacks registers_nothing at_any_time changes_nothing
 wait_row_of (register s c ops att) =
     wait_row (the_selector s ∷ the_channel c ∷ []) (λ l. Registers l s c ops att)
-    never_lacks (registered s c) changes_nothing
-wait_row_of (select s mode polls) =
-    wait_row (the_selector s ∷ []) (λ _. MakesSelection s mode None polls)
-    select_lacks_memory registers_nothing (select_change s)
+    never_lacks (registered s c) at_any_time changes_nothing
+wait_row_of (select s mode known polls) =
+    wait_row (the_selector s ∷ []) (λ _. HasSelectOutcome s mode known polls)
+    (λ outcome. select_lacks_memory outcome.answer) registers_nothing (IsItsList s known)
+    (λ outcome. select_change s outcome.begun)
 wait_row_of (close s) =
-    wait_row (the_selector s ∷ []) (λ _. ClosesSelector s) never_lacks registers_nothing (close_change s)
+    wait_row (the_selector s ∷ []) (λ _. ClosesSelector s)
+    never_lacks registers_nothing at_any_time (close_change s)
 wait_row_of (read source none) =
-    wait_row (the_channel source ∷ []) (λ l. Reads l source none) never_lacks registers_nothing changes_nothing
+    wait_row (the_channel source ∷ []) (λ l. Reads l source none)
+    never_lacks registers_nothing at_any_time changes_nothing
 wait_row_of (write source sink none) =
     wait_row (the_channel source ∷ the_channel sink ∷ []) (λ l. Writes l source sink none)
-    never_lacks registers_nothing changes_nothing
+    never_lacks registers_nothing at_any_time changes_nothing

@@ -1,12 +1,14 @@
 //! What the plans promise, as the contracts of functions that do nothing.
 ghost use Rattle.nio_steps.specs.Laws.{RunsArePerformed, BeginsSelection, LooksInOrder, LooksAtValidKeys};
-ghost use Rattle.nio_steps.specs.Laws.{CancelledKeysGo, MarksOnlyAsTold, MarksLookedKeys, AgainGoesOn, CountsSelection};
+ghost use Rattle.nio_steps.specs.Laws.{CancelledKeysGo, ValidKeysAreLookedAt, MarksOnlyAsTold, MarksLookedKeys};
+ghost use Rattle.nio_steps.specs.Laws.{AgainGoesOn, CountsSelection};
 ghost use Rattle.nio_steps.specs.Laws.{CancelledKeysGoAtEnd, SelectionsStand, ClosingsStand, ClosedRemovesKeys};
 ghost use Rattle.nio_steps.specs.Laws.{WorksOnlyThere};
 ghost use Rattle.nio_steps.specs.PinLaws.{PinsAreGivenBack};
 ghost use Rattle.nio_steps.specs.Bound.{SelectionIsBounded};
 ghost use Rattle.nio_steps.specs.ListLaws.{ListsAreEmptyAtFirst, ListsStay, BeginningsList, RefusalsLeaveList};
-ghost use Rattle.nio_steps.specs.ListLaws.{OtherCallsLeaveList, ListedKeysStood, MarksListedKeys, CancelledListedKeysGo};
+ghost use Rattle.nio_steps.specs.ListLaws.{OtherCallsLeaveList, WaitingCallsLeaveList, ListedKeysStood};
+ghost use Rattle.nio_steps.specs.ListLaws.{MarksListedKeys, CancelledListedKeysGo, ValidKeysAreListed};
 ghost use Rattle.nio_steps.specs.ListLaws.{CancelledListedKeysGoAtEnd, ListedSelectionIsBounded};
 
 /// A call between whose steps nobody comes answers, and leaves, what its plan says of the state
@@ -15,14 +17,16 @@ pub fn run_law<R>()
     ensures { RunsArePerformed R }
 {}
 
-/// What `try_begin` answers is the selection that it began, until the turn is given back or a key
-/// is marked or removed. Its looked list is in rising order. Each looked key was found valid by a look of that
-/// call, with the channel, the serial and the interest set of its entry. A key with an index below the bound
-/// that was cancelled before is removed, and isn't in the looked list.
+/// What `try_begin` answers is the selection that it began, until the turn is given back or a key is marked or removed.
+/// Without the selector's list, the looked list is in rising order; each looked key was found valid by a look of that
+/// call, with the channel, the serial and the interest set of its entry; the looked list has each key with an index below
+/// the bound that was published before the call and is valid when it returns; and a key with an index below the bound that
+/// was published and cancelled before is removed, and isn't in the looked list.
 pub fn begin_law()
     ensures begins { BeginsSelection }
     ensures in_order { LooksInOrder }
     ensures valid { LooksAtValidKeys }
+    ensures looked { ValidKeysAreLookedAt }
     ensures cancelled { CancelledKeysGo }
 {}
 
@@ -69,21 +73,24 @@ pub fn bound_law()
 {}
 
 /// The selector's list of the caller that has it is right: empty at first, taken on by each beginning of a selection
-/// with it, and left by refusals and by all other calls.
+/// with it, and left by refusals and by all other calls, also by those that wait.
 pub fn list_law()
     ensures empty { ListsAreEmptyAtFirst }
     ensures stays { ListsStay }
     ensures begins { BeginningsList }
     ensures refused { RefusalsLeaveList }
     ensures others { OtherCallsLeaveList }
+    ensures waiting { WaitingCallsLeaveList }
 {}
 
-/// What a selection with the list looked at stood so after the selection had begun, and an index that it marks has that
-/// key. It removes each key that was cancelled before it began, and at its end each that was cancelled before its look
-/// at the high-water mark.
+/// Each key on the looked list of a selection with the selector's list stood so after the selection had begun, and an
+/// index that it marks has that key. The looked list has each key with an index below the bound that was published before
+/// the call that began it and is valid when that call returns. The selection removes each key that was published and
+/// cancelled before it began, and at its end each that was so before its look at the high-water mark.
 pub fn listed_law()
     ensures stood { ListedKeysStood }
     ensures marked { MarksListedKeys }
+    ensures looked { ValidKeysAreListed }
     ensures cancelled { CancelledListedKeysGo }
     ensures at_end { CancelledListedKeysGoAtEnd }
 {}

@@ -1,16 +1,15 @@
 //! Selections by a selector's list: what is done between two of them, and during one; and of each which indexes changed
 //! and which keys it looks at.
 ghost use Rattle.std.specs.Prelude.{◌≡◌};
-ghost use Rattle.nio_history.specs.PassViews.{HasSelector};
 ghost use Rattle.nio_select.specs.InHand.{selection_of};
-ghost use Rattle.nio_select.specs.InProgress.{MaySelect, Selects};
-ghost use Rattle.nio_caller.specs.Callers.{IsSameCaller, StillHas, sees};
+ghost use Rattle.nio_select.specs.InProgress.{Selects};
+ghost use Rattle.nio_caller.specs.Callers.{sees};
 
 use crate::calls::{NOTHING, told};
 use crate::tables::{C0, C0_AGAIN, C1, C2};
-use nio_base::{CallerNo, ChanId, Kind, Limits, Ops, SelNo};
+use nio_base::{CallerNo, ChanId, KeyNo, Kind, Limits, Ops, SelNo};
 use nio_caller::Caller;
-use nio_select::{After, Asked, Mode, Selecting, Selector, Told};
+use nio_select::{After, Asked, Mode, Selecting, Told};
 use nio_words::Words;
 use std::alloc::Global;
 use std::process::Abort;
@@ -151,13 +150,7 @@ fn does_between<R: Wait>(
     other: &mut Caller<'_>,
     sel: SelNo,
     act: Act,
-) -> bool
-    requires first { HasSelector (sees caller.old) sel }
-    requires second { HasSelector (sees other.old) sel }
-    ensures same { IsSameCaller caller.old caller.new }
-    ensures still { StillHas (sees caller.old) (sees caller.new) }
-    ensures second { HasSelector (sees other.new) sel }
-{
+) -> bool {
     match act {
         Act::OtherSelects => selects(alloc, other, sel),
         act => does(rt, alloc, caller, sel, act),
@@ -165,11 +158,7 @@ fn does_between<R: Wait>(
 }
 
 /// Whether what the caller does isn't refused.
-fn does<R: Wait>(rt: &R, alloc: Global, caller: &mut Caller<'_>, sel: SelNo, act: Act) -> bool
-    requires { HasSelector (sees caller.old) sel }
-    ensures same { IsSameCaller caller.old caller.new }
-    ensures still { StillHas (sees caller.old) (sees caller.new) }
-{
+fn does<R: Wait>(rt: &R, alloc: Global, caller: &mut Caller<'_>, sel: SelNo, act: Act) -> bool {
     match act {
         Act::Nothing => true,
         Act::Opens => caller.open_channel(Kind::Stream).is_ok(),
@@ -182,78 +171,41 @@ fn does<R: Wait>(rt: &R, alloc: Global, caller: &mut Caller<'_>, sel: SelNo, act
     }
 }
 
-fn registers<R: Wait>(rt: &R, caller: &mut Caller<'_>, sel: SelNo, chan: ChanId) -> bool
-    requires { HasSelector (sees caller.old) sel }
-    ensures same { IsSameCaller caller.old caller.new }
-    ensures still { StillHas (sees caller.old) (sees caller.new) }
-{
-    let Some(chan) = caller.find_channel(chan.number.0, chan.serial) else {
-        return false;
-    };
+fn registers<R: Wait>(rt: &R, caller: &mut Caller<'_>, sel: SelNo, chan: ChanId) -> bool {
     caller
         .register_non_blocking(rt, sel, chan, Ops::READ, 0)
         .is_ok()
 }
 
-fn closes(caller: &mut Caller<'_>, chan: ChanId) -> bool
-    ensures same { IsSameCaller caller.old caller.new }
-    ensures still { StillHas (sees caller.old) (sees caller.new) }
-{
-    let Some(chan) = caller.find_channel(chan.number.0, chan.serial) else {
-        return false;
-    };
+fn closes(caller: &mut Caller<'_>, chan: ChanId) -> bool {
     caller.close_channel(chan)
 }
 
-fn reopens(caller: &mut Caller<'_>, chan: ChanId) -> bool
-    ensures same { IsSameCaller caller.old caller.new }
-    ensures still { StillHas (sees caller.old) (sees caller.new) }
-{
-    let Some(chan) = caller.find_channel(chan.number.0, chan.serial) else {
-        return false;
-    };
+fn reopens(caller: &mut Caller<'_>, chan: ChanId) -> bool {
     caller.reopen_channel(chan).is_ok()
 }
 
-fn sets(caller: &mut Caller<'_>, sel: SelNo, index: u32, serial: u32, ops: u8) -> bool
-    requires { HasSelector (sees caller.old) sel }
-    ensures same { IsSameCaller caller.old caller.new }
-    ensures still { StillHas (sees caller.old) (sees caller.new) }
-{
-    let Some(key) = caller.find(sel, index, serial) else {
-        return false;
-    };
+fn sets(caller: &mut Caller<'_>, sel: SelNo, index: u32, serial: u32, ops: u8) -> bool {
+    let key = KeyNo { sel, index, serial };
     caller.set_interest(key, Ops::of(ops)).is_ok()
 }
 
-fn cancels(caller: &mut Caller<'_>, sel: SelNo, index: u32, serial: u32) -> bool
-    requires { HasSelector (sees caller.old) sel }
-    ensures same { IsSameCaller caller.old caller.new }
-    ensures still { StillHas (sees caller.old) (sees caller.new) }
-{
-    let Some(key) = caller.find(sel, index, serial) else {
-        return false;
-    };
-    caller.cancel(key);
-    true
+fn cancels(caller: &mut Caller<'_>, sel: SelNo, index: u32, serial: u32) -> bool {
+    caller.cancel(KeyNo { sel, index, serial })
 }
 
 /// A selection without the list that is told nothing. Says whether it begins, or is busy beside one by the list.
-fn selects(alloc: Global, caller: &mut Caller<'_>, sel: SelNo) -> bool
-    requires { HasSelector (sees caller.old) sel }
-    ensures same { IsSameCaller caller.old caller.new }
-    ensures still { StillHas (sees caller.old) (sees caller.new) }
-{
+fn selects(alloc: Global, caller: &mut Caller<'_>, sel: SelNo) -> bool {
     let Ok(told) = told(alloc, NOTHING, false) else {
         return false;
     };
-    let Ok(selection) = caller.try_begin(alloc, sel, Mode::Now) else {
+    let Ok(selection) = caller.begin(alloc, sel, Mode::Now) else {
         return true;
     };
-    match caller.told(selection, &told) {
-        After::Done(_answer, list) => list.is_none(),
+    match caller.told(sel, selection, &told) {
+        After::Done(_answer, _list) => true,
         After::Again(selection) => {
-            caller.leave(selection);
+            caller.leave(sel, selection);
             false
         }
     }
@@ -271,34 +223,20 @@ pub(crate) fn agrees(asked: &Asked, changed: &[u32], keys: &[(u32, u32, u8)]) ->
     same
 }
 
-/// Ends the selection, and gives the list back.
-fn ends(
-    caller: &mut Caller<'_>,
-    selector: &mut Selector,
-    selection: Selecting,
-    told: &Told,
-    end: End,
-) -> bool
+/// Ends the selection, whose list comes back to the caller.
+fn ends(caller: &mut Caller<'_>, sel: SelNo, selection: Selecting, told: &Told, end: End) -> bool
     requires begun { Selects (sees caller.old) caller.old.number (selection_of selection) }
-    requires selector { HasSelector (sees caller.old) selector.old.number }
-    requires on { selection.selector ≡ selector.old.number }
-    ensures still { StillHas (sees caller.old) (sees caller.new) }
-    ensures may { MaySelect (sees caller.new) caller.new.number selector.new }
+    requires selector { selection.selector ≡ sel }
 {
     match end {
         End::Left => {
-            let list = caller.leave(selection);
-            selector.give_back(list);
+            caller.leave(sel, selection);
             true
         }
-        End::Told => match caller.told(selection, told) {
-            After::Done(_answer, list) => {
-                selector.give_back(list);
-                true
-            }
+        End::Told => match caller.told(sel, selection, told) {
+            After::Done(_answer, _list) => true,
             After::Again(selection) => {
-                let list = caller.leave(selection);
-                selector.give_back(list);
+                caller.leave(sel, selection);
                 false
             }
         },
@@ -311,20 +249,19 @@ fn selections_by_the_list(rt: HostRuntime) -> Result<(), Fail> {
     let mut caller = Caller::first(&words, pass);
     let sel = caller.open_selector()?;
     let mut other = caller.split(CallerNo(1))?;
-    let mut selector = caller.take_list(rt.alloc(), sel);
     let nothing = told(rt.alloc(), NOTHING, false)?;
-    assert!(rt; selector.has_list());
-    assert!(rt; !other.take_list(rt.alloc(), sel).has_list());
+    assert!(rt; caller.take_list(rt.alloc(), sel));
+    assert!(rt; !other.take_list(rt.alloc(), sel));
     for (at, (before, changed, keys, during, end)) in ROWS.iter().enumerate() {
         assert!(rt;
             does_between(&rt, rt.alloc(), &mut caller, &mut other, sel, *before),
             "row {at}"
         );
-        let selection = caller.begin(rt.alloc(), &mut selector, Mode::Now)?;
+        let selection = caller.begin(rt.alloc(), sel, Mode::Now)?;
         assert!(rt; agrees(selection.asked(), changed, keys), "row {at}");
         assert!(rt; does(&rt, rt.alloc(), &mut other, sel, *during), "row {at}");
         assert!(rt;
-            ends(&mut caller, &mut selector, selection, &nothing, *end),
+            ends(&mut caller, sel, selection, &nothing, *end),
             "row {at}"
         );
     }

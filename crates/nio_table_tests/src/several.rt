@@ -1,12 +1,9 @@
 //! The two calls of a caller that are several calls, with each answer and each refusal that one thread can bring about.
 //! (`IllegalBlockingMode` takes a second one, which makes the channel blocking in between.)
-ghost use Rattle.nio_caller.specs.Callers.{sees};
-ghost use Rattle.nio_history.specs.PassViews.{HasSelector};
-
 use crate::calls::{Reply, listed, told};
 use crate::tables::{C0, C1, S};
 use nio_base::{ChanId, ChanNo, KeyNo, Kind, Limits, Ops, SelNo};
-use nio_caller::Caller;
+use nio_caller::{CallError, Caller};
 use nio_channel::ChannelError;
 use nio_history::Why;
 use nio_poller::NoBell;
@@ -113,58 +110,61 @@ fn answer_on_channel<R: Wait>(
     sel: SelNo,
     number: u32,
     call: OnChannel,
-) -> Reply
-    requires { HasSelector (sees caller.old) sel }
-    ensures { HasSelector (sees caller.new) sel }
-{
+) -> Reply {
     let Some(chan) = caller.find_channel(number, 0) else {
         return Reply::Missing;
     };
     match call {
         OnChannel::RegisterNonBlocking(ops) => {
-            Reply::Registered(caller.register_non_blocking(rt, sel, chan, Ops::of(ops), 0))
+            registered(caller.register_non_blocking(rt, sel, chan, Ops::of(ops), 0))
         }
         OnChannel::IsBlocking => Reply::Flag(caller.is_blocking(chan)),
         OnChannel::Close => Reply::Flag(caller.close_channel(chan)),
     }
 }
 
+fn registered(answer: Result<KeyNo, CallError<ChannelError>>) -> Reply {
+    match answer {
+        Ok(key) => Reply::Registered(Ok(key)),
+        Err(CallError::Refused(error)) => Reply::Registered(Err(error)),
+        Err(_missing) => Reply::Missing,
+    }
+}
+
 /// A selection that is told once, that the only key is ready to be read. Where it would go on, it is left.
-pub(crate) fn selects(alloc: Global, caller: &mut Caller<'_>, sel: SelNo, mode: Mode) -> Reply
-    requires { HasSelector (sees caller.old) sel }
-    ensures { HasSelector (sees caller.new) sel }
-{
+pub(crate) fn selects(alloc: Global, caller: &mut Caller<'_>, sel: SelNo, mode: Mode) -> Reply {
     let Ok(told) = told(alloc, ((0, 1), (9, 1), (9, 4)), false) else {
         return Reply::NotBegun(BeginError::Memory);
     };
-    let selection = match caller.try_begin(alloc, sel, mode) {
+    let selection = match caller.begin(alloc, sel, mode) {
         Ok(selection) => selection,
-        Err(error) => return Reply::NotBegun(error),
+        Err(CallError::Refused(error)) => return Reply::NotBegun(error),
+        Err(_missing) => return Reply::Missing,
     };
-    match caller.told(selection, &told) {
+    match caller.told(sel, selection, &told) {
         After::Done(answer, _list) => Reply::Done(answer.count, answer.why),
         After::Again(selection) => {
-            caller.leave(selection);
+            caller.leave(sel, selection);
             Reply::Again
         }
     }
 }
 
-fn cancels(caller: &mut Caller<'_>, sel: SelNo) -> Reply
-    requires { HasSelector (sees caller.old) sel }
-    ensures { HasSelector (sees caller.new) sel }
-{
-    let Some(key) = caller.find(sel, KEY.index, KEY.serial) else {
-        return Reply::Missing;
-    };
-    caller.cancel(key);
-    Reply::Nothing
+fn cancels(caller: &mut Caller<'_>, sel: SelNo) -> Reply {
+    if caller.cancel(KeyNo { sel, ..KEY }) {
+        Reply::Nothing
+    } else {
+        Reply::Missing
+    }
 }
 
-fn answer<R: Wait>(rt: &R, alloc: Global, caller: &mut Caller<'_>, sel: SelNo, call: Call) -> Reply
-    requires { HasSelector (sees caller.old) sel }
-    ensures { HasSelector (sees caller.new) sel }
-{
+fn answer<R: Wait>(
+    rt: &R,
+    alloc: Global,
+    caller: &mut Caller<'_>,
+    sel: SelNo,
+    call: Call,
+) -> Reply {
     match call {
         Call::TakeSelected(number) => Reply::Key(caller.take_selected(
             ChanId::first(ChanNo(number)),
@@ -173,7 +173,11 @@ fn answer<R: Wait>(rt: &R, alloc: Global, caller: &mut Caller<'_>, sel: SelNo, c
         Call::OnChannel(number, call) => answer_on_channel(rt, caller, sel, number, call),
         Call::Open(kind) => Reply::OpenedChannel(caller.open_channel(kind)),
         Call::Select => selects(alloc, caller, sel, Mode::Now),
-        Call::SelectedKeys => listed(caller.selected_keys(alloc, sel)),
+        Call::SelectedKeys => match caller.selected_keys(alloc, sel) {
+            Ok(keys) => listed(Ok(keys)),
+            Err(CallError::Refused(error)) => listed(Err(error)),
+            Err(_missing) => Reply::Missing,
+        },
         Call::Cancel => cancels(caller, sel),
         Call::CloseSelector => Reply::Flag(caller.close(rt, sel, &NoBell)),
     }

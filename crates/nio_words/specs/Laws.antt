@@ -165,8 +165,8 @@ FoundClearStands = (w : Words) (me : CallerNo) (c : ChanNo) (acts : List Act) (b
 
 -- ---- what stands during a selection
 
--- of what is seen while a caller selects, all marks and removals of keys of that selector and all ends
--- of its wakeup are its own
+-- of what is seen while a caller selects, all marks and removals of keys of that selector, all takings of its touched
+-- bits and all ends of its wakeup are its own
 abbrev pub SelectsAlone : Type 0
 SelectsAlone = (w : Words) (me : CallerNo) (s : SelNo) (acts : List Act) (before after : Pass)
     → Keeps w me (a_selection s) acts before after

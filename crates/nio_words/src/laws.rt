@@ -51,7 +51,8 @@ pub fn hold_law()
     ensures found_clear { FoundClearStands }
 {}
 
-/// While a caller selects nobody else marks or removes a key of the selector or ends its wakeup. So until
+/// While a caller selects nobody else takes bits of touched indexes of the selector, marks or removes a key of it or ends
+/// its wakeup. So until
 /// the caller itself does so or gives the turn back, a key stays in the key set and keeps its index, a pending
 /// wakeup stays pending, and a key's mark changes at most by being taken out of the selected set.
 pub fn selection_law()

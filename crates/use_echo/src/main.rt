@@ -23,18 +23,18 @@ fn main(rt: HostRuntime) -> anyhow::Result<()> {
     // What came on each link and isn't written back yet.
     let mut buffers = BTreeMap::new(rt.alloc());
     let mut link = caller.open_channel(Kind::Stream)?;
-    // The selector, and its list: a selection looks only at the keys that were touched since the last.
-    let mut selector = caller.take_list(rt.alloc(), sel);
+    // A selection by the selector's list looks only at the keys that were touched since the last.
+    caller.take_list(rt.alloc(), sel);
     let mut open: u32 = 2;
     for _ in rt.forever() {
         if open == 0 {
             break;
         }
         let Some((number, _)) = net.next_told() else {
-            caller.select(&rt, rt.alloc(), &mut selector, &mut net)?;
+            caller.select(&rt, rt.alloc(), sel, &mut net)?;
             continue;
         };
-        // A net has one channel of each number: the first.
+        // A net has one channel of each number, the first: so this one lasts for 1,023 connections.
         let chan = ChanId::first(number);
         let Some(key) = caller.take_selected(chan, sel) else {
             continue;

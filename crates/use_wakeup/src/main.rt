@@ -2,12 +2,8 @@
 //! it is ready. Then it waits in a selection until the second caller, in a thread of its own, wakes it.
 #![tactic(auto)]
 
-ghost use Rattle.nio.specs.Callers.{sees};
-ghost use Rattle.nio.specs.InProgress.{MaySelect};
-ghost use Rattle.nio.specs.PassViews.{HasSelector};
-
-use nio::select::{Scripted, SelectError, Selected, Selector, Sleeper, SleeperBell, Told};
-use nio::{Caller, CallerNo, Kind, Ops, SelNo, USUAL_LIMITS, Words};
+use nio::select::{Scripted, SelectError, Selected, Sleeper, SleeperBell, Told};
+use nio::{CallError, Caller, CallerNo, Kind, Ops, SelNo, USUAL_LIMITS, Words};
 use std::alloc::Global;
 use std::sync::Wait;
 use std::thread::join;
@@ -27,8 +23,8 @@ fn main(rt: HostRuntime) -> anyhow::Result<()> {
         elapsed: false,
     };
     let mut script = Scripted::make(vec![in rt.alloc(); told]?, Vec::new(rt.alloc()));
-    let mut selector = first.take_list(rt.alloc(), sel);
-    let selected = first.select(&rt, rt.alloc(), &mut selector, &mut script)?;
+    first.take_list(rt.alloc(), sel);
+    let selected = first.select(&rt, rt.alloc(), sel, &mut script)?;
     println!(rt; "selected: {} ({:?})", selected.count, selected.why)?;
 
     // The second caller is for another thread. The first sleeps in its selection until it is woken.
@@ -36,12 +32,8 @@ fn main(rt: HostRuntime) -> anyhow::Result<()> {
     let second = first.split(CallerNo(1))?;
     let (answer, ()) = join(
         &rt,
-        || -> Result<Selected, SelectError>
-            requires { MaySelect (sees first) first.number selector }
-        { sleeps(&rt, rt.alloc(), first, selector, sleeper) },
-        ||
-            requires { HasSelector (sees second) sel }
-        { wakes(second, sel, &bell) },
+        || sleeps(&rt, rt.alloc(), first, sel, sleeper),
+        || wakes(second, sel, &bell),
     );
     let selected = answer?;
     println!(rt; "selected: {} ({:?})", selected.count, selected.why)?;
@@ -52,20 +44,15 @@ fn sleeps<R: Wait>(
     rt: &R,
     alloc: Global,
     caller: Caller<'_>,
-    selector: Selector,
+    sel: SelNo,
     sleeper: Sleeper,
-) -> Result<Selected, SelectError>
-    requires { MaySelect (sees caller) caller.number selector }
-{
+) -> Result<Selected, CallError<SelectError>> {
     let mut caller = caller;
-    let mut selector = selector;
     let mut sleeper = sleeper;
-    caller.select(rt, alloc, &mut selector, &mut sleeper)
+    caller.select(rt, alloc, sel, &mut sleeper)
 }
 
-fn wakes(caller: Caller<'_>, sel: SelNo, bell: &SleeperBell)
-    requires { HasSelector (sees caller) sel }
-{
+fn wakes(caller: Caller<'_>, sel: SelNo, bell: &SleeperBell) {
     let mut caller = caller;
     caller.wakeup(sel, bell);
 }

@@ -1,5 +1,5 @@
 //! The calls of a caller on channels.
-ghost use Rattle.std.specs.Prelude.{◌≡◌, ◌≢◌, ◌≤◌, Err, IfOk, IfSome, IsTrue, false, is_ok, suc};
+ghost use Rattle.std.specs.Prelude.{◌≡◌, ◌≢◌, ◌≤◌, Err, IfOk, IfSome, IsTrue, None, false, is_ok, suc};
 ghost use Rattle.nio_history.specs.OwnEvents.{closes};
 ghost use Rattle.nio_channel.specs.Closed.{IsClosed};
 ghost use Rattle.nio_channel.specs.Registered.{IsKeyOf, IsCancelledWhereClosed};
@@ -8,7 +8,6 @@ ghost use Rattle.nio_history.specs.OwnEvents.{has, reopens};
 ghost use Rattle.nio_history.specs.PassViews.{HasChannel, HasKey, HasSelector, done_between, known};
 ghost use Rattle.nio_history.specs.Permanent.{channel_of_kind, stands};
 ghost use Rattle.nio_base.specs.Numbers.{last_serial};
-ghost use Rattle.nio_steps.specs.Calls.{CallClause};
 ghost use Rattle.nio_steps.specs.ChannelCalls.{open_channel_plan, reopen_channel_plan, is_open_plan};
 ghost use Rattle.nio_steps.specs.ChannelCalls.{is_blocking_plan, SetsBlocking};
 ghost use Rattle.nio_steps.specs.ChannelCalls.{try_set_blocking_plan, Registers, try_register_plan, key_for_plan};
@@ -18,10 +17,13 @@ ghost use Rattle.nio_steps.specs.Runs.{Completes};
 ghost use Rattle.nio_steps.specs.declared.refusal.ChannelError.TheVariants.{Busy, ChannelsSpent, ClosedChannel};
 ghost use Rattle.nio_steps.specs.declared.refusal.ReopenError.TheVariants.{Lost, Open, SerialsSpent};
 ghost use Rattle.nio_words.specs.Passes.{limits_of};
-ghost use Rattle.nio_caller.specs.Callers.{IsSameCaller, StillHas, sees};
+ghost use Rattle.nio_caller.specs.Callers.{sees};
+ghost use Rattle.nio_caller.specs.NamedCalls.{Calls, IfCalled, OnChannel, OnSelector, Refuses};
 ghost use Rattle.nio_caller.specs.Several.{RegistersNonBlocking};
+ghost use Rattle.nio_caller.specs.declared.refusal.CallError.TheVariants.{NoSuchChannel, NoSuchSelector, Refused};
 
 use super::Caller;
+use crate::refusal::{CallError, called};
 use nio_base::{ChanId, KeyNo, Kind, Ops, SelNo};
 use nio_steps::{ChannelError, ReopenError};
 use std::sync::Wait;
@@ -30,10 +32,7 @@ impl<'a> Caller<'a> {
     /// Opens a channel of this kind, in blocking mode: Java's `open`. It has the first number that never had a channel;
     /// where each has had one, the first of a closed channel of this kind that isn't registered any more.
     pub fn open_channel(&mut self, kind: Kind) -> Result<ChanId, ChannelError>
-        ensures call { CallClause self.old.number (Completes (open_channel_plan (limits_of self.old.table) kind))
-            (sees self.old) (sees self.new) result }
-        ensures same { IsSameCaller self.old self.new }
-        ensures still { StillHas (sees self.old) (sees self.new) }
+        ensures call { Calls (λ l. Completes (open_channel_plan l kind)) self.old self.new result }
         ensures made { IfOk result (HasChannel (sees self.new)) }
         ensures kind { IfOk result (λ c. IsTrue (stands (channel_of_kind c.number.0 kind) (known (sees self.new)))) }
         ensures spent { result ≡ Err ChannelsSpent
@@ -46,43 +45,43 @@ impl<'a> Caller<'a> {
     /// It is the quick way for who closed it; `open_channel` may look at every number. Refused where the channel is
     /// open (`Open`) or still registered (`Registered`), where its number was given to another one (`Lost`) or had as
     /// many as it may (`SerialsSpent`), and where another caller has the hold of the number (`Busy`).
-    pub fn reopen_channel(&mut self, chan: ChanId) -> Result<ChanId, ReopenError>
-        requires { HasChannel (sees self.old) chan }
-        ensures call { CallClause self.old.number (Completes (reopen_channel_plan (limits_of self.old.table) chan))
-            (sees self.old) (sees self.new) result }
-        ensures same { IsSameCaller self.old self.new }
-        ensures still { StillHas (sees self.old) (sees self.new) }
+    pub fn reopen_channel(&mut self, chan: ChanId) -> Result<ChanId, CallError<ReopenError>>
+        ensures call { Calls (λ l. OnChannel l chan (Err NoSuchChannel)
+            (Refuses (Completes (reopen_channel_plan l chan)))) self.old self.new result }
         ensures next { IfOk result (λ new. new ≡ channel_of chan.number (suc chan.serial)) }
         ensures made { IfOk result (HasChannel (sees self.new)) }
         ensures took { is_ok result
             ≡ has (reopens chan.number.0) (done_between self.old.number (sees self.old) (sees self.new)) }
-        ensures lost { result ≡ Err Lost → HasChannel (sees self.new) (channel_of chan.number (suc chan.serial)) }
-        ensures spent { result ≡ Err SerialsSpent → last_serial ≤ chan.serial }
-        ensures closed { result ≢ Err Open → IsClosed (sees self.new) chan }
+        ensures lost { result ≡ Err (Refused Lost)
+            → HasChannel (sees self.new) (channel_of chan.number (suc chan.serial)) }
+        ensures spent { result ≡ Err (Refused SerialsSpent) → last_serial ≤ chan.serial }
+        ensures closed { IfCalled result (λ answer. answer ≢ Err Open → IsClosed (sees self.new) chan) }
     {
-        nio_channel::reopen_channel(self.words, &mut self.pass, self.number, chan)
+        if !self.has_channel(chan) {
+            return Err(CallError::NoSuchChannel);
+        }
+        called(nio_channel::reopen_channel(self.words, &mut self.pass, self.number, chan))
     }
 
-    /// Whether the channel is open: Java's `isOpen`.
+    /// Whether the channel is open: Java's `isOpen`. False where there is no such channel.
     pub fn is_open(&mut self, chan: ChanId) -> bool
-        requires { HasChannel (sees self.old) chan }
-        ensures call { CallClause self.old.number (Completes (is_open_plan chan))
-            (sees self.old) (sees self.new) result }
-        ensures same { IsSameCaller self.old self.new }
-        ensures still { StillHas (sees self.old) (sees self.new) }
-        ensures closed { result ≡ false → IsClosed (sees self.new) chan }
+        ensures call { Calls (λ l. OnChannel l chan false (Completes (is_open_plan chan))) self.old self.new result }
+        ensures closed { result ≡ false → HasChannel (sees self.old) chan → IsClosed (sees self.new) chan }
     {
+        if !self.has_channel(chan) {
+            return false;
+        }
         nio_channel::is_open(self.words, &mut self.pass, self.number, chan)
     }
 
-    /// Whether the channel is in blocking mode: Java's `isBlocking`.
+    /// Whether the channel is in blocking mode: Java's `isBlocking`. False where there is no such channel.
     pub fn is_blocking(&mut self, chan: ChanId) -> bool
-        requires { HasChannel (sees self.old) chan }
-        ensures call { CallClause self.old.number (Completes (is_blocking_plan chan))
-            (sees self.old) (sees self.new) result }
-        ensures same { IsSameCaller self.old self.new }
-        ensures still { StillHas (sees self.old) (sees self.new) }
+        ensures call { Calls (λ l. OnChannel l chan false (Completes (is_blocking_plan chan)))
+            self.old self.new result }
     {
+        if !self.has_channel(chan) {
+            return false;
+        }
         nio_channel::is_blocking(self.words, &mut self.pass, self.number, chan)
     }
 
@@ -93,28 +92,32 @@ impl<'a> Caller<'a> {
         rt: &R,
         chan: ChanId,
         on: bool,
-    ) -> Result<(), ChannelError>
-        requires { HasChannel (sees self.old) chan }
-        ensures call { CallClause self.old.number (SetsBlocking (limits_of self.old.table) chan on)
-            (sees self.old) (sees self.new) result }
-        ensures same { IsSameCaller self.old self.new }
-        ensures still { StillHas (sees self.old) (sees self.new) }
-        ensures closed { result ≡ Err ClosedChannel → IsClosed (sees self.new) chan }
-        ensures waits { result ≢ Err Busy }
+    ) -> Result<(), CallError<ChannelError>>
+        ensures call { Calls (λ l. OnChannel l chan (Err NoSuchChannel) (Refuses (SetsBlocking l chan on)))
+            self.old self.new result }
+        ensures closed { result ≡ Err (Refused ClosedChannel) → IsClosed (sees self.new) chan }
+        ensures waits { result ≢ Err (Refused Busy) }
     {
-        nio_channel::set_blocking(rt, self.words, &mut self.pass, self.number, chan, on)
+        if !self.has_channel(chan) {
+            return Err(CallError::NoSuchChannel);
+        }
+        called(nio_channel::set_blocking(rt, self.words, &mut self.pass, self.number, chan, on))
     }
 
     /// The same without waiting: `Busy` where another caller registers the channel or sets its mode.
-    pub fn try_set_blocking(&mut self, chan: ChanId, on: bool) -> Result<(), ChannelError>
-        requires { HasChannel (sees self.old) chan }
-        ensures call { CallClause self.old.number (Completes (try_set_blocking_plan (limits_of self.old.table) chan on))
-            (sees self.old) (sees self.new) result }
-        ensures same { IsSameCaller self.old self.new }
-        ensures still { StillHas (sees self.old) (sees self.new) }
-        ensures closed { result ≡ Err ClosedChannel → IsClosed (sees self.new) chan }
+    pub fn try_set_blocking(
+        &mut self,
+        chan: ChanId,
+        on: bool,
+    ) -> Result<(), CallError<ChannelError>>
+        ensures call { Calls (λ l. OnChannel l chan (Err NoSuchChannel)
+            (Refuses (Completes (try_set_blocking_plan l chan on)))) self.old self.new result }
+        ensures closed { result ≡ Err (Refused ClosedChannel) → IsClosed (sees self.new) chan }
     {
-        nio_channel::try_set_blocking(self.words, &mut self.pass, self.number, chan, on)
+        if !self.has_channel(chan) {
+            return Err(CallError::NoSuchChannel);
+        }
+        called(nio_channel::try_set_blocking(self.words, &mut self.pass, self.number, chan, on))
     }
 
     /// Registers the channel with the selector: Java's `register`. Where the channel has a valid key there, this key is
@@ -127,20 +130,22 @@ impl<'a> Caller<'a> {
         chan: ChanId,
         ops: Ops,
         att: u64,
-    ) -> Result<KeyNo, ChannelError>
-        requires selector { HasSelector (sees self.old) sel }
-        requires channel { HasChannel (sees self.old) chan }
-        ensures call { CallClause self.old.number (Registers (limits_of self.old.table) sel chan ops att)
-            (sees self.old) (sees self.new) result }
-        ensures same { IsSameCaller self.old self.new }
-        ensures still { StillHas (sees self.old) (sees self.new) }
-        ensures waits { result ≢ Err Busy }
+    ) -> Result<KeyNo, CallError<ChannelError>>
+        ensures call { Calls (λ l. OnSelector l sel (Err NoSuchSelector) (OnChannel l chan (Err NoSuchChannel)
+            (Refuses (Registers l sel chan ops att)))) self.old self.new result }
+        ensures waits { result ≢ Err (Refused Busy) }
         ensures in_selector { IfOk result (λ k. k.sel ≡ sel) }
         ensures key { IfOk result (HasKey (sees self.new)) }
         ensures its { IfOk result (IsKeyOf (sees self.new) chan) }
         ensures cancelled { IfOk result (IsCancelledWhereClosed (sees self.new) self.old.number chan) }
     {
-        nio_channel::register(
+        if !self.has_selector(sel) {
+            return Err(CallError::NoSuchSelector);
+        }
+        if !self.has_channel(chan) {
+            return Err(CallError::NoSuchChannel);
+        }
+        called(nio_channel::register(
             rt,
             self.words,
             &mut self.pass,
@@ -149,7 +154,7 @@ impl<'a> Caller<'a> {
             chan,
             ops,
             att,
-        )
+        ))
     }
 
     /// The same without waiting: `Busy` where another caller registers the channel or sets its mode.
@@ -159,20 +164,29 @@ impl<'a> Caller<'a> {
         chan: ChanId,
         ops: Ops,
         att: u64,
-    ) -> Result<KeyNo, ChannelError>
-        requires selector { HasSelector (sees self.old) sel }
-        requires channel { HasChannel (sees self.old) chan }
-        ensures call { CallClause self.old.number
-            (Completes (try_register_plan (limits_of self.old.table) sel chan ops att))
-            (sees self.old) (sees self.new) result }
-        ensures same { IsSameCaller self.old self.new }
-        ensures still { StillHas (sees self.old) (sees self.new) }
+    ) -> Result<KeyNo, CallError<ChannelError>>
+        ensures call { Calls (λ l. OnSelector l sel (Err NoSuchSelector) (OnChannel l chan (Err NoSuchChannel)
+            (Refuses (Completes (try_register_plan l sel chan ops att))))) self.old self.new result }
         ensures in_selector { IfOk result (λ k. k.sel ≡ sel) }
         ensures key { IfOk result (HasKey (sees self.new)) }
         ensures its { IfOk result (IsKeyOf (sees self.new) chan) }
         ensures cancelled { IfOk result (IsCancelledWhereClosed (sees self.new) self.old.number chan) }
     {
-        nio_channel::try_register(self.words, &mut self.pass, self.number, sel, chan, ops, att)
+        if !self.has_selector(sel) {
+            return Err(CallError::NoSuchSelector);
+        }
+        if !self.has_channel(chan) {
+            return Err(CallError::NoSuchChannel);
+        }
+        called(nio_channel::try_register(
+            self.words,
+            &mut self.pass,
+            self.number,
+            sel,
+            chan,
+            ops,
+            att,
+        ))
     }
 
     /// Makes the channel non-blocking and registers it: Java's `configureBlocking(false)`, then `register`. It waits where
@@ -184,57 +198,85 @@ impl<'a> Caller<'a> {
         chan: ChanId,
         ops: Ops,
         att: u64,
+    ) -> Result<KeyNo, CallError<ChannelError>>
+        ensures call { Calls (λ l. OnSelector l sel (Err NoSuchSelector) (OnChannel l chan (Err NoSuchChannel)
+            (Refuses (RegistersNonBlocking l sel chan ops att)))) self.old self.new result }
+        ensures waits { result ≢ Err (Refused Busy) }
+        ensures in_selector { IfOk result (λ k. k.sel ≡ sel) }
+        ensures key { IfOk result (HasKey (sees self.new)) }
+        ensures its { IfOk result (IsKeyOf (sees self.new) chan) }
+        ensures cancelled { IfOk result (IsCancelledWhereClosed (sees self.new) self.old.number chan) }
+    {
+        if !self.has_selector(sel) {
+            return Err(CallError::NoSuchSelector);
+        }
+        if !self.has_channel(chan) {
+            return Err(CallError::NoSuchChannel);
+        }
+        called(self.register_found(rt, sel, chan, ops, att))
+    }
+
+    // The same, of a selector and a channel that were found.
+    fn register_found<R: Wait>(
+        &mut self,
+        rt: &R,
+        sel: SelNo,
+        chan: ChanId,
+        ops: Ops,
+        att: u64,
     ) -> Result<KeyNo, ChannelError>
         requires selector { HasSelector (sees self.old) sel }
         requires channel { HasChannel (sees self.old) chan }
-        ensures call { CallClause self.old.number (RegistersNonBlocking (limits_of self.old.table) sel chan ops att)
-            (sees self.old) (sees self.new) result }
-        ensures same { IsSameCaller self.old self.new }
-        ensures still { StillHas (sees self.old) (sees self.new) }
+        ensures call { Calls (λ l. RegistersNonBlocking l sel chan ops att) self.old self.new result }
         ensures waits { result ≢ Err Busy }
         ensures in_selector { IfOk result (λ k. k.sel ≡ sel) }
         ensures key { IfOk result (HasKey (sees self.new)) }
         ensures its { IfOk result (IsKeyOf (sees self.new) chan) }
         ensures cancelled { IfOk result (IsCancelledWhereClosed (sees self.new) self.old.number chan) }
     {
-        self.set_blocking(rt, chan, false)?;
-        self.register(rt, sel, chan, ops, att)
+        let me = self.number;
+        nio_channel::set_blocking(rt, self.words, &mut self.pass, me, chan, false)?;
+        nio_channel::register(rt, self.words, &mut self.pass, me, sel, chan, ops, att)
     }
 
-    /// The channel's key in the selector, where it has one: Java's `keyFor`.
+    /// The channel's key in the selector, where it has one: Java's `keyFor`. None where there is no such channel or
+    /// selector.
     pub fn key_for(&mut self, chan: ChanId, sel: SelNo) -> Option<KeyNo>
-        requires channel { HasChannel (sees self.old) chan }
-        requires selector { HasSelector (sees self.old) sel }
-        ensures call { CallClause self.old.number (Completes (key_for_plan chan sel))
-            (sees self.old) (sees self.new) result }
-        ensures same { IsSameCaller self.old self.new }
-        ensures still { StillHas (sees self.old) (sees self.new) }
+        ensures call { Calls (λ l. OnSelector l sel None (OnChannel l chan None (Completes (key_for_plan chan sel))))
+            self.old self.new result }
         ensures found { IfSome result (HasKey (sees self.new)) }
     {
+        if !self.has_selector(sel) {
+            return None;
+        }
+        if !self.has_channel(chan) {
+            return None;
+        }
         nio_channel::key_for(self.words, &mut self.pass, self.number, chan, sel)
     }
 
-    /// Whether the channel is registered with any selector: Java's `isRegistered`.
+    /// Whether the channel is registered with any selector: Java's `isRegistered`. False where there is no such
+    /// channel.
     pub fn is_registered(&mut self, chan: ChanId) -> bool
-        requires { HasChannel (sees self.old) chan }
-        ensures call { CallClause self.old.number (Completes (is_registered_plan (limits_of self.old.table) chan))
-            (sees self.old) (sees self.new) result }
-        ensures same { IsSameCaller self.old self.new }
-        ensures still { StillHas (sees self.old) (sees self.new) }
+        ensures call { Calls (λ l. OnChannel l chan false (Completes (is_registered_plan l chan)))
+            self.old self.new result }
     {
+        if !self.has_channel(chan) {
+            return false;
+        }
         nio_channel::is_registered(self.words, &mut self.pass, self.number, chan)
     }
 
     /// Closes the channel and cancels its keys: Java's `close`. Says whether this call closed it. It never waits.
     pub fn close_channel(&mut self, chan: ChanId) -> bool
-        requires { HasChannel (sees self.old) chan }
-        ensures call { CallClause self.old.number (Completes (close_channel_plan (limits_of self.old.table) chan))
-            (sees self.old) (sees self.new) result }
-        ensures same { IsSameCaller self.old self.new }
-        ensures still { StillHas (sees self.old) (sees self.new) }
+        ensures call { Calls (λ l. OnChannel l chan false (Completes (close_channel_plan l chan)))
+            self.old self.new result }
         ensures took { result ≡ has (closes chan) (done_between self.old.number (sees self.old) (sees self.new)) }
-        ensures closed { IsClosed (sees self.new) chan }
+        ensures closed { HasChannel (sees self.old) chan → IsClosed (sees self.new) chan }
     {
+        if !self.has_channel(chan) {
+            return false;
+        }
         nio_channel::close_channel(self.words, &mut self.pass, self.number, chan)
     }
 }

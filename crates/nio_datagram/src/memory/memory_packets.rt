@@ -187,7 +187,7 @@ fn tell_one(pairs: &mut Vec<(u32, Ops)>, index: u32, ops: Ops) -> Result<(), All
 }
 
 // What a poll tells of these keys.
-#[tactic(auto, using(nio_link::proofs::KeysTo::none_below))]
+#[tactic(auto, using(nio_select::proofs::KeysTo::none_below))]
 fn tell(alloc: Global, sides: &[Side], asked: &Asked) -> Result<Vec<(u32, Ops)>, AllocError>
     ensures { IfOk result (λ pairs. pairs.items ≡ told_pairs sides.now asked.now.keys) }
 {

@@ -126,7 +126,7 @@ fn tell_one(pairs: &mut Vec<(u32, Ops)>, index: u32, ops: Ops) -> Result<(), All
 }
 
 // What a poll tells of these keys.
-#[tactic(auto, using(crate::proofs::KeysTo::none_below))]
+#[tactic(auto, using(nio_select::proofs::KeysTo::none_below))]
 fn tell(
     alloc: Global,
     slots: &[Slot],

@@ -1,4 +1,6 @@
 use Rattle.std.proofs.Common.{Err, false, refl}
+use Rattle.nio_history.specs.declared.found.Mode.TheVariants.{Now as WithoutWaiting}
+use Rattle.nio_select.proofs.TakenBits.{taken_after}
 use Rattle.nio_steps.proofs.CallLaws.{returned, left_ask, left_then, left_else, left_after, left_of_call, call_as}
 use Rattle.nio_steps.specs.Calls.{CallClause}
 use Rattle.nio_steps.specs.Runs.{Completes}
@@ -38,3 +40,9 @@ returns-clause-call c = λ mode.
     returned (left_ask _ (step_acts c.look_gate.ensures refl)
     (left_else _ _ _ c.if-look_gate.false (left_of_call rest))) in
     call_as (Begins c.args.sel mode known) answer (λ acts run. run) call
+
+pub returns-clause-taken : goal.returns-clause-taken
+returns-clause-taken c =
+    taken_after c.args.sel c.args.me _ c.begin_open.new.asked.changed c.begin_open.result
+    (step_acts c.look_gate.ensures refl) (c.begin_open.ensures.call WithoutWaiting).acts (λ i. refl)
+    c.begin_open.ensures.taken

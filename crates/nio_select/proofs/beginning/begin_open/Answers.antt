@@ -1,5 +1,7 @@
 use Rattle.std.proofs.Common.{◌≡◌, None, Err, true, false, refl, rules}
 use Rattle.std.specs.Prelude.{is_some}
+use Rattle.nio_history.specs.declared.found.Mode.TheVariants.{Now as WithoutWaiting}
+use Rattle.nio_select.proofs.TakenBits.{taken_after}
 use Rattle.nio_steps.proofs.CallLaws.{returned, left_ask, left_then, left_else, left_after, left_of_call, call_as}
 use Rattle.nio_steps.specs.Calls.{CallClause}
 use Rattle.nio_steps.specs.Runs.{Completes}
@@ -43,3 +45,9 @@ returns-clause-call c = λ mode.
     (view c.args.w.now c.args.p.now) (view c.args.w.now c.begin_with_turn.new.p) answer =
     returned (left_ask _ (step_acts c.take_turn.ensures refl) (left_else _ _ _ free (left_of_call rest))) in
     call_as (BeginsOpen c.args.sel mode known) answer (λ acts run. run) call
+
+pub returns-clause-taken : goal.returns-clause-taken
+returns-clause-taken c =
+    taken_after c.args.sel c.args.me _ c.begin_with_turn.new.asked.changed c.begin_with_turn.result
+    (step_acts c.take_turn.ensures refl) (c.begin_with_turn.ensures.call WithoutWaiting).acts (λ i. refl)
+    c.begin_with_turn.ensures.taken

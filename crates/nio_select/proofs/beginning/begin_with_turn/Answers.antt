@@ -7,6 +7,8 @@ use Rattle.nio_select.specs.Beginning.{BeginsWithTurn, begun_with}
 use Rattle.nio_select.proofs.Begun.{begun_stays, begins}
 use Rattle.nio_select.proofs.Beginnings.{fill_stays}
 use Rattle.nio_select.proofs.beginning.begin_with_turn.Goals as goal
+use Rattle.nio_history.specs.declared.found.Mode.TheVariants.{Now as WithoutWaiting}
+use Rattle.nio_select.proofs.TakenBits.{taken_after, acts_after}
 use Rattle.nio_steps.proofs.CallLaws.{returned, left_ask, left_then, left_else, left_after, left_of_call, call_as}
 use Rattle.nio_steps.specs.Calls.{CallClause}
 use Rattle.nio_steps.specs.Runs.{Completes}
@@ -55,3 +57,12 @@ returns-clause-call c = λ mode.
     (left_else _ _ _ c.if-begin_look.false
     (left_ask _ (step_acts c.look_keys-bound.ensures refl) (left_of_call below)))) in
     call_as (BeginsWithTurn c.args.sel mode known) answer (λ acts run. run) call
+
+pub returns-clause-taken : goal.returns-clause-taken
+returns-clause-taken c =
+    let rest = (c.begin_below.ensures.call WithoutWaiting).acts in
+    let looks = step_acts c.look_keys-bound.ensures refl in
+    taken_after c.args.sel c.args.me _ c.begin_below.new.asked.changed c.begin_below.result
+    (step_acts c.begin_look.ensures refl) (acts_after c.args.sel c.args.me looks rest) (λ i. refl)
+    (taken_after c.args.sel c.args.me _ c.begin_below.new.asked.changed c.begin_below.result looks rest (λ i. refl)
+    c.begin_below.ensures.taken)

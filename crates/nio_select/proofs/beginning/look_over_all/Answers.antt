@@ -5,7 +5,7 @@ use Rattle.nio_steps.proofs.SweepLaws.{sweep_turn, sweep_done}
 use Rattle.nio_steps.specs.Calls.{PartClause}
 use Rattle.nio_steps.specs.ChannelCalls.{words_below}
 use Rattle.nio_steps.specs.Plan.{reply, ◌>>=◌}
-use Rattle.nio_steps.specs.Looking.{over_listed, over_word, look_over}
+use Rattle.nio_steps.specs.Looking.{over_not_free, over_word, look_over}
 use Rattle.nio_steps.specs.Sweeps.{sweep_to}
 use Rattle.nio_steps.specs.declared.looked.LookedKey.{LookedKey}
 use Rattle.nio_words.specs.Views.{view}
@@ -22,7 +22,7 @@ loop-j-init c =
       below = subst (AreBelow (64 * 0)) (sym c.requires.empty) (All-nil (λ e. e.index < 64 * 0));
       within = subst (AreBelow c.args.bound) (sym c.requires.empty) (All-nil (λ e. e.index < c.args.bound));
       steps = subst
-          (λ (keys : List LookedKey). PartClause c.args.me (over_listed c.args.sel c.args.bound (look_over c.args.sel) [])
+          (λ (keys : List LookedKey). PartClause c.args.me (over_not_free c.args.sel c.args.bound (look_over c.args.sel) [])
           start start
           (sweep_to (words_below c.args.bound) 0 (over_word c.args.sel c.args.bound (look_over c.args.sel)) keys
           >>= reply))

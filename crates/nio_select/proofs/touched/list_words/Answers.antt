@@ -1,8 +1,14 @@
-use Rattle.std.proofs.Common.{◌+◌, ◌*◌, refl, ◌∙◌, arith}
+use Rattle.std.proofs.Common.{ℕ, ◌+◌, ◌*◌, ◌||◌, List, refl, ap, ◌∙◌, arith}
+use Rattle.nio_history.specs.Lists.{takes_bit}
+use Rattle.nio_history.specs.OwnEvents.{has}
+use Rattle.nio_history.specs.PassViews.{done_between}
+use Rattle.nio_select.specs.Asked.{has_changed}
 use Rattle.nio_steps.proofs.CallLaws.{returned, left_reply, left_start}
 use Rattle.nio_steps.proofs.SweepLaws.{sweep_turn, sweep_done}
 use Rattle.nio_steps.specs.Plan.{reply}
 use Rattle.nio_words.specs.Passes.{limits_of}
+use Rattle.nio_words.specs.Views.{view}
+use Rattle.nio_select.proofs.TakenBits.{adds_first, adds_then}
 use Rattle.nio_select.proofs.TakenOn.{taken_first, takes_none, takes_then, takes_later, changes}
 use Rattle.nio_select.proofs.touched.list_words.Goals as goal
 
@@ -13,6 +19,8 @@ loop-j-init c =
       beside = record { bound = refl; room = refl; stamp = refl };
       on = takes_none 0 (limits_of c.args.w.now).keys c.args.asked.now
           (taken_first (limits_of c.args.w.now).keys c.args.asked.now c.requires.unchanged c.requires.below);
+      taken = adds_first c.args.sel c.args.me (view c.args.w.now c.args.p.now) c.args.asked.now.changed
+          c.requires.begun.begun.ready.pass.legal;
       steps = left_reply (left_start _ _ _ c.requires.begun.begun.ready.pass.legal);
     }
 
@@ -46,6 +54,8 @@ loop-j-preserved c =
           (omega arith)
           (takes_then (64 * c.loop-j.j) (64 * c.loop-j.j + 64) limit c.args.asked.now c.loop-j.asked
           c.list_word.new.asked so_far.on c.list_word.ensures.on);
+      taken = adds_then c.args.sel c.args.me c.args.asked.now.changed c.loop-j.asked.changed
+          c.list_word.new.asked.changed so_far.steps.acts c.list_word.ensures.call.acts so_far.taken c.list_word.ensures.taken;
       steps = sweep_turn _ _ _ _ _ reply (omega (arith, c.loop-j-test.true, c.words_below-j-end.ensures)) so_far.steps
           c.list_word.ensures.call;
     }
@@ -61,3 +71,11 @@ returns-clause-below c = c.loop-j.invariant.on.on.below
 pub returns-clause-changed : goal.returns-clause-changed
 returns-clause-changed c =
     changes (64 * c.loop-j.j) (limits_of c.args.w.now).keys c.args.asked.now c.loop-j.asked c.loop-j.invariant.on
+
+pub returns-clause-taken : goal.returns-clause-taken
+returns-clause-taken c = λ i.
+    c.loop-j.invariant.taken i
+    ∙ ap (λ (xs : List ℕ). has_changed xs i
+    || has (takes_bit c.args.sel.0 i)
+    (done_between c.args.me (view c.args.w.now c.args.p.now) (view c.args.w.now c.loop-j.p)))
+    c.requires.unchanged

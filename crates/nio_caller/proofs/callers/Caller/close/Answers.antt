@@ -1,10 +1,16 @@
 use Rattle.nio_steps.proofs.PinLaws.{pins_are_given_back}
-use Rattle.nio_caller.proofs.Calls.{may_call_after, still_has}
+use Rattle.nio_caller.proofs.Calls.{acting_after}
+use Rattle.nio_caller.proofs.NamedCalls.{met_by, missed}
 use Rattle.nio_caller.proofs.callers.Caller.close.Goals as goal
 
 pub invariant_of-self : goal.invariant_of-self
 invariant_of-self g c =
-    may_call_after (pins_are_given_back.close _) c.close.ensures.call c.close.ensures.ready c.self.invariant
+    acting_after (pins_are_given_back.close _) c.close.ensures.call c.close.ensures.ready c.self.invariant
 
-pub returns-clause-still : goal.returns-clause-still
-returns-clause-still g c = rw (← c.self.view_is) (still_has c.close.ensures.call.acts)
+pub returns-then-not-has_selector : goal.returns-then-not-has_selector
+returns-then-not-has_selector g c =
+    record { call = missed _ _ c.if-not-has_selector.ensures.call }
+
+pub returns : goal.returns
+returns g c =
+    record { call = met_by _ _ _ c.if-not-has_selector.ensures.call c.self.view_is c.close.ensures.call }

@@ -1,11 +1,16 @@
 use Rattle.nio_steps.proofs.PinLaws.{pins_are_given_back}
-use Rattle.nio_caller.proofs.Calls.{may_call_after, still_has}
+use Rattle.nio_caller.proofs.Calls.{acting_after}
+use Rattle.nio_caller.proofs.NamedCalls.{met_by, missed}
 use Rattle.nio_caller.proofs.callers.Caller.is_blocking.Goals as goal
 
 pub invariant_of-self : goal.invariant_of-self
 invariant_of-self c =
-    may_call_after (pins_are_given_back.is_blocking _) c.is_blocking.ensures.call c.is_blocking.ensures.ready
-    c.self.invariant
+    acting_after (pins_are_given_back.is_blocking _) c.is_blocking.ensures.call c.is_blocking.ensures.ready c.self.invariant
 
-pub returns-clause-still : goal.returns-clause-still
-returns-clause-still c = rw (← c.self.view_is) (still_has c.is_blocking.ensures.call.acts)
+pub returns-then-not-has_channel : goal.returns-then-not-has_channel
+returns-then-not-has_channel c =
+    record { call = missed _ _ c.if-not-has_channel.ensures.call }
+
+pub returns : goal.returns
+returns c =
+    record { call = met_by _ _ _ c.if-not-has_channel.ensures.call c.self.view_is c.is_blocking.ensures.call }

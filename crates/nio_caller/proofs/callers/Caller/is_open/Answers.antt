@@ -1,10 +1,21 @@
 use Rattle.nio_steps.proofs.PinLaws.{pins_are_given_back}
-use Rattle.nio_caller.proofs.Calls.{may_call_after, still_has}
+use Rattle.nio_caller.proofs.Calls.{acting_after}
+use Rattle.nio_caller.proofs.NamedCalls.{met_by, missed}
+use Rattle.nio_caller.proofs.Took.{not_missed}
 use Rattle.nio_caller.proofs.callers.Caller.is_open.Goals as goal
 
 pub invariant_of-self : goal.invariant_of-self
 invariant_of-self c =
-    may_call_after (pins_are_given_back.is_open _) c.is_open.ensures.call c.is_open.ensures.ready c.self.invariant
+    acting_after (pins_are_given_back.is_open _) c.is_open.ensures.call c.is_open.ensures.ready c.self.invariant
 
-pub returns-clause-still : goal.returns-clause-still
-returns-clause-still c = rw (← c.self.view_is) (still_has c.is_open.ensures.call.acts)
+pub returns-then-not-has_channel-clause-call : goal.returns-then-not-has_channel-clause-call
+returns-then-not-has_channel-clause-call c =
+    missed _ _ c.if-not-has_channel.ensures.call
+
+pub returns-clause-call : goal.returns-clause-call
+returns-clause-call c =
+    met_by _ _ _ c.if-not-has_channel.ensures.call c.self.view_is c.is_open.ensures.call
+
+pub returns-then-not-has_channel-clause-closed : goal.returns-then-not-has_channel-clause-closed
+returns-then-not-has_channel-clause-closed c =
+    λ not_open has. absurd (not_missed _ c.if-not-has_channel.ensures.call has)

@@ -1,10 +1,16 @@
 use Rattle.nio_steps.proofs.PinLaws.{pins_are_given_back}
-use Rattle.nio_caller.proofs.Calls.{may_call_after, still_has}
+use Rattle.nio_caller.proofs.Calls.{acting_after}
+use Rattle.nio_caller.proofs.NamedCalls.{met_by, missed}
 use Rattle.nio_caller.proofs.callers.Caller.is_valid.Goals as goal
 
 pub invariant_of-self : goal.invariant_of-self
 invariant_of-self c =
-    may_call_after (pins_are_given_back.is_valid _) c.is_valid.ensures.call c.is_valid.ensures.ready c.self.invariant
+    acting_after (pins_are_given_back.is_valid _) c.is_valid.ensures.call c.is_valid.ensures.ready c.self.invariant
 
-pub returns-clause-still : goal.returns-clause-still
-returns-clause-still c = rw (← c.self.view_is) (still_has c.is_valid.ensures.call.acts)
+pub returns-then-not-has_key : goal.returns-then-not-has_key
+returns-then-not-has_key c =
+    record { call = missed _ _ c.if-not-has_key.ensures.call }
+
+pub returns : goal.returns
+returns c =
+    record { call = met_by _ _ _ c.if-not-has_key.ensures.call c.self.view_is c.is_valid.ensures.call }

@@ -1,9 +1,15 @@
-use Rattle.nio_caller.proofs.Calls.{keys_give, may_call_after, still_has}
+use Rattle.nio_caller.proofs.Calls.{acting_after, keys_give}
+use Rattle.nio_caller.proofs.NamedCalls.{met_by, missed, seen_refusal}
 use Rattle.nio_caller.proofs.callers.Caller.keys.Goals as goal
 
 pub invariant_of-self : goal.invariant_of-self
 invariant_of-self c =
-    may_call_after (keys_give _) c.keys.ensures.call c.keys.ensures.ready c.self.invariant
+    acting_after (keys_give _) c.keys.ensures.call c.keys.ensures.ready c.self.invariant
 
-pub returns-clause-still : goal.returns-clause-still
-returns-clause-still c = rw (← c.self.view_is) (still_has c.keys.ensures.call.acts)
+pub returns-then-not-has_selector : goal.returns-then-not-has_selector
+returns-then-not-has_selector c =
+    record { call = missed _ _ c.if-not-has_selector.ensures.call }
+
+pub returns : goal.returns
+returns c =
+    record { call = rw c.called.ensures (met_by _ _ _ c.if-not-has_selector.ensures.call c.self.view_is (seen_refusal _ _ _ c.keys.ensures.call)) }

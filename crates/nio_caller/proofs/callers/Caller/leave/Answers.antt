@@ -1,10 +1,23 @@
 use Rattle.nio_steps.proofs.PinLaws.{pins_are_given_back}
-use Rattle.nio_caller.proofs.Calls.{may_call_after, still_has}
+use Rattle.nio_words.specs.Views.{view}
+use Rattle.nio_caller.proofs.Calls.{keeps_lists, may_call_after}
+use Rattle.nio_caller.proofs.Selections.{back_its, back_place, keeps_back}
 use Rattle.nio_caller.proofs.callers.Caller.leave.Goals as goal
+
+pub take_back-requires-clause-place : goal.take_back-requires-clause-place
+take_back-requires-clause-place c =
+    back_place c.args.self.now.table c.args.self.now.pass c.args.selection.selector c.args.sel c.requires.selector
+    c.requires.begun.inside
+
+pub take_back-requires-clause-its : goal.take_back-requires-clause-its
+take_back-requires-clause-its c =
+    back_its c.args.selection c.leave-list.result c.args.sel c.leave-list.ensures.back.back c.requires.selector
 
 pub invariant_of-self : goal.invariant_of-self
 invariant_of-self c =
-    may_call_after (pins_are_given_back.leave _) c.leave.ensures.call c.leave.ensures.ready c.self.invariant
-
-pub returns-clause-still : goal.returns-clause-still
-returns-clause-still c = rw (← c.self.view_is) (still_has c.leave.ensures.call.acts)
+    record {
+      may = may_call_after (pins_are_given_back.leave _) c.leave-list.ensures.call c.leave-list.ensures.ready c.self.invariant.may;
+      lists = keeps_back c.self.inside.lists c.take_back.new.self (view c.self.inside.words.now c.leave-list.new.p)
+          c.self.inside.number c.leave-list.result c.take_back.ensures c.leave-list.ensures.back.had
+          (keeps_lists c.leave-list.ensures.call.acts _ _ c.self.invariant.lists);
+    }

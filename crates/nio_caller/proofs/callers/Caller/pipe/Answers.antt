@@ -1,9 +1,6 @@
-use Rattle.nio_caller.proofs.Calls.{may_call_unpinned, still_has}
+use Rattle.nio_caller.proofs.Calls.{acting_unpinned}
 use Rattle.nio_caller.proofs.callers.Caller.pipe.Goals as goal
 
 pub invariant_of-self : goal.invariant_of-self
 invariant_of-self c =
-    may_call_unpinned c.pipe.ensures.call.acts c.pipe.ensures.unpinned c.pipe.ensures.ready c.self.invariant
-
-pub returns-clause-still : goal.returns-clause-still
-returns-clause-still c = rw (← c.self.view_is) (still_has c.pipe.ensures.call.acts)
+    acting_unpinned c.pipe.ensures.call.acts c.pipe.ensures.unpinned c.pipe.ensures.ready c.self.invariant

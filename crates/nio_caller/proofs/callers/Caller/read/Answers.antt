@@ -1,9 +1,32 @@
-use Rattle.nio_caller.proofs.Calls.{may_call_unpinned, still_has}
+use Rattle.nio_caller.specs.Piping.{HasRead}
+use Rattle.nio_caller.proofs.Calls.{acting_unpinned}
+use Rattle.nio_caller.proofs.NamedCalls.{if_called, met_by, missed, refuses_call, was_called}
 use Rattle.nio_caller.proofs.callers.Caller.read.Goals as goal
 
 pub invariant_of-self : goal.invariant_of-self
 invariant_of-self g c =
-    may_call_unpinned c.read.ensures.call.acts c.read.ensures.unpinned c.read.ensures.ready c.self.invariant
+    acting_unpinned c.read.ensures.call.acts c.read.ensures.unpinned c.read.ensures.ready c.self.invariant
 
-pub returns-clause-still : goal.returns-clause-still
-returns-clause-still g c = rw (← c.self.view_is) (still_has c.read.ensures.call.acts)
+pub returns-then-not-has_channel-clause-call : goal.returns-then-not-has_channel-clause-call
+returns-then-not-has_channel-clause-call g c =
+    missed _ _ (rw c.chan.ensures at c.if-not-has_channel.ensures.call)
+
+pub returns-clause-call : goal.returns-clause-call
+returns-clause-call g c =
+    rw c.called.ensures (met_by _ _ _ (rw c.chan.ensures at c.if-not-has_channel.ensures.call) c.self.view_is (refuses_call _ _ c.read.ensures.call))
+
+pub returns-clause-untouched : goal.returns-clause-untouched
+returns-clause-untouched g c =
+    rw c.called.ensures (was_called _ c.read.result)
+
+pub returns-clause-read : goal.returns-clause-read
+returns-clause-read g c =
+    let its = c.read.ensures in rw c.called.ensures (if_called (HasRead c.args.source.now c.read.new.self c.args.into.now c.read.new.into) c.read.result (record { same = its.same; bytes = its.bytes; answers = its.answer; most = its.most; not_yet = its.not_yet; end = its.end; stays = its.stays }))
+
+pub returns-clause-closed : goal.returns-clause-closed
+returns-clause-closed g c =
+    rw c.called.ensures (if_called _ c.read.result c.read.ensures.closed)
+
+pub returns-clause-closed_meanwhile : goal.returns-clause-closed_meanwhile
+returns-clause-closed_meanwhile g c =
+    rw c.called.ensures (if_called _ c.read.result c.read.ensures.closed_meanwhile)

@@ -1,16 +1,14 @@
-use Rattle.nio_steps.proofs.WaitingLaws.{then_call}
-use Rattle.nio_steps.specs.ChannelCalls.{Registers}
-use Rattle.nio_words.specs.Passes.{limits_of}
-use Rattle.nio_caller.specs.Several.{RegistersAfter}
-use Rattle.nio_caller.proofs.Several.{call_moved, still_then}
+use Rattle.nio_caller.proofs.NamedCalls.{calls_refused, met, missed}
 use Rattle.nio_caller.proofs.callers.Caller.register_non_blocking.Goals as goal
+
+pub returns-then-not-has_selector-clause-call : goal.returns-then-not-has_selector-clause-call
+returns-then-not-has_selector-clause-call g c =
+    missed _ _ c.if-not-has_selector.ensures.call
+
+pub returns-then-not-has_channel-clause-call : goal.returns-then-not-has_channel-clause-call
+returns-then-not-has_channel-clause-call g c =
+    met _ _ _ c.if-not-has_selector.ensures.call (missed _ _ c.if-not-has_channel.ensures.call)
 
 pub returns-clause-call : goal.returns-clause-call
 returns-clause-call g c =
-    then_call {Second = RegistersAfter (limits_of c.args.self.now.table) c.args.sel c.args.chan c.args.ops c.args.att}
-    {answer = c.register.result} c.in_ok-set_blocking.ensures.call
-    (call_moved (λ l. Registers l c.args.sel c.args.chan c.args.ops c.args.att) c.register.result
-    c.set_blocking.ensures.same c.register.ensures.call)
-
-pub returns-clause-still : goal.returns-clause-still
-returns-clause-still g c = still_then c.set_blocking.ensures.still c.register.ensures.still
+    rw c.called.ensures (met _ _ _ c.if-not-has_selector.ensures.call (met _ _ _ c.if-not-has_channel.ensures.call (calls_refused _ _ c.register_found.ensures.call)))

@@ -1,9 +1,15 @@
-use Rattle.nio_caller.proofs.Calls.{selected_keys_give, may_call_after, still_has}
+use Rattle.nio_caller.proofs.Calls.{acting_after, selected_keys_give}
+use Rattle.nio_caller.proofs.NamedCalls.{met_by, missed, seen_refusal}
 use Rattle.nio_caller.proofs.callers.Caller.selected_keys.Goals as goal
 
 pub invariant_of-self : goal.invariant_of-self
 invariant_of-self c =
-    may_call_after (selected_keys_give _) c.selected_keys.ensures.call c.selected_keys.ensures.ready c.self.invariant
+    acting_after (selected_keys_give _) c.selected_keys.ensures.call c.selected_keys.ensures.ready c.self.invariant
 
-pub returns-clause-still : goal.returns-clause-still
-returns-clause-still c = rw (← c.self.view_is) (still_has c.selected_keys.ensures.call.acts)
+pub returns-then-not-has_selector : goal.returns-then-not-has_selector
+returns-then-not-has_selector c =
+    record { call = missed _ _ c.if-not-has_selector.ensures.call }
+
+pub returns : goal.returns
+returns c =
+    record { call = rw c.called.ensures (met_by _ _ _ c.if-not-has_selector.ensures.call c.self.view_is (seen_refusal _ _ _ c.selected_keys.ensures.call)) }

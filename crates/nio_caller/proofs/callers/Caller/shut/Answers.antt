@@ -1,13 +1,16 @@
 use Rattle.nio_steps.proofs.PinLaws.{pins_are_given_back}
-use Rattle.nio_caller.proofs.Calls.{may_call_after, still_has}
+use Rattle.nio_caller.proofs.Calls.{acting_after}
+use Rattle.nio_caller.proofs.NamedCalls.{gives_call, met_by, missed}
 use Rattle.nio_caller.proofs.callers.Caller.shut.Goals as goal
 
 pub invariant_of-self : goal.invariant_of-self
 invariant_of-self c =
-    may_call_after (pins_are_given_back.shut _) c.shut.ensures.call c.shut.ensures.ready c.self.invariant
+    acting_after (pins_are_given_back.shut _) c.shut.ensures.call c.shut.ensures.ready c.self.invariant
 
-pub returns-clause-still : goal.returns-clause-still
-returns-clause-still c = rw (← c.self.view_is) (still_has c.shut.ensures.call.acts)
+pub returns-then-not-has_selector-clause-call : goal.returns-then-not-has_selector-clause-call
+returns-then-not-has_selector-clause-call c =
+    missed _ _ c.if-not-has_selector.ensures.call
 
-pub returns-clause-closing : goal.returns-clause-closing
-returns-clause-closing c = rw (← c.self.view_is) c.shut.ensures.closing
+pub returns-clause-call : goal.returns-clause-call
+returns-clause-call c =
+    met_by _ _ _ c.if-not-has_selector.ensures.call c.self.view_is (gives_call _ _ c.shut.ensures.call)

@@ -1,45 +1,46 @@
-use Rattle.std.proofs.Common.{Some, refl, subst}
-use Rattle.nio_base.specs.declared.numbers.ChanId.{ChanId}
+use Rattle.std.proofs.Common.{Some, None, refl}
 use Rattle.nio_history.specs.PassViews.{HasChannel}
 use Rattle.nio_poller.proofs.Trying.{then_nothing}
+use Rattle.nio_steps.proofs.PinLaws.{pins_are_given_back}
 use Rattle.nio_steps.proofs.WaitingLaws.{then_call}
-use Rattle.nio_steps.specs.ChannelCalls.{key_for_plan}
-use Rattle.nio_steps.specs.KeyCalls.{unselect_plan}
-use Rattle.nio_steps.specs.Runs.{Completes}
-use Rattle.nio_caller.specs.Callers.{sees}
-use Rattle.nio_caller.specs.Several.{Answers, LooksForKey, UnselectsFound}
-use Rattle.nio_caller.proofs.Several.{call_moved, found_is, same_then, still_then}
+use Rattle.nio_caller.specs.NamedCalls.{Answers}
+use Rattle.nio_caller.specs.Several.{UnselectsFound}
+use Rattle.nio_caller.proofs.Calls.{acting_after, still_has}
+use Rattle.nio_caller.proofs.NamedCalls.{met, met_by, missed, seen_of, unpinned_of}
 use Rattle.nio_caller.proofs.callers.Caller.take_selected.Goals as goal
 
-pub returns-in_err-found-clause-call : goal.returns-in_err-found-clause-call
-returns-in_err-found-clause-call c =
-    then_nothing (LooksForKey c.args.sel) c.from_residual.result c.in_err-found.ensures.call (refl, search)
+pub returns-then-not-has_selector-clause-call : goal.returns-then-not-has_selector-clause-call
+returns-then-not-has_selector-clause-call c =
+    missed _ _ c.if-not-has_selector.ensures.call
 
-pub returns-in_err-key-clause-call : goal.returns-in_err-key-clause-call
-returns-in_err-key-clause-call c =
-    then_call {Second = LooksForKey c.args.sel} {answer = c.from_residual-in_err-key.result} c.in_ok-found.ensures.call
-    (then_nothing UnselectsFound c.from_residual-in_err-key.result
-    (call_moved (λ l. Completes (key_for_plan c.in_ok-found.found c.args.sel)) _ c.find_channel.ensures.same
-    c.in_err-key.ensures.call) (refl, search))
+pub returns-then-not-has_channel-clause-call : goal.returns-then-not-has_channel-clause-call
+returns-then-not-has_channel-clause-call c =
+    met _ _ _ c.if-not-has_selector.ensures.call (missed _ _ c.if-not-has_channel.ensures.call)
 
-pub returns-clause-call : goal.returns-clause-call
-returns-clause-call c =
-    let key = c.in_ok-key.key in
-    then_call {Second = LooksForKey c.args.sel} {answer = Some key} c.in_ok-found.ensures.call
-    (then_call {Second = UnselectsFound} {answer = Some key}
-    (call_moved (λ l. Completes (key_for_plan c.in_ok-found.found c.args.sel)) (Some key) c.find_channel.ensures.same
-    c.in_ok-key.ensures.call)
-    (then_nothing (λ out. Answers (Some key)) (Some key)
-    (call_moved (λ l. Completes (unselect_plan key)) c.unselect.result
-    (same_then c.find_channel.ensures.same c.key_for.ensures.same) c.unselect.ensures.call) (refl, refl)))
+pub unselect-requires-clause-unpinned : goal.unselect-requires-clause-unpinned
+unselect-requires-clause-unpinned c =
+    unpinned_of (acting_after (pins_are_given_back.key_for _ _) c.key_for.ensures.call c.key_for.ensures.ready c.self.invariant)
 
-pub returns-clause-still : goal.returns-clause-still
-returns-clause-still c =
-    still_then c.find_channel.ensures.still (still_then c.key_for.ensures.still c.unselect.ensures.still)
+pub invariant_of-self : goal.invariant_of-self
+invariant_of-self c =
+    acting_after (pins_are_given_back.unselect _) c.unselect.ensures.call c.unselect.ensures.ready (acting_after (pins_are_given_back.key_for _ _) c.key_for.ensures.call c.key_for.ensures.ready c.self.invariant)
 
-pub returns-clause-channel : goal.returns-clause-channel
-returns-clause-channel c =
-    let its = c.in_ok-found.ensures in
-    let is = found_is c.args.chan.number.0 c.args.chan.serial c.in_ok-found.found _ _ its.call.shape in
-    subst (λ (x : ChanId). HasChannel (sees c.unselect.new.self) x) is
-    (c.unselect.ensures.still.channels _ (c.key_for.ensures.still.channels _ its.found))
+pub invariant_of-self-in-None : goal.invariant_of-self-in-None
+invariant_of-self-in-None c =
+    acting_after (pins_are_given_back.key_for _ _) c.key_for.ensures.call c.key_for.ensures.ready c.self.invariant
+
+pub returns-in-Some-clause-call : goal.returns-in-Some-clause-call
+returns-in-Some-clause-call c =
+    met _ _ _ c.if-not-has_selector.ensures.call (met_by _ _ _ c.if-not-has_channel.ensures.call c.self.view_is (then_call {Second = UnselectsFound} {answer = Some c.in-Some.key} c.in-Some.ensures.call (then_nothing (λ out. Answers (Some c.in-Some.key)) (Some c.in-Some.key) c.unselect.ensures.call (refl, refl))))
+
+pub returns-in-Some-clause-channel : goal.returns-in-Some-clause-channel
+returns-in-Some-clause-channel c =
+    (still_has c.unselect.ensures.call.acts).channels _ ((still_has c.key_for.ensures.call.acts).channels _ (seen_of (λ v. HasChannel v c.args.chan) c.self.view_is (c.if-not-has_channel.ensures.has refl)))
+
+pub returns-in-Some-clause-key : goal.returns-in-Some-clause-key
+returns-in-Some-clause-key c =
+    (still_has c.unselect.ensures.call.acts).keys _ c.in-Some.ensures.found
+
+pub returns-in-None-clause-call : goal.returns-in-None-clause-call
+returns-in-None-clause-call c =
+    met _ _ _ c.if-not-has_selector.ensures.call (met_by _ _ _ c.if-not-has_channel.ensures.call c.self.view_is (then_nothing UnselectsFound None c.in-None.ensures.call (refl, refl)))

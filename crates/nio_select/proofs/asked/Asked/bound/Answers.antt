@@ -1,7 +1,7 @@
 use Rattle.std.proofs.Common.{ℕ, ◌≡◌, List, length, ap, subst, arith}
-use Rattle.nio_select.specs.Asked.{AreBelow, keys_to}
+use Rattle.nio_select.specs.Asked.{AreBelow, IsRising, keys_to}
 use Rattle.nio_select.specs.KeyKept.{keys_from}
-use Rattle.nio_select.proofs.KeptKeys.{all_to, first_below}
+use Rattle.nio_select.proofs.KeptKeys.{all_to, first_below, keys_rise}
 use Rattle.nio_steps.specs.declared.looked.LookedKey.{LookedKey}
 use Rattle.nio_select.proofs.asked.Asked.bound.Goals as goal
 
@@ -19,3 +19,7 @@ returns-clause-all c =
     (subst (λ (keys : List LookedKey). keys_to (length c.self.inside.slots.items) keys ≡ keys) (ap (λ v. v.keys) c.self.view_is)
     (all_to (length c.self.inside.slots.items) (keys_from 0 c.self.inside.slots.items)
     (first_below c.self.inside.slots.items)))
+
+pub returns-clause-rise : goal.returns-clause-rise
+returns-clause-rise c =
+    subst IsRising (ap (λ v. v.keys) c.self.view_is) (keys_rise 0 c.self.inside.slots.items)

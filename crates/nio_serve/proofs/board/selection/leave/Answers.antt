@@ -6,6 +6,7 @@ use Rattle.nio_serve.proofs.board.selection.leave.Goals as goal
 
 pub give_back-requires : goal.give_back-requires
 give_back-requires c = record {
+  lent = c.requires.begun.lent;
   its = its_selector c.args.selection c.leave-list.result c.leave-list.ensures.back.back c.requires.begun;
 }
 

@@ -1,11 +1,11 @@
--- Going over the looked keys, index by index.
+-- The looked keys with the indexes below a number, index by index.
 use Rattle.std.proofs.Common.{◌≡◌, ℕ, ◌+◌, ◌<◌, Bool, if◌then◌else◌, List, [], ◌∷◌, ◌++◌, length, refl, ap, ◌∙◌, arith}
 use Rattle.std.specs.Prelude.{nat_lt}
 use Rattle.std.proofs.lemmas.Bool.{le-ltb}
 use Rattle.std.proofs.lemmas.List.{length-append}
 use Rattle.std.proofs.lemmas.List.Sums.{length-filter, count_by-le-length}
-use Rattle.nio_select.specs.Asked.{keys_to}
 use Rattle.nio_steps.specs.declared.looked.LookedKey.{LookedKey}
+use Rattle.nio_select.specs.Asked.{keys_to}
 
 -- no index is below 0
 pub none_below : (keys : List LookedKey) → keys_to 0 keys ≡ []

@@ -1,19 +1,18 @@
 -- What a caller has as a selector's list is what it knows of its keys.
-use Rattle.std.proofs.Common.{◌≡◌, ◌≢◌, ℕ, ◌/◌, ◌%◌, ◌==◌, Bool, true, false, ◌&&◌, ◌||◌, if◌then◌else◌, Option, Some, None}
-use Rattle.std.proofs.Common.{Result, Ok, Err, cond, is_some, is_none, List, [], ◌∷◌, ◌++◌, append_assoc, refl, ap, sym, ◌∙◌, subst}
-use Rattle.std.proofs.Common.{eqb-true, eq-eqb}
+use Rattle.std.proofs.Common.{◌≡◌, ◌≢◌, ℕ, ◌==◌, Bool, true, false, ◌||◌, if◌then◌else◌, Option, Some, None}
+use Rattle.std.proofs.Common.{Result, Ok, Err, cond, is_none, List, [], ◌∷◌, ◌++◌, append_assoc, refl, ap, sym, ◌∙◌, subst}
+use Rattle.std.proofs.Common.{eq-eqb}
 use Rattle.std.specs.Prelude.{⊤}
-use Rattle.std.specs.Int.{bit_at}
 use Rattle.std.specs.List.{All}
-use Rattle.std.proofs.lemmas.Bool.{or_from, or_left, or_right, false_from_ne_true}
+use Rattle.std.proofs.lemmas.Bool.{or_left, or_right}
 use Rattle.std.proofs.lemmas.List.{append-nil}
 use Rattle.std.proofs.lemmas.List.Elements.{All-head, All-tail}
 use Rattle.std.proofs.lemmas.List.Folds.{list_any-append}
-use Rattle.nio_base.specs.Limits.{IsFit}
 use Rattle.nio_base.specs.declared.limits.Limits.{Limits}
 use Rattle.nio_base.specs.declared.numbers.CallerNo.{CallerNo}
 use Rattle.nio_base.specs.declared.numbers.SelNo.{SelNo}
 use Rattle.nio_history.proofs.Legal.{legal_beginning, legal_next}
+use Rattle.nio_history.proofs.OneMore.{mine-append}
 use Rattle.nio_history.proofs.OwnChanges.{lists_are_own}
 use Rattle.nio_history.proofs.Soundness.{both_ways}
 use Rattle.nio_history.specs.Conditions.{is_held_by}
@@ -22,24 +21,23 @@ use Rattle.nio_history.specs.OwnEvents.{has, takes_list}
 use Rattle.nio_history.specs.State.{put}
 use Rattle.nio_history.specs.Questions.{Question, question_of, answer_of}
 use Rattle.nio_history.specs.declared.act.Act.{Act}
-use Rattle.nio_history.specs.declared.act.Act.TheVariants.{LookIndex, TakeList, TakeTouched}
+use Rattle.nio_history.specs.declared.act.Act.TheVariants.{TakeList}
 use Rattle.nio_history.specs.declared.event.Event.{Event}
 use Rattle.nio_history.specs.declared.found.Mode.{Mode}
 use Rattle.nio_orderly.proofs.WaitedCalls.{calls_without_waiting}
+use Rattle.nio_orderly.specs.Lists.{ListsAreKnown, KnowsGiven}
 use Rattle.nio_orderly.specs.Made.{Made, draw, table_call, waiting_call, IsRun, MayCome, AreInOrder, after_call, after_calls}
-use Rattle.nio_orderly.specs.Orderly.{AreRuns, AreCallsOf}
+use Rattle.nio_orderly.specs.Orderly.{AreRuns}
 use Rattle.nio_orderly.specs.Waited.{waits}
 use Rattle.nio_steps.proofs.BeginLaws.{begin-parts}
-use Rattle.nio_steps.proofs.CallWalks.{each_call, close_channel-walks, finish-walks, register-walks, new-walks}
 use Rattle.nio_steps.proofs.KnownAt.{lists_are_empty_at_first, lists_stay}
 use Rattle.nio_steps.proofs.ListedBy.{beginnings_list}
 use Rattle.nio_steps.proofs.OwnActs.{cut_at}
-use Rattle.nio_steps.proofs.PlanWalks.{Walk, is_plain, walks_run, pinned_calm}
 use Rattle.nio_steps.proofs.SelectionLaws.{none_of-append}
-use Rattle.nio_steps.proofs.Unlisted.{refusals_leave_list}
+use Rattle.nio_steps.proofs.Unlisted.{refusals_leave_list, other_calls_leave_list, same_selector}
 use Rattle.nio_steps.proofs.Walks.{always_run}
 use Rattle.nio_steps.specs.ListLaws.{lists_index}
-use Rattle.nio_steps.specs.Lists.{IsListOf, KnowsList}
+use Rattle.nio_steps.specs.Lists.{IsListOf}
 use Rattle.nio_steps.specs.Ongoing.{Ongoing, nothing_ongoing, changed}
 use Rattle.nio_steps.specs.Runs.{Completes}
 use Rattle.nio_steps.specs.SelectCalls.{Selection, Begins, take_list_plan, done, again, closing, already_closed, closed}
@@ -48,74 +46,6 @@ use Rattle.nio_steps.specs.Steps.{holder_in}
 use Rattle.nio_steps.specs.TableCalls.{TableCall, row_of, take_list, try_begin, told, shut, try_finish}
 use Rattle.nio_steps.specs.declared.looked.LookedKey.{LookedKey}
 use Rattle.nio_steps.specs.declared.refusal.BeginError.{BeginError}
-
--- ---- calls that list no index of a selector
-
--- the step would take bits of the selector, or look at an index there as a selection with the list does
-abbrev lists_at : ℕ → Question → Bool
-lists_at s (Question.take_touched t j) = t.0 == s
-lists_at s (Question.look_index t i) = t.0 == s
-lists_at s _ = false
-
-lists_at-not : (s i : ℕ) (act : Act) → lists_at s (question_of act) ≡ false → lists_index s i act ≡ false
-lists_at-not s i (TakeTouched t j found) off =
-    ap (λ b. (b && (i / 64 == j) && (bit_at found (i % 64) == 1)) || false) off
-lists_at-not s i (LookIndex t k found) off =
-    ap (λ b. is_some (if b && (k == i) then Some found else None)) off
-lists_at-not s i _ off = refl
-
-plain_off : (s : ℕ) (question : Question) → is_plain question ≡ true → lists_at s question ≡ false
-plain_off s (Question.take_touched t j) is = absurd (cc is)
-plain_off s (Question.look_index t i) is = absurd (cc is)
-plain_off s _ is = refl
-
-abbrev IsUnlisted : ℕ → ℕ → List Act → Type 0
-IsUnlisted s i acts = has (lists_index s i) acts ≡ false
-
-one_off : (s i : ℕ) (act : Act) → lists_at s (question_of act) ≡ false → IsUnlisted s i (act ∷ [])
-one_off s i act off = or_from (lists_index s i act) false (lists_at-not s i act off) refl
-
-abbrev listing_off : ℕ → ℕ → Walk
-listing_off s i = record {
-  Holds = IsUnlisted s i;
-  Calm = λ question. lists_at s question ≡ false;
-  none = refl;
-  append = none_of-append (lists_index s i);
-  one = one_off s i;
-  plain = plain_off s;
-  pinned = λ t k. pinned_calm (IsUnlisted s i) (none_of-append (lists_index s i)) t k
-      (λ act asks. one_off s i act (ap (lists_at s) asks)) (λ act asks. one_off s i act (ap (lists_at s) asks));
-}
-
-same_selector : (t s : SelNo) → (t.0 == s.0) ≡ true → t ≡ s
-same_selector t s same = ap selector (eqb-true t.0 s.0 same)
-  where
-    selector : ℕ → SelNo
-    selector k = record { 0 = k }
-
--- each call is such a one, but the beginning of a selection with the list there
-lists_only_there : (l : Limits) (lacks : Bool) (call : TableCall) (acts : List Act) (answer : (row_of call).Reply)
-    (s : SelNo) → ((mode : Mode) (known : List LookedKey) → call ≢ try_begin s mode (Some known))
-    → Completes ((row_of call).plan l lacks) acts answer → (i : ℕ) → has (lists_index s.0 i) acts ≡ false
-lists_only_there l lacks call acts answer s other run i =
-    walks_run {w = listing_off s.0 i} ((row_of call).plan l lacks) acts answer
-    (each_call l lacks call
-    (record {
-      registers = λ t c ops att. register-walks l t c ops att
-          (new-walks (record {
-            claims = λ _ _ _. refl;
-            claims_again = λ _ _ _ _. refl;
-            unpins = λ _ _. refl;
-            publishes = λ _ _. refl;
-          }) l t c ops att);
-      closes = λ c. close_channel-walks l c (λ _. refl);
-      finishes = λ t calm. finish-walks t refl calm;
-    })
-    (λ t _. record { gives = refl; marks = λ _ _ _. refl; removes = λ _. refl })
-    (λ t mode known is. let off : (t.0 == s.0) ≡ false
-    = false_from_ne_true (t.0 == s.0)
-    (λ same. other mode known (is ∙ ap (λ k. try_begin k mode (Some known)) (same_selector t s same))) in
-    record { takes = λ j. off; looks = λ k. off })) run
 
 -- ---- taking a list
 
@@ -167,6 +97,23 @@ unlisted_yet : (s : SelNo) (own : List Act) (list : Option (List LookedKey)) →
 unlisted_yet s own None was none = was
 unlisted_yet s own (Some known) was none = absurd (both_ways (has (takes_list s.0) own) was.0 none)
 
+-- what a caller knows it knows after acts that leave the list
+pub given_on : (l : Limits) (n : CallerNo) (before past : List Event) (s : SelNo) (known : Option (List LookedKey))
+    → IsLegal l (before ++ past) → ((i : ℕ) → has (lists_index s.0 i) (mine n past) ≡ false)
+    → KnowsGiven l n before s known → KnowsGiven l n (before ++ past) s known
+given_on l n before past s None legal none knows = tt
+given_on l n before past s (Some known) legal none knows =
+    let own = mine-append n before past in
+    record {
+      fit = knows.fit;
+      had = lists_are_own l n s (before ++ past) legal
+          ∙ (ap (has (takes_list s.0)) own
+          ∙ had-on s (mine n before) (mine n past)
+          (sym (lists_are_own l n s before (legal_beginning l before past legal)) ∙ knows.had));
+      right = subst (λ acts. IsListOf acts s known) (sym own)
+          (lists_stay s known (mine n before) (mine n past) knows.right none);
+    }
+
 -- ---- a call
 
 abbrev may_list : TableCall → Bool
@@ -201,21 +148,22 @@ module _ (l : Limits) (s : SelNo) (own acts : List Act) (now : Ongoing) (was : I
       subst (λ (list : ℕ → Option (List LookedKey)). IsKnown s (own ++ acts) (list s.0))
       (sym (lists_kept call answer now is))
       (known-on s own acts (now.list s.0)
-      (lists_only_there l ((row_of call).lacks_memory answer) call acts answer s (begins_none call is s) run) was)
+      (λ i. other_calls_leave_list l ((row_of call).lacks_memory answer) call acts answer s i (begins_none call is s) run)
+      was)
 
   taking : (t : SelNo) (answer : Bool) → Completes (take_list_plan t) acts answer
       → (acts ≡ TakeList t None ∷ [] → has (takes_list t.0) own ≡ false)
       → IsKnownThen (changed now ((row_of (take_list t)).change answer))
   taking t false run once =
       known-on s own acts (now.list s.0)
-      (lists_only_there l false (take_list t) acts false s (λ mode known same. absurd (cc same)) run) was
+      (λ i. other_calls_leave_list l false (take_list t) acts false s i (λ mode known same. absurd (cc same)) run) was
   taking t true run once = by_selector (s.0 == t.0) refl
     where
       took : acts ≡ TakeList t None ∷ []
       took = took_list t acts true run
 
       none : (i : ℕ) → has (lists_index s.0 i) acts ≡ false
-      none = lists_only_there l false (take_list t) acts true s (λ mode known same. absurd (cc same)) run
+      none = λ i. other_calls_leave_list l false (take_list t) acts true s i (λ mode known same. absurd (cc same)) run
 
       by_selector : (b : Bool) → (s.0 == t.0) ≡ b → IsKnown s (own ++ acts) (cond b (Some []) (now.list s.0))
       by_selector false other = known-on s own acts (now.list s.0) none was
@@ -235,14 +183,15 @@ module _ (l : Limits) (s : SelNo) (own acts : List Act) (now : Ongoing) (was : I
       → IsKnownThen (changed now ((row_of (try_begin t mode None)).change answer))
   unlisted_beginning t mode (Err refusal) run =
       known-on s own acts (now.list s.0)
-      (lists_only_there l ((row_of (try_begin t mode None)).lacks_memory (Err refusal)) (try_begin t mode None) acts
-      (Err refusal) s (λ mode' known same. absurd (cc same)) run) was
+      (λ i. other_calls_leave_list l ((row_of (try_begin t mode None)).lacks_memory (Err refusal)) (try_begin t mode None)
+      acts (Err refusal) s i (λ mode' known same. absurd (cc same)) run) was
   unlisted_beginning t mode (Ok selection) run =
       subst (λ b. IsKnown s (own ++ acts)
       ((if b then put now.list t.0 (Some selection.looked) else now.list) s.0))
       (sym (begin-parts t mode None acts selection run).listed)
       (known-on s own acts (now.list s.0)
-      (lists_only_there l false (try_begin t mode None) acts (Ok selection) s (λ mode' known same. absurd (cc same)) run)
+      (λ i. other_calls_leave_list l false (try_begin t mode None) acts (Ok selection) s i
+      (λ mode' known same. absurd (cc same)) run)
       was)
 
   listed_beginning : (t : SelNo) (mode : Mode) (known : List LookedKey) (answer : Result Selection BeginError)
@@ -261,15 +210,16 @@ module _ (l : Limits) (s : SelNo) (own acts : List Act) (now : Ongoing) (was : I
           → IsKnownThen (changed now ((row_of (try_begin t mode (Some known))).change answer'))
       by_selector false other (Err refusal) run' =
           known-on s own acts (now.list s.0)
-          (lists_only_there l ((row_of (try_begin t mode (Some known))).lacks_memory (Err refusal))
-          (try_begin t mode (Some known)) acts (Err refusal) s (elsewhere other) run') was
+          (λ i. other_calls_leave_list l ((row_of (try_begin t mode (Some known))).lacks_memory (Err refusal))
+          (try_begin t mode (Some known)) acts (Err refusal) s i (elsewhere other) run') was
       by_selector false other (Ok selection) run' =
           subst (λ b. IsKnown s (own ++ acts)
           ((if b then put now.list t.0 (Some selection.looked) else now.list) s.0))
           (sym (begin-parts t mode (Some known) acts selection run').listed)
           (subst (λ b. IsKnown s (own ++ acts) (cond b (Some selection.looked) (now.list s.0))) (sym other)
           (known-on s own acts (now.list s.0)
-          (lists_only_there l false (try_begin t mode (Some known)) acts (Ok selection) s (elsewhere other) run') was))
+          (λ i. other_calls_leave_list l false (try_begin t mode (Some known)) acts (Ok selection) s i (elsewhere other)
+          run') was))
       by_selector true same (Err refusal) run' =
           known-on s own acts (now.list s.0)
           (λ i. subst (λ (k : SelNo). has (lists_index k.0 i) acts ≡ false) (sym (same_selector s t same))
@@ -323,10 +273,8 @@ module _ (l : Limits) (n : CallerNo) (events : List Event) (legal : IsLegal l ev
       (λ t took. takes_once l n events legal own runs.second t
       (did ∙ ap (λ xs. own ++ xs) (runs.parts ∙ ap (λ xs. xs ++ runs.second) took)))))
 
-pub lists_are_known : (l : Limits) (n : CallerNo) (events : List Event) (calls : List Made) → IsFit l → IsLegal l events
-    → AreCallsOf l (mine n events) calls → (s : SelNo) (known : List LookedKey)
-    → (after_calls nothing_ongoing calls).list s.0 ≡ Some known → KnowsList l n events s known
-lists_are_known l n events calls fit legal are s known has_it =
+pub lists_are_known : ListsAreKnown
+lists_are_known l n events calls s known fit legal are has_it =
     let made = calls_without_waiting l (mine n events) calls are in
     let at_end : IsKnown s (mine n events) (Some known)
     = subst (IsKnown s (mine n events)) (ap (λ (x : Ongoing). x.list s.0) made.leaves ∙ has_it)
