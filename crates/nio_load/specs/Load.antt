@@ -35,7 +35,7 @@ pub record IsHalfSummed {K Y : Type 0} (k : sink.Ghosts K) (y : system.Ghosts Y)
   pub loaded : IsLoaded y run run' rounds calls
   pub written : WritesPrefix k output output' (summary_of (y.rules run) (y.limits run) calls)
 
--- Nothing was written, and so many calls of the generated script were made.
+-- Nothing was written, and some calls of the generated script were made, from the first one on.
 pub record IsUnsummed {K Y : Type 0} (y : system.Ghosts Y) (output output' : K) (run run' : Y) (rounds : ℕ)
     : Type 0 where
   pub calls : List ScriptCall

@@ -90,7 +90,8 @@ pub record IsAnsweredOn {K : Type 0} (k : sink.Ghosts K) (w : Words) (output out
   pub still : k.faults output' ≡ k.faults output
   pub makes : MakesAllOn w pass calls
 
--- The text is a script, some of its answer was written, from its front, and so many of its calls were made.
+-- The text is a script, some of its answer was written, from its front, and some of its calls were made (`Made`). Which
+-- of the two went further isn't said.
 pub record IsCutShortOn {K : Type 0} (k : sink.Ghosts K) (w : Words) (output output' : K)
     (Made : List ScriptCall → Type 0) (text : List ℕ) : Type 0 where
   pub calls : List ScriptCall

@@ -36,7 +36,7 @@ pub record IsHalfSummedOn {K : Type 0} (k : sink.Ghosts K) (w : Words) (rounds :
   pub loaded : IsLoadedOn w pass rounds calls
   pub written : WritesPrefix k output output' (summary_of Now (limits_of w) calls)
 
--- Nothing was written, and so many calls of the generated script were made, and nothing else.
+-- Nothing was written, and some calls of the generated script were made, from the first one on, and nothing else.
 pub record IsUnsummedOn {K : Type 0} (w : Words) (rounds : ℕ) (output output' : K) (pass : Pass) : Type 0 where
   pub calls : List ScriptCall
   pub script : IsScript (generated rounds) calls

@@ -29,7 +29,7 @@ line_for rules l st number c = history_line number c.caller c.call (seq rules l 
 abbrev pub left_by_call : Rules → Limits → ScriptState → ScriptCall → ScriptState
 left_by_call rules l st c = (seq rules l st c.caller c.call).left
 
--- These calls were made in turn, and nothing else; each had a reply.
+-- These calls were made in turn, each as the system's `does` says, and nothing else; each had a reply.
 abbrev pub MakesAll : {Y : Type 0} → system.Ghosts Y → Y → Y → List ScriptCall → Type 0
 MakesAll y run run' [] = run' ≡ run
 MakesAll y run run' (c ∷ later) = (mid : _) × (r : Reply) × y.does run mid c (Ok r) × MakesAll y mid run' later
@@ -72,7 +72,8 @@ pub record IsAnswered {K Y : Type 0} (k : sink.Ghosts K) (y : system.Ghosts Y)
   pub makes : MakesAll y run run' calls
   pub left : y.state run' ≡ left_by_script (y.rules run) (y.limits run) calls
 
--- The text is a script, some of its answer was written, from its front, and so many of its calls were made.
+-- The text is a script, some of its answer was written, from its front, and some of its calls were made (`Made`). Which
+-- of the two went further isn't said.
 pub record IsCutShort {K Y : Type 0} (k : sink.Ghosts K) (y : system.Ghosts Y)
     (output output' : K) (run : Y) (Made : List ScriptCall → Type 0) (text : List ℕ) : Type 0 where
   pub calls : List ScriptCall

@@ -132,9 +132,9 @@ impl<'a> Caller<'a> {
         nio_keys::unselect(self.words, &mut self.pass, self.number, key)
     }
 
-    /// Takes the channel's key in the selector out of the selected set, and answers it: as a Java program does by `next`
-    /// and `remove` on the iterator of `selectedKeys`. None where there is no such selector or channel, or the channel
-    /// has no key there.
+    /// Takes the channel's key in the selector out of the selected set, and answers it, also where it wasn't selected or
+    /// is cancelled. After a poll that told of the channel it does what a Java program does by `next` and `remove` on the
+    /// iterator of `selectedKeys`. None where there is no such selector or channel, or the channel has no key there.
     pub fn take_selected(&mut self, chan: ChanId, sel: SelNo) -> Option<KeyNo>
         ensures call { Calls (λ l. TakesSelected l chan sel) self.old self.new result }
         ensures channel { IfSome result (λ _. HasChannel (sees self.new) chan) }

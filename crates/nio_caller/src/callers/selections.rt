@@ -193,9 +193,9 @@ impl<'a> Caller<'a> {
         called(begun)
     }
 
-    /// Tells a selection in progress on this selector what a poller answered. `Again` where no key was marked and nothing else ends the
-    /// wait; else the selection is over. The selector's list, where the selection went by it, comes back to the caller:
-    /// `Done` has none.
+    /// Tells a selection in progress on this selector what a poller answered. `Again` where no key was marked and nothing
+    /// else ends the wait; else the selection is over. The selector's list, where the selection went by it, comes back to
+    /// the caller: `Done` has none.
     pub fn told(&mut self, sel: SelNo, selection: Selecting, told: &Told) -> After
         requires begun { Selects (sees self.old) self.old.number (selection_of selection) }
         requires selector { selection.selector ≡ sel }
@@ -216,8 +216,8 @@ impl<'a> Caller<'a> {
         }
     }
 
-    /// Gives the turn of a selection in progress on this selector back, after a poll that failed. A pending wakeup stays, and so do the
-    /// keys' marks. The selector's list, where the selection went by it, comes back to the caller.
+    /// Gives the turn of a selection in progress on this selector back, after a poll that failed. A pending wakeup stays,
+    /// and so do the keys' marks. The selector's list, where the selection went by it, comes back to the caller.
     pub fn leave(&mut self, sel: SelNo, selection: Selecting)
         requires begun { Selects (sees self.old) self.old.number (selection_of selection) }
         requires selector { selection.selector ≡ sel }
