@@ -40,7 +40,8 @@ pub record IsUnsummed {K Y : Type 0} (y : system.Ghosts Y) (output output' : K) 
     : Type 0 where
   pub calls : List ScriptCall
   pub script : IsScript (generated rounds) calls
-  pub made : StopsWithin y run run' calls
+  pub made : List ScriptCall
+  pub stops : StopsWithin y run run' calls made
   pub unwritten : output' ≡ output
 
 -- how a load may end

@@ -1,10 +1,11 @@
 //! What the replies to a script come to.
-ghost use Rattle.std.specs.Prelude.{◌≡◌, ◌+◌, ◌≤◌, ◌^◌, [], ◌∷◌, IfOk, OnOk, OnErr, length, sum};
+ghost use Rattle.std.specs.Prelude.{◌≡◌, ◌+◌, ◌≤◌, ◌^◌, List, [], ◌∷◌, IfOk, OnOk, OnErr, length, sum};
 ghost use Rattle.std.specs.String.{string_bytes};
+ghost use Rattle.nio_language.specs.declared.call.ScriptCall.{ScriptCall};
 ghost use Rattle.nio_plain.specs.Answer.{left_by_script};
 ghost use Rattle.nio_plain.specs.ScriptState.{script_opening};
 ghost use Rattle.nio_plain.specs.Seq.{seq};
-ghost use Rattle.nio_script.specs.Run.{MakesAll, StopsWithin, left_by_call};
+ghost use Rattle.nio_script.specs.Run.{LacksNext, MakesAll, MakesOne, StopsWithin};
 ghost use Rattle.nio_load.specs.Summary.{count_of, counts_from, summary_of};
 ghost use Rattle.nio_load.specs.Tally.{with_count};
 
@@ -33,7 +34,8 @@ pub fn summarize<Y: System>(
     ensures left { OnOk result (Y.state system.new
         ≡ left_by_script (Y.rules system.old) (Y.limits system.old) calls.now) }
     ensures makes { OnOk result (MakesAll Y.System system.old system.new calls.now) }
-    ensures memory { OnErr result (StopsWithin Y.System system.old system.new calls.now) }
+    ensures memory { OnErr result ((made : List ScriptCall) ×
+        StopsWithin Y.System system.old system.new calls.now made) }
     ensures kept { Y.kept system.old system.new }
 {
     let tally = tally_calls(alloc, calls, system)?;
@@ -61,7 +63,8 @@ fn tally_calls<Y: System>(
     ensures left { OnOk result (Y.state system.new
         ≡ left_by_script (Y.rules system.old) (Y.limits system.old) calls.now) }
     ensures makes { OnOk result (MakesAll Y.System system.old system.new calls.now) }
-    ensures memory { OnErr result (StopsWithin Y.System system.old system.new calls.now) }
+    ensures memory { OnErr result ((made : List ScriptCall) ×
+        LacksNext Y.System system.old system.new calls.now made) }
     ensures kept { Y.kept system.old system.new }
 {
     let mut tally = Tally {
@@ -88,10 +91,8 @@ fn tally_call<Y: System>(
         (seq (Y.rules system.old) (Y.limits system.old) (Y.state system.old) line.now.caller line.now.call).reply)) }
     ensures selections { tally.new.selections ≤ tally.old.selections + 1 }
     ensures updates { tally.new.updates ≤ tally.old.updates + 2 ^ 32 }
-    ensures left { OnOk result (Y.state system.new
-        ≡ left_by_call (Y.rules system.old) (Y.limits system.old) (Y.state system.old) line.now) }
-    ensures makes { OnOk result (MakesAll Y.System system.old system.new (line.now ∷ [])) }
-    ensures memory { OnErr result (StopsWithin Y.System system.old system.new (line.now ∷ [])) }
+    ensures makes { OnOk result (MakesOne Y.System system.old system.new line.now) }
+    ensures memory { OnErr result (LacksNext Y.System system.old system.new (line.now ∷ []) []) }
     ensures kept { Y.kept system.old system.new }
 {
     let reply = system.call(alloc, line.caller, &line.call)?;

@@ -22,9 +22,10 @@ use Rattle.nio_sole.proofs.Calls.{AreOn, Leads, leads_named, leads_line, leads_r
 use Rattle.nio_sole.proofs.Calls.{leads_keys_memory, leads_selected_memory, made_along}
 use Rattle.nio_sole.proofs.Lines.{line_of_named}
 use Rattle.nio_sole.specs.Made.{HasMade}
-use Rattle.nio_sole.specs.Makes.{Makes, MakesCall, Want, begin_unmade, begin_refused, told_unmade, keys_refused}
-use Rattle.nio_sole.specs.Makes.{keys_unsaid, selected_refused, selected_unsaid, pipe_unmade, read_unmade, group_unmade}
-use Rattle.nio_sole.specs.Makes.{word_of, want_plan}
+use Rattle.nio_sole.proofs.Wants.{Want, begin_unmade, begin_refused, told_unmade, keys_refused, keys_unsaid}
+use Rattle.nio_sole.proofs.Wants.{selected_refused, selected_unsaid, pipe_unmade, read_unmade, group_unmade}
+use Rattle.nio_sole.proofs.Wants.{wants, word_of, want_plan}
+use Rattle.nio_sole.specs.Makes.{Makes, MakesCall}
 use Rattle.nio_sole.specs.Stands.{HasPlaces, progress_of, selecting_of, slot}
 use Rattle.nio_sole.specs.declared.desk.Begun.{Begun}
 use Rattle.nio_sole.specs.declared.desk.Desk.{Desk}
@@ -142,9 +143,10 @@ line_stands w d d' me word (Ok r) stands makes =
     (leads_line (limits_of w) me (progress_of d) word (are_on w d stands.places))
     (made_line w d d' me word r stands makes)
 line_stands w d d' me word (Err e) stands lacks =
-    wanted w d d' me lacks.r lacks.want stands
+    let its = wants (if_named (limits_of w) (progress_of d) word) w d d' me word lacks in
+    wanted w d d' me its.r its.want stands
     (subst (λ (x : Call). Makes w d d' me
-    (if_named (limits_of w) (progress_of d) x (want_plan (progress_of d) lacks.want)) lacks.r) lacks.is lacks.makes)
+    (if_named (limits_of w) (progress_of d) x (want_plan (progress_of d) its.want)) its.r) its.is its.makes)
 
 pub line_once_of : (w : Words) (d d' : Desk) (me : CallerNo) (word : Call) (result : Result Reply AllocError)
     → StandsFor w d me
@@ -157,4 +159,4 @@ pub line_later : (w : Words) (d d' : Desk) (me : CallerNo) (word : Call) (result
     → MakesCall (if_named (limits_of w) (progress_of d) word) w d d' me word result
     → IsPrefix (seen d.pass) (seen d'.pass)
 line_later w d d' me word (Ok r) makes = makes.call.acts.history.goes_on
-line_later w d d' me word (Err e) lacks = lacks.makes.call.acts.history.goes_on
+line_later w d d' me word (Err e) lacks = lacks.call.acts.history.goes_on

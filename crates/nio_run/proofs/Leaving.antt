@@ -14,6 +14,7 @@ use Rattle.nio_language.specs.declared.call.ScriptCall.{ScriptCall}
 use Rattle.nio_orderly.specs.Orderly.{IsWhole}
 use Rattle.nio_plain.specs.Answer.{left_by_script, left_from}
 use Rattle.nio_plain.specs.ScriptState.{ScriptState, script_opening}
+use Rattle.nio_plain.specs.Seq.{seq}
 use Rattle.nio_plain.specs.declared.rules.Rules.TheVariants.{Now}
 use Rattle.nio_plain.specs.declared.system.System as system
 use Rattle.nio_race.proofs.Promise.{owed_before}
@@ -71,11 +72,12 @@ calls_more first last made [] has same = (
 )
 calls_more first last made (c ∷ later) has makes =
     let mid = makes.0 in
-    let did = makes.2 in
+    let did = makes.1.does in
+    let reply = (seq Now (limits_of first) (state_of first) c.caller c.call).reply in
     let one : HasMadeLines mid (made ++ c ∷ []) =
     subst (λ (v : Words). AreScriptLines (passes.limits_of v) (made ++ c ∷ []) (passes.seen (pass_of mid))
-    (in_progress mid)) (sym did.table) (line_more (words_of first) first.desk mid.desk made c makes.1 has did.says) in
-    let rest = calls_more mid last (made ++ c ∷ []) later one makes.3 in (
+    (in_progress mid)) (sym did.table) (line_more (words_of first) first.desk mid.desk made c reply has did.says) in
+    let rest = calls_more mid last (made ++ c ∷ []) later one makes.2 in (
       rest.0 ∙ did.table,
       subst (HasMadeLines last) (append_assoc made (c ∷ []) later) rest.1,
     )
@@ -84,8 +86,10 @@ calls_more first last made (c ∷ later) has makes =
 pub record AreOnTable (w : Words) (first last : Sole) (after : Pass) : Type 0 where
   pub all : (calls : List ScriptCall) → MakesAll sole_system first last calls
       → state_of last ≡ left_from Now (limits_of first) (state_of first) calls → MakesAllOn w after calls
-  pub some : (calls : List ScriptCall) → MakesPrefix sole_system first last calls → MakesPrefixOn w after calls
-  pub stops : (calls : List ScriptCall) → StopsWithin sole_system first last calls → StopsWithinOn w after calls
+  pub some : (calls made : List ScriptCall) → MakesPrefix sole_system first last calls made
+      → MakesPrefixOn w after calls made
+  pub stops : (calls made : List ScriptCall) → StopsWithin sole_system first last calls made
+      → StopsWithinOn w after calls made
 
 module _ (w : Words) (first last : Sole) (kept : Kept first last) (table : words_of first ≡ w) where
   same_table : words_of last ≡ w
@@ -167,39 +171,38 @@ module _ (w : Words) (first last : Sole) (kept : Kept first last) (table : words
           left = leaves (left_by_script Now (passes.limits_of w) calls) (left ∙ left_by calls);
         }
 
-        makes_prefix_on : (calls : List ScriptCall) → MakesPrefix sole_system first last calls
-            → MakesPrefixOn w after calls
-        makes_prefix_on calls some = record {
-          made = some.made;
+        makes_prefix_on : (calls made : List ScriptCall) → MakesPrefix sole_system first last calls made
+            → MakesPrefixOn w after calls made
+        makes_prefix_on calls made some = record {
           begins = some.begins;
-          makes = makes_all_on some.made some.makes some.left;
+          makes = makes_all_on made some.makes some.left;
         }
 
-        lacks_next_on : (calls : List ScriptCall) → LacksNext sole_system first last calls → LacksNextOn w after calls
-        lacks_next_on calls some =
+        lacks_next_on : (calls made : List ScriptCall) → LacksNext sole_system first last calls made
+            → LacksNextOn w after calls made
+        lacks_next_on calls made some =
             let before = some.before in
-            let same : words_of before ≡ w = (calls_more first before [] some.made none some.makes).0 ∙ table in
+            let same : words_of before ≡ w = (calls_more first before [] made none some.makes).0 ∙ table in
             let lacks : LacksLine (passes.limits_of w) (in_progress before) some.next
             (passes.seen (pass_of before)) (passes.seen (pass_of last)) =
             subst (λ (v : Words). LacksLine (passes.limits_of v) (in_progress before) some.next
             (passes.seen (pass_of before)) (passes.seen (pass_of last))) same some.lacks.says.lacks in
             record {
-              made = some.made;
               next = some.next;
               begins = some.begins;
               before = passes.seen (pass_of before);
               now = in_progress before;
-              lines = lines_on before some.made some.makes;
+              lines = lines_on before made some.makes;
               lacks = subst (λ (es : List Event). LacksLine (passes.limits_of w) (in_progress before) some.next
                   (passes.seen (pass_of before)) es) (sym seen_last) lacks;
-              left = subst (λ (now : Progress). Leaves w after now (left_by_script Now (passes.limits_of w) some.made))
+              left = subst (λ (now : Progress). Leaves w after now (left_by_script Now (passes.limits_of w) made))
                   some.lacks.says.still
-                  (leaves (left_by_script Now (passes.limits_of w) some.made) (some.left ∙ left_by some.made));
+                  (leaves (left_by_script Now (passes.limits_of w) made) (some.left ∙ left_by made));
             }
 
-        stops_within_on : (calls : List ScriptCall) → StopsWithin sole_system first last calls
-            → StopsWithinOn w after calls
-        stops_within_on calls some = either_way (makes_prefix_on calls) (lacks_next_on calls) some
+        stops_within_on : (calls made : List ScriptCall) → StopsWithin sole_system first last calls made
+            → StopsWithinOn w after calls made
+        stops_within_on calls made some = either_way (makes_prefix_on calls made) (lacks_next_on calls made) some
 
         pub on_table : AreOnTable w first last after
         on_table = record { all = makes_all_on; some = makes_prefix_on; stops = stops_within_on }

@@ -59,16 +59,14 @@ pub record MakesAllOn (w : Words) (pass : Pass) (calls : List ScriptCall) : Type
   pub lines : AreScriptLines (limits_of w) calls (seen pass) now
   pub left : Leaves w pass now (left_by_script Now (limits_of w) calls)
 
--- The same of some of these calls, from the first one on.
-pub record MakesPrefixOn (w : Words) (pass : Pass) (calls : List ScriptCall) : Type 0 where
-  pub made : List ScriptCall
+-- The same of the calls `made`, which are the first of these.
+pub record MakesPrefixOn (w : Words) (pass : Pass) (calls made : List ScriptCall) : Type 0 where
   pub begins : IsPrefix made calls
   pub makes : MakesAllOn w pass made
 
--- Every number was drawn, and some of these calls were made, from the first one on; then the next one lacked memory, and
--- nothing else was done. The table is left as the calls before that one leave it.
-pub record LacksNextOn (w : Words) (pass : Pass) (calls : List ScriptCall) : Type 0 where
-  pub made : List ScriptCall
+-- Every number was drawn, and the calls `made`, which are the first of these, were made; then the next one lacked memory,
+-- and nothing else was done. The table is left as the calls before that one leave it.
+pub record LacksNextOn (w : Words) (pass : Pass) (calls made : List ScriptCall) : Type 0 where
   pub next : ScriptCall
   pub begins : IsPrefix (made ++ next ∷ []) calls
   pub before : List Event
@@ -77,9 +75,9 @@ pub record LacksNextOn (w : Words) (pass : Pass) (calls : List ScriptCall) : Typ
   pub lacks : LacksLine (limits_of w) now next before (seen pass)
   pub left : Leaves w pass now (left_by_script Now (limits_of w) made)
 
--- Some of these calls were made, from the first one on; the next one may have lacked memory. Nothing else was done.
-abbrev pub StopsWithinOn : Words → Pass → List ScriptCall → Type 0
-StopsWithinOn w pass calls = MakesPrefixOn w pass calls ⊎ LacksNextOn w pass calls
+-- The calls `made` are the first of these, and were made; the next one may have lacked memory. Nothing else was done.
+abbrev pub StopsWithinOn : Words → Pass → List ScriptCall → List ScriptCall → Type 0
+StopsWithinOn w pass calls made = MakesPrefixOn w pass calls made ⊎ LacksNextOn w pass calls made
 
 -- The text is a script, its calls were made, and nothing else; its answer was written and flushed, and no write failed.
 pub record IsAnsweredOn {K : Type 0} (k : sink.Ghosts K) (w : Words) (output output' : K) (pass : Pass)
@@ -90,14 +88,15 @@ pub record IsAnsweredOn {K : Type 0} (k : sink.Ghosts K) (w : Words) (output out
   pub still : k.faults output' ≡ k.faults output
   pub makes : MakesAllOn w pass calls
 
--- The text is a script, some of its answer was written, from its front, and some of its calls were made (`Made`). Which
--- of the two went further isn't said.
+-- The text is a script, and some of its calls were made (`Made`). Of the answer to these calls, each with the reply that
+-- it gave (`AreScriptLines`), some was written, from its front: no line of a call that wasn't made.
 pub record IsCutShortOn {K : Type 0} (k : sink.Ghosts K) (w : Words) (output output' : K)
-    (Made : List ScriptCall → Type 0) (text : List ℕ) : Type 0 where
+    (Made : List ScriptCall → List ScriptCall → Type 0) (text : List ℕ) : Type 0 where
   pub calls : List ScriptCall
   pub script : IsScript text calls
-  pub written : WritesPrefix k output output' (answer_to Now (limits_of w) calls)
-  pub made : Made calls
+  pub made : List ScriptCall
+  pub makes : Made calls made
+  pub written : WritesPrefix k output output' (answer_to Now (limits_of w) made)
 
 -- The line is the text's first that isn't in the grammar, which was said, and no call was made.
 pub record IsRefusedOn {K : Type 0} (k : sink.Ghosts K) (w : Words) (output output' : K) (pass : Pass) (line : ℕ)

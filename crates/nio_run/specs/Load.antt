@@ -40,7 +40,8 @@ pub record IsHalfSummedOn {K : Type 0} (k : sink.Ghosts K) (w : Words) (rounds :
 pub record IsUnsummedOn {K : Type 0} (w : Words) (rounds : ℕ) (output output' : K) (pass : Pass) : Type 0 where
   pub calls : List ScriptCall
   pub script : IsScript (generated rounds) calls
-  pub made : StopsWithinOn w pass calls
+  pub made : List ScriptCall
+  pub stops : StopsWithinOn w pass calls made
   pub unwritten : output' ≡ output
 
 -- What `load` does for so many rounds where it ends with this status.

@@ -9,8 +9,7 @@ use Rattle.nio_bytes.specs.declared.sink.Sink as sink
 use Rattle.nio_language.specs.Replies.{history_line}
 use Rattle.nio_language.specs.Script.{IsScript, IsFirstBad}
 use Rattle.nio_language.specs.declared.call.ScriptCall.{ScriptCall}
-use Rattle.nio_language.specs.declared.reply.Reply.{Reply}
-use Rattle.nio_plain.specs.Answer.{answer_to, left_by_script, left_from}
+use Rattle.nio_plain.specs.Answer.{answer_from, answer_to, left_by_script, left_from}
 use Rattle.nio_plain.specs.ScriptState.{ScriptState}
 use Rattle.nio_plain.specs.Seq.{seq}
 use Rattle.nio_plain.specs.declared.rules.Rules.{Rules}
@@ -29,22 +28,26 @@ line_for rules l st number c = history_line number c.caller c.call (seq rules l 
 abbrev pub left_by_call : Rules → Limits → ScriptState → ScriptCall → ScriptState
 left_by_call rules l st c = (seq rules l st c.caller c.call).left
 
--- These calls were made in turn, each as the system's `does` says, and nothing else; each had a reply.
+-- The call was made as the system's `does` says, gave the documented reply, and left the documented state.
+pub record MakesOne {Y : Type 0} (y : system.Ghosts Y) (run run' : Y) (c : ScriptCall) : Type 0 where
+  pub does : y.does run run' c (Ok (seq (y.rules run) (y.limits run) (y.state run) c.caller c.call).reply)
+  pub left : y.state run' ≡ left_by_call (y.rules run) (y.limits run) (y.state run) c
+
+-- these calls were made in turn, and nothing else
 abbrev pub MakesAll : {Y : Type 0} → system.Ghosts Y → Y → Y → List ScriptCall → Type 0
 MakesAll y run run' [] = run' ≡ run
-MakesAll y run run' (c ∷ later) = (mid : _) × (r : Reply) × y.does run mid c (Ok r) × MakesAll y mid run' later
+MakesAll y run run' (c ∷ later) = (mid : _) × MakesOne y run mid c × MakesAll y mid run' later
 
--- Some of these calls were made, from the first one on, and nothing else. The system is left as they leave it.
-pub record MakesPrefix {Y : Type 0} (y : system.Ghosts Y) (run run' : Y) (calls : List ScriptCall) : Type 0 where
-  pub made : List ScriptCall
+-- The calls `made` are the first of these; they were made, and nothing else. The system is left as they leave it.
+pub record MakesPrefix {Y : Type 0} (y : system.Ghosts Y) (run run' : Y) (calls made : List ScriptCall)
+    : Type 0 where
   pub begins : IsPrefix made calls
   pub makes : MakesAll y run run' made
   pub left : y.state run' ≡ left_from (y.rules run) (y.limits run) (y.state run) made
 
--- Some of these calls were made, from the first one on; then the next one lacked memory, and nothing else was done. The
--- system is left as the calls before that one leave it.
-pub record LacksNext {Y : Type 0} (y : system.Ghosts Y) (run run' : Y) (calls : List ScriptCall) : Type 0 where
-  pub made : List ScriptCall
+-- The calls `made` are the first of these, and were made; then the next one lacked memory, and nothing else was done.
+-- The system is left as the calls before that one leave it.
+pub record LacksNext {Y : Type 0} (y : system.Ghosts Y) (run run' : Y) (calls made : List ScriptCall) : Type 0 where
   pub next : ScriptCall
   pub begins : IsPrefix (made ++ next ∷ []) calls
   pub before : Y
@@ -53,9 +56,17 @@ pub record LacksNext {Y : Type 0} (y : system.Ghosts Y) (run run' : Y) (calls : 
   pub lacks : y.does before run' next (Err error)
   pub left : y.state run' ≡ left_from (y.rules run) (y.limits run) (y.state run) made
 
--- Some of these calls were made, from the first one on; the next one may have lacked memory. Nothing else was done.
-abbrev pub StopsWithin : {Y : Type 0} → system.Ghosts Y → Y → Y → List ScriptCall → Type 0
-StopsWithin y run run' calls = MakesPrefix y run run' calls ⊎ LacksNext y run run' calls
+-- The calls `made` are the first of these, and were made; the next one may have lacked memory. Nothing else was done.
+abbrev pub StopsWithin : {Y : Type 0} → system.Ghosts Y → Y → Y → List ScriptCall → List ScriptCall → Type 0
+StopsWithin y run run' calls made = MakesPrefix y run run' calls made ⊎ LacksNext y run run' calls made
+
+-- Some calls were made (`Made`). Of what was kept back and their lines, numbered so, some was written, from its front.
+pub record WritesOfMade {K Y : Type 0} (k : sink.Ghosts K) (y : system.Ghosts Y) (output output' : K) (run : Y)
+    (kept : List ℕ) (number : ℕ) (Made : List ScriptCall → Type 0) : Type 0 where
+  pub made : List ScriptCall
+  pub makes : Made made
+  pub written : WritesPrefix k output output'
+      (kept ++ answer_from (y.rules run) (y.limits run) (y.state run) number made)
 
 -- The input was read whole, and its text is so.
 abbrev pub ReadsText : {S : Type 0} → source.Ghosts S → S → S → (List ℕ → Type 0) → Type 0
@@ -72,14 +83,16 @@ pub record IsAnswered {K Y : Type 0} (k : sink.Ghosts K) (y : system.Ghosts Y)
   pub makes : MakesAll y run run' calls
   pub left : y.state run' ≡ left_by_script (y.rules run) (y.limits run) calls
 
--- The text is a script, some of its answer was written, from its front, and some of its calls were made (`Made`). Which
--- of the two went further isn't said.
+-- The text is a script, and some of its calls were made (`Made`). Of the answer to these calls, each with the reply that
+-- it gave, some was written, from its front: no line of a call that wasn't made.
 pub record IsCutShort {K Y : Type 0} (k : sink.Ghosts K) (y : system.Ghosts Y)
-    (output output' : K) (run : Y) (Made : List ScriptCall → Type 0) (text : List ℕ) : Type 0 where
+    (output output' : K) (run : Y) (Made : List ScriptCall → List ScriptCall → Type 0) (text : List ℕ)
+    : Type 0 where
   pub calls : List ScriptCall
   pub script : IsScript text calls
-  pub written : WritesPrefix k output output' (answer_to (y.rules run) (y.limits run) calls)
-  pub made : Made calls
+  pub made : List ScriptCall
+  pub makes : Made calls made
+  pub written : WritesPrefix k output output' (answer_to (y.rules run) (y.limits run) made)
 
 -- what is said of a line that isn't in the grammar
 abbrev pub bad_line : ℕ → List ℕ

@@ -1,5 +1,5 @@
 //! Scripts, from the bytes that come in to the bytes that go out.
-ghost use Rattle.std.specs.Prelude.{◌≡◌, ℕ, ◌<◌, ◌≤◌, ◌⊎◌, ◌++◌, List, [], ◌∷◌, length, IfSome, IfErr, IsErrOf};
+ghost use Rattle.std.specs.Prelude.{◌≡◌, ℕ, ◌<◌, ◌≤◌, ◌⊎◌, List, [], ◌∷◌, length, IfSome, IfErr, IsErrOf};
 ghost use Rattle.std.specs.Prelude.{OnOk, OnErr};
 ghost use Rattle.nio_bytes.specs.Cause.{Rose};
 ghost use Rattle.nio_language.specs.Script.{IsScript, IsFirstBad};
@@ -7,9 +7,9 @@ ghost use Rattle.nio_language.specs.declared.call.ScriptCall.{ScriptCall};
 ghost use Rattle.nio_plain.specs.Answer.{answer_from, left_from};
 ghost use Rattle.nio_plain.specs.ScriptState.{script_opening};
 ghost use Rattle.nio_script.specs.Input.{CausesFault, StopsPastLongest};
-ghost use Rattle.nio_script.specs.Output.{WritesPrefix, IsWritten, WritesOrFails, Gathers};
-ghost use Rattle.nio_script.specs.Run.{line_for, left_by_call, bad_line, ReadsText, IsAnswered, IsCutShort, IsRefused};
-ghost use Rattle.nio_script.specs.Run.{IsUntouched, MakesAll, MakesPrefix, StopsWithin, EndsText, EndsScript};
+ghost use Rattle.nio_script.specs.Output.{IsWritten, WritesOrFails, Gathers};
+ghost use Rattle.nio_script.specs.Run.{line_for, bad_line, ReadsText, IsAnswered, IsCutShort, IsRefused, IsUntouched};
+ghost use Rattle.nio_script.specs.Run.{MakesAll, MakesOne, MakesPrefix, StopsWithin, WritesOfMade, EndsText, EndsScript};
 
 use crate::input::{LONGEST_INPUT, read_input};
 use crate::output::{offer, put_line, write_out};
@@ -31,14 +31,12 @@ fn answer_call<K: Sink, Y: System>(
 ) -> Result<(), Status>
     ensures ok { OnOk result (Gathers K.Sink output.old output.new kept.old.items kept.new.items
         (line_for (Y.rules system.old) (Y.limits system.old) (Y.state system.old) number line.now)) }
-    ensures left { OnOk result (Y.state system.new
-        ≡ left_by_call (Y.rules system.old) (Y.limits system.old) (Y.state system.old) line.now) }
-    ensures err { OnErr result (WritesPrefix K.Sink output.old output.new (kept.old.items
-        ++ line_for (Y.rules system.old) (Y.limits system.old) (Y.state system.old) number line.now)) }
-    ensures makes { OnOk result (MakesAll Y.System system.old system.new (line.now ∷ [])) }
-    ensures stops { OnErr result (StopsWithin Y.System system.old system.new (line.now ∷ [])) }
+    ensures makes { OnOk result (MakesOne Y.System system.old system.new line.now) }
+    ensures stops { OnErr result (WritesOfMade K.Sink Y.System output.old output.new system.old kept.old.items number
+        (StopsWithin Y.System system.old system.new (line.now ∷ []))) }
     ensures write_fault { IsErrOf result Status.WriteFault →
-        MakesPrefix Y.System system.old system.new (line.now ∷ []) }
+        WritesOfMade K.Sink Y.System output.old output.new system.old kept.old.items number
+        (MakesPrefix Y.System system.old system.new (line.now ∷ [])) }
     ensures kept { Y.kept system.old system.new }
     ensures cause { CausesFault (K.faults output.old) (K.faults output.new)
         (IsErrOf result Status.WriteFault) }
@@ -61,12 +59,12 @@ fn run_calls<K: Sink, Y: System>(
         (answer_from (Y.rules system.old) (Y.limits system.old) (Y.state system.old) 1 calls.now)) }
     ensures left { OnOk result (Y.state system.new
         ≡ left_from (Y.rules system.old) (Y.limits system.old) (Y.state system.old) calls.now) }
-    ensures err { OnErr result (WritesPrefix K.Sink output.old output.new
-        (answer_from (Y.rules system.old) (Y.limits system.old) (Y.state system.old) 1 calls.now)) }
     ensures makes { OnOk result (MakesAll Y.System system.old system.new calls.now) }
-    ensures stops { OnErr result (StopsWithin Y.System system.old system.new calls.now) }
+    ensures stops { OnErr result (WritesOfMade K.Sink Y.System output.old output.new system.old [] 1
+        (StopsWithin Y.System system.old system.new calls.now)) }
     ensures write_fault { IsErrOf result Status.WriteFault →
-        MakesPrefix Y.System system.old system.new calls.now }
+        WritesOfMade K.Sink Y.System output.old output.new system.old [] 1
+        (MakesPrefix Y.System system.old system.new calls.now) }
     ensures kept { Y.kept system.old system.new }
     ensures cause { CausesFault (K.faults output.old) (K.faults output.new)
         (IsErrOf result Status.WriteFault) }

@@ -32,9 +32,10 @@ use Rattle.nio_sole.proofs.Memory.{stays_along, begin_memory_stays, keys_memory_
 use Rattle.nio_sole.proofs.Others.{call_made}
 use Rattle.nio_sole.proofs.ValueSets.{reply_set, script_set}
 use Rattle.nio_sole.specs.Made.{HasMade}
-use Rattle.nio_sole.specs.Makes.{Makes, MakesCall, Lacks, Want, begin_unmade, begin_refused, told_unmade, keys_refused}
-use Rattle.nio_sole.specs.Makes.{keys_unsaid, selected_refused, selected_unsaid, pipe_unmade, read_unmade, group_unmade}
-use Rattle.nio_sole.specs.Makes.{word_of, want_plan}
+use Rattle.nio_sole.proofs.Wants.{Want, begin_unmade, begin_refused, told_unmade, keys_refused, keys_unsaid}
+use Rattle.nio_sole.proofs.Wants.{selected_refused, selected_unsaid, pipe_unmade, read_unmade, group_unmade}
+use Rattle.nio_sole.proofs.Wants.{wants, word_of, want_plan}
+use Rattle.nio_sole.specs.Makes.{Makes, MakesCall, Lacks}
 use Rattle.nio_sole.specs.Said.{state_at, SaysLine}
 use Rattle.nio_sole.specs.Stands.{progress_of, Stands}
 use Rattle.nio_sole.specs.declared.desk.Desk.{Desk}
@@ -202,29 +203,27 @@ lacks_said : (w : Words) (d d' : Desk) (me : CallerNo) (word : Call) (e : AllocE
     → Lacks (if_named (limits_of w) (progress_of d) word) w d d' me word → SaysLine w d d' me word (Err e)
 lacks_said w d d' me word e stands drawn lacks =
     let now = progress_of d in
-    let said : Said = record { reply = lacks.r; left = progress_of d' } in
-    let run = alone w d.pass d'.pass me stands.ready lacks.makes.call in
+    let its = wants (if_named (limits_of w) now word) w d d' me word lacks in
+    let said : Said = record { reply = its.r; left = progress_of d' } in
     let call = subst
-    (λ (x : Call). CallClause me (Completes (if_named (limits_of w) now x (want_plan now lacks.want)))
-    (sole_view w d.pass) (sole_view w d'.pass) said) lacks.is run in
+    (λ (x : Call). CallClause me (Completes (if_named (limits_of w) now x (want_plan now its.want)))
+    (sole_view w d.pass) (sole_view w d'.pass) said) its.is (alone w d.pass d'.pass me stands.ready its.makes.call) in
     let after = ∥∥₁_map (are_between w d stands)
     (λ before. wanted me now (sole_view w d.pass) (sole_view w d'.pass) stands.fit drawn refl before said lacks.same
-    lacks.want call) in
+    its.want call) in
+    let run = alone w d.pass d'.pass me stands.ready lacks.call in
     record {
-      stands = stands_after w d d' me _ lacks.r stands lacks.makes
+      stands = stands_after w d d' me _ its.r stands its.makes
           (∥∥₁_map after
           (λ x. subst (λ (p : Progress). AreBetween (limits_of w) (sole_view w d'.pass) p) (sym lacks.same) x.0));
       reply = tt;
       left = tt;
       memory = ap (documented (state_seen d'.pass)) lacks.same ∙ ∥∥₁_elim after (script_set _ _) (λ x. x.1);
-      later = lacks.makes.call.acts.history.goes_on;
+      later = lacks.call.acts.history.goes_on;
       made = tt;
       lacks = record {
-        want = lacks.want;
-        is = lacks.is;
         acts = done_between me (sole_view w d.pass) (sole_view w d'.pass);
         grew = (run.acts.only refl).1;
-        said = said;
         run = run.shape;
       };
       still = lacks.same;

@@ -11,7 +11,8 @@ use Rattle.nio_serial.specs.Lines.{Said, refused, if_named, call_plan}
 use Rattle.nio_sole.proofs.Calls.{made_along, leads_named, leads_refused}
 use Rattle.nio_sole.proofs.Desks.{places_same}
 use Rattle.nio_sole.specs.Made.{HasMade}
-use Rattle.nio_sole.specs.Makes.{MayMake, Makes, MakesCall, want_plan}
+use Rattle.nio_sole.proofs.Wants.{lacks_behind}
+use Rattle.nio_sole.specs.Makes.{MayMake, Makes, MakesCall}
 use Rattle.nio_sole.specs.Named.{HasNames, Finds}
 use Rattle.nio_sole.specs.Stands.{progress_of, HasPlaces}
 use Rattle.nio_sole.specs.declared.desk.Desk.{Desk}
@@ -80,10 +81,11 @@ pub line_made_of : (w : Words) (d d' : Desk) (q : Pass) (me : CallerNo) (word : 
     → MakesCall (if_named (limits_of w) (progress_of d) word) w d d' me word result
 line_made_of w d d' q me word (Ok r) finds made =
     named_made w d d' q me word (call_plan (limits_of w) (progress_of d) me word) r finds made
-line_made_of w d d' q me word (Err e) finds lacks = record {
-  want = lacks.want;
-  is = lacks.is;
-  r = lacks.r;
-  makes = named_made w d d' q me word (want_plan (progress_of d) lacks.want) lacks.r finds lacks.makes;
-  same = lacks.same;
-}
+line_made_of w d d' q me word (Err e) finds lacks =
+    let now = progress_of d in
+    record {
+      call = lacks_behind (if_named (limits_of w) now word) word (refused now reply.Busy) (finds.call now) lacks.call;
+      ready = lacks.ready;
+      places = lacks.places;
+      same = lacks.same;
+    }

@@ -13,6 +13,7 @@ use Rattle.nio_base.specs.declared.numbers.CallerNo.{CallerNo}
 use Rattle.nio_base.specs.declared.numbers.ChanId.{ChanId}
 use Rattle.nio_group.specs.Group.{Group}
 use Rattle.nio_history.specs.PassViews.{PassView}
+use Rattle.nio_history.specs.declared.act.Act.{Act}
 use Rattle.nio_language.specs.declared.call.Call.TheVariants as call
 use Rattle.nio_language.specs.declared.group_call.GroupCall.{GroupCall}
 use Rattle.nio_language.specs.declared.reply.Reply.{Reply}
@@ -37,7 +38,8 @@ use Rattle.nio_sole.proofs.Asking.{makes_ran, refused_at, replied_as}
 use Rattle.nio_sole.proofs.Desks.{left_as, places_same, still_made}
 use Rattle.nio_sole.proofs.Piping.{read_gave, read_refused, shown_at, shown_set, slice_says, with_held, write_gave}
 use Rattle.nio_sole.proofs.Piping.{write_refused}
-use Rattle.nio_sole.specs.Makes.{Lacks, Makes, MakesCall, MayMake, Want}
+use Rattle.nio_sole.proofs.Wants.{lacks_at, lacks_ran}
+use Rattle.nio_sole.specs.Makes.{Lacks, Makes, MakesCall, MayMake}
 use Rattle.nio_sole.specs.PipeReplies.{read_reply, write_reply}
 use Rattle.nio_sole.specs.Stands.{AreMade, HasPlaces, group_of, pipe_of, pipes_of, progress_of}
 use Rattle.nio_sole.specs.declared.desk.Desk.{Desk}
@@ -87,14 +89,9 @@ group_called w d me g group (Err e) may says leaves memory =
     let now = progress_of d in
     let same = ap {B = Progress} (λ (x : Option Group). record now { group = group_of x }) (sym memory) in
     record {
-      want = Want.group_unmade g;
-      is = refl;
-      r = reply.Busy;
-      makes = record {
-        call = left_as (refused_at now reply.Busy (view w d.pass) may.ask.ready.pass.legal) same;
-        ready = may.ask.ready;
-        places = places_group may.places;
-      };
+      call = lacks_at (call.Group g) (view w d.pass) may.ask.ready.pass.legal refl;
+      ready = may.ask.ready;
+      places = places_group may.places;
       same = sym same;
     }
 
@@ -462,6 +459,11 @@ pipe_refused w d q me target pipes may ran ready items =
       places = places_pipes may.places (subst (AreMade (view w q)) (sym items) (still_made q may.places ran));
     }
 
+-- a plan that is over has no act
+no_act : {R : Type 0} (given answer : R) (acts : List Act) → Completes (Plan.reply given) acts answer → acts ≡ []
+no_act given answer [] run = refl
+no_act given answer (act ∷ acts) run = absurd run
+
 -- the room was taken, and there was no memory for the pipe
 pub pipe_lacks : (w : Words) (d : Desk) (q : Pass) (me target : CallerNo) (pipes : Vec OwnedPipe Global)
     → MayMake w d me (call.Pipe target)
@@ -472,16 +474,10 @@ unfolding pipe_plan
 pipe_lacks w d q me target pipes may ran ready items =
     let now = progress_of d in
     let same = ap {B = Progress} (λ (xs : List OwnedPipe). record now { pipes = pipes_of xs }) (sym items) in
-    let call = pipe_ran (limits_of w) ran in
     record {
-      want = Want.pipe_unmade target;
-      is = refl;
-      r = reply.ChannelsSpent;
-      makes = record {
-        call = left_as (makes_ran ends_reply (after_pipe now me target) call) same;
-        ready = ready;
-        places = places_pipes may.places (subst (AreMade (view w q)) (sym items) (still_made q may.places ran));
-      };
+      call = lacks_ran (call.Pipe target) (pipe_ran (limits_of w) ran) (λ acts run. no_act _ _ acts run);
+      ready = ready;
+      places = places_pipes may.places (subst (AreMade (view w q)) (sym items) (still_made q may.places ran));
       same = sym same;
     }
 
@@ -493,27 +489,17 @@ pipe_unplaced w d me target pipes may items =
     let now = progress_of d in
     let same = ap {B = Progress} (λ (xs : List OwnedPipe). record now { pipes = pipes_of xs }) (sym items) in
     record {
-      want = Want.pipe_unmade target;
-      is = refl;
-      r = reply.ChannelsSpent;
-      makes = record {
-        call = left_as (refused_at now reply.ChannelsSpent (view w d.pass) may.ask.ready.pass.legal) same;
-        ready = may.ask.ready;
-        places = places_pipes may.places (subst (AreMade (view w d.pass)) (sym items) may.places.pipes);
-      };
+      call = lacks_at (call.Pipe target) (view w d.pass) may.ask.ready.pass.legal refl;
+      ready = may.ask.ready;
+      places = places_pipes may.places (subst (AreMade (view w d.pass)) (sym items) may.places.pipes);
       same = sym same;
     }
 
 pub read_lacks : (w : Words) (d : Desk) (me : CallerNo) (c : ChanId) (n : ℕ) → MayMake w d me (call.Pread c n)
     → Lacks (λ plan. plan) w d d me (call.Pread c n)
 read_lacks w d me c n may = record {
-  want = Want.read_unmade c n;
-  is = refl;
-  r = reply.Busy;
-  makes = record {
-    call = refused_at (progress_of d) reply.Busy (view w d.pass) may.ask.ready.pass.legal;
-    ready = may.ask.ready;
-    places = may.places;
-  };
+  call = lacks_at (call.Pread c n) (view w d.pass) may.ask.ready.pass.legal refl;
+  ready = may.ask.ready;
+  places = may.places;
   same = refl;
 }

@@ -14,8 +14,8 @@ use Rattle.nio_plain.specs.ScriptState.{ScriptState}
 use Rattle.nio_plain.specs.Seq.{seq}
 use Rattle.nio_plain.specs.declared.rules.Rules.TheVariants.{Now}
 use Rattle.nio_serial.specs.Documented.{Progress, documented}
-use Rattle.nio_serial.specs.Lines.{Said, if_named, line_plan}
-use Rattle.nio_sole.specs.Makes.{Want, want_plan, word_of}
+use Rattle.nio_serial.specs.Lines.{if_named, line_plan}
+use Rattle.nio_sole.specs.Makes.{LooksAndLacks}
 use Rattle.nio_sole.specs.Stands.{progress_of, Stands}
 use Rattle.nio_sole.specs.declared.desk.Desk.{Desk}
 use Rattle.nio_steps.specs.Runs.{Completes}
@@ -33,14 +33,12 @@ pub record MadeLine (w : Words) (old new : Desk) (me : CallerNo) (word : Call) (
   pub run : Completes (line_plan (limits_of w) (progress_of old) me word) acts
       (record { reply = r; left = progress_of new })
 
--- The line lacked memory, with this in progress: the history grew by its look-ups, and by what was made of its call.
+-- The line lacked memory, with this in progress: the history grew by its look-ups, which found every name, and by what
+-- was done of its call.
 pub record LacksLine (l : Limits) (now : Progress) (c : ScriptCall) (old new : List Event) : Type 0 where
-  pub want : Want
-  pub is : c.call ≡ word_of want
   pub acts : List Act
   pub grew : new ≡ old ++ map (event_of c.caller) acts
-  pub said : Said
-  pub run : Completes (if_named l now c.call (want_plan now want)) acts said
+  pub run : LooksAndLacks (if_named l now c.call) c.call acts
 
 -- the line's reply and state are those of the documented system; one that lacks memory leaves the state
 pub record SaysLine (w : Words) (old new : Desk) (me : CallerNo) (word : Call)

@@ -1,8 +1,10 @@
-use Rattle.std.proofs.Common.{◌∙◌, ap, inl, length, sym}
+use Rattle.std.proofs.Common.{◌∙◌, List, ap, inl, inr, length, sym}
 use Rattle.std.specs.Fmt.{decimal}
+use Rattle.nio_language.specs.declared.call.ScriptCall.{ScriptCall}
 use Rattle.nio_plain.proofs.Replying.{on_err}
 use Rattle.nio_plain.specs.Answer.{left_from}
 use Rattle.nio_script.proofs.Made.{makes_all}
+use Rattle.nio_script.specs.Run.{StopsWithin}
 use Rattle.nio_load.proofs.Summing.{if_ok_map, summary_pieces}
 use Rattle.nio_load.proofs.summary.summarize.Goals as goal
 
@@ -23,6 +25,17 @@ returns-clause-memory g c =
     let y = g.Y.System in
     let before = c.args.system.now in
     let calls = c.args.calls.now in
-    on_err c.format.result (inl (makes_all y before c.tally_calls.new.system calls c.in_ok-tally.ensures.makes
-    (c.in_ok-tally.ensures.left ∙ ap (λ st. left_from (y.rules before) (y.limits before) st calls)
-    (sym c.requires.opening))))
+    on_err c.format.result (
+      calls,
+      inl (makes_all y before c.tally_calls.new.system calls c.in_ok-tally.ensures.makes
+          (c.in_ok-tally.ensures.left ∙ ap (λ st. left_from (y.rules before) (y.limits before) st calls)
+          (sym c.requires.opening))),
+    )
+
+pub returns-in_err-tally-clause-memory : goal.returns-in_err-tally-clause-memory
+returns-in_err-tally-clause-memory g c =
+    let lacks = c.in_err-tally.ensures.memory in
+    let stops : (made : List ScriptCall)
+    × StopsWithin g.Y.System c.args.system.now c.tally_calls.new.system c.args.calls.now made
+    = (lacks.0, inr lacks.1) in
+    on_err c.from_residual.result stops

@@ -5,7 +5,7 @@ use Rattle.std.proofs.lemmas.List.{take_more}
 use Rattle.nio_language.specs.declared.call.ScriptCall.{ScriptCall}
 use Rattle.nio_plain.proofs.Replying.{on_err}
 use Rattle.nio_script.specs.Run.{MakesAll}
-use Rattle.nio_script.proofs.Made.{left_after, left_from_run, makes_both, stops_after}
+use Rattle.nio_script.proofs.Made.{all_of_one, lacks_after, left_after, left_from_run, makes_both}
 use Rattle.nio_load.proofs.Tallying.{IsTallying, selections_on, updates_on}
 use Rattle.nio_load.proofs.summary.tally_calls.Goals as goal
 use Rattle.nio_load.proofs.summary.tally_calls.Goals.{After-tally_call}
@@ -27,11 +27,13 @@ returns-in_err-tally_call-clause-memory g c =
     let calls = c.args.calls.now in
     let before = c.loop-line.invariant in
     let next = next_is g (goal.at.returns-in_err-tally_call-clause-memory g c).After-tally_call in
-    on_err c.from_residual.result
-    (stops_after y c.args.system.now c.loop-line.system (take index calls) before.makes before.left before.rules
-    before.limits c.tally_call.new.system (c.line-item.result ∷ []) (drop (index + 1) calls) calls
-    (ap (λ (xs : List ScriptCall). take index calls ++ xs) (sym next) ∙ take-append-drop index calls)
-    c.in_err-tally_call.ensures.memory)
+    on_err c.from_residual.result (
+      take index calls ++ [],
+      lacks_after y c.args.system.now c.loop-line.system (take index calls) before.makes before.left before.rules
+          before.limits c.tally_call.new.system (c.line-item.result ∷ []) (drop (index + 1) calls) calls []
+          (ap (λ (xs : List ScriptCall). take index calls ++ xs) (sym next) ∙ take-append-drop index calls)
+          c.in_err-tally_call.ensures.memory,
+    )
 
 pub loop-line-preserved : goal.loop-line-preserved
 loop-line-preserved g c =
@@ -51,13 +53,13 @@ loop-line-preserved g c =
     subst (λ xs. IsTallying y run c.loop-line.system c.loop-line.tally index xs calls) next before in
     record {
       selections = selections_on y run c.loop-line.system c.tally_call.new.system c.loop-line.tally
-          c.tally_call.new.tally index call rest calls tallying its.tally its.left;
+          c.tally_call.new.tally index call rest calls tallying its.tally its.makes.left;
       updates = updates_on y run c.loop-line.system c.tally_call.new.system c.loop-line.tally c.tally_call.new.tally
-          index call rest calls tallying its.tally its.left;
+          index call rest calls tallying its.tally its.makes.left;
       makes = subst (λ (made : List ScriptCall). MakesAll y run c.tally_call.new.system made) one_more
           (makes_both y run c.loop-line.system c.tally_call.new.system (take index calls) (call ∷ []) before.makes
-          its.makes);
-      left = its.left
+          (all_of_one y c.loop-line.system c.tally_call.new.system call its.makes));
+      left = its.makes.left
           ∙ left_after y run c.loop-line.system (take index calls) before.makes before.left before.rules before.limits
           (call ∷ [])
           ∙ ap (left_from_run y run) one_more;

@@ -55,7 +55,8 @@ returns-in-Ok-clause-load g c =
       memory = λ is. let none = its.memory is in inr (record {
         calls = none.calls;
         script = none.script;
-        made = on.stops none.calls none.made;
+        made = none.made;
+        stops = on.stops none.calls none.made none.stops;
         unwritten = none.unwritten;
       });
       ends = its.ends;

@@ -29,17 +29,18 @@ returns-in-Ok-clause-script g c =
     c.into_pass.ensures.pass c.join.ensures opened.drawn c.into_pass.ensures.ready c.into_pass.ensures.whole
     opened.opening opened.none in
     let uncalled : last ≡ first → MakesAllOn w c.join.new.p [] = λ same. on.all [] same (ap state_of same) in
-    let cut : (Made MadeOn : List ScriptCall → Type 0) → ((calls : List ScriptCall) → Made calls → MadeOn calls)
-    → (text : List ℕ)
+    let cut : (Made MadeOn : List ScriptCall → List ScriptCall → Type 0)
+    → ((calls made : List ScriptCall) → Made calls made → MadeOn calls made) → (text : List ℕ)
     → IsCutShort g.K.Sink sole_system c.args.output.now c.run_script-status.new.output first Made text
     → IsCutShortOn g.K.Sink w c.args.output.now c.run_script-status.new.output MadeOn text = λ Made MadeOn also text x.
     record {
       calls = x.calls;
       script = x.script;
+      made = x.made;
+      makes = also x.calls x.made x.makes;
       written = subst
           (λ (l : Limits). WritesPrefix g.K.Sink c.args.output.now c.run_script-status.new.output
-          (answer_to Now l x.calls)) same x.written;
-      made = also x.calls x.made;
+          (answer_to Now l x.made)) same x.written;
     } in
     record {
       done = λ is. let read = its.done is in (

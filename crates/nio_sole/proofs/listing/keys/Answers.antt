@@ -1,10 +1,11 @@
-use Rattle.std.proofs.Common.{Err, map, refl, ap, ◌∙◌, subst}
+use Rattle.std.proofs.Common.{Err, inl, inr, map, refl, ap, ◌∙◌, subst}
+use Rattle.nio_language.specs.declared.call.Call.TheVariants as call
 use Rattle.nio_plain.specs.Seq.Listing.{names_or_none}
 use Rattle.nio_serial.specs.Lines.{call_plan}
 use Rattle.nio_serial.specs.Replies.{key_id, list_reply}
 use Rattle.nio_sole.proofs.Asking.{asks_ran, lists_ran}
 use Rattle.nio_sole.proofs.Desks.{places_same}
-use Rattle.nio_sole.specs.Makes.{keys_refused, keys_unsaid}
+use Rattle.nio_sole.proofs.Wants.{lacks_ran}
 use Rattle.nio_sole.specs.Stands.{progress_of}
 use Rattle.nio_steps.specs.Calls.{CallClause}
 use Rattle.nio_steps.specs.SelectCalls.{ListsKeys}
@@ -23,14 +24,9 @@ returns-in-Ok-ids c = record {
 
 pub returns-in-Ok : goal.returns-in-Ok
 returns-in-Ok c = record {
-  want = keys_unsaid c.args.sel;
-  is = refl;
-  r = _;
-  makes = record {
-    call = asks_ran list_reply (progress_of c.args.d.now) (lists_ran c.args.sel c.in-Ok.ensures.call) refl;
-    ready = c.in-Ok.ensures.ready;
-    places = places_same c.keys.new.p c.in-Ok.ensures.call c.requires.places;
-  };
+  call = lacks_ran (call.Keys c.args.sel) c.in-Ok.ensures.call (λ acts made. inr (_, made));
+  ready = c.in-Ok.ensures.ready;
+  places = places_same c.keys.new.p c.in-Ok.ensures.call c.requires.places;
   same = refl;
 }
 
@@ -50,17 +46,12 @@ returns-in-Err-ClosedSelector c =
 pub returns : goal.returns
 returns c =
     let w = c.args.w.now in
-    let call = subst
+    let refuses = subst
     (λ (e : ListError). CallClause c.args.me (ListsKeys c.args.sel) (view w c.args.d.now.pass) (view w c.keys.new.p)
     (Err e)) c.in-Err-Memory.field-0-is c.in-Err-Memory.ensures.call in
     record {
-      want = keys_refused c.args.sel;
-      is = refl;
-      r = _;
-      makes = record {
-        call = asks_ran list_reply (progress_of c.args.d.now) (lists_ran c.args.sel call) refl;
-        ready = c.in-Err-Memory.ensures.ready;
-        places = places_same c.keys.new.p call c.requires.places;
-      };
+      call = lacks_ran (call.Keys c.args.sel) refuses (λ acts run. inl run);
+      ready = c.in-Err-Memory.ensures.ready;
+      places = places_same c.keys.new.p refuses c.requires.places;
       same = refl;
     }

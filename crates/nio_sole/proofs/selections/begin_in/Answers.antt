@@ -1,16 +1,19 @@
-use Rattle.std.proofs.Common.{Err, Some, length, map, refl, sym, ap, ◌∙◌, subst, arith}
+use Rattle.std.proofs.Common.{Err, Option, Some, inr, length, map, refl, sym, ap, ◌∙◌, subst, arith}
 use Rattle.std.specs.Prelude.{None}
 use Rattle.nio_sole.specs.Stands.{IsOn}
 use Rattle.nio_base.specs.declared.numbers.SelNo.{SelNo}
+use Rattle.nio_history.specs.declared.found.Mode.{Mode}
+use Rattle.nio_language.specs.declared.call.Call.TheVariants as call
 use Rattle.nio_language.specs.declared.reply.Reply.TheVariants as reply
 use Rattle.nio_select.specs.InHand.{selection_of}
 use Rattle.nio_serial.specs.Documented.{looked_pair}
 use Rattle.nio_serial.specs.Lines.{call_plan, after_begin}
 use Rattle.nio_serial.specs.Replies.{begin_reply}
-use Rattle.nio_sole.proofs.Asking.{asks_ran, makes_ran, begins_ran, begin_by, replied_as}
+use Rattle.nio_sole.proofs.Asking.{makes_ran, begins_ran, begin_by, replied_as}
 use Rattle.nio_sole.proofs.Desks.{places_same, still_made, progress_selection, places_selection, left_as, some_is}
 use Rattle.nio_sole.proofs.Fits.{looked_fits}
-use Rattle.nio_sole.specs.Makes.{begin_refused}
+use Rattle.nio_sole.proofs.Wants.{lacks_ran}
+use Rattle.nio_sole.specs.Makes.{BeginLacks}
 use Rattle.nio_sole.specs.Stands.{progress_of}
 use Rattle.nio_sole.specs.declared.desk.Begun.{Begun}
 use Rattle.nio_sole.proofs.selections.begin_in.Goals as goal
@@ -90,17 +93,13 @@ pub returns : goal.returns
 returns c =
     let w = c.args.w.now in
     let s = c.args.sel in
-    let call = subst
+    let refuses = subst
     (λ (e : BeginError). CallClause c.args.me (Begins s c.args.mode None) (view w c.args.d.now.pass)
     (view w c.try_begin.new.p) (Err e)) c.in-Err-Memory.field-0-is c.in-Err-Memory.ensures.call in
     record {
-      want = begin_refused s c.args.waiting c.args.mode;
-      is = refl;
-      r = _;
-      makes = record {
-        call = asks_ran begin_reply (progress_of c.args.d.now) (begins_ran s c.args.mode call) refl;
-        ready = c.in-Err-Memory.ensures.ready;
-        places = places_same c.try_begin.new.p call c.requires.may.places;
-      };
+      call = lacks_ran (call.Begin s c.args.waiting) refuses
+          (λ acts run. subst (λ (how : Option Mode). BeginLacks s how acts) (sym c.requires.mode) (inr run));
+      ready = c.in-Err-Memory.ensures.ready;
+      places = places_same c.try_begin.new.p refuses c.requires.may.places;
       same = refl;
     }

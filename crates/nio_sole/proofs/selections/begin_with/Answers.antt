@@ -1,21 +1,17 @@
-use Rattle.std.proofs.Common.{refl}
-use Rattle.nio_language.specs.declared.reply.Reply.TheVariants as reply
-use Rattle.nio_sole.proofs.Asking.{refused_at}
-use Rattle.nio_sole.specs.Makes.{begin_unmade}
-use Rattle.nio_sole.specs.Stands.{progress_of}
+use Rattle.std.proofs.Common.{Option, [], inl, refl, sym, subst}
+use Rattle.nio_history.specs.declared.found.Mode.{Mode}
+use Rattle.nio_language.specs.declared.call.Call.TheVariants as call
+use Rattle.nio_sole.proofs.Wants.{lacks_at}
+use Rattle.nio_sole.specs.Makes.{BeginLacks}
 use Rattle.nio_sole.proofs.selections.begin_with.Goals as goal
 use Rattle.nio_words.specs.Views.{view}
 
 pub returns-in-Err : goal.returns-in-Err
 returns-in-Err c = record {
-  want = begin_unmade c.args.sel c.args.waiting;
-  is = refl;
-  r = _;
-  makes = record {
-    call = refused_at (progress_of c.args.d.now) reply.Busy
-        (view c.args.w.now c.args.d.now.pass) c.requires.may.ask.ready.pass.legal;
-    ready = c.requires.may.ask.ready;
-    places = c.requires.may.places;
-  };
+  call = lacks_at (call.Begin c.args.sel c.args.waiting) (view c.args.w.now c.args.d.now.pass)
+      c.requires.may.ask.ready.pass.legal
+      (subst (λ (how : Option Mode). BeginLacks c.args.sel how []) (sym c.requires.mode) (inl refl));
+  ready = c.requires.may.ask.ready;
+  places = c.requires.may.places;
   same = refl;
 }

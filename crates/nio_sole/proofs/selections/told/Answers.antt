@@ -1,4 +1,5 @@
 use Rattle.std.proofs.Common.{◌≡◌, None, Some, refl, sym, ap, ◌∙◌}
+use Rattle.nio_language.specs.declared.call.Call.TheVariants as call
 use Rattle.nio_language.specs.declared.reply.Reply.TheVariants as reply
 use Rattle.nio_select.specs.InHand.{selection_of}
 use Rattle.nio_serial.specs.Lines.{call_plan, by_index, after_told}
@@ -8,7 +9,7 @@ use Rattle.nio_sole.proofs.Desks.{left_as, with_selections, progress_selection, 
 use Rattle.nio_sole.proofs.Desks.{places_selection_taken, nothing_there, progress_selection_back, places_selection_back}
 use Rattle.nio_sole.proofs.Desks.{own_selection_of, still_made}
 use Rattle.nio_sole.proofs.Owning.{its_selects, looked_rise}
-use Rattle.nio_sole.specs.Makes.{told_unmade}
+use Rattle.nio_sole.proofs.Wants.{lacks_at}
 use Rattle.nio_sole.specs.Stands.{slot, progress_of, selections_of}
 use Rattle.nio_sole.specs.Told.{told_pairs}
 use Rattle.nio_sole.proofs.selections.told.Goals as goal
@@ -46,19 +47,14 @@ returns-in-Err c =
     c.put_selection.new.selections _ c.requires.places c.requires.ask.named.inside c.in-Some.ensures.taken.taken
     c.in-Some.ensures.len c.put_selection.ensures.items c.in-Some.ensures.taken.was in
     record {
-      want = told_unmade s c.args.elapsed c.args.pairs.now;
-      is = refl;
-      r = _;
-      makes = record {
-        call = left_as (refused_at (progress_of d) reply.Busy (view w d.pass) c.requires.ask.ready.pass.legal)
-            (sym back);
-        ready = c.requires.ask.ready;
-        places = places_selection_back w d d.pass s c.take_selection.new.selections c.put_selection.new.selections _
-            c.requires.places c.requires.ask.named.inside c.in-Some.ensures.taken.taken c.in-Some.ensures.len
-            c.put_selection.ensures.items c.put_selection.ensures.len
-            (c.requires.places.selects s.0 _ c.in-Some.ensures.taken.was)
-            c.requires.places.pipes;
-      };
+      call = lacks_at (call.Told s c.args.elapsed c.args.pairs.now) (view w d.pass) c.requires.ask.ready.pass.legal
+          refl;
+      ready = c.requires.ask.ready;
+      places = places_selection_back w d d.pass s c.take_selection.new.selections c.put_selection.new.selections _
+          c.requires.places c.requires.ask.named.inside c.in-Some.ensures.taken.taken c.in-Some.ensures.len
+          c.put_selection.ensures.items c.put_selection.ensures.len
+          (c.requires.places.selects s.0 _ c.in-Some.ensures.taken.was)
+          c.requires.places.pipes;
       same = back;
     }
 
