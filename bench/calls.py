@@ -25,13 +25,13 @@ FACADE = "nio"
 # The path of a module, or of a crate, stands for its functions.
 SECTIONS = {
     "Tables and callers": [
-        "nio::Words", "nio::Caller@callers.rt", "nio::Pass", "nio::Limits",
+        "nio::Words", "nio::Caller@callers.rt", "nio::Table", "nio::Pass", "nio::Limits",
     ],
     "`Selector`": [
         "nio::Caller@selectors.rt", "nio::Caller@selections.rt", "nio::select", "nio::select::Selector",
         "nio::select::Selecting", "nio::select::Closing", "nio::select::KeyList", "nio::select::Asked",
         "nio::select::Poller", "nio::select::Bell", "nio::select::Scripted", "nio::select::Sleeper",
-        "nio::select::Mode", "nio_history::Milliseconds", "nio_select", "nio_select::Renumber", "nio_poller::ToldPoll",
+        "nio::select::Mode", "nio::select::Milliseconds", "nio_select", "nio_select::Renumber", "nio_poller::ToldPoll",
     ],
     "`SelectionKey`": [
         "nio::Caller@keys.rt", "nio::keys", "nio::Ops",

@@ -1,7 +1,8 @@
 //! Selectors, selections, pollers and bells.
+pub use nio_history::{Milliseconds, Why};
 pub use nio_poller::{
     Bell, NoBell, PollError, Poller, Scripted, SelectError, Sleeper, SleeperBell, close, interrupt,
-    interrupted, select, select_for, select_now, wakeup,
+    interrupted, select, select_for, select_now, select_told, select_told_for, tells_some, wakeup,
 };
 pub use nio_select::{
     After, Asked, BeginError, Closing, Finish, KeyList, ListError, LookedKey, Mode, Selected,

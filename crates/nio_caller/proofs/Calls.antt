@@ -17,15 +17,15 @@ use Rattle.nio_select.proofs.ListedSteps.{lists_are_kept}
 use Rattle.nio_select.specs.InHand.{HeldList, HeldSelector}
 use Rattle.nio_select.specs.InProgress.{HasList, MaySelect}
 use Rattle.nio_steps.proofs.PinBack.{no_pin_after}
-use Rattle.nio_steps.proofs.PinLaws.{pins_are_given_back}
 use Rattle.nio_steps.specs.Calls.{CallClause}
 use Rattle.nio_steps.specs.PinLaws.{GivesPinsBack}
-use Rattle.nio_steps.specs.SelectCalls.{ListsKeys, ListsSelected}
-use Rattle.nio_words.specs.Passes.{IsReady, numbers_of}
+use Rattle.nio_words.specs.Passes.{IsReady, limits_of, numbers_of}
 use Rattle.nio_words.specs.Views.{view}
 use Rattle.nio_words.specs.declared.words.Pass.{Pass}
 use Rattle.nio_words.specs.declared.words.Words.{Words}
-use Rattle.nio_caller.specs.Callers.{HasNoPins, IsActing, KeepsLists, MayCall, StillHas, held_in}
+use Rattle.nio_caller.specs.Callers.{HasNoPins, IsActing, KeepsLists, MayCall, Progress, StillHas, held_in}
+use Rattle.nio_caller.proofs.GoingOn.{GoesOn, SparesAll}
+use Rattle.nio_caller.proofs.KeptProgress.{keeps_progress}
 
 abbrev numbered : ℕ → CallerNo
 numbered k = record { 0 = k }
@@ -110,14 +110,6 @@ pub same_has : {v : PassView} → StillHas v v
 same_has =
     record { selectors = λ s has. has; channels = λ c has. has; keys = λ k has. has; selects = λ n s may. may }
 
--- ---- calls whose plan depends on their answer
-
-pub keys_give : (s : SelNo) → GivesPinsBack (ListsKeys s)
-keys_give s = λ acts answer shape. pins_are_given_back.keys s _ acts answer shape
-
-pub selected_keys_give : (s : SelNo) → GivesPinsBack (ListsSelected s)
-selected_keys_give s = λ acts answer shape. pins_are_given_back.selected_keys s _ acts answer shape
-
 -- ---- a caller that has lists goes on
 
 pub still_had : {A : Type 0} {P Q : A → Type 0} (o : Option A) → ((x : A) → P x → Q x) → IfSome o P → IfSome o Q
@@ -131,23 +123,60 @@ keeps_lists clause me selectors keeps = record {
   had = λ s. still_had (held_in selectors s).list (lists_stay clause me) (keeps.had s);
 }
 
-module _ {w : Words} {p q : Pass} {me : CallerNo} {selectors : List (Option HeldSelector)} where
-  -- after a call that leaves the caller no pin
-  pub acting_unpinned : {acts : List Act} → ActsClause me acts (view w p) (view w q) → HasNoPin (view w q) me
-      → IsReady w q me → IsActing w p me selectors → IsActing w q me selectors
-  acting_unpinned clause none ready acting = record {
-    may = may_call_unpinned clause none ready acting.may;
-    lists = keeps_lists clause me selectors acting.lists;
-  }
+-- A caller knows its table `v` by an equation, as that of a call on the table `w`: what such a call says holds of the
+-- caller's table.
+module _ {w v : Words} (at : w ≡ v) where
+  pub ready_at : {p : Pass} {me : CallerNo} {selectors : List (Option HeldSelector)} {progress : Progress}
+      → IsActing v p me selectors progress → IsReady w p me
+  ready_at {p = p} {me = me} acting = subst (λ (x : Words). IsReady x p me) (sym at) acting.may.ready
 
-  -- after a call that gives its pins back
-  pub acting_after : {R : Type 0} {Shape : List Act → R → Type 0} {answer : R} → GivesPinsBack Shape
-      → CallClause me Shape (view w p) (view w q) answer → IsReady w q me → IsActing w p me selectors
-      → IsActing w q me selectors
-  acting_after gives call ready acting = record {
-    may = may_call_after gives call ready acting.may;
-    lists = keeps_lists call.acts me selectors acting.lists;
-  }
+  pub unpinned_at : {p : Pass} {me : CallerNo} {selectors : List (Option HeldSelector)} {progress : Progress}
+      → IsActing v p me selectors progress → HasNoPin (view w p) me
+  unpinned_at {p = p} {me = me} acting =
+      subst (λ (x : Words). HasNoPin (view x p) me) (sym at)
+      (acting.may.unpinned me (eq-eqb (bit_at (numbers_of p) me.0) 1 acting.may.ready.number))
+
+  pub ready_of : {p : Pass} {me : CallerNo} → IsReady w p me → IsReady v p me
+  ready_of {p = p} {me = me} ready = subst (λ (x : Words). IsReady x p me) at ready
+
+  module _ (p q : Pass) {me : CallerNo} where
+    pub acts_at : {acts : List Act} → ActsClause me acts (view w p) (view w q) → ActsClause me acts (view v p) (view v q)
+    acts_at {acts = acts} clause = subst (λ (x : Words). ActsClause me acts (view x p) (view x q)) at clause
+
+    pub call_at : {R : Type 0} {Shape : List Act → R → Type 0} {answer : R}
+        → CallClause me Shape (view w p) (view w q) answer → CallClause me Shape (view v p) (view v q) answer
+    call_at {Shape = Shape} {answer = answer} call =
+        subst (λ (x : Words). CallClause me Shape (view x p) (view x q) answer) at call
+
+    -- the same of a shape that the limits are part of
+    pub call_on : {R : Type 0} {answer : R} (Shape : Limits → List Act → R → Type 0)
+        → CallClause me (Shape (limits_of w)) (view w p) (view w q) answer
+        → CallClause me (Shape (limits_of v)) (view v p) (view v q) answer
+    call_on {answer = answer} Shape call =
+        subst (λ (x : Words). CallClause me (Shape (limits_of x)) (view x p) (view x q) answer) at call
+
+  module _ {p q : Pass} {me : CallerNo} {R : Type 0} {Shape : List Act → R → Type 0} {answer : R}
+      {selectors : List (Option HeldSelector)} {progress : Progress} where
+    -- after a call that leaves the caller no pin
+    pub acting_unpinned : SparesAll Shape → CallClause me Shape (view w p) (view w q) answer → HasNoPin (view w q) me
+        → IsReady w q me → IsActing v p me selectors progress → IsActing v q me selectors progress
+    acting_unpinned spares call none ready acting =
+        let clause = acts_at p q call.acts in
+        record {
+          may = may_call_unpinned clause (subst (λ (x : Words). HasNoPin (view x q) me) at none) (ready_of ready)
+              acting.may;
+          lists = keeps_lists clause me selectors acting.lists;
+          goes_on = keeps_progress clause progress (λ t. spares t _ answer call.shape) acting.goes_on;
+        }
+
+    -- after a call that gives its pins back
+    pub acting_after : GoesOn Shape → CallClause me Shape (view w p) (view w q) answer → IsReady w q me
+        → IsActing v p me selectors progress → IsActing v q me selectors progress
+    acting_after goes call ready acting = record {
+      may = may_call_after goes.pins (call_at p q call) (ready_of ready) acting.may;
+      lists = keeps_lists (acts_at p q call.acts) me selectors acting.lists;
+      goes_on = keeps_progress (acts_at p q call.acts) progress (λ t. goes.spares t _ answer call.shape) acting.goes_on;
+    }
 
 -- a caller that has no list keeps none
 pub keeps_none : (pass : PassView) (me : CallerNo) (selectors : List (Option HeldSelector))

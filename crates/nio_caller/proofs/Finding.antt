@@ -1,4 +1,5 @@
 -- A look that finds a name finds the one that was looked for.
+use Rattle.std.specs.Bool.{then_some}
 use Rattle.std.specs.Prelude.{IfSome}
 use Rattle.std.proofs.Common.{◌≡◌, not, nat_lt, Bool, true, false, if◌then◌else◌, Option, Some, None, IsTrue, is_some}
 use Rattle.std.proofs.Common.{List, [], ◌∷◌, subst}
@@ -13,7 +14,7 @@ use Rattle.nio_steps.specs.Plan.{reply, ask}
 use Rattle.nio_steps.specs.Runs.{Completes}
 use Rattle.nio_words.specs.Passes.{limits_of}
 use Rattle.nio_caller.specs.Callers.{Acting}
-use Rattle.nio_caller.specs.NamedCalls.{Calls, FindsChannel, FindsKey, FindsSelector, IfFound, if_found}
+use Rattle.nio_caller.specs.NamedCalls.{Calls, FindsChannel, FindsKey, FindsSelector, IfFound}
 
 found_here : {A : Type 0} (test : Bool) (y x : A) → reply (if test then Some y else None) ≡ reply (Some x)
     → x ≡ y
@@ -48,12 +49,17 @@ key_there l k x None acts run = absurd (cc run.1)
 key_is : (l : Limits) (k x : KeyNo) (acts : List Act) → FindsKey l k acts (Some x) → x ≡ k
 key_is l k x acts run = key_there l k x run.middle run.second run.runs_second
 
+-- what holds of a name holds of it where it is answered
+pub taken_has : {A : Type 0} (Has : A → Type 0) (taken : Bool) (name : A) → Has name → IfSome (then_some taken name) Has
+taken_has Has true name has = has
+taken_has Has false name has = tt
+
 -- ---- in calls
 
 module _ {A : Type 0} (Finds : Limits → A → List Act → Option A → Type 0)
     (is : (l : Limits) (name x : A) (acts : List Act) → Finds l name acts (Some x) → x ≡ name) {c0 c1 : Acting}
     (name : A) where
-  looked : (r : Option A) → Calls (λ l. Finds l name) c0 c1 r → Calls (λ l. Finds l name) c0 c1 (if_found (is_some r) name)
+  looked : (r : Option A) → Calls (λ l. Finds l name) c0 c1 r → Calls (λ l. Finds l name) c0 c1 (then_some (is_some r) name)
   looked None call = call
   looked (Some x) call =
       subst (λ (y : A). Calls (λ l. Finds l name) c0 c1 (Some y)) (is (limits_of c0.table) name x _ call.call.shape) call
@@ -64,7 +70,7 @@ module _ {A : Type 0} (Finds : Limits → A → List Act → Option A → Type 0
   there Has (Some x) call has some = subst Has (is (limits_of c0.table) name x _ call.call.shape) has
 
 pub looked_selector : {c0 c1 : Acting} (s : SelNo) (r : Option SelNo) → Calls (λ l. FindsSelector l s) c0 c1 r
-    → Calls (λ l. FindsSelector l s) c0 c1 (if_found (is_some r) s)
+    → Calls (λ l. FindsSelector l s) c0 c1 (then_some (is_some r) s)
 looked_selector s r call = looked FindsSelector selector_is s r call
 
 pub selector_there : {c0 c1 : Acting} (Has : SelNo → Type 0) (s : SelNo) (r : Option SelNo)
@@ -72,7 +78,7 @@ pub selector_there : {c0 c1 : Acting} (Has : SelNo → Type 0) (s : SelNo) (r : 
 selector_there Has s r call = there FindsSelector selector_is s Has r call
 
 pub looked_channel : {c0 c1 : Acting} (c : ChanId) (r : Option ChanId) → Calls (λ l. FindsChannel l c) c0 c1 r
-    → Calls (λ l. FindsChannel l c) c0 c1 (if_found (is_some r) c)
+    → Calls (λ l. FindsChannel l c) c0 c1 (then_some (is_some r) c)
 looked_channel c r call = looked FindsChannel channel_is c r call
 
 pub channel_there : {c0 c1 : Acting} (Has : ChanId → Type 0) (c : ChanId) (r : Option ChanId)
@@ -80,7 +86,7 @@ pub channel_there : {c0 c1 : Acting} (Has : ChanId → Type 0) (c : ChanId) (r :
 channel_there Has c r call = there FindsChannel channel_is c Has r call
 
 pub looked_key : {c0 c1 : Acting} (k : KeyNo) (r : Option KeyNo) → Calls (λ l. FindsKey l k) c0 c1 r
-    → Calls (λ l. FindsKey l k) c0 c1 (if_found (is_some r) k)
+    → Calls (λ l. FindsKey l k) c0 c1 (then_some (is_some r) k)
 looked_key k r call = looked FindsKey key_is k r call
 
 pub key_there_is : {c0 c1 : Acting} (Has : KeyNo → Type 0) (k : KeyNo) (r : Option KeyNo)

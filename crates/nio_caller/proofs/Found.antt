@@ -38,21 +38,21 @@ module _ (me : CallerNo) (old new : PassView) (before : List Act) (act : Act) (m
       sym (done_in me old new later clause.history.goes_on.1)
       ∙ done-is me (before ++ act ∷ more) old new clause
 
-  at : Cut me later before act more
+  pub at : Cut me later before act more
   at = cut_at me later before act more own
 
   -- the history up to the act
-  abbrev past : List Event
+  abbrev pub past : List Event
   past = old.seen ++ at.past
 
-  legal : IsLegal old.limits (past ++ event_of me act ∷ at.later)
+  pub legal : IsLegal old.limits (past ++ event_of me act ∷ at.later)
   legal =
       subst (IsLegal old.limits)
       (sym clause.history.goes_on.1
       ∙ (ap (λ events. old.seen ++ events) at.parts ∙ sym (append_assoc old.seen at.past (event_of me act ∷ at.later))))
       clause.history.legal
 
-  answered : (question : Question) → question_of act ≡ question
+  pub answered : (question : Question) → question_of act ≡ question
       → answer_of act ≡ answer_from (state_after past) me question
   answered question asks =
       (legal_next old.limits past (event_of me act) at.later legal).answers ∙ ap (answer_from (state_after past) me) asks
@@ -86,26 +86,26 @@ is_allowed n most below = ap not (lt-ltb n most below)
 
 pub channels_are_found : ChannelsAreFound
 unfolding find_channel_plan
-channels_are_found me old new c look more found has clause run =
+channels_are_found me old new c before look more found has clause run =
     found_by (not (nat_lt c.number.0 old.limits.channels)) _ (λ answer. was_opened (channel_in answer) c.serial) c look
     found (is_allowed c.number.0 old.limits.channels has.inside) run
     (λ act is asks.
-    let its : ActsClause me ([] ++ act ∷ more) old new
-    = subst (λ (acts : List Act). ActsClause me (acts ++ more) old new) is clause in
-    ap (λ answer. was_opened (channel_in answer) c.serial) (answered me old new [] act more its _ asks)
-    ∙ stood me old new [] act more its (channel_opened c.number.0 c.serial) has.opened)
+    let its : ActsClause me (before ++ act ∷ more) old new
+    = subst (λ (acts : List Act). ActsClause me (before ++ (acts ++ more)) old new) is clause in
+    ap (λ answer. was_opened (channel_in answer) c.serial) (answered me old new before act more its _ asks)
+    ∙ stood me old new before act more its (channel_opened c.number.0 c.serial) has.opened)
 
 pub selectors_are_found : SelectorsAreFound
 unfolding find_selector_plan
-selectors_are_found me old new s look more found fit has clause run =
+selectors_are_found me old new s before look more found fit has clause run =
     found_by (not (nat_lt s.0 old.limits.selectors)) _ (λ answer. has_bit (word_in answer) s.0) s look found
     (is_allowed s.0 old.limits.selectors has.inside) run
     (λ act is asks.
-    let its : ActsClause me ([] ++ act ∷ more) old new
-    = subst (λ (acts : List Act). ActsClause me (acts ++ more) old new) is clause in
-    ap (λ answer. has_bit (word_in answer) s.0) (answered me old new [] act more its _ asks)
-    ∙ has_made (state_after (past me old new [] act more its))
-    (stood me old new [] act more its (selector_made s.0) has.made))
+    let its : ActsClause me (before ++ act ∷ more) old new
+    = subst (λ (acts : List Act). ActsClause me (before ++ (acts ++ more)) old new) is clause in
+    ap (λ answer. has_bit (word_in answer) s.0) (answered me old new before act more its _ asks)
+    ∙ has_made (state_after (past me old new before act more its))
+    (stood me old new before act more its (selector_made s.0) has.made))
   where
     has_made : (st : State) → st.selector s.0 ≡ true → has_bit (word_in (answer_from st me Question.look_selectors)) s.0 ≡ true
     has_made st made =
@@ -116,15 +116,21 @@ selectors_are_found me old new s look more found fit has clause run =
 
 pub keys_are_found : KeysAreFound
 unfolding find_plan
-keys_are_found me old new k look more found fit has_selector has clause run =
+keys_are_found me old new k before look more found fit has_selector has clause run =
     by_selector run.middle
-    (selectors_are_found me old new k.sel run.first (run.second ++ more) run.middle fit has_selector both run.runs_first)
+    (selectors_are_found me old new k.sel before run.first (run.second ++ more) run.middle fit has_selector both
+    run.runs_first)
     run.runs_second
   where
-    both : ActsClause me (run.first ++ (run.second ++ more)) old new
+    both : ActsClause me (before ++ (run.first ++ (run.second ++ more))) old new
     both =
-        subst (λ (acts : List Act). ActsClause me acts old new) (append_assoc run.first run.second more)
-        (subst (λ (acts : List Act). ActsClause me (acts ++ more) old new) run.parts clause)
+        subst (λ (acts : List Act). ActsClause me (before ++ acts) old new) (append_assoc run.first run.second more)
+        (subst (λ (acts : List Act). ActsClause me (before ++ (acts ++ more)) old new) run.parts clause)
+
+    after_first : ActsClause me ((before ++ run.first) ++ (run.second ++ more)) old new
+    after_first =
+        subst (λ (acts : List Act). ActsClause me acts old new)
+        (sym (append_assoc before run.first (run.second ++ more))) both
 
     by_selector : (middle : Option SelNo) → middle ≡ Some k.sel
         → IfFound None (Completes (find_plan old.limits k.sel k.index k.serial)) middle run.second found → found ≡ Some k
@@ -133,7 +139,8 @@ keys_are_found me old new k look more found fit has_selector has clause run =
         found_by (not (nat_lt k.index old.limits.keys)) _ (λ answer. was_published (stage_in answer) k.serial) k run.second
         found (is_allowed k.index old.limits.keys has.inside.1) second
         (λ act only asks.
-        let its : ActsClause me (run.first ++ act ∷ more) old new
-        = subst (λ (acts : List Act). ActsClause me (run.first ++ (acts ++ more)) old new) only both in
-        ap (λ answer. was_published (stage_in answer) k.serial) (answered me old new run.first act more its _ asks)
-        ∙ stood me old new run.first act more its (key_published k.sel.0 k.index k.serial) has.published)
+        let its : ActsClause me ((before ++ run.first) ++ act ∷ more) old new
+        = subst (λ (acts : List Act). ActsClause me ((before ++ run.first) ++ (acts ++ more)) old new) only after_first in
+        ap (λ answer. was_published (stage_in answer) k.serial)
+        (answered me old new (before ++ run.first) act more its _ asks)
+        ∙ stood me old new (before ++ run.first) act more its (key_published k.sel.0 k.index k.serial) has.published)

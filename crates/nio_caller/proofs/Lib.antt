@@ -2,8 +2,12 @@ pub mod Calls
 pub mod Drawing
 pub mod Finding
 pub mod Found
+pub mod GoingOn
+pub mod KeptProgress
 pub mod NamedCalls
+pub mod Ongoing
 pub mod Parting
 pub mod Selections
 pub mod Several
+pub mod Sparing
 pub mod Took

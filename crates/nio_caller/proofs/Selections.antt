@@ -10,12 +10,11 @@ use Rattle.nio_history.specs.PassViews.{PassView, HasSelector}
 use Rattle.nio_history.specs.declared.found.Mode.{Mode}
 use Rattle.nio_history.specs.declared.timeout.NegativeTimeout.{NegativeTimeout}
 use Rattle.nio_poller.specs.Polled.{Polled}
-use Rattle.nio_poller.specs.Selecting.{TimedBy, told_from}
+use Rattle.nio_poller.specs.Selecting.{TimedUntil}
 use Rattle.nio_poller.specs.declared.selecting.SelectError.{SelectError}
 use Rattle.nio_select.specs.InHand.{HeldList, HeldSelector, InHand, TakesOnList, known_by, list_of}
 use Rattle.nio_select.specs.declared.stamp.Stamp.{Stamp}
 use Rattle.nio_select.specs.InProgress.{HasList, MaySelect}
-use Rattle.nio_steps.proofs.PinLaws.{pins_are_given_back}
 use Rattle.nio_steps.specs.Calls.{CallClause}
 use Rattle.nio_steps.specs.SelectCalls.{Begins, Selection}
 use Rattle.nio_steps.specs.declared.refusal.BeginError.{BeginError}
@@ -24,12 +23,15 @@ use Rattle.nio_words.specs.Passes.{IsReady}
 use Rattle.nio_words.specs.Views.{view}
 use Rattle.nio_words.specs.declared.words.Pass.{Pass}
 use Rattle.nio_words.specs.declared.words.Words.{Words}
-use Rattle.nio_caller.specs.Callers.{Acting, HasNoPins, IsActing, KeepsLists, MayCall, held, held_in, sees}
+use Rattle.nio_caller.specs.Callers.{Acting, HasNoPins, IsActing, KeepsLists, KeepsProgress, MayCall, Progress, closing_in}
+use Rattle.nio_caller.specs.Callers.{held, held_in, sees, selection_in}
 use Rattle.nio_caller.specs.NamedCalls.{Calls, FindsSelector, IsCalled, as_called}
 use Rattle.nio_caller.specs.Selections.{HasBack, SelectsOn}
 use Rattle.nio_caller.specs.declared.refusal.CallError.TheVariants.{NoSuchSelector}
 use Rattle.nio_caller.proofs.Calls.{keeps_lists, may_call_after}
-use Rattle.nio_caller.proofs.NamedCalls.{acting}
+use Rattle.nio_caller.proofs.GoingOn.{selects_by}
+use Rattle.nio_caller.proofs.NamedCalls.{acting, has_same}
+use Rattle.nio_caller.proofs.KeptProgress.{keeps_progress}
 
 -- ---- the caller's lists
 
@@ -152,8 +154,9 @@ lent_so old new (Ok begun) now before s lent is same number = (
 lent_so old new (Err error) now before s lent is same number = tt
 
 -- what the caller had of the selector before it looked
-pub had_before : {w : Words} {p : Pass} {me : CallerNo} {before : List (Option HeldSelector)} {c0 c1 : Acting} (s : SelNo)
-    → Calls (λ l. FindsSelector l s) c0 c1 (Some s) → acting w p me before ≡ c1
+pub had_before : {w : Words} {p : Pass} {me : CallerNo} {before : List (Option HeldSelector)} {progress : Progress}
+    {c0 c1 : Acting} (s : SelNo)
+    → Calls (λ l. FindsSelector l s) c0 c1 (Some s) → acting w p me before progress ≡ c1
     → held_in before s ≡ held c0 s
 had_before {w = w} {p = p} {me = me} {before = before} s look is =
     ap (λ (x : Acting). held x s) is ∙ ap (λ (xs : List (Option HeldSelector)). held_in xs s) look.lists
@@ -168,18 +171,30 @@ begins_so {me = me} {v0 = v0} {v1 = v1} mode answer selector before s same numbe
 
 -- ---- whole selections
 
-module _ (w : Words) (p q : Pass) (me : CallerNo) (s s' : HeldSelector) (p0 p1 : Option (List Polled))
+-- a selection on the table `w`, which is the caller's `v`
+pub timed_at : {w v : Words} → w ≡ v → (p q : Pass) (ends : _) (r : Result Mode NegativeTimeout) (me : CallerNo)
+    (s s' : HeldSelector) (p0 p1 : Option (List Polled)) (are_ready : ChanNo → ℕ) (result : Result Selected SelectError)
+    → TimedUntil ends r me s s' (view w p) (view w q) p0 p1 are_ready result
+    → TimedUntil ends r me s s' (view v p) (view v q) p0 p1 are_ready result
+timed_at at p q ends r me s s' p0 p1 are_ready result clause =
+    subst (λ (x : Words). TimedUntil ends r me s s' (view x p) (view x q) p0 p1 are_ready result) at clause
+
+pub may_at : {w v : Words} {me : CallerNo} {s : HeldSelector} → w ≡ v → (p : Pass) → MaySelect (view w p) me s
+    → MaySelect (view v p) me s
+may_at {me = me} {s = s} at p may = subst (λ (x : Words). MaySelect (view x p) me s) at may
+
+module _ (w : Words) (p q : Pass) (ends : _) (me : CallerNo) (s s' : HeldSelector) (p0 p1 : Option (List Polled))
     (are_ready : ChanNo → ℕ) (result : Result Selected SelectError) where
   pub may_call_timed : (r : Result Mode NegativeTimeout)
-      → TimedBy r me s s' (view w p) (view w q) p0 p1 are_ready result → IsReady w q me → MayCall w p me → MayCall w q me
+      → TimedUntil ends r me s s' (view w p) (view w q) p0 p1 are_ready result → IsReady w q me → MayCall w p me → MayCall w q me
   may_call_timed (Ok mode) clause ready may =
-      may_call_after (pins_are_given_back.select s.number mode (known_by s) (told_from clause.polls)) clause.call ready may
+      may_call_after (selects_by ends s.number mode (known_by s) clause.polls).pins clause.call ready may
   may_call_timed (Err too_low) clause ready may =
       record { ready = ready; unpinned = subst HasNoPins (sym clause.same) may.unpinned }
 
   -- it selects on the same selector
   pub same_number : (r : Result Mode NegativeTimeout)
-      → TimedBy r me s s' (view w p) (view w q) p0 p1 are_ready result → s'.number ≡ s.number
+      → TimedUntil ends r me s s' (view w p) (view w q) p0 p1 are_ready result → s'.number ≡ s.number
   same_number (Ok mode) clause = ap (λ (x : HeldSelector). x.number) clause.list
   same_number (Err too_low) clause = ap (λ (x : HeldSelector). x.number) clause.same_list
 
@@ -188,54 +203,70 @@ called_so P (Ok value) holds = holds
 called_so P (Err error) holds = holds
 
 -- the caller that selected goes on, once what it had of the selector is put back
-module _ (w : Words) (p q : Pass) (me : CallerNo) (before taken after : List (Option HeldSelector))
-    (r : Result Mode NegativeTimeout) (s : SelNo) (selector selector' : HeldSelector) (p0 p1 : Option (List Polled))
+module _ (w : Words) (p q : Pass) (me : CallerNo) (before taken after : List (Option HeldSelector)) (progress : Progress)
+    (ends : _) (r : Result Mode NegativeTimeout) (s : SelNo) (selector selector' : HeldSelector) (p0 p1 : Option (List Polled))
     (are_ready : ChanNo → ℕ) (answer : Result Selected SelectError)
-    (clause : TimedBy r me selector selector' (view w p) (view w q) p0 p1 are_ready answer)
+    (clause : TimedUntil ends r me selector selector' (view w p) (view w q) p0 p1 are_ready answer)
     (is_taken : selector ≡ held_in before s)
     (takes : (t : SelNo) → t ≢ s → held_in taken t ≡ held_in before t)
     (put : held_in after selector'.number ≡ selector')
     (puts : (t : SelNo) → t ≢ selector'.number → held_in after t ≡ held_in taken t) where
   its_number : (keeps : KeepsLists (view w p) me before) → selector'.number ≡ s
   its_number keeps =
-      same_number w p q me selector selector' p0 p1 are_ready answer r clause
+      same_number w p q ends me selector selector' p0 p1 are_ready answer r clause
       ∙ (ap (λ (x : HeldSelector). x.number) is_taken ∙ keeps.numbers s)
 
   kept_before : (x : Result Mode NegativeTimeout)
-      → TimedBy x me selector selector' (view w p) (view w q) p0 p1 are_ready answer
+      → TimedUntil ends x me selector selector' (view w p) (view w q) p0 p1 are_ready answer
       → KeepsLists (view w p) me before → KeepsLists (view w q) me before
   kept_before (Ok mode) selects keeps = keeps_lists selects.call.acts me before keeps
   kept_before (Err too_low) refused keeps = subst (λ (v : PassView). KeepsLists v me before) (sym refused.same) keeps
 
-  pub acting_selected : IsReady w q me → MaySelect (view w q) me selector' → IsActing w p me before
-      → IsActing w q me after
+  goes_on_selected : (x : Result Mode NegativeTimeout)
+      → TimedUntil ends x me selector selector' (view w p) (view w q) p0 p1 are_ready answer
+      → KeepsProgress (view w p) me progress → KeepsProgress (view w q) me progress
+  goes_on_selected (Ok mode) selects keeps =
+      keeps_progress selects.call.acts progress
+      (λ t. (selects_by ends selector.number mode (known_by selector) selects.polls).spares t _ selects.reply
+      selects.call.shape) keeps
+  goes_on_selected (Err too_low) refused keeps =
+      subst (λ (v : PassView). KeepsProgress v me progress) (sym refused.same) keeps
+
+  pub acting_selected : IsReady w q me → MaySelect (view w q) me selector' → IsActing w p me before progress
+      → IsActing w q me after progress
   acting_selected ready may acting = record {
-    may = may_call_timed w p q me selector selector' p0 p1 are_ready answer r clause ready acting.may;
+    goes_on = goes_on_selected r clause acting.goes_on;
+    may = may_call_timed w p q ends me selector selector' p0 p1 are_ready answer r clause ready acting.may;
     lists = put_back before taken after s selector' (its_number acting.lists) takes put puts (view w q) me
         (kept_before r clause acting.lists) may;
   }
 
-  pub selects_on : {c0 c1 : Acting} → Calls (λ l. FindsSelector l s) c0 c1 (Some s) → acting w p me before ≡ c1
+  pub selects_on : {c0 c1 : Acting} → Calls (λ l. FindsSelector l s) c0 c1 (Some s) → acting w p me before progress ≡ c1
       → KeepsLists (view w p) me before
-      → SelectsOn s (λ old new seen. TimedBy r c0.number old new seen (view w q) p0 p1 are_ready) c0
-      (acting w q me after) (as_called answer)
+      → SelectsOn s (λ old new seen. TimedUntil ends r c0.number old new seen (view w q) p0 p1 are_ready) c0
+      (acting w q me after progress) (as_called answer)
   selects_on {c0 = c0} look is keeps = by_look (subst (λ (x : Acting). Calls (λ l. FindsSelector l s) c0 x (Some s)) (sym is) look)
     where
       Its : CallerNo → HeldSelector → HeldSelector → Type 0
-      Its n old new = TimedBy r n old new (view w p) (view w q) p0 p1 are_ready answer
+      Its n old new = TimedUntil ends r n old new (view w p) (view w q) p0 p1 are_ready answer
 
-      by_look : Calls (λ l. FindsSelector l s) c0 (acting w p me before) (Some s)
-          → SelectsOn s (λ old new seen. TimedBy r c0.number old new seen (view w q) p0 p1 are_ready) c0
-          (acting w q me after) (as_called answer)
+      by_look : Calls (λ l. FindsSelector l s) c0 (acting w p me before progress) (Some s)
+          → SelectsOn s (λ old new seen. TimedUntil ends r c0.number old new seen (view w q) p0 p1 are_ready) c0
+          (acting w q me after progress) (as_called answer)
       by_look looked = record {
         same = record { table = looked.same.table; number = looked.same.number };
-        others = λ t other. elsewhere before taken after s selector' (its_number keeps) takes put puts t other
-            ∙ ap (λ (xs : List (Option HeldSelector)). held_in xs t) looked.lists;
+        others = record {
+          lists = λ t other. elsewhere before taken after s selector' (its_number keeps) takes put puts t other
+              ∙ ap (λ (xs : List (Option HeldSelector)). held_in xs t) looked.lists;
+          selections = λ t other. ap (λ (x : Progress). selection_in x t) looked.progress;
+          closings = λ t other. ap (λ (x : Progress). closing_in x t) looked.progress;
+        };
+        progress = looked.progress;
         found = Some s;
         seen = view w p;
         looks = looked.call;
         selects = called_so
-            (λ x. TimedBy r c0.number (held_in c0.selectors s) (held_in after s) (view w p) (view w q) p0 p1 are_ready x)
+            (λ x. TimedUntil ends r c0.number (held_in c0.selectors s) (held_in after s) (view w p) (view w q) p0 p1 are_ready x)
             answer
             (subst (λ (n : CallerNo). Its n (held_in c0.selectors s) (held_in after s)) looked.same.number
             (subst (λ (x : HeldSelector). Its me x (held_in after s))
@@ -251,7 +282,8 @@ selects_nowhere {c1 = c1} s Selects look =
     let same_lists = ap (λ (xs : List (Option HeldSelector)). held_in xs s) look.lists in
     record {
       same = look.same;
-      others = λ t other. ap (λ (xs : List (Option HeldSelector)). held_in xs t) look.lists;
+      others = has_same s look.lists look.progress;
+      progress = look.progress;
       found = None;
       seen = sees c1;
       looks = look.call;

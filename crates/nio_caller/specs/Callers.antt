@@ -9,8 +9,8 @@ use Rattle.nio_history.specs.Histories.{event_of, mine}
 use Rattle.nio_history.specs.PassViews.{PassView, Holds, HasNoPin, HasSelector, HasChannel, HasKey}
 use Rattle.nio_history.specs.declared.act.Act.TheVariants.{DrawBit}
 use Rattle.nio_history.specs.declared.event.Event.{Event}
-use Rattle.nio_select.specs.InHand.{HeldSelector}
-use Rattle.nio_select.specs.InProgress.{HasList, MaySelect}
+use Rattle.nio_select.specs.InHand.{HeldSelector, InHand, selection_of}
+use Rattle.nio_select.specs.InProgress.{HasList, HasShut, MaySelect, Selects}
 use Rattle.nio_words.specs.Passes.{IsOnly, IsPassOf, IsReady, Holds as HoldsNumber, seen}
 use Rattle.nio_words.specs.Rule.{longer}
 use Rattle.nio_words.specs.Views.{view}
@@ -21,6 +21,18 @@ use Rattle.nio_words.specs.declared.words.Words.{Words}
 abbrev pub held_in : List (Option HeldSelector) → SelNo → HeldSelector
 held_in selectors s = unwrap_or (get_or selectors s.0 None) (record { number = s; list = None })
 
+-- what a caller has in progress: selections, and closings of selectors, each at the place of its selector's number
+pub record Progress : Type 0 where
+  pub selections : List (Option InHand)
+  pub closings : List (Option SelNo)
+
+-- the selection in progress on the selector, and the closing
+abbrev pub selection_in : Progress → SelNo → Option InHand
+selection_in progress s = get_or progress.selections s.0 None
+
+abbrev pub closing_in : Progress → SelNo → Option SelNo
+closing_in progress s = get_or progress.closings s.0 None
+
 pub record Acting : Type 0 where
   -- the table at which it makes its calls
   pub table : Words
@@ -30,6 +42,7 @@ pub record Acting : Type 0 where
   pub number : CallerNo
   -- the selectors whose lists it took, each at the place of its number
   pub selectors : List (Option HeldSelector)
+  pub progress : Progress
 
 -- what it has seen of the table's history, and the numbers that it holds: its own, and those that it can give away
 abbrev pub sees : Acting → PassView
@@ -39,9 +52,22 @@ sees caller = view caller.table caller.pass
 abbrev pub held : Acting → SelNo → HeldSelector
 held caller s = held_in caller.selectors s
 
--- it has the list of no selector
-abbrev pub HasNoList : Acting → Type 0
-HasNoList caller = (s : SelNo) → held caller s ≡ record { number = s; list = None }
+-- the caller's selection in progress on a selector, and its closing
+abbrev pub selection : Acting → SelNo → Option InHand
+selection caller s = selection_in caller.progress s
+
+abbrev pub closing : Acting → SelNo → Option SelNo
+closing caller s = closing_in caller.progress s
+
+-- there is nothing in progress
+pub record IsIdle (progress : Progress) : Type 0 where
+  pub selections : (s : SelNo) → selection_in progress s ≡ None
+  pub closings : (s : SelNo) → closing_in progress s ≡ None
+
+-- it has the list of no selector, and nothing in progress
+pub record HasNothing (caller : Acting) : Type 0 where
+  pub lists : (s : SelNo) → held caller s ≡ record { number = s; list = None }
+  pub idle : IsIdle caller.progress
 
 -- none of the numbers that the pass holds has a pin
 abbrev pub HasNoPins : PassView → Type 0
@@ -58,10 +84,18 @@ pub record KeepsLists (pass : PassView) (me : CallerNo) (selectors : List (Optio
   pub numbers : (s : SelNo) → (held_in selectors s).number ≡ s
   pub had : (s : SelNo) → IfSome (held_in selectors s).list (HasList pass me)
 
--- A caller may make calls, and has its lists.
-pub record IsActing (w : Words) (p : Pass) (me : CallerNo) (selectors : List (Option HeldSelector)) : Type 0 where
+-- the caller began these selections, and may tell them; it shut these selectors, and may finish closing them
+pub record KeepsProgress (pass : PassView) (me : CallerNo) (progress : Progress) : Type 0 where
+  pub selects : (s : SelNo)
+      → IfSome (selection_in progress s) (λ x. (x.selector ≡ s) × Selects pass me (selection_of x))
+  pub closes : (s : SelNo) → IfSome (closing_in progress s) (λ t. (t ≡ s) × HasShut pass me t)
+
+-- A caller may make calls, has its lists, and may go on with what it has in progress.
+pub record IsActing (w : Words) (p : Pass) (me : CallerNo) (selectors : List (Option HeldSelector)) (progress : Progress)
+    : Type 0 where
   pub may : MayCall w p me
   pub lists : KeepsLists (view w p) me selectors
+  pub goes_on : KeepsProgress (view w p) me progress
 
 -- it makes its calls at the same table, with the same number
 pub record IsSameCaller (old new : Acting) : Type 0 where

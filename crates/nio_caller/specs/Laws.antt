@@ -10,24 +10,25 @@ use Rattle.nio_history.specs.declared.act.Act.{Act}
 use Rattle.nio_caller.specs.Callers.{StillHas}
 use Rattle.nio_caller.specs.NamedCalls.{FindsChannel, FindsKey, FindsSelector}
 
--- The caller looked for a selector that it had seen made, and then did more: the look found it.
+-- The caller looked for a selector that it had seen made before, among other acts: the look found it.
 abbrev pub SelectorsAreFound : Type 0
 SelectorsAreFound =
-    (me : CallerNo) (old new : PassView) (s : SelNo) (look more : List Act) (found : Option SelNo)
-    → IsFit old.limits → HasSelector old s → ActsClause me (look ++ more) old new → FindsSelector old.limits s look found
-    → found ≡ Some s
+    (me : CallerNo) (old new : PassView) (s : SelNo) (before look more : List Act) (found : Option SelNo)
+    → IsFit old.limits → HasSelector old s → ActsClause me (before ++ (look ++ more)) old new
+    → FindsSelector old.limits s look found → found ≡ Some s
 
 -- the same of a channel
 abbrev pub ChannelsAreFound : Type 0
 ChannelsAreFound =
-    (me : CallerNo) (old new : PassView) (c : ChanId) (look more : List Act) (found : Option ChanId)
-    → HasChannel old c → ActsClause me (look ++ more) old new → FindsChannel old.limits c look found → found ≡ Some c
+    (me : CallerNo) (old new : PassView) (c : ChanId) (before look more : List Act) (found : Option ChanId)
+    → HasChannel old c → ActsClause me (before ++ (look ++ more)) old new → FindsChannel old.limits c look found
+    → found ≡ Some c
 
 -- the same of a key, in a selector that it had seen made
 abbrev pub KeysAreFound : Type 0
 KeysAreFound =
-    (me : CallerNo) (old new : PassView) (k : KeyNo) (look more : List Act) (found : Option KeyNo)
-    → IsFit old.limits → HasSelector old k.sel → HasKey old k → ActsClause me (look ++ more) old new
+    (me : CallerNo) (old new : PassView) (k : KeyNo) (before look more : List Act) (found : Option KeyNo)
+    → IsFit old.limits → HasSelector old k.sel → HasKey old k → ActsClause me (before ++ (look ++ more)) old new
     → FindsKey old.limits k look found → found ≡ Some k
 
 -- What may be passed to a call may be passed to a later one, whatever the caller does.

@@ -1,6 +1,6 @@
 -- Calls of a caller. A call on a selector, a channel or a key looks it up first, as a line of a script does, and answers
 -- a refusal of its own where it was never made.
-use Rattle.std.specs.Prelude.{◌≡◌, ⊤, Bool, true, false, nat_lt, if◌then◌else◌, Option, Some, None, Result, Ok, Err, List, []}
+use Rattle.std.specs.Prelude.{◌≡◌, ⊤, Bool, true, nat_lt, if◌then◌else◌, Option, Some, None, Result, Ok, Err, List, []}
 use Rattle.nio_base.specs.declared.limits.Limits.{Limits}
 use Rattle.nio_base.specs.declared.numbers.CallerNo.{CallerNo}
 use Rattle.nio_base.specs.declared.numbers.ChanId.{ChanId}
@@ -16,20 +16,22 @@ use Rattle.nio_caller.specs.Callers.{Acting, IsSameCaller, sees}
 use Rattle.nio_caller.specs.declared.refusal.CallError.{CallError}
 use Rattle.nio_caller.specs.declared.refusal.CallError.TheVariants.{NoSuchSelector, NoSuchChannel, NoSuchKey, Refused}
 
--- The caller made a call of this shape, which answered this. It is the same caller, and has the lists that it had.
+-- The caller made a call of this shape, which answered this. It is the same caller, and has the lists that it had, and
+-- in progress what it had.
 pub record Calls {R : Type 0} (Shape : Limits → List Act → R → Type 0) (old new : Acting) (answer : R) : Type 0 where
   pub same : IsSameCaller old new
   pub lists : new.selectors ≡ old.selectors
+  pub progress : new.progress ≡ old.progress
   pub call : CallClause old.number (Shape (limits_of old.table)) (sees old) (sees new) answer
 
 -- nothing more is done, and this is the answer
-abbrev pub Answers : {R : Type 0} → R → List Act → R → Type 0
-Answers given acts answer = (acts ≡ []) × (answer ≡ given)
+abbrev pub OnlyAnswers : {R : Type 0} → R → List Act → R → Type 0
+OnlyAnswers given acts answer = (acts ≡ []) × (answer ≡ given)
 
 -- where the name was found this is done, else the refusal is the answer
 abbrev pub IfFound : {A R : Type 0} → R → (List Act → R → Type 0) → Option A → List Act → R → Type 0
 IfFound refusal Shape (Some name) = Shape
-IfFound refusal Shape None = Answers refusal
+IfFound refusal Shape None = OnlyAnswers refusal
 
 -- ---- looking a name up: it is the answer where it was made
 
@@ -46,11 +48,6 @@ FindsKey l k = Then (FindsSelector l k.sel) (IfFound None (Completes (find_plan 
 -- a caller's number needs no step: it is there where it is below the limit
 abbrev pub caller_in : Limits → CallerNo → Option CallerNo
 caller_in l n = if nat_lt n.0 l.callers then Some n else None
-
--- what a look answers that found the name, or didn't
-abbrev pub if_found : {A : Type 0} → Bool → A → Option A
-if_found true name = Some name
-if_found false name = None
 
 -- ---- calls on a name: a look, and where it finds the name this call, else the refusal
 
@@ -93,8 +90,8 @@ IfUncalled (Err NoSuchKey) P = P
 IfUncalled (Err (Refused error)) P = ⊤
 
 -- the call that may refuse: its refusal is passed on
-abbrev pub Refuses : {T E : Type 0} → (List Act → Result T E → Type 0) → List Act → Result T (CallError E) → Type 0
-Refuses Shape acts answer = IsCalled answer (Shape acts)
+abbrev pub MayRefuse : {T E : Type 0} → (List Act → Result T E → Type 0) → List Act → Result T (CallError E) → Type 0
+MayRefuse Shape acts answer = IsCalled answer (Shape acts)
 
 -- the answer of a call that was made
 abbrev pub as_called : {T E : Type 0} → Result T E → Result T (CallError E)

@@ -1,8 +1,10 @@
 -- What a read gave and a write took.
-use Rattle.std.specs.Prelude.{◌≡◌, ◌+◌, ◌<◌, ◌≤◌, ◌||◌, ℕ, true, min, length, List, [], Result, Ok, Err, IfOk, OnOk}
+use Rattle.std.specs.Prelude.{◌≡◌, ◌+◌, ◌<◌, ◌≤◌, ◌==◌, ◌||◌, ◌&&◌, ℕ, Bool, true, false, min, length, List, [], Result, Ok, Err, IfOk, OnOk}
 use Rattle.nio_base.specs.declared.limits.Limits.{Limits}
 use Rattle.nio_base.specs.declared.numbers.ChanId.{ChanId}
+use Rattle.nio_history.specs.Sets.{was_opened}
 use Rattle.nio_history.specs.declared.act.Act.{Act}
+use Rattle.nio_history.specs.declared.act.Act.TheVariants.{LookChannel}
 use Rattle.nio_pipe.specs.Answers.{bytes_read, bytes_written, leaves_seal, read_answer, write_answer}
 use Rattle.nio_pipe.specs.Ends.{GivesBytes, IsAtEnd, IsSameSink, IsSameSource, KnowsNothing, TakesBytes, free}
 use Rattle.nio_pipe.specs.Ends.{is_sealed, known, knows_end}
@@ -13,7 +15,7 @@ use Rattle.nio_pipe.specs.declared.answers.PipeWrite.TheVariants as write
 use Rattle.nio_pipe.specs.declared.sink.PipeSink.{PipeSink}
 use Rattle.nio_pipe.specs.declared.source.PipeSource.{PipeSource}
 use Rattle.nio_steps.specs.declared.refusal.PipeError.{PipeError}
-use Rattle.nio_caller.specs.NamedCalls.{OnChannel, Refuses}
+use Rattle.nio_caller.specs.NamedCalls.{OnChannel, MayRefuse}
 use Rattle.nio_caller.specs.declared.refusal.CallError.{CallError}
 use Rattle.nio_caller.specs.declared.refusal.CallError.TheVariants.{NoSuchChannel}
 
@@ -41,4 +43,9 @@ pub record HasWritten (sink sink' : PipeSink) (from : List ℕ) (answer : Result
 -- a call on a sink: the channels of both ends are looked up, the source's first
 abbrev pub OnEnds : {T : Type 0} → Limits → ChanId → ChanId → (List Act → Result T PipeError → Type 0) → List Act
     → Result T (CallError PipeError) → Type 0
-OnEnds l source sink Shape = OnChannel l source (Err NoSuchChannel) (OnChannel l sink (Err NoSuchChannel) (Refuses Shape))
+OnEnds l source sink Shape = OnChannel l source (Err NoSuchChannel) (OnChannel l sink (Err NoSuchChannel) (MayRefuse Shape))
+
+-- it looked at the channel, and found that this was opened
+abbrev pub finds_opened : ChanId → Act → Bool
+finds_opened c (LookChannel n found) = (n.0 == c.number.0) && was_opened found c.serial
+finds_opened c _ = false

@@ -32,3 +32,24 @@ pub(crate) fn called<T, E>(answer: Result<T, E>) -> Result<T, CallError<E>>
         Err(error) => Err(CallError::Refused(error)),
     }
 }
+
+/// Why a caller gave no number away.
+#[derive(Clone, Copy, Debug, PartialEq, Eq, Error)]
+pub enum SplitError {
+    /// It doesn't hold the number, or it is its own.
+    #[error("the caller has no such number to give away")]
+    NotHeld,
+    /// There can be no further handle of the table.
+    #[error("the table has as many handles as it may")]
+    NoHandle,
+}
+
+/// The caller has no selection in progress on the selector: nothing was done.
+#[derive(Clone, Copy, Debug, PartialEq, Eq, Error)]
+#[error("the caller has no selection in progress on the selector")]
+pub struct NotSelecting;
+
+/// The caller has no closing of the selector in progress: nothing was done.
+#[derive(Clone, Copy, Debug, PartialEq, Eq, Error)]
+#[error("the caller has no closing of the selector in progress")]
+pub struct NotClosing;

@@ -5,3 +5,5 @@ pub mod Quiet
 mod Scripts
 mod Telling
 mod Whole
+mod LookedFor
+mod WentOn

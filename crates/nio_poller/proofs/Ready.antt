@@ -16,8 +16,10 @@ use Rattle.nio_words.specs.Views.{view}
 use Rattle.nio_words.specs.declared.words.Pass.{Pass}
 use Rattle.nio_words.specs.declared.words.Words.{Words}
 use Rattle.nio_poller.specs.Polled.{Polled}
-use Rattle.nio_poller.specs.Selecting.{TimedBy, TimedClause}
+use Rattle.nio_poller.specs.Selecting.{TimedClause, TimedToldClause, TimedUntil}
 use Rattle.nio_poller.specs.declared.selecting.SelectError.{SelectError}
+use Rattle.nio_poller.specs.declared.until.Until.{Until}
+use Rattle.nio_poller.specs.declared.until.Until.TheVariants as until
 
 -- a pass that has seen the same has the same selectors
 pub selector_same : (w : Words) (p q : Pass) (s : SelNo) → seen q ≡ seen p → HasSelector (view w p) s
@@ -27,15 +29,19 @@ selector_same w p q s same has =
 
 module _ (me : CallerNo) (s0 s1 : HeldSelector) (old new : PassView) (p0 p1 : Option (List Polled)) (ready : ChanNo → ℕ)
     (result : Result Selected SelectError) (sel : SelNo) where
-  timed_by : (r : Result Mode NegativeTimeout) → TimedBy r me s0 s1 old new p0 p1 ready result → HasSelector old sel
-      → HasSelector new sel
-  timed_by (Ok mode) clause has = selector_after clause.call.acts has
-  timed_by (Err too_low) clause has = subst (λ (v : PassView). HasSelector v sel) (sym clause.same) has
+  timed_by : (ends : Until) (r : Result Mode NegativeTimeout) → TimedUntil ends r me s0 s1 old new p0 p1 ready result
+      → HasSelector old sel → HasSelector new sel
+  timed_by ends (Ok mode) clause has = selector_after clause.call.acts has
+  timed_by ends (Err too_low) clause has = subst (λ (v : PassView). HasSelector v sel) (sym clause.same) has
 
   -- the selectors stay made in a selection for a time
   pub selector_timed : (ms : ℤ) → TimedClause me ms s0 s1 old new p0 p1 ready result → HasSelector old sel
       → HasSelector new sel
-  selector_timed ms clause has = timed_by (mode_for ms) clause has
+  selector_timed ms clause has = timed_by until.Updated (mode_for ms) clause has
+
+  pub selector_told_timed : (ms : ℤ) → TimedToldClause me ms s0 s1 old new p0 p1 ready result → HasSelector old sel
+      → HasSelector new sel
+  selector_told_timed ms clause has = timed_by until.Told (mode_for ms) clause has
 
 -- what was taken from a selector and given back is what the beginning made of it
 pub given_back : (selector lent : HeldSelector) (s : InHand) (list : Option HeldList)

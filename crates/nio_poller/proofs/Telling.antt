@@ -34,12 +34,16 @@ use Rattle.nio_steps.specs.declared.selected.Selected.{Selected}
 use Rattle.nio_poller.specs.Polled.{Polled}
 use Rattle.nio_poller.specs.Polls.{AddsPoll, told_of_channel}
 use Rattle.nio_poller.proofs.Marks.{Unmarked, unmarked_none, unmarked_append, unmarked_on, again-unmarked, marks_ready}
-use Rattle.nio_poller.specs.Selecting.{AddsPolls, MarksReady, MarksAllReady, polls_of, told_from}
-use Rattle.nio_poller.specs.Telling.{TellsOne, LeavesIt, PollsClause, failed_with, poll_mode, told_poll}
+use Rattle.nio_poller.specs.Selecting.{AddsPolls, MarksReady, MarksAllReady, polls_of, told_from, told_until}
+use Rattle.nio_poller.specs.Telling.{TellsOne, LeavesIt, PollsClause, failed_with}
+use Rattle.nio_poller.specs.Until.{one_poll, told_enough, told_one}
 use Rattle.nio_poller.specs.declared.poller.PollError.{PollError}
 use Rattle.nio_poller.specs.declared.poller.PollError.TheVariants as poll_error
 use Rattle.nio_poller.specs.declared.selecting.SelectError.{SelectError}
 use Rattle.nio_poller.specs.declared.selecting.SelectError.TheVariants.{PollFault, Memory}
+use Rattle.nio_poller.specs.declared.until.Until.{Until}
+use Rattle.nio_poller.specs.declared.until.Until.TheVariants as until
+use Rattle.nio_poller.specs.declared.until.Waiting.{Waiting}
 
 -- ---- the polls that a poller tells
 
@@ -74,10 +78,12 @@ pub first_once : (polls : List Poll) (poll : Poll) → false ≡ is_first_after 
 first_once [] poll = refl
 first_once (x ∷ later) poll = refl
 
+-- the poll after these
+abbrev next_poll : List LookedKey → Mode → List Poll → Poll → Polled
+next_poll asked mode polls poll = one_poll asked mode (is_first_after polls) poll
+
 polls_of-more : (asked : List LookedKey) (mode : Mode) (polls : List Poll) (poll : Poll)
-    → polls_of asked mode polls ++ record { asked = asked; mode = poll_mode (is_first_after polls) mode; answer = poll }
-    ∷ []
-    ≡ polls_of asked mode (polls ++ poll ∷ [])
+    → polls_of asked mode polls ++ next_poll asked mode polls poll ∷ [] ≡ polls_of asked mode (polls ++ poll ∷ [])
 polls_of-more asked mode [] poll = refl
 polls_of-more asked mode (first ∷ later) poll =
     ap (λ xs. record { asked = asked; mode = WithoutWaiting; answer = first } ∷ xs)
@@ -86,17 +92,31 @@ polls_of-more asked mode (first ∷ later) poll =
 -- the next poll is added to those so far
 adds_next : (p0 p1 p2 : Option (List Polled)) (asked : List LookedKey) (mode : Mode) (polls : List Poll) (poll : Poll)
     → AddsPolls p0 p1 (polls_of asked mode polls)
-    → AddsPolls p1 p2
-    (record { asked = asked; mode = poll_mode (is_first_after polls) mode; answer = poll } ∷ [])
+    → AddsPolls p1 p2 (next_poll asked mode polls poll ∷ [])
     → AddsPolls p0 p2 (polls_of asked mode (polls ++ poll ∷ []))
 adds_next p0 p1 p2 asked mode polls poll before added =
     subst (AddsPolls p0 p2) (polls_of-more asked mode polls poll)
     (adds_more p0 p1 p2 (polls_of asked mode polls) _ before added)
 
-told_from-more : (polls : List Poll) (poll : Poll)
-    → told_from polls ++ told_poll (is_first_after polls) poll ∷ [] ≡ told_from (polls ++ poll ∷ [])
-told_from-more [] poll = refl
-told_from-more (first ∷ later) poll = refl
+-- ---- what the selection is told of them
+
+told_from-more : (asked : List LookedKey) (mode : Mode) (polls : List Poll) (poll : Poll)
+    → told_from polls ++ told_one until.Updated (is_first_after polls) (next_poll asked mode polls poll) ∷ []
+    ≡ told_from (polls ++ poll ∷ [])
+told_from-more asked mode [] poll = refl
+told_from-more asked mode (first ∷ later) poll = refl
+
+pub told_until-none : (ends : Until) (asked : List LookedKey) (mode : Mode) → [] ≡ told_until ends asked mode []
+told_until-none until.Updated asked mode = refl
+told_until-none until.Told asked mode = refl
+
+told_until-more : (ends : Until) (asked : List LookedKey) (mode : Mode) (polls : List Poll) (poll : Poll)
+    → told_until ends asked mode polls ++ told_one ends (is_first_after polls) (next_poll asked mode polls poll) ∷ []
+    ≡ told_until ends asked mode (polls ++ poll ∷ [])
+told_until-more until.Updated asked mode polls poll = told_from-more asked mode polls poll
+told_until-more until.Told asked mode polls poll =
+    sym (map-append told_enough (polls_of asked mode polls) (next_poll asked mode polls poll ∷ []))
+    ∙ ap (map told_enough) (polls_of-more asked mode polls poll)
 
 -- ---- the runs so far
 
@@ -153,63 +173,82 @@ leave-unmarked selection acts run s i told from there =
 
 -- ---- the call so far
 
-pub record SoFar (me : CallerNo) (selection : Selection) (is_first : Bool) (v0 v1 : PassView)
+-- what the selection is told of these answers
+abbrev told_of : Selection → Waiting → List Poll → List Poll
+told_of selection waiting polls = told_until waiting.until selection.looked waiting.mode polls
+
+-- and of the one after them
+abbrev told_next : Selection → Waiting → List Poll → Poll → Poll
+told_next selection waiting polls poll =
+    told_one waiting.until (is_first_after polls) (next_poll selection.looked waiting.mode polls poll)
+
+told_of-more : (selection : Selection) (waiting : Waiting) (polls : List Poll) (poll : Poll)
+    → told_of selection waiting polls ++ told_next selection waiting polls poll ∷ []
+    ≡ told_of selection waiting (polls ++ poll ∷ [])
+told_of-more selection waiting polls poll = told_until-more waiting.until selection.looked waiting.mode polls poll
+
+pub record SoFar (me : CallerNo) (selection : Selection) (waiting : Waiting) (is_first : Bool) (v0 v1 : PassView)
     (p0 p1 : Option (List Polled)) : Type 0 where
   pub polls : List Poll
   pub first_is : is_first ≡ is_first_after polls
-  pub call : CallClause me (λ acts (_ : Unit {0}). TellsSoFar selection (told_from polls) acts) v0 v1 tt
-  pub adds : AddsPolls p0 p1 (polls_of selection.looked selection.mode polls)
+  pub call : CallClause me
+      (λ acts (_ : Unit {0}). TellsSoFar selection (told_of selection waiting polls) acts) v0 v1 tt
+  pub adds : AddsPolls p0 p1 (polls_of selection.looked waiting.mode polls)
 
-pub so_far_none : (me : CallerNo) (selection : Selection) (v : PassView) (p : Option (List Polled))
-    → IsLegal v.limits v.seen → SoFar me selection true v v p p
-so_far_none me selection v p legal = record {
+pub so_far_none : (me : CallerNo) (selection : Selection) (waiting : Waiting) (v : PassView) (p : Option (List Polled))
+    → IsLegal v.limits v.seen → SoFar me selection waiting true v v p p
+so_far_none me selection waiting v p legal = record {
   polls = [];
   first_is = refl;
-  call = call_of_acts (λ acts (_ : Unit {0}). TellsSoFar selection [] acts) [] tt (acts_nothing me v legal)
-      (tells_none selection);
+  call = call_of_acts
+      (λ acts (_ : Unit {0}). TellsSoFar selection (told_of selection waiting []) acts) [] tt (acts_nothing me v legal)
+      (subst (λ (polls : List Poll). TellsSoFar selection polls [])
+      (told_until-none waiting.until selection.looked waiting.mode) (tells_none selection));
   adds = adds_none p;
 }
 
-module _ {me : CallerNo} {selection : Selection} {is_first : Bool} {v0 v1 v2 : PassView}
+module _ {me : CallerNo} {selection : Selection} {waiting : Waiting} {is_first : Bool} {v0 v1 v2 : PassView}
     {p0 p1 p2 : Option (List Polled)} {ready : ChanNo → ℕ}
-    (so_far : SoFar me selection is_first v0 v1 p0 p1) where
+    (so_far : SoFar me selection waiting is_first v0 v1 p0 p1) where
   -- the poll is the next after those
-  next_one : (a : After) → TellsOne me selection is_first v1 v2 p1 p2 ready a
-      → TellsOne me selection (is_first_after so_far.polls) v1 v2 p1 p2 ready a
-  next_one a one = subst (λ (first : Bool). TellsOne me selection first v1 v2 p1 p2 ready a) so_far.first_is one
+  next_one : (a : After) → TellsOne me selection waiting is_first v1 v2 p1 p2 ready a
+      → TellsOne me selection waiting (is_first_after so_far.polls) v1 v2 p1 p2 ready a
+  next_one a one = subst (λ (first : Bool). TellsOne me selection waiting first v1 v2 p1 p2 ready a) so_far.first_is one
 
-  pub goes_on : (next : InHand) → TellsOne me selection is_first v1 v2 p1 p2 ready (after.Again next)
-      → SoFar me selection false v0 v2 p0 p2
+  pub goes_on : (next : InHand) → TellsOne me selection waiting is_first v1 v2 p1 p2 ready (after.Again next)
+      → SoFar me selection waiting false v0 v2 p0 p2
   goes_on next found =
       let one = next_one (after.Again next) found in
       record {
         polls = so_far.polls ++ one.poll ∷ [];
         first_is = first_once so_far.polls one.poll;
         call = calls_then
-            (λ acts (_ : Unit {0}). TellsSoFar selection (told_from (so_far.polls ++ one.poll ∷ [])) acts) tt
+            (λ acts (_ : Unit {0}). TellsSoFar selection (told_of selection waiting (so_far.polls ++ one.poll ∷ [])) acts)
+            tt
             (λ xs ys here run.
             subst (λ (polls : List Poll). TellsSoFar selection polls (xs ++ ys))
-            (told_from-more so_far.polls one.poll)
-            (tells_more selection (told_from so_far.polls) (told_poll (is_first_after so_far.polls) one.poll)
-            (selection_of next) xs ys here run))
+            (told_of-more selection waiting so_far.polls one.poll)
+            (tells_more selection (told_of selection waiting so_far.polls)
+            (told_next selection waiting so_far.polls one.poll) (selection_of next) xs ys here run))
             so_far.call one.call;
-        adds = adds_next p0 p1 p2 selection.looked selection.mode so_far.polls one.poll so_far.adds one.adds;
+        adds = adds_next p0 p1 p2 selection.looked waiting.mode so_far.polls one.poll so_far.adds one.adds;
       }
 
   pub is_over : (answer : Selected) (list : Option HeldList)
-      → TellsOne me selection is_first v1 v2 p1 p2 ready (after.Done answer list)
-      → PollsClause me selection v0 v2 p0 p2 ready (Ok answer)
+      → TellsOne me selection waiting is_first v1 v2 p1 p2 ready (after.Done answer list)
+      → PollsClause me selection waiting v0 v2 p0 p2 ready (Ok answer)
   is_over answer list found =
       let one = next_one (after.Done answer list) found in
-      let told = told_poll (is_first_after so_far.polls) one.poll in
       let polls = so_far.polls ++ one.poll ∷ [] in
+      let told = told_next selection waiting so_far.polls one.poll in
       let both : CallClause me (λ acts (r : SelectReply).
-      SelectsRest (told_from polls) (Ok selection) acts r × MarksAllReady ready selection.looked acts) v0 v2
+      SelectsRest (told_of selection waiting polls) (Ok selection) acts r × MarksAllReady ready selection.looked acts) v0 v2
       (selected answer) =
       calls_then _ (selected answer)
       (λ xs ys here run. (
-        subst (λ (ps : List Poll). TellsAll selection ps (xs ++ ys) answer) (told_from-more so_far.polls one.poll)
-            (tells_last selection (told_from so_far.polls) told answer xs ys here run),
+        subst (λ (ps : List Poll). TellsAll selection ps (xs ++ ys) answer)
+            (told_of-more selection waiting so_far.polls one.poll)
+            (tells_last selection (told_of selection waiting so_far.polls) told answer xs ys here run),
         λ s i bits from there.
             by_place told one.ready_is xs ys here run s i bits from
             (Contains-append_cases xs ys (Mark s i from bits (Ok tt)) there),
@@ -219,28 +258,28 @@ module _ {me : CallerNo} {selection : Selection} {is_first : Bool} {v0 v1 v2 : P
         reply = selected answer;
         call = record { acts = both.acts; shape = both.shape.0 };
         answers = refl;
-        adds = adds_next p0 p1 p2 selection.looked selection.mode so_far.polls one.poll so_far.adds one.adds;
+        adds = adds_next p0 p1 p2 selection.looked waiting.mode so_far.polls one.poll so_far.adds one.adds;
         marks = both.shape.1;
       }
     where
       by_place : (poll : Poll) → ((c : ChanNo) → ready c ≡ told_of_channel selection.looked poll.pairs c)
           → (xs ys : List Act)
-          → TellsSoFar selection (told_from so_far.polls) xs → Tells selection poll ys (done answer)
-          → (s : SelNo) (i told : ℕ) (from : KeyMark)
-          → Contains xs (Mark s i from told (Ok tt)) ⊎ Contains ys (Mark s i from told (Ok tt))
-          → MarksReady ready selection.looked i told
-      by_place poll is xs ys here run s i told from (inl before) = absurd (here.unmarked s i told from before)
-      by_place poll is xs ys here run s i told from (inr last) =
-          marks_ready ready selection poll ys (done answer) is run s i told from last
+          → TellsSoFar selection (told_of selection waiting so_far.polls) xs → Tells selection poll ys (done answer)
+          → (s : SelNo) (i bits : ℕ) (from : KeyMark)
+          → Contains xs (Mark s i from bits (Ok tt)) ⊎ Contains ys (Mark s i from bits (Ok tt))
+          → MarksReady ready selection.looked i bits
+      by_place poll is xs ys here run s i bits from (inl before) = absurd (here.unmarked s i bits from before)
+      by_place poll is xs ys here run s i bits from (inr last) =
+          marks_ready ready selection poll ys (done answer) is run s i bits from last
 
   pub is_left : (result : Result Selected SelectError) → (result ≡ Err PollFault) ⊎ (result ≡ Err Memory)
-      → LeavesIt me selection v1 v2 p1 p2 → PollsClause me selection v0 v2 p0 p2 ready result
+      → LeavesIt me selection v1 v2 p1 p2 → PollsClause me selection waiting v0 v2 p0 p2 ready result
   is_left result answers leaves =
       let both : CallClause me (λ acts (r : SelectReply).
-      SelectsRest (told_from so_far.polls) (Ok selection) acts r × Unmarked acts) v0 v2 left =
+      SelectsRest (told_of selection waiting so_far.polls) (Ok selection) acts r × Unmarked acts) v0 v2 left =
       calls_then _ left
       (λ xs ys here run. (
-        tells_and_leaves selection (told_from so_far.polls) xs ys here run,
+        tells_and_leaves selection (told_of selection waiting so_far.polls) xs ys here run,
         unmarked_append xs ys here.unmarked (leave-unmarked selection ys run),
       )) so_far.call leaves.call in
       record {
@@ -248,20 +287,20 @@ module _ {me : CallerNo} {selection : Selection} {is_first : Bool} {v0 v1 v2 : P
         reply = left;
         call = record { acts = both.acts; shape = both.shape.0 };
         answers = answers;
-        adds = subst (AddsPolls p0 p2) (append-nil (polls_of selection.looked selection.mode so_far.polls))
-            (adds_more p0 p1 p2 (polls_of selection.looked selection.mode so_far.polls) [] so_far.adds leaves.adds);
-        marks = λ s i told from there. absurd (both.shape.1 s i told from there);
+        adds = subst (AddsPolls p0 p2) (append-nil (polls_of selection.looked waiting.mode so_far.polls))
+            (adds_more p0 p1 p2 (polls_of selection.looked waiting.mode so_far.polls) [] so_far.adds leaves.adds);
+        marks = λ s i bits from there. absurd (both.shape.1 s i bits from there);
       }
 
 -- ---- in a loop's words
 
-pub one_as : {me : CallerNo} {is_first : Bool} {v1 v2 : PassView} {p1 p2 : Option (List Polled)} {ready : ChanNo → ℕ}
-    (selection now : Selection) (a b : After) → now ≡ selection → a ≡ b
-    → TellsOne me now is_first v1 v2 p1 p2 ready a → TellsOne me selection is_first v1 v2 p1 p2 ready b
-one_as {me = me} {is_first = is_first} {v1 = v1} {v2 = v2} {p1 = p1} {p2 = p2} {ready = ready} selection now a b same is
-    one =
-    subst (λ (x : Selection). TellsOne me x is_first v1 v2 p1 p2 ready b) same
-    (subst (λ (x : After). TellsOne me now is_first v1 v2 p1 p2 ready x) is one)
+pub one_as : {me : CallerNo} {waiting : Waiting} {is_first : Bool} {v1 v2 : PassView} {p1 p2 : Option (List Polled)}
+    {ready : ChanNo → ℕ} (selection now : Selection) (a b : After) → now ≡ selection → a ≡ b
+    → TellsOne me now waiting is_first v1 v2 p1 p2 ready a → TellsOne me selection waiting is_first v1 v2 p1 p2 ready b
+one_as {me = me} {waiting = waiting} {is_first = is_first} {v1 = v1} {v2 = v2} {p1 = p1} {p2 = p2} {ready = ready}
+    selection now a b same is one =
+    subst (λ (x : Selection). TellsOne me x waiting is_first v1 v2 p1 p2 ready b) same
+    (subst (λ (x : After). TellsOne me now waiting is_first v1 v2 p1 p2 ready x) is one)
 
 pub leaves_as : {me : CallerNo} {v1 v2 : PassView} {p1 p2 : Option (List Polled)} (selection now : Selection)
     → now ≡ selection

@@ -14,38 +14,45 @@ use Rattle.nio_history.specs.declared.act.Act.TheVariants.{Mark}
 use Rattle.nio_history.specs.declared.found.Mark.{Mark as KeyMark}
 use Rattle.nio_history.specs.declared.found.Mode.{Mode}
 use Rattle.nio_select.specs.InHand.{HeldList, HeldSelector, known_by, list_after}
-use Rattle.nio_steps.proofs.BeginLaws.{begin-parts}
-use Rattle.nio_steps.specs.declared.looked.LookedKey.{LookedKey}
 use Rattle.nio_steps.specs.Calls.{CallClause}
 use Rattle.nio_steps.specs.SelectCalls.{Selection, Begins, begin_finds_busy, not_begun}
 use Rattle.nio_steps.specs.Waiting.{Retries}
 use Rattle.nio_steps.specs.declared.refusal.BeginError.{BeginError}
 use Rattle.nio_steps.specs.declared.selected.Selected.{Selected}
 use Rattle.nio_poller.proofs.Marks.{begins-unmarked}
-use Rattle.nio_poller.proofs.Telling.{adds_none}
+use Rattle.nio_poller.proofs.Telling.{adds_none, told_until-none}
 use Rattle.nio_poller.specs.Polled.{Polled}
-use Rattle.nio_poller.specs.Selecting.{Answers, AddsPolls, MarksReady, SelectClause, polls_of}
+use Rattle.nio_poller.specs.Selecting.{Answers, MarksReady, SelectsUntil}
 use Rattle.nio_poller.specs.Telling.{PollsClause}
+use Rattle.nio_poller.specs.Until.{begun_with}
 use Rattle.nio_poller.specs.declared.selecting.SelectError.{SelectError}
-
--- the selection that was begun has this mode
-begun-mode : (s : SelNo) (mode : Mode) (known : Option (List LookedKey)) (acts : List Act) (selection : Selection)
-    → Retries (Begins s mode known) begin_finds_busy acts (Ok selection) → selection.mode ≡ mode
-begun-mode s mode known acts selection repeats =
-    (begin-parts s mode known repeats.last.acts selection
-    (subst (Begins s mode known repeats.last.acts) repeats.answers repeats.made)).mode_is
+use Rattle.nio_poller.specs.declared.until.Waiting.{Waiting}
 
 -- a selection that doesn't begin leaves the list
 list_kept : (list : Option HeldList) (refusal : BeginError) → list_after list (Err refusal) ≡ list
 list_kept None refusal = refl
 list_kept (Some list) refusal = refl
 
-module _ {me : CallerNo} {v0 v1 : PassView} (selector : HeldSelector) (mode : Mode) where
+-- a beginning with a mode that is this one
+pub begins_with : {me : CallerNo} {v0 v1 : PassView} (selector : HeldSelector) (found mode : Mode)
+    (answer : Result Selection BeginError) → found ≡ mode
+    → CallClause me (Retries (Begins selector.number found (known_by selector)) begin_finds_busy) v0 v1 answer
+    → CallClause me (Retries (Begins selector.number mode (known_by selector)) begin_finds_busy) v0 v1 answer
+begins_with {me = me} {v0 = v0} {v1 = v1} selector found mode answer is =
+    subst
+    (λ (m : Mode).
+    CallClause me (Retries (Begins selector.number m (known_by selector)) begin_finds_busy) v0 v1 answer) is
+
+abbrev mode_of : Waiting → Mode
+mode_of waiting = begun_with waiting.until waiting.mode
+
+module _ {me : CallerNo} {v0 v1 : PassView} (selector : HeldSelector) (waiting : Waiting) where
   -- a selection that doesn't begin
   pub select_refused : {now : HeldSelector} {p : Option (List Polled)} {ready : ChanNo → ℕ}
       {result : Result Selected SelectError} (refusal found : BeginError) → found ≡ refusal → now ≡ selector
-      → CallClause me (Retries (Begins selector.number mode (known_by selector)) begin_finds_busy) v0 v1 (Err found) → Answers (not_begun refusal) result
-      → SelectClause me mode selector now v0 v1 p p ready result
+      → CallClause me (Retries (Begins selector.number (mode_of waiting) (known_by selector)) begin_finds_busy) v0 v1 (Err found)
+      → Answers (not_begun refusal) result
+      → SelectsUntil waiting.until me waiting.mode selector now v0 v1 p p ready result
   select_refused {p = p} {result = result} refusal found is same begins answers =
       let acts = done_between me v0 v1 in
       record {
@@ -59,24 +66,24 @@ module _ {me : CallerNo} {v0 v1 : PassView} (selector : HeldSelector) (mode : Mo
             second = [];
             parts = sym (append-nil acts);
             runs_first = begins.shape;
-            runs_second = (refl, refl, refl);
+            runs_second = (refl, sym (told_until-none waiting.until [] waiting.mode), refl);
           };
         };
         answers = subst (λ (e : BeginError). Answers (not_begun e) result) (sym is) answers;
         adds = adds_none p;
         marks = λ on i told from there. absurd
-            (begins-unmarked selector.number mode (known_by selector) acts (Err found) begins.shape on i told from there);
+            (begins-unmarked selector.number (mode_of waiting) (known_by selector) acts (Err found) begins.shape on i told from there);
         list = same ∙ ap (λ list. record selector { list = list }) (sym (list_kept selector.list found));
       }
 
   -- a selection that begins, and then polls and is told
   pub select_begun : {now : HeldSelector} {v2 : PassView} {p0 p1 : Option (List Polled)} {ready : ChanNo → ℕ}
       {result : Result Selected SelectError} (selection : Selection)
-      → CallClause me (Retries (Begins selector.number mode (known_by selector)) begin_finds_busy) v0 v1 (Ok selection)
-      → PollsClause me selection v1 v2 p0 p1 ready result
+      → CallClause me (Retries (Begins selector.number (mode_of waiting) (known_by selector)) begin_finds_busy) v0 v1 (Ok selection)
+      → PollsClause me selection waiting v1 v2 p0 p1 ready result
       → now ≡ record selector { list = list_after selector.list (Ok selection) }
-      → SelectClause me mode selector now v0 v2 p0 p1 ready result
-  select_begun {v2 = v2} {p0 = p0} {p1 = p1} {ready = ready} selection begins rest same_list =
+      → SelectsUntil waiting.until me waiting.mode selector now v0 v2 p0 p1 ready result
+  select_begun {v2 = v2} {ready = ready} selection begins rest same_list =
       record {
         polls = rest.polls;
         reply = rest.reply;
@@ -92,8 +99,7 @@ module _ {me : CallerNo} {v0 v1 : PassView} (selector : HeldSelector) (mode : Mo
           };
         };
         answers = rest.answers;
-        adds = subst (λ (m : Mode). AddsPolls p0 p1 (polls_of selection.looked m rest.polls))
-            (begun-mode selector.number mode (known_by selector) xs selection begins.shape) rest.adds;
+        adds = rest.adds;
         marks = λ on i told from there. by_place on i told from
             (Contains-append_cases xs ys (Mark on i from told (Ok tt))
             (subst (λ acts. Contains acts (Mark on i from told (Ok tt))) same there));
@@ -115,5 +121,5 @@ module _ {me : CallerNo} {v0 v1 : PassView} (selector : HeldSelector) (mode : Mo
       by_place : (on : SelNo) (i told : ℕ) (from : KeyMark) → Contains xs (Mark on i from told (Ok tt))
           ⊎ Contains ys (Mark on i from told (Ok tt)) → MarksReady ready selection.looked i told
       by_place on i told from (inl before) =
-          absurd (begins-unmarked selector.number mode (known_by selector) xs (Ok selection) begins.shape on i told from before)
+          absurd (begins-unmarked selector.number (mode_of waiting) (known_by selector) xs (Ok selection) begins.shape on i told from before)
       by_place on i told from (inr later) = rest.marks on i told from later

@@ -16,15 +16,20 @@ use Rattle.nio_history.specs.declared.timeout.NegativeTimeout.{NegativeTimeout a
 use Rattle.nio_steps.specs.Calls.{CallClause}
 use Rattle.nio_select.specs.InHand.{HeldSelector, known_by, list_after}
 use Rattle.nio_base.specs.Ops.{is_within}
-use Rattle.nio_steps.specs.SelectCalls.{Selection, Poll, MakesSelection, SelectReply, selected, not_begun, left}
+use Rattle.nio_steps.specs.SelectCalls.{Selection, Poll, Begins, begin_finds_busy, SelectsRest, SelectReply, selected}
+use Rattle.nio_steps.specs.SelectCalls.{not_begun, left}
+use Rattle.nio_steps.specs.Waiting.{Retries, Then}
 use Rattle.nio_steps.specs.declared.looked.LookedKey.{LookedKey}
 use Rattle.nio_steps.specs.declared.refusal.BeginError.{BeginError}
 use Rattle.nio_steps.specs.declared.refusal.BeginError.TheVariants as begin_error
 use Rattle.nio_steps.specs.declared.selected.Selected.{Selected}
 use Rattle.nio_poller.specs.Polled.{Polled}
+use Rattle.nio_poller.specs.Until.{begun_with, told_enough}
 use Rattle.nio_poller.specs.declared.selecting.SelectError.{SelectError}
 use Rattle.nio_poller.specs.declared.selecting.SelectError.TheVariants.{NegativeTimeout, ClosedSelector, PollFault}
 use Rattle.nio_poller.specs.declared.selecting.SelectError.TheVariants.{Memory}
+use Rattle.nio_poller.specs.declared.until.Until.{Until}
+use Rattle.nio_poller.specs.declared.until.Until.TheVariants as until
 
 -- what the call answers where its steps reply this; a selection that begins again on Busy never ends with it
 abbrev pub Answers : SelectReply → Result Selected SelectError → Type 0
@@ -52,10 +57,22 @@ polls_of looked mode (first ∷ later) =
     record { asked = looked; mode = WithoutWaiting; answer = first }
     ∷ map (λ (answer : Poll). record { asked = looked; mode = mode; answer = answer }) later
 
--- What the selection is told of these answers. The first poll doesn't wait, so its `elapsed` isn't passed on.
+-- What a selection that ends once a key was updated is told of these answers. The first poll doesn't wait, so its
+-- `elapsed` isn't passed on.
 abbrev pub told_from : List Poll → List Poll
 told_from [] = []
 told_from (first ∷ later) = record first { elapsed = false } ∷ later
+
+-- what the selection is told of the answers of its polls
+abbrev pub told_until : Until → List LookedKey → Mode → List Poll → List Poll
+told_until until.Updated looked mode polls = told_from polls
+told_until until.Told looked mode polls = map told_enough (polls_of looked mode polls)
+
+-- the steps of a whole selection that ends so, with these answers of its polls
+abbrev pub SelectsBy : Until → SelNo → Mode → Option (List LookedKey) → List Poll → List Act → SelectReply → Type 0
+SelectsBy ends s mode known polls =
+    Then (Retries (Begins s (begun_with ends mode) known) begin_finds_busy)
+    (λ begun. SelectsRest (told_until ends (looked_by begun) mode polls) begun)
 
 -- a mark is of a looked key, with operations, at least one, that its channel is ready for
 pub record MarksReady (ready : ChanNo → ℕ) (looked : List LookedKey) (i told : ℕ) : Type 0 where
@@ -70,21 +87,31 @@ abbrev pub MarksAllReady : (ChanNo → ℕ) → List LookedKey → List Act → 
 MarksAllReady ready looked acts = (s : SelNo) (i told : ℕ) (from : KeyMark)
     → Contains acts (MarkKey s i from told (Ok tt)) → MarksReady ready looked i told
 
--- A whole selection of a caller on a pass, before and after, on this selector, with a poller that shows these polls before and after,
--- and after it that the channels are ready so.
-pub record SelectClause (me : CallerNo) (mode : Mode) (selector_old selector_new : HeldSelector) (old new : PassView)
-    (polls_old polls_new : Option (List Polled)) (ready : ChanNo → ℕ)
+-- A whole selection of a caller on a pass, before and after, which ends so and whose polls may wait so, on this selector,
+-- with a poller that shows these polls before and after, and after it that the channels are ready so.
+pub record SelectsUntil (ends : Until) (me : CallerNo) (mode : Mode) (selector_old selector_new : HeldSelector)
+    (old new : PassView) (polls_old polls_new : Option (List Polled)) (ready : ChanNo → ℕ)
     (result : Result Selected SelectError) : Type 0 where
   -- the answers of its polls
   pub polls : List Poll
   -- what the steps reply
   pub reply : SelectReply
-  pub call : CallClause me (MakesSelection selector_old.number mode (known_by selector_old) (told_from polls)) old new reply
+  pub call : CallClause me (SelectsBy ends selector_old.number mode (known_by selector_old) polls) old new reply
   pub answers : Answers reply result
   pub adds : AddsPolls polls_old polls_new (polls_of (looked_by call.shape.middle) mode polls)
   pub marks : MarksAllReady ready (looked_by call.shape.middle) (done_between me old new)
   -- the selector's list, where the caller has it, is what the beginning made of it
   pub list : selector_new ≡ record selector_old { list = list_after selector_old.list call.shape.middle }
+
+-- one that ends once a key was updated: its steps are those of `MakesSelection`
+abbrev pub SelectClause : CallerNo → Mode → HeldSelector → HeldSelector → PassView → PassView → Option (List Polled)
+    → Option (List Polled) → (ChanNo → ℕ) → Result Selected SelectError → Type 0
+SelectClause = SelectsUntil until.Updated
+
+-- one that ends once anything was told of what it looked for
+abbrev pub SelectToldClause : CallerNo → Mode → HeldSelector → HeldSelector → PassView → PassView → Option (List Polled)
+    → Option (List Polled) → (ChanNo → ℕ) → Result Selected SelectError → Type 0
+SelectToldClause = SelectsUntil until.Told
 
 -- nothing was done, and no poll was asked
 pub record IsRefused (selector_old selector_new : HeldSelector) (old new : PassView)
@@ -95,14 +122,23 @@ pub record IsRefused (selector_old selector_new : HeldSelector) (old new : PassV
   pub answer : result ≡ Err NegativeTimeout
 
 -- with this mode, or refused
+abbrev pub TimedUntil : Until → Result Mode TooLow → CallerNo → HeldSelector → HeldSelector → PassView → PassView
+    → Option (List Polled) → Option (List Polled) → (ChanNo → ℕ) → Result Selected SelectError → Type 0
+TimedUntil ends (Ok mode) me selector_old selector_new old new polls_old polls_new ready result =
+    SelectsUntil ends me mode selector_old selector_new old new polls_old polls_new ready result
+TimedUntil ends (Err too_low) me selector_old selector_new old new polls_old polls_new ready result =
+    IsRefused selector_old selector_new old new polls_old polls_new result
+
 abbrev pub TimedBy : Result Mode TooLow → CallerNo → HeldSelector → HeldSelector → PassView → PassView
     → Option (List Polled) → Option (List Polled) → (ChanNo → ℕ) → Result Selected SelectError → Type 0
-TimedBy (Ok mode) me selector_old selector_new old new polls_old polls_new ready result =
-    SelectClause me mode selector_old selector_new old new polls_old polls_new ready result
-TimedBy (Err too_low) me selector_old selector_new old new polls_old polls_new ready result =
-    IsRefused selector_old selector_new old new polls_old polls_new result
+TimedBy = TimedUntil until.Updated
 
 -- a whole selection for so many milliseconds
 abbrev pub TimedClause : CallerNo → ℤ → HeldSelector → HeldSelector → PassView → PassView → Option (List Polled)
     → Option (List Polled) → (ChanNo → ℕ) → Result Selected SelectError → Type 0
 TimedClause me ms = TimedBy (mode_for ms) me
+
+-- the same of one that ends once anything was told
+abbrev pub TimedToldClause : CallerNo → ℤ → HeldSelector → HeldSelector → PassView → PassView → Option (List Polled)
+    → Option (List Polled) → (ChanNo → ℕ) → Result Selected SelectError → Type 0
+TimedToldClause me ms = TimedUntil until.Told (mode_for ms) me

@@ -12,15 +12,16 @@ ghost use Rattle.nio_steps.specs.declared.refusal.BeginError.TheVariants.{Busy};
 ghost use Rattle.nio_words.specs.Passes.{IsReady};
 ghost use Rattle.nio_words.specs.Views.{view};
 ghost use Rattle.nio_poller.specs.Polls.{CountsFaults};
-ghost use Rattle.nio_poller.specs.Selecting.{SelectClause, TimedClause};
+ghost use Rattle.nio_poller.specs.Selecting.{SelectClause, SelectToldClause, SelectsUntil, TimedClause, TimedToldClause};
 ghost use Rattle.nio_poller.specs.Telling.{PollsOnce, PollsClause, error_in, failed_with};
 ghost use Rattle.nio_poller.specs.declared.poller.PollError.TheVariants.{Fault};
 ghost use Rattle.nio_poller.specs.declared.selecting.SelectError.TheVariants as select_error;
 
 use crate::poller::{PollError, Poller};
+use crate::until::{Until, Waiting};
 use nio_base::CallerNo;
 use nio_history::{Mode, NegativeTimeout};
-use nio_select::{After, KeyList, Selecting, Selector, Told};
+use nio_select::{After, KeyList, Selecting, Selector};
 use nio_steps::{BeginError, Selected};
 use nio_words::{Pass, Words};
 use std::alloc::Global;
@@ -45,9 +46,14 @@ pub enum SelectError {
     Memory,
 }
 
-/// Waits until a key of the selector is ready, a wakeup is pending, the selector is closed or the caller is
+/// Waits until a key of the selector is updated, a wakeup is pending, the selector is closed or the caller is
 /// interrupted: Java's `select()`. While a selection is in progress there it waits for that one first; where that is
 /// the caller's own, it waits for ever.
+///
+/// As Java's documentation says, a key is updated where it becomes selected or its ready set gains an operation. Where a
+/// poll tells only of keys that are selected already with the operations told, the selection polls again at once: a
+/// program that leaves such keys selected spins here. So take each key out of the selected set before the next
+/// selection, or call `select_told`.
 ///
 /// The poller sees one poll more than the wait needs: the first poll of the selection is made with `Mode::Now`, so that
 /// what is pending is found before a poll waits. Each further one is made with `Mode::Wait`.
@@ -71,7 +77,11 @@ pub fn select<R: Wait, P: Poller>(
     ensures ready { IsReady w.now p.new me }
     ensures may { MaySelect (view w.now p.new) me selector.new }
 {
-    select_in(rt, alloc, w, p, me, selector, poller, Mode::Wait)
+    let waiting = Waiting {
+        mode: Mode::Wait,
+        until: Until::Updated,
+    };
+    select_in(rt, alloc, w, p, me, selector, poller, waiting)
 }
 
 /// Selects without waiting: Java's `selectNow`. While a selection is in progress there it waits for that one first, as
@@ -96,7 +106,11 @@ pub fn select_now<R: Wait, P: Poller>(
     ensures ready { IsReady w.now p.new me }
     ensures may { MaySelect (view w.now p.new) me selector.new }
 {
-    select_in(rt, alloc, w, p, me, selector, poller, Mode::Now)
+    let waiting = Waiting {
+        mode: Mode::Now,
+        until: Until::Updated,
+    };
+    select_in(rt, alloc, w, p, me, selector, poller, waiting)
 }
 
 /// The same as `select`, for at most `ms` milliseconds; 0 waits without limit: Java's `select(long)`. Each poll of the
@@ -126,7 +140,84 @@ pub fn select_for<R: Wait, P: Poller>(
     ensures may { MaySelect (view w.now p.new) me selector.new }
 {
     match Mode::waiting(ms) {
-        Ok(mode) => select_in(rt, alloc, w, p, me, selector, poller, mode),
+        Ok(mode) => {
+            let waiting = Waiting {
+                mode,
+                until: Until::Updated,
+            };
+            select_in(rt, alloc, w, p, me, selector, poller, waiting)
+        }
+        Err(NegativeTimeout) => Err(SelectError::NegativeTimeout),
+    }
+}
+
+/// The same as `select`, but over once a poll told anything of what the selection looked for, also of a key that is
+/// selected already with those operations: what `select()` of JDK 17 does. It is for programs that leave keys selected,
+/// with which `select` spins.
+///
+/// Where no key was updated it answers the count 0, and `Why::Elapsed` unless a closing, a wakeup or an interrupt ended
+/// it too. `Why::Elapsed` says here that all that was told was selected already, or that another caller changed the marks
+/// of those keys meanwhile: there is no limit of time, and each poll but the first is made with `Mode::Wait`.
+pub fn select_told<R: Wait, P: Poller>(
+    rt: &R,
+    alloc: Global,
+    w: &Words,
+    p: &mut Pass,
+    me: CallerNo,
+    selector: &mut Selector,
+    poller: &mut P,
+) -> Result<Selected, SelectError>
+    requires ready { IsReady w.now p.old me }
+    requires may { MaySelect (view w.now p.old) me selector.old }
+    ensures call { SelectToldClause me mode.Wait selector.old selector.new
+        (view w.now p.old) (view w.now p.new) (P.polls poller.old) (P.polls poller.new) (P.ready poller.new) result }
+    ensures cause { CountsFaults select_error.PollFault (P.poll_faults poller.old) (P.poll_faults poller.new) result }
+    ensures unready { result ≡ Err select_error.PollFault → (c : ChanNo) → P.ready poller.new c ≡ 0 }
+    ensures kept { P.kept poller.old poller.new }
+    ensures unasked { result ≡ Err select_error.ClosedSelector → poller.new ≡ poller.old }
+    ensures ready { IsReady w.now p.new me }
+    ensures may { MaySelect (view w.now p.new) me selector.new }
+{
+    let waiting = Waiting {
+        mode: Mode::Wait,
+        until: Until::Told,
+    };
+    select_in(rt, alloc, w, p, me, selector, poller, waiting)
+}
+
+/// The same as `select_told`, for at most `ms` milliseconds; 0 waits without limit: what `select(long)` of JDK 17 does.
+/// `Why::Elapsed` says that the time was over, or the same as after `select_told`. Each poll but the first is asked to
+/// wait for the whole time, as in `select_for`.
+pub fn select_told_for<R: Wait, P: Poller>(
+    rt: &R,
+    alloc: Global,
+    w: &Words,
+    p: &mut Pass,
+    me: CallerNo,
+    selector: &mut Selector,
+    poller: &mut P,
+    ms: i64,
+) -> Result<Selected, SelectError>
+    requires ready { IsReady w.now p.old me }
+    requires may { MaySelect (view w.now p.old) me selector.old }
+    ensures call { TimedToldClause me ms selector.old selector.new
+        (view w.now p.old) (view w.now p.new) (P.polls poller.old) (P.polls poller.new) (P.ready poller.new) result }
+    ensures cause { CountsFaults select_error.PollFault (P.poll_faults poller.old) (P.poll_faults poller.new) result }
+    ensures unready { result ≡ Err select_error.PollFault → (c : ChanNo) → P.ready poller.new c ≡ 0 }
+    ensures kept { P.kept poller.old poller.new }
+    ensures unasked { result ≡ Err select_error.ClosedSelector → poller.new ≡ poller.old }
+    ensures refused { result ≡ Err select_error.NegativeTimeout → poller.new ≡ poller.old }
+    ensures ready { IsReady w.now p.new me }
+    ensures may { MaySelect (view w.now p.new) me selector.new }
+{
+    match Mode::waiting(ms) {
+        Ok(mode) => {
+            let waiting = Waiting {
+                mode,
+                until: Until::Told,
+            };
+            select_in(rt, alloc, w, p, me, selector, poller, waiting)
+        }
         Err(NegativeTimeout) => Err(SelectError::NegativeTimeout),
     }
 }
@@ -139,11 +230,11 @@ fn select_in<R: Wait, P: Poller>(
     me: CallerNo,
     selector: &mut Selector,
     poller: &mut P,
-    mode: Mode,
+    waiting: Waiting,
 ) -> Result<Selected, SelectError>
     requires ready { IsReady w.now p.old me }
     requires may { MaySelect (view w.now p.old) me selector.old }
-    ensures call { SelectClause me mode selector.old selector.new
+    ensures call { SelectsUntil waiting.until me waiting.mode selector.old selector.new
         (view w.now p.old) (view w.now p.new) (P.polls poller.old) (P.polls poller.new) (P.ready poller.new) result }
     ensures cause { CountsFaults select_error.PollFault (P.poll_faults poller.old) (P.poll_faults poller.new) result }
     ensures unready { result ≡ Err select_error.PollFault → (c : ChanNo) → P.ready poller.new c ≡ 0 }
@@ -153,9 +244,9 @@ fn select_in<R: Wait, P: Poller>(
     ensures ready { IsReady w.now p.new me }
     ensures may { MaySelect (view w.now p.new) me selector.new }
 {
-    match begin(rt, alloc, w, p, me, selector, mode) {
+    match begin(rt, alloc, w, p, me, selector, waiting.begun_with()) {
         Ok(selection) => {
-            let (ended, list) = poll_until_over(rt, alloc, w, p, me, selection, poller);
+            let (ended, list) = poll_until_over(rt, alloc, w, p, me, selection, poller, waiting);
             selector.give_back(list);
             ended
         }
@@ -209,10 +300,11 @@ fn poll_until_over<R: Wait, P: Poller>(
     me: CallerNo,
     selection: Selecting,
     poller: &mut P,
+    waiting: Waiting,
 ) -> (Result<Selected, SelectError>, Option<KeyList>)
     requires ready { IsReady w.now p.old me }
     requires begun { Selects (view w.now p.old) me (selection_of selection) }
-    ensures call { PollsClause me (selection_of selection)
+    ensures call { PollsClause me (selection_of selection) waiting
         (view w.now p.old) (view w.now p.new) (P.polls poller.old) (P.polls poller.new) (P.ready poller.new) result.0 }
     ensures cause { CountsFaults select_error.PollFault (P.poll_faults poller.old) (P.poll_faults poller.new) result.0 }
     ensures unready { result.0 ≡ Err select_error.PollFault → (c : ChanNo) → P.ready poller.new c ≡ 0 }
@@ -226,7 +318,7 @@ fn poll_until_over<R: Wait, P: Poller>(
     let mut selection = selection;
     let mut is_first = true;
     for _ in rt.forever() {
-        match poll_once(rt, alloc, w, p, me, selection, poller, is_first) {
+        match poll_once(rt, alloc, w, p, me, selection, poller, waiting, is_first) {
             Ok(After::Again(next)) => {
                 selection = next;
                 is_first = false;
@@ -263,11 +355,12 @@ fn poll_once<R: Wait, P: Poller>(
     me: CallerNo,
     selection: Selecting,
     poller: &mut P,
+    waiting: Waiting,
     is_first: bool,
 ) -> Result<After, Left>
     requires ready { IsReady w.now p.old me }
     requires begun { Selects (view w.now p.old) me (selection_of selection) }
-    ensures call { PollsOnce me (selection_of selection) is_first
+    ensures call { PollsOnce me (selection_of selection) waiting is_first
         (view w.now p.old) (view w.now p.new) (P.polls poller.old) (P.polls poller.new) (P.ready poller.new) result }
     ensures cause { CountsFaults Fault (P.poll_faults poller.old) (P.poll_faults poller.new) (error_in result) }
     ensures unready { OnErr result ((c : ChanNo) → P.ready poller.new c ≡ 0) }
@@ -278,17 +371,10 @@ fn poll_once<R: Wait, P: Poller>(
     ensures done { IfOk result (λ after. IfDone after (GivesBack (view w.now p.new) me selection)) }
     ensures left { IfErr result (λ left. GivesBack (view w.now p.new) me selection left.list) }
 {
-    let mode = if is_first {
-        Mode::Now
-    } else {
-        selection.mode()
-    };
-    match poller.poll(rt, alloc, selection.asked(), mode) {
+    let asked = selection.asked();
+    match poller.poll(rt, alloc, asked, waiting.poll_mode(is_first)) {
         Ok(told) => {
-            let told = Told {
-                pairs: told.pairs,
-                elapsed: !is_first && told.elapsed,
-            };
+            let told = waiting.tells(asked, is_first, told);
             Ok(selection.told(w, p, me, &told))
         }
         Err(error) => Err(Left {

@@ -1,16 +1,21 @@
 //! Callers that are parted and joined, their calls on pipes, and what one finds as another rings a bell.
-use crate::calls::Reply;
+ghost use Rattle.std.specs.Arc.{arc_value};
+ghost use Rattle.std.specs.Prelude.{◌≡◌, IfOk};
+
+use crate::calls::{NOTHING, Reply, told};
 use crate::several::selects;
-use nio_base::{CallerNo, Limits};
-use nio_caller::Caller;
+use crate::tables::S;
+use nio_base::{CallerNo, ChanId, ChanNo, KeyNo, Limits, Ops};
+use nio_caller::{CallError, Caller, NotClosing, NotSelecting};
 use nio_history::Why;
 use nio_pipe::{PipeRead, PipeWrite};
 use nio_poller::{Bell, NoBell};
-use nio_select::{BeginError, Mode};
+use nio_select::{BeginError, Mode, Told};
 use nio_words::Words;
-use std::alloc::Global;
-use std::sync::Mutex;
+use std::alloc::{AllocError, Global};
+use std::sync::{Arc, Mutex};
 use std::test::Fail;
+use std::thread::join;
 
 const LIMITS: Limits = Limits {
     callers: 2,
@@ -37,6 +42,154 @@ fn a_caller_is_parted_and_joined(rt: HostRuntime) -> Result<(), Fail> {
     Ok(())
 }
 
+/// A call on what may be missing.
+#[derive(Clone, Copy)]
+enum Ask {
+    /// Registers the channel with this number with the selector.
+    Register(u32),
+    Interest,
+    Begin,
+    Told,
+    Leave,
+    Shut,
+    TryFinish,
+}
+
+/// What the call answered, but for the values.
+#[derive(Clone, Copy, Debug, PartialEq, Eq)]
+enum Found {
+    NoSuchSelector,
+    NoSuchChannel,
+    NoSuchKey,
+    NotSelecting,
+    NotClosing,
+    Refused,
+    Done,
+    /// The selection goes on; the selector was shut before.
+    GoesOn,
+}
+
+/// Before a selector was opened, and after.
+const MISSING: &[(Ask, Found)] = &[
+    (Ask::Register(0), Found::NoSuchSelector),
+    (Ask::Begin, Found::NoSuchSelector),
+    (Ask::Shut, Found::NoSuchSelector),
+    (Ask::Told, Found::NotSelecting),
+    (Ask::Leave, Found::NotSelecting),
+    (Ask::TryFinish, Found::NotClosing),
+];
+
+const THERE: &[(Ask, Found)] = &[
+    (Ask::Register(0), Found::NoSuchChannel),
+    (Ask::Interest, Found::NoSuchKey),
+    (Ask::Told, Found::NotSelecting),
+    (Ask::Leave, Found::NotSelecting),
+    (Ask::TryFinish, Found::NotClosing),
+    (Ask::Begin, Found::Done),
+    (Ask::Begin, Found::Refused),
+    (Ask::Told, Found::GoesOn),
+    (Ask::Leave, Found::Done),
+    (Ask::Leave, Found::NotSelecting),
+    (Ask::Begin, Found::Done),
+    (Ask::Shut, Found::Done),
+    (Ask::Shut, Found::GoesOn),
+    (Ask::TryFinish, Found::GoesOn),
+    (Ask::Told, Found::Done),
+    (Ask::Told, Found::NotSelecting),
+    (Ask::TryFinish, Found::Done),
+    (Ask::TryFinish, Found::NotClosing),
+    (Ask::Begin, Found::Refused),
+];
+
+/// What a call answered that may miss a name.
+fn what_came_of<T: Drop, E: Drop>(answer: Result<T, CallError<E>>) -> Found {
+    match answer {
+        Ok(_value) => Found::Done,
+        Err(CallError::NoSuchSelector) => Found::NoSuchSelector,
+        Err(CallError::NoSuchChannel) => Found::NoSuchChannel,
+        Err(CallError::NoSuchKey) => Found::NoSuchKey,
+        Err(CallError::Refused(_error)) => Found::Refused,
+    }
+}
+
+fn asks(alloc: Global, caller: &mut Caller<&Words>, nothing: &Told, ask: Ask) -> Found {
+    match ask {
+        Ask::Register(number) => {
+            what_came_of(caller.try_register(S, ChanId::first(ChanNo(number)), Ops::READ, 0))
+        }
+        Ask::Interest => what_came_of(caller.interest(KeyNo {
+            sel: S,
+            index: 0,
+            serial: 0,
+        })),
+        Ask::Begin => what_came_of(caller.begin(alloc, S, Mode::Wait)),
+        Ask::Told => match caller.told(S, nothing) {
+            Ok(Some(_answer)) => Found::Done,
+            Ok(None) => Found::GoesOn,
+            Err(NotSelecting) => Found::NotSelecting,
+        },
+        Ask::Leave => match caller.leave(S) {
+            Ok(()) => Found::Done,
+            Err(NotSelecting) => Found::NotSelecting,
+        },
+        Ask::Shut => match caller.shut(S) {
+            Some(true) => Found::Done,
+            Some(false) => Found::GoesOn,
+            None => Found::NoSuchSelector,
+        },
+        Ask::TryFinish => match caller.try_finish(S) {
+            Ok(true) => Found::Done,
+            Ok(false) => Found::GoesOn,
+            Err(NotClosing) => Found::NotClosing,
+        },
+    }
+}
+
+#[test]
+fn what_is_missing_is_refused(rt: HostRuntime) -> Result<(), Fail> {
+    let (words, pass) = Words::make(rt.alloc(), LIMITS)?;
+    let mut caller = Caller::first(&words, pass);
+    let nothing = told(rt.alloc(), NOTHING, false)?;
+    for (at, (ask, answer)) in MISSING.iter().enumerate() {
+        assert_eq!(rt;
+            asks(rt.alloc(), &mut caller, &nothing, *ask),
+            *answer,
+            "row {at}"
+        );
+    }
+    caller.open_selector()?;
+    for (at, (ask, answer)) in THERE.iter().enumerate() {
+        assert_eq!(rt;
+            asks(rt.alloc(), &mut caller, &nothing, *ask),
+            *answer,
+            "row {at}"
+        );
+    }
+    Ok(())
+}
+
+/// A caller that shares its table moves to another thread.
+#[test]
+fn a_shared_table_is_called_from_two_threads(rt: HostRuntime) -> Result<(), Fail> {
+    let (words, pass) = Words::make(rt.alloc(), LIMITS)?;
+    let mut first = Caller::first(share(rt.alloc(), words)?, pass);
+    let second = first.split(CallerNo(1))?;
+    let (one, other) = join(&rt, || opens(first), || opens(second));
+    assert!(rt; one != other);
+    Ok(())
+}
+
+fn share(alloc: Global, words: Words) -> Result<Arc<Words, Global>, AllocError>
+    ensures { IfOk result (λ shared. arc_value shared ≡ words) }
+{
+    Ok(Arc::new(alloc, words)?)
+}
+
+fn opens(caller: Caller<Arc<Words, Global>>) -> bool {
+    let mut caller = caller;
+    caller.open_selector().is_ok()
+}
+
 #[test]
 fn a_caller_reads_what_it_wrote(rt: HostRuntime) -> Result<(), Fail> {
     let (words, pass) = Words::make(rt.alloc(), LIMITS)?;
@@ -59,7 +212,7 @@ fn a_caller_reads_what_it_wrote(rt: HostRuntime) -> Result<(), Fail> {
 /// A caller, and what the selection answered that it made at the last ring.
 #[derive(Drop)]
 struct Listener<'a> {
-    caller: Caller<'a>,
+    caller: Caller<&'a Words>,
     heard: Option<Reply>,
 }
 

@@ -1,15 +1,10 @@
 //! Selections by a selector's list: what is done between two of them, and during one; and of each which indexes changed
 //! and which keys it looks at.
-ghost use Rattle.std.specs.Prelude.{◌≡◌};
-ghost use Rattle.nio_select.specs.InHand.{selection_of};
-ghost use Rattle.nio_select.specs.InProgress.{Selects};
-ghost use Rattle.nio_caller.specs.Callers.{sees};
-
 use crate::calls::{NOTHING, told};
 use crate::tables::{C0, C0_AGAIN, C1, C2};
 use nio_base::{CallerNo, ChanId, KeyNo, Kind, Limits, Ops, SelNo};
 use nio_caller::Caller;
-use nio_select::{After, Asked, Mode, Selecting, Told};
+use nio_select::{Asked, Mode, Told};
 use nio_words::Words;
 use std::alloc::Global;
 use std::process::Abort;
@@ -146,8 +141,8 @@ const ROWS: &[Row] = &[
 fn does_between<R: Wait>(
     rt: &R,
     alloc: Global,
-    caller: &mut Caller<'_>,
-    other: &mut Caller<'_>,
+    caller: &mut Caller<&Words>,
+    other: &mut Caller<&Words>,
     sel: SelNo,
     act: Act,
 ) -> bool {
@@ -158,7 +153,7 @@ fn does_between<R: Wait>(
 }
 
 /// Whether what the caller does isn't refused.
-fn does<R: Wait>(rt: &R, alloc: Global, caller: &mut Caller<'_>, sel: SelNo, act: Act) -> bool {
+fn does<R: Wait>(rt: &R, alloc: Global, caller: &mut Caller<&Words>, sel: SelNo, act: Act) -> bool {
     match act {
         Act::Nothing => true,
         Act::Opens => caller.open_channel(Kind::Stream).is_ok(),
@@ -171,43 +166,49 @@ fn does<R: Wait>(rt: &R, alloc: Global, caller: &mut Caller<'_>, sel: SelNo, act
     }
 }
 
-fn registers<R: Wait>(rt: &R, caller: &mut Caller<'_>, sel: SelNo, chan: ChanId) -> bool {
+fn registers<R: Wait>(rt: &R, caller: &mut Caller<&Words>, sel: SelNo, chan: ChanId) -> bool {
     caller
         .register_non_blocking(rt, sel, chan, Ops::READ, 0)
         .is_ok()
 }
 
-fn closes(caller: &mut Caller<'_>, chan: ChanId) -> bool {
+fn closes(caller: &mut Caller<&Words>, chan: ChanId) -> bool {
     caller.close_channel(chan)
 }
 
-fn reopens(caller: &mut Caller<'_>, chan: ChanId) -> bool {
+fn reopens(caller: &mut Caller<&Words>, chan: ChanId) -> bool {
     caller.reopen_channel(chan).is_ok()
 }
 
-fn sets(caller: &mut Caller<'_>, sel: SelNo, index: u32, serial: u32, ops: u8) -> bool {
+fn sets(caller: &mut Caller<&Words>, sel: SelNo, index: u32, serial: u32, ops: u8) -> bool {
     let key = KeyNo { sel, index, serial };
     caller.set_interest(key, Ops::of(ops)).is_ok()
 }
 
-fn cancels(caller: &mut Caller<'_>, sel: SelNo, index: u32, serial: u32) -> bool {
+fn cancels(caller: &mut Caller<&Words>, sel: SelNo, index: u32, serial: u32) -> bool {
     caller.cancel(KeyNo { sel, index, serial })
 }
 
 /// A selection without the list that is told nothing. Says whether it begins, or is busy beside one by the list.
-fn selects(alloc: Global, caller: &mut Caller<'_>, sel: SelNo) -> bool {
+fn selects(alloc: Global, caller: &mut Caller<&Words>, sel: SelNo) -> bool {
     let Ok(told) = told(alloc, NOTHING, false) else {
         return false;
     };
-    let Ok(selection) = caller.begin(alloc, sel, Mode::Now) else {
+    if caller.begin(alloc, sel, Mode::Now).is_err() {
         return true;
-    };
-    match caller.told(sel, selection, &told) {
-        After::Done(_answer, _list) => true,
-        After::Again(selection) => {
-            caller.leave(sel, selection);
+    }
+    is_over(caller, sel, &told)
+}
+
+/// Tells the selection. Says whether it is over; where it isn't, it is left.
+fn is_over(caller: &mut Caller<&Words>, sel: SelNo, told: &Told) -> bool {
+    match caller.told(sel, told) {
+        Ok(Some(_answer)) => true,
+        Ok(None) => {
+            let _ = caller.leave(sel);
             false
         }
+        Err(_not_selecting) => false,
     }
 }
 
@@ -224,22 +225,18 @@ pub(crate) fn agrees(asked: &Asked, changed: &[u32], keys: &[(u32, u32, u8)]) ->
 }
 
 /// Ends the selection, whose list comes back to the caller.
-fn ends(caller: &mut Caller<'_>, sel: SelNo, selection: Selecting, told: &Told, end: End) -> bool
-    requires begun { Selects (sees caller.old) caller.old.number (selection_of selection) }
-    requires selector { selection.selector ≡ sel }
-{
+fn ends(caller: &mut Caller<&Words>, sel: SelNo, told: &Told, end: End) -> bool {
     match end {
-        End::Left => {
-            caller.leave(sel, selection);
-            true
-        }
-        End::Told => match caller.told(sel, selection, told) {
-            After::Done(_answer, _list) => true,
-            After::Again(selection) => {
-                caller.leave(sel, selection);
-                false
-            }
-        },
+        End::Left => caller.leave(sel).is_ok(),
+        End::Told => is_over(caller, sel, told),
+    }
+}
+
+/// Whether the caller's selection looks at this.
+fn looks_at(caller: &Caller<&Words>, sel: SelNo, changed: &[u32], keys: &[(u32, u32, u8)]) -> bool {
+    match caller.selection(sel) {
+        Some(selection) => agrees(selection.asked(), changed, keys),
+        None => false,
     }
 }
 
@@ -257,13 +254,10 @@ fn selections_by_the_list(rt: HostRuntime) -> Result<(), Fail> {
             does_between(&rt, rt.alloc(), &mut caller, &mut other, sel, *before),
             "row {at}"
         );
-        let selection = caller.begin(rt.alloc(), sel, Mode::Now)?;
-        assert!(rt; agrees(selection.asked(), changed, keys), "row {at}");
+        caller.begin(rt.alloc(), sel, Mode::Now)?;
+        assert!(rt; looks_at(&caller, sel, changed, keys), "row {at}");
         assert!(rt; does(&rt, rt.alloc(), &mut other, sel, *during), "row {at}");
-        assert!(rt;
-            ends(&mut caller, sel, selection, &nothing, *end),
-            "row {at}"
-        );
+        assert!(rt; ends(&mut caller, sel, &nothing, *end), "row {at}");
     }
     Ok(())
 }

@@ -1,5 +1,5 @@
-//! Each call with its answers and the rings of its bell, in one hand; how long the polls of selections may wait; and a
-//! selection that waits while a second thread wakes it, interrupts its caller or closes its selector.
+//! Each call with its answers and the rings of its bell, in one hand; how long the polls of selections may wait; what
+//! ends them; and a selection that waits while a second thread wakes it, interrupts its caller or closes its selector.
 ghost use Rattle.std.specs.Prelude.{◌≡◌, None, IfOk};
 ghost use Rattle.nio_history.specs.Conditions.{IsCaller};
 ghost use Rattle.nio_history.specs.PassViews.{HasSelector};
@@ -9,12 +9,14 @@ ghost use Rattle.nio_words.specs.Passes.{IsPassOf, IsReady, limits_of};
 ghost use Rattle.nio_words.specs.Views.{view};
 ghost use Rattle.nio_table_tests.specs.Callers.{MayCall};
 
-use crate::tables::{ONE, S, ZERO, hand_over, table};
-use nio_base::Limits;
+use crate::calls;
+use crate::calls::{Call, OnChannel};
+use crate::tables::{C0, ONE, S, ZERO, hand_over, table};
+use nio_base::{KeyNo, Limits, Ops};
 use nio_history::{Mode, Why};
 use nio_poller::{
     Bell, PollError, Poller, Scripted, SelectError, Sleeper, SleeperBell, close, interrupt,
-    interrupted, select, select_for, select_now, wakeup,
+    interrupted, select, select_for, select_now, select_told, select_told_for, wakeup,
 };
 use nio_select::{Asked, Selected, Selector, Told};
 use nio_words::{Pass, Words};
@@ -29,6 +31,12 @@ const SMALL: Limits = Limits {
     selectors: 1,
     channels: 1,
     keys: 1,
+};
+
+const KEY: KeyNo = KeyNo {
+    sel: S,
+    index: 0,
+    serial: 0,
 };
 
 /// A bell that counts its rings.
@@ -90,6 +98,8 @@ enum OnSelector {
     Select,
     SelectNow,
     SelectFor(i64),
+    SelectTold,
+    SelectToldFor(i64),
     Wakeup,
     Interrupt,
     Interrupted,
@@ -125,6 +135,12 @@ fn answer<R: Wait, P: Poller>(
         }
         OnSelector::SelectFor(ms) => {
             Reply::Selected(select_for(rt, alloc, w, p, ZERO, &mut on, poller, ms))
+        }
+        OnSelector::SelectTold => {
+            Reply::Selected(select_told(rt, alloc, w, p, ZERO, &mut on, poller))
+        }
+        OnSelector::SelectToldFor(ms) => {
+            Reply::Selected(select_told_for(rt, alloc, w, p, ZERO, &mut on, poller, ms))
         }
         OnSelector::Wakeup => {
             wakeup(w, p, ZERO, S, bell);
@@ -223,12 +239,126 @@ fn how_long_polls_may_wait(rt: HostRuntime) -> Result<(), Fail> {
             nothing(Why::Interrupted),
             Some(Mode::Now),
         ),
+        (
+            OnSelector::SelectTold,
+            nothing(Why::Interrupted),
+            Some(Mode::Now),
+        ),
+        (OnSelector::Interrupted, Reply::Flag(true), None),
+        (
+            OnSelector::SelectToldFor(5),
+            nothing(Why::Elapsed),
+            Some(Mode::waiting(5)?),
+        ),
+        (OnSelector::SelectToldFor(-1), negative, None),
     ];
     for (call, reply, mode) in rows {
         poller.last = None;
         let found = answer(&rt, rt.alloc(), &words, &mut p, &mut poller, &bell, call);
         assert!(rt; found == reply);
         assert!(rt; poller.last == mode);
+    }
+    Ok(())
+}
+
+/// What a poller tells of the only key, in each poll, and whether the time is over.
+const ANSWERS: &[(u8, bool)] = &[
+    (0, true),
+    (1, false),
+    (0, true),
+    (0, true),
+    (1, false),
+    (4, false),
+    (5, false),
+    (1, false),
+    (0, true),
+    (0, false),
+    (0, true),
+    (1, false),
+    (1, false),
+    (0, true),
+    (1, false),
+    (0, false),
+    (1, false),
+    (1, false),
+];
+
+/// A poller with these answers. The call after the first seventeen fails.
+fn scripted(alloc: Global) -> Result<Scripted, AllocError> {
+    let mut answers = Vec::with_capacity(alloc, ANSWERS.len())?;
+    for (bits, elapsed) in ANSWERS {
+        answers.push(Told {
+            pairs: vec![in alloc; (0_u32, Ops::of(*bits))]?,
+            elapsed: *elapsed,
+        })?;
+    }
+    Ok(Scripted::make(answers, vec![in alloc; 17_u64]?))
+}
+
+/// A selection that ended with the only key updated.
+fn updated() -> Reply {
+    Reply::Selected(Ok(Selected {
+        count: 1,
+        why: Why::Ready,
+    }))
+}
+
+/// The only key is looked for reading. What stands behind a call is how many answers it takes.
+#[test]
+fn what_ends_selections(rt: HostRuntime) -> Result<(), Fail> {
+    let (words, mut p) = table(rt.alloc(), SMALL)?;
+    let opened = calls::answer(rt.alloc(), &words, &mut p, Call::OpenStreams(1));
+    let register = Call::OnChannel(C0, OnChannel::Register(1, 0));
+    let registered = calls::answer(rt.alloc(), &words, &mut p, register);
+    assert!(rt; opened == calls::Reply::Mode(Ok(())));
+    assert!(rt; registered == calls::Reply::Registered(Ok(KEY)));
+    let mut poller = scripted(rt.alloc())?;
+    let bell = Counting {
+        rings: AtomicU64::new(0),
+    };
+    let rows = [
+        // 2: a key that isn't selected
+        (OnSelector::SelectTold, updated()),
+        // 3: without a limit no time is over; and then a key that is selected
+        (OnSelector::SelectTold, nothing(Why::Elapsed)),
+        // 2: an operation that isn't looked for
+        (OnSelector::SelectTold, nothing(Why::Elapsed)),
+        // 1: the first poll tells something
+        (OnSelector::SelectToldFor(5), nothing(Why::Elapsed)),
+        // 3: the first poll doesn't wait
+        (OnSelector::SelectToldFor(5), nothing(Why::Elapsed)),
+        // 3: as documented, it goes on
+        (OnSelector::SelectFor(5), nothing(Why::Elapsed)),
+        // 1
+        (OnSelector::SelectNow, nothing(Why::Now)),
+        (OnSelector::Wakeup, Reply::Done),
+        // 1
+        (OnSelector::SelectTold, nothing(Why::Woken)),
+        (OnSelector::Interrupt, Reply::Done),
+        // 1
+        (OnSelector::SelectTold, nothing(Why::Interrupted)),
+        (OnSelector::Interrupted, Reply::Flag(true)),
+        (
+            OnSelector::SelectToldFor(-1),
+            Reply::Selected(Err(SelectError::NegativeTimeout)),
+        ),
+        (
+            OnSelector::SelectTold,
+            Reply::Selected(Err(SelectError::PollFault)),
+        ),
+        // 1: the last one
+        (OnSelector::SelectToldFor(0), nothing(Why::Elapsed)),
+        (OnSelector::Wakeup, Reply::Done),
+        (OnSelector::SelectToldFor(0), nothing(Why::Woken)),
+        (OnSelector::Close, Reply::Flag(true)),
+        (
+            OnSelector::SelectTold,
+            Reply::Selected(Err(SelectError::ClosedSelector)),
+        ),
+    ];
+    for (call, reply) in rows {
+        let found = answer(&rt, rt.alloc(), &words, &mut p, &mut poller, &bell, call);
+        assert!(rt; found == reply);
     }
     Ok(())
 }
@@ -241,6 +371,13 @@ enum Ending {
     Closes,
 }
 
+/// Which selection waits.
+#[derive(Clone, Copy)]
+enum Waiting {
+    Documented,
+    Told,
+}
+
 /// Selects, and waits for it.
 fn waits<R: Wait>(
     rt: &R,
@@ -248,11 +385,15 @@ fn waits<R: Wait>(
     w: &Words,
     mut p: Pass,
     mut sleeper: Sleeper,
+    which: Waiting,
 ) -> Result<Selected, SelectError>
     requires { MayCall w.now p ZERO }
 {
     let mut on = Selector::without_list(S);
-    select(rt, alloc, w, &mut p, ZERO, &mut on, &mut sleeper)
+    match which {
+        Waiting::Documented => select(rt, alloc, w, &mut p, ZERO, &mut on, &mut sleeper),
+        Waiting::Told => select_told(rt, alloc, w, &mut p, ZERO, &mut on, &mut sleeper),
+    }
 }
 
 fn ends<R: Wait>(rt: &R, w: &Words, mut p: Pass, bell: &SleeperBell, how: Ending) -> Pass
@@ -277,6 +418,7 @@ fn waits_and_ends<R: Threads + Wait + Sync>(
     w: &Words,
     p: Pass,
     q: Pass,
+    which: Waiting,
     how: Ending,
 ) -> Result<Result<Selected, SelectError>, AllocError>
     requires first { MayCall w.now p ZERO }
@@ -287,7 +429,7 @@ fn waits_and_ends<R: Threads + Wait + Sync>(
         rt,
         || -> Result<Selected, SelectError>
             requires { MayCall w.now p ZERO }
-        { waits(rt, alloc, w, p, sleeper) },
+        { waits(rt, alloc, w, p, sleeper, which) },
         || -> Pass
             requires { MayCall w.now q ONE × IsCaller (limits_of w.now) ZERO }
             ensures { IsPassOf w.entry.now result }
@@ -314,10 +456,12 @@ fn a_second_thread_ends_the_wait(rt: HostRuntime) -> Result<(), Fail> {
         ),
         (Ending::Closes, ended(Why::Closed), closed),
     ] {
-        let (words, mut p) = table(rt.alloc(), SMALL)?;
-        let q = hand_over(&words, &mut p)?;
-        let found = waits_and_ends(&rt, rt.alloc(), &words, p, q, how)?;
-        assert!(rt; found == first || found == second);
+        for which in [Waiting::Documented, Waiting::Told] {
+            let (words, mut p) = table(rt.alloc(), SMALL)?;
+            let q = hand_over(&words, &mut p)?;
+            let found = waits_and_ends(&rt, rt.alloc(), &words, p, q, which, how)?;
+            assert!(rt; found == first || found == second);
+        }
     }
     Ok(())
 }

@@ -7,7 +7,7 @@ use nio_caller::{CallError, Caller};
 use nio_channel::ChannelError;
 use nio_history::Why;
 use nio_poller::NoBell;
-use nio_select::{After, BeginError, Mode};
+use nio_select::{BeginError, Mode};
 use nio_words::Words;
 use std::alloc::Global;
 use std::sync::Wait;
@@ -83,8 +83,9 @@ const ROWS: &[(Call, Reply)] = &[
     (Call::SelectedKeys, Reply::Listed(Ok((1, Some(KEY))))),
     (Call::TakeSelected(0), Reply::Key(Some(KEY))),
     (Call::SelectedKeys, Reply::Listed(Ok((0, None)))),
-    // the key, though it isn't selected
-    (Call::TakeSelected(0), Reply::Key(Some(KEY))),
+    // it isn't selected any more; then it is, and is cancelled
+    (Call::TakeSelected(0), Reply::Key(None)),
+    (Call::Select, Reply::Done(1, Why::Ready)),
     (Call::Cancel, Reply::Nothing),
     (
         Call::OnChannel(0, OnChannel::RegisterNonBlocking(1)),
@@ -106,7 +107,7 @@ const ROWS: &[(Call, Reply)] = &[
 
 fn answer_on_channel<R: Wait>(
     rt: &R,
-    caller: &mut Caller<'_>,
+    caller: &mut Caller<&Words>,
     sel: SelNo,
     number: u32,
     call: OnChannel,
@@ -132,25 +133,26 @@ fn registered(answer: Result<KeyNo, CallError<ChannelError>>) -> Reply {
 }
 
 /// A selection that is told once, that the only key is ready to be read. Where it would go on, it is left.
-pub(crate) fn selects(alloc: Global, caller: &mut Caller<'_>, sel: SelNo, mode: Mode) -> Reply {
+pub(crate) fn selects(alloc: Global, caller: &mut Caller<&Words>, sel: SelNo, mode: Mode) -> Reply {
     let Ok(told) = told(alloc, ((0, 1), (9, 1), (9, 4)), false) else {
         return Reply::NotBegun(BeginError::Memory);
     };
-    let selection = match caller.begin(alloc, sel, mode) {
-        Ok(selection) => selection,
+    match caller.begin(alloc, sel, mode) {
+        Ok(()) => {}
         Err(CallError::Refused(error)) => return Reply::NotBegun(error),
         Err(_missing) => return Reply::Missing,
-    };
-    match caller.told(sel, selection, &told) {
-        After::Done(answer, _list) => Reply::Done(answer.count, answer.why),
-        After::Again(selection) => {
-            caller.leave(sel, selection);
+    }
+    match caller.told(sel, &told) {
+        Ok(Some(answer)) => Reply::Done(answer.count, answer.why),
+        Ok(None) => {
+            let _ = caller.leave(sel);
             Reply::Again
         }
+        Err(_not_selecting) => Reply::Missing,
     }
 }
 
-fn cancels(caller: &mut Caller<'_>, sel: SelNo) -> Reply {
+fn cancels(caller: &mut Caller<&Words>, sel: SelNo) -> Reply {
     if caller.cancel(KeyNo { sel, ..KEY }) {
         Reply::Nothing
     } else {
@@ -161,7 +163,7 @@ fn cancels(caller: &mut Caller<'_>, sel: SelNo) -> Reply {
 fn answer<R: Wait>(
     rt: &R,
     alloc: Global,
-    caller: &mut Caller<'_>,
+    caller: &mut Caller<&Words>,
     sel: SelNo,
     call: Call,
 ) -> Reply {

@@ -43,7 +43,7 @@ fn main(rt: HostRuntime) -> anyhow::Result<()> {
 fn sleeps<R: Wait>(
     rt: &R,
     alloc: Global,
-    caller: Caller<'_>,
+    caller: Caller<&Words>,
     sel: SelNo,
     sleeper: Sleeper,
 ) -> Result<Selected, CallError<SelectError>> {
@@ -52,7 +52,7 @@ fn sleeps<R: Wait>(
     caller.select(rt, alloc, sel, &mut sleeper)
 }
 
-fn wakes(caller: Caller<'_>, sel: SelNo, bell: &SleeperBell) {
+fn wakes(caller: Caller<&Words>, sel: SelNo, bell: &SleeperBell) {
     let mut caller = caller;
     caller.wakeup(sel, bell);
 }

@@ -18,17 +18,18 @@ ghost use Rattle.nio_steps.specs.declared.refusal.ChannelError.TheVariants.{Busy
 ghost use Rattle.nio_steps.specs.declared.refusal.ReopenError.TheVariants.{Lost, Open, SerialsSpent};
 ghost use Rattle.nio_words.specs.Passes.{limits_of};
 ghost use Rattle.nio_caller.specs.Callers.{sees};
-ghost use Rattle.nio_caller.specs.NamedCalls.{Calls, IfCalled, OnChannel, OnSelector, Refuses};
+ghost use Rattle.nio_caller.specs.NamedCalls.{Calls, IfCalled, OnChannel, OnSelector, MayRefuse};
 ghost use Rattle.nio_caller.specs.Several.{RegistersNonBlocking};
 ghost use Rattle.nio_caller.specs.declared.refusal.CallError.TheVariants.{NoSuchChannel, NoSuchSelector, Refused};
 
 use super::Caller;
 use crate::refusal::{CallError, called};
+use crate::table::Table;
 use nio_base::{ChanId, KeyNo, Kind, Ops, SelNo};
 use nio_steps::{ChannelError, ReopenError};
 use std::sync::Wait;
 
-impl<'a> Caller<'a> {
+impl<T: Table> Caller<T> {
     /// Opens a channel of this kind, in blocking mode: Java's `open`. It has the first number that never had a channel;
     /// where each has had one, the first of a closed channel of this kind that isn't registered any more.
     pub fn open_channel(&mut self, kind: Kind) -> Result<ChanId, ChannelError>
@@ -38,7 +39,7 @@ impl<'a> Caller<'a> {
         ensures spent { result ≡ Err ChannelsSpent
             → AllMade (known (sees self.new)) (limits_of self.old.table).channels }
     {
-        nio_channel::open_channel(self.words, &mut self.pass, self.number, kind)
+        nio_channel::open_channel(self.table.words(), &mut self.pass, self.number, kind)
     }
 
     /// Opens a channel of the number of this one, which is closed: of its kind, in blocking mode, with the next serial.
@@ -47,7 +48,7 @@ impl<'a> Caller<'a> {
     /// many as it may (`SerialsSpent`), and where another caller has the hold of the number (`Busy`).
     pub fn reopen_channel(&mut self, chan: ChanId) -> Result<ChanId, CallError<ReopenError>>
         ensures call { Calls (λ l. OnChannel l chan (Err NoSuchChannel)
-            (Refuses (Completes (reopen_channel_plan l chan)))) self.old self.new result }
+            (MayRefuse (Completes (reopen_channel_plan l chan)))) self.old self.new result }
         ensures next { IfOk result (λ new. new ≡ channel_of chan.number (suc chan.serial)) }
         ensures made { IfOk result (HasChannel (sees self.new)) }
         ensures took { is_ok result
@@ -60,7 +61,7 @@ impl<'a> Caller<'a> {
         if !self.has_channel(chan) {
             return Err(CallError::NoSuchChannel);
         }
-        called(nio_channel::reopen_channel(self.words, &mut self.pass, self.number, chan))
+        called(nio_channel::reopen_channel(self.table.words(), &mut self.pass, self.number, chan))
     }
 
     /// Whether the channel is open: Java's `isOpen`. False where there is no such channel.
@@ -71,7 +72,7 @@ impl<'a> Caller<'a> {
         if !self.has_channel(chan) {
             return false;
         }
-        nio_channel::is_open(self.words, &mut self.pass, self.number, chan)
+        nio_channel::is_open(self.table.words(), &mut self.pass, self.number, chan)
     }
 
     /// Whether the channel is in blocking mode: Java's `isBlocking`. False where there is no such channel.
@@ -82,7 +83,7 @@ impl<'a> Caller<'a> {
         if !self.has_channel(chan) {
             return false;
         }
-        nio_channel::is_blocking(self.words, &mut self.pass, self.number, chan)
+        nio_channel::is_blocking(self.table.words(), &mut self.pass, self.number, chan)
     }
 
     /// Sets whether the channel is in blocking mode: Java's `configureBlocking`. A channel that is registered stays
@@ -93,7 +94,7 @@ impl<'a> Caller<'a> {
         chan: ChanId,
         on: bool,
     ) -> Result<(), CallError<ChannelError>>
-        ensures call { Calls (λ l. OnChannel l chan (Err NoSuchChannel) (Refuses (SetsBlocking l chan on)))
+        ensures call { Calls (λ l. OnChannel l chan (Err NoSuchChannel) (MayRefuse (SetsBlocking l chan on)))
             self.old self.new result }
         ensures closed { result ≡ Err (Refused ClosedChannel) → IsClosed (sees self.new) chan }
         ensures waits { result ≢ Err (Refused Busy) }
@@ -101,7 +102,14 @@ impl<'a> Caller<'a> {
         if !self.has_channel(chan) {
             return Err(CallError::NoSuchChannel);
         }
-        called(nio_channel::set_blocking(rt, self.words, &mut self.pass, self.number, chan, on))
+        called(nio_channel::set_blocking(
+            rt,
+            self.table.words(),
+            &mut self.pass,
+            self.number,
+            chan,
+            on,
+        ))
     }
 
     /// The same without waiting: `Busy` where another caller registers the channel or sets its mode.
@@ -111,13 +119,19 @@ impl<'a> Caller<'a> {
         on: bool,
     ) -> Result<(), CallError<ChannelError>>
         ensures call { Calls (λ l. OnChannel l chan (Err NoSuchChannel)
-            (Refuses (Completes (try_set_blocking_plan l chan on)))) self.old self.new result }
+            (MayRefuse (Completes (try_set_blocking_plan l chan on)))) self.old self.new result }
         ensures closed { result ≡ Err (Refused ClosedChannel) → IsClosed (sees self.new) chan }
     {
         if !self.has_channel(chan) {
             return Err(CallError::NoSuchChannel);
         }
-        called(nio_channel::try_set_blocking(self.words, &mut self.pass, self.number, chan, on))
+        called(nio_channel::try_set_blocking(
+            self.table.words(),
+            &mut self.pass,
+            self.number,
+            chan,
+            on,
+        ))
     }
 
     /// Registers the channel with the selector: Java's `register`. Where the channel has a valid key there, this key is
@@ -132,7 +146,7 @@ impl<'a> Caller<'a> {
         att: u64,
     ) -> Result<KeyNo, CallError<ChannelError>>
         ensures call { Calls (λ l. OnSelector l sel (Err NoSuchSelector) (OnChannel l chan (Err NoSuchChannel)
-            (Refuses (Registers l sel chan ops att)))) self.old self.new result }
+            (MayRefuse (Registers l sel chan ops att)))) self.old self.new result }
         ensures waits { result ≢ Err (Refused Busy) }
         ensures in_selector { IfOk result (λ k. k.sel ≡ sel) }
         ensures key { IfOk result (HasKey (sees self.new)) }
@@ -147,7 +161,7 @@ impl<'a> Caller<'a> {
         }
         called(nio_channel::register(
             rt,
-            self.words,
+            self.table.words(),
             &mut self.pass,
             self.number,
             sel,
@@ -166,7 +180,7 @@ impl<'a> Caller<'a> {
         att: u64,
     ) -> Result<KeyNo, CallError<ChannelError>>
         ensures call { Calls (λ l. OnSelector l sel (Err NoSuchSelector) (OnChannel l chan (Err NoSuchChannel)
-            (Refuses (Completes (try_register_plan l sel chan ops att))))) self.old self.new result }
+            (MayRefuse (Completes (try_register_plan l sel chan ops att))))) self.old self.new result }
         ensures in_selector { IfOk result (λ k. k.sel ≡ sel) }
         ensures key { IfOk result (HasKey (sees self.new)) }
         ensures its { IfOk result (IsKeyOf (sees self.new) chan) }
@@ -179,7 +193,7 @@ impl<'a> Caller<'a> {
             return Err(CallError::NoSuchChannel);
         }
         called(nio_channel::try_register(
-            self.words,
+            self.table.words(),
             &mut self.pass,
             self.number,
             sel,
@@ -200,7 +214,7 @@ impl<'a> Caller<'a> {
         att: u64,
     ) -> Result<KeyNo, CallError<ChannelError>>
         ensures call { Calls (λ l. OnSelector l sel (Err NoSuchSelector) (OnChannel l chan (Err NoSuchChannel)
-            (Refuses (RegistersNonBlocking l sel chan ops att)))) self.old self.new result }
+            (MayRefuse (RegistersNonBlocking l sel chan ops att)))) self.old self.new result }
         ensures waits { result ≢ Err (Refused Busy) }
         ensures in_selector { IfOk result (λ k. k.sel ≡ sel) }
         ensures key { IfOk result (HasKey (sees self.new)) }
@@ -235,8 +249,17 @@ impl<'a> Caller<'a> {
         ensures cancelled { IfOk result (IsCancelledWhereClosed (sees self.new) self.old.number chan) }
     {
         let me = self.number;
-        nio_channel::set_blocking(rt, self.words, &mut self.pass, me, chan, false)?;
-        nio_channel::register(rt, self.words, &mut self.pass, me, sel, chan, ops, att)
+        nio_channel::set_blocking(rt, self.table.words(), &mut self.pass, me, chan, false)?;
+        nio_channel::register(
+            rt,
+            self.table.words(),
+            &mut self.pass,
+            me,
+            sel,
+            chan,
+            ops,
+            att,
+        )
     }
 
     /// The channel's key in the selector, where it has one: Java's `keyFor`. None where there is no such channel or
@@ -252,7 +275,7 @@ impl<'a> Caller<'a> {
         if !self.has_channel(chan) {
             return None;
         }
-        nio_channel::key_for(self.words, &mut self.pass, self.number, chan, sel)
+        nio_channel::key_for(self.table.words(), &mut self.pass, self.number, chan, sel)
     }
 
     /// Whether the channel is registered with any selector: Java's `isRegistered`. False where there is no such
@@ -264,7 +287,7 @@ impl<'a> Caller<'a> {
         if !self.has_channel(chan) {
             return false;
         }
-        nio_channel::is_registered(self.words, &mut self.pass, self.number, chan)
+        nio_channel::is_registered(self.table.words(), &mut self.pass, self.number, chan)
     }
 
     /// Closes the channel and cancels its keys: Java's `close`. Says whether this call closed it. It never waits.
@@ -272,11 +295,12 @@ impl<'a> Caller<'a> {
         ensures call { Calls (λ l. OnChannel l chan false (Completes (close_channel_plan l chan)))
             self.old self.new result }
         ensures took { result ≡ has (closes chan) (done_between self.old.number (sees self.old) (sees self.new)) }
+        ensures closes { IsTrue result → IsClosed (sees self.new) chan }
         ensures closed { HasChannel (sees self.old) chan → IsClosed (sees self.new) chan }
     {
         if !self.has_channel(chan) {
             return false;
         }
-        nio_channel::close_channel(self.words, &mut self.pass, self.number, chan)
+        nio_channel::close_channel(self.table.words(), &mut self.pass, self.number, chan)
     }
 }

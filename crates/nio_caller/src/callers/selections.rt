@@ -1,39 +1,40 @@
 //! The selections of a caller: whole ones, and the calls that they are made of. The caller keeps the selectors' lists that
-//! it took, and selects by them.
-ghost use Rattle.std.specs.Prelude.{◌≡◌, Err, IfOk, IfSome, None, OnErr, Some, if◌then◌else◌, false, is_some, option_map};
+//! it took, and selects by them; it keeps the selections that are in progress, and the closings.
+ghost use Rattle.std.specs.Prelude.{◌≡◌, ◌↔◌, Err, IfOk, IfSome, None, Ok, OnErr, Some, if◌then◌else◌, false, is_some};
+ghost use Rattle.std.specs.Prelude.{option_map};
 ghost use Rattle.nio_base.specs.declared.numbers.ChanNo.{ChanNo};
 ghost use Rattle.nio_history.specs.PassViews.{HasSelector};
 ghost use Rattle.nio_history.specs.declared.found.Mode.TheVariants as mode;
 ghost use Rattle.nio_poller.specs.Polls.{CountsFaults};
-ghost use Rattle.nio_poller.specs.Selecting.{SelectClause, TimedClause};
+ghost use Rattle.nio_poller.specs.Selecting.{SelectClause, SelectToldClause, TimedClause, TimedToldClause};
 ghost use Rattle.nio_poller.specs.declared.selecting.SelectError.TheVariants.{PollFault, ClosedSelector};
 ghost use Rattle.nio_poller.specs.declared.selecting.SelectError.TheVariants.{NegativeTimeout};
 ghost use Rattle.nio_select.specs.InHand.{TakesOnList, empty_list, known_by, list_of, selection_of};
-ghost use Rattle.nio_select.specs.InProgress.{HasShut, IfAgain, IfBusy, IfClosing, IfDone, MaySelect, Selects};
-ghost use Rattle.nio_select.specs.InProgress.{finish_reply, poll_of, shut_reply, told_reply};
-ghost use Rattle.nio_select.specs.Listed.{ok_seen};
+ghost use Rattle.nio_select.specs.InProgress.{MaySelect, poll_of};
 ghost use Rattle.nio_steps.specs.Calls.{CallClause};
 ghost use Rattle.nio_steps.specs.Runs.{Completes};
-ghost use Rattle.nio_steps.specs.SelectCalls.{Begins, Tells, leave_plan, shut_plan, take_list_plan, try_finish_plan};
+ghost use Rattle.nio_steps.specs.SelectCalls.{Begins, leave_plan, shut_plan, take_list_plan};
 ghost use Rattle.nio_words.specs.Passes.{IsReady};
 ghost use Rattle.nio_words.specs.Views.{view};
-ghost use Rattle.nio_caller.specs.Callers.{IsSameCaller, held, sees};
-ghost use Rattle.nio_caller.specs.NamedCalls.{Calls, Gives, IfUncalled, OnSelector, Refuses};
-ghost use Rattle.nio_caller.specs.Selections.{CallsOn, HasBack, SelectsOn};
+ghost use Rattle.nio_caller.specs.Callers.{closing, held, selection, sees};
+ghost use Rattle.nio_caller.specs.NamedCalls.{Gives, IfUncalled, MayRefuse, OnSelector};
+ghost use Rattle.nio_caller.specs.Selections.{CallsOn, Finishes, HasBack, IsMade, SelectsOn, Starts, TellsKept};
+ghost use Rattle.nio_caller.specs.Selections.{closing_after, closing_left, shut_says};
 ghost use Rattle.nio_caller.specs.declared.refusal.CallError.TheVariants.{NoSuchSelector, Refused};
 
 use super::Caller;
-use crate::refusal::{CallError, called};
+use crate::refusal::{CallError, NotClosing, NotSelecting, called};
+use crate::table::Table;
 use nio_base::{CallerNo, SelNo};
 use nio_history::Mode;
 use nio_poller::{Poller, SelectError};
-use nio_select::{After, Closing, Finish, Selecting, Selector, Shutting, Told};
+use nio_select::{After, Finish, Selecting, Selector, Shutting, Told};
 use nio_steps::{BeginError, Selected};
 use nio_words::{Pass, Words};
 use std::alloc::Global;
 use std::sync::Wait;
 
-impl<'a> Caller<'a> {
+impl<T: Table> Caller<T> {
     /// Takes the selector's list, where nobody has that: the caller has it for good, and its selections there look only
     /// at the keys that were touched since the last. Without the list a selection looks at every key. Says whether it was
     /// taken.
@@ -42,11 +43,12 @@ impl<'a> Caller<'a> {
             self.old self.new result }
         ensures list { held self.new sel
             ≡ (if result then record { number = sel; list = Some (empty_list sel) } else held self.old sel) }
+        ensures progress { self.new.progress ≡ self.old.progress }
     {
         if !self.has_selector(sel) {
             return false;
         }
-        match with_list(alloc, self.words, &mut self.pass, self.number, sel) {
+        match with_list(alloc, self.table.words(), &mut self.pass, self.number, sel) {
             Some(selector) => {
                 self.lists.put(selector);
                 true
@@ -84,7 +86,7 @@ impl<'a> Caller<'a> {
         let selected = nio_poller::select(
             rt,
             alloc,
-            self.words,
+            self.table.words(),
             &mut self.pass,
             self.number,
             &mut selector,
@@ -119,7 +121,7 @@ impl<'a> Caller<'a> {
         let selected = nio_poller::select_now(
             rt,
             alloc,
-            self.words,
+            self.table.words(),
             &mut self.pass,
             self.number,
             &mut selector,
@@ -156,7 +158,82 @@ impl<'a> Caller<'a> {
         let selected = nio_poller::select_for(
             rt,
             alloc,
-            self.words,
+            self.table.words(),
+            &mut self.pass,
+            self.number,
+            &mut selector,
+            poller,
+            ms,
+        );
+        self.lists.put(selector);
+        called(selected)
+    }
+
+    /// The same as `select`, but over once a poll told anything of what the selection looked for, also of a key that is
+    /// selected already with those operations: what `select()` of JDK 17 does. It is for programs that leave keys selected,
+    /// with which `select` spins. Where no key was updated it answers the count 0, and `Why::Elapsed` where nothing else
+    /// ended it.
+    pub fn select_told<R: Wait, P: Poller>(
+        &mut self,
+        rt: &R,
+        alloc: Global,
+        sel: SelNo,
+        poller: &mut P,
+    ) -> Result<Selected, CallError<SelectError>>
+        ensures call { SelectsOn sel (λ before after seen. SelectToldClause self.old.number mode.Wait before after
+            seen (sees self.new) (P.polls poller.old) (P.polls poller.new) (P.ready poller.new))
+            self.old self.new result }
+        ensures cause { CountsFaults (Refused PollFault) (P.poll_faults poller.old) (P.poll_faults poller.new) result }
+        ensures unready { result ≡ Err (Refused PollFault) → (c : ChanNo) → P.ready poller.new c ≡ 0 }
+        ensures kept { P.kept poller.old poller.new }
+        ensures unasked { result ≡ Err (Refused ClosedSelector) → poller.new ≡ poller.old }
+        ensures untouched { IfUncalled result (poller.new ≡ poller.old) }
+    {
+        if !self.has_selector(sel) {
+            return Err(CallError::NoSuchSelector);
+        }
+        let mut selector = self.lists.take(sel);
+        let selected = nio_poller::select_told(
+            rt,
+            alloc,
+            self.table.words(),
+            &mut self.pass,
+            self.number,
+            &mut selector,
+            poller,
+        );
+        self.lists.put(selector);
+        called(selected)
+    }
+
+    /// The same as `select_told`, for at most `ms` milliseconds; 0 waits without limit: what `select(long)` of JDK 17 does.
+    /// `Why::Elapsed` says that the time was over, or the same as after `select_told`.
+    pub fn select_told_for<R: Wait, P: Poller>(
+        &mut self,
+        rt: &R,
+        alloc: Global,
+        sel: SelNo,
+        poller: &mut P,
+        ms: i64,
+    ) -> Result<Selected, CallError<SelectError>>
+        ensures call { SelectsOn sel (λ before after seen. TimedToldClause self.old.number ms before after
+            seen (sees self.new) (P.polls poller.old) (P.polls poller.new) (P.ready poller.new))
+            self.old self.new result }
+        ensures cause { CountsFaults (Refused PollFault) (P.poll_faults poller.old) (P.poll_faults poller.new) result }
+        ensures unready { result ≡ Err (Refused PollFault) → (c : ChanNo) → P.ready poller.new c ≡ 0 }
+        ensures kept { P.kept poller.old poller.new }
+        ensures unasked { result ≡ Err (Refused ClosedSelector) → poller.new ≡ poller.old }
+        ensures refused { result ≡ Err (Refused NegativeTimeout) → poller.new ≡ poller.old }
+        ensures untouched { IfUncalled result (poller.new ≡ poller.old) }
+    {
+        if !self.has_selector(sel) {
+            return Err(CallError::NoSuchSelector);
+        }
+        let mut selector = self.lists.take(sel);
+        let selected = nio_poller::select_told_for(
+            rt,
+            alloc,
+            self.table.words(),
             &mut self.pass,
             self.number,
             &mut selector,
@@ -168,90 +245,139 @@ impl<'a> Caller<'a> {
     }
 
     /// Begins a selection, by the selector's list where the caller has that: takes the selector's turn, removes the keys
-    /// that were cancelled, and looks at the interest of those that are valid. `Busy` where a selection is in progress
-    /// there, also one of the caller's own. The list is lent to the selection.
+    /// that were cancelled, and looks at the interest of those that are valid. The selection is in progress then:
+    /// `selection` shows it, `told` and `leave` end it. `Busy` where a selection is in progress there, also one of the
+    /// caller's own. The list is lent to the selection.
     pub fn begin(
         &mut self,
         alloc: Global,
         sel: SelNo,
         mode: Mode,
-    ) -> Result<Selecting, CallError<BeginError>>
+    ) -> Result<(), CallError<BeginError>>
         ensures call { CallsOn sel (λ l. OnSelector l sel (Err NoSuchSelector)
-            (Refuses (Begins sel mode (known_by (held self.old sel))))) self.old self.new (ok_seen selection_of result) }
-        ensures begun { IfOk result (λ s. Selects (sees self.new) self.new.number (selection_of s)) }
-        ensures selector { IfOk result (λ s. s.selector ≡ sel) }
-        ensures lent { IfOk result (λ s. (held self.new sel ≡ record { number = sel; list = None })
-            × TakesOnList (held self.old sel) s) }
-        ensures refused { OnErr result (held self.new sel ≡ held self.old sel) }
+            (MayRefuse (Starts (selection self.new sel) (Begins sel mode (known_by (held self.old sel))))))
+            self.old self.new result }
+        ensures lent { IfOk result (λ _. IfSome (selection self.new sel) (λ s.
+            (held self.new sel ≡ record { number = sel; list = None }) × TakesOnList (held self.old sel) s)) }
+        ensures refused { OnErr result ((held self.new sel ≡ held self.old sel)
+            × (selection self.new sel ≡ selection self.old sel)) }
+        ensures closings { self.new.progress.closings ≡ self.old.progress.closings }
     {
         if !self.has_selector(sel) {
             return Err(CallError::NoSuchSelector);
         }
         let mut selector = self.lists.take(sel);
-        let begun = selector.begin(alloc, self.words, &mut self.pass, self.number, mode);
+        let begun = selector.begin(alloc, self.table.words(), &mut self.pass, self.number, mode);
         self.lists.put(selector);
-        called(begun)
-    }
-
-    /// Tells a selection in progress on this selector what a poller answered. `Again` where no key was marked and nothing
-    /// else ends the wait; else the selection is over. The selector's list, where the selection went by it, comes back to
-    /// the caller: `Done` has none.
-    pub fn told(&mut self, sel: SelNo, selection: Selecting, told: &Told) -> After
-        requires begun { Selects (sees self.old) self.old.number (selection_of selection) }
-        requires selector { selection.selector ≡ sel }
-        ensures call { CallClause self.old.number (Tells (selection_of selection) (poll_of told.now))
-            (sees self.old) (sees self.new) (told_reply result) }
-        ensures same { IsSameCaller self.old self.new }
-        ensures goes_on { IfAgain result (λ s. (s ≡ selection) × (self.new.selectors ≡ self.old.selectors)
-            × Selects (sees self.new) self.new.number (selection_of s)) }
-        ensures done { IfDone result (λ list. (list ≡ None)
-            × HasBack (list_of selection) self.old.selectors self.new.selectors) }
-    {
-        match selection.told(self.words, &mut self.pass, self.number, told) {
-            After::Done(answer, list) => {
-                self.lists.take_back(sel, list);
-                After::Done(answer, None)
+        match begun {
+            Ok(selection) => {
+                self.progress.put_selection(sel, selection);
+                Ok(())
             }
-            After::Again(selection) => After::Again(selection),
+            Err(error) => Err(CallError::Refused(error)),
         }
     }
 
-    /// Gives the turn of a selection in progress on this selector back, after a poll that failed. A pending wakeup stays,
-    /// and so do the keys' marks. The selector's list, where the selection went by it, comes back to the caller.
-    pub fn leave(&mut self, sel: SelNo, selection: Selecting)
-        requires begun { Selects (sees self.old) self.old.number (selection_of selection) }
-        requires selector { selection.selector ≡ sel }
-        ensures call { CallClause self.old.number (Completes (leave_plan (selection_of selection)))
-            (sees self.old) (sees self.new) tt }
-        ensures same { IsSameCaller self.old self.new }
-        ensures back { HasBack (list_of selection) self.old.selectors self.new.selectors }
+    /// The caller's selection in progress on this selector: the keys that it asks for, and how long it waits. A poller is
+    /// asked about these, and `told` takes its answer. None where the caller has none in progress there.
+    pub fn selection(&self, sel: SelNo) -> Option<&Selecting>
+        ensures { option_map (λ shown. shown.now) result ≡ selection self.now sel }
     {
-        let list = selection.leave(self.words, &mut self.pass, self.number);
-        self.lists.take_back(sel, list);
+        self.progress.selection(sel)
     }
 
-    /// Begins to close a selector: selections and registrations are refused from then on. None where there is no such
-    /// selector.
-    pub fn shut(&mut self, sel: SelNo) -> Option<Shutting>
-        ensures call { Calls (λ l. OnSelector l sel None (Gives (Completes (shut_plan sel))))
-            self.old self.new (option_map shut_reply result) }
-        ensures closing { IfSome result (λ shutting. IfClosing shutting (λ s. (s ≡ sel)
-            × HasShut (sees self.new) self.old.number s)) }
+    /// Tells the caller's selection in progress on this selector what a poller answered. None where no key was marked and
+    /// nothing else ends the wait: it goes on, with a further poll. Else it is over, with this answer, and the selector's
+    /// list, where it went by that, is the caller's again.
+    pub fn told(&mut self, sel: SelNo, told: &Told) -> Result<Option<Selected>, NotSelecting>
+        ensures none { (result ≡ Err (record {})) ↔ (selection self.old sel ≡ None) }
+        ensures nothing { OnErr result (self.new ≡ self.old) }
+        ensures call { IfSome (selection self.old sel) (λ s. CallsOn sel (λ _. TellsKept s (poll_of told.now))
+            self.old self.new result) }
+        ensures goes_on { result ≡ Ok None → (self.new.selectors ≡ self.old.selectors)
+            × (selection self.new sel ≡ selection self.old sel) }
+        ensures done { IfSome (selection self.old sel) (λ s. IfOk result (λ answer. IfSome answer (λ _.
+            (selection self.new sel ≡ None) × HasBack (list_of s) self.old.selectors self.new.selectors))) }
+        ensures closings { self.new.progress.closings ≡ self.old.progress.closings }
+    {
+        let Some(selection) = self.progress.take_selection(sel) else {
+            return Err(NotSelecting);
+        };
+        match selection.told(self.table.words(), &mut self.pass, self.number, told) {
+            After::Done(answer, list) => {
+                self.lists.take_back(sel, list);
+                Ok(Some(answer))
+            }
+            After::Again(selection) => {
+                self.progress.put_selection(sel, selection);
+                Ok(None)
+            }
+        }
+    }
+
+    /// Gives the turn of the caller's selection in progress on this selector back, after a poll that failed. A pending
+    /// wakeup stays, and so do the keys' marks. The selector's list, where the selection went by it, is the caller's
+    /// again.
+    pub fn leave(&mut self, sel: SelNo) -> Result<(), NotSelecting>
+        ensures none { (result ≡ Err (record {})) ↔ (selection self.old sel ≡ None) }
+        ensures nothing { OnErr result (self.new ≡ self.old) }
+        ensures call { IfSome (selection self.old sel) (λ s. CallsOn sel
+            (λ _. IsMade (Completes (leave_plan (selection_of s)))) self.old self.new result) }
+        ensures back { IfSome (selection self.old sel) (λ s.
+            HasBack (list_of s) self.old.selectors self.new.selectors) }
+        ensures over { selection self.new sel ≡ None }
+        ensures closings { self.new.progress.closings ≡ self.old.progress.closings }
+    {
+        let Some(selection) = self.progress.take_selection(sel) else {
+            return Err(NotSelecting);
+        };
+        let list = selection.leave(self.table.words(), &mut self.pass, self.number);
+        self.lists.take_back(sel, list);
+        Ok(())
+    }
+
+    /// Begins to close a selector: selections and registrations are refused from then on. Says whether this call began it:
+    /// the closing is in progress then, and `try_finish` ends it. False where another call began to before; None where
+    /// there is no such selector.
+    pub fn shut(&mut self, sel: SelNo) -> Option<bool>
+        ensures call { CallsOn sel (λ l. OnSelector l sel None (Gives (Completes (shut_plan sel))))
+            self.old self.new (option_map shut_says result) }
+        ensures lists { self.new.selectors ≡ self.old.selectors }
+        ensures selections { self.new.progress.selections ≡ self.old.progress.selections }
+        ensures closing { closing self.new sel ≡ closing_after result sel (closing self.old sel) }
     {
         if !self.has_selector(sel) {
             return None;
         }
-        Some(nio_select::shut(self.words, &mut self.pass, self.number, sel))
+        match nio_select::shut(self.table.words(), &mut self.pass, self.number, sel) {
+            Shutting::Closing(closing) => {
+                self.progress.put_closing(sel, closing);
+                Some(true)
+            }
+            Shutting::AlreadyClosed => Some(false),
+        }
     }
 
-    /// Removes the keys of a selector that the caller began to close, where nobody selects there. `Busy` where somebody
-    /// does.
-    pub fn try_finish(&mut self, closing: Closing) -> Finish
-        requires { HasShut (sees self.old) self.old.number closing }
-        ensures call { Calls (λ l. Completes (try_finish_plan closing)) self.old self.new (finish_reply result) }
-        ensures busy { IfBusy result (λ s. (s ≡ closing) × HasShut (sees self.new) self.old.number s) }
+    /// Removes the keys of a selector that the caller began to close, where nobody selects there: the selector is closed
+    /// then. False where somebody selects: the closing is still in progress.
+    pub fn try_finish(&mut self, sel: SelNo) -> Result<bool, NotClosing>
+        ensures none { (result ≡ Err (record {})) ↔ (closing self.old sel ≡ None) }
+        ensures nothing { OnErr result (self.new ≡ self.old) }
+        ensures call { IfSome (closing self.old sel) (λ _. CallsOn sel (λ _. Finishes sel) self.old self.new result) }
+        ensures lists { self.new.selectors ≡ self.old.selectors }
+        ensures selections { self.new.progress.selections ≡ self.old.progress.selections }
+        ensures closing { closing self.new sel ≡ closing_left result (closing self.old sel) }
     {
-        closing.try_finish(self.words, &mut self.pass, self.number)
+        let Some(closing) = self.progress.take_closing(sel) else {
+            return Err(NotClosing);
+        };
+        match closing.try_finish(self.table.words(), &mut self.pass, self.number) {
+            Finish::Closed => Ok(true),
+            Finish::Busy(closing) => {
+                self.progress.put_closing(sel, closing);
+                Ok(false)
+            }
+        }
     }
 }
 

@@ -6,35 +6,36 @@ ghost use Rattle.nio_steps.specs.Runs.{Completes};
 ghost use Rattle.nio_steps.specs.SelectCalls.{open_selector_plan, ListsKeys, ListsSelected, wakeup_plan};
 ghost use Rattle.nio_steps.specs.SelectCalls.{ClosesSelector, interrupt_plan, interrupted_plan};
 ghost use Rattle.nio_caller.specs.Callers.{sees};
-ghost use Rattle.nio_caller.specs.NamedCalls.{Calls, Does, OnCaller, OnSelector, Refuses};
+ghost use Rattle.nio_caller.specs.NamedCalls.{Calls, Does, OnCaller, OnSelector, MayRefuse};
 ghost use Rattle.nio_caller.specs.declared.refusal.CallError.TheVariants.{NoSuchSelector};
 
 use super::Caller;
 use crate::refusal::{CallError, called};
+use crate::table::Table;
 use nio_base::{CallerNo, KeyNo, SelNo};
 use nio_poller::Bell;
 use nio_steps::{ListError, SelectorsSpent};
 use std::alloc::Global;
 use std::sync::Wait;
 
-impl<'a> Caller<'a> {
+impl<T: Table> Caller<T> {
     /// Opens a selector: Java's `Selector.open`.
     pub fn open_selector(&mut self) -> Result<SelNo, SelectorsSpent>
         ensures call { Calls (λ l. Completes (open_selector_plan l)) self.old self.new result }
         ensures made { IfOk result (HasSelector (sees self.new)) }
     {
-        nio_select::open_selector(self.words, &mut self.pass, self.number)
+        nio_select::open_selector(self.table.words(), &mut self.pass, self.number)
     }
 
     /// The keys of the selector, in rising order of their indexes: Java's `keys`.
     pub fn keys(&mut self, alloc: Global, sel: SelNo) -> Result<Vec<KeyNo>, CallError<ListError>>
-        ensures call { Calls (λ l. OnSelector l sel (Err NoSuchSelector) (Refuses (ListsKeys sel)))
+        ensures call { Calls (λ l. OnSelector l sel (Err NoSuchSelector) (MayRefuse (ListsKeys sel)))
             self.old self.new (ok_seen (λ v. v.items) result) }
     {
         if !self.has_selector(sel) {
             return Err(CallError::NoSuchSelector);
         }
-        called(nio_select::keys(alloc, self.words, &mut self.pass, self.number, sel))
+        called(nio_select::keys(alloc, self.table.words(), &mut self.pass, self.number, sel))
     }
 
     /// The selected keys of the selector, in rising order of their indexes: Java's `selectedKeys`.
@@ -43,13 +44,19 @@ impl<'a> Caller<'a> {
         alloc: Global,
         sel: SelNo,
     ) -> Result<Vec<KeyNo>, CallError<ListError>>
-        ensures call { Calls (λ l. OnSelector l sel (Err NoSuchSelector) (Refuses (ListsSelected sel)))
+        ensures call { Calls (λ l. OnSelector l sel (Err NoSuchSelector) (MayRefuse (ListsSelected sel)))
             self.old self.new (ok_seen (λ v. v.items) result) }
     {
         if !self.has_selector(sel) {
             return Err(CallError::NoSuchSelector);
         }
-        called(nio_select::selected_keys(alloc, self.words, &mut self.pass, self.number, sel))
+        called(nio_select::selected_keys(
+            alloc,
+            self.table.words(),
+            &mut self.pass,
+            self.number,
+            sel,
+        ))
     }
 
     /// Leaves a wakeup at the selector and rings: the selection that is in progress there, or else the next one,
@@ -60,7 +67,7 @@ impl<'a> Caller<'a> {
         if !self.has_selector(sel) {
             return false;
         }
-        nio_poller::wakeup(self.words, &mut self.pass, self.number, sel, bell);
+        nio_poller::wakeup(self.table.words(), &mut self.pass, self.number, sel, bell);
         true
     }
 
@@ -73,7 +80,14 @@ impl<'a> Caller<'a> {
         if !self.has_selector(sel) {
             return false;
         }
-        nio_poller::close(rt, self.words, &mut self.pass, self.number, sel, bell)
+        nio_poller::close(
+            rt,
+            self.table.words(),
+            &mut self.pass,
+            self.number,
+            sel,
+            bell,
+        )
     }
 
     /// Sets the target's interrupt status and rings: Java's `Thread.interrupt`, for callers. Says whether the table has
@@ -82,10 +96,16 @@ impl<'a> Caller<'a> {
         ensures call { Calls (λ l. OnCaller l target false (Does (Completes (interrupt_plan target))))
             self.old self.new result }
     {
-        if target.0 >= self.words.limits().callers {
+        if target.0 >= self.table.words().limits().callers {
             return false;
         }
-        nio_poller::interrupt(self.words, &mut self.pass, self.number, target, bell);
+        nio_poller::interrupt(
+            self.table.words(),
+            &mut self.pass,
+            self.number,
+            target,
+            bell,
+        );
         true
     }
 
@@ -93,6 +113,6 @@ impl<'a> Caller<'a> {
     pub fn interrupted(&mut self) -> bool
         ensures call { Calls (λ l. Completes interrupted_plan) self.old self.new result }
     {
-        nio_poller::interrupted(self.words, &mut self.pass, self.number)
+        nio_poller::interrupted(self.table.words(), &mut self.pass, self.number)
     }
 }

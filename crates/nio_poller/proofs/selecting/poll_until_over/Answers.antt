@@ -10,7 +10,7 @@ loop-init g c = (
   c.requires.ready,
   c.requires.begun,
   refl,
-  so_far_none _ _ _ _ c.requires.ready.pass.legal,
+  so_far_none _ _ _ _ _ c.requires.ready.pass.legal,
   refl,
   g.met.P.Poller.kept_same _,
 )

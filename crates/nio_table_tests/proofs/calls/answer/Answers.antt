@@ -3,7 +3,7 @@ use Rattle.nio_steps.proofs.PinLaws.{pins_are_given_back}
 use Rattle.nio_words.proofs.Pins.{no_pin_stays}
 use Rattle.nio_words.proofs.Views.{step_acts}
 use Rattle.nio_channel.proofs.Idle.{idle_after, idle_after_other, idle_step}
-use Rattle.nio_caller.proofs.Calls.{keys_give}
+use Rattle.nio_caller.proofs.GoingOn.{keys}
 use Rattle.nio_table_tests.proofs.Idle.{idle_call}
 use Rattle.nio_table_tests.proofs.calls.answer.Goals as goal
 
@@ -18,7 +18,7 @@ returns-in-FindSelector c =
     c.requires
 
 pub returns-in-Keys : goal.returns-in-Keys
-returns-in-Keys c = idle_call (keys_give _) c.keys.ensures.call c.keys.ensures.ready c.requires
+returns-in-Keys c = idle_call (keys _).pins c.keys.ensures.call c.keys.ensures.ready c.requires
 
 pub returns-in-SelectedKeys : goal.returns-in-SelectedKeys
 returns-in-SelectedKeys c =

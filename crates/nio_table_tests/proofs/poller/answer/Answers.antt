@@ -1,6 +1,6 @@
 use Rattle.nio_channel.specs.Idle.{zero, first_selector}
 use Rattle.nio_history.proofs.PassViews.{selector_after}
-use Rattle.nio_poller.proofs.Ready.{selector_timed}
+use Rattle.nio_poller.proofs.Ready.{selector_timed, selector_told_timed}
 use Rattle.nio_words.specs.Views.{view}
 use Rattle.nio_table_tests.proofs.poller.answer.Goals as goal
 
@@ -17,6 +17,18 @@ returns-in-SelectFor-clause-selector g c =
     selector_timed zero c.without_list-on.result c.select_for.new.selector (view w c.args.p.now)
     (view w c.select_for.new.p) (g.P.Poller.polls c.args.poller.now) (g.P.Poller.polls poller)
     (g.P.Poller.ready poller) c.select_for.result first_selector _ c.select_for.ensures.call c.requires.selector
+
+pub returns-in-SelectTold-clause-selector : goal.returns-in-SelectTold-clause-selector
+returns-in-SelectTold-clause-selector g c = selector_after c.select_told.ensures.call.call.acts c.requires.selector
+
+pub returns-in-SelectToldFor-clause-selector : goal.returns-in-SelectToldFor-clause-selector
+returns-in-SelectToldFor-clause-selector g c =
+    let w = c.args.w.now in
+    let poller = c.select_told_for.new.poller in
+    selector_told_timed zero c.without_list-on.result c.select_told_for.new.selector (view w c.args.p.now)
+    (view w c.select_told_for.new.p) (g.P.Poller.polls c.args.poller.now) (g.P.Poller.polls poller)
+    (g.P.Poller.ready poller) c.select_told_for.result first_selector _ c.select_told_for.ensures.call
+    c.requires.selector
 
 pub returns-in-Wakeup-clause-selector : goal.returns-in-Wakeup-clause-selector
 returns-in-Wakeup-clause-selector g c = selector_after c.wakeup.ensures.call.acts c.requires.selector

@@ -1,49 +1,104 @@
-use Rattle.std.proofs.Common.{ap, refl, sym, ◌∙◌, subst}
-use Rattle.nio_base.specs.declared.numbers.SelNo.{SelNo}
+use Rattle.std.proofs.Common.{Ok, Err, ap, refl, sym, ◌∙◌}
 use Rattle.nio_history.specs.PassViews.{HasSelector}
-use Rattle.nio_poller.proofs.Trying.{begin_gives}
 use Rattle.nio_select.specs.InHand.{HeldSelector}
-use Rattle.nio_words.specs.Views.{view}
-use Rattle.nio_caller.proofs.Calls.{keeps_lists, may_call_after, still_has}
-use Rattle.nio_caller.proofs.NamedCalls.{met_on, missed, ok_called, on_calls, seen_of, seen_refusal}
-use Rattle.nio_caller.proofs.Selections.{begins_so, begun_may, begun_number, begun_on, elsewhere, had_before, here, lent_so, put_back}
+use Rattle.nio_caller.specs.Callers.{Progress, selection_in}
+use Rattle.nio_caller.proofs.NamedCalls.{met_on, missed, on_calls, seen_at}
+use Rattle.nio_caller.proofs.Ongoing.{acting_begun, acting_unbegun, begun_here, begun_others, had_progress, if_is}
+use Rattle.nio_caller.proofs.Ongoing.{same_closings, starts, unstarted}
+use Rattle.nio_caller.proofs.Selections.{had_before, lent_so}
 use Rattle.nio_caller.proofs.callers.Caller.begin.Goals as goal
 
 pub returns-then-not-has_selector-clause-call : goal.returns-then-not-has_selector-clause-call
-returns-then-not-has_selector-clause-call c =
+returns-then-not-has_selector-clause-call g c =
     on_calls _ (missed _ _ c.if-not-has_selector.ensures.call)
 
 pub invariant_of-self : goal.invariant_of-self
-invariant_of-self c =
-    let now = view c.self.inside.words.now c.begin-begun.new.p in
-    let has = seen_of (λ v. HasSelector v c.args.sel) c.self.view_is (c.if-not-has_selector.ensures.has refl) in
-    let still = (still_has c.begin-begun.ensures.call.acts).selectors _ (subst (λ (n : SelNo). HasSelector (view c.self.inside.words.now c.self.inside.pass) n) (sym (ap (λ (x : HeldSelector). x.number) c.take-selector.ensures.taken ∙ c.self.invariant.lists.numbers c.args.sel)) has) in
-    record {
-      may = may_call_after (begin_gives _ _ _) c.begin-begun.ensures.call c.begin-begun.ensures.ready c.self.invariant.may;
-      lists = put_back c.self.inside.lists c.take-selector.new.self c.put.new.self c.args.sel c.begin-begun.new.self
-          (begun_number (view c.self.inside.words.now c.begin-begun.new.p) c.self.inside.number c.take-selector.result c.begin-begun.new.self c.begin-begun.result c.begin-begun.ensures.lent c.begin-begun.ensures.refused ∙ (ap (λ (x : HeldSelector). x.number) c.take-selector.ensures.taken ∙ c.self.invariant.lists.numbers c.args.sel)) c.take-selector.ensures.others c.put.ensures.put c.put.ensures.others now c.self.inside.number
-          (keeps_lists c.begin-begun.ensures.call.acts _ _ c.self.invariant.lists)
-          (begun_may now c.self.inside.number c.take-selector.result c.begin-begun.new.self c.begin-begun.result c.begin-begun.ensures.lent c.begin-begun.ensures.refused still);
-    }
+invariant_of-self g c =
+    acting_begun c.words.ensures c.self.inside.pass c.begin-begun.new.p c.self.inside.number c.self.inside.lists
+    c.take-selector.new.self c.put.new.self c.self.inside.progress c.args.sel c.take-selector.result
+    c.begin-begun.new.self c.args.mode (Ok c.in-Ok.selection) c.take-selector.ensures.taken c.take-selector.ensures.others
+    c.put.ensures.put c.put.ensures.others c.in-Ok.ensures.call c.in-Ok.ensures.lent c.in-Ok.ensures.refused
+    c.begin-begun.ensures.ready c.self.invariant
+    (seen_at refl (λ v. HasSelector v c.args.sel) c.self.view_is (c.if-not-has_selector.ensures.has refl))
+    c.put_selection.new.self c.in-Ok.selection
+    (c.in-Ok.ensures.lent.1.on ∙ (ap (λ (x : HeldSelector). x.number) c.take-selector.ensures.taken
+    ∙ c.self.invariant.lists.numbers c.args.sel))
+    c.in-Ok.ensures.begun c.put_selection.ensures.put c.put_selection.ensures.others c.put_selection.ensures.closings
 
-pub returns-clause-call : goal.returns-clause-call
-returns-clause-call c =
-    rw c.called.ensures (met_on c.put.new.self c.args.sel _ _ _ c.if-not-has_selector.ensures.call c.self.view_is
-    (seen_refusal _ _ _ (begins_so _ _ c.take-selector.result _ c.args.sel (c.take-selector.ensures.taken ∙ (had_before c.args.sel c.if-not-has_selector.ensures.call c.self.view_is))
-    (ap (λ (x : HeldSelector). x.number) (sym (had_before c.args.sel c.if-not-has_selector.ensures.call c.self.view_is)) ∙ c.self.invariant.lists.numbers c.args.sel) c.begin-begun.ensures.call))
-    (elsewhere c.self.inside.lists c.take-selector.new.self c.put.new.self c.args.sel c.begin-begun.new.self (begun_number (view c.self.inside.words.now c.begin-begun.new.p) c.self.inside.number c.take-selector.result c.begin-begun.new.self c.begin-begun.result c.begin-begun.ensures.lent c.begin-begun.ensures.refused ∙ (ap (λ (x : HeldSelector). x.number) c.take-selector.ensures.taken ∙ c.self.invariant.lists.numbers c.args.sel))
-    c.take-selector.ensures.others c.put.ensures.put c.put.ensures.others))
+pub invariant_of-self-in-Err : goal.invariant_of-self-in-Err
+invariant_of-self-in-Err g c =
+    acting_unbegun c.words.ensures c.self.inside.pass c.begin-begun.new.p c.self.inside.number c.self.inside.lists
+    c.take-selector.new.self c.put.new.self c.self.inside.progress c.args.sel c.take-selector.result
+    c.begin-begun.new.self c.args.mode (Err c.in-Err.error) c.take-selector.ensures.taken c.take-selector.ensures.others
+    c.put.ensures.put c.put.ensures.others c.in-Err.ensures.call c.in-Err.ensures.lent c.in-Err.ensures.refused
+    c.begin-begun.ensures.ready c.self.invariant
+    (seen_at refl (λ v. HasSelector v c.args.sel) c.self.view_is (c.if-not-has_selector.ensures.has refl))
 
-pub returns-clause-lent : goal.returns-clause-lent
-returns-clause-lent c =
-    rw c.called.ensures (ok_called _ c.begin-begun.result (lent_so c.take-selector.result c.begin-begun.new.self
-    c.begin-begun.result _ _ c.args.sel c.begin-begun.ensures.lent
-    (here c.self.inside.lists c.take-selector.new.self c.put.new.self c.args.sel c.begin-begun.new.self (begun_number (view c.self.inside.words.now c.begin-begun.new.p) c.self.inside.number c.take-selector.result c.begin-begun.new.self c.begin-begun.result c.begin-begun.ensures.lent c.begin-begun.ensures.refused ∙ (ap (λ (x : HeldSelector). x.number) c.take-selector.ensures.taken ∙ c.self.invariant.lists.numbers c.args.sel))
-    c.take-selector.ensures.others c.put.ensures.put c.put.ensures.others)
-    (c.take-selector.ensures.taken ∙ (had_before c.args.sel c.if-not-has_selector.ensures.call c.self.view_is)) (ap (λ (x : HeldSelector). x.number) c.take-selector.ensures.taken ∙ c.self.invariant.lists.numbers c.args.sel)))
+pub returns-in-Ok-clause-call : goal.returns-in-Ok-clause-call
+returns-in-Ok-clause-call g c =
+    met_on c.words.ensures c.put.new.self c.put_selection.new.self c.args.sel _ _ _ c.if-not-has_selector.ensures.call
+    c.self.view_is
+    (starts c.args.sel c.args.mode c.take-selector.result _ _ c.in-Ok.selection
+    (c.take-selector.ensures.taken ∙ had_before c.args.sel c.if-not-has_selector.ensures.call c.self.view_is)
+    (ap (λ (x : HeldSelector). x.number)
+    (sym (had_before c.args.sel c.if-not-has_selector.ensures.call c.self.view_is))
+    ∙ c.self.invariant.lists.numbers c.args.sel)
+    c.put_selection.ensures.put c.in-Ok.ensures.call)
+    (record {
+      lists = begun_others c.words.ensures c.self.inside.pass c.begin-begun.new.p c.self.inside.number c.self.inside.lists
+          c.take-selector.new.self c.put.new.self c.self.inside.progress c.args.sel c.take-selector.result
+          c.begin-begun.new.self c.args.mode (Ok c.in-Ok.selection) c.take-selector.ensures.taken c.take-selector.ensures.others
+          c.put.ensures.put c.put.ensures.others c.in-Ok.ensures.call c.in-Ok.ensures.lent c.in-Ok.ensures.refused c.self.invariant.lists;
+      selections = c.put_selection.ensures.others;
+      closings = λ t other. same_closings c.self.inside.progress c.put_selection.new.self c.put_selection.ensures.closings t;
+    })
 
-pub returns-clause-selector : goal.returns-clause-selector
-returns-clause-selector c =
-    rw c.called.ensures (ok_called _ c.begin-begun.result (begun_on c.take-selector.result c.begin-begun.new.self
-    c.args.sel (ap (λ (x : HeldSelector). x.number) c.take-selector.ensures.taken
-    ∙ c.self.invariant.lists.numbers c.args.sel) c.begin-begun.result c.begin-begun.ensures.lent))
+pub returns-in-Err-clause-call : goal.returns-in-Err-clause-call
+returns-in-Err-clause-call g c =
+    met_on c.words.ensures c.put.new.self c.self.inside.progress c.args.sel _ _ _ c.if-not-has_selector.ensures.call
+    c.self.view_is
+    (unstarted c.args.sel c.args.mode c.take-selector.result _ _ c.in-Err.error
+    (c.take-selector.ensures.taken ∙ had_before c.args.sel c.if-not-has_selector.ensures.call c.self.view_is)
+    (ap (λ (x : HeldSelector). x.number)
+    (sym (had_before c.args.sel c.if-not-has_selector.ensures.call c.self.view_is))
+    ∙ c.self.invariant.lists.numbers c.args.sel)
+    c.in-Err.ensures.call)
+    (record {
+      lists = begun_others c.words.ensures c.self.inside.pass c.begin-begun.new.p c.self.inside.number c.self.inside.lists
+          c.take-selector.new.self c.put.new.self c.self.inside.progress c.args.sel c.take-selector.result
+          c.begin-begun.new.self c.args.mode (Err c.in-Err.error) c.take-selector.ensures.taken c.take-selector.ensures.others
+          c.put.ensures.put c.put.ensures.others c.in-Err.ensures.call c.in-Err.ensures.lent c.in-Err.ensures.refused c.self.invariant.lists;
+      selections = λ t other. refl;
+      closings = λ t other. refl;
+    })
+
+pub returns-in-Ok-clause-lent : goal.returns-in-Ok-clause-lent
+returns-in-Ok-clause-lent g c =
+    if_is _ _ c.in-Ok.selection c.put_selection.ensures.put
+    (lent_so c.take-selector.result c.begin-begun.new.self (Ok c.in-Ok.selection) _ _ c.args.sel c.in-Ok.ensures.lent
+    (begun_here c.words.ensures c.self.inside.pass c.begin-begun.new.p c.self.inside.number c.self.inside.lists
+    c.take-selector.new.self c.put.new.self c.self.inside.progress c.args.sel c.take-selector.result
+    c.begin-begun.new.self c.args.mode (Ok c.in-Ok.selection) c.take-selector.ensures.taken c.take-selector.ensures.others
+    c.put.ensures.put c.put.ensures.others c.in-Ok.ensures.call c.in-Ok.ensures.lent c.in-Ok.ensures.refused c.self.invariant.lists)
+    (c.take-selector.ensures.taken ∙ had_before c.args.sel c.if-not-has_selector.ensures.call c.self.view_is)
+    (ap (λ (x : HeldSelector). x.number) c.take-selector.ensures.taken ∙ c.self.invariant.lists.numbers c.args.sel))
+
+pub returns-in-Ok-clause-closings : goal.returns-in-Ok-clause-closings
+returns-in-Ok-clause-closings g c =
+    c.put_selection.ensures.closings
+    ∙ ap (λ (x : Progress). x.closings) (had_progress c.if-not-has_selector.ensures.call c.self.view_is)
+
+pub returns-in-Err-clause-refused : goal.returns-in-Err-clause-refused
+returns-in-Err-clause-refused g c = (
+  begun_here c.words.ensures c.self.inside.pass c.begin-begun.new.p c.self.inside.number c.self.inside.lists
+      c.take-selector.new.self c.put.new.self c.self.inside.progress c.args.sel c.take-selector.result
+      c.begin-begun.new.self c.args.mode (Err c.in-Err.error) c.take-selector.ensures.taken c.take-selector.ensures.others
+      c.put.ensures.put c.put.ensures.others c.in-Err.ensures.call c.in-Err.ensures.lent c.in-Err.ensures.refused c.self.invariant.lists
+      ∙ (c.in-Err.ensures.refused.0
+      ∙ (c.take-selector.ensures.taken ∙ had_before c.args.sel c.if-not-has_selector.ensures.call c.self.view_is)),
+  ap (λ (x : Progress). selection_in x c.args.sel) (had_progress c.if-not-has_selector.ensures.call c.self.view_is),
+)
+
+pub returns-in-Err-clause-closings : goal.returns-in-Err-clause-closings
+returns-in-Err-clause-closings g c =
+    ap (λ (x : Progress). x.closings) (had_progress c.if-not-has_selector.ensures.call c.self.view_is)

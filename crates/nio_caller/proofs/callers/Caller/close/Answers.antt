@@ -1,11 +1,11 @@
-use Rattle.nio_steps.proofs.PinLaws.{pins_are_given_back}
 use Rattle.nio_caller.proofs.Calls.{acting_after}
+use Rattle.nio_caller.proofs.GoingOn as goes_on
 use Rattle.nio_caller.proofs.NamedCalls.{met_by, missed}
 use Rattle.nio_caller.proofs.callers.Caller.close.Goals as goal
 
 pub invariant_of-self : goal.invariant_of-self
 invariant_of-self g c =
-    acting_after (pins_are_given_back.close _) c.close.ensures.call c.close.ensures.ready c.self.invariant
+    acting_after c.words.ensures (goes_on.close _) c.close.ensures.call c.close.ensures.ready c.self.invariant
 
 pub returns-then-not-has_selector : goal.returns-then-not-has_selector
 returns-then-not-has_selector g c =
@@ -13,4 +13,4 @@ returns-then-not-has_selector g c =
 
 pub returns : goal.returns
 returns g c =
-    record { call = met_by _ _ _ c.if-not-has_selector.ensures.call c.self.view_is c.close.ensures.call }
+    record { call = met_by c.words.ensures _ _ _ c.if-not-has_selector.ensures.call c.self.view_is c.close.ensures.call }

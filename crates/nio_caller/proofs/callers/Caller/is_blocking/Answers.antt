@@ -1,16 +1,16 @@
-use Rattle.nio_steps.proofs.PinLaws.{pins_are_given_back}
 use Rattle.nio_caller.proofs.Calls.{acting_after}
+use Rattle.nio_caller.proofs.GoingOn as goes_on
 use Rattle.nio_caller.proofs.NamedCalls.{met_by, missed}
 use Rattle.nio_caller.proofs.callers.Caller.is_blocking.Goals as goal
 
 pub invariant_of-self : goal.invariant_of-self
-invariant_of-self c =
-    acting_after (pins_are_given_back.is_blocking _) c.is_blocking.ensures.call c.is_blocking.ensures.ready c.self.invariant
+invariant_of-self g c =
+    acting_after c.words.ensures (goes_on.is_blocking _) c.is_blocking.ensures.call c.is_blocking.ensures.ready c.self.invariant
 
 pub returns-then-not-has_channel : goal.returns-then-not-has_channel
-returns-then-not-has_channel c =
+returns-then-not-has_channel g c =
     record { call = missed _ _ c.if-not-has_channel.ensures.call }
 
 pub returns : goal.returns
-returns c =
-    record { call = met_by _ _ _ c.if-not-has_channel.ensures.call c.self.view_is c.is_blocking.ensures.call }
+returns g c =
+    record { call = met_by c.words.ensures _ _ _ c.if-not-has_channel.ensures.call c.self.view_is c.is_blocking.ensures.call }

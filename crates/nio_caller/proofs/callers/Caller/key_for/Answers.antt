@@ -1,20 +1,20 @@
-use Rattle.nio_steps.proofs.PinLaws.{pins_are_given_back}
 use Rattle.nio_caller.proofs.Calls.{acting_after}
+use Rattle.nio_caller.proofs.GoingOn as goes_on
 use Rattle.nio_caller.proofs.NamedCalls.{met, met_by, missed}
 use Rattle.nio_caller.proofs.callers.Caller.key_for.Goals as goal
 
 pub invariant_of-self : goal.invariant_of-self
-invariant_of-self c =
-    acting_after (pins_are_given_back.key_for _ _) c.key_for.ensures.call c.key_for.ensures.ready c.self.invariant
+invariant_of-self g c =
+    acting_after c.words.ensures (goes_on.key_for _ _) c.key_for.ensures.call c.key_for.ensures.ready c.self.invariant
 
 pub returns-then-not-has_selector-clause-call : goal.returns-then-not-has_selector-clause-call
-returns-then-not-has_selector-clause-call c =
+returns-then-not-has_selector-clause-call g c =
     missed _ _ c.if-not-has_selector.ensures.call
 
 pub returns-then-not-has_channel-clause-call : goal.returns-then-not-has_channel-clause-call
-returns-then-not-has_channel-clause-call c =
+returns-then-not-has_channel-clause-call g c =
     met _ _ _ c.if-not-has_selector.ensures.call (missed _ _ c.if-not-has_channel.ensures.call)
 
 pub returns-clause-call : goal.returns-clause-call
-returns-clause-call c =
-    met _ _ _ c.if-not-has_selector.ensures.call (met_by _ _ _ c.if-not-has_channel.ensures.call c.self.view_is c.key_for.ensures.call)
+returns-clause-call g c =
+    met _ _ _ c.if-not-has_selector.ensures.call (met_by c.words.ensures _ _ _ c.if-not-has_channel.ensures.call c.self.view_is c.key_for.ensures.call)

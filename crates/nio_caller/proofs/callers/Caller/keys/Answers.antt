@@ -1,15 +1,16 @@
-use Rattle.nio_caller.proofs.Calls.{acting_after, keys_give}
+use Rattle.nio_caller.proofs.Calls.{acting_after}
+use Rattle.nio_caller.proofs.GoingOn as goes_on
 use Rattle.nio_caller.proofs.NamedCalls.{met_by, missed, seen_refusal}
 use Rattle.nio_caller.proofs.callers.Caller.keys.Goals as goal
 
 pub invariant_of-self : goal.invariant_of-self
-invariant_of-self c =
-    acting_after (keys_give _) c.keys.ensures.call c.keys.ensures.ready c.self.invariant
+invariant_of-self g c =
+    acting_after c.words.ensures (goes_on.keys _) c.keys.ensures.call c.keys.ensures.ready c.self.invariant
 
 pub returns-then-not-has_selector : goal.returns-then-not-has_selector
-returns-then-not-has_selector c =
+returns-then-not-has_selector g c =
     record { call = missed _ _ c.if-not-has_selector.ensures.call }
 
 pub returns : goal.returns
-returns c =
-    record { call = rw c.called.ensures (met_by _ _ _ c.if-not-has_selector.ensures.call c.self.view_is (seen_refusal _ _ _ c.keys.ensures.call)) }
+returns g c =
+    record { call = rw c.called.ensures (met_by c.words.ensures _ _ _ c.if-not-has_selector.ensures.call c.self.view_is (seen_refusal _ _ _ c.keys.ensures.call)) }

@@ -1,11 +1,12 @@
 use Rattle.nio_caller.specs.Piping.{HasRead}
 use Rattle.nio_caller.proofs.Calls.{acting_unpinned}
+use Rattle.nio_caller.proofs.GoingOn.{waits_to_read}
 use Rattle.nio_caller.proofs.NamedCalls.{if_called, met_by, missed, refuses_call, was_called}
 use Rattle.nio_caller.proofs.callers.Caller.read.Goals as goal
 
 pub invariant_of-self : goal.invariant_of-self
 invariant_of-self g c =
-    acting_unpinned c.read.ensures.call.acts c.read.ensures.unpinned c.read.ensures.ready c.self.invariant
+    acting_unpinned c.words.ensures (waits_to_read _ _ _) c.read.ensures.call c.read.ensures.unpinned c.read.ensures.ready c.self.invariant
 
 pub returns-then-not-has_channel-clause-call : goal.returns-then-not-has_channel-clause-call
 returns-then-not-has_channel-clause-call g c =
@@ -13,7 +14,7 @@ returns-then-not-has_channel-clause-call g c =
 
 pub returns-clause-call : goal.returns-clause-call
 returns-clause-call g c =
-    rw c.called.ensures (met_by _ _ _ (rw c.chan.ensures at c.if-not-has_channel.ensures.call) c.self.view_is (refuses_call _ _ c.read.ensures.call))
+    rw c.called.ensures (met_by c.words.ensures _ _ _ (rw c.chan.ensures at c.if-not-has_channel.ensures.call) c.self.view_is (refuses_call _ _ c.read.ensures.call))
 
 pub returns-clause-untouched : goal.returns-clause-untouched
 returns-clause-untouched g c =

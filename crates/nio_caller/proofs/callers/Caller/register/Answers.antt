@@ -1,11 +1,11 @@
-use Rattle.nio_steps.proofs.PinLaws.{pins_are_given_back}
 use Rattle.nio_caller.proofs.Calls.{acting_after}
+use Rattle.nio_caller.proofs.GoingOn as goes_on
 use Rattle.nio_caller.proofs.NamedCalls.{met, met_by, missed, refuses_call}
 use Rattle.nio_caller.proofs.callers.Caller.register.Goals as goal
 
 pub invariant_of-self : goal.invariant_of-self
 invariant_of-self g c =
-    acting_after (pins_are_given_back.register _ _ _ _ _) c.register.ensures.call c.register.ensures.ready c.self.invariant
+    acting_after c.words.ensures (goes_on.register _ _ _ _ _) c.register.ensures.call c.register.ensures.ready c.self.invariant
 
 pub returns-then-not-has_selector-clause-call : goal.returns-then-not-has_selector-clause-call
 returns-then-not-has_selector-clause-call g c =
@@ -17,4 +17,4 @@ returns-then-not-has_channel-clause-call g c =
 
 pub returns-clause-call : goal.returns-clause-call
 returns-clause-call g c =
-    rw c.called.ensures (met _ _ _ c.if-not-has_selector.ensures.call (met_by _ _ _ c.if-not-has_channel.ensures.call c.self.view_is (refuses_call _ _ c.register.ensures.call)))
+    rw c.called.ensures (met _ _ _ c.if-not-has_selector.ensures.call (met_by c.words.ensures _ _ _ c.if-not-has_channel.ensures.call c.self.view_is (refuses_call _ _ c.register.ensures.call)))

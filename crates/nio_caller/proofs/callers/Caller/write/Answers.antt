@@ -1,11 +1,12 @@
 use Rattle.nio_caller.specs.Piping.{HasWritten}
 use Rattle.nio_caller.proofs.Calls.{acting_unpinned}
+use Rattle.nio_caller.proofs.GoingOn.{waits_to_write}
 use Rattle.nio_caller.proofs.NamedCalls.{err_called, if_called, met, met_by, missed, refuses_call, was_called}
 use Rattle.nio_caller.proofs.callers.Caller.write.Goals as goal
 
 pub invariant_of-self : goal.invariant_of-self
 invariant_of-self g c =
-    acting_unpinned c.write.ensures.call.acts c.write.ensures.unpinned c.write.ensures.ready c.self.invariant
+    acting_unpinned c.words.ensures (waits_to_write _ _ _ _) c.write.ensures.call c.write.ensures.unpinned c.write.ensures.ready c.self.invariant
 
 pub returns-then-not-has_channel-clause-call : goal.returns-then-not-has_channel-clause-call
 returns-then-not-has_channel-clause-call g c =
@@ -17,7 +18,7 @@ returns-then-not-has_channel-2-clause-call g c =
 
 pub returns-clause-call : goal.returns-clause-call
 returns-clause-call g c =
-    rw c.called.ensures (met _ _ _ (rw c.other_chan.ensures at c.if-not-has_channel.ensures.call) (met_by _ _ _ (rw c.chan.ensures at c.if-not-has_channel-2.ensures.call) c.self.view_is (refuses_call _ _ c.write.ensures.call)))
+    rw c.called.ensures (met _ _ _ (rw c.other_chan.ensures at c.if-not-has_channel.ensures.call) (met_by c.words.ensures _ _ _ (rw c.chan.ensures at c.if-not-has_channel-2.ensures.call) c.self.view_is (refuses_call _ _ c.write.ensures.call)))
 
 pub returns-clause-untouched : goal.returns-clause-untouched
 returns-clause-untouched g c =
