@@ -1,13 +1,15 @@
 /* The atomic operations of one selection alone, at the places that their words have in a table of one selector, where
    some of the indexes that were ever claimed have a key. Prints each load's name and the nanoseconds that a selection
-   takes at least. */
+   takes at least. Then those of finding a key and setting its interest, and of finding it and cancelling it, with the
+   touch of its index and without: how often each was done, and its name and nanoseconds. */
 #include "measures.h"
 #include <stdatomic.h>
 
 /* The bits of a gate, a key and a mark, and the interest in reading. */
-enum { WOKEN = 1, SHUT = 2, CLAIMED = 1, PUBLISHED = 2, CANCELLED = 4, REMOVED = 8, SELECTED = 256, READ = 1 };
+enum { WOKEN = 1, SHUT = 2, SELECTED = 256, READ = 1 };
+enum { CLAIMED = 1, PUBLISHED = 2, CANCELLED = 4, REMOVED = 8, PIN = 16 };
 
-enum { INTERRUPTS = 2, MOST_KEYS = 1000 };
+enum { INTERRUPTS = 2, MOST_KEYS = 1000, MOST_CALLS = 18000 };
 
 /* How many indexes there are, how many of them have a key, how far apart those are, and how many selections are
    timed. */
@@ -26,7 +28,7 @@ static const struct load loads[] = {
 static _Atomic word *words;
 
 /* Where the words of each row begin. */
-static word gate, turn, keys_high, key, interest, mark, free_indexes;
+static word gate, turn, keys_high, key, interest, mark, free_indexes, touched;
 
 /* The indexes that a selection found not free, and the keys that it looked at. */
 static word listed[MOST_KEYS];
@@ -43,7 +45,8 @@ static void make(const struct load *load) {
   interest = key + n;
   mark = interest + n;
   free_indexes = mark + 2 * n;
-  words = calloc(free_indexes + (n + 63) / 64, sizeof *words);
+  touched = free_indexes + (n + 63) / 64;
+  words = calloc(touched + (n + 63) / 64, sizeof *words);
   if (!words) stop("no memory");
   words[keys_high] = n;
   for (word i = 0; i < n; i++) {
@@ -123,6 +126,43 @@ static long long selections(const struct load *load, word told) {
   return least;
 }
 
+/* Finds the key of this index, and pins the index. */
+static void find_and_pin(word i) {
+  if ((atomic_load(&words[key + i]) & (PUBLISHED | REMOVED)) != PUBLISHED) stop("an index has no key");
+  if (atomic_fetch_add(&words[key + i], PIN) & CANCELLED) stop("a key is cancelled");
+}
+
+static void touch(word i) { atomic_fetch_or(&words[touched + i / 64], 1ULL << i % 64); }
+
+static void unpin(word i) { atomic_fetch_sub(&words[key + i], PIN); }
+
+static void set_interest(word i, int touches) {
+  find_and_pin(i);
+  if (touches) touch(i);
+  atomic_exchange(&words[interest + i], 0);
+  unpin(i);
+}
+
+static void cancel(word i, int touches) {
+  find_and_pin(i);
+  if (touches) touch(i);
+  atomic_fetch_or(&words[key + i], CANCELLED);
+  unpin(i);
+}
+
+/* Prints the nanoseconds of each call on all keys. */
+static void time_calls(int touches, const char *more) {
+  static const struct load load = {"calls", MOST_CALLS, MOST_CALLS, 1, 1};
+  make(&load);
+  long long start = now();
+  for (word i = 0; i < MOST_CALLS; i++) set_interest(i, touches);
+  long long set = now();
+  for (word i = 0; i < MOST_CALLS; i++) cancel(i, touches);
+  long long cancelled = now();
+  printf("calls %d set_interest%s %lld cancel%s %lld\n", MOST_CALLS, more, set - start, more, cancelled - set);
+  free((void *)words);
+}
+
 int main(void) {
   for (unsigned at = 0; at < sizeof loads / sizeof *loads; at++) {
     make(&loads[at]);
@@ -131,5 +171,7 @@ int main(void) {
     printf("%s idle %lld ready %lld\n", loads[at].name, idle, ready);
     free((void *)words);
   }
+  time_calls(1, "");
+  time_calls(0, "_untouched");
   return 0;
 }
