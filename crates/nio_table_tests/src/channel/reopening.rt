@@ -1,5 +1,5 @@
 //! Numbers of closed channels that are given to new ones: by opening and by reopening, with each refusal; a closed
-//! channel's name beside the name of the channel that has its number then; and 100,000 channels at a table of sixteen.
+//! channel's name beside the name of the channel that has its number then; and 1,000,000 channels at a table of sixteen.
 ghost use Rattle.nio_channel.specs.Idle.{AreIdle};
 
 use crate::calls::{Call, NOTHING, OnChannel, OnKey, Reply, answer, follow};
@@ -191,8 +191,8 @@ const SIXTEEN: Limits = Limits {
     keys: 1,
 };
 
-/// How often all sixteen are opened and closed: 100,000 channels.
-const ROUNDS: u32 = 6_250;
+/// How often all sixteen are opened and closed: 1,000,000 channels.
+const ROUNDS: u32 = 62_500;
 
 /// Opens a channel of each number and then closes all of them, where each has this serial. Says whether each has.
 fn opens_and_closes(alloc: Global, w: &Words, p: &mut Pass, serial: u32) -> bool
