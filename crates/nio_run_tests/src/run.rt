@@ -7,7 +7,7 @@ ghost use Rattle.nio_datagram.specs.declared.net.Place.TheVariants as place_is;
 ghost use Rattle.nio_link.specs.Links.{IsUnused};
 ghost use Rattle.nio_link.specs.Places.{unused};
 
-use nio_base::NoGate;
+use nio_base::{Gate, NoGate};
 use nio_bytes::{MemorySink, MemorySource, Sink, Source};
 use nio_datagram::{MemoryPackets, PacketNet};
 use nio_link::Passable;
@@ -28,6 +28,7 @@ mod refusals;
 mod relays;
 mod rows;
 mod timed;
+mod ways;
 
 const ONE_SELECTION: &str =
     "t1 selector\nt1 channel source\nt1 blocking c0 off\nt1 register s0 c0 1\nt1 begin s0 now\nt1 told s0 k0:1\n";
@@ -366,12 +367,20 @@ where
         &mut more,
         bell,
         Vec::new(alloc),
+        &NoGate,
     )
 }
 
-/// Runs these words on a new table, without packets. The workers have the nets `more`, with these bells. Gives the
-/// status, and the net that is left.
-fn runs_with<R, S: Source, K: Sink, N: Passable + Send + Drop, B: Bell + Sync + Drop>(
+/// Runs these words on a new table, without packets. The workers have the nets `more`, with these bells, and pass this
+/// gate. Gives the status, and the net that is left.
+fn runs_with<
+    R,
+    S: Source,
+    K: Sink,
+    N: Passable + Send + Drop,
+    B: Bell + Sync + Drop,
+    G: Gate + Sync,
+>(
     rt: &R,
     alloc: Global,
     words: &[&str],
@@ -381,6 +390,7 @@ fn runs_with<R, S: Source, K: Sink, N: Passable + Send + Drop, B: Bell + Sync + 
     more: &mut Vec<N>,
     bell: &B,
     bells: Vec<B>,
+    gate: &G,
 ) -> Result<(u8, N), AllocError>
 where
     R: Threads + Wait + RandomSource + AllocGlobal + Sync,
@@ -401,11 +411,12 @@ where
         &mut packets,
         bell,
         bells,
+        gate,
     )
 }
 
 /// Runs these words on a new table, over these nets.
-fn runs_over<R, S: Source, K: Sink, N, D: PacketNet, B: Bell + Sync + Drop>(
+fn runs_over<R, S: Source, K: Sink, N, D: PacketNet, B: Bell + Sync + Drop, G: Gate + Sync>(
     rt: &R,
     alloc: Global,
     words: &[&str],
@@ -416,6 +427,7 @@ fn runs_over<R, S: Source, K: Sink, N, D: PacketNet, B: Bell + Sync + Drop>(
     packets: &mut D,
     bell: &B,
     bells: Vec<B>,
+    gate: &G,
 ) -> Result<(u8, N), AllocError>
 where
     R: Threads + Wait + RandomSource + AllocGlobal + Sync,
@@ -435,8 +447,7 @@ where
     }
     let (table, mut pass) = Words::make(alloc, PROGRAM_LIMITS)?;
     let ended = run(
-        rt, alloc, &given, input, output, &table, &mut pass, net, more, packets, bell, bells,
-        &NoGate,
+        rt, alloc, &given, input, output, &table, &mut pass, net, more, packets, bell, bells, gate,
     );
     Ok((ended.status.code(), ended.net))
 }

@@ -3,6 +3,7 @@ ghost use Rattle.std.specs.Prelude.{All, IfOk};
 ghost use Rattle.nio_mio.specs.Unasked.{IsUnasked};
 
 use super::runs_with;
+use nio_base::NoGate;
 use nio_bytes::{MemorySink, MemorySource};
 use nio_mio::{MioBell, MioNet};
 use std::alloc::{AllocError, AllocGlobal, Global};
@@ -82,6 +83,7 @@ where
         &mut more,
         &bell,
         bells,
+        &NoGate,
     )?;
     Ok((status, sink.bytes().to_vec(alloc)?))
 }

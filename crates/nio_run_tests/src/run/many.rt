@@ -6,7 +6,7 @@ ghost use Rattle.nio_link.specs.Places.{places_after, unused};
 ghost use Rattle.nio_link.specs.Slots.{carried_at};
 
 use super::runs_with;
-use nio_base::ChanNo;
+use nio_base::{ChanNo, NoGate};
 use nio_bytes::{MemorySink, MemorySource};
 use nio_link::{MemoryNet, NetPlan, PeerPlan};
 use nio_poller::NoBell;
@@ -113,7 +113,7 @@ fn net_of(alloc: Global, row: &Row, sent: &[u8]) -> Result<MemoryNet, AllocError
 }
 
 /// So many nets to which nobody connects.
-fn nets_of(alloc: Global, count: usize) -> Result<Vec<MemoryNet>, AllocError>
+pub(super) fn nets_of(alloc: Global, count: usize) -> Result<Vec<MemoryNet>, AllocError>
     ensures fresh { IfOk result (λ nets. All (λ net. (c : Channel) → IsUnused (carried_at net.slots c)) nets.items) }
     ensures unasked { IfOk result (λ nets. All (λ net. (c : Channel) → places_after net.changes c ≡ unused)
         nets.items) }
@@ -159,6 +159,7 @@ where
         &mut more,
         &NoBell,
         bells,
+        &NoGate,
     )?;
     Ok((status, sink, more))
 }

@@ -6,7 +6,7 @@ ghost use Rattle.nio_datagram.specs.Packets.{no_traffic};
 ghost use Rattle.nio_datagram.specs.declared.net.Place.TheVariants as place_is;
 
 use super::{relays, runs_over};
-use nio_base::{Addr, ChanNo};
+use nio_base::{Addr, ChanNo, NoGate};
 use nio_bytes::{MemorySink, MemorySource};
 use nio_datagram::MemoryPackets;
 use nio_poller::NoBell;
@@ -86,6 +86,7 @@ where
         &mut net,
         &NoBell,
         Vec::new(alloc),
+        &NoGate,
     )?;
     Ok((status, net))
 }

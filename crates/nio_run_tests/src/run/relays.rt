@@ -44,7 +44,7 @@ struct Row {
     written: &'static str,
 }
 
-const SHORT: Peer = Peer {
+pub(super) const SHORT: Peer = Peer {
     sends: &[2],
     answers: &[1],
     most: 1,
