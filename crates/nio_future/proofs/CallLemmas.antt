@@ -1,8 +1,8 @@
 -- A desk after a call of its group, before its completions are taken.
-use Rattle.std.proofs.Common.{◌≡◌, inl, inr, ℕ, ◌+◌, ◌<◌, ◌≤◌, false, ltb, get_or, List, [], ◌∷◌, ◌++◌, Option, Some, None, length}
+use Rattle.std.proofs.Common.{◌≡◌, inl, inr, ℕ, ◌<◌, ◌≤◌, false, ltb, get_or, List, Option, Some, None, length}
 use Rattle.std.proofs.Common.{refl, sym, ap, ◌∙◌, subst, arith, Result, Ok, Err, IfOk, OnErr}
 use Rattle.std.proofs.lemmas.Bool.{false≢true, ltb-true, ltb-false}
-use Rattle.std.proofs.lemmas.List.{get_or_past, length_push}
+use Rattle.std.proofs.lemmas.List.{get_or_past}
 use Rattle.nio_base.specs.declared.numbers.GChan.{GChan}
 use Rattle.nio_base.specs.declared.group.GKind.{GKind}
 use Rattle.nio_group.specs.declared.limits.GroupLimits.{GroupLimits}
@@ -100,8 +100,9 @@ same-out-by_group d call desk made other =
     let next = same-out-settled (record d { group = after d.group call }) (settling-after d call desk made other) in
     record { source = next.source; out = next.out }
 
-pub desk-empty : (limits : GroupLimits) (source : ℕ) → IsFit limits → IsDesk (empty_desk limits source)
-desk-empty limits source fit =
+pub desk-empty : (limits : GroupLimits) (source : ℕ) (places : List ℕ) → IsFit limits
+    → IsDesk (empty_desk limits source places)
+desk-empty limits source places fit =
     let few = fit.few_ops in
     record {
       settling = record {

@@ -421,9 +421,9 @@ some-handed d n desk out terminated = by_handed (handed d n) refl
         absurd (false≢true (sym (ap is_pending none) ∙ pending))
 
 pub tickets-right : TicketsAreRight
-tickets-right limits source calls fit run =
-    let first = empty_desk limits source in
-    let desk = desk-empty limits source fit in
+tickets-right limits source places calls fit run =
+    let first = empty_desk limits source places in
+    let desk = desk-empty limits source places fit in
     let all = runs first calls desk run in
     let d = left_by first calls in
     let ended = all.desk in (

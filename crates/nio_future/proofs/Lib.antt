@@ -5,3 +5,4 @@ pub mod RoundLemmas
 pub mod SettleLemmas
 pub mod StartLemmas
 pub mod TicketLemmas
+mod WaitingLemmas

@@ -241,8 +241,8 @@ keeps-same d d' same =
       };
     }
 
-abbrev pub desk_of : Group → Accepted → ℕ → DeskState
-desk_of g out source = record { group = g; out = out; source = source }
+abbrev pub desk_of : Group → Accepted → ℕ → List ℕ → DeskState
+desk_of g out source places = record { group = g; out = out; source = source; places = places }
 
 -- ---- one turn of `settle`
 
@@ -297,7 +297,7 @@ settled-empty d is = ap (λ (ns : List ℕ). with_all_taken d ns) is
 pub turned : (d : DeskState) (g1 g2 : Group) (out : Accepted) (done : CompletionFields) (op : OpNo) (result : Finished)
     → IsSettling d → Some done ≡ answer_to_take d.group → g1 ≡ after_take d.group → op ≡ done.op
     → g2 ≡ after_finish g1 op.0 → result ≡ done.finished → out ≡ with_result d.out op.0 result
-    → IsLeading d (desk_of g2 out d.source)
+    → IsLeading d (desk_of g2 out d.source d.places)
 turned d g1 g2 out done op result settling some took number ended finished put =
     let core : g2 ≡ after_finish (after_take d.group) done.op.0 =
     ended ∙ ap (λ (h : Group). after_finish h op.0) took

@@ -212,7 +212,7 @@ numbers-left d chan kind desk free =
 pub settling-start : (d : DeskState) (chan : GChan) (kind : OpKind) (len : ℕ) (g : Group) (out : Accepted) → IsDesk d
     → IsMade d.group chan → group.start_refusal d.group chan kind ≡ None
     → tickets_out d < d.out.limit → g ≡ group_steps.after_start d.group chan kind len
-    → out ≡ with_ticket d.out chan kind len → IsSettling (desk_of g out d.source)
+    → out ≡ with_ticket d.out chan kind len → IsSettling (desk_of g out d.source d.places)
 settling-start d chan kind len g out desk made free room started pushed =
     rw (started, started-free d.group chan kind len free, pushed) (settling-started d chan kind len desk made free room)
 
@@ -239,7 +239,7 @@ started-here : (d new : DeskState) (chan : GChan) (kind : OpKind) (len : ℕ) (g
     → IsDesk d → IsMade d.group chan → start_refusal d chan kind ≡ None
     → group.start_refusal d.group chan kind ≡ None → tickets_out d < d.out.limit
     → Ok op ≡ group_steps.answer_to_start d.group chan kind → g ≡ group_steps.after_start d.group chan kind len
-    → out ≡ with_ticket d.out chan kind len → new ≡ settled (desk_of g out d.source)
+    → out ≡ with_ticket d.out chan kind len → new ≡ settled (desk_of g out d.source d.places)
     → IsStarted d new chan kind len op
 started-here d new chan kind len g out op desk made none free room answered started pushed settles =
     let s = desk.settling in
@@ -251,22 +251,22 @@ started-here d new chan kind len g out op desk made none free room answered star
     let t : Ticket = record { op = op; desk = d.source ∷ [] } in
     let held : Operation = record { chan = chan; kind = kind; len = len; stage = Pending } in
     let leaves : after_start d chan kind len
-    ≡ settled (desk_of (group_steps.after_start d.group chan kind len) (with_ticket d.out chan kind len) d.source) =
+    ≡ settled (desk_of (group_steps.after_start d.group chan kind len) (with_ticket d.out chan kind len) d.source d.places) =
     ap (λ (o : Option StartError). kept_if_refused o d
-    (settled (desk_of (group_steps.after_start d.group chan kind len) (with_ticket d.out chan kind len) d.source)))
+    (settled (desk_of (group_steps.after_start d.group chan kind len) (with_ticket d.out chan kind len) d.source d.places)))
     none in
     let after : new ≡ after_start d chan kind len =
-    settles ∙ ap (λ (x : Group). settled (desk_of x out d.source)) started
-    ∙ ap (λ (x : Accepted). settled (desk_of (group_steps.after_start d.group chan kind len) x d.source)) pushed
+    settles ∙ ap (λ (x : Group). settled (desk_of x out d.source d.places)) started
+    ∙ ap (λ (x : Accepted). settled (desk_of (group_steps.after_start d.group chan kind len) x d.source d.places)) pushed
     ∙ sym leaves in
-    let same_out = same-out-settled (desk_of g out d.source) settling in
+    let same_out = same-out-settled (desk_of g out d.source d.places) settling in
     let channels : new.group.channels ≡ (group_steps.after_start d.group chan kind len).channels =
-    ap (λ (x : DeskState). x.group.channels) settles ∙ channels-settled (desk_of g out d.source) settling
+    ap (λ (x : DeskState). x.group.channels) settles ∙ channels-settled (desk_of g out d.source d.places) settling
     ∙ ap (λ (x : Group). x.channels) started in
     let gives : TakesTicket t d (record d { out = out }) =
     takes-with d t out held refl
     (ap (λ (o : OpNo). o.0) number ∙ sym s.same_count) (ap (λ (x : Accepted). x.operations) pushed) in
-    let keeps = keeps-same (record d { out = out }) (settled (desk_of g out d.source))
+    let keeps = keeps-same (record d { out = out }) (settled (desk_of g out d.source d.places))
     (record { source = same_out.source; out = same_out.out }) in
     record {
       answer = ticket-answer d chan kind op none number;
@@ -283,7 +283,7 @@ started-here d new chan kind len g out op desk made none free room answered star
 pub started-facts : (d old new : DeskState) (chan : GChan) (kind : OpKind) (len : ℕ) (g : Group) (out : Accepted)
     (op : OpNo) → IsDesk d → d ≡ old → IsMade d.group chan → start_refusal old chan kind ≡ None
     → Ok op ≡ group_steps.answer_to_start d.group chan kind → g ≡ group_steps.after_start d.group chan kind len
-    → out ≡ with_ticket d.out chan kind len → new ≡ settled (desk_of g out d.source)
+    → out ≡ with_ticket d.out chan kind len → new ≡ settled (desk_of g out d.source d.places)
     → IsStarted old new chan kind len op
 started-facts d old new chan kind len g out op desk view made none answered started pushed settles =
     let free = free-of d old chan kind desk view none in

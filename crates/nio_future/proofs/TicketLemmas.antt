@@ -19,7 +19,6 @@ use Rattle.nio_group.proofs.IndexLemmas.{count_by-cons}
 use Rattle.nio_group.proofs.ListLemmas.{eqb-same, get_or-push, get_or-set, within-where}
 use Rattle.nio_group.proofs.TableLemmas.{by_test, count_by-set}
 use Rattle.nio_group.proofs.PendingLemmas.{pending-own}
-use Rattle.nio_group.proofs.LawfulLemmas.{open-within}
 use Rattle.nio_future.specs.Desk.{DeskState, held_at, is_out, result_at, result_in, stage_result}
 use Rattle.nio_future.specs.Kept.{Agrees, IsSettling, IsDesk}
 use Rattle.nio_future.specs.Steps.{after_cancel, by_group, closed_for, settled, without_ticket}
@@ -388,13 +387,13 @@ pub record IsCancelled (old new : DeskState) (t : Ticket) : Type 0 where
 pub cancelled : (d old : DeskState) (t : Ticket) (op : OpNo) (out : Accepted) → IsDesk d → IsTicketOf old t → op ≡ t.op
     → d ≡ closed_for old (op_at old.group.flight op.0) → is_out d op.0 ≡ is_out old op.0
     → op_at d.group.flight op.0 ≡ None → KeepsTickets old d → out ≡ with_operation d.out op.0 None
-    → IsCancelled old (desk_of d.group out d.source) t
+    → IsCancelled old (desk_of d.group out d.source d.places) t
 cancelled d old t op out desk ticket number closed same ended keeps left =
     let n = op.0 in
     let was : is_out old n ≡ true = ap (λ (k : OpNo). is_out old k.0) number ∙ ticket.out in
     let is : is_out d n ≡ true = same ∙ was in
-    let taken : desk_of d.group out d.source ≡ without_ticket d n = ap
-    (λ (a : Accepted). desk_of d.group a d.source) left in
+    let taken : desk_of d.group out d.source d.places ≡ without_ticket d n = ap
+    (λ (a : Accepted). desk_of d.group a d.source d.places) left in
     let gives : GivesTicket t d (without_ticket d t.op.0) =
     gives-without d t (ap (λ (k : OpNo). is_out d k.0) (sym number) ∙ is) in
     record {

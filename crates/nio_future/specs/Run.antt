@@ -1,5 +1,5 @@
 -- The calls that change a desk, runs of them, the calls of its group below them, and the ticket law.
-use Rattle.std.specs.Prelude.{◌≡◌, ℕ, ◌+◌, ◌<◌, ◌≤◌, ◌⊎◌, ◌==◌, if◌then◌else◌, List, [], ◌∷◌, ◌++◌, length, Option, Some}
+use Rattle.std.specs.Prelude.{◌≡◌, ℕ, ◌+◌, ◌≤◌, ◌⊎◌, ◌==◌, if◌then◌else◌, List, [], ◌∷◌, ◌++◌, Option, Some}
 use Rattle.std.specs.Prelude.{None, IsSome, IsTrue, false, is_some}
 use Rattle.nio_base.specs.declared.group.Finished.{Finished}
 use Rattle.nio_group.specs.declared.limits.GroupLimits.{GroupLimits}
@@ -167,7 +167,8 @@ pub record IsRight (limits : GroupLimits) (d : DeskState) (calls : List group.Ca
 -- in every run from the empty desk each ticket is handed its operation's one result, and at most once
 abbrev pub TicketsAreRight : Type 0
 TicketsAreRight =
-    (limits : GroupLimits) (source : ℕ) (calls : List Call) → IsFit limits
-    → IsRunOf (empty_desk limits source) calls
-    → IsRight limits (left_by (empty_desk limits source) calls) (below (empty_desk limits source) calls)
-    × ((n : ℕ) → times_handed n (empty_desk limits source) calls ≤ 1)
+    (limits : GroupLimits) (source : ℕ) (places : List ℕ) (calls : List Call) → IsFit limits
+    → IsRunOf (empty_desk limits source places) calls
+    → IsRight limits (left_by (empty_desk limits source places) calls)
+    (below (empty_desk limits source places) calls)
+    × ((n : ℕ) → times_handed n (empty_desk limits source places) calls ≤ 1)

@@ -3,7 +3,7 @@ ghost use Rattle.std.specs.Prelude.{◌≡◌, ◌<◌, ◌≤◌, ◌↔◌, �
 ghost use Rattle.futures.specs.Task.{Covers, Keeps};
 ghost use Rattle.nio_group.specs.Flight.{IsPendingAs, op_at};
 ghost use Rattle.nio_group.specs.Stages.{is_pending};
-ghost use Rattle.nio_future.specs.Desk.{empty_desk, held_at, is_out, result_at, tickets_out};
+ghost use Rattle.nio_future.specs.Desk.{empty_desk, held_at, is_out, own_source, result_at, tickets_out};
 ghost use Rattle.nio_group.specs.Group.{is_made, is_present, is_terminated, IsMade, StaysMade};
 ghost use Rattle.nio_group.specs.Group.{is_open as channel_is_open};
 ghost use Rattle.nio_group.specs.Limits.{IsFit};
@@ -15,7 +15,8 @@ ghost use Rattle.nio_future.specs.Steps.{by_group, closed_for, settled, start_re
 ghost use Rattle.nio_future.specs.Tickets.{GivesTicket, IsTicketOf, KeepsTickets, ReturnsTicket, TakesTicket};
 
 use crate::ticket::{OpTicket, Polled};
-use futures::task::{Context, Poll, Source, Waker};
+use crate::waiting::Waiting;
+use futures::task::{Context, Source};
 use nio_base::{Finished, GChan, GKind, OpKind, OpNo, Outcome};
 use nio_group::{
     GroupCore, GroupLimits, Job, Operation, Operations, ReportError, Stage, StartError,
@@ -29,7 +30,7 @@ pub struct Desk {
     core: GroupCore,
     out: Operations,
     source: Source,
-    waker: Option<Waker>,
+    waiting: Waiting,
 }
 
 impl Model for Desk {
@@ -38,24 +39,25 @@ impl Model for Desk {
 
     ghost Value = { DeskState };
 
-    ghost view = { λ d. record { group = d.core; out = d.out; source = d.source.id } };
+    ghost view = { λ d. record { group = d.core; out = d.out; source = d.source.id; places = d.waiting } };
 
-    ghost invariant = { λ d. IsDesk (record { group = d.core; out = d.out; source = d.source.id }) };
+    ghost invariant = { λ d. IsDesk (record { group = d.core; out = d.out; source = d.source.id; places = d.waiting }) };
 }
 
 impl Desk {
     /// A desk of an empty group with room for all that these limits allow.
     pub fn make(alloc: Global, limits: GroupLimits) -> Result<Desk, AllocError>
         requires { IsFit limits }
-        ensures { IfOk result (λ desk. desk ≡ empty_desk limits desk.source) }
+        ensures { IfOk result (λ desk. desk ≡ empty_desk limits desk.source desk.places) }
     {
         let core = GroupCore::make(alloc, limits)?;
         let out = Operations::make(alloc, limits.flight)?;
+        let waiting = Waiting::make(alloc, limits.channels)?;
         Ok(Desk {
             core,
             out,
             source: Source::new(),
-            waker: None,
+            waiting,
         })
     }
 
@@ -64,7 +66,7 @@ impl Desk {
     pub fn law(&self)
         ensures { IsDesk self.now }
     {
-        let _ = &self.waker;
+        let _ = &self.waiting;
     }
 
     /// Opens a channel with the next number, or one that comes back.
@@ -77,7 +79,12 @@ impl Desk {
         ensures refused { OnErr result (self.new ≡ self.old) }
     {
         let answer = self.core.open_channel(kind);
-        settle(&mut self.core, &mut self.out, &self.source, &mut self.waker);
+        settle(
+            &mut self.core,
+            &mut self.out,
+            &self.source,
+            &mut self.waiting,
+        );
         answer
     }
 
@@ -91,7 +98,12 @@ impl Desk {
         ensures refused { OnErr result (self.new ≡ self.old) }
     {
         let answer = self.core.bind(chan);
-        settle(&mut self.core, &mut self.out, &self.source, &mut self.waker);
+        settle(
+            &mut self.core,
+            &mut self.out,
+            &self.source,
+            &mut self.waiting,
+        );
         answer
     }
 
@@ -117,7 +129,12 @@ impl Desk {
             len,
             stage: Stage::Pending,
         });
-        settle(&mut self.core, &mut self.out, &self.source, &mut self.waker);
+        settle(
+            &mut self.core,
+            &mut self.out,
+            &self.source,
+            &mut self.waiting,
+        );
         Ok(OpTicket::make(op, &self.source))
     }
 
@@ -143,15 +160,14 @@ impl Desk {
     }
 
     /// Polls a ticket: the operation's result, once that has come, or the ticket back while the operation is pending.
-    /// Then the task is woken by the next call that completes an operation of this desk, whichever it is; no clause says
-    /// that it is woken, and a test shows it. One task at a time waits at a desk: a second one that registers wakes the
-    /// first. Poll all tickets of a desk in one task.
+    /// Then the task is woken by the call that completes this operation; no clause says that it is woken, and a test shows
+    /// it. Another task that waits for the same operation is woken at once.
     pub fn poll_op(&mut self, ticket: OpTicket, cx: &mut Context<'_>) -> Polled
         requires { IsTicketOf self.old ticket }
         ensures answer { result ≡ answer_to_poll self.old ticket }
         ensures after { self.new ≡ after_poll self.old ticket.op.0 }
         ensures pending { IsNotYet result ↔ IsTrue (is_pending (op_at self.old.group.flight ticket.op.0)) }
-        ensures registered { IsNotYet result → Covers cx.new (λ source. source ≡ self.old.source) }
+        ensures registered { IsNotYet result → Covers cx.new (λ source. source ≡ own_source self.old ticket.op.0) }
         ensures kept { Keeps cx.old cx.new }
         ensures same_group { self.new.group ≡ self.old.group }
         ensures tickets { ReturnsTicket ticket result self.old self.new }
@@ -163,7 +179,8 @@ impl Desk {
                 Polled::Ready(finished)
             }
             None => {
-                let _: Poll<()> = cx.register(&self.source, &mut self.waker);
+                let held = self.out.get(number.0).unwrap();
+                self.waiting.register(cx, held.chan, held.kind);
                 Polled::NotYet(ticket)
             }
         }
@@ -232,7 +249,12 @@ impl Desk {
         ensures refused { OnErr result (self.new ≡ self.old) }
     {
         let answer = self.core.report(op, outcome);
-        settle(&mut self.core, &mut self.out, &self.source, &mut self.waker);
+        settle(
+            &mut self.core,
+            &mut self.out,
+            &self.source,
+            &mut self.waiting,
+        );
         answer
     }
 
@@ -245,7 +267,12 @@ impl Desk {
         ensures tickets { KeepsTickets self.old self.new }
     {
         let answer = self.core.close_channel(chan);
-        settle(&mut self.core, &mut self.out, &self.source, &mut self.waker);
+        settle(
+            &mut self.core,
+            &mut self.out,
+            &self.source,
+            &mut self.waiting,
+        );
         answer
     }
 
@@ -256,7 +283,12 @@ impl Desk {
         ensures tickets { KeepsTickets self.old self.new }
     {
         self.core.shutdown();
-        settle(&mut self.core, &mut self.out, &self.source, &mut self.waker);
+        settle(
+            &mut self.core,
+            &mut self.out,
+            &self.source,
+            &mut self.waiting,
+        );
     }
 
     /// Shuts down and closes every channel, in rising order.
@@ -266,7 +298,12 @@ impl Desk {
         ensures tickets { KeepsTickets self.old self.new }
     {
         self.core.shutdown_now();
-        settle(&mut self.core, &mut self.out, &self.source, &mut self.waker);
+        settle(
+            &mut self.core,
+            &mut self.out,
+            &self.source,
+            &mut self.waiting,
+        );
     }
 
     /// Whether the group has been shut down: Java's `isShutdown`.
@@ -301,20 +338,20 @@ impl Desk {
     }
 }
 
-/// Takes each completion of the group, ends its operation, and puts its result by for its ticket. Where there was one
-/// the task that waits at the desk is woken, by the drop of its waker.
-fn settle(core: &mut GroupCore, out: &mut Operations, source: &Source, waker: &mut Option<Waker>)
-    requires { IsSettling (record { group = core.old; out = out.old; source = source.now.id }) }
-    ensures settles { record { group = core.new; out = out.new; source = source.now.id }
-        ≡ settled (record { group = core.old; out = out.old; source = source.now.id }) }
-    ensures desk { IsDesk (record { group = core.new; out = out.new; source = source.now.id }) }
+/// Takes each completion of the group, ends its operation, puts its result by for its ticket, and wakes the task that
+/// waits for it.
+fn settle(core: &mut GroupCore, out: &mut Operations, source: &Source, waiting: &mut Waiting)
+    requires { IsSettling (record { group = core.old; out = out.old; source = source.now.id; places = waiting.old }) }
+    ensures settles { record { group = core.new; out = out.new; source = source.now.id; places = waiting.new }
+        ≡ settled (record { group = core.old; out = out.old; source = source.now.id; places = waiting.old }) }
+    ensures desk { IsDesk (record { group = core.new; out = out.new; source = source.now.id; places = waiting.new }) }
 {
     let _ = source;
     while let Some(done) = core.take() {
         let op = done.op();
         let _ = core.finish(op);
         put_by(out, op, done.result());
-        *waker = None;
+        waiting.wake(done.chan(), done.kind());
     }
 }
 

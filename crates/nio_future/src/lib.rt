@@ -4,12 +4,12 @@
 
 pub use desk::Desk;
 pub use laws::ticket_law;
-pub use refusal::FutureError;
-pub use round::{Hand, Round, run_round};
+pub use round::{Hand, Round, TicketResult, run_round};
 pub use ticket::{OpTicket, Polled};
+pub use waiting::place_of;
 
 mod desk;
 mod laws;
-mod refusal;
 mod round;
 mod ticket;
+mod waiting;

@@ -1,20 +1,34 @@
 //! One round of polls, as a future.
 ghost use Rattle.std.specs.Prelude.{◌≡◌, ◌∷◌, [], IfErr, IfOk, IsSomeAnd, length, ◌<◌};
+ghost use Rattle.futures.specs.Poll.{IfReady, OnPending};
 ghost use Rattle.std.specs.Vec.{vec_capacity};
 ghost use Rattle.futures.specs.Task.{Keeps};
 ghost use Rattle.nio_future.specs.Tickets.{AreTicketsOf};
 ghost use Rattle.nio_future.specs.Round.{IsHand, Polls, with_ready, with_still};
 
 use crate::desk::Desk;
-use crate::refusal::FutureError;
 use crate::ticket::{OpTicket, Polled};
 use futures::Future;
 use futures::executor::block_on;
 use futures::task::{Context, Poll};
-use nio_base::{Finished, OpNo};
-use std::alloc::{AllocGlobal, Global};
+use nio_base::{Finished, GChan, OpKind, OpNo};
+use nio_group::Operation;
+use std::alloc::{AllocError, AllocGlobal, Global};
 use std::random::RandomSource;
 use std::sync::Wait;
+
+/// The result that a ticket was handed, and of which operation it is.
+#[derive(Clone, Copy, Debug, PartialEq, Eq)]
+pub struct TicketResult {
+    /// The operation's number.
+    pub op: OpNo,
+    /// The channel that it was on.
+    pub chan: GChan,
+    /// What it did.
+    pub kind: OpKind,
+    /// What came of it.
+    pub finished: Finished,
+}
 
 /// A desk with tickets to poll, and room for what comes of them.
 #[derive(Drop)]
@@ -25,8 +39,8 @@ pub struct Hand {
     pub tickets: Vec<OpTicket>,
     /// The tickets whose operations are pending.
     pub still: Vec<OpTicket>,
-    /// The results that came, each with its operation's number.
-    pub ready: Vec<(OpNo, Finished)>,
+    /// The results that came.
+    pub ready: Vec<TicketResult>,
 }
 
 impl Hand {
@@ -59,7 +73,7 @@ impl Hand {
 }
 
 /// A future that polls each ticket of a hand once, the last first, and gives the hand. So `still` and `ready` come in the
-/// reverse order of `tickets`; no clause says in which order.
+/// reverse order of `tickets`.
 #[derive(Drop)]
 pub struct Round {
     /// The hand, until the round is run.
@@ -82,21 +96,27 @@ impl Future for Round {
 
     ghost gives = { λ round after. IsSomeAnd round.hand (λ before. Polls before after) };
 
-    fn poll(&mut self, cx: &mut Context<'_>) -> Poll<Hand> {
+    fn poll(&mut self, cx: &mut Context<'_>) -> Poll<Hand>
+        requires { IsSomeAnd self.old.hand IsHand }
+        ensures value { IfReady result (λ after. IsSomeAnd self.old.hand (λ before. Polls before after)) }
+        ensures at_once { OnPending result ⊥ }
+        ensures kept { Keeps cx.old cx.new }
+    {
         let mut hand = self.hand.take().unwrap();
         poll_each(&mut hand, cx);
         Poll::Ready(hand)
     }
 }
 
-/// Runs one round. Where the executor is refused the answer is Memory, and the hand is gone.
-pub fn run_round<R>(rt: &R, hand: Hand) -> Result<Hand, FutureError>
+/// Runs one round. Where the executor lacks memory, or the random number that it needs, the answer is `AllocError`, and
+/// the hand is gone.
+pub fn run_round<R>(rt: &R, hand: Hand) -> Result<Hand, AllocError>
 where
     R: Wait + RandomSource + AllocGlobal,
     requires { IsHand hand }
     ensures { IfOk result (λ after. Polls hand after) }
 {
-    block_on(rt, Round::new(hand)).map_err(|_error| FutureError::Memory)
+    block_on(rt, Round::new(hand)).map_err(|_error| AllocError)
 }
 
 /// Polls each ticket, the last first.
@@ -107,22 +127,38 @@ fn poll_each(hand: &mut Hand, cx: &mut Context<'_>)
 {
     while let Some(ticket) = hand.tickets.pop() {
         let op = ticket.op();
+        let held = hand.desk.operation(op);
         let polled = hand.desk.poll_op(ticket, cx);
-        put_away(op, polled, &mut hand.still, &mut hand.ready);
+        put_away(op, held, polled, &mut hand.still, &mut hand.ready);
     }
 }
 
-/// Puts away what came of a poll.
-fn put_away(op: OpNo, polled: Polled, still: &mut Vec<OpTicket>, ready: &mut Vec<(OpNo, Finished)>)
+/// Puts away what came of a poll of the ticket of this operation, as which the desk held it before.
+fn put_away(
+    op: OpNo,
+    held: Option<Operation>,
+    polled: Polled,
+    still: &mut Vec<OpTicket>,
+    ready: &mut Vec<TicketResult>,
+)
     requires still_room { length still.old.items < vec_capacity still.old }
     requires ready_room { length ready.old.items < vec_capacity ready.old }
     ensures still { still.new.items ≡ with_still polled still.old.items }
-    ensures ready { ready.new.items ≡ with_ready op polled ready.old.items }
+    ensures ready { ready.new.items ≡ with_ready op held polled ready.old.items }
     ensures same_still { vec_capacity still.new ≡ vec_capacity still.old }
     ensures same_ready { vec_capacity ready.new ≡ vec_capacity ready.old }
 {
     match polled {
-        Polled::Ready(finished) => ready.push_reserved((op, finished)),
+        Polled::Ready(finished) => {
+            if let Some(operation) = held {
+                ready.push_reserved(TicketResult {
+                    op,
+                    chan: operation.chan,
+                    kind: operation.kind,
+                    finished,
+                });
+            }
+        }
         Polled::NotYet(ticket) => still.push_reserved(ticket),
     }
 }

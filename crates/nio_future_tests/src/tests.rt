@@ -4,9 +4,9 @@ ghost use Rattle.nio_future.specs.Tickets.{AreTicketsOf};
 
 use futures::Future;
 use futures::executor::block_on;
-use futures::task::{Context, Poll};
+use futures::task::{Context, Doorbell, Poll, Solo};
 use nio_base::{Finished, GChan, GKind, OpKind, OpNo, Outcome, Why};
-use nio_future::{Desk, Hand, OpTicket, Polled, run_round};
+use nio_future::{Desk, Hand, OpTicket, Polled, TicketResult, run_round};
 use nio_group::{GroupLimits, StartError};
 use std::alloc::{AllocError, AllocGlobal, Global};
 use std::random::RandomSource;
@@ -65,7 +65,13 @@ fn ticket_by_ticket(rt: HostRuntime) -> Result<(), Fail> {
     assert_eq!(rt; done.still.len(), 0);
     assert_eq!(rt;
         done.ready.as_slice(),
-        [(OpNo(0), Finished::Connected)].as_slice()
+        [TicketResult {
+            op: OpNo(0),
+            chan: stream,
+            kind: OpKind::Connect,
+            finished: Finished::Connected,
+        }]
+        .as_slice()
     );
     Ok(())
 }
@@ -84,8 +90,13 @@ fn cancelled_read(rt: HostRuntime) -> Result<(), Fail> {
     assert!(rt; desk.cancel(read));
     let late = desk.start(stream, OpKind::Read, 1)?;
     let done = round(&rt, alloc, desk, alone(alloc, late)?)?;
-    let closed = Finished::Failed(Why::ClosedChannel);
-    assert_eq!(rt; done.ready.as_slice(), [(OpNo(2), closed)].as_slice());
+    let closed = TicketResult {
+        op: OpNo(2),
+        chan: stream,
+        kind: OpKind::Read,
+        finished: Finished::Failed(Why::ClosedChannel),
+    };
+    assert_eq!(rt; done.ready.as_slice(), [closed].as_slice());
     Ok(())
 }
 
@@ -151,5 +162,51 @@ fn a_report_wakes_the_task(rt: HostRuntime) -> Result<(), Fail> {
         ticket: Some(ticket),
     };
     assert_eq!(rt; block_on(&rt, own)?, Finished::Connected);
+    Ok(())
+}
+
+/// Connects a new stream, and has the executor's task wait for that. Says whether it does.
+fn await_connect(executor: &Solo, desk: &mut Desk) -> Result<bool, StartError> {
+    let stream = desk.open_channel(GKind::Stream)?;
+    let ticket = desk.start(stream, OpKind::Connect, 0)?;
+    let mut cx = executor.begin();
+    match desk.poll_op(ticket, &mut cx) {
+        Polled::Ready(_) => {
+            cx.cancel();
+            Ok(false)
+        }
+        Polled::NotYet(_) => {
+            cx.park();
+            Ok(true)
+        }
+    }
+}
+
+/// Whether the executor's task was woken since it began to wait.
+fn is_woken(executor: &Solo) -> bool {
+    match executor.sleep() {
+        Some(asleep) => {
+            asleep.end();
+            false
+        }
+        None => true,
+    }
+}
+
+/// Two tasks wait for operations of one desk. A report wakes the task that waits for its operation, and not the other.
+#[test]
+fn a_report_wakes_its_own_task(rt: HostRuntime) -> Result<(), Fail> {
+    let mut desk = Desk::make(rt.alloc(), LIMITS)?;
+    let first_task = Solo::new(&rt, Doorbell::spinning())?;
+    let second_task = Solo::new(&rt, Doorbell::spinning())?;
+    assert!(rt; await_connect(&first_task, &mut desk)?);
+    assert!(rt; await_connect(&second_task, &mut desk)?);
+    assert!(rt; !is_woken(&first_task));
+    assert!(rt; !is_woken(&second_task));
+    desk.report(OpNo(1), Outcome::Connected)?;
+    assert!(rt; !is_woken(&first_task));
+    assert!(rt; is_woken(&second_task));
+    desk.report(OpNo(0), Outcome::Connected)?;
+    assert!(rt; is_woken(&first_task));
     Ok(())
 }

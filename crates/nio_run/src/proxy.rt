@@ -9,6 +9,7 @@ ghost use Rattle.nio_relay.specs.Plan.{IsServable};
 ghost use Rattle.nio_run.specs.Many.{DoesMany};
 ghost use Rattle.nio_run.specs.Proxy.{AcceptsInOrder, DoesProxy, HasOneNet, HasWorkers, SaysOutcome, served_line};
 ghost use Rattle.nio_run.specs.Relays.{EndsRelay, SaysLine};
+ghost use Rattle.nio_tickets.specs.Answers.{serve_answer_of};
 
 use crate::ended::Ended;
 use crate::many::serve_by_workers;
@@ -22,7 +23,7 @@ use nio_proxy::serve_select;
 use nio_relay::{ProxyPlan, Served};
 use nio_script::{Status, write_out};
 use nio_serve::ServeError;
-use nio_tickets::serve_future;
+use nio_tickets::{FutureError, serve_future};
 use std::alloc::{AllocGlobal, Global};
 use std::random::RandomSource;
 use std::sync::Wait;
@@ -82,7 +83,7 @@ where
             let mut jobs = JobNet::over(net);
             let served = serve_future(rt, alloc, &mut jobs, plan);
             Ended {
-                status: say(alloc, output, served),
+                status: say(alloc, output, serve_answer(served)),
                 net: jobs.into_net(),
             }
         }
@@ -93,6 +94,17 @@ where
             );
             Ended { status, net }
         }
+    }
+}
+
+// The answer of the proxy by tickets, as the ways by a selector and by a group have it.
+fn serve_answer(answer: Result<Served, FutureError>) -> Result<Served, ServeError>
+    ensures { result ≡ serve_answer_of answer }
+{
+    match answer {
+        Ok(served) => Ok(served),
+        Err(FutureError::NetFault) => Err(ServeError::NetFault),
+        Err(FutureError::Memory) => Err(ServeError::Memory),
     }
 }
 

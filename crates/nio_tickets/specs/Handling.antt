@@ -12,7 +12,7 @@ use Rattle.nio_group.specs.Steps.{answer_to_open}
 use Rattle.nio_group.specs.declared.limits.GroupLimits.{GroupLimits}
 use Rattle.nio_group.specs.declared.operation.Operation.{Operation}
 use Rattle.nio_group.specs.declared.refusal.StartError.{StartError}
-use Rattle.nio_future.specs.Desk.{empty_desk, held_at}
+use Rattle.nio_future.specs.Desk.{empty_desk, held_at, place_of}
 use Rattle.nio_future.specs.Steps.{after_poll, after_start, answer_to_poll, answer_to_start, by_group}
 use Rattle.nio_future.specs.Ticket.{Ticket}
 use Rattle.nio_future.specs.declared.ticket.Polled.{Polled}
@@ -25,7 +25,7 @@ use Rattle.nio_jobs.specs.declared.next.Next.{Next}
 use Rattle.nio_jobs.specs.declared.next.Next.TheVariants as next
 use Rattle.nio_jobs.specs.declared.next.Start.{Start}
 use Rattle.nio_tickets.specs.Reports.{after_round}
-use Rattle.nio_tickets.specs.Seats.{Office, place_of}
+use Rattle.nio_tickets.specs.Seats.{Office}
 
 -- ---- what is started
 
@@ -135,10 +135,10 @@ after_settling o reports = polling_all (record o { desk = after_round o.desk rep
 abbrev pub limits_of : ℕ → ℕ → GroupLimits
 limits_of channels flight = record { channels = channels; flight = flight; ops = 2 ^ 62 }
 
--- a new desk, at which the listener accepts
-abbrev pub opened_office : ℕ → ℕ → ℕ → Office
-opened_office channels flight source = after_listening (record {
-  desk = empty_desk (limits_of channels flight) source;
+-- a new desk with these sources, at which the listener accepts
+abbrev pub opened_office : ℕ → ℕ → ℕ → List ℕ → Office
+opened_office channels flight source places = after_listening (record {
+  desk = empty_desk (limits_of channels flight) source places;
   seats = replicate (4 * channels) None;
   held = replicate channels 0;
 })

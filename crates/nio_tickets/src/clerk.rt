@@ -55,7 +55,7 @@ impl<'a> Clerk<'a> {
     ) -> Result<Clerk<'a>, AllocError>
         requires channels { (1 ≤ channels) × (channels ≤ 65536) }
         requires flight { (1 ≤ flight) × (flight ≤ 65536) }
-        ensures { IfOk result (λ clerk. clerk ≡ opened_office channels flight clerk.desk.source) }
+        ensures { IfOk result (λ clerk. clerk ≡ opened_office channels flight clerk.desk.source clerk.desk.places) }
     {
         let limits = GroupLimits {
             channels,

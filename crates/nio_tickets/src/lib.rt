@@ -2,7 +2,7 @@
 //! a job of an operation that is pending at a desk, and polls the tickets between the proxy's rounds.
 #![tactic(auto)]
 
-pub use serving::serve_future;
+pub use serving::{FutureError, serve_future};
 
 mod clerk;
 mod reporting;

@@ -1,9 +1,9 @@
 //! The tickets that are out.
 ghost use Rattle.std.specs.Prelude.{◌≡◌, ◌*◌, IfOk, Some, None, replicate, slice_index_or, slice_set};
-ghost use Rattle.nio_tickets.specs.Seats.{place_of};
+ghost use Rattle.nio_future.specs.Desk.{place_of};
 
 use nio_base::{GChan, OpKind};
-use nio_future::OpTicket;
+use nio_future::{OpTicket, place_of};
 use std::alloc::{AllocError, Global};
 use std::marker::Model;
 
@@ -20,19 +20,6 @@ impl Model for Seats {
     ghost Value = { List (Option Ticket) };
 
     ghost view = { λ seats. seats.seats.items };
-}
-
-// The seat of the ticket of this kind for this channel.
-fn place(chan: GChan, kind: OpKind) -> usize
-    ensures { result ≡ place_of chan kind }
-{
-    let first = 4 * chan.number as usize;
-    match kind {
-        OpKind::Accept => first,
-        OpKind::Connect => first + 1,
-        OpKind::Read => first + 2,
-        OpKind::Write => first + 3,
-    }
 }
 
 impl Seats {
@@ -52,7 +39,7 @@ impl Seats {
     pub(crate) fn put(&mut self, chan: GChan, kind: OpKind, ticket: OpTicket)
         ensures { self.new ≡ slice_set self.old (place_of chan kind) (Some ticket) }
     {
-        if let Some(seat) = self.seats.get_mut(place(chan, kind)) {
+        if let Some(seat) = self.seats.get_mut(place_of(chan, kind)) {
             *seat = Some(ticket);
         }
     }
@@ -62,6 +49,6 @@ impl Seats {
         ensures ticket { result ≡ slice_index_or self.old (place_of chan kind) None }
         ensures rest { self.new ≡ slice_set self.old (place_of chan kind) None }
     {
-        self.seats.get_mut(place(chan, kind))?.take()
+        self.seats.get_mut(place_of(chan, kind))?.take()
     }
 }

@@ -5,6 +5,7 @@ ghost use Rattle.nio_link.specs.Links.{IsUnused};
 ghost use Rattle.nio_link.specs.Places.{unused};
 ghost use Rattle.nio_jobs.specs.ByJobs.{IsNew, exchange_of};
 ghost use Rattle.nio_relay.specs.Plan.{IsServable};
+ghost use Rattle.nio_tickets.specs.Answers.{serve_answer_of};
 ghost use Rattle.nio_tickets.specs.Handling.{opened_office};
 ghost use Rattle.nio_serve.specs.Serving.{AreNumbered, LeavesNothing, NoneRose, RelaysBytes, Serves, ServesAllOr};
 
@@ -17,6 +18,18 @@ use nio_serve::{ServeError, serve};
 use std::alloc::{AllocError, AllocGlobal, Global};
 use std::random::RandomSource;
 use std::sync::Wait;
+use thiserror::Error;
+
+/// Why a proxy by tickets ended before its plan was served.
+#[derive(Clone, Copy, Debug, PartialEq, Eq, Error)]
+pub enum FutureError {
+    /// A poll failed, or the listener.
+    #[error("the net failed")]
+    NetFault,
+    /// There is no memory or no random number, or the proxy's own table refused a call.
+    #[error("out of memory")]
+    Memory,
+}
 
 // How many channels the desk of this plan has: the listener's, and two for each connection.
 fn channels_of(plan: ProxyPlan) -> u32
@@ -43,12 +56,24 @@ fn open_way(
     requires { IsServable plan }
     ensures new { IfOk result (λ way. IsNew (exchange_of way) (2 * plan.conns + 1) (4 * plan.conns + 1) way) }
     ensures clerk { IfOk result (λ way. exchange_of way
-        ≡ opened_office (2 * plan.conns + 1) (4 * plan.conns + 1) (exchange_of way).desk.source) }
+        ≡ opened_office (2 * plan.conns + 1) (4 * plan.conns + 1) (exchange_of way).desk.source
+        (exchange_of way).desk.places) }
 {
     let channels = channels_of(plan);
     let flight = flight_of(plan);
     let clerk = Clerk::open(executor, alloc, channels, flight)?;
     ByJobs::make(alloc, clerk, channels, flight)
+}
+
+// The loop's answer, with this crate's error of the same name.
+fn with_own_error(answer: Result<Served, ServeError>) -> Result<Served, FutureError>
+    ensures { serve_answer_of result ≡ answer }
+{
+    match answer {
+        Ok(served) => Ok(served),
+        Err(ServeError::NetFault) => Err(FutureError::NetFault),
+        Err(ServeError::Memory) => Err(FutureError::Memory),
+    }
 }
 
 /// Relays as many connections as the plan says, and then ends, by the operations of a desk. The calling thread makes
@@ -65,28 +90,28 @@ pub fn serve_future<R, N: Net>(
     alloc: Global,
     net: &mut JobNet<N>,
     plan: ProxyPlan,
-) -> Result<Served, ServeError>
+) -> Result<Served, FutureError>
 where
     R: Wait + RandomSource + AllocGlobal,
     requires plan { IsServable plan }
     requires fresh { (c : ChanNo) → IsUnused (N.link net.old c) }
     requires unasked { (c : ChanNo) → N.place net.old c ≡ unused }
     ensures serves { Serves plan (N.link net.new) (N.place net.new) (N.faults net.old) (N.faults net.new)
-        (N.poll_faults net.old) (N.poll_faults net.new) result }
+        (N.poll_faults net.old) (N.poll_faults net.new) (serve_answer_of result) }
     ensures relays { RelaysBytes (N.link net.new) }
     ensures leaves { LeavesNothing plan (N.link net.new) (N.place net.new) }
-    ensures accepts { AreNumbered plan.conns (N.accepted net.old) (N.accepted net.new) result }
+    ensures accepts { AreNumbered plan.conns (N.accepted net.old) (N.accepted net.new) (serve_answer_of result) }
     ensures complete { NoneRose (N.faults net.old) (N.faults net.new) (N.poll_faults net.old) (N.poll_faults net.new)
-        → ServesAllOr plan.conns (N.link net.new) result }
+        → ServesAllOr plan.conns (N.link net.new) (serve_answer_of result) }
 {
     // No thread waits for a task there, so none sleeps at the doorbell.
     let Ok(executor) = Solo::new(rt, Doorbell::spinning()) else {
-        return Err(ServeError::Memory);
+        return Err(FutureError::Memory);
     };
     let Ok(mut way) = open_way(&executor, alloc, plan) else {
-        return Err(ServeError::Memory);
+        return Err(FutureError::Memory);
     };
     let served = serve(rt, alloc, &mut way, net, plan);
     way.into_exchange().close();
-    served
+    with_own_error(served)
 }

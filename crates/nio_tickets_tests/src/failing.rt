@@ -8,8 +8,7 @@ ghost use Rattle.nio_link.specs.Slots.{carried_at};
 use nio_base::{Addr, ChanNo};
 use nio_link::{JobNet, MemoryNet, NetPlan, PeerPlan};
 use nio_relay::{ProxyPlan, Served};
-use nio_serve::ServeError;
-use nio_tickets::serve_future;
+use nio_tickets::{FutureError, serve_future};
 use std::alloc::{AllocError, AllocGlobal, Global};
 use std::process::Abort;
 use std::random::RandomSource;
@@ -34,7 +33,7 @@ struct Row {
     fail_poll: Option<u64>,
     fail_accept: Option<u64>,
     fail_connect: bool,
-    served: Result<Served, ServeError>,
+    served: Result<Served, FutureError>,
 }
 
 const A_WRITE: Row = Row {
@@ -50,7 +49,7 @@ const A_WRITE: Row = Row {
 
 const A_POLL: Row = Row {
     name: "a poll",
-    served: Err(ServeError::NetFault),
+    served: Err(FutureError::NetFault),
     ..A_WRITE
 };
 
@@ -64,7 +63,7 @@ const ROWS: [Row; 3] = [
     Row {
         name: "an accept",
         fail_accept: Some(1),
-        served: Err(ServeError::NetFault),
+        served: Err(FutureError::NetFault),
         ..A_WRITE
     },
 ];

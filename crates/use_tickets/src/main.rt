@@ -55,8 +55,8 @@ where
 {
     let hand = Hand::new(rt.alloc(), desk, tickets).map_err(|_back| AllocError)?;
     let hand = run_round(rt, hand)?;
-    for (op, result) in &hand.ready {
-        println!(rt; "operation {}: {result:?}", op.0)?;
+    for one in &hand.ready {
+        println!(rt; "operation {}: {:?}", one.op.0, one.finished)?;
     }
     println!(rt; "tickets that are out: {}", hand.still.len())?;
     Ok(hand)

@@ -7,8 +7,9 @@ use Rattle.nio_future.proofs.desk.settle.Given as goal
 abbrev pub invariant-loop-done : goal.invariant-loop-done
 invariant-loop-done l =
     record {
-      settling : IsSettling (desk_of l.core l.out l.source.id);
-      leads : settled (desk_of l.core l.out l.source.id) ≡ settled (desk_of l.initial.core l.initial.out l.source.id);
+      settling : IsSettling (desk_of l.core l.out l.source.id l.waiting);
+      leads : settled (desk_of l.core l.out l.source.id l.waiting)
+          ≡ settled (desk_of l.initial.core l.initial.out l.source.id l.initial.waiting);
     }
 
 abbrev pub decreases-loop-done : goal.decreases-loop-done

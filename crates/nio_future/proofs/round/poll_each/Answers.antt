@@ -1,8 +1,9 @@
-use Rattle.std.proofs.Common.{◌≡◌, [], List, ap, sym, ◌∙◌, subst}
+use Rattle.std.proofs.Common.{◌≡◌, [], List, reverse, ap, sym, ◌∙◌, subst}
 use Rattle.nio_base.specs.declared.numbers.OpNo.{OpNo}
-use Rattle.nio_future.specs.Round.{with_ready}
+use Rattle.nio_future.specs.Desk.{held_at}
+use Rattle.nio_future.specs.Round.{after_each, polling_of, with_ready}
 use Rattle.nio_future.specs.Ticket.{Ticket}
-use Rattle.nio_future.proofs.RoundLemmas.{ends, next-ticket, no-items, polls-one, IsPolling}
+use Rattle.nio_future.proofs.RoundLemmas.{ends, in-order, next-ticket, no-items, polls-one, IsPolling}
 use Rattle.nio_future.proofs.round.poll_each.Goals as goal
 
 pub poll_op-polled-requires : goal.poll_op-polled-requires
@@ -19,15 +20,21 @@ loop-ticket-preserved c =
     let first = c.args.hand.now in
     let before = c.loop-ticket.invariant in
     let polled = c.poll_op-polled.ensures in
+    let held : c.operation-held.result ≡ held_at h.desk c.in-Some.ticket.op.0 =
+    c.operation-held.ensures ∙ ap (λ (op : OpNo). held_at h.desk op.0) c.op-op.ensures in
     let one = polls-one first.desk h.desk c.poll_op-polled.new.self first.tickets.items c.pop.new.self.items h.still.items
-    h.ready.items c.in-Some.ticket c.poll_op-polled.result
+    h.ready.items c.in-Some.ticket c.operation-held.result c.poll_op-polled.result
     (subst (λ (ts : List Ticket). IsPolling first.desk h.desk first.tickets.items ts h.still.items h.ready.items)
-    c.in-Some.ensures.items before.polling) polled.answer polled.after (λ not. polled.pending.0 not) in
+    c.in-Some.ensures.items before.polling) held polled.answer polled.after (λ not. polled.pending.0 not) in
     let still = c.put_away.ensures.still in
     let ready = c.put_away.ensures.ready
-    ∙ ap (λ (op : OpNo). with_ready op c.poll_op-polled.result h.ready.items) c.op-op.ensures in
+    ∙ ap (λ (op : OpNo). with_ready op c.operation-held.result c.poll_op-polled.result h.ready.items) c.op-op.ensures in
+    let order = in-order (polling_of h) c.poll_op-polled.new.self c.put_away.new.still.items c.put_away.new.ready.items
+    h.tickets.items c.pop.new.self.items c.in-Some.ticket c.operation-held.result c.poll_op-polled.result
+    c.in-Some.ensures.items held polled.answer polled.after still ready in
     record {
       polling = rw (still, ready) one;
+      in_order = order ∙ before.in_order;
       kept = λ fact holds. polled.kept fact (before.kept fact holds);
       tickets_room = c.in-Some.ensures.capacity ∙ before.tickets_room;
       still_room = c.put_away.ensures.same_still ∙ before.still_room;
@@ -45,7 +52,9 @@ returns-clause-polls c =
     record {
       same_group = before.polling.group;
       same_source = before.polling.source;
+      same_places = before.polling.places;
       all_polled = no-items c.pop.new.self.items (sym c.pop.new.self.ok.0 ∙ none.1);
+      in_order = ap (λ (ts : List Ticket). after_each (polling_of h) (reverse ts)) (sym left) ∙ before.in_order;
       tickets = end.tickets;
       pending = before.polling.pending;
       results = before.polling.results;

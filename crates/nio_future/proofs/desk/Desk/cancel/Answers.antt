@@ -1,4 +1,4 @@
-use Rattle.std.proofs.Common.{ap, ◌∙◌, subst, length, ◌≤◌, sym}
+use Rattle.std.proofs.Common.{ap, ◌∙◌, subst, sym}
 use Rattle.nio_group.specs.Flight.{op_at}
 use Rattle.nio_group.specs.Group.{StaysMade}
 use Rattle.nio_future.specs.Desk.{DeskState, is_out}
@@ -8,10 +8,10 @@ use Rattle.nio_future.proofs.TicketLemmas.{cancelled, IsCancelled}
 use Rattle.nio_future.proofs.desk.Desk.cancel.Goals as goal
 
 left : (c : goal.After-end) → IsCancelled c.args.self.now
-    (desk_of c.self.inside.core c.end.new.self c.self.inside.source.id) c.args.ticket
+    (desk_of c.self.inside.core c.end.new.self c.self.inside.source.id c.self.inside.waiting) c.args.ticket
 left c =
     let i = c.self.inside in
-    let d = desk_of i.core i.out i.source.id in
+    let d = desk_of i.core i.out i.source.id i.waiting in
     let closed = c.close_for-pending.ensures in
     let view = c.self.view_is in
     cancelled d c.args.self.now c.args.ticket c.op-op.result c.end.new.self c.self.invariant c.requires c.op-op.ensures

@@ -1,4 +1,4 @@
-use Rattle.std.proofs.Common.{refl, ◌<◌, length}
+use Rattle.std.proofs.Common.{refl}
 use Rattle.nio_group.specs.Group.{IsMade}
 use Rattle.nio_group.specs.Run.{close_channel}
 use Rattle.nio_future.proofs.CallLemmas.{called, settles-call, IsCalled}
@@ -10,16 +10,16 @@ pub settle-requires : goal.settle-requires
 settle-requires c =
     let i = c.self.inside in
     let made : IsMade i.core c.args.chan = rw (← c.self.view_is) at c.requires in
-    settles-call (desk_of i.core i.out i.source.id) (close_channel c.args.chan) _ c.self.invariant made refl
+    settles-call (desk_of i.core i.out i.source.id i.waiting) (close_channel c.args.chan) _ c.self.invariant made refl
     c.close_channel-answer.ensures.after
 
 -- what the call leaves
 leaves : (c : After-settle) → IsCalled c.args.self.now
-    (desk_of c.settle.new.core c.settle.new.out c.self.inside.source.id) (close_channel c.args.chan)
+    (desk_of c.settle.new.core c.settle.new.out c.self.inside.source.id c.settle.new.waiting) (close_channel c.args.chan)
 leaves c =
     let i = c.self.inside in
     let made : IsMade i.core c.args.chan = rw (← c.self.view_is) at c.requires in
-    called (desk_of i.core i.out i.source.id) _ _ (close_channel c.args.chan) _ c.self.view_is
+    called (desk_of i.core i.out i.source.id i.waiting) _ _ (close_channel c.args.chan) _ c.self.view_is
     c.self.invariant made refl c.close_channel-answer.ensures.after c.settle.ensures.settles
 
 pub returns-clause-after : goal.returns-clause-after

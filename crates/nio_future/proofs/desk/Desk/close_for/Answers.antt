@@ -1,4 +1,4 @@
-use Rattle.std.proofs.Common.{◌≡◌, ◌<◌, length, sym, ◌∙◌, subst, true, Some}
+use Rattle.std.proofs.Common.{◌≡◌, sym, ◌∙◌, subst, true, Some}
 use Rattle.nio_group.specs.Group.{IsMade}
 use Rattle.nio_future.specs.Desk.{DeskState, held_at}
 use Rattle.nio_future.proofs.SettleLemmas.{desk_of}
@@ -8,7 +8,7 @@ use Rattle.nio_future.proofs.desk.Desk.close_for.Goals as goal
 pub close_channel-requires : goal.close_channel-requires
 close_channel-requires c =
     let i = c.self.inside in
-    let d = desk_of i.core i.out i.source.id in
+    let d = desk_of i.core i.out i.source.id i.waiting in
     let there : held_at d c.args.op.0 ≡ Some c.in-Some.held = sym c.get.ensures ∙ c.in-Some.is in
     let slot = waiting-from d c.args.op.0 c.in-Some.held c.self.invariant there c.in-Pending.is in
     let made = pending-made d c.args.op.0 c.in-Some.held c.self.invariant slot c.in-Pending.is in
@@ -17,7 +17,7 @@ close_channel-requires c =
 closed : (c : goal.After-close_channel) → ClosesFor c.args.self.now c.close_channel.new.self c.args.op.0 true
 closed c =
     let i = c.self.inside in
-    let d = desk_of i.core i.out i.source.id in
+    let d = desk_of i.core i.out i.source.id i.waiting in
     let there : held_at d c.args.op.0 ≡ Some c.in-Some.held = sym c.get.ensures ∙ c.in-Some.is in
     closes d c.args.self.now c.close_channel.new.self c.args.op.0 c.in-Some.held c.self.invariant c.self.view_is there
     c.in-Pending.is c.close_channel.ensures.after

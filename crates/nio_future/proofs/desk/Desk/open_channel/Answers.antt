@@ -8,15 +8,15 @@ use Rattle.nio_future.proofs.desk.Desk.open_channel.Goals.{After-settle}
 pub settle-requires : goal.settle-requires
 settle-requires c =
     let i = c.self.inside in
-    settles-call (desk_of i.core i.out i.source.id) (open_channel c.args.kind) _ c.self.invariant tt refl
+    settles-call (desk_of i.core i.out i.source.id i.waiting) (open_channel c.args.kind) _ c.self.invariant tt refl
     c.open_channel-answer.ensures.after
 
 -- what the call leaves
 leaves : (c : After-settle) → IsCalled c.args.self.now
-    (desk_of c.settle.new.core c.settle.new.out c.self.inside.source.id) (open_channel c.args.kind)
+    (desk_of c.settle.new.core c.settle.new.out c.self.inside.source.id c.settle.new.waiting) (open_channel c.args.kind)
 leaves c =
     let i = c.self.inside in
-    called (desk_of i.core i.out i.source.id) _ _ (open_channel c.args.kind) _ c.self.view_is
+    called (desk_of i.core i.out i.source.id i.waiting) _ _ (open_channel c.args.kind) _ c.self.view_is
     c.self.invariant tt refl c.open_channel-answer.ensures.after c.settle.ensures.settles
 
 pub returns-clause-after : goal.returns-clause-after
@@ -31,12 +31,12 @@ returns-clause-tickets c = (leaves (goal.at.returns-clause-tickets c).After-sett
 pub returns-clause-opened : goal.returns-clause-opened
 returns-clause-opened c =
     let i = c.self.inside in
-    opened-made (desk_of i.core i.out i.source.id) c.args.kind _ _ c.self.invariant c.open_channel-answer.ensures.after
+    opened-made (desk_of i.core i.out i.source.id i.waiting) c.args.kind _ _ c.self.invariant c.open_channel-answer.ensures.after
     c.settle.ensures.settles _ c.open_channel-answer.ensures.answer
 
 pub returns-clause-refused : goal.returns-clause-refused
 returns-clause-refused c =
     let i = c.self.inside in
     let call = leaves (goal.at.returns-clause-refused c).After-settle in
-    open-keeps c.args.kind c.open_channel-answer.result (desk_of i.core i.out i.source.id) _ _
+    open-keeps c.args.kind c.open_channel-answer.result (desk_of i.core i.out i.source.id i.waiting) _ _
     c.open_channel-answer.ensures.answer c.self.invariant c.self.view_is call.after

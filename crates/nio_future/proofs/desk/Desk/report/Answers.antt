@@ -12,15 +12,15 @@ use Rattle.nio_future.proofs.desk.Desk.report.Goals.{After-settle}
 pub settle-requires : goal.settle-requires
 settle-requires c =
     let i = c.self.inside in
-    settles-call (desk_of i.core i.out i.source.id) (report c.args.op c.args.outcome) _ c.self.invariant tt refl
+    settles-call (desk_of i.core i.out i.source.id i.waiting) (report c.args.op c.args.outcome) _ c.self.invariant tt refl
     c.report-answer.ensures.after
 
 -- what the call leaves
 leaves : (c : After-settle) → IsCalled c.args.self.now
-    (desk_of c.settle.new.core c.settle.new.out c.self.inside.source.id) (report c.args.op c.args.outcome)
+    (desk_of c.settle.new.core c.settle.new.out c.self.inside.source.id c.settle.new.waiting) (report c.args.op c.args.outcome)
 leaves c =
     let i = c.self.inside in
-    called (desk_of i.core i.out i.source.id) _ _ (report c.args.op c.args.outcome) _ c.self.view_is
+    called (desk_of i.core i.out i.source.id i.waiting) _ _ (report c.args.op c.args.outcome) _ c.self.view_is
     c.self.invariant tt refl c.report-answer.ensures.after c.settle.ensures.settles
 
 pub returns-clause-after : goal.returns-clause-after
@@ -38,6 +38,6 @@ returns-clause-refused c =
     let g : Group = i.core in
     let call = leaves (goal.at.returns-clause-refused c).After-settle in
     refused-keeps (report_refusal (op_at g.flight c.args.op.0) c.args.outcome) tt c.report-answer.result
-    (desk_of i.core i.out i.source.id) _ _
+    (desk_of i.core i.out i.source.id i.waiting) _ _
     (reported g c.args.op.0 c.args.outcome (op_at g.flight c.args.op.0)) (report c.args.op c.args.outcome)
     c.report-answer.ensures.answer refl c.self.invariant c.self.view_is call.after

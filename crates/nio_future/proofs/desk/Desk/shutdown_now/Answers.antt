@@ -8,15 +8,15 @@ use Rattle.nio_future.proofs.desk.Desk.shutdown_now.Goals.{After-settle}
 pub settle-requires : goal.settle-requires
 settle-requires c =
     let i = c.self.inside in
-    settles-call (desk_of i.core i.out i.source.id) shutdown_now _ c.self.invariant tt refl
+    settles-call (desk_of i.core i.out i.source.id i.waiting) shutdown_now _ c.self.invariant tt refl
     c.shutdown_now.ensures
 
 -- what the call leaves
 leaves : (c : After-settle) → IsCalled c.args.self.now
-    (desk_of c.settle.new.core c.settle.new.out c.self.inside.source.id) shutdown_now
+    (desk_of c.settle.new.core c.settle.new.out c.self.inside.source.id c.settle.new.waiting) shutdown_now
 leaves c =
     let i = c.self.inside in
-    called (desk_of i.core i.out i.source.id) _ _ shutdown_now _ c.self.view_is
+    called (desk_of i.core i.out i.source.id i.waiting) _ _ shutdown_now _ c.self.view_is
     c.self.invariant tt refl c.shutdown_now.ensures c.settle.ensures.settles
 
 pub returns-clause-after : goal.returns-clause-after

@@ -1,4 +1,4 @@
-use Rattle.std.proofs.Common.{◌≡◌, ◌<◌, length, sym, ◌∙◌, ap, subst, ◌∷◌, [], Ok, Some}
+use Rattle.std.proofs.Common.{◌≡◌, sym, ◌∙◌, ap, subst, ◌∷◌, [], Ok, Some}
 use Rattle.nio_group.specs.Group.{IsMade}
 use Rattle.nio_group.specs.declared.refusal.StartError.TheVariants.{FlightFull}
 use Rattle.nio_future.specs.Desk.{DeskState}
@@ -13,7 +13,7 @@ use Rattle.nio_future.proofs.desk.Desk.start.Goals as goal
 never : (c : goal.After-from_residual) → ⊥
 never c =
     let i = c.self.inside in
-    let d = desk_of i.core i.out i.source.id in
+    let d = desk_of i.core i.out i.source.id i.waiting in
     let free = free-of d _ c.args.chan c.args.kind c.self.invariant c.self.view_is
     (sym c.start_refusal.ensures ∙ c.in_default.is) in
     not-refused d c.args.chan c.args.kind c.in_err-op.field-0.0 free.0 (sym c.in_err-op.was ∙ c.start.ensures.answer)
@@ -39,7 +39,7 @@ returns-in_err-op-clause-refused c = absurd (never c)
 pub accept-requires-clause-room : goal.accept-requires-clause-room
 accept-requires-clause-room c =
     let i = c.self.inside in
-    let d = desk_of i.core i.out i.source.id in
+    let d = desk_of i.core i.out i.source.id i.waiting in
     let free = free-of d _ c.args.chan c.args.kind c.self.invariant c.self.view_is
     (sym c.start_refusal.ensures ∙ c.in_default.is) in
     free.1
@@ -47,7 +47,7 @@ accept-requires-clause-room c =
 pub accept-requires-clause-numbers : goal.accept-requires-clause-numbers
 accept-requires-clause-numbers c =
     let i = c.self.inside in
-    let d = desk_of i.core i.out i.source.id in
+    let d = desk_of i.core i.out i.source.id i.waiting in
     let free = free-of d _ c.args.chan c.args.kind c.self.invariant c.self.view_is
     (sym c.start_refusal.ensures ∙ c.in_default.is) in
     numbers-left d c.args.chan c.args.kind c.self.invariant free.0
@@ -55,7 +55,7 @@ accept-requires-clause-numbers c =
 pub settle-requires : goal.settle-requires
 settle-requires c =
     let i = c.self.inside in
-    let d = desk_of i.core i.out i.source.id in
+    let d = desk_of i.core i.out i.source.id i.waiting in
     let free = free-of d _ c.args.chan c.args.kind c.self.invariant c.self.view_is
     (sym c.start_refusal.ensures ∙ c.in_default.is) in
     let made : IsMade d.group c.args.chan = rw (← c.self.view_is) at c.requires in
@@ -63,10 +63,10 @@ settle-requires c =
     c.accept.ensures.accepts
 
 begun : (c : goal.After-make) → IsStarted c.args.self.now
-    (desk_of c.settle.new.core c.settle.new.out c.self.inside.source.id) c.args.chan c.args.kind c.args.len c.in_ok-op.op
+    (desk_of c.settle.new.core c.settle.new.out c.self.inside.source.id c.settle.new.waiting) c.args.chan c.args.kind c.args.len c.in_ok-op.op
 begun c =
     let i = c.self.inside in
-    let d = desk_of i.core i.out i.source.id in
+    let d = desk_of i.core i.out i.source.id i.waiting in
     let made : IsMade d.group c.args.chan = rw (← c.self.view_is) at c.requires in
     started-facts d _ _ c.args.chan c.args.kind c.args.len _ _ c.in_ok-op.op c.self.invariant c.self.view_is made
     (sym c.start_refusal.ensures ∙ c.in_default.is) (sym c.in_ok-op.was ∙ c.start.ensures.answer)
@@ -88,13 +88,13 @@ returns-clause-made c = (begun c).made
 
 pub returns-clause-given : goal.returns-clause-given
 returns-clause-given c =
-    subst (λ (t : Ticket). IsTicketOf (desk_of c.settle.new.core c.settle.new.out c.self.inside.source.id) t)
+    subst (λ (t : Ticket). IsTicketOf (desk_of c.settle.new.core c.settle.new.out c.self.inside.source.id c.settle.new.waiting) t)
     (sym (ticket c)) (begun c).given
 
 pub returns-clause-tickets : goal.returns-clause-tickets
 returns-clause-tickets c =
     subst (λ (t : Ticket). TakesTicket t c.args.self.now (desk_of c.settle.new.core c.settle.new.out
-    c.self.inside.source.id)) (sym (ticket c)) (begun c).tickets
+    c.self.inside.source.id c.settle.new.waiting)) (sym (ticket c)) (begun c).tickets
 
 pub returns-in-Some-clause-full : goal.returns-in-Some-clause-full
 returns-in-Some-clause-full c = λ is.

@@ -8,13 +8,13 @@ use Rattle.nio_future.proofs.desk.Desk.start_refusal.Goals as goal
 pub returns-in-Some : goal.returns-in-Some
 returns-in-Some c =
     let i = c.self.inside in
-    refusal-answer (desk_of i.core i.out i.source.id) _ c.args.chan c.args.kind (Some c.in-Some.refused)
+    refusal-answer (desk_of i.core i.out i.source.id i.waiting) _ c.args.chan c.args.kind (Some c.in-Some.refused)
     c.self.invariant c.self.view_is c.in-Some.ensures
 
 pub returns-then-in_flight-limit : goal.returns-then-in_flight-limit
 returns-then-in_flight-limit c =
     let i = c.self.inside in
-    let d = desk_of i.core i.out i.source.id in
+    let d = desk_of i.core i.out i.source.id i.waiting in
     let full : eqb (tickets_out d) d.out.limit ≡ true =
     eq-eqb (tickets_out d) d.out.limit (sym c.in_flight.ensures ∙ c.if-in_flight-limit.true ∙ c.limit.ensures) in
     ap (λ (b : Bool). or_full b None) (sym full)
@@ -23,7 +23,7 @@ returns-then-in_flight-limit c =
 pub returns : goal.returns
 returns c =
     let i = c.self.inside in
-    let d = desk_of i.core i.out i.source.id in
+    let d = desk_of i.core i.out i.source.id i.waiting in
     let room : eqb (tickets_out d) d.out.limit ≡ false =
     ne_eqb (tickets_out d) d.out.limit
     (λ e. c.if-in_flight-limit.false (c.in_flight.ensures ∙ e ∙ sym c.limit.ensures)) in

@@ -2,7 +2,8 @@ use Rattle.std.proofs.Common.{List, ◌∷◌, Option, sym, subst}
 use Rattle.nio_future.specs.Desk.{DeskState}
 use Rattle.nio_future.specs.Ticket.{Ticket}
 use Rattle.nio_future.specs.Tickets.{AreTicketsOf}
-use Rattle.nio_tickets.specs.Seats.{place_of, seated, AreSeated}
+use Rattle.nio_future.specs.Desk.{place_of}
+use Rattle.nio_tickets.specs.Seats.{seated, AreSeated}
 use Rattle.nio_tickets.proofs.Keeping.{is_ticket, put, taken}
 use Rattle.nio_tickets.proofs.streams.Streams.poll.Goals as goal
 

@@ -1,5 +1,6 @@
 use Rattle.std.proofs.Common.{sym, subst}
-use Rattle.nio_tickets.specs.Seats.{place_of, seated, AreSeated}
+use Rattle.nio_future.specs.Desk.{place_of}
+use Rattle.nio_tickets.specs.Seats.{seated, AreSeated}
 use Rattle.nio_tickets.proofs.Keeping.{put}
 use Rattle.nio_tickets.proofs.streams.Streams.start_on.Goals as goal
 
