@@ -1,0 +1,6 @@
+pub mod AsBox
+pub mod Exported
+pub mod Filling
+pub mod HandleSteps
+pub mod Splitting
+pub mod Unselecting

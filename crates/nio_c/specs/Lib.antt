@@ -1,0 +1,9 @@
+pub mod Exports
+pub mod Handles
+pub mod Lists
+pub mod Making
+pub mod Owned
+pub mod Selections
+pub mod Statuses
+pub mod Taking
+pub mod Values

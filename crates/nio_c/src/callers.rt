@@ -1,0 +1,129 @@
+//! The exports that make a table, give numbers away, and let callers go.
+ghost use Rattle.std.specs.Prelude.{◌≡◌, IfOk, MatchBool};
+ghost use Rattle.nio_base.specs.Limits.{IsFit};
+ghost use Rattle.nio_select.specs.Listed.{ok_seen};
+ghost use Rattle.nio_c.specs.Exports.{Exports, Refuses};
+ghost use Rattle.nio_c.specs.Making.{IsFirst, IsGiven, LetsGo, MakesTable, SaysNumber, Splits};
+ghost use Rattle.nio_c.specs.Statuses.{done, split_refusal, status_of};
+ghost use Rattle.nio_c.specs.Values.{as_limits, caller_no};
+ghost use Rattle.nio_c.specs.declared.status.Status.TheVariants as status;
+
+use crate::handle::{Handle, Sharer};
+use crate::status::{Refusal, Status};
+use crate::values::TableLimits;
+use nio_base::{CallerNo, Limits};
+use nio_caller::{Caller, SplitError};
+use nio_words::Words;
+use std::alloc::{AllocError, Global};
+use std::sync::Arc;
+
+/// Makes a table, and its first caller, which holds every number.
+#[unsafe(no_mangle)]
+pub extern "C" fn nio_make(alloc: Global, limits: &TableLimits, first: &mut Handle) -> u32
+    ensures { MakesTable (as_limits limits.now) first.old first.new result }
+{
+    if first.is_full() {
+        return Status::FullHandle.code();
+    }
+    let limits = limits.limits();
+    if !limits.fits() {
+        return Status::IllegalArgument.code();
+    }
+    match first_caller(alloc, limits) {
+        Ok(caller) => {
+            first.put(caller);
+            Status::Done.code()
+        }
+        Err(_error) => Status::NoMemory.code(),
+    }
+}
+
+fn first_caller(alloc: Global, limits: Limits) -> Result<Box<Sharer, Global>, AllocError>
+    requires { IsFit limits }
+    ensures { IfOk result (λ caller. IsFirst limits caller.value) }
+{
+    let (words, pass) = Words::make(alloc, limits)?;
+    let table = Arc::new(alloc, words)?;
+    Ok(Box::new(alloc, Caller::first(table, pass))?)
+}
+
+/// Gives a number away, to a new caller at the same table.
+#[unsafe(no_mangle)]
+pub extern "C" fn nio_split(
+    alloc: Global,
+    caller: &mut Handle,
+    number: u32,
+    given: &mut Handle,
+) -> u32
+    ensures { MatchBool given.old.full
+        (Refuses status.FullHandle (given.new ≡ given.old) caller.old caller.new result)
+        (Exports (Splits (caller_no number)) (status_of split_refusal)
+        (λ answer. IsGiven answer given.old given.new) (given.new ≡ given.old)
+        caller.old caller.new result) }
+{
+    if given.is_full() {
+        return Status::FullHandle.code();
+    }
+    let Some(mut acting) = caller.take(alloc) else {
+        return Status::EmptyHandle.code();
+    };
+    let split = split_off(alloc, &mut acting, CallerNo(number));
+    caller.put(acting);
+    match split {
+        Ok(boxed) => {
+            given.put(boxed);
+            Status::Done.code()
+        }
+        Err(error) => error.status().code(),
+    }
+}
+
+// Gives a number away. Where there is no memory for the new caller, the number comes back: `NoHandle`.
+#[tactic(auto, using(crate::proofs::Splitting::all_back, crate::proofs::Splitting::split_refused))]
+fn split_off(
+    alloc: Global,
+    acting: &mut Sharer,
+    number: CallerNo,
+) -> Result<Box<Sharer, Global>, SplitError>
+    ensures { Splits number acting.old acting.new (ok_seen (λ given. given.value) result) }
+{
+    let given = match acting.split(number) {
+        Ok(given) => given,
+        Err(error) => return Err(error),
+    };
+    match Box::new(alloc, given) {
+        Ok(boxed) => Ok(boxed),
+        Err(failed) => {
+            acting.join(failed.value);
+            Err(SplitError::NoHandle)
+        }
+    }
+}
+
+/// Lets the caller go.
+#[unsafe(no_mangle)]
+pub extern "C" fn nio_free(alloc: Global, caller: &mut Handle) -> u32
+    ensures { LetsGo caller.old caller.new result }
+{
+    match caller.take(alloc) {
+        Some(acting) => {
+            drop(acting);
+            Status::Done.code()
+        }
+        None => Status::EmptyHandle.code(),
+    }
+}
+
+/// The caller's number.
+#[unsafe(no_mangle)]
+pub extern "C" fn nio_number(alloc: Global, caller: &mut Handle, number: &mut u32) -> u32
+    ensures { Exports SaysNumber done (λ answer. number.new ≡ answer) (number.new ≡ number.old)
+        caller.old caller.new result }
+{
+    let Some(acting) = caller.take(alloc) else {
+        return Status::EmptyHandle.code();
+    };
+    *number = acting.number().0;
+    caller.put(acting);
+    Status::Done.code()
+}
