@@ -1,0 +1,672 @@
+/*
+ * The native methods of nio.provider.Table: a proved table with one selector, an epoll descriptor and a bell.
+ *
+ * Callers are lent to threads. Cell 0 has the caller of selections: its methods (start, begin, look, poll, tell, sweep,
+ * leave, cancel) are called with the selector's monitor. Every other method takes one of the other cells for the time
+ * of the call. A cell that is GONE is of a table that was let go: its caller makes no more calls.
+ *
+ * An answer below 0 is minus a status of nio.h, or one of nio.provider.Table's own.
+ */
+#define _GNU_SOURCE
+#include "nio.h"
+#include "nio_provider_Table.h"
+
+#include <errno.h>
+#include <sched.h>
+#include <stdatomic.h>
+#include <stdlib.h>
+#include <string.h>
+#include <sys/epoll.h>
+#include <sys/eventfd.h>
+#include <unistd.h>
+
+#define STATUS(name) _Static_assert(nio_provider_Table_##name == (int)NIO_##name, "Table." #name)
+STATUS(AGAIN);
+STATUS(NO_MEMORY);
+STATUS(NO_SUCH_KEY);
+STATUS(SPENT);
+STATUS(ILLEGAL_OPS);
+STATUS(CANCELLED_KEY);
+STATUS(CLOSED_SELECTOR);
+STATUS(SELECTOR_FULL);
+
+#define OVER nio_provider_Table_OVER
+#define FAILED nio_provider_Table_FAILED
+
+_Static_assert(sizeof(nio_key) == 3 * sizeof(jint), "a key is three numbers of Java's");
+
+enum { CELLS = 8, KINDS = 5, EVENTS = 1024 };
+enum { FREE, TAKEN, GONE };
+#define BELL UINT32_MAX
+#define NONE UINT32_MAX
+
+/* A caller that is lent, on a cache line of its own. */
+typedef struct cell {
+    _Alignas(64) atomic_int state;
+    nio_caller caller;
+} cell;
+
+/* What is known of a channel, at the place of its number. */
+typedef struct place {
+    int fd;
+    uint32_t serial;
+    uint32_t kind;
+    uint32_t index;  /* of its key, */
+    uint32_t key;    /* and that one's serial */
+    uint32_t events; /* what epoll watches for */
+    uint32_t next;   /* of the channels of its kind that are closed */
+    nio_ops interest;
+} place;
+
+typedef struct table {
+    cell cells[CELLS];
+    _Alignas(64) atomic_bool changed; /* since a selection began: what it asks for */
+    atomic_bool rung;                 /* the bell rings, or is about to */
+    _Alignas(64) uint32_t selector;
+    int poll;
+    int bell;
+    uint32_t keys;
+    cell *closing;         /* the caller that began to close the selector */
+    uint32_t closed[KINDS]; /* the first channel of each kind that is closed */
+    place *places;
+    nio_looked *asked;
+    nio_pair *pairs;
+    struct epoll_event *events;
+    uint32_t *found;   /* the channels that the last poll found */
+    jint (*names)[3];  /* what Java is given of each */
+    bool must_arm;
+    bool is_gone;
+} table;
+
+static const char NO_MEMORY[] = "no memory for a selector";
+
+#define NATIVE(type, name, ...)                                                                                        \
+    JNIEXPORT type JNICALL Java_nio_provider_Table_##name(JNIEnv *env, jobject self, ##__VA_ARGS__)
+
+static jfieldID address;
+
+JNIEXPORT jint JNICALL JNI_OnLoad(JavaVM *machine, void *reserved)
+{
+    JNIEnv *env;
+    (void)reserved;
+    if ((*machine)->GetEnv(machine, (void **)&env, JNI_VERSION_10) != JNI_OK)
+        return JNI_ERR;
+    jclass class = (*env)->FindClass(env, "nio/provider/Table");
+    if (class != NULL)
+        address = (*env)->GetFieldID(env, class, "address", "J");
+    return address != NULL ? JNI_VERSION_10 : JNI_ERR;
+}
+
+static table *table_of(JNIEnv *env, jobject self)
+{
+    return (table *)(intptr_t)(*env)->GetLongField(env, self, address);
+}
+
+/* ---- callers ---- */
+
+/* Takes a cell; NULL where the table was let go. The environment, one for each thread, says where to begin. */
+static cell *take(table *t, JNIEnv *env)
+{
+    uint32_t from = (uint32_t)(((uintptr_t)env * UINT64_C(0x9e3779b97f4a7c15)) >> 33);
+    for (uint32_t tries = 0;; tries++) {
+        cell *c = &t->cells[1 + (from + tries) % (CELLS - 1)];
+        int state = FREE;
+        if (atomic_compare_exchange_strong(&c->state, &state, TAKEN))
+            return c;
+        if (state == GONE)
+            return NULL;
+        if (tries % CELLS == CELLS - 1)
+            sched_yield();
+    }
+}
+
+static void give(cell *c)
+{
+    atomic_store(&c->state, FREE);
+}
+
+static jint answer(nio_status status)
+{
+    return -(jint)status;
+}
+
+/* What a status and the value behind it answer. */
+static jint answer_or(nio_status status, jint value)
+{
+    return status == NIO_DONE ? value : answer(status);
+}
+
+/* ---- the bell ---- */
+
+static void ring(table *t)
+{
+    uint64_t one = 1;
+    if (!atomic_exchange(&t->rung, true)) {
+        ssize_t written = write(t->bell, &one, sizeof one);
+        (void)written; /* it fails only where the bell rings already */
+    }
+}
+
+/* First the bell is emptied, then the flag; the table is told after both, so what rings later is found later. */
+static void silence(table *t)
+{
+    uint64_t rings;
+    ssize_t count = read(t->bell, &rings, sizeof rings);
+    (void)count;
+    atomic_store(&t->rung, false);
+}
+
+/* ---- making and letting go ---- */
+
+static void raise(JNIEnv *env, const char *text)
+{
+    jclass class = (*env)->FindClass(env, "java/io/IOException");
+    if (class != NULL)
+        (*env)->ThrowNew(env, class, text);
+}
+
+static void let_go(table *t)
+{
+    for (int i = 0; i < CELLS; i++)
+        nio_free(&t->cells[i].caller);
+    if (t->poll >= 0)
+        close(t->poll);
+    if (t->bell >= 0)
+        close(t->bell);
+    free(t->places);
+    free(t->asked);
+    free(t->pairs);
+    free(t->events);
+    free(t->found);
+    free(t->names);
+}
+
+static nio_status make_callers(table *t, uint32_t channels)
+{
+    nio_limits limits = {.callers = CELLS, .selectors = 1, .channels = channels, .keys = t->keys};
+    bool taken;
+    nio_status status = nio_make(&limits, &t->cells[0].caller);
+    for (uint32_t i = 1; status == NIO_DONE && i < CELLS; i++)
+        status = nio_split(&t->cells[0].caller, i, &t->cells[i].caller);
+    if (status == NIO_DONE)
+        status = nio_open_selector(&t->cells[0].caller, &t->selector);
+    if (status == NIO_DONE)
+        status = nio_take_list(&t->cells[0].caller, t->selector, &taken);
+    return status;
+}
+
+static bool make_room(table *t, uint32_t channels)
+{
+    t->places = calloc(channels, sizeof *t->places);
+    t->asked = malloc(t->keys * sizeof *t->asked);
+    t->pairs = malloc(EVENTS * sizeof *t->pairs);
+    t->events = malloc(EVENTS * sizeof *t->events);
+    t->found = malloc(EVENTS * sizeof *t->found);
+    t->names = malloc(EVENTS * sizeof *t->names);
+    return t->places != NULL && t->asked != NULL && t->pairs != NULL && t->events != NULL && t->found != NULL &&
+           t->names != NULL;
+}
+
+static bool make_descriptors(table *t)
+{
+    struct epoll_event event = {.events = EPOLLIN, .data.u32 = BELL};
+    t->poll = epoll_create1(EPOLL_CLOEXEC);
+    t->bell = eventfd(0, EFD_NONBLOCK | EFD_CLOEXEC);
+    return t->poll >= 0 && t->bell >= 0 && epoll_ctl(t->poll, EPOLL_CTL_ADD, t->bell, &event) == 0;
+}
+
+/* Makes what the table needs; why that failed, or NULL. */
+static const char *fault_of(table *t, uint32_t channels)
+{
+    if (!make_descriptors(t))
+        return strerror(errno);
+    nio_status status = make_room(t, channels) ? make_callers(t, channels) : NIO_NO_MEMORY;
+    if (status == NIO_DONE)
+        return NULL;
+    return status == NIO_ILLEGAL_ARGUMENT ? "nio.keys is to be from 1 to 262144" : NO_MEMORY;
+}
+
+JNIEXPORT jlong JNICALL Java_nio_provider_Table_make(JNIEnv *env, jclass class, jint keys, jint channels)
+{
+    (void)class;
+    table *t = aligned_alloc(64, sizeof *t);
+    if (t == NULL) {
+        raise(env, NO_MEMORY);
+        return 0;
+    }
+    memset(t, 0, sizeof *t);
+    t->keys = (uint32_t)keys;
+    t->poll = t->bell = -1;
+    for (int kind = 0; kind < KINDS; kind++)
+        t->closed[kind] = NONE;
+    const char *fault = fault_of(t, (uint32_t)channels);
+    if (fault == NULL)
+        return (jlong)(intptr_t)t;
+    raise(env, fault);
+    let_go(t);
+    free(t);
+    return 0;
+}
+
+/* Begins to close the selector, by a caller that keeps the closing, and rings. */
+NATIVE(void, shut)
+{
+    table *t = table_of(env, self);
+    bool began;
+    cell *c = take(t, env);
+    if (c == NULL)
+        return;
+    nio_shut(&c->caller, t->selector, &began);
+    t->closing = c;
+    ring(t);
+}
+
+/* Ends the closing and lets the table go, after taking every cell. The struct stays: late calls still reach it. */
+NATIVE(void, finish)
+{
+    table *t = table_of(env, self);
+    if (t->closing == NULL)
+        return;
+    nio_try_finish(&t->closing->caller, t->selector);
+    atomic_store(&t->closing->state, FREE);
+    for (int i = 0; i < CELLS; i++) {
+        int state = FREE;
+        while (!atomic_compare_exchange_weak(&t->cells[i].state, &state, GONE)) {
+            state = FREE;
+            sched_yield();
+        }
+    }
+    let_go(t);
+    t->is_gone = true;
+}
+
+JNIEXPORT void JNICALL Java_nio_provider_Table_release(JNIEnv *env, jclass class, jlong at)
+{
+    table *t = (table *)(intptr_t)at;
+    (void)env;
+    (void)class;
+    if (!t->is_gone)
+        let_go(t);
+    free(t);
+}
+
+/* ---- selections: by the caller of cell 0 ---- */
+
+static nio_caller *selecting(table *t)
+{
+    return &t->cells[0].caller;
+}
+
+static uint32_t events_of(nio_ops interest)
+{
+    uint32_t events = 0;
+    if (interest & (NIO_READ | NIO_ACCEPT))
+        events |= EPOLLIN;
+    if (interest & (NIO_WRITE | NIO_CONNECT))
+        events |= EPOLLOUT;
+    return events;
+}
+
+/* Makes epoll watch for what the selection looks for. As in the JDK a descriptor that epoll refuses is never ready. */
+static void watch(table *t, const nio_looked *looked)
+{
+    place *p = &t->places[looked->channel];
+    uint32_t events = events_of(looked->interest);
+    p->index = looked->index;
+    p->key = looked->serial;
+    p->interest = looked->interest;
+    if (events == p->events)
+        return;
+    struct epoll_event event = {.events = events, .data.u32 = looked->channel};
+    int call = events == 0 ? EPOLL_CTL_DEL : p->events == 0 ? EPOLL_CTL_ADD : EPOLL_CTL_MOD;
+    epoll_ctl(t->poll, call, p->fd, &event);
+    p->events = events;
+}
+
+/* The same for all keys that the selection asks for, where they may have changed. */
+static void arm(table *t)
+{
+    size_t count;
+    if (!t->must_arm || nio_asked(selecting(t), t->selector, t->asked, t->keys, &count) != NIO_DONE)
+        return;
+    for (size_t i = 0; i < count; i++)
+        watch(t, &t->asked[i]);
+    t->must_arm = false;
+}
+
+/* Whoever changes what selections ask for calls this afterwards. */
+static void note_change(table *t)
+{
+    if (!atomic_load(&t->changed))
+        atomic_store(&t->changed, true);
+}
+
+/* The flag is cleared before the selection begins: so a change that it doesn't find sets the flag for the next one. */
+static nio_status begin_for(table *t, jlong ms)
+{
+    if (atomic_load(&t->changed)) {
+        atomic_store(&t->changed, false);
+        t->must_arm = true;
+    }
+    if (ms == nio_provider_Table_NOW)
+        return nio_begin_now(selecting(t), t->selector);
+    return nio_begin(selecting(t), t->selector, ms == 0 ? INT64_MAX : ms);
+}
+
+/* As the JDK's, a selection is over once a poll found anything, also where only such keys are ready as are selected
+ * with these operations already, or where Java knows that what was found is cancelled: its time is said to be over
+ * then. */
+static nio_status tell_pairs(table *t, size_t count, bool elapsed, nio_selected *selected)
+{
+    return nio_told(selecting(t), t->selector, t->pairs, count, elapsed || count > 0, false, selected);
+}
+
+/* Polls once, and writes the index, the events and the interest of each key that was found. Answers how many, or
+ * FAILED, where Java has an exception. */
+static jint poll_once(JNIEnv *env, table *t, int timeout, jintArray found)
+{
+    int count = epoll_wait(t->poll, t->events, EVENTS, timeout);
+    if (count < 0 && errno != EINTR) {
+        raise(env, strerror(errno));
+        return FAILED;
+    }
+    jint written = 0;
+    for (int i = 0; i < count; i++) {
+        uint32_t number = t->events[i].data.u32;
+        if (number == BELL) {
+            silence(t);
+            continue;
+        }
+        const place *p = &t->places[number];
+        jint *names = t->names[written];
+        names[0] = (jint)p->index;
+        names[1] = (jint)t->events[i].events;
+        names[2] = p->interest;
+        t->found[written++] = number;
+    }
+    if (written > 0)
+        (*env)->SetIntArrayRegion(env, found, 0, 3 * written, t->names[0]);
+    return written;
+}
+
+static int timeout_of(jlong ms)
+{
+    return ms <= 0 ? -1 : ms > INT32_MAX ? INT32_MAX : (int)ms;
+}
+
+/* The first poll of a selection, which doesn't wait, and where that found nothing the next one. */
+static jint look_for(JNIEnv *env, table *t, jlong ms, jintArray found)
+{
+    nio_selected selected;
+    arm(t);
+    jint count = poll_once(env, t, 0, found);
+    if (count != 0)
+        return count;
+    nio_status status = tell_pairs(t, 0, false, &selected);
+    if (status == NIO_AGAIN)
+        return poll_once(env, t, timeout_of(ms), found);
+    return status == NIO_DONE ? OVER : answer(status);
+}
+
+/* Begins a selection, and looks. */
+NATIVE(jint, start, jlong ms, jintArray found)
+{
+    table *t = table_of(env, self);
+    nio_status status = begin_for(t, ms);
+    return status == NIO_DONE ? look_for(env, t, ms, found) : answer(status);
+}
+
+NATIVE(jint, begin, jlong ms)
+{
+    return answer(begin_for(table_of(env, self), ms));
+}
+
+NATIVE(jint, look, jlong ms, jintArray found)
+{
+    return look_for(env, table_of(env, self), ms, found);
+}
+
+NATIVE(jint, poll, jlong ms, jintArray found)
+{
+    return poll_once(env, table_of(env, self), timeout_of(ms), found);
+}
+
+/* The ready set of each key that was found. */
+static void read_ready(table *t, jint count, jint *ready)
+{
+    for (jint i = 0; i < count; i++) {
+        const place *p = &t->places[t->found[i]];
+        nio_ops ops = 0;
+        nio_ready(selecting(t), (nio_key){t->selector, p->index, p->key}, &ops);
+        ready[i] = ops;
+    }
+}
+
+/* Tells what each key that the last poll found is ready for, and writes the ready sets that the table has then. */
+NATIVE(jint, tell, jintArray told, jintArray ready, jint count, jboolean elapsed)
+{
+    table *t = table_of(env, self);
+    nio_selected selected = {0};
+    jint *ops = t->names[0];
+    if (count > 0)
+        (*env)->GetIntArrayRegion(env, told, 0, count, ops);
+    for (jint i = 0; i < count; i++)
+        t->pairs[i] = (nio_pair){.index = t->places[t->found[i]].index, .ready = (nio_ops)ops[i]};
+    nio_status status = tell_pairs(t, (size_t)count, elapsed, &selected);
+    if (count > 0) {
+        read_ready(t, count, ops);
+        (*env)->SetIntArrayRegion(env, ready, 0, count, ops);
+    }
+    return answer_or(status, (jint)selected.count);
+}
+
+/* Removes the keys that were cancelled, by a selection that finds nothing. */
+NATIVE(jint, sweep)
+{
+    table *t = table_of(env, self);
+    nio_selected selected;
+    nio_status status = nio_begin_now(selecting(t), t->selector);
+    return answer(status == NIO_DONE ? tell_pairs(t, 0, false, &selected) : status);
+}
+
+/* Ends a selection that failed. A wakeup stays pending, so the bell rings again. */
+NATIVE(void, leave)
+{
+    table *t = table_of(env, self);
+    if (nio_leave(selecting(t), t->selector) == NIO_DONE)
+        ring(t);
+}
+
+NATIVE(void, cancel, jint index, jint serial)
+{
+    table *t = table_of(env, self);
+    nio_cancel(selecting(t), (nio_key){t->selector, (uint32_t)index, (uint32_t)serial});
+}
+
+/* ---- registering: Java lets one thread at a time do it ---- */
+
+/* Opens a channel of this kind: of a number that had one, if any. */
+static nio_status open_channel(table *t, nio_caller *caller, uint32_t kind, nio_channel *channel)
+{
+    uint32_t number = t->closed[kind];
+    if (number != NONE) {
+        nio_channel before = {number, t->places[number].serial};
+        t->closed[kind] = t->places[number].next;
+        if (nio_reopen_channel(caller, before, channel) == NIO_DONE)
+            return NIO_DONE;
+    }
+    return nio_open_channel(caller, kind, channel);
+}
+
+static void close_channel(table *t, nio_caller *caller, uint32_t number)
+{
+    place *p = &t->places[number];
+    bool closed;
+    nio_close_channel(caller, (nio_channel){number, p->serial}, &closed);
+    p->next = t->closed[p->kind];
+    t->closed[p->kind] = number;
+}
+
+static nio_status register_channel(table *t, nio_caller *caller, place of, nio_ops ops, jint *names)
+{
+    nio_channel channel;
+    nio_key key;
+    nio_status status = open_channel(t, caller, of.kind, &channel);
+    if (status != NIO_DONE)
+        return status;
+    of.serial = channel.serial;
+    t->places[channel.number] = of; /* a selection may see the key before it is known here */
+    status = nio_set_blocking(caller, channel, false);
+    if (status == NIO_DONE)
+        status = nio_register(caller, t->selector, channel, ops, 0, &key);
+    if (status != NIO_DONE) {
+        close_channel(t, caller, channel.number);
+        return status;
+    }
+    names[0] = (jint)channel.number;
+    names[1] = (jint)key.index;
+    names[2] = (jint)key.serial;
+    return NIO_DONE;
+}
+
+/* Writes the numbers of the channel, and the index and the serial of its key. */
+NATIVE(jint, register, jint fd, jint kind, jint ops, jintArray names)
+{
+    table *t = table_of(env, self);
+    jint made[3];
+    cell *c = take(t, env);
+    if (c == NULL)
+        return answer(NIO_CLOSED_SELECTOR);
+    place of = {.fd = fd, .kind = (uint32_t)kind};
+    nio_status status = register_channel(t, &c->caller, of, (nio_ops)ops, made);
+    if (status == NIO_DONE) {
+        note_change(t);
+        (*env)->SetIntArrayRegion(env, names, 0, 3, made);
+    }
+    give(c);
+    return answer(status);
+}
+
+/* Lets a channel go whose key was removed. */
+NATIVE(void, forget, jint number)
+{
+    table *t = table_of(env, self);
+    cell *c = take(t, env);
+    if (c == NULL)
+        return;
+    place *p = &t->places[number];
+    if (p->events != 0)
+        epoll_ctl(t->poll, EPOLL_CTL_DEL, p->fd, NULL);
+    close_channel(t, &c->caller, (uint32_t)number);
+    give(c);
+}
+
+/* ---- calls of any thread ---- */
+
+NATIVE(void, wakeup)
+{
+    table *t = table_of(env, self);
+    cell *c = take(t, env);
+    if (c == NULL)
+        return;
+    nio_wakeup(&c->caller, t->selector);
+    ring(t);
+    give(c);
+}
+
+/* Writes selector, index and serial of each key, where there is room for all. Answers how many there are. */
+NATIVE(jint, keys, jintArray into)
+{
+    table *t = table_of(env, self);
+    size_t count = 0;
+    jsize length = (*env)->GetArrayLength(env, into);
+    cell *c = take(t, env);
+    if (c == NULL)
+        return answer(NIO_CLOSED_SELECTOR);
+    nio_status status = NIO_NO_MEMORY;
+    void *keys = (*env)->GetPrimitiveArrayCritical(env, into, NULL);
+    if (keys != NULL) {
+        status = nio_keys(&c->caller, t->selector, keys, (size_t)length / 3, &count);
+        (*env)->ReleasePrimitiveArrayCritical(env, into, keys, 0);
+    }
+    give(c);
+    return answer_or(status == NIO_NO_ROOM ? NIO_DONE : status, (jint)count);
+}
+
+/* A caller for a call on a key. */
+typedef struct key_call {
+    table *table;
+    cell *cell;
+    nio_key key;
+} key_call;
+
+static bool lend(JNIEnv *env, jobject self, jint index, jint serial, key_call *call)
+{
+    table *t = table_of(env, self);
+    call->table = t;
+    call->cell = take(t, env);
+    if (call->cell == NULL)
+        return false;
+    call->key = (nio_key){t->selector, (uint32_t)index, (uint32_t)serial};
+    return true;
+}
+
+/* A key of a table that was let go is cancelled. */
+static const jint NO_CALL = -NIO_CANCELLED_KEY;
+
+NATIVE(jint, interest, jint index, jint serial)
+{
+    key_call call;
+    nio_ops ops = 0;
+    if (!lend(env, self, index, serial, &call))
+        return NO_CALL;
+    nio_status status = nio_interest(&call.cell->caller, call.key, &ops);
+    give(call.cell);
+    return answer_or(status, ops);
+}
+
+NATIVE(jint, setInterest, jint index, jint serial, jint ops)
+{
+    key_call call;
+    if (!lend(env, self, index, serial, &call))
+        return NO_CALL;
+    nio_status status = nio_set_interest(&call.cell->caller, call.key, (nio_ops)ops);
+    note_change(call.table);
+    give(call.cell);
+    return answer(status);
+}
+
+NATIVE(jint, interestOr, jint index, jint serial, jint ops)
+{
+    key_call call;
+    nio_ops before = 0;
+    if (!lend(env, self, index, serial, &call))
+        return NO_CALL;
+    nio_status status = nio_interest_or(&call.cell->caller, call.key, (nio_ops)ops, &before);
+    note_change(call.table);
+    give(call.cell);
+    return answer_or(status, before);
+}
+
+NATIVE(jint, interestAnd, jint index, jint serial, jint ops)
+{
+    key_call call;
+    nio_ops before = 0;
+    if (!lend(env, self, index, serial, &call))
+        return NO_CALL;
+    nio_status status = nio_interest_and(&call.cell->caller, call.key, (nio_ops)ops, &before);
+    note_change(call.table);
+    give(call.cell);
+    return answer_or(status, before);
+}
+
+NATIVE(jboolean, unselect, jint index, jint serial)
+{
+    key_call call;
+    bool taken = false;
+    if (!lend(env, self, index, serial, &call))
+        return JNI_FALSE;
+    nio_unselect(&call.cell->caller, call.key, &taken);
+    give(call.cell);
+    return taken;
+}
