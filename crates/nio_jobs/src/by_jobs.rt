@@ -1,6 +1,8 @@
 //! The way that makes each call on the net for a job.
-ghost use Rattle.std.specs.Prelude.{◌≡◌, ◌+◌, ◌<◌, ◌≤◌, [], ◌∷◌, ◌++◌, IfOk, IfSome, max, min, vec_capacity, vec_len};
+ghost use Rattle.std.specs.Prelude.{◌≡◌, ◌+◌, ◌<◌, ◌≤◌, [], ◌∷◌, ◌++◌, All, IfOk, IfSome, max, min, vec_capacity};
+ghost use Rattle.std.specs.Prelude.{vec_len};
 ghost use Rattle.nio_link.specs.Jobs.{of_net};
+ghost use Rattle.nio_jobs.specs.Jobs.{IsOfFirst};
 ghost use Rattle.nio_jobs.specs.Reports.{done_of_made, done_of_read, done_of_written};
 
 use crate::exchange::{Done, Exchange};
@@ -17,8 +19,7 @@ use std::sync::Wait;
 
 /// Makes each call that accepts, connects, reads or writes for a job of its kind and channel, and uses that up. While
 /// there is none, such a call is "not yet", and the net isn't called. What calls came to is reported to those who hand
-/// out the jobs: all at once as the next round begins, or, if they take it then, where a call lacks its job. Once they
-/// hand out none any more, a poll answers that memory lacks.
+/// out the jobs: all at once as the next round begins, or, if they take it then, where a call lacks its job.
 #[derive(Drop)]
 pub struct ByJobs<E> {
     exchange: E,
@@ -31,8 +32,7 @@ pub struct ByJobs<E> {
     fresh: Vec<Job>,
     // the link from which the last read of this round took all that had come
     emptied: Option<ChanNo>,
-    // no jobs will come any more, for want of memory
-    is_refused: bool,
+    ghost of_first: { All IsOfFirst arrived.items },
 }
 
 impl<E: Drop> ByJobs<E> {
@@ -55,7 +55,6 @@ impl<E: Drop> ByJobs<E> {
             arrived: Vec::with_capacity(alloc, flight as usize)?,
             fresh: Vec::with_capacity(alloc, flight as usize)?,
             emptied: None,
-            is_refused: false,
         })
     }
 
@@ -221,8 +220,7 @@ impl<N: Net, E: Exchange + Drop> Way<JobNet<N>> for ByJobs<E> {
     }
 
     fn begin_round<R: Wait>(&mut self, rt: &R) {
-        let exchanged = self.exchange.exchange(rt, &mut self.done, &mut self.fresh);
-        self.is_refused = self.is_refused || exchanged.is_err();
+        self.exchange.exchange(rt, &mut self.done, &mut self.fresh);
         self.take_in_all(None);
         self.emptied = None;
     }
@@ -235,9 +233,6 @@ impl<N: Net, E: Exchange + Drop> Way<JobNet<N>> for ByJobs<E> {
         asked: &Asked,
         mode: Mode,
     ) -> Result<Told, PollError> {
-        if self.is_refused {
-            return Err(PollError::Memory);
-        }
         // what calls came to isn't left unreported while a poll waits
         let mode = if self.done.is_empty() {
             mode

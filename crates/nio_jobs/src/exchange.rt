@@ -4,7 +4,6 @@ ghost use Rattle.std.specs.Prelude.{◌≡◌, ◌⊎◌, []};
 
 use nio_base::{ChanNo, OpKind, OpNo, Outcome};
 use nio_group::Job;
-use std::alloc::AllocError;
 use std::sync::Wait;
 
 /// What the calls of a round came to.
@@ -23,14 +22,8 @@ pub enum Done {
 pub trait Exchange {
     /// Should report what the calls came to, in their order, and add the jobs that have been handed out since to the
     /// others. It waits for none. The clauses say that nothing is left to report, and that no job is lost that was
-    /// there; not that each job that was handed out is added. An error says that no jobs will be handed out any more,
-    /// for want of memory.
-    fn exchange<R: Wait>(
-        &mut self,
-        rt: &R,
-        done: &mut Vec<Done>,
-        arrived: &mut Vec<Job>,
-    ) -> Result<(), AllocError>
+    /// there; not that each job that was handed out is added.
+    fn exchange<R: Wait>(&mut self, rt: &R, done: &mut Vec<Done>, arrived: &mut Vec<Job>)
         ensures reported { done.new.items ≡ [] }
         ensures kept { IsPrefix arrived.old.items arrived.new.items };
 

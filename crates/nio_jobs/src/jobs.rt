@@ -1,11 +1,13 @@
 //! Jobs by channel and kind.
-ghost use Rattle.std.specs.Prelude.{◌≡◌, IfOk, IfSome, replicate};
+ghost use Rattle.std.specs.Prelude.{◌≡◌, IfOk, IfSome, None, replicate};
+ghost use Rattle.nio_base.specs.Ops.{is_within};
 ghost use Rattle.nio_link.specs.Jobs.{of_net};
+ghost use Rattle.nio_jobs.specs.Jobs.{IsOfFirst, job_in, jobs_at, jobs_with, jobs_without, set_of, with_job, with_job_in};
 
 use nio_base::{ChanNo, OpKind, Ops};
 use nio_group::Job;
-use nio_link::of_net;
 use std::alloc::{AllocError, Global};
+use std::marker::Model;
 
 /// The jobs of a channel, one of a kind at most, and for which operations there has been one.
 #[derive(Drop)]
@@ -17,8 +19,10 @@ struct OfChannel {
     had: Ops,
 }
 
-// The operation of this kind.
-fn operation(kind: OpKind) -> Ops {
+// The operation of this kind, as a set.
+fn operation(kind: OpKind) -> Ops
+    ensures { result ≡ set_of kind }
+{
     match kind {
         OpKind::Accept => Ops::ACCEPT,
         OpKind::Connect => Ops::CONNECT,
@@ -28,7 +32,7 @@ fn operation(kind: OpKind) -> Ops {
 }
 
 impl OfChannel {
-    ghost use Rattle.nio_jobs.specs.ByJobs.{no_jobs};
+    ghost use Rattle.nio_jobs.specs.Jobs.{no_jobs};
 
     fn none() -> OfChannel
         ensures { result ≡ no_jobs }
@@ -43,7 +47,9 @@ impl OfChannel {
     }
 
     // Keeps a job, in the place of an earlier one of its kind.
-    fn put(&mut self, job: Job) {
+    fn put(&mut self, job: Job)
+        ensures { self.new ≡ with_job self.old job }
+    {
         let kind = job.kind();
         self.had = self.had.union(operation(kind));
         match kind {
@@ -54,7 +60,10 @@ impl OfChannel {
         }
     }
 
-    fn take(&mut self, kind: OpKind) -> Option<Job> {
+    fn take(&mut self, kind: OpKind) -> Option<Job>
+        ensures job { result ≡ job_in self.old kind }
+        ensures rest { self.new ≡ with_job_in self.old kind None }
+    {
         match kind {
             OpKind::Accept => self.accept.take(),
             OpKind::Connect => self.connect.take(),
@@ -64,18 +73,31 @@ impl OfChannel {
     }
 }
 
-/// The jobs that were handed out and not yet used up.
+/// The jobs that were handed out and not yet used up, each at its kind and its channel's number.
 #[derive(Drop)]
 pub(crate) struct Jobs {
     channels: Vec<OfChannel>,
 }
 
+impl Model for Jobs {
+    ghost use Rattle.std.specs.Prelude.{List};
+    ghost use Rattle.nio_jobs.specs.Jobs.{AreInPlace};
+    ghost use Rattle.nio_jobs.specs.declared.jobs.OfChannel.{OfChannel};
+
+    ghost Value = { List OfChannel };
+
+    ghost view = { λ jobs. jobs.channels.items };
+
+    ghost invariant = { λ jobs. AreInPlace jobs.channels.items };
+}
+
 impl Jobs {
-    ghost use Rattle.nio_jobs.specs.ByJobs.{no_jobs};
+    ghost use Rattle.nio_jobs.specs.Jobs.{no_jobs};
 
     /// None yet, with room for those of so many channels.
+    #[tactic(auto, using(crate::proofs::JobLemmas::none_in_place))]
     pub(crate) fn make(alloc: Global, channels: u32) -> Result<Jobs, AllocError>
-        ensures { IfOk result (λ jobs. jobs.channels.items ≡ replicate channels no_jobs) }
+        ensures { IfOk result (λ jobs. jobs ≡ replicate channels no_jobs) }
     {
         let mut all = Vec::with_capacity(alloc, channels as usize)?;
         for _ in 0..channels {
@@ -86,28 +108,30 @@ impl Jobs {
 
     /// Keeps a job, in the place of an earlier one of its channel's number and kind. One of a channel for which there is
     /// no room is dropped.
-    pub(crate) fn put(&mut self, job: Job) {
-        if let Some(channel) = self.channels.get_mut(job.chan().number as usize) {
-            channel.put(job);
-        }
+    pub(crate) fn put(&mut self, job: Job)
+        requires { IsOfFirst job }
+        ensures { self.new ≡ jobs_with self.old job }
+    {
+        let Some(channel) = self.channels.get_mut(job.chan().number as usize) else {
+            return;
+        };
+        channel.put(job);
     }
 
-    /// Takes out the job of this kind for this channel, if there is one. That of another channel of the group with its
-    /// number is dropped: a net uses each number once.
+    /// Takes out the job of this kind for this channel, if there is one.
     pub(crate) fn take(&mut self, chan: ChanNo, kind: OpKind) -> Option<Job>
+        ensures job { result ≡ job_in (jobs_at self.old chan.0) kind }
+        ensures rest { self.new ≡ jobs_without self.old chan.0 kind }
         ensures kind { IfSome result (λ job. job.kind ≡ kind) }
         ensures its { IfSome result (λ job. job.chan ≡ of_net chan) }
     {
-        let job = self.channels.get_mut(chan.0 as usize)?.take(kind)?;
-        if job.kind() == kind && job.chan() == of_net(chan) {
-            Some(job)
-        } else {
-            None
-        }
+        self.channels.get_mut(chan.0 as usize)?.take(kind)
     }
 
     /// For which operations there has been a job for this channel.
-    pub(crate) fn had(&self, chan: ChanNo) -> Ops {
+    pub(crate) fn had(&self, chan: ChanNo) -> Ops
+        ensures { result ≡ (jobs_at self.now chan.0).had }
+    {
         match self.channels.get(chan.0 as usize) {
             Some(channel) => channel.had,
             None => Ops::NONE,
@@ -115,7 +139,9 @@ impl Jobs {
     }
 
     /// Whether there has been a job of the same kind for the same channel.
-    pub(crate) fn had_like(&self, job: &Job) -> bool {
+    pub(crate) fn had_like(&self, job: &Job) -> bool
+        ensures { result ≡ is_within (set_of job.now.kind) (jobs_at self.now job.now.chan.number).had }
+    {
         operation(job.kind()).within(self.had(ChanNo(job.chan().number)))
     }
 }

@@ -6,9 +6,15 @@ pub use by_jobs::ByJobs;
 pub use directions::directions_law;
 pub use exchange::{Done, Exchange};
 pub use next::{Directions, Next, Start};
+pub use reporting::report_all;
+pub use starter::Starter;
+pub use streams::Streams;
 
 mod by_jobs;
 mod directions;
 mod exchange;
 mod jobs;
 mod next;
+mod reporting;
+mod starter;
+mod streams;

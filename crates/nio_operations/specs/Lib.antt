@@ -1,3 +1,2 @@
 pub mod Handling
-pub mod Reports
 pub mod Taking

@@ -2,18 +2,15 @@
 ghost use mathlib.Core.List.{IsPrefix};
 ghost use Rattle.std.specs.Prelude.{◌≡◌, ◌⊎◌, [], IfErr, IfSome, IsNone, OnErr, OnOk};
 ghost use Rattle.nio_base.specs.declared.group.OpKind.TheVariants.{Connect};
-ghost use Rattle.nio_operations.specs.Reports.{after_done, after_round};
 ghost use Rattle.nio_operations.specs.Taking.{TakesAll};
 ghost use Rattle.nio_pool.specs.Queues.{IsPassOf, with_put};
 
 use crate::handlers::{SharedStreams, handle};
-use crate::streams::{Streams, job};
+use crate::streams::AwaitedStreams;
 use nio_base::OpKind;
 use nio_group::{Completion, GroupCore, Job};
-use nio_jobs::{Done, Exchange};
-use nio_link::of_net;
+use nio_jobs::{Done, Exchange, Streams, report_all};
 use nio_pool::{CompletionQueue, Group, QueuePass};
-use std::alloc::AllocError;
 use std::sync::Wait;
 
 /// Where the dispatcher puts completions for the workers.
@@ -68,18 +65,12 @@ pub(crate) struct Dispatcher<'a, R> {
 }
 
 impl<'a, R: Wait> Exchange for Dispatcher<'a, R> {
-    fn exchange<S: Wait>(
-        &mut self,
-        _rt: &S,
-        done: &mut Vec<Done>,
-        arrived: &mut Vec<Job>,
-    ) -> Result<(), AllocError> {
+    fn exchange<S: Wait>(&mut self, _rt: &S, done: &mut Vec<Done>, arrived: &mut Vec<Job>) {
         let mut streams = self.streams.lock(self.rt);
         self.report_and_handle(&mut streams, done, arrived);
         streams.await_started();
         drop(streams);
         self.outbox.wake(self.rt, self.group);
-        Ok(())
     }
 
     fn exchange_early(&mut self, done: &mut Vec<Done>, arrived: &mut Vec<Job>)
@@ -97,7 +88,7 @@ impl<'a, R: Wait> Dispatcher<'a, R> {
     // there is something to report.
     fn report_and_handle(
         &mut self,
-        streams: &mut Streams,
+        streams: &mut AwaitedStreams,
         done: &mut Vec<Done>,
         arrived: &mut Vec<Job>,
     )
@@ -106,20 +97,20 @@ impl<'a, R: Wait> Dispatcher<'a, R> {
     {
         if !done.is_empty() {
             let mut core = self.group.lock(self.rt);
-            report_all(&mut core, done, arrived);
-            if self.handle_all(streams, &mut core) {
+            report_all::<GroupCore>(&mut core, done, arrived);
+            if self.handle_all(&mut streams.streams, &mut core) {
                 self.outbox.is_wake_due = true;
             }
         }
         done.clear();
-        streams.move_started_to(arrived);
+        streams.streams.move_started_to(arrived);
     }
 
     // Handles the completions that are queued, and those that are queued by that. Says whether there is one for the
     // workers.
     fn handle_all(&mut self, streams: &mut Streams, core: &mut GroupCore) -> bool
-        ensures { TakesAll (record { held = streams.old.directions; group = core.old })
-            (record { held = streams.new.directions; group = core.new }) result }
+        ensures { TakesAll (record { held = streams.old.held; group = core.old })
+            (record { held = streams.new.held; group = core.new }) result }
     {
         let mut is_for_workers = false;
         for _ in 0..u64::MAX {
@@ -145,40 +136,6 @@ impl<'a, R: Wait> Dispatcher<'a, R> {
             self.outbox.put(self.rt, done).err()
         } else {
             Some(done)
-        }
-    }
-}
-
-// Reports what calls came to, and takes the next job of each operation that is still pending.
-fn report_all(core: &mut GroupCore, done: &[Done], arrived: &mut Vec<Job>)
-    ensures core { core.new ≡ after_round core.old done.now }
-    ensures kept { IsPrefix arrived.old.items arrived.new.items }
-{
-    for one in done {
-        report(core, *one, arrived);
-    }
-}
-
-fn report(core: &mut GroupCore, done: Done, arrived: &mut Vec<Job>)
-    ensures core { core.new ≡ after_done core.old done }
-    ensures kept { IsPrefix arrived.old.items arrived.new.items }
-{
-    match done {
-        Done::Outcome(op, outcome) => {
-            // refused where the operation's channel was closed meanwhile
-            let _ = core.report(op, outcome);
-        }
-        Done::Again(chan, kind) => {
-            if let Some(job) = job(core, of_net(chan), kind) {
-                // there is room for the jobs of all operations that can be in flight
-                let _ = arrived.push(job);
-            }
-        }
-        Done::Closed(chan) => {
-            let chan = of_net(chan);
-            if core.is_made(chan) {
-                core.close_channel(chan);
-            }
         }
     }
 }

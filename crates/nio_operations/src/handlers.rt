@@ -2,8 +2,9 @@
 ghost use Rattle.std.specs.Prelude.{◌≡◌};
 ghost use Rattle.nio_operations.specs.Handling.{after_due, after_handled, held_after_due};
 
-use crate::streams::Streams;
+use crate::streams::AwaitedStreams;
 use nio_group::{Completion, GroupCore};
+use nio_jobs::Streams;
 use nio_poller::Bell;
 use nio_pool::{Group, Handed, Handler};
 use std::sync::atomic::{AtomicU64, Ordering};
@@ -17,7 +18,7 @@ const YIELDS: u32 = 500_000;
 /// What the handlers share. Who holds the lock of the streams may take the group's lock.
 #[derive(Drop)]
 pub(crate) struct SharedStreams {
-    streams: Mutex<Streams>,
+    streams: Mutex<AwaitedStreams>,
     // how many workers have begun
     workers: AtomicU64,
 }
@@ -41,7 +42,7 @@ impl<'a, B: Bell> Handler for WorkerHandler<'a, B> {
 impl SharedStreams {
     pub(crate) fn over(streams: Streams) -> SharedStreams {
         SharedStreams {
-            streams: Mutex::new(streams),
+            streams: Mutex::new(AwaitedStreams::over(streams)),
             workers: AtomicU64::new(0),
         }
     }
@@ -67,7 +68,7 @@ impl SharedStreams {
     }
 
     /// Lends the streams.
-    pub(crate) fn lock<R: Wait>(&self, rt: &R) -> MutexGuard<'_, Streams> {
+    pub(crate) fn lock<R: Wait>(&self, rt: &R) -> MutexGuard<'_, AwaitedStreams> {
         self.streams.lock(rt)
     }
 
@@ -75,14 +76,14 @@ impl SharedStreams {
     pub(crate) fn listen<R: Wait>(&self, rt: &R, group: &Group) {
         let mut streams = self.lock(rt);
         let mut core = group.lock(rt);
-        streams.listen(&mut core);
+        streams.streams.listen::<GroupCore>(&mut core);
     }
 
     // Starts what is due. Says whether the dispatcher is to be told of it.
     fn go_on<R: Wait>(&self, rt: &R, group: &Group, done: &Completion) -> bool {
         let mut streams = self.lock(rt);
         let mut core = group.lock(rt);
-        start_due(&mut streams, &mut core, done);
+        start_due(&mut streams.streams, &mut core, done);
         drop(core);
         streams.tells_started()
     }
@@ -90,8 +91,8 @@ impl SharedStreams {
 
 /// Starts what is due once an operation has completed, and ends the operation.
 pub(crate) fn handle(streams: &mut Streams, core: &mut GroupCore, done: &Completion)
-    ensures core { core.new ≡ after_handled streams.old.directions core.old done.now }
-    ensures held { streams.new.directions ≡ held_after_due streams.old.directions core.old done.now }
+    ensures core { core.new ≡ after_handled streams.old.held core.old done.now }
+    ensures held { streams.new.held ≡ held_after_due streams.old.held core.old done.now }
 {
     start_due(streams, core, done);
     // it runs, since its completion was taken
@@ -99,10 +100,8 @@ pub(crate) fn handle(streams: &mut Streams, core: &mut GroupCore, done: &Complet
 }
 
 fn start_due(streams: &mut Streams, core: &mut GroupCore, done: &Completion)
-    ensures core { core.new ≡ after_due streams.old.directions core.old done.now }
-    ensures held { streams.new.directions ≡ held_after_due streams.old.directions core.old done.now }
+    ensures core { core.new ≡ after_due streams.old.held core.old done.now }
+    ensures held { streams.new.held ≡ held_after_due streams.old.held core.old done.now }
 {
-    if core.is_made(done.chan()) {
-        streams.go_on(core, done);
-    }
+    streams.go_on(core, done.chan(), done.kind(), done.result());
 }

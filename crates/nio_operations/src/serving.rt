@@ -11,10 +11,9 @@ ghost use Rattle.nio_serve.specs.Serving.{AreNumbered, LeavesNothing, NoneRose, 
 
 use crate::dispatcher::{Dispatcher, Outbox};
 use crate::handlers::{SharedStreams, WorkerHandler};
-use crate::streams::Streams;
 use nio_base::Gate;
 use nio_group::GroupLimits;
-use nio_jobs::ByJobs;
+use nio_jobs::{ByJobs, Streams};
 use nio_link::{JobNet, Net};
 use nio_poller::Bell;
 use nio_pool::{CompletionQueue, Group, QueuePass, work};

@@ -1,4 +1,5 @@
 pub mod Answers
 pub mod Handling
-pub mod Reports
+pub mod Office
+pub mod Rest
 pub mod Seats

@@ -1,24 +1,24 @@
 //! Who exchanges jobs with a desk.
 ghost use mathlib.Core.List.{IsPrefix};
-ghost use Rattle.std.specs.Prelude.{◌≡◌, ◌⊎◌, ◌≤◌, [], IfOk, IsOk};
-ghost use Rattle.nio_tickets.specs.Handling.{after_settling, opened_office};
+ghost use Rattle.std.specs.Prelude.{◌≡◌, ◌⊎◌, ◌≤◌, [], IfOk, IsSomeAnd, Some};
+ghost use Rattle.nio_tickets.specs.Handling.{after_settling, opened};
 
-use crate::reporting::report_all;
-use crate::streams::Streams;
+use crate::office::AtRest;
+use crate::polling::poll_and_start;
 use futures::task::{Context, Solo};
-use nio_future::Desk;
-use nio_group::{GroupLimits, Job};
-use nio_jobs::{Done, Exchange};
+use nio_group::Job;
+use nio_jobs::{Done, Exchange, Streams, report_all};
 use std::alloc::{AllocError, Global};
 use std::marker::Model;
 use std::sync::Wait;
 
-/// Reports what each call came to, polls the tickets of the operations that this ended, and starts what is due after
-/// each result.
+/// Reports what each call came to, polls the tickets of the operations that this ended in one round, and starts what is
+/// due after each result.
 #[derive(Drop)]
 pub(crate) struct Clerk<'a> {
     task: Task<'a>,
-    desk: Desk,
+    // a round takes it, and gives it back
+    rest: Option<AtRest>,
     streams: Streams,
 }
 
@@ -35,18 +35,20 @@ impl Drop for Task<'_> {
 }
 
 impl<'a> Model for Clerk<'a> {
-    ghost use Rattle.nio_tickets.specs.Seats.{AreSeated, Office, office_of};
+    ghost use Rattle.std.specs.Prelude.{Option, IsSomeAnd};
+    ghost use Rattle.std.specs.Option.{option_map};
+    ghost use Rattle.nio_tickets.specs.Handling.{ClerkState};
+    ghost use Rattle.nio_tickets.specs.Rest.{IsAtRest};
 
-    ghost Value = { Office };
+    ghost Value = { Option ClerkState };
 
-    ghost view = { λ clerk. office_of clerk.desk clerk.streams };
+    ghost view = { λ clerk. option_map (λ rest. record { office = rest.office; held = clerk.streams.held }) clerk.rest };
 
-    ghost invariant = { λ clerk. AreSeated clerk.desk clerk.streams.seats };
+    ghost invariant = { λ clerk. IsSomeAnd clerk.rest IsAtRest };
 }
 
 impl<'a> Clerk<'a> {
     /// At a new desk of so many channels and operations, where the listener accepts. All memory is taken here.
-    #[tactic(auto, using(crate::proofs::Keeping::empty_seats))]
     pub(crate) fn open(
         executor: &'a Solo,
         alloc: Global,
@@ -55,64 +57,54 @@ impl<'a> Clerk<'a> {
     ) -> Result<Clerk<'a>, AllocError>
         requires channels { (1 ≤ channels) × (channels ≤ 65536) }
         requires flight { (1 ≤ flight) × (flight ≤ 65536) }
-        ensures { IfOk result (λ clerk. clerk ≡ opened_office channels flight clerk.desk.source clerk.desk.places) }
+        ensures { IfOk result (λ clerk. IsSomeAnd clerk
+            (λ state. state ≡ opened channels flight state.office.desk.source state.office.desk.places)) }
     {
-        let limits = GroupLimits {
-            channels,
-            flight,
-            ops: 1 << 62,
-        };
-        let mut desk = Desk::make(alloc, limits)?;
+        let mut rest = AtRest::make(alloc, channels, flight)?;
         let mut streams = Streams::make(alloc, channels, flight)?;
-        streams.listen(&mut desk);
+        streams.listen(&mut rest.office);
         let task = Task {
             cx: executor.begin(),
         };
         Ok(Clerk {
             task,
-            desk,
+            rest: Some(rest),
             streams,
         })
     }
 
     /// Closes all channels of the desk.
     pub(crate) fn close(self) {
-        let mut desk = self.desk;
-        desk.shutdown_now();
+        let rest = self.rest.unwrap();
+        rest.office.close();
     }
 
-    // Reports all, goes on from what that ended, and takes the jobs of what was started.
+    // Reports all, polls the tickets of what that ended, and takes the jobs of what was started.
     fn settle(&mut self, done: &mut Vec<Done>, arrived: &mut Vec<Job>)
-        ensures settled { self.new ≡ after_settling self.old done.old.items }
+        ensures settled { IsSomeAnd self.old (λ state. self.new ≡ Some (after_settling state done.old.items)) }
         ensures reported { done.new.items ≡ [] }
         ensures kept { IsPrefix arrived.old.items arrived.new.items }
     {
-        report_all(&mut self.desk, done, arrived);
-        self.streams
-            .poll_all(&mut self.desk, &mut self.task.cx, done);
+        let mut rest = self.rest.take().unwrap();
+        report_all(&mut rest.office, done, arrived);
+        let rest = poll_and_start(rest, &mut self.streams, &mut self.task.cx, done);
+        self.rest = Some(rest);
         done.clear();
         self.streams.move_started_to(arrived);
     }
 }
 
 impl Exchange for Clerk<'_> {
-    fn exchange<W: Wait>(
-        &mut self,
-        _rt: &W,
-        done: &mut Vec<Done>,
-        arrived: &mut Vec<Job>,
-    ) -> Result<(), AllocError>
-        ensures settled { self.new ≡ after_settling self.old done.old.items }
-        ensures always { IsOk result }
+    fn exchange<W: Wait>(&mut self, _rt: &W, done: &mut Vec<Done>, arrived: &mut Vec<Job>)
+        ensures settled { IsSomeAnd self.old (λ state. self.new ≡ Some (after_settling state done.old.items)) }
         ensures reported { done.new.items ≡ [] }
         ensures kept { IsPrefix arrived.old.items arrived.new.items }
     {
         self.settle(done, arrived);
-        Ok(())
     }
 
     fn exchange_early(&mut self, done: &mut Vec<Done>, arrived: &mut Vec<Job>)
-        ensures settled { self.new ≡ after_settling self.old done.old.items }
+        ensures settled { IsSomeAnd self.old (λ state. self.new ≡ Some (after_settling state done.old.items)) }
         ensures all { done.new.items ≡ [] }
         ensures reported { (done.new.items ≡ []) ⊎ (done.new.items ≡ done.old.items) }
         ensures kept { IsPrefix arrived.old.items arrived.new.items }

@@ -5,7 +5,7 @@
 pub use serving::{FutureError, serve_future};
 
 mod clerk;
-mod reporting;
+mod office;
+mod polling;
 mod seats;
 mod serving;
-mod streams;

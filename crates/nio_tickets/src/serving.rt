@@ -1,12 +1,12 @@
 //! Serving a plan by operations that have tickets.
-ghost use Rattle.std.specs.Prelude.{◌≡◌, ◌+◌, ◌*◌, IfOk};
+ghost use Rattle.std.specs.Prelude.{◌≡◌, ◌+◌, ◌*◌, IfOk, IsSomeAnd};
 ghost use Rattle.nio_base.specs.declared.numbers.ChanNo.{ChanNo};
 ghost use Rattle.nio_link.specs.Links.{IsUnused};
 ghost use Rattle.nio_link.specs.Places.{unused};
 ghost use Rattle.nio_jobs.specs.ByJobs.{IsNew, exchange_of};
 ghost use Rattle.nio_relay.specs.Plan.{IsServable};
 ghost use Rattle.nio_tickets.specs.Answers.{serve_answer_of};
-ghost use Rattle.nio_tickets.specs.Handling.{opened_office};
+ghost use Rattle.nio_tickets.specs.Handling.{opened};
 ghost use Rattle.nio_serve.specs.Serving.{AreNumbered, LeavesNothing, NoneRose, RelaysBytes, Serves, ServesAllOr};
 
 use crate::clerk::Clerk;
@@ -55,9 +55,9 @@ fn open_way(
 ) -> Result<ByJobs<Clerk<'_>>, AllocError>
     requires { IsServable plan }
     ensures new { IfOk result (λ way. IsNew (exchange_of way) (2 * plan.conns + 1) (4 * plan.conns + 1) way) }
-    ensures clerk { IfOk result (λ way. exchange_of way
-        ≡ opened_office (2 * plan.conns + 1) (4 * plan.conns + 1) (exchange_of way).desk.source
-        (exchange_of way).desk.places) }
+    ensures clerk { IfOk result (λ way. IsSomeAnd (exchange_of way)
+        (λ state. state
+        ≡ opened (2 * plan.conns + 1) (4 * plan.conns + 1) state.office.desk.source state.office.desk.places)) }
 {
     let channels = channels_of(plan);
     let flight = flight_of(plan);
@@ -78,9 +78,9 @@ fn with_own_error(answer: Result<Served, ServeError>) -> Result<Served, FutureEr
 
 /// Relays as many connections as the plan says, and then ends, by the operations of a desk. The calling thread makes
 /// each call on the net for a job of a pending operation. It reports at once what the call came to, polls the tickets
-/// of the operations that this ended, and starts what is due after each result. All these polls are made in one task of
-/// an executor, whose context is made once, before the proxy's first round; neither they nor the calls of the desk take
-/// memory.
+/// of the operations that this ended by one `Round`, and starts what is due after each result. All rounds are polled in
+/// one task of an executor, whose context is made once, before the proxy's first round; neither they nor the calls of the
+/// desk take memory.
 ///
 /// A connection ends when both of its directions are shut, or at the first fault of one of its links, which closes both
 /// and is counted. At every end the links, the listener and the desk are closed. `Memory` is also answered where the
