@@ -141,6 +141,7 @@ HEAD = """# The public calls
 - **Refuses**: the [error](#errors), with those of its variants that the call's contract names where it doesn't name all;
   what is given back; or `None`, where that is an answer. A method of `Caller` that answers a bool or a number answers
   false or 0 where a name was never made; `cancel`, `wakeup` and `interrupt` answer true in every other case.
+- **requires**: the call may be made only where its contract's `requires` is proved; every other call takes any values.
 - **waits**: the call may wait, and so takes a handle of `Wait` or of `Threads`; every other call returns.
 - **memory**: the call takes memory. Where that lacks, the answer says so, as `AllocError`, `Memory` or what it gives
   back; a call without such an answer only keeps the allocator.
@@ -152,7 +153,7 @@ AS_METHODS = (
 )
 NO_LOOKS = ", and without the look for what is named, so the error stands alone"
 OF_A_CALLER = ("w: &Words", "p: &mut Pass", "me: CallerNo")
-TABLE = ["| Call | What it does | Java | Refuses | Waits, memory |", "|---|---|---|---|---|"]
+TABLE = ["| Call | What it does | Java | Refuses | Requires, waits, memory |", "|---|---|---|---|---|"]
 
 CLAUSE = re.compile(r"\s*(requires|ensures|ghost|decreases)\b")
 BLOCK = re.compile(r"(pub )?(impl|trait)\b")
@@ -261,6 +262,7 @@ class Function:
         head, self.clauses, self.end, self.has_body = found
         self.is_public = head.startswith(("pub fn", "pub const fn")) or block.startswith("pub trait")
         self.may_wait = bool(WAITS.search(f"{head} {block}"))
+        self.requires = bool(re.search(r"^\s*requires\b", self.clauses, re.MULTILINE))
         self.owner, self.trait = owner_of(block), trait_of(block)
         text = re.sub(r"^.*?\bfn ", "", head)
         text = re.sub(r"([(<]) ", r"\1", text)
@@ -595,7 +597,7 @@ class Page:
         # the column has the name
         text = re.sub(r": Java's `[^`]*`( of [\w ]+)?\.$", ".", first_sentence(function.docs))
         refuses, takes = self.refusal(function)
-        marks = ", ".join(["waits"] * function.may_wait + ["memory"] * takes)
+        marks = ", ".join(["requires"] * function.requires + ["waits"] * function.may_wait + ["memory"] * takes)
         names = ", ".join(f"`{it}`" for it in dict.fromkeys(java))
         return f"| `{before}{function.signature}` | {text} | {names} | {refuses} | {marks} |"
 
