@@ -7,7 +7,8 @@
  * that C ties to a descriptor of its own.
  *
  * Each function answers a status: NIO_EMPTY_HANDLE where the handle of its caller has none, and those that are named
- * with it. Where that isn't NIO_DONE no answer was written, but for *count at NIO_NO_ROOM.
+ * with it. NIO_ILLEGAL_ARGUMENT and NIO_FULL_HANDLE come before NIO_EMPTY_HANDLE; NIO_NO_MEMORY of nio_told may. Where
+ * the status isn't NIO_DONE no answer was written, but for *count at NIO_NO_ROOM.
  *
  * The functions are proved: docs/C.md says what, and what not.
  *
