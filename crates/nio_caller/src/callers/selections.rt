@@ -57,9 +57,10 @@ impl<T: Table> Caller<T> {
         }
     }
 
-    /// Waits until a key of the selector is ready, a wakeup is pending, the selector is closed or the caller is
-    /// interrupted: Java's `select()`. While a selection is in progress there it waits for that one first; where that
-    /// is the caller's own, it waits for ever. It goes by the selector's list where the caller took that.
+    /// Waits until a key of the selector was updated, a wakeup is pending, the selector is closed or the caller is
+    /// interrupted: Java's `select()`. A key is updated where it comes into the selected set, or an operation into its
+    /// ready set there. While a selection is in progress at the selector it waits for that one first; where that is the
+    /// caller's own, it waits for ever. It goes by the selector's list where the caller took that.
     ///
     /// As Java's documentation says, it goes on where a poll told only of keys that are selected already with the
     /// operations told, and polls again at once: a program that doesn't take its keys out (`take_selected`) spins.
